@@ -1,0 +1,269 @@
+-- Texts, as lists of bytes: instructions, the code section, records and show lines.
+use Rattle.std.specs.Prelude.{ℕ, suc, ◌+◌, ◌-◌, List, [], ◌∷◌, ◌++◌, nat_lt, if◌then◌else◌, codes, decimal}
+use Rattle.xw_words.specs.declared.pos.Pos.{Pos}
+use Rattle.xs_instr.specs.declared.image.CoreImage.{CoreImage}
+use Rattle.xs_instr.specs.declared.image.Dir.{Dir}
+use Rattle.xs_instr.specs.declared.image.Dir.TheVariants.{In as DirIn, Out as DirOut, Both as DirBoth}
+use Rattle.xs_instr.specs.declared.image.Image.{Image}
+use Rattle.xs_instr.specs.declared.image.Pair.{Pair}
+use Rattle.xs_instr.specs.declared.image.PortDecl.{PortDecl}
+use Rattle.xs_instr.specs.declared.instr.Cond.{Cond}
+use Rattle.xs_instr.specs.declared.instr.Cond.TheVariants.{None as CondNone, Eq as CondEq, Neq as CondNeq, After as CondAfter}
+use Rattle.xs_instr.specs.declared.instr.GetKind.{GetKind}
+use Rattle.xs_instr.specs.declared.instr.GetKind.TheVariants.{Sync as GetSync, Lock as GetLock}
+use Rattle.xs_instr.specs.declared.instr.Instr.{Instr}
+use Rattle.xs_instr.specs.declared.instr.Instr.TheVariants.{Add, Sub, Mul, And, Or, Xor, Addi, Neg, Not, Eq, Lss, Lsu, Shl, Shr, Ashr, Divs, Rems, Divu, Remu, Ecallf, Ecallt, Ldc, Ldwdp, Stwdp, Ldawdp, Ldwsp, Stwsp, Ldawsp, Ldw, Stw, Setdp, Setsp, Brft, Brff, Brfu, Brbt, Brbf, Brbu, Blrf, Blrb, Entsp, Retsp, Getr, Freer, Getst, Tinitpc, Tinitdp, Tinitsp, Msync, Ssync, Mjoin, Freet, Out, Outt, Outct, In, Int, Chkct, Setc, Setd, Setpt, Getts, Setv, Eeu, Edu, Clre, Waiteu, Setsr, Clrsr}
+use Rattle.xs_instr.specs.declared.instr.Reg.{Reg}
+use Rattle.xs_instr.specs.declared.instr.Reg.TheVariants.{R0, R1, R2, R3, R4, R5, R6, R7, R8, R9, R10, R11, Cp, Dp, Sp, Lr}
+use Rattle.xs_instr.specs.declared.trace.EndWord.{EndWord}
+use Rattle.xs_instr.specs.declared.trace.EndWord.TheVariants.{Finished, Trapped as AllTrapped, Stuck, Stopped}
+use Rattle.xs_instr.specs.declared.trace.Record.{Record}
+use Rattle.xs_instr.specs.declared.trace.Record.TheVariants.{Com, PortOut, PortIn, Fault}
+use Rattle.xs_instr.specs.declared.trace.ShowState.{ShowState}
+use Rattle.xs_instr.specs.declared.trace.ShowState.TheVariants.{Unused as ShowUnused, Waiting as ShowWaiting, Trapped as ShowTrapped, Ready as ShowReady, Paused as ShowPaused}
+use Rattle.xs_instr.specs.declared.trace.Shown.{Shown}
+use Rattle.xs_instr.specs.declared.trace.Trap.{Trap}
+use Rattle.xs_instr.specs.declared.trace.Trap.TheVariants.{Arithmetic, Index, Mismatch, Address, Resource, Code as NoCode}
+
+-- a line feed ends it
+abbrev pub line_of : List ℕ → List ℕ
+line_of text = text ++ 10 ∷ []
+
+-- a register's name
+abbrev pub reg_text : Reg → List ℕ
+reg_text R0 = codes "r0"
+reg_text R1 = codes "r1"
+reg_text R2 = codes "r2"
+reg_text R3 = codes "r3"
+reg_text R4 = codes "r4"
+reg_text R5 = codes "r5"
+reg_text R6 = codes "r6"
+reg_text R7 = codes "r7"
+reg_text R8 = codes "r8"
+reg_text R9 = codes "r9"
+reg_text R10 = codes "r10"
+reg_text R11 = codes "r11"
+reg_text Cp = codes "cp"
+reg_text Dp = codes "dp"
+reg_text Sp = codes "sp"
+reg_text Lr = codes "lr"
+
+-- a condition's name
+abbrev pub cond_text : Cond → List ℕ
+cond_text CondNone = codes "NONE"
+cond_text CondEq = codes "EQ"
+cond_text CondNeq = codes "NEQ"
+cond_text CondAfter = codes "AFTER"
+
+-- what GETR takes
+abbrev pub get_text : GetKind → List ℕ
+get_text GetSync = codes "SYNC"
+get_text GetLock = codes "LOCK"
+
+-- a port's way
+abbrev pub dir_text : Dir → List ℕ
+dir_text DirIn = codes "in"
+dir_text DirOut = codes "out"
+dir_text DirBoth = codes "both"
+
+-- a trap's kind
+abbrev pub trap_text : Trap → List ℕ
+trap_text Arithmetic = codes "arithmetic"
+trap_text Index = codes "index"
+trap_text Mismatch = codes "mismatch"
+trap_text Address = codes "address"
+trap_text Resource = codes "resource"
+trap_text NoCode = codes "code"
+
+-- 1A to 1P, 4A to 4F, 8A to 8D, 16A, 16B, 32A: the width and a letter
+abbrev pub port_text : ℕ → List ℕ
+port_text id =
+    if nat_lt id 16 then codes "1" ++ (65 + id) ∷ [] else if nat_lt id 22 then codes "4" ++ (65 + (id - 16)) ∷ [] else if nat_lt id 26 then codes "8" ++ (65 + (id - 22)) ∷ [] else if nat_lt id 28 then codes "16" ++ (65 + (id - 26)) ∷ [] else codes "32A"
+
+-- line and column
+abbrev pub pos_text : Pos → List ℕ
+pos_text pos = decimal pos.line ++ codes ":" ++ decimal pos.col
+
+-- the name, and each operand after a comma but the first
+abbrev pub text1 : List ℕ → List ℕ → List ℕ
+text1 name a = name ++ codes " " ++ a
+
+-- a name and two operands
+abbrev pub text2 : List ℕ → List ℕ → List ℕ → List ℕ
+text2 name a b = name ++ codes " " ++ a ++ codes ", " ++ b
+
+-- a name and three operands
+abbrev pub text3 : List ℕ → List ℕ → List ℕ → List ℕ → List ℕ
+text3 name a b c = name ++ codes " " ++ a ++ codes ", " ++ b ++ codes ", " ++ c
+
+-- an instruction's name and operands
+abbrev pub instr_text : Instr → List ℕ
+instr_text (Add a b c) = text3 (codes "ADD") (reg_text a) (reg_text b) (reg_text c)
+instr_text (Sub a b c) = text3 (codes "SUB") (reg_text a) (reg_text b) (reg_text c)
+instr_text (Mul a b c) = text3 (codes "MUL") (reg_text a) (reg_text b) (reg_text c)
+instr_text (And a b c) = text3 (codes "AND") (reg_text a) (reg_text b) (reg_text c)
+instr_text (Or a b c) = text3 (codes "OR") (reg_text a) (reg_text b) (reg_text c)
+instr_text (Xor a b c) = text3 (codes "XOR") (reg_text a) (reg_text b) (reg_text c)
+instr_text (Addi a b c) = text3 (codes "ADDI") (reg_text a) (reg_text b) (decimal c)
+instr_text (Neg a b) = text2 (codes "NEG") (reg_text a) (reg_text b)
+instr_text (Not a b) = text2 (codes "NOT") (reg_text a) (reg_text b)
+instr_text (Eq a b c) = text3 (codes "EQ") (reg_text a) (reg_text b) (reg_text c)
+instr_text (Lss a b c) = text3 (codes "LSS") (reg_text a) (reg_text b) (reg_text c)
+instr_text (Lsu a b c) = text3 (codes "LSU") (reg_text a) (reg_text b) (reg_text c)
+instr_text (Shl a b c) = text3 (codes "SHL") (reg_text a) (reg_text b) (reg_text c)
+instr_text (Shr a b c) = text3 (codes "SHR") (reg_text a) (reg_text b) (reg_text c)
+instr_text (Ashr a b c) = text3 (codes "ASHR") (reg_text a) (reg_text b) (reg_text c)
+instr_text (Divs a b c) = text3 (codes "DIVS") (reg_text a) (reg_text b) (reg_text c)
+instr_text (Rems a b c) = text3 (codes "REMS") (reg_text a) (reg_text b) (reg_text c)
+instr_text (Divu a b c) = text3 (codes "DIVU") (reg_text a) (reg_text b) (reg_text c)
+instr_text (Remu a b c) = text3 (codes "REMU") (reg_text a) (reg_text b) (reg_text c)
+instr_text (Ecallf a) = text1 (codes "ECALLF") (reg_text a)
+instr_text (Ecallt a) = text1 (codes "ECALLT") (reg_text a)
+instr_text (Ldc a b) = text2 (codes "LDC") (reg_text a) (decimal b)
+instr_text (Ldwdp a b) = text2 (codes "LDWDP") (reg_text a) (decimal b)
+instr_text (Stwdp a b) = text2 (codes "STWDP") (reg_text a) (decimal b)
+instr_text (Ldawdp a b) = text2 (codes "LDAWDP") (reg_text a) (decimal b)
+instr_text (Ldwsp a b) = text2 (codes "LDWSP") (reg_text a) (decimal b)
+instr_text (Stwsp a b) = text2 (codes "STWSP") (reg_text a) (decimal b)
+instr_text (Ldawsp a b) = text2 (codes "LDAWSP") (reg_text a) (decimal b)
+instr_text (Ldw a b c) = text3 (codes "LDW") (reg_text a) (reg_text b) (reg_text c)
+instr_text (Stw a b c) = text3 (codes "STW") (reg_text a) (reg_text b) (reg_text c)
+instr_text (Setdp a) = text1 (codes "SETDP") (reg_text a)
+instr_text (Setsp a) = text1 (codes "SETSP") (reg_text a)
+instr_text (Brft a b) = text2 (codes "BRFT") (reg_text a) (decimal b)
+instr_text (Brff a b) = text2 (codes "BRFF") (reg_text a) (decimal b)
+instr_text (Brfu a) = text1 (codes "BRFU") (decimal a)
+instr_text (Brbt a b) = text2 (codes "BRBT") (reg_text a) (decimal b)
+instr_text (Brbf a b) = text2 (codes "BRBF") (reg_text a) (decimal b)
+instr_text (Brbu a) = text1 (codes "BRBU") (decimal a)
+instr_text (Blrf a) = text1 (codes "BLRF") (decimal a)
+instr_text (Blrb a) = text1 (codes "BLRB") (decimal a)
+instr_text (Entsp a) = text1 (codes "ENTSP") (decimal a)
+instr_text (Retsp a) = text1 (codes "RETSP") (decimal a)
+instr_text (Getr a b) = text2 (codes "GETR") (reg_text a) (get_text b)
+instr_text (Freer a) = text1 (codes "FREER") (reg_text a)
+instr_text (Getst a b) = text2 (codes "GETST") (reg_text a) (reg_text b)
+instr_text (Tinitpc a b) = text2 (codes "TINITPC") (reg_text a) (decimal b)
+instr_text (Tinitdp a b) = text2 (codes "TINITDP") (reg_text a) (reg_text b)
+instr_text (Tinitsp a b) = text2 (codes "TINITSP") (reg_text a) (reg_text b)
+instr_text (Msync a) = text1 (codes "MSYNC") (reg_text a)
+instr_text Ssync = codes "SSYNC"
+instr_text (Mjoin a) = text1 (codes "MJOIN") (reg_text a)
+instr_text Freet = codes "FREET"
+instr_text (Out a b) = text2 (codes "OUT") (reg_text a) (reg_text b)
+instr_text (Outt a b) = text2 (codes "OUTT") (reg_text a) (reg_text b)
+instr_text (Outct a b) = text2 (codes "OUTCT") (reg_text a) (decimal b)
+instr_text (In a b) = text2 (codes "IN") (reg_text a) (reg_text b)
+instr_text (Int a b) = text2 (codes "INT") (reg_text a) (reg_text b)
+instr_text (Chkct a b) = text2 (codes "CHKCT") (reg_text a) (decimal b)
+instr_text (Setc a b) = text2 (codes "SETC") (reg_text a) (cond_text b)
+instr_text (Setd a b) = text2 (codes "SETD") (reg_text a) (reg_text b)
+instr_text (Setpt a b) = text2 (codes "SETPT") (reg_text a) (reg_text b)
+instr_text (Getts a b) = text2 (codes "GETTS") (reg_text a) (reg_text b)
+instr_text (Setv a b) = text2 (codes "SETV") (reg_text a) (decimal b)
+instr_text (Eeu a) = text1 (codes "EEU") (reg_text a)
+instr_text (Edu a) = text1 (codes "EDU") (reg_text a)
+instr_text Clre = codes "CLRE"
+instr_text Waiteu = codes "WAITEU"
+instr_text (Setsr a) = text1 (codes "SETSR") (decimal a)
+instr_text (Clrsr a) = text1 (codes "CLRSR") (decimal a)
+
+-- an instruction's line
+abbrev pub code_line : ℕ → Instr → Pos → List ℕ
+code_line i x pos = line_of (decimal i ++ codes ": " ++ instr_text x ++ codes " @" ++ pos_text pos)
+
+-- the lines of the instructions, counted on from i
+abbrev pub code_lines : ℕ → List Instr → List Pos → List ℕ
+code_lines i [] at' = []
+code_lines i (x ∷ xs) [] = []
+code_lines i (x ∷ xs) (pos ∷ at') = code_line i x pos ++ code_lines (suc i) xs at'
+
+-- a line for each port
+abbrev pub port_lines : List PortDecl → List ℕ
+port_lines [] = []
+port_lines (d ∷ ds) = line_of (codes ".port " ++ port_text d.port ++ codes " " ++ dir_text d.dir) ++ port_lines ds
+
+-- a line for each root
+abbrev pub root_lines : List ℕ → List ℕ
+root_lines [] = []
+root_lines (k ∷ ks) = line_of (codes ".root " ++ decimal k) ++ root_lines ks
+
+-- a core's lines
+abbrev pub core_lines : CoreImage → List ℕ
+core_lines k =
+    line_of (codes ".core " ++ decimal k.number)
+    ++ line_of (codes ".words " ++ decimal k.words)
+    ++ line_of (codes ".timers " ++ decimal k.timers)
+    ++ line_of (codes ".ends " ++ decimal k.ends)
+    ++ port_lines k.ports
+    ++ root_lines k.roots
+    ++ code_lines 0 k.code.instrs k.code.«at»
+
+-- the cores' lines
+abbrev pub cores_lines : List CoreImage → List ℕ
+cores_lines [] = []
+cores_lines (k ∷ ks) = core_lines k ++ cores_lines ks
+
+-- a channel's line
+abbrev pub chan_line : Pair → List ℕ
+chan_line p =
+    line_of (codes ".chan " ++ decimal p.core ++ codes " " ++ decimal p.end ++ codes " " ++ decimal p.peer_core ++ codes " " ++ decimal p.peer_end)
+
+-- a line for each channel
+abbrev pub chan_lines : List Pair → List ℕ
+chan_lines [] = []
+chan_lines (p ∷ ps) = chan_line p ++ chan_lines ps
+
+-- the listing of an image
+abbrev pub image_text : Image → List ℕ
+image_text L = cores_lines L.cores ++ chan_lines L.chans
+
+-- `code`, and the listing
+abbrev pub code_section : Image → List ℕ
+code_section L = line_of (codes "code") ++ image_text L
+
+-- what a port's record says
+abbrev pub transfer_text : List ℕ → ℕ → ℕ → ℕ → ℕ → List ℕ
+transfer_text name c p stamp v =
+    name ++ codes " " ++ decimal c ++ codes " " ++ port_text p ++ codes " @" ++ decimal stamp ++ codes " " ++ decimal v
+
+-- a record, without its line feed
+abbrev pub record_text : Record → List ℕ
+record_text (Com c v) = codes "com " ++ decimal c ++ codes " " ++ decimal v
+record_text (PortOut c p stamp v) = transfer_text (codes "out") c p stamp v
+record_text (PortIn c p stamp v) = transfer_text (codes "in") c p stamp v
+record_text (Fault c pos kind) = codes "err " ++ decimal c ++ codes " " ++ pos_text pos ++ codes " " ++ trap_text kind
+
+-- a line for each record
+abbrev pub record_lines : List Record → List ℕ
+record_lines [] = []
+record_lines (r ∷ rs) = line_of (record_text r) ++ record_lines rs
+
+-- the end word
+abbrev pub end_text : EndWord → List ℕ
+end_text Finished = codes "finished"
+end_text AllTrapped = codes "trapped"
+end_text Stuck = codes "stuck"
+end_text Stopped = codes "stopped"
+
+-- a thread's state
+abbrev pub show_text : ShowState → List ℕ
+show_text ShowUnused = codes "unused"
+show_text ShowWaiting = codes "waiting"
+show_text ShowTrapped = codes "trapped"
+show_text ShowReady = codes "ready"
+show_text ShowPaused = codes "paused"
+
+-- the registers from number i on
+abbrev pub regs_text : ℕ → List ℕ → List ℕ
+regs_text i [] = []
+regs_text i (v ∷ vs) = codes " r" ++ decimal i ++ codes " " ++ decimal v ++ regs_text (suc i) vs
+
+-- what `show` writes, without its line feed
+abbrev pub shown_text : Shown → List ℕ
+shown_text s =
+    codes "show " ++ decimal s.core ++ codes " " ++ decimal s.thread ++ codes " " ++ show_text s.state ++ codes " pc " ++ decimal s.pc ++ regs_text 0 s.regs
+
+-- the trace section: `trace`, a line for each record, and the end word
+abbrev pub trace_section : List Record → EndWord → List ℕ
+trace_section trace word = line_of (codes "trace") ++ record_lines trace ++ line_of (codes "end " ++ end_text word)
