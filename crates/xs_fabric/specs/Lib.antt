@@ -1,3 +1,4 @@
 pub mod Lockstep
 pub mod EndWord
 pub mod Seen
+pub mod Parts

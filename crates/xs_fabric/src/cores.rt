@@ -7,9 +7,9 @@ ghost use Rattle.xs_instr.specs.Valid.{Valid, IsGoodStim};
 ghost use Rattle.xs_instr.specs.declared.image.Image.{Image};
 ghost use Rattle.xs_instr.specs.declared.image.Stim.{Stim};
 ghost use Rattle.xs_core.specs.Built.{IsBuilt};
-ghost use Rattle.xs_fabric.specs.Lockstep.{events_in, rounds_at, turn, turns, tick_once};
+ghost use Rattle.xs_fabric.specs.Lockstep.{events_in, rounds_at, turn, turns, tick_once as once_ticked};
 ghost use Rattle.xs_fabric.specs.Seen.{IsEvent, home_in, homes, state_in, together};
-ghost use Rattle.xs_fabric.specs.Parts.{AreTotals, part, ready_steps};
+ghost use Rattle.xs_fabric.specs.Parts.{AreTotals, part, round_events};
 
 use crate::machine::Event;
 use std::alloc::Global;
@@ -120,8 +120,8 @@ pub fn tick_core(cores: &mut Vec<Core>, core: u8) -> Event
 /// A core's part of a round, and how many events it had.
 fn one_round(core: &mut Core, trace: &mut Vec<Record>) -> u32
     requires room { vec_len trace.old + 8 ≤ vec_capacity trace.old }
-    ensures round { part core.new.state trace.new.items ≡ turns core.old.home (part (tick_once core.old.state) trace.old.items) 8 }
-    ensures events { result ≡ ready_steps core.old.home core.old.state trace.old.items }
+    ensures round { part core.new.state trace.new.items ≡ turns core.old.home (part (once_ticked core.old.state) trace.old.items) 8 }
+    ensures events { result ≡ round_events core.old.home core.old.state trace.old.items }
     ensures few { result ≤ 9 }
     ensures home { core.new.home ≡ core.old.home }
     ensures len { vec_len trace.new ≤ vec_len trace.old + 8 }
@@ -138,7 +138,8 @@ fn one_round(core: &mut Core, trace: &mut Vec<Record>) -> u32
 
 /// A tick where there can be one, and how many there were.
 fn tick_once(core: &mut Core) -> u32
-    ensures state { core.new.state ≡ Rattle.xs_fabric.specs.Lockstep.tick_once core.old.state }
+    ensures state { core.new.state ≡ once_ticked core.old.state }
+    ensures events { result ≡ truth (nat_lt core.old.state.clock last_clock) }
     ensures home { core.new.home ≡ core.old.home }
 {
     if core.clock() == LAST_CLOCK {
@@ -146,4 +147,46 @@ fn tick_once(core: &mut Core) -> u32
     }
     core.tick();
     1
+}
+
+/// A round of the four cores, and how many events it had.
+pub fn all_rounds(cores: &mut Vec<Core>, trace: &mut Vec<Record>) -> u32
+    requires four { vec_len cores.old ≡ 4 }
+    requires room { vec_len trace.old + 32 ≤ vec_capacity trace.old }
+    ensures rounds { (L : Image) (s : Stim) → map home_in cores.old.items ≡ homes L s →
+        together cores.new.items trace.new.items ≡ rounds_at L s (together cores.old.items trace.old.items) 4 }
+    ensures events { (L : Image) (s : Stim) → map home_in cores.old.items ≡ homes L s →
+        result ≡ events_in L s (together cores.old.items trace.old.items) 4 }
+    ensures homes { map home_in cores.new.items ≡ map home_in cores.old.items }
+    ensures four { vec_len cores.new ≡ 4 }
+    ensures len { vec_len trace.new ≤ vec_len trace.old + 32 }
+    ensures capacity { vec_capacity trace.new ≡ vec_capacity trace.old }
+{
+    let mut events = 0;
+    for i in 0..CORES {
+        let core = &mut cores[i];
+        events += one_round(core, trace);
+    }
+    events
+}
+
+/// The sums of what is seen of some cores.
+#[derive(Clone, Copy)]
+pub struct Totals {
+    pub roots: u64,
+    pub used: u64,
+    pub trapped: u64,
+    pub ready: u64,
+    pub timed: u64,
+}
+
+/// The sums over the four cores.
+pub fn totals(cores: &[Core]) -> Totals
+    requires { length cores.now ≡ 4 }
+    ensures { (L : Image) (s : Stim) (trace : List Record) → map home_in cores.now ≡ homes L s → AreTotals result (sights L s (together cores.now trace) 4) }
+{
+    let first = add(NOTHING, &cores[0]);
+    let second = add(first, &cores[1]);
+    let third = add(second, &cores[2]);
+    add(third, &cores[3])
 }
