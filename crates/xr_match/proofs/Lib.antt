@@ -6,3 +6,4 @@ pub mod Rules
 pub mod Placed
 pub mod Items
 pub mod Pieces
+pub mod Answers
