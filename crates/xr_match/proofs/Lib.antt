@@ -7,3 +7,5 @@ pub mod Placed
 pub mod Items
 pub mod Pieces
 pub mod Answers
+pub mod Counts
+pub mod Standing
