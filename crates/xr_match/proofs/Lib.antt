@@ -9,3 +9,8 @@ pub mod Pieces
 pub mod Answers
 pub mod Counts
 pub mod Standing
+pub mod Ticks
+pub mod Steps
+pub mod Links
+pub mod Events
+pub mod Agrees
