@@ -14,3 +14,8 @@ pub mod Steps
 pub mod Links
 pub mod Events
 pub mod Agrees
+pub mod Ports
+pub mod Emitted
+pub mod Boot
+pub mod Compiled
+pub mod Validity
