@@ -1,4 +1,5 @@
 pub mod Lockstep
 pub mod EndWord
-pub mod Seen
 pub mod Parts
+pub mod Seen
+pub mod Totals

@@ -1,15 +1,17 @@
 // The four cores of a machine, and the list of what they recorded.
 
-ghost use Rattle.std.specs.Prelude.{◌≡◌, ◌≤◌, ◌<◌, ◌+◌, ◌++◌, ◌∷◌, [], IfOk, map, length, vec_len, vec_capacity};
+ghost use Rattle.std.specs.Prelude.{◌≡◌, ◌≤◌, ◌<◌, ◌+◌, ◌++◌, ◌∷◌, [], IfOk, List as Items, map, nat_lt, vec_len, vec_capacity};
 ghost use Rattle.xs_instr.specs.Machine.{Step, Tick, boot, does};
 ghost use Rattle.xs_instr.specs.Slot.{is_ready, last_clock};
 ghost use Rattle.xs_instr.specs.Valid.{Valid, IsGoodStim};
 ghost use Rattle.xs_instr.specs.declared.image.Image.{Image};
 ghost use Rattle.xs_instr.specs.declared.image.Stim.{Stim};
 ghost use Rattle.xs_core.specs.Built.{IsBuilt};
+ghost use Rattle.xs_instr.specs.declared.trace.Record.{Record as RecordOf};
+ghost use Rattle.xw_words.specs.Words.{truth};
 ghost use Rattle.xs_fabric.specs.Lockstep.{events_in, rounds_at, turn, turns, tick_once as once_ticked};
 ghost use Rattle.xs_fabric.specs.Seen.{IsEvent, home_in, homes, state_in, together};
-ghost use Rattle.xs_fabric.specs.Parts.{AreTotals, part, round_events};
+ghost use Rattle.xs_fabric.specs.Parts.{part, round_events};
 
 use crate::machine::Event;
 use std::alloc::Global;
@@ -18,7 +20,9 @@ use xs_instr::{Image, Record, Stim};
 use xw_words::{List, Memory};
 
 const CORES: usize = 4;
+
 const THREADS: u8 = 8;
+
 const LAST_CLOCK: u32 = u32::MAX;
 
 /// The four cores of an image under a stimulus, as they start.
@@ -43,7 +47,7 @@ fn note(trace: &mut Vec<Record>, made: Record)
     requires { vec_len trace.old < vec_capacity trace.old }
     ensures items { trace.new.items ≡ trace.old.items ++ made ∷ [] }
     ensures len { vec_len trace.new ≡ vec_len trace.old + 1 }
-    ensures capacity { vec_capacity trace.new ≡ vec_capacity trace.old }
+    ensures capacity { vec_capacity trace.old ≤ vec_capacity trace.new }
 {
     trace.push(made).unwrap();
 }
@@ -56,7 +60,7 @@ fn take_turn(core: &mut Core, trace: &mut Vec<Record>, thread: u8) -> bool
     ensures stepped { result ≡ is_ready core.old.home core.old.state thread }
     ensures home { core.new.home ≡ core.old.home }
     ensures len { vec_len trace.new ≤ vec_len trace.old + 1 }
-    ensures capacity { vec_capacity trace.new ≡ vec_capacity trace.old }
+    ensures capacity { vec_capacity trace.old ≤ vec_capacity trace.new }
 {
     match core.slot(thread) {
         Did::Made(None) => true,
@@ -80,13 +84,16 @@ pub fn step_core(cores: &mut Vec<Core>, trace: &mut Vec<Record>, core: u8, threa
     requires room { vec_len trace.old < vec_capacity trace.old }
     ensures event { (L : Image) (s : Stim) → map home_in cores.old.items ≡ homes L s →
         IsEvent (does L s (together cores.old.items trace.old.items) (Step core thread))
-            (together cores.old.items trace.old.items) result (together cores.new.items trace.new.items) }
+        (together cores.old.items trace.old.items) result (together cores.new.items trace.new.items) }
     ensures homes { map home_in cores.new.items ≡ map home_in cores.old.items }
     ensures four { vec_len cores.new ≡ 4 }
     ensures len { vec_len trace.new ≤ vec_len trace.old + 1 }
-    ensures capacity { vec_capacity trace.new ≡ vec_capacity trace.old }
+    ensures capacity { vec_capacity trace.old ≤ vec_capacity trace.new }
 {
-    if core as usize >= CORES || thread >= THREADS {
+    if core as usize >= CORES {
+        return Event::NotEnabled;
+    }
+    if thread >= THREADS {
         return Event::NotEnabled;
     }
     let core = &mut cores[core as usize];
@@ -100,9 +107,9 @@ pub fn step_core(cores: &mut Vec<Core>, trace: &mut Vec<Record>, core: u8, threa
 /// A tick of one of the cores.
 pub fn tick_core(cores: &mut Vec<Core>, core: u8) -> Event
     requires four { vec_len cores.old ≡ 4 }
-    ensures event { (L : Image) (s : Stim) (trace : List Record) → map home_in cores.old.items ≡ homes L s →
+    ensures event { (L : Image) (s : Stim) (trace : Items RecordOf) → map home_in cores.old.items ≡ homes L s →
         IsEvent (does L s (together cores.old.items trace) (Tick core))
-            (together cores.old.items trace) result (together cores.new.items trace) }
+        (together cores.old.items trace) result (together cores.new.items trace) }
     ensures homes { map home_in cores.new.items ≡ map home_in cores.old.items }
     ensures four { vec_len cores.new ≡ 4 }
 {
@@ -125,15 +132,20 @@ fn one_round(core: &mut Core, trace: &mut Vec<Record>) -> u32
     ensures few { result ≤ 9 }
     ensures home { core.new.home ≡ core.old.home }
     ensures len { vec_len trace.new ≤ vec_len trace.old + 8 }
-    ensures capacity { vec_capacity trace.new ≡ vec_capacity trace.old }
+    ensures capacity { vec_capacity trace.old ≤ vec_capacity trace.new }
 {
     let mut events = tick_once(core);
     for thread in 0..THREADS {
-        if take_turn(core, trace, thread) {
-            events += 1;
-        }
+        events += count(take_turn(core, trace, thread));
     }
     events
+}
+
+/// One for what happened, and nothing for what didn't.
+fn count(happened: bool) -> u32
+    ensures { result ≡ truth happened }
+{
+    if happened { 1 } else { 0 }
 }
 
 /// A tick where there can be one, and how many there were.
@@ -160,7 +172,7 @@ pub fn all_rounds(cores: &mut Vec<Core>, trace: &mut Vec<Record>) -> u32
     ensures homes { map home_in cores.new.items ≡ map home_in cores.old.items }
     ensures four { vec_len cores.new ≡ 4 }
     ensures len { vec_len trace.new ≤ vec_len trace.old + 32 }
-    ensures capacity { vec_capacity trace.new ≡ vec_capacity trace.old }
+    ensures capacity { vec_capacity trace.old ≤ vec_capacity trace.new }
 {
     let mut events = 0;
     for i in 0..CORES {
@@ -168,25 +180,4 @@ pub fn all_rounds(cores: &mut Vec<Core>, trace: &mut Vec<Record>) -> u32
         events += one_round(core, trace);
     }
     events
-}
-
-/// The sums of what is seen of some cores.
-#[derive(Clone, Copy)]
-pub struct Totals {
-    pub roots: u64,
-    pub used: u64,
-    pub trapped: u64,
-    pub ready: u64,
-    pub timed: u64,
-}
-
-/// The sums over the four cores.
-pub fn totals(cores: &[Core]) -> Totals
-    requires { length cores.now ≡ 4 }
-    ensures { (L : Image) (s : Stim) (trace : List Record) → map home_in cores.now ≡ homes L s → AreTotals result (sights L s (together cores.now trace) 4) }
-{
-    let first = add(NOTHING, &cores[0]);
-    let second = add(first, &cores[1]);
-    let third = add(second, &cores[2]);
-    add(third, &cores[3])
 }

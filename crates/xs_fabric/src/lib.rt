@@ -4,6 +4,7 @@
 mod cores;
 mod law;
 mod machine;
+mod totals;
 
 pub use law::lockstep_is_a_run;
 pub use machine::{Event, Machine};

@@ -7,7 +7,8 @@ ghost use Rattle.xs_core.specs.Built.{IsBuilt};
 ghost use Rattle.xs_fabric.specs.EndWord.{end_of, has_trap};
 ghost use Rattle.xs_fabric.specs.Lockstep.{events_in, rounds_at};
 
-use crate::cores::{all_rounds, boot_cores, step_core, tick_core, totals};
+use crate::cores::{all_rounds, boot_cores, step_core, tick_core};
+use crate::totals::{sum_of_sights, word_of};
 use std::alloc::Global;
 use xs_core::Core;
 use xs_instr::{EndWord, Image, Record, Stim};
@@ -101,22 +102,13 @@ impl Machine {
     pub fn end(&self) -> EndWord
         ensures { (L : Image) (s : Stim) → IsRunOf L s self.now → result ≡ end_of L s (state_of self.now) }
     {
-        let all = totals(self.cores.as_slice());
-        if all.roots == 0 {
-            EndWord::Finished
-        } else if all.used == all.trapped {
-            EndWord::Trapped
-        } else if all.ready == 0 && all.timed == 0 {
-            EndWord::Stuck
-        } else {
-            EndWord::Stopped
-        }
+        word_of(sum_of_sights(self.cores.as_slice()))
     }
 
     /// Whether some thread is trapped.
     pub fn trapped(&self) -> bool
         ensures { (L : Image) (s : Stim) → IsRunOf L s self.now → result ≡ has_trap L s (state_of self.now) }
     {
-        totals(self.cores.as_slice()).trapped != 0
+        sum_of_sights(self.cores.as_slice()).trapped != 0
     }
 }
