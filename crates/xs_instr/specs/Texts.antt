@@ -1,5 +1,6 @@
--- Texts, as lists of bytes: instructions, the code section, records and show lines.
-use Rattle.std.specs.Prelude.{ℕ, suc, ◌+◌, ◌-◌, List, [], ◌∷◌, ◌++◌, nat_lt, if◌then◌else◌, codes, decimal}
+-- Texts, as lists of bytes: instructions, listings, records and show lines. A text of several pieces is `unfoldable`, so that a
+-- proof names it and need not read it.
+use Rattle.std.specs.Prelude.{ℕ, suc, ◌+◌, ◌-◌, ◌<◌, List, [], ◌∷◌, ◌++◌, nat_lt, if◌then◌else◌, codes, decimal}
 use Rattle.xw_words.specs.declared.pos.Pos.{Pos}
 use Rattle.xs_instr.specs.declared.image.CoreImage.{CoreImage}
 use Rattle.xs_instr.specs.declared.image.Dir.{Dir}
@@ -84,92 +85,97 @@ port_text id =
 abbrev pub pos_text : Pos → List ℕ
 pos_text pos = decimal pos.line ++ codes ":" ++ decimal pos.col
 
--- the name, and each operand after a comma but the first
-abbrev pub text1 : List ℕ → List ℕ → List ℕ
-text1 name a = name ++ codes " " ++ a
+-- a name and its operand
+unfoldable pub one_operand : List ℕ → List ℕ → List ℕ
+one_operand name a = name ++ codes " " ++ a
 
--- a name and two operands
-abbrev pub text2 : List ℕ → List ℕ → List ℕ → List ℕ
-text2 name a b = name ++ codes " " ++ a ++ codes ", " ++ b
+-- a name and two operands, with a comma between them
+unfoldable pub two_operands : List ℕ → List ℕ → List ℕ → List ℕ
+two_operands name a b = name ++ codes " " ++ a ++ codes ", " ++ b
 
--- a name and three operands
-abbrev pub text3 : List ℕ → List ℕ → List ℕ → List ℕ → List ℕ
-text3 name a b c = name ++ codes " " ++ a ++ codes ", " ++ b ++ codes ", " ++ c
+-- a name and three operands, with a comma between any two
+unfoldable pub three_operands : List ℕ → List ℕ → List ℕ → List ℕ → List ℕ
+three_operands name a b c = name ++ codes " " ++ a ++ codes ", " ++ b ++ codes ", " ++ c
 
 -- an instruction's name and operands
 abbrev pub instr_text : Instr → List ℕ
-instr_text (Add a b c) = text3 (codes "ADD") (reg_text a) (reg_text b) (reg_text c)
-instr_text (Sub a b c) = text3 (codes "SUB") (reg_text a) (reg_text b) (reg_text c)
-instr_text (Mul a b c) = text3 (codes "MUL") (reg_text a) (reg_text b) (reg_text c)
-instr_text (And a b c) = text3 (codes "AND") (reg_text a) (reg_text b) (reg_text c)
-instr_text (Or a b c) = text3 (codes "OR") (reg_text a) (reg_text b) (reg_text c)
-instr_text (Xor a b c) = text3 (codes "XOR") (reg_text a) (reg_text b) (reg_text c)
-instr_text (Addi a b c) = text3 (codes "ADDI") (reg_text a) (reg_text b) (decimal c)
-instr_text (Neg a b) = text2 (codes "NEG") (reg_text a) (reg_text b)
-instr_text (Not a b) = text2 (codes "NOT") (reg_text a) (reg_text b)
-instr_text (Eq a b c) = text3 (codes "EQ") (reg_text a) (reg_text b) (reg_text c)
-instr_text (Lss a b c) = text3 (codes "LSS") (reg_text a) (reg_text b) (reg_text c)
-instr_text (Lsu a b c) = text3 (codes "LSU") (reg_text a) (reg_text b) (reg_text c)
-instr_text (Shl a b c) = text3 (codes "SHL") (reg_text a) (reg_text b) (reg_text c)
-instr_text (Shr a b c) = text3 (codes "SHR") (reg_text a) (reg_text b) (reg_text c)
-instr_text (Ashr a b c) = text3 (codes "ASHR") (reg_text a) (reg_text b) (reg_text c)
-instr_text (Divs a b c) = text3 (codes "DIVS") (reg_text a) (reg_text b) (reg_text c)
-instr_text (Rems a b c) = text3 (codes "REMS") (reg_text a) (reg_text b) (reg_text c)
-instr_text (Divu a b c) = text3 (codes "DIVU") (reg_text a) (reg_text b) (reg_text c)
-instr_text (Remu a b c) = text3 (codes "REMU") (reg_text a) (reg_text b) (reg_text c)
-instr_text (Ecallf a) = text1 (codes "ECALLF") (reg_text a)
-instr_text (Ecallt a) = text1 (codes "ECALLT") (reg_text a)
-instr_text (Ldc a b) = text2 (codes "LDC") (reg_text a) (decimal b)
-instr_text (Ldwdp a b) = text2 (codes "LDWDP") (reg_text a) (decimal b)
-instr_text (Stwdp a b) = text2 (codes "STWDP") (reg_text a) (decimal b)
-instr_text (Ldawdp a b) = text2 (codes "LDAWDP") (reg_text a) (decimal b)
-instr_text (Ldwsp a b) = text2 (codes "LDWSP") (reg_text a) (decimal b)
-instr_text (Stwsp a b) = text2 (codes "STWSP") (reg_text a) (decimal b)
-instr_text (Ldawsp a b) = text2 (codes "LDAWSP") (reg_text a) (decimal b)
-instr_text (Ldw a b c) = text3 (codes "LDW") (reg_text a) (reg_text b) (reg_text c)
-instr_text (Stw a b c) = text3 (codes "STW") (reg_text a) (reg_text b) (reg_text c)
-instr_text (Setdp a) = text1 (codes "SETDP") (reg_text a)
-instr_text (Setsp a) = text1 (codes "SETSP") (reg_text a)
-instr_text (Brft a b) = text2 (codes "BRFT") (reg_text a) (decimal b)
-instr_text (Brff a b) = text2 (codes "BRFF") (reg_text a) (decimal b)
-instr_text (Brfu a) = text1 (codes "BRFU") (decimal a)
-instr_text (Brbt a b) = text2 (codes "BRBT") (reg_text a) (decimal b)
-instr_text (Brbf a b) = text2 (codes "BRBF") (reg_text a) (decimal b)
-instr_text (Brbu a) = text1 (codes "BRBU") (decimal a)
-instr_text (Blrf a) = text1 (codes "BLRF") (decimal a)
-instr_text (Blrb a) = text1 (codes "BLRB") (decimal a)
-instr_text (Entsp a) = text1 (codes "ENTSP") (decimal a)
-instr_text (Retsp a) = text1 (codes "RETSP") (decimal a)
-instr_text (Getr a b) = text2 (codes "GETR") (reg_text a) (get_text b)
-instr_text (Freer a) = text1 (codes "FREER") (reg_text a)
-instr_text (Getst a b) = text2 (codes "GETST") (reg_text a) (reg_text b)
-instr_text (Tinitpc a b) = text2 (codes "TINITPC") (reg_text a) (decimal b)
-instr_text (Tinitdp a b) = text2 (codes "TINITDP") (reg_text a) (reg_text b)
-instr_text (Tinitsp a b) = text2 (codes "TINITSP") (reg_text a) (reg_text b)
-instr_text (Msync a) = text1 (codes "MSYNC") (reg_text a)
+instr_text (Add a b c) = three_operands (codes "ADD") (reg_text a) (reg_text b) (reg_text c)
+instr_text (Sub a b c) = three_operands (codes "SUB") (reg_text a) (reg_text b) (reg_text c)
+instr_text (Mul a b c) = three_operands (codes "MUL") (reg_text a) (reg_text b) (reg_text c)
+instr_text (And a b c) = three_operands (codes "AND") (reg_text a) (reg_text b) (reg_text c)
+instr_text (Or a b c) = three_operands (codes "OR") (reg_text a) (reg_text b) (reg_text c)
+instr_text (Xor a b c) = three_operands (codes "XOR") (reg_text a) (reg_text b) (reg_text c)
+instr_text (Addi a b c) = three_operands (codes "ADDI") (reg_text a) (reg_text b) (decimal c)
+instr_text (Neg a b) = two_operands (codes "NEG") (reg_text a) (reg_text b)
+instr_text (Not a b) = two_operands (codes "NOT") (reg_text a) (reg_text b)
+instr_text (Eq a b c) = three_operands (codes "EQ") (reg_text a) (reg_text b) (reg_text c)
+instr_text (Lss a b c) = three_operands (codes "LSS") (reg_text a) (reg_text b) (reg_text c)
+instr_text (Lsu a b c) = three_operands (codes "LSU") (reg_text a) (reg_text b) (reg_text c)
+instr_text (Shl a b c) = three_operands (codes "SHL") (reg_text a) (reg_text b) (reg_text c)
+instr_text (Shr a b c) = three_operands (codes "SHR") (reg_text a) (reg_text b) (reg_text c)
+instr_text (Ashr a b c) = three_operands (codes "ASHR") (reg_text a) (reg_text b) (reg_text c)
+instr_text (Divs a b c) = three_operands (codes "DIVS") (reg_text a) (reg_text b) (reg_text c)
+instr_text (Rems a b c) = three_operands (codes "REMS") (reg_text a) (reg_text b) (reg_text c)
+instr_text (Divu a b c) = three_operands (codes "DIVU") (reg_text a) (reg_text b) (reg_text c)
+instr_text (Remu a b c) = three_operands (codes "REMU") (reg_text a) (reg_text b) (reg_text c)
+instr_text (Ecallf a) = one_operand (codes "ECALLF") (reg_text a)
+instr_text (Ecallt a) = one_operand (codes "ECALLT") (reg_text a)
+instr_text (Ldc a b) = two_operands (codes "LDC") (reg_text a) (decimal b)
+instr_text (Ldwdp a b) = two_operands (codes "LDWDP") (reg_text a) (decimal b)
+instr_text (Stwdp a b) = two_operands (codes "STWDP") (reg_text a) (decimal b)
+instr_text (Ldawdp a b) = two_operands (codes "LDAWDP") (reg_text a) (decimal b)
+instr_text (Ldwsp a b) = two_operands (codes "LDWSP") (reg_text a) (decimal b)
+instr_text (Stwsp a b) = two_operands (codes "STWSP") (reg_text a) (decimal b)
+instr_text (Ldawsp a b) = two_operands (codes "LDAWSP") (reg_text a) (decimal b)
+instr_text (Ldw a b c) = three_operands (codes "LDW") (reg_text a) (reg_text b) (reg_text c)
+instr_text (Stw a b c) = three_operands (codes "STW") (reg_text a) (reg_text b) (reg_text c)
+instr_text (Setdp a) = one_operand (codes "SETDP") (reg_text a)
+instr_text (Setsp a) = one_operand (codes "SETSP") (reg_text a)
+instr_text (Brft a b) = two_operands (codes "BRFT") (reg_text a) (decimal b)
+instr_text (Brff a b) = two_operands (codes "BRFF") (reg_text a) (decimal b)
+instr_text (Brfu a) = one_operand (codes "BRFU") (decimal a)
+instr_text (Brbt a b) = two_operands (codes "BRBT") (reg_text a) (decimal b)
+instr_text (Brbf a b) = two_operands (codes "BRBF") (reg_text a) (decimal b)
+instr_text (Brbu a) = one_operand (codes "BRBU") (decimal a)
+instr_text (Blrf a) = one_operand (codes "BLRF") (decimal a)
+instr_text (Blrb a) = one_operand (codes "BLRB") (decimal a)
+instr_text (Entsp a) = one_operand (codes "ENTSP") (decimal a)
+instr_text (Retsp a) = one_operand (codes "RETSP") (decimal a)
+instr_text (Getr a b) = two_operands (codes "GETR") (reg_text a) (get_text b)
+instr_text (Freer a) = one_operand (codes "FREER") (reg_text a)
+instr_text (Getst a b) = two_operands (codes "GETST") (reg_text a) (reg_text b)
+instr_text (Tinitpc a b) = two_operands (codes "TINITPC") (reg_text a) (decimal b)
+instr_text (Tinitdp a b) = two_operands (codes "TINITDP") (reg_text a) (reg_text b)
+instr_text (Tinitsp a b) = two_operands (codes "TINITSP") (reg_text a) (reg_text b)
+instr_text (Msync a) = one_operand (codes "MSYNC") (reg_text a)
 instr_text Ssync = codes "SSYNC"
-instr_text (Mjoin a) = text1 (codes "MJOIN") (reg_text a)
+instr_text (Mjoin a) = one_operand (codes "MJOIN") (reg_text a)
 instr_text Freet = codes "FREET"
-instr_text (Out a b) = text2 (codes "OUT") (reg_text a) (reg_text b)
-instr_text (Outt a b) = text2 (codes "OUTT") (reg_text a) (reg_text b)
-instr_text (Outct a b) = text2 (codes "OUTCT") (reg_text a) (decimal b)
-instr_text (In a b) = text2 (codes "IN") (reg_text a) (reg_text b)
-instr_text (Int a b) = text2 (codes "INT") (reg_text a) (reg_text b)
-instr_text (Chkct a b) = text2 (codes "CHKCT") (reg_text a) (decimal b)
-instr_text (Setc a b) = text2 (codes "SETC") (reg_text a) (cond_text b)
-instr_text (Setd a b) = text2 (codes "SETD") (reg_text a) (reg_text b)
-instr_text (Setpt a b) = text2 (codes "SETPT") (reg_text a) (reg_text b)
-instr_text (Getts a b) = text2 (codes "GETTS") (reg_text a) (reg_text b)
-instr_text (Setv a b) = text2 (codes "SETV") (reg_text a) (decimal b)
-instr_text (Eeu a) = text1 (codes "EEU") (reg_text a)
-instr_text (Edu a) = text1 (codes "EDU") (reg_text a)
+instr_text (Out a b) = two_operands (codes "OUT") (reg_text a) (reg_text b)
+instr_text (Outt a b) = two_operands (codes "OUTT") (reg_text a) (reg_text b)
+instr_text (Outct a b) = two_operands (codes "OUTCT") (reg_text a) (decimal b)
+instr_text (In a b) = two_operands (codes "IN") (reg_text a) (reg_text b)
+instr_text (Int a b) = two_operands (codes "INT") (reg_text a) (reg_text b)
+instr_text (Chkct a b) = two_operands (codes "CHKCT") (reg_text a) (decimal b)
+instr_text (Setc a b) = two_operands (codes "SETC") (reg_text a) (cond_text b)
+instr_text (Setd a b) = two_operands (codes "SETD") (reg_text a) (reg_text b)
+instr_text (Setpt a b) = two_operands (codes "SETPT") (reg_text a) (reg_text b)
+instr_text (Getts a b) = two_operands (codes "GETTS") (reg_text a) (reg_text b)
+instr_text (Setv a b) = two_operands (codes "SETV") (reg_text a) (decimal b)
+instr_text (Eeu a) = one_operand (codes "EEU") (reg_text a)
+instr_text (Edu a) = one_operand (codes "EDU") (reg_text a)
 instr_text Clre = codes "CLRE"
 instr_text Waiteu = codes "WAITEU"
-instr_text (Setsr a) = text1 (codes "SETSR") (decimal a)
-instr_text (Clrsr a) = text1 (codes "CLRSR") (decimal a)
+instr_text (Setsr a) = one_operand (codes "SETSR") (decimal a)
+instr_text (Clrsr a) = one_operand (codes "CLRSR") (decimal a)
 
--- an instruction's line
-abbrev pub code_line : ℕ → Instr → Pos → List ℕ
+-- each one's text, one after another
+abbrev pub all_texts : {A : Type 0} → (A → List ℕ) → List A → List ℕ
+all_texts text [] = []
+all_texts text (x ∷ xs) = text x ++ all_texts text xs
+
+-- an instruction's line: its index, its text, and the place in the program that it comes from
+unfoldable pub code_line : ℕ → Instr → Pos → List ℕ
 code_line i x pos = line_of (decimal i ++ codes ": " ++ instr_text x ++ codes " @" ++ pos_text pos)
 
 -- the lines of the instructions, counted on from i
@@ -178,66 +184,69 @@ code_lines i [] at' = []
 code_lines i (x ∷ xs) [] = []
 code_lines i (x ∷ xs) (pos ∷ at') = code_line i x pos ++ code_lines (suc i) xs at'
 
--- a line for each port
-abbrev pub port_lines : List PortDecl → List ℕ
-port_lines [] = []
-port_lines (d ∷ ds) = line_of (codes ".port " ++ port_text d.port ++ codes " " ++ dir_text d.dir) ++ port_lines ds
+-- a port's line: its identifier and its way
+unfoldable pub port_line : PortDecl → List ℕ
+port_line d = line_of (codes ".port " ++ port_text d.port ++ codes " " ++ dir_text d.dir)
 
--- a line for each root
-abbrev pub root_lines : List ℕ → List ℕ
-root_lines [] = []
-root_lines (k ∷ ks) = line_of (codes ".root " ++ decimal k) ++ root_lines ks
+-- a line that says one number
+unfoldable pub number_line : List ℕ → ℕ → List ℕ
+number_line name n = line_of (name ++ codes " " ++ decimal n)
+
+-- a root's line
+abbrev pub root_line : ℕ → List ℕ
+root_line k = number_line (codes ".root") k
+
+-- a core's first lines: its number, and how much it has of memory, timers and channel ends
+unfoldable pub size_lines : CoreImage → List ℕ
+size_lines k =
+    number_line (codes ".core") k.number
+    ++ number_line (codes ".words") k.words
+    ++ number_line (codes ".timers") k.timers
+    ++ number_line (codes ".ends") k.ends
 
 -- a core's lines
-abbrev pub core_lines : CoreImage → List ℕ
+unfoldable pub core_lines : CoreImage → List ℕ
 core_lines k =
-    line_of (codes ".core " ++ decimal k.number)
-    ++ line_of (codes ".words " ++ decimal k.words)
-    ++ line_of (codes ".timers " ++ decimal k.timers)
-    ++ line_of (codes ".ends " ++ decimal k.ends)
-    ++ port_lines k.ports
-    ++ root_lines k.roots
+    size_lines k
+    ++ all_texts port_line k.ports
+    ++ all_texts root_line k.roots
     ++ code_lines 0 k.code.instrs k.code.«at»
 
--- the cores' lines
-abbrev pub cores_lines : List CoreImage → List ℕ
-cores_lines [] = []
-cores_lines (k ∷ ks) = core_lines k ++ cores_lines ks
-
--- a channel's line
-abbrev pub chan_line : Pair → List ℕ
+-- a channel's line: the core and the number of each of its two ends
+unfoldable pub chan_line : Pair → List ℕ
 chan_line p =
     line_of (codes ".chan " ++ decimal p.core ++ codes " " ++ decimal p.end ++ codes " " ++ decimal p.peer_core ++ codes " " ++ decimal p.peer_end)
 
--- a line for each channel
-abbrev pub chan_lines : List Pair → List ℕ
-chan_lines [] = []
-chan_lines (p ∷ ps) = chan_line p ++ chan_lines ps
-
 -- the listing of an image
-abbrev pub image_text : Image → List ℕ
-image_text L = cores_lines L.cores ++ chan_lines L.chans
+unfoldable pub image_text : Image → List ℕ
+image_text L = all_texts core_lines L.cores ++ all_texts chan_line L.chans
 
 -- `code`, and the listing
-abbrev pub code_section : Image → List ℕ
+unfoldable pub code_section : Image → List ℕ
 code_section L = line_of (codes "code") ++ image_text L
 
 -- what a port's record says
-abbrev pub transfer_text : List ℕ → ℕ → ℕ → ℕ → ℕ → List ℕ
+unfoldable pub transfer_text : List ℕ → ℕ → ℕ → ℕ → ℕ → List ℕ
 transfer_text name c p stamp v =
     name ++ codes " " ++ decimal c ++ codes " " ++ port_text p ++ codes " @" ++ decimal stamp ++ codes " " ++ decimal v
 
 -- a record, without its line feed
-abbrev pub record_text : Record → List ℕ
+unfoldable pub record_text : Record → List ℕ
 record_text (Com c v) = codes "com " ++ decimal c ++ codes " " ++ decimal v
 record_text (PortOut c p stamp v) = transfer_text (codes "out") c p stamp v
 record_text (PortIn c p stamp v) = transfer_text (codes "in") c p stamp v
 record_text (Fault c pos kind) = codes "err " ++ decimal c ++ codes " " ++ pos_text pos ++ codes " " ++ trap_text kind
 
--- a line for each record
-abbrev pub record_lines : List Record → List ℕ
-record_lines [] = []
-record_lines (r ∷ rs) = line_of (record_text r) ++ record_lines rs
+-- a record's line
+abbrev pub record_line : Record → List ℕ
+record_line r = line_of (record_text r)
+
+-- the port that a record speaks of, if any, is one of the 29
+abbrev pub HasGoodPort : Record → Type 0
+HasGoodPort (Com c v) = Unit {0}
+HasGoodPort (PortOut c p stamp v) = p < 29
+HasGoodPort (PortIn c p stamp v) = p < 29
+HasGoodPort (Fault c pos kind) = Unit {0}
 
 -- the end word
 abbrev pub end_text : EndWord → List ℕ
@@ -255,15 +264,15 @@ show_text ShowReady = codes "ready"
 show_text ShowPaused = codes "paused"
 
 -- the registers from number i on
-abbrev pub regs_text : ℕ → List ℕ → List ℕ
+unfoldable pub regs_text : ℕ → List ℕ → List ℕ
 regs_text i [] = []
 regs_text i (v ∷ vs) = codes " r" ++ decimal i ++ codes " " ++ decimal v ++ regs_text (suc i) vs
 
 -- what `show` writes, without its line feed
-abbrev pub shown_text : Shown → List ℕ
+unfoldable pub shown_text : Shown → List ℕ
 shown_text s =
     codes "show " ++ decimal s.core ++ codes " " ++ decimal s.thread ++ codes " " ++ show_text s.state ++ codes " pc " ++ decimal s.pc ++ regs_text 0 s.regs
 
 -- the trace section: `trace`, a line for each record, and the end word
-abbrev pub trace_section : List Record → EndWord → List ℕ
-trace_section trace word = line_of (codes "trace") ++ record_lines trace ++ line_of (codes "end " ++ end_text word)
+unfoldable pub trace_section : List Record → EndWord → List ℕ
+trace_section trace word = line_of (codes "trace") ++ all_texts record_line trace ++ line_of (codes "end " ++ end_text word)
