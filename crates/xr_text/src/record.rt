@@ -21,7 +21,6 @@ pub fn write_record<O: Sink>(out: &mut Out<'_, O>, r: &Record) -> Result<(), Sin
 
 /// Adds the line of a record, unless the sink has failed before.
 pub fn add_record<O: Sink>(out: &mut Out<'_, O>, r: &Record)
-    requires { HasGoodPort r.now }
     ensures same_sink { out.new.sink.ghost_name ≡ out.old.sink.ghost_name }
     ensures drew { Drew O.bytes O.faults out.old out.new (record_line r.now) }
 {
