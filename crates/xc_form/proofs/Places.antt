@@ -1,10 +1,12 @@
 -- Runs of letters, digits and `_`, and places in a text.
-use Rattle.std.proofs.Common.{◌≡◌, ℕ, ◌+◌, ◌-◌, ◌<◌, ◌≤◌, Bool, true, false, inl, inr, List, [], ◌∷◌, ◌++◌, length, take, drop, get_or, refl, sym, ap, subst, ◌∙◌, arith, if◌then◌else◌, nat_eq, length-take, length-drop}
+use Rattle.std.proofs.Common.{◌≡◌, ℕ, ◌+◌, ◌-◌, ◌<◌, ◌≤◌, ◌||◌, Bool, true, false, inl, inr, List, [], ◌∷◌, ◌++◌, length, take, drop, get_or, refl, sym, ap, subst, ◌∙◌, arith, if◌then◌else◌, nat_eq, length-take, length-drop}
 use Rattle.std.proofs.lemmas.List.{get_or_past, at_drop_more}
 use Rattle.std.proofs.Math.Seq.{take-add}
 use Rattle.std.proofs.lemmas.Bool.{eq-eqb, ne_eqb, cases_order, cases_lt}
 use Rattle.xw_words.specs.declared.pos.Pos.{Pos}
-use Rattle.xc_form.specs.Bytes.{pos_at, part, byte, is_of_word, is_letter, is_digit, Run, pos_behind, next_pos}
+use Rattle.xc_form.specs.declared.lexeme.Start.{Start}
+use Rattle.xc_form.specs.declared.lexeme.Start.TheVariants.{End, Blank, Letter, Digit, Other}
+use Rattle.xc_form.specs.Bytes.{pos_at, part, byte, is_of_word, is_letter, is_digit, is_blank, start_of, start_at, Run, pos_behind, next_pos}
 
 -- a byte of a word is in the text
 pub word_inside : (text : List ℕ) (i : ℕ) → is_of_word (byte text i) ≡ true → i < length text
@@ -93,3 +95,52 @@ col_within text i = let h = col_at_most (record { line = 1; col = 1 }) (take i t
 
 pub pos_on : (text : List ℕ) (i j : ℕ) → i ≤ j → pos_behind (pos_at text i) (part text i j) ≡ pos_at text j
 pos_on text i j h = sym (behind_both (record { line = 1; col = 1 }) (take i text) (part text i j)) ∙ ap (pos_behind (record { line = 1; col = 1 })) (take_both text i j h)
+
+-- one more byte of a run
+pub inside_more : (text : List ℕ) (i j : ℕ) → ((k : ℕ) → i ≤ k → k < j → is_of_word (byte text k) ≡ true) → is_of_word (byte text j) ≡ true → (k : ℕ) → i ≤ k → k < j + 1 → is_of_word (byte text k) ≡ true
+inside_more text i j f e k l h = elim (cases_lt k j) [
+  | inl below ↦ f k l below
+  | inr above ↦ let same : k ≡ j = omega arith in ap (λ n. is_of_word (byte text n)) same ∙ e
+]
+
+-- a place that begins something is in the text
+pub inside : (text : List ℕ) (i : ℕ) (x : Start) → start_at text i ≡ x → (x ≡ End → ⊥) → i < length text
+unfolding start_of
+inside text i x e n = elim (cases_lt i (length text)) [
+  | inl h ↦ h
+  | inr h ↦ let g : start_of (byte text i) ≡ End = ap start_of (get_or_past text i 256 h) in absurd (n (sym e ∙ g))
+]
+
+-- what four tests choose
+abbrev chosen : Bool → Bool → Bool → Bool → Start
+chosen t1 t2 t3 t4 = if t1 then End else (if t2 then Blank else (if t3 then Letter else (if t4 then Digit else Other)))
+
+is_chosen : (b : ℕ) → start_of b ≡ chosen (nat_eq b 256) (is_blank b) (is_letter b) (is_digit b)
+unfolding start_of
+is_chosen b = refl
+
+letter_chosen : (t1 t2 t3 t4 : Bool) → chosen t1 t2 t3 t4 ≡ Letter → t3 ≡ true
+letter_chosen true t2 t3 t4 e = absurd (cc)
+letter_chosen false true t3 t4 e = absurd (cc)
+letter_chosen false false true t4 e = refl
+letter_chosen false false false true e = absurd (cc)
+letter_chosen false false false false e = absurd (cc)
+
+digit_chosen : (t1 t2 t3 t4 : Bool) → chosen t1 t2 t3 t4 ≡ Digit → t4 ≡ true
+digit_chosen true t2 t3 t4 e = absurd (cc)
+digit_chosen false true t3 t4 e = absurd (cc)
+digit_chosen false false true t4 e = absurd (cc)
+digit_chosen false false false true e = refl
+digit_chosen false false false false e = absurd (cc)
+
+or_true : (a : Bool) → a || true ≡ true
+or_true true = refl
+or_true false = refl
+
+pub letter_of_word : (b : ℕ) → start_of b ≡ Letter → is_of_word b ≡ true
+unfolding is_of_word
+letter_of_word b e = ap (λ t. t || is_digit b) (letter_chosen (nat_eq b 256) (is_blank b) (is_letter b) (is_digit b) (sym (is_chosen b) ∙ e))
+
+pub digit_of_word : (b : ℕ) → start_of b ≡ Digit → is_of_word b ≡ true
+unfolding is_of_word
+digit_of_word b e = ap (λ t. is_letter b || t) (digit_chosen (nat_eq b 256) (is_blank b) (is_letter b) (is_digit b) (sym (is_chosen b) ∙ e)) ∙ or_true (is_letter b)
