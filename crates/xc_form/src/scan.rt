@@ -185,18 +185,36 @@ fn symbol_at(text: &[u8], at: usize) -> Option<(Fixed, usize)>
     ensures end { IfSome result (λ r. (at < r.1) × (r.1 ≤ length text.now)) }
     ensures none { IfNone result ((symbol : Fixed) → IsLongest (spec.next_bytes text.now at) (spelling symbol) → ⊥) }
 {
+    let first = byte_at(text, at);
     let next = byte_at(text, at + 1);
-    match byte_at(text, at) {
-        40 => Some((Fixed::OpenParen, at + 1)),
-        41 => Some((Fixed::CloseParen, at + 1)),
-        123 => Some((Fixed::OpenBrace, at + 1)),
-        125 => Some((Fixed::CloseBrace, at + 1)),
-        59 => Some((Fixed::Semicolon, at + 1)),
-        64 => Some((Fixed::At, at + 1)),
-        61 if next != 61 && next != 62 => Some((Fixed::Equals, at + 1)),
-        60 if next == 58 => Some((Fixed::LessColon, at + 2)),
-        _ => None,
+    if first == b'(' as u16 {
+        return Some((Fixed::OpenParen, at + 1));
     }
+    if first == b')' as u16 {
+        return Some((Fixed::CloseParen, at + 1));
+    }
+    if first == b'{' as u16 {
+        return Some((Fixed::OpenBrace, at + 1));
+    }
+    if first == b'}' as u16 {
+        return Some((Fixed::CloseBrace, at + 1));
+    }
+    if first == b';' as u16 {
+        return Some((Fixed::Semicolon, at + 1));
+    }
+    if first == b'@' as u16 {
+        return Some((Fixed::At, at + 1));
+    }
+    if first == b'=' as u16 {
+        if next == b'=' as u16 || next == b'>' as u16 {
+            return None;
+        }
+        return Some((Fixed::Equals, at + 1));
+    }
+    if first == b'<' as u16 && next == b':' as u16 {
+        return Some((Fixed::LessColon, at + 2));
+    }
+    None
 }
 
 /// The byte at a place, and `END` behind the last one.
