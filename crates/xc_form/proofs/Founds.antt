@@ -1,6 +1,8 @@
 -- Lists that are found item by item.
 use Rattle.std.proofs.Common.{◌≡◌, ℕ, List, [], ◌∷◌, ◌++◌, refl, sym, ap, subst, ◌∙◌, append_assoc, append-nil}
-use Rattle.xc_form.specs.Steps.{IsOnly, Found}
+use Rattle.xc_form.specs.declared.text.ReadErr.{ReadErr}
+use Rattle.xc_form.specs.declared.text.ReadErr.TheVariants as err
+use Rattle.xc_form.specs.Steps.{IfOther, IsOnly, Found}
 
 module _ {X : Type 0} {R : ℕ → List X → Type 0} where
   pub found_none : (i : ℕ) → Found R i [] i
@@ -22,3 +24,8 @@ module _ {X : Type 0} {R : ℕ → List X → Type 0} where
   -- where nothing can come
   pub found_never : {i j : ℕ} (a : List X) → Found R i a j → ((rest : List X) → R j rest → ⊥) → (all : List X) → R i all → ⊥
   found_never a f n all r = let x = f.only all r in n x.0 x.2
+
+-- what holds of another form goes on
+pub if_other : {P Q : Type 0} (e : ReadErr) → (P → Q) → IfOther e P → IfOther e Q
+if_other err.Other f h = f h
+if_other err.Memory f h = tt

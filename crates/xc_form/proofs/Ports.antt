@@ -4,15 +4,16 @@ use Rattle.std.proofs.lemmas.List.{at_drop_more, at_drop_all}
 use Rattle.std.proofs.lemmas.Option.{slice_get_cases, slice_get_within}
 use Rattle.std.specs.Prelude.{slice_get, option_map, Option, bytes_eq}
 use Rattle.xc_meaning.specs.Program.{IsNew, AreDistinctPorts, port_count}
+use Rattle.xc_meaning.specs.declared.program.Output.{Output}
 use Rattle.xc_meaning.specs.declared.program.Program.{Program}
-use Rattle.xc_form.specs.declared.lexeme.Fixed.TheVariants.{Out, Int, Semicolon}
+use Rattle.xc_form.specs.declared.lexeme.Fixed.TheVariants.{Out, Int, Semicolon, OpenBrace}
 use Rattle.xc_form.specs.declared.lexeme.Lexeme.{Lexeme}
 use Rattle.xc_form.specs.declared.lexeme.Word.{Word}
 use Rattle.xc_form.specs.declared.lexeme.Word.TheVariants as word
 use Rattle.xc_form.specs.declared.parse.Ports.{Ports}
 use Rattle.xc_form.specs.Words.{place_from, place_in, identifiers}
 use Rattle.xc_form.specs.Form.{word_at, IsDeclaration, IsHead, Body, Form, declaration, main}
-use Rattle.xc_form.specs.Steps.{CanDeclare, Declared, Declare}
+use Rattle.xc_form.specs.Steps.{IsOnly, CanDeclare, Declared, Declare, DeclareAll}
 
 module _ (id : ℕ) (ids : List ℕ) (i : ℕ) (h : i < length ids) where
   split_ids : drop i ids ≡ get_or ids i 0 ∷ drop (i + 1) ids
@@ -117,3 +118,28 @@ module _ (ls : List Lexeme) where
   -- a declaration that cannot be
   pub declare_never : {i : ℕ} {name identifier : List ℕ} (ports : Ports) → Declare ls ports i → IsDeclaration ls i name identifier → ((id : ℕ) → CanDeclare ports name identifier id → ⊥) → (P : Program) → Form ls P 0 [] [] → ⊥
   declare_never ports k d n P f = never_by P ports d n (k.only P f)
+
+module _ (ls : List Lexeme) (ports : Ports) (at : ℕ) (k : DeclareAll ls ports at) where
+  main_next : (P : Program) → Form ls P at ports.names ports.ids → IsHead ls at × (P.ports ≡ ports.ids) × Body ls ports.names (at + 6) P.outputs
+  main_next P (main h e b) = (h, e, b)
+  main_next P (declaration name identifier id d new is new_id r) = absurd (k.last name identifier d)
+
+  -- where no `main` follows the declarations
+  pub main_never : (IsHead ls at → ⊥) → (P : Program) → Form ls P 0 [] [] → ⊥
+  main_never n P f = n (main_next P (k.before.only P f)).0
+
+  -- where `main` doesn't go on so
+  pub body_never : ((os : List Output) → Body ls ports.names (at + 6) os → ⊥) → (P : Program) → Form ls P 0 [] [] → ⊥
+  body_never n P f = n P.outputs (main_next P (k.before.only P f)).2
+
+  -- the one program
+  pub one_program : (os : List Output) → IsHead ls at → IsOnly (Body ls ports.names (at + 6)) os → IsOnly (λ (P : Program). Form ls P 0 [] []) (record { ports = ports.ids; outputs = os })
+  one_program os h b =
+      let by_ports : List ℕ → List Output → Program = λ x y. record { ports = x; outputs = y } in
+      record {
+        is = k.before.derives (by_ports ports.ids os) (main h refl b.is);
+        only = λ Q f. let m = main_next Q (k.before.only Q f) in ap (λ x. by_ports x Q.outputs) m.1 ∙ ap (λ y. by_ports ports.ids y) (b.only Q.outputs m.2);
+      }
+
+  pub head_within : IsHead ls at → at + 6 ≤ length ls
+  head_within h = let l = word_within ls (at + 5) (word.Fixed OpenBrace) h.open_brace in omega arith
