@@ -1,7 +1,6 @@
 -- What the calls on channel ends find and leave.
-use Rattle.std.specs.Prelude.{◌≡◌, ℕ, ◌+◌, ◌-◌, List, [], ◌∷◌, ◌++◌, drop, Option, Some, None, slice_index_or, slice_set}
+use Rattle.std.specs.Prelude.{ℕ, ◌-◌, List, drop, slice_index_or, slice_set}
 use Rattle.xs_instr.specs.declared.state.ChanEnd.{ChanEnd}
-use Rattle.xs_instr.specs.declared.state.Token.{Token}
 use Rattle.xs_instr.specs.Ends as ends
 use Rattle.xs_instr.specs.Machine.{boot_end}
 use Rattle.xs_chanend.specs.declared.taken.Taken.{Taken}

@@ -1,5 +1,5 @@
 -- What stands at the front of one end.
-use Rattle.std.specs.Prelude.{◌≡◌, ℕ, Bool, true, false, Option, Some, None, Result, Ok, Err}
+use Rattle.std.specs.Prelude.{ℕ, Bool, true, false, Option, Some, None, Result, Ok, Err}
 use Rattle.xs_instr.specs.declared.state.ChanEnd.{ChanEnd}
 use Rattle.xs_instr.specs.declared.state.Token.{Token}
 use Rattle.xs_instr.specs.Ends as ends
