@@ -55,7 +55,7 @@ pub later_same : (n : ℕ) (ls : List StimLine) (core id clock last : ℕ) → c
 later_same n [] core id clock last lt good = refl
 later_same n (l ∷ ls) core id clock last lt good =
     ap (λ x. pins_from ls core id clock x)
-      (third_fails l.value last (nat_eq l.core core) (nat_eq l.port id) (nat_le l.tick clock) (gt_test l.tick clock (omega arith)))
+    (third_fails l.value last (nat_eq l.core core) (nat_eq l.port id) (nat_le l.tick clock) (gt_test l.tick clock (omega arith)))
     ∙ later_same l.tick ls core id clock last (omega arith) good.4
 
 -- a line of another core that is used changes nothing
@@ -64,8 +64,8 @@ pub used_far :
     Used all (l ∷ ls) core clock old new → l.core ≢ core → Used all ls core clock old new
 used_far all l ls core clock old new used ne = record {
   same = λ t id due named. used.same t id due named
-    ∙ ap (λ x. pins_from ls core id t x)
-        (first_fails l.value (get_or new id 0) (nat_eq l.core core) (nat_eq l.port id) (nat_le l.tick t) (ne_test l.core core ne));
+      ∙ ap (λ x. pins_from ls core id t x)
+      (first_fails l.value (get_or new id 0) (nat_eq l.core core) (nat_eq l.port id) (nat_le l.tick t) (ne_test l.core core ne));
 }
 
 -- what a line of this core says of a port, once it is due
@@ -74,11 +74,11 @@ said_own :
     line_by l.value (get_or new id 0) (line_speaks l core id t) ≡ get_or (set new l.port l.value) id 0
 said_own l core id t new own due «in» =
     elim (eqb_tells l.port id) [
-      inl w ↦ all_hold l.value (get_or new id 0) (nat_eq l.core core) (nat_eq l.port id) (nat_le l.tick t) (eq-eqb l.core core own) w.0 (le_test l.tick t due)
-        ∙ sym (get_or-set_same new l.port l.value 0 «in»)
-        ∙ ap (λ i. get_or (set new l.port l.value) i 0) w.1
-    | inr w ↦ second_fails l.value (get_or new id 0) (nat_eq l.core core) (nat_eq l.port id) (nat_le l.tick t) w.0
-        ∙ sym (get_or-set_other new l.port id l.value 0 (λ e. w.1 (sym e)))
+      | inl w ↦ all_hold l.value (get_or new id 0) (nat_eq l.core core) (nat_eq l.port id) (nat_le l.tick t) (eq-eqb l.core core own) w.0 (le_test l.tick t due)
+          ∙ sym (get_or-set_same new l.port l.value 0 «in»)
+          ∙ ap (λ i. get_or (set new l.port l.value) i 0) w.1
+      | inr w ↦ second_fails l.value (get_or new id 0) (nat_eq l.core core) (nat_eq l.port id) (nat_le l.tick t) w.0
+          ∙ sym (get_or-set_other new l.port id l.value 0 (λ e. w.1 (sym e)))
     ]
 
 -- a line of this core that is used sets its port's pins
@@ -88,7 +88,7 @@ pub used_own :
     Used all ls core clock old (set new l.port l.value)
 used_own all l ls core clock old new used own due «in» = record {
   same = λ t id later named. used.same t id later named
-    ∙ ap (λ x. pins_from ls core id t x) (said_own l core id t new own (omega arith) «in»);
+      ∙ ap (λ x. pins_from ls core id t x) (said_own l core id t new own (omega arith) «in»);
 }
 
 -- the line at a place, and those behind it
@@ -101,7 +101,7 @@ pub good_next :
 good_next lines k lt good =
     let line : StimLine = get_or lines k (record { tick = 0; core = 0; port = 0; value = 0 }) in
     let here : AreGoodLines 0 (line ∷ drop (k + 1) lines) =
-      subst (λ (ls : List StimLine). AreGoodLines 0 ls) (at_place lines k (record { tick = 0; core = 0; port = 0; value = 0 }) lt) good in
+    subst (λ (ls : List StimLine). AreGoodLines 0 ls) (at_place lines k (record { tick = 0; core = 0; port = 0; value = 0 }) lt) good in
     good_from 0 line.tick (drop (k + 1) lines) (omega arith) here.4
 
 -- the line at a place is of another core, and is used
@@ -111,7 +111,7 @@ pub next_far :
     Used all (drop (k + 1) lines) core clock old values
 next_far all lines k d core clock old values lt used ne =
     used_far all (get_or lines k d) (drop (k + 1) lines) core clock old values
-      (subst (λ (ls : List StimLine). Used all ls core clock old values) (at_place lines k d lt) used) ne
+    (subst (λ (ls : List StimLine). Used all ls core clock old values) (at_place lines k d lt) used) ne
 
 -- the line at a place is of this core and due, and is used
 pub next_own :
@@ -121,7 +121,7 @@ pub next_own :
     Used all (drop (k + 1) lines) core clock old (set values (get_or lines k d).port (get_or lines k d).value)
 next_own all lines k d core clock old values lt used own due «in» =
     used_own all (get_or lines k d) (drop (k + 1) lines) core clock old values
-      (subst (λ (ls : List StimLine). Used all ls core clock old values) (at_place lines k d lt) used) own due «in»
+    (subst (λ (ls : List StimLine). Used all ls core clock old values) (at_place lines k d lt) used) own due «in»
 
 -- the line at a place is after the clock
 pub late_from :
@@ -129,8 +129,8 @@ pub late_from :
     AreGoodLines 0 (drop k lines) → AreGoodLines (clock + 1) (drop k lines)
 late_from lines k d clock lt late good =
     subst (λ (ls : List StimLine). AreGoodLines (clock + 1) ls) (sym (at_place lines k d lt))
-      (good_after clock (get_or lines k d) (drop (k + 1) lines) late
-        (subst (λ (ls : List StimLine). AreGoodLines 0 ls) (at_place lines k d lt) good))
+    (good_after clock (get_or lines k d) (drop (k + 1) lines) late
+    (subst (λ (ls : List StimLine). AreGoodLines 0 ls) (at_place lines k d lt) good))
 
 -- no line is left
 pub none_from : (n : ℕ) (lines : List StimLine) (k : ℕ) → length lines ≤ k → AreGoodLines n (drop k lines)

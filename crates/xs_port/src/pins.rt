@@ -55,7 +55,13 @@ impl Pins {
         requires { self.old.clock ≤ clock }
         ensures { self.new ≡ record self.old { clock = clock } }
     {
-        self.used = advance(self.lines.as_slice(), self.core, self.used, clock, &mut self.values);
+        self.used = advance(
+            self.lines.as_slice(),
+            self.core,
+            self.used,
+            clock,
+            &mut self.values,
+        );
         self.clock = clock;
     }
 

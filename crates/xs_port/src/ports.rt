@@ -31,7 +31,12 @@ impl Model for Ports {
 
 impl Ports {
     /// The ports as they start, at clock 0. It takes all memory that is ever taken for them.
-    pub fn new(alloc: Global, decls: &List<PortDecl>, stim: &Stim, core: u8) -> Result<Ports, Memory>
+    pub fn new(
+        alloc: Global,
+        decls: &List<PortDecl>,
+        stim: &Stim,
+        core: u8,
+    ) -> Result<Ports, Memory>
         requires ports { AreGoodPorts decls.now }
         requires stim { IsGoodStim stim.now }
         ensures { IfOk result (λ ports. ports ≡ boot_seen (boot_ports decls.now) stim.now.lines core) }
@@ -61,7 +66,8 @@ impl Ports {
     pub fn set_cond(&mut self, p: u32, c: Cond)
         requires there { p < length self.old.ports }
         requires of_ports { c ≢ Cond.After }
-        ensures { self.new ≡ with_port self.old p (record (port_at self.old p) { cond = c; latch = None; time = None }) }
+        ensures condition { self.new ≡ with_port self.old p (record (port_at self.old p) { cond = c; latch = None; time = None }) }
+        ensures count { length self.new.ports ≡ length self.old.ports }
     {
         let port = self.port(p);
         self.put(
@@ -78,7 +84,8 @@ impl Ports {
     /// Sets what the condition compares the pins with.
     pub fn set_data(&mut self, p: u32, v: u32)
         requires { p < length self.old.ports }
-        ensures { self.new ≡ with_port self.old p (record (port_at self.old p) { datum = v }) }
+        ensures data_set { self.new ≡ with_port self.old p (record (port_at self.old p) { datum = v }) }
+        ensures count { length self.new.ports ≡ length self.old.ports }
     {
         let port = self.port(p);
         self.put(p, Port { datum: v, ..port });
@@ -87,7 +94,8 @@ impl Ports {
     /// Sets the time of the next transfer, a value of the counter: the low 16 bits of `t`.
     pub fn set_time(&mut self, p: u32, t: u32)
         requires { p < length self.old.ports }
-        ensures { self.new ≡ with_port self.old p (record (port_at self.old p) { time = Some (t % 2 ^ 16) }) }
+        ensures time_set { self.new ≡ with_port self.old p (record (port_at self.old p) { time = Some (t % 2 ^ 16) }) }
+        ensures count { length self.new.ports ≡ length self.old.ports }
     {
         let port = self.port(p);
         self.put(
@@ -112,7 +120,8 @@ impl Ports {
     /// Keeps the pins and the counter, as an event does, and clears the time.
     pub fn latch(&mut self, p: u32)
         requires { p < length self.old.ports }
-        ensures { self.new ≡ with_port self.old p (rules.port_latched (home_of self.old) self.old.clock (port_at self.old p)) }
+        ensures latched { self.new ≡ with_port self.old p (rules.port_latched (home_of self.old) self.old.clock (port_at self.old p)) }
+        ensures count { length self.new.ports ≡ length self.old.ports }
     {
         let port = self.port(p);
         let got = self.got(p);
@@ -132,17 +141,14 @@ impl Ports {
         requires { p < length self.old.ports }
 
         // The machine's input, at this port.
-        ensures turn {
-            let port = port_at self.old p in
+        ensures turn { let port = port_at self.old p in
             input_turn self.old port result self.new.ports
-                ≡ rules.reads_latched (home_of self.old) self.old.clock self.old.ports p port port.latch
-        }
-        ensures none {
-            let port = port_at self.old p in
-            (result ≡ None) ↔ ((port.latch ≡ None) × (rules.meets (home_of self.old) self.old.clock port ≡ false))
-        }
+            ≡ rules.reads_latched (home_of self.old) self.old.clock self.old.ports p port port.latch }
+        ensures none { let port = port_at self.old p in
+            (result ≡ None) ↔ ((port.latch ≡ None) × (rules.meets (home_of self.old) self.old.clock port ≡ false)) }
         ensures unchanged { IfNone result (self.new ≡ self.old) }
         ensures rest { self.new ≡ record self.old { ports = self.new.ports } }
+        ensures count { length self.new.ports ≡ length self.old.ports }
     {
         let port = self.port(p);
         match port.latch {
@@ -173,15 +179,14 @@ impl Ports {
         requires { p < length self.old.ports }
 
         // The machine's output, at this port.
-        ensures turn {
-            let port = port_at self.old p in
+        ensures turn { let port = port_at self.old p in
             let now = rules.counter self.old.clock in
             output_turn self.old port result self.new.ports
-                ≡ rules.drives_by (home_of self.old) now v self.old.ports p port (rules.time_meets port.time now)
-        }
+            ≡ rules.drives_by (home_of self.old) now v self.old.ports p port (rules.time_meets port.time now) }
         ensures none { (result ≡ None) ↔ (rules.time_meets (port_at self.old p).time (rules.counter self.old.clock) ≡ false) }
         ensures unchanged { IfNone result (self.new ≡ self.old) }
         ensures rest { self.new ≡ record self.old { ports = self.new.ports } }
+        ensures count { length self.new.ports ≡ length self.old.ports }
     {
         let port = self.port(p);
         let now = self.counter();
@@ -274,3 +279,6 @@ fn booted(alloc: Global, decls: &[PortDecl]) -> Result<List<Port>, Memory>
     }
     Ok(ports)
 }
+
+#[cfg(test)]
+mod tests;

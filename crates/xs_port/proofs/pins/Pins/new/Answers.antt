@@ -8,7 +8,7 @@ invariant_of-result c =
     record {
       later = rw (← c.as_slice.ensures) c.advance-used.ensures.later;
       current = λ t id due named.
-        rw (← c.as_slice.ensures)
+          rw (← c.as_slice.ensures)
           (ap (λ x. pins_from c.as_slice.result.now c.args.core id t x) (sym (get_or-replicate 256 id 0 0 named))
-            ∙ c.advance-used.ensures.used.same t id due named);
+          ∙ c.advance-used.ensures.used.same t id due named);
     }

@@ -6,5 +6,5 @@ pub returns : goal.returns
 returns c =
     let p = c.self.inside in
     rw (← c.self.view_is)
-      (sym (c.self.invariant.current p.clock c.args.id (omega arith) (omega arith)
-        ∙ later_same (p.clock + 1) (drop p.used p.lines) p.core c.args.id p.clock (get_or p.values c.args.id 0) (omega arith) c.self.invariant.later))
+    (sym (c.self.invariant.current p.clock c.args.id (omega arith) (omega arith)
+    ∙ later_same (p.clock + 1) (drop p.used p.lines) p.core c.args.id p.clock (get_or p.values c.args.id 0) (omega arith) c.self.invariant.later))
