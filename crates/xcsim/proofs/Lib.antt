@@ -1,0 +1,3 @@
+mod Given
+mod OnlyCauses
+mod Completes

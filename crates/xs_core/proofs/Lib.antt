@@ -1,0 +1,3 @@
+pub mod BuiltCode
+pub mod PlainCore
+pub mod Starting
