@@ -2,6 +2,7 @@
 use Rattle.std.proofs.Common.{◌≡◌, ℕ, ◌+◌, ◌<◌, ◌≤◌, Bool, true, false, cond, ◌&&◌, nat_le, nat_lt, inl, inr, List, [], ◌∷◌, length, refl, sym, ap, subst, ◌∙◌, arith}
 use Rattle.std.specs.Prelude.{count_by}
 use Rattle.std.proofs.lemmas.Bool.{cases_lt, le-leb, lt-leb, lt-ltb, le-ltb}
+use Rattle.std.proofs.lemmas.List.Sums.{sum_by-cons}
 use Rattle.xc_tree.specs.declared.token.Tok.{Tok}
 use Rattle.xc_tree.specs.Pieces.{Stand, Fault}
 use Rattle.xc_tree.specs.Lexes.{Leads, here, onward, Lexes}
@@ -16,7 +17,7 @@ pub pieces_tile : (text : List ℕ) (toks : List Tok) (l : Lexes text toks) → 
 pieces_tile text toks l = subst (λ n. Tiles 0 n (extents l.leads)) l.ends (tiles text _ l.last toks [] l.leads)
 
 counts : (k : ℕ) (x : Extent) (xs : List Extent) (b : Bool) (n : ℕ) → covers k x ≡ b → count_by (covers k) xs ≡ n → count_by (covers k) (x ∷ xs) ≡ cond b 1 0 + n
-counts k x xs b n e h = λ i. cond (e i) 1 0 + h i
+counts k x xs b n e h = sum_by-cons (λ y. cond (covers k y) 1 0) x xs ∙ (λ i. cond (e i) 1 0 + h i)
 
 no_end : (a : Bool) → (a && false) ≡ false
 no_end true = refl

@@ -293,3 +293,6 @@ fn define_line<'a>(
         Ending::Unclosed(pos) => Err(broken(103, pos)),
     }
 }
+
+#[cfg(test)]
+mod tests;
