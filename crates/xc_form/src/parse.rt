@@ -37,6 +37,7 @@ pub fn program(alloc: Global, lexemes: &[Lexeme]) -> Result<Program, ReadErr>
     requires { length lexemes.now ≤ 262144 }
     ensures program { IfOk result (λ p. IsOnly (λ (P : Program). Form lexemes.now P 0 [] []) p) }
     ensures well_formed { IfOk result (λ p. IsWellFormed p) }
+    ensures few { IfOk result (λ p. length p.outputs ≤ length lexemes.now) }
     ensures other { IfErr result (λ e. IfOther e ((P : Program) → Form lexemes.now P 0 [] [] → ⊥)) }
 {
     let (ports, at) = match declarations(alloc, lexemes) {

@@ -26,6 +26,7 @@ pub fn read(alloc: Global, text: &[u8]) -> Result<Program, ReadErr>
     ensures program { IfOk result (λ p. IsText text.now p) }
     ensures no_other_program { IfOk result (λ p. (other : Program) → IsText text.now other → other ≡ p) }
     ensures well_formed { IfOk result (λ p. IsWellFormed p) }
+    ensures few { IfOk result (λ p. length p.outputs ≤ length text.now) }
     ensures of_another_form { IfErr result (λ e. IfOther e ((p : Program) → IsText text.now p → ⊥)) }
 {
     if text.len() > LONGEST {
