@@ -2,7 +2,7 @@ ghost use Rattle.std.specs.Prelude.{◌≡◌, ◌≤◌, length, IfOk, IfErr};
 ghost use Rattle.xc_meaning.specs.Program.{IsWellFormed};
 ghost use Rattle.xc_meaning.specs.declared.program.Program.{Program};
 ghost use Rattle.xc_form.specs.Form.{IsText};
-ghost use Rattle.xc_form.specs.Steps.{IfOther};
+ghost use Rattle.xc_form.specs.ReadErr.{IfOther};
 
 use crate::parse::program;
 use crate::scan::scan;
@@ -38,3 +38,6 @@ pub fn read(alloc: Global, text: &[u8]) -> Result<Program, ReadErr>
     };
     program(alloc, lexemes.as_slice())
 }
+
+#[cfg(test)]
+mod tests;
