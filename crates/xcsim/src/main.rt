@@ -48,4 +48,3 @@ fn main(rt: HostRuntime) -> ExitCode {
         &OpenGate,
     ))
 }
-

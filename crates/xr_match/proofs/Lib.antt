@@ -19,3 +19,4 @@ pub mod Emitted
 pub mod Boot
 pub mod Compiled
 pub mod Validity
+pub mod BuiltForm

@@ -1,2 +1,3 @@
 pub mod Implements
 pub mod Code
+pub mod Built

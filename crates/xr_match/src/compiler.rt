@@ -1,6 +1,7 @@
 ghost use Rattle.std.specs.Prelude.{◌≡◌, ◌<◌, ◌^◌, [], ◌∷◌, ◌++◌, map, length, IfOk, OnOk};
 ghost use Rattle.xc_meaning.specs.Program.{AreDeclared, IsWellFormed, port_count};
 ghost use Rattle.xc_meaning.specs.World.{items_of};
+ghost use Rattle.xr_match.specs.Built.{IsBuilt};
 ghost use Rattle.xr_match.specs.Code.{IsCodeOf, first_place, items_code, items_places, out_port, output_code, output_places};
 ghost use Rattle.xr_match.specs.Implements.{Implements};
 ghost use Rattle.xs_instr.specs.Valid.{Valid};
@@ -10,7 +11,7 @@ use xc_meaning::{Output, Program};
 use xs_instr::{Code, CoreImage, Dir, Image, Instr, PortDecl, Reg};
 use xw_words::{List, Memory, Pos};
 
-/// The shift from a port's number to its identifier on core 0.
+/// A port's identifier on core 0 is its place times this.
 const NAME_STEP: u32 = 256;
 
 /// The image of a program. It implements the program, and it can be loaded.
@@ -22,6 +23,7 @@ pub fn compile(alloc: Global, program: &Program) -> Result<Image, Memory>
     requires few { length program.now.outputs < 2 ^ 28 }
     ensures implements { IfOk result (λ image. Implements image program.now) }
     ensures valid { IfOk result (λ image. Valid image) }
+    ensures built { IfOk result (λ image. IsBuilt image) }
     ensures code { IfOk result (λ image. IsCodeOf program.now image) }
 {
     let ports = List::from_vec(out_ports(alloc, program.ports.as_slice())?);
@@ -78,7 +80,8 @@ fn emit_output(code: &mut Code, output: &Output) -> Result<(), Memory>
     ensures instrs { OnOk result (code.new.instrs ≡ code.old.instrs ++ output_code 0 output.now) }
     ensures places { OnOk result (code.new.«at» ≡ code.old.«at» ++ output_places 0 output.now) }
 {
-    emit(code, Instr::Ldc(Reg::R1, output.port * NAME_STEP), output.pos)?;
+    let port_name = output.port * NAME_STEP;
+    emit(code, Instr::Ldc(Reg::R1, port_name), output.pos)?;
     if let Some(time) = output.time {
         emit(code, Instr::Ldc(Reg::R0, time), output.pos)?;
         emit(code, Instr::Setpt(Reg::R1, Reg::R0), output.pos)?;

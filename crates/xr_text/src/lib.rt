@@ -9,3 +9,6 @@ mod record;
 pub use listing::{add_image, write_code};
 pub use numbers::{add_number, add_pos};
 pub use record::{add_record, add_word, write_record};
+
+#[cfg(test)]
+mod tests;

@@ -1,5 +1,5 @@
 -- What an Out does to its sink.
-use Rattle.std.specs.Prelude.{◌≡◌, ◌≤◌, ℕ, List, [], ◌∷◌, ◌++◌, length, take, Option, Some, None, Bool, true, false, Result, Ok, Err}
+use Rattle.std.specs.Prelude.{◌≡◌, ◌≤◌, ℕ, List, [], ◌++◌, length, take, Option, Bool, true, false, Result, Ok, Err}
 use Rattle.xw_io.specs.declared.output.Out.{Out}
 use Rattle.xw_io.specs.declared.output.SinkFault.{SinkFault}
 use Rattle.xw_io.specs.Outside.{Rose, gained}

@@ -34,4 +34,3 @@ has_failed (Err Missing) = false
 has_failed (Err TooLong) = false
 has_failed (Err Failed) = true
 has_failed (Err Memory) = false
-

@@ -80,3 +80,31 @@ impl Sink for MemSink {
         Put::Took(n)
     }
 }
+
+#[cfg(test)]
+mod tests {
+    use super::*;
+    use std::test::Fail;
+
+    #[test]
+    fn takes_what_fits(rt: HostRuntime) -> Result<(), Fail> {
+        let mut sink = MemSink::new(rt.alloc(), 5, List::new(rt.alloc()))?;
+        assert_eq!(rt; sink.put(b"abc"), Put::Took(3));
+        assert_eq!(rt; sink.put(b"def"), Put::Took(2));
+        assert_eq!(rt; sink.put(b"f"), Put::Failed);
+        assert_eq!(rt; sink.bytes(), b"abcde".as_slice());
+        assert_eq!(rt; sink.faults, 1);
+        Ok(())
+    }
+
+    #[test]
+    fn fails_where_listed(rt: HostRuntime) -> Result<(), Fail> {
+        let mut sink = MemSink::new(rt.alloc(), 100, List::from_vec([2].to_vec(rt.alloc())?))?;
+        assert_eq!(rt; sink.put(b"ab"), Put::Took(2));
+        assert_eq!(rt; sink.put(b"cd"), Put::Failed);
+        assert_eq!(rt; sink.put(b"cd"), Put::Took(2));
+        assert_eq!(rt; sink.bytes(), b"abcd".as_slice());
+        assert_eq!(rt; sink.faults, 1);
+        Ok(())
+    }
+}

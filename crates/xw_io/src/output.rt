@@ -129,3 +129,55 @@ fn put_all<O: Sink>(sink: &mut O, text: &[u8]) -> Result<(), SinkFault>
     }
     Ok(())
 }
+
+#[cfg(test)]
+mod tests {
+    use super::*;
+    use crate::MemSink;
+    use std::test::Fail;
+    use xw_words::List;
+
+    #[test]
+    fn gathers_and_hands_on(rt: HostRuntime) -> Result<(), Fail> {
+        let mut sink = MemSink::new(rt.alloc(), 20_000, List::new(rt.alloc()))?;
+        let long = vec![in rt.alloc(); b'x'; 10_000]?;
+        let mut out = Out::new(&mut sink);
+        out.write(b"ab")?;
+        out.write(long.as_slice())?;
+        out.write(b"cd")?;
+        out.flush()?;
+        let bytes = sink.bytes();
+        assert_eq!(rt; bytes.len(), 10_004);
+        assert!(rt; bytes.starts_with(b"abx"));
+        assert!(rt; bytes.ends_with(b"xcd"));
+        Ok(())
+    }
+
+    #[test]
+    fn faults_in_mid_stream(rt: HostRuntime) -> Result<(), Fail> {
+        let mut sink = MemSink::new(rt.alloc(), 5_000, List::new(rt.alloc()))?;
+        let long = vec![in rt.alloc(); b'x'; 9_000]?;
+        let mut out = Out::new(&mut sink);
+        out.write(b"ab")?;
+        assert_eq!(rt; out.write(long.as_slice()), Err(SinkFault));
+        let bytes = sink.bytes();
+        assert_eq!(rt; bytes.len(), 5_000);
+        assert!(rt; bytes.starts_with(b"abx"));
+        Ok(())
+    }
+
+    #[test]
+    fn adds_nothing_after_a_fault(rt: HostRuntime) -> Result<(), Fail> {
+        let mut sink = MemSink::new(rt.alloc(), 3, List::new(rt.alloc()))?;
+        let mut out = Out::new(&mut sink);
+        out.add(b"hello");
+        assert_eq!(rt; out.outcome(), Ok(()));
+        out.settle();
+        assert_eq!(rt; out.outcome(), Err(SinkFault));
+        out.add(b"lost");
+        out.settle();
+        assert_eq!(rt; out.outcome(), Err(SinkFault));
+        assert_eq!(rt; sink.bytes(), b"hel".as_slice());
+        Ok(())
+    }
+}

@@ -87,3 +87,54 @@ fn read_to_end<F: Read>(alloc: Global, file: &mut F) -> Result<Vec<u8>, LoadErr>
     }
     Err(LoadErr::Failed)
 }
+
+#[cfg(test)]
+mod tests {
+    use super::*;
+    use std::io;
+    use std::test::Fail;
+
+    /// Gives a number of bytes, in parts as large as are asked for, and then fails or ends.
+    #[derive(Drop)]
+    struct Tape {
+        left: usize,
+        ends: bool,
+    }
+
+    impl Read for Tape {
+        fn read(&mut self, buf: &mut [u8]) -> io::Result<usize> {
+            if self.left == 0 && !self.ends {
+                return Err(io::Error::from(ErrorKind::Other));
+            }
+            let n = buf.len().min(self.left);
+            self.left -= n;
+            Ok(n)
+        }
+    }
+
+    #[test]
+    fn reads_to_the_end(rt: HostRuntime) {
+        let table = [
+            (0, true, Ok(0)),
+            (5_000, true, Ok(5_000)),
+            (5_000, false, Err(LoadErr::Failed)),
+            (4_194_304, true, Ok(4_194_304)),
+            (4_194_305, true, Err(LoadErr::TooLong)),
+        ];
+        for (left, ends, want) in table {
+            let got = read_to_end(rt.alloc(), &mut Tape { left, ends }).map(|text| text.len());
+            assert_eq!(rt; got, want, "{left}");
+        }
+    }
+
+    #[test]
+    fn misses_no_file(rt: HostRuntime) -> Result<(), Fail> {
+        let mut shelf = FsShelf::new(&rt);
+        let refused = shelf
+            .load(rt.alloc(), "no/such/file.xc")
+            .map(|text| text.len());
+        assert_eq!(rt; refused, Err(LoadErr::Missing));
+        assert_eq!(rt; shelf.counts.misses, 1);
+        Ok(())
+    }
+}

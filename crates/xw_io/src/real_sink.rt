@@ -60,3 +60,65 @@ fn write_some<W: Write>(stream: &mut W, piece: &[u8]) -> io::Result<usize>
     stream.flush()?;
     Ok(n)
 }
+
+#[cfg(test)]
+mod tests {
+    use super::*;
+    use std::io::ErrorKind;
+
+    /// Takes the bytes of each write that its plan says, or fails where the plan says nothing; it notes what it took,
+    /// and whether all of it was flushed.
+    #[derive(Drop)]
+    struct Planned {
+        plan: [Option<usize>; 4],
+        next: usize,
+        taken: usize,
+        flushed: usize,
+    }
+
+    impl Write for Planned {
+        fn write(&mut self, buf: &[u8]) -> io::Result<usize> {
+            let step = if self.next < 4 {
+                self.plan[self.next]
+            } else {
+                None
+            };
+            self.next = self.next.saturating_add(1);
+            match step {
+                Some(most) => {
+                    let n = buf.len().min(most);
+                    self.taken = self.taken.saturating_add(n);
+                    Ok(n)
+                }
+                None => Err(io::Error::from(ErrorKind::BrokenPipe)),
+            }
+        }
+
+        fn flush(&mut self) -> io::Result<()> {
+            self.flushed = self.taken;
+            Ok(())
+        }
+    }
+
+    #[test]
+    fn puts_to_a_stream(rt: HostRuntime) {
+        let mut sink = StdSink::new(Planned {
+            plan: [Some(2), Some(0), None, Some(9)],
+            next: 0,
+            taken: 0,
+            flushed: 0,
+        });
+        let table = [
+            (Put::Took(2), 2, 0),
+            (Put::Failed, 2, 1),
+            (Put::Failed, 2, 2),
+            (Put::Took(5), 7, 2),
+            (Put::Failed, 7, 3),
+        ];
+        for (want, flushed, faults) in table {
+            assert_eq!(rt; sink.put(b"hello"), want);
+            assert_eq!(rt; sink.stream.flushed, flushed);
+            assert_eq!(rt; sink.faults, faults);
+        }
+    }
+}

@@ -2,6 +2,7 @@ ghost use Rattle.std.specs.Prelude.{◌≡◌};
 ghost use Rattle.xw_words.specs.Words.{is_negative as has_sign, div_s as quotient_signed, div_u as quotient_unsigned, is_after, rem_s as remainder_signed, rem_u as remainder_unsigned, shifted_down, shifted_signed, shifted_up, signed_by, signed_less, size_of_word};
 
 const SIGN_BIT: u32 = 0x8000_0000;
+
 const MINUS_ONE: u32 = 0xffff_ffff;
 
 /// The signed quotient, cut toward 0. `None` exactly where the divisor is 0, or for -2^31 and -1.

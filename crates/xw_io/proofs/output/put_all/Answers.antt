@@ -10,6 +10,7 @@ loop-start-preserved g c = record {
 }
 
 pub returns-in-Failed-clause-err : goal.returns-in-Failed-clause-err
-returns-in-Failed-clause-err g c =
-    ( rose-later _ _ _ c.loop-start.invariant.counts c.in-Failed.ensures.put.0
-    , (drop c.loop-start.start c.args.text.now, passed-front _ _ _ _ _ c.loop-start.invariant.told c.in-Failed.ensures.put.1))
+returns-in-Failed-clause-err g c = (
+  rose-later _ _ _ c.loop-start.invariant.counts c.in-Failed.ensures.put.0,
+  (drop c.loop-start.start c.args.text.now, passed-front _ _ _ _ _ c.loop-start.invariant.told c.in-Failed.ensures.put.1),
+)

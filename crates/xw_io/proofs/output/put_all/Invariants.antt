@@ -1,4 +1,4 @@
-use Rattle.std.proofs.Common.{length, take, ◌-◌, ◌≡◌, ◌≤◌, ℕ, List}
+use Rattle.std.proofs.Common.{length, take, ◌-◌, ◌≡◌, ◌≤◌}
 use Rattle.xw_io.specs.Outside.{gained}
 use Rattle.xw_io.proofs.output.put_all.Given as goal
 

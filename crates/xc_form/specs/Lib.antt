@@ -1,0 +1,6 @@
+pub mod Bytes
+pub mod Numbers
+pub mod Words
+pub mod Row
+pub mod Form
+pub mod Steps
