@@ -1,8 +1,9 @@
 -- Lists that are found item by item.
-use Rattle.std.proofs.Common.{◌≡◌, ℕ, List, [], ◌∷◌, ◌++◌, refl, sym, ap, subst, ◌∙◌, append_assoc, append-nil}
+use Rattle.std.proofs.Common.{◌≡◌, ℕ, List, [], ◌++◌, refl, sym, ap, subst, ◌∙◌, append_assoc, append-nil}
 use Rattle.xc_form.specs.declared.text.ReadErr.{ReadErr}
 use Rattle.xc_form.specs.declared.text.ReadErr.TheVariants as err
-use Rattle.xc_form.specs.Steps.{IfOther, IsOnly, Found}
+use Rattle.xc_form.specs.ReadErr.{IfOther}
+use Rattle.xc_form.specs.Steps.{IsOnly, Found}
 
 module _ {X : Type 0} {R : ℕ → List X → Type 0} where
   pub found_none : (i : ℕ) → Found R i [] i

@@ -6,3 +6,4 @@ mod Founds
 mod Rows
 mod Ports
 mod Statements
+mod Few

@@ -1,12 +1,12 @@
 -- Declarations of ports.
 use Rattle.std.proofs.Common.{◌≡◌, ◌≢◌, ℕ, ◌+◌, ◌<◌, ◌≤◌, Bool, true, false, if◌then◌else◌, List, [], ◌∷◌, ◌++◌, length, drop, get_or, Some, None, refl, sym, ap, subst, ◌∙◌, arith, length-append}
 use Rattle.std.proofs.lemmas.List.{at_drop_more, at_drop_all}
-use Rattle.std.proofs.lemmas.Option.{slice_get_cases, slice_get_within}
+use Rattle.std.proofs.lemmas.Option.{slice_get_within}
 use Rattle.std.specs.Prelude.{slice_get, option_map, Option, bytes_eq}
 use Rattle.xc_meaning.specs.Program.{IsNew, AreDistinctPorts, port_count}
 use Rattle.xc_meaning.specs.declared.program.Output.{Output}
 use Rattle.xc_meaning.specs.declared.program.Program.{Program}
-use Rattle.xc_form.specs.declared.lexeme.Fixed.TheVariants.{Out, Int, Semicolon, OpenBrace}
+use Rattle.xc_form.specs.declared.lexeme.Fixed.TheVariants.{Semicolon, OpenBrace}
 use Rattle.xc_form.specs.declared.lexeme.Lexeme.{Lexeme}
 use Rattle.xc_form.specs.declared.lexeme.Word.{Word}
 use Rattle.xc_form.specs.declared.lexeme.Word.TheVariants as word

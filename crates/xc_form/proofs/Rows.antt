@@ -7,7 +7,7 @@ use Rattle.xc_form.specs.declared.lexeme.Start.{Start}
 use Rattle.xc_form.specs.declared.lexeme.Start.TheVariants.{End, Blank, Letter, Digit, Other}
 use Rattle.xc_form.specs.declared.scan.Cursor.{Cursor}
 use Rattle.xc_form.specs.Bytes.{start_at, part, pos_at}
-use Rattle.xc_form.specs.Numbers.{IsDecimal, number_behind}
+use Rattle.xc_form.specs.Numbers.{IsDecimal}
 use Rattle.xc_form.specs.Words.{word_of, spelling}
 use Rattle.xc_form.specs.Row.{WordAt, Row, ends, blank, lexeme}
 use Rattle.xc_form.specs.Steps.{Found, IsIn, Went}

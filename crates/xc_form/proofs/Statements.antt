@@ -4,9 +4,8 @@ use Rattle.std.specs.Prelude.{slice_get, option_map}
 use Rattle.xw_words.specs.declared.pos.Pos.{Pos}
 use Rattle.xc_meaning.specs.declared.program.Output.{Output}
 use Rattle.xc_meaning.specs.Program.{AreDeclared}
-use Rattle.xc_form.specs.declared.lexeme.Fixed.TheVariants.{Return, At, LessColon, Semicolon}
+use Rattle.xc_form.specs.declared.lexeme.Fixed.TheVariants.{Semicolon}
 use Rattle.xc_form.specs.declared.lexeme.Lexeme.{Lexeme}
-use Rattle.xc_form.specs.declared.lexeme.Word.{Word}
 use Rattle.xc_form.specs.declared.lexeme.Word.TheVariants as word
 use Rattle.xc_form.specs.Words.{place_in}
 use Rattle.xc_form.specs.Form.{word_at, IsTail, IsSent, IsStatement, Body, ends, output}

@@ -1,5 +1,5 @@
 -- A text by its bytes: classes of bytes, runs of a class, and places.
-use Rattle.std.specs.Prelude.{◌≡◌, ℕ, ◌+◌, ◌-◌, ◌<◌, ◌≤◌, Bool, true, false, ◌&&◌, ◌||◌, if◌then◌else◌, List, [], ◌∷◌, take, drop, length, get_or, nat_eq, nat_le}
+use Rattle.std.specs.Prelude.{◌≡◌, ℕ, ◌+◌, ◌-◌, ◌<◌, ◌≤◌, Bool, true, false, ◌&&◌, ◌||◌, if◌then◌else◌, List, [], ◌∷◌, take, drop, get_or, nat_eq, nat_le}
 use Rattle.xw_words.specs.declared.pos.Pos.{Pos}
 use Rattle.xc_form.specs.declared.lexeme.Start.{Start}
 use Rattle.xc_form.specs.declared.lexeme.Start.TheVariants.{End, Blank, Letter, Digit, Other}

@@ -3,4 +3,5 @@ pub mod Numbers
 pub mod Words
 pub mod Row
 pub mod Form
+pub mod ReadErr
 pub mod Steps

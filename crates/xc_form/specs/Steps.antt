@@ -1,22 +1,15 @@
 -- What the steps of the reader tell each other.
-use Rattle.std.specs.Prelude.{◌≡◌, ℕ, ◌+◌, ◌<◌, ◌≤◌, Bool, true, false, List, [], ◌∷◌, ◌++◌, length, Some, None}
+use Rattle.std.specs.Prelude.{◌≡◌, ℕ, ◌+◌, ◌^◌, ◌<◌, ◌≤◌, Bool, true, false, List, [], ◌∷◌, ◌++◌, length, Some, None}
 use Rattle.xc_meaning.specs.declared.program.Program.{Program}
 use Rattle.xc_meaning.specs.Program.{IsNew, AreDistinctPorts}
 use Rattle.xc_form.specs.declared.lexeme.Lexeme.{Lexeme}
 use Rattle.xc_form.specs.declared.lexeme.Start.TheVariants.{End}
 use Rattle.xc_form.specs.declared.parse.Ports.{Ports}
-use Rattle.xc_form.specs.declared.text.ReadErr.{ReadErr}
-use Rattle.xc_form.specs.declared.text.ReadErr.TheVariants as err
 use Rattle.xc_form.specs.declared.scan.Cursor.{Cursor}
 use Rattle.xc_form.specs.Bytes.{start_at, pos_at}
 use Rattle.xc_form.specs.Words.{place_in, identifiers}
 use Rattle.xc_form.specs.Row.{Row}
-use Rattle.xc_form.specs.Form.{longest_text, Form, IsDeclaration}
-
--- this holds where the answer is that the text is of another form
-abbrev pub IfOther : ReadErr → Type 0 → Type 0
-IfOther err.Other P = P
-IfOther err.Memory P = Unit {0}
+use Rattle.xc_form.specs.Form.{Form, IsDeclaration}
 
 -- this is of a kind, and nothing else is
 pub record IsOnly {X : Type 0} (R : X → Type 0) (x : X) : Type 0 where
@@ -30,7 +23,7 @@ pub record Found {X : Type 0} (R : ℕ → List X → Type 0) (i : ℕ) (found :
 
 -- the scan stands in a text, and knows its line and column
 pub record IsIn (text : List ℕ) (s : Cursor) : Type 0 where
-  pub short : length text ≤ longest_text
+  pub short : length text < 2 ^ 31
   pub within : s.at ≤ length text
   pub pos : s.pos ≡ pos_at text s.at
 

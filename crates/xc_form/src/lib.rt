@@ -5,8 +5,8 @@
 mod lexeme;
 mod number;
 mod parse;
-mod text;
 mod scan;
 mod table;
+mod text;
 
 pub use text::{ReadErr, read};

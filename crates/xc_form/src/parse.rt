@@ -5,12 +5,13 @@ ghost use Rattle.xc_meaning.specs.declared.program.Program.{Program};
 ghost use Rattle.xw_words.specs.declared.pos.Pos.{Pos};
 ghost use Rattle.xc_form.specs.declared.lexeme.Word.{Word};
 ghost use Rattle.xc_form.specs.Form.{word_at, Stands, IsDeclaration, IsHead, IsTail, IsSent, IsStatement, Body, Form};
-ghost use Rattle.xc_form.specs.Steps.{IfOther, IsOnly, CanDeclare, Declared, Declare, DeclareAll};
+ghost use Rattle.xc_form.specs.ReadErr.{IfOther};
+ghost use Rattle.xc_form.specs.Steps.{IsOnly, CanDeclare, Declared, Declare, DeclareAll};
 
 use crate::lexeme::{Fixed, Lexeme, Word};
-use crate::text::ReadErr;
 use crate::scan::copied;
 use crate::table::{identifier_place, name_place};
+use crate::text::ReadErr;
 use std::alloc::Global;
 use xc_meaning::{Output, Program};
 use xw_words::{List, Pos};
@@ -34,9 +35,10 @@ struct Statement<'a> {
 
 /// The program that lexemes make. `Other` exactly where they make none.
 pub fn program(alloc: Global, lexemes: &[Lexeme]) -> Result<Program, ReadErr>
-    requires { length lexemes.now ≤ 262144 }
+    requires { length lexemes.now < 2 ^ 31 }
     ensures program { IfOk result (λ p. IsOnly (λ (P : Program). Form lexemes.now P 0 [] []) p) }
     ensures well_formed { IfOk result (λ p. IsWellFormed p) }
+    ensures few { IfOk result (λ p. length p.outputs ≤ length lexemes.now) }
     ensures other { IfErr result (λ e. IfOther e ((P : Program) → Form lexemes.now P 0 [] [] → ⊥)) }
 {
     let (ports, at) = match declarations(alloc, lexemes) {
@@ -47,16 +49,19 @@ pub fn program(alloc: Global, lexemes: &[Lexeme]) -> Result<Program, ReadErr>
         return Err(ReadErr::Other);
     }
     let outputs = match body(alloc, lexemes, ports.names.as_slice(), at + 6) {
-        Ok(outputs) => outputs,
+        Ok(found) => found,
         Err(e) => return Err(e),
     };
     let Ports { names: _, ids } = ports;
-    Ok(Program { ports: ids, outputs })
+    Ok(Program {
+        ports: ids,
+        outputs,
+    })
 }
 
 /// The ports that the first lexemes declare, and where the declarations end.
 fn declarations(alloc: Global, lexemes: &[Lexeme]) -> Result<(Ports, usize), ReadErr>
-    requires { length lexemes.now ≤ 262144 }
+    requires { length lexemes.now < 2 ^ 31 }
     ensures ports { IfOk result (λ r. DeclareAll lexemes.now r.0 r.1) }
     ensures other { IfErr result (λ e. IfOther e ((P : Program) → Form lexemes.now P 0 [] [] → ⊥)) }
 {
@@ -116,9 +121,14 @@ fn is_new(ids: &[u8], id: u8) -> bool
 }
 
 /// The outputs from a place on, up to the end of `main`.
-fn body(alloc: Global, lexemes: &[Lexeme], names: &[List<u8>], start: usize) -> Result<List<Output>, ReadErr>
-    requires lexemes { length lexemes.now ≤ 262144 }
-    requires names { length names.now ≤ 262144 }
+fn body(
+    alloc: Global,
+    lexemes: &[Lexeme],
+    names: &[List<u8>],
+    start: usize,
+) -> Result<List<Output>, ReadErr>
+    requires lexemes { length lexemes.now < 2 ^ 31 }
+    requires names { length names.now < 2 ^ 31 }
     requires start { start ≤ length lexemes.now }
     ensures outputs { IfOk result (λ os. IsOnly (Body lexemes.now names.now start) os) }
     ensures declared { IfOk result (λ os. AreDeclared (length names.now) os) }
@@ -149,7 +159,7 @@ fn body(alloc: Global, lexemes: &[Lexeme], names: &[List<u8>], start: usize) -> 
 
 /// The name and the identifier of a declaration.
 fn declaration(lexemes: &[Lexeme], at: usize) -> Option<(&[u8], &[u8])>
-    requires { at ≤ 262144 }
+    requires { at < 2 ^ 31 }
     ensures some { IfSome result (λ r. IsDeclaration lexemes.now at r.0.now r.1.now) }
     ensures none { IfNone result ((name identifier : List ℕ) → IsDeclaration lexemes.now at name identifier → ⊥) }
 {
@@ -166,7 +176,7 @@ fn declaration(lexemes: &[Lexeme], at: usize) -> Option<(&[u8], &[u8])>
 
 /// Whether `int main(void) {` stands at a place.
 fn is_head(lexemes: &[Lexeme], at: usize) -> bool
-    requires { at ≤ 262144 }
+    requires { at < 2 ^ 31 }
     ensures { IsTrue result ↔ IsHead lexemes.now at }
 {
     stands(lexemes, at, Fixed::Int)
@@ -179,7 +189,7 @@ fn is_head(lexemes: &[Lexeme], at: usize) -> bool
 
 /// Whether `return 0; }` stands at a place, and ends the list.
 fn is_tail(lexemes: &[Lexeme], at: usize) -> bool
-    requires { at ≤ 262144 }
+    requires { at < 2 ^ 31 }
     ensures { IsTrue result ↔ IsTail lexemes.now at }
 {
     stands(lexemes, at, Fixed::Return)
@@ -191,7 +201,7 @@ fn is_tail(lexemes: &[Lexeme], at: usize) -> bool
 
 /// The output that stands at a place.
 fn statement_at(lexemes: &[Lexeme], at: usize) -> Option<Statement<'_>>
-    requires { at ≤ 262144 }
+    requires { at < 2 ^ 31 }
     ensures some { IfSome result (λ s. IsStatement lexemes.now at s.name.now s.pos s.time s.value s.end) }
     ensures none { IfNone result ((name : List ℕ) (pos : Pos) (time : Option ℕ) (value j : ℕ) → IsStatement lexemes.now at name pos time value j → ⊥) }
 {
@@ -221,7 +231,7 @@ fn statement_at(lexemes: &[Lexeme], at: usize) -> Option<Statement<'_>>
 
 /// The value of `<: VALUE ;` at a place.
 fn sent(lexemes: &[Lexeme], at: usize) -> Option<u32>
-    requires { at ≤ 300000 }
+    requires { at < 2 ^ 32 }
     ensures some { IfSome result (λ value. IsSent lexemes.now at value) }
     ensures none { IfNone result ((value : ℕ) → IsSent lexemes.now at value → ⊥) }
 {

@@ -3,15 +3,16 @@ ghost use Rattle.xc_form.specs.Bytes as spec;
 ghost use Rattle.xc_form.specs.Bytes.{byte, start_at, pos_at, Run};
 ghost use Rattle.xc_form.specs.Words.{spelling, word_of, IsLongest};
 ghost use Rattle.xc_form.specs.Row.{Row, WordAt};
-ghost use Rattle.xc_form.specs.Steps.{IfOther, IsOnly, IsIn, StepIs};
+ghost use Rattle.xc_form.specs.ReadErr.{IfOther};
+ghost use Rattle.xc_form.specs.Steps.{IsOnly, IsIn, StepIs};
 ghost use Rattle.xc_form.specs.declared.lexeme.Start.TheVariants.{End, Letter, Digit, Other};
 ghost use Rattle.xc_form.specs.declared.lexeme.Fixed.{Fixed};
 ghost use Rattle.xc_form.specs.declared.lexeme.Word.{Word};
 
 use crate::lexeme::{Fixed, Lexeme, Start, Word};
 use crate::number::decimal;
-use crate::text::ReadErr;
 use crate::table::{keyword_of, reserved_place};
+use crate::text::ReadErr;
 use std::alloc::{AllocError, Global};
 use xw_words::{List, Pos};
 
@@ -27,7 +28,7 @@ pub struct Cursor {
 
 /// The lexemes of a text. `Other` exactly where it is no row of blanks and words of the form.
 pub fn scan(alloc: Global, text: &[u8]) -> Result<List<Lexeme>, ReadErr>
-    requires { length text.now ≤ 262144 }
+    requires { length text.now < 2 ^ 31 }
     ensures lexemes { IfOk result (λ ls. IsOnly (Row text.now 0) ls) }
     ensures few { IfOk result (λ ls. length ls ≤ length text.now) }
     ensures other { IfErr result (λ e. IfOther e ((ls : List Lexeme) → Row text.now 0 ls → ⊥)) }
@@ -50,7 +51,12 @@ pub fn scan(alloc: Global, text: &[u8]) -> Result<List<Lexeme>, ReadErr>
 }
 
 /// Reads a blank or a word; false at the end.
-fn step(alloc: Global, text: &[u8], cursor: &mut Cursor, lexemes: &mut List<Lexeme>) -> Result<bool, ReadErr>
+fn step(
+    alloc: Global,
+    text: &[u8],
+    cursor: &mut Cursor,
+    lexemes: &mut List<Lexeme>,
+) -> Result<bool, ReadErr>
     requires { IsIn text.now cursor.old }
     ensures went { IfOk result (λ more. StepIs text.now cursor.old lexemes.old more cursor.new lexemes.new) }
     ensures other { IfErr result (λ e. IfOther e ((ls : List Lexeme) → Row text.now cursor.old.at ls → ⊥)) }
@@ -221,11 +227,15 @@ fn symbol_at(text: &[u8], at: usize) -> Option<(Fixed, usize)>
 fn byte_at(text: &[u8], at: usize) -> u16
     ensures { result ≡ byte text.now at }
 {
-    if at < text.len() { text[at] as u16 } else { END }
+    if at < text.len() {
+        text[at] as u16
+    } else {
+        END
+    }
 }
 
-#[tactic(auto, unfolding(crate::specs::Bytes::start_of))]
 /// What a byte begins.
+#[tactic(auto, unfolding(crate::specs::Bytes::start_of))]
 fn start_of(b: u16) -> Start
     ensures { result ≡ spec.start_of b }
 {
@@ -244,16 +254,16 @@ fn start_of(b: u16) -> Start
     Start::Other
 }
 
-#[tactic(auto, unfolding(crate::specs::Bytes::is_blank))]
 /// A space, a tab, a carriage return or a line feed.
+#[tactic(auto, unfolding(crate::specs::Bytes::is_blank))]
 fn is_blank(b: u16) -> bool
     ensures { result ≡ spec.is_blank b }
 {
     b == b' ' as u16 || b == b'\t' as u16 || b == b'\r' as u16 || b == b'\n' as u16
 }
 
-#[tactic(auto, unfolding(crate::specs::Bytes::is_letter))]
 /// A letter or `_`.
+#[tactic(auto, unfolding(crate::specs::Bytes::is_letter))]
 fn is_letter(b: u16) -> bool
     ensures { result ≡ spec.is_letter b }
 {
@@ -266,16 +276,16 @@ fn is_letter(b: u16) -> bool
     b == b'_' as u16
 }
 
-#[tactic(auto, unfolding(crate::specs::Bytes::is_digit))]
 /// A decimal digit.
+#[tactic(auto, unfolding(crate::specs::Bytes::is_digit))]
 pub fn is_digit(b: u16) -> bool
     ensures { result ≡ spec.is_digit b }
 {
     b >= b'0' as u16 && b <= b'9' as u16
 }
 
-#[tactic(auto, unfolding(crate::specs::Bytes::is_of_word))]
 /// A letter, a digit or `_`.
+#[tactic(auto, unfolding(crate::specs::Bytes::is_of_word))]
 fn is_of_word(b: u16) -> bool
     ensures { result ≡ spec.is_of_word b }
 {

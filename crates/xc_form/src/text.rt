@@ -2,7 +2,7 @@ ghost use Rattle.std.specs.Prelude.{◌≡◌, ◌≤◌, length, IfOk, IfErr};
 ghost use Rattle.xc_meaning.specs.Program.{IsWellFormed};
 ghost use Rattle.xc_meaning.specs.declared.program.Program.{Program};
 ghost use Rattle.xc_form.specs.Form.{IsText};
-ghost use Rattle.xc_form.specs.Steps.{IfOther};
+ghost use Rattle.xc_form.specs.ReadErr.{IfOther};
 
 use crate::parse::program;
 use crate::scan::scan;
@@ -26,6 +26,7 @@ pub fn read(alloc: Global, text: &[u8]) -> Result<Program, ReadErr>
     ensures program { IfOk result (λ p. IsText text.now p) }
     ensures no_other_program { IfOk result (λ p. (other : Program) → IsText text.now other → other ≡ p) }
     ensures well_formed { IfOk result (λ p. IsWellFormed p) }
+    ensures few { IfOk result (λ p. length p.outputs ≤ length text.now) }
     ensures of_another_form { IfErr result (λ e. IfOther e ((p : Program) → IsText text.now p → ⊥)) }
 {
     if text.len() > LONGEST {
@@ -37,3 +38,6 @@ pub fn read(alloc: Global, text: &[u8]) -> Result<Program, ReadErr>
     };
     program(alloc, lexemes.as_slice())
 }
+
+#[cfg(test)]
+mod tests;

@@ -58,8 +58,7 @@ module _ (text : List ℕ) (s : Stand) where
     define_line_one : DefineLine text s f r → DefineLine text s f2 r2 → SameLine
     define_line_one a b =
         let d = define_one a.5 b.5 in
-        let e = tail_one a.6 (subst (λ n. Tail text n b.3 b.4) d.same_end b.6) in
-        (
+        let e = tail_one a.6 (subst (λ n. Tail text n b.3 b.4) d.same_end b.6) in (
           b.7 ∙ (λ i. line_faults (d.same_name i) (d.same_number i) (d.same_end i) (e.1 i)) ∙ sym a.7,
           b.8 ∙ (λ i. line_stand (d.same_name i) (d.same_number i) (d.same_end i) (e.0 i)) ∙ sym a.8,
         )

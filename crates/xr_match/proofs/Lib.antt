@@ -19,4 +19,3 @@ pub mod Emitted
 pub mod Boot
 pub mod Compiled
 pub mod Validity
-pub mod BuiltForm

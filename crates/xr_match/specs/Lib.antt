@@ -1,3 +1,2 @@
 pub mod Implements
 pub mod Code
-pub mod Built

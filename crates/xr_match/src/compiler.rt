@@ -1,7 +1,6 @@
 ghost use Rattle.std.specs.Prelude.{◌≡◌, ◌<◌, ◌^◌, [], ◌∷◌, ◌++◌, map, length, IfOk, OnOk};
 ghost use Rattle.xc_meaning.specs.Program.{AreDeclared, IsWellFormed, port_count};
 ghost use Rattle.xc_meaning.specs.World.{items_of};
-ghost use Rattle.xr_match.specs.Built.{IsBuilt};
 ghost use Rattle.xr_match.specs.Code.{IsCodeOf, first_place, items_code, items_places, out_port, output_code, output_places};
 ghost use Rattle.xr_match.specs.Implements.{Implements};
 ghost use Rattle.xs_instr.specs.Valid.{Valid};
@@ -23,7 +22,6 @@ pub fn compile(alloc: Global, program: &Program) -> Result<Image, Memory>
     requires few { length program.now.outputs < 2 ^ 28 }
     ensures implements { IfOk result (λ image. Implements image program.now) }
     ensures valid { IfOk result (λ image. Valid image) }
-    ensures built { IfOk result (λ image. IsBuilt image) }
     ensures code { IfOk result (λ image. IsCodeOf program.now image) }
 {
     let ports = List::from_vec(out_ports(alloc, program.ports.as_slice())?);

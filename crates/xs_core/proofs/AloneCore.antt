@@ -1,9 +1,8 @@
 -- An image of one core with built instructions and no channel ends can be run.
-use Rattle.std.proofs.Common.{◌≡◌, ℕ, suc, ◌+◌, ◌<◌, ◌≤◌, Bool, true, false, ◌&&◌, List, [], ◌∷◌, length, nat_eq, ◌++◌, refl, sym, ap, ◌∙◌, subst, arith}
+use Rattle.std.proofs.Common.{◌≡◌, ℕ, suc, Bool, true, false, List, [], ◌∷◌, nat_eq, ◌++◌, refl, sym, ap, ◌∙◌, subst, arith}
 use Rattle.std.proofs.lemmas.Bool.{and_parts, and_from}
 use Rattle.xs_core.specs.Built.{is_built, all_built, is_built_core, all_built_cores, IsBuilt}
 use Rattle.xs_instr.specs.declared.image.CoreImage.{CoreImage}
-use Rattle.xs_instr.specs.declared.image.Image.{Image}
 use Rattle.xs_instr.specs.declared.image.Pair.{Pair}
 use Rattle.xs_instr.specs.declared.instr.Instr.{Instr}
 use Rattle.xs_instr.specs.declared.instr.Instr.TheVariants.{Brft, Brff, Brfu, Brbt, Brbf, Brbu, Blrf, Blrb, Tinitpc, Outct, Chkct, Setv}

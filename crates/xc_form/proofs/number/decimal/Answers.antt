@@ -1,4 +1,4 @@
-use Rattle.std.proofs.Common.{◌≡◌, false, ◌&&◌, Some, length, get_or, nat_eq, nat_lt, sym, ap, ◌∙◌, arith, ◌+◌, ◌-◌, ◌*◌, drop}
+use Rattle.std.proofs.Common.{◌≡◌, false, ◌&&◌, length, get_or, nat_eq, nat_lt, sym, ap, ◌∙◌, arith, ◌+◌, ◌-◌, ◌*◌, drop}
 use Rattle.std.proofs.lemmas.Bool.{ne_eqb, le-ltb}
 use Rattle.xc_form.specs.Numbers.{has_leading_zero}
 use Rattle.xc_form.proofs.Digits.{all_number, at_least, digit_low, good_digit, bad_digit, no_zero_by_first}

@@ -1,11 +1,11 @@
-use Rattle.std.proofs.Common.{◌∷◌, [], sym, ap, subst, ◌∙◌, length, arith}
+use Rattle.std.proofs.Common.{◌∷◌, [], sym, subst, length}
 use Rattle.xc_meaning.specs.declared.program.Output.{Output}
 use Rattle.xc_meaning.specs.Program.{AreDeclared}
 use Rattle.xc_form.specs.Form.{Body}
 use Rattle.xc_form.specs.Steps.{Found}
 use Rattle.xc_form.proofs.Founds.{found_more, found_all, found_never}
 use Rattle.xc_form.proofs.Ports.{place_within}
-use Rattle.xc_form.proofs.Statements.{statement_within, output_next, output_never, tail_body, tail_only, declared_behind}
+use Rattle.xc_form.proofs.Statements.{statement_within, output_next, tail_body, tail_only, declared_behind}
 use Rattle.xc_form.proofs.parse.body.Goals as goal
 
 pub outputs-preserved : goal.outputs-preserved

@@ -1,5 +1,5 @@
 use Rattle.std.proofs.Common.{sym, arith}
-use Rattle.xc_form.proofs.Ports.{new_on, new_back, new_all}
+use Rattle.xc_form.proofs.Ports.{new_on}
 use Rattle.xc_form.proofs.parse.is_new.Goals as goal
 
 pub returns-then-other-id : goal.returns-then-other-id

@@ -1,7 +1,8 @@
-use Rattle.std.proofs.Common.{◌+◌, subst, arith}
+use Rattle.std.proofs.Common.{◌+◌, [], subst}
 use Rattle.xc_form.specs.Form.{Body}
 use Rattle.xc_form.specs.Steps.{IsOnly}
-use Rattle.xc_form.proofs.Ports.{main_never, body_never, one_program, head_within}
+use Rattle.xc_form.proofs.Few.{form_few}
+use Rattle.xc_form.proofs.Ports.{main_never, one_program, head_within}
 use Rattle.xc_form.proofs.parse.program.Goals as goal
 
 pub returns-then-not-is_head-clause-other : goal.returns-then-not-is_head-clause-other
@@ -17,6 +18,15 @@ returns-clause-program c =
     let ls = c.args.lexemes.now in
     let ports = c.in-Ok.found.0 in
     let at = c.in-Ok.found.1 in
-    let outputs = c.in-Ok-body.outputs in
+    let outputs = c.in-Ok-body.found in
     let body = subst (λ names. IsOnly (Body ls names (at + 6)) outputs) c.as_slice.ensures c.in-Ok-body.ensures.outputs in
     one_program ls ports at c.in-Ok.ensures.ports outputs (c.is_head.ensures.0 c.if-not-is_head.false) body
+
+pub returns-clause-few : goal.returns-clause-few
+returns-clause-few c =
+    let ls = c.args.lexemes.now in
+    let ports = c.in-Ok.found.0 in
+    let at = c.in-Ok.found.1 in
+    let outputs = c.in-Ok-body.found in
+    let body = subst (λ names. IsOnly (Body ls names (at + 6)) outputs) c.as_slice.ensures c.in-Ok-body.ensures.outputs in
+    form_few ls _ 0 [] [] (one_program ls ports at c.in-Ok.ensures.ports outputs (c.is_head.ensures.0 c.if-not-is_head.false) body).is

@@ -1,11 +1,11 @@
-use Rattle.std.proofs.Common.{◌≡◌, [], ◌∷◌, ◌++◌, sym, ap, subst, ◌∙◌, refl, arith, append-nil, length}
+use Rattle.std.proofs.Common.{◌≡◌, [], ◌∷◌, ◌++◌, sym, ap, subst, ◌∙◌, arith, append-nil}
 use Rattle.xw_words.specs.declared.pos.Pos.{Pos}
 use Rattle.xc_form.specs.declared.lexeme.Lexeme.{Lexeme}
 use Rattle.xc_form.specs.declared.lexeme.Start.TheVariants.{Blank}
 use Rattle.xc_form.specs.Bytes.{start_at, start_of, pos_at}
 use Rattle.xc_form.specs.Row.{WordAt}
 use Rattle.xc_form.proofs.Places.{inside}
-use Rattle.xc_form.proofs.Rows.{blank_next, word_next, no_row, went}
+use Rattle.xc_form.proofs.Rows.{blank_next, word_next, went}
 use Rattle.xc_form.proofs.scan.step.Goals as goal
 
 pub go_to-requires-clause-within : goal.go_to-requires-clause-within

@@ -5,7 +5,6 @@ use Rattle.xc_meaning.specs.declared.program.Output.{Output}
 use Rattle.xc_meaning.specs.Program.{AreDeclared, port_count}
 use Rattle.xc_meaning.specs.World.{items_of}
 use Rattle.xr_match.specs.Code.{IsCodeOf, first_place, items_code, items_places, out_port}
-use Rattle.xr_match.proofs.BuiltForm.{code_is_built}
 use Rattle.xr_match.proofs.Compiled.{code_implements}
 use Rattle.xr_match.proofs.Ports.{few_ports, declared_below}
 use Rattle.xr_match.proofs.Validity.{code_is_valid}
@@ -39,6 +38,5 @@ returns c =
     record {
       implements = code_implements P L c.requires.well_formed is;
       valid = code_is_valid P L c.requires.well_formed c.requires.few is;
-      built = code_is_built P L is;
       code = is;
     }

@@ -1,4 +1,4 @@
-use Rattle.std.proofs.Common.{◌≡◌, Some, rules, sym, subst}
+use Rattle.std.proofs.Common.{rules, sym, subst}
 use Rattle.xs_core.proofs.BuiltCode.{slot_is_row}
 use Rattle.xs_core.proofs.turn.take.Goals as goal
 use Rattle.xs_core.specs.Turn.{IsTurn}

@@ -1,12 +1,10 @@
-use Rattle.std.proofs.Common.{◌≡◌, ◌≤◌, sym, ap, ◌∙◌, subst, length, true, ◌<◌, ◌^◌}
+use Rattle.std.proofs.Common.{◌≡◌, ◌≤◌, sym, ap, subst, length, true, ◌<◌, ◌^◌}
 use Rattle.std.proofs.lemmas.Bool.{and_parts}
 use Rattle.xs_core.proofs.Starting.{small_part, built_part, plain_start}
 use Rattle.xs_core.proofs.one_core.Core.new.Goals as goal
 use Rattle.xs_core.specs.Built.{is_built_core}
 use Rattle.xs_core.specs.Plain.{IsPlain}
-use Rattle.xs_instr.specs.declared.image.CoreImage.{CoreImage}
 use Rattle.xs_instr.specs.declared.image.Home.{Home}
-use Rattle.xs_instr.specs.declared.state.CoreState.{CoreState}
 use Rattle.xs_instr.specs.Machine.{parts_in}
 
 pub state_for-requires : goal.state_for-requires
