@@ -94,7 +94,7 @@ define_piece text s name m k e d r q h form n w =
     let after : Reading → Stand = λ x. record { at = e.at; fresh = false; numbers = define s.numbers name x } in
     let faults : Option Number → Reading → List Fault = λ y x. again_faults s.at y ++ (number_faults m x ++ ending_faults e.ending) in
     let p : Piece text s [] (faults (s.numbers name) (reading (part text m k))) (after (reading (part text m k))) =
-        hash_line text s (after (reading (part text m k))) (faults (s.numbers name) (reading (part text m k))) q h (inr (inl (name, m, k, e.at, e.ending, form, e.tail, refl, refl))) in
+    hash_line text s (after (reading (part text m k))) (faults (s.numbers name) (reading (part text m k))) q h (inr (inl (name, m, k, e.at, e.ending, form, e.tail, refl, refl))) in
     subst (λ y. Piece text s [] (faults y r) (after r)) n (subst (λ x. Piece text s [] (faults (s.numbers name) x) (after x)) w p)
 
 pub some_of : {T : Type 0} (r : Option T) → is_some r ≡ true → (x : T) × (r ≡ Some x)

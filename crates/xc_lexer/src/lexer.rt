@@ -88,7 +88,12 @@ pub fn lex(alloc: Global, text: &[u8]) -> Result<List<Tok>, LexErr>
 }
 
 /// Reads one piece.
-fn step<'a>(alloc: Global, text: &'a [u8], state: &mut State<'a>, toks: &mut List<Tok>) -> Result<(), LexErr>
+fn step<'a>(
+    alloc: Global,
+    text: &'a [u8],
+    state: &mut State<'a>,
+    toks: &mut List<Tok>,
+) -> Result<(), LexErr>
     requires place { IsPlace text.now state.old.place }
     requires more { state.old.place.at < length text.now }
     ensures went { OnOk result (Went text.now state.old toks.old state.new toks.new) }
@@ -153,7 +158,12 @@ fn comment<'a>(text: &'a [u8], state: &mut State<'a>, toks: &mut List<Tok>) -> R
 }
 
 /// Reads a run that begins with a letter.
-fn word<'a>(alloc: Global, text: &'a [u8], state: &mut State<'a>, toks: &mut List<Tok>) -> Result<(), LexErr>
+fn word<'a>(
+    alloc: Global,
+    text: &'a [u8],
+    state: &mut State<'a>,
+    toks: &mut List<Tok>,
+) -> Result<(), LexErr>
     requires place { IsPlace text.now state.old.place }
     requires starts { start_at text.now state.old.place.at ≡ Letter }
     ensures went { OnOk result (Went text.now state.old toks.old state.new toks.new) }

@@ -14,5 +14,7 @@ mod place;
 mod scan;
 mod words;
 
-pub use laws::{each_byte_in_one_piece, one_list_of_tokens, pieces_lie_behind_each_other, tokens_or_broken_rule};
+pub use laws::{
+    each_byte_in_one_piece, one_list_of_tokens, pieces_lie_behind_each_other, tokens_or_broken_rule,
+};
 pub use lexer::{LexErr, lex};

@@ -5,7 +5,9 @@ ghost use Rattle.xc_lexer.specs.Lines.{DefineIs, TailIs, StepIs};
 ghost use Rattle.xc_lexer.specs.Places.{IsPlace};
 
 use crate::place::Place;
-use crate::scan::{blanks_end, comment_end, has_digit, has_letter, line_end, past, run_end, starts};
+use crate::scan::{
+    blanks_end, comment_end, has_digit, has_letter, line_end, past, run_end, starts,
+};
 use crate::words::word_place;
 use xc_tree::Start;
 use xw_words::Pos;

@@ -185,5 +185,9 @@ pub fn past(text: &[u8], at: usize, spelled: &[u8]) -> Option<usize>
         return None;
     }
     let end = at + spelled.len();
-    if &text[at..end] == spelled { Some(end) } else { None }
+    if &text[at..end] == spelled {
+        Some(end)
+    } else {
+        None
+    }
 }

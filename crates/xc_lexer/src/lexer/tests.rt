@@ -1,5 +1,6 @@
 use super::lex;
 use std::alloc::{AllocError, Global};
+use std::process::Abort;
 use std::test::Fail;
 use xc_tree::{Kind, SYMBOLS, Tok, WORDS};
 
@@ -21,7 +22,11 @@ fn put_token(alloc: Global, shown: &mut String, tok: &Tok) -> Result<(), AllocEr
             put(shown, name.as_slice())
         }
         Kind::Num(value, is_unsigned) => {
-            let number = format!(in alloc; "{} {}", if *is_unsigned { "unsigned" } else { "int" }, *value)?;
+            let number = format!(in alloc;
+                "{} {}",
+                if *is_unsigned { "unsigned" } else { "int" },
+                *value
+            )?;
             shown.push_str(number.as_str())
         }
         Kind::Key(place) => {
@@ -71,8 +76,14 @@ const TABLE: [(&[u8], &str); 99] = [
     (b"/* \xc3\xa9 */ x", "1:10 name x"),
     (b"/*\n\n*/x", "3:3 name x"),
     // Names and words.
-    (b"in inport inp int", "1:1 word in, 1:4 name inport, 1:11 name inp, 1:15 word int"),
-    (b"_ _9a Break timerafter typedef", "1:1 name _, 1:3 name _9a, 1:7 name Break, 1:13 word timerafter, 1:24 word typedef"),
+    (
+        b"in inport inp int",
+        "1:1 word in, 1:4 name inport, 1:11 name inp, 1:15 word int",
+    ),
+    (
+        b"_ _9a Break timerafter typedef",
+        "1:1 name _, 1:3 name _9a, 1:7 name Break, 1:13 word timerafter, 1:24 word typedef",
+    ),
     // The longest symbol is taken.
     (b"a+++b", "1:1 name a, 1:2 ++, 1:4 +, 1:5 name b"),
     (b"<::>", "1:1 <:, 1:3 :>"),
@@ -83,10 +94,22 @@ const TABLE: [(&[u8], &str); 99] = [
     (b"&&&|||", "1:1 &&, 1:3 &, 1:4 ||, 1:6 |"),
     (b"a/ /b", "1:1 name a, 1:2 /, 1:4 /, 1:5 name b"),
     // Numbers.
-    (b"0 00 017 42", "1:1 int 0, 1:3 int 0, 1:6 int 15, 1:10 int 42"),
-    (b"0x1u 5U 0u 0b101", "1:1 unsigned 1, 1:6 unsigned 5, 1:9 unsigned 0, 1:12 int 5"),
-    (b"2147483647 2147483648", "1:1 int 2147483647, 1:12 unsigned 2147483648"),
-    (b"0xFFFFffff 037777777777", "1:1 unsigned 4294967295, 1:12 unsigned 4294967295"),
+    (
+        b"0 00 017 42",
+        "1:1 int 0, 1:3 int 0, 1:6 int 15, 1:10 int 42",
+    ),
+    (
+        b"0x1u 5U 0u 0b101",
+        "1:1 unsigned 1, 1:6 unsigned 5, 1:9 unsigned 0, 1:12 int 5",
+    ),
+    (
+        b"2147483647 2147483648",
+        "1:1 int 2147483647, 1:12 unsigned 2147483648",
+    ),
+    (
+        b"0xFFFFffff 037777777777",
+        "1:1 unsigned 4294967295, 1:12 unsigned 4294967295",
+    ),
     (b"4294967295", "1:1 unsigned 4294967295"),
     (b"1+2", "1:1 int 1, 1:2 +, 1:3 int 2"),
     // Lines that include and define.
@@ -116,9 +139,15 @@ const TABLE: [(&[u8], &str); 99] = [
     (b"4294967296", "1:1: rule 102 is broken"),
     (b"x = 0x100000000;", "1:5: rule 102 is broken"),
     (b"040000000000", "1:1: rule 102 is broken"),
-    (b"99999999999999999999999999999999999999999999", "1:1: rule 102 is broken"),
+    (
+        b"99999999999999999999999999999999999999999999",
+        "1:1: rule 102 is broken",
+    ),
     (b"#define N 4294967296", "1:11: rule 102 is broken"),
-    (b"#define N 1\n#define M 4294967296", "2:11: rule 102 is broken"),
+    (
+        b"#define N 1\n#define M 4294967296",
+        "2:11: rule 102 is broken",
+    ),
     // 103: a comment isn't closed.
     (b"/*", "1:1: rule 103 is broken"),
     (b"/*/", "1:1: rule 103 is broken"),
@@ -170,29 +199,41 @@ const TABLE: [(&[u8], &str); 99] = [
     (b"#define N 1\n#define N 2 /*", "2:1: rule 104 is broken"),
 ];
 
-#[test]
-fn texts(rt: HostRuntime) -> Result<(), Fail> {
-    for (text, wanted) in TABLE {
-        let found = shown(rt.alloc(), text)?;
-        assert_eq!(rt; found.as_str(), wanted);
+/// Each text lexes to what is wanted.
+fn each_lexes(rt: &impl Abort, alloc: Global, table: &[(&[u8], &str)]) -> Result<(), AllocError> {
+    for (text, wanted) in table {
+        let found = shown(alloc, text)?;
+        assert_eq!(rt; found.as_str(), *wanted);
+    }
+    Ok(())
+}
+
+/// Each row of bytes is one token, which is shown as itself behind `kind`.
+fn each_is_token(
+    rt: &impl Abort,
+    alloc: Global,
+    table: &[&[u8]],
+    kind: &str,
+) -> Result<(), AllocError> {
+    for spelled in table {
+        let mut wanted = String::from_str(alloc, kind)?;
+        put(&mut wanted, spelled)?;
+        let found = shown(alloc, spelled)?;
+        assert_eq!(rt; found.as_str(), wanted.as_str());
     }
     Ok(())
 }
 
 #[test]
+fn texts(rt: HostRuntime) -> Result<(), Fail> {
+    each_lexes(&rt, rt.alloc(), &TABLE)?;
+    Ok(())
+}
+
+#[test]
 fn all_words_and_symbols(rt: HostRuntime) -> Result<(), Fail> {
-    for word in WORDS {
-        let mut wanted = String::from_str(rt.alloc(), "1:1 word ")?;
-        put(&mut wanted, word)?;
-        let found = shown(rt.alloc(), word)?;
-        assert_eq!(rt; found.as_str(), wanted.as_str());
-    }
-    for symbol in SYMBOLS {
-        let mut wanted = String::from_str(rt.alloc(), "1:1 ")?;
-        put(&mut wanted, symbol)?;
-        let found = shown(rt.alloc(), symbol)?;
-        assert_eq!(rt; found.as_str(), wanted.as_str());
-    }
+    each_is_token(&rt, rt.alloc(), &WORDS, "1:1 word ")?;
+    each_is_token(&rt, rt.alloc(), &SYMBOLS, "1:1 ")?;
     Ok(())
 }
 
