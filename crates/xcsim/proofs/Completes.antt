@@ -30,7 +30,7 @@ module _ (words : List (List ℕ)) (shelf : Loads) (out err : Span) (files : Lis
       subst (λ k. found files (file_of k) ≡ Some text) (same_some (means words) c d m n)
       (told_at (λ fs. found fs (file_of c) ≡ Some text) shelf.files files told h.told)
 
-  -- no other text is that file's
+  -- absent other text is that file's
   same_text : (c d : Command) (text other : List ℕ) → means words ≡ Some c → means words ≡ Some d → IsFileOf shelf.files (file_of c) text → found files (file_of d) ≡ Some other → text ≡ other
   same_text c d text other m n h f = same_some (found files (file_of d)) text other (loaded c d text m n h) f
 
@@ -40,9 +40,9 @@ module _ (words : List (List ℕ)) (shelf : Loads) (out err : Span) (files : Lis
   no_long : (c d : Command) (text other : List ℕ) → means words ≡ Some c → means words ≡ Some d → IsFileOf shelf.files (file_of c) text → found files (file_of d) ≡ Some other → max_file < length other → ⊥
   no_long c d text other m n h f long = not_both (length other) long (subst (λ t. length t ≤ max_file) (same_text c d text other m n h f) h.short)
 
-  -- a text of the form is no other
+  -- a text of the form is absent other
   no_other : (c d : Command) (text other : List ℕ) → means words ≡ Some c → means words ≡ Some d → IsFileOf shelf.files (file_of c) text → found files (file_of d) ≡ Some other → (P : Program) → IsText text P → IsOther other → ⊥
-  no_other c d text other m n h f P is no = no P (subst (λ t. IsText t P) (same_text c d text other m n h f) is)
+  no_other c d text other m n h f P is absent = absent P (subst (λ t. IsText t P) (same_text c d text other m n h f) is)
 
   done_at : (c d : Command) (text other : List ℕ) (status : ℕ) → means words ≡ Some c → means words ≡ Some d → IsFileOf shelf.files (file_of c) text → found files (file_of d) ≡ Some other → DoneWith c text out status → DoneWith d other out status
   done_at c d text other status m n h f done =
@@ -55,7 +55,7 @@ module _ (words : List (List ℕ)) (shelf : Loads) (out err : Span) (files : Lis
     usage = λ none. absurd (none_some (means words) c none m);
     missing = λ d n f. absurd (no_file c d text m n h f);
     too_long = λ d other n f long. absurd (no_long c d text other m n h f long);
-    refused = λ d other n f short no. absurd (no_other c d text other m n h f P is no);
+    refused = λ d other n f short absent. absurd (no_other c d text other m n h f P is absent);
     done = λ d other Q n f short isQ. done_at c d text other status m n h f done;
   }
 
@@ -64,36 +64,36 @@ module _ (words : List (List ℕ)) (shelf : Loads) (out err : Span) (files : Lis
     usage = λ n. refl;
     missing = λ d n f. absurd (none_some (means words) d none n);
     too_long = λ d other n f long. absurd (none_some (means words) d none n);
-    refused = λ d other n f short no. absurd (none_some (means words) d none n);
+    refused = λ d other n f short absent. absurd (none_some (means words) d none n);
     done = λ d other Q n f short is. absurd (none_some (means words) d none n);
   })
   by_decided o (missing c m rose gone) g =
       let at_files = told_at (λ fs. found fs (file_of c) ≡ None) shelf.files files told gone in
-      let no : (d : Command) (other : List ℕ) → means words ≡ Some d → found files (file_of d) ≡ Some other → ⊥ = λ d other n f. none_some (found files (file_of d)) other (subst (λ k. found files (file_of k) ≡ None) (same_some (means words) c d m n) at_files) f in
+      let absent : (d : Command) (other : List ℕ) → means words ≡ Some d → found files (file_of d) ≡ Some other → ⊥ = λ d other n f. none_some (found files (file_of d)) other (subst (λ k. found files (file_of k) ≡ None) (same_some (means words) c d m n) at_files) f in
       inr (record {
         usage = λ none. absurd (none_some (means words) c none m);
         missing = λ d n f. refl;
-        too_long = λ d other n f long. absurd (no d other n f);
-        refused = λ d other n f short other_is. absurd (no d other n f);
-        done = λ d other Q n f short is. absurd (no d other n f);
+        too_long = λ d other n f long. absurd (absent d other n f);
+        refused = λ d other n f short other_is. absurd (absent d other n f);
+        done = λ d other Q n f short is. absurd (absent d other n f);
       })
   by_decided o (too_long c m rose long) g =
       let there = told_at (λ fs. (text : List ℕ) × (found fs (file_of c) ≡ Some text) × (max_file < length text)) shelf.files files told long in
       let at_d : (d : Command) → means words ≡ Some d → found files (file_of d) ≡ Some there.0 = λ d n. subst (λ k. found files (file_of k) ≡ Some there.0) (same_some (means words) c d m n) there.1 in
-      let no : (d : Command) (other : List ℕ) → means words ≡ Some d → found files (file_of d) ≡ Some other → length other ≤ max_file → ⊥ = λ d other n f short. not_both (length other) (subst (λ t. max_file < length t) (same_some (found files (file_of d)) there.0 other (at_d d n) f) there.2) short in
+      let absent : (d : Command) (other : List ℕ) → means words ≡ Some d → found files (file_of d) ≡ Some other → length other ≤ max_file → ⊥ = λ d other n f short. not_both (length other) (subst (λ t. max_file < length t) (same_some (found files (file_of d)) there.0 other (at_d d n) f) there.2) short in
       inr (record {
         usage = λ none. absurd (none_some (means words) c none m);
         missing = λ d n f. absurd (none_some (found files (file_of d)) there.0 f (at_d d n));
         too_long = λ d other n f is. refl;
-        refused = λ d other n f short other_is. absurd (no d other n f short);
-        done = λ d other Q n f short is. absurd (no d other n f short);
+        refused = λ d other n f short other_is. absurd (absent d other n f short);
+        done = λ d other Q n f short is. absurd (absent d other n f short);
       })
   by_decided o (read_fault c m rose) g = absurd (kept.shelf_kept rose)
   by_decided o (refused c text m h other) g = inr (record {
     usage = λ none. absurd (none_some (means words) c none m);
     missing = λ d n f. absurd (no_file c d text m n h f);
     too_long = λ d t n f long. absurd (no_long c d text t m n h f long);
-    refused = λ d t n f short no. refl;
+    refused = λ d t n f short absent. refl;
     done = λ d t Q n f short is. absurd (other Q (subst (λ x. IsText x Q) (sym (same_text c d text t m n h f)) is));
   })
   by_decided o (assembled file text L m h compiled) g =

@@ -100,21 +100,21 @@ module _ (words : List (List ℕ)) (shelf : Loads) (out err : Span) where
     no_memory = λ e. g;
   }
 
-  nine : (rose : (9 ≡ 9) → Rose out.faults out.faults' ⊎ Rose err.faults err.faults') → OnlyCauses words shelf out err 9
+  nine : Rose out.faults out.faults' ⊎ Rose err.faults err.faults' → OnlyCauses words shelf out err 9
   nine rose = record {
     refused = λ e. absurd (omega (arith, e));
     usage = λ e. absurd (omega (arith, e));
     missing = λ e. absurd (omega (arith, e));
     too_long = λ e. absurd (omega (arith, e));
     read_fault = λ e. absurd (omega (arith, e));
-    write_fault = rose;
+    write_fault = λ e. rose;
     no_memory = λ e. absurd (omega (arith, e));
   }
 
   by_delivered : (o : Outcome) (status : ℕ) → Decided words shelf o → Delivered o out err status → OnlyCauses words shelf out err status
   by_delivered o status d (whole at_out at_err) = by_decided o d at_out
-  by_delivered o status d (out_fell rose f f') = nine (λ e. inl rose)
-  by_delivered o status d (err_fell rose some f f') = nine (λ e. inr rose)
+  by_delivered o status d (out_fell rose f f') = nine (inl rose)
+  by_delivered o status d (err_fell rose some f f') = nine (inr rose)
 
   pub only_causes : (status : ℕ) → Answers words shelf out err status → OnlyCauses words shelf out err status
   only_causes status a = by_delivered a.outcome status a.decided a.delivered

@@ -4,7 +4,7 @@ use Rattle.xw_words.specs.declared.pos.Broken.{Broken}
 use Rattle.xs_instr.specs.declared.image.Image.{Image}
 use Rattle.xs_instr.specs.declared.trace.EndWord.{EndWord}
 use Rattle.xs_instr.specs.declared.trace.Record.{Record}
-use Rattle.xs_instr.specs.Texts.{image_text, record_lines, end_text, pos_text}
+use Rattle.xs_instr.specs.Texts.{all_texts, image_text, record_line, end_text, pos_text}
 
 -- the code section: `code`, and the listing
 unfoldable pub code_section : Image → List ℕ
@@ -13,7 +13,7 @@ code_section L = codes "code\n" ++ image_text L
 -- the whole output of a run: code section, trace section, end line
 unfoldable pub run_output : Image → List Record → EndWord → List ℕ
 run_output L lines word =
-    codes "code\n" ++ image_text L ++ codes "trace\n" ++ record_lines lines ++ codes "end " ++ end_text word ++ codes "\n"
+    codes "code\n" ++ image_text L ++ codes "trace\n" ++ all_texts record_line lines ++ codes "end " ++ end_text word ++ codes "\n"
 
 abbrev pub usage_line : List ℕ
 usage_line = codes "usage: xcsim check FILE | asm FILE | run FILE [STIM] [--ticks N] [--workers W] | debug FILE STIM SCRIPT | make N | bench N\n"

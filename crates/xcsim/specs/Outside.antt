@@ -3,7 +3,7 @@ use Rattle.std.specs.Prelude.{◌≡◌, ◌≤◌, ℕ, List, Option, Result, O
 use Rattle.xw_io.specs.Outside.{Rose, gained}
 use Rattle.xw_io.specs.Gathering.{Passed}
 use Rattle.xw_io.specs.declared.file.File.{File}
-use Rattle.xw_io.specs.declared.out.SinkFault.{SinkFault}
+use Rattle.xw_io.specs.declared.output.SinkFault.{SinkFault}
 
 -- a shelf's files, which no call changes, and its counts before and after
 pub record Loads : Type 0 where

@@ -55,8 +55,9 @@ pub fn decide<'w, S: Shelf>(alloc: Global, words: &'w [String], shelf: &mut S) -
     ensures files { S.files shelf.new ≡ S.files shelf.old }
     ensures faults { S.faults shelf.old ≤ S.faults shelf.new }
 {
-    let Some(command) = meaning(words) else {
-        return saying(2, Line::Usage);
+    let command = match meaning(words) {
+        Some(command) => command,
+        None => return saying(2, Line::Usage),
     };
     let file = command.file();
     let text = match shelf.load(alloc, file) {

@@ -1,13 +1,15 @@
 // Writing what was decided. No memory is taken here.
 
 ghost use Rattle.std.specs.Prelude.{◌≡◌, ◌≢◌, ◌≤◌, [], true, false};
+ghost use Rattle.xs_instr.specs.Texts.{all_texts, record_line};
 ghost use Rattle.xw_io.specs.Gathering.{Drew};
 ghost use Rattle.xcsim.specs.Answers.{Delivered};
 ghost use Rattle.xcsim.specs.Decision.{outcome_of, printed_text, line_text, IsPrintable};
 ghost use Rattle.xcsim.specs.Outside.{Gave, span};
 
 use crate::decide::{Decision, Line, Printed};
-use xr_text::{add_image, add_number, add_pos, add_records, add_word};
+use xr_text::{add_image, add_number, add_pos, add_record, add_word};
+use xs_instr::Record;
 use xw_io::{Out, Sink, SinkFault};
 
 const USAGE: &[u8] =
@@ -67,6 +69,15 @@ fn add_printed<O: Sink>(out: &mut Out<'_, O>, printed: &Printed)
             add_word(out, run.end);
             out.add(b"\n");
         }
+    }
+}
+
+fn add_records<O: Sink>(out: &mut Out<'_, O>, records: &[Record])
+    ensures same_sink { out.new.sink.ghost_name ≡ out.old.sink.ghost_name }
+    ensures drew { Drew O.bytes O.faults out.old out.new (all_texts record_line records.now) }
+{
+    for i in 0..records.len() {
+        add_record(out, &records[i]);
     }
 }
 

@@ -49,3 +49,5 @@ fn main(rt: HostRuntime) -> ExitCode {
     ))
 }
 
+#[cfg(test)]
+mod tests;

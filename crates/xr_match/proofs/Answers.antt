@@ -7,15 +7,14 @@ use Rattle.xs_instr.specs.declared.image.Stim.{Stim}
 use Rattle.xs_instr.specs.declared.instr.Instr.TheVariants.{Out, Freet}
 use Rattle.xs_instr.specs.declared.state.CoreState.{CoreState}
 use Rattle.xs_instr.specs.declared.state.Mode.TheVariants.{Unused as ModeUnused}
-use Rattle.xs_instr.specs.declared.state.Port.{Port}
 use Rattle.xs_instr.specs.declared.state.Thread.{Thread}
 use Rattle.xs_instr.specs.declared.trace.Record.{Record}
 use Rattle.xs_instr.specs.declared.trace.Record.TheVariants.{PortOut}
-use Rattle.xs_instr.specs.Did.{Did, Made, Paused, told}
+use Rattle.xs_instr.specs.Did.{Made, Paused, told}
 use Rattle.xs_instr.specs.Machine.{and_then, noted}
 use Rattle.xs_instr.specs.Ports.{counter, low_bits, time_meets, moved_at, drives, drives_on, drives_by}
 use Rattle.xs_instr.specs.Registers.{reg_get}
-use Rattle.xs_instr.specs.Resources.{Named, named, on_port, usable}
+use Rattle.xs_instr.specs.Resources.{named, usable}
 use Rattle.xs_instr.specs.Rows.{goes_on, goes_with, put_ports, out_row, with_thread}
 use Rattle.xs_instr.specs.Slot.{slot}
 use Rattle.xc_meaning.specs.declared.program.Output.{Output}

@@ -1,33 +1,21 @@
 -- How the core that has the program's part starts, and which branch runs where.
-use Rattle.std.proofs.Common.{◌≡◌, ℕ, zero, suc, ◌<◌, ◌≢◌, Bool, true, false, List, [], ◌∷◌, map, length, Option, Some, None, refl, sym, ap, ◌∙◌, subst, arith}
-use Rattle.std.specs.Prelude.{slice_get, slice_index, nat_lt, ◌≤◌}
-use Rattle.std.proofs.lemmas.Bool.{ltb-true, lt-ltb, ne_eqb}
-use Rattle.std.proofs.lemmas.Option.{same_Some}
-use Rattle.xs_instr.specs.declared.image.CoreImage.{CoreImage}
+use Rattle.std.proofs.Common.{◌≡◌, ℕ, zero, suc, ◌≢◌, Bool, true, false, List, [], ◌∷◌, length, Option, Some, None, refl, sym, ap, ◌∙◌, subst, arith}
+use Rattle.std.specs.Prelude.{slice_get, slice_index, nat_lt}
+use Rattle.std.proofs.lemmas.Bool.{ltb-true, lt-ltb}
 use Rattle.xs_instr.specs.declared.image.Home.{Home}
-use Rattle.xs_instr.specs.declared.image.Image.{Image}
-use Rattle.xs_instr.specs.declared.image.Stim.{Stim}
-use Rattle.xs_instr.specs.declared.instr.Instr.{Instr}
-use Rattle.xs_instr.specs.declared.state.CoreState.{CoreState}
-use Rattle.xs_instr.specs.declared.state.Port.{Port}
-use Rattle.xs_instr.specs.Machine.{boot, boot_core, boot_port, boot_ports, boot_threads, root_thread}
+use Rattle.xs_instr.specs.Machine.{boot_core, boot_port, boot_ports, boot_threads, root_thread}
 use Rattle.xs_instr.specs.Registers.{no_regs}
 use Rattle.xc_meaning.specs.declared.program.Output.{Output}
 use Rattle.xc_meaning.specs.declared.program.Program.{Program}
-use Rattle.xc_meaning.specs.Program.{AreDeclared, IsWellFormed, port_count}
-use Rattle.xc_meaning.specs.World.{Branch, Running, items_of, start}
+use Rattle.xc_meaning.specs.Program.{AreDeclared, IsWellFormed}
+use Rattle.xc_meaning.specs.World.{items_of}
 use Rattle.xr_match.specs.Code.{IsCoreOf, items_code, out_port}
-use Rattle.xr_match.specs.Implements.{Implements}
-use Rattle.xr_match.proofs.Simulates.{Simulates, implements_by}
 use Rattle.xr_match.proofs.Leads.{Leads}
 use Rattle.xr_match.proofs.Placed.{StandAt, all_stand}
-use Rattle.xr_match.proofs.Items.{PortStands, IsUsable, AreUsable, AreAtRest, AtItems}
+use Rattle.xr_match.proofs.Items.{AreUsable, AreAtRest, AtItems}
 use Rattle.xr_match.proofs.Pieces.{items_lead}
-use Rattle.xr_match.proofs.Answers.{IsUnused, StandsAs}
-use Rattle.xr_match.proofs.Counts.{running_on, far_counts}
-use Rattle.xr_match.proofs.Standing.{AreApart, Stands, Standing}
-use Rattle.xr_match.proofs.Events.{event_followed}
-use Rattle.xr_match.proofs.Agrees.{agrees}
+use Rattle.xr_match.proofs.Answers.{IsUnused}
+use Rattle.xr_match.proofs.Standing.{AreApart}
 use Rattle.xr_match.proofs.Ports.{few_ports, boot_port_at}
 
 -- main, which is branch 0, runs on thread 0 of core 0, and no other thread runs a branch

@@ -1,9 +1,9 @@
 -- The code of one output after another, its places and its size.
-use Rattle.std.proofs.Common.{◌≡◌, ℕ, zero, suc, ◌+◌, ◌*◌, ◌<◌, ◌≤◌, List, [], ◌∷◌, ◌++◌, map, length, get_or, drop, Option, Some, None, refl, sym, ap, ◌∙◌, subst, arith, append_assoc, drop-cons, add-one, length-append}
+use Rattle.std.proofs.Common.{◌≡◌, ℕ, zero, suc, ◌+◌, ◌*◌, ◌<◌, ◌≤◌, List, [], ◌∷◌, ◌++◌, length, get_or, Option, Some, None, refl, sym, subst, arith, append_assoc, length-append}
 use Rattle.std.proofs.lemmas.List.{length-map}
 use Rattle.xw_words.specs.declared.pos.Pos.{Pos}
 use Rattle.xs_instr.specs.declared.instr.Instr.{Instr}
-use Rattle.xs_instr.specs.declared.instr.Instr.TheVariants.{Ldc, Setpt, Out}
+use Rattle.xs_instr.specs.declared.instr.Instr.TheVariants.{Ldc, Out}
 use Rattle.xs_instr.specs.declared.instr.Reg.TheVariants.{R0, R1}
 use Rattle.xs_instr.specs.Valid.{AreGoodInstrs}
 use Rattle.xc_meaning.specs.declared.program.Output.{Output}
@@ -16,24 +16,6 @@ pub declared_at : (n : ℕ) (outputs : List Output) (i : ℕ) (d : Output) → A
 declared_at n [] i d h lt = absurd (omega arith)
 declared_at n (output ∷ rest) zero d h lt = h.0
 declared_at n (output ∷ rest) (suc i) d h lt = declared_at n rest i d h.1 (omega arith)
-
--- one more output's code
-pub one_more_code : (code all : List Instr) (outputs : List Output) (i : ℕ) (d : Output) → i < length outputs → code ++ items_code 0 (items_of (drop i outputs)) ≡ all → (code ++ output_code 0 (get_or outputs i d)) ++ items_code 0 (items_of (drop (i + 1) outputs)) ≡ all
-one_more_code code all outputs i d lt h =
-    let output = get_or outputs i d in
-    let cut : drop i outputs ≡ output ∷ drop (i + 1) outputs = rw add-one (drop-cons outputs i d lt) in
-    append_assoc code (output_code 0 output) (items_code 0 (items_of (drop (i + 1) outputs)))
-    ∙ ap (λ l. code ++ items_code 0 (items_of l)) (sym cut)
-    ∙ h
-
--- and its places
-pub one_more_place : (places all : List Pos) (last : Pos) (outputs : List Output) (i : ℕ) (d : Output) → i < length outputs → places ++ items_places 0 last (items_of (drop i outputs)) ≡ all → (places ++ output_places 0 (get_or outputs i d)) ++ items_places 0 (get_or outputs i d).pos (items_of (drop (i + 1) outputs)) ≡ all
-one_more_place places all last outputs i d lt h =
-    let output = get_or outputs i d in
-    let cut : drop i outputs ≡ output ∷ drop (i + 1) outputs = rw add-one (drop-cons outputs i d lt) in
-    append_assoc places (output_places 0 output) (items_places 0 output.pos (items_of (drop (i + 1) outputs)))
-    ∙ ap (λ l. places ++ items_places 0 last (items_of l)) (sym cut)
-    ∙ h
 
 -- each instruction has a place
 pub places_match : (core : ℕ) (last : Pos) (items : List Item) → length (items_places core last items) ≡ length (items_code core items)

@@ -1,13 +1,12 @@
 -- Each event of the machine is followed by a piece of the program's run.
-use Rattle.std.proofs.Common.{◌≡◌, ℕ, zero, suc, ◌+◌, ◌≤◌, ◌⊎◌, inl, inr, Bool, List, [], ◌∷◌, Option, Some, None, refl, sym, ap, ◌∙◌, subst, arith}
+use Rattle.std.proofs.Common.{◌≡◌, ℕ, zero, suc, ◌≤◌, ◌⊎◌, inl, inr, Bool, List, [], ◌∷◌, Option, Some, None, refl, sym, ap, ◌∙◌, subst, arith}
 use Rattle.std.specs.Prelude.{slice_get}
 use Rattle.std.proofs.lemmas.Option.{same_Some}
 use Rattle.xs_instr.specs.declared.image.Image.{Image}
 use Rattle.xs_instr.specs.declared.image.Stim.{Stim}
 use Rattle.xs_instr.specs.declared.state.CoreState.{CoreState}
-use Rattle.xs_instr.specs.declared.state.Item.{Item as LinkItem}
 use Rattle.xs_instr.specs.Did.{Did, Made, Paused, Idle, makes}
-use Rattle.xs_instr.specs.Machine.{Machine, Event, Step, Tick, Move, does, home_of, link_of, move_at, no_links, step_at, stepped, tick_at}
+use Rattle.xs_instr.specs.Machine.{Machine, Event, Step, Tick, Move, does, home_of, link_of, move_at, step_at, stepped, tick_at}
 use Rattle.xs_instr.specs.Slot.{slot}
 use Rattle.xc_meaning.specs.declared.program.Program.{Program}
 use Rattle.xc_meaning.specs.World.{World, Branch, Item, Outputs, Ends, Life, Running, Ended}
@@ -16,7 +15,7 @@ use Rattle.xr_match.proofs.Links.{link_empty}
 use Rattle.xr_match.proofs.Simulates.{Follows}
 use Rattle.xr_match.proofs.Leads.{LeadsIn}
 use Rattle.xr_match.proofs.Items.{AtItems}
-use Rattle.xr_match.proofs.Answers.{counts, StandsBy, StandsAs, Answers, output_answers, end_answers}
+use Rattle.xr_match.proofs.Answers.{counts, StandsBy, Answers, output_answers, end_answers}
 use Rattle.xr_match.proofs.Counts.{own_counts, running_some}
 use Rattle.xr_match.proofs.Standing.{AreApart, unused_idle, Runs, Stands, Standing, clock_at}
 use Rattle.xr_match.proofs.Ticks.{tick_followed}

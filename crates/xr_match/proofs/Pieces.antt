@@ -2,7 +2,6 @@
 use Rattle.std.proofs.Common.{◌≡◌, ℕ, ◌+◌, ◌%◌, ◌^◌, ◌≢◌, Bool, true, List, [], ◌∷◌, ◌++◌, Option, Some, None, refl, sym, ap, ◌∙◌, subst}
 use Rattle.std.specs.Prelude.{slice_get, slice_set}
 use Rattle.xs_instr.specs.declared.image.Home.{Home}
-use Rattle.xs_instr.specs.declared.instr.Instr.{Instr}
 use Rattle.xs_instr.specs.declared.instr.Instr.TheVariants.{Ldc, Out}
 use Rattle.xs_instr.specs.declared.instr.Reg.TheVariants.{R0, R1}
 use Rattle.xs_instr.specs.declared.state.CoreState.{CoreState}
@@ -16,7 +15,7 @@ use Rattle.xc_meaning.specs.declared.program.Program.{Program}
 use Rattle.xc_meaning.specs.World.{Item, Outputs, Ends}
 use Rattle.xr_match.specs.Code.{port_name, time_code, items_code}
 use Rattle.xr_match.proofs.Lists.{get_set_same, get_set_other}
-use Rattle.xr_match.proofs.Leads.{running, Leads, IsStable}
+use Rattle.xr_match.proofs.Leads.{running, Leads}
 use Rattle.xr_match.proofs.Names.{port_named}
 use Rattle.xr_match.proofs.Placed.{StandAt}
 use Rattle.xr_match.proofs.Rules.{by_ldc, by_setpt}

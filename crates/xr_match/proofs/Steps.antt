@@ -1,5 +1,5 @@
 -- A step of a thread is followed by no step of the program, or by the branch's step that answers it.
-use Rattle.std.proofs.Common.{◌≡◌, ℕ, zero, suc, ◌+◌, ◌<◌, ◌≤◌, ◌≢◌, ◌⊎◌, inl, inr, Bool, true, false, List, [], ◌∷◌, map, length, Option, Some, None, refl, sym, ap, ◌∙◌, subst, ⊎_elim, arith}
+use Rattle.std.proofs.Common.{◌≡◌, ℕ, ◌≢◌, Bool, [], ◌∷◌, map, Option, Some, None, refl, sym, ap, ◌∙◌, subst, ⊎_elim, arith}
 use Rattle.std.specs.Prelude.{slice_get, slice_set}
 use Rattle.std.proofs.lemmas.Bool.{cases_eq}
 use Rattle.std.proofs.lemmas.Option.{get_or_from_slice_get, slice_get_within}
@@ -7,7 +7,6 @@ use Rattle.std.proofs.Math.Seq.{map-set_same}
 use Rattle.xs_instr.specs.declared.image.Image.{Image}
 use Rattle.xs_instr.specs.declared.image.Stim.{Stim}
 use Rattle.xs_instr.specs.declared.state.CoreState.{CoreState}
-use Rattle.xs_instr.specs.declared.trace.Record.{Record}
 use Rattle.xs_instr.specs.Machine.{Machine, home_of, noted}
 use Rattle.xc_meaning.specs.declared.program.Program.{Program}
 use Rattle.xc_meaning.specs.World.{World, Branch, Running}
@@ -17,9 +16,9 @@ use Rattle.xr_match.proofs.Lists.{get_set_same, get_set_other, get_set_cases}
 use Rattle.xr_match.proofs.Simulates.{Follows}
 use Rattle.xr_match.proofs.Leads.{Kept, Touched, LeadsIn}
 use Rattle.xr_match.proofs.Items.{AtItems}
-use Rattle.xr_match.proofs.Answers.{IsUnused, StandsBy, StandsAs, Answers}
-use Rattle.xr_match.proofs.Counts.{running_on, running_after, far_counts}
-use Rattle.xr_match.proofs.Standing.{clock_of, AreApart, there_then, Runs, Stands, Standing, runs_still, IsNext, stands_next}
+use Rattle.xr_match.proofs.Answers.{IsUnused, StandsBy, Answers}
+use Rattle.xr_match.proofs.Counts.{running_after, far_counts}
+use Rattle.xr_match.proofs.Standing.{clock_of, AreApart, there_then, Runs, Stands, Standing, runs_still, stands_next}
 
 module _ (L : Image) (P : Program) (s : Stim) (who : ℕ → ℕ → Option ℕ) (own : ℕ → ℕ → Bool) (apart : AreApart who own) (m : Machine) (x : World) (st : Standing L P s who own m x) (c t : ℕ) (a : CoreState) (at_c : slice_get m.cores c ≡ Some a) (b : ℕ) (runs_b : who c t ≡ Some b) where
   -- the core's other threads stand as before

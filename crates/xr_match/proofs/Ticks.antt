@@ -1,5 +1,5 @@
 -- A tick is followed by the program's tick.
-use Rattle.std.proofs.Common.{◌≡◌, ℕ, ◌+◌, ◌≢◌, Bool, true, false, List, [], ◌∷◌, Option, Some, None, refl, ap, ◌∙◌, subst}
+use Rattle.std.proofs.Common.{◌≡◌, ℕ, ◌+◌, Bool, true, false, [], ◌∷◌, Option, Some, None, refl, ap, ◌∙◌, subst}
 use Rattle.std.specs.Prelude.{nat_lt, slice_get, slice_set}
 use Rattle.std.proofs.lemmas.List.{map-set}
 use Rattle.std.proofs.lemmas.Option.{same_Some}
@@ -12,7 +12,7 @@ use Rattle.xc_meaning.specs.declared.program.Program.{Program}
 use Rattle.xc_meaning.specs.World.{World}
 use Rattle.xc_meaning.specs.Steps.{Clock, moves, ticks, ticks_by}
 use Rattle.xr_match.proofs.Simulates.{Follows}
-use Rattle.xr_match.proofs.Standing.{clock_of, there_then, Runs, Stands, Standing, runs_still, clock_at, IsNext, stands_next}
+use Rattle.xr_match.proofs.Standing.{clock_of, there_then, Runs, Stands, Standing, runs_still, clock_at, stands_next}
 
 module _ (L : Image) (P : Program) (s : Stim) (who : ℕ → ℕ → Option ℕ) (own : ℕ → ℕ → Bool) (m : Machine) (x : World) (st : Standing L P s who own m x) (c : ℕ) (a : CoreState) (at_c : slice_get m.cores c ≡ Some a) where
   -- a thread stands as before when its core's clock goes up

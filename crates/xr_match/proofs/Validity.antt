@@ -1,10 +1,10 @@
 -- The image that has the program's code can be loaded.
-use Rattle.std.proofs.Common.{◌≡◌, ℕ, zero, suc, ◌+◌, ◌*◌, ◌<◌, ◌≤◌, ◌^◌, Bool, true, false, List, [], ◌∷◌, length, refl, sym, ap, ◌∙◌, subst, arith}
+use Rattle.std.proofs.Common.{◌≡◌, ℕ, ◌<◌, ◌^◌, Bool, true, false, length, sym, ap, ◌∙◌, subst, arith}
 use Rattle.std.specs.Prelude.{nat_eq}
 use Rattle.xs_instr.specs.declared.image.CoreImage.{CoreImage}
 use Rattle.xs_instr.specs.declared.image.Image.{Image}
-use Rattle.xs_instr.specs.Machine.{no_parts, parts_by, parts_in}
-use Rattle.xs_instr.specs.Valid.{AreGoodCores, AreGoodInstrs, AreGoodPairs, AreGoodPorts, AreIndices, IsGoodCore, IsThere, Valid, times_named}
+use Rattle.xs_instr.specs.Machine.{no_parts, parts_by}
+use Rattle.xs_instr.specs.Valid.{AreGoodCores, AreGoodInstrs, AreGoodPairs, AreGoodPorts, AreIndices, IsGoodCore, IsThere, Valid}
 use Rattle.xc_meaning.specs.declared.program.Program.{Program}
 use Rattle.xc_meaning.specs.Program.{IsWellFormed}
 use Rattle.xc_meaning.specs.World.{items_of}

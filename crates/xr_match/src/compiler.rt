@@ -10,7 +10,7 @@ use xc_meaning::{Output, Program};
 use xs_instr::{Code, CoreImage, Dir, Image, Instr, PortDecl, Reg};
 use xw_words::{List, Memory, Pos};
 
-/// The shift from a port's number to its identifier on core 0.
+/// A port's identifier on core 0 is its place times this.
 const NAME_STEP: u32 = 256;
 
 /// The image of a program. It implements the program, and it can be loaded.
@@ -78,7 +78,8 @@ fn emit_output(code: &mut Code, output: &Output) -> Result<(), Memory>
     ensures instrs { OnOk result (code.new.instrs ≡ code.old.instrs ++ output_code 0 output.now) }
     ensures places { OnOk result (code.new.«at» ≡ code.old.«at» ++ output_places 0 output.now) }
 {
-    emit(code, Instr::Ldc(Reg::R1, output.port * NAME_STEP), output.pos)?;
+    let port_name = output.port * NAME_STEP;
+    emit(code, Instr::Ldc(Reg::R1, port_name), output.pos)?;
     if let Some(time) = output.time {
         emit(code, Instr::Ldc(Reg::R0, time), output.pos)?;
         emit(code, Instr::Setpt(Reg::R1, Reg::R0), output.pos)?;

@@ -1,5 +1,5 @@
 -- Texts that are drawn one after another.
-use Rattle.std.proofs.Common.{◌≡◌, ℕ, zero, suc, ◌+◌, ◌<◌, ◌≤◌, List, [], ◌∷◌, ◌++◌, length, take, drop, get_or, refl, sym, ◌∙◌, ap, arith, min, length-take}
+use Rattle.std.proofs.Common.{◌≡◌, ℕ, zero, suc, ◌+◌, ◌<◌, List, [], ◌∷◌, ◌++◌, length, take, get_or, refl, sym, ◌∙◌, ap, arith, min, length-take}
 use Rattle.std.proofs.lemmas.List.{take_more, append_assoc}
 use Rattle.std.specs.Prelude.{Option}
 use Rattle.xs_instr.specs.declared.image.CoreImage.{CoreImage}
@@ -50,7 +50,7 @@ pub code_lines-more : (xs : List Instr) (ps : List Pos) (i : ℕ) (x : Instr) (p
     code_lines 0 (take (i + 1) xs) (take (i + 1) ps) ≡ code_lines 0 (take i xs) (take i ps) ++ code_line i (get_or xs i x) (get_or ps i p)
 code_lines-more xs ps i x p e h =
     rw (take_more xs i x h, take_more ps i p h', code_lines-last (take i xs) (take i ps) 0 (get_or xs i x) (get_or ps i p) same, length-take i xs, min_is i (length xs) h)
-      (ap (λ n. code_lines 0 (take i xs) (take i ps) ++ code_line n (get_or xs i x) (get_or ps i p)) i_is)
+    (ap (λ n. code_lines 0 (take i xs) (take i ps) ++ code_line n (get_or xs i x) (get_or ps i p)) i_is)
   where
     h' : i < length ps
     h' = omega arith

@@ -7,6 +7,9 @@ use crate::numbers::add_number;
 use xs_instr::{Cond, GetKind, Instr, Reg};
 use xw_io::{Out, Sink};
 
+// What stands between two operands.
+const COMMA: &[u8] = b", ";
+
 // Adds an instruction's name and operands.
 pub fn add_instr<O: Sink>(out: &mut Out<'_, O>, instr: Instr)
     ensures same_sink { out.new.sink.ghost_name ≡ out.old.sink.ghost_name }
@@ -93,9 +96,9 @@ fn three_registers<O: Sink>(out: &mut Out<'_, O>, name: &[u8], a: Reg, b: Reg, c
     out.add(name);
     out.add(b" ");
     add_register(out, a);
-    out.add(b", ");
+    out.add(COMMA);
     add_register(out, b);
-    out.add(b", ");
+    out.add(COMMA);
     add_register(out, c);
 }
 
@@ -107,9 +110,9 @@ fn two_registers_and_number<O: Sink>(out: &mut Out<'_, O>, name: &[u8], a: Reg, 
     out.add(name);
     out.add(b" ");
     add_register(out, a);
-    out.add(b", ");
+    out.add(COMMA);
     add_register(out, b);
-    out.add(b", ");
+    out.add(COMMA);
     add_number(out, n);
 }
 
@@ -121,7 +124,7 @@ fn two_registers<O: Sink>(out: &mut Out<'_, O>, name: &[u8], a: Reg, b: Reg)
     out.add(name);
     out.add(b" ");
     add_register(out, a);
-    out.add(b", ");
+    out.add(COMMA);
     add_register(out, b);
 }
 
@@ -133,7 +136,7 @@ fn register_and_number<O: Sink>(out: &mut Out<'_, O>, name: &[u8], a: Reg, n: u3
     out.add(name);
     out.add(b" ");
     add_register(out, a);
-    out.add(b", ");
+    out.add(COMMA);
     add_number(out, n);
 }
 
@@ -145,7 +148,7 @@ fn register_and_condition<O: Sink>(out: &mut Out<'_, O>, name: &[u8], a: Reg, co
     out.add(name);
     out.add(b" ");
     add_register(out, a);
-    out.add(b", ");
+    out.add(COMMA);
     add_condition(out, cond);
 }
 
@@ -157,7 +160,7 @@ fn register_and_kind<O: Sink>(out: &mut Out<'_, O>, name: &[u8], a: Reg, kind: G
     out.add(name);
     out.add(b" ");
     add_register(out, a);
-    out.add(b", ");
+    out.add(COMMA);
     add_kind(out, kind);
 }
 

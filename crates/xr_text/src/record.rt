@@ -63,7 +63,14 @@ fn add_record_text<O: Sink>(out: &mut Out<'_, O>, r: Record)
 }
 
 // Adds what passed a port, and when.
-fn add_transfer<O: Sink>(out: &mut Out<'_, O>, name: &[u8], core: u8, port: u8, stamp: u16, value: u32)
+fn add_transfer<O: Sink>(
+    out: &mut Out<'_, O>,
+    name: &[u8],
+    core: u8,
+    port: u8,
+    stamp: u16,
+    value: u32,
+)
     ensures same_sink { out.new.sink.ghost_name ≡ out.old.sink.ghost_name }
     ensures drew { Drew O.bytes O.faults out.old out.new (transfer_text name.now core port stamp value) }
 {

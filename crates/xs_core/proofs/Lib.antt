@@ -1,3 +1,4 @@
+pub mod AloneCore
 pub mod BuiltCode
 pub mod PlainCore
 pub mod Starting

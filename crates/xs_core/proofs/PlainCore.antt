@@ -1,5 +1,5 @@
 -- Threads with their event bits off, read and put back.
-use Rattle.std.proofs.Common.{◌≡◌, ℕ, zero, suc, Bool, true, false, not, ◌&&◌, List, [], ◌∷◌, Option, Some, None, length, slice_get, slice_set, refl, ap, ◌∙◌, subst}
+use Rattle.std.proofs.Common.{◌≡◌, ℕ, zero, suc, Bool, true, false, not, List, [], ◌∷◌, Some, length, slice_get, slice_set, refl, ap, ◌∙◌, subst}
 use Rattle.std.proofs.lemmas.Bool.{and_parts, and_from}
 use Rattle.xs_core.specs.Plain.{events_off, IsPlain}
 use Rattle.xs_instr.specs.declared.state.ChanEnd.{ChanEnd}

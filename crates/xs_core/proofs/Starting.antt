@@ -1,6 +1,6 @@
 -- What a core starts with, one item after another; and what an image that can be run says of it.
-use Rattle.std.proofs.Common.{◌≡◌, ℕ, zero, suc, ◌+◌, ◌^◌, ◌<◌, ◌≤◌, Bool, true, false, ◌&&◌, List, [], ◌∷◌, ◌++◌, Option, Some, None, length, take, drop, get_or, nat_eq, slice_get, refl, sym, ap, ◌∙◌, arith, add-one, eqb-true, lit<, lit≤}
-use Rattle.std.proofs.Math.Seq.{drop-cons, take-suc}
+use Rattle.std.proofs.Common.{◌≡◌, ℕ, zero, suc, ◌+◌, ◌^◌, ◌<◌, ◌≤◌, Bool, true, false, List, [], ◌∷◌, ◌++◌, Some, None, length, take, get_or, nat_eq, slice_get, refl, ap, ◌∙◌, arith, add-one, eqb-true}
+use Rattle.std.proofs.Math.Seq.{take-suc}
 use Rattle.std.proofs.lemmas.Bool.{and_parts}
 use Rattle.std.proofs.lemmas.List.{length-replicate}
 use Rattle.xs_core.specs.Built.{all_built, is_built_core, all_built_cores}
@@ -8,8 +8,7 @@ use Rattle.xs_core.specs.Plain.{events_off, IsPlain}
 use Rattle.xs_core.specs.Start.{started}
 use Rattle.xs_instr.specs.declared.image.CoreImage.{CoreImage}
 use Rattle.xs_instr.specs.declared.image.PortDecl.{PortDecl}
-use Rattle.xs_instr.specs.declared.state.ChanEnd.{ChanEnd}
-use Rattle.xs_instr.specs.Machine.{no_parts, parts_by, parts_in, boot_threads, boot_port, boot_ports, boot_core, boot_end}
+use Rattle.xs_instr.specs.Machine.{parts_by, parts_in, boot_threads, boot_port, boot_ports, boot_core, boot_end}
 use Rattle.xs_instr.specs.Valid.{AreGoodCores}
 
 -- the next thread

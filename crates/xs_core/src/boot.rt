@@ -8,15 +8,19 @@ ghost use Rattle.xs_instr.specs.Registers.{no_regs};
 
 use std::alloc::Global;
 use xs_instr::{
-    ChanEnd, Code, Cond, CoreImage, CoreState, Events, Home, Image, Lock, Mode, Port, PortDecl, Regs, Stim, Thread,
-    Timer, Watch,
+    ChanEnd, Code, Cond, CoreImage, CoreState, Events, Home, Image, Lock, Mode, Port, PortDecl,
+    Regs, Stim, Thread, Timer, Watch,
 };
 use xw_words::{List, Memory};
 
 const THREADS: u32 = 8;
+
 const SYNCS: u32 = 7;
+
 const LOCKS: u32 = 4;
+
 const WATCHES: u32 = 32;
+
 const CREDITS: u32 = 8;
 
 /// What no event changes of core `number`, copied.

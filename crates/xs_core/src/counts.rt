@@ -10,6 +10,9 @@ ghost use Rattle.xw_words.specs.Words.{truth};
 use crate::turn;
 use xs_instr::{CoreState, Home, Mode, Thread};
 
+/// How many threads a core has.
+const THREADS: u8 = 8;
+
 /// How many threads are in use.
 pub fn used(threads: &[Thread]) -> u32
     requires { length threads.now ≡ 8 }
@@ -41,7 +44,7 @@ pub fn ready(home: &Home, state: &CoreState) -> u32
     ensures { result ≡ count_true (ready_below home.now state.now 8) }
 {
     let mut count = 0;
-    for t in 0..8 {
+    for t in 0..THREADS {
         count += one_if(turn::can_step(home, state, t));
     }
     count
@@ -54,7 +57,7 @@ pub fn timed(home: &Home, state: &CoreState) -> u32
     ensures { result ≡ count_true (timed_below home.now state.now 8) }
 {
     let mut count = 0;
-    for t in 0..8 {
+    for t in 0..THREADS {
         count += one_if(turn::waits_for_time(home, state, t));
     }
     count

@@ -12,7 +12,14 @@ use xs_instr::{CoreState, Home, Lock, Thread, Trap};
 
 /// OUT on lock `n`: the thread that holds it gives it back. A lock that is not there or not taken, and one that the
 /// thread does not hold, trap.
-pub fn give_back(_home: &Home, state: &mut CoreState, t: u8, thread: Thread, _value: u32, n: u32) -> Outcome
+pub fn give_back(
+    _home: &Home,
+    state: &mut CoreState,
+    t: u8,
+    thread: Thread,
+    _value: u32,
+    n: u32,
+) -> Outcome
     requires { MayGo state.old.threads state.old.ends t thread }
     ensures row { IsRow (out_row _home.now state.old t thread _value (ALock n)) state.old result state.new }
     ensures plain { IsPlain state.new.threads state.new.ends }

@@ -9,15 +9,13 @@ ghost use Rattle.xs_instr.specs.Sight.{sight};
 ghost use Rattle.xs_instr.specs.Slot.{slot, is_ready, last_clock, ticked};
 ghost use Rattle.xs_instr.specs.Valid.{Valid, IsGoodStim};
 
-use crate::boot;
-use crate::counts;
 use crate::did::Did;
-use crate::turn;
+use crate::{boot, counts, turn};
 use std::alloc::Global;
 use xs_instr::{CoreState, Home, Image, Sight, Stim};
 use xw_words::Memory;
 
-/// A core: what no event changes of it, and what events do change.
+/// A core, with built instructions alone and no channel ends. No event changes its home.
 #[derive(Drop)]
 pub struct Core {
     pub home: Home,
@@ -90,3 +88,6 @@ impl Core {
         }
     }
 }
+
+#[cfg(test)]
+mod tests;

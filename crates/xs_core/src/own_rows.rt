@@ -7,12 +7,18 @@ ghost use Rattle.xs_instr.specs.declared.instr.Instr.TheVariants.{Ldc};
 ghost use Rattle.xs_instr.specs.Rows.{row};
 
 use crate::did::Outcome;
-use crate::regs;
-use crate::threads;
+use crate::{regs, threads};
 use xs_instr::{CoreState, Home, Instr, Reg, Thread};
 
 /// LDC: the register is set to the number.
-pub fn load_constant(_home: &Home, state: &mut CoreState, t: u8, thread: Thread, d: Reg, n: u32) -> Outcome
+pub fn load_constant(
+    _home: &Home,
+    state: &mut CoreState,
+    t: u8,
+    thread: Thread,
+    d: Reg,
+    n: u32,
+) -> Outcome
     requires { MayGo state.old.threads state.old.ends t thread }
     ensures row { IsRow (row _home.now state.old t thread (Instr.Ldc d n)) state.old result state.new }
     ensures plain { IsPlain state.new.threads state.new.ends }

@@ -10,12 +10,18 @@ ghost use Rattle.xs_instr.specs.Rows.{out_row, row};
 
 use crate::did::Outcome;
 use crate::names::{Resource, look_up};
-use crate::regs;
-use crate::threads;
+use crate::{regs, threads};
 use xs_instr::{CoreState, Dir, Home, Instr, Port, Record, Reg, Thread, Trap};
 
 /// SETPT: the port's time is set to the low 16 bits of the register.
-pub fn set_time(home: &Home, state: &mut CoreState, t: u8, thread: Thread, r: Reg, s: Reg) -> Outcome
+pub fn set_time(
+    home: &Home,
+    state: &mut CoreState,
+    t: u8,
+    thread: Thread,
+    r: Reg,
+    s: Reg,
+) -> Outcome
     requires { MayGo state.old.threads state.old.ends t thread }
     ensures row { IsRow (row home.now state.old t thread (Instr.Setpt r s)) state.old result state.new }
     ensures plain { IsPlain state.new.threads state.new.ends }
@@ -37,7 +43,14 @@ pub fn set_time(home: &Home, state: &mut CoreState, t: u8, thread: Thread, r: Re
 }
 
 /// OUT on port `p`: the port's bits of the value go out, at once or when the port's counter is its time.
-pub fn output(home: &Home, state: &mut CoreState, t: u8, thread: Thread, value: u32, p: u32) -> Outcome
+pub fn output(
+    home: &Home,
+    state: &mut CoreState,
+    t: u8,
+    thread: Thread,
+    value: u32,
+    p: u32,
+) -> Outcome
     requires { MayGo state.old.threads state.old.ends t thread }
     ensures row { IsRow (out_row home.now state.old t thread value (APort p)) state.old result state.new }
     ensures plain { IsPlain state.new.threads state.new.ends }

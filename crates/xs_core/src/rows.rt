@@ -9,12 +9,8 @@ ghost use Rattle.xs_instr.specs.Rows.{row};
 ghost use Rattle.xs_instr.specs.Sight.{is_timed_instr};
 
 use crate::did::Outcome;
-use crate::lock_rows;
 use crate::names::{Resource, look_up};
-use crate::own_rows;
-use crate::port_rows;
-use crate::regs;
-use crate::thread_rows;
+use crate::{lock_rows, own_rows, port_rows, regs, thread_rows};
 use xs_instr::{CoreState, Home, Instr, Reg, Thread, Trap};
 
 /// What an instruction of thread `t` does.

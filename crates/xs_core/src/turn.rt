@@ -9,8 +9,7 @@ ghost use Rattle.xs_instr.specs.Sight.{is_timed, is_timed_instr, is_timed_thread
 ghost use Rattle.xs_instr.specs.Slot.{slot, fetched, instr_at, pos_at, is_ready};
 
 use crate::did::{Did, Outcome};
-use crate::rows;
-use crate::threads;
+use crate::{rows, threads};
 use xs_instr::{CoreState, Home, Mode, Thread, Trap};
 use xw_words::Pos;
 

@@ -6,6 +6,7 @@ use std::process::Abort;
 use std::test::Fail;
 
 const PORT_1A: u8 = 0;
+
 const PORT_4A: u8 = 16;
 
 /// An instruction that can be compared.
@@ -56,7 +57,11 @@ fn expect_image(rt: &impl Abort, image: &Image, ports: &[PortDecl], lines: &[(Co
     assert_eq!(rt; core.code.instrs.len(), lines.len());
     assert_eq!(rt; core.code.at.len(), lines.len());
     for (i, (instr, place)) in lines.iter().enumerate() {
-        assert_eq!(rt; seen(*core.code.instrs.get(i).expect(rt, "instruction")), *instr, "at {i}");
+        assert_eq!(rt;
+            seen(*core.code.instrs.get(i).expect(rt, "instruction")),
+            *instr,
+            "at {i}"
+        );
         assert_eq!(rt; *core.code.at.get(i).expect(rt, "place"), *place, "at {i}");
     }
 }

@@ -1,6 +1,6 @@
 use Rattle.xs_core.proofs.PlainCore.{plain_put}
 use Rattle.xs_core.proofs.threads.put.Goals as goal
-use Rattle.std.proofs.Common.{◌≡◌, sym, subst}
+use Rattle.std.proofs.Common.{sym, subst}
 use Rattle.xs_core.specs.Plain.{IsPlain}
 
 pub returns-clause-plain : goal.returns-clause-plain

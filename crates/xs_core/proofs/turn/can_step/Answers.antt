@@ -1,4 +1,4 @@
-use Rattle.std.proofs.Common.{◌≡◌, Bool, not, rules, sym, ap, ◌∙◌}
+use Rattle.std.proofs.Common.{rules, sym, ap, ◌∙◌}
 use Rattle.xs_core.proofs.BuiltCode.{slot_is_row}
 use Rattle.xs_core.proofs.turn.can_step.Goals as goal
 use Rattle.xs_instr.specs.Did.{is_step}

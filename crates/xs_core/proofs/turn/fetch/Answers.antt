@@ -1,4 +1,4 @@
-use Rattle.std.proofs.Common.{◌≡◌, ◌<◌, ◌+◌, ◌^◌, Some, length, slice_get, arith, rules}
+use Rattle.std.proofs.Common.{◌≡◌, Some, slice_get, arith, rules}
 use Rattle.std.proofs.lemmas.Option.{slice_get_within}
 use Rattle.xs_core.proofs.BuiltCode.{built_at}
 use Rattle.xs_core.proofs.PlainCore.{bit_off}

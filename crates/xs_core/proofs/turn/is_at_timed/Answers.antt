@@ -1,4 +1,4 @@
-use Rattle.std.proofs.Common.{◌≡◌, rules, sym, ◌∙◌}
+use Rattle.std.proofs.Common.{rules, sym, ◌∙◌}
 use Rattle.xs_core.proofs.BuiltCode.{timed_is_instr}
 use Rattle.xs_core.proofs.turn.is_at_timed.Goals as goal
 
