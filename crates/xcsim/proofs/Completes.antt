@@ -1,15 +1,15 @@
 -- Where nothing fails, each cause has its status, or memory is wanting.
-use Rattle.std.proofs.Common.{◌≡◌, ◌⊎◌, ℕ, ◌<◌, ◌≤◌, List, [], length, refl, sym, ap, ◌∙◌, subst, inl, inr, arith}
+use Rattle.std.proofs.Common.{◌≡◌, ◌⊎◌, ℕ, ◌<◌, ◌≤◌, List, [], length, refl, sym, subst, inl, inr, arith}
 use Rattle.std.specs.Prelude.{Option, Some, None}
-use Rattle.xw_io.specs.Outside.{Rose, WhereTold, IsFileOf, found, max_file}
+use Rattle.xw_io.specs.Outside.{WhereTold, IsFileOf, found, max_file}
 use Rattle.xw_io.specs.declared.file.File.{File}
 use Rattle.xc_meaning.specs.declared.program.Program.{Program}
 use Rattle.xc_form.specs.Form.{IsText}
 use Rattle.xcsim.specs.Answers.{Answers, Decided, no_command, missing, too_long, read_fault, refused, assembled, ran, no_memory, Delivered, whole, out_fell, err_fell, Outcome}
-use Rattle.xcsim.specs.Causes.{AllCauses, Assembled, Completes, DoneWith, NoFault, Ran}
+use Rattle.xcsim.specs.Causes.{AllCauses, Completes, DoneWith, NoFault}
 use Rattle.xcsim.specs.Command.{Command, Run, Asm, file_of, means}
 use Rattle.xcsim.specs.Outside.{Loads, Span, Gained}
-use Rattle.xcsim.specs.Runs.{IsCompiled, IsOther}
+use Rattle.xcsim.specs.Runs.{IsOther}
 
 none_some : {A : Type 0} (o : Option A) (x : A) → o ≡ None → o ≡ Some x → ⊥
 none_some o x p q = absurd (cc)

@@ -1,5 +1,5 @@
 -- Each status comes only with its cause.
-use Rattle.std.proofs.Common.{◌≡◌, ◌⊎◌, ◌≤◌, ℕ, Bool, true, false, List, [], refl, inl, inr, arith}
+use Rattle.std.proofs.Common.{◌≡◌, ◌⊎◌, ◌≤◌, ℕ, Bool, true, false, List, refl, inl, inr, arith}
 use Rattle.xs_instr.specs.declared.trace.EndWord.{EndWord}
 use Rattle.xs_instr.specs.declared.trace.EndWord.TheVariants.{Finished, Trapped, Stuck, Stopped}
 use Rattle.xcsim.specs.Answers.{Answers, Decided, no_command, missing, too_long, read_fault, refused, assembled, ran, no_memory, Delivered, whole, out_fell, err_fell, Outcome, status_of_run}

@@ -1,5 +1,5 @@
 -- What the program answers: what is decided, and how it is delivered.
-use Rattle.std.specs.Prelude.{◌≡◌, ◌≢◌, ℕ, Bool, true, false, List, [], Option, Some, None}
+use Rattle.std.specs.Prelude.{◌≡◌, ◌≢◌, ℕ, Bool, true, false, List, [], Some, None}
 use Rattle.xw_io.specs.Outside.{Rose, IsFileOf, IsMissing, IsTooLong}
 use Rattle.xs_instr.specs.declared.image.Image.{Image}
 use Rattle.xs_instr.specs.declared.trace.EndWord.{EndWord}

@@ -1,5 +1,5 @@
 -- When each status comes, and what comes where nothing fails.
-use Rattle.std.specs.Prelude.{◌≡◌, ◌⊎◌, ◌<◌, ◌≤◌, ℕ, Bool, List, [], length, Option, Some, None}
+use Rattle.std.specs.Prelude.{◌≡◌, ◌⊎◌, ◌<◌, ◌≤◌, ℕ, Bool, List, [], length, Some, None}
 use Rattle.xw_io.specs.Outside.{Rose, IsFileOf, IsMissing, IsTooLong, found, max_file}
 use Rattle.xw_io.specs.declared.file.File.{File}
 use Rattle.xs_instr.specs.declared.image.Image.{Image}

@@ -1,5 +1,5 @@
 -- What the words of the command line mean.
-use Rattle.std.specs.Prelude.{ℕ, ◌&&◌, Bool, true, false, not, List, [], ◌∷◌, codes, bytes_eq, nat_eq, Option, Some, None, if◌then◌else◌}
+use Rattle.std.specs.Prelude.{ℕ, ◌&&◌, Bool, false, not, List, [], ◌∷◌, codes, bytes_eq, nat_eq, Option, Some, None, if◌then◌else◌}
 
 -- what the program is asked to do
 pub data Command : Type 0 where

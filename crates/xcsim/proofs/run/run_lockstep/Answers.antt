@@ -1,6 +1,5 @@
-use Rattle.std.proofs.Common.{◌≡◌, List, subst, ◌∙◌, ap}
+use Rattle.std.proofs.Common.{List, subst, ◌∙◌}
 use Rattle.xs_instr.specs.declared.image.StimLine.{StimLine}
-use Rattle.xs_fabric.specs.Lockstep.{rounds_at}
 use Rattle.xs_fabric.specs.Seen.{IsBooted, state_of}
 use Rattle.xcsim.specs.Runs.{no_stim}
 use Rattle.xcsim.proofs.Rounds.{next_round, no_round}
