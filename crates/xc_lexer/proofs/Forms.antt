@@ -1,11 +1,11 @@
 -- `#` lines: a line has at most one form, and ends in one way.
-use Rattle.std.proofs.Common.{◌≡◌, ℕ, ◌+◌, ◌<◌, ◌≤◌, Bool, true, false, ◌||◌, is_some, inl, inr, Option, None, Some, IfNone, List, length, get_or, take, drop, codes, refl, sym, ap, subst, ◌∙◌, arith}
+use Rattle.std.proofs.Common.{◌≡◌, ℕ, ◌+◌, ◌<◌, Bool, true, false, ◌||◌, is_some, inl, inr, Option, None, Some, IfNone, List, length, get_or, drop, codes, refl, sym, ap, subst, ◌∙◌, arith}
 use Rattle.std.proofs.lemmas.List.{get_or-drop, get_or-take}
 use Rattle.xc_tree.specs.declared.lexing.Start.{Start}
 use Rattle.xc_tree.specs.declared.lexing.Start.TheVariants.{End, Blank, LineEnd, LineComment, BlockComment, Hash, Letter, Digit, Other}
 use Rattle.xc_tree.specs.Bytes.{byte, start_at, part, Span, Stands, is_blank, is_of_word, is_letter, is_digit}
 use Rattle.xc_tree.specs.Places.{pos_at}
-use Rattle.xc_tree.specs.HashLines.{Header, Include, Define, Ending, ends, unclosed, TailStep, TailStop, Tail, stop, step}
+use Rattle.xc_tree.specs.HashLines.{Header, Include, Define, Ending, TailStep, TailStop, Tail, stop, step}
 use Rattle.xc_lexer.proofs.Spans.{span_one, closed_one, not_both}
 
 -- a byte of a row of bytes that stands at a place

@@ -1,5 +1,5 @@
 -- The pieces of a text: at a place there is one, and it goes on.
-use Rattle.std.proofs.Common.{◌≡◌, ℕ, ◌+◌, ◌-◌, ◌<◌, ◌≤◌, Bool, true, false, ◌&&◌, ◌||◌, if◌then◌else◌, nat_eq, inl, inr, Option, Some, None, List, [], ◌∷◌, ◌++◌, length, refl, sym, ap, subst, ◌∙◌, arith, get_or}
+use Rattle.std.proofs.Common.{◌≡◌, ℕ, ◌+◌, ◌<◌, ◌≤◌, Bool, true, false, ◌&&◌, ◌||◌, if◌then◌else◌, nat_eq, inl, inr, Option, Some, None, List, [], ◌∷◌, ◌++◌, length, refl, sym, ap, subst, ◌∙◌, arith}
 use Rattle.std.proofs.lemmas.Bool.{cases_order, eqb-true}
 use Rattle.std.proofs.lemmas.List.{get_or_past}
 use Rattle.xc_tree.specs.declared.token.Tok.{Tok}
@@ -10,10 +10,10 @@ use Rattle.xc_tree.specs.declared.lexing.Start.TheVariants.{End, Blank, LineEnd,
 use Rattle.xc_tree.specs.declared.lexing.Reading.{Reading}
 use Rattle.xc_tree.specs.declared.lexing.Reading.TheVariants.{Formless, TooLarge, Fine}
 use Rattle.xc_tree.specs.Numbers.{reading}
-use Rattle.xc_tree.specs.Bytes.{byte, start_at, start_of, part, Span, ClosedAt, Unclosed, is_of_word, is_in_line, is_letter, is_digit, is_blank}
-use Rattle.xc_tree.specs.Tables.{place_in, symbols, Longest, NoSymbol}
-use Rattle.xc_tree.specs.HashLines.{Ending, ends, unclosed, TailStep, TailStop, Tail, stop, step, Include, Define, NoForm}
-use Rattle.xc_tree.specs.Pieces.{Stand, go_on, Fault, fault, token, number_token, number_faults, kind_of_word, ending_faults, again_faults, define, IncludeLine, DefineLine, HashLine, HashAt, PieceOf, Piece}
+use Rattle.xc_tree.specs.Bytes.{byte, start_at, start_of, part, is_of_word, is_in_line, is_letter, is_digit, is_blank}
+use Rattle.xc_tree.specs.Tables.{place_in, symbols, Longest}
+use Rattle.xc_tree.specs.HashLines.{Ending, ends, unclosed, TailStep, TailStop, Tail, stop, step, Include, Define}
+use Rattle.xc_tree.specs.Pieces.{Stand, go_on, Fault, token, number_token, number_faults, kind_of_word, ending_faults, again_faults, define, IncludeLine, DefineLine, HashLine, HashAt, PieceOf, Piece}
 use Rattle.xc_lexer.specs.Steps.{Each}
 use Rattle.xc_lexer.proofs.Spans.{span_one, closed_one, not_both, longer, inside}
 use Rattle.xc_lexer.proofs.Symbols.{longest_after}

@@ -1,5 +1,4 @@
 -- What the names defined so far stand for.
-use Rattle.std.specs.Prelude.{List, ℕ}
 use Rattle.std.specs.Ordering.{nat_cmp}
 use Rattle.std.specs.Cmp.Lexicographic.{slice_cmp}
 use Rattle.std.specs.BTreeMap.{get_by}

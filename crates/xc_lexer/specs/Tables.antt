@@ -1,5 +1,5 @@
 -- Rows of bytes in tables.
-use Rattle.std.specs.Prelude.{ℕ, ◌+◌, if◌then◌else◌, List, [], ◌∷◌, length, Option, None, nat_le}
+use Rattle.std.specs.Prelude.{ℕ, if◌then◌else◌, List, [], ◌∷◌, length, Option, None, nat_le}
 use Rattle.std.specs.Borrow.{Bor}
 use Rattle.xc_tree.specs.Bytes.{part}
 use Rattle.xc_tree.specs.Tables.{place_in, symbols}

@@ -1,5 +1,5 @@
 -- Where the pieces of a text stand.
-use Rattle.std.specs.Prelude.{◌≡◌, ℕ, ◌+◌, ◌<◌, ◌&&◌, Bool, nat_le, nat_lt, List, [], ◌∷◌, count_by}
+use Rattle.std.specs.Prelude.{◌≡◌, ℕ, ◌<◌, ◌&&◌, Bool, nat_le, nat_lt, List, [], ◌∷◌, count_by}
 use Rattle.xc_tree.specs.declared.token.Tok.{Tok}
 use Rattle.xc_tree.specs.Pieces.{Stand, Fault}
 use Rattle.xc_tree.specs.Lexes.{Leads, here, onward}

@@ -1,7 +1,7 @@
 -- The lines that begin with `#`: the forms of a `#include` and of a `#define`, and what may follow them in their line.
 use Rattle.std.specs.Prelude.{◌≡◌, ℕ, ◌+◌, ◌<◌, true, List, length, None, codes, ◌⊎◌}
 use Rattle.xc_tree.specs.declared.lexing.Start.{Start}
-use Rattle.xc_tree.specs.declared.lexing.Start.TheVariants.{End, Blank, LineEnd, LineComment, BlockComment, Hash, Letter, Digit, Other}
+use Rattle.xc_tree.specs.declared.lexing.Start.TheVariants.{End, Blank, LineEnd, LineComment, BlockComment}
 use Rattle.xc_tree.specs.Bytes.{byte, start_at, part, Span, ClosedAt, Unclosed, Stands, is_of_word, is_blank, is_in_line, is_letter, is_digit}
 use Rattle.xc_tree.specs.Places.{pos_at}
 use Rattle.xc_tree.specs.Tables.{place_in, words}

@@ -48,3 +48,6 @@ fn main(rt: HostRuntime) -> ExitCode {
         &OpenGate,
     ))
 }
+
+#[cfg(test)]
+mod tests;

@@ -1,7 +1,6 @@
 -- Nothing comes over links that are empty.
-use Rattle.std.proofs.Common.{◌≡◌, ℕ, zero, suc, ◌+◌, ◌<◌, List, [], ◌∷◌, refl, arith}
-use Rattle.xs_instr.specs.declared.state.Item.{Item}
-use Rattle.xs_instr.specs.Machine.{no_links, link_of}
+use Rattle.std.proofs.Common.{◌≡◌, ℕ, zero, suc, ◌<◌, [], refl, arith}
+use Rattle.xs_instr.specs.Machine.{no_links}
 use Rattle.xs_fabric.specs.Lockstep.{due_from, late_from}
 
 pub due_from-no_links : (c clock : ℕ) → c < 4 → due_from no_links c clock 4 ≡ []

@@ -1,17 +1,15 @@
 -- A core's part of a round, where nothing is on a link.
-use Rattle.std.proofs.Common.{◌≡◌, ℕ, suc, ◌+◌, ◌<◌, List, [], ◌∷◌, ◌++◌, length, Option, Some, None, refl, sym, ap, ◌∙◌, subst, add-one, arith}
+use Rattle.std.proofs.Common.{◌≡◌, ℕ, ◌+◌, ◌<◌, List, [], ◌++◌, length, Some, refl, sym, ap, ◌∙◌, add-one, arith}
 use Rattle.std.specs.Prelude.{slice_get, slice_set, nat_lt}
 use Rattle.xs_instr.specs.declared.image.Home.{Home}
 use Rattle.xs_instr.specs.declared.image.Image.{Image}
 use Rattle.xs_instr.specs.declared.image.Stim.{Stim}
 use Rattle.xs_instr.specs.declared.state.CoreState.{CoreState}
-use Rattle.xs_instr.specs.declared.state.Item.{Item}
-use Rattle.xs_instr.specs.declared.state.Sent.{Sent}
 use Rattle.xs_instr.specs.declared.trace.Record.{Record}
 use Rattle.xs_instr.specs.Machine.{Machine, home_of, no_links, on_links}
 use Rattle.xs_instr.specs.Slot.{last_clock}
 use Rattle.xw_words.specs.Words.{truth}
-use Rattle.xs_fabric.specs.Lockstep.{Part, all_came, core_round, due_from, late_from, events_in, events_there, part_at, put_part, round_at, round_there, rounds_at, steps_in, tick_once, turns}
+use Rattle.xs_fabric.specs.Lockstep.{Part, all_came, core_round, late_from, events_in, events_there, part_at, put_part, round_at, round_there, rounds_at, steps_in, tick_once, turns}
 use Rattle.xs_fabric.specs.Parts.{part, round_events}
 use Rattle.xs_fabric.proofs.Lists.{append_nothing}
 use Rattle.xs_fabric.proofs.Quiet.{due_from-no_links, late_from-no_links}

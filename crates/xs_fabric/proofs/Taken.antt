@@ -1,15 +1,14 @@
 -- A turn that was taken is the turn of the definitions, and an event of the machine.
-use Rattle.std.proofs.Common.{◌≡◌, ℕ, ◌≤◌, Bool, true, false, List, [], ◌∷◌, ◌++◌, length, Option, Some, None, refl, sym, ap, ◌∙◌, subst, arith}
+use Rattle.std.proofs.Common.{◌≡◌, ℕ, true, false, List, [], ◌∷◌, ◌++◌, Option, Some, None, refl, sym, ap, ◌∙◌, subst}
 use Rattle.std.specs.Prelude.{slice_get, slice_set}
 use Rattle.xs_instr.specs.declared.image.Home.{Home}
 use Rattle.xs_instr.specs.declared.state.CoreState.{CoreState}
 use Rattle.xs_instr.specs.declared.state.Sent.{Sent}
-use Rattle.xs_instr.specs.declared.state.Thread.{Thread}
 use Rattle.xs_instr.specs.declared.trace.Record.{Record}
 use Rattle.xs_instr.specs.declared.trace.Record.TheVariants.{Fault}
 use Rattle.xs_instr.specs.Did.{Did, Made, Paused, Traps, Idle, is_step}
-use Rattle.xs_instr.specs.Machine.{Machine as State, no_links, noted, on_links, step_at, stepped}
-use Rattle.xs_instr.specs.Slot.{fault_of, slot, trapped, turn_at}
+use Rattle.xs_instr.specs.Machine.{no_links, noted, on_links, step_at, stepped}
+use Rattle.xs_instr.specs.Slot.{slot, trapped, turn_at}
 use Rattle.xs_core.specs.declared.did.Did.{Did as Answer}
 use Rattle.xs_core.specs.declared.did.Did.TheVariants.{Made as DidMake, Paused as DidPause, Trapped as DidTrap, Idle as DidRest}
 use Rattle.xs_core.specs.Turn.{IsTurn}
@@ -17,7 +16,6 @@ use Rattle.xs_fabric.specs.declared.machine.Event.TheVariants.{Done, NotEnabled}
 use Rattle.xs_fabric.specs.Lockstep.{Part, after, turn}
 use Rattle.xs_fabric.specs.Parts.{part}
 use Rattle.xs_fabric.specs.Seen.{IsEvent}
-use Rattle.xs_fabric.proofs.Among.{none_past}
 use Rattle.xs_fabric.proofs.Lists.{set_same}
 use Rattle.xs_fabric.proofs.Rounds.{still}
 

@@ -1,10 +1,9 @@
 -- Steps and rounds of a core among the four.
-use Rattle.std.proofs.Common.{◌≡◌, ℕ, ◌+◌, ◌<◌, ◌≤◌, Bool, true, false, List, map, length, Option, Some, None, refl, sym, ap, ◌∙◌, subst, arith}
+use Rattle.std.proofs.Common.{◌≡◌, ℕ, ◌+◌, ◌<◌, ◌≤◌, Bool, true, false, List, map, length, Some, refl, sym, ap, ◌∙◌, subst, arith}
 use Rattle.std.specs.Prelude.{slice_get, slice_set}
 use Rattle.xs_instr.specs.declared.image.Home.{Home}
 use Rattle.xs_instr.specs.declared.image.Image.{Image}
 use Rattle.xs_instr.specs.declared.image.Stim.{Stim}
-use Rattle.xs_instr.specs.declared.state.CoreState.{CoreState}
 use Rattle.xs_instr.specs.declared.trace.Record.{Record}
 use Rattle.xs_instr.specs.Did.{is_step}
 use Rattle.xs_instr.specs.Machine.{Machine as State, home_of, step_at}

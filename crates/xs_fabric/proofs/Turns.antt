@@ -1,5 +1,5 @@
 -- What the turns of a round leave does not depend on what was recorded before, and they follow each other.
-use Rattle.std.proofs.Common.{◌≡◌, ◌≤◌, Bool, true, false, ℕ, zero, suc, ◌+◌, List, [], ◌∷◌, ◌++◌, Option, Some, None, refl, sym, ap, ◌∙◌, append_assoc, add-one, arith}
+use Rattle.std.proofs.Common.{◌≡◌, ◌≤◌, Bool, true, false, ℕ, zero, suc, ◌+◌, List, [], ◌∷◌, ◌++◌, Some, None, refl, ap, ◌∙◌, append_assoc, add-one, arith}
 use Rattle.xs_instr.specs.declared.image.Home.{Home}
 use Rattle.xs_instr.specs.declared.state.CoreState.{CoreState}
 use Rattle.xs_instr.specs.declared.trace.Record.{Record}
@@ -7,7 +7,6 @@ use Rattle.xs_instr.specs.Did.{Did, Made, Paused, Traps, Idle}
 use Rattle.xs_instr.specs.Slot.{slot, is_ready, fault_of}
 use Rattle.xw_words.specs.Words.{truth}
 use Rattle.xs_fabric.specs.Lockstep.{Part, after, turn, turns, steps_in}
-use Rattle.xs_fabric.proofs.Lists.{append_nothing}
 
 -- the part with records in front of its own
 abbrev pub behind : List Record → Part → Part

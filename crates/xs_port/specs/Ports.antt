@@ -7,7 +7,7 @@ use Rattle.xs_instr.specs.declared.state.Port.{Port}
 use Rattle.xs_instr.specs.declared.state.PortGot.{PortGot}
 use Rattle.xs_instr.specs.declared.trace.Record.TheVariants.{PortOut}
 use Rattle.xs_instr.specs.Did.{Did, Given, Made, Paused}
-use Rattle.xs_instr.specs.Machine.{boot_port, boot_ports, no_parts}
+use Rattle.xs_instr.specs.Machine.{boot_port, no_parts}
 use Rattle.xs_instr.specs.Ports.{got_record}
 use Rattle.xs_port.specs.Seen.{Seen}
 

@@ -39,7 +39,8 @@ impl Ports {
     ) -> Result<Ports, Memory>
         requires ports { AreGoodPorts decls.now }
         requires stim { IsGoodStim stim.now }
-        ensures { IfOk result (λ ports. ports ≡ boot_seen (boot_ports decls.now) stim.now.lines core) }
+        ensures boot { IfOk result (λ ports. ports ≡ boot_seen (boot_ports decls.now) stim.now.lines core) }
+        ensures count { IfOk result (λ ports. length ports.ports ≡ length decls.now) }
     {
         let ports = booted(alloc, decls.as_slice())?;
         let pins = Pins::new(alloc, stim, core)?;
@@ -271,7 +272,8 @@ fn fresh(decl: PortDecl) -> Port
 
 // The ports as they start.
 fn booted(alloc: Global, decls: &[PortDecl]) -> Result<List<Port>, Memory>
-    ensures { IfOk result (λ ports. ports ≡ boot_ports decls.now) }
+    ensures boot { IfOk result (λ ports. ports ≡ boot_ports decls.now) }
+    ensures count { IfOk result (λ ports. length ports ≡ length decls.now) }
 {
     let mut ports = List::new(alloc);
     for decl in decls {

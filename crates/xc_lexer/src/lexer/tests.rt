@@ -1,5 +1,6 @@
 use super::lex;
 use std::alloc::{AllocError, Global};
+use std::process::Abort;
 use std::test::Fail;
 use xc_tree::{Kind, SYMBOLS, Tok, WORDS};
 
@@ -198,29 +199,41 @@ const TABLE: [(&[u8], &str); 99] = [
     (b"#define N 1\n#define N 2 /*", "2:1: rule 104 is broken"),
 ];
 
-#[test]
-fn texts(rt: HostRuntime) -> Result<(), Fail> {
-    for (text, wanted) in TABLE {
-        let found = shown(rt.alloc(), text)?;
-        assert_eq!(rt; found.as_str(), wanted);
+/// Each text lexes to what is wanted.
+fn each_lexes(rt: &impl Abort, alloc: Global, table: &[(&[u8], &str)]) -> Result<(), AllocError> {
+    for (text, wanted) in table {
+        let found = shown(alloc, text)?;
+        assert_eq!(rt; found.as_str(), *wanted);
+    }
+    Ok(())
+}
+
+/// Each row of bytes is one token, which is shown as itself behind `kind`.
+fn each_is_token(
+    rt: &impl Abort,
+    alloc: Global,
+    table: &[&[u8]],
+    kind: &str,
+) -> Result<(), AllocError> {
+    for spelled in table {
+        let mut wanted = String::from_str(alloc, kind)?;
+        put(&mut wanted, spelled)?;
+        let found = shown(alloc, spelled)?;
+        assert_eq!(rt; found.as_str(), wanted.as_str());
     }
     Ok(())
 }
 
 #[test]
+fn texts(rt: HostRuntime) -> Result<(), Fail> {
+    each_lexes(&rt, rt.alloc(), &TABLE)?;
+    Ok(())
+}
+
+#[test]
 fn all_words_and_symbols(rt: HostRuntime) -> Result<(), Fail> {
-    for word in WORDS {
-        let mut wanted = String::from_str(rt.alloc(), "1:1 word ")?;
-        put(&mut wanted, word)?;
-        let found = shown(rt.alloc(), word)?;
-        assert_eq!(rt; found.as_str(), wanted.as_str());
-    }
-    for symbol in SYMBOLS {
-        let mut wanted = String::from_str(rt.alloc(), "1:1 ")?;
-        put(&mut wanted, symbol)?;
-        let found = shown(rt.alloc(), symbol)?;
-        assert_eq!(rt; found.as_str(), wanted.as_str());
-    }
+    each_is_token(&rt, rt.alloc(), &WORDS, "1:1 word ")?;
+    each_is_token(&rt, rt.alloc(), &SYMBOLS, "1:1 ")?;
     Ok(())
 }
 

@@ -1,13 +1,11 @@
-use Rattle.std.proofs.Common.{◌≡◌, ℕ, ◌<◌, ◌++◌, [], None, Some, false, refl, sym, ap, subst, ◌∙◌, length, arith, append-nil}
-use Rattle.xw_words.specs.declared.pos.Pos.{Pos}
+use Rattle.std.proofs.Common.{◌++◌, [], None, Some, false, refl, sym, ap, subst, ◌∙◌, length, arith, append-nil}
 use Rattle.xc_tree.specs.declared.lexing.Reading.TheVariants.{Formless, TooLarge, Fine}
 use Rattle.xc_tree.specs.Numbers.{reading}
 use Rattle.xc_tree.specs.Bytes.{part}
 use Rattle.xc_tree.specs.HashLines.{ends, unclosed}
-use Rattle.xc_tree.specs.Pieces.{Numbers, number_faults, ending_faults, fault, Piece}
+use Rattle.xc_tree.specs.Pieces.{Numbers, number_faults, ending_faults, Piece}
 use Rattle.xc_lexer.specs.Lines.{TailIs}
-use Rattle.xc_lexer.specs.Names.{numbers_of}
-use Rattle.xc_lexer.specs.Steps.{stand, IfBroken, FirstOf, Each}
+use Rattle.xc_lexer.specs.Steps.{stand, IfBroken, FirstOf}
 use Rattle.xc_lexer.proofs.Forms.{no_some}
 use Rattle.xc_lexer.proofs.Pieces.{each_append, each_map, number_after, From}
 use Rattle.xc_lexer.proofs.Outcomes.{Ended, ended, later_than, define_piece, breaks, went, some_of}

@@ -1,7 +1,6 @@
-use Rattle.std.proofs.Common.{[], inl, refl, sym, ap, subst, length, arith}
+use Rattle.std.proofs.Common.{[], inl, refl, sym, ap, subst, length}
 use Rattle.xc_tree.specs.HashLines.{unclosed}
 use Rattle.xc_tree.specs.Pieces.{fault, go_on}
-use Rattle.xc_lexer.specs.declared.lexer.LexErr.TheVariants as err
 use Rattle.xc_lexer.specs.Lines.{TailIs}
 use Rattle.xc_lexer.specs.Steps.{stand, IfBroken, FirstOf}
 use Rattle.xc_lexer.proofs.Outcomes.{hash_line, breaks}

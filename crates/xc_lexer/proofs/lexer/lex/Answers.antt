@@ -1,9 +1,8 @@
-use Rattle.std.proofs.Common.{true, None, refl, sym, subst, arith, List, ℕ}
+use Rattle.std.proofs.Common.{true, refl, sym, subst, arith}
 use Rattle.xc_tree.specs.Places.{pos_behind}
 use Rattle.xc_tree.specs.Pieces.{Numbers, Stand}
-use Rattle.xc_tree.specs.Lexes.{beginning, Lexes}
-use Rattle.xc_lexer.specs.Names.{numbers_of}
-use Rattle.xc_lexer.specs.Steps.{IfBroken, broken_map}
+use Rattle.xc_tree.specs.Lexes.{beginning}
+use Rattle.xc_lexer.specs.Steps.{broken_map}
 use Rattle.xc_lexer.proofs.Rows.{SoFar, start, lexes, tokens_one, tokens_unbroken, went_on, first_broken}
 use Rattle.xc_lexer.proofs.lexer.lex.Goals as goal
 

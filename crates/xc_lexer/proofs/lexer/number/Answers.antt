@@ -1,14 +1,11 @@
-use Rattle.std.proofs.Common.{◌≡◌, ℕ, ◌+◌, ◌<◌, ◌∷◌, ◌++◌, [], length, refl, sym, ap, ◌∙◌, arith, length-take, length-drop}
+use Rattle.std.proofs.Common.{ℕ, ◌+◌, ◌∷◌, ◌++◌, [], sym, ap, ◌∙◌, arith, length-take, length-drop}
 use Rattle.xw_words.specs.declared.pos.Pos.{Pos}
 use Rattle.xc_tree.specs.declared.token.Tok.{Tok}
 use Rattle.xc_tree.specs.declared.token.Kind.TheVariants.{Num}
 use Rattle.xc_tree.specs.declared.lexing.Start.TheVariants.{Digit}
-use Rattle.xc_tree.specs.declared.lexing.Reading.{Reading}
 use Rattle.xc_tree.specs.declared.lexing.Reading.TheVariants.{Formless, TooLarge, Fine}
-use Rattle.xc_tree.specs.Numbers.{reading}
-use Rattle.xc_tree.specs.Bytes.{byte, part}
-use Rattle.xc_tree.specs.Places.{pos_at}
-use Rattle.xc_tree.specs.Pieces.{number_token, number_faults, go_on}
+use Rattle.xc_tree.specs.Bytes.{byte}
+use Rattle.xc_tree.specs.Pieces.{number_token, go_on}
 use Rattle.xc_lexer.specs.Steps.{stand}
 use Rattle.xc_lexer.proofs.Spans.{longer, inside}
 use Rattle.xc_lexer.proofs.Pieces.{starts_digit}

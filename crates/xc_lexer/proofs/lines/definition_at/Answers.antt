@@ -1,4 +1,4 @@
-use Rattle.std.proofs.Common.{◌≡◌, ℕ, ◌+◌, ◌<◌, ◌≤◌, true, None, sym, refl, subst, ◌∙◌, arith}
+use Rattle.std.proofs.Common.{◌≡◌, ℕ, ◌+◌, true, sym, refl, subst, ◌∙◌, arith}
 use Rattle.xc_tree.specs.Bytes.{Span, is_blank, byte, is_digit}
 use Rattle.xc_lexer.proofs.Spans.{longer}
 use Rattle.xc_lexer.proofs.Forms.{no_some, digit_of_word}

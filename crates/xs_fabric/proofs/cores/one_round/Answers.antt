@@ -1,9 +1,9 @@
-use Rattle.std.proofs.Common.{◌≡◌, ◌+◌, ℕ, ap, ◌∙◌, refl, subst, arith}
+use Rattle.std.proofs.Common.{◌≡◌, ap, ◌∙◌, subst, arith}
 use Rattle.std.specs.Prelude.{nat_lt}
 use Rattle.xs_instr.specs.declared.image.Home.{Home}
 use Rattle.xs_instr.specs.Slot.{is_ready, last_clock}
 use Rattle.xw_words.specs.Words.{truth}
-use Rattle.xs_fabric.specs.Lockstep.{steps_in, tick_once, turn}
+use Rattle.xs_fabric.specs.Lockstep.{tick_once, turn}
 use Rattle.xs_fabric.specs.Parts.{part}
 use Rattle.xs_fabric.proofs.Turns.{no_turns, sum_next, sum_start, truth_few, turns_next}
 use Rattle.xs_fabric.proofs.cores.one_round.Goals as goal

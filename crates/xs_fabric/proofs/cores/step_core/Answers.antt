@@ -1,6 +1,5 @@
-use Rattle.std.proofs.Common.{◌≡◌, ◌<◌, ◌≤◌, length, refl, sym, ◌∙◌, arith}
+use Rattle.std.proofs.Common.{◌≡◌, ◌<◌, length, refl, sym, ◌∙◌, arith}
 use Rattle.std.proofs.lemmas.Option.{slice_get_read}
-use Rattle.std.specs.Prelude.{slice_get, Some}
 use Rattle.xs_fabric.proofs.Among.{same_homes}
 use Rattle.xs_fabric.proofs.Together.{core_stays, core_steps, no_core_step, no_thread_step}
 use Rattle.xs_fabric.proofs.cores.step_core.Goals as goal

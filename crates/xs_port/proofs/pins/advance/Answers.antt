@@ -1,6 +1,5 @@
-use Rattle.std.proofs.Common.{◌≡◌, ◌<◌, ℕ, List, drop, length, set, get_or, subst, sym, ap, arith}
+use Rattle.std.proofs.Common.{ℕ, length, ap, arith}
 use Rattle.std.proofs.lemmas.List.{length-set}
-use Rattle.xs_port.specs.Lines.{Used}
 use Rattle.xs_port.proofs.LineLemmas.{good_next, next_own, next_far, late_from, none_from}
 use Rattle.xs_port.proofs.pins.advance.Goals as goal
 use Rattle.xs_port.proofs.pins.advance.Goals.{then-line-core, else-line-core}

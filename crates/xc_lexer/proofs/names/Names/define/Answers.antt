@@ -1,7 +1,6 @@
 use Rattle.std.proofs.Common.{◌≡◌, ℕ, List, Some, if◌then◌else◌, sym, ap, ◌∙◌}
 use Rattle.std.specs.Prelude.{bytes_eq}
 use Rattle.std.specs.Cmp.Lexicographic.{texts_ties}
-use Rattle.xc_tree.specs.Pieces.{defined}
 use Rattle.xc_lexer.specs.Names.{numbers_of}
 use Rattle.xc_lexer.proofs.names.Names.define.Goals as goal
 

@@ -1,4 +1,4 @@
-use Rattle.std.proofs.Common.{ap, ◌∙◌}
+use Rattle.std.proofs.Common.{ap}
 use Rattle.std.specs.Prelude.{nat_eq, not}
 use Rattle.xs_fabric.specs.EndWord.{has_trap}
 use Rattle.xs_fabric.proofs.Ends.{sums}
