@@ -8,7 +8,8 @@ ghost use Rattle.xc_tree.specs.Places.{pos_at};
 ghost use Rattle.xc_tree.specs.Lexes.{Lexes, FirstBroken, Breaks};
 ghost use Rattle.xc_lexer.specs.Lines.{DefineIs, TailIs};
 ghost use Rattle.xc_lexer.specs.Places.{IsPlace};
-ghost use Rattle.xc_lexer.specs.Steps.{Went, IfBroken, FirstOf};
+ghost use Rattle.xc_lexer.specs.Errors.{IfBroken};
+ghost use Rattle.xc_lexer.specs.Steps.{Went, FirstOf};
 
 use crate::lines::{Definition, Ending, definition_at, include_end, tail};
 use crate::names::Names;
@@ -45,7 +46,7 @@ impl From<Memory> for LexErr {
 
 /// How far a text has been read.
 #[derive(Drop)]
-pub struct State<'a> {
+struct State<'a> {
     place: Place,
     /// Whether only blanks stand before in the line.
     fresh: bool,
