@@ -1,29 +1,23 @@
 -- What is seen of a machine from outside: counts of threads, the end word, and what `show` tells.
-use Rattle.std.specs.Prelude.{ℕ, zero, suc, ◌+◌, Bool, true, false, not, ◌&&◌, ◌||◌, List, [], ◌∷◌, Option, Some, None, nat_eq, slice_get}
-use Rattle.xs_instr.specs.declared.image.Image.{Image}
-use Rattle.xs_instr.specs.declared.image.Stim.{Stim}
+use Rattle.std.specs.Prelude.{ℕ, zero, suc, ◌+◌, Bool, true, false, not, ◌&&◌, ◌||◌, List, [], ◌∷◌, Option, Some, None, slice_get}
 use Rattle.xs_instr.specs.declared.instr.Instr.{Instr}
 use Rattle.xs_instr.specs.declared.instr.Instr.TheVariants.{Out, In}
 use Rattle.xs_instr.specs.declared.state.CoreState.{CoreState}
-use Rattle.xs_instr.specs.declared.state.Item.{Item}
 use Rattle.xs_instr.specs.declared.state.Mode.{Mode}
 use Rattle.xs_instr.specs.declared.state.Mode.TheVariants.{Unused, Waiting, Running, Trapped}
 use Rattle.xs_instr.specs.declared.state.Regs.{Regs}
 use Rattle.xs_instr.specs.declared.state.Thread.{Thread}
 use Rattle.xs_instr.specs.declared.state.Watch.{Watch}
-use Rattle.xs_instr.specs.declared.trace.EndWord.{EndWord}
-use Rattle.xs_instr.specs.declared.trace.EndWord.TheVariants.{Finished, Trapped as AllTrapped, Stuck, Stopped}
 use Rattle.xs_instr.specs.declared.trace.ShowState.{ShowState}
 use Rattle.xs_instr.specs.declared.trace.ShowState.TheVariants.{Unused as ShowUnused, Waiting as ShowWaiting, Trapped as ShowTrapped, Ready as ShowReady, Paused as ShowPaused}
 use Rattle.xs_instr.specs.declared.trace.Shown.{Shown}
 use Rattle.xs_instr.specs.declared.trace.Sight.{Sight}
-use Rattle.xs_instr.specs.Machine.{Machine, home_of}
 use Rattle.xs_instr.specs.Pool.{is_trapped, threads_taken}
 use Rattle.xs_instr.specs.Registers.{no_regs}
 use Rattle.xs_instr.specs.declared.image.Home.{Home}
 use Rattle.xs_instr.specs.Resources.{Named, is_num, APort, ATimer}
 use Rattle.xs_instr.specs.Rows.{names}
-use Rattle.xs_instr.specs.Slot.{takes_events, instr_at, is_ready, trapped}
+use Rattle.xs_instr.specs.Slot.{takes_events, instr_at, is_ready}
 
 -- how often
 abbrev pub count_true : List Bool → ℕ

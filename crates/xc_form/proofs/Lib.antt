@@ -1,0 +1,9 @@
+mod Tables
+mod Places
+mod Digits
+mod Symbols
+mod Founds
+mod Rows
+mod Ports
+mod Statements
+mod Few

@@ -1,0 +1,112 @@
+-- Where nothing fails, each cause has its status, or memory is wanting.
+use Rattle.std.proofs.Common.{◌≡◌, ◌⊎◌, ℕ, ◌<◌, ◌≤◌, List, [], length, refl, sym, ap, ◌∙◌, subst, inl, inr, arith}
+use Rattle.std.specs.Prelude.{Option, Some, None}
+use Rattle.xw_io.specs.Outside.{Rose, WhereTold, IsFileOf, found, max_file}
+use Rattle.xw_io.specs.declared.file.File.{File}
+use Rattle.xc_meaning.specs.declared.program.Program.{Program}
+use Rattle.xc_form.specs.Form.{IsText}
+use Rattle.xcsim.specs.Answers.{Answers, Decided, no_command, missing, too_long, read_fault, refused, assembled, ran, no_memory, Delivered, whole, out_fell, err_fell, Outcome}
+use Rattle.xcsim.specs.Causes.{AllCauses, Assembled, Completes, DoneWith, NoFault, Ran}
+use Rattle.xcsim.specs.Command.{Command, Run, Asm, file_of, means}
+use Rattle.xcsim.specs.Outside.{Loads, Span, Gained}
+use Rattle.xcsim.specs.Runs.{IsCompiled, IsOther}
+
+none_some : {A : Type 0} (o : Option A) (x : A) → o ≡ None → o ≡ Some x → ⊥
+none_some o x p q = absurd (cc)
+
+same_some : {A : Type 0} (o : Option A) (x y : A) → o ≡ Some x → o ≡ Some y → x ≡ y
+same_some o x y p q = cc
+
+not_both : (n : ℕ) → max_file < n → n ≤ max_file → ⊥
+not_both n h k = absurd (omega (arith, h, k))
+
+told_at : {A : Type 0} (P : A → Type 0) (o : Option A) (x : A) → o ≡ Some x → WhereTold o P → P x
+told_at P o x e h = subst (λ v. WhereTold v P) e h
+
+module _ (words : List (List ℕ)) (shelf : Loads) (out err : Span) (files : List File) (told : shelf.files ≡ Some files) (kept : NoFault shelf out err) where
+  -- the file that is loaded, by the command that is meant
+  loaded : (c d : Command) (text : List ℕ) → means words ≡ Some c → means words ≡ Some d → IsFileOf shelf.files (file_of c) text → found files (file_of d) ≡ Some text
+  loaded c d text m n h =
+      subst (λ k. found files (file_of k) ≡ Some text) (same_some (means words) c d m n)
+      (told_at (λ fs. found fs (file_of c) ≡ Some text) shelf.files files told h.told)
+
+  -- absent other text is that file's
+  same_text : (c d : Command) (text other : List ℕ) → means words ≡ Some c → means words ≡ Some d → IsFileOf shelf.files (file_of c) text → found files (file_of d) ≡ Some other → text ≡ other
+  same_text c d text other m n h f = same_some (found files (file_of d)) text other (loaded c d text m n h) f
+
+  no_file : (c d : Command) (text : List ℕ) → means words ≡ Some c → means words ≡ Some d → IsFileOf shelf.files (file_of c) text → found files (file_of d) ≡ None → ⊥
+  no_file c d text m n h f = none_some (found files (file_of d)) text f (loaded c d text m n h)
+
+  no_long : (c d : Command) (text other : List ℕ) → means words ≡ Some c → means words ≡ Some d → IsFileOf shelf.files (file_of c) text → found files (file_of d) ≡ Some other → max_file < length other → ⊥
+  no_long c d text other m n h f long = not_both (length other) long (subst (λ t. length t ≤ max_file) (same_text c d text other m n h f) h.short)
+
+  -- a text of the form is absent other
+  no_other : (c d : Command) (text other : List ℕ) → means words ≡ Some c → means words ≡ Some d → IsFileOf shelf.files (file_of c) text → found files (file_of d) ≡ Some other → (P : Program) → IsText text P → IsOther other → ⊥
+  no_other c d text other m n h f P is absent = absent P (subst (λ t. IsText t P) (same_text c d text other m n h f) is)
+
+  done_at : (c d : Command) (text other : List ℕ) (status : ℕ) → means words ≡ Some c → means words ≡ Some d → IsFileOf shelf.files (file_of c) text → found files (file_of d) ≡ Some other → DoneWith c text out status → DoneWith d other out status
+  done_at c d text other status m n h f done =
+      subst (λ k. DoneWith k other out status) (same_some (means words) c d m n)
+      (subst (λ t. DoneWith c t out status) (same_text c d text other m n h f) done)
+
+  -- what was done of a text
+  all_done : (c : Command) (text : List ℕ) (status : ℕ) (P : Program) → means words ≡ Some c → IsFileOf shelf.files (file_of c) text → IsText text P → DoneWith c text out status → AllCauses words files out status
+  all_done c text status P m h is done = record {
+    usage = λ none. absurd (none_some (means words) c none m);
+    missing = λ d n f. absurd (no_file c d text m n h f);
+    too_long = λ d other n f long. absurd (no_long c d text other m n h f long);
+    refused = λ d other n f short absent. absurd (no_other c d text other m n h f P is absent);
+    done = λ d other Q n f short isQ. done_at c d text other status m n h f done;
+  }
+
+  by_decided : (o : Outcome) → Decided words shelf o → Gained out o.output → ((o.status ≡ 12) × Gained out []) ⊎ AllCauses words files out o.status
+  by_decided o (no_command none) g = inr (record {
+    usage = λ n. refl;
+    missing = λ d n f. absurd (none_some (means words) d none n);
+    too_long = λ d other n f long. absurd (none_some (means words) d none n);
+    refused = λ d other n f short absent. absurd (none_some (means words) d none n);
+    done = λ d other Q n f short is. absurd (none_some (means words) d none n);
+  })
+  by_decided o (missing c m rose gone) g =
+      let at_files = told_at (λ fs. found fs (file_of c) ≡ None) shelf.files files told gone in
+      let absent : (d : Command) (other : List ℕ) → means words ≡ Some d → found files (file_of d) ≡ Some other → ⊥ = λ d other n f. none_some (found files (file_of d)) other (subst (λ k. found files (file_of k) ≡ None) (same_some (means words) c d m n) at_files) f in
+      inr (record {
+        usage = λ none. absurd (none_some (means words) c none m);
+        missing = λ d n f. refl;
+        too_long = λ d other n f long. absurd (absent d other n f);
+        refused = λ d other n f short other_is. absurd (absent d other n f);
+        done = λ d other Q n f short is. absurd (absent d other n f);
+      })
+  by_decided o (too_long c m rose long) g =
+      let there = told_at (λ fs. (text : List ℕ) × (found fs (file_of c) ≡ Some text) × (max_file < length text)) shelf.files files told long in
+      let at_d : (d : Command) → means words ≡ Some d → found files (file_of d) ≡ Some there.0 = λ d n. subst (λ k. found files (file_of k) ≡ Some there.0) (same_some (means words) c d m n) there.1 in
+      let absent : (d : Command) (other : List ℕ) → means words ≡ Some d → found files (file_of d) ≡ Some other → length other ≤ max_file → ⊥ = λ d other n f short. not_both (length other) (subst (λ t. max_file < length t) (same_some (found files (file_of d)) there.0 other (at_d d n) f) there.2) short in
+      inr (record {
+        usage = λ none. absurd (none_some (means words) c none m);
+        missing = λ d n f. absurd (none_some (found files (file_of d)) there.0 f (at_d d n));
+        too_long = λ d other n f is. refl;
+        refused = λ d other n f short other_is. absurd (absent d other n f short);
+        done = λ d other Q n f short is. absurd (absent d other n f short);
+      })
+  by_decided o (read_fault c m rose) g = absurd (kept.shelf_kept rose)
+  by_decided o (refused c text m h other) g = inr (record {
+    usage = λ none. absurd (none_some (means words) c none m);
+    missing = λ d n f. absurd (no_file c d text m n h f);
+    too_long = λ d t n f long. absurd (no_long c d text t m n h f long);
+    refused = λ d t n f short absent. refl;
+    done = λ d t Q n f short is. absurd (other Q (subst (λ x. IsText x Q) (sym (same_text c d text t m n h f)) is));
+  })
+  by_decided o (assembled file text L m h compiled) g =
+      inr (all_done (Asm file) text 0 compiled.program m h compiled.means_so (record { L = L; compiled = compiled; status_is = refl; output = g }))
+  by_decided o (ran file text L lines word trapped m h compiled lockstep) g =
+      inr (all_done (Run file) text _ compiled.program m h compiled.means_so
+      (record { L = L; lines = lines; word = word; trapped = trapped; compiled = compiled; lockstep = lockstep; status_is = refl; output = g }))
+  by_decided o no_memory g = inl (refl, g)
+
+  by_delivered : (o : Outcome) (status : ℕ) → Decided words shelf o → Delivered o out err status → ((status ≡ 12) × Gained out []) ⊎ AllCauses words files out status
+  by_delivered o status d (whole at_out at_err) = by_decided o d at_out
+  by_delivered o status d (out_fell rose f f') = absurd (kept.out_kept rose)
+  by_delivered o status d (err_fell rose some f f') = absurd (kept.err_kept rose)
+
+pub completes : (words : List (List ℕ)) (shelf : Loads) (out err : Span) (status : ℕ) → Answers words shelf out err status → Completes words shelf out err status
+completes words shelf out err status a files told kept = by_delivered words shelf out err files told kept a.outcome status a.decided a.delivered

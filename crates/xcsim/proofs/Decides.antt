@@ -1,0 +1,34 @@
+-- The rows of the answers, for a file's name as the program has it.
+use Rattle.std.proofs.Common.{◌≡◌, ℕ, Bool, List, ap, ◌∙◌, sym, subst}
+use Rattle.std.specs.Prelude.{Some}
+use Rattle.xw_io.specs.Outside.{Rose, IsFileOf, IsMissing, IsTooLong}
+use Rattle.xs_instr.specs.declared.image.Image.{Image}
+use Rattle.xs_instr.specs.declared.trace.EndWord.{EndWord}
+use Rattle.xs_instr.specs.declared.trace.Record.{Record}
+use Rattle.xcsim.specs.Answers.{Decided, missing, too_long, read_fault, refused, assembled, ran, says, prints, status_of_run}
+use Rattle.xcsim.specs.Command.{Command, Run, Asm, file_of, means}
+use Rattle.xcsim.specs.Lines.{broken_line, code_section, no_file_line, read_fault_line, run_output, too_long_line}
+use Rattle.xcsim.specs.Outside.{Loads}
+use Rattle.xcsim.specs.Runs.{IsCompiled, IsLockstep, IsOther, not_built}
+
+module _ (words : List (List ℕ)) (shelf : Loads) (c : Command) (meant : means words ≡ Some c) (name : List ℕ) (is : name ≡ file_of c) where
+  pub missing_at : Rose shelf.misses shelf.misses' → IsMissing shelf.files name → Decided words shelf (says 6 (no_file_line name))
+  missing_at rose h = subst (λ n. Decided words shelf (says 6 (no_file_line n))) (sym is) (missing c meant rose (subst (IsMissing shelf.files) is h))
+
+  pub too_long_at : Rose shelf.longs shelf.longs' → IsTooLong shelf.files name → Decided words shelf (says 7 (too_long_line name))
+  too_long_at rose h = subst (λ n. Decided words shelf (says 7 (too_long_line n))) (sym is) (too_long c meant rose (subst (IsTooLong shelf.files) is h))
+
+  pub read_fault_at : Rose shelf.faults shelf.faults' → Decided words shelf (says 8 (read_fault_line name))
+  read_fault_at rose = subst (λ n. Decided words shelf (says 8 (read_fault_line n))) (sym is) (read_fault c meant rose)
+
+  file_at : (text : List ℕ) → IsFileOf shelf.files name text → IsFileOf shelf.files (file_of c) text
+  file_at text h = subst (λ n. IsFileOf shelf.files n text) is h
+
+  pub refused_at : (text : List ℕ) → IsFileOf shelf.files name text → IsOther text → Decided words shelf (says 1 (broken_line name not_built))
+  refused_at text h other = subst (λ n. Decided words shelf (says 1 (broken_line n not_built))) (sym is) (refused c text meant (file_at text h) other)
+
+  pub assembled_at : (file text : List ℕ) (L : Image) → c ≡ Asm file → IsFileOf shelf.files name text → IsCompiled text L → Decided words shelf (prints 0 (code_section L))
+  assembled_at file text L e h compiled = assembled file text L (meant ∙ ap (λ d. Some d) e) (subst (λ n. IsFileOf shelf.files n text) (is ∙ ap file_of e) h) compiled
+
+  pub ran_at : (file text : List ℕ) (L : Image) (lines : List Record) (word : EndWord) (trapped : Bool) → c ≡ Run file → IsFileOf shelf.files name text → IsCompiled text L → IsLockstep L lines word trapped → Decided words shelf (prints (status_of_run trapped word) (run_output L lines word))
+  ran_at file text L lines word trapped e h compiled lockstep = ran file text L lines word trapped (meant ∙ ap (λ d. Some d) e) (subst (λ n. IsFileOf shelf.files n text) (is ∙ ap file_of e) h) compiled lockstep

@@ -1,0 +1,6 @@
+mod BuiltImage
+mod Completes
+mod Decides
+mod Given
+mod OnlyCauses
+mod Rounds

@@ -1,0 +1,34 @@
+-- What the words of the command line mean.
+use Rattle.std.specs.Prelude.{ℕ, ◌&&◌, Bool, true, false, not, List, [], ◌∷◌, codes, bytes_eq, nat_eq, Option, Some, None, if◌then◌else◌}
+
+-- what the program is asked to do
+pub data Command : Type 0 where
+  -- compile a file, and run it
+  Run : (file : List ℕ) → Command
+  -- compile a file, and write its listing
+  Asm : (file : List ℕ) → Command
+
+-- the word begins with two dashes
+abbrev pub is_option : List ℕ → Bool
+is_option (a ∷ b ∷ rest) = nat_eq a 45 && nat_eq b 45
+is_option other = false
+
+-- the word is neither empty nor an option
+abbrev pub is_operand : List ℕ → Bool
+is_operand [] = false
+is_operand (a ∷ rest) = not (is_option (a ∷ rest))
+
+-- `means`, by the first word
+abbrev pub command_on : List ℕ → List ℕ → Option Command
+command_on word file =
+    if bytes_eq word (codes "run") then Some (Run file) else if bytes_eq word (codes "asm") then Some (Asm file) else None
+
+-- a command and its one operand; all other words mean nothing
+abbrev pub means : List (List ℕ) → Option Command
+means (word ∷ file ∷ []) = if is_operand file then command_on word file else None
+means other = None
+
+-- the file that a command is about
+abbrev pub file_of : Command → List ℕ
+file_of (Run file) = file
+file_of (Asm file) = file

@@ -1,0 +1,47 @@
+-- What a text compiles to, and the run that is written.
+use Rattle.std.specs.Prelude.{◌≡◌, ℕ, Bool, List, []}
+use Rattle.xw_words.specs.declared.pos.Broken.{Broken}
+use Rattle.xs_instr.specs.declared.image.Image.{Image}
+use Rattle.xs_instr.specs.declared.image.Stim.{Stim}
+use Rattle.xs_instr.specs.declared.trace.EndWord.{EndWord}
+use Rattle.xs_instr.specs.declared.trace.Record.{Record}
+use Rattle.xs_instr.specs.Machine.{Machine}
+use Rattle.xs_instr.specs.Valid.{Valid}
+use Rattle.xs_fabric.specs.EndWord.{end_of, has_trap}
+use Rattle.xs_fabric.specs.Lockstep.{lockstep}
+use Rattle.xc_meaning.specs.declared.program.Program.{Program}
+use Rattle.xc_form.specs.Form.{IsText}
+use Rattle.xr_match.specs.Implements.{Implements}
+
+-- a valid image that implements the program that the text means
+pub record IsCompiled (text : List ℕ) (L : Image) : Type 0 where
+  pub program : Program
+  pub means_so : IsText text program
+  pub valid : Valid L
+  pub implements : Implements L program
+
+-- the text isn't of the built form
+abbrev pub IsOther : List ℕ → Type 0
+IsOther text = (P : Program) → IsText text P → ⊥
+
+-- where a text isn't of the built form, rule 299 is broken at its first byte
+abbrev pub not_built : Broken
+not_built = record { rule = 299; pos = record { line = 1; col = 1 } }
+
+-- pins that are never driven
+abbrev pub no_stim : Stim
+no_stim = record { lines = [] }
+
+-- how many rounds a run has
+abbrev pub rounds : ℕ
+rounds = 100000
+
+-- the machine after all rounds
+abbrev pub last_state : Image → Machine
+last_state L = lockstep L no_stim rounds
+
+-- what the run in lockstep recorded, how it ended, and whether a thread trapped
+pub record IsLockstep (L : Image) (lines : List Record) (word : EndWord) (trapped : Bool) : Type 0 where
+  pub lines_are : lines ≡ (last_state L).trace
+  pub word_is : word ≡ end_of L no_stim (last_state L)
+  pub trapped_is : trapped ≡ has_trap L no_stim (last_state L)

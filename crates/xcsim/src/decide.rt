@@ -1,0 +1,126 @@
+// What is answered, before anything is written.
+
+ghost use Rattle.std.specs.Prelude.{◌≡◌, ◌≤◌, map, string_bytes};
+ghost use Rattle.xcsim.specs.Answers.{Decided, status_of_run};
+ghost use Rattle.xcsim.specs.Decision.{outcome_of, IsPrintable};
+ghost use Rattle.xcsim.specs.Outside.{loads};
+
+use crate::run::{Run, run_lockstep};
+use crate::words::{Command, meaning};
+use std::alloc::Global;
+use xc_form::{ReadErr, read};
+use xr_match::compile;
+use xs_instr::{EndWord, Image};
+use xw_io::{LoadErr, Shelf};
+use xw_words::{Broken, Memory, Pos};
+
+/// The text isn't of the form that is built.
+const NOT_BUILT: Broken = Broken {
+    rule: 299,
+    pos: Pos { line: 1, col: 1 },
+};
+
+/// What is due on `out`.
+#[derive(Drop)]
+pub enum Printed {
+    Nothing,
+    Code(Image),
+    Whole(Image, Run),
+}
+
+/// The line that is due on `err`.
+#[derive(Drop)]
+pub enum Line<'w> {
+    Nothing,
+    Usage,
+    NoFile(&'w str),
+    TooLong(&'w str),
+    ReadFault(&'w str),
+    Broken(&'w str, Broken),
+    NoMemory,
+}
+
+/// A status and what is due.
+#[derive(Drop)]
+pub struct Decision<'w> {
+    pub status: u8,
+    pub printed: Printed,
+    pub line: Line<'w>,
+}
+
+/// Loads, compiles and runs, in this order. All memory is taken here.
+pub fn decide<'w, S: Shelf>(alloc: Global, words: &'w [String], shelf: &mut S) -> Decision<'w>
+    ensures decided { Decided (map string_bytes words.now) (loads S.files S.faults S.misses S.longs shelf.old shelf.new) (outcome_of result) }
+    ensures printable { IsPrintable result.printed }
+    ensures files { S.files shelf.new ≡ S.files shelf.old }
+    ensures faults { S.faults shelf.old ≤ S.faults shelf.new }
+{
+    let command = match meaning(words) {
+        Some(command) => command,
+        None => return saying(2, Line::Usage),
+    };
+    let file = command.file();
+    let text = match shelf.load(alloc, file) {
+        Ok(text) => text,
+        Err(LoadErr::Missing) => return saying(6, Line::NoFile(file)),
+        Err(LoadErr::TooLong) => return saying(7, Line::TooLong(file)),
+        Err(LoadErr::Failed) => return saying(8, Line::ReadFault(file)),
+        Err(LoadErr::Memory) => return saying(12, Line::NoMemory),
+    };
+    let program = match read(alloc, text.as_slice()) {
+        Ok(program) => program,
+        Err(ReadErr::Other) => return saying(1, Line::Broken(file, NOT_BUILT)),
+        Err(ReadErr::Memory) => return saying(12, Line::NoMemory),
+    };
+    let image = match compile(alloc, &program) {
+        Ok(image) => image,
+        Err(Memory) => return saying(12, Line::NoMemory),
+    };
+    match command {
+        Command::Asm(_) => printing(0, Printed::Code(image)),
+        Command::Run(_) => match run_lockstep(alloc, &image) {
+            Ok(run) => {
+                let status = status(run.trapped, run.end);
+                printing(status, Printed::Whole(image, run))
+            }
+            Err(Memory) => saying(12, Line::NoMemory),
+        },
+    }
+}
+
+/// A status with a line and no output.
+fn saying(status: u8, line: Line<'_>) -> Decision<'_>
+    ensures { result ≡ record { status = status; printed = Printed.Nothing; line = line.entry } }
+{
+    Decision {
+        status,
+        printed: Printed::Nothing,
+        line,
+    }
+}
+
+/// A status with an output and no line.
+fn printing<'w>(status: u8, printed: Printed) -> Decision<'w>
+    ensures { result ≡ record { status = status; printed = printed; line = Line.Nothing } }
+{
+    Decision {
+        status,
+        printed,
+        line: Line::Nothing,
+    }
+}
+
+/// The status of a run.
+fn status(trapped: bool, end: EndWord) -> u8
+    ensures { result ≡ status_of_run trapped end }
+{
+    if trapped {
+        return 3;
+    }
+    match end {
+        EndWord::Finished => 0,
+        EndWord::Trapped => 3,
+        EndWord::Stuck => 5,
+        EndWord::Stopped => 4,
+    }
+}

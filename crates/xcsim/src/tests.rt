@@ -1,0 +1,247 @@
+// The worked rows: whole calls over files and sinks in memory, with all bytes of both sinks.
+
+use crate::top::xcsim;
+use std::alloc::{AllocError, Global};
+use std::process::Abort;
+use std::sync::Wait;
+use std::test::Fail;
+use std::thread::Threads;
+use xw_io::{File, MemShelf, MemSink, OpenGate};
+use xw_words::{List, Memory};
+
+const USAGE: &str =
+    "usage: xcsim check FILE | asm FILE | run FILE [STIM] [--ticks N] [--workers W] | debug FILE STIM SCRIPT | make N | bench N\n";
+
+const EMPTY_MAIN: &str = "int main(void) { return 0; }";
+
+const PULSE: &str = "out port p = XS1_PORT_1A;\nint main(void) { p @ 100 <: 1; return 0; }\n";
+
+const PULSE_CODE: &str =
+    "code\n.core 0\n.words 0\n.timers 0\n.ends 0\n.port 1A out\n.root 0\n0: LDC r1, 0 @2:18\n1: LDC r0, 100 @2:18\n2: SETPT r1, r0 @2:18\n3: LDC r0, 1 @2:18\n4: OUT r1, r0 @2:18\n5: FREET @2:18\n";
+
+/// A call, with the file `a.xc`, and what is expected of it.
+#[derive(Clone, Copy)]
+struct Row {
+    words: [&'static str; 4],
+    text: &'static str,
+    load_fails: bool,
+    status: u8,
+    out: &'static str,
+    err: &'static str,
+}
+
+/// A call of `run a.xc`.
+const fn run(text: &'static str, status: u8, out: &'static str, err: &'static str) -> Row {
+    Row {
+        words: ["run", "a.xc", "", ""],
+        text,
+        load_fails: false,
+        status,
+        out,
+        err,
+    }
+}
+
+/// A call whose words mean nothing. A load would fail, and so be seen.
+const fn refused(words: [&'static str; 4]) -> Row {
+    Row {
+        words,
+        text: EMPTY_MAIN,
+        load_fails: true,
+        status: 2,
+        out: "",
+        err: USAGE,
+    }
+}
+
+/// The words up to the first empty one.
+fn word_list(alloc: Global, words: &[&str; 4]) -> Result<Vec<String>, AllocError> {
+    let mut list = Vec::new(alloc);
+    for word in words {
+        if word.len() > 0 {
+            list.push(String::from_str(alloc, word)?)?;
+        }
+    }
+    Ok(list)
+}
+
+fn shelf_of(alloc: Global, text: &[u8], fails: List<u32>) -> Result<MemShelf, Memory> {
+    let name = Vec::from_slice(alloc, b"a.xc")?;
+    let bytes = Vec::from_slice(alloc, text)?;
+    let mut files = List::new(alloc);
+    files.push(File {
+        name: List::from_vec(name),
+        bytes: List::from_vec(bytes),
+    })?;
+    Ok(MemShelf::new(files, fails))
+}
+
+fn first_call(alloc: Global, fails: bool) -> Result<List<u32>, Memory> {
+    let mut numbers = List::new(alloc);
+    if fails {
+        numbers.push(1)?;
+    }
+    Ok(numbers)
+}
+
+fn check_row<Rt: Threads + Wait + Sync + Abort>(
+    rt: &Rt,
+    alloc: Global,
+    row: &Row,
+) -> Result<(), Fail> {
+    let words = word_list(alloc, &row.words)?;
+    let fails = first_call(alloc, row.load_fails)?;
+    let mut shelf = shelf_of(alloc, row.text.as_bytes(), fails)?;
+    let mut out = MemSink::new(alloc, 10_000, List::new(alloc))?;
+    let mut err = MemSink::new(alloc, 10_000, List::new(alloc))?;
+    let status = xcsim(
+        rt,
+        alloc,
+        words.as_slice(),
+        &mut shelf,
+        &mut out,
+        &mut err,
+        &OpenGate,
+    );
+    assert_eq!(rt; status, row.status);
+    assert_eq!(rt; out.bytes(), row.out.as_bytes());
+    assert_eq!(rt; err.bytes(), row.err.as_bytes());
+    Ok(())
+}
+
+#[test]
+fn runs_programs(rt: HostRuntime) -> Result<(), Fail> {
+    let rows = [
+        run(
+            EMPTY_MAIN,
+            0,
+            "code\n.core 0\n.words 0\n.timers 0\n.ends 0\n.root 0\n0: FREET @1:1\ntrace\nend finished\n",
+            "",
+        ),
+        run(
+            PULSE,
+            0,
+            "code\n.core 0\n.words 0\n.timers 0\n.ends 0\n.port 1A out\n.root 0\n0: LDC r1, 0 @2:18\n1: LDC r0, 100 @2:18\n2: SETPT r1, r0 @2:18\n3: LDC r0, 1 @2:18\n4: OUT r1, r0 @2:18\n5: FREET @2:18\ntrace\nout 0 1A @100 1\nend finished\n",
+            "",
+        ),
+        run(
+            "out port p = XS1_PORT_1A;\nint main(void) { p @ 65535 <: 1; p @ 20000 <: 0; return 0; }",
+            0,
+            "code\n.core 0\n.words 0\n.timers 0\n.ends 0\n.port 1A out\n.root 0\n0: LDC r1, 0 @2:18\n1: LDC r0, 65535 @2:18\n2: SETPT r1, r0 @2:18\n3: LDC r0, 1 @2:18\n4: OUT r1, r0 @2:18\n5: LDC r1, 0 @2:34\n6: LDC r0, 20000 @2:34\n7: SETPT r1, r0 @2:34\n8: LDC r0, 0 @2:34\n9: OUT r1, r0 @2:34\n10: FREET @2:34\ntrace\nout 0 1A @65535 1\nout 0 1A @20000 0\nend finished\n",
+            "",
+        ),
+        run(
+            "out port p = XS1_PORT_1A;\nint main(void) { p @ 0 <: 1; return 0; }",
+            0,
+            "code\n.core 0\n.words 0\n.timers 0\n.ends 0\n.port 1A out\n.root 0\n0: LDC r1, 0 @2:18\n1: LDC r0, 0 @2:18\n2: SETPT r1, r0 @2:18\n3: LDC r0, 1 @2:18\n4: OUT r1, r0 @2:18\n5: FREET @2:18\ntrace\nout 0 1A @0 1\nend finished\n",
+            "",
+        ),
+        run(
+            "out port p = XS1_PORT_1A;\nint main(void) { p @ 1 <: 1; p @ 1 <: 1; return 0; }",
+            4,
+            "code\n.core 0\n.words 0\n.timers 0\n.ends 0\n.port 1A out\n.root 0\n0: LDC r1, 0 @2:18\n1: LDC r0, 1 @2:18\n2: SETPT r1, r0 @2:18\n3: LDC r0, 1 @2:18\n4: OUT r1, r0 @2:18\n5: LDC r1, 0 @2:30\n6: LDC r0, 1 @2:30\n7: SETPT r1, r0 @2:30\n8: LDC r0, 1 @2:30\n9: OUT r1, r0 @2:30\n10: FREET @2:30\ntrace\nout 0 1A @1 1\nend stopped\n",
+            "",
+        ),
+        run(
+            "out port q = XS1_PORT_1A; out port p = XS1_PORT_8B;\nint main(void) { p <: 300; return 0; }",
+            0,
+            "code\n.core 0\n.words 0\n.timers 0\n.ends 0\n.port 1A out\n.port 8B out\n.root 0\n0: LDC r1, 256 @2:18\n1: LDC r0, 300 @2:18\n2: OUT r1, r0 @2:18\n3: FREET @2:18\ntrace\nout 0 8B @3 44\nend finished\n",
+            "",
+        ),
+        run("int main() { return 0; }", 1, "", "a.xc:1:1: rule 299\n"),
+    ];
+    for row in &rows {
+        check_row(&rt, rt.alloc(), row)?;
+    }
+    Ok(())
+}
+
+#[test]
+fn reads_words(rt: HostRuntime) -> Result<(), Fail> {
+    let rows = [
+        refused(["run", "", "", ""]),
+        refused(["", "", "", ""]),
+        refused(["run", "a.xc", "--ticks", "0"]),
+        refused(["run", "a.xc", "--ticks", "200001"]),
+        refused(["run", "a.xc", "--fast", ""]),
+        refused(["run", "--a.xc", "", ""]),
+        refused(["walk", "a.xc", "", ""]),
+        Row {
+            words: ["asm", "a.xc", "", ""],
+            text: PULSE,
+            load_fails: false,
+            status: 0,
+            out: PULSE_CODE,
+            err: "",
+        },
+        Row {
+            words: ["run", "b.xc", "", ""],
+            text: EMPTY_MAIN,
+            load_fails: false,
+            status: 6,
+            out: "",
+            err: "no file b.xc\n",
+        },
+        Row {
+            words: ["run", "a.xc", "", ""],
+            text: EMPTY_MAIN,
+            load_fails: true,
+            status: 8,
+            out: "",
+            err: "read fault a.xc\n",
+        },
+    ];
+    for row in &rows {
+        check_row(&rt, rt.alloc(), row)?;
+    }
+    Ok(())
+}
+
+/// Call 1 of the sink takes the code section, and call 2 fails.
+#[test]
+fn keeps_what_was_taken(rt: HostRuntime) -> Result<(), Fail> {
+    let alloc = rt.alloc();
+    let words = word_list(alloc, &["run", "a.xc", "", ""])?;
+    let mut shelf = shelf_of(alloc, PULSE.as_bytes(), List::new(alloc))?;
+    let mut fails = List::new(alloc);
+    fails.push(2)?;
+    let mut out = MemSink::new(alloc, 10_000, fails)?;
+    let mut err = MemSink::new(alloc, 10_000, List::new(alloc))?;
+    let status = xcsim(
+        &rt,
+        alloc,
+        words.as_slice(),
+        &mut shelf,
+        &mut out,
+        &mut err,
+        &OpenGate,
+    );
+    assert_eq!(rt; status, 9);
+    assert_eq!(rt; out.bytes(), PULSE_CODE.as_bytes());
+    assert_eq!(rt; err.bytes(), b"".as_slice());
+    Ok(())
+}
+
+/// A file of one byte more than a file may have.
+#[test]
+fn refuses_long_files(rt: HostRuntime) -> Result<(), Fail> {
+    let alloc = rt.alloc();
+    let words = word_list(alloc, &["run", "a.xc", "", ""])?;
+    let text = vec![in alloc; b' '; 4_194_305]?;
+    let mut shelf = shelf_of(alloc, text.as_slice(), List::new(alloc))?;
+    let mut out = MemSink::new(alloc, 100, List::new(alloc))?;
+    let mut err = MemSink::new(alloc, 100, List::new(alloc))?;
+    let status = xcsim(
+        &rt,
+        alloc,
+        words.as_slice(),
+        &mut shelf,
+        &mut out,
+        &mut err,
+        &OpenGate,
+    );
+    assert_eq!(rt; status, 7);
+    assert_eq!(rt; out.bytes(), b"".as_slice());
+    assert_eq!(rt; err.bytes(), b"too long a.xc\n".as_slice());
+    Ok(())
+}

@@ -1,0 +1,56 @@
+ghost use Rattle.std.specs.Prelude.{◌≡◌, None, Some, map, MatchOption, string_bytes};
+ghost use Rattle.xcsim.specs.Command.{file_of, is_operand, means};
+ghost use Rattle.xcsim.specs.Decision.{command_of};
+
+/// What the words of the command line ask for.
+#[derive(Clone, Copy)]
+pub enum Command<'w> {
+    /// Compile a file, and run it.
+    Run(&'w str),
+    /// Compile a file, and write its listing.
+    Asm(&'w str),
+}
+
+impl<'w> Command<'w> {
+    /// The file that the command is about.
+    pub fn file(self) -> &'w str
+        ensures { result.now ≡ file_of (command_of self.entry) }
+    {
+        match self {
+            Command::Run(file) => file,
+            Command::Asm(file) => file,
+        }
+    }
+}
+
+/// Whether a word is neither empty nor an option, which begins with two dashes.
+fn names_file(word: &[u8]) -> bool
+    ensures { result ≡ is_operand word.now }
+{
+    match word {
+        [] => false,
+        [b'-', b'-', ..] => false,
+        _ => true,
+    }
+}
+
+/// The command that the words mean, if they mean one.
+pub fn meaning(words: &[String]) -> Option<Command<'_>>
+    ensures { MatchOption result (means (map string_bytes words.now) ≡ None)
+        (λ command. means (map string_bytes words.now) ≡ Some (command_of command)) }
+{
+    if words.len() != 2 {
+        return None;
+    }
+    let file = words[1].as_str();
+    if !names_file(file.as_bytes()) {
+        return None;
+    }
+    if words[0].as_str() == "run" {
+        return Some(Command::Run(file));
+    }
+    if words[0].as_str() == "asm" {
+        return Some(Command::Asm(file));
+    }
+    None
+}

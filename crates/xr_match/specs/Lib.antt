@@ -1,0 +1,2 @@
+pub mod Implements
+pub mod Code

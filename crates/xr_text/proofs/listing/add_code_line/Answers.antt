@@ -1,0 +1,9 @@
+use Rattle.xr_text.proofs.Draws.{◌▸◌}
+use Rattle.xr_text.proofs.listing.add_code_line.Goals as goal
+use Rattle.xs_instr.specs.Texts.{code_line}
+
+pub returns-clause-drew : goal.returns-clause-drew
+unfolding code_line
+returns-clause-drew g c =
+    c.add_number.ensures.drew ▸ c.add.ensures.drew ▸ c.add_instr.ensures.drew ▸ c.add-2.ensures.drew
+    ▸ c.add_pos.ensures.drew ▸ c.add-3.ensures.drew

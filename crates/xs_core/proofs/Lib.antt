@@ -1,0 +1,4 @@
+pub mod AloneCore
+pub mod BuiltCode
+pub mod PlainCore
+pub mod Starting

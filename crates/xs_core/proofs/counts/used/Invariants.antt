@@ -1,0 +1,10 @@
+use Rattle.std.proofs.Common.{◌≡◌, ◌+◌, ◌≤◌, drop}
+use Rattle.xs_core.proofs.counts.used.Given as goal
+use Rattle.xs_instr.specs.Pool.{threads_taken}
+use Rattle.xs_instr.specs.Sight.{count_true}
+
+abbrev pub invariant-loop-thread : goal.invariant-loop-thread
+invariant-loop-thread l = record {
+  some : l.count ≤ l.thread-index;
+  all : l.count + count_true (threads_taken (drop l.thread-index l.threads)) ≡ count_true (threads_taken l.threads);
+}

@@ -1,0 +1,20 @@
+//! One core of the machine: it boots from an image, its threads take their turns, and its clock ticks, each exactly
+//! as the machine's definitions say.
+#![tactic(auto)]
+
+mod boot;
+mod counts;
+mod did;
+mod lock_rows;
+mod names;
+mod one_core;
+mod own_rows;
+mod port_rows;
+mod regs;
+mod rows;
+mod thread_rows;
+mod threads;
+mod turn;
+
+pub use did::Did;
+pub use one_core::Core;

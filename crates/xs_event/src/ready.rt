@@ -1,0 +1,7 @@
+/// Which resources are ready: one bit for each, bit n for number n.
+#[derive(Clone, Copy, PartialEq, Eq, Debug)]
+pub struct Ready {
+    pub ports: u32,
+    pub timers: u32,
+    pub ends: u32,
+}

@@ -1,0 +1,10 @@
+mod Among
+mod Ends
+mod Lists
+mod Links
+mod LockstepLeads
+mod Quiet
+mod Rounds
+mod Taken
+mod Together
+mod Turns

@@ -1,0 +1,5 @@
+pub mod Lockstep
+pub mod EndWord
+pub mod Parts
+pub mod Seen
+pub mod Totals

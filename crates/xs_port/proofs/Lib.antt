@@ -1,0 +1,2 @@
+pub mod BootLemmas
+pub mod LineLemmas

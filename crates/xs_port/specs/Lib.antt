@@ -1,0 +1,4 @@
+pub mod Lines
+pub mod Pins
+pub mod Ports
+pub mod Seen

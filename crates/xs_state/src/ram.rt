@@ -1,0 +1,112 @@
+ghost use Rattle.std.specs.Bool.{OnFalse, OnTrue};
+ghost use Rattle.std.specs.Prelude.{◌≡◌, ◌↔◌, ◌/◌, IfOk, IsSome, IsTrue, replicate};
+ghost use Rattle.xs_instr.specs.Memory.{word_at, word_put};
+ghost use Rattle.xs_state.specs.Ram.{IsWordAddress};
+
+use std::alloc::Global;
+use std::marker::Model;
+use xw_words::{List, Memory};
+
+const BYTES_IN_WORD: u32 = 4;
+
+/// A core's memory. Contracts see it as the list of its words; word n stands at address 4n.
+#[derive(Drop)]
+pub struct Ram {
+    words: List<u32>,
+}
+
+impl Model for Ram {
+    ghost use Rattle.std.specs.Prelude.{ℕ, List};
+
+    ghost Value = { List ℕ };
+
+    ghost view = { λ ram. ram.words };
+}
+
+impl Ram {
+    /// A memory of so many words, all 0. `Memory` only where they could not be allocated. No other
+    /// call takes memory.
+    pub fn new(alloc: Global, words: u32) -> Result<Ram, Memory>
+        ensures { IfOk result (λ ram. ram ≡ replicate words 0) }
+    {
+        let zeros = vec![in alloc; 0; words as usize]?;
+        Ok(Ram {
+            words: List::from_vec(zeros),
+        })
+    }
+
+    /// The word at an address. `None` exactly where no word stands there: the address is not a
+    /// multiple of 4, or not below four times the words.
+    pub fn read(&self, address: u32) -> Option<u32>
+        ensures word { result ≡ word_at self.now address }
+        ensures stands { IsSome result ↔ IsWordAddress self.now address }
+    {
+        if address % BYTES_IN_WORD != 0 {
+            return None;
+        }
+        self.words.get(place(address)).copied()
+    }
+
+    /// Puts a word at an address, and says whether one stands there: `false` exactly where the
+    /// address is not a multiple of 4, or not below four times the words. Then nothing changes.
+    pub fn write(&mut self, address: u32, v: u32) -> bool
+        ensures stands { IsTrue result ↔ IsWordAddress self.old address }
+        ensures written { OnTrue result (self.new ≡ word_put self.old address v) }
+        ensures refused { OnFalse result (self.new ≡ self.old) }
+    {
+        if address % BYTES_IN_WORD != 0 || place(address) >= self.words.len() {
+            return false;
+        }
+        self.words.set(place(address), v);
+        true
+    }
+}
+
+fn place(address: u32) -> usize
+    ensures { result ≡ address / 4 }
+{
+    (address / BYTES_IN_WORD) as usize
+}
+
+#[cfg(test)]
+mod tests {
+    use super::*;
+    use std::test::Fail;
+
+    enum Call {
+        Read(u32, Option<u32>),
+        Write(u32, u32, bool),
+    }
+
+    // Three words stand at 0, 4 and 8.
+    const CALLS: [Call; 14] = [
+        Call::Read(0, Some(0)),
+        Call::Read(8, Some(0)),
+        Call::Read(12, None),
+        Call::Write(4, 0xffff_ffff, true),
+        Call::Read(0, Some(0)),
+        Call::Read(4, Some(0xffff_ffff)),
+        Call::Read(8, Some(0)),
+        Call::Read(5, None),
+        Call::Write(6, 7, false),
+        Call::Write(12, 7, false),
+        Call::Write(0xffff_fffc, 7, false),
+        Call::Write(8, 7, true),
+        Call::Read(4, Some(0xffff_ffff)),
+        Call::Read(8, Some(7)),
+    ];
+
+    #[test]
+    fn words_stand_at_multiples_of_four(rt: HostRuntime) -> Result<(), Fail> {
+        let mut ram = Ram::new(rt.alloc(), 3)?;
+        for call in &CALLS {
+            match call {
+                Call::Read(address, word) => assert_eq!(rt; ram.read(*address), *word),
+                Call::Write(address, word, stands) => {
+                    assert_eq!(rt; ram.write(*address, *word), *stands)
+                }
+            }
+        }
+        Ok(())
+    }
+}
