@@ -20,7 +20,8 @@ use Rattle.xc_lexer.specs.declared.lexer.LexErr.{LexErr}
 use Rattle.xc_lexer.specs.declared.lexer.LexErr.TheVariants as err
 use Rattle.xc_lexer.specs.Names.{numbers_of}
 use Rattle.xc_lexer.specs.Places.{IsPlace}
-use Rattle.xc_lexer.specs.Steps.{Went, FirstOf, IfBroken, stand, NotAfter, Each}
+use Rattle.xc_lexer.specs.Errors.{IfBroken}
+use Rattle.xc_lexer.specs.Steps.{Went, FirstOf, stand, NotAfter, Each}
 use Rattle.xc_lexer.proofs.Pieces.{piece_after, each_map, From}
 
 -- a piece by what its place begins
@@ -100,3 +101,8 @@ define_piece text s name m k e d r q h form n w =
 pub some_of : {T : Type 0} (r : Option T) → is_some r ≡ true → (x : T) × (r ≡ Some x)
 some_of None e = absurd (cc)
 some_of (Some x) e = (x, refl)
+
+-- what holds of each broken rule holds of the error
+pub broken_map : {P Q : Broken → Type 0} (e : LexErr) → ((b : Broken) → P b → Q b) → IfBroken e P → IfBroken e Q
+broken_map (err.Broken b) f h = f b h
+broken_map err.Memory f h = tt

@@ -14,7 +14,7 @@ use Rattle.xc_lexer.proofs.Spans.{pos_before}
 use Rattle.xc_lexer.proofs.Pieces.{piece_one, no_piece, piece_after, each_append, each_map, From}
 
 -- no rule is broken in a row whose parts break none, and else one is
-no_first : (f g : List Fault) → f ++ g ≡ [] → (f ≡ []) × (g ≡ [])
+pub no_first : (f g : List Fault) → f ++ g ≡ [] → (f ≡ []) × (g ≡ [])
 no_first [] g e = (refl, e)
 no_first (x ∷ f) g e = cc
 

@@ -3,3 +3,4 @@ pub mod Places
 pub mod Tables
 pub mod Lines
 pub mod Steps
+pub mod Errors

@@ -7,8 +7,6 @@ use Rattle.xc_tree.specs.Pieces.{Stand, Fault, Piece}
 use Rattle.xc_lexer.specs.Names.{numbers_of}
 use Rattle.xc_lexer.specs.Places.{IsPlace}
 use Rattle.xc_lexer.specs.declared.lexer.State.{State}
-use Rattle.xc_lexer.specs.declared.lexer.LexErr.{LexErr}
-use Rattle.xc_lexer.specs.declared.lexer.LexErr.TheVariants as err
 
 -- where a state stands
 abbrev pub stand : State → Stand
@@ -42,13 +40,3 @@ pub record FirstOf (text : List ℕ) (before : State) (b : Broken) : Type 0 wher
   pub least : Each (NotAfter first) others
   pub in_text : first.at < length text
   pub passed : first.at < after.at
-
--- this holds of the broken rule, where the error is one
-abbrev pub IfBroken : LexErr → (Broken → Type 0) → Type 0
-IfBroken (err.Broken b) P = P b
-IfBroken err.Memory P = Unit {0}
-
--- what holds of each broken rule holds of the error
-pub broken_map : {P Q : Broken → Type 0} (e : LexErr) → ((b : Broken) → P b → Q b) → IfBroken e P → IfBroken e Q
-broken_map (err.Broken b) f h = f b h
-broken_map err.Memory f h = tt

@@ -8,7 +8,8 @@ ghost use Rattle.xc_tree.specs.Places.{pos_at};
 ghost use Rattle.xc_tree.specs.Lexes.{Lexes, FirstBroken, Breaks};
 ghost use Rattle.xc_lexer.specs.Lines.{DefineIs, TailIs};
 ghost use Rattle.xc_lexer.specs.Places.{IsPlace};
-ghost use Rattle.xc_lexer.specs.Steps.{Went, IfBroken, FirstOf};
+ghost use Rattle.xc_lexer.specs.Errors.{IfBroken};
+ghost use Rattle.xc_lexer.specs.Steps.{Went, FirstOf};
 
 use crate::lines::{Definition, Ending, definition_at, include_end, tail};
 use crate::names::Names;
@@ -45,7 +46,7 @@ impl From<Memory> for LexErr {
 
 /// How far a text has been read.
 #[derive(Drop)]
-pub struct State<'a> {
+struct State<'a> {
     place: Place,
     /// Whether only blanks stand before in the line.
     fresh: bool,
@@ -55,11 +56,13 @@ pub struct State<'a> {
 /// The longest text, in bytes.
 const LONGEST: usize = 262_144;
 
-/// The tokens of a text, with their places: a name that a `#define` defines before is its number. A text that breaks a
-/// rule has none, and of the rules that it breaks the answer is the one of the least place and then the least number:
-/// 101 a byte begins no token; 102 a number is 2^32 or more; 103 a comment isn't closed; 104 a line that begins with `#`
-/// has none of the forms, or defines a name again; 105 the text has more than 262,144 bytes, and then no other rule is
-/// looked at; 106 a number has none of the forms. Memory alone can make it fail otherwise.
+/// The tokens of a text of at most 4,194,304 bytes, with their places: a name that a `#define` defines before is its
+/// number.
+///
+/// A text that breaks a rule has none, and of all rules that it breaks the error is the one of the least place, and there
+/// of the least number: 101 a byte begins no token; 102 a number is 2^32 or more; 103 a comment isn't closed; 104 a line
+/// that begins with `#` has none of the forms, or defines a name again; 105 the text has more than 262,144 bytes, and then
+/// no other rule is looked at; 106 a number has none of the forms. The other error is that memory could not be had.
 pub fn lex(alloc: Global, text: &[u8]) -> Result<List<Tok>, LexErr>
     requires short { length text.now ≤ 4194304 }
     ensures tokens { IfOk result (λ toks. Lexes text.now toks) }

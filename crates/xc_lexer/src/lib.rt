@@ -15,6 +15,7 @@ mod scan;
 mod words;
 
 pub use laws::{
-    each_byte_in_one_piece, one_list_of_tokens, pieces_lie_behind_each_other, tokens_or_broken_rule,
+    each_byte_in_one_piece, one_list_of_tokens, pieces_lie_behind_each_other,
+    tokens_or_broken_rule, tokens_stand_at_their_pieces,
 };
 pub use lexer::{LexErr, lex};

@@ -2,7 +2,7 @@ use Rattle.std.proofs.Common.{true, refl, sym, subst, arith}
 use Rattle.xc_tree.specs.Places.{pos_behind}
 use Rattle.xc_tree.specs.Pieces.{Numbers, Stand}
 use Rattle.xc_tree.specs.Lexes.{beginning}
-use Rattle.xc_lexer.specs.Steps.{broken_map}
+use Rattle.xc_lexer.proofs.Outcomes.{broken_map}
 use Rattle.xc_lexer.proofs.Rows.{SoFar, start, lexes, tokens_one, tokens_unbroken, went_on, first_broken}
 use Rattle.xc_lexer.proofs.lexer.lex.Goals as goal
 
