@@ -1,5 +1,7 @@
-pub mod Lockstep
+pub mod Changes
 pub mod EndWord
+pub mod Lockstep
 pub mod Parts
+pub mod Room
 pub mod Seen
 pub mod Totals

@@ -6,5 +6,8 @@ mod law;
 mod machine;
 mod totals;
 
-pub use law::lockstep_is_a_run;
+pub use law::{
+    clocks_count_rounds, first_item_has_room, lockstep_is_a_run, pairs_count_eight,
+    ready_is_as_said, step_keeps_others,
+};
 pub use machine::{Event, Machine};
