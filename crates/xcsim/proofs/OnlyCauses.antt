@@ -75,7 +75,7 @@ module _ (words : List (List ℕ)) (shelf : Loads) (out err : Span) where
     usage = λ e. absurd (omega (arith, e));
     missing = λ e. absurd (omega (arith, e));
     too_long = λ e. absurd (omega (arith, e));
-    read_fault = λ e. rose;
+    read_fault = λ e. (rose, (c, m));
     write_fault = λ e. absurd (omega (arith, e));
     no_memory = λ e. g;
   }

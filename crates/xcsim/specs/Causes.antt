@@ -23,7 +23,7 @@ pub record OnlyCauses (words : List (List ℕ)) (shelf : Loads) (out err : Span)
   pub usage : status ≡ 2 → means words ≡ None
   pub missing : status ≡ 6 → Rose shelf.misses shelf.misses' × OfFile words (IsMissing shelf.files)
   pub too_long : status ≡ 7 → Rose shelf.longs shelf.longs' × OfFile words (IsTooLong shelf.files)
-  pub read_fault : status ≡ 8 → Rose shelf.faults shelf.faults'
+  pub read_fault : status ≡ 8 → Rose shelf.faults shelf.faults' × ((c : Command) × (means words ≡ Some c))
   pub write_fault : status ≡ 9 → Rose out.faults out.faults' ⊎ Rose err.faults err.faults'
   pub no_memory : status ≡ 12 → Gained out []
 

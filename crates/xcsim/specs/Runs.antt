@@ -12,12 +12,15 @@ use Rattle.xs_fabric.specs.Lockstep.{lockstep}
 use Rattle.xc_meaning.specs.declared.program.Program.{Program}
 use Rattle.xc_form.specs.Form.{IsText}
 use Rattle.xr_match.specs.Implements.{Implements}
+use Rattle.xr_text.specs.Ranges.{HasWords}
 
--- a valid image that implements the program that the text means
+-- a valid image that implements the program that the text means. Its numbers are words, so no other such image has its
+-- listing
 pub record IsCompiled (text : List ℕ) (L : Image) : Type 0 where
   pub program : Program
   pub means_so : IsText text program
   pub valid : Valid L
+  pub words : HasWords L
   pub implements : Implements L program
 
 -- the text isn't of the built form

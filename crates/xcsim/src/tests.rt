@@ -1,12 +1,20 @@
 // The worked rows: whole calls over files and sinks in memory, with all bytes of both sinks.
 
+ghost use Rattle.std.specs.Prelude.{◌≤◌, length, IfOk};
+ghost use Rattle.xs_core.specs.Built.{IsBuilt};
+ghost use Rattle.xs_instr.specs.Valid.{Valid};
+
 use crate::top::xcsim;
 use std::alloc::{AllocError, Global};
 use std::process::Abort;
 use std::sync::Wait;
 use std::test::Fail;
 use std::thread::Threads;
-use xw_io::{File, MemShelf, MemSink, OpenGate};
+use xc_form::read;
+use xr_match::compile;
+use xs_fabric::{Event, Machine};
+use xs_instr::{EndWord, Image, Record, Stim};
+use xw_io::{File, MemShelf, MemSink, OpenGate, Shelf};
 use xw_words::{List, Memory};
 
 const USAGE: &str =
@@ -42,7 +50,7 @@ const fn run(text: &'static str, status: u8, out: &'static str, err: &'static st
     }
 }
 
-/// A call whose words mean nothing. A load would fail, and so be seen.
+/// A call whose words mean nothing. The first load would fail.
 const fn refused(words: [&'static str; 4]) -> Row {
     Row {
         words,
@@ -104,6 +112,10 @@ fn check_row<Rt: Threads + Wait + Sync + Abort>(
         &OpenGate,
     );
     assert_eq!(rt; status, row.status);
+    if row.status == 2 {
+        // The first load fails, so this is the first.
+        assert!(rt; shelf.load(alloc, "a.xc").is_err());
+    }
     assert_eq!(rt; out.bytes(), row.out.as_bytes());
     assert_eq!(rt; err.bytes(), row.err.as_bytes());
     Ok(())
@@ -243,5 +255,77 @@ fn refuses_long_files(rt: HostRuntime) -> Result<(), Fail> {
     assert_eq!(rt; status, 7);
     assert_eq!(rt; out.bytes(), b"".as_slice());
     assert_eq!(rt; err.bytes(), b"too long a.xc\n".as_slice());
+    Ok(())
+}
+
+/// The image of a text of the built form.
+fn compiled(alloc: Global, text: &[u8]) -> Result<Image, Fail>
+    requires { length text.now ≤ 262144 }
+    ensures valid { IfOk result (λ image. Valid image) }
+    ensures built { IfOk result (λ image. IsBuilt image) }
+{
+    let program = read(alloc, text)?;
+    let image = compile(alloc, &program)?;
+    Ok(image)
+}
+
+#[derive(Clone, Copy)]
+enum Action {
+    Step(u8, u8),
+    Tick(u8),
+}
+
+fn act(machine: &mut Machine, action: Action) -> Result<Event, Memory> {
+    machine.reserve(1)?;
+    Ok(match action {
+        Action::Step(core, thread) => machine.step(core, thread),
+        Action::Tick(core) => machine.tick(core),
+    })
+}
+
+/// Event by event: an output waits for its time, and nothing else is enabled.
+#[test]
+fn steps_a_machine(rt: HostRuntime) -> Result<(), Fail> {
+    let alloc = rt.alloc();
+    let text = b"out port p = XS1_PORT_1A;int main(void){p@2<:3;return 0;}";
+    let image = compiled(alloc, text.as_slice())?;
+    let stim = Stim {
+        lines: List::new(alloc),
+    };
+    let mut machine = Machine::boot(alloc, &image, &stim)?;
+    let rows = [
+        (Action::Step(0, 0), Event::Done),
+        (Action::Step(0, 0), Event::Done),
+        (Action::Step(0, 0), Event::Done),
+        (Action::Step(0, 0), Event::Done),
+        (Action::Step(0, 0), Event::NotEnabled),
+        (Action::Tick(0), Event::Done),
+        (Action::Step(0, 0), Event::NotEnabled),
+        (Action::Tick(1), Event::Done),
+        (Action::Step(0, 0), Event::NotEnabled),
+        (Action::Tick(0), Event::Done),
+        (Action::Step(0, 0), Event::Done),
+        (Action::Step(0, 0), Event::Done),
+        (Action::Step(0, 0), Event::NotEnabled),
+        (Action::Step(0, 1), Event::NotEnabled),
+        (Action::Step(3, 0), Event::NotEnabled),
+        (Action::Step(4, 0), Event::NotEnabled),
+        (Action::Step(0, 8), Event::NotEnabled),
+        (Action::Tick(4), Event::NotEnabled),
+    ];
+    for (action, event) in rows {
+        assert_eq!(rt; act(&mut machine, action)?, event);
+    }
+    let output = Record::PortOut {
+        core: 0,
+        port: 0,
+        stamp: 2,
+        value: 1,
+    };
+    assert_eq!(rt; machine.trace(), [output].as_slice());
+    assert_eq!(rt; machine.end(), EndWord::Finished);
+    assert!(rt; !machine.trapped());
+    machine.reserve(32)?;
+    assert_eq!(rt; machine.round(), 4);
     Ok(())
 }
