@@ -32,7 +32,6 @@ impl Model for Ends {
 impl Ends {
     /// That many ends, each with no token and 8 credits. It takes all memory that is ever taken for them.
     pub fn new(alloc: Global, count: u32) -> Result<Ends, Memory>
-        requires { count ≤ 32 }
         ensures { IfOk result (λ ends. ends ≡ replicate count boot_end) }
     {
         let mut all = Vec::new(alloc);

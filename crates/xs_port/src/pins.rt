@@ -50,8 +50,27 @@ impl Pins {
         })
     }
 
-    /// Goes on to a clock that is not before the one told last.
+    /// Goes on to a clock, or back to one before the clock that was told last.
     pub fn tick(&mut self, clock: u32)
+        ensures { self.new ≡ record self.old { clock = clock } }
+    {
+        if clock < self.clock {
+            self.restart();
+        }
+        self.go_on(clock);
+    }
+
+    /// Goes back to clock 0.
+    fn restart(&mut self)
+        ensures { self.new ≡ record self.old { clock = 0 } }
+    {
+        self.values = [0; 256];
+        self.used = advance(self.lines.as_slice(), self.core, 0, 0, &mut self.values);
+        self.clock = 0;
+    }
+
+    /// Goes on to a clock that is not before the one told last.
+    fn go_on(&mut self, clock: u32)
         requires { self.old.clock ≤ clock }
         ensures { self.new ≡ record self.old { clock = clock } }
     {
