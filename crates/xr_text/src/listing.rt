@@ -10,7 +10,7 @@ use xs_instr::{Code, CoreImage, Dir, Image, Instr, Pair, PortDecl};
 use xw_io::{Out, Sink, SinkFault};
 use xw_words::Pos;
 
-/// Writes the listing of an image, and no other byte. `SinkFault` exactly where the sink has failed in
+/// Writes the listing of an image, and no other byte. `SinkFault` only where the sink has failed in
 /// this call; what it has got is then a prefix.
 pub fn write_code<O: Sink>(out: &mut Out<'_, O>, image: &Image) -> Result<(), SinkFault>
     requires usable { out.old.usable ≡ true }

@@ -7,7 +7,7 @@ use crate::numbers::{add_number, add_port, add_pos};
 use xs_instr::{EndWord, Record, Trap};
 use xw_io::{Out, Sink, SinkFault};
 
-/// Writes the line of a record, and no other byte. `SinkFault` exactly where the sink has failed in
+/// Writes the line of a record, and no other byte. `SinkFault` only where the sink has failed in
 /// this call; what it has got is then a prefix.
 pub fn write_record<O: Sink>(out: &mut Out<'_, O>, r: &Record) -> Result<(), SinkFault>
     requires usable { out.old.usable ≡ true }
