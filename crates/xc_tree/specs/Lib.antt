@@ -6,3 +6,11 @@ pub mod HashLines
 pub mod Pieces
 pub mod Lexes
 pub mod Extents
+pub mod Plain
+pub mod Trees
+pub mod Symbol
+pub mod Terminals
+pub mod Grammar
+pub mod Derives
+pub mod Parses
+pub mod Depth

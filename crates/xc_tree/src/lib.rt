@@ -1,9 +1,14 @@
-//! What the text of a program is made of: its tokens, and in specs/ what it means that a text has them or breaks a rule
-//! of lexing.
+//! What a program is made of: the tokens of its text and their tree. In specs/ stand what it means that a text has these
+//! tokens and they this tree, and the rules of lexing and of the grammar.
 #![tactic(auto)]
 
 mod lexing;
 mod token;
+mod tree;
 
 pub use lexing::{Number, Reading, Start};
 pub use token::{Kind, SYMBOLS, Text, Tok, WORDS};
+pub use tree::{
+    Arg, At, Branch, Case, DeclKind, Declared, Dest, Ex, Expr, FuncItem, Head, Id, Item, Param,
+    ParamKind, PortItem, Rhs, Send, St, Stmt, Timed, Tree, TreeDir, When,
+};
