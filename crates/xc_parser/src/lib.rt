@@ -1,0 +1,2 @@
+//! From the tokens of a program to its tree.
+#![tactic(auto)]
