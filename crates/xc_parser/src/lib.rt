@@ -1,8 +1,18 @@
 //! From the tokens of a program to its tree.
+//!
+//! A `Parser` holds the tokens. It has a method for each symbol of the grammar, which reads the symbol from a place on,
+//! with room for so many nodes one below the other, and answers a `Read` or the `Stop` at which no reading goes on. The
+//! methods stand in files by subject, and what they build in `nodes`.
 #![tactic(auto)]
 
+mod expressions;
+mod nodes;
+mod operands;
+mod parser;
 mod places;
 mod stop;
+mod terminals;
 mod tokens;
+mod values;
 
 pub use places::end_pos;
