@@ -5,14 +5,27 @@
 //! methods stand in files by subject, and what they build in `nodes`.
 #![tactic(auto)]
 
+mod assignments;
+mod declarations;
+mod expected;
 mod expressions;
+mod heads;
+mod loops;
+mod memory;
 mod nodes;
 mod operands;
+mod pars;
 mod parser;
 mod places;
+mod ports;
+mod program;
+mod selects;
+mod statements;
 mod stop;
 mod terminals;
 mod tokens;
+mod transfers;
 mod values;
 
 pub use places::end_pos;
+pub use program::{ParseErr, parse};

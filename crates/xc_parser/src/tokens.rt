@@ -53,7 +53,7 @@ pub fn is_bracket(toks: &[Tok], at: usize) -> bool {
 }
 
 /// Whether `int` or `unsigned` stands at a place.
-fn begins_type(toks: &[Tok], at: usize) -> bool {
+pub fn begins_type(toks: &[Tok], at: usize) -> bool {
     is_word(toks, at, INT_WORD) || is_word(toks, at, UNSIGNED_WORD)
 }
 

@@ -252,7 +252,7 @@ impl<'a> Parser<'a> {
 }
 
 /// A call as a right side.
-fn right_side(called: Called) -> Rhs {
+pub fn right_side(called: Called) -> Rhs {
     let Called { name, arguments } = called;
     let Id { text, pos } = name;
     Rhs::Call {

@@ -1,0 +1,203 @@
+//! The heads of functions, with their parameters.
+
+use crate::parser::{Parser, Read};
+use crate::stop::Stop;
+use crate::terminals::{
+    AMPERSAND, BRACKET, CHANEND_WORD, COMMA, END_BRACKET, END_PAREN, IN_WORD, INT_WORD, OUT_WORD,
+    PAREN, PORT_WORD, UNSIGNED_WORD, VOID_WORD,
+};
+use crate::tokens::{begins_type, is_symbol, is_word};
+use xc_tree::{Id, Param, ParamKind, TreeDir};
+use xw_words::{List, Pos};
+
+/// What stands before the block of a function, and how many tokens that is.
+#[derive(Drop)]
+pub struct FunctionHead {
+    pub result: Option<bool>,
+    pub name: Id,
+    pub params: List<Param>,
+    pub own: u32,
+}
+
+impl<'a> Parser<'a> {
+    /// The head of a function.
+    pub fn head(&self, at: usize) -> Result<Read<FunctionHead>, Stop> {
+        let result = self.result_type(at)?;
+        let name = self.id(result.end)?;
+        let open = self.symbol(name.end, PAREN)?;
+        let params = self.params(open.end)?;
+        let close = self.symbol(params.end, END_PAREN)?;
+        Ok(Read {
+            value: FunctionHead {
+                result: result.value,
+                name: name.value,
+                params: params.value,
+                own: (close.end - at) as u32,
+            },
+            end: close.end,
+        })
+    }
+
+    /// The result of a function: `None` for `void`, else whether it is `unsigned`.
+    pub fn result_type(&self, at: usize) -> Result<Read<Option<bool>>, Stop> {
+        if is_word(self.toks, at, VOID_WORD) {
+            return Ok(Read {
+                value: None,
+                end: at + 1,
+            });
+        }
+        let word = self.word_type(at)?;
+        Ok(Read {
+            value: Some(word.value),
+            end: word.end,
+        })
+    }
+
+    /// `int`, `unsigned` or `unsigned int`: whether it is `unsigned`.
+    pub fn word_type(&self, at: usize) -> Result<Read<bool>, Stop> {
+        if !is_word(self.toks, at, UNSIGNED_WORD) {
+            let int = self.word(at, INT_WORD)?;
+            return Ok(Read {
+                value: false,
+                end: int.end,
+            });
+        }
+        if is_word(self.toks, at + 1, INT_WORD) {
+            return Ok(Read {
+                value: true,
+                end: at + 2,
+            });
+        }
+        Ok(Read {
+            value: true,
+            end: at + 1,
+        })
+    }
+
+    /// The parameters of a function, which may be none.
+    pub fn params(&self, at: usize) -> Result<Read<List<Param>>, Stop> {
+        let mut value = List::new(self.alloc);
+        if is_word(self.toks, at, VOID_WORD) {
+            return Ok(Read { value, end: at + 1 });
+        }
+        if !self.begins_param(at) {
+            return Ok(Read { value, end: at });
+        }
+        let first = self.param(at)?;
+        value.push(first.value)?;
+        let mut end = first.end;
+        'params: while is_symbol(self.toks, end, COMMA) {
+            let next = self.param(end + 1)?;
+            value.push(next.value)?;
+            end = next.end;
+        }
+        Ok(Read { value, end })
+    }
+
+    /// Whether a token that a parameter can begin with stands at a place.
+    fn begins_param(&self, at: usize) -> bool {
+        begins_type(self.toks, at)
+            || is_word(self.toks, at, CHANEND_WORD)
+            || is_word(self.toks, at, IN_WORD)
+            || is_word(self.toks, at, OUT_WORD)
+            || is_word(self.toks, at, PORT_WORD)
+    }
+
+    /// A parameter.
+    pub fn param(&self, at: usize) -> Result<Read<Param>, Stop> {
+        if begins_type(self.toks, at) {
+            return self.word_param(at);
+        }
+        if is_word(self.toks, at, CHANEND_WORD) {
+            let name = self.id(at + 1)?;
+            return Ok(Read {
+                value: Param {
+                    kind: ParamKind::End(false),
+                    name: name.value,
+                },
+                end: name.end,
+            });
+        }
+        let dir = self.dir(at)?;
+        let name = self.id(dir.end)?;
+        Ok(Read {
+            value: Param {
+                kind: ParamKind::Port(dir.value),
+                name: name.value,
+            },
+            end: name.end,
+        })
+    }
+
+    /// A parameter that is a word, by value or by reference, or an array of words.
+    fn word_param(&self, at: usize) -> Result<Read<Param>, Stop> {
+        let word = self.word_type(at)?;
+        if is_symbol(self.toks, word.end, AMPERSAND) {
+            let name = self.id(word.end + 1)?;
+            return Ok(Read {
+                value: Param {
+                    kind: ParamKind::Ref(word.value),
+                    name: name.value,
+                },
+                end: name.end,
+            });
+        }
+        let name = self.id(word.end)?;
+        if !is_symbol(self.toks, name.end, BRACKET) {
+            return Ok(Read {
+                value: Param {
+                    kind: ParamKind::Value(word.value),
+                    name: name.value,
+                },
+                end: name.end,
+            });
+        }
+        let length = self.param_length(name.end + 1)?;
+        Ok(Read {
+            value: Param {
+                kind: ParamKind::Array(word.value, length.value),
+                name: name.value,
+            },
+            end: length.end,
+        })
+    }
+
+    /// The rest of an array parameter behind its `[`: a length and where that stands, or none, and the `]`.
+    fn param_length(&self, at: usize) -> Result<Read<Option<(u32, Pos)>>, Stop> {
+        if is_symbol(self.toks, at, END_BRACKET) {
+            return Ok(Read {
+                value: None,
+                end: at + 1,
+            });
+        }
+        let length = self.numeral(at)?;
+        let close = self.symbol(length.end, END_BRACKET)?;
+        Ok(Read {
+            value: Some((length.value.value, length.value.pos)),
+            end: close.end,
+        })
+    }
+
+    /// The direction of a port.
+    pub fn dir(&self, at: usize) -> Result<Read<TreeDir>, Stop> {
+        if is_word(self.toks, at, IN_WORD) {
+            let port = self.word(at + 1, PORT_WORD)?;
+            return Ok(Read {
+                value: TreeDir::In,
+                end: port.end,
+            });
+        }
+        if is_word(self.toks, at, OUT_WORD) {
+            let port = self.word(at + 1, PORT_WORD)?;
+            return Ok(Read {
+                value: TreeDir::Out,
+                end: port.end,
+            });
+        }
+        let port = self.word(at, PORT_WORD)?;
+        Ok(Read {
+            value: TreeDir::Both,
+            end: port.end,
+        })
+    }
+}
