@@ -235,6 +235,3 @@ fn first_by_word(word: u8) -> Option<First> {
         _ => None,
     }
 }
-
-#[cfg(test)]
-mod tests;
