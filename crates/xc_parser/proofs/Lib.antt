@@ -1,5 +1,8 @@
 pub mod Rests
 pub mod Opening
+pub mod TokenSets
+pub mod Covers
+pub mod Firsts
 pub mod Paths
 pub mod Choices
 pub mod Loops
