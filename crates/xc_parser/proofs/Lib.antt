@@ -1,1 +1,10 @@
 mod Columns
+pub mod Rests
+pub mod Opening
+pub mod TokenSets
+pub mod Covers
+pub mod Firsts
+pub mod Paths
+pub mod Choices
+pub mod Loops
+pub mod Trial
