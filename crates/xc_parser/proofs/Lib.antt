@@ -4,6 +4,9 @@ pub mod Opening
 pub mod TokenSets
 pub mod Covers
 pub mod Firsts
+pub mod Forth
+pub mod Narrows
+pub mod Alternatives
 pub mod Paths
 pub mod Choices
 pub mod Loops

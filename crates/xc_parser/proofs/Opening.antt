@@ -15,7 +15,7 @@ is_token a_name = true
 is_token a_number = true
 is_token _ = false
 
--- the symbols that stand for their alternatives here: their values don't speak of their tokens' extent
+-- the symbols that stand for their alternatives here: these have no condition, and values that don't speak of their extent
 abbrev pub is_plain : Symbol → Bool
 is_plain (many s) = true
 is_plain (maybe s) = true
@@ -31,7 +31,6 @@ is_plain block = true
 is_plain block_item = true
 is_plain dv = true
 is_plain initial = true
-is_plain case_item = true
 is_plain branch = true
 is_plain case = true
 is_plain guard = true
@@ -126,9 +125,12 @@ abbrev pub keep_if : {V : Type 0} → Bool → Rest V → List (Rest V) → List
 keep_if true r rs = r ∷ rs
 keep_if false r rs = rs
 
+abbrev pub sift : {V : Type 0} → (Rest V → Bool) → List (Rest V) → List (Rest V)
+sift b [] = []
+sift b (r ∷ rs) = keep_if (b r) r (sift b rs)
+
 abbrev pub keep : {V : Type 0} → Symbol → List (Rest V) → List (Rest V)
-keep t [] = []
-keep t (r ∷ rs) = keep_if (opens t r) r (keep t rs)
+keep t rs = sift (opens t) rs
 
 -- those that a token opens, with plain symbols taken for their alternatives n times
 abbrev pub grown : {V : Type 0} → ℕ → Symbol → List (Rest V) → List (Rest V)
@@ -225,10 +227,13 @@ is_apart s t ps = is_disjoint (follows t) (firsts ps) && (not (nullables ps) || 
 abbrev pub moves : {V : Type 0} → List Symbol → Symbol → (rs behind : List (Rest V)) → Bool
 moves fs t rs rs' = all_ready fs t (grown layers t rs) && is_any rs' && leb (peak rs') (peak rs)
 
+-- a rest begins otherwise than with one of these tokens, or with none
+abbrev pub needs_none : {V : Type 0} → List Symbol → Rest V → Bool
+needs_none ts r = nullables r.parts || not (within (firsts r.parts) ts)
+
 -- the rests that don't begin with one of these tokens alone
 abbrev pub without : {V : Type 0} → List Symbol → List (Rest V) → List (Rest V)
-without ts [] = []
-without ts (r ∷ rs) = keep_if (nullables r.parts || not (within (firsts r.parts) ts)) r (without ts rs)
+without ts rs = sift (needs_none ts) rs
 
 -- all rests begin with this symbol below so many nodes
 pub data Heads {V : Type 0} (t : Symbol) (a : ℕ) : List (Rest V) → Type 0 where
