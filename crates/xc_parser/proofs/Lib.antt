@@ -11,3 +11,4 @@ pub mod Paths
 pub mod Choices
 pub mod Loops
 pub mod Trial
+mod Single

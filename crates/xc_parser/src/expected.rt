@@ -1,9 +1,10 @@
 //! Single tokens that must stand at a place.
 
-ghost use Rattle.std.specs.Prelude.{◌≡◌, ℕ, ◌+◌, ◌×◌, ◌<◌, ◌≤◌, length, IfOk, IfErr};
+ghost use Rattle.std.specs.Prelude.{◌≡◌, ℕ, ◌+◌, ◌≤◌, length, IfOk, IfErr};
 ghost use Rattle.xc_tree.specs.Symbol.{sym, key, a_name, a_number};
 ghost use Rattle.xc_parser.specs.Reading.{Reads};
 ghost use Rattle.xc_parser.specs.Stops.{Stopped};
+ghost use Rattle.xc_parser.specs.Values.{numeral_of};
 
 use crate::parser::{Parser, Read};
 use crate::stop::Stop;
@@ -21,7 +22,11 @@ pub struct Numeral {
 
 impl<'a> Parser<'a> {
     /// A symbol, by its place in `SYMBOLS`.
-    pub fn symbol(&self, at: usize, wanted: u8) -> Result<Read<Pos>, Stop> {
+    pub fn symbol(&self, at: usize, wanted: u8) -> Result<Read<Pos>, Stop>
+        ensures bounds { IfOk result (λ r. (r.end ≡ at + 1) × (r.end ≤ length self.now.toks.now)) }
+        ensures read { IfOk result (λ r. (room : ℕ) → Reads self.now.toks.now room (sym wanted) at r.end r.value) }
+        ensures stopped { IfErr result (λ e. (room : ℕ) → Stopped self.now.toks.now room (sym wanted) at e) }
+    {
         if !is_symbol(self.toks, at, wanted) {
             return Err(Stop::Wrong(at));
         }
@@ -32,7 +37,11 @@ impl<'a> Parser<'a> {
     }
 
     /// A word, by its place in `WORDS`.
-    pub fn word(&self, at: usize, wanted: u8) -> Result<Read<Pos>, Stop> {
+    pub fn word(&self, at: usize, wanted: u8) -> Result<Read<Pos>, Stop>
+        ensures bounds { IfOk result (λ r. (r.end ≡ at + 1) × (r.end ≤ length self.now.toks.now)) }
+        ensures read { IfOk result (λ r. (room : ℕ) → Reads self.now.toks.now room (key wanted) at r.end r.value) }
+        ensures stopped { IfErr result (λ e. (room : ℕ) → Stopped self.now.toks.now room (key wanted) at e) }
+    {
         if !is_word(self.toks, at, wanted) {
             return Err(Stop::Wrong(at));
         }
@@ -43,13 +52,35 @@ impl<'a> Parser<'a> {
     }
 
     /// A name.
-    pub fn id(&self, at: usize) -> Result<Read<Id>, Stop> {
-        let value = self.name(at)?;
-        Ok(Read { value, end: at + 1 })
+    pub fn id(&self, at: usize) -> Result<Read<Id>, Stop>
+        ensures bounds { IfOk result (λ r. (r.end ≡ at + 1) × (r.end ≤ length self.now.toks.now)) }
+        ensures read { IfOk result (λ r. (room : ℕ) → Reads self.now.toks.now room a_name at r.end r.value) }
+        ensures stopped { IfErr result (λ e. (room : ℕ) → Stopped self.now.toks.now room a_name at e) }
+    {
+        if at >= self.toks.len() {
+            return Err(Stop::Wrong(at));
+        }
+        let tok = &self.toks[at];
+        match &tok.kind {
+            Kind::Name(text) => Ok(Read {
+                value: Id {
+                    text: text.copy(self.alloc)?,
+                    pos: tok.pos,
+                },
+                end: at + 1,
+            }),
+            Kind::Num(..) => Err(Stop::Wrong(at)),
+            Kind::Key(_) => Err(Stop::Wrong(at)),
+            Kind::Sym(_) => Err(Stop::Wrong(at)),
+        }
     }
 
     /// A number.
-    pub fn numeral(&self, at: usize) -> Result<Read<Numeral>, Stop> {
+    pub fn numeral(&self, at: usize) -> Result<Read<Numeral>, Stop>
+        ensures bounds { IfOk result (λ r. (r.end ≡ at + 1) × (r.end ≤ length self.now.toks.now)) }
+        ensures read { IfOk result (λ r. (room : ℕ) → Reads self.now.toks.now room a_number at r.end (numeral_of r.value)) }
+        ensures stopped { IfErr result (λ e. (room : ℕ) → Stopped self.now.toks.now room a_number at e) }
+    {
         if at >= self.toks.len() {
             return Err(Stop::Wrong(at));
         }

@@ -10,7 +10,8 @@ mod declarations;
 mod expected;
 mod expressions;
 mod heads;
-mod loops;
+mod iterations;
+
 mod memory;
 mod nodes;
 mod operands;
