@@ -12,3 +12,4 @@ pub mod Choices
 pub mod Loops
 pub mod Trial
 mod Single
+mod Exits

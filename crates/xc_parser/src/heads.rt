@@ -1,5 +1,11 @@
 //! The heads of functions, with their parameters.
 
+ghost use Rattle.std.specs.Prelude.{◌≡◌, ℕ, ◌+◌, ◌^◌, ◌<◌, ◌≤◌, length, IfOk, IfErr};
+ghost use Rattle.xc_tree.specs.Symbol as symbol;
+ghost use Rattle.xc_parser.specs.Reading.{Reads};
+ghost use Rattle.xc_parser.specs.Stops.{Stopped};
+ghost use Rattle.xc_parser.specs.Values.{head_of};
+
 use crate::parser::{Parser, Read};
 use crate::stop::Stop;
 use crate::terminals::{
@@ -21,7 +27,13 @@ pub struct FunctionHead {
 
 impl<'a> Parser<'a> {
     /// The head of a function.
-    pub fn head(&self, at: usize) -> Result<Read<FunctionHead>, Stop> {
+    pub fn head(&self, at: usize) -> Result<Read<FunctionHead>, Stop>
+        requires short { length self.now.toks.now < 2 ^ 32 }
+        requires at { at ≤ length self.now.toks.now }
+        ensures bounds { IfOk result (λ r. (at < r.end) × (r.end ≤ length self.now.toks.now)) }
+        ensures read { IfOk result (λ r. (room : ℕ) → Reads self.now.toks.now room symbol.head at r.end (head_of r.value)) }
+        ensures stopped { IfErr result (λ e. (room : ℕ) → Stopped self.now.toks.now room symbol.head at e) }
+    {
         let result = self.result_type(at)?;
         let name = self.id(result.end)?;
         let open = self.symbol(name.end, PAREN)?;
@@ -39,7 +51,12 @@ impl<'a> Parser<'a> {
     }
 
     /// The result of a function: `None` for `void`, else whether it is `unsigned`.
-    pub fn result_type(&self, at: usize) -> Result<Read<Option<bool>>, Stop> {
+    pub fn result_type(&self, at: usize) -> Result<Read<Option<bool>>, Stop>
+        requires at { at ≤ length self.now.toks.now }
+        ensures bounds { IfOk result (λ r. (at < r.end) × (r.end ≤ length self.now.toks.now)) }
+        ensures read { IfOk result (λ r. (room : ℕ) → Reads self.now.toks.now room symbol.result at r.end r.value) }
+        ensures stopped { IfErr result (λ e. (room : ℕ) → Stopped self.now.toks.now room symbol.result at e) }
+    {
         if is_word(self.toks, at, VOID_WORD) {
             return Ok(Read {
                 value: None,
@@ -54,7 +71,12 @@ impl<'a> Parser<'a> {
     }
 
     /// `int`, `unsigned` or `unsigned int`: whether it is `unsigned`.
-    pub fn word_type(&self, at: usize) -> Result<Read<bool>, Stop> {
+    pub fn word_type(&self, at: usize) -> Result<Read<bool>, Stop>
+        requires at { at ≤ length self.now.toks.now }
+        ensures bounds { IfOk result (λ r. (at < r.end) × (r.end ≤ length self.now.toks.now)) }
+        ensures read { IfOk result (λ r. (room : ℕ) → Reads self.now.toks.now room symbol.word at r.end r.value) }
+        ensures stopped { IfErr result (λ e. (room : ℕ) → Stopped self.now.toks.now room symbol.word at e) }
+    {
         if !is_word(self.toks, at, UNSIGNED_WORD) {
             let int = self.word(at, INT_WORD)?;
             return Ok(Read {
@@ -75,7 +97,12 @@ impl<'a> Parser<'a> {
     }
 
     /// The parameters of a function, which may be none.
-    pub fn params(&self, at: usize) -> Result<Read<List<Param>>, Stop> {
+    pub fn params(&self, at: usize) -> Result<Read<List<Param>>, Stop>
+        requires at { at ≤ length self.now.toks.now }
+        ensures bounds { IfOk result (λ r. (at ≤ r.end) × (r.end ≤ length self.now.toks.now)) }
+        ensures read { IfOk result (λ r. (room : ℕ) → Reads self.now.toks.now room symbol.params at r.end r.value) }
+        ensures stopped { IfErr result (λ e. (room : ℕ) → Stopped self.now.toks.now room symbol.params at e) }
+    {
         let mut value = List::new(self.alloc);
         if is_word(self.toks, at, VOID_WORD) {
             return Ok(Read { value, end: at + 1 });
@@ -104,7 +131,12 @@ impl<'a> Parser<'a> {
     }
 
     /// A parameter.
-    pub fn param(&self, at: usize) -> Result<Read<Param>, Stop> {
+    pub fn param(&self, at: usize) -> Result<Read<Param>, Stop>
+        requires at { at ≤ length self.now.toks.now }
+        ensures bounds { IfOk result (λ r. (at < r.end) × (r.end ≤ length self.now.toks.now)) }
+        ensures read { IfOk result (λ r. (room : ℕ) → Reads self.now.toks.now room symbol.param at r.end r.value) }
+        ensures stopped { IfErr result (λ e. (room : ℕ) → Stopped self.now.toks.now room symbol.param at e) }
+    {
         if begins_type(self.toks, at) {
             return self.word_param(at);
         }
@@ -179,7 +211,12 @@ impl<'a> Parser<'a> {
     }
 
     /// The direction of a port.
-    pub fn dir(&self, at: usize) -> Result<Read<TreeDir>, Stop> {
+    pub fn dir(&self, at: usize) -> Result<Read<TreeDir>, Stop>
+        requires at { at ≤ length self.now.toks.now }
+        ensures bounds { IfOk result (λ r. (at < r.end) × (r.end ≤ length self.now.toks.now)) }
+        ensures read { IfOk result (λ r. (room : ℕ) → Reads self.now.toks.now room symbol.dir at r.end r.value) }
+        ensures stopped { IfErr result (λ e. (room : ℕ) → Stopped self.now.toks.now room symbol.dir at e) }
+    {
         if is_word(self.toks, at, IN_WORD) {
             let port = self.word(at + 1, PORT_WORD)?;
             return Ok(Read {
