@@ -6,6 +6,9 @@ pub mod Firsts
 pub mod Forth
 pub mod Narrows
 pub mod Alternatives
+pub mod Spreads
+pub mod Beginnings
+pub mod Behinds
 pub mod Paths
 pub mod Choices
 pub mod Loops

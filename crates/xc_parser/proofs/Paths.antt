@@ -1,5 +1,5 @@
 -- The steps of a path through a function that reads a symbol, each of them for every symbol.
-use Rattle.std.proofs.Common.{◌≡◌, ℕ, suc, ◌+◌, ◌≤◌, Bool, true, false, leb, List, [], ◌∷◌}
+use Rattle.std.proofs.Common.{◌≡◌, ℕ, suc, max, ◌+◌, ◌≤◌, Bool, true, false, leb, List, [], ◌∷◌}
 use Rattle.xw_words.specs.declared.pos.Pos.{Pos}
 use Rattle.xc_tree.specs.declared.token.Tok.{Tok}
 use Rattle.xc_tree.specs.declared.token.Kind.TheVariants.{Name, Num, Key, Sym}
@@ -89,7 +89,7 @@ module _ {toks : List Tok} {room : ℕ} {s : Symbol} {i k : ℕ} where
 
   -- the same where one rest is left
   module _ {n a : ℕ} {t : Symbol} {ps : List Part} {f : ValuesOf (record { above = a; symbol = t } ∷ ps) → Bool} {make : Extent → ValuesOf (record { above = a; symbol = t } ∷ ps) → Value s} where
-    pub read : {j : ℕ} {v : Value t} → Roomy toks room s i k (record { need = n; parts = record { above = a; symbol = t } ∷ ps; fits = f; make = make } ∷ []) → Reads toks (left room a) t k j v → is_apart s t ps ≡ true → Roomy toks room s i j (record { need = n; parts = ps; fits = λ x. f (v, x); make = λ e x. make e (v, x) } ∷ [])
+    pub read : {j : ℕ} {v : Value t} → Roomy toks room s i k (record { need = n; parts = record { above = a; symbol = t } ∷ ps; fits = f; make = make } ∷ []) → Reads toks (left room a) t k j v → is_apart s t ps ≡ true → Roomy toks room s i j (record { need = max n a; parts = ps; fits = λ x. f (v, x); make = λ e x. make e (v, x) } ∷ [])
     read st r e = ?
 
     pub stops : (e : Stop) → Roomy toks room s i k (record { need = n; parts = record { above = a; symbol = t } ∷ ps; fits = f; make = make } ∷ []) → Stopped toks (left room a) t k e → is_apart s t ps ≡ true → Stopped toks room s i e
