@@ -58,6 +58,11 @@ abbrev pos_or : Option Tok → Pos
 pos_or None = record { line = 0; col = 0 }
 pos_or (Some t) = t.pos
 
+pub token_prefix : {toks : List Tok} {room : Room} {t : Symbol} {k n : ℕ} → is_token t ≡ true → Prefix toks room t k n → n ≤ k + 1
+token_prefix e nothing = omega arith
+token_prefix e (whole d) = omega (arith, (token_derived e d).0)
+token_prefix {t} e (begins a h b) = absurd (no_rule t e a)
+
 -- two tokens at one place are the same
 one_token : {toks : List Tok} {k : ℕ} {a b : Kind} {p q : Pos} → On toks k a p → On toks k b q → (a ≡ b) × (p ≡ q)
 one_token x y = (same_kind x y, ap pos_or (sym' x.there ∙ y.there))

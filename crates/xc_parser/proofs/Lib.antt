@@ -9,6 +9,9 @@ pub mod Alternatives
 pub mod Spreads
 pub mod Beginnings
 pub mod Behinds
+pub mod Overs
+pub mod Heads
+pub mod Advances
 pub mod Paths
 pub mod Choices
 pub mod Loops
