@@ -7,6 +7,12 @@ pub mod Firsts
 pub mod Forth
 pub mod Narrows
 pub mod Alternatives
+pub mod Spreads
+pub mod Beginnings
+pub mod Behinds
+pub mod Overs
+pub mod Heads
+pub mod Advances
 pub mod Paths
 pub mod Choices
 pub mod Loops

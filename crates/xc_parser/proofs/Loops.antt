@@ -1,5 +1,5 @@
 -- Loops over `{ t }` and `t { "," t }`: what was read of them so far, and each step.
-use Rattle.std.proofs.Common.{◌≡◌, ℕ, ◌+◌, ◌≤◌, Bool, true, false, not, ◌&&◌, List, [], ◌∷◌, ◌++◌}
+use Rattle.std.proofs.Common.{◌≡◌, ℕ, max, ◌+◌, ◌≤◌, Bool, true, false, not, ◌&&◌, List, [], ◌∷◌, ◌++◌}
 use Rattle.xw_words.specs.declared.pos.Pos.{Pos}
 use Rattle.xc_tree.specs.declared.token.Tok.{Tok}
 use Rattle.xc_tree.specs.declared.token.Kind.TheVariants.{Sym}
@@ -27,7 +27,7 @@ pub record Run (V : Type 0) : Type 0 where
 -- of { t } these were read
 abbrev pub having : {V : Type 0} (r : Run V) → List (Value r.symbol) → Rest V
 having r xs = record {
-  need = r.need;
+  need = max r.need r.above;
   parts = record { above = r.above; symbol = many r.symbol } ∷ r.parts;
   fits = λ x. r.fits (xs ++ x.0, x.1);
   make = λ e x. r.make e (xs ++ x.0, x.1);
@@ -36,7 +36,7 @@ having r xs = record {
 -- of t { "," t } these were read, each with its comma
 abbrev pub listing : {V : Type 0} (r : Run V) → List (Value r.symbol) → Rest V
 listing r xs = record {
-  need = r.need;
+  need = max r.need r.above;
   parts = record { above = r.above; symbol = commas r.symbol } ∷ r.parts;
   fits = λ x. r.fits (xs ++ x.0, x.1);
   make = λ e x. r.make e (xs ++ x.0, x.1);
@@ -44,7 +44,7 @@ listing r xs = record {
 
 -- what is left behind the list
 abbrev pub had : {V : Type 0} (r : Run V) → List (Value r.symbol) → Rest V
-had r xs = record { need = r.need; parts = r.parts; fits = λ x. r.fits (xs, x); make = λ e x. r.make e (xs, x) }
+had r xs = record { need = max r.need r.above; parts = r.parts; fits = λ x. r.fits (xs, x); make = λ e x. r.make e (xs, x) }
 
 -- an element is told from what stands behind the list by its first token
 abbrev pub is_loop : Symbol → Symbol → List Part → Bool

@@ -1,5 +1,5 @@
 -- The steps of a path through a function that reads a symbol, each of them for every symbol.
-use Rattle.std.proofs.Common.{◌≡◌, ℕ, suc, ◌+◌, ◌≤◌, Bool, true, false, leb, List, [], ◌∷◌}
+use Rattle.std.proofs.Common.{◌≡◌, ℕ, suc, max, ◌+◌, ◌≤◌, Bool, true, false, leb, List, [], ◌∷◌}
 use Rattle.xw_words.specs.declared.pos.Pos.{Pos}
 use Rattle.xc_tree.specs.declared.token.Tok.{Tok}
 use Rattle.xc_tree.specs.declared.token.Kind.TheVariants.{Name, Num, Key, Sym}
@@ -11,7 +11,7 @@ use Rattle.xc_parser.specs.Follows.{OneOf, follows}
 use Rattle.xc_parser.specs.Reading.{Reads, Refuses, Unfit}
 use Rattle.xc_parser.specs.Stops.{Stopped}
 use Rattle.xc_parser.proofs.Rests.{Part, ValuesOf, Rest, Stands, left}
-use Rattle.xc_parser.proofs.Opening.{is_token, beginnings, over, moves, peak, Within, keep, without, spread, is_apart, all_apart, Heads, popped, deepened}
+use Rattle.xc_parser.proofs.Opening.{is_token, beginnings, over, moves, peak, Within, keep, without, spread, is_apart, heads_apart, Heads, popped, deepened}
 
 -- the symbol stands so, and there is room for each rest
 pub record Roomy (toks : List Tok) (room : ℕ) (s : Symbol) (i k : ℕ) (rs : List (Rest (Value s))) : Type 0 where
@@ -69,13 +69,13 @@ module _ {toks : List Tok} {room : ℕ} {s : Symbol} {i k : ℕ} {rs : List (Res
 
   -- where all rests begin with the same symbol: it is read, or reading it stopped, or it is too deep as far as it was read
   module _ {t : Symbol} {a : ℕ} (heads : Heads t a rs) where
-    pub read_all : {j : ℕ} {v : Value t} → Roomy toks room s i k rs → Reads toks (left room a) t k j v → all_apart s heads ≡ true → Roomy toks room s i j (popped heads v)
+    pub read_all : {j : ℕ} {v : Value t} → Roomy toks room s i k rs → Reads toks (left room a) t k j v → heads_apart s heads ≡ true → Roomy toks room s i j (popped heads v)
     read_all st r e = ?
 
-    pub stops_all : (e : Stop) → Roomy toks room s i k rs → Stopped toks (left room a) t k e → all_apart s heads ≡ true → Stopped toks room s i e
+    pub stops_all : (e : Stop) → Roomy toks room s i k rs → Stopped toks (left room a) t k e → heads_apart s heads ≡ true → Stopped toks room s i e
     stops_all e st r d = ?
 
-    pub unfit_all : {j : ℕ} → Roomy toks room s i k rs → (u : Unfit toks (left room a) t k j) → all_apart s heads ≡ true → Stands toks room s i j (deepened room heads u.value)
+    pub unfit_all : {j : ℕ} → Roomy toks room s i k rs → (u : Unfit toks (left room a) t k j) → heads_apart s heads ≡ true → Stands toks room s i j (deepened room heads u.value)
     unfit_all st u e = ?
 
 module _ {toks : List Tok} {room : ℕ} {s : Symbol} {i k : ℕ} where
@@ -89,7 +89,7 @@ module _ {toks : List Tok} {room : ℕ} {s : Symbol} {i k : ℕ} where
 
   -- the same where one rest is left
   module _ {n a : ℕ} {t : Symbol} {ps : List Part} {f : ValuesOf (record { above = a; symbol = t } ∷ ps) → Bool} {make : Extent → ValuesOf (record { above = a; symbol = t } ∷ ps) → Value s} where
-    pub read : {j : ℕ} {v : Value t} → Roomy toks room s i k (record { need = n; parts = record { above = a; symbol = t } ∷ ps; fits = f; make = make } ∷ []) → Reads toks (left room a) t k j v → is_apart s t ps ≡ true → Roomy toks room s i j (record { need = n; parts = ps; fits = λ x. f (v, x); make = λ e x. make e (v, x) } ∷ [])
+    pub read : {j : ℕ} {v : Value t} → Roomy toks room s i k (record { need = n; parts = record { above = a; symbol = t } ∷ ps; fits = f; make = make } ∷ []) → Reads toks (left room a) t k j v → is_apart s t ps ≡ true → Roomy toks room s i j (record { need = max n a; parts = ps; fits = λ x. f (v, x); make = λ e x. make e (v, x) } ∷ [])
     read st r e = ?
 
     pub stops : (e : Stop) → Roomy toks room s i k (record { need = n; parts = record { above = a; symbol = t } ∷ ps; fits = f; make = make } ∷ []) → Stopped toks (left room a) t k e → is_apart s t ps ≡ true → Stopped toks room s i e
