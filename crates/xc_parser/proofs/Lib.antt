@@ -12,6 +12,7 @@ pub mod Behinds
 pub mod Overs
 pub mod Heads
 pub mod Advances
+pub mod Reaches
 pub mod Paths
 pub mod Choices
 pub mod Loops
