@@ -20,3 +20,7 @@ pub mod Loops
 pub mod Trial
 mod Single
 mod Exits
+pub mod Listed
+pub mod Unfinished
+mod Params
+mod ParamRows
