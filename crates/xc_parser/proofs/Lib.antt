@@ -13,7 +13,8 @@ pub mod Overs
 pub mod Heads
 pub mod Advances
 pub mod Reaches
-pub mod Paths
+pub mod Moves
 pub mod Choices
+pub mod Paths
 pub mod Loops
 pub mod Trial
