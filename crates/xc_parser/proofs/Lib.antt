@@ -16,5 +16,6 @@ pub mod Reaches
 pub mod Moves
 pub mod Choices
 pub mod Paths
+pub mod TokenReads
 pub mod Loops
 pub mod Trial
