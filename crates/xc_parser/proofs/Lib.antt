@@ -17,5 +17,6 @@ pub mod Moves
 pub mod Choices
 pub mod Paths
 pub mod TokenReads
+pub mod Lists
 pub mod Loops
 pub mod Trial
