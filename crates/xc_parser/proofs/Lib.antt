@@ -19,4 +19,5 @@ pub mod Paths
 pub mod TokenReads
 pub mod Lists
 pub mod Loops
+pub mod Rows
 pub mod Trial

@@ -17,7 +17,7 @@ no_nodes : (room : Room) → HasRoom room 0
 no_nodes unlimited = tt
 no_nodes (at_most n) = omega arith
 
-token_begun : {toks : List Tok} {room : Room} {i n : ℕ} {t : Symbol} → is_token t ≡ true → Prefix toks room t i n → (n ≡ i) ⊎ ((n ≡ i + 1) × (v : Value t) × TokenAt toks i t v)
+pub token_begun : {toks : List Tok} {room : Room} {i n : ℕ} {t : Symbol} → is_token t ≡ true → Prefix toks room t i n → (n ≡ i) ⊎ ((n ≡ i + 1) × (v : Value t) × TokenAt toks i t v)
 token_begun e nothing = inl refl
 token_begun e (whole {v} d) = let y = token_derived e d in inr (y.0, v, y.1)
 token_begun {t} e (begins a h b) = absurd (no_rule t e a)
