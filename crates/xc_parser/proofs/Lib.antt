@@ -14,9 +14,13 @@ pub mod Overs
 pub mod Heads
 pub mod Advances
 pub mod Reaches
-pub mod Paths
+pub mod Moves
 pub mod Choices
+pub mod Paths
+pub mod TokenReads
+pub mod Lists
 pub mod Loops
+pub mod Rows
 pub mod Trial
 mod Single
 mod Exits
