@@ -5,7 +5,7 @@ use Rattle.xc_parser.proofs.Exits.{handed_on}
 use Rattle.xc_parser.proofs.TokenSets.{one_within}
 use Rattle.xc_parser.proofs.Paths.{begin, over_word, lacks, lacks_word, read, stops, finish}
 use Rattle.xc_parser.proofs.Unfinished.{unfinished}
-use Rattle.xc_parser.proofs.Loops.{row_stops}
+use Rattle.xc_parser.proofs.Rows.{row_stops}
 use Rattle.xc_parser.proofs.Listed.{first_listed, next_listed, next_stops, end_listed}
 use Rattle.xc_parser.proofs.ParamRows.{row_of_params}
 use Rattle.xc_parser.proofs.parser.Parser.params.Goals as goal
