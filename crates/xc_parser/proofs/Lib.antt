@@ -20,4 +20,4 @@ pub mod TokenReads
 pub mod Lists
 pub mod Loops
 pub mod Rows
-pub mod Trial
+pub mod Ifs
