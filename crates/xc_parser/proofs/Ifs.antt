@@ -14,6 +14,7 @@ use Rattle.xc_parser.specs.Follows.{OneOf, follows}
 use Rattle.xc_parser.specs.Reading.{IsFront}
 use Rattle.xc_parser.proofs.Rests.{Part, ValuesOf, Rest, RowOf, BeginsOf, EndsBy, Ends, StartsBy, Starts, inside, Open}
 use Rattle.xc_parser.proofs.Alternatives.{by_rules, from_rules, by_starts, from_starts}
+use Rattle.xc_parser.proofs.Advances.{Never}
 use Rattle.xc_parser.proofs.Behinds.{token_derived, token_prefix}
 use Rattle.xc_parser.proofs.Forth.{prefix_forth, forth}
 
@@ -125,16 +126,9 @@ at_else {toks} {j} {q} p on shut e g = record {
   may = ap is_open g ∙ shut;
 }
 
--- the two rests behind the condition of an `if` that began at i
-pub record Fork (toks : List Tok) (room : Room) (i k : ℕ) (rs : List (Rest plain.Statement)) : Type 0 where
-  pub derives : (j : ℕ) (v : plain.Statement) → Ends toks room rs i k j v → Derives toks room statement i j v
-  pub only : (j : ℕ) (v : plain.Statement) → Derives toks room statement i j v → IsFront toks statement j v ⊎ Ends toks room rs i k j v
-  pub prefix : (n : ℕ) → Starts toks room rs k n → Prefix toks room statement i n
-  pub here : Prefix toks room statement i k
-  pub most : (n : ℕ) → Prefix toks room statement i n → (n ≤ k) ⊎ Starts toks room rs k n
-
+-- the two rests behind the condition of an `if`
 module _ {toks : List Tok} {room : Room} {i k j : ℕ} {v : plain.Statement} (n a n' : ℕ) (f : ValuesOf (lone a) → Bool) (m : Extent → ValuesOf (lone a) → plain.Statement) (f' : ValuesOf (with_else a) → Bool) (m' : Extent → ValuesOf (with_else a) → plain.Statement)
-  (o : Fork toks room i k (ending n a f m ∷ going_on n' a f' m' ∷ [])) (r : Sole toks (inside room a) k j v)
+  (o : Open toks room statement i k k (ending n a f m ∷ going_on n' a f' m' ∷ [])) (r : Sole toks (inside room a) k j v)
   (free : (x : ValuesOf (lone a)) → f x ≡ true) (opens : (e : Extent) (x : ValuesOf (lone a)) → is_open (m e x) ≡ true) (h : HasRoom room n) (b : HasRoom room a) where
   -- no `else` stands behind its statement
   pub ends_here : ((p : Pos) → On toks j (Key 7) p → ⊥) → Sole toks room i j (m (extent toks i j) (v, tt))
@@ -160,7 +154,7 @@ module _ {toks : List Tok} {room : Room} {i k j : ℕ} {v : plain.Statement} (n 
   }
 
   -- one does, and belongs to this `if`
-  pub goes_on_here : (p : Pos) → On toks j (Key 7) p → is_open v ≡ false → HasRoom room n' → Fork toks room i (j + 1) (behind_else n' a f' m' v p ∷ [])
+  pub goes_on_here : (p : Pos) → On toks j (Key 7) p → is_open v ≡ false → HasRoom room n' → Open toks room statement i (j + 1) (j + 1) (behind_else n' a f' m' v p ∷ [])
   goes_on_here p on shut h' = record {
     derives = λ q w e. elim e [
       | inl z ↦ o.derives q w (inr (inl ((v, (p, z.0)), z.1, (j, b, is_closed r.derives shut, (j + 1, b, a_key on, z.2)), z.3, z.4)))
@@ -199,6 +193,31 @@ module _ {toks : List Tok} {room : Room} {i k j : ℕ} {v : plain.Statement} (n 
           ]
           | inr z ↦ absurd z
         ]
+      ]
+    ];
+  }
+
+-- reading the statement stopped
+module _ {toks : List Tok} {room : Room} {i k m : ℕ} (n a n' : ℕ) (f : ValuesOf (lone a) → Bool) (make : Extent → ValuesOf (lone a) → plain.Statement) (f' : ValuesOf (with_else a) → Bool) (make' : Extent → ValuesOf (with_else a) → plain.Statement)
+  (o : Open toks room statement i k k (ending n a f make ∷ going_on n' a f' make' ∷ [])) (r : Never toks (inside room a) statement k m) (l : k ≤ m)
+  (opens : (e : Extent) (x : ValuesOf (lone a)) → is_open (make e x) ≡ true) where
+  no_closed : {q : ℕ} {w : plain.Statement} → Derives toks (inside room a) closed k q w → ⊥
+  no_closed {q} {w} d = let c = closed_is d in let g = r.never q w c.0 in let h = g.may in let b = c.1 in absurd (cc)
+
+  pub stops_here : Never toks room statement i m
+  stops_here = record {
+    never = λ q w d. elim (o.only q w d) [
+      | inl g ↦ g
+      | inr y ↦ elim y [
+        | inl z ↦ let g = r.never z.2.0 z.0.0 z.2.2 in record { goes_on = subst (λ (x : ℕ). OneOf toks x (follows statement)) (sym' z.2.3) g.goes_on; may = ap is_open z.4 ∙ opens (extent toks i q) z.0 }
+        | inr y' ↦ elim y' [ inl z ↦ absurd (no_closed z.2.2) | inr z ↦ absurd z ]
+      ]
+    ];
+    most = λ q p. elim (o.most q p) [
+      | inl h ↦ omega arith
+      | inr y ↦ elim y [
+        | inl z ↦ elim z.1 [ inl x ↦ r.most q x.1 | inr x ↦ absurd x.4 ]
+        | inr y' ↦ elim y' [ inl z ↦ elim z.1 [ inl x ↦ r.most q (closed_prefix x.1) | inr x ↦ absurd (no_closed x.3) ] | inr z ↦ absurd z ]
       ]
     ];
   }

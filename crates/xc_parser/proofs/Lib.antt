@@ -21,3 +21,4 @@ pub mod Lists
 pub mod Loops
 pub mod Rows
 pub mod Ifs
+pub mod Lasts
