@@ -99,3 +99,63 @@ module _ {toks : List Tok} {room : ℕ} {s : Symbol} {i k : ℕ} {n a : ℕ} {t 
         most = c.most;
       }
   stops_last Memory st r w keeps = tt
+
+sole_of : {toks : List Tok} {room : Room} {k j : ℕ} {v : plain.Statement} → Known toks room statement k j v → Sole toks room k j v
+sole_of r = record { derives = r.derives; only = r.only; most = r.most }
+
+-- behind the condition of an `if`
+module _ {toks : List Tok} {room i k n a n' : ℕ} {f : ValuesOf (lone a) → Bool} {m : Extent → ValuesOf (lone a) → plain.Statement} {f' : ValuesOf (with_else a) → Bool} {m' : Extent → ValuesOf (with_else a) → plain.Statement}
+  (st : Roomy toks room statement i k (ending n a f m ∷ going_on n' a f' m' ∷ [])) where
+  fits_n : n ≤ room
+  fits_n = let y = st.needs in grind arith
+
+  fits_a : a ≤ room
+  fits_a = let y = st.needs in grind arith
+
+  fits_n' : n' ≤ room
+  fits_n' = let y = st.needs in grind arith
+
+  module _ {j : ℕ} {v : plain.Statement} (r : Reads toks (left room a) statement k j v) (free : (x : ValuesOf (lone a)) → f x ≡ true) (opens : (e : Extent) (x : ValuesOf (lone a)) → is_open (m e x) ≡ true) where
+    known_any : Sole toks (inside unlimited a) k j v
+    known_any = subst (λ (x : Room). Sole toks x k j v) (sym' (inside_free a)) (sole_of (known_free r))
+
+    known_some : Sole toks (inside (at_most room) a) k j v
+    known_some = subst (λ (x : Room). Sole toks x k j v) (sym' (inside_most room a)) (sole_of (known_held r))
+
+    -- no `else` stands behind its statement
+    pub if_ends : ((p : Pos) → On toks j (Key 7) p → ⊥) → Reads toks room statement i j (m (extent toks i j) (v, tt))
+    if_ends none =
+        let h = ends_here n a n' f m f' m' st.stands.held known_some free opens fits_n fits_a none in
+        let g = ends_here n a n' f m f' m' st.stands.free known_any free opens tt tt none in
+        record { derives = h.derives; only = g.only; most = g.most }
+
+    -- one does
+    pub if_goes_on : {p : Pos} → On toks j (Key 7) p → is_open v ≡ false → Roomy toks room statement i (j + 1) (behind_else n' a f' m' v p ∷ [])
+    if_goes_on {p} on shut = record {
+      stands = record {
+        free = goes_on_here n a n' f m f' m' st.stands.free known_any free opens tt tt p on shut tt;
+        held = goes_on_here n a n' f m f' m' st.stands.held known_some free opens fits_n fits_a p on shut fits_n';
+      };
+      needs = let y = st.needs in grind arith;
+    }
+
+  -- reading it stopped
+  pub if_stops : (e : Stop) → Stopped toks (left room a) statement k e → ((e : Extent) (x : ValuesOf (lone a)) → is_open (m e x) ≡ true) → Stopped toks room statement i e
+  if_stops (Wrong q) r opens =
+      let g : Never toks (inside unlimited a) statement k q = subst (λ (x : Room). Never toks x statement k q) (sym' (inside_free a)) (never_free r) in
+      let c = stops_here n a n' f m f' m' st.stands.free g (r.most k nothing) opens in
+      record {
+        prefix = st.stands.held.prefix q (inl (fits_n, inl (fits_a, subst (λ (x : Room). Prefix toks x statement k q) (sym' (inside_most room a)) r.prefix)));
+        never = c.never;
+        most = c.most;
+      }
+  if_stops (Deep q) r opens =
+      let g : Never toks (inside (at_most room) a) statement k q = subst (λ (x : Room). Never toks x statement k q) (sym' (inside_most room a)) (never_held r) in
+      let c = stops_here n a n' f m f' m' st.stands.held g (r.most k nothing) opens in
+      record {
+        prefix = st.stands.held.prefix q (inl (fits_n, inl (fits_a, subst (λ (x : Room). Prefix toks x statement k q) (sym' (inside_most room a)) r.prefix)));
+        begins = st.stands.free.prefix (q + 1) (inl (tt, inl (tt, subst (λ (x : Room). Prefix toks x statement k (q + 1)) (sym' (inside_free a)) r.begins)));
+        never = c.never;
+        most = c.most;
+      }
+  if_stops Memory r opens = tt
