@@ -21,7 +21,6 @@ pub mod TokenReads
 pub mod Lists
 pub mod Loops
 pub mod Rows
-pub mod Trial
 mod Single
 mod Exits
 pub mod Listed
@@ -29,3 +28,5 @@ pub mod Unfinished
 mod Params
 mod ParamRows
 mod Cores
+pub mod Ifs
+pub mod Lasts
