@@ -9,4 +9,5 @@ pub mod Alternatives
 pub mod Paths
 pub mod Choices
 pub mod Loops
+pub mod Depths
 pub mod Trial
