@@ -69,14 +69,15 @@ row_depth (s ∷ ss) vs = if is_token s then row_depth ss vs.1 else max (depth s
 abbrev Sinks : {V : Type 0} → (V → ℕ) → Rule V → Type 0
 Sinks d r = (e : Extent) (x : Values r.parts) → d (r.make e x) ≡ row_depth r.parts x + r.nodes
 
-abbrev AllSink : {V : Type 0} → (V → ℕ) → List (Rule V) → Type 0
-AllSink d [] = Unit {0}
-AllSink d (r ∷ rs) = Sinks d r × AllSink d rs
+infixr 20 ◌&◌
+data AllSink {V : Type 0} (d : V → ℕ) : List (Rule V) → Type 0 where
+  none : AllSink d []
+  ◌&◌ : {r : Rule V} {rs : List (Rule V)} → Sinks d r → AllSink d rs → AllSink d (r ∷ rs)
 
 among_sinks : {V : Type 0} (d : V → ℕ) (rs : List (Rule V)) (r : Rule V) (at : ℕ) → AllSink d rs → slice_get rs at ≡ Some r → Sinks d r
-among_sinks d [] r at a e = absurd (cc)
-among_sinks d (x ∷ rs) r zero a e = let f : x ≡ r = cc in subst (λ y. Sinks d y) f a.0
-among_sinks d (x ∷ rs) r (suc at) a e = among_sinks d rs r at a.1 e
+among_sinks d [] r at none e = absurd (cc)
+among_sinks d (x ∷ rs) r zero (a & more) e = let f : x ≡ r = cc in subst (λ y. Sinks d y) f a
+among_sinks d (x ∷ rs) r (suc at) (a & more) e = among_sinks d rs r at more e
 
 -- the lists of the tree
 kept_depth : (is : List (Option plain.Item)) → of_program (kept is) ≡ highest (if_some of_item) is
@@ -128,17 +129,17 @@ pub first_depth : (s : Symbol) (ss : List Symbol) (v : Value s) (vs : Values ss)
 first_depth s ss v vs = over_one (is_token s) (depth s v) (row_depth ss vs) (token_flat s v)
 
 many_sink : (s : Symbol) → AllSink (highest (depth s)) (rules (many s))
-many_sink s = (λ e x. refl, (λ e x. let f = first_depth s (many s ∷ []) x.0 x.1 in omega (arith, f), tt))
+many_sink s = (λ e x. refl) & (λ e x. let f = first_depth s (many s ∷ []) x.0 x.1 in omega (arith, f)) & none
 
 commas_sink : (s : Symbol) → AllSink (highest (depth s)) (rules (commas s))
-commas_sink s = (λ e x. let f = first_depth s [] x.0 tt in omega (arith, f), (λ e x. let f = first_depth s (sym 7 ∷ commas s ∷ []) x.0 x.1 in omega (arith, f), tt))
+commas_sink s = (λ e x. let f = first_depth s [] x.0 tt in omega (arith, f)) & (λ e x. let f = first_depth s (sym 7 ∷ commas s ∷ []) x.0 x.1 in omega (arith, f)) & none
 
 maybe_sink : (s : Symbol) → AllSink (if_some (depth s)) (rules (maybe s))
-maybe_sink s = (λ e x. refl, (λ e x. let f = first_depth s [] x.0 tt in omega (arith, f), tt))
+maybe_sink s = (λ e x. refl) & (λ e x. let f = first_depth s [] x.0 tt in omega (arith, f)) & none
 
 one_of_sink : (os : List ℕ) → AllSink (λ m. 0) (one_of os)
-one_of_sink [] = tt
-one_of_sink (o ∷ os) = (λ e x. refl, one_of_sink os)
+one_of_sink [] = none
+one_of_sink (o ∷ os) = (λ e x. refl) & one_of_sink os
 
 none_deep : {V : Type 0} (xs : List V) → highest (λ x. 0) xs ≡ 0
 none_deep [] = refl
@@ -150,109 +151,63 @@ waits_depth (at_time t) = omega arith
 waits_depth (when_true c) = omega arith
 
 sinks : (s : Symbol) → AllSink (depth s) (rules s)
-sinks (sym o) = tt
-sinks (key w) = tt
-sinks a_name = tt
-sinks a_number = tt
+sinks (sym o) = none
+sinks (key w) = none
+sinks a_name = none
+sinks a_number = none
 sinks (many s) = many_sink s
 sinks (maybe s) = maybe_sink s
 sinks (commas s) = commas_sink s
-sinks program = (λ e x. omega (arith, kept_depth x.0), tt)
-sinks item = (λ e x. omega arith, (λ e x. omega arith, (λ e x. refl, tt)))
-sinks portdecl = (λ e x. omega arith, tt)
-sinks dir = (λ e x. refl, (λ e x. refl, (λ e x. refl, tt)))
-sinks place = (λ e x. omega arith, (λ e x. omega arith, tt))
-sinks place_value = (λ e x. omega arith, tt)
-sinks head = (λ e x. refl, tt)
-sinks result = (λ e x. refl, (λ e x. refl, tt))
-sinks word = (λ e x. refl, (λ e x. refl, (λ e x. refl, tt)))
-sinks params = (λ e x. refl, (λ e x. refl, (λ e x. let f = none_deep x.0 in omega (arith, f), tt)))
-sinks param = (λ e x. refl, (λ e x. refl, (λ e x. refl, (λ e x. refl, (λ e x. refl, (λ e x. refl, tt))))))
-sinks body = (λ e x. omega (arith, statements_depth x.0), tt)
-sinks block = (λ e x. omega arith, tt)
-sinks block_item = (λ e x. omega arith, (λ e x. omega arith, tt))
-sinks decl = (λ e x. omega (arith, declared_depth x.0 x.1.0), (λ e x. omega (arith, named_depth (plain.channel false) refl x.1.0), (λ e x. omega (arith, named_depth plain.timer refl x.1.0), tt)))
-sinks dv = (λ e x. omega arith, (λ e x. refl, tt))
-sinks initial = (λ e x. omega arith, tt)
-sinks statement = (
-  λ e x. refl,
-  (
-    λ e x. omega (arith, statements_depth x.0),
-    (
-      λ e x. omega arith,
-      (
-        λ e x. omega arith,
-        (
-          λ e x. omega arith,
-          (
-            λ e x. omega arith,
-            (
-              λ e x. omega arith,
-              (
-                λ e x. omega arith,
-                (
-                  λ e x. omega arith,
-                  (
-                    λ e x. omega arith,
-                    (
-                      λ e x. omega (arith, maybe_depth x.1.1.0, maybe_depth x.1.1.1.1.1.1.0),
-                      (
-                        λ e x. omega arith,
-                        (
-                          λ e x. refl,
-                          (
-                            λ e x. refl,
-                            (
-                              λ e x. omega (arith, branches_depth x.1.1.0),
-                              (
-                                λ e x. omega arith,
-                                (
-                                  λ e x. omega (arith, cases_depth x.1.1.1.0),
-                                  (λ e x. omega (arith, statements_depth x.1.0), (λ e x. omega (arith, statements_depth x.1.0), tt)),
-                                ),
-                              ),
-                            ),
-                          ),
-                        ),
-                      ),
-                    ),
-                  ),
-                ),
-              ),
-            ),
-          ),
-        ),
-      ),
-    ),
-  ),
-)
-sinks closed = (λ e x. omega arith, tt)
-sinks case_item = (λ e x. omega arith, (λ e x. omega arith, tt))
-sinks for_start = (λ e x. omega arith, (λ e x. omega arith, tt))
-sinks for_step = (λ e x. omega arith, tt)
-sinks branch = (λ e x. omega arith, tt)
-sinks case = (λ e x. omega (arith, statements_depth x.1.1.1.1.0), (λ e x. omega (arith, statements_depth x.1.1.0), tt))
-sinks guard = (λ e x. omega arith, tt)
-sinks assign = (λ e x. omega arith, (λ e x. omega arith, (λ e x. omega arith, (λ e x. omega arith, tt))))
+sinks program = (λ e x. omega (arith, kept_depth x.0)) & none
+sinks item = (λ e x. omega arith) & (λ e x. omega arith) & (λ e x. refl) & none
+sinks portdecl = (λ e x. omega arith) & none
+sinks dir = (λ e x. refl) & (λ e x. refl) & (λ e x. refl) & none
+sinks place = (λ e x. omega arith) & (λ e x. omega arith) & none
+sinks place_value = (λ e x. omega arith) & none
+sinks head = (λ e x. refl) & none
+sinks result = (λ e x. refl) & (λ e x. refl) & none
+sinks word = (λ e x. refl) & (λ e x. refl) & (λ e x. refl) & none
+sinks params = (λ e x. refl) & (λ e x. refl) & (λ e x. let f = none_deep x.0 in omega (arith, f)) & none
+sinks param = (λ e x. refl) & (λ e x. refl) & (λ e x. refl) & (λ e x. refl) & (λ e x. refl) & (λ e x. refl) & none
+sinks body = (λ e x. omega (arith, statements_depth x.0)) & none
+sinks block = (λ e x. omega arith) & none
+sinks block_item = (λ e x. omega arith) & (λ e x. omega arith) & none
+sinks decl = (λ e x. omega (arith, declared_depth x.0 x.1.0)) & (λ e x. omega (arith, named_depth (plain.channel false) refl x.1.0)) & (λ e x. omega (arith, named_depth plain.timer refl x.1.0)) & none
+sinks dv = (λ e x. omega arith) & (λ e x. refl) & none
+sinks initial = (λ e x. omega arith) & none
+sinks statement =
+    (λ e x. refl) & (λ e x. omega (arith, statements_depth x.0)) & (λ e x. omega arith) & (λ e x. omega arith) & (λ e x. omega arith) & (λ e x. omega arith) &
+    (λ e x. omega arith) & (λ e x. omega arith) & (λ e x. omega arith) & (λ e x. omega arith) &
+    (λ e x. omega (arith, maybe_depth x.1.1.0, maybe_depth x.1.1.1.1.1.1.0)) & (λ e x. omega arith) & (λ e x. refl) & (λ e x. refl) &
+    (λ e x. omega (arith, branches_depth x.1.1.0)) & (λ e x. omega arith) & (λ e x. omega (arith, cases_depth x.1.1.1.0)) &
+    (λ e x. omega (arith, statements_depth x.1.0)) & (λ e x. omega (arith, statements_depth x.1.0)) & none
+sinks closed = (λ e x. omega arith) & none
+sinks case_item = (λ e x. omega arith) & (λ e x. omega arith) & none
+sinks for_start = (λ e x. omega arith) & (λ e x. omega arith) & none
+sinks for_step = (λ e x. omega arith) & none
+sinks branch = (λ e x. omega arith) & none
+sinks case = (λ e x. omega (arith, statements_depth x.1.1.1.1.0)) & (λ e x. omega (arith, statements_depth x.1.1.0)) & none
+sinks guard = (λ e x. omega arith) & none
+sinks assign = (λ e x. omega arith) & (λ e x. omega arith) & (λ e x. omega arith) & (λ e x. omega arith) & none
 sinks assign_op = one_of_sink (37 ∷ 38 ∷ 39 ∷ 40 ∷ 41 ∷ 42 ∷ 43 ∷ 44 ∷ 45 ∷ 46 ∷ [])
-sinks rhs = (λ e x. omega arith, (λ e x. omega arith, tt))
-sinks call = (λ e x. omega arith, tt)
-sinks arguments = (λ e x. refl, (λ e x. omega arith, tt))
-sinks argument = (λ e x. omega arith, tt)
-sinks lval = (λ e x. refl, (λ e x. omega arith, tt))
-sinks output = (λ e x. omega arith, tt)
-sinks input = (λ e x. omega (arith, waits_depth x.1.0), tt)
-sinks time = (λ e x. omega arith, tt)
-sinks stamp = (λ e x. omega arith, tt)
-sinks waits = (λ e x. refl, (λ e x. omega arith, (λ e x. omega arith, tt)))
-sinks test = (λ e x. refl, (λ e x. refl, (λ e x. refl, tt)))
-sinks dest = (λ e x. omega arith, (λ e x. refl, (λ e x. refl, tt)))
-sinks expr = (λ e x. omega arith, (λ e x. omega arith, tt))
-sinks (level zero) = (λ e x. omega arith, (λ e x. omega arith, (λ e x. omega arith, (λ e x. omega arith, tt))))
-sinks (level (suc m)) = (λ e x. omega arith, (λ e x. omega arith, tt))
+sinks rhs = (λ e x. omega arith) & (λ e x. omega arith) & none
+sinks call = (λ e x. omega arith) & none
+sinks arguments = (λ e x. refl) & (λ e x. omega arith) & none
+sinks argument = (λ e x. omega arith) & none
+sinks lval = (λ e x. refl) & (λ e x. omega arith) & none
+sinks output = (λ e x. omega arith) & none
+sinks input = (λ e x. omega (arith, waits_depth x.1.0)) & none
+sinks time = (λ e x. omega arith) & none
+sinks stamp = (λ e x. omega arith) & none
+sinks waits = (λ e x. refl) & (λ e x. omega arith) & (λ e x. omega arith) & none
+sinks test = (λ e x. refl) & (λ e x. refl) & (λ e x. refl) & none
+sinks dest = (λ e x. omega arith) & (λ e x. refl) & (λ e x. refl) & none
+sinks expr = (λ e x. omega arith) & (λ e x. omega arith) & none
+sinks (level zero) = (λ e x. omega arith) & (λ e x. omega arith) & (λ e x. omega arith) & (λ e x. omega arith) & none
+sinks (level (suc m)) = (λ e x. omega arith) & (λ e x. omega arith) & none
 sinks (operator m) = one_of_sink (operators m)
 sinks sign = one_of_sink (16 ∷ 15 ∷ 13 ∷ 14 ∷ [])
-sinks atom = (λ e x. refl, (λ e x. refl, (λ e x. omega arith, (λ e x. omega arith, tt))))
+sinks atom = (λ e x. refl) & (λ e x. refl) & (λ e x. omega arith) & (λ e x. omega arith) & none
 
 -- room for the nodes of an alternative and, below them, for those of its parts
 has_none : (room : Room) → HasRoom room 0
