@@ -1,13 +1,13 @@
 -- The nodes of the tree that stand one below the other in what a symbol derives are those that its alternatives need room
 -- for, and no more.
-use Rattle.std.proofs.Common.{◌≡◌, ℕ, zero, suc, ◌+◌, ◌-◌, ◌<◌, ◌≤◌, Bool, true, false, max, List, [], ◌∷◌, map, if◌then◌else◌, slice_get, Option, Some, None, refl, sym as sym', ap, subst, ◌∙◌, arith}
+use Rattle.std.proofs.Common.{◌≡◌, ℕ, zero, suc, ◌+◌, Bool, true, false, max, List, [], ◌∷◌, map, if◌then◌else◌, slice_get, Option, Some, None, refl, sym as sym', ap, subst, arith}
 use Rattle.xc_tree.specs.declared.token.Tok.{Tok}
 use Rattle.xc_tree.specs.declared.tree.Id.{Id}
 use Rattle.xc_tree.specs.Plain as plain
-use Rattle.xc_tree.specs.Symbol.{Symbol, sym, key, a_name, a_number, many, maybe, commas, program, item, portdecl, dir, place, place_value, head, result, word, params, param, body, block, block_item, decl, dv, initial, statement, closed, case_item, for_start, for_step, branch, case, guard, assign, assign_op, rhs, call, arguments, argument, lval, output, input, time, stamp, waits, test, dest, expr, level, operator, sign, atom, Value, Values, Marked, Waits, at_once, at_time, when_true, Declarator, a_word, an_array}
+use Rattle.xc_tree.specs.Symbol.{Symbol, sym, key, a_name, a_number, many, maybe, commas, program, item, portdecl, dir, place, place_value, head, result, word, params, param, body, block, block_item, decl, dv, initial, statement, closed, case_item, for_start, for_step, branch, case, guard, assign, assign_op, rhs, call, arguments, argument, lval, output, input, time, stamp, waits, test, dest, expr, level, operator, sign, atom, Value, Values, Waits, at_once, at_time, when_true, Declarator, a_word, an_array}
 use Rattle.xc_tree.specs.Grammar.{Rule, Extent, rules, one_of, operators, kept, named, declared, time_of, condition_of}
 use Rattle.xc_tree.specs.Depth.{of_expression, highest, if_some, of_argument, of_call, of_right, of_timing, of_output, of_target, of_condition, of_input, of_kind, of_declaration, of_place, of_statement, of_action, of_maybe, of_statements, of_branch, of_branches, of_case, of_cases, of_item, of_program}
-use Rattle.xc_tree.specs.Derives.{Among, Room, unlimited, at_most, HasRoom, below, extent, Derives, a_sym, a_key, named as by_name, counted, by_rule, Row, done, next}
+use Rattle.xc_tree.specs.Derives.{Room, unlimited, at_most, HasRoom, below, extent, Derives, a_sym, a_key, named as by_name, counted, by_rule, Row, done, next}
 use Rattle.xc_parser.proofs.Opening.{is_token}
 
 abbrev pub of_declarator : Declarator → ℕ

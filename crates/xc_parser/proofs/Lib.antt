@@ -10,4 +10,5 @@ pub mod Paths
 pub mod Choices
 pub mod Loops
 pub mod Depths
+pub mod Counts
 pub mod Trial
