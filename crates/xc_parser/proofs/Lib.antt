@@ -11,4 +11,6 @@ pub mod Choices
 pub mod Loops
 pub mod Depths
 pub mod Counts
+pub mod Cuts
+pub mod Whole
 pub mod Trial
