@@ -52,15 +52,15 @@ plain_ignores test e = (record { make = λ e f x. refl; fits = λ x. refl }, (re
 plain_ignores dest e = (record { make = λ e f x. refl; fits = λ x. refl }, (record { make = λ e f x. refl; fits = λ x. refl }, (record { make = λ e f x. refl; fits = λ x. refl }, tt)))
 plain_ignores _ e = absurd (cc)
 
-abbrev HasValue : {V : Type 0} → List Tok → Room → Rule V → ℕ → ℕ → V → Type 0
+abbrev pub HasValue : {V : Type 0} → List Tok → Room → Rule V → ℕ → ℕ → V → Type 0
 HasValue toks room r i j v = (vs : Values r.parts) × HasRoom room r.nodes × Row toks (below room r.nodes) r.parts i j vs × (r.fits vs ≡ true) × (v ≡ r.make (extent toks i j) vs)
 
 -- one of some alternatives is derived from i up to j, or begins so
-abbrev ByRules : {V : Type 0} → List Tok → Room → List (Rule V) → ℕ → ℕ → V → Type 0
+abbrev pub ByRules : {V : Type 0} → List Tok → Room → List (Rule V) → ℕ → ℕ → V → Type 0
 ByRules toks room [] i j v = ⊥
 ByRules toks room (r ∷ rs) i j v = HasValue toks room r i j v ⊎ ByRules toks room rs i j v
 
-abbrev BeginsRules : {V : Type 0} → List Tok → Room → List (Rule V) → ℕ → ℕ → Type 0
+abbrev pub BeginsRules : {V : Type 0} → List Tok → Room → List (Rule V) → ℕ → ℕ → Type 0
 BeginsRules toks room [] i n = ⊥
 BeginsRules toks room (r ∷ rs) i n = (HasRoom room r.nodes × Begins toks (below room r.nodes) r.parts i n) ⊎ BeginsRules toks room rs i n
 
@@ -119,19 +119,19 @@ module _ (toks : List Tok) (room : Room) where
   from_starts s i n e = let x = begins_among (rules s) i n e in begins x.1 x.2 x.3
 
 -- the values of an alternative and of what stands behind it
-abbrev Joined : List Tok → Room → (a : ℕ) (ss : List Symbol) (ps : List Part) → ℕ → ℕ → Values ss → ValuesOf ps → Type 0
+abbrev pub Joined : List Tok → Room → (a : ℕ) (ss : List Symbol) (ps : List Part) → ℕ → ℕ → Values ss → ValuesOf ps → Type 0
 Joined toks room a ss ps i j vs ws = (x : ValuesOf (put a ss ps)) × RowOf toks room (put a ss ps) i j x × (front a ss ps x ≡ vs) × (back a ss ps x ≡ ws)
 
 module _ (toks : List Tok) (room : Room) (a : ℕ) (h : HasRoom room a) (ps : List Part) where
-  row_put : (ss : List Symbol) (i j : ℕ) (x : ValuesOf (put a ss ps)) → RowOf toks room (put a ss ps) i j x → (m : ℕ) × Row toks (inside room a) ss i m (front a ss ps x) × RowOf toks room ps m j (back a ss ps x)
+  pub row_put : (ss : List Symbol) (i j : ℕ) (x : ValuesOf (put a ss ps)) → RowOf toks room (put a ss ps) i j x → (m : ℕ) × Row toks (inside room a) ss i m (front a ss ps x) × RowOf toks room ps m j (back a ss ps x)
   row_put [] i j x r = (i, done, r)
   row_put (s ∷ ss) i j x (m, g, d, r) = let y = row_put ss m j x.1 r in (y.0, next d y.1, y.2)
 
-  put_row : (ss : List Symbol) (i m j : ℕ) (vs : Values ss) (ws : ValuesOf ps) → Row toks (inside room a) ss i m vs → RowOf toks room ps m j ws → Joined toks room a ss ps i j vs ws
+  pub put_row : (ss : List Symbol) (i m j : ℕ) (vs : Values ss) (ws : ValuesOf ps) → Row toks (inside room a) ss i m vs → RowOf toks room ps m j ws → Joined toks room a ss ps i j vs ws
   put_row [] i m j vs ws done r = (ws, r, refl, refl)
   put_row (s ∷ ss) i m j vs ws (next {i = i0} {j = l} {k} {v} {vs = us} d q) r = let y = put_row ss l k j us ws q r in ((v, y.0), (l, h, d, y.1), ap (λ u. (v, u)) y.2, y.3)
 
-  begins_put : (ss : List Symbol) (i n : ℕ) → BeginsOf toks room (put a ss ps) i n → Begins toks (inside room a) ss i n ⊎ ((m : ℕ) × (vs : Values ss) × Row toks (inside room a) ss i m vs × BeginsOf toks room ps m n)
+  pub begins_put : (ss : List Symbol) (i n : ℕ) → BeginsOf toks room (put a ss ps) i n → Begins toks (inside room a) ss i n ⊎ ((m : ℕ) × (vs : Values ss) × Row toks (inside room a) ss i m vs × BeginsOf toks room ps m n)
   begins_put [] i n b = inr (i, tt, done, b)
   begins_put (s ∷ ss) i n (inl (g, q)) = inl (in_this q)
   begins_put (s ∷ ss) i n (inr (m, v, g, d, b)) = elim (begins_put ss m n b) [
@@ -139,10 +139,10 @@ module _ (toks : List Tok) (room : Room) (a : ℕ) (h : HasRoom room a) (ps : Li
     | inr y ↦ inr (y.0, (v, y.1), next d y.2, y.3)
   ]
 
-  put_begins : (ss : List Symbol) (i n : ℕ) → Begins toks (inside room a) ss i n → BeginsOf toks room (put a ss ps) i n
+  pub put_begins : (ss : List Symbol) (i n : ℕ) → Begins toks (inside room a) ss i n → BeginsOf toks room (put a ss ps) i n
   put_begins ss i n (in_this q) = inl (h, q)
   put_begins ss i n (after {s} {ss = rest} {i = i0} {j = m} {n = n0} {v} d b) = inr (m, v, h, d, put_begins rest m n0 b)
 
-  put_after : (ss : List Symbol) (i m n : ℕ) (vs : Values ss) → Row toks (inside room a) ss i m vs → BeginsOf toks room ps m n → BeginsOf toks room (put a ss ps) i n
+  pub put_after : (ss : List Symbol) (i m n : ℕ) (vs : Values ss) → Row toks (inside room a) ss i m vs → BeginsOf toks room ps m n → BeginsOf toks room (put a ss ps) i n
   put_after ss i m n vs done b = b
   put_after ss i m n vs (next {s} {ss = rest} {i = i0} {j = l} {k} {v} {vs = us} d q) b = inr (l, v, h, d, put_after rest l k n us q b)

@@ -104,3 +104,7 @@ inside_has (at_most r) a n h g = let k : n ≤ r - a = subst (λ (y : Room). Has
 pub has_inside : (room : Room) (a n : ℕ) → HasRoom room (a + n) → HasRoom room a × HasRoom (inside room a) n
 has_inside unlimited a n h = (tt, subst (λ (y : Room). HasRoom y n) (sym' (inside_free a)) tt)
 has_inside (at_most r) a n h = (omega arith, subst (λ (y : Room). HasRoom y n) (sym' (inside_is r a)) (omega arith))
+
+pub inside_same : (room : Room) (n : ℕ) → below room n ≡ inside room n
+inside_same unlimited n = sym' (inside_free n)
+inside_same (at_most r) n = sym' (inside_is r n)

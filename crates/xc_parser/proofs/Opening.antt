@@ -151,7 +151,7 @@ as_token _ _ v = None
 
 abbrev pub behind_part : {V : Type 0} (n : ℕ) (p : Part) (ps : List Part) → (ValuesOf (p ∷ ps) → Bool) → (Extent → ValuesOf (p ∷ ps) → V) → Option (Value p.symbol) → List (Rest V) → List (Rest V)
 behind_part n p ps f m None rs = rs
-behind_part n p ps f m (Some v) rs = record { need = n; parts = ps; fits = λ x. f (v, x); make = λ e x. m e (v, x) } ∷ rs
+behind_part n p ps f m (Some v) rs = record { need = max n p.above; parts = ps; fits = λ x. f (v, x); make = λ e x. m e (v, x) } ∷ rs
 
 abbrev pub behind_parts : {V : Type 0} (t : Symbol) → Value t → (n : ℕ) (ps : List Part) → (ValuesOf ps → Bool) → (Extent → ValuesOf ps → V) → List (Rest V) → List (Rest V)
 behind_parts t v n [] f m rs = rs
@@ -243,7 +243,7 @@ pub data Heads {V : Type 0} (t : Symbol) (a : ℕ) : List (Rest V) → Type 0 wh
 -- they behind it
 abbrev pub popped : {V : Type 0} {t : Symbol} {a : ℕ} {rs : List (Rest V)} → Heads t a rs → Value t → List (Rest V)
 popped no_head v = []
-popped (one_head {n} {ps} {f} {m} hs) v = record { need = n; parts = ps; fits = λ x. f (v, x); make = λ e x. m e (v, x) } ∷ popped hs v
+popped {a} (one_head {n} {ps} {f} {m} hs) v = record { need = max n a; parts = ps; fits = λ x. f (v, x); make = λ e x. m e (v, x) } ∷ popped hs v
 
 -- they behind it, where it has no room
 abbrev pub deepened : {V : Type 0} {t : Symbol} {a : ℕ} {rs : List (Rest V)} → ℕ → Heads t a rs → Value t → List (Rest V)
@@ -254,7 +254,7 @@ abbrev pub all_apart : {V : Type 0} {t : Symbol} {a : ℕ} {rs : List (Rest V)} 
 all_apart s no_head = true
 all_apart {t} s (one_head {ps} hs) = is_apart s t ps && all_apart s hs
 
--- one of some rests begins with a token
-abbrev pub begins_with : {V : Type 0} → Symbol → List (Rest V) → Bool
-begins_with t [] = false
-begins_with t (r ∷ rs) = has (firsts r.parts) t || begins_with t rs
+-- there are some, and behind each t is told from what it goes on with
+abbrev pub heads_apart : {V : Type 0} {t : Symbol} {a : ℕ} {rs : List (Rest V)} → Symbol → Heads t a rs → Bool
+heads_apart s no_head = false
+heads_apart {t} s (one_head {ps} hs) = is_apart s t ps && all_apart s hs
