@@ -23,5 +23,6 @@ pub mod Depths
 pub mod Counts
 pub mod Cuts
 pub mod Whole
+pub mod Items
 pub mod Rows
 pub mod Trial
