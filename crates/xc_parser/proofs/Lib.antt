@@ -20,6 +20,11 @@ pub mod Paths
 pub mod TokenReads
 pub mod Lists
 pub mod Loops
+pub mod Depths
+pub mod Counts
+pub mod Cuts
+pub mod Whole
+pub mod Items
 pub mod Rows
 mod Single
 mod Exits
