@@ -35,3 +35,4 @@ mod ParamRows
 mod Cores
 pub mod Ifs
 pub mod Lasts
+mod ItemHeads

@@ -3,3 +3,4 @@ pub mod Programs
 pub mod Reading
 pub mod Stops
 pub mod Values
+pub mod Errors

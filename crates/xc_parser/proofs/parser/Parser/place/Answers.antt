@@ -17,7 +17,6 @@ returns-in_err-core-clause-stopped c =
     handed_on _ c.from_residual-in_err-core.result c.from_residual-in_err-core.ensures.1
     (subst (Stopped c.args.self.now.toks.now c.args.room symbol.place c.args.at) (sym e.0) (no_core (at_on (c.in_ok-on.ensures.read c.args.room)) e.1))
 
-
 pub returns-in_err-open-clause-stopped : goal.returns-in_err-open-clause-stopped
 returns-in_err-open-clause-stopped c =
     handed_on _ c.from_residual-in_err-open.result c.from_residual-in_err-open.ensures.1
