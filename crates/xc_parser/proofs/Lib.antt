@@ -36,3 +36,4 @@ mod Cores
 pub mod Ifs
 pub mod Lasts
 mod ItemHeads
+pub mod CaseRows
