@@ -65,7 +65,7 @@ module _ {toks : List Tok} {k : ℕ} {p : Pos} (on : On toks k (Key 0) p) where
 
   breaking_both : {q : Pos} → On toks (k + 1) (Sym 6) q → Breaking toks k (k + 1 + 1)
   breaking_both {q} semi =
-      let r = finish (over_symbol (over_word (begin {toks} {1} {statement} {k} refl (omega arith)) on refl) semi refl) refl in
+      let r = finish (over_symbol (over_word (begin {toks = toks} {room = 1} {s = statement} {i = k} refl (omega arith)) on refl) semi refl) refl in
       record {
         stands = (p, on);
         never = λ l w d. elim (r.only l w d) [ inl e ↦ inl (ap is_break e.1) | inr f ↦ inr f.goes_on ];
