@@ -20,4 +20,5 @@ pub mod TokenReads
 pub mod Lists
 pub mod Loops
 pub mod Rows
+pub mod Aheads
 pub mod Trial

@@ -16,18 +16,30 @@ use Rattle.xc_parser.proofs.Rests.{Part, Rest, left}
 use Rattle.xc_parser.proofs.Opening.{over, beginnings, all_ready, grown, layers}
 use Rattle.xc_parser.proofs.Paths.{Roomy, begin, over_word, over_symbol, over_name, at_symbol, taken, lacks, read, stops, finish}
 use Rattle.xc_parser.specs.Follows.{OneOf, first}
-
 use Rattle.std.proofs.Common.{◌<◌, ◌++◌}
 use Rattle.xc_tree.specs.Symbol.{block, block_item, decl, dv, assign, rhs, lval}
-use Rattle.xc_tree.specs.Grammar.{rules}
+use Rattle.xc_tree.specs.Grammar.{rules, declared}
+use Rattle.std.proofs.Common.{map}
 use Rattle.xc_parser.specs.Reading.{TooDeep}
 use Rattle.xc_parser.proofs.Opening.{Heads, no_head, one_head}
 use Rattle.xc_parser.proofs.Paths.{read_all, none_left, lacks_symbol}
 use Rattle.xc_parser.proofs.Choices.{all_open, pass_name, dead}
 use Rattle.xc_parser.proofs.Loops.{Run, having, listing, had, one_more, no_more}
+use Rattle.xc_tree.specs.Symbol.{call, initial, Declarator, a_word}
+use Rattle.xc_parser.specs.Reading.{Unfit}
+use Rattle.xc_parser.proofs.Rests.{Stands}
+use Rattle.xc_parser.proofs.Opening.{is_any}
+use Rattle.xc_parser.proofs.Paths.{unfit, unfit_last}
+use Rattle.xc_parser.proofs.Choices.{stuck, no_one, spread_out}
+use Rattle.xc_parser.proofs.Rows.{with_comma, last_one, row_unfit, row_stops}
+use Rattle.xc_parser.proofs.Aheads.{Alone, name_symbol, name_else, read_ahead, stops_ahead, over_ahead, not_first}
 
 abbrev items_of_block : Run (List plain.Statement)
 items_of_block = record { need = 0; above = 0; symbol = block_item; parts = record { above = 0; symbol = sym 3 } ∷ []; fits = λ x. true; make = λ e x. x.0 }
+
+
+abbrev names_of_word : Bool → Run plain.Statement
+names_of_word w = record { need = 1; above = 1; symbol = dv; parts = record { above = 1; symbol = sym 6 } ∷ []; fits = λ x. true; make = λ e x. statement_of e (plain.declare (map (declared w) x.0)) }
 
 module _ (toks : List Tok) (room at : ℕ) where
   dir_in : (p q : Pos) → On toks at (Key 10) p → On toks (at + 1) (Key 16) q → Reads toks room dir at (at + 1 + 1) In
@@ -67,3 +79,27 @@ module _ (toks : List Tok) (room at : ℕ) where
 
   assign_reads : (q : Pos) (m n : ℕ) (l : plain.Expression) (r : plain.RightSide) → Reads toks room lval at m l → On toks m (Sym 22) q → Reads toks room rhs (m + 1) n r → Reads toks room assign at n (plain.assign l 22 q r)
   assign_reads q m n l r a b c = finish (read (over_symbol (read_all (one_head (one_head (one_head (one_head no_head)))) (begin refl tt) a refl) b refl) c refl) refl
+
+  call_statement : (x : List ℕ) (p q r : Pos) (k : ℕ) (c : plain.Call) → 1 ≤ room → On toks at (Name x) p → On toks (at + 1) (Sym 0) q → Reads toks (room - 1) call at k c → at + 1 ≤ k → On toks k (Sym 6) r → Reads toks room statement at (k + 1) (statement_of (extent toks at (k + 1)) (plain.perform (plain.result c)))
+  call_statement x p q r k c h a b d l e = finish (over_symbol (read_ahead (name_symbol (begin refl h) a b) d l refl) e refl) refl
+
+  call_stops : (x : List ℕ) (p q : Pos) (e : Stop) → 1 ≤ room → On toks at (Name x) p → On toks (at + 1) (Sym 0) q → Stopped toks (room - 1) call at e → Stopped toks room statement at e
+  call_stops x p q e h a b d = stops_ahead e (name_symbol (begin refl h) a b) (over_name (begin refl tt) a refl) d refl
+
+  assign_statement : (x : List ℕ) (p r : Pos) (k : ℕ) (c : plain.Action) → 1 ≤ room → On toks at (Name x) p → (OneOf toks (at + 1) (sym 0 ∷ sym 23 ∷ sym 24 ∷ sym 25 ∷ key 28 ∷ []) → ⊥) → Reads toks (room - 1) assign at k c → at + 1 ≤ k → On toks k (Sym 6) r → Reads toks room statement at (k + 1) (statement_of (extent toks at (k + 1)) c)
+  assign_statement x p r k c h a none d l e = finish (over_symbol (read_ahead (name_else (sym 0 ∷ sym 23 ∷ sym 24 ∷ sym 25 ∷ key 28 ∷ []) (begin refl h) a none) d l refl) e refl) refl
+
+  decl_begins : (p : Pos) → 1 ≤ room → On toks at (Key 11) p → Roomy toks room decl at (at + 1) (listing (names_of_word false) [] ∷ [])
+  decl_begins p h a = over_word (begin refl h) a refl
+
+  rhs_call : (x : List ℕ) (p q : Pos) (k : ℕ) (c : plain.Call) → On toks at (Name x) p → On toks (at + 1) (Sym 0) q → Alone toks expr at (at + 1) → at ≤ at + 1 → at + 1 ≤ k → Reads toks room call at k c → Reads toks room rhs at k (plain.result c)
+  rhs_call x p q k c a b al l g r = finish (read_ahead (not_first (begin refl tt) al l (sym 0) (q, b) refl) r g refl) refl
+
+  initial_unfit : (p : Pos) (j : ℕ) → On toks at (Sym 22) p → Unfit toks room rhs (at + 1) j → Unfit toks room initial at j
+  initial_unfit p j a u = unfit_last (over_symbol (begin refl tt) a refl) u refl refl
+
+  dv_unfit : (x : List ℕ) (p : Pos) (j : ℕ) → On toks at (Name x) p → (OneOf toks (at + 1) (sym 4 ∷ []) → ⊥) → Unfit toks room initial (at + 1) j → Unfit toks room dv at j
+  dv_unfit x p j a none u = ?
+
+  decl_deep : (xs : List Declarator) (k j : ℕ) (w : Bool) (q : Pos) → Roomy toks room decl at k (listing (names_of_word w) xs ∷ []) → Unfit toks (room - 1) dv k j → On toks j (Sym 6) q → TooDeep toks room decl at j
+  decl_deep xs k j w q st u on = dead (sym 6) (row_unfit (names_of_word w) xs st u refl) (q, on) refl (?, tt)
