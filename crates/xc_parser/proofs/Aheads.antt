@@ -32,10 +32,10 @@ pub record Ahead (toks : List Tok) (room : ℕ) (s : Symbol) (i k m : ℕ) (rs :
 
 -- a rest goes on with a token of this value and then another, or with none of these behind it
 abbrev pub lasts : {V : Type 0} → List Symbol → (t : Symbol) → Value t → Symbol → Rest V → Bool
-lasts fs t v u r = not (all_ready fs t (grown layers t (r ∷ [])) && not (is_any (keep u (over t v (r ∷ [])))))
+lasts fs t v u r = not (all_ready fs t (grown layers fs t (r ∷ [])) && not (is_any (keep fs u (over fs t v (r ∷ [])))))
 
 abbrev pub lasts_else : {V : Type 0} → List Symbol → (t : Symbol) → Value t → List Symbol → Rest V → Bool
-lasts_else fs t v us r = not (all_ready fs t (grown layers t (r ∷ [])) && not (is_any (without us (over t v (r ∷ [])))))
+lasts_else fs t v us r = not (all_ready fs t (grown layers fs t (r ∷ [])) && not (is_any (without us (over fs t v (r ∷ [])))))
 
 none_left : {V : Type 0} (rs : List (Rest V)) → is_any rs ≡ false → rs ≡ []
 none_left [] e = refl
@@ -50,17 +50,17 @@ module _ {toks : List Tok} {room : Room} {s : Symbol} {i k : ℕ} where
 
   dying : (t : Symbol) (v : Value t) → TokenAt toks k t v → (u : Symbol) → StandsAt toks (k + 1) u → (r : Rest (Value s)) → lasts (follows s) t v u r ≡ false → Gone toks room s i k (k + 1) r
   dying t v at u next r e =
-      let a = all_ready (follows s) t (grown layers t (r ∷ [])) in
-      let c = is_any (keep u (over t v (r ∷ []))) in
+      let a = all_ready (follows s) t (grown layers (follows s) t (r ∷ [])) in
+      let c = is_any (keep (follows s) u (over (follows s) t v (r ∷ []))) in
       let p = and_parts a (not c) (not-false (a && not c) e) in
-      gone_by (compose (overs t v at (r ∷ []) p.0) (at_token u next (over t v (r ∷ []))) (omega arith)) (not-true c p.1)
+      gone_by (compose (overs t v at (r ∷ []) p.0) (at_token u next (over (follows s) t v (r ∷ []))) (omega arith)) (not-true c p.1)
 
   dying_else : (t : Symbol) (v : Value t) → TokenAt toks k t v → (us : List Symbol) → (OneOf toks (k + 1) us → ⊥) → (r : Rest (Value s)) → lasts_else (follows s) t v us r ≡ false → Gone toks room s i k (k + 1) r
   dying_else t v at us none r e =
-      let a = all_ready (follows s) t (grown layers t (r ∷ [])) in
-      let c = is_any (without us (over t v (r ∷ []))) in
+      let a = all_ready (follows s) t (grown layers (follows s) t (r ∷ [])) in
+      let c = is_any (without us (over (follows s) t v (r ∷ []))) in
       let p = and_parts a (not c) (not-false (a && not c) e) in
-      gone_by (compose (overs t v at (r ∷ []) p.0) (at_none us none (over t v (r ∷ []))) (omega arith)) (not-true c p.1)
+      gone_by (compose (overs t v at (r ∷ []) p.0) (at_none us none (over (follows s) t v (r ∷ []))) (omega arith)) (not-true c p.1)
 
 module _ {toks : List Tok} {room : ℕ} {s : Symbol} {i k : ℕ} {rs : List (Rest (Value s))} where
   ruled : (b : Rest (Value s) → Bool) → ((room : Room) (r : Rest (Value s)) → b r ≡ false → Gone toks room s i k (k + 1) r) → Roomy toks room s i k rs → Ahead toks room s i k (k + 1) (sift b rs)
@@ -85,23 +85,23 @@ module _ {toks : List Tok} {room : ℕ} {s : Symbol} {i k : ℕ} {rs : List (Res
   name_else us {x} {p} st a none = ruled (lasts_else (follows s) a_name (record { text = x; pos = p }) us) (λ c r e. dying_else a_name (record { text = x; pos = p }) a us none r e) st
 
   -- over the first token
-  pub over_ahead : (t : Symbol) (v : Value t) → TokenAt toks k t v → Ahead toks room s i k (k + 1) rs → moves (follows s) t rs (over t v rs) ≡ true → Roomy toks room s i (k + 1) (over t v rs)
+  pub over_ahead : (t : Symbol) (v : Value t) → TokenAt toks k t v → Ahead toks room s i k (k + 1) rs → moves (follows s) t rs (over (follows s) t v rs) ≡ true → Roomy toks room s i (k + 1) (over (follows s) t v rs)
   over_ahead t v at st e =
-      let m = moves_from (follows s) t rs (over t v rs) e in
+      let m = moves_from (follows s) t rs (over (follows s) t v rs) e in
       let n = m.needs in
       let h = st.needs in
       record {
         stands = record {
-          free = ahead_pass unlimited st.free m.ready (any_has (over t v rs) m.any);
-          held = ahead_pass (at_most room) st.held m.ready (peak_has room (over t v rs) m.any (omega arith));
+          free = ahead_pass unlimited st.free m.ready (any_has (over (follows s) t v rs) m.any);
+          held = ahead_pass (at_most room) st.held m.ready (peak_has room (over (follows s) t v rs) m.any (omega arith));
         };
         needs = omega arith;
       }
     where
-      ahead_pass : (room : Room) → Open toks room s i k (k + 1) rs → all_ready (follows s) t (grown layers t rs) ≡ true → OneHas room (over t v rs) → Open toks room s i (k + 1) (k + 1) (over t v rs)
+      ahead_pass : (room : Room) → Open toks room s i k (k + 1) rs → all_ready (follows s) t (grown layers (follows s) t rs) ≡ true → OneHas room (over (follows s) t v rs) → Open toks room s i (k + 1) (k + 1) (over (follows s) t v rs)
       ahead_pass room o f h =
           let g = grows {room = room} {s = s} {i = i} layers t (token_stands toks k t v at) rs in
-          narrow o (overs t v at rs f) (omega arith) (o.prefix (k + 1) (g.starts_back (k + 1) (behind_here toks room k t v at (grown layers t rs) h)))
+          narrow o (overs t v at rs f) (omega arith) (o.prefix (k + 1) (g.starts_back (k + 1) (behind_here toks room k t v at (grown layers (follows s) t rs) h)))
 
 module _ {toks : List Tok} {room : ℕ} {s : Symbol} {i k m : ℕ} {rs : List (Rest (Value s))} {t : Symbol} {a : ℕ} (heads : Heads t a rs) where
   -- the symbol that all rests begin with is read from the first token on

@@ -21,4 +21,4 @@ pub mod Lists
 pub mod Loops
 pub mod Rows
 pub mod Aheads
-pub mod Trial
+pub mod Trials

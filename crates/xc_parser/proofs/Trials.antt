@@ -1,3 +1,4 @@
+-- Paths through functions, each answered in one line: how the steps are used.
 use Rattle.std.proofs.Common.{◌≡◌, ℕ, ◌+◌, ◌-◌, ◌≤◌, Bool, true, List, [], ◌∷◌, refl, Some, None}
 use Rattle.xw_words.specs.declared.pos.Pos.{Pos}
 use Rattle.xc_tree.specs.declared.token.Tok.{Tok}
@@ -19,7 +20,7 @@ use Rattle.xc_parser.specs.Follows.{OneOf, first}
 use Rattle.std.proofs.Common.{◌<◌, ◌++◌}
 use Rattle.xc_tree.specs.Symbol.{block, block_item, decl, dv, assign, rhs, lval}
 use Rattle.xc_tree.specs.Grammar.{rules, declared}
-use Rattle.std.proofs.Common.{map}
+use Rattle.std.proofs.Common.{map, false, suc, arith}
 use Rattle.xc_parser.specs.Reading.{TooDeep}
 use Rattle.xc_parser.proofs.Opening.{Heads, no_head, one_head}
 use Rattle.xc_parser.proofs.Paths.{read_all, none_left, lacks_symbol}
@@ -98,8 +99,23 @@ module _ (toks : List Tok) (room at : ℕ) where
   initial_unfit : (p : Pos) (j : ℕ) → On toks at (Sym 22) p → Unfit toks room rhs (at + 1) j → Unfit toks room initial at j
   initial_unfit p j a u = unfit_last (over_symbol (begin refl tt) a refl) u refl refl
 
-  dv_unfit : (x : List ℕ) (p : Pos) (j : ℕ) → On toks at (Name x) p → (OneOf toks (at + 1) (sym 4 ∷ []) → ⊥) → Unfit toks room initial (at + 1) j → Unfit toks room dv at j
-  dv_unfit x p j a none u = ?
+  dv_unfit : (x : List ℕ) (p q : Pos) (j : ℕ) → On toks at (Name x) p → On toks (at + 1) (Sym 22) q → Unfit toks room initial (at + 1) j → Unfit toks room dv at j
+  dv_unfit x p q j a b u = unfit_last (at_symbol (taken (over_name (begin refl tt) a refl) refl) b) u refl refl
+
+  dv_alone : (x : List ℕ) (p : Pos) → On toks at (Name x) p → (OneOf toks (at + 1) (sym 4 ∷ sym 22 ∷ []) → ⊥) → Reads toks room dv at (at + 1) (a_word (record { text = x; pos = p }) None)
+  dv_alone x p a none = finish (lacks (sym 4 ∷ sym 22 ∷ []) (taken (over_name (begin refl tt) a refl) refl) none) refl
 
   decl_deep : (xs : List Declarator) (k j : ℕ) (w : Bool) (q : Pos) → Roomy toks room decl at k (listing (names_of_word w) xs ∷ []) → Unfit toks (room - 1) dv k j → On toks j (Sym 6) q → TooDeep toks room decl at j
-  decl_deep xs k j w q st u on = dead (sym 6) (row_unfit (names_of_word w) xs st u refl) (q, on) refl (?, tt)
+  decl_deep xs k j w q st u on = dead (sym 6) (row_unfit (names_of_word w) xs st u refl) (q, on) refl (omega arith, tt)
+
+  decl_wrong : (xs : List Declarator) (k j : ℕ) (w : Bool) (q : Pos) → Roomy toks room decl at k (listing (names_of_word w) xs ∷ []) → Unfit toks (room - 1) dv k j → (OneOf toks j (sym 6 ∷ sym 7 ∷ []) → ⊥) → Refuses toks room decl at j
+  decl_wrong xs k j w q st u none = stuck (no_one (sym 6 ∷ sym 7 ∷ []) (row_unfit (names_of_word w) xs st u refl) none)
+
+  decl_goes : (xs : List Declarator) (k j : ℕ) (w : Bool) (q : Pos) (d : Declarator) → Roomy toks room decl at k (listing (names_of_word w) xs ∷ []) → Reads toks (room - 1) dv k j d → On toks j (Sym 7) q → Roomy toks room decl at (j + 1) (listing (names_of_word w) (xs ++ (d ∷ [])) ∷ [])
+  decl_goes xs k j w q d st r on = with_comma (names_of_word w) xs st r on refl
+
+  decl_ends : (xs : List Declarator) (k j : ℕ) (w : Bool) (q : Pos) (d : Declarator) → Roomy toks room decl at k (listing (names_of_word w) xs ∷ []) → Reads toks (room - 1) dv k j d → ((p : Pos) → On toks j (Sym 7) p → ⊥) → On toks j (Sym 6) q → Reads toks room decl at (j + 1) (statement_of (extent toks at (j + 1)) (plain.declare (map (declared w) (xs ++ (d ∷ [])))))
+  decl_ends xs k j w q d st r none on = finish (over_symbol (last_one (names_of_word w) xs st r none refl) on refl) refl
+
+  return_deep : (p q : Pos) (j : ℕ) → 1 ≤ room → On toks at (Key 19) p → (OneOf toks (at + 1) (sym 6 ∷ []) → ⊥) → Unfit toks (room - 1) rhs (at + 1) j → On toks j (Sym 6) q → TooDeep toks room statement at j
+  return_deep p q j h a none u on = dead (sym 6) (unfit (lacks (sym 6 ∷ []) (taken (over_word (begin refl h) a refl) refl) none) u refl) (q, on) refl (omega arith, tt)
