@@ -21,4 +21,5 @@ pub mod Lists
 pub mod Loops
 pub mod Rows
 pub mod Aheads
+pub mod Levels
 pub mod Trials
