@@ -22,4 +22,5 @@ pub mod Loops
 pub mod Rows
 pub mod Aheads
 pub mod Levels
+pub mod Depths
 pub mod Trials
