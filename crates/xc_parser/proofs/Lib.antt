@@ -23,4 +23,5 @@ pub mod Rows
 pub mod Aheads
 pub mod Levels
 pub mod Depths
+pub mod Rooms
 pub mod Trials
