@@ -24,4 +24,5 @@ pub mod Aheads
 pub mod Levels
 pub mod Depths
 pub mod Rooms
+pub mod Sizes
 pub mod Trials
