@@ -25,4 +25,6 @@ pub mod Levels
 pub mod Depths
 pub mod Rooms
 pub mod Sizes
+pub mod Prefixes
+pub mod Tops
 pub mod Trials
