@@ -27,4 +27,5 @@ pub mod Rooms
 pub mod Sizes
 pub mod Prefixes
 pub mod Tops
+pub mod Elses
 pub mod Trials
