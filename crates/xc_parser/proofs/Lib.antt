@@ -22,10 +22,11 @@ pub mod Loops
 pub mod Rows
 pub mod Aheads
 pub mod Levels
-pub mod Depths
-pub mod Rooms
-pub mod Sizes
-pub mod Prefixes
-pub mod Tops
 pub mod Elses
-pub mod Trials
+pub mod Ifs
+pub mod Lasts
+pub mod Counts
+pub mod Cuts
+pub mod Depths
+pub mod Whole
+pub mod Items
