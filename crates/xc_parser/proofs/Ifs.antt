@@ -18,7 +18,6 @@ use Rattle.xc_parser.proofs.Advances.{Never}
 use Rattle.xc_parser.proofs.Behinds.{token_derived, token_prefix}
 use Rattle.xc_parser.proofs.Forth.{prefix_forth, forth}
 
-
 -- below no node
 same_below : (room : Room) → below room 0 ≡ room
 same_below unlimited = refl
@@ -93,7 +92,7 @@ module _ {toks : List Tok} {room : Room} {k j : ℕ} {v : plain.Statement} (r : 
       elim (r.only l w c.0) [ inl e ↦ e | inr g ↦ let h = g.may in let b = c.1 in absurd (cc) ]
 
   pub lone_only : (i : ℕ) {q : ℕ} (a : ℕ) {w : plain.Statement} (m : Extent → ValuesOf (lone a) → plain.Statement) → ((e : Extent) (x : ValuesOf (lone a)) → is_open (m e x) ≡ true) →
-    (l : ℕ) (x : ValuesOf (lone a)) → Derives toks room statement k l x.0 → q ≡ l → w ≡ m (extent toks i q) x → ((q ≡ j) × (w ≡ m (extent toks i j) (v, tt))) ⊎ IsFront toks statement q w
+      (l : ℕ) (x : ValuesOf (lone a)) → Derives toks room statement k l x.0 → q ≡ l → w ≡ m (extent toks i q) x → ((q ≡ j) × (w ≡ m (extent toks i j) (v, tt))) ⊎ IsFront toks statement q w
   lone_only i {q} a {w} m opens l x d e b = elim (r.only l x.0 d) [
     | inl s ↦ let f : q ≡ j = e ∙ s.0 in inl (f, b ∙ (ap (λ (y : plain.Statement). m (extent toks i q) (y, tt)) s.1 ∙ ap (λ (y : ℕ). m (extent toks i y) (v, tt)) f))
     | inr g ↦ inr (record { goes_on = subst (λ (y : ℕ). OneOf toks y (follows statement)) (sym' e) g.goes_on; may = ap is_open b ∙ opens (extent toks i q) x })
@@ -128,8 +127,8 @@ at_else {toks} {j} {q} p on shut e g = record {
 
 -- the two rests behind the condition of an `if`
 module _ {toks : List Tok} {room : Room} {i k j : ℕ} {v : plain.Statement} (n a n' : ℕ) (f : ValuesOf (lone a) → Bool) (m : Extent → ValuesOf (lone a) → plain.Statement) (f' : ValuesOf (with_else a) → Bool) (m' : Extent → ValuesOf (with_else a) → plain.Statement)
-  (o : Open toks room statement i k k (ending n a f m ∷ going_on n' a f' m' ∷ [])) (r : Sole toks (inside room a) k j v)
-  (free : (x : ValuesOf (lone a)) → f x ≡ true) (opens : (e : Extent) (x : ValuesOf (lone a)) → is_open (m e x) ≡ true) (h : HasRoom room n) (b : HasRoom room a) where
+    (o : Open toks room statement i k k (ending n a f m ∷ going_on n' a f' m' ∷ [])) (r : Sole toks (inside room a) k j v)
+    (free : (x : ValuesOf (lone a)) → f x ≡ true) (opens : (e : Extent) (x : ValuesOf (lone a)) → is_open (m e x) ≡ true) (h : HasRoom room n) (b : HasRoom room a) where
   -- no `else` stands behind its statement
   pub ends_here : ((p : Pos) → On toks j (Key 7) p → ⊥) → Sole toks room i j (m (extent toks i j) (v, tt))
   ends_here none = record {
@@ -166,10 +165,10 @@ module _ {toks : List Tok} {room : Room} {i k j : ℕ} {v : plain.Statement} (n 
         | inl z ↦ elim (lone_only r i a m opens z.2.0 z.0 z.2.2 z.2.3 z.4) [ inl s ↦ inl (at_else p on (opens (extent toks i j) (v, tt)) s.0 s.1) | inr g ↦ inl g ]
         | inr y' ↦ elim y' [
           | inl z ↦ let s = closed_only r z.2.2 in let t = token_derived refl z.2.3.2 in
-            let e : z.2.3.0 ≡ j + 1 = omega (arith, s.0, t.0) in
-            let g : z.0.1.0 ≡ p = same_pos t.1 (subst (λ (l : ℕ). On toks l (Key 7) p) (sym' s.0) on) in
-            let c = same_three a z.0.1.1 s.1 g in
-            inr (inl (z.0.1.1, z.1, subst (λ (l : ℕ). RowOf toks room (lone a) l q z.0.1.1) e z.2.3.3, ap f' (sym' c) ∙ z.3, z.4 ∙ ap (m' (extent toks i q)) c))
+              let e : z.2.3.0 ≡ j + 1 = omega (arith, s.0, t.0) in
+              let g : z.0.1.0 ≡ p = same_pos t.1 (subst (λ (l : ℕ). On toks l (Key 7) p) (sym' s.0) on) in
+              let c = same_three a z.0.1.1 s.1 g in
+              inr (inl (z.0.1.1, z.1, subst (λ (l : ℕ). RowOf toks room (lone a) l q z.0.1.1) e z.2.3.3, ap f' (sym' c) ∙ z.3, z.4 ∙ ap (m' (extent toks i q)) c))
           | inr z ↦ absurd z
         ]
       ]
@@ -199,8 +198,8 @@ module _ {toks : List Tok} {room : Room} {i k j : ℕ} {v : plain.Statement} (n 
 
 -- reading the statement stopped
 module _ {toks : List Tok} {room : Room} {i k m : ℕ} (n a n' : ℕ) (f : ValuesOf (lone a) → Bool) (make : Extent → ValuesOf (lone a) → plain.Statement) (f' : ValuesOf (with_else a) → Bool) (make' : Extent → ValuesOf (with_else a) → plain.Statement)
-  (o : Open toks room statement i k k (ending n a f make ∷ going_on n' a f' make' ∷ [])) (r : Never toks (inside room a) statement k m) (l : k ≤ m)
-  (opens : (e : Extent) (x : ValuesOf (lone a)) → is_open (make e x) ≡ true) where
+    (o : Open toks room statement i k k (ending n a f make ∷ going_on n' a f' make' ∷ [])) (r : Never toks (inside room a) statement k m) (l : k ≤ m)
+    (opens : (e : Extent) (x : ValuesOf (lone a)) → is_open (make e x) ≡ true) where
   no_closed : {q : ℕ} {w : plain.Statement} → Derives toks (inside room a) closed k q w → ⊥
   no_closed {q} {w} d = let c = closed_is d in let g = r.never q w c.0 in let h = g.may in let b = c.1 in absurd (cc)
 

@@ -27,7 +27,7 @@ abbrev pub ends_with : {V : Type 0} (n a : ℕ) (t : Symbol) → (ValuesOf (reco
 ends_with n a t f m = record { need = n; parts = record { above = a; symbol = t } ∷ []; fits = f; make = m }
 
 module _ {toks : List Tok} {room : Room} {s : Symbol} {i k : ℕ} (n a : ℕ) (t : Symbol) (f : ValuesOf (record { above = a; symbol = t } ∷ []) → Bool) (m : Extent → ValuesOf (record { above = a; symbol = t } ∷ []) → Value s)
-  (o : Open toks room s i k k (ends_with n a t f m ∷ [])) (w : within (follows t) (follows s) ≡ true) (keeps : (e : Extent) (x : Value t) → may_go_on t x ≡ true → may_go_on s (m e (x, tt)) ≡ true) where
+    (o : Open toks room s i k k (ends_with n a t f m ∷ [])) (w : within (follows t) (follows s) ≡ true) (keeps : (e : Extent) (x : Value t) → may_go_on t x ≡ true → may_go_on s (m e (x, tt)) ≡ true) where
   goes_up : {l q : ℕ} {x : Value t} {v : Value s} → IsFront toks t l x → q ≡ l → v ≡ m (extent toks i q) (x, tt) → IsFront toks s q v
   goes_up {l} {q} {x} g e b = record {
     goes_on = subst (λ (y : ℕ). OneOf toks y (follows s)) (sym' e) (one_within (follows s) w g.goes_on);
@@ -105,7 +105,7 @@ sole_of r = record { derives = r.derives; only = r.only; most = r.most }
 
 -- behind the condition of an `if`
 module _ {toks : List Tok} {room i k n a n' : ℕ} {f : ValuesOf (lone a) → Bool} {m : Extent → ValuesOf (lone a) → plain.Statement} {f' : ValuesOf (with_else a) → Bool} {m' : Extent → ValuesOf (with_else a) → plain.Statement}
-  (st : Roomy toks room statement i k (ending n a f m ∷ going_on n' a f' m' ∷ [])) where
+    (st : Roomy toks room statement i k (ending n a f m ∷ going_on n' a f' m' ∷ [])) where
   fits_n : n ≤ room
   fits_n = let y = st.needs in grind arith
 

@@ -1,3 +1,4 @@
+mod Columns
 pub mod Rests
 pub mod Opening
 pub mod TokenSets
@@ -19,6 +20,11 @@ pub mod Paths
 pub mod TokenReads
 pub mod Lists
 pub mod Loops
+pub mod Depths
+pub mod Counts
+pub mod Cuts
+pub mod Whole
+pub mod Items
 pub mod Rows
 pub mod Aheads
 pub mod Levels
@@ -30,3 +36,11 @@ pub mod Cuts
 pub mod Depths
 pub mod Whole
 pub mod Items
+mod Single
+mod Exits
+pub mod Listed
+pub mod Unfinished
+mod Params
+mod ParamRows
+mod Cores
+mod ItemHeads

@@ -117,8 +117,8 @@ module _ {toks : List Tok} {room : Room} {s : Symbol} {i k : ℕ} (r : Run (Valu
     ends = λ j v y. elim y [
       | inl (ws, h, (m, ha, d, row), f, q) ↦ elim (many_split d) [
         | inl g ↦
-          let w : xs ++ ws.0 ≡ xs = ap (λ (l : List (Value r.symbol)). xs ++ l) g.1 ∙ append-nil xs in
-          inr (inl (ws.1, h, subst (λ (n : ℕ). RowOf toks room r.parts n j ws.1) g.0 row, ap (λ (l : List (Value r.symbol)). r.fits (l, ws.1)) (sym' w) ∙ f, q ∙ ap (λ (l : List (Value r.symbol)). r.make (extent toks i j) (l, ws.1)) w))
+            let w : xs ++ ws.0 ≡ xs = ap (λ (l : List (Value r.symbol)). xs ++ l) g.1 ∙ append-nil xs in
+            inr (inl (ws.1, h, subst (λ (n : ℕ). RowOf toks room r.parts n j ws.1) g.0 row, ap (λ (l : List (Value r.symbol)). r.fits (l, ws.1)) (sym' w) ∙ f, q ∙ ap (λ (l : List (Value r.symbol)). r.make (extent toks i j) (l, ws.1)) w))
         | inr z ↦ absurd (none (ahead e z.3))
       ]
       | inr y ↦ absurd y
@@ -139,9 +139,9 @@ module _ {toks : List Tok} {room : Room} {s : Symbol} {i k : ℕ} (r : Run (Valu
     ];
     ends_back = λ j v y. elim y [
       | inl (us, h, row, f, q) ↦
-        let w = append-nil xs in
-        let l = max_has room r.need r.above h in
-        inl (([], us), h, (k, l.1, many_none, row), ap (λ (l : List (Value r.symbol)). r.fits (l, us)) w ∙ f, q ∙ ap (λ (l : List (Value r.symbol)). r.make (extent toks i j) (l, us)) (sym' w))
+          let w = append-nil xs in
+          let l = max_has room r.need r.above h in
+          inl (([], us), h, (k, l.1, many_none, row), ap (λ (l : List (Value r.symbol)). r.fits (l, us)) w ∙ f, q ∙ ap (λ (l : List (Value r.symbol)). r.make (extent toks i j) (l, us)) (sym' w))
       | inr y ↦ absurd y
     ];
     starts_back = λ n y. elim y [

@@ -88,8 +88,8 @@ module _ {toks : List Tok} {room : Room} {s : Symbol} {i k : ℕ} (r : Run (Valu
       | inl (ws, h, (m, ha, d, row), f, q) ↦ inl ((ws.0 ∷ [], ws.1), h, (m, ha, commas_last d, row), f, q)
       | inr y ↦ elim y [
         | inl (ws, h, (m, ha, d, (l, hb, c, (b, hc, e, row))), f, q) ↦
-          let p = token_derived {t = comma} refl c in
-          inl ((ws.0 ∷ ws.1.1.0, ws.1.1.1), h, (b, ha, commas_more d p.1 (subst (λ (u : ℕ). Derives toks (inside room r.above) (commas r.symbol) u b ws.1.1.0) p.0 e), row), f, q)
+            let p = token_derived {t = comma} refl c in
+            inl ((ws.0 ∷ ws.1.1.0, ws.1.1.1), h, (b, ha, commas_more d p.1 (subst (λ (u : ℕ). Derives toks (inside room r.above) (commas r.symbol) u b ws.1.1.0) p.0 e), row), f, q)
         | inr y ↦ absurd y
       ]
     ];
@@ -98,16 +98,22 @@ module _ {toks : List Tok} {room : Room} {s : Symbol} {i k : ℕ} (r : Run (Valu
       | inl (h, inr (m, v, ha, d, b)) ↦ inl (h, inr (m, v ∷ [], ha, commas_last d, b))
       | inr y ↦ elim y [
         | inl (h, inl (ha, p)) ↦ inl (h, inl (ha, begin_commas p))
-        | inl (h, inr (l, v, ha, d, inl (hb, p))) ↦ inl (h, inl (ha, elim (token_begun {t = comma} refl p) [
-          | inl e ↦ subst (λ (b : ℕ). Prefix toks (inside room r.above) (commas r.symbol) k b) (sym' e) (begin_commas (whole d))
-          | inr u ↦ subst (λ (b : ℕ). Prefix toks (inside room r.above) (commas r.symbol) k b) (sym' u.0) (more_commas d u.2 nothing)
-        ]))
+        | inl (h, inr (l, v, ha, d, inl (hb, p))) ↦ inl (
+          h,
+          inl (
+            ha,
+            elim (token_begun {t = comma} refl p) [
+              | inl e ↦ subst (λ (b : ℕ). Prefix toks (inside room r.above) (commas r.symbol) k b) (sym' e) (begin_commas (whole d))
+              | inr u ↦ subst (λ (b : ℕ). Prefix toks (inside room r.above) (commas r.symbol) k b) (sym' u.0) (more_commas d u.2 nothing)
+            ],
+          ),
+        )
         | inl (h, inr (l, v, ha, d, inr (m, c, hb, dc, inl (hc, p)))) ↦
-          let t = token_derived {t = comma} refl dc in
-          inl (h, inl (ha, more_commas d t.1 (subst (λ (b : ℕ). Prefix toks (inside room r.above) (commas r.symbol) b n) t.0 p)))
+            let t = token_derived {t = comma} refl dc in
+            inl (h, inl (ha, more_commas d t.1 (subst (λ (b : ℕ). Prefix toks (inside room r.above) (commas r.symbol) b n) t.0 p)))
         | inl (h, inr (l, v, ha, d, inr (m, c, hb, dc, inr (b, zs, hc, e, bb)))) ↦
-          let t = token_derived {t = comma} refl dc in
-          inl (h, inr (b, v ∷ zs, ha, commas_more d t.1 (subst (λ (u : ℕ). Derives toks (inside room r.above) (commas r.symbol) u b zs) t.0 e), bb))
+            let t = token_derived {t = comma} refl dc in
+            inl (h, inr (b, v ∷ zs, ha, commas_more d t.1 (subst (λ (u : ℕ). Derives toks (inside room r.above) (commas r.symbol) u b zs) t.0 e), bb))
         | inr y ↦ absurd y
       ]
     ];
@@ -152,8 +158,8 @@ module _ {toks : List Tok} {room : Room} {s : Symbol} {i j : ℕ} (r : Run (Valu
       ])
       | inr y ↦ elim y [
         | inl (ws, h, (b, hb, c, row), f, q) ↦
-          let t = token_derived {t = comma} refl c in
-          inr (inl (ws.1, has_max room n r.above h hb, subst (λ (u : ℕ). RowOf toks room (record { above = r.above; symbol = commas r.symbol } ∷ r.parts) u l ws.1) t.0 row, f, q))
+            let t = token_derived {t = comma} refl c in
+            inr (inl (ws.1, has_max room n r.above h hb, subst (λ (u : ℕ). RowOf toks room (record { above = r.above; symbol = commas r.symbol } ∷ r.parts) u l ws.1) t.0 row, f, q))
         | inr y ↦ absurd y
       ]
     ];
@@ -162,8 +168,8 @@ module _ {toks : List Tok} {room : Room} {s : Symbol} {i j : ℕ} (r : Run (Valu
       | inr y ↦ elim y [
         | inl (h, inl (hb, q)) ↦ inl (token_prefix {t = comma} refl q)
         | inl (h, inr (b, c, hb, d, x)) ↦
-          let t = token_derived {t = comma} refl d in
-          inr (inl (has_max room n r.above h hb, subst (λ (u : ℕ). BeginsOf toks room (record { above = r.above; symbol = commas r.symbol } ∷ r.parts) u l) t.0 x))
+            let t = token_derived {t = comma} refl d in
+            inr (inl (has_max room n r.above h hb, subst (λ (u : ℕ). BeginsOf toks room (record { above = r.above; symbol = commas r.symbol } ∷ r.parts) u l) t.0 x))
         | inr y ↦ absurd y
       ]
     ];
@@ -197,7 +203,6 @@ module _ {toks : List Tok} {room : Room} {s : Symbol} {i j : ℕ} (r : Run (Valu
 
 same_need : (a b : ℕ) → max (max a b) b ≡ max a b
 same_need a b = grind arith
-
 
 same_listing : {V : Type 0} (n : ℕ) (r : Run V) (xs : List (Value r.symbol)) (v : Value r.symbol) → n ≡ max r.need r.above → after_comma n r xs v ≡ listing r (xs ++ (v ∷ []))
 same_listing n r xs v e =
