@@ -8,7 +8,8 @@ use Rattle.xc_tree.specs.Derives.{On}
 use Rattle.xc_parser.specs.Follows.{OneOf, StandsAt, follows}
 use Rattle.xc_parser.specs.Reading.{Refuses, TooDeep}
 use Rattle.xc_parser.proofs.Rests.{Rest, Stands}
-use Rattle.xc_parser.proofs.Opening.{is_token, beginnings, over, all_ready, grown, layers, OneFits, NoneFits, keep, without, spread, is_any, begins_with}
+use Rattle.xc_parser.proofs.Reaches.{reaches}
+use Rattle.xc_parser.proofs.Opening.{is_token, beginnings, over, all_ready, grown, layers, OneFits, NoneFits, keep, without, spread, is_any}
 
 module _ {toks : List Tok} {room : ℕ} {s : Symbol} where
   pub all_open : {i : ℕ} → is_token s ≡ false → Stands toks room s i i (beginnings s)
@@ -44,7 +45,7 @@ module _ {toks : List Tok} {room : ℕ} {s : Symbol} where
     spread_out st = ?
 
     -- a token that only rests without room begin with: at the first of these tokens it is too deep
-    pub dead : (t : Symbol) → Stands toks room s i k rs → StandsAt toks k t → begins_with t rs ≡ true → NoneFits room (keep t rs) → TooDeep toks room s i k
+    pub dead : (t : Symbol) → Stands toks room s i k rs → StandsAt toks k t → reaches t (keep t rs) ≡ true → NoneFits room (keep t rs) → TooDeep toks room s i k
     dead t st at e h = ?
 
   -- no rest is left

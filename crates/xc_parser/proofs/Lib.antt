@@ -13,6 +13,7 @@ pub mod Behinds
 pub mod Overs
 pub mod Heads
 pub mod Advances
+pub mod Reaches
 pub mod Paths
 pub mod Choices
 pub mod Loops

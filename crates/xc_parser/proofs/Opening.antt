@@ -254,11 +254,6 @@ abbrev pub all_apart : {V : Type 0} {t : Symbol} {a : ℕ} {rs : List (Rest V)} 
 all_apart s no_head = true
 all_apart {t} s (one_head {ps} hs) = is_apart s t ps && all_apart s hs
 
--- one of some rests begins with a token
-abbrev pub begins_with : {V : Type 0} → Symbol → List (Rest V) → Bool
-begins_with t [] = false
-begins_with t (r ∷ rs) = has (firsts r.parts) t || begins_with t rs
-
 -- there are some, and behind each t is told from what it goes on with
 abbrev pub heads_apart : {V : Type 0} {t : Symbol} {a : ℕ} {rs : List (Rest V)} → Symbol → Heads t a rs → Bool
 heads_apart s no_head = false

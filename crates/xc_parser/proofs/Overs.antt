@@ -34,10 +34,10 @@ module _ (toks : List Tok) (room : Room) (s : Symbol) (i k : ℕ) (t : Symbol) (
     part_starts rs l x = elim x.1 [
       | inl q ↦ inl (token_prefix token q.1)
       | inr y ↦
-        let z = token_derived token y.3 in
-        let e = as_same toks k p.symbol t v y.1 z.1 at in
-        inr (subst (λ (o : Option (Value p.symbol)). Starts toks room (behind_part n p ps f m o rs) (k + 1) l) (sym' e)
-        (inl (has_max room n p.above x.0 y.2, subst (λ (b : ℕ). BeginsOf toks room ps b l) z.0 y.4)))
+          let z = token_derived token y.3 in
+          let e = as_same toks k p.symbol t v y.1 z.1 at in
+          inr (subst (λ (o : Option (Value p.symbol)). Starts toks room (behind_part n p ps f m o rs) (k + 1) l) (sym' e)
+          (inl (has_max room n p.above x.0 y.2, subst (λ (b : ℕ). BeginsOf toks room ps b l) z.0 y.4)))
     ]
 
   module _ (n : ℕ) (p : Part) (ps : List Part) (f : ValuesOf (p ∷ ps) → Bool) (m : Extent → ValuesOf (p ∷ ps) → Value s) where

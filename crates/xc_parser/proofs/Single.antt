@@ -1,5 +1,5 @@
 -- Symbols that are one token.
-use Rattle.std.proofs.Common.{◌≡◌, ℕ, ◌+◌, ◌≤◌, ◌⊎◌, inl, inr, Bool, false, List, [], Option, Some, None, refl, sym as sym', ap, subst, ◌∙◌, arith}
+use Rattle.std.proofs.Common.{◌≡◌, ℕ, ◌+◌, ◌≤◌, ◌⊎◌, inl, inr, Bool, true, false, List, [], Option, Some, None, refl, sym as sym', ap, subst, ◌∙◌, arith}
 use Rattle.std.proofs.Common.{get_or, ◌<◌, length}
 use Rattle.std.proofs.lemmas.Option.{get_or_from_slice_get, slice_get-get_or, slice_get_within}
 use Rattle.xc_tree.specs.declared.token.Tok.{Tok}
@@ -9,6 +9,7 @@ use Rattle.xc_tree.specs.declared.tree.Id.{Id}
 use Rattle.xw_words.specs.declared.pos.Pos.{Pos}
 use Rattle.xc_tree.specs.Symbol.{Symbol, sym, key, a_name, a_number, Value, Numeral}
 use Rattle.xc_tree.specs.Derives.{On, Room, Derives, a_sym, a_key, named, counted, by_rule, Prefix, nothing, whole, begins}
+use Rattle.xc_parser.specs.Follows.{OneOf, has}
 use Rattle.xc_parser.specs.Reading.{Reads, Refuses}
 
 abbrev kind_in : Option Tok → Kind
@@ -157,3 +158,13 @@ module _ (toks : List Tok) (i : ℕ) (d : Tok) where
 
 pub past_all : {toks : List Tok} {i : ℕ} {k : Kind} {p : Pos} → (i < length toks → ⊥) → On toks i k p → ⊥
 past_all {toks} {i} {k} {p} h on = h (slice_get_within toks i (record { kind = k; pos = p }) on.there)
+
+-- a word or symbol is one of some tokens
+pub one_word : {toks : List Tok} {i w : ℕ} {p : Pos} (ts : List Symbol) → On toks i (Key w) p → has ts (key w) ≡ true → OneOf toks i ts
+one_word {w} {p} ts on e = record { token = key w; stands = (p, on); among = e }
+
+pub one_symbol : {toks : List Tok} {i o : ℕ} {p : Pos} (ts : List Symbol) → On toks i (Sym o) p → has ts (sym o) ≡ true → OneOf toks i ts
+one_symbol {o} {p} ts on e = record { token = sym o; stands = (p, on); among = e }
+
+pub one_name_of : {toks : List Tok} {i : ℕ} {t : List ℕ} {p : Pos} (ts : List Symbol) → On toks i (Name t) p → has ts a_name ≡ true → OneOf toks i ts
+one_name_of {t} {p} ts on e = record { token = a_name; stands = (t, p, on); among = e }

@@ -16,7 +16,6 @@ use Rattle.xc_parser.proofs.Rests.{Part, Rest, left}
 use Rattle.xc_parser.proofs.Opening.{over, beginnings, all_ready, grown, layers}
 use Rattle.xc_parser.proofs.Paths.{Roomy, begin, over_word, over_symbol, over_name, at_symbol, taken, lacks, read, stops, finish}
 use Rattle.xc_parser.specs.Follows.{OneOf, first}
-
 use Rattle.std.proofs.Common.{◌<◌, ◌++◌}
 use Rattle.xc_tree.specs.Symbol.{block, block_item, decl, dv, assign, rhs, lval}
 use Rattle.xc_tree.specs.Grammar.{rules}
@@ -34,19 +33,19 @@ module _ (toks : List Tok) (room at : ℕ) where
   dir_in p q a b = finish (over_word (over_word (begin refl tt) a refl) b refl) refl
 
   while_reads : (p q r : Pos) (m n : ℕ) (c : plain.Expression) (s : plain.Statement) → 1 ≤ room →
-    On toks at (Key 29) p → On toks (at + 1) (Sym 0) q → Reads toks (room - 1) expr (at + 1 + 1) m c → On toks m (Sym 1) r →
-    Reads toks (room - 1) statement (m + 1) n s → Reads toks room statement at n (statement_of (extent toks at n) (plain.while_loop c s))
+      On toks at (Key 29) p → On toks (at + 1) (Sym 0) q → Reads toks (room - 1) expr (at + 1 + 1) m c → On toks m (Sym 1) r →
+      Reads toks (room - 1) statement (m + 1) n s → Reads toks room statement at n (statement_of (extent toks at n) (plain.while_loop c s))
   while_reads p q r m n c s h w a c' b s' = finish (read (over_symbol (read (over_symbol (over_word (begin refl h) w refl) a refl) c' refl) b refl) s' refl) refl
 
   while_stops : (p q r : Pos) (m : ℕ) (e : Stop) → 1 ≤ room →
-    On toks at (Key 29) p → On toks (at + 1) (Sym 0) q → Stopped toks (room - 1) expr (at + 1 + 1) e → Stopped toks room statement at e
+      On toks at (Key 29) p → On toks (at + 1) (Sym 0) q → Stopped toks (room - 1) expr (at + 1 + 1) e → Stopped toks room statement at e
   while_stops p q r m e h w a c = stops e (over_symbol (over_word (begin refl h) w refl) a refl) c refl
 
   -- a `for` with an assignment at its beginning, no condition, and no step
   for_head : (p q r t u : Pos) (m n : ℕ) (a : plain.Statement) (s : plain.Statement) → 1 ≤ room →
-    On toks at (Key 8) p → On toks (at + 1) (Sym 0) q → (OneOf toks (at + 1 + 1) (sym 6 ∷ []) → ⊥) → Reads toks (room - 1) for_start (at + 1 + 1) m a →
-    On toks m (Sym 6) r → On toks (m + 1) (Sym 6) t → On toks (m + 1 + 1) (Sym 1) u → Reads toks (room - 1) statement (m + 1 + 1 + 1) n s →
-    Reads toks room statement at n (statement_of (extent toks at n) (plain.for_loop (plain.present a) None plain.absent s))
+      On toks at (Key 8) p → On toks (at + 1) (Sym 0) q → (OneOf toks (at + 1 + 1) (sym 6 ∷ []) → ⊥) → Reads toks (room - 1) for_start (at + 1 + 1) m a →
+      On toks m (Sym 6) r → On toks (m + 1) (Sym 6) t → On toks (m + 1 + 1) (Sym 1) u → Reads toks (room - 1) statement (m + 1 + 1 + 1) n s →
+      Reads toks room statement at n (statement_of (extent toks at n) (plain.for_loop (plain.present a) None plain.absent s))
   for_head p q r t u m n a s h w b none x c d e y =
       finish (read (over_symbol (over_symbol (over_symbol (read (lacks (sym 6 ∷ []) (taken (over_symbol (over_word (begin refl h) w refl) b refl) refl) none) x refl) c refl) d refl) e refl) y refl) refl
 

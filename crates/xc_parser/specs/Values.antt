@@ -2,7 +2,7 @@
 use Rattle.xc_tree.specs.Symbol as symbol
 use Rattle.xc_tree.specs.Plain as plain
 use Rattle.xc_parser.specs.declared.expected.Numeral.{Numeral}
-use Rattle.xc_parser.specs.declared.heads.FunctionHead.{FunctionHead}
+use Rattle.xc_parser.specs.declared.functions.FunctionHead.{FunctionHead}
 
 abbrev pub numeral_of : Numeral → symbol.Numeral
 numeral_of n = record { value = n.value; is_unsigned = n.is_unsigned; pos = n.pos }

@@ -9,9 +9,8 @@ mod assignments;
 mod declarations;
 mod expected;
 mod expressions;
-mod heads;
+mod functions;
 mod iterations;
-
 mod memory;
 mod nodes;
 mod operands;

@@ -1,6 +1,6 @@
 //! Programs.
 
-use crate::heads::FunctionHead;
+use crate::functions::FunctionHead;
 use crate::parser::{Parser, Read};
 use crate::stop::Stop;
 use crate::terminals::{SEMICOLON, VOID_WORD};

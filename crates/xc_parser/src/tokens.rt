@@ -2,7 +2,10 @@ ghost use Rattle.std.specs.Prelude.{◌≡◌, ◌+◌, ◌<◌, ◌≤◌, leng
 ghost use Rattle.xc_tree.specs.declared.token.Kind.TheVariants.{Name, Num, Key, Sym};
 ghost use Rattle.xw_words.specs.declared.pos.Pos.{Pos};
 ghost use Rattle.xc_tree.specs.Derives.{On};
+ghost use Rattle.std.specs.Prelude.{[], ◌∷◌};
 ghost use Rattle.xc_tree.specs.Symbol as symbol;
+ghost use Rattle.xc_tree.specs.Symbol.{sym, key, a_name};
+ghost use Rattle.xc_parser.specs.Follows.{OneOf};
 ghost use Rattle.xc_parser.specs.Reading.{Reads};
 ghost use Rattle.xc_parser.specs.Stops.{Stopped};
 
@@ -53,7 +56,11 @@ pub fn is_bracket(toks: &[Tok], at: usize) -> bool {
 }
 
 /// Whether `int` or `unsigned` stands at a place.
-pub fn begins_type(toks: &[Tok], at: usize) -> bool {
+pub fn begins_type(toks: &[Tok], at: usize) -> bool
+    ensures within { IsTrue result → at < length toks.now }
+    ensures yes { IsTrue result → OneOf toks.now at (key 11 ∷ key 26 ∷ []) }
+    ensures no { (result ≡ false) → OneOf toks.now at (key 11 ∷ key 26 ∷ []) → ⊥ }
+{
     is_word(toks, at, INT_WORD) || is_word(toks, at, UNSIGNED_WORD)
 }
 

@@ -1,7 +1,8 @@
 //! The heads of functions, with their parameters.
 
-ghost use Rattle.std.specs.Prelude.{◌≡◌, ℕ, ◌+◌, ◌^◌, ◌<◌, ◌≤◌, length, IfOk, IfErr};
+ghost use Rattle.std.specs.Prelude.{◌≡◌, ℕ, [], ◌∷◌, ◌+◌, ◌^◌, ◌<◌, ◌≤◌, length, IfOk, IfErr, IsTrue, false};
 ghost use Rattle.xc_tree.specs.Symbol as symbol;
+ghost use Rattle.xc_parser.specs.Follows.{OneOf, first};
 ghost use Rattle.xc_parser.specs.Reading.{Reads};
 ghost use Rattle.xc_parser.specs.Stops.{Stopped};
 ghost use Rattle.xc_parser.specs.Values.{head_of};
@@ -14,7 +15,7 @@ use crate::terminals::{
 };
 use crate::tokens::{begins_type, is_symbol, is_word};
 use xc_tree::{Id, Param, ParamKind, TreeDir};
-use xw_words::{List, Pos};
+use xw_words::List;
 
 /// What stands before the block of a function, and how many tokens that is.
 #[derive(Drop)]
@@ -122,12 +123,23 @@ impl<'a> Parser<'a> {
     }
 
     /// Whether a token that a parameter can begin with stands at a place.
-    fn begins_param(&self, at: usize) -> bool {
-        begins_type(self.toks, at)
-            || is_word(self.toks, at, CHANEND_WORD)
-            || is_word(self.toks, at, IN_WORD)
-            || is_word(self.toks, at, OUT_WORD)
-            || is_word(self.toks, at, PORT_WORD)
+    fn begins_param(&self, at: usize) -> bool
+        ensures yes { IsTrue result → OneOf self.now.toks.now at (first symbol.param) }
+        ensures no { (result ≡ false) → OneOf self.now.toks.now at (first symbol.param) → ⊥ }
+    {
+        if begins_type(self.toks, at) {
+            return true;
+        }
+        if is_word(self.toks, at, CHANEND_WORD) {
+            return true;
+        }
+        if is_word(self.toks, at, IN_WORD) {
+            return true;
+        }
+        if is_word(self.toks, at, OUT_WORD) {
+            return true;
+        }
+        is_word(self.toks, at, PORT_WORD)
     }
 
     /// A parameter.
@@ -142,70 +154,49 @@ impl<'a> Parser<'a> {
         }
         if is_word(self.toks, at, CHANEND_WORD) {
             let name = self.id(at + 1)?;
-            return Ok(Read {
-                value: Param {
-                    kind: ParamKind::End(false),
-                    name: name.value,
-                },
-                end: name.end,
-            });
+            return Ok(param_of(ParamKind::End(false), name));
         }
         let dir = self.dir(at)?;
         let name = self.id(dir.end)?;
-        Ok(Read {
-            value: Param {
-                kind: ParamKind::Port(dir.value),
-                name: name.value,
-            },
-            end: name.end,
-        })
+        Ok(param_of(ParamKind::Port(dir.value), name))
     }
 
     /// A parameter that is a word, by value or by reference, or an array of words.
-    fn word_param(&self, at: usize) -> Result<Read<Param>, Stop> {
+    fn word_param(&self, at: usize) -> Result<Read<Param>, Stop>
+        requires at { at ≤ length self.now.toks.now }
+        requires word { OneOf self.now.toks.now at (symbol.key 11 ∷ symbol.key 26 ∷ []) }
+        ensures bounds { IfOk result (λ r. (at < r.end) × (r.end ≤ length self.now.toks.now)) }
+        ensures read { IfOk result (λ r. (room : ℕ) → Reads self.now.toks.now room symbol.param at r.end r.value) }
+        ensures stopped { IfErr result (λ e. (room : ℕ) → Stopped self.now.toks.now room symbol.param at e) }
+    {
         let word = self.word_type(at)?;
         if is_symbol(self.toks, word.end, AMPERSAND) {
             let name = self.id(word.end + 1)?;
-            return Ok(Read {
-                value: Param {
-                    kind: ParamKind::Ref(word.value),
-                    name: name.value,
-                },
-                end: name.end,
-            });
+            return Ok(param_of(ParamKind::Ref(word.value), name));
         }
         let name = self.id(word.end)?;
         if !is_symbol(self.toks, name.end, BRACKET) {
+            return Ok(param_of(ParamKind::Value(word.value), name));
+        }
+        let inside = name.end + 1;
+        if is_symbol(self.toks, inside, END_BRACKET) {
+            let kind = ParamKind::Array(word.value, None);
             return Ok(Read {
                 value: Param {
-                    kind: ParamKind::Value(word.value),
+                    kind,
                     name: name.value,
                 },
-                end: name.end,
+                end: inside + 1,
             });
         }
-        let length = self.param_length(name.end + 1)?;
+        let length = self.numeral(inside)?;
+        let close = self.symbol(length.end, END_BRACKET)?;
+        let kind = ParamKind::Array(word.value, Some((length.value.value, length.value.pos)));
         Ok(Read {
             value: Param {
-                kind: ParamKind::Array(word.value, length.value),
+                kind,
                 name: name.value,
             },
-            end: length.end,
-        })
-    }
-
-    /// The rest of an array parameter behind its `[`: a length and where that stands, or none, and the `]`.
-    fn param_length(&self, at: usize) -> Result<Read<Option<(u32, Pos)>>, Stop> {
-        if is_symbol(self.toks, at, END_BRACKET) {
-            return Ok(Read {
-                value: None,
-                end: at + 1,
-            });
-        }
-        let length = self.numeral(at)?;
-        let close = self.symbol(length.end, END_BRACKET)?;
-        Ok(Read {
-            value: Some((length.value.value, length.value.pos)),
             end: close.end,
         })
     }
@@ -236,5 +227,18 @@ impl<'a> Parser<'a> {
             value: TreeDir::Both,
             end: port.end,
         })
+    }
+}
+
+/// A parameter that ends with its name.
+fn param_of(kind: ParamKind, name: Read<Id>) -> Read<Param>
+    ensures { result ≡ record { value = record { kind = kind; name = name.value }; end = name.end } }
+{
+    Read {
+        value: Param {
+            kind,
+            name: name.value,
+        },
+        end: name.end,
     }
 }
