@@ -14,8 +14,10 @@ pub mod Overs
 pub mod Heads
 pub mod Advances
 pub mod Reaches
-pub mod Paths
+pub mod Moves
 pub mod Choices
+pub mod Paths
+pub mod TokenReads
 pub mod Loops
 pub mod Trial
 mod Single
