@@ -18,7 +18,13 @@ pub mod Moves
 pub mod Choices
 pub mod Paths
 pub mod TokenReads
+pub mod Lists
 pub mod Loops
+pub mod Rows
 pub mod Trial
 mod Single
 mod Exits
+pub mod Listed
+pub mod Unfinished
+mod Params
+mod ParamRows

@@ -23,7 +23,7 @@ use Rattle.xc_parser.specs.Reading.{TooDeep}
 use Rattle.xc_parser.proofs.Opening.{Heads, no_head, one_head}
 use Rattle.xc_parser.proofs.Paths.{read_all, none_left, lacks_symbol}
 use Rattle.xc_parser.proofs.Choices.{all_open, pass_name, dead}
-use Rattle.xc_parser.proofs.Loops.{Run, having, listing, had, one_more, no_more, with_comma, last_one}
+use Rattle.xc_parser.proofs.Loops.{Run, having, listing, had, one_more, no_more}
 
 abbrev items_of_block : Run (List plain.Statement)
 items_of_block = record { need = 0; above = 0; symbol = block_item; parts = record { above = 0; symbol = sym 3 } ∷ []; fits = λ x. true; make = λ e x. x.0 }
