@@ -28,3 +28,4 @@ pub mod Listed
 pub mod Unfinished
 mod Params
 mod ParamRows
+mod Marks
