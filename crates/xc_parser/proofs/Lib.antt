@@ -29,3 +29,4 @@ pub mod Unfinished
 mod Params
 mod ParamRows
 mod Marks
+mod Targets

@@ -39,13 +39,13 @@ impl<'a> Parser<'a> {
         let end = target.end;
         if is_symbol(self.toks, end, EQUALS) {
             let pos = self.toks[end].pos;
-            let right = self.rhs(end + 1, room)?;
-            let Some(value) = right.value else {
+            let Read { value, end } = self.rhs(end + 1, room)?;
+            let Some(right) = value else {
                 unreachable!()
             };
             return Ok(Read {
-                value: St::Assign(target.value, EQUALS, pos, value),
-                end: right.end,
+                value: St::Assign(target.value, EQUALS, pos, right),
+                end,
             });
         }
         if is_symbol(self.toks, end, PLUS_PLUS) {
