@@ -30,3 +30,5 @@ mod Params
 mod ParamRows
 mod Marks
 mod Targets
+mod Declarators
+mod DeclaredRows
