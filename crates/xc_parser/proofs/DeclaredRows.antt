@@ -19,7 +19,7 @@ use Rattle.xc_parser.specs.Parts.{resource_kind, Declares, Names, NoName, Adds}
 use Rattle.xc_parser.proofs.Rests.{Part}
 use Rattle.xc_parser.proofs.Paths.{Roomy, begin, over_word, read, stops, finish}
 use Rattle.xc_parser.proofs.Choices.{all_open, no_one, dead, stuck}
-use Rattle.xc_parser.proofs.Loops.{Run, listing, had, with_comma, row_stops, row_unfit}
+use Rattle.xc_parser.proofs.Loops.{Run, listing, had, is_row, with_comma, row_stops, row_unfit}
 use Rattle.xc_parser.proofs.Listed.{Listed, first_listed, next_listed, end_listed}
 use Rattle.xc_parser.proofs.Marks.{first_of, none_of, at_a_type}
 
@@ -89,3 +89,79 @@ module _ (toks : List Tok) (room i : ℕ) (h : 1 ≤ room) where
         let cut = row_unfit (row_of_words w) ys st x.1 refl in
         subst (λ n. Refuses toks room decl i n) (sym' x.2.0) (stuck (no_one (sym 7 ∷ sym 6 ∷ []) cut x.2.1))
     declared_stops ys Memory st (inr x) = tt
+
+-- the variables and arrays that were read up to j, each with the comma before it
+pub record Words (toks : List Tok) (room i j : ℕ) (w : Bool) (ds : List Declared) : Type 0 where
+  pub values : List Declarator
+  pub listed : Listed toks room decl i (row_of_words w) j values
+  pub is : map declaration_of ds ≡ map (declared w) values
+
+-- the channels or timers
+pub record Resources (toks : List Tok) (room i j : ℕ) (is_chan : Bool) (ds : List Declared) : Type 0 where
+  pub names : List Id
+  pub listed : Listed toks room decl i (row_of_resources is_chan) j names
+  pub is : map declaration_of ds ≡ map (named (resource_kind is_chan)) names
+
+behind_comma : {toks : List Tok} {room i j : ℕ} {p : Pos} (r : Run plain.Statement) {ys : List (Value r.symbol)} → Listed toks room decl i r j ys → On toks j (Sym 7) p → is_row decl r.symbol r.parts ≡ true → Roomy toks room decl i (j + 1) (listing r ys ∷ [])
+behind_comma {toks} {room} {i} {j} r l on e = subst (λ zs. Roomy toks room decl i (j + 1) (listing r zs ∷ [])) l.is (with_comma r l.before l.stands l.reads on e)
+
+module _ (toks : List Tok) (room i : ℕ) (w : Bool) where
+  pub words_first : {k j : ℕ} {ds : List Declared} → Roomy toks room decl i k (listing (row_of_words w) [] ∷ []) → Adds [] ds (Declares toks (room - 1) k j w) → Words toks room i j w ds
+  words_first st a = record {
+    values = a.2.value ∷ [];
+    listed = first_listed (row_of_words w) st a.2.reads refl;
+    is = ap (map declaration_of) a.1 ∙ ap (λ d. d ∷ []) a.2.is;
+  }
+
+  pub words_next : {j m : ℕ} {ds es : List Declared} {p : Pos} → Words toks room i j w ds → On toks j (Sym 7) p → Adds ds es (Declares toks (room - 1) (j + 1) m w) → Words toks room i m w es
+  words_next {ds} s on a = record {
+    values = s.values ++ (a.2.value ∷ []);
+    listed = next_listed (row_of_words w) s.listed on refl a.2.reads refl;
+    is = ap (map declaration_of) a.1 ∙ map-append declaration_of ds (a.0 ∷ []) ∙ ap (λ xs. xs ++ (declaration_of a.0 ∷ [])) s.is ∙ ap (λ d. map (declared w) s.values ++ (d ∷ [])) a.2.is ∙ sym' (map-append (declared w) s.values (a.2.value ∷ []));
+  }
+
+  pub words_next_stops : {j : ℕ} {ds : List Declared} {p : Pos} (e : Stop) → 1 ≤ room → Words toks room i j w ds → On toks j (Sym 7) p → NoName toks (room - 1) (j + 1) e → Stopped toks room decl i e
+  words_next_stops e h s on x = declared_stops toks room i h w s.values e (behind_comma (row_of_words w) s.listed on refl) x
+
+  module _ {j : ℕ} {ds : List Declared} (s : Words toks room i j w ds) (none : (p : Pos) → On toks j (Sym 7) p → ⊥) where
+    pub words_close_stops : (e : Stop) → Stopped toks (room - 1) (sym 6) j e → Stopped toks room decl i e
+    words_close_stops e x = stops e (end_listed (row_of_words w) s.listed none refl) x refl
+
+    pub words_read : {k : ℕ} {p : Pos} → Reads toks (room - 1) (sym 6) j k p → Reads toks room decl i k (statement_of (extent toks i k) (plain.declare (map declaration_of ds)))
+    words_read {k} x = subst (λ xs. Reads toks room decl i k (statement_of (extent toks i k) (plain.declare xs))) (sym' s.is) (finish (read (end_listed (row_of_words w) s.listed none refl) x refl) refl)
+
+module _ (toks : List Tok) (room i : ℕ) (is_chan : Bool) where
+  pub resources_first : {k j : ℕ} {ds : List Declared} → Roomy toks room decl i k (listing (row_of_resources is_chan) [] ∷ []) → Adds [] ds (Names toks k j (resource_kind is_chan)) → Resources toks room i j is_chan ds
+  resources_first st a = record {
+    names = a.0.name ∷ [];
+    listed = first_listed (row_of_resources is_chan) st (a.2.reads _) refl;
+    is = ap (map declaration_of) a.1 ∙ ap (λ d. d ∷ []) a.2.is;
+  }
+
+  pub resources_next : {j m : ℕ} {ds es : List Declared} {p : Pos} → Resources toks room i j is_chan ds → On toks j (Sym 7) p → Adds ds es (Names toks (j + 1) m (resource_kind is_chan)) → Resources toks room i m is_chan es
+  resources_next {ds} s on a = record {
+    names = s.names ++ (a.0.name ∷ []);
+    listed = next_listed (row_of_resources is_chan) s.listed on refl (a.2.reads _) refl;
+    is = ap (map declaration_of) a.1 ∙ map-append declaration_of ds (a.0 ∷ []) ∙ ap (λ xs. xs ++ (declaration_of a.0 ∷ [])) s.is ∙ ap (λ d. map (named (resource_kind is_chan)) s.names ++ (d ∷ [])) a.2.is ∙ sym' (map-append (named (resource_kind is_chan)) s.names (a.0.name ∷ []));
+  }
+
+  pub resources_first_stops : {k : ℕ} (e : Stop) → Roomy toks room decl i k (listing (row_of_resources is_chan) [] ∷ []) → Stopped toks (room - 1) a_name k e → Stopped toks room decl i e
+  resources_first_stops e st x = row_stops (row_of_resources is_chan) [] e st x refl
+
+  pub resources_next_stops : {j : ℕ} {ds : List Declared} {p : Pos} (e : Stop) → Resources toks room i j is_chan ds → On toks j (Sym 7) p → Stopped toks (room - 1) a_name (j + 1) e → Stopped toks room decl i e
+  resources_next_stops e s on x = row_stops (row_of_resources is_chan) s.names e (behind_comma (row_of_resources is_chan) s.listed on refl) x refl
+
+  module _ {j : ℕ} {ds : List Declared} (s : Resources toks room i j is_chan ds) (none : (p : Pos) → On toks j (Sym 7) p → ⊥) where
+    pub resources_close_stops : (e : Stop) → Stopped toks (room - 1) (sym 6) j e → Stopped toks room decl i e
+    resources_close_stops e x = stops e (end_listed (row_of_resources is_chan) s.listed none refl) x refl
+
+    pub resources_read : {k : ℕ} {p : Pos} → Reads toks (room - 1) (sym 6) j k p → Reads toks room decl i k (statement_of (extent toks i k) (plain.declare (map declaration_of ds)))
+    resources_read {k} x = subst (λ xs. Reads toks room decl i k (statement_of (extent toks i k) (plain.declare xs))) (sym' s.is) (finish (read (end_listed (row_of_resources is_chan) s.listed none refl) x refl) refl)
+
+-- the word of a declaration of channels or timers
+pub word_of_resource : (toks : List Tok) (i : ℕ) (is_chan : Bool) → (IsTrue is_chan → (p : Pos) × On toks i (Key 2) p) → ((is_chan ≡ false) → (p : Pos) → On toks i (Key 2) p → ⊥) → OneOf toks i (key 2 ∷ key 24 ∷ []) → (p : Pos) × On toks i (Key (resource_word is_chan)) p
+word_of_resource toks i true yes no o = yes refl
+word_of_resource toks i false yes no o = elim (first_of (key 2) (key 24 ∷ []) o) [
+  | inl x ↦ absurd (no refl x.0 x.1)
+  | inr q ↦ elim (first_of (key 24) [] q) [ inl x ↦ x | inr z ↦ absurd (none_of z) ]
+]
