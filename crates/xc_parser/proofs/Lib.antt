@@ -20,8 +20,12 @@ pub mod Paths
 pub mod TokenReads
 pub mod Lists
 pub mod Loops
+pub mod Depths
+pub mod Counts
+pub mod Cuts
+pub mod Whole
+pub mod Items
 pub mod Rows
-pub mod Trial
 mod Single
 mod Exits
 pub mod Listed
@@ -32,3 +36,7 @@ mod Marks
 mod Targets
 mod Declarators
 mod DeclaredRows
+mod Cores
+pub mod Ifs
+pub mod Lasts
+mod ItemHeads

@@ -10,7 +10,8 @@ use Rattle.xc_parser.specs.Reading.{Reads}
 use Rattle.xc_parser.specs.Stops.{Stopped}
 use Rattle.xc_parser.proofs.Rests.{left}
 use Rattle.xc_parser.proofs.Paths.{Roomy}
-use Rattle.xc_parser.proofs.Loops.{Run, listing, had, is_row, with_comma, last_one, row_stops}
+use Rattle.xc_parser.proofs.Loops.{Run, listing, had, is_row}
+use Rattle.xc_parser.proofs.Rows.{with_comma, last_one, row_stops}
 
 -- of a row inside the symbol s these values were read up to j
 pub record Listed (toks : List Tok) (room : ℕ) (s : Symbol) (i : ℕ) (r : Run (Value s)) (j : ℕ) (ys : List (Value r.symbol)) : Type 0 where

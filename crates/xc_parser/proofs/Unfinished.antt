@@ -3,10 +3,10 @@ use Rattle.std.proofs.Common.{◌≡◌, ℕ, ◌≤◌, ◌⊎◌, inl, inr, ma
 use Rattle.xc_tree.specs.declared.token.Tok.{Tok}
 use Rattle.xc_tree.specs.Symbol.{Symbol, Value}
 use Rattle.xc_tree.specs.Derives.{Room, unlimited, at_most}
-use Rattle.xc_parser.specs.Follows.{OneOf, follows}
-use Rattle.xc_parser.specs.Reading.{GoesOn}
+use Rattle.xc_parser.specs.Follows.{OneOf}
+use Rattle.xc_parser.proofs.TokenSets.{front}
 use Rattle.xc_parser.proofs.Rests.{Part, Rest, ValuesOf, RowOf, BeginsOf, Open, Stands}
-use Rattle.xc_parser.proofs.Opening.{sift, keep_if, peak, peak_of}
+use Rattle.xc_parser.proofs.Opening.{fronts, sift, keep_if, peak, peak_of}
 use Rattle.xc_parser.proofs.Narrows.{Gone, narrow, sifted}
 use Rattle.xc_parser.proofs.Paths.{Roomy}
 
@@ -34,14 +34,14 @@ left_peak (r ∷ rs) room h = by_part (is_left r) (left_peak rs room (omega arit
     by_part true l = omega arith
     by_part false l = l
 
-gone : {toks : List Tok} (limit : Room) {s : Symbol} (i : ℕ) {k : ℕ} → OneOf toks k (follows s) → (r : Rest (Value s)) → is_left r ≡ false → Gone toks limit s i k k r
+gone : {toks : List Tok} (limit : Room) {s : Symbol} (i : ℕ) {k : ℕ} → OneOf toks k (fronts s) → (r : Rest (Value s)) → is_left r ≡ false → Gone toks limit s i k k r
 gone {toks} limit {s} i {k} o r e = record {
-  ends = λ j v x. subst (GoesOn toks s) (sym (ends_here toks limit r.parts k j x.0 e x.2)) o;
+  ends = λ j v x. front s v (subst (λ n. OneOf toks n (fronts s)) (sym (ends_here toks limit r.parts k j x.0 e x.2)) o);
   starts = λ n x. absurd (begins_nowhere toks limit r.parts k n e x.1);
 }
 
 module _ {toks : List Tok} {room : ℕ} {s : Symbol} {i k : ℕ} {rs : List (Rest (Value s))} where
-  pub unfinished : Roomy toks room s i k rs → OneOf toks k (follows s) → Roomy toks room s i k (sift is_left rs)
+  pub unfinished : Roomy toks room s i k rs → OneOf toks k (fronts s) → Roomy toks room s i k (sift is_left rs)
   unfinished st o = record {
     stands = record {
       free = narrow st.stands.free (sifted is_left (gone unlimited i o) rs) (omega arith) st.stands.free.here;

@@ -1,5 +1,7 @@
 pub mod Follows
+pub mod Programs
 pub mod Reading
 pub mod Stops
 pub mod Values
 pub mod Parts
+pub mod Errors

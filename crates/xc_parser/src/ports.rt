@@ -1,9 +1,14 @@
 //! Places on cores, and the ports that are declared there.
 
-ghost use Rattle.std.specs.Prelude.{◌≡◌, ◌+◌, ◌<◌, ◌≤◌, length, IfOk, IfErr, option_map};
+ghost use Rattle.std.specs.Prelude.{◌≡◌, [], ◌∷◌, ◌+◌, ◌⊎◌, ◌<◌, ◌≤◌, length, IfOk, IfErr, option_map};
+ghost use Rattle.xw_words.specs.declared.pos.Pos.{Pos};
+ghost use Rattle.xc_tree.specs.declared.token.Kind.TheVariants.{Key};
+ghost use Rattle.xc_tree.specs.Derives.{On};
 ghost use Rattle.xc_tree.specs.Symbol as symbol;
 ghost use Rattle.xc_tree.specs.Trees.{place_of, port_of};
+ghost use Rattle.xc_parser.specs.Follows.{OneOf};
 ghost use Rattle.xc_parser.specs.Reading.{Reads};
+ghost use Rattle.xc_parser.specs.declared.stop.Stop.TheVariants as stop;
 ghost use Rattle.xc_parser.specs.Stops.{Stopped};
 
 use crate::parser::{Parser, Read};
@@ -85,7 +90,7 @@ impl<'a> Parser<'a> {
     /// `stdcore` or `tile`.
     fn core_word(&self, at: usize) -> Result<Read<u8>, Stop>
         ensures bounds { IfOk result (λ r. (r.end ≡ at + 1) × (r.end ≤ length self.now.toks.now)) }
-        ensures read { IfOk result (λ r. IsCoreWord self.now.toks.now at r.value) }
+        ensures read { IfOk result (λ r. ((r.value ≡ 22) ⊎ (r.value ≡ 23)) × ((p : Pos) × On self.now.toks.now at (Key r.value) p)) }
         ensures stopped { IfErr result (λ e. (e ≡ stop.Wrong at) × (OneOf self.now.toks.now at (symbol.key 22 ∷ symbol.key 23 ∷ []) → ⊥)) }
     {
         if is_word(self.toks, at, STDCORE_WORD) {

@@ -1,11 +1,12 @@
 use Rattle.std.proofs.Common.{◌≡◌, ◌≤◌, ◌<◌, [], ◌∷◌, ◌++◌, refl, subst, sym, arith}
 use Rattle.xc_tree.specs.Symbol as symbol
-use Rattle.xc_parser.specs.Follows.{first, follows}
+use Rattle.xc_parser.specs.Follows.{first}
 use Rattle.xc_parser.proofs.Exits.{handed_on}
 use Rattle.xc_parser.proofs.TokenSets.{one_within}
 use Rattle.xc_parser.proofs.Paths.{begin, over_word, lacks, lacks_word, read, stops, finish}
+use Rattle.xc_parser.proofs.Opening.{fronts}
 use Rattle.xc_parser.proofs.Unfinished.{unfinished}
-use Rattle.xc_parser.proofs.Loops.{row_stops}
+use Rattle.xc_parser.proofs.Rows.{row_stops}
 use Rattle.xc_parser.proofs.Listed.{first_listed, next_listed, next_stops, end_listed}
 use Rattle.xc_parser.proofs.ParamRows.{row_of_params}
 use Rattle.xc_parser.proofs.parser.Parser.params.Goals as goal
@@ -24,14 +25,14 @@ returns-then-not-begins_param-clause-read c =
 pub returns-in_err-first-clause-stopped : goal.returns-in_err-first-clause-stopped
 returns-in_err-first-clause-stopped c =
     let none = c.is_word.ensures.no c.if-is_word.false in
-    let one = one_within (follows symbol.params) refl (c.begins_param.ensures.yes c.if-not-begins_param.false) in
+    let one = one_within (fronts symbol.params) refl (c.begins_param.ensures.yes c.if-not-begins_param.false) in
     handed_on _ c.from_residual.result c.from_residual.ensures.1
     (λ room. row_stops row_of_params [] _ (unfinished (lacks_word 27 (begin refl tt) none) one) (c.in_err-first.ensures.stopped room) refl)
 
 pub params-init : goal.params-init
 params-init c =
     let none = c.is_word.ensures.no c.if-is_word.false in
-    let one = one_within (follows symbol.params) refl (c.begins_param.ensures.yes c.if-not-begins_param.false) in
+    let one = one_within (fronts symbol.params) refl (c.begins_param.ensures.yes c.if-not-begins_param.false) in
     record {
       after = c.in_ok-first.ensures.bounds.0;
       within = c.in_ok-first.ensures.bounds.1;
