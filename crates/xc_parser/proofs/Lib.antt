@@ -42,5 +42,9 @@ pub mod Listed
 pub mod Unfinished
 mod Params
 mod ParamRows
+mod Marks
+mod Targets
+mod Declarators
+mod DeclaredRows
 mod Cores
 mod ItemHeads
