@@ -26,14 +26,26 @@ pub mod Cuts
 pub mod Whole
 pub mod Items
 pub mod Rows
+pub mod Aheads
+pub mod Levels
+pub mod Elses
+pub mod Ifs
+pub mod Lasts
+pub mod Counts
+pub mod Cuts
+pub mod Depths
+pub mod Whole
+pub mod Items
 mod Single
 mod Exits
 pub mod Listed
 pub mod Unfinished
 mod Params
 mod ParamRows
+mod Marks
+mod Targets
+mod Declarators
+mod DeclaredRows
 mod Cores
-pub mod Ifs
-pub mod Lasts
 mod ItemHeads
 pub mod CaseRows

@@ -3,4 +3,5 @@ pub mod Programs
 pub mod Reading
 pub mod Stops
 pub mod Values
+pub mod Parts
 pub mod Errors
