@@ -140,8 +140,8 @@ module _ {toks : List Tok} {k b : ℕ} (br : Breaking toks k b) where
       ends = λ j v y. elim y [
         | inl (ws, h, (m, ha, d, row), g, q) ↦ elim (many_split d) [
           | inl e ↦
-            let w : xs ++ ws.0 ≡ xs = ap (λ (l : List plain.Statement). xs ++ l) e.1 ∙ append-nil xs in
-            inr (inl (ws.1, h, subst (λ (n : ℕ). RowOf toks room ending n j ws.1) e.0 row, refl, q ∙ ap (λ (l : List plain.Statement). f (extent toks i j) l) w))
+              let w : xs ++ ws.0 ≡ xs = ap (λ (l : List plain.Statement). xs ++ l) e.1 ∙ append-nil xs in
+              inr (inl (ws.1, h, subst (λ (n : ℕ). RowOf toks room ending n j ws.1) e.0 row, refl, q ∙ ap (λ (l : List plain.Statement). f (extent toks i j) l) w))
           | inr z ↦ absurd (no_item ha z.3 z.4 row)
         ]
         | inr y ↦ absurd y
@@ -165,9 +165,9 @@ module _ {toks : List Tok} {k b : ℕ} (br : Breaking toks k b) where
       ];
       ends_back = λ j v y. elim y [
         | inl (us, h, row, g, q) ↦
-          let w = append-nil xs in
-          let l = max_has room 0 0 h in
-          inl (([], us), h, (k, l.1, many_none, row), refl, q ∙ ap (λ (l : List plain.Statement). f (extent toks i j) l) (sym' w))
+            let w = append-nil xs in
+            let l = max_has room 0 0 h in
+            inl (([], us), h, (k, l.1, many_none, row), refl, q ∙ ap (λ (l : List plain.Statement). f (extent toks i j) l) (sym' w))
         | inr y ↦ absurd y
       ];
       starts_back = λ n y. elim y [

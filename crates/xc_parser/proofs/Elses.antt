@@ -36,8 +36,8 @@ module _ (toks : List Tok) where
   branch_goes : (n : ℕ) → Goes n → (i j : ℕ) (v : plain.Branch) (p : Pos) → j ≤ i + n → Derives toks unlimited branch i j v → is_open_branch v ≡ true → On toks j (Key 7) p → Prefix toks unlimited branch i (j + 1)
   branch_goes n rec i j v p l d o on = elim (by_rules toks unlimited branch i j v refl d) [
     | inl x ↦
-      let s : is_open x.0.1.0 ≡ true = ap is_open_branch (sym' x.4) ∙ o in
-      from_starts toks unlimited branch i (j + 1) (inl (tt, extend x.2 (λ k h e. rec k j x.0.1.0 p (omega arith) e s on)))
+        let s : is_open x.0.1.0 ≡ true = ap is_open_branch (sym' x.4) ∙ o in
+        from_starts toks unlimited branch i (j + 1) (inl (tt, extend x.2 (λ k h e. rec k j x.0.1.0 p (omega arith) e s on)))
     | inr x ↦ absurd x
   ]
 

@@ -49,3 +49,5 @@ mod DeclaredRows
 mod Cores
 mod ItemHeads
 pub mod CaseRows
+pub mod Insides
+pub mod Branches
