@@ -44,8 +44,8 @@ module _ {toks : List Tok} {at : ℕ} (room : ℕ) {p : Pos} (on : On toks at (K
   pub par_unopened : (e : Stop) → ((q : Pos) → On toks (at + 1) (Sym 0) q → ⊥) → Stopped toks room (sym 2) (at + 1) e → Stopped toks (room + 1) statement at e
   par_unopened e none x = stops e (lacks_symbol 0 (over_word (begin refl (omega arith)) on refl) none) (inner_stopped toks room (sym 2) (at + 1) e x) refl
 
-  pub par_opened : {q : Pos} → On toks (at + 1) (Sym 2) q → Runs toks room at (at + 1 + 1) []
-  par_opened brace = record { roomy = over_symbol (over_word (begin refl (omega arith)) on refl) brace refl }
+  pub par_opened : {k : ℕ} {q : Pos} → ((q : Pos) → On toks (at + 1) (Sym 0) q → ⊥) → Reads toks room (sym 2) (at + 1) k q → Runs toks room at k []
+  par_opened none x = record { roomy = read (lacks_symbol 0 (over_word (begin refl (omega arith)) on refl) none) (inner_reads room x) refl }
 
 module _ {toks : List Tok} {room at k : ℕ} {bs : List plain.Branch} (h : Runs toks room at k bs) where
   pub branch_added : {j : ℕ} {v : plain.Branch} → Reads toks room branch k j v → Runs toks room at j (bs ++ (v ∷ []))
