@@ -51,3 +51,4 @@ mod ItemHeads
 pub mod CaseRows
 pub mod Insides
 pub mod Branches
+pub mod CaseLists

@@ -1,5 +1,14 @@
 //! Selects and their cases.
 
+ghost use Rattle.std.specs.Prelude.{◌≡◌, ℕ, ◌+◌, ◌^◌, ◌<◌, ◌≤◌, length, IfOk, IfErr};
+ghost use Rattle.xc_tree.specs.Plain as plain;
+ghost use Rattle.xc_tree.specs.Symbol as symbol;
+ghost use Rattle.xc_tree.specs.Symbol.{key};
+ghost use Rattle.xc_tree.specs.Trees as trees;
+ghost use Rattle.xc_parser.specs.Follows.{StandsAt};
+ghost use Rattle.xc_parser.specs.Reading.{Reads};
+ghost use Rattle.xc_parser.specs.Stops.{Stopped};
+
 use crate::pars::Holder;
 use crate::parser::{Parser, Read};
 use crate::stop::Stop;
@@ -22,7 +31,13 @@ struct CaseHead {
 impl<'a> Parser<'a> {
     /// A `select`, with room for so many nodes inside it.
     #[cycle(statement)]
-    pub fn select(&self, at: usize, room: u32) -> Result<Read<Stmt>, Stop> {
+    pub fn select(&self, at: usize, room: u32) -> Result<Read<Stmt>, Stop>
+        requires short { length self.now.toks.now < 2 ^ 32 }
+        requires word { StandsAt self.now.toks.now at (key 20) }
+        ensures bounds { IfOk result (λ r. (at < r.end) × (r.end ≤ length self.now.toks.now)) }
+        ensures read { IfOk result (λ r. Reads self.now.toks.now (room + 1) symbol.statement at r.end (trees.statement_of r.value)) }
+        ensures stopped { IfErr result (λ e. Stopped self.now.toks.now (room + 1) symbol.statement at e) }
+    {
         let open = self.symbol(at + 1, BRACE)?;
         let first = self.case(open.end, room)?;
         let mut cases = List::new(self.alloc);
@@ -40,7 +55,14 @@ impl<'a> Parser<'a> {
 
     /// A case, up to the `break ;` that ends it.
     #[cycle(statement)]
-    fn case(&self, at: usize, room: u32) -> Result<Holder<Case>, Stop> {
+    fn case(&self, at: usize, room: u32) -> Result<Holder<Case>, Stop>
+        requires short { length self.now.toks.now < 2 ^ 32 }
+        requires at { at ≤ length self.now.toks.now }
+        ensures bounds { IfOk result (λ r. (at < r.end) × (r.end ≤ length self.now.toks.now)) }
+        ensures holds { IfOk result (λ r. (r.held ≡ plain.case_tokens (trees.case_of r.value)) × (at + r.held ≤ r.end)) }
+        ensures read { IfOk result (λ r. Reads self.now.toks.now room symbol.case at r.end (trees.case_of r.value)) }
+        ensures stopped { IfErr result (λ e. Stopped self.now.toks.now room symbol.case at e) }
+    {
         let head = self.case_head(at, room)?;
         let mut body = List::new(self.alloc);
         let mut end = head.end;
