@@ -52,3 +52,4 @@ pub mod CaseRows
 pub mod Insides
 pub mod Branches
 pub mod CaseLists
+pub mod CaseItems

@@ -1,0 +1,42 @@
+use Rattle.std.proofs.Common.{length, map, ◌+◌, ◌-◌, ◌<◌, ◌≡◌, ◌≤◌}
+use Rattle.xc_parser.proofs.Branches.{Runs}
+use Rattle.xc_parser.proofs.CaseLists.{Cases}
+use Rattle.xc_tree.specs.Plain as plain
+use Rattle.xc_tree.specs.Trees as trees
+use Rattle.xc_parser.proofs.parser.Parser.+statement.Given as goal
+
+abbrev pub invariant-par-branches : goal.invariant-par-branches
+invariant-par-branches l = record {
+  after : l.at < l.end;
+  within : l.end ≤ length l.self.toks.now;
+  held : l.held ≡ plain.branches_tokens (plain.branches (map trees.branch_of l.branches));
+  room : l.at + l.held ≤ l.end;
+  runs : Runs l.self.toks.now l.room l.at l.end (map trees.branch_of l.branches);
+}
+
+abbrev pub decreases-par-branches : goal.decreases-par-branches
+decreases-par-branches l = length l.self.toks.now - l.end
+
+abbrev pub invariant-select-cases : goal.invariant-select-cases
+invariant-select-cases l = record {
+  after : l.at < l.end;
+  within : l.end ≤ length l.self.toks.now;
+  held : l.held ≡ plain.cases_tokens (plain.cases (map trees.case_of l.cases));
+  room : l.at + l.held ≤ l.end;
+  all : Cases l.self.toks.now l.room l.at l.end (map trees.case_of l.cases);
+}
+
+abbrev pub decreases-select-cases : goal.decreases-select-cases
+decreases-select-cases l = length l.self.toks.now - l.end
+
+abbrev pub decreases-branch : goal.decreases-branch
+decreases-branch l = 8 * l.room + 10
+
+abbrev pub decreases-replicated : goal.decreases-replicated
+decreases-replicated l = 8 * l.room + 11
+
+abbrev pub decreases-par : goal.decreases-par
+decreases-par l = 8 * l.room + 12
+
+abbrev pub decreases-select : goal.decreases-select
+decreases-select l = 8 * l.room + 12
