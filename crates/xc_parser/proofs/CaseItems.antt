@@ -109,12 +109,12 @@ module _ {toks : List Tok} {room : Room} {k : ℕ} where
   to_case_prefix : {n : ℕ} → Prefix toks room block_item k n → (n ≤ k) ⊎ Prefix toks room case_item k n
   to_case_prefix {n} q = elim (by_starts toks room block_item k n refl q) [ inl h ↦ inl h | inr z ↦ inr (from_starts toks room case_item k n z) ]
 
--- so it is read, or refused, as what stands in a block is
-module _ {toks : List Tok} {room k : ℕ} (none : (p : Pos) → On toks k (Key 0) p → ⊥) where
-  as_front : {l : ℕ} {w : plain.Statement} → IsFront toks block_item l w → IsFront toks case_item l w
-  as_front f = record { goes_on = f.goes_on; may = f.may }
+as_front : {toks : List Tok} {l : ℕ} {w : plain.Statement} → IsFront toks block_item l w → IsFront toks case_item l w
+as_front f = record { goes_on = f.goes_on; may = f.may }
 
-  pub item_reads : {j : ℕ} {v : plain.Statement} → Reads toks room block_item k j v → Reads toks room case_item k j v
+-- so it is read, or refused, as what stands in a block is
+module _ {toks : List Tok} {k : ℕ} (none : (p : Pos) → On toks k (Key 0) p → ⊥) where
+  pub item_reads : {room j : ℕ} {v : plain.Statement} → Reads toks room block_item k j v → Reads toks room case_item k j v
   item_reads r = record {
     derives = to_case none r.derives;
     only = λ l w d. elim (r.only l w (to_block d)) [ inl e ↦ inl e | inr f ↦ inr (as_front f) ];
@@ -124,16 +124,16 @@ module _ {toks : List Tok} {room k : ℕ} (none : (p : Pos) → On toks k (Key 0
   as_case : (limit : Room) {n : ℕ} → k ≤ n → Prefix toks limit block_item k n → Prefix toks limit case_item k n
   as_case limit {n} h q = elim (to_case_prefix q) [ inl g ↦ let e : k ≡ n = omega arith in subst (Prefix toks limit case_item k) e nothing | inr q' ↦ q' ]
 
-  pub item_stops : (e : Stop) → Stopped toks room block_item k e → Stopped toks room case_item k e
-  item_stops (Wrong m) r = record {
+  pub item_stops : (room : ℕ) (e : Stop) → Stopped toks room block_item k e → Stopped toks room case_item k e
+  item_stops room (Wrong m) r = record {
     prefix = as_case (at_most room) (r.most k nothing) r.prefix;
     never = λ l w d. as_front (r.never l w (to_block d));
     most = λ n q. elim (to_block_prefix q) [ inl h ↦ let g = r.most k nothing in omega arith | inr q' ↦ r.most n q' ];
   }
-  item_stops (Deep m) r = record {
+  item_stops room (Deep m) r = record {
     prefix = as_case (at_most room) (r.most k nothing) r.prefix;
     begins = let g = r.most k nothing in as_case unlimited (omega arith) r.begins;
     never = λ l w d. as_front (r.never l w (to_block d));
     most = λ n q. elim (to_block_prefix q) [ inl h ↦ let g = r.most k nothing in omega arith | inr q' ↦ r.most n q' ];
   }
-  item_stops Memory r = tt
+  item_stops room Memory r = tt
