@@ -1,3 +1,4 @@
 pub mod Follows
 pub mod Reading
 pub mod Stops
+pub mod Levels
