@@ -1,3 +1,4 @@
 pub mod Inverse
 pub mod Operators
 pub mod Depths
+pub mod Levels
