@@ -18,3 +18,4 @@ pub mod Operators
 pub mod Depths
 pub mod Levels
 pub mod Climbing
+pub mod Atoms
