@@ -22,7 +22,7 @@ pub record SoFar (toks : List Tok) (room low at k : ℕ) (v : plain.Expression) 
   pub only : (wide : Room) (m j : ℕ) (w : plain.Expression) → low ≤ m → Derives toks wide (level m) at j w → GoesOn toks (level m) j ⊎ Chain toks wide low m k v j w
   pub most : (wide : Room) (m n : ℕ) → low ≤ m → Prefix toks wide (level m) at n → ChainTo toks wide low m k v n
 
-wider_zero : (room : Room) → Wider room (below room 0)
+pub wider_zero : (room : Room) → Wider room (below room 0)
 wider_zero unlimited = tt
 wider_zero (at_most r) = omega arith
 

@@ -19,3 +19,4 @@ pub mod Depths
 pub mod Levels
 pub mod Climbing
 pub mod Atoms
+pub mod Choosing
