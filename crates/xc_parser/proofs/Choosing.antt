@@ -38,17 +38,17 @@ has_same xs a_name t e h = absurd (cc)
 has_same xs a_number t e h = absurd (cc)
 has_same xs s t e h = absurd (cc)
 
-has_within : (xs ys : List Symbol) (t : Symbol) → within xs ys ≡ true → has xs t ≡ true → has ys t ≡ true
+pub has_within : (xs ys : List Symbol) (t : Symbol) → within xs ys ≡ true → has xs t ≡ true → has ys t ≡ true
 has_within [] ys t w h = absurd (cc)
 has_within (x ∷ xs) ys t w h =
     let p = and_parts (has ys x) (within xs ys) w in
     elim (or_cases (is_same x t) (has xs t) h) [ inl e ↦ has_same ys x t p.0 e | inr e ↦ has_within xs ys t p.1 e ]
 
 module _ (toks : List Tok) where
-  expr_goes : (k : ℕ) → GoesOn toks (level 10) k → GoesOn toks expr k
+  pub expr_goes : (k : ℕ) → GoesOn toks (level 10) k → GoesOn toks expr k
   expr_goes k g = record { token = g.token; stands = g.stands; among = has_within (follows (level 10)) (follows expr) g.token refl g.among }
 
-  question_goes : {k : ℕ} {p : Pos} → On toks k (Sym 9) p → GoesOn toks expr k
+  pub question_goes : {k : ℕ} {p : Pos} → On toks k (Sym 9) p → GoesOn toks expr k
   question_goes {k} {p} on = record { token = sym 9; stands = (p, on); among = refl }
 
   -- no level goes on with `?`

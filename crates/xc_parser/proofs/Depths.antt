@@ -46,40 +46,67 @@ one_grows m [] = tt
 one_grows m (o ∷ os) = (record { parts = (p_sym, tt); grows = λ e vs. refl }, one_grows m os)
 
 level_grows : (m : ℕ) → AllGrow (level m) (rules (level m))
-level_grows zero =
-    (record { parts = (p_atom, tt); grows = λ e vs. omega arith },
-    (record { parts = (p_sign, (p_level, tt)); grows = λ e vs. omega arith },
-    (record { parts = (p_sym, (p_key, (p_sym, (p_level, tt)))); grows = λ e vs. omega arith },
-    (record { parts = (p_sym, (p_key, (p_sym, (p_level, tt)))); grows = λ e vs. omega arith },
-    tt))))
-level_grows (suc m) =
-    (record { parts = (p_level, tt); grows = λ e vs. omega arith },
-    (record { parts = (p_level, (p_operator, (p_level, tt))); grows = λ e vs. omega arith },
-    tt))
+level_grows zero = (
+  record { parts = (p_atom, tt); grows = λ e vs. omega arith },
+  (
+    record { parts = (p_sign, (p_level, tt)); grows = λ e vs. omega arith },
+    (
+      record { parts = (p_sym, (p_key, (p_sym, (p_level, tt)))); grows = λ e vs. omega arith },
+      (
+        record { parts = (p_sym, (p_key, (p_sym, (p_level, tt)))); grows = λ e vs. omega arith },
+        tt,
+      ),
+    ),
+  ),
+)
+level_grows (suc m) = (
+  record { parts = (p_level, tt); grows = λ e vs. omega arith },
+  (
+    record { parts = (p_level, (p_operator, (p_level, tt))); grows = λ e vs. omega arith },
+    tt,
+  ),
+)
 
 all_grow : {s : Symbol} → IsPart s → AllGrow s (rules s)
 all_grow p_sym = tt
 all_grow p_key = tt
 all_grow p_name = tt
 all_grow p_number = tt
-all_grow p_sign =
-    (record { parts = (p_sym, tt); grows = λ e vs. refl },
-    (record { parts = (p_sym, tt); grows = λ e vs. refl },
-    (record { parts = (p_sym, tt); grows = λ e vs. refl },
-    (record { parts = (p_sym, tt); grows = λ e vs. refl },
-    tt))))
+all_grow p_sign = (
+  record { parts = (p_sym, tt); grows = λ e vs. refl },
+  (
+    record { parts = (p_sym, tt); grows = λ e vs. refl },
+    (
+      record { parts = (p_sym, tt); grows = λ e vs. refl },
+      (
+        record { parts = (p_sym, tt); grows = λ e vs. refl },
+        tt,
+      ),
+    ),
+  ),
+)
 all_grow (p_operator {m}) = one_grows m (operators m)
-all_grow p_atom =
-    (record { parts = (p_number, tt); grows = λ e vs. refl },
-    (record { parts = (p_name, tt); grows = λ e vs. refl },
-    (record { parts = (p_name, (p_sym, (p_expr, (p_sym, tt)))); grows = λ e vs. omega arith },
-    (record { parts = (p_sym, (p_expr, (p_sym, tt))); grows = λ e vs. omega arith },
-    tt))))
+all_grow p_atom = (
+  record { parts = (p_number, tt); grows = λ e vs. refl },
+  (
+    record { parts = (p_name, tt); grows = λ e vs. refl },
+    (
+      record { parts = (p_name, (p_sym, (p_expr, (p_sym, tt)))); grows = λ e vs. omega arith },
+      (
+        record { parts = (p_sym, (p_expr, (p_sym, tt))); grows = λ e vs. omega arith },
+        tt,
+      ),
+    ),
+  ),
+)
 all_grow (p_level {m}) = level_grows m
-all_grow p_expr =
-    (record { parts = (p_level, tt); grows = λ e vs. omega arith },
-    (record { parts = (p_level, (p_sym, (p_expr, (p_sym, (p_expr, tt))))); grows = λ e vs. omega arith },
-    tt))
+all_grow p_expr = (
+  record { parts = (p_level, tt); grows = λ e vs. omega arith },
+  (
+    record { parts = (p_level, (p_sym, (p_expr, (p_sym, (p_expr, tt))))); grows = λ e vs. omega arith },
+    tt,
+  ),
+)
 
 grow_among : (s : Symbol) (rs : List (Rule (Value s))) (r : Rule (Value s)) (at : ℕ) → slice_get rs at ≡ Some r → AllGrow s rs → Grows s r
 grow_among s [] r at e g = absurd (cc)

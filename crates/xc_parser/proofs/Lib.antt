@@ -20,3 +20,4 @@ pub mod Levels
 pub mod Climbing
 pub mod Atoms
 pub mod Choosing
+pub mod Tests

@@ -2,3 +2,4 @@ pub mod Follows
 pub mod Reading
 pub mod Stops
 pub mod Levels
+pub mod Operands
