@@ -17,7 +17,7 @@ use Rattle.xc_parser.specs.Stops.{Stopped}
 use Rattle.xc_parser.specs.Levels.{level_of, IsOperator}
 use Rattle.xc_parser.proofs.Inverse.{Rows, Begun, Ends, by_rules, from_rules, by_starts, from_starts, widen, widen_prefix, Wider, any_wider, below_wider, same_kind, same_pos}
 use Rattle.xc_parser.proofs.Operators.{token_is, token_prefix, Onward, index, operates, goes_onward}
-use Rattle.xc_parser.proofs.Depths.{p_level, depth_fits, shallow, no_room}
+use Rattle.xc_parser.proofs.Heights.{p_level, depth_fits, shallow, no_room}
 use Rattle.xc_parser.proofs.Climbing.{wider_zero}
 use Rattle.xc_parser.proofs.Rests.{Part, Rest, Open, Stands}
 use Rattle.xc_parser.proofs.Rests as rest

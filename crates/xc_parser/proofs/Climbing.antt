@@ -12,8 +12,8 @@ use Rattle.xc_parser.specs.Reading.{GoesOn, Reads, Refuses, TooDeep}
 use Rattle.xc_parser.specs.Levels.{level_of, IsOperator}
 use Rattle.xc_parser.proofs.Inverse.{from_rules, from_starts, widen, widen_prefix, Wider, any_wider, same_kind, same_pos}
 use Rattle.xc_parser.proofs.Operators.{is_operator, bracket_goes_on, operator_goes_on, Onward, index, operates, goes_onward}
-use Rattle.xc_parser.proofs.Depths.{p_level, shallow, no_room}
-use Rattle.xc_parser.proofs.Levels.{joined, Chain, stop, go, ChainTo, ends, inside, onward, split, split_to}
+use Rattle.xc_parser.proofs.Heights.{p_level, shallow, no_room}
+use Rattle.xc_parser.proofs.Chains.{joined, Chain, stop, go, ChainTo, ends, inside, onward, split, split_to}
 
 -- From `at` on the tree v was read up to k by operators of the levels up to `low`. Each other reading of a level from
 -- there up goes on at its end, or has a chain of operators behind k.

@@ -15,9 +15,10 @@ pub mod Loops
 pub mod Trial
 pub mod Inverse
 pub mod Operators
-pub mod Depths
-pub mod Levels
+pub mod Heights
+pub mod Chains
 pub mod Climbing
 pub mod Atoms
 pub mod Choosing
 pub mod Tests
+pub mod Runs

@@ -1,5 +1,5 @@
 -- The operators between operands, by how strongly they bind.
-use Rattle.std.specs.Prelude.{◌≡◌, ℕ, ◌<◌, List, [], ◌∷◌, get_or}
+use Rattle.std.specs.Prelude.{◌≡◌, ℕ, suc, ◌<◌, List, [], ◌∷◌, get_or}
 use Rattle.xc_tree.specs.declared.token.Tok.{Tok}
 use Rattle.xc_tree.specs.declared.token.Kind.TheVariants.{Sym}
 use Rattle.xc_tree.specs.Derives.{On}
@@ -18,3 +18,7 @@ level_of symbol = get_or levels symbol 0
 pub record IsOperator (toks : List Tok) (i l : ℕ) (o : Marked) : Type 0 where
   pub on : On toks i (Sym o.mark) o.pos
   pub binds : level_of o.mark ≡ l
+
+-- no operator of a level up to m stands at a place
+pub record NoOperator (toks : List Tok) (i m : ℕ) : Type 0 where
+  pub none : (l : ℕ) (o : Marked) → l < m → IsOperator toks i (suc l) o → ⊥

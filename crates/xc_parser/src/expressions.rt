@@ -9,6 +9,7 @@ ghost use Rattle.xc_tree.specs.Symbol as symbol;
 ghost use Rattle.xc_tree.specs.Trees.{expression_of};
 ghost use Rattle.xc_parser.specs.Reading.{Reads};
 ghost use Rattle.xc_parser.specs.Stops.{Stopped};
+ghost use Rattle.xc_parser.specs.Levels.{NoOperator};
 ghost use Rattle.xc_parser.specs.Operands.{IsSymbol, IsBracket, IsSized, ReadsLevel, ReadsExpression};
 
 use crate::nodes;
@@ -68,12 +69,12 @@ impl<'a> Parser<'a> {
         ensures read { IfOk result (λ o. ReadsLevel self.now.toks.now room 0 at o) }
         ensures stopped { IfErr result (λ e. Stopped self.now.toks.now room (symbol.level 0) at e) }
     {
-        let mut open = self.brackets_end(at);
-        let mut operand = match self.bare(open, room) {
+        let mut start = self.brackets_end(at);
+        let mut operand = match self.bare(start, room) {
             Ok(inside) => inside,
             Err(e) => return Err(e),
         };
-        'brackets: while open > at {
+        'brackets: while start > at {
             operand = match self.rest(operand, room) {
                 Ok(inside) => inside,
                 Err(e) => return Err(e),
@@ -82,7 +83,7 @@ impl<'a> Parser<'a> {
                 return Err(Stop::Wrong(operand.end));
             }
             operand.end += 1;
-            open -= 1;
+            start -= 1;
         }
         Ok(operand)
     }
@@ -158,6 +159,7 @@ impl<'a> Parser<'a> {
         requires first { IsSized self.now.toks.now room first }
         ensures sized { IfOk result (λ o. (first.end ≤ o.end) × IsSized self.now.toks.now room o) }
         ensures read { IfOk result (λ o. (at : ℕ) → ReadsLevel self.now.toks.now room 0 at first → ReadsLevel self.now.toks.now room level at o) }
+        ensures last { IfOk result (λ o. NoOperator self.now.toks.now o.end level) }
         ensures stopped { IfErr result (λ e. (at : ℕ) → ReadsLevel self.now.toks.now room 0 at first → Stopped self.now.toks.now room (symbol.level level) at e) }
     {
         let mut left = first;
@@ -191,6 +193,7 @@ impl<'a> Parser<'a> {
         requires at { at ≤ length self.now.toks.now }
         ensures sized { IfOk result (λ o. (at < o.end) × IsSized self.now.toks.now room o) }
         ensures read { IfOk result (λ o. ReadsLevel self.now.toks.now room level at o) }
+        ensures last { IfOk result (λ o. NoOperator self.now.toks.now o.end level) }
         ensures stopped { IfErr result (λ e. Stopped self.now.toks.now room (symbol.level level) at e) }
     {
         match self.operand(at, room) {

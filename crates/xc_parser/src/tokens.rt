@@ -1,11 +1,11 @@
-ghost use Rattle.std.specs.Prelude.{◌≡◌, ◌↔◌, ◌⊎◌, ℕ, suc, ◌+◌, ◌<◌, ◌≤◌, length, IfSome, IfNone, IsTrue, false};
+ghost use Rattle.std.specs.Prelude.{◌≡◌, ◌↔◌, ◌⊎◌, ◌+◌, ◌<◌, ◌≤◌, length, IfSome, IfNone, IsTrue, false};
 ghost use Rattle.xc_tree.specs.declared.token.Kind.TheVariants.{Key, Sym};
 ghost use Rattle.xw_words.specs.declared.pos.Pos.{Pos};
 ghost use Rattle.xc_tree.specs.Derives.{On};
 ghost use Rattle.xc_tree.specs.Symbol as symbol;
 ghost use Rattle.xc_parser.specs.Follows.{OneOf, StandsAt};
 ghost use Rattle.xc_parser.specs.Follows as follows;
-ghost use Rattle.xc_parser.specs.Levels.{IsOperator};
+ghost use Rattle.xc_parser.specs.Levels.{IsOperator, NoOperator};
 ghost use Rattle.xc_parser.specs.Levels as levels;
 ghost use Rattle.xc_parser.specs.Operands.{IsType, IsCast, IsBracket};
 ghost use Rattle.xc_tree.specs.Symbol.{Marked};
@@ -105,7 +105,7 @@ const LEVELS: [u8; 47] = [
 pub fn operator_at(toks: &[Tok], at: usize, weakest: u8) -> Option<Operator>
     ensures some { IfSome result (λ o. (at < length toks.now) × (0 < o.level) × (o.level ≤ weakest)) }
     ensures is { IfSome result (λ o. IsOperator toks.now at o.level (record { mark = o.symbol; pos = o.pos })) }
-    ensures none { IfNone result ((l : ℕ) (o : Marked) → l < weakest → IsOperator toks.now at (suc l) o → ⊥) }
+    ensures none { IfNone result (NoOperator toks.now at weakest) }
 {
     if at >= toks.len() {
         return None;

@@ -17,5 +17,5 @@ pub returns-clause-no : goal.returns-clause-no
 returns-clause-no c = λ h o. elim (after_is o) [
   | inl y ↦ c.is_symbol.ensures.no c.if-is_symbol.false y.0 y.1
   | inr (index {p} on) ↦ c.is_symbol-2.ensures.no h p on
-  | inr (operates {l} {o = m} g s) ↦ c.in_default.ensures.none l m g s
+  | inr (operates {l} {o = m} g s) ↦ (c.in_default.ensures.none).none l m g s
 ]

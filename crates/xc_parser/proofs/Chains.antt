@@ -10,7 +10,7 @@ use Rattle.xc_parser.specs.Reading.{GoesOn, Reads, Refuses, TooDeep}
 use Rattle.xc_parser.specs.Levels.{level_of, IsOperator}
 use Rattle.xc_parser.proofs.Inverse.{Rows, Begun, Ends, by_rules, from_rules, from_starts, begun_of, widen, widen_prefix, forth, Wider, any_wider, below_wider, wider_below, has_wider, same_kind, same_pos}
 use Rattle.xc_parser.proofs.Operators.{operator_is, is_operator, operator_prefix, bracket_goes_on, operator_goes_on, Onward, index, operates, goes_onward}
-use Rattle.xc_parser.proofs.Depths.{IsPart, p_level, depth_fits, shallow, more_room, less_room, no_room}
+use Rattle.xc_parser.proofs.Heights.{IsPart, p_level, depth_fits, shallow, more_room, less_room, no_room}
 
 abbrev pub joined : plain.Expression → Marked → plain.Expression → plain.Expression
 joined a o b = plain.expression (plain.binary o.mark a b) o.pos
