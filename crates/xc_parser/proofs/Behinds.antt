@@ -32,7 +32,7 @@ token_stands toks k a_name v on = (v.text, v.pos, on)
 token_stands toks k a_number v on = (v.value, v.is_unsigned, v.pos, on)
 token_stands toks k _ v on = absurd on
 
-no_rule : (t : Symbol) → is_token t ≡ true → {r : Rule (Value t)} → Among (rules t) r → ⊥
+pub no_rule : (t : Symbol) → is_token t ≡ true → {r : Rule (Value t)} → Among (rules t) r → ⊥
 no_rule (sym o) e a = let h = a.there in absurd (cc)
 no_rule (key w) e a = let h = a.there in absurd (cc)
 no_rule a_name e a = let h = a.there in absurd (cc)
@@ -57,6 +57,11 @@ token_derived {t} e (by_rule a h row f) = absurd (no_rule t e a)
 abbrev pos_or : Option Tok → Pos
 pos_or None = record { line = 0; col = 0 }
 pos_or (Some t) = t.pos
+
+pub token_prefix : {toks : List Tok} {room : Room} {t : Symbol} {k n : ℕ} → is_token t ≡ true → Prefix toks room t k n → n ≤ k + 1
+token_prefix e nothing = omega arith
+token_prefix e (whole d) = omega (arith, (token_derived e d).0)
+token_prefix {t} e (begins a h b) = absurd (no_rule t e a)
 
 -- two tokens at one place are the same
 one_token : {toks : List Tok} {k : ℕ} {a b : Kind} {p q : Pos} → On toks k a p → On toks k b q → (a ≡ b) × (p ≡ q)
@@ -127,3 +132,11 @@ module _ (toks : List Tok) (k : ℕ) where
   as_back a_name _ v w e on = absurd on
   as_back a_number _ v w e on = absurd on
   as_back _ _ v w e on = absurd (cc)
+
+-- a token at a place has one value
+pub same_value : (toks : List Tok) (k : ℕ) (t : Symbol) (v w : Value t) → TokenAt toks k t v → TokenAt toks k t w → w ≡ v
+same_value toks k (sym o) v w x y = let e = as_same toks k (sym o) (sym o) v w y x in (one_token y x).1
+same_value toks k (key o) v w x y = (one_token y x).1
+same_value toks k a_name v w x y = let e = as_same toks k a_name a_name v w y x in cc
+same_value toks k a_number v w x y = let e = as_same toks k a_number a_number v w y x in cc
+same_value toks k _ v w x y = absurd x

@@ -9,10 +9,16 @@ pub mod Alternatives
 pub mod Spreads
 pub mod Beginnings
 pub mod Behinds
-pub mod Paths
+pub mod Overs
+pub mod Heads
+pub mod Advances
+pub mod Reaches
+pub mod Moves
 pub mod Choices
+pub mod Paths
+pub mod TokenReads
+pub mod Lists
 pub mod Loops
-pub mod Trial
 pub mod Inverse
 pub mod Operators
 pub mod Heights
@@ -22,3 +28,6 @@ pub mod Atoms
 pub mod Choosing
 pub mod Tests
 pub mod Runs
+pub mod Rows
+pub mod Aheads
+pub mod Trials

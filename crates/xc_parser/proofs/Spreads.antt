@@ -20,11 +20,11 @@ plain_no_token a_name e = absurd (cc)
 plain_no_token a_number e = absurd (cc)
 plain_no_token _ e = refl
 
-has_max : (room : Room) (a b : ℕ) → HasRoom room a → HasRoom room b → HasRoom room (max a b)
+pub has_max : (room : Room) (a b : ℕ) → HasRoom room a → HasRoom room b → HasRoom room (max a b)
 has_max unlimited a b h g = tt
 has_max (at_most r) a b h g = grind arith
 
-max_has : (room : Room) (a b : ℕ) → HasRoom room (max a b) → HasRoom room a × HasRoom room b
+pub max_has : (room : Room) (a b : ℕ) → HasRoom room (max a b) → HasRoom room a × HasRoom room b
 max_has unlimited a b h = (tt, tt)
 max_has (at_most r) a b h = (grind arith, grind arith)
 

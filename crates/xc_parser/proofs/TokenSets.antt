@@ -88,3 +88,10 @@ one_is {toks} {i} {xs} t at o = let e = is_same_eq o.token t (one_class toks i o
 
 pub one_disjoint : {toks : List Tok} {i : ℕ} {xs : List Symbol} (ys : List Symbol) → is_disjoint xs ys ≡ true → OneOf toks i xs → OneOf toks i ys → ⊥
 one_disjoint {xs} ys d o q = disjoint_has xs ys o.token d o.among (one_is o.token o.stands q)
+
+-- the only one of one token
+pub one_token_of : {toks : List Tok} {i : ℕ} (t : Symbol) → OneOf toks i (t ∷ []) → StandsAt toks i t
+one_token_of {toks} {i} t o = elim (or_cases (is_same t o.token) false o.among) [
+  | inl e ↦ subst (StandsAt toks i) (sym' (is_same_eq t o.token e)) o.stands
+  | inr e ↦ absurd (cc)
+]
