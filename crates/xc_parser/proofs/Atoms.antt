@@ -1,16 +1,17 @@
 -- Operands: numbers, names, elements, signs, casts and brackets.
-use Rattle.std.proofs.Common.{◌≡◌, ℕ, zero, suc, ◌+◌, ◌-◌, ◌<◌, ◌≤◌, ◌⊎◌, inl, inr, Bool, true, false, List, [], ◌∷◌, refl, sym as sym', ap, subst, arith}
+use Rattle.std.proofs.Common.{◌≡◌, ℕ, zero, suc, ◌+◌, ◌-◌, ◌<◌, ◌≤◌, ◌⊎◌, inl, inr, Bool, true, false, IsTrue, length, List, [], ◌∷◌, refl, sym as sym', ap, subst, arith}
 use Rattle.std.proofs.Math.Nat.{eq-or-lt_of_le}
 use Rattle.xw_words.specs.declared.pos.Pos.{Pos}
 use Rattle.xc_tree.specs.declared.token.Tok.{Tok}
 use Rattle.xc_tree.specs.declared.token.Kind.TheVariants.{Name, Num, Key, Sym}
 use Rattle.xc_tree.specs.Plain as plain
-use Rattle.xc_tree.specs.Symbol.{Symbol, sym, key, a_name, a_number, expr, level}
+use Rattle.xc_tree.specs.Symbol.{Symbol, sym, key, a_name, a_number, expr, level, lval}
 use Rattle.xc_tree.specs.Derives.{On}
 use Rattle.xc_parser.specs.declared.stop.Stop.{Stop}
 use Rattle.xc_parser.specs.Follows.{OneOf, begins_operand}
 use Rattle.xc_parser.specs.Reading.{Reads, Refuses, TooDeep}
 use Rattle.xc_parser.specs.Stops.{Stopped}
+use Rattle.xc_parser.specs.Operands.{IsType}
 use Rattle.xc_parser.proofs.Rests.{Part, Rest, Stands, left}
 use Rattle.xc_parser.proofs.Opening.{over, beginnings}
 use Rattle.xc_parser.proofs.Paths.{Roomy, begin, roomy, over_symbol, over_word, over_name, over_number, lacks_symbol, read, stops, finish, none_left}
@@ -89,6 +90,12 @@ module _ {toks : List Tok} {room at : ℕ} (h : 1 ≤ room) where
       pub open_unsigned : ((r : Pos) → On toks (at + 1 + 1) (Sym 1) r → ⊥) → Refuses toks room (level 0) at (at + 1 + 1)
       open_unsigned none = none_left (lacks_symbol 1 (over_word (over_symbol (begin refl h) opened refl) on refl) none)
 
+-- a cast by the word of its type, which tells whether it is `unsigned`
+pub cast_reads : {toks : List Tok} {room at : ℕ} {p : Pos} {u : Bool} {r : Pos} {j : ℕ} {v : plain.Expression} → 1 ≤ room → On toks at (Sym 0) p → IsType toks (at + 1) → (IsTrue u → (at + 1 < length toks) × ((q : Pos) × On toks (at + 1) (Key 26) q)) → ((u ≡ false) → (q : Pos) → On toks (at + 1) (Key 26) q → ⊥) → On toks (at + 1 + 1) (Sym 1) r → Reads toks (room - 1) (level 0) (at + 1 + 1 + 1) j v → Reads toks room (level 0) at j (node (plain.cast u v) p)
+cast_reads {u = true} h paren type f g close r = let y = f refl in reads_unsigned h paren y.1.1 close r
+cast_reads {u = false} h paren (inl y) f g close r = reads_int h paren y.1 close r
+cast_reads {u = false} h paren (inr y) f g close r = absurd (g refl y.0 y.1)
+
 -- with no room
 module _ {toks : List Tok} {at : ℕ} where
   pub deep_number : {n : ℕ} {u : Bool} {p : Pos} → On toks at (Num n u) p → TooDeep toks 0 (level 0) at at
@@ -129,3 +136,21 @@ module _ {toks : List Tok} (room : ℕ) {at : ℕ} where
 
     pub open_brackets : {j : ℕ} {v : plain.Expression} → Reads toks room expr (at + 1) j v → ((q : Pos) → On toks j (Sym 1) q → ⊥) → Refuses toks room (level 0) at j
     open_brackets r none = none_left (lacks_symbol 1 (read inside r refl) none)
+
+-- A name or an element, as what is assigned to.
+module _ {toks : List Tok} {room at : ℕ} (h : 1 ≤ room) where
+  pub reads_variable : {t : List ℕ} {p : Pos} → On toks at (Name t) p → ((q : Pos) → On toks (at + 1) (Sym 4) q → ⊥) → Reads toks room lval at (at + 1) (node (plain.name t) p)
+  reads_variable on none = finish (lacks_symbol 4 (over_name (begin refl h) on refl) none) refl
+
+  module _ {t : List ℕ} {p q : Pos} (on : On toks at (Name t) p) (opened : On toks (at + 1) (Sym 4) q) where
+    pub reads_place : {j : ℕ} {v : plain.Expression} {r : Pos} → Reads toks (room - 1) expr (at + 1 + 1) j v → On toks j (Sym 5) r → Reads toks room lval at (j + 1) (node (plain.index t v) p)
+    reads_place r close = finish (over_symbol (read (over_symbol (over_name (begin refl h) on refl) opened refl) r refl) close refl) refl
+
+    pub open_place : {j : ℕ} {v : plain.Expression} → Reads toks (room - 1) expr (at + 1 + 1) j v → ((r : Pos) → On toks j (Sym 5) r → ⊥) → Refuses toks room lval at j
+    open_place r none = none_left (lacks_symbol 5 (read (over_symbol (over_name (begin refl h) on refl) opened refl) r refl) none)
+
+    pub stops_place : (e : Stop) → Stopped toks (room - 1) expr (at + 1 + 1) e → Stopped toks room lval at e
+    stops_place e r = stops e (over_symbol (over_name (begin refl h) on refl) opened refl) r refl
+
+pub deep_variable : {toks : List Tok} {at : ℕ} {t : List ℕ} {p : Pos} → On toks at (Name t) p → TooDeep toks 0 lval at at
+deep_variable {t} {p} on = dead a_name (all_open refl) (t, p, on) refl (omega arith, (omega arith, tt))

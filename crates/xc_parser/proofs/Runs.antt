@@ -1,5 +1,5 @@
 -- What the loops over brackets and over operators keep, and their steps.
-use Rattle.std.proofs.Common.{◌≡◌, ℕ, zero, suc, ◌+◌, ◌-◌, ◌<◌, ◌≤◌, max, List, length, refl, sym as sym', subst, arith}
+use Rattle.std.proofs.Common.{◌≡◌, ℕ, zero, suc, ◌+◌, ◌-◌, ◌<◌, ◌≤◌, max, List, length, refl, sym as sym', ap, subst, ◌∙◌, ◌⊎◌, inl, inr, arith}
 use Rattle.xw_words.specs.declared.pos.Pos.{Pos}
 use Rattle.xc_tree.specs.declared.token.Tok.{Tok}
 use Rattle.xc_tree.specs.declared.token.Kind.TheVariants.{Sym}
@@ -20,6 +20,11 @@ use Rattle.xc_parser.proofs.Climbing.{SoFar, start, step, refuse_first, deep_fir
 use Rattle.xc_parser.proofs.Choosing.{no_test}
 use Rattle.xc_parser.proofs.Atoms.{reads_brackets, stops_brackets, open_brackets}
 use Rattle.xc_parser.proofs.Tests.{type_is}
+
+order : (a b : ℕ) → (a ≤ b) ⊎ (b < a)
+order zero b = inl (omega arith)
+order (suc a) zero = inr (omega arith)
+order (suc a) (suc b) = elim (order a b) [ inl h ↦ inl (omega arith) | inr h ↦ inr (omega arith) ]
 
 -- want of memory says nothing
 pub no_memory : (toks : List Tok) (room : ℕ) (s : Symbol) (i : ℕ) (e : Stop) → e ≡ Memory → Stopped toks room s i e
@@ -95,6 +100,9 @@ module _ (toks : List Tok) (room : ℕ) where
           read = reads_brackets room b.paren.1 (λ o. b.no_type (type_is o)) (subst (λ i. Reads toks room expr i o.end (expression_of o.tree)) behind_last r) on;
         }
 
+above_right : {toks : List Tok} {i l l' : ℕ} {o : Marked} → NoOperator toks i l → IsOperator toks i (suc l') o → suc l ≤ suc l'
+above_right {l} {l'} {o} n s = elim (order (suc l) (suc l')) [ inl h ↦ h | inr h ↦ absurd (n.none l' o (omega arith) s) ]
+
 -- Operators of the levels up to `low` were read behind the first operand.
 pub record Climbs (toks : List Tok) (room top : ℕ) (first left : Operand) : Type 0 where
   pub low : ℕ
@@ -124,11 +132,12 @@ module _ {toks : List Tok} {room : ℕ} where
         let y = s.depth in
         let z = s.fits in
         let u = c.forth in
+        let deeper : left.depth ≡ of_expression (expression_of left.tree) → right.depth ≡ of_expression (expression_of right.tree) → max left.depth right.depth + 1 ≡ of_expression (joined (expression_of left.tree) o (expression_of right.tree)) = λ a b. ap (λ n. max n right.depth + 1) a ∙ ap (λ n. max (of_expression (expression_of left.tree)) n + 1) b in
         record {
           low = suc l;
           under = omega arith;
           above = λ l' o' q. above_right n (subst (λ i. IsOperator toks i (suc l') o') e q);
-          sized = record { within = omega arith; depth = ?; fits = ? };
+          sized = record { within = omega arith; depth = g ∙ deeper x y ∙ ap of_expression (sym' t); fits = let q : max left.depth right.depth + 1 ≤ room = omega arith in omega arith };
           forth = omega arith;
           so_far = λ at q. subst (SoFar toks room (suc l) at next.end) (sym' t) (subst (λ i. SoFar toks room (suc l) at i (joined (expression_of left.tree) o (expression_of right.tree))) (sym' e) (step toks (c.so_far at q) op (c.above l o op) r (omega arith)));
         }
@@ -143,3 +152,11 @@ module _ {toks : List Tok} {room : ℕ} where
 
   pub climbed : {top : ℕ} {first left : Operand} → Climbs toks room top first left → NoOperator toks left.end top → (at : ℕ) → ReadsLevel toks room 0 at first → ReadsLevel toks room top at left
   climbed c n at q = finish toks (c.so_far at q) c.under n.none
+
+-- one bracket more
+pub one_more : {toks : List Tok} {at end : ℕ} → Run toks at end → end < length toks → IsBracket toks end → Run toks at (end + 1)
+one_more {toks} {at} {end} run h b = record {
+  after = let a = run.after in omega arith;
+  within = omega arith;
+  brackets = λ i x y. elim (order (suc i) end) [ inl z ↦ run.brackets i x (omega arith) | inr z ↦ let e : end ≡ i = omega arith in subst (IsBracket toks) e b ];
+}

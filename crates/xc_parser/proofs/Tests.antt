@@ -51,9 +51,16 @@ get_some [] i t h = absurd (omega arith)
 get_some (x ∷ xs) zero t h = refl
 get_some (x ∷ xs) (suc i) t h = get_some xs i t (omega arith)
 
+pos_of : {t : Tok} {k : Kind} {p : Pos} → Some t ≡ Some (record { kind = k; pos = p }) → p ≡ t.pos
+pos_of {t} {k} {p} e = let f : ◌≡◌ {A = Tok} t (record { kind = k; pos = p }) = cc in sym' (ap (λ x. x.pos) f)
+
 -- the token that was read from a place stands there
-pub stands_there : (toks : List Tok) (i : ℕ) (t : Tok) (k : Kind) → i < length toks → t ≡ get_or toks i t → (get_or toks i t).kind ≡ k → On toks i k t.pos
-stands_there toks i t k h e f = let g : ◌≡◌ {A = Tok} t (record { kind = k; pos = t.pos }) = ap (λ x. record { kind = x; pos = t.pos }) (ap (λ x. x.kind) e ∙ f) in record { there = get_some toks i t h ∙ ap Some (sym' e) ∙ ap Some g }
+pub stands_there : (toks : List Tok) (i : ℕ) (t : Tok) (k : Kind) → i < length toks → t ≡ get_or toks i t → (get_or toks i t).kind ≡ k → On toks i k (get_or toks i t).pos
+stands_there toks i t k h e f = let g : ◌≡◌ {A = Tok} (get_or toks i t) (record { kind = k; pos = (get_or toks i t).pos }) = ap (λ x. record { kind = x; pos = (get_or toks i t).pos }) f in record { there = get_some toks i t h ∙ ap Some g }
+
+-- the place of the token that was read from there
+pub stands_here : {toks : List Tok} {i : ℕ} {k : Kind} {p : Pos} (t : Tok) → i < length toks → On toks i k p → On toks i k (get_or toks i t).pos
+stands_here {toks} {i} {k} {p} t h on = let e : Some (get_or toks i t) ≡ Some (record { kind = k; pos = p }) = sym' (get_some toks i t h) ∙ on.there in let f : p ≡ (get_or toks i t).pos = pos_of e in subst (On toks i k) f on
 
 -- what one finds of an operator
 pub lower : {toks : List Tok} {i l : ℕ} {o : Marked} → 0 < l → IsOperator toks i l o → IsOperator toks i (suc (l - 1)) o
@@ -79,6 +86,9 @@ module _ {toks : List Tok} {i : ℕ} where
   -- the token there is one that an expression begins with
   pub begins_as : {k : Kind} {p : Pos} → On toks i k p → OneOf toks i begins_operand → BeginsAs k
   begins_as {k} on o = let y = begins_by o.token o.stands o.among in subst BeginsAs (same_kind y.2 on) y.3
+
+  pub is_symbol : {s : ℕ} {p : Pos} (o : ℕ) → On toks i (Sym s) p → s ≡ o → IsSymbol toks i o
+  is_symbol {s} {p} o on e = (p, subst (λ x. On toks i (Sym x) p) e on)
 
   -- what an expression goes on with
   pub operator_after : {l : ℕ} {o : Marked} → l < 10 → IsOperator toks i (suc l) o → OneOf toks i after_expression
@@ -112,3 +122,12 @@ module _ {toks : List Tok} {i : ℕ} where
 
   pub type_is : OneOf toks i (key 11 ∷ key 26 ∷ []) → IsType toks i
   type_is o = type_by o.token o.stands o.among
+
+-- behind the last token stands none
+past_end : (xs : List Tok) (i : ℕ) (t : Tok) → slice_get xs i ≡ Some t → i < length xs
+past_end [] i t e = absurd (cc)
+past_end (x ∷ xs) zero t e = omega arith
+past_end (x ∷ xs) (suc i) t e = let h = past_end xs i t e in omega arith
+
+pub none_past : (toks : List Tok) (i : ℕ) → length toks ≤ i → OneOf toks i begins_operand → ⊥
+none_past toks i h o = let y = begins_by o.token o.stands o.among in let g = past_end toks i _ y.2.there in absurd (omega arith)
