@@ -137,13 +137,13 @@ module _ (toks : List Tok) where
   ]
 
   -- a level as a whole expression
-  alone : {room : Room} {i j : ℕ} {v : plain.Expression} → Derives toks room (level 10) i j v → Derives toks room expr i j v
+  pub alone : {room : Room} {i j : ℕ} {v : plain.Expression} → Derives toks room (level 10) i j v → Derives toks room expr i j v
   alone {room} {i} {j} {v} d = from_rules toks expr (inl ((v, tt), no_room room, (j, widen toks (wider_zero room) d, refl), refl, refl))
 
-  alone_to : {room : Room} {i n : ℕ} → Prefix toks room (level 10) i n → Prefix toks room expr i n
+  pub alone_to : {room : Room} {i n : ℕ} → Prefix toks room (level 10) i n → Prefix toks room expr i n
   alone_to {room} q = from_starts toks expr (inl (no_room room, inl (widen_prefix toks (wider_zero room) q)))
 
-  asked : {room : Room} {i k n : ℕ} {v : plain.Expression} {p : Pos} → HasRoom room 1 → Derives toks (below room 1) (level 10) i k v → On toks k (Sym 9) p → n ≡ k + 1 → Prefix toks room expr i n
+  pub asked : {room : Room} {i k n : ℕ} {v : plain.Expression} {p : Pos} → HasRoom room 1 → Derives toks (below room 1) (level 10) i k v → On toks k (Sym 9) p → n ≡ k + 1 → Prefix toks room expr i n
   asked {room} {i} {k} {n} {v} {p} h d on e = subst (Prefix toks room expr i) (sym' e) (from_starts toks expr (inr (inl (h, inr (k, v, d, inl (whole (a_sym on)))))))
 
   module _ (room at : ℕ) where

@@ -31,3 +31,4 @@ pub mod Runs
 pub mod Rows
 pub mod Aheads
 pub mod Trials
+pub mod RightSides

@@ -17,7 +17,7 @@ use Rattle.xc_parser.proofs.Atoms.{each_sign}
 use Rattle.xc_parser.proofs.Choosing.{has_within, expr_goes, question_goes}
 
 -- the symbols of a list of tokens
-abbrev Among : ℕ → List Symbol → Type 0
+abbrev pub Among : ℕ → List Symbol → Type 0
 Among s [] = ⊥
 Among s (x ∷ xs) = (x ≡ sym s) ⊎ Among s xs
 
@@ -36,7 +36,7 @@ BeginsAs (Num n u) = Unit {0}
 BeginsAs (Sym s) = (s ≡ 0) ⊎ ((13 ≤ s) × (s ≤ 16))
 BeginsAs (Key w) = ⊥
 
-from_among : (s : ℕ) → Among s begins_operand → (s ≡ 0) ⊎ ((13 ≤ s) × (s ≤ 16))
+pub from_among : (s : ℕ) → Among s begins_operand → (s ≡ 0) ⊎ ((13 ≤ s) × (s ≤ 16))
 from_among s (inl e) = absurd (cc)
 from_among s (inr (inl e)) = absurd (cc)
 from_among s (inr (inr (inl e))) = let f : s ≡ 0 = cc in inl f
@@ -77,7 +77,7 @@ module _ {toks : List Tok} {i : ℕ} where
   symbol_begins {s} {p} on (inl e) = record { token = sym s; stands = (p, on); among = subst (λ x. has begins_operand (sym x) ≡ true) (sym' e) refl }
   symbol_begins {s} {p} on (inr h) = record { token = sym s; stands = (p, on); among = each_sign (λ x. has begins_operand (sym x) ≡ true) refl refl refl refl s h.0 h.1 }
 
-  begins_by : (t : Symbol) → StandsAt toks i t → has begins_operand t ≡ true → (k : Kind) × (p : Pos) × On toks i k p × BeginsAs k
+  pub begins_by : (t : Symbol) → StandsAt toks i t → has begins_operand t ≡ true → (k : Kind) × (p : Pos) × On toks i k p × BeginsAs k
   begins_by a_name on e = (Name on.0, on.1, on.2, tt)
   begins_by a_number on e = (Num on.0 on.1, on.2, on.3, tt)
   begins_by (sym s) on e = (Sym s, on.0, on.1, from_among s (among_of begins_operand s e))

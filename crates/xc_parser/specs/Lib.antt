@@ -3,3 +3,4 @@ pub mod Reading
 pub mod Stops
 pub mod Levels
 pub mod Operands
+pub mod RightSides
