@@ -139,6 +139,12 @@ pub record Listed (toks : List Tok) (room at end : ℕ) (all : List plain.Argume
   pub read : Reads toks room argument from end last
   pub all_are : all ≡ before ++ (last ∷ [])
 
+-- what the loop over arguments keeps
+pub record Listing (toks : List Tok) (room at end : ℕ) (all : List plain.Argument) : Type 0 where
+  pub after : at ≤ end
+  pub within : end ≤ length toks
+  pub listed : Listed toks room at end all
+
 module _ {toks : List Tok} {at : ℕ} where
   -- at a token that an argument begins with
   listed_at : {room : ℕ} → OneOf toks at begins_operand → Roomy toks room arguments at at (listing list_of_arguments [] ∷ [])
@@ -282,7 +288,7 @@ module _ (toks : List Tok) where
         absurd (cc)
   ]
 
-  module _ {room at : ℕ} (free : StandsAt toks at a_name → IsSymbol toks (at + 1) 0 → ⊥) where
+  module _ {at : ℕ} (free : StandsAt toks at a_name → IsSymbol toks (at + 1) 0 → ⊥) where
     no_call_here : {wide : Room} {j : ℕ} {c : plain.Call} → Derives toks wide call at j c → ⊥
     no_call_here d = free (call_name d) (call_has d)
 
@@ -292,8 +298,8 @@ module _ (toks : List Tok) where
       | inr y ↦ elim y.1 [ inl e ↦ let g = f y.0 in omega arith | inr z ↦ absurd (free y.0 z) ]
     ]
 
-    pub reads_value : {j : ℕ} {v : plain.Expression} → at < j → Reads toks room expr at j v → Reads toks room rhs at j (plain.value v)
-    reads_value {j} {v} h r = record {
+    pub reads_value : {room j : ℕ} {v : plain.Expression} → at < j → Reads toks room expr at j v → Reads toks room rhs at j (plain.value v)
+    reads_value {room} {j} {v} h r = record {
       derives = value_is r.derives;
       only = λ k w d. elim (rhs_is d) [
         | inl y ↦ elim (r.only k y.0 y.1) [ inl e ↦ inl (e.0, y.2 ∙ ap plain.value e.1) | inr g ↦ inr (rhs_goes k g) ]
@@ -302,19 +308,19 @@ module _ (toks : List Tok) where
       most = λ n q. elim (rhs_to q) [ inl y ↦ r.most n y | inr y ↦ short_call (omega arith) (λ x. omega arith) y ];
     }
 
-    pub stops_value : (StandsAt toks at a_name → 1 ≤ room) → (e : Stop) → Stopped toks room expr at e → Stopped toks room rhs at e
-    stops_value f (Wrong x) r = record {
+    pub stops_value : (room : ℕ) → (StandsAt toks at a_name → 1 ≤ room) → (e : Stop) → Stopped toks room expr at e → Stopped toks room rhs at e
+    stops_value room f (Wrong x) r = record {
       prefix = value_to r.prefix;
       never = λ k w d. elim (rhs_is d) [ inl y ↦ rhs_goes k (r.never k y.0 y.1) | inr y ↦ absurd (no_call_here y.1) ];
       most = λ n q. elim (rhs_to q) [ inl y ↦ r.most n y | inr y ↦ short_call (r.most at nothing) (λ z. r.most (at + 1) (whole (named_alone tt z.2))) y ];
     }
-    stops_value f (Deep x) r = record {
+    stops_value room f (Deep x) r = record {
       prefix = value_to r.prefix;
       begins = value_to r.begins;
       never = λ k w d. elim (rhs_is d) [ inl y ↦ rhs_goes k (r.never k y.0 y.1) | inr y ↦ absurd (no_call_here y.1) ];
       most = λ n q. elim (rhs_to q) [ inl y ↦ r.most n y | inr y ↦ short_call (r.most at nothing) (λ z. r.most (at + 1) (whole (named_alone (f z) z.2))) y ];
     }
-    stops_value f Memory r = tt
+    stops_value room f Memory r = tt
 
   -- a call
   module _ {room at : ℕ} {t : List ℕ} {p q : Pos} (on : On toks at (Name t) p) (paren : On toks (at + 1) (Sym 0) q) where

@@ -131,3 +131,6 @@ past_end (x ∷ xs) (suc i) t e = let h = past_end xs i t e in omega arith
 
 pub none_past : (toks : List Tok) (i : ℕ) → length toks ≤ i → OneOf toks i begins_operand → ⊥
 none_past toks i h o = let y = begins_by o.token o.stands o.among in let g = past_end toks i _ y.2.there in absurd (omega arith)
+
+pub name_within : {toks : List Tok} {i : ℕ} → StandsAt toks i a_name → i < length toks
+name_within {toks} {i} s = past_end toks i _ s.2.there
