@@ -1,7 +1,8 @@
 -- Calls, right sides and the other parts of statements that hold an expression.
-use Rattle.std.proofs.Common.{◌≡◌, ℕ, zero, suc, ◌+◌, ◌-◌, ◌<◌, ◌≤◌, ◌⊎◌, inl, inr, Bool, true, false, length, get_or, slice_get, List, [], ◌∷◌, ◌++◌, map, Option, Some, None, refl, sym as sym', ap, subst, ◌∙◌, arith}
+use Rattle.std.proofs.Common.{◌≡◌, ℕ, zero, suc, ◌+◌, ◌-◌, ◌<◌, ◌≤◌, ◌⊎◌, inl, inr, Bool, true, false, length, get_or, slice_get, List, [], ◌∷◌, ◌++◌, map, Option, Some, None, Result, Ok, Err, IfOk, IfErr, refl, sym as sym', ap, subst, ◌∙◌, arith}
 use Rattle.xw_words.specs.declared.pos.Pos.{Pos}
 use Rattle.xc_tree.specs.declared.tree.Id.{Id}
+use Rattle.xc_tree.specs.declared.tree.Arg.{Arg}
 use Rattle.xc_tree.specs.declared.tree.Rhs.{Rhs}
 use Rattle.xc_tree.specs.declared.token.Tok.{Tok}
 use Rattle.xc_tree.specs.declared.token.Kind.TheVariants.{Name, Num, Key, Sym}
@@ -17,7 +18,7 @@ use Rattle.xc_parser.specs.Reading.{GoesOn, Reads, Refuses, TooDeep, Unfit}
 use Rattle.xc_parser.specs.Stops.{Stopped}
 use Rattle.xc_parser.specs.Operands.{IsSymbol}
 use Rattle.xc_parser.specs.Levels.{level_of, IsOperator, NoOperator}
-use Rattle.xc_parser.specs.RightSides.{ReadsRhs, ReadsInitial}
+use Rattle.xc_parser.specs.RightSides.{IsMissing, ReadsRhs, ReadsInitial}
 use Rattle.xc_parser.proofs.Rests.{Part, ValuesOf, Rest, Stands, left}
 use Rattle.xc_parser.proofs.Opening.{over, beginnings}
 use Rattle.xc_parser.proofs.Paths.{Roomy, begin, over_symbol, over_name, at_symbol, at_name, at_number, lacks, lacks_symbol, read, stops, finish, none_left, unfit_last}
@@ -46,6 +47,23 @@ name_by t on e = absurd (cc)
 
 pub name_only : {toks : List Tok} {i : ℕ} → OneOf toks i (a_name ∷ []) → StandsAt toks i a_name
 name_only o = name_by o.token o.stands o.among
+
+-- what holds of a result
+pub if_ok : {A E : Type 0} {P Q : A → Type 0} (r : Result A E) → ((x : A) → P x → Q x) → IfOk r P → IfOk r Q
+if_ok (Ok x) f h = f x h
+if_ok (Err e) f h = h
+
+pub if_err : {A E : Type 0} {P Q : E → Type 0} (r : Result A E) → ((e : E) → P e → Q e) → IfErr r P → IfErr r Q
+if_err (Ok x) f h = h
+if_err (Err e) f h = f e h
+
+-- one argument more
+pub mapped : (xs ys : List Arg) (a : Arg) → ys ≡ xs ++ (a ∷ []) → map argument_of ys ≡ map argument_of xs ++ (argument_of a ∷ [])
+mapped xs ys a e = ap (map argument_of) e ∙ behind_all xs
+  where
+    behind_all : (zs : List Arg) → map argument_of (zs ++ (a ∷ [])) ≡ map argument_of zs ++ (argument_of a ∷ [])
+    behind_all [] = refl
+    behind_all (z ∷ zs) = ap (λ x. argument_of z ∷ x) (behind_all zs)
 
 -- arguments, and the number of a core
 abbrev valued : plain.Expression → Pos → plain.Argument
@@ -112,6 +130,11 @@ module _ (toks : List Tok) (room at : ℕ) where
   -- calls
   pub no_call : (StandsAt toks at a_name → ⊥) → Refuses toks room call at at
   no_call none = stuck (no_one (a_name ∷ []) (all_open refl) (λ o. none (name_only o)))
+
+  pub missing_call : (e : Stop) → IsMissing toks at a_name e → Stopped toks room call at e
+  missing_call (Wrong m) h = subst (Refuses toks room call at) (sym' h.0) (no_call h.1)
+  missing_call (Deep m) h = absurd h
+  missing_call Memory h = tt
 
   module _ {x : List ℕ} {p : Pos} (on : On toks at (Name x) p) where
     pub unopened_call : ((q : Pos) → On toks (at + 1) (Sym 0) q → ⊥) → Refuses toks room call at (at + 1)
