@@ -31,11 +31,6 @@ pub mod Levels
 pub mod Elses
 pub mod Ifs
 pub mod Lasts
-pub mod Counts
-pub mod Cuts
-pub mod Depths
-pub mod Whole
-pub mod Items
 mod Single
 mod Exits
 pub mod Listed
@@ -53,3 +48,16 @@ pub mod Insides
 pub mod Branches
 pub mod CaseLists
 pub mod CaseItems
+pub mod Inverse
+pub mod Operators
+pub mod Heights
+pub mod Chains
+pub mod Climbing
+pub mod Atoms
+pub mod Choosing
+pub mod Tests
+pub mod Runs
+pub mod RightSides
+pub mod Simples
+pub mod Conditionals
+pub mod Braces
