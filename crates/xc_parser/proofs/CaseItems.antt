@@ -32,60 +32,60 @@ module _ {toks : List Tok} {k : ℕ} where
   -- a statement that doesn't begin with `break` is no `break ;`
   not_break : {r : Room} {j : ℕ} {v : plain.Statement} → ((p : Pos) → On toks k (Key 0) p → ⊥) → Derives toks r statement k j v → is_break v ≡ false
   not_break {r} {j} {v} none d = elim (by_rules toks r statement k j v refl d) [
+    | inl x ↦ ap is_break x.4
+    | inr z ↦ elim z [
       | inl x ↦ ap is_break x.4
       | inr z ↦ elim z [
-      | inl x ↦ ap is_break x.4
-      | inr z ↦ elim z [
-      | inl x ↦ ap is_break x.4 ∙ assigns_not _ _ _ (unrow x.2).1
-      | inr z ↦ elim z [
-      | inl x ↦ ap is_break x.4
-      | inr z ↦ elim z [
-      | inl x ↦ ap is_break x.4
-      | inr z ↦ elim z [
-      | inl x ↦ ap is_break x.4
-      | inr z ↦ elim z [
-      | inl x ↦ ap is_break x.4
-      | inr z ↦ elim z [
-      | inl x ↦ ap is_break x.4
-      | inr z ↦ elim z [
-      | inl x ↦ ap is_break x.4
-      | inr z ↦ elim z [
-      | inl x ↦ ap is_break x.4
-      | inr z ↦ elim z [
-      | inl x ↦ ap is_break x.4
-      | inr z ↦ elim z [
-      | inl x ↦ ap is_break x.4
-      | inr z ↦ elim z [
-      | inl x ↦ absurd (none _ (token_derived {t = key 0} refl (unrow x.2).1).1)
-      | inr z ↦ elim z [
-      | inl x ↦ ap is_break x.4
-      | inr z ↦ elim z [
-      | inl x ↦ ap is_break x.4
-      | inr z ↦ elim z [
-      | inl x ↦ ap is_break x.4
-      | inr z ↦ elim z [
-      | inl x ↦ ap is_break x.4
-      | inr z ↦ elim z [
-      | inl x ↦ ap is_break x.4
-      | inr z ↦ elim z [ inl x ↦ ap is_break x.4 | inr z ↦ absurd z ]
+        | inl x ↦ ap is_break x.4 ∙ assigns_not _ _ _ (unrow x.2).1
+        | inr z ↦ elim z [
+          | inl x ↦ ap is_break x.4
+          | inr z ↦ elim z [
+            | inl x ↦ ap is_break x.4
+            | inr z ↦ elim z [
+              | inl x ↦ ap is_break x.4
+              | inr z ↦ elim z [
+                | inl x ↦ ap is_break x.4
+                | inr z ↦ elim z [
+                  | inl x ↦ ap is_break x.4
+                  | inr z ↦ elim z [
+                    | inl x ↦ ap is_break x.4
+                    | inr z ↦ elim z [
+                      | inl x ↦ ap is_break x.4
+                      | inr z ↦ elim z [
+                        | inl x ↦ ap is_break x.4
+                        | inr z ↦ elim z [
+                          | inl x ↦ ap is_break x.4
+                          | inr z ↦ elim z [
+                            | inl x ↦ absurd (none _ (token_derived {t = key 0} refl (unrow x.2).1).1)
+                            | inr z ↦ elim z [
+                              | inl x ↦ ap is_break x.4
+                              | inr z ↦ elim z [
+                                | inl x ↦ ap is_break x.4
+                                | inr z ↦ elim z [
+                                  | inl x ↦ ap is_break x.4
+                                  | inr z ↦ elim z [
+                                    | inl x ↦ ap is_break x.4
+                                    | inr z ↦ elim z [
+                                      | inl x ↦ ap is_break x.4
+                                      | inr z ↦ elim z [ inl x ↦ ap is_break x.4 | inr z ↦ absurd z ]
+                                    ]
+                                  ]
+                                ]
+                              ]
+                            ]
+                          ]
+                        ]
+                      ]
+                    ]
+                  ]
+                ]
+              ]
+            ]
+          ]
+        ]
       ]
-      ]
-      ]
-      ]
-      ]
-      ]
-      ]
-      ]
-      ]
-      ]
-      ]
-      ]
-      ]
-      ]
-      ]
-      ]
-      ]
-      ]
+    ]
+  ]
 
 module _ {toks : List Tok} {room : Room} {k : ℕ} where
   to_block : {j : ℕ} {v : plain.Statement} → Derives toks room case_item k j v → Derives toks room block_item k j v

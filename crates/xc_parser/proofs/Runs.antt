@@ -125,7 +125,7 @@ module _ {toks : List Tok} {room : ℕ} where
 
   module _ {top l : ℕ} {first left : Operand} {o : Marked} (c : Climbs toks room top first left) (op : IsOperator toks left.end (suc l) o) where
     pub climbs : {right next : Operand} → l < top → left.depth < room → IsSized toks (room - 1) right → left.end < right.end → ReadsLevel toks (room - 1) l (left.end + 1) right → NoOperator toks right.end l →
-      next.end ≡ right.end → next.depth ≡ max left.depth right.depth + 1 → expression_of next.tree ≡ joined (expression_of left.tree) o (expression_of right.tree) → Climbs toks room top first next
+        next.end ≡ right.end → next.depth ≡ max left.depth right.depth + 1 → expression_of next.tree ≡ joined (expression_of left.tree) o (expression_of right.tree) → Climbs toks room top first next
     climbs {right} {next} h d s f r n e g t =
         let w = s.within in
         let x = c.sized.depth in
