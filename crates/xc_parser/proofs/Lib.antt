@@ -40,3 +40,4 @@ mod Cores
 pub mod Ifs
 pub mod Lasts
 mod ItemHeads
+mod Transferring

@@ -5,10 +5,13 @@ use Rattle.xw_words.specs.declared.pos.Pos.{Pos}
 use Rattle.xc_tree.specs.declared.token.Tok.{Tok}
 use Rattle.xc_tree.specs.declared.token.Kind.{Kind}
 use Rattle.xc_tree.specs.declared.token.Kind.TheVariants.{Sym}
-use Rattle.xc_tree.specs.Symbol.{Symbol, sym, key, assign_op, Value}
-use Rattle.xc_tree.specs.Derives.{On}
+use Rattle.xc_tree.specs.Symbol.{Symbol, sym, key, a_name, assign_op, Value}
+use Rattle.xc_tree.specs.Derives.{On, named}
 use Rattle.xc_parser.specs.Follows.{OneOf, StandsAt, first, has, is_same}
+use Rattle.xc_parser.specs.declared.stop.Stop.{Stop}
+use Rattle.xc_parser.specs.declared.stop.Stop.TheVariants.{Wrong, Deep, Memory}
 use Rattle.xc_parser.specs.Reading.{Reads, Refuses}
+use Rattle.xc_parser.specs.Stops.{Stopped}
 use Rattle.xc_parser.proofs.Rests.{Rest}
 use Rattle.xc_parser.proofs.Opening.{keep}
 use Rattle.xc_parser.proofs.TokenSets.{is_same_eq}
@@ -99,3 +102,9 @@ mark_in _ = 0
 
 pub other_mark : {a b : ℕ} → Sym a ≡ Sym b → a ≡ b
 other_mark e = ap mark_in e
+
+-- a name that stands there isn't refused
+pub name_stops : (toks : List Tok) (i room : ℕ) (s : Symbol) → StandsAt toks i a_name → (e : Stop) → Stopped toks room a_name i e → Stopped toks room s i e
+name_stops toks i room s at (Wrong m) x = absurd (none_of (x.never (i + 1) _ (named at.2)).goes_on)
+name_stops toks i room s at (Deep m) x = absurd (none_of (x.never (i + 1) _ (named at.2)).goes_on)
+name_stops toks i room s at Memory x = tt
