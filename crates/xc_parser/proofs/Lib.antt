@@ -26,6 +26,16 @@ pub mod Cuts
 pub mod Whole
 pub mod Items
 pub mod Rows
+pub mod Aheads
+pub mod Levels
+pub mod Elses
+pub mod Ifs
+pub mod Lasts
+pub mod Counts
+pub mod Cuts
+pub mod Depths
+pub mod Whole
+pub mod Items
 mod Single
 mod Exits
 pub mod Listed
@@ -37,7 +47,17 @@ mod Targets
 mod Declarators
 mod DeclaredRows
 mod Cores
-pub mod Ifs
-pub mod Lasts
 mod ItemHeads
 mod Transferring
+pub mod CaseRows
+pub mod Inverse
+pub mod Operators
+pub mod Heights
+pub mod Chains
+pub mod Climbing
+pub mod Atoms
+pub mod Choosing
+pub mod Tests
+pub mod Runs
+pub mod Trials
+pub mod RightSides

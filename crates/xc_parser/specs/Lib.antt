@@ -5,3 +5,6 @@ pub mod Stops
 pub mod Values
 pub mod Parts
 pub mod Errors
+pub mod Levels
+pub mod Operands
+pub mod RightSides
