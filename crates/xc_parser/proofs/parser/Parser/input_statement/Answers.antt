@@ -38,5 +38,5 @@ returns-in_err-semicolon-clause-stopped c =
 
 pub returns-clause-read : goal.returns-clause-read
 returns-clause-read c =
-    rw (c.whole.ensures.made, c.whole.ensures.end, action-Input, c.input_of-input.ensures)
+    rw (c.whole.ensures.value, c.whole.ensures.end, action-Input, c.input_of-input.ensures)
     (input_read c.args.self.now.toks.now c.args.room c.args.at (c.in_ok-name.ensures.read _) c.requires.begins c.in_ok-waits.ensures.read (c.in_ok-receives.ensures.read _) c.in_ok-dest.ensures.read c.in_ok-stamp.ensures.read (c.in_ok-semicolon.ensures.read _))

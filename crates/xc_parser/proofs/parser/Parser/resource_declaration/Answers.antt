@@ -47,5 +47,5 @@ returns-in_err-semicolon-clause-stopped c =
 pub returns-clause-read : goal.returns-clause-read
 returns-clause-read c =
     let none = c.is_symbol.ensures.no c.names-test.false in
-    rw (c.whole.ensures.made, c.whole.ensures.end, action-Decl)
+    rw (c.whole.ensures.value, c.whole.ensures.end, action-Decl)
     (λ room h. resources_read c.args.self.now.toks.now room c.args.at c.is_word-is_chan.result (c.names.invariant.resources room h) none (c.in_ok-semicolon.ensures.read _))

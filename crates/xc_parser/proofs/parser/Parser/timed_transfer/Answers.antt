@@ -37,7 +37,7 @@ returns-in_err-semicolon-clause-stopped c =
 pub returns-then-is_symbol-clause-read : goal.returns-then-is_symbol-clause-read
 returns-then-is_symbol-clause-read c =
     let on = (c.is_symbol.ensures.yes c.if-is_symbol.true).1.1 in
-    rw (c.whole.ensures.made, c.whole.ensures.end, action-Output, c.output_of-output.ensures)
+    rw (c.whole.ensures.value, c.whole.ensures.end, action-Output, c.output_of-output.ensures)
     (timed_output_read c.args.self.now.toks.now c.args.room c.args.at (c.in_ok-name.ensures.read _) c.requires.begins c.in_ok-time.ensures.read on c.in_ok-value.ensures.read c.in_ok-stamp.ensures.read (c.in_ok-semicolon.ensures.read _))
 
 pub returns-in_err-receives-clause-stopped : goal.returns-in_err-receives-clause-stopped
@@ -67,5 +67,5 @@ returns-in_err-semicolon-2-clause-stopped c =
 pub returns-clause-read : goal.returns-clause-read
 returns-clause-read c =
     let none = c.is_symbol.ensures.no c.if-is_symbol.false in
-    rw (c.whole-2.ensures.made, c.whole-2.ensures.end, action-Input, c.input_of-input.ensures)
+    rw (c.whole-2.ensures.value, c.whole-2.ensures.end, action-Input, c.input_of-input.ensures)
     (timed_input_read c.args.self.now.toks.now c.args.room c.args.at (c.in_ok-name.ensures.read _) c.requires.begins c.in_ok-time.ensures.read none (c.in_ok-receives.ensures.read _) c.in_ok-dest.ensures.read c.in_ok-stamp-2.ensures.read (c.in_ok-semicolon-2.ensures.read _))

@@ -32,5 +32,5 @@ returns-in_err-semicolon-clause-stopped c =
 pub returns-then-is_symbol-clause-read : goal.returns-then-is_symbol-clause-read
 returns-then-is_symbol-clause-read c =
     let on = (c.is_symbol.ensures.yes c.if-is_symbol.true).1.1 in
-    rw (c.whole.ensures.made, c.whole.ensures.end, action-Output, c.output_of-output.ensures)
+    rw (c.whole.ensures.value, c.whole.ensures.end, action-Output, c.output_of-output.ensures)
     (output_read c.args.self.now.toks.now c.args.room c.args.at (c.in_ok-name.ensures.read _) on c.in_ok-value.ensures.read c.in_ok-stamp.ensures.read (c.in_ok-semicolon.ensures.read _))

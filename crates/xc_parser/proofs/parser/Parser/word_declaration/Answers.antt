@@ -53,5 +53,5 @@ returns-in_err-semicolon-clause-stopped c =
 pub returns-clause-read : goal.returns-clause-read
 returns-clause-read c =
     let none = c.is_symbol.ensures.no c.declared-test.false in
-    rw (c.whole.ensures.made, c.whole.ensures.end, action-Decl)
+    rw (c.whole.ensures.value, c.whole.ensures.end, action-Decl)
     (words_read c.args.self.now.toks.now c.args.room c.args.at c.in_ok-word.word.value c.declared.invariant.words none (c.in_ok-semicolon.ensures.read _))
