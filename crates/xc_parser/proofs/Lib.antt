@@ -56,3 +56,7 @@ pub mod Tests
 pub mod Runs
 pub mod Trials
 pub mod RightSides
+pub mod Insides
+pub mod Simples
+pub mod Conditionals
+pub mod Braces

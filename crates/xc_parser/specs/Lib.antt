@@ -8,3 +8,4 @@ pub mod Errors
 pub mod Levels
 pub mod Operands
 pub mod RightSides
+pub mod Begun
