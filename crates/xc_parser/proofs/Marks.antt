@@ -13,7 +13,7 @@ use Rattle.xc_parser.specs.declared.stop.Stop.TheVariants.{Wrong, Deep, Memory}
 use Rattle.xc_parser.specs.Reading.{Reads, Refuses}
 use Rattle.xc_parser.specs.Stops.{Stopped}
 use Rattle.xc_parser.proofs.Rests.{Rest}
-use Rattle.xc_parser.proofs.Opening.{keep}
+use Rattle.xc_parser.proofs.Opening.{keep, fronts}
 use Rattle.xc_parser.proofs.TokenSets.{is_same_eq}
 use Rattle.xc_parser.proofs.Single.{on_pos}
 use Rattle.xc_parser.proofs.Paths.{Roomy, begin, at_word, over_symbol, lacks, none_left, finish}
@@ -42,7 +42,7 @@ pub on_it : {toks : List Tok} {i : ℕ} {k : Kind} {p : Pos} → On toks i k p �
 on_it {toks} {i} {k} on d = subst (λ q. On toks i k q) (on_pos on d) on
 
 -- where a type stands, and either of its words leaves the same rests open
-pub at_a_type : {toks : List Tok} {room : ℕ} {s : Symbol} {i k : ℕ} {rs : List (Rest (Value s))} → Roomy toks room s i k rs → OneOf toks k (key 11 ∷ key 26 ∷ []) → keep (key 26) rs ≡ keep (key 11) rs → Roomy toks room s i k (keep (key 11) rs)
+pub at_a_type : {toks : List Tok} {room : ℕ} {s : Symbol} {i k : ℕ} {rs : List (Rest (Value s))} → Roomy toks room s i k rs → OneOf toks k (key 11 ∷ key 26 ∷ []) → keep (fronts s) (key 26) rs ≡ keep (fronts s) (key 11) rs → Roomy toks room s i k (keep (fronts s) (key 11) rs)
 at_a_type {toks} {room} {s} {i} {k} {rs} st o e = elim (first_of (key 11) (key 26 ∷ []) o) [
   | inl x ↦ at_word st x.1
   | inr q ↦ elim (first_of (key 26) [] q) [

@@ -1,4 +1,4 @@
-use Rattle.std.proofs.Common.{◌≡◌, ◌+◌}
+use Rattle.std.proofs.Common.{refl, ◌≡◌, ◌+◌}
 use Rattle.xc_tree.specs.Symbol.{statement}
 use Rattle.xc_tree.proofs.Forms.{action-Input}
 use Rattle.xc_parser.proofs.Exits.{handed_on}
@@ -40,3 +40,6 @@ pub returns-clause-read : goal.returns-clause-read
 returns-clause-read c =
     rw (c.whole.ensures.value, c.whole.ensures.end, action-Input, c.input_of-input.ensures)
     (input_read c.args.self.now.toks.now c.args.room c.args.at (c.in_ok-name.ensures.read _) c.requires.begins c.in_ok-waits.ensures.read (c.in_ok-receives.ensures.read _) c.in_ok-dest.ensures.read c.in_ok-stamp.ensures.read (c.in_ok-semicolon.ensures.read _))
+
+pub whole-requires-clause-held : goal.whole-requires-clause-held
+whole-requires-clause-held c = rw action-Input refl

@@ -1,4 +1,4 @@
-use Rattle.std.proofs.Common.{◌≡◌, ◌≤◌, ◌<◌, ◌++◌, [], arith}
+use Rattle.std.proofs.Common.{refl, ◌≡◌, ◌≤◌, ◌<◌, ◌++◌, [], arith}
 use Rattle.xc_tree.proofs.Forms.{action-Decl}
 use Rattle.xc_parser.proofs.Exits.{handed_on}
 use Rattle.xc_parser.proofs.DeclaredRows.{word_of_resource, resource_begins, resources_first_stops, resources_first, resources_next, resources_next_stops, resources_close_stops, resources_read}
@@ -49,3 +49,6 @@ returns-clause-read c =
     let none = c.is_symbol.ensures.no c.names-test.false in
     rw (c.whole.ensures.value, c.whole.ensures.end, action-Decl)
     (λ room h. resources_read c.args.self.now.toks.now room c.args.at c.is_word-is_chan.result (c.names.invariant.resources room h) none (c.in_ok-semicolon.ensures.read _))
+
+pub whole-requires-clause-held : goal.whole-requires-clause-held
+whole-requires-clause-held c = rw action-Decl refl

@@ -1,4 +1,4 @@
-use Rattle.std.proofs.Common.{◌≡◌, ◌+◌}
+use Rattle.std.proofs.Common.{refl, ◌≡◌, ◌+◌}
 use Rattle.xc_tree.specs.Symbol.{statement}
 use Rattle.xc_tree.proofs.Forms.{action-Input, action-Output}
 use Rattle.xc_parser.proofs.Exits.{handed_on}
@@ -69,3 +69,9 @@ returns-clause-read c =
     let none = c.is_symbol.ensures.no c.if-is_symbol.false in
     rw (c.whole-2.ensures.value, c.whole-2.ensures.end, action-Input, c.input_of-input.ensures)
     (timed_input_read c.args.self.now.toks.now c.args.room c.args.at (c.in_ok-name.ensures.read _) c.requires.begins c.in_ok-time.ensures.read none (c.in_ok-receives.ensures.read _) c.in_ok-dest.ensures.read c.in_ok-stamp-2.ensures.read (c.in_ok-semicolon-2.ensures.read _))
+
+pub whole-requires-clause-held : goal.whole-requires-clause-held
+whole-requires-clause-held c = rw action-Output refl
+
+pub whole-requires-2-clause-held : goal.whole-requires-2-clause-held
+whole-requires-2-clause-held c = rw action-Input refl

@@ -1,4 +1,4 @@
-use Rattle.std.proofs.Common.{◌≡◌, ◌+◌}
+use Rattle.std.proofs.Common.{refl, ◌≡◌, ◌+◌}
 use Rattle.xc_tree.specs.Symbol.{statement}
 use Rattle.xc_tree.proofs.Forms.{action-Output}
 use Rattle.xc_parser.proofs.Exits.{handed_on}
@@ -34,3 +34,6 @@ returns-then-is_symbol-clause-read c =
     let on = (c.is_symbol.ensures.yes c.if-is_symbol.true).1.1 in
     rw (c.whole.ensures.value, c.whole.ensures.end, action-Output, c.output_of-output.ensures)
     (output_read c.args.self.now.toks.now c.args.room c.args.at (c.in_ok-name.ensures.read _) on c.in_ok-value.ensures.read c.in_ok-stamp.ensures.read (c.in_ok-semicolon.ensures.read _))
+
+pub whole-requires-clause-held : goal.whole-requires-clause-held
+whole-requires-clause-held c = rw action-Output refl

@@ -1,4 +1,4 @@
-use Rattle.std.proofs.Common.{◌≡◌, ◌≤◌, ◌<◌, ◌++◌, [], arith}
+use Rattle.std.proofs.Common.{refl, ◌≡◌, ◌≤◌, ◌<◌, ◌++◌, [], arith}
 use Rattle.xc_tree.proofs.Forms.{action-Decl}
 use Rattle.xc_parser.proofs.Exits.{handed_on}
 use Rattle.xc_parser.proofs.DeclaredRows.{word_stops, word_begins, declared_stops, words_first, words_next, words_next_stops, words_close_stops, words_read}
@@ -55,3 +55,6 @@ returns-clause-read c =
     let none = c.is_symbol.ensures.no c.declared-test.false in
     rw (c.whole.ensures.value, c.whole.ensures.end, action-Decl)
     (words_read c.args.self.now.toks.now c.args.room c.args.at c.in_ok-word.word.value c.declared.invariant.words none (c.in_ok-semicolon.ensures.read _))
+
+pub whole-requires-clause-held : goal.whole-requires-clause-held
+whole-requires-clause-held c = rw action-Decl refl
