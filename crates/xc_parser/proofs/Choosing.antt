@@ -1,12 +1,11 @@
 -- Expressions with `? :`: what stands behind the test.
-use Rattle.std.proofs.Common.{◌≡◌, ℕ, zero, suc, ◌+◌, ◌-◌, ◌<◌, ◌≤◌, ◌⊎◌, inl, inr, Bool, true, false, ◌&&◌, List, [], ◌∷◌, refl, sym as sym', ap, subst, ◌∙◌, arith}
+use Rattle.std.proofs.Common.{◌≡◌, ℕ, suc, ◌+◌, ◌-◌, ◌<◌, ◌≤◌, ◌⊎◌, inl, inr, true, List, [], ◌∷◌, refl, sym as sym', ap, subst, ◌∙◌, arith}
 use Rattle.std.proofs.lemmas.Bool.{and_parts, or_cases, eqb-true}
 use Rattle.xw_words.specs.declared.pos.Pos.{Pos}
 use Rattle.xc_tree.specs.declared.token.Tok.{Tok}
 use Rattle.xc_tree.specs.declared.token.Kind.TheVariants.{Sym}
 use Rattle.xc_tree.specs.Plain as plain
-use Rattle.xc_tree.specs.Symbol.{Symbol, sym, key, a_name, a_number, expr, level, Marked, Value}
-use Rattle.xc_tree.specs.Grammar.{rules}
+use Rattle.xc_tree.specs.Symbol.{Symbol, sym, key, a_name, a_number, expr, level}
 use Rattle.xc_tree.specs.Depth.{of_expression}
 use Rattle.xc_tree.specs.Derives.{On, Room, unlimited, at_most, HasRoom, below, Derives, a_sym, Prefix, nothing, whole}
 use Rattle.xc_parser.specs.declared.stop.Stop.{Stop}
@@ -14,8 +13,8 @@ use Rattle.xc_parser.specs.declared.stop.Stop.TheVariants.{Wrong, Deep, Memory}
 use Rattle.xc_parser.specs.Follows.{has, is_same, follows}
 use Rattle.xc_parser.specs.Reading.{GoesOn, Reads, Refuses, TooDeep}
 use Rattle.xc_parser.specs.Stops.{Stopped}
-use Rattle.xc_parser.specs.Levels.{level_of, IsOperator}
-use Rattle.xc_parser.proofs.Inverse.{Rows, Begun, Ends, by_rules, from_rules, by_starts, from_starts, widen, widen_prefix, Wider, any_wider, below_wider, same_kind, same_pos}
+use Rattle.xc_parser.specs.Levels.{level_of}
+use Rattle.xc_parser.proofs.Inverse.{Begun, by_rules, from_rules, by_starts, from_starts, widen, widen_prefix, any_wider, below_wider, same_kind, same_pos}
 use Rattle.xc_parser.proofs.Operators.{token_is, token_prefix, Onward, index, operates, goes_onward}
 use Rattle.xc_parser.proofs.Heights.{p_level, depth_fits, shallow, no_room}
 use Rattle.xc_parser.proofs.Climbing.{wider_zero}

@@ -1,11 +1,11 @@
 -- How far a level reaches: what is known of all levels behind an operand and some of the operators.
-use Rattle.std.proofs.Common.{◌≡◌, ℕ, zero, suc, ◌+◌, ◌-◌, ◌<◌, ◌≤◌, ◌⊎◌, inl, inr, List, [], ◌∷◌, refl, sym as sym', ap, subst, ◌∙◌, arith}
+use Rattle.std.proofs.Common.{◌≡◌, ℕ, zero, suc, ◌+◌, ◌-◌, ◌<◌, ◌≤◌, ◌⊎◌, inl, inr, List, refl, sym as sym', ap, subst, ◌∙◌, arith}
 use Rattle.std.proofs.Math.Nat.{eq-or-lt_of_le}
 use Rattle.xw_words.specs.declared.pos.Pos.{Pos}
 use Rattle.xc_tree.specs.declared.token.Tok.{Tok}
 use Rattle.xc_tree.specs.declared.token.Kind.TheVariants.{Sym}
 use Rattle.xc_tree.specs.Plain as plain
-use Rattle.xc_tree.specs.Symbol.{Symbol, sym, level, operator, Marked}
+use Rattle.xc_tree.specs.Symbol.{level, Marked}
 use Rattle.xc_tree.specs.Depth.{of_expression}
 use Rattle.xc_tree.specs.Derives.{On, Room, unlimited, at_most, HasRoom, below, Derives, Prefix, nothing, whole}
 use Rattle.xc_parser.specs.Reading.{GoesOn, Reads, Refuses, TooDeep}

@@ -1,38 +1,36 @@
 -- Calls, right sides and the other parts of statements that hold an expression.
-use Rattle.std.proofs.Common.{◌≡◌, ℕ, zero, suc, ◌+◌, ◌-◌, ◌<◌, ◌≤◌, ◌⊎◌, inl, inr, Bool, true, false, length, get_or, slice_get, List, [], ◌∷◌, ◌++◌, map, Option, Some, None, Result, Ok, Err, IfOk, IfErr, refl, sym as sym', ap, subst, ◌∙◌, arith}
+use Rattle.std.proofs.Common.{◌≡◌, ℕ, zero, suc, ◌+◌, ◌<◌, ◌≤◌, ◌⊎◌, inl, inr, true, length, get_or, slice_get, List, [], ◌∷◌, ◌++◌, map, Option, Some, None, Result, Ok, Err, IfOk, IfErr, refl, sym as sym', ap, subst, ◌∙◌, arith}
 use Rattle.xw_words.specs.declared.pos.Pos.{Pos}
 use Rattle.xc_tree.specs.declared.tree.Id.{Id}
 use Rattle.xc_tree.specs.declared.tree.Arg.{Arg}
 use Rattle.xc_tree.specs.declared.tree.Rhs.{Rhs}
 use Rattle.xc_tree.specs.declared.token.Tok.{Tok}
-use Rattle.xc_tree.specs.declared.token.Kind.TheVariants.{Name, Num, Key, Sym}
+use Rattle.xc_tree.specs.declared.token.Kind.TheVariants.{Name, Sym}
 use Rattle.xc_tree.specs.Plain as plain
-use Rattle.xc_tree.specs.Symbol.{Symbol, sym, key, a_name, a_number, expr, level, lval, place_value, atom, argument, arguments, call, rhs, initial, time, stamp, guard, Value, Marked}
+use Rattle.xc_tree.specs.Symbol.{Symbol, sym, a_name, a_number, expr, level, lval, place_value, atom, argument, arguments, call, rhs, initial, time, stamp, guard}
 use Rattle.xc_tree.specs.Depth.{of_expression}
-use Rattle.xc_tree.specs.Derives.{On, Room, unlimited, at_most, HasRoom, below, Derives, named, by_rule, Prefix, nothing, whole, begins, extent, position}
-use Rattle.xc_tree.specs.Trees.{argument_of, right_of}
+use Rattle.xc_tree.specs.Derives.{On, Room, unlimited, at_most, HasRoom, Derives, named, by_rule, Prefix, nothing, whole, begins, position}
+use Rattle.xc_tree.specs.Trees.{argument_of}
 use Rattle.xc_parser.specs.declared.stop.Stop.{Stop}
 use Rattle.xc_parser.specs.declared.stop.Stop.TheVariants.{Wrong, Deep, Memory}
 use Rattle.xc_parser.specs.Follows.{OneOf, StandsAt, has, follows, begins_operand, after_expression}
 use Rattle.xc_parser.specs.Reading.{GoesOn, Reads, Refuses, TooDeep, Unfit}
 use Rattle.xc_parser.specs.Stops.{Stopped}
 use Rattle.xc_parser.specs.Operands.{IsSymbol}
-use Rattle.xc_parser.specs.Levels.{level_of, IsOperator, NoOperator}
+use Rattle.xc_parser.specs.Levels.{level_of}
 use Rattle.xc_parser.specs.RightSides.{IsMissing, ReadsRhs, ReadsInitial}
-use Rattle.xc_parser.proofs.Rests.{Part, ValuesOf, Rest, Stands, left}
-use Rattle.xc_parser.proofs.Opening.{over, beginnings}
 use Rattle.xc_parser.proofs.Paths.{Roomy, begin, over_symbol, over_name, at_symbol, at_name, at_number, lacks, lacks_symbol, read, stops, finish, none_left, unfit_last}
 use Rattle.xc_parser.proofs.Choices.{all_open, no_one, stuck}
-use Rattle.xc_parser.proofs.Aheads.{Alone, alone_read, not_first, read_ahead, stops_ahead, name_else}
+use Rattle.xc_parser.proofs.Aheads.{alone_read, not_first, read_ahead, stops_ahead}
 use Rattle.xc_parser.proofs.Loops.{Run, listing}
 use Rattle.xc_parser.proofs.Rows.{with_comma, last_one, row_stops}
-use Rattle.xc_parser.proofs.Inverse.{by_rules, by_starts, from_rules, from_starts, widen, widen_prefix, any_wider, below_wider, same_kind}
+use Rattle.xc_parser.proofs.Inverse.{by_rules, by_starts, from_rules, from_starts, widen, widen_prefix, below_wider, same_kind}
 use Rattle.xc_parser.proofs.Operators.{token_is, token_prefix, is_operator, Onward, index, operates}
 use Rattle.xc_parser.proofs.Heights.{p_expr, depth_fits, no_room}
 use Rattle.xc_parser.proofs.Climbing.{wider_zero, raised, raised_prefix, start, finish as finish_level}
 use Rattle.xc_parser.proofs.Choosing.{has_within, no_question, alone, alone_to, asked}
 use Rattle.xc_parser.proofs.Atoms.{each_sign, reads_name, deep_name}
-use Rattle.xc_parser.proofs.Tests.{from_among, among_of, begins_by, operator_after, bracket_after, question_after, after_is}
+use Rattle.xc_parser.proofs.Tests.{from_among, among_of, operator_after, bracket_after, question_after, after_is}
 use Rattle.xc_parser.proofs.Runs.{no_first}
 
 -- the place of a token that stands there

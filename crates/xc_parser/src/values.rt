@@ -140,12 +140,7 @@ impl<'a> Parser<'a> {
     }
 
     /// Reads an argument to the end of a list, and gives the place behind it.
-    fn next_argument(
-        &self,
-        arguments: &mut List<Arg>,
-        at: usize,
-        room: u32,
-    ) -> Result<usize, Stop>
+    fn next_argument(&self, arguments: &mut List<Arg>, at: usize, room: u32) -> Result<usize, Stop>
         requires at { at ≤ length self.now.toks.now }
         ensures bounds { IfOk result (λ end. (at < end) × (end ≤ length self.now.toks.now)) }
         ensures read { IfOk result (λ end. (a : Arg) × (arguments.new ≡ arguments.old ++ a ∷ []) × Reads self.now.toks.now room symbol.argument at end (argument_of a)) }
