@@ -1,5 +1,6 @@
 -- Calls, right sides and the other parts of statements that hold an expression.
 use Rattle.std.proofs.Common.{◌≡◌, ℕ, zero, suc, ◌+◌, ◌<◌, ◌≤◌, ◌⊎◌, inl, inr, true, length, get_or, slice_get, List, [], ◌∷◌, ◌++◌, map, Option, Some, None, Result, Ok, Err, IfOk, IfErr, refl, sym as sym', ap, subst, ◌∙◌, arith}
+use Rattle.std.proofs.lemmas.List.{map-append}
 use Rattle.xw_words.specs.declared.pos.Pos.{Pos}
 use Rattle.xc_tree.specs.declared.tree.Id.{Id}
 use Rattle.xc_tree.specs.declared.tree.Arg.{Arg}
@@ -57,11 +58,7 @@ if_err (Err e) f h = f e h
 
 -- one argument more
 pub mapped : (xs ys : List Arg) (a : Arg) → ys ≡ xs ++ (a ∷ []) → map argument_of ys ≡ map argument_of xs ++ (argument_of a ∷ [])
-mapped xs ys a e = ap (map argument_of) e ∙ behind_all xs
-  where
-    behind_all : (zs : List Arg) → map argument_of (zs ++ (a ∷ [])) ≡ map argument_of zs ++ (argument_of a ∷ [])
-    behind_all [] = refl
-    behind_all (z ∷ zs) = ap (λ x. argument_of z ∷ x) (behind_all zs)
+mapped xs ys a e = ap (map argument_of) e ∙ map-append argument_of xs (a ∷ [])
 
 -- arguments, and the number of a core
 abbrev valued : plain.Expression → Pos → plain.Argument
