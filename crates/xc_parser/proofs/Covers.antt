@@ -287,4 +287,3 @@ all_fit dest r at e = covers_fits dest (rules dest) covered-dest r at e
 all_fit expr r at e = covers_fits expr (rules expr) covered-expr r at e
 all_fit sign r at e = covers_fits sign (rules sign) covered-sign r at e
 all_fit atom r at e = covers_fits atom (rules atom) covered-atom r at e
-

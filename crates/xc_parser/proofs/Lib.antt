@@ -1,3 +1,4 @@
+mod Columns
 pub mod Rests
 pub mod Opening
 pub mod TokenSets
@@ -19,6 +20,35 @@ pub mod Paths
 pub mod TokenReads
 pub mod Lists
 pub mod Loops
+pub mod Depths
+pub mod Counts
+pub mod Cuts
+pub mod Whole
+pub mod Items
+pub mod Rows
+pub mod Aheads
+pub mod Levels
+pub mod Elses
+pub mod Ifs
+pub mod Lasts
+pub mod Counts
+pub mod Cuts
+pub mod Depths
+pub mod Whole
+pub mod Items
+mod Single
+mod Exits
+pub mod Listed
+pub mod Unfinished
+mod Params
+mod ParamRows
+mod Marks
+mod Targets
+mod Declarators
+mod DeclaredRows
+mod Cores
+mod ItemHeads
+pub mod CaseRows
 pub mod Inverse
 pub mod Operators
 pub mod Heights
@@ -28,7 +58,5 @@ pub mod Atoms
 pub mod Choosing
 pub mod Tests
 pub mod Runs
-pub mod Rows
-pub mod Aheads
 pub mod Trials
 pub mod RightSides

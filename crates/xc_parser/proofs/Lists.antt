@@ -43,10 +43,10 @@ module _ {toks : List Tok} where
       | inl x ↦ inl (unend x.2, x.4)
       | inr z ↦ elim z [
         | inl x ↦
-          let a = unrow x.2 in
-          let b = unrow a.2 in
-          let e = unend b.2 in
-          inr (a.0, x.0.0, x.0.1.0, subst (λ (r : Room). Derives toks r t i a.0 x.0.0) (inside_same room 0) a.1, subst (λ (n : ℕ). Derives toks room (many t) a.0 n x.0.1.0) (sym' e) (subst (λ (r : Room). Derives toks r (many t) a.0 b.0 x.0.1.0) (inside_same room 0) b.1), x.4)
+            let a = unrow x.2 in
+            let b = unrow a.2 in
+            let e = unend b.2 in
+            inr (a.0, x.0.0, x.0.1.0, subst (λ (r : Room). Derives toks r t i a.0 x.0.0) (inside_same room 0) a.1, subst (λ (n : ℕ). Derives toks room (many t) a.0 n x.0.1.0) (sym' e) (subst (λ (r : Room). Derives toks r (many t) a.0 b.0 x.0.1.0) (inside_same room 0) b.1), x.4)
         | inr w ↦ absurd w
       ]
     ]
@@ -83,17 +83,25 @@ module _ {toks : List Tok} where
     pub commas_split : {i j : ℕ} {xs : List (Value t)} → Derives toks room (commas t) i j xs → ((y : Value t) × Derives toks room t i j y × (xs ≡ y ∷ [])) ⊎ ((l : ℕ) × (y : Value t) × (p : Pos) × (zs : List (Value t)) × Derives toks room t i l y × On toks l (Sym 7) p × Derives toks room (commas t) (l + 1) j zs × (xs ≡ y ∷ zs))
     commas_split {i} {j} {xs} d = elim (by_rules toks room (commas t) i j xs refl d) [
       | inl x ↦
-        let a = unrow x.2 in
-        inl (x.0.0, subst (λ (n : ℕ). Derives toks room t i n x.0.0) (sym' (unend a.2)) (subst (λ (r : Room). Derives toks r t i a.0 x.0.0) (inside_same room 0) a.1), x.4)
+          let a = unrow x.2 in
+          inl (x.0.0, subst (λ (n : ℕ). Derives toks room t i n x.0.0) (sym' (unend a.2)) (subst (λ (r : Room). Derives toks r t i a.0 x.0.0) (inside_same room 0) a.1), x.4)
       | inr z ↦ elim z [
         | inl x ↦
-          let a = unrow x.2 in
-          let b = unrow a.2 in
-          let c = unrow b.2 in
-          let e = unend c.2 in
-          let p = token_derived {t = comma} refl b.1 in
-          inr (a.0, x.0.0, x.0.1.0, x.0.1.1.0, subst (λ (r : Room). Derives toks r t i a.0 x.0.0) (inside_same room 0) a.1, p.1,
-          subst (λ (m : ℕ). Derives toks room (commas t) m j x.0.1.1.0) p.0 (subst (λ (n : ℕ). Derives toks room (commas t) b.0 n x.0.1.1.0) (sym' e) (subst (λ (r : Room). Derives toks r (commas t) b.0 c.0 x.0.1.1.0) (inside_same room 0) c.1)), x.4)
+            let a = unrow x.2 in
+            let b = unrow a.2 in
+            let c = unrow b.2 in
+            let e = unend c.2 in
+            let p = token_derived {t = comma} refl b.1 in
+            inr (
+              a.0,
+              x.0.0,
+              x.0.1.0,
+              x.0.1.1.0,
+              subst (λ (r : Room). Derives toks r t i a.0 x.0.0) (inside_same room 0) a.1,
+              p.1,
+              subst (λ (m : ℕ). Derives toks room (commas t) m j x.0.1.1.0) p.0 (subst (λ (n : ℕ). Derives toks room (commas t) b.0 n x.0.1.1.0) (sym' e) (subst (λ (r : Room). Derives toks r (commas t) b.0 c.0 x.0.1.1.0) (inside_same room 0) c.1)),
+              x.4,
+            )
         | inr w ↦ absurd w
       ]
     ]
@@ -113,13 +121,18 @@ module _ {toks : List Tok} where
         | inr w ↦ elim w [
           | inl x ↦ elim (unbegin (subst (λ (r : Room). Begins toks r (t ∷ comma ∷ commas t ∷ []) i n) (inside_same room 0) x.1)) [
             | inl p ↦ inr (inl p)
-            | inr y ↦ inr (inr (y.0, y.1, y.2, elim (unbegin y.3) [
-              | inl p ↦ elim (token_begun {t = comma} refl p) [ inl h ↦ inl h | inr g ↦ inr (g.1, g.2, subst (λ (m : ℕ). Prefix toks room (commas t) m n) g.0 nothing) ]
-              | inr u ↦ let c = token_derived {t = comma} refl u.2 in elim (unbegin u.3) [
-                | inl p ↦ inr (u.1, c.1, subst (λ (m : ℕ). Prefix toks room (commas t) m n) c.0 p)
-                | inr e ↦ absurd (unbegin_none e.3)
-              ]
-            ]))
+            | inr y ↦ inr (inr (
+              y.0,
+              y.1,
+              y.2,
+              elim (unbegin y.3) [
+                | inl p ↦ elim (token_begun {t = comma} refl p) [ inl h ↦ inl h | inr g ↦ inr (g.1, g.2, subst (λ (m : ℕ). Prefix toks room (commas t) m n) g.0 nothing) ]
+                | inr u ↦ let c = token_derived {t = comma} refl u.2 in elim (unbegin u.3) [
+                  | inl p ↦ inr (u.1, c.1, subst (λ (m : ℕ). Prefix toks room (commas t) m n) c.0 p)
+                  | inr e ↦ absurd (unbegin_none e.3)
+                ]
+              ],
+            ))
           ]
           | inr v ↦ absurd v
         ]

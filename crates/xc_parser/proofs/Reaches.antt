@@ -100,9 +100,9 @@ module _ (toks : List Tok) (k : ℕ) where
   parts_reached f h (p ∷ ps) e = elim (either (f p.symbol) (elim (is_empty p.symbol) [ true ↦ reach_parts f ps | false ↦ false ]) e) [
     | inl q ↦ inl (tt, subst (λ (r : Room). Prefix toks r p.symbol k (k + 1)) (sym' (inside_free p.above)) (h p.symbol q))
     | inr q ↦
-      let b = both (is_empty p.symbol) (reach_parts f ps) q in
-      let d = empty_derives toks p.symbol k b.0 in
-      inr (k, d.0, tt, subst (λ (r : Room). Derives toks r p.symbol k k d.0) (sym' (inside_free p.above)) d.1, parts_reached f h ps b.1)
+        let b = both (is_empty p.symbol) (reach_parts f ps) q in
+        let d = empty_derives toks p.symbol k b.0 in
+        inr (k, d.0, tt, subst (λ (r : Room). Derives toks r p.symbol k k d.0) (sym' (inside_free p.above)) d.1, parts_reached f h ps b.1)
   ]
 
   pub rests_reached : {V : Type 0} (t : Symbol) → StandsAt toks k t → (rs : List (Rest V)) → reaches t rs ≡ true → Starts toks unlimited rs k (k + 1)

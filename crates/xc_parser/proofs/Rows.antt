@@ -10,11 +10,11 @@ use Rattle.xc_tree.specs.Terminals.{comma}
 use Rattle.xc_tree.specs.Derives.{On, Room, unlimited, at_most, Derives, Prefix, nothing, whole, extent}
 use Rattle.xc_parser.specs.declared.stop.Stop.{Stop}
 use Rattle.xc_parser.specs.Follows.{OneOf, has, follows}
-use Rattle.xc_parser.specs.Reading.{Reads, GoesOn, Unfit}
+use Rattle.xc_parser.specs.Reading.{Reads, IsFront, Unfit}
 use Rattle.xc_parser.specs.Stops.{Stopped}
 use Rattle.xc_parser.proofs.Rests.{Part, ValuesOf, Rest, RowOf, BeginsOf, Stands, inside, left}
-use Rattle.xc_parser.proofs.Opening.{firsts, nullables, is_apart, heads_apart, Heads, no_head, one_head, deepened}
-use Rattle.xc_parser.proofs.TokenSets.{one_is, one_token_of}
+use Rattle.xc_parser.proofs.Opening.{fronts, firsts, nullables, is_apart, heads_apart, Heads, no_head, one_head, deepened}
+use Rattle.xc_parser.proofs.TokenSets.{front, one_is, one_token_of}
 use Rattle.xc_parser.proofs.Firsts.{parts_first, begun_first}
 use Rattle.xc_parser.proofs.Behinds.{token_derives, token_derived, token_prefix}
 use Rattle.xc_parser.proofs.Lists.{token_begun}
@@ -88,8 +88,8 @@ module _ {toks : List Tok} {room : Room} {s : Symbol} {i k : ℕ} (r : Run (Valu
       | inl (ws, h, (m, ha, d, row), f, q) ↦ inl ((ws.0 ∷ [], ws.1), h, (m, ha, commas_last d, row), f, q)
       | inr y ↦ elim y [
         | inl (ws, h, (m, ha, d, (l, hb, c, (b, hc, e, row))), f, q) ↦
-          let p = token_derived {t = comma} refl c in
-          inl ((ws.0 ∷ ws.1.1.0, ws.1.1.1), h, (b, ha, commas_more d p.1 (subst (λ (u : ℕ). Derives toks (inside room r.above) (commas r.symbol) u b ws.1.1.0) p.0 e), row), f, q)
+            let p = token_derived {t = comma} refl c in
+            inl ((ws.0 ∷ ws.1.1.0, ws.1.1.1), h, (b, ha, commas_more d p.1 (subst (λ (u : ℕ). Derives toks (inside room r.above) (commas r.symbol) u b ws.1.1.0) p.0 e), row), f, q)
         | inr y ↦ absurd y
       ]
     ];
@@ -98,16 +98,22 @@ module _ {toks : List Tok} {room : Room} {s : Symbol} {i k : ℕ} (r : Run (Valu
       | inl (h, inr (m, v, ha, d, b)) ↦ inl (h, inr (m, v ∷ [], ha, commas_last d, b))
       | inr y ↦ elim y [
         | inl (h, inl (ha, p)) ↦ inl (h, inl (ha, begin_commas p))
-        | inl (h, inr (l, v, ha, d, inl (hb, p))) ↦ inl (h, inl (ha, elim (token_begun {t = comma} refl p) [
-          | inl e ↦ subst (λ (b : ℕ). Prefix toks (inside room r.above) (commas r.symbol) k b) (sym' e) (begin_commas (whole d))
-          | inr u ↦ subst (λ (b : ℕ). Prefix toks (inside room r.above) (commas r.symbol) k b) (sym' u.0) (more_commas d u.2 nothing)
-        ]))
+        | inl (h, inr (l, v, ha, d, inl (hb, p))) ↦ inl (
+          h,
+          inl (
+            ha,
+            elim (token_begun {t = comma} refl p) [
+              | inl e ↦ subst (λ (b : ℕ). Prefix toks (inside room r.above) (commas r.symbol) k b) (sym' e) (begin_commas (whole d))
+              | inr u ↦ subst (λ (b : ℕ). Prefix toks (inside room r.above) (commas r.symbol) k b) (sym' u.0) (more_commas d u.2 nothing)
+            ],
+          ),
+        )
         | inl (h, inr (l, v, ha, d, inr (m, c, hb, dc, inl (hc, p)))) ↦
-          let t = token_derived {t = comma} refl dc in
-          inl (h, inl (ha, more_commas d t.1 (subst (λ (b : ℕ). Prefix toks (inside room r.above) (commas r.symbol) b n) t.0 p)))
+            let t = token_derived {t = comma} refl dc in
+            inl (h, inl (ha, more_commas d t.1 (subst (λ (b : ℕ). Prefix toks (inside room r.above) (commas r.symbol) b n) t.0 p)))
         | inl (h, inr (l, v, ha, d, inr (m, c, hb, dc, inr (b, zs, hc, e, bb)))) ↦
-          let t = token_derived {t = comma} refl dc in
-          inl (h, inr (b, v ∷ zs, ha, commas_more d t.1 (subst (λ (u : ℕ). Derives toks (inside room r.above) (commas r.symbol) u b zs) t.0 e), bb))
+            let t = token_derived {t = comma} refl dc in
+            inl (h, inr (b, v ∷ zs, ha, commas_more d t.1 (subst (λ (u : ℕ). Derives toks (inside room r.above) (commas r.symbol) u b zs) t.0 e), bb))
         | inr y ↦ absurd y
       ]
     ];
@@ -118,15 +124,15 @@ pub record IsRow (s t : Symbol) (ps : List Part) : Type 0 where
   pub last : is_apart s t ps ≡ true
   pub more : is_apart s t (record { above = 0; symbol = comma } ∷ record { above = 0; symbol = commas t } ∷ ps) ≡ true
   pub told : has (firsts ps) comma ≡ false
-  pub follows : not (nullables ps) || has (follows s) comma ≡ true
+  pub follows : not (nullables ps) || has (fronts s) comma ≡ true
 
 pub row_from : (s t : Symbol) (ps : List Part) → is_row s t ps ≡ true → IsRow s t ps
 row_from s t ps e =
     let a = is_apart s t ps in
     let b = is_apart s t (record { above = 0; symbol = comma } ∷ record { above = 0; symbol = commas t } ∷ ps) in
-    let p = and_parts (a && b) (not (has (firsts ps) comma) && (not (nullables ps) || has (follows s) comma)) e in
+    let p = and_parts (a && b) (not (has (firsts ps) comma) && (not (nullables ps) || has (fronts s) comma)) e in
     let q = and_parts a b p.0 in
-    let u = and_parts (not (has (firsts ps) comma)) (not (nullables ps) || has (follows s) comma) p.1 in
+    let u = and_parts (not (has (firsts ps) comma)) (not (nullables ps) || has (fronts s) comma) p.1 in
     record { last = q.0; more = q.1; told = not-true (has (firsts ps) comma) u.0; follows = u.1 }
 
 -- a comma and the list, from behind the comma on
@@ -144,16 +150,16 @@ module _ {toks : List Tok} {room : Room} {s : Symbol} {i j : ℕ} (r : Run (Valu
   by_comma p on e = record {
     ends = λ l w y. elim y [
       | inl (ws, h, row, f, q) ↦ inl (elim (parts_first toks room r.parts j l ws row) [
-        | inl z ↦ subst (GoesOn toks s) (sym' z.0) (elim (or_cases (not (nullables r.parts)) (has (follows s) comma) e.follows) [
+        | inl z ↦ subst (λ (u : ℕ). IsFront toks s u w) (sym' z.0) (front s w (elim (or_cases (not (nullables r.parts)) (has (fronts s) comma) e.follows) [
           | inl g ↦ let a = not-true (nullables r.parts) g in let b = z.1 in absurd (cc)
           | inr g ↦ record { token = comma; stands = (p, on); among = g }
-        ])
+        ]))
         | inr o ↦ let a = one_is comma (p, on) o in let b = e.told in absurd (cc)
       ])
       | inr y ↦ elim y [
         | inl (ws, h, (b, hb, c, row), f, q) ↦
-          let t = token_derived {t = comma} refl c in
-          inr (inl (ws.1, has_max room n r.above h hb, subst (λ (u : ℕ). RowOf toks room (record { above = r.above; symbol = commas r.symbol } ∷ r.parts) u l ws.1) t.0 row, f, q))
+            let t = token_derived {t = comma} refl c in
+            inr (inl (ws.1, has_max room n r.above h hb, subst (λ (u : ℕ). RowOf toks room (record { above = r.above; symbol = commas r.symbol } ∷ r.parts) u l ws.1) t.0 row, f, q))
         | inr y ↦ absurd y
       ]
     ];
@@ -162,8 +168,8 @@ module _ {toks : List Tok} {room : Room} {s : Symbol} {i j : ℕ} (r : Run (Valu
       | inr y ↦ elim y [
         | inl (h, inl (hb, q)) ↦ inl (token_prefix {t = comma} refl q)
         | inl (h, inr (b, c, hb, d, x)) ↦
-          let t = token_derived {t = comma} refl d in
-          inr (inl (has_max room n r.above h hb, subst (λ (u : ℕ). BeginsOf toks room (record { above = r.above; symbol = commas r.symbol } ∷ r.parts) u l) t.0 x))
+            let t = token_derived {t = comma} refl d in
+            inr (inl (has_max room n r.above h hb, subst (λ (u : ℕ). BeginsOf toks room (record { above = r.above; symbol = commas r.symbol } ∷ r.parts) u l) t.0 x))
         | inr y ↦ absurd y
       ]
     ];
@@ -197,7 +203,6 @@ module _ {toks : List Tok} {room : Room} {s : Symbol} {i j : ℕ} (r : Run (Valu
 
 same_need : (a b : ℕ) → max (max a b) b ≡ max a b
 same_need a b = grind arith
-
 
 same_listing : {V : Type 0} (n : ℕ) (r : Run V) (xs : List (Value r.symbol)) (v : Value r.symbol) → n ≡ max r.need r.above → after_comma n r xs v ≡ listing r (xs ++ (v ∷ []))
 same_listing n r xs v e =

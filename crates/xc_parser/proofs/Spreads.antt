@@ -46,7 +46,7 @@ module _ (toks : List Tok) (room : Room) {V : Type 0} (i k : ℕ) (n : ℕ) (p :
         has_max room n l h hl,
         y.1,
         and_from (x.fits (front l x.parts ps y.0)) (f (x.make nowhere (front l x.parts ps y.0), back l x.parts ps y.0)) (a.0.fits (front l x.parts ps y.0)) (ap f pair ∙ b),
-        q ∙ ap (make (extent toks i j)) (sym' pair)
+        q ∙ ap (make (extent toks i j)) (sym' pair),
       )
   open_ends (x ∷ rs) a m j v w ws h g (inr e) r b q = inr (open_ends rs a.1 m j v w ws h g e r b q)
 
@@ -85,11 +85,14 @@ module _ (toks : List Tok) (room : Room) {V : Type 0} (i k : ℕ) (n : ℕ) (p :
   starts_open (x ∷ rs) a e (inl b) =
       let l = p.above + x.nodes in
       let hs = max_has room n l b.0 in
-      let ha = has_inside room p.above x.nodes hs.1 in
-      (hs.0, ha.0, elim (begins_put toks room l hs.1 ps x.parts k e b.1) [
-        | inl q ↦ inl (inl (ha.1, subst (λ (y : Room). Begins toks y x.parts k e) (sym' (inside_below room p.above x.nodes)) q))
-        | inr y ↦ inr (y.0, x.make (extent toks k y.0) y.1, inl (y.1, ha.1, subst (λ (z : Room). Row toks z x.parts k y.0 y.1) (sym' (inside_below room p.above x.nodes)) y.2, a.0.fits y.1, refl), y.3)
-      ])
+      let ha = has_inside room p.above x.nodes hs.1 in (
+        hs.0,
+        ha.0,
+        elim (begins_put toks room l hs.1 ps x.parts k e b.1) [
+          | inl q ↦ inl (inl (ha.1, subst (λ (y : Room). Begins toks y x.parts k e) (sym' (inside_below room p.above x.nodes)) q))
+          | inr y ↦ inr (y.0, x.make (extent toks k y.0) y.1, inl (y.1, ha.1, subst (λ (z : Room). Row toks z x.parts k y.0 y.1) (sym' (inside_below room p.above x.nodes)) y.2, a.0.fits y.1, refl), y.3)
+        ],
+      )
   starts_open (x ∷ rs) a e (inr b) =
       let y = starts_open rs a.1 e b in
       (y.0, y.1, elim y.2 [ inl q ↦ inl (inr q) | inr z ↦ inr (z.0, z.1, inr z.2, z.3) ])
@@ -111,11 +114,13 @@ module _ (toks : List Tok) (room : Room) {V : Type 0} (i k : ℕ) (n : ℕ) (p :
 
     starts_whole : (e : ℕ) → Starts toks room (open_all n p ps f make (rules p.symbol)) k e → StartsBy toks room (whole_of n p ps f make) k e
     starts_whole e x =
-        let y = starts_open (rules p.symbol) (plain_ignores p.symbol plain) e x in
-        (y.0, elim y.2 [
-          | inl b ↦ inl (y.1, from_starts toks (inside room p.above) p.symbol k e b)
-          | inr z ↦ inr (z.0, z.1, y.1, from_rules toks (inside room p.above) p.symbol k z.0 z.1 z.2, z.3)
-        ])
+        let y = starts_open (rules p.symbol) (plain_ignores p.symbol plain) e x in (
+          y.0,
+          elim y.2 [
+            | inl b ↦ inl (y.1, from_starts toks (inside room p.above) p.symbol k e b)
+            | inr z ↦ inr (z.0, z.1, y.1, from_rules toks (inside room p.above) p.symbol k z.0 z.1 z.2, z.3)
+          ],
+        )
 
   part_ends : (b : Bool) → is_plain p.symbol ≡ b → (j : ℕ) (v : V) → EndsBy toks room (whole_of n p ps f make) i k j v → Ends toks room (spread_if b n p ps f make) i k j v
   part_ends true e j v x = whole_ends e j v x
@@ -208,4 +213,3 @@ spreads {toks} {room} {s} {i} k rs = record {
   ends_back = ends_all toks room i k rs;
   starts_back = starts_all toks room i k rs;
 }
-

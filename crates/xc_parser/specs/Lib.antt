@@ -1,6 +1,10 @@
 pub mod Follows
+pub mod Programs
 pub mod Reading
 pub mod Stops
+pub mod Values
+pub mod Parts
+pub mod Errors
 pub mod Levels
 pub mod Operands
 pub mod RightSides

@@ -5,11 +5,29 @@
 //! methods stand in files by subject, and what they build in `nodes`.
 #![tactic(auto)]
 
+mod assignments;
+mod declarations;
+mod expected;
 mod expressions;
+mod functions;
+mod iterations;
+mod memory;
 mod nodes;
 mod operands;
+mod pars;
 mod parser;
+mod places;
+mod ports;
+mod program;
+mod selects;
+mod statements;
 mod stop;
 mod terminals;
+#[cfg(test)]
+mod testing;
 mod tokens;
+mod transfers;
 mod values;
+
+pub use places::end_pos;
+pub use program::{ParseErr, parse};

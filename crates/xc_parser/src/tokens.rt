@@ -2,8 +2,13 @@ ghost use Rattle.std.specs.Prelude.{◌≡◌, ◌↔◌, ◌⊎◌, ◌+◌, �
 ghost use Rattle.xc_tree.specs.declared.token.Kind.TheVariants.{Key, Sym};
 ghost use Rattle.xw_words.specs.declared.pos.Pos.{Pos};
 ghost use Rattle.xc_tree.specs.Derives.{On};
+ghost use Rattle.std.specs.Prelude.{[], ◌∷◌};
 ghost use Rattle.xc_tree.specs.Symbol as symbol;
-ghost use Rattle.xc_parser.specs.Follows.{OneOf, StandsAt};
+ghost use Rattle.xc_tree.specs.Symbol.{sym, key, a_name};
+ghost use Rattle.xc_parser.specs.Follows.{OneOf};
+ghost use Rattle.xc_parser.specs.Reading.{Reads};
+ghost use Rattle.xc_parser.specs.Stops.{Stopped};
+ghost use Rattle.xc_parser.specs.Follows.{StandsAt};
 ghost use Rattle.xc_parser.specs.Follows as follows;
 ghost use Rattle.xc_parser.specs.Levels.{IsOperator, NoOperator};
 ghost use Rattle.xc_parser.specs.Levels as levels;
@@ -54,7 +59,7 @@ pub fn is_cast(toks: &[Tok], at: usize) -> bool
     if !is_symbol(toks, at, PAREN) {
         return false;
     }
-    begins_type(toks, at + 1)
+    is_type(toks, at + 1)
 }
 
 /// Whether a bracket that is no cast's stands at a place.
@@ -65,11 +70,20 @@ pub fn is_bracket(toks: &[Tok], at: usize) -> bool
     if !is_symbol(toks, at, PAREN) {
         return false;
     }
-    !begins_type(toks, at + 1)
+    !is_type(toks, at + 1)
 }
 
 /// Whether `int` or `unsigned` stands at a place.
-fn begins_type(toks: &[Tok], at: usize) -> bool
+pub fn begins_type(toks: &[Tok], at: usize) -> bool
+    ensures within { IsTrue result → at < length toks.now }
+    ensures yes { IsTrue result → OneOf toks.now at (key 11 ∷ key 26 ∷ []) }
+    ensures no { (result ≡ false) → OneOf toks.now at (key 11 ∷ key 26 ∷ []) → ⊥ }
+{
+    is_word(toks, at, INT_WORD) || is_word(toks, at, UNSIGNED_WORD)
+}
+
+/// Whether `int` or `unsigned` stands at a place, and which.
+fn is_type(toks: &[Tok], at: usize) -> bool
     ensures yes { IsTrue result → (at < length toks.now) × IsType toks.now at }
     ensures no { (result ≡ false) → IsType toks.now at → ⊥ }
 {

@@ -330,7 +330,7 @@ impl<'a> Parser<'a> {
 }
 
 /// A call as a right side.
-fn right_side(called: Called) -> Rhs
+pub fn right_side(called: Called) -> Rhs
     ensures { right_of result ≡ plain.result (call_of called) }
 {
     let Called { name, arguments } = called;

@@ -1,0 +1,122 @@
+//! Branches that run side by side.
+
+use crate::expected::Numeral;
+use crate::parser::{Parser, Read};
+use crate::stop::Stop;
+use crate::terminals::{
+    BELOW, BRACE, END_BRACE, END_PAREN, EQUALS, INT_WORD, PAREN, PLUS_PLUS, SEMICOLON,
+};
+use crate::tokens::is_symbol;
+use xc_tree::{Branch, Id, St, Stmt};
+use xw_words::List;
+
+/// What was read, how many of its tokens are in statements that it holds, and the place of the token behind it.
+#[derive(Drop)]
+pub struct Holder<T> {
+    pub value: T,
+    pub held: usize,
+    pub end: usize,
+}
+
+/// What stands between the brackets of a replicated `par`.
+#[derive(Drop)]
+struct Replicator {
+    first: Id,
+    second: Id,
+    third: Id,
+    from: u32,
+    to: u32,
+}
+
+impl<'a> Parser<'a> {
+    /// A `par`, with room for so many nodes inside it.
+    #[cycle(statement)]
+    pub fn par(&self, at: usize, room: u32) -> Result<Read<Stmt>, Stop> {
+        if is_symbol(self.toks, at + 1, PAREN) {
+            return self.replicated(at, room);
+        }
+        let open = self.symbol(at + 1, BRACE)?;
+        let mut branches = List::new(self.alloc);
+        let mut held = 0;
+        let mut end = open.end;
+        'branches: while !is_symbol(self.toks, end, END_BRACE) {
+            let branch = self.branch(end, room)?;
+            branches.push(branch.value)?;
+            held += branch.held;
+            end = branch.end;
+        }
+        Ok(self.whole(at, end + 1, held, St::Par(branches)))
+    }
+
+    /// A branch.
+    #[cycle(statement)]
+    fn branch(&self, at: usize, room: u32) -> Result<Holder<Branch>, Stop> {
+        let place = self.maybe_place(at, room)?;
+        let body = self.statement(place.end, room)?;
+        Ok(Holder {
+            value: Branch {
+                place: place.value,
+                body: body.value,
+            },
+            held: body.end - place.end,
+            end: body.end,
+        })
+    }
+
+    /// A replicated `par`, with room for so many nodes inside it.
+    #[cycle(statement)]
+    fn replicated(&self, at: usize, room: u32) -> Result<Read<Stmt>, Stop> {
+        let replicator = self.replicator(at + 1)?;
+        let branch = self.branch(replicator.end, room)?;
+        let Replicator {
+            first,
+            second,
+            third,
+            from,
+            to,
+        } = replicator.value;
+        let kind = St::Repl {
+            first,
+            second,
+            third,
+            from,
+            to,
+            body: self.boxed(branch.value)?,
+        };
+        Ok(self.whole(at, branch.end, branch.held, kind))
+    }
+
+    /// `( int first = from ; second < to ; third ++ )`
+    fn replicator(&self, at: usize) -> Result<Read<Replicator>, Stop> {
+        let open = self.symbol(at, PAREN)?;
+        let int = self.word(open.end, INT_WORD)?;
+        let first = self.id(int.end)?;
+        let from = self.number_behind(first.end, EQUALS)?;
+        let second = self.id(from.end)?;
+        let to = self.number_behind(second.end, BELOW)?;
+        let third = self.id(to.end)?;
+        let step = self.symbol(third.end, PLUS_PLUS)?;
+        let close = self.symbol(step.end, END_PAREN)?;
+        Ok(Read {
+            value: Replicator {
+                first: first.value,
+                second: second.value,
+                third: third.value,
+                from: from.value.value,
+                to: to.value.value,
+            },
+            end: close.end,
+        })
+    }
+
+    /// A symbol, a number and a `;`.
+    fn number_behind(&self, at: usize, symbol: u8) -> Result<Read<Numeral>, Stop> {
+        let mark = self.symbol(at, symbol)?;
+        let number = self.numeral(mark.end)?;
+        let semicolon = self.symbol(number.end, SEMICOLON)?;
+        Ok(Read {
+            value: number.value,
+            end: semicolon.end,
+        })
+    }
+}

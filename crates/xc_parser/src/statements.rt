@@ -1,0 +1,237 @@
+//! Statements, and the blocks that hold them.
+
+use crate::parser::{Parser, Read};
+use crate::stop::Stop;
+use crate::terminals::{
+    AT_SIGN, BRACE, BRACKET, BREAK_WORD, CONTINUE_WORD, DO_WORD, ELSE_WORD, END_BRACE, END_PAREN,
+    EQUALS, FOR_WORD, IF_WORD, MASTER_WORD, MINUS_MINUS, PAR_WORD, PAREN, PLUS_PLUS, RECEIVES,
+    RETURN_WORD, SELECT_WORD, SEMICOLON, SENDS, SLAVE_WORD, WHEN_WORD, WHILE_WORD,
+};
+use crate::tokens::{is_symbol, is_word};
+use crate::values::right_side;
+use xc_tree::{Kind, St, Stmt};
+use xw_words::List;
+
+/// How a statement begins.
+#[derive(Clone, Copy, Debug)]
+enum First {
+    Semicolon,
+    Brace,
+    Name,
+    If,
+    While,
+    Do,
+    For,
+    Return,
+    Break,
+    Continue,
+    Par,
+    Select,
+    Master,
+    Slave,
+}
+
+impl<'a> Parser<'a> {
+    /// A statement.
+    #[cycle(statement)]
+    pub fn statement(&self, at: usize, room: u32) -> Result<Read<Stmt>, Stop> {
+        let Some(first) = self.first(at) else {
+            return Err(Stop::Wrong(at));
+        };
+        if room == 0 {
+            return Err(Stop::Deep(at));
+        }
+        let inside = room - 1;
+        match first {
+            First::Semicolon => Ok(self.whole(at, at + 1, 0, St::Empty)),
+            First::Brace => self.body(at, room),
+            First::Name => self.simple(at, inside),
+            First::If => self.conditional(at, inside),
+            First::While => self.while_loop(at, inside),
+            First::Do => self.do_loop(at, inside),
+            First::For => self.for_loop(at, inside),
+            First::Return => self.return_statement(at, inside),
+            First::Break => self.jump(at, St::Break),
+            First::Continue => self.jump(at, St::Continue),
+            First::Par => self.par(at, inside),
+            First::Select => self.select(at, inside),
+            First::Master => self.transaction(at, true, inside),
+            First::Slave => self.transaction(at, false, inside),
+        }
+    }
+
+    /// How the statement at a place begins, if one begins there.
+    fn first(&self, at: usize) -> Option<First> {
+        if at >= self.toks.len() {
+            return None;
+        }
+        match &self.toks[at].kind {
+            Kind::Name(_) => Some(First::Name),
+            Kind::Sym(symbol) => first_by_symbol(*symbol),
+            Kind::Key(word) => first_by_word(*word),
+            Kind::Num(..) => None,
+        }
+    }
+
+    /// The statement from one place up to another, which has so many tokens in statements that it holds.
+    pub fn whole(&self, at: usize, end: usize, held: usize, kind: St) -> Read<Stmt> {
+        let value = Stmt {
+            kind,
+            pos: self.toks[at].pos,
+            close: self.toks[end - 1].pos,
+            own: (end - at - held) as u32,
+        };
+        Read { value, end }
+    }
+
+    /// A block as a statement.
+    #[cycle(statement)]
+    pub fn body(&self, at: usize, room: u32) -> Result<Read<Stmt>, Stop> {
+        if room == 0 {
+            if is_symbol(self.toks, at, BRACE) {
+                return Err(Stop::Deep(at));
+            }
+            return Err(Stop::Wrong(at));
+        }
+        let block = self.block(at, room - 1)?;
+        let held = block.end - at - 2;
+        Ok(self.whole(at, block.end, held, St::Block(block.value)))
+    }
+
+    /// What stands between `{` and `}`.
+    #[cycle(statement)]
+    pub fn block(&self, at: usize, room: u32) -> Result<Read<List<Stmt>>, Stop> {
+        let open = self.symbol(at, BRACE)?;
+        let mut value = List::new(self.alloc);
+        let mut end = open.end;
+        'items: while !is_symbol(self.toks, end, END_BRACE) {
+            let item = self.block_item(end, room)?;
+            value.push(item.value)?;
+            end = item.end;
+        }
+        Ok(Read {
+            value,
+            end: end + 1,
+        })
+    }
+
+    /// A declaration or a statement.
+    #[cycle(statement)]
+    pub fn block_item(&self, at: usize, room: u32) -> Result<Read<Stmt>, Stop> {
+        if self.begins_declaration(at) {
+            return self.declaration(at, room);
+        }
+        self.statement(at, room)
+    }
+
+    /// A transaction, of the master or else of the slave, with room for so many nodes inside it.
+    #[cycle(statement)]
+    fn transaction(&self, at: usize, is_master: bool, room: u32) -> Result<Read<Stmt>, Stop> {
+        let block = self.block(at + 1, room)?;
+        let held = block.end - at - 3;
+        Ok(self.whole(at, block.end, held, St::Tran(is_master, block.value)))
+    }
+
+    /// A statement that begins with a name, which the token behind it decides, with room for so many nodes inside it.
+    fn simple(&self, at: usize, room: u32) -> Result<Read<Stmt>, Stop> {
+        if is_symbol(self.toks, at + 1, PAREN) {
+            return self.call_statement(at, room);
+        }
+        if is_symbol(self.toks, at + 1, SENDS) || is_symbol(self.toks, at + 1, AT_SIGN) {
+            return self.transfer(at, room);
+        }
+        if is_symbol(self.toks, at + 1, RECEIVES) || is_word(self.toks, at + 1, WHEN_WORD) {
+            return self.input_statement(at, room);
+        }
+        if !self.assigns(at + 1) {
+            return Err(Stop::Wrong(at + 1));
+        }
+        if room == 0 {
+            return Err(Stop::Deep(at + 1));
+        }
+        let assign = self.assign(at, room)?;
+        let semicolon = self.symbol(assign.end, SEMICOLON)?;
+        Ok(self.whole(at, semicolon.end, 0, assign.value))
+    }
+
+    /// Whether a token that an assignment can go on with behind a name stands at a place.
+    fn assigns(&self, at: usize) -> bool {
+        is_symbol(self.toks, at, EQUALS)
+            || is_symbol(self.toks, at, BRACKET)
+            || is_symbol(self.toks, at, PLUS_PLUS)
+            || is_symbol(self.toks, at, MINUS_MINUS)
+            || self.assign_op(at).is_ok()
+    }
+
+    /// A call as a statement, with room for so many nodes inside it.
+    fn call_statement(&self, at: usize, room: u32) -> Result<Read<Stmt>, Stop> {
+        let call = self.call(at, room)?;
+        let semicolon = self.symbol(call.end, SEMICOLON)?;
+        Ok(self.whole(at, semicolon.end, 0, St::Do(right_side(call.value))))
+    }
+
+    /// `break ;` or `continue ;`, from the word on.
+    fn jump(&self, at: usize, kind: St) -> Result<Read<Stmt>, Stop> {
+        let semicolon = self.symbol(at + 1, SEMICOLON)?;
+        Ok(self.whole(at, semicolon.end, 0, kind))
+    }
+
+    /// A `return`, with room for so many nodes inside it. A value that there is no room for is too deep where a `;` stands
+    /// behind it.
+    fn return_statement(&self, at: usize, room: u32) -> Result<Read<Stmt>, Stop> {
+        if is_symbol(self.toks, at + 1, SEMICOLON) {
+            return Ok(self.whole(at, at + 2, 0, St::Return(None)));
+        }
+        let right = self.rhs(at + 1, room)?;
+        let semicolon = self.symbol(right.end, SEMICOLON)?;
+        let Some(value) = right.value else {
+            return Err(Stop::Deep(right.end));
+        };
+        Ok(self.whole(at, semicolon.end, 0, St::Return(Some(value))))
+    }
+
+    /// An `if`, with room for so many nodes inside it. An `else` belongs to the nearest `if`.
+    #[cycle(statement)]
+    fn conditional(&self, at: usize, room: u32) -> Result<Read<Stmt>, Stop> {
+        let open = self.symbol(at + 1, PAREN)?;
+        let test = self.expr(open.end, room)?;
+        let close = self.symbol(test.end, END_PAREN)?;
+        let first = self.statement(close.end, room)?;
+        let held = first.end - close.end;
+        let then = self.boxed(first.value)?;
+        if !is_word(self.toks, first.end, ELSE_WORD) {
+            return Ok(self.whole(at, first.end, held, St::If(test.value, then, None)));
+        }
+        let second = self.statement(first.end + 1, room)?;
+        let both = held + (second.end - first.end - 1);
+        let other = self.boxed(second.value)?;
+        Ok(self.whole(at, second.end, both, St::If(test.value, then, Some(other))))
+    }
+}
+
+/// How a statement with this symbol first begins.
+fn first_by_symbol(symbol: u8) -> Option<First> {
+    match symbol {
+        SEMICOLON => Some(First::Semicolon),
+        BRACE => Some(First::Brace),
+        _ => None,
+    }
+}
+
+/// How a statement with this word first begins.
+fn first_by_word(word: u8) -> Option<First> {
+    match word {
+        IF_WORD => Some(First::If),
+        WHILE_WORD => Some(First::While),
+        DO_WORD => Some(First::Do),
+        FOR_WORD => Some(First::For),
+        RETURN_WORD => Some(First::Return),
+        BREAK_WORD => Some(First::Break),
+        CONTINUE_WORD => Some(First::Continue),
+        PAR_WORD => Some(First::Par),
+        SELECT_WORD => Some(First::Select),
+        MASTER_WORD => Some(First::Master),
+        SLAVE_WORD => Some(First::Slave),
+        _ => None,
+    }
+}
