@@ -31,11 +31,6 @@ pub mod Levels
 pub mod Elses
 pub mod Ifs
 pub mod Lasts
-pub mod Counts
-pub mod Cuts
-pub mod Depths
-pub mod Whole
-pub mod Items
 mod Single
 mod Exits
 pub mod Listed
@@ -58,5 +53,4 @@ pub mod Atoms
 pub mod Choosing
 pub mod Tests
 pub mod Runs
-pub mod Trials
 pub mod RightSides

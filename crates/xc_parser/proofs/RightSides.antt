@@ -15,7 +15,7 @@ use Rattle.xc_tree.specs.Trees.{argument_of}
 use Rattle.xc_parser.specs.declared.stop.Stop.{Stop}
 use Rattle.xc_parser.specs.declared.stop.Stop.TheVariants.{Wrong, Deep, Memory}
 use Rattle.xc_parser.specs.Follows.{OneOf, StandsAt, has, follows, begins_operand, after_expression}
-use Rattle.xc_parser.specs.Reading.{GoesOn, Reads, Refuses, TooDeep, Unfit}
+use Rattle.xc_parser.specs.Reading.{GoesOn, IsFront, Reads, Refuses, TooDeep, Unfit}
 use Rattle.xc_parser.specs.Stops.{Stopped}
 use Rattle.xc_parser.specs.Operands.{IsSymbol}
 use Rattle.xc_parser.specs.Levels.{level_of}
@@ -237,6 +237,9 @@ module _ (toks : List Tok) where
   rhs_goes : (k : ℕ) → GoesOn toks expr k → GoesOn toks rhs k
   rhs_goes k g = record { token = g.token; stands = g.stands; among = has_within (follows expr) (follows rhs) g.token refl g.among }
 
+  rhs_front : {k : ℕ} {v : plain.Expression} {w : plain.RightSide} → IsFront toks expr k v → IsFront toks rhs k w
+  rhs_front {k} g = record { goes_on = rhs_goes k g.goes_on; may = refl }
+
   name_is : {room : Room} {i j : ℕ} {v : Id} → Derives toks room a_name i j v → j ≡ i + 1
   name_is (named on) = refl
   name_is (by_rule a h row f) = let e = a.there in absurd (cc)
@@ -320,7 +323,7 @@ module _ (toks : List Tok) where
     reads_value {room} {j} {v} h r = record {
       derives = value_is r.derives;
       only = λ k w d. elim (rhs_is d) [
-        | inl y ↦ elim (r.only k y.0 y.1) [ inl e ↦ inl (e.0, y.2 ∙ ap plain.value e.1) | inr g ↦ inr (rhs_goes k g) ]
+        | inl y ↦ elim (r.only k y.0 y.1) [ inl e ↦ inl (e.0, y.2 ∙ ap plain.value e.1) | inr g ↦ inr (rhs_front g) ]
         | inr y ↦ absurd (no_call_here y.1)
       ];
       most = λ n q. elim (rhs_to q) [ inl y ↦ r.most n y | inr y ↦ short_call (omega arith) (λ x. omega arith) y ];
@@ -329,13 +332,13 @@ module _ (toks : List Tok) where
     pub stops_value : (room : ℕ) → (StandsAt toks at a_name → 1 ≤ room) → (e : Stop) → Stopped toks room expr at e → Stopped toks room rhs at e
     stops_value room f (Wrong x) r = record {
       prefix = value_to r.prefix;
-      never = λ k w d. elim (rhs_is d) [ inl y ↦ rhs_goes k (r.never k y.0 y.1) | inr y ↦ absurd (no_call_here y.1) ];
+      never = λ k w d. elim (rhs_is d) [ inl y ↦ rhs_front (r.never k y.0 y.1) | inr y ↦ absurd (no_call_here y.1) ];
       most = λ n q. elim (rhs_to q) [ inl y ↦ r.most n y | inr y ↦ short_call (r.most at nothing) (λ z. r.most (at + 1) (whole (named_alone tt z.2))) y ];
     }
     stops_value room f (Deep x) r = record {
       prefix = value_to r.prefix;
       begins = value_to r.begins;
-      never = λ k w d. elim (rhs_is d) [ inl y ↦ rhs_goes k (r.never k y.0 y.1) | inr y ↦ absurd (no_call_here y.1) ];
+      never = λ k w d. elim (rhs_is d) [ inl y ↦ rhs_front (r.never k y.0 y.1) | inr y ↦ absurd (no_call_here y.1) ];
       most = λ n q. elim (rhs_to q) [ inl y ↦ r.most n y | inr y ↦ short_call (r.most at nothing) (λ z. r.most (at + 1) (whole (named_alone (f z) z.2))) y ];
     }
     stops_value room f Memory r = tt
@@ -378,7 +381,7 @@ module _ (toks : List Tok) where
       value = plain.value (plain.expression (plain.name t) p);
       derives = value_is (widen toks tt r.derives);
       only = λ k w d. elim (rhs_is d) [
-        | inl y ↦ elim (r.only k y.0 y.1) [ inl e ↦ inl (e.0, y.2 ∙ ap plain.value e.1) | inr g ↦ inr (rhs_goes k g) ]
+        | inl y ↦ elim (r.only k y.0 y.1) [ inl e ↦ inl (e.0, y.2 ∙ ap plain.value e.1) | inr g ↦ inr (rhs_front g) ]
         | inr y ↦ let z = call_has y.1 in absurd (none z.0 z.1)
       ];
       most = λ n q. elim (rhs_to q) [
