@@ -54,7 +54,6 @@ pub mod Atoms
 pub mod Choosing
 pub mod Tests
 pub mod Runs
-pub mod Trials
 pub mod RightSides
 pub mod Insides
 pub mod Simples

@@ -1,5 +1,5 @@
 -- What the loops over brackets and over operators keep, and their steps.
-use Rattle.std.proofs.Common.{◌≡◌, ℕ, zero, suc, ◌+◌, ◌-◌, ◌<◌, ◌≤◌, max, List, length, refl, sym as sym', ap, subst, ◌∙◌, ◌⊎◌, inl, inr, arith}
+use Rattle.std.proofs.Common.{◌≡◌, ℕ, zero, suc, ◌+◌, ◌-◌, ◌<◌, ◌≤◌, max, List, length, sym as sym', ap, subst, ◌∙◌, ◌⊎◌, inl, inr, arith}
 use Rattle.xw_words.specs.declared.pos.Pos.{Pos}
 use Rattle.xc_tree.specs.declared.token.Tok.{Tok}
 use Rattle.xc_tree.specs.declared.token.Kind.TheVariants.{Sym}
@@ -14,7 +14,7 @@ use Rattle.xc_parser.specs.declared.stop.Stop.TheVariants.{Wrong, Deep, Memory}
 use Rattle.xc_parser.specs.Reading.{Reads, Refuses, TooDeep}
 use Rattle.xc_parser.specs.Stops.{Stopped}
 use Rattle.xc_parser.specs.Levels.{IsOperator, NoOperator}
-use Rattle.xc_parser.specs.Operands.{IsSymbol, IsBracket, IsSized, ReadsLevel, ReadsExpression}
+use Rattle.xc_parser.specs.Operands.{IsBracket, IsSized, ReadsLevel, ReadsExpression}
 use Rattle.xc_parser.proofs.Chains.{joined}
 use Rattle.xc_parser.proofs.Climbing.{SoFar, start, step, refuse_first, deep_first, refuse_right, deep_right, deep_here, finish}
 use Rattle.xc_parser.proofs.Choosing.{no_test}
@@ -125,7 +125,7 @@ module _ {toks : List Tok} {room : ℕ} where
 
   module _ {top l : ℕ} {first left : Operand} {o : Marked} (c : Climbs toks room top first left) (op : IsOperator toks left.end (suc l) o) where
     pub climbs : {right next : Operand} → l < top → left.depth < room → IsSized toks (room - 1) right → left.end < right.end → ReadsLevel toks (room - 1) l (left.end + 1) right → NoOperator toks right.end l →
-      next.end ≡ right.end → next.depth ≡ max left.depth right.depth + 1 → expression_of next.tree ≡ joined (expression_of left.tree) o (expression_of right.tree) → Climbs toks room top first next
+        next.end ≡ right.end → next.depth ≡ max left.depth right.depth + 1 → expression_of next.tree ≡ joined (expression_of left.tree) o (expression_of right.tree) → Climbs toks room top first next
     climbs {right} {next} h d s f r n e g t =
         let w = s.within in
         let x = c.sized.depth in
