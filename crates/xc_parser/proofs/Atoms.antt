@@ -1,19 +1,17 @@
 -- Operands: numbers, names, elements, signs, casts and brackets.
-use Rattle.std.proofs.Common.{◌≡◌, ℕ, zero, suc, ◌+◌, ◌-◌, ◌<◌, ◌≤◌, ◌⊎◌, inl, inr, Bool, true, false, IsTrue, length, List, [], ◌∷◌, refl, sym as sym', ap, subst, arith}
+use Rattle.std.proofs.Common.{◌≡◌, ℕ, ◌+◌, ◌-◌, ◌<◌, ◌≤◌, inl, inr, Bool, true, false, IsTrue, length, List, [], ◌∷◌, refl, subst, arith}
 use Rattle.std.proofs.Math.Nat.{eq-or-lt_of_le}
 use Rattle.xw_words.specs.declared.pos.Pos.{Pos}
 use Rattle.xc_tree.specs.declared.token.Tok.{Tok}
 use Rattle.xc_tree.specs.declared.token.Kind.TheVariants.{Name, Num, Key, Sym}
 use Rattle.xc_tree.specs.Plain as plain
-use Rattle.xc_tree.specs.Symbol.{Symbol, sym, key, a_name, a_number, expr, level, lval}
+use Rattle.xc_tree.specs.Symbol.{sym, key, a_name, a_number, expr, level, lval}
 use Rattle.xc_tree.specs.Derives.{On}
 use Rattle.xc_parser.specs.declared.stop.Stop.{Stop}
 use Rattle.xc_parser.specs.Follows.{OneOf, begins_operand}
 use Rattle.xc_parser.specs.Reading.{Reads, Refuses, TooDeep}
 use Rattle.xc_parser.specs.Stops.{Stopped}
 use Rattle.xc_parser.specs.Operands.{IsType}
-use Rattle.xc_parser.proofs.Rests.{Part, Rest, Stands, left}
-use Rattle.xc_parser.proofs.Opening.{over, beginnings}
 use Rattle.xc_parser.proofs.Paths.{Roomy, begin, roomy, over_symbol, over_word, over_name, over_number, lacks_symbol, read, stops, finish, none_left}
 use Rattle.xc_parser.proofs.Choices.{all_open, pass_symbol, spread_out, dead, no_one, stuck}
 

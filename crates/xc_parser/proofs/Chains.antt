@@ -1,16 +1,15 @@
 -- Binary operators: an expression of a level is an operand with operators and right sides behind it.
-use Rattle.std.proofs.Common.{◌≡◌, ℕ, zero, suc, ◌+◌, ◌-◌, ◌<◌, ◌≤◌, ◌⊎◌, inl, inr, List, [], ◌∷◌, slice_get, Some, refl, sym as sym', ap, subst, ◌∙◌, arith}
+use Rattle.std.proofs.Common.{◌≡◌, ℕ, zero, suc, ◌+◌, ◌<◌, ◌≤◌, ◌⊎◌, inl, inr, List, [], ◌∷◌, slice_get, Some, refl, sym as sym', subst, arith}
 use Rattle.xc_tree.specs.declared.token.Tok.{Tok}
 use Rattle.xc_tree.specs.Plain as plain
-use Rattle.xc_tree.specs.Symbol.{Symbol, sym, level, operator, Marked, Value, Values}
+use Rattle.xc_tree.specs.Symbol.{Symbol, level, operator, Marked, Value}
 use Rattle.xc_tree.specs.Grammar.{Rule, rules}
 use Rattle.xc_tree.specs.Depth.{of_expression}
-use Rattle.xc_tree.specs.Derives.{On, Among, Room, unlimited, at_most, HasRoom, below, Derives, Prefix, nothing, whole, begins, Begins, in_this, after, extent}
-use Rattle.xc_parser.specs.Reading.{GoesOn, Reads, Refuses, TooDeep}
-use Rattle.xc_parser.specs.Levels.{level_of, IsOperator}
-use Rattle.xc_parser.proofs.Inverse.{Rows, Begun, Ends, by_rules, from_rules, from_starts, begun_of, widen, widen_prefix, forth, Wider, any_wider, below_wider, wider_below, has_wider, same_kind, same_pos}
-use Rattle.xc_parser.proofs.Operators.{operator_is, is_operator, operator_prefix, bracket_goes_on, operator_goes_on, Onward, index, operates, goes_onward}
-use Rattle.xc_parser.proofs.Heights.{IsPart, p_level, depth_fits, shallow, more_room, less_room, no_room}
+use Rattle.xc_tree.specs.Derives.{Among, Room, HasRoom, below, Derives, Prefix, nothing, whole, begins, Begins, in_this, after}
+use Rattle.xc_parser.specs.Levels.{IsOperator}
+use Rattle.xc_parser.proofs.Inverse.{Begun, Ends, by_rules, begun_of, widen, widen_prefix, forth, Wider, below_wider, wider_below, has_wider}
+use Rattle.xc_parser.proofs.Operators.{operator_is, operator_prefix}
+use Rattle.xc_parser.proofs.Heights.{p_level, depth_fits, more_room, less_room}
 
 abbrev pub joined : plain.Expression → Marked → plain.Expression → plain.Expression
 joined a o b = plain.expression (plain.binary o.mark a b) o.pos

@@ -1,21 +1,20 @@
 -- Expressions with `? :`: what stands behind the test.
-use Rattle.std.proofs.Common.{◌≡◌, ℕ, zero, suc, ◌+◌, ◌-◌, ◌<◌, ◌≤◌, ◌⊎◌, inl, inr, Bool, true, false, ◌&&◌, List, [], ◌∷◌, refl, sym as sym', ap, subst, ◌∙◌, arith}
+use Rattle.std.proofs.Common.{◌≡◌, ℕ, suc, ◌+◌, ◌-◌, ◌<◌, ◌≤◌, ◌⊎◌, inl, inr, true, List, [], ◌∷◌, refl, sym as sym', ap, subst, ◌∙◌, arith}
 use Rattle.std.proofs.lemmas.Bool.{and_parts, or_cases, eqb-true}
 use Rattle.xw_words.specs.declared.pos.Pos.{Pos}
 use Rattle.xc_tree.specs.declared.token.Tok.{Tok}
 use Rattle.xc_tree.specs.declared.token.Kind.TheVariants.{Sym}
 use Rattle.xc_tree.specs.Plain as plain
-use Rattle.xc_tree.specs.Symbol.{Symbol, sym, key, a_name, a_number, expr, level, Marked, Value}
-use Rattle.xc_tree.specs.Grammar.{rules}
+use Rattle.xc_tree.specs.Symbol.{Symbol, sym, key, a_name, a_number, expr, level}
 use Rattle.xc_tree.specs.Depth.{of_expression}
 use Rattle.xc_tree.specs.Derives.{On, Room, unlimited, at_most, HasRoom, below, Derives, a_sym, Prefix, nothing, whole}
 use Rattle.xc_parser.specs.declared.stop.Stop.{Stop}
 use Rattle.xc_parser.specs.declared.stop.Stop.TheVariants.{Wrong, Deep, Memory}
 use Rattle.xc_parser.specs.Follows.{has, is_same, follows}
-use Rattle.xc_parser.specs.Reading.{GoesOn, Reads, Refuses, TooDeep}
+use Rattle.xc_parser.specs.Reading.{GoesOn, IsFront, Reads, Refuses, TooDeep}
 use Rattle.xc_parser.specs.Stops.{Stopped}
-use Rattle.xc_parser.specs.Levels.{level_of, IsOperator}
-use Rattle.xc_parser.proofs.Inverse.{Rows, Begun, Ends, by_rules, from_rules, by_starts, from_starts, widen, widen_prefix, Wider, any_wider, below_wider, same_kind, same_pos}
+use Rattle.xc_parser.specs.Levels.{level_of}
+use Rattle.xc_parser.proofs.Inverse.{Begun, by_rules, from_rules, by_starts, from_starts, widen, widen_prefix, any_wider, below_wider, same_kind, same_pos}
 use Rattle.xc_parser.proofs.Operators.{token_is, token_prefix, Onward, index, operates, goes_onward}
 use Rattle.xc_parser.proofs.Heights.{p_level, depth_fits, shallow, no_room}
 use Rattle.xc_parser.proofs.Climbing.{wider_zero}
@@ -50,6 +49,9 @@ module _ (toks : List Tok) where
 
   pub question_goes : {k : ℕ} {p : Pos} → On toks k (Sym 9) p → GoesOn toks expr k
   question_goes {k} {p} on = record { token = sym 9; stands = (p, on); among = refl }
+
+  front : {k : ℕ} {w : plain.Expression} → GoesOn toks expr k → IsFront toks expr k w
+  front g = record { goes_on = g; may = refl }
 
   -- no level goes on with `?`
   clash_of : {k : ℕ} {p : Pos} → On toks k (Sym 9) p → Onward toks 10 k → ⊥
@@ -151,14 +153,14 @@ module _ (toks : List Tok) where
     pub no_test : (e : Stop) → Stopped toks room (level 10) at e → Stopped toks room expr at e
     no_test (Wrong x) r = record {
       prefix = alone_to r.prefix;
-      never = λ j w d. elim (expr_is d) [ inl y ↦ expr_goes j (r.never j w y) | inr c ↦ absurd (clash c.on (r.never c.question c.test (widen toks (any_wider unlimited) c.tested))) ];
-      most = λ n q. elim (expr_to q) [ inl y ↦ r.most n y | inr c ↦ absurd (clash c.on (r.never c.question c.test (widen toks (any_wider unlimited) c.tested))) ];
+      never = λ j w d. elim (expr_is d) [ inl y ↦ front (expr_goes j (r.never j w y).goes_on) | inr c ↦ absurd (clash c.on (r.never c.question c.test (widen toks (any_wider unlimited) c.tested)).goes_on) ];
+      most = λ n q. elim (expr_to q) [ inl y ↦ r.most n y | inr c ↦ absurd (clash c.on (r.never c.question c.test (widen toks (any_wider unlimited) c.tested)).goes_on) ];
     }
     no_test (Deep x) r = record {
       prefix = alone_to r.prefix;
       begins = alone_to r.begins;
-      never = λ j w d. elim (expr_is d) [ inl y ↦ expr_goes j (r.never j w y) | inr c ↦ absurd (clash c.on (r.never c.question c.test (widen toks (below_wider (at_most room) 1) c.tested))) ];
-      most = λ n q. elim (expr_to q) [ inl y ↦ r.most n y | inr c ↦ absurd (clash c.on (r.never c.question c.test (widen toks (below_wider (at_most room) 1) c.tested))) ];
+      never = λ j w d. elim (expr_is d) [ inl y ↦ front (expr_goes j (r.never j w y).goes_on) | inr c ↦ absurd (clash c.on (r.never c.question c.test (widen toks (below_wider (at_most room) 1) c.tested)).goes_on) ];
+      most = λ n q. elim (expr_to q) [ inl y ↦ r.most n y | inr c ↦ absurd (clash c.on (r.never c.question c.test (widen toks (below_wider (at_most room) 1) c.tested)).goes_on) ];
     }
     no_test Memory r = tt
 
@@ -166,14 +168,14 @@ module _ (toks : List Tok) where
     module _ {k : ℕ} {v : plain.Expression} (r : Reads toks room (level 10) at k v) where
       -- a choice is behind this test
       same_test : {wide : Room} {j : ℕ} {c : plain.Expression} {p : Pos} → Derives toks wide (level 10) at j c → On toks j (Sym 9) p → (j ≡ k) × (c ≡ v)
-      same_test {wide} {j} {c} d on = elim (r.only j c (widen toks (any_wider wide) d)) [ inl e ↦ e | inr g ↦ absurd (clash on g) ]
+      same_test {wide} {j} {c} d on = elim (r.only j c (widen toks (any_wider wide) d)) [ inl e ↦ e | inr g ↦ absurd (clash on g.goes_on) ]
 
       -- no choice
       pub no_question : ((p : Pos) → On toks k (Sym 9) p → ⊥) → Reads toks room expr at k v
       no_question none = record {
         derives = alone r.derives;
         only = λ j w d. elim (expr_is d) [
-          | inl y ↦ elim (r.only j w y) [ inl e ↦ inl e | inr g ↦ inr (expr_goes j g) ]
+          | inl y ↦ elim (r.only j w y) [ inl e ↦ inl e | inr g ↦ inr (front (expr_goes j g.goes_on)) ]
           | inr c ↦ let e = same_test c.tested c.on in absurd (none c.pos (subst (λ x. On toks x (Sym 9) c.pos) e.0 c.on))
         ];
         most = λ n q. elim (expr_to q) [
@@ -192,7 +194,7 @@ module _ (toks : List Tok) where
           prefix = whole (alone r.derives);
           begins = asked tt (widen toks tt r.derives) on refl;
           never = λ j w d. elim (expr_is d) [
-            | inl y ↦ elim (r.only j w (widen toks tt y)) [ inl e ↦ subst (GoesOn toks expr) (sym' e.0) (question_goes on) | inr g ↦ expr_goes j g ]
+            | inl y ↦ elim (r.only j w (widen toks tt y)) [ inl e ↦ front (subst (GoesOn toks expr) (sym' e.0) (question_goes on)) | inr g ↦ front (expr_goes j g.goes_on) ]
             | inr c ↦ absurd (too_high h c.one c.tested c.on)
           ];
           most = λ n q. elim (expr_to q) [ inl y ↦ r.most n (widen_prefix toks tt y) | inr c ↦ absurd (too_high h c.one c.tested c.on) ];
@@ -234,7 +236,7 @@ module _ (toks : List Tok) where
               | inr e ↦ absurd e
             ];
             only = λ j w d. elim (expr_is d) [
-              | inl y ↦ elim (r.only j w (widen toks (any_wider wide) y)) [ inl e ↦ inl (subst (GoesOn toks expr) (sym' e.0) (question_goes on)) | inr g ↦ inl (expr_goes j g) ]
+              | inl y ↦ elim (r.only j w (widen toks (any_wider wide) y)) [ inl e ↦ inl (front (subst (GoesOn toks expr) (sym' e.0) (question_goes on))) | inr g ↦ inl (front (expr_goes j g.goes_on)) ]
               | inr c ↦ inr (inl (goes_over c))
             ];
             prefix = λ n x. elim x [

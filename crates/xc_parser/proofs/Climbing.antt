@@ -1,14 +1,14 @@
 -- How far a level reaches: what is known of all levels behind an operand and some of the operators.
-use Rattle.std.proofs.Common.{◌≡◌, ℕ, zero, suc, ◌+◌, ◌-◌, ◌<◌, ◌≤◌, ◌⊎◌, inl, inr, List, [], ◌∷◌, refl, sym as sym', ap, subst, ◌∙◌, arith}
+use Rattle.std.proofs.Common.{◌≡◌, ℕ, zero, suc, ◌+◌, ◌-◌, ◌<◌, ◌≤◌, ◌⊎◌, inl, inr, List, refl, sym as sym', ap, subst, ◌∙◌, arith}
 use Rattle.std.proofs.Math.Nat.{eq-or-lt_of_le}
 use Rattle.xw_words.specs.declared.pos.Pos.{Pos}
 use Rattle.xc_tree.specs.declared.token.Tok.{Tok}
 use Rattle.xc_tree.specs.declared.token.Kind.TheVariants.{Sym}
 use Rattle.xc_tree.specs.Plain as plain
-use Rattle.xc_tree.specs.Symbol.{Symbol, sym, level, operator, Marked}
+use Rattle.xc_tree.specs.Symbol.{level, Marked}
 use Rattle.xc_tree.specs.Depth.{of_expression}
 use Rattle.xc_tree.specs.Derives.{On, Room, unlimited, at_most, HasRoom, below, Derives, Prefix, nothing, whole}
-use Rattle.xc_parser.specs.Reading.{GoesOn, Reads, Refuses, TooDeep}
+use Rattle.xc_parser.specs.Reading.{GoesOn, IsFront, Reads, Refuses, TooDeep}
 use Rattle.xc_parser.specs.Levels.{level_of, IsOperator}
 use Rattle.xc_parser.proofs.Inverse.{from_rules, from_starts, widen, widen_prefix, Wider, any_wider, same_kind, same_pos}
 use Rattle.xc_parser.proofs.Operators.{is_operator, bracket_goes_on, operator_goes_on, Onward, index, operates, goes_onward}
@@ -70,6 +70,9 @@ module _ (toks : List Tok) where
   onward_goes low m h (index on) = bracket_goes_on toks m on
   onward_goes low m h (operates l s) = operator_goes_on toks m (omega arith) s
 
+  front : {m k : ℕ} {w : plain.Expression} → GoesOn toks (level m) k → IsFront toks (level m) k w
+  front g = record { goes_on = g; may = refl }
+
   -- a reading that goes on by a weaker operator only has no chain behind it
   stuck : {room : Room} {low m k j : ℕ} {v w : plain.Expression} (n : ℕ) → Onward toks n k → n ≤ low - 1 → n ≤ m → Chain toks room low m k v j w → GoesOn toks (level m) j
   stuck {m} n g a b stop = onward_goes n m b g
@@ -90,13 +93,13 @@ module _ (toks : List Tok) where
       derives = r.derives;
       only = λ wide m j w h d. let y = split toks m at j w d in elim (r.only y.0 y.1 (widen toks (any_wider wide) y.2)) [
         | inl e ↦ inr (subst (λ x. Chain toks wide 0 m x v j w) e.0 (subst (λ x. Chain toks wide 0 m y.0 x j w) e.1 y.3))
-        | inr g ↦ inl (stuck 0 (goes_onward toks 0 y.0 g) (omega arith) (omega arith) y.3)
+        | inr g ↦ inl (stuck 0 (goes_onward toks 0 y.0 g.goes_on) (omega arith) (omega arith) y.3)
       ];
       most = λ wide m n h q. elim (split_to toks m q) [
         | inl x ↦ ends (r.most n (widen_prefix toks (any_wider wide) x))
         | inr y ↦ elim (r.only y.0 y.1 (widen toks (any_wider wide) y.2)) [
           | inl e ↦ subst (λ x. ChainTo toks wide 0 m x v n) e.0 (subst (λ x. ChainTo toks wide 0 m y.0 x n) e.1 y.3)
-          | inr g ↦ let a = stuck_to 0 (goes_onward toks 0 y.0 g) (omega arith) y.3 in let b = r.most y.0 (whole (widen toks (any_wider wide) y.2)) in ends (omega arith)
+          | inr g ↦ let a = stuck_to 0 (goes_onward toks 0 y.0 g.goes_on) (omega arith) y.3 in let b = r.most y.0 (whole (widen toks (any_wider wide) y.2)) in ends (omega arith)
         ]
       ];
     }
@@ -104,10 +107,10 @@ module _ (toks : List Tok) where
     pub refuse_first : (m x : ℕ) → Refuses toks room (level 0) at x → Refuses toks room (level m) at x
     refuse_first m x r = record {
       prefix = raised_prefix 0 m (omega arith) r.prefix;
-      never = λ j w d. let y = split toks m at j w d in stuck 0 (goes_onward toks 0 y.0 (r.never y.0 y.1 y.2)) (omega arith) (omega arith) y.3;
+      never = λ j w d. let y = split toks m at j w d in front (stuck 0 (goes_onward toks 0 y.0 (r.never y.0 y.1 y.2).goes_on) (omega arith) (omega arith) y.3);
       most = λ n q. elim (split_to toks m q) [
         | inl p ↦ r.most n p
-        | inr y ↦ let a = stuck_to 0 (goes_onward toks 0 y.0 (r.never y.0 y.1 y.2)) (omega arith) y.3 in let b = r.most y.0 (whole y.2) in omega arith
+        | inr y ↦ let a = stuck_to 0 (goes_onward toks 0 y.0 (r.never y.0 y.1 y.2).goes_on) (omega arith) y.3 in let b = r.most y.0 (whole y.2) in omega arith
       ];
     }
 
@@ -115,10 +118,10 @@ module _ (toks : List Tok) where
     deep_first m x r = record {
       prefix = raised_prefix 0 m (omega arith) r.prefix;
       begins = raised_prefix 0 m (omega arith) r.begins;
-      never = λ j w d. let y = split toks m at j w d in stuck 0 (goes_onward toks 0 y.0 (r.never y.0 y.1 y.2)) (omega arith) (omega arith) y.3;
+      never = λ j w d. let y = split toks m at j w d in front (stuck 0 (goes_onward toks 0 y.0 (r.never y.0 y.1 y.2).goes_on) (omega arith) (omega arith) y.3);
       most = λ n q. elim (split_to toks m q) [
         | inl p ↦ r.most n p
-        | inr y ↦ let a = stuck_to 0 (goes_onward toks 0 y.0 (r.never y.0 y.1 y.2)) (omega arith) y.3 in let b = r.most y.0 (whole y.2) in omega arith
+        | inr y ↦ let a = stuck_to 0 (goes_onward toks 0 y.0 (r.never y.0 y.1 y.2).goes_on) (omega arith) y.3 in let b = r.most y.0 (whole y.2) in omega arith
       ];
     }
 
@@ -143,7 +146,7 @@ module _ (toks : List Tok) where
           let d' = turned s' d in
           elim (r.only m' b' (widen toks (any_wider (below wide 1)) d')) [
             | inl g ↦ inr (subst (λ x. Chain toks wide (suc x) top m (joined v o b) j w) z (subst (λ x. Chain toks wide (suc l') top m (joined v x b) j w) y.0 (subst (λ x. Chain toks wide (suc l') top m (joined v o' x) j w) g.1 (subst (λ x. Chain toks wide (suc l') top x (joined v o' b') j w) g.0 f))))
-            | inr g ↦ inl (stuck l (goes_onward toks l m' g) (omega arith) (omega arith) f)
+            | inr g ↦ inl (stuck l (goes_onward toks l m' g.goes_on) (omega arith) (omega arith) f)
           ]
 
       most_on : {wide : Room} {top n : ℕ} → suc l ≤ top → ChainTo toks wide low top k v n → ChainTo toks wide (suc l) top m (joined v o b) n
@@ -155,7 +158,7 @@ module _ (toks : List Tok) where
           let d' = widen toks (any_wider (below wide 1)) (turned s' d) in
           elim (r.only m' b' d') [
             | inl g ↦ subst (λ x. ChainTo toks wide (suc x) top m (joined v o b) n) z (subst (λ x. ChainTo toks wide (suc l') top m (joined v x b) n) y.0 (subst (λ x. ChainTo toks wide (suc l') top m (joined v o' x) n) g.1 (subst (λ x. ChainTo toks wide (suc l') top x (joined v o' b') n) g.0 f)))
-            | inr g ↦ let a = stuck_to l (goes_onward toks l m' g) (omega arith) f in let c' = r.most m' (whole d') in ends (omega arith)
+            | inr g ↦ let a = stuck_to l (goes_onward toks l m' g.goes_on) (omega arith) f in let c' = r.most m' (whole d') in ends (omega arith)
           ]
 
       -- over it and its right side
@@ -187,16 +190,16 @@ module _ (toks : List Tok) where
       pub refuse_right : (x : ℕ) → of_expression v + 1 ≤ room → Refuses toks (room - 1) (level l) (k + 1) x → Refuses toks room (level m) at x
       refuse_right x h r = record {
         prefix = raised_prefix (suc l) m (omega arith) (begun (omega arith) (left_fits h) r.prefix);
-        never = λ j w d. elim (s.only unlimited m j w (omega arith) d) [ inl g ↦ g | inr c ↦ never_on under r.never c ];
-        most = λ n q. most_off r.never r.most (s.most unlimited m n (omega arith) q);
+        never = λ j w d. front (elim (s.only unlimited m j w (omega arith) d) [ inl g ↦ g | inr c ↦ never_on under (λ j w d. (r.never j w d).goes_on) c ]);
+        most = λ n q. most_off (λ j w d. (r.never j w d).goes_on) r.most (s.most unlimited m n (omega arith) q);
       }
 
       pub deep_right : (x : ℕ) → of_expression v + 1 ≤ room → TooDeep toks (room - 1) (level l) (k + 1) x → TooDeep toks room (level m) at x
       deep_right x h r = record {
         prefix = raised_prefix (suc l) m (omega arith) (begun (omega arith) (left_fits h) r.prefix);
         begins = raised_prefix (suc l) m (omega arith) (begun tt (raised low (suc l) from (widen toks tt s.derives)) r.begins);
-        never = λ j w d. elim (s.only (at_most room) m j w (omega arith) d) [ inl g ↦ g | inr c ↦ never_on under r.never c ];
-        most = λ n q. most_off r.never r.most (s.most (at_most room) m n (omega arith) q);
+        never = λ j w d. front (elim (s.only (at_most room) m j w (omega arith) d) [ inl g ↦ g | inr c ↦ never_on under (λ j w d. (r.never j w d).goes_on) c ]);
+        most = λ n q. most_off (λ j w d. (r.never j w d).goes_on) r.most (s.most (at_most room) m n (omega arith) q);
       }
 
       deep_only : {j : ℕ} {w : plain.Expression} → room < of_expression v + 1 → Chain toks (at_most room) low m k v j w → GoesOn toks (level m) j
@@ -213,7 +216,7 @@ module _ (toks : List Tok) where
       deep_here h = record {
         prefix = whole (raised low m (omega arith) s.derives);
         begins = raised_prefix (suc l) m (omega arith) (begun tt (raised low (suc l) from (widen toks tt s.derives)) nothing);
-        never = λ j w d. elim (s.only (at_most room) m j w (omega arith) d) [ inl g ↦ g | inr c ↦ deep_only h c ];
+        never = λ j w d. front (elim (s.only (at_most room) m j w (omega arith) d) [ inl g ↦ g | inr c ↦ deep_only h c ]);
         most = λ n q. deep_most h (s.most (at_most room) m n (omega arith) q);
       }
 
@@ -231,6 +234,6 @@ module _ (toks : List Tok) where
     pub finish : Reads toks room (level m) at k v
     finish = record {
       derives = raised low m h s.derives;
-      only = λ j w d. elim (s.only unlimited m j w h d) [ inl g ↦ inr g | inr c ↦ inl (last c) ];
+      only = λ j w d. elim (s.only unlimited m j w h d) [ inl g ↦ inr (front g) | inr c ↦ inl (last c) ];
       most = λ n q. last_to (s.most unlimited m n h q);
     }

@@ -1,5 +1,6 @@
 -- Declarations: the rows of their names, as they are read.
 use Rattle.std.proofs.Common.{◌≡◌, ℕ, zero, suc, ◌+◌, ◌-◌, ◌<◌, ◌≤◌, ◌⊎◌, inl, inr, Bool, true, false, List, [], ◌∷◌, ◌++◌, map, IsTrue, refl, sym as sym', ap, subst, ◌∙◌, if◌then◌else◌, lit<, arith}
+use Rattle.std.proofs.lemmas.List.{map-append}
 use Rattle.xw_words.specs.declared.pos.Pos.{Pos}
 use Rattle.xc_tree.specs.declared.token.Tok.{Tok}
 use Rattle.xc_tree.specs.declared.token.Kind.TheVariants.{Sym, Key}
@@ -19,7 +20,8 @@ use Rattle.xc_parser.specs.Parts.{resource_kind, Declares, Names, NoName, Adds}
 use Rattle.xc_parser.proofs.Rests.{Part}
 use Rattle.xc_parser.proofs.Paths.{Roomy, begin, over_word, read, stops, finish}
 use Rattle.xc_parser.proofs.Choices.{all_open, no_one, dead, stuck}
-use Rattle.xc_parser.proofs.Loops.{Run, listing, had, is_row, with_comma, row_stops, row_unfit}
+use Rattle.xc_parser.proofs.Loops.{Run, listing, had, is_row}
+use Rattle.xc_parser.proofs.Rows.{with_comma, row_stops, row_unfit}
 use Rattle.xc_parser.proofs.Listed.{Listed, first_listed, next_listed, end_listed}
 use Rattle.xc_parser.proofs.Marks.{first_of, none_of, at_a_type}
 
@@ -160,8 +162,8 @@ module _ (toks : List Tok) (room i : ℕ) (is_chan : Bool) where
 
 -- the word of a declaration of channels or timers
 pub word_of_resource : (toks : List Tok) (i : ℕ) (is_chan : Bool) → (IsTrue is_chan → (p : Pos) × On toks i (Key 2) p) → ((is_chan ≡ false) → (p : Pos) → On toks i (Key 2) p → ⊥) → OneOf toks i (key 2 ∷ key 24 ∷ []) → (p : Pos) × On toks i (Key (resource_word is_chan)) p
-word_of_resource toks i true yes no o = yes refl
-word_of_resource toks i false yes no o = elim (first_of (key 2) (key 24 ∷ []) o) [
-  | inl x ↦ absurd (no refl x.0 x.1)
+word_of_resource toks i true one none o = one refl
+word_of_resource toks i false one none o = elim (first_of (key 2) (key 24 ∷ []) o) [
+  | inl x ↦ absurd (none refl x.0 x.1)
   | inr q ↦ elim (first_of (key 24) [] q) [ inl x ↦ x | inr z ↦ absurd (none_of z) ]
 ]

@@ -1,7 +1,7 @@
 -- An expression derives with room for so many nodes exactly where it is no deeper.
-use Rattle.std.proofs.Common.{◌≡◌, ℕ, zero, suc, ◌+◌, ◌-◌, ◌<◌, ◌≤◌, max, List, [], ◌∷◌, slice_get, Some, refl, sym as sym', subst, arith}
+use Rattle.std.proofs.Common.{◌≡◌, ℕ, zero, suc, ◌+◌, ◌-◌, ◌≤◌, max, List, [], ◌∷◌, slice_get, Some, refl, sym as sym', subst, arith}
 use Rattle.xc_tree.specs.declared.token.Tok.{Tok}
-use Rattle.xc_tree.specs.Symbol.{Symbol, sym, key, a_name, a_number, expr, level, operator, sign, atom, Marked, Value, Values}
+use Rattle.xc_tree.specs.Symbol.{Symbol, sym, key, a_name, a_number, expr, level, operator, sign, atom, Value, Values}
 use Rattle.xc_tree.specs.Grammar.{Rule, Extent, rules, operators, one_of}
 use Rattle.xc_tree.specs.Depth.{of_expression}
 use Rattle.xc_tree.specs.Derives.{Among, Room, unlimited, at_most, HasRoom, below, Derives, a_sym, a_key, named, counted, by_rule, Row, done, next}

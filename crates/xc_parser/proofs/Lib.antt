@@ -43,6 +43,7 @@ mod Declarators
 mod DeclaredRows
 mod Cores
 mod ItemHeads
+mod Transferring
 pub mod CaseRows
 pub mod Insides
 pub mod Branches

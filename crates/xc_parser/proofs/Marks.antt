@@ -5,12 +5,15 @@ use Rattle.xw_words.specs.declared.pos.Pos.{Pos}
 use Rattle.xc_tree.specs.declared.token.Tok.{Tok}
 use Rattle.xc_tree.specs.declared.token.Kind.{Kind}
 use Rattle.xc_tree.specs.declared.token.Kind.TheVariants.{Sym}
-use Rattle.xc_tree.specs.Symbol.{Symbol, sym, key, assign_op, Value}
-use Rattle.xc_tree.specs.Derives.{On}
+use Rattle.xc_tree.specs.Symbol.{Symbol, sym, key, a_name, assign_op, Value}
+use Rattle.xc_tree.specs.Derives.{On, named}
 use Rattle.xc_parser.specs.Follows.{OneOf, StandsAt, first, has, is_same}
+use Rattle.xc_parser.specs.declared.stop.Stop.{Stop}
+use Rattle.xc_parser.specs.declared.stop.Stop.TheVariants.{Wrong, Deep, Memory}
 use Rattle.xc_parser.specs.Reading.{Reads, Refuses}
+use Rattle.xc_parser.specs.Stops.{Stopped}
 use Rattle.xc_parser.proofs.Rests.{Rest}
-use Rattle.xc_parser.proofs.Opening.{keep}
+use Rattle.xc_parser.proofs.Opening.{keep, fronts}
 use Rattle.xc_parser.proofs.TokenSets.{is_same_eq}
 use Rattle.xc_parser.proofs.Single.{on_pos}
 use Rattle.xc_parser.proofs.Paths.{Roomy, begin, at_word, over_symbol, lacks, none_left, finish}
@@ -39,7 +42,7 @@ pub on_it : {toks : List Tok} {i : ℕ} {k : Kind} {p : Pos} → On toks i k p �
 on_it {toks} {i} {k} on d = subst (λ q. On toks i k q) (on_pos on d) on
 
 -- where a type stands, and either of its words leaves the same rests open
-pub at_a_type : {toks : List Tok} {room : ℕ} {s : Symbol} {i k : ℕ} {rs : List (Rest (Value s))} → Roomy toks room s i k rs → OneOf toks k (key 11 ∷ key 26 ∷ []) → keep (key 26) rs ≡ keep (key 11) rs → Roomy toks room s i k (keep (key 11) rs)
+pub at_a_type : {toks : List Tok} {room : ℕ} {s : Symbol} {i k : ℕ} {rs : List (Rest (Value s))} → Roomy toks room s i k rs → OneOf toks k (key 11 ∷ key 26 ∷ []) → keep (fronts s) (key 26) rs ≡ keep (fronts s) (key 11) rs → Roomy toks room s i k (keep (fronts s) (key 11) rs)
 at_a_type {toks} {room} {s} {i} {k} {rs} st o e = elim (first_of (key 11) (key 26 ∷ []) o) [
   | inl x ↦ at_word st x.1
   | inr q ↦ elim (first_of (key 26) [] q) [
@@ -117,3 +120,9 @@ mark_in _ = 0
 
 pub other_mark : {a b : ℕ} → Sym a ≡ Sym b → a ≡ b
 other_mark e = ap mark_in e
+
+-- a name that stands there isn't refused
+pub name_stops : (toks : List Tok) (i room : ℕ) (s : Symbol) → StandsAt toks i a_name → (e : Stop) → Stopped toks room a_name i e → Stopped toks room s i e
+name_stops toks i room s at (Wrong m) x = absurd (none_of (x.never (i + 1) _ (named at.2)).goes_on)
+name_stops toks i room s at (Deep m) x = absurd (none_of (x.never (i + 1) _ (named at.2)).goes_on)
+name_stops toks i room s at Memory x = tt

@@ -1,17 +1,17 @@
 -- The operators of a level are the symbols that have this level.
-use Rattle.std.proofs.Common.{◌≡◌, ℕ, zero, suc, ◌+◌, ◌-◌, ◌<◌, ◌≤◌, ◌⊎◌, inl, inr, Bool, true, false, ◌&&◌, ◌||◌, List, [], ◌∷◌, ◌++◌, map, nat_eq, get_or, slice_get, refl, sym as sym', ap, subst, ◌∙◌, arith}
+use Rattle.std.proofs.Common.{◌≡◌, ℕ, zero, suc, ◌+◌, ◌<◌, ◌≤◌, ◌⊎◌, inl, inr, Bool, true, false, ◌&&◌, ◌||◌, List, [], ◌∷◌, ◌++◌, map, nat_eq, get_or, slice_get, refl, sym as sym', ap, subst, ◌∙◌, arith}
 use Rattle.std.proofs.lemmas.Bool.{and_parts, or_cases, or_left, or_right, eqb-true, eq-eqb}
 use Rattle.std.proofs.Math.Nat.{eq-or-lt_of_le}
 use Rattle.xw_words.specs.declared.pos.Pos.{Pos}
 use Rattle.xc_tree.specs.declared.token.Tok.{Tok}
 use Rattle.xc_tree.specs.declared.token.Kind.TheVariants.{Sym}
-use Rattle.xc_tree.specs.Symbol.{Symbol, sym, level, operator, Marked, Value}
-use Rattle.xc_tree.specs.Grammar.{rules, operators, one_of, by_level, or_none}
-use Rattle.xc_tree.specs.Derives.{On, Room, unlimited, at_most, HasRoom, below, Derives, a_sym, by_rule, Prefix, nothing, whole, begins}
-use Rattle.xc_parser.specs.Follows.{OneOf, StandsAt, has, is_same, operators_to}
+use Rattle.xc_tree.specs.Symbol.{Symbol, sym, level, operator, Marked}
+use Rattle.xc_tree.specs.Grammar.{operators, one_of, by_level, or_none}
+use Rattle.xc_tree.specs.Derives.{On, Room, unlimited, at_most, HasRoom, Derives, a_sym, by_rule, Prefix, nothing, whole, begins}
+use Rattle.xc_parser.specs.Follows.{StandsAt, has, is_same, operators_to}
 use Rattle.xc_parser.specs.Reading.{GoesOn}
 use Rattle.xc_parser.specs.Levels.{levels, level_of, IsOperator}
-use Rattle.xc_parser.proofs.Inverse.{Ends, Starts, Begun, by_rules, from_rules, by_starts, same_kind, same_pos, Wider, any_wider, below_wider, widen}
+use Rattle.xc_parser.proofs.Inverse.{Ends, Starts, by_rules, from_rules, by_starts}
 
 abbrev Member : ℕ → List ℕ → Type 0
 Member s [] = ⊥

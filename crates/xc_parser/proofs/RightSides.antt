@@ -1,38 +1,37 @@
 -- Calls, right sides and the other parts of statements that hold an expression.
-use Rattle.std.proofs.Common.{◌≡◌, ℕ, zero, suc, ◌+◌, ◌-◌, ◌<◌, ◌≤◌, ◌⊎◌, inl, inr, Bool, true, false, length, get_or, slice_get, List, [], ◌∷◌, ◌++◌, map, Option, Some, None, Result, Ok, Err, IfOk, IfErr, refl, sym as sym', ap, subst, ◌∙◌, arith}
+use Rattle.std.proofs.Common.{◌≡◌, ℕ, zero, suc, ◌+◌, ◌<◌, ◌≤◌, ◌⊎◌, inl, inr, true, length, get_or, slice_get, List, [], ◌∷◌, ◌++◌, map, Option, Some, None, Result, Ok, Err, IfOk, IfErr, refl, sym as sym', ap, subst, ◌∙◌, arith}
+use Rattle.std.proofs.lemmas.List.{map-append}
 use Rattle.xw_words.specs.declared.pos.Pos.{Pos}
 use Rattle.xc_tree.specs.declared.tree.Id.{Id}
 use Rattle.xc_tree.specs.declared.tree.Arg.{Arg}
 use Rattle.xc_tree.specs.declared.tree.Rhs.{Rhs}
 use Rattle.xc_tree.specs.declared.token.Tok.{Tok}
-use Rattle.xc_tree.specs.declared.token.Kind.TheVariants.{Name, Num, Key, Sym}
+use Rattle.xc_tree.specs.declared.token.Kind.TheVariants.{Name, Sym}
 use Rattle.xc_tree.specs.Plain as plain
-use Rattle.xc_tree.specs.Symbol.{Symbol, sym, key, a_name, a_number, expr, level, lval, place_value, atom, argument, arguments, call, rhs, initial, time, stamp, guard, Value, Marked}
+use Rattle.xc_tree.specs.Symbol.{Symbol, sym, a_name, a_number, expr, level, lval, place_value, atom, argument, arguments, call, rhs, initial, time, stamp, guard}
 use Rattle.xc_tree.specs.Depth.{of_expression}
-use Rattle.xc_tree.specs.Derives.{On, Room, unlimited, at_most, HasRoom, below, Derives, named, by_rule, Prefix, nothing, whole, begins, extent, position}
-use Rattle.xc_tree.specs.Trees.{argument_of, right_of}
+use Rattle.xc_tree.specs.Derives.{On, Room, unlimited, at_most, HasRoom, Derives, named, by_rule, Prefix, nothing, whole, begins, position}
+use Rattle.xc_tree.specs.Trees.{argument_of}
 use Rattle.xc_parser.specs.declared.stop.Stop.{Stop}
 use Rattle.xc_parser.specs.declared.stop.Stop.TheVariants.{Wrong, Deep, Memory}
 use Rattle.xc_parser.specs.Follows.{OneOf, StandsAt, has, follows, begins_operand, after_expression}
-use Rattle.xc_parser.specs.Reading.{GoesOn, Reads, Refuses, TooDeep, Unfit}
+use Rattle.xc_parser.specs.Reading.{GoesOn, IsFront, Reads, Refuses, TooDeep, Unfit}
 use Rattle.xc_parser.specs.Stops.{Stopped}
 use Rattle.xc_parser.specs.Operands.{IsSymbol}
-use Rattle.xc_parser.specs.Levels.{level_of, IsOperator, NoOperator}
+use Rattle.xc_parser.specs.Levels.{level_of}
 use Rattle.xc_parser.specs.RightSides.{IsMissing, ReadsRhs, ReadsInitial}
-use Rattle.xc_parser.proofs.Rests.{Part, ValuesOf, Rest, Stands, left}
-use Rattle.xc_parser.proofs.Opening.{over, beginnings}
 use Rattle.xc_parser.proofs.Paths.{Roomy, begin, over_symbol, over_name, at_symbol, at_name, at_number, lacks, lacks_symbol, read, stops, finish, none_left, unfit_last}
 use Rattle.xc_parser.proofs.Choices.{all_open, no_one, stuck}
-use Rattle.xc_parser.proofs.Aheads.{Alone, alone_read, not_first, read_ahead, stops_ahead, name_else}
+use Rattle.xc_parser.proofs.Aheads.{alone_read, not_first, read_ahead, stops_ahead}
 use Rattle.xc_parser.proofs.Loops.{Run, listing}
 use Rattle.xc_parser.proofs.Rows.{with_comma, last_one, row_stops}
-use Rattle.xc_parser.proofs.Inverse.{by_rules, by_starts, from_rules, from_starts, widen, widen_prefix, any_wider, below_wider, same_kind}
+use Rattle.xc_parser.proofs.Inverse.{by_rules, by_starts, from_rules, from_starts, widen, widen_prefix, below_wider, same_kind}
 use Rattle.xc_parser.proofs.Operators.{token_is, token_prefix, is_operator, Onward, index, operates}
 use Rattle.xc_parser.proofs.Heights.{p_expr, depth_fits, no_room}
 use Rattle.xc_parser.proofs.Climbing.{wider_zero, raised, raised_prefix, start, finish as finish_level}
 use Rattle.xc_parser.proofs.Choosing.{has_within, no_question, alone, alone_to, asked}
 use Rattle.xc_parser.proofs.Atoms.{each_sign, reads_name, deep_name}
-use Rattle.xc_parser.proofs.Tests.{from_among, among_of, begins_by, operator_after, bracket_after, question_after, after_is}
+use Rattle.xc_parser.proofs.Tests.{from_among, among_of, operator_after, bracket_after, question_after, after_is}
 use Rattle.xc_parser.proofs.Runs.{no_first}
 
 -- the place of a token that stands there
@@ -59,11 +58,7 @@ if_err (Err e) f h = f e h
 
 -- one argument more
 pub mapped : (xs ys : List Arg) (a : Arg) → ys ≡ xs ++ (a ∷ []) → map argument_of ys ≡ map argument_of xs ++ (argument_of a ∷ [])
-mapped xs ys a e = ap (map argument_of) e ∙ behind_all xs
-  where
-    behind_all : (zs : List Arg) → map argument_of (zs ++ (a ∷ [])) ≡ map argument_of zs ++ (argument_of a ∷ [])
-    behind_all [] = refl
-    behind_all (z ∷ zs) = ap (λ x. argument_of z ∷ x) (behind_all zs)
+mapped xs ys a e = ap (map argument_of) e ∙ map-append argument_of xs (a ∷ [])
 
 -- arguments, and the number of a core
 abbrev valued : plain.Expression → Pos → plain.Argument
@@ -242,6 +237,9 @@ module _ (toks : List Tok) where
   rhs_goes : (k : ℕ) → GoesOn toks expr k → GoesOn toks rhs k
   rhs_goes k g = record { token = g.token; stands = g.stands; among = has_within (follows expr) (follows rhs) g.token refl g.among }
 
+  rhs_front : {k : ℕ} {v : plain.Expression} {w : plain.RightSide} → IsFront toks expr k v → IsFront toks rhs k w
+  rhs_front {k} g = record { goes_on = rhs_goes k g.goes_on; may = refl }
+
   name_is : {room : Room} {i j : ℕ} {v : Id} → Derives toks room a_name i j v → j ≡ i + 1
   name_is (named on) = refl
   name_is (by_rule a h row f) = let e = a.there in absurd (cc)
@@ -325,7 +323,7 @@ module _ (toks : List Tok) where
     reads_value {room} {j} {v} h r = record {
       derives = value_is r.derives;
       only = λ k w d. elim (rhs_is d) [
-        | inl y ↦ elim (r.only k y.0 y.1) [ inl e ↦ inl (e.0, y.2 ∙ ap plain.value e.1) | inr g ↦ inr (rhs_goes k g) ]
+        | inl y ↦ elim (r.only k y.0 y.1) [ inl e ↦ inl (e.0, y.2 ∙ ap plain.value e.1) | inr g ↦ inr (rhs_front g) ]
         | inr y ↦ absurd (no_call_here y.1)
       ];
       most = λ n q. elim (rhs_to q) [ inl y ↦ r.most n y | inr y ↦ short_call (omega arith) (λ x. omega arith) y ];
@@ -334,13 +332,13 @@ module _ (toks : List Tok) where
     pub stops_value : (room : ℕ) → (StandsAt toks at a_name → 1 ≤ room) → (e : Stop) → Stopped toks room expr at e → Stopped toks room rhs at e
     stops_value room f (Wrong x) r = record {
       prefix = value_to r.prefix;
-      never = λ k w d. elim (rhs_is d) [ inl y ↦ rhs_goes k (r.never k y.0 y.1) | inr y ↦ absurd (no_call_here y.1) ];
+      never = λ k w d. elim (rhs_is d) [ inl y ↦ rhs_front (r.never k y.0 y.1) | inr y ↦ absurd (no_call_here y.1) ];
       most = λ n q. elim (rhs_to q) [ inl y ↦ r.most n y | inr y ↦ short_call (r.most at nothing) (λ z. r.most (at + 1) (whole (named_alone tt z.2))) y ];
     }
     stops_value room f (Deep x) r = record {
       prefix = value_to r.prefix;
       begins = value_to r.begins;
-      never = λ k w d. elim (rhs_is d) [ inl y ↦ rhs_goes k (r.never k y.0 y.1) | inr y ↦ absurd (no_call_here y.1) ];
+      never = λ k w d. elim (rhs_is d) [ inl y ↦ rhs_front (r.never k y.0 y.1) | inr y ↦ absurd (no_call_here y.1) ];
       most = λ n q. elim (rhs_to q) [ inl y ↦ r.most n y | inr y ↦ short_call (r.most at nothing) (λ z. r.most (at + 1) (whole (named_alone (f z) z.2))) y ];
     }
     stops_value room f Memory r = tt
@@ -383,7 +381,7 @@ module _ (toks : List Tok) where
       value = plain.value (plain.expression (plain.name t) p);
       derives = value_is (widen toks tt r.derives);
       only = λ k w d. elim (rhs_is d) [
-        | inl y ↦ elim (r.only k y.0 y.1) [ inl e ↦ inl (e.0, y.2 ∙ ap plain.value e.1) | inr g ↦ inr (rhs_goes k g) ]
+        | inl y ↦ elim (r.only k y.0 y.1) [ inl e ↦ inl (e.0, y.2 ∙ ap plain.value e.1) | inr g ↦ inr (rhs_front g) ]
         | inr y ↦ let z = call_has y.1 in absurd (none z.0 z.1)
       ];
       most = λ n q. elim (rhs_to q) [

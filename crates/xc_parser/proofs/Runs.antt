@@ -1,5 +1,5 @@
 -- What the loops over brackets and over operators keep, and their steps.
-use Rattle.std.proofs.Common.{◌≡◌, ℕ, zero, suc, ◌+◌, ◌-◌, ◌<◌, ◌≤◌, max, List, length, refl, sym as sym', ap, subst, ◌∙◌, ◌⊎◌, inl, inr, arith}
+use Rattle.std.proofs.Common.{◌≡◌, ℕ, zero, suc, ◌+◌, ◌-◌, ◌<◌, ◌≤◌, max, List, length, sym as sym', ap, subst, ◌∙◌, ◌⊎◌, inl, inr, arith}
 use Rattle.xw_words.specs.declared.pos.Pos.{Pos}
 use Rattle.xc_tree.specs.declared.token.Tok.{Tok}
 use Rattle.xc_tree.specs.declared.token.Kind.TheVariants.{Sym}
@@ -14,7 +14,7 @@ use Rattle.xc_parser.specs.declared.stop.Stop.TheVariants.{Wrong, Deep, Memory}
 use Rattle.xc_parser.specs.Reading.{Reads, Refuses, TooDeep}
 use Rattle.xc_parser.specs.Stops.{Stopped}
 use Rattle.xc_parser.specs.Levels.{IsOperator, NoOperator}
-use Rattle.xc_parser.specs.Operands.{IsSymbol, IsBracket, IsSized, ReadsLevel, ReadsExpression}
+use Rattle.xc_parser.specs.Operands.{IsBracket, IsSized, ReadsLevel, ReadsExpression}
 use Rattle.xc_parser.proofs.Chains.{joined}
 use Rattle.xc_parser.proofs.Climbing.{SoFar, start, step, refuse_first, deep_first, refuse_right, deep_right, deep_here, finish}
 use Rattle.xc_parser.proofs.Choosing.{no_test}

@@ -1,18 +1,17 @@
 -- What the tests for tokens find.
-use Rattle.std.proofs.Common.{◌≡◌, ℕ, zero, suc, ◌+◌, ◌-◌, ◌<◌, ◌≤◌, ◌⊎◌, inl, inr, Bool, true, false, ◌||◌, List, [], ◌∷◌, ◌++◌, nat_eq, length, get_or, slice_get, Some, refl, sym as sym', ap, subst, ◌∙◌, arith}
+use Rattle.std.proofs.Common.{◌≡◌, ℕ, zero, suc, ◌-◌, ◌<◌, ◌≤◌, ◌⊎◌, inl, inr, Bool, true, false, ◌||◌, List, [], ◌∷◌, nat_eq, length, get_or, slice_get, Some, refl, sym as sym', ap, subst, ◌∙◌, arith}
 use Rattle.std.proofs.lemmas.Bool.{or_cases, eqb-true}
 use Rattle.xw_words.specs.declared.pos.Pos.{Pos}
 use Rattle.xc_tree.specs.declared.token.Tok.{Tok}
 use Rattle.xc_tree.specs.declared.token.Kind.{Kind}
 use Rattle.xc_tree.specs.declared.token.Kind.TheVariants.{Name, Num, Key, Sym}
-use Rattle.xc_tree.specs.Symbol.{Symbol, sym, key, a_name, a_number, expr, level, Marked}
+use Rattle.xc_tree.specs.Symbol.{Symbol, sym, key, a_name, a_number, level, Marked}
 use Rattle.xc_tree.specs.Derives.{On}
-use Rattle.xc_parser.specs.Follows.{OneOf, StandsAt, has, is_same, follows, begins_operand, after_expression, binary_operators, operators_to}
-use Rattle.xc_parser.specs.Reading.{GoesOn}
+use Rattle.xc_parser.specs.Follows.{OneOf, StandsAt, has, is_same, follows, begins_operand, after_expression, binary_operators}
 use Rattle.xc_parser.specs.Levels.{IsOperator}
 use Rattle.xc_parser.specs.Operands.{IsSymbol, IsType}
 use Rattle.xc_parser.proofs.Inverse.{same_kind}
-use Rattle.xc_parser.proofs.Operators.{operator_goes_on, bracket_goes_on, Onward, index, operates, goes_onward}
+use Rattle.xc_parser.proofs.Operators.{operator_goes_on, bracket_goes_on, Onward, goes_onward}
 use Rattle.xc_parser.proofs.Atoms.{each_sign}
 use Rattle.xc_parser.proofs.Choosing.{has_within, expr_goes, question_goes}
 

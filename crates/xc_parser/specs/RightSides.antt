@@ -1,9 +1,10 @@
 -- What calls and right sides stand for, and tokens that are missing.
-use Rattle.std.specs.Prelude.{◌≡◌, ℕ, List, map, Option, Some, None}
+use Rattle.std.specs.Prelude.{◌≡◌, ℕ, List, map, slice_get, Option, Some, None}
 use Rattle.xc_tree.specs.declared.token.Tok.{Tok}
 use Rattle.xc_tree.specs.declared.tree.Rhs.{Rhs}
 use Rattle.xc_tree.specs.Plain as plain
-use Rattle.xc_tree.specs.Symbol.{Symbol, rhs, initial}
+use Rattle.xc_tree.specs.Symbol.{Symbol, expr, rhs, initial}
+use Rattle.xc_tree.specs.Derives.{position}
 use Rattle.xc_tree.specs.Trees.{argument_of, right_of}
 use Rattle.xc_parser.specs.declared.values.Called.{Called}
 use Rattle.xc_parser.specs.declared.stop.Stop.{Stop}
@@ -13,6 +14,11 @@ use Rattle.xc_parser.specs.Reading.{Reads, Unfit}
 
 abbrev pub call_of : Called → plain.Call
 call_of c = record { called = c.name; arguments = map argument_of c.arguments }
+
+-- an expression is read, and its first token stands there
+pub record IsValued (toks : List Tok) (room i j : ℕ) (a : plain.Argument) : Type 0 where
+  pub read : Reads toks room expr i j a.value
+  pub first : position (slice_get toks i) ≡ a.first
 
 -- a right side that is read, or only where there were room
 abbrev pub ReadsRhs : List Tok → ℕ → ℕ → ℕ → Option Rhs → Type 0

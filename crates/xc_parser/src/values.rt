@@ -11,7 +11,7 @@ ghost use Rattle.xc_parser.specs.Follows.{StandsAt};
 ghost use Rattle.xc_parser.specs.Operands.{IsSymbol};
 ghost use Rattle.xc_parser.specs.Reading.{Reads};
 ghost use Rattle.xc_parser.specs.Stops.{Stopped};
-ghost use Rattle.xc_parser.specs.RightSides.{call_of, IsMissing, ReadsRhs, ReadsInitial};
+ghost use Rattle.xc_parser.specs.RightSides.{call_of, IsMissing, IsValued, ReadsRhs, ReadsInitial};
 
 use crate::parser::{Parser, Read};
 use crate::stop::Stop;
@@ -80,18 +80,7 @@ impl<'a> Parser<'a> {
         ensures read { IfOk result (λ r. Reads self.now.toks.now room symbol.place_value at r.end (argument_of r.value)) }
         ensures stopped { IfErr result (λ e. Stopped self.now.toks.now room symbol.place_value at e) }
     {
-        let read = match self.expr(at, room) {
-            Ok(read) => read,
-            Err(e) => return Err(e),
-        };
-        let first = self.toks[at].pos;
-        Ok(Read {
-            value: Arg {
-                value: read.value,
-                first,
-            },
-            end: read.end,
-        })
+        self.valued(at, room)
     }
 
     /// An argument of a call: an expression, and its first token.
@@ -100,6 +89,16 @@ impl<'a> Parser<'a> {
         ensures bounds { IfOk result (λ r. (at < r.end) × (r.end ≤ length self.now.toks.now)) }
         ensures read { IfOk result (λ r. Reads self.now.toks.now room symbol.argument at r.end (argument_of r.value)) }
         ensures stopped { IfErr result (λ e. Stopped self.now.toks.now room symbol.argument at e) }
+    {
+        self.valued(at, room)
+    }
+
+    /// An expression, and its first token.
+    fn valued(&self, at: usize, room: u32) -> Result<Read<Arg>, Stop>
+        requires at { at ≤ length self.now.toks.now }
+        ensures bounds { IfOk result (λ r. (at < r.end) × (r.end ≤ length self.now.toks.now)) }
+        ensures read { IfOk result (λ r. IsValued self.now.toks.now room at r.end (argument_of r.value)) }
+        ensures stopped { IfErr result (λ e. Stopped self.now.toks.now room symbol.expr at e) }
     {
         let read = match self.expr(at, room) {
             Ok(read) => read,

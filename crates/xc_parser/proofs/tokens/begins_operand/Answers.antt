@@ -1,4 +1,4 @@
-use Rattle.std.proofs.Common.{◌≡◌, true, false, refl, sym, ◌∙◌, arith}
+use Rattle.std.proofs.Common.{arith}
 use Rattle.xc_tree.specs.declared.token.Kind.TheVariants.{Name, Num, Key, Sym}
 use Rattle.xc_tree.specs.Derives.{On}
 use Rattle.xc_parser.proofs.Tests.{stands_there, name_begins, number_begins, symbol_begins, begins_as}

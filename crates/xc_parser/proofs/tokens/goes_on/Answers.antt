@@ -1,5 +1,4 @@
-use Rattle.std.proofs.Common.{◌≡◌, suc, ◌-◌, ◌⊎◌, inl, inr, refl, subst, arith}
-use Rattle.xc_parser.specs.Levels.{IsOperator}
+use Rattle.std.proofs.Common.{◌-◌, inl, inr, arith}
 use Rattle.xc_parser.proofs.Operators.{index, operates}
 use Rattle.xc_parser.proofs.Tests.{lower, operator_after, bracket_after, question_after, after_is}
 use Rattle.xc_parser.proofs.tokens.goes_on.Goals as goal

@@ -1,4 +1,4 @@
-use Rattle.std.proofs.Common.{sym, arith}
+use Rattle.std.proofs.Common.{sym}
 use Rattle.std.proofs.lemmas.List.{get_or_past}
 use Rattle.xc_parser.specs.Levels.{levels}
 use Rattle.xc_parser.proofs.tokens.level_of.Goals as goal

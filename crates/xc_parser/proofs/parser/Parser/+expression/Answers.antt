@@ -1,4 +1,4 @@
-use Rattle.std.proofs.Common.{rules, ◌≡◌, ◌≤◌, ◌<◌, inl, inr, ◌+◌, ◌-◌, suc, max, refl, sym, ap, subst, ◌∙◌, arith}
+use Rattle.std.proofs.Common.{rules, ◌≡◌, ◌≤◌, inl, inr, ◌+◌, ◌-◌, refl, sym, subst, arith}
 use Rattle.xc_tree.specs.declared.token.Kind.TheVariants.{Name, Num, Key, Sym}
 use Rattle.xw_words.specs.declared.pos.Pos.{Pos}
 use Rattle.xc_tree.specs.Plain as plain
@@ -11,7 +11,7 @@ use Rattle.xc_parser.specs.Stops.{Stopped}
 use Rattle.xc_parser.specs.Operands.{IsSymbol}
 use Rattle.xc_parser.proofs.Tests.{is_symbol, stands_there, stands_here, begins_as, none_past, lower}
 use Rattle.xc_parser.proofs.Atoms.{reads_number, deep_number, no_operand, reads_name, deep_name, reads_element, open_element, stops_element, reads_variable, deep_variable, reads_place, open_place, stops_place, reads_signed, stops_signed, deep_sign, open_int, open_unsigned, stops_int, stops_unsigned, deep_int, deep_unsigned, cast_reads}
-use Rattle.xc_parser.proofs.Runs.{Run, no_memory, out_of_all, stops_inside, not_closed, closed, no_first, no_operand_of, climb_from, climbs, right_stops, too_deep, climbed}
+use Rattle.xc_parser.proofs.Runs.{Run, out_of_all, stops_inside, not_closed, closed, no_first, no_operand_of, climb_from, climbs, right_stops, too_deep, climbed}
 use Rattle.xc_parser.proofs.Choosing.{no_test, no_question, deep_question, stops_first, no_colon, stops_second, reads_choice}
 use Rattle.xc_parser.proofs.parser.Parser.+expression.Goals as goal
 

@@ -1,4 +1,3 @@
-use Rattle.std.proofs.Common.{arith}
 use Rattle.xc_parser.proofs.Runs.{one_more}
 use Rattle.xc_parser.proofs.parser.Parser.brackets_end.Goals as goal
 

@@ -1,4 +1,4 @@
-use Rattle.std.proofs.Common.{◌≡◌, ◌+◌, sym, subst, arith}
+use Rattle.std.proofs.Common.{◌≡◌, ◌+◌, subst, arith}
 use Rattle.xc_tree.specs.Symbol as symbol
 use Rattle.xc_parser.specs.Reading.{TooDeep, Unfit}
 use Rattle.xc_parser.proofs.RightSides.{deep_name_goes_on, unfit_name}

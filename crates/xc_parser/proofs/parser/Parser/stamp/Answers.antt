@@ -1,4 +1,3 @@
-use Rattle.std.proofs.Common.{arith}
 use Rattle.xc_parser.proofs.Tests.{stands_here}
 use Rattle.xc_parser.proofs.RightSides.{no_stamp, reads_stamp, stops_stamp}
 use Rattle.xc_parser.proofs.parser.Parser.stamp.Goals as goal

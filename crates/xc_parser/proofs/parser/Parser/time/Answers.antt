@@ -1,4 +1,3 @@
-use Rattle.std.proofs.Common.{arith}
 use Rattle.xc_parser.proofs.Tests.{stands_here}
 use Rattle.xc_parser.proofs.RightSides.{no_time, reads_time, stops_time}
 use Rattle.xc_parser.proofs.parser.Parser.time.Goals as goal

@@ -50,7 +50,7 @@ pub returns-in_default-clause-unfit : goal.returns-in_default-clause-unfit
 returns-in_default-clause-unfit c =
     let no_bracket = c.is_symbol.ensures.no c.if-is_symbol.false in
     let on = (c.is_symbol-2.ensures.yes c.if-not-is_symbol.false).1.1 in
-    word_unfit c.args.self.now.toks.now c.args.room c.args.at (c.in_ok-name.ensures.read _) no_bracket on (rw c.in_default.is at c.in_ok-value.ensures.unfit)
+    word_unfit c.args.self.now.toks.now c.args.room c.args.at (c.in_ok-name.ensures.read _) no_bracket on (rw c.in_default.is at c.in_ok-value.ensures.read)
 
 pub returns-clause-read : goal.returns-clause-read
 returns-clause-read c =
