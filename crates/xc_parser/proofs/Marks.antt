@@ -1,5 +1,5 @@
 -- Places where one of several tokens stands: the operators that assign, and the types of words.
-use Rattle.std.proofs.Common.{◌≡◌, ℕ, suc, ◌+◌, ◌<◌, ◌≤◌, ◌⊎◌, inl, inr, Bool, true, false, ◌||◌, List, [], ◌∷◌, refl, sym as sym', ap, subst, get_or, lit≤, arith}
+use Rattle.std.proofs.Common.{◌≡◌, ℕ, ◌+◌, ◌≤◌, ◌⊎◌, inl, inr, List, [], ◌∷◌, refl, sym as sym', ap, subst, get_or, lit≤, arith}
 use Rattle.std.proofs.lemmas.Bool.{cases_lt, or_cases}
 use Rattle.xw_words.specs.declared.pos.Pos.{Pos}
 use Rattle.xc_tree.specs.declared.token.Tok.{Tok}
