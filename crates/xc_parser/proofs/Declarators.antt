@@ -1,5 +1,5 @@
 -- Paths of the variables and arrays of a declaration, behind their names.
-use Rattle.std.proofs.Common.{◌≡◌, ℕ, ◌+◌, List, Some, None, refl}
+use Rattle.std.proofs.Common.{ℕ, ◌+◌, List, Some, None, refl}
 use Rattle.xw_words.specs.declared.pos.Pos.{Pos}
 use Rattle.xc_tree.specs.declared.token.Tok.{Tok}
 use Rattle.xc_tree.specs.declared.token.Kind.TheVariants.{Sym}

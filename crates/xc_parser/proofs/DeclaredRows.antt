@@ -1,5 +1,5 @@
 -- Declarations: the rows of their names, as they are read.
-use Rattle.std.proofs.Common.{◌≡◌, ℕ, zero, suc, ◌+◌, ◌-◌, ◌<◌, ◌≤◌, ◌⊎◌, inl, inr, Bool, true, false, List, [], ◌∷◌, ◌++◌, map, IsTrue, refl, sym as sym', ap, subst, ◌∙◌, if◌then◌else◌, lit<, arith}
+use Rattle.std.proofs.Common.{◌≡◌, ℕ, ◌+◌, ◌-◌, ◌<◌, ◌≤◌, inl, inr, Bool, true, false, List, [], ◌∷◌, ◌++◌, map, IsTrue, refl, sym as sym', ap, subst, ◌∙◌, if◌then◌else◌, lit<, arith}
 use Rattle.std.proofs.lemmas.List.{map-append}
 use Rattle.xw_words.specs.declared.pos.Pos.{Pos}
 use Rattle.xc_tree.specs.declared.token.Tok.{Tok}
@@ -7,20 +7,19 @@ use Rattle.xc_tree.specs.declared.token.Kind.TheVariants.{Sym, Key}
 use Rattle.xc_tree.specs.declared.tree.Id.{Id}
 use Rattle.xc_tree.specs.declared.tree.Declared.{Declared}
 use Rattle.xc_tree.specs.Plain as plain
-use Rattle.xc_tree.specs.Symbol.{Symbol, sym, key, a_name, word, decl, dv, Declarator, Value}
-use Rattle.xc_tree.specs.Grammar.{Extent, statement_of, named, declared}
+use Rattle.xc_tree.specs.Symbol.{sym, key, a_name, word, decl, dv, Declarator, Value}
+use Rattle.xc_tree.specs.Grammar.{statement_of, named, declared}
 use Rattle.xc_tree.specs.Derives.{On, extent}
 use Rattle.xc_tree.specs.Trees.{declaration_of}
 use Rattle.xc_parser.specs.declared.stop.Stop.{Stop}
 use Rattle.xc_parser.specs.declared.stop.Stop.TheVariants.{Wrong, Deep, Memory}
 use Rattle.xc_parser.specs.Follows.{OneOf, begins_declaration}
-use Rattle.xc_parser.specs.Reading.{Reads, Refuses, TooDeep, Unfit}
+use Rattle.xc_parser.specs.Reading.{Reads, Refuses, TooDeep}
 use Rattle.xc_parser.specs.Stops.{Stopped}
 use Rattle.xc_parser.specs.Parts.{resource_kind, Declares, Names, NoName, Adds}
-use Rattle.xc_parser.proofs.Rests.{Part}
 use Rattle.xc_parser.proofs.Paths.{Roomy, begin, over_word, read, stops, finish}
 use Rattle.xc_parser.proofs.Choices.{all_open, no_one, dead, stuck}
-use Rattle.xc_parser.proofs.Loops.{Run, listing, had, is_row}
+use Rattle.xc_parser.proofs.Loops.{Run, listing, is_row}
 use Rattle.xc_parser.proofs.Rows.{with_comma, row_stops, row_unfit}
 use Rattle.xc_parser.proofs.Listed.{Listed, first_listed, next_listed, end_listed}
 use Rattle.xc_parser.proofs.Marks.{first_of, none_of, at_a_type}

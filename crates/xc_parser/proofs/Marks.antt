@@ -1,5 +1,5 @@
 -- Places where one of several tokens stands: the operators that assign, and the types of words.
-use Rattle.std.proofs.Common.{◌≡◌, ℕ, suc, ◌+◌, ◌<◌, ◌≤◌, ◌⊎◌, inl, inr, Bool, true, false, ◌||◌, List, [], ◌∷◌, refl, sym as sym', ap, subst, get_or, lit≤, arith}
+use Rattle.std.proofs.Common.{◌≡◌, ℕ, ◌+◌, ◌≤◌, ◌⊎◌, inl, inr, List, [], ◌∷◌, refl, sym as sym', ap, subst, get_or, lit≤, arith}
 use Rattle.std.proofs.lemmas.Bool.{cases_lt, or_cases}
 use Rattle.xw_words.specs.declared.pos.Pos.{Pos}
 use Rattle.xc_tree.specs.declared.token.Tok.{Tok}
@@ -83,16 +83,34 @@ module _ {toks : List Tok} {i : ℕ} where
       let no : (o : ℕ) → 37 ≤ o → o ≤ 46 → StandsAt toks i (sym o) → ⊥ = λ o l h x. none o x.0 l h x.1 in
       let never : Never toks i (first assign_op) = (
         no 37 (lit≤ tt) (lit≤ tt),
-        (no 38 (lit≤ tt) (lit≤ tt),
-        (no 39 (lit≤ tt) (lit≤ tt),
-        (no 40 (lit≤ tt) (lit≤ tt),
-        (no 41 (lit≤ tt) (lit≤ tt),
-        (no 42 (lit≤ tt) (lit≤ tt),
-        (no 43 (lit≤ tt) (lit≤ tt),
-        (no 44 (lit≤ tt) (lit≤ tt),
-        (no 45 (lit≤ tt) (lit≤ tt),
-        (no 46 (lit≤ tt) (lit≤ tt),
-        tt)))))))))
+        (
+          no 38 (lit≤ tt) (lit≤ tt),
+          (
+            no 39 (lit≤ tt) (lit≤ tt),
+            (
+              no 40 (lit≤ tt) (lit≤ tt),
+              (
+                no 41 (lit≤ tt) (lit≤ tt),
+                (
+                  no 42 (lit≤ tt) (lit≤ tt),
+                  (
+                    no 43 (lit≤ tt) (lit≤ tt),
+                    (
+                      no 44 (lit≤ tt) (lit≤ tt),
+                      (
+                        no 45 (lit≤ tt) (lit≤ tt),
+                        (
+                          no 46 (lit≤ tt) (lit≤ tt),
+                          tt,
+                        ),
+                      ),
+                    ),
+                  ),
+                ),
+              ),
+            ),
+          ),
+        ),
       ) in
       none_left (lacks (first assign_op) (begin refl tt) (never_one (first assign_op) never))
 

@@ -1,8 +1,8 @@
 -- Paths of outputs and inputs as statements, behind their names.
-use Rattle.std.proofs.Common.{◌≡◌, ℕ, suc, ◌+◌, ◌-◌, ◌≤◌, ◌⊎◌, inl, inr, Bool, true, List, [], ◌∷◌, Option, Some, None, refl, sym as sym', subst, arith}
+use Rattle.std.proofs.Common.{◌≡◌, ℕ, ◌+◌, ◌-◌, inl, inr, true, List, [], ◌∷◌, Option, Some, None, refl, sym as sym', subst, arith}
 use Rattle.xw_words.specs.declared.pos.Pos.{Pos}
 use Rattle.xc_tree.specs.declared.token.Tok.{Tok}
-use Rattle.xc_tree.specs.declared.token.Kind.TheVariants.{Name, Sym, Key}
+use Rattle.xc_tree.specs.declared.token.Kind.TheVariants.{Name, Sym}
 use Rattle.xc_tree.specs.declared.tree.Id.{Id}
 use Rattle.xc_tree.specs.Plain as plain
 use Rattle.xc_tree.specs.Symbol as symbol
@@ -14,7 +14,7 @@ use Rattle.xc_parser.specs.Follows.{OneOf, StandsAt}
 use Rattle.xc_parser.specs.Reading.{Reads}
 use Rattle.xc_parser.specs.Stops.{Stopped}
 use Rattle.xc_parser.specs.Parts.{received, sent}
-use Rattle.xc_parser.proofs.Rests.{Part, Rest, Stands, left}
+use Rattle.xc_parser.proofs.Rests.{Part, Rest, left}
 use Rattle.xc_parser.proofs.Opening.{Heads, no_head, one_head, popped}
 use Rattle.xc_parser.proofs.Behinds.{token_derived}
 use Rattle.xc_parser.proofs.Paths.{Roomy, roomy, over_symbol, at_symbol, lacks_symbol, taken, read, read_all, stops, stops_all, finish}

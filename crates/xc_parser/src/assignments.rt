@@ -40,9 +40,7 @@ impl<'a> Parser<'a> {
         if is_symbol(self.toks, end, EQUALS) {
             let pos = self.toks[end].pos;
             let Read { value, end } = self.rhs(end + 1, room)?;
-            let Some(right) = value else {
-                unreachable!()
-            };
+            let Some(right) = value else { unreachable!() };
             return Ok(Read {
                 value: St::Assign(target.value, EQUALS, pos, right),
                 end,

@@ -1,6 +1,6 @@
 //! Declarations in functions.
 
-ghost use Rattle.std.specs.Prelude.{◌≡◌, ℕ, ◌+◌, ◌^◌, ◌<◌, ◌≤◌, ◌++◌, length, option_map, Bool, true, false, [], ◌∷◌, IsTrue, IfOk, IfErr, IfSome, IfNone};
+ghost use Rattle.std.specs.Prelude.{◌≡◌, ℕ, ◌+◌, ◌^◌, ◌<◌, ◌≤◌, length, option_map, false, [], ◌∷◌, IsTrue, IfOk, IfErr, IfSome, IfNone};
 ghost use Rattle.xc_tree.specs.Symbol as symbol;
 ghost use Rattle.xc_tree.specs.Symbol.{key, a_name, a_word, an_array};
 ghost use Rattle.xc_tree.specs.Grammar as grammar;

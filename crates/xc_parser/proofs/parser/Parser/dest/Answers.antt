@@ -1,6 +1,5 @@
-use Rattle.std.proofs.Common.{◌≡◌, refl, sym as sym', subst, [], ◌∷◌}
-use Rattle.xc_tree.specs.Symbol.{Symbol, key, dest}
-use Rattle.xc_parser.specs.Reading.{Reads}
+use Rattle.std.proofs.Common.{◌≡◌, refl, [], ◌∷◌}
+use Rattle.xc_tree.specs.Symbol.{key}
 use Rattle.xc_parser.proofs.Exits.{handed_on}
 use Rattle.xc_parser.proofs.Paths.{begin, over_word, lacks, lacks_word, read, stops, finish}
 use Rattle.xc_parser.proofs.Marks.{at_a_type}

@@ -7,8 +7,11 @@ use Rattle.xc_parser.proofs.parser.Parser.next_resource.Goals as goal
 
 pub returns-clause-read : goal.returns-clause-read
 returns-clause-read c =
-    let e = sym c.resource.ensures.named in
-    (c.resource.result, c.in_ok-push.ensures.ok, record {
-      reads = λ room. subst (Reads c.args.self.now.toks.now room a_name c.args.at c.in_ok-name.name.end) e (c.in_ok-name.ensures.read room);
-      is = c.resource.ensures.made ∙ ap (named (resource_kind c.args.is_chan)) e;
-    })
+    let e = sym c.resource.ensures.named in (
+      c.resource.result,
+      c.in_ok-push.ensures.ok,
+      record {
+        reads = λ room. subst (Reads c.args.self.now.toks.now room a_name c.args.at c.in_ok-name.name.end) e (c.in_ok-name.ensures.read room);
+        is = c.resource.ensures.made ∙ ap (named (resource_kind c.args.is_chan)) e;
+      },
+    )
