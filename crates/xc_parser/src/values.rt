@@ -1,6 +1,6 @@
 //! What statements hold of expressions: right sides, calls and their arguments, places to assign to, times and guards.
 
-ghost use Rattle.std.specs.Prelude.{◌≡◌, ℕ, ◌+◌, ◌<◌, ◌≤◌, ◌++◌, [], ◌∷◌, map, length, IfOk, IfErr};
+ghost use Rattle.std.specs.Prelude.{◌≡◌, ℕ, ◌+◌, ◌<◌, ◌≤◌, ◌++◌, [], ◌∷◌, map, length, IfOk, IfErr, IfNone};
 ghost use Rattle.xc_tree.specs.declared.token.Kind.TheVariants.{Name};
 ghost use Rattle.xc_tree.specs.declared.tree.Arg.{Arg};
 ghost use Rattle.xc_tree.specs.Derives.{On};
@@ -194,6 +194,7 @@ impl<'a> Parser<'a> {
         requires at { at ≤ length self.now.toks.now }
         ensures bounds { IfOk result (λ r. (at < r.end) × (r.end ≤ length self.now.toks.now)) }
         ensures read { IfOk result (λ r. ReadsRhs self.now.toks.now room at r.end r.value) }
+        ensures roomless { IfOk result (λ r. IfNone r.value (room ≡ 0)) }
         ensures stopped { IfErr result (λ e. Stopped self.now.toks.now room symbol.rhs at e) }
     {
         if !is_name(self.toks, at) {
@@ -221,6 +222,7 @@ impl<'a> Parser<'a> {
         requires room { StandsAt self.now.toks.now at symbol.a_name → 1 ≤ room }
         ensures bounds { IfOk result (λ r. (at < r.end) × (r.end ≤ length self.now.toks.now)) }
         ensures read { IfOk result (λ r. ReadsRhs self.now.toks.now room at r.end r.value) }
+        ensures roomless { IfOk result (λ r. IfNone r.value (room ≡ 0)) }
         ensures stopped { IfErr result (λ e. Stopped self.now.toks.now room symbol.rhs at e) }
     {
         match self.expr(at, room) {
@@ -238,6 +240,7 @@ impl<'a> Parser<'a> {
         requires paren { IsSymbol self.now.toks.now (at + 1) 0 }
         ensures bounds { IfOk result (λ r. (at < r.end) × (r.end ≤ length self.now.toks.now)) }
         ensures read { IfOk result (λ r. ReadsRhs self.now.toks.now room at r.end r.value) }
+        ensures roomless { IfOk result (λ r. IfNone r.value (room ≡ 0)) }
         ensures stopped { IfErr result (λ e. Stopped self.now.toks.now room symbol.rhs at e) }
     {
         match self.call(at, room) {
