@@ -20,3 +20,6 @@ pub fn end_pos(text: &[u8]) -> Pos
     }
     end
 }
+
+#[cfg(test)]
+mod tests;
