@@ -22,29 +22,29 @@ module _ {toks : List Tok} {room : ℕ} {s : Symbol} where
 
   module _ {i k : ℕ} {rs : List (Rest (Value s))} where
     -- over a token that at least one rest has room for
-    pub pass_token : (t : Symbol) (v : Value t) → TokenAt toks k t v → Stands toks room s i k rs → all_ready (fronts s) t (grown layers t rs) ≡ true → OneFits room (over t v rs) → Stands toks room s i (k + 1) (over t v rs)
-    pass_token t v at st e h = record { free = pass t v at st.free e (one_any room (over t v rs) h); held = pass t v at st.held e (one_has room (over t v rs) h) }
+    pub pass_token : (t : Symbol) (v : Value t) → TokenAt toks k t v → Stands toks room s i k rs → all_ready (fronts s) t (grown layers (fronts s) t rs) ≡ true → OneFits room (over (fronts s) t v rs) → Stands toks room s i (k + 1) (over (fronts s) t v rs)
+    pass_token t v at st e h = record { free = pass t v at st.free e (one_any room (over (fronts s) t v rs) h); held = pass t v at st.held e (one_has room (over (fronts s) t v rs) h) }
 
-    pub pass_symbol : {o : ℕ} {p : Pos} → Stands toks room s i k rs → On toks k (Sym o) p → all_ready (fronts s) (sym o) (grown layers (sym o) rs) ≡ true → OneFits room (over (sym o) p rs) → Stands toks room s i (k + 1) (over (sym o) p rs)
+    pub pass_symbol : {o : ℕ} {p : Pos} → Stands toks room s i k rs → On toks k (Sym o) p → all_ready (fronts s) (sym o) (grown layers (fronts s) (sym o) rs) ≡ true → OneFits room (over (fronts s) (sym o) p rs) → Stands toks room s i (k + 1) (over (fronts s) (sym o) p rs)
     pass_symbol {o} {p} st on e h = pass_token (sym o) p on st e h
 
-    pub pass_word : {w : ℕ} {p : Pos} → Stands toks room s i k rs → On toks k (Key w) p → all_ready (fronts s) (key w) (grown layers (key w) rs) ≡ true → OneFits room (over (key w) p rs) → Stands toks room s i (k + 1) (over (key w) p rs)
+    pub pass_word : {w : ℕ} {p : Pos} → Stands toks room s i k rs → On toks k (Key w) p → all_ready (fronts s) (key w) (grown layers (fronts s) (key w) rs) ≡ true → OneFits room (over (fronts s) (key w) p rs) → Stands toks room s i (k + 1) (over (fronts s) (key w) p rs)
     pass_word {w} {p} st on e h = pass_token (key w) p on st e h
 
-    pub pass_name : {t : List ℕ} {p : Pos} → Stands toks room s i k rs → On toks k (Name t) p → all_ready (fronts s) a_name (grown layers a_name rs) ≡ true → OneFits room (over a_name (record { text = t; pos = p }) rs) → Stands toks room s i (k + 1) (over a_name (record { text = t; pos = p }) rs)
+    pub pass_name : {t : List ℕ} {p : Pos} → Stands toks room s i k rs → On toks k (Name t) p → all_ready (fronts s) a_name (grown layers (fronts s) a_name rs) ≡ true → OneFits room (over (fronts s) a_name (record { text = t; pos = p }) rs) → Stands toks room s i (k + 1) (over (fronts s) a_name (record { text = t; pos = p }) rs)
     pass_name {t} {p} st on e h = pass_token a_name (record { text = t; pos = p }) on st e h
 
     -- the rests that a token leaves open
-    pub only_token : (t : Symbol) → StandsAt toks k t → Stands toks room s i k rs → Stands toks room s i k (keep t rs)
+    pub only_token : (t : Symbol) → StandsAt toks k t → Stands toks room s i k rs → Stands toks room s i k (keep (fronts s) t rs)
     only_token t at st = record { free = stay st.free (at_token t at rs); held = stay st.held (at_token t at rs) }
 
-    pub only_symbol : {o : ℕ} {p : Pos} → Stands toks room s i k rs → On toks k (Sym o) p → Stands toks room s i k (keep (sym o) rs)
+    pub only_symbol : {o : ℕ} {p : Pos} → Stands toks room s i k rs → On toks k (Sym o) p → Stands toks room s i k (keep (fronts s) (sym o) rs)
     only_symbol {o} {p} st on = only_token (sym o) (p, on) st
 
-    pub only_word : {w : ℕ} {p : Pos} → Stands toks room s i k rs → On toks k (Key w) p → Stands toks room s i k (keep (key w) rs)
+    pub only_word : {w : ℕ} {p : Pos} → Stands toks room s i k rs → On toks k (Key w) p → Stands toks room s i k (keep (fronts s) (key w) rs)
     only_word {w} {p} st on = only_token (key w) (p, on) st
 
-    pub only_name : {t : List ℕ} {p : Pos} → Stands toks room s i k rs → On toks k (Name t) p → Stands toks room s i k (keep a_name rs)
+    pub only_name : {t : List ℕ} {p : Pos} → Stands toks room s i k rs → On toks k (Name t) p → Stands toks room s i k (keep (fronts s) a_name rs)
     only_name {t} {p} st on = only_token a_name (t, p, on) st
 
     -- those that are left where none of these tokens stands
@@ -56,14 +56,14 @@ module _ {toks : List Tok} {room : ℕ} {s : Symbol} where
     spread_out st = record { free = stay st.free (spreads k rs); held = stay st.held (spreads k rs) }
 
     -- a token that only rests without room begin with: at the first of these tokens it is too deep
-    pub dead : (t : Symbol) → Stands toks room s i k rs → StandsAt toks k t → reaches t (keep t rs) ≡ true → NoneFits room (keep t rs) → TooDeep toks room s i k
+    pub dead : (t : Symbol) → Stands toks room s i k rs → StandsAt toks k t → reaches t (keep (fronts s) t rs) ≡ true → NoneFits room (keep (fronts s) t rs) → TooDeep toks room s i k
     dead t st at e h =
         let o = only_token t at st in
         record {
           prefix = st.held.here;
-          begins = o.free.prefix (k + 1) (rests_reached toks k t at (keep t rs) e);
-          never = λ j v d. elim (o.held.only j v d) [ inl g ↦ g | inr x ↦ absurd (none_ends toks i k room (keep t rs) j v h x) ];
-          most = λ n q. elim (o.held.most n q) [ inl l ↦ l | inr x ↦ absurd (none_starts toks i k room (keep t rs) n h x) ];
+          begins = o.free.prefix (k + 1) (rests_reached toks k t at (keep (fronts s) t rs) e);
+          never = λ j v d. elim (o.held.only j v d) [ inl g ↦ g | inr x ↦ absurd (none_ends toks i k room (keep (fronts s) t rs) j v h x) ];
+          most = λ n q. elim (o.held.most n q) [ inl l ↦ l | inr x ↦ absurd (none_starts toks i k room (keep (fronts s) t rs) n h x) ];
         }
 
   -- no rest is left

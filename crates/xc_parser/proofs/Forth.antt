@@ -1,10 +1,12 @@
 -- No symbol ends before it begins, and what there is room for is so without a limit.
 use Rattle.std.proofs.Common.{◌≡◌, ℕ, zero, suc, ◌+◌, ◌-◌, ◌<◌, ◌≤◌, ◌⊎◌, inl, inr, Bool, false, true, ◌||◌, List, [], ◌∷◌, refl, sym as sym', ap, ◌∙◌, subst, arith}
+use Rattle.std.proofs.lemmas.Bool.{and_cases}
 use Rattle.xc_tree.specs.declared.token.Tok.{Tok}
 use Rattle.xc_tree.specs.Symbol.{Symbol, Value, Values}
 use Rattle.xc_tree.specs.Derives.{Room, unlimited, at_most, HasRoom, below, Derives, a_sym, a_key, named, counted, by_rule, Row, done, next, Prefix, nothing, whole, begins, Begins, in_this, after}
 use Rattle.xc_parser.specs.Follows.{OneOf, first, nullable}
 use Rattle.xc_parser.proofs.Rests.{Part, ValuesOf, RowOf, BeginsOf, inside, left}
+use Rattle.xc_parser.proofs.Covers.{Fits, all_fit, row_nullable}
 use Rattle.xc_parser.proofs.Firsts.{derived_first}
 
 mutual
@@ -108,3 +110,26 @@ has_inside (at_most r) a n h = (omega arith, subst (λ (y : Room). HasRoom y n) 
 pub inside_same : (room : Room) (n : ℕ) → below room n ≡ inside room n
 inside_same unlimited n = sym' (inside_free n)
 inside_same (at_most r) n = sym' (inside_is r n)
+
+null_row : {s : Symbol} {parts : List Symbol} → Fits s parts → nullable s ≡ false → row_nullable parts ≡ false
+null_row {parts} f e = go (row_nullable parts) refl
+  where
+    go : (b : Bool) → row_nullable parts ≡ b → b ≡ false
+    go true h = let g = f.null h in absurd (cc)
+    go false h = refl
+
+mutual
+  -- a symbol that isn't nothing has tokens
+  pub strict : {toks : List Tok} {room : Room} {s : Symbol} {i j : ℕ} {v : Value s} → nullable s ≡ false → Derives toks room s i j v → i < j
+  strict e (a_sym on) = omega arith
+  strict e (a_key on) = omega arith
+  strict e (named on) = omega arith
+  strict e (counted on) = omega arith
+  strict {s} e (by_rule {r} a h row f) = row_strict (null_row (all_fit s r a.at a.there) e) row
+
+  row_strict : {toks : List Tok} {room : Room} {ss : List Symbol} {i j : ℕ} {vs : Values ss} → row_nullable ss ≡ false → Row toks room ss i j vs → i < j
+  row_strict e done = absurd (cc)
+  row_strict e (next {s} {ss} d r) = elim (and_cases (nullable s) (row_nullable ss) e) [
+    | inl g ↦ let a = strict g d in let b = row_forth r in omega arith
+    | inr g ↦ let a = forth d in let b = row_strict g r in omega arith
+  ]

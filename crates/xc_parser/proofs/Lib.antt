@@ -36,3 +36,6 @@ mod Cores
 pub mod Ifs
 pub mod Lasts
 mod ItemHeads
+pub mod Aheads
+pub mod Levels
+pub mod Elses

@@ -20,12 +20,12 @@ OneHas room [] = ⊥
 OneHas room (r ∷ rs) = HasRoom room r.need ⊎ OneHas room rs
 
 module _ {toks : List Tok} {room : Room} {s : Symbol} {i k : ℕ} where
-  pub grows : (n : ℕ) (t : Symbol) → StandsAt toks k t → (rs : List (Rest (Value s))) → Narrows toks room s i k rs k k (grown n t rs)
+  pub grows : (n : ℕ) (t : Symbol) → StandsAt toks k t → (rs : List (Rest (Value s))) → Narrows toks room s i k rs k k (grown n (fronts s) t rs)
   grows zero t at rs = at_token t at rs
-  grows (suc n) t at rs = compose (compose (at_token t at rs) (spreads k (keep t rs)) (omega arith)) (grows n t at (spread (keep t rs))) (omega arith)
+  grows (suc n) t at rs = compose (compose (at_token t at rs) (spreads k (keep (fronts s) t rs)) (omega arith)) (grows n t at (spread (keep (fronts s) t rs))) (omega arith)
 
-  pub overs : (t : Symbol) (v : Value t) → TokenAt toks k t v → (rs : List (Rest (Value s))) → all_ready (fronts s) t (grown layers t rs) ≡ true → Narrows toks room s i k rs (k + 1) (k + 1) (over t v rs)
-  overs t v at rs e = compose (grows layers t (token_stands toks k t v at) rs) (at_behind toks room s i k t v at (grown layers t rs) e) (omega arith)
+  pub overs : (t : Symbol) (v : Value t) → TokenAt toks k t v → (rs : List (Rest (Value s))) → all_ready (fronts s) t (grown layers (fronts s) t rs) ≡ true → Narrows toks room s i k rs (k + 1) (k + 1) (over (fronts s) t v rs)
+  overs t v at rs e = compose (grows layers t (token_stands toks k t v at) rs) (at_behind toks room s i k t v at (grown layers (fronts s) t rs) e) (omega arith)
 
 -- a rest behind a token shows that the token is a prefix
 module _ (toks : List Tok) (room : Room) {V : Type 0} (k : ℕ) (t : Symbol) (v : Value t) (at : TokenAt toks k t v) where
@@ -44,10 +44,10 @@ module _ (toks : List Tok) (room : Room) {V : Type 0} (k : ℕ) (t : Symbol) (v 
 
 module _ {toks : List Tok} {room : Room} {s : Symbol} {i k : ℕ} {rs : List (Rest (Value s))} where
   -- over a token
-  pub pass : (t : Symbol) (v : Value t) → TokenAt toks k t v → Open toks room s i k k rs → all_ready (fronts s) t (grown layers t rs) ≡ true → OneHas room (over t v rs) → Open toks room s i (k + 1) (k + 1) (over t v rs)
+  pub pass : (t : Symbol) (v : Value t) → TokenAt toks k t v → Open toks room s i k k rs → all_ready (fronts s) t (grown layers (fronts s) t rs) ≡ true → OneHas room (over (fronts s) t v rs) → Open toks room s i (k + 1) (k + 1) (over (fronts s) t v rs)
   pass t v at o e h =
       let g = grows {room = room} {s = s} {i = i} layers t (token_stands toks k t v at) rs in
-      narrow o (overs t v at rs e) (omega arith) (o.prefix (k + 1) (g.starts_back (k + 1) (behind_here toks room k t v at (grown layers t rs) h)))
+      narrow o (overs t v at rs e) (omega arith) (o.prefix (k + 1) (g.starts_back (k + 1) (behind_here toks room k t v at (grown layers (fronts s) t rs) h)))
 
   -- where it stays
   pub stay : {rs' : List (Rest (Value s))} → Open toks room s i k k rs → Narrows toks room s i k rs k k rs' → Open toks room s i k k rs'
@@ -107,12 +107,12 @@ sift_peak b (r ∷ rs) = sift_one (b r) r rs (sift b rs) (sift_peak b rs)
 
 -- what `moves` says
 pub record Moves {V : Type 0} (fs : List Symbol) (t : Symbol) (rs rs' : List (Rest V)) : Type 0 where
-  pub ready : all_ready fs t (grown layers t rs) ≡ true
+  pub ready : all_ready fs t (grown layers fs t rs) ≡ true
   pub any : is_any rs' ≡ true
   pub needs : peak rs' ≤ peak rs
 
 pub moves_from : {V : Type 0} (fs : List Symbol) (t : Symbol) (rs rs' : List (Rest V)) → moves fs t rs rs' ≡ true → Moves fs t rs rs'
 moves_from fs t rs rs' e =
-    let p = and_parts (all_ready fs t (grown layers t rs) && is_any rs') (leb (peak rs') (peak rs)) e in
-    let q = and_parts (all_ready fs t (grown layers t rs)) (is_any rs') p.0 in
+    let p = and_parts (all_ready fs t (grown layers fs t rs) && is_any rs') (leb (peak rs') (peak rs)) e in
+    let q = and_parts (all_ready fs t (grown layers fs t rs)) (is_any rs') p.0 in
     record { ready = q.0; any = q.1; needs = leb-true (peak rs') (peak rs) p.1 }

@@ -1,15 +1,15 @@
 -- How the rests of a symbol become others: the ones that a token leaves open, their alternatives, and what stands behind a
 -- token or a symbol.
 use Rattle.std.proofs.Common.{◌≡◌, ℕ, zero, suc, ◌+◌, ◌<◌, ◌≤◌, ◌⊎◌, inl, inr, Bool, true, false, not, ◌&&◌, ◌||◌, List, [], ◌∷◌, ◌++◌, refl, sym as sym', ap, subst, ◌∙◌, arith}
-use Rattle.std.proofs.lemmas.Bool.{and_parts, or_parts, not-true}
+use Rattle.std.proofs.lemmas.Bool.{and_parts, and_cases, or_parts, not-true, not-false}
 use Rattle.xc_tree.specs.declared.token.Tok.{Tok}
 use Rattle.xc_tree.specs.Symbol.{Symbol, Value}
 use Rattle.xc_tree.specs.Derives.{Room, Derives, Prefix, HasRoom}
 use Rattle.xc_parser.specs.Follows.{StandsAt, OneOf, has, follows, first}
 use Rattle.xc_parser.specs.Reading.{IsFront}
 use Rattle.xc_parser.proofs.Rests.{Part, ValuesOf, Rest, RowOf, BeginsOf, EndsBy, Ends, StartsBy, Starts, Open}
-use Rattle.xc_parser.proofs.Opening.{firsts, nullables, opens, keep, keep_if, sift, without, needs_none, within}
-use Rattle.xc_parser.proofs.TokenSets.{one_is, one_within}
+use Rattle.xc_parser.proofs.Opening.{fronts, firsts, nullables, opens, keep, keep_if, sift, without, needs_none, within}
+use Rattle.xc_parser.proofs.TokenSets.{front, one_is, one_within}
 use Rattle.xc_parser.proofs.Firsts.{parts_first, begun_first}
 
 -- Readings by some rests from k go by others from k', or go on at their end. Prefixes do so too, beyond token m.
@@ -23,12 +23,6 @@ pub record Narrows (toks : List Tok) (room : Room) (s : Symbol) (i k : ℕ) (rs 
 pub record Gone (toks : List Tok) (room : Room) (s : Symbol) (i k m : ℕ) (r : Rest (Value s)) : Type 0 where
   pub ends : (j : ℕ) (v : Value s) → EndsBy toks room r i k j v → IsFront toks s j v
   pub starts : (n : ℕ) → StartsBy toks room r k n → n ≤ m
-
-not_open : {toks : List Tok} {k : ℕ} (t : Symbol) → StandsAt toks k t → (ps : List Part) → has (firsts ps) t || nullables ps ≡ false → OneOf toks k (firsts ps) → ⊥
-not_open t at ps e o = let p = or_parts (has (firsts ps) t) (nullables ps) e in let g = one_is t at o in let h = p.0 in absurd (cc)
-
-not_null : (t : Symbol) (ps : List Part) → has (firsts ps) t || nullables ps ≡ false → nullables ps ≡ true → ⊥
-not_null t ps e n = let p = or_parts (has (firsts ps) t) (nullables ps) e in let h = p.1 in absurd (cc)
 
 module _ {toks : List Tok} {room : Room} {s : Symbol} {i : ℕ} where
   pub compose : {k : ℕ} {rs : List (Rest (Value s))} {k' m : ℕ} {rs' : List (Rest (Value s))} {k'' m' : ℕ} {rs'' : List (Rest (Value s))} → Narrows toks room s i k rs k' m rs' → Narrows toks room s i k' rs' k'' m' rs'' → m ≤ m' → Narrows toks room s i k rs k'' m' rs''
@@ -97,14 +91,21 @@ module _ {toks : List Tok} {room : Room} {s : Symbol} {i : ℕ} where
 
   -- at a token only the rests that it opens stay
   module _ {k : ℕ} (t : Symbol) (at : StandsAt toks k t) where
-    shut : (r : Rest (Value s)) → opens t r ≡ false → Gone toks room s i k k r
-    shut r e = record {
-      ends = λ j v x. elim (parts_first toks room r.parts k j x.0 x.2) [ inl y ↦ absurd (not_null t r.parts e y.1) | inr o ↦ absurd (not_open t at r.parts e o) ];
-      starts = λ n x. elim (begun_first toks room r.parts k n x.1) [ inl h ↦ h | inr o ↦ absurd (not_open t at r.parts e o) ];
-    }
+    shut : (r : Rest (Value s)) → opens (fronts s) t r ≡ false → Gone toks room s i k k r
+    shut r e =
+        let p = or_parts (has (firsts r.parts) t) (nullables r.parts && not (has (fronts s) t)) e in
+        let none : OneOf toks k (firsts r.parts) → ⊥ = λ o. let g = one_is t at o in let h = p.0 in absurd (cc) in
+        let goes : nullables r.parts ≡ true → OneOf toks k (fronts s) = λ n. elim (and_cases (nullables r.parts) (not (has (fronts s) t)) p.1) [
+          | inl h ↦ absurd (cc)
+          | inr h ↦ record { token = t; stands = at; among = not-false (has (fronts s) t) h }
+        ] in
+        record {
+          ends = λ j v x. elim (parts_first toks room r.parts k j x.0 x.2) [ inl y ↦ subst (λ (l : ℕ). IsFront toks s l v) (sym' y.0) (front s v (goes y.1)) | inr o ↦ absurd (none o) ];
+          starts = λ n x. elim (begun_first toks room r.parts k n x.1) [ inl h ↦ h | inr o ↦ absurd (none o) ];
+        }
 
-    pub at_token : (rs : List (Rest (Value s))) → Narrows toks room s i k rs k k (keep t rs)
-    at_token rs = sifted (opens t) shut rs
+    pub at_token : (rs : List (Rest (Value s))) → Narrows toks room s i k rs k k (keep (fronts s) t rs)
+    at_token rs = sifted (opens (fronts s) t) shut rs
 
   -- where none of these tokens stands the rests that begin with one of them are gone
   module _ {k : ℕ} (ts : List Symbol) (none : OneOf toks k ts → ⊥) where

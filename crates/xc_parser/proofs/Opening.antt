@@ -117,9 +117,9 @@ abbrev pub spread : {V : Type 0} → List (Rest V) → List (Rest V)
 spread [] = []
 spread (r ∷ rs) = spread_parts r.need r.parts r.fits r.make ++ spread rs
 
--- a rest may begin with a token, or with none
-abbrev pub opens : {V : Type 0} → Symbol → Rest V → Bool
-opens t r = has (firsts r.parts) t || nullables r.parts
+-- a rest may begin with a token, or with none where the symbol doesn't go on with that token
+abbrev pub opens : {V : Type 0} → List Symbol → Symbol → Rest V → Bool
+opens fs t r = has (firsts r.parts) t || (nullables r.parts && not (has fs t))
 
 abbrev pub keep_if : {V : Type 0} → Bool → Rest V → List (Rest V) → List (Rest V)
 keep_if true r rs = r ∷ rs
@@ -129,13 +129,13 @@ abbrev pub sift : {V : Type 0} → (Rest V → Bool) → List (Rest V) → List 
 sift b [] = []
 sift b (r ∷ rs) = keep_if (b r) r (sift b rs)
 
-abbrev pub keep : {V : Type 0} → Symbol → List (Rest V) → List (Rest V)
-keep t rs = sift (opens t) rs
+abbrev pub keep : {V : Type 0} → List Symbol → Symbol → List (Rest V) → List (Rest V)
+keep fs t rs = sift (opens fs t) rs
 
 -- those that a token opens, with plain symbols taken for their alternatives n times
-abbrev pub grown : {V : Type 0} → ℕ → Symbol → List (Rest V) → List (Rest V)
-grown zero t rs = keep t rs
-grown (suc n) t rs = grown n t (spread (keep t rs))
+abbrev pub grown : {V : Type 0} → ℕ → List Symbol → Symbol → List (Rest V) → List (Rest V)
+grown zero fs t rs = keep fs t rs
+grown (suc n) fs t rs = grown n fs t (spread (keep fs t rs))
 
 -- how deep plain symbols stand at the beginning of one another
 abbrev pub layers : ℕ
@@ -162,8 +162,8 @@ abbrev pub behind : {V : Type 0} (t : Symbol) → Value t → List (Rest V) → 
 behind t v [] = []
 behind t v (r ∷ rs) = behind_parts t v r.need r.parts r.fits r.make (behind t v rs)
 
-abbrev pub over : {V : Type 0} (t : Symbol) → Value t → List (Rest V) → List (Rest V)
-over t v rs = behind t v (grown layers t rs)
+abbrev pub over : {V : Type 0} → List Symbol → (t : Symbol) → Value t → List (Rest V) → List (Rest V)
+over fs t v rs = behind t v (grown layers fs t rs)
 
 -- each rest begins with a token, or is at its end where the symbol s may go on with the token t
 abbrev pub is_ready : List Symbol → Symbol → List Part → Bool
@@ -233,7 +233,7 @@ is_apart s t ps = is_disjoint (follows t) (firsts ps) && (not (nullables ps) || 
 
 -- a token moves some rests on: each that it opens begins with it, one is left, and none needs more room
 abbrev pub moves : {V : Type 0} → List Symbol → Symbol → (rs behind : List (Rest V)) → Bool
-moves fs t rs rs' = all_ready fs t (grown layers t rs) && is_any rs' && leb (peak rs') (peak rs)
+moves fs t rs rs' = all_ready fs t (grown layers fs t rs) && is_any rs' && leb (peak rs') (peak rs)
 
 -- a rest begins otherwise than with one of these tokens, or with none
 abbrev pub needs_none : {V : Type 0} → List Symbol → Rest V → Bool

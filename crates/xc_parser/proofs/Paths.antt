@@ -42,45 +42,45 @@ roomy {room} {rs} st h = record { stands = st; needs = within_le (peak rs) room 
 
 module _ {toks : List Tok} {room : ℕ} {s : Symbol} {i k : ℕ} {rs : List (Rest (Value s))} where
   -- over a token
-  pub over_token : (t : Symbol) (v : Value t) → TokenAt toks k t v → Roomy toks room s i k rs → moves (fronts s) t rs (over t v rs) ≡ true → Roomy toks room s i (k + 1) (over t v rs)
+  pub over_token : (t : Symbol) (v : Value t) → TokenAt toks k t v → Roomy toks room s i k rs → moves (fronts s) t rs (over (fronts s) t v rs) ≡ true → Roomy toks room s i (k + 1) (over (fronts s) t v rs)
   over_token t v at st e =
-      let m = moves_from (fronts s) t rs (over t v rs) e in
+      let m = moves_from (fronts s) t rs (over (fronts s) t v rs) e in
       let n = m.needs in
       let h = st.needs in
       record {
         stands = record {
-          free = pass t v at st.stands.free m.ready (any_has (over t v rs) m.any);
-          held = pass t v at st.stands.held m.ready (peak_has room (over t v rs) m.any (omega arith));
+          free = pass t v at st.stands.free m.ready (any_has (over (fronts s) t v rs) m.any);
+          held = pass t v at st.stands.held m.ready (peak_has room (over (fronts s) t v rs) m.any (omega arith));
         };
         needs = omega arith;
       }
 
-  pub over_symbol : {o : ℕ} {p : Pos} → Roomy toks room s i k rs → On toks k (Sym o) p → moves (fronts s) (sym o) rs (over (sym o) p rs) ≡ true → Roomy toks room s i (k + 1) (over (sym o) p rs)
+  pub over_symbol : {o : ℕ} {p : Pos} → Roomy toks room s i k rs → On toks k (Sym o) p → moves (fronts s) (sym o) rs (over (fronts s) (sym o) p rs) ≡ true → Roomy toks room s i (k + 1) (over (fronts s) (sym o) p rs)
   over_symbol {o} {p} st on e = over_token (sym o) p on st e
 
-  pub over_word : {w : ℕ} {p : Pos} → Roomy toks room s i k rs → On toks k (Key w) p → moves (fronts s) (key w) rs (over (key w) p rs) ≡ true → Roomy toks room s i (k + 1) (over (key w) p rs)
+  pub over_word : {w : ℕ} {p : Pos} → Roomy toks room s i k rs → On toks k (Key w) p → moves (fronts s) (key w) rs (over (fronts s) (key w) p rs) ≡ true → Roomy toks room s i (k + 1) (over (fronts s) (key w) p rs)
   over_word {w} {p} st on e = over_token (key w) p on st e
 
-  pub over_name : {t : List ℕ} {p : Pos} → Roomy toks room s i k rs → On toks k (Name t) p → moves (fronts s) a_name rs (over a_name (record { text = t; pos = p }) rs) ≡ true → Roomy toks room s i (k + 1) (over a_name (record { text = t; pos = p }) rs)
+  pub over_name : {t : List ℕ} {p : Pos} → Roomy toks room s i k rs → On toks k (Name t) p → moves (fronts s) a_name rs (over (fronts s) a_name (record { text = t; pos = p }) rs) ≡ true → Roomy toks room s i (k + 1) (over (fronts s) a_name (record { text = t; pos = p }) rs)
   over_name {t} {p} st on e = over_token a_name (record { text = t; pos = p }) on st e
 
-  pub over_number : {n : ℕ} {u : Bool} {p : Pos} → Roomy toks room s i k rs → On toks k (Num n u) p → moves (fronts s) a_number rs (over a_number (record { value = n; is_unsigned = u; pos = p }) rs) ≡ true → Roomy toks room s i (k + 1) (over a_number (record { value = n; is_unsigned = u; pos = p }) rs)
+  pub over_number : {n : ℕ} {u : Bool} {p : Pos} → Roomy toks room s i k rs → On toks k (Num n u) p → moves (fronts s) a_number rs (over (fronts s) a_number (record { value = n; is_unsigned = u; pos = p }) rs) ≡ true → Roomy toks room s i (k + 1) (over (fronts s) a_number (record { value = n; is_unsigned = u; pos = p }) rs)
   over_number {n} {u} {p} st on e = over_token a_number (record { value = n; is_unsigned = u; pos = p }) on st e
 
   -- the rests that a token leaves open
-  pub at_one : (t : Symbol) → StandsAt toks k t → Roomy toks room s i k rs → Roomy toks room s i k (keep t rs)
-  at_one t at st = let l = sift_peak (opens t) rs in let h = st.needs in record { stands = only_token t at st.stands; needs = omega arith }
+  pub at_one : (t : Symbol) → StandsAt toks k t → Roomy toks room s i k rs → Roomy toks room s i k (keep (fronts s) t rs)
+  at_one t at st = let l = sift_peak (opens (fronts s) t) rs in let h = st.needs in record { stands = only_token t at st.stands; needs = omega arith }
 
-  pub at_symbol : {o : ℕ} {p : Pos} → Roomy toks room s i k rs → On toks k (Sym o) p → Roomy toks room s i k (keep (sym o) rs)
+  pub at_symbol : {o : ℕ} {p : Pos} → Roomy toks room s i k rs → On toks k (Sym o) p → Roomy toks room s i k (keep (fronts s) (sym o) rs)
   at_symbol {o} {p} st on = at_one (sym o) (p, on) st
 
-  pub at_word : {w : ℕ} {p : Pos} → Roomy toks room s i k rs → On toks k (Key w) p → Roomy toks room s i k (keep (key w) rs)
+  pub at_word : {w : ℕ} {p : Pos} → Roomy toks room s i k rs → On toks k (Key w) p → Roomy toks room s i k (keep (fronts s) (key w) rs)
   at_word {w} {p} st on = at_one (key w) (p, on) st
 
-  pub at_name : {t : List ℕ} {p : Pos} → Roomy toks room s i k rs → On toks k (Name t) p → Roomy toks room s i k (keep a_name rs)
+  pub at_name : {t : List ℕ} {p : Pos} → Roomy toks room s i k rs → On toks k (Name t) p → Roomy toks room s i k (keep (fronts s) a_name rs)
   at_name {t} {p} st on = at_one a_name (t, p, on) st
 
-  pub at_number : {n : ℕ} {u : Bool} {p : Pos} → Roomy toks room s i k rs → On toks k (Num n u) p → Roomy toks room s i k (keep a_number rs)
+  pub at_number : {n : ℕ} {u : Bool} {p : Pos} → Roomy toks room s i k rs → On toks k (Num n u) p → Roomy toks room s i k (keep (fronts s) a_number rs)
   at_number {n} {u} {p} st on = at_one a_number (n, u, p, on) st
 
   -- those that are left where none of these tokens stands
