@@ -39,3 +39,7 @@ mod ItemHeads
 pub mod Aheads
 pub mod Levels
 pub mod Elses
+pub mod RowReads
+pub mod RowSteps
+pub mod CaseEnds
+pub mod Guards

@@ -4,3 +4,4 @@ pub mod Reading
 pub mod Stops
 pub mod Values
 pub mod Errors
+pub mod RowReading

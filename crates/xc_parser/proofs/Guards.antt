@@ -1,0 +1,161 @@
+-- What a case waits for: a guard and an input, or an input alone. A name begins both, and the token behind it tells them
+-- apart.
+use Rattle.std.proofs.Common.{◌≡◌, ℕ, zero, suc, ◌+◌, ◌-◌, ◌≤◌, ◌⊎◌, inl, inr, Bool, true, false, List, [], ◌∷◌, Option, Some, None, refl, sym as sym', ap, subst, ◌∙◌, arith}
+use Rattle.xw_words.specs.declared.pos.Pos.{Pos}
+use Rattle.xc_tree.specs.declared.token.Tok.{Tok}
+use Rattle.xc_tree.specs.declared.token.Kind.TheVariants.{Name, Key, Sym}
+use Rattle.xc_tree.specs.Plain as plain
+use Rattle.xc_tree.specs.Depth.{of_expression}
+use Rattle.xc_tree.specs.Symbol.{Symbol, sym, key, a_name, maybe, guard, input, expr, level, atom, Value, Values}
+use Rattle.xc_tree.specs.Derives.{On, Room, unlimited, at_most, HasRoom, below, Derives, a_sym, named, Row, next, Prefix, nothing, whole, Begins, in_this, after}
+use Rattle.xc_parser.specs.declared.stop.Stop.{Stop}
+use Rattle.xc_parser.specs.declared.stop.Stop.TheVariants.{Wrong, Deep, Memory}
+use Rattle.xc_parser.specs.Follows.{StandsAt, OneOf, has, after_expression}
+use Rattle.xc_parser.specs.Reading.{Reads, Refuses, TooDeep}
+use Rattle.xc_parser.specs.RowReading.{ReadsRow, RefusesRow, TooDeepRow, StoppedRow}
+use Rattle.xc_parser.proofs.Forth.{inside_same, lift, widen_row, widen_begins, freed}
+use Rattle.xc_parser.proofs.TokenSets.{one_token_of, one_within, one_disjoint}
+use Rattle.xc_parser.proofs.Depths.{deep_within}
+use Rattle.xc_parser.proofs.Alternatives.{by_rules, by_starts, from_rules, from_starts}
+use Rattle.xc_parser.proofs.Lists.{unrow, unend, unbegin, unbegin_none}
+use Rattle.xc_parser.proofs.Paths.{Roomy, begin, over_name, lacks, lacks_symbol, read, none_left}
+use Rattle.xc_parser.proofs.RowReads.{NoRow, refused_row, row_stops, with_it, without_it, packed_read, packed_stops, IsBeyond, maybe_split, maybe_none, maybe_begin, begin_maybe}
+
+-- the tokens that an input goes on with behind its name, and a guard behind a name
+abbrev pub transfers : List Symbol
+transfers = sym 23 ∷ key 28 ∷ sym 25 ∷ []
+
+abbrev pub after_name : List Symbol
+after_name = sym 26 ∷ after_expression
+
+-- an input with its colon, and the same behind a guard
+abbrev pub awaited : List Symbol
+awaited = input ∷ sym 8 ∷ []
+
+abbrev pub guarded : List Symbol
+guarded = guard ∷ awaited
+
+no_nodes : (room : Room) → HasRoom room 0
+no_nodes unlimited = tt
+no_nodes (at_most n) = omega arith
+
+-- a name begins a guard
+module _ {toks : List Tok} {room : Room} {i : ℕ} {x : List ℕ} {p : Pos} (on : On toks i (Name x) p) (h : HasRoom room 1) where
+  begins_atom : Prefix toks room atom i (i + 1)
+  begins_atom = from_starts toks room atom i (i + 1) (inr (inl (h, in_this (whole (named on)))))
+
+  begins_level : (m : ℕ) → Prefix toks room (level m) i (i + 1)
+  begins_level zero = from_starts toks room (level 0) i (i + 1) (inl (no_nodes room, subst (λ (r : Room). Begins toks r (atom ∷ []) i (i + 1)) (sym' (inside_same room 0)) (in_this begins_atom)))
+  begins_level (suc m) = from_starts toks room (level (suc m)) i (i + 1) (inl (no_nodes room, subst (λ (r : Room). Begins toks r (level m ∷ []) i (i + 1)) (sym' (inside_same room 0)) (in_this (begins_level m))))
+
+  begins_expr : Prefix toks room expr i (i + 1)
+  begins_expr = from_starts toks room expr i (i + 1) (inl (no_nodes room, subst (λ (r : Room). Begins toks r (level 10 ∷ []) i (i + 1)) (sym' (inside_same room 0)) (in_this (begins_level 10))))
+
+  pub begins_guard : Prefix toks room guard i (i + 1)
+  begins_guard = from_starts toks room guard i (i + 1) (inl (no_nodes room, subst (λ (r : Room). Begins toks r (expr ∷ sym 26 ∷ []) i (i + 1)) (sym' (inside_same room 0)) (in_this begins_expr)))
+
+-- a guard is an expression and an arrow
+module _ {toks : List Tok} {room : Room} {i : ℕ} where
+  guard_expr : {j : ℕ} {v : plain.Expression} → Derives toks room guard i j v → (l : ℕ) × (w : plain.Expression) × Derives toks room expr i l w
+  guard_expr {j} {v} d = elim (by_rules toks room guard i j v refl d) [
+    | inl y ↦ let a = unrow y.2 in (a.0, y.0.0, subst (λ (r : Room). Derives toks r expr i a.0 y.0.0) (inside_same room 0) a.1)
+    | inr z ↦ absurd z
+  ]
+
+  guard_begin : {n : ℕ} → Prefix toks room guard i n → (n ≤ i) ⊎ (Prefix toks room expr i n ⊎ ((l : ℕ) × (w : plain.Expression) × Derives toks room expr i l w))
+  guard_begin {n} q = elim (by_starts toks room guard i n refl q) [
+    | inl h ↦ inl h
+    | inr z ↦ elim z [
+      | inl y ↦ elim (unbegin (subst (λ (r : Room). Begins toks r (expr ∷ sym 26 ∷ []) i n) (inside_same room 0) y.1)) [ inl p ↦ inr (inl p) | inr w ↦ inr (inr (w.0, w.1, w.2)) ]
+      | inr w ↦ absurd w
+    ]
+  ]
+
+  begin_guard : {n : ℕ} → Begins toks room (expr ∷ sym 26 ∷ []) i n → Prefix toks room guard i n
+  begin_guard {n} b = from_starts toks room guard i n (inl (no_nodes room, subst (λ (r : Room). Begins toks r (expr ∷ sym 26 ∷ []) i n) (sym' (inside_same room 0)) b))
+
+-- no expression has no node
+no_node : {toks : List Tok} {i j : ℕ} {v : plain.Expression} → Derives toks (at_most 0) expr i j v → ⊥
+no_node {v} d = at_least v (deep_within d)
+  where
+    at_least : (v : plain.Expression) → of_expression v ≤ 0 → ⊥
+    at_least (plain.expression f p) h = absurd (omega arith)
+
+module _ {toks : List Tok} {i : ℕ} where
+  -- no input begins here
+  pub no_name : (StandsAt toks i a_name → ⊥) → NoRow toks awaited i i
+  no_name none =
+      let r : Refuses toks 0 input i i = none_left (lacks (a_name ∷ []) (begin refl tt) (λ o. none (one_token_of a_name o))) in
+      refused_row (row_stops toks 0 i input (sym 8 ∷ []) (Wrong i) r refl)
+
+  module _ {x : List ℕ} {p : Pos} (on : On toks i (Name x) p) where
+    pub begins_input : {room : ℕ} → Prefix toks (at_most room) input i (i + 1)
+    begins_input {room} = let st : Roomy toks room input i (i + 1) _ = over_name (begin refl tt) on refl in st.stands.held.here
+
+    -- an input's name goes on otherwise here
+    pub no_transfer : (OneOf toks (i + 1) transfers → ⊥) → NoRow toks awaited i (i + 1)
+    no_transfer none =
+        let r : Refuses toks 0 input i (i + 1) = none_left (lacks transfers (over_name (begin refl tt) on refl) none) in
+        refused_row (row_stops toks 0 i input (sym 8 ∷ []) (Wrong (i + 1)) r refl)
+
+    -- a name alone is no guard
+    module _ (v : plain.Expression) (alone : Reads toks 1 expr i (i + 1) v) (arrow : (q : Pos) → On toks (i + 1) (Sym 26) q → ⊥) where
+      pub no_guard : NoRow toks guarded i (i + 1)
+      no_guard =
+          let r : Refuses toks 1 guard i (i + 1) = none_left (lacks_symbol 26 (read (begin refl tt) alone refl) arrow) in
+          refused_row (row_stops toks 1 i guard awaited (Wrong (i + 1)) r refl)
+
+    -- a name that a guard has no room for
+    module _ (none : OneOf toks (i + 1) transfers → ⊥) where
+      named_to : Begins toks (at_most 0) (maybe guard ∷ awaited) i (i + 1)
+      named_to = after maybe_none (in_this begins_input)
+
+      -- where none goes on with the token behind it
+      pub wrong_name : (v : plain.Expression) → Reads toks 1 expr i (i + 1) v → ((q : Pos) → On toks (i + 1) (Sym 26) q → ⊥) → RefusesRow toks 0 (maybe guard ∷ awaited) i (i + 1)
+      wrong_name v alone arrow =
+          let a = no_transfer none in
+          let g = no_guard v alone arrow in
+          record {
+            prefix = named_to;
+            never = λ k ws r. let y = unrow r in elim (maybe_split y.1) [
+              | inl e ↦ a.never k ws.1 (subst (λ (l : ℕ). Row toks unlimited awaited l k ws.1) e.0 y.2)
+              | inr z ↦ g.never k (z.0, ws.1) (next z.1 y.2)
+            ];
+            most = λ n b. elim (unbegin b) [
+              | inl q ↦ elim (maybe_begin q) [ inl h ↦ omega arith | inr w ↦ g.most n (in_this w) ]
+              | inr y ↦ elim (maybe_split y.2) [
+                | inl e ↦ a.most n (subst (λ (l : ℕ). Begins toks unlimited awaited l n) e.0 y.3)
+                | inr z ↦ g.most n (after z.1 y.3)
+              ]
+            ];
+          }
+
+      -- where one does
+      pub deep_name : TooDeep toks 0 expr i i → Prefix toks unlimited guard i (i + 1 + 1) → TooDeepRow toks 0 (maybe guard ∷ awaited) i (i + 1)
+      deep_name deep longer =
+          let a = no_transfer none in
+          record {
+            prefix = named_to;
+            begins = in_this (begin_maybe longer);
+            never = λ k ws r. let y = unrow r in elim (maybe_split y.1) [
+              | inl e ↦ a.never k ws.1 (widen_row freed (subst (λ (l : ℕ). Row toks (at_most 0) awaited l k ws.1) e.0 y.2))
+              | inr z ↦ no_node (guard_expr z.1).2
+            ];
+            most = λ n b. elim (unbegin b) [
+              | inl q ↦ elim (maybe_begin q) [ inl h ↦ omega arith | inr w ↦ elim (guard_begin w) [
+                | inl h ↦ omega arith
+                | inr u ↦ elim u [ inl c ↦ let d = deep.most n c in omega arith | inr c ↦ absurd (no_node c.2) ]
+              ] ]
+              | inr y ↦ elim (maybe_split y.2) [
+                | inl e ↦ a.most n (widen_begins freed (subst (λ (l : ℕ). Begins toks (at_most 0) awaited l n) e.0 y.3))
+                | inr z ↦ absurd (no_node (guard_expr z.1).2)
+              ]
+            ];
+          }
+
+      -- the token behind it is an arrow, or an expression goes on with it
+      pub behind_arrow : (v : plain.Expression) → Derives toks unlimited expr i (i + 1) v → {q : Pos} → On toks (i + 1) (Sym 26) q → Prefix toks unlimited guard i (i + 1 + 1)
+      behind_arrow v d at = begin_guard (after d (in_this (whole (a_sym at))))
+
+      pub behind_expr : Prefix toks unlimited expr i (i + 1 + 1) → Prefix toks unlimited guard i (i + 1 + 1)
+      behind_expr q = begin_guard (in_this q)
