@@ -43,3 +43,19 @@ pub mod RowReads
 pub mod RowSteps
 pub mod CaseEnds
 pub mod Guards
+mod Marks
+mod Targets
+mod Declarators
+mod DeclaredRows
+pub mod CaseRows
+pub mod Inverse
+pub mod Operators
+pub mod Heights
+pub mod Chains
+pub mod Climbing
+pub mod Atoms
+pub mod Choosing
+pub mod Tests
+pub mod Runs
+pub mod Trials
+pub mod RightSides

@@ -3,5 +3,9 @@ pub mod Programs
 pub mod Reading
 pub mod Stops
 pub mod Values
+pub mod Parts
 pub mod Errors
 pub mod RowReading
+pub mod Levels
+pub mod Operands
+pub mod RightSides

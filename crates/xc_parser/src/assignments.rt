@@ -1,5 +1,12 @@
 //! Assignments, and the steps `++` and `--`.
 
+ghost use Rattle.std.specs.Prelude.{◌≡◌, ℕ, ◌+◌, ◌<◌, ◌≤◌, length, IfOk, IfErr};
+ghost use Rattle.xc_tree.specs.Symbol as symbol;
+ghost use Rattle.xc_tree.specs.Trees as trees;
+ghost use Rattle.xc_parser.specs.Reading.{Reads};
+ghost use Rattle.xc_parser.specs.Stops.{Stopped};
+ghost use Rattle.xc_parser.specs.Parts.{mark_of};
+
 use crate::parser::{Parser, Read};
 use crate::stop::Stop;
 use crate::terminals::{EQUALS, MINUS_MINUS, PLUS_PLUS};
@@ -22,18 +29,23 @@ const SHIFT_EQUALS: u8 = 46;
 
 impl<'a> Parser<'a> {
     /// An assignment.
-    pub fn assign(&self, at: usize, room: u32) -> Result<Read<St>, Stop> {
+    pub fn assign(&self, at: usize, room: u32) -> Result<Read<St>, Stop>
+        requires at { at ≤ length self.now.toks.now }
+        ensures bounds { IfOk result (λ r. (at < r.end) × (r.end ≤ length self.now.toks.now)) }
+        ensures read { IfOk result (λ r. Reads self.now.toks.now room symbol.assign at r.end (trees.action_of r.value)) }
+        ensures stopped { IfErr result (λ e. Stopped self.now.toks.now room symbol.assign at e) }
+    {
         let target = self.lval(at, room)?;
         let end = target.end;
         if is_symbol(self.toks, end, EQUALS) {
             let pos = self.toks[end].pos;
-            let right = self.rhs(end + 1, room)?;
-            let Some(value) = right.value else {
+            let Read { value, end } = self.rhs(end + 1, room)?;
+            let Some(right) = value else {
                 unreachable!()
             };
             return Ok(Read {
-                value: St::Assign(target.value, EQUALS, pos, value),
-                end: right.end,
+                value: St::Assign(target.value, EQUALS, pos, right),
+                end,
             });
         }
         if is_symbol(self.toks, end, PLUS_PLUS) {
@@ -50,19 +62,20 @@ impl<'a> Parser<'a> {
         }
         let mark = self.assign_op(end)?;
         let value = self.expr(mark.end, room)?;
+        let Mark { symbol, pos } = mark.value;
         Ok(Read {
-            value: St::Assign(
-                target.value,
-                mark.value.symbol,
-                mark.value.pos,
-                Rhs::Value(value.value),
-            ),
+            value: St::Assign(target.value, symbol, pos, Rhs::Value(value.value)),
             end: value.end,
         })
     }
 
     /// An operator that assigns.
-    pub fn assign_op(&self, at: usize) -> Result<Read<Mark>, Stop> {
+    pub fn assign_op(&self, at: usize) -> Result<Read<Mark>, Stop>
+        requires at { at ≤ length self.now.toks.now }
+        ensures bounds { IfOk result (λ r. (r.end ≡ at + 1) × (r.end ≤ length self.now.toks.now)) }
+        ensures read { IfOk result (λ r. (room : ℕ) → Reads self.now.toks.now room symbol.assign_op at r.end (mark_of r.value)) }
+        ensures stopped { IfErr result (λ e. (room : ℕ) → Stopped self.now.toks.now room symbol.assign_op at e) }
+    {
         if at >= self.toks.len() {
             return Err(Stop::Wrong(at));
         }

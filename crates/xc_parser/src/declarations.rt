@@ -1,5 +1,16 @@
 //! Declarations in functions.
 
+ghost use Rattle.std.specs.Prelude.{◌≡◌, ℕ, ◌+◌, ◌^◌, ◌<◌, ◌≤◌, ◌++◌, length, option_map, Bool, true, false, [], ◌∷◌, IsTrue, IfOk, IfErr, IfSome, IfNone};
+ghost use Rattle.xc_tree.specs.Symbol as symbol;
+ghost use Rattle.xc_tree.specs.Symbol.{key, a_name, a_word, an_array};
+ghost use Rattle.xc_tree.specs.Grammar as grammar;
+ghost use Rattle.xc_tree.specs.Trees as trees;
+ghost use Rattle.xc_parser.specs.Follows.{OneOf};
+ghost use Rattle.xc_parser.specs.Follows as follows;
+ghost use Rattle.xc_parser.specs.Reading.{Reads, Unfit};
+ghost use Rattle.xc_parser.specs.Stops.{Stopped};
+ghost use Rattle.xc_parser.specs.Parts.{Adds, Declares, Names, NoName, resource_kind};
+
 use crate::expected::Numeral;
 use crate::parser::{Parser, Read};
 use crate::stop::Stop;
@@ -10,7 +21,13 @@ use xw_words::List;
 
 impl<'a> Parser<'a> {
     /// A declaration.
-    pub fn declaration(&self, at: usize, room: u32) -> Result<Read<Stmt>, Stop> {
+    pub fn declaration(&self, at: usize, room: u32) -> Result<Read<Stmt>, Stop>
+        requires short { length self.now.toks.now < 2 ^ 32 }
+        requires at { at ≤ length self.now.toks.now }
+        ensures bounds { IfOk result (λ r. (at < r.end) × (r.end ≤ length self.now.toks.now)) }
+        ensures read { IfOk result (λ r. Reads self.now.toks.now room symbol.decl at r.end (trees.statement_of r.value)) }
+        ensures stopped { IfErr result (λ e. Stopped self.now.toks.now room symbol.decl at e) }
+    {
         if !self.begins_declaration(at) {
             return Err(Stop::Wrong(at));
         }
@@ -18,47 +35,70 @@ impl<'a> Parser<'a> {
             return Err(Stop::Deep(at));
         }
         if begins_type(self.toks, at) {
-            return self.word_declaration(at, room - 1);
+            return self.word_declaration(at, room);
         }
         self.resource_declaration(at)
     }
 
     /// Whether a token that a declaration can begin with stands at a place.
-    pub fn begins_declaration(&self, at: usize) -> bool {
+    pub fn begins_declaration(&self, at: usize) -> bool
+        ensures within { IsTrue result → at < length self.now.toks.now }
+        ensures yes { IsTrue result → OneOf self.now.toks.now at follows.begins_declaration }
+        ensures no { (result ≡ false) → OneOf self.now.toks.now at follows.begins_declaration → ⊥ }
+    {
         begins_type(self.toks, at)
             || is_word(self.toks, at, CHAN_WORD)
             || is_word(self.toks, at, TIMER_WORD)
     }
 
     /// A declaration of channels or timers.
-    fn resource_declaration(&self, at: usize) -> Result<Read<Stmt>, Stop> {
+    fn resource_declaration(&self, at: usize) -> Result<Read<Stmt>, Stop>
+        requires short { length self.now.toks.now < 2 ^ 32 }
+        requires begins { OneOf self.now.toks.now at (key 2 ∷ key 24 ∷ []) }
+        ensures bounds { IfOk result (λ r. (at < r.end) × (r.end ≤ length self.now.toks.now)) }
+        ensures read { IfOk result (λ r. (room : ℕ) → 1 ≤ room → Reads self.now.toks.now room symbol.decl at r.end (trees.statement_of r.value)) }
+        ensures stopped { IfErr result (λ e. (room : ℕ) → 1 ≤ room → Stopped self.now.toks.now room symbol.decl at e) }
+    {
         let is_chan = is_word(self.toks, at, CHAN_WORD);
-        let names = self.names(at + 1, is_chan)?;
-        let semicolon = self.symbol(names.end, SEMICOLON)?;
-        Ok(self.whole(at, semicolon.end, 0, St::Decl(names.value)))
-    }
-
-    /// The names of channels, or else of timers.
-    fn names(&self, at: usize, is_chan: bool) -> Result<Read<List<Declared>>, Stop> {
-        let mut value = List::new(self.alloc);
-        let first = self.id(at)?;
-        value.push(resource(is_chan, first.value))?;
-        let mut end = first.end;
+        let mut declared = List::new(self.alloc);
+        let mut end = self.next_resource(&mut declared, at + 1, is_chan)?;
         'names: while is_symbol(self.toks, end, COMMA) {
-            let next = self.id(end + 1)?;
-            value.push(resource(is_chan, next.value))?;
-            end = next.end;
+            end = self.next_resource(&mut declared, end + 1, is_chan)?;
         }
-        Ok(Read { value, end })
+        let semicolon = self.symbol(end, SEMICOLON)?;
+        Ok(self.whole(at, semicolon.end, 0, St::Decl(declared)))
     }
 
-    /// A declaration of variables and arrays, with room for so many nodes inside it.
-    fn word_declaration(&self, at: usize, room: u32) -> Result<Read<Stmt>, Stop> {
+    /// Reads the name of a channel, or else of a timer, to the end of a list, and gives the place behind it.
+    fn next_resource(
+        &self,
+        declared: &mut List<Declared>,
+        at: usize,
+        is_chan: bool,
+    ) -> Result<usize, Stop>
+        ensures bounds { IfOk result (λ end. (end ≡ at + 1) × (end ≤ length self.now.toks.now)) }
+        ensures read { IfOk result (λ end. Adds declared.old declared.new (Names self.now.toks.now at end (resource_kind is_chan))) }
+        ensures stopped { IfErr result (λ e. (room : ℕ) → Stopped self.now.toks.now room a_name at e) }
+    {
+        let name = self.id(at)?;
+        declared.push(resource(is_chan, name.value))?;
+        Ok(name.end)
+    }
+
+    /// A declaration of variables and arrays.
+    fn word_declaration(&self, at: usize, room: u32) -> Result<Read<Stmt>, Stop>
+        requires short { length self.now.toks.now < 2 ^ 32 }
+        requires room { 1 ≤ room }
+        requires begins { OneOf self.now.toks.now at (key 11 ∷ key 26 ∷ []) }
+        ensures bounds { IfOk result (λ r. (at < r.end) × (r.end ≤ length self.now.toks.now)) }
+        ensures read { IfOk result (λ r. Reads self.now.toks.now room symbol.decl at r.end (trees.statement_of r.value)) }
+        ensures stopped { IfErr result (λ e. Stopped self.now.toks.now room symbol.decl at e) }
+    {
         let word = self.word_type(at)?;
         let mut declared = List::new(self.alloc);
-        let mut end = self.next_declared(&mut declared, word.end, word.value, room)?;
+        let mut end = self.next_declared(&mut declared, word.end, word.value, room - 1)?;
         'declared: while is_symbol(self.toks, end, COMMA) {
-            end = self.next_declared(&mut declared, end + 1, word.value, room)?;
+            end = self.next_declared(&mut declared, end + 1, word.value, room - 1)?;
         }
         let semicolon = self.symbol(end, SEMICOLON)?;
         Ok(self.whole(at, semicolon.end, 0, St::Decl(declared)))
@@ -72,16 +112,21 @@ impl<'a> Parser<'a> {
         at: usize,
         is_unsigned: bool,
         room: u32,
-    ) -> Result<usize, Stop> {
-        let next = self.variable_or_array(at, is_unsigned, room)?;
-        let Some(value) = next.value else {
-            if is_symbol(self.toks, next.end, COMMA) || is_symbol(self.toks, next.end, SEMICOLON) {
-                return Err(Stop::Deep(next.end));
+    ) -> Result<usize, Stop>
+        requires at { at ≤ length self.now.toks.now }
+        ensures bounds { IfOk result (λ end. (at < end) × (end ≤ length self.now.toks.now)) }
+        ensures read { IfOk result (λ end. Adds declared.old declared.new (Declares self.now.toks.now room at end is_unsigned)) }
+        ensures stopped { IfErr result (λ e. NoName self.now.toks.now room at e) }
+    {
+        let Read { value, end } = self.variable_or_array(at, is_unsigned, room)?;
+        let Some(next) = value else {
+            if is_symbol(self.toks, end, COMMA) || is_symbol(self.toks, end, SEMICOLON) {
+                return Err(Stop::Deep(end));
             }
-            return Err(Stop::Wrong(next.end));
+            return Err(Stop::Wrong(end));
         };
-        declared.push(value)?;
-        Ok(next.end)
+        declared.push(next)?;
+        Ok(end)
     }
 
     /// A name of a declaration, with its initial value or its length; `None` as for `rhs`.
@@ -90,7 +135,13 @@ impl<'a> Parser<'a> {
         at: usize,
         is_unsigned: bool,
         room: u32,
-    ) -> Result<Read<Option<Declared>>, Stop> {
+    ) -> Result<Read<Option<Declared>>, Stop>
+        requires at { at ≤ length self.now.toks.now }
+        ensures bounds { IfOk result (λ r. (at < r.end) × (r.end ≤ length self.now.toks.now)) }
+        ensures read { IfOk result (λ r. IfSome r.value (Declares self.now.toks.now room at r.end is_unsigned)) }
+        ensures unfit { IfOk result (λ r. IfNone r.value (Unfit self.now.toks.now room symbol.dv at r.end)) }
+        ensures stopped { IfErr result (λ e. Stopped self.now.toks.now room symbol.dv at e) }
+    {
         let name = self.id(at)?;
         if is_symbol(self.toks, name.end, BRACKET) {
             let length = self.numeral(name.end + 1)?;
@@ -106,22 +157,21 @@ impl<'a> Parser<'a> {
                 end: name.end,
             });
         }
-        let initial = self.initial(name.end, room)?;
-        let Some(right) = initial.value else {
-            return Ok(Read {
-                value: None,
-                end: initial.end,
-            });
+        let Read { value, end } = self.initial(name.end, room)?;
+        let Some(right) = value else {
+            return Ok(Read { value: None, end });
         };
         Ok(Read {
             value: Some(variable(is_unsigned, name.value, Some(right))),
-            end: initial.end,
+            end,
         })
     }
 }
 
 /// A variable, with its initial value.
-pub fn variable(is_unsigned: bool, name: Id, initial: Option<Rhs>) -> Declared {
+pub fn variable(is_unsigned: bool, name: Id, initial: Option<Rhs>) -> Declared
+    ensures { trees.declaration_of result ≡ grammar.declared is_unsigned (a_word name (option_map trees.right_of initial)) }
+{
     Declared {
         kind: DeclKind::Word(is_unsigned, initial),
         name,
@@ -129,7 +179,9 @@ pub fn variable(is_unsigned: bool, name: Id, initial: Option<Rhs>) -> Declared {
 }
 
 /// An array of so many words.
-fn array(is_unsigned: bool, name: Id, length: Numeral) -> Declared {
+fn array(is_unsigned: bool, name: Id, length: Numeral) -> Declared
+    ensures { trees.declaration_of result ≡ grammar.declared is_unsigned (an_array name length.value length.pos) }
+{
     Declared {
         kind: DeclKind::Array(is_unsigned, length.value, length.pos),
         name,
@@ -137,7 +189,10 @@ fn array(is_unsigned: bool, name: Id, length: Numeral) -> Declared {
 }
 
 /// A channel, or else a timer.
-fn resource(is_chan: bool, name: Id) -> Declared {
+fn resource(is_chan: bool, name: Id) -> Declared
+    ensures named { result.name ≡ name }
+    ensures made { trees.declaration_of result ≡ grammar.named (resource_kind is_chan) name }
+{
     if is_chan {
         return Declared {
             kind: DeclKind::Chan(false),
