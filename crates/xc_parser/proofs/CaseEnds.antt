@@ -74,7 +74,8 @@ begins_anew {toks} {b} {i} (t ∷ ss) e x =
       | inr y ↦ let z = token_derived {t = t} p.0 y.2 in after (subst (λ (k : ℕ). Derives toks b t i k y.1) (sym' z.0) (token_derives t z.1)) (begins_anew ss p.1 y.3)
     ]
 
-abbrev ending : List Symbol
+-- `break ;`
+abbrev pub ending : List Symbol
 ending = key 0 ∷ sym 6 ∷ []
 
 module _ {toks : List Tok} {i : ℕ} {p : Pos} (on : On toks i (Key 0) p) where

@@ -6,12 +6,13 @@ use Rattle.xc_tree.specs.declared.token.Tok.{Tok}
 use Rattle.xc_tree.specs.declared.token.Kind.TheVariants.{Name, Key, Sym}
 use Rattle.xc_tree.specs.Plain as plain
 use Rattle.xc_tree.specs.Depth.{of_expression}
-use Rattle.xc_tree.specs.Symbol.{Symbol, sym, key, a_name, maybe, guard, input, expr, level, atom, Value, Values}
+use Rattle.xc_tree.specs.Symbol.{Symbol, sym, key, a_name, maybe, guard, input, expr, rhs, call, level, atom, Value, Values}
 use Rattle.xc_tree.specs.Derives.{On, Room, unlimited, at_most, HasRoom, below, Derives, a_sym, named, Row, next, Prefix, nothing, whole, Begins, in_this, after}
 use Rattle.xc_parser.specs.declared.stop.Stop.{Stop}
 use Rattle.xc_parser.specs.declared.stop.Stop.TheVariants.{Wrong, Deep, Memory}
 use Rattle.xc_parser.specs.Follows.{StandsAt, OneOf, has, after_expression}
 use Rattle.xc_parser.specs.Reading.{Reads, Refuses, TooDeep}
+use Rattle.xc_parser.specs.CaseParts.{transfers, awaited}
 use Rattle.xc_parser.specs.RowReading.{ReadsRow, RefusesRow, TooDeepRow, StoppedRow}
 use Rattle.xc_parser.proofs.Forth.{inside_same, lift, widen_row, widen_begins, freed}
 use Rattle.xc_parser.proofs.TokenSets.{one_token_of, one_within, one_disjoint}
@@ -21,17 +22,7 @@ use Rattle.xc_parser.proofs.Lists.{unrow, unend, unbegin, unbegin_none}
 use Rattle.xc_parser.proofs.Paths.{Roomy, begin, over_name, lacks, lacks_symbol, read, none_left}
 use Rattle.xc_parser.proofs.RowReads.{NoRow, refused_row, row_stops, with_it, without_it, packed_read, packed_stops, IsBeyond, maybe_split, maybe_none, maybe_begin, begin_maybe}
 
--- the tokens that an input goes on with behind its name, and a guard behind a name
-abbrev pub transfers : List Symbol
-transfers = sym 23 ∷ key 28 ∷ sym 25 ∷ []
-
-abbrev pub after_name : List Symbol
-after_name = sym 26 ∷ after_expression
-
--- an input with its colon, and the same behind a guard
-abbrev pub awaited : List Symbol
-awaited = input ∷ sym 8 ∷ []
-
+-- an input with its colon, behind a guard
 abbrev pub guarded : List Symbol
 guarded = guard ∷ awaited
 
@@ -73,6 +64,24 @@ module _ {toks : List Tok} {room : Room} {i : ℕ} where
 
   begin_guard : {n : ℕ} → Begins toks room (expr ∷ sym 26 ∷ []) i n → Prefix toks room guard i n
   begin_guard {n} b = from_starts toks room guard i n (inl (no_nodes room, subst (λ (r : Room). Begins toks r (expr ∷ sym 26 ∷ []) i n) (sym' (inside_same room 0)) b))
+
+-- an expression begins a right side, and is all that begins one where no bracket stands behind its name
+module _ {toks : List Tok} {room : Room} {i : ℕ} where
+  begins_right : {n : ℕ} → Prefix toks room expr i n → Prefix toks room rhs i n
+  begins_right {n} q = from_starts toks room rhs i n (inl (no_nodes room, subst (λ (r : Room). Begins toks r (expr ∷ []) i n) (sym' (inside_same room 0)) (in_this q)))
+
+pub short_name : {toks : List Tok} {i : ℕ} → ((n : ℕ) → Prefix toks (at_most 0) rhs i n → n ≤ i + 1) → (n : ℕ) → Prefix toks (at_most 0) expr i n → n ≤ i + 1
+short_name f n q = f n (begins_right q)
+
+pub longer_name : {toks : List Tok} {i : ℕ} {x : List ℕ} {p : Pos} → On toks i (Name x) p → ((q : Pos) → On toks (i + 1) (Sym 0) q → ⊥) → Prefix toks unlimited rhs i (i + 1 + 1) → Prefix toks unlimited expr i (i + 1 + 1)
+longer_name {toks} {i} on none q =
+    let r : Refuses toks 0 call i (i + 1) = none_left (lacks_symbol 0 (over_name (begin refl tt) on refl) none) in
+    elim (by_starts toks unlimited rhs i (i + 1 + 1) refl q) [
+      | inl h ↦ absurd (omega arith)
+      | inr (inl y) ↦ elim (unbegin y.1) [ inl p ↦ p | inr w ↦ absurd (unbegin_none w.3) ]
+      | inr (inr (inl y)) ↦ elim (unbegin y.1) [ inl p ↦ let h = r.most (i + 1 + 1) p in absurd (omega arith) | inr w ↦ absurd (unbegin_none w.3) ]
+      | inr (inr (inr z)) ↦ absurd z
+    ]
 
 -- no expression has no node
 no_node : {toks : List Tok} {i j : ℕ} {v : plain.Expression} → Derives toks (at_most 0) expr i j v → ⊥
@@ -131,8 +140,8 @@ module _ {toks : List Tok} {i : ℕ} where
           }
 
       -- where one does
-      pub deep_name : TooDeep toks 0 expr i i → Prefix toks unlimited guard i (i + 1 + 1) → TooDeepRow toks 0 (maybe guard ∷ awaited) i (i + 1)
-      deep_name deep longer =
+      pub deep_name : ((n : ℕ) → Prefix toks (at_most 0) expr i n → n ≤ i + 1) → Prefix toks unlimited guard i (i + 1 + 1) → TooDeepRow toks 0 (maybe guard ∷ awaited) i (i + 1)
+      deep_name short longer =
           let a = no_transfer none in
           record {
             prefix = named_to;
@@ -144,7 +153,7 @@ module _ {toks : List Tok} {i : ℕ} where
             most = λ n b. elim (unbegin b) [
               | inl q ↦ elim (maybe_begin q) [ inl h ↦ omega arith | inr w ↦ elim (guard_begin w) [
                 | inl h ↦ omega arith
-                | inr u ↦ elim u [ inl c ↦ let d = deep.most n c in omega arith | inr c ↦ absurd (no_node c.2) ]
+                | inr u ↦ elim u [ inl c ↦ short n c | inr c ↦ absurd (no_node c.2) ]
               ] ]
               | inr y ↦ elim (maybe_split y.2) [
                 | inl e ↦ a.most n (widen_begins freed (subst (λ (l : ℕ). Begins toks (at_most 0) awaited l n) e.0 y.3))

@@ -57,5 +57,7 @@ pub mod Atoms
 pub mod Choosing
 pub mod Tests
 pub mod Runs
-pub mod Trials
 pub mod RightSides
+pub mod CaseItems
+pub mod CaseSteps
+pub mod ParRows

@@ -1,5 +1,5 @@
 -- Reading a row of symbols, one after the other.
-use Rattle.std.proofs.Common.{◌≡◌, ℕ, ◌+◌, ◌-◌, ◌≤◌, ◌⊎◌, inl, inr, Bool, true, false, not, ◌&&◌, ◌||◌, List, [], ◌∷◌, Option, Some, None, refl, sym as sym', ap, subst, ◌∙◌, arith}
+use Rattle.std.proofs.Common.{◌≡◌, ℕ, ◌+◌, ◌-◌, ◌≤◌, ◌⊎◌, inl, inr, Bool, true, false, not, ◌&&◌, ◌||◌, List, [], ◌∷◌, ◌++◌, Option, Some, None, refl, sym as sym', ap, subst, ◌∙◌, arith}
 use Rattle.std.proofs.lemmas.Bool.{and_parts, or_cases, not-true}
 use Rattle.xc_tree.specs.declared.token.Tok.{Tok}
 use Rattle.xc_tree.specs.Symbol.{Symbol, maybe, many, Value, Values}
@@ -292,3 +292,113 @@ module _ {toks : List Tok} {i m : ℕ} (t : Symbol) (ss : List Symbol) where
       ]
     ];
   }
+
+-- the values of two rows
+abbrev pub joined : (xs ys : List Symbol) → Values xs → Values ys → Values (xs ++ ys)
+joined [] ys vs ws = ws
+joined (x ∷ xs) ys vs ws = (vs.0, joined xs ys vs.1 ws)
+
+abbrev ahead_of : (xs ys : List Symbol) → Values (xs ++ ys) → Values xs
+ahead_of [] ys us = tt
+ahead_of (x ∷ xs) ys us = (us.0, ahead_of xs ys us.1)
+
+abbrev behind_of : (xs ys : List Symbol) → Values (xs ++ ys) → Values ys
+behind_of [] ys us = us
+behind_of (x ∷ xs) ys us = behind_of xs ys us.1
+
+both_of : (xs ys : List Symbol) (us : Values (xs ++ ys)) → us ≡ joined xs ys (ahead_of xs ys us) (behind_of xs ys us)
+both_of [] ys us = refl
+both_of (x ∷ xs) ys us = ap (λ (w : Values (xs ++ ys)). (us.0, w)) (both_of xs ys us.1)
+
+module _ {toks : List Tok} {room : Room} where
+  rows_split : (xs ys : List Symbol) {i k : ℕ} {us : Values (xs ++ ys)} → Row toks room (xs ++ ys) i k us → (m : ℕ) × Row toks room xs i m (ahead_of xs ys us) × Row toks room ys m k (behind_of xs ys us)
+  rows_split [] ys {i} r = (i, done, r)
+  rows_split (x ∷ xs) ys r = let y = unrow r in let z = rows_split xs ys y.2 in (z.0, next y.1 z.1, z.2)
+
+  rows_join : (xs ys : List Symbol) {i m k : ℕ} {vs : Values xs} {ws : Values ys} → Row toks room xs i m vs → Row toks room ys m k ws → Row toks room (xs ++ ys) i k (joined xs ys vs ws)
+  rows_join [] ys {k} {ws} r q = subst (λ (n : ℕ). Row toks room ys n k ws) (unend r) q
+  rows_join (x ∷ xs) ys r q = let y = unrow r in next y.1 (rows_join xs ys y.2 q)
+
+  begins_split : (xs ys : List Symbol) {i n : ℕ} → Begins toks room (xs ++ ys) i n → Begins toks room xs i n ⊎ ((m : ℕ) × (vs : Values xs) × Row toks room xs i m vs × Begins toks room ys m n)
+  begins_split [] ys {i} b = inr (i, tt, done, b)
+  begins_split (x ∷ xs) ys b = elim (unbegin b) [
+    | inl q ↦ inl (in_this q)
+    | inr y ↦ elim (begins_split xs ys y.3) [ inl c ↦ inl (after y.2 c) | inr z ↦ inr (z.0, (y.1, z.1), next y.2 z.2, z.3) ]
+  ]
+
+  begins_join : (xs ys : List Symbol) {i n : ℕ} → Begins toks room xs i n → Begins toks room (xs ++ ys) i n
+  begins_join [] ys b = absurd (unbegin_none b)
+  begins_join (x ∷ xs) ys b = elim (unbegin b) [ inl q ↦ in_this q | inr y ↦ after y.2 (begins_join xs ys y.3) ]
+
+  begins_behind : (xs ys : List Symbol) {i m n : ℕ} {vs : Values xs} → Row toks room xs i m vs → Begins toks room ys m n → Begins toks room (xs ++ ys) i n
+  begins_behind [] ys {n} r b = subst (λ (l : ℕ). Begins toks room ys l n) (unend r) b
+  begins_behind (x ∷ xs) ys r b = let y = unrow r in after y.1 (begins_behind xs ys y.2 b)
+
+module _ {toks : List Tok} {room : ℕ} (xs ys : List Symbol) {i : ℕ} where
+  -- two rows, one behind the other
+  pub rows_read : {j k : ℕ} {vs : Values xs} {ws : Values ys} → ReadsRow toks room xs i j vs → ReadsRow toks room ys j k ws → ReadsRow toks room (xs ++ ys) i k (joined xs ys vs ws)
+  rows_read {j} {k} {vs} {ws} r q =
+      let l = row_forth q.derives in
+      record {
+        derives = rows_join xs ys r.derives q.derives;
+        only = λ n us x.
+          let y = rows_split xs ys x in
+          let a = r.only y.0 (ahead_of xs ys us) y.1 in
+          let b = q.only n (behind_of xs ys us) (subst (λ (m : ℕ). Row toks unlimited ys m n (behind_of xs ys us)) a.0 y.2) in
+          (b.0, both_of xs ys us ∙ ap (λ (w : Values xs). joined xs ys w (behind_of xs ys us)) a.1 ∙ ap (joined xs ys vs) b.1);
+        most = λ n b. elim (begins_split xs ys b) [
+          | inl c ↦ let h = r.most n c in omega arith
+          | inr z ↦ let a = r.only z.0 z.1 z.2 in q.most n (subst (λ (m : ℕ). Begins toks unlimited ys m n) a.0 z.3)
+        ];
+      }
+
+module _ (toks : List Tok) (room : ℕ) (xs ys : List Symbol) (i : ℕ) where
+  pub rows_stop : (e : Stop) → StoppedRow toks room xs i e → StoppedRow toks room (xs ++ ys) i e
+  rows_stop (Wrong m) r = record {
+    prefix = begins_join xs ys r.prefix;
+    never = λ k us x. let y = rows_split xs ys x in r.never y.0 (ahead_of xs ys us) y.1;
+    most = λ n b. elim (begins_split xs ys b) [ inl c ↦ r.most n c | inr z ↦ absurd (r.never z.0 z.1 z.2) ];
+  }
+  rows_stop (Deep m) r = record {
+    prefix = begins_join xs ys r.prefix;
+    begins = begins_join xs ys r.begins;
+    never = λ k us x. let y = rows_split xs ys x in r.never y.0 (ahead_of xs ys us) y.1;
+    most = λ n b. elim (begins_split xs ys b) [ inl c ↦ r.most n c | inr z ↦ absurd (r.never z.0 z.1 z.2) ];
+  }
+  rows_stop Memory r = tt
+
+  pub rows_go : {j : ℕ} {vs : Values xs} (e : Stop) → ReadsRow toks room xs i j vs → StoppedRow toks room ys j e → StoppedRow toks room (xs ++ ys) i e
+  rows_go {j} (Wrong m) r q =
+      let l = begins_forth q.prefix in
+      record {
+        prefix = begins_behind xs ys r.derives q.prefix;
+        never = λ k us x.
+          let y = rows_split xs ys x in
+          let a = r.only y.0 (ahead_of xs ys us) y.1 in
+          q.never k (behind_of xs ys us) (subst (λ (m : ℕ). Row toks unlimited ys m k (behind_of xs ys us)) a.0 y.2);
+        most = λ n b. elim (begins_split xs ys b) [
+          | inl c ↦ let h = r.most n c in omega arith
+          | inr z ↦ let a = r.only z.0 z.1 z.2 in q.most n (subst (λ (m : ℕ). Begins toks unlimited ys m n) a.0 z.3)
+        ];
+      }
+  rows_go {j} (Deep m) r q =
+      let l = begins_forth q.prefix in
+      record {
+        prefix = begins_behind xs ys r.derives q.prefix;
+        begins = begins_behind xs ys (widen_row freed r.derives) q.begins;
+        never = λ k us x.
+          let y = rows_split xs ys x in
+          let a = r.only y.0 (ahead_of xs ys us) (widen_row freed y.1) in
+          q.never k (behind_of xs ys us) (subst (λ (m : ℕ). Row toks (at_most room) ys m k (behind_of xs ys us)) a.0 y.2);
+        most = λ n b. elim (begins_split xs ys b) [
+          | inl c ↦ let h = r.most n (widen_begins freed c) in omega arith
+          | inr z ↦ let a = r.only z.0 z.1 (widen_row freed z.2) in q.most n (subst (λ (m : ℕ). Begins toks (at_most room) ys m n) a.0 z.3)
+        ];
+      }
+  rows_go Memory r q = tt
+
+-- as far as a row can begin it doesn't stop
+pub beyond_begun : (toks : List Tok) (room i n : ℕ) (ss : List Symbol) (e : Stop) → StoppedRow toks room ss i e → Begins toks (at_most room) ss i n → IsBeyond e n
+beyond_begun toks room i n ss (Wrong m) r b = r.most n (widen_begins freed b)
+beyond_begun toks room i n ss (Deep m) r b = r.most n b
+beyond_begun toks room i n ss Memory r b = tt

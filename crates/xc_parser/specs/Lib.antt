@@ -9,3 +9,5 @@ pub mod RowReading
 pub mod Levels
 pub mod Operands
 pub mod RightSides
+pub mod CaseParts
+pub mod ParParts
