@@ -1,5 +1,18 @@
 //! Branches that run side by side.
 
+ghost use Rattle.std.specs.Prelude.{◌≡◌, ℕ, ◌+◌, ◌^◌, ◌<◌, ◌≤◌, length, IfOk, IfErr};
+ghost use Rattle.xw_words.specs.declared.pos.Pos.{Pos};
+ghost use Rattle.xc_tree.specs.Plain as plain;
+ghost use Rattle.xc_tree.specs.Symbol as symbol;
+ghost use Rattle.xc_tree.specs.Symbol.{sym, key};
+ghost use Rattle.xc_tree.specs.Trees as trees;
+ghost use Rattle.xc_parser.specs.Follows.{StandsAt};
+ghost use Rattle.xc_parser.specs.ParParts.{ReadsReplicator, replicator, numbered};
+ghost use Rattle.xc_parser.specs.Reading.{Reads};
+ghost use Rattle.xc_parser.specs.RowReading.{ReadsRow, StoppedRow};
+ghost use Rattle.xc_parser.specs.Stops.{Stopped};
+ghost use Rattle.xc_parser.specs.Values.{numeral_of};
+
 use crate::expected::Numeral;
 use crate::parser::{Parser, Read};
 use crate::stop::Stop;
@@ -20,7 +33,7 @@ pub struct Holder<T> {
 
 /// What stands between the brackets of a replicated `par`.
 #[derive(Drop)]
-struct Replicator {
+pub struct Replicator {
     first: Id,
     second: Id,
     third: Id,
@@ -31,7 +44,13 @@ struct Replicator {
 impl<'a> Parser<'a> {
     /// A `par`, with room for so many nodes inside it.
     #[cycle(statement)]
-    pub fn par(&self, at: usize, room: u32) -> Result<Read<Stmt>, Stop> {
+    pub fn par(&self, at: usize, room: u32) -> Result<Read<Stmt>, Stop>
+        requires short { length self.now.toks.now < 2 ^ 32 }
+        requires word { StandsAt self.now.toks.now at (key 15) }
+        ensures bounds { IfOk result (λ r. (at < r.end) × (r.end ≤ length self.now.toks.now)) }
+        ensures read { IfOk result (λ r. Reads self.now.toks.now (room + 1) symbol.statement at r.end (trees.statement_of r.value)) }
+        ensures stopped { IfErr result (λ e. Stopped self.now.toks.now (room + 1) symbol.statement at e) }
+    {
         if is_symbol(self.toks, at + 1, PAREN) {
             return self.replicated(at, room);
         }
@@ -50,7 +69,14 @@ impl<'a> Parser<'a> {
 
     /// A branch.
     #[cycle(statement)]
-    fn branch(&self, at: usize, room: u32) -> Result<Holder<Branch>, Stop> {
+    fn branch(&self, at: usize, room: u32) -> Result<Holder<Branch>, Stop>
+        requires short { length self.now.toks.now < 2 ^ 32 }
+        requires at { at ≤ length self.now.toks.now }
+        ensures bounds { IfOk result (λ r. (at < r.end) × (r.end ≤ length self.now.toks.now)) }
+        ensures held { IfOk result (λ r. r.held ≡ plain.branch_tokens (trees.branch_of r.value)) }
+        ensures read { IfOk result (λ r. Reads self.now.toks.now room symbol.branch at r.end (trees.branch_of r.value)) }
+        ensures stopped { IfErr result (λ e. Stopped self.now.toks.now room symbol.branch at e) }
+    {
         let place = self.maybe_place(at, room)?;
         let body = self.statement(place.end, room)?;
         Ok(Holder {
@@ -65,7 +91,14 @@ impl<'a> Parser<'a> {
 
     /// A replicated `par`, with room for so many nodes inside it.
     #[cycle(statement)]
-    fn replicated(&self, at: usize, room: u32) -> Result<Read<Stmt>, Stop> {
+    fn replicated(&self, at: usize, room: u32) -> Result<Read<Stmt>, Stop>
+        requires short { length self.now.toks.now < 2 ^ 32 }
+        requires word { StandsAt self.now.toks.now at (key 15) }
+        requires open { StandsAt self.now.toks.now (at + 1) (sym 0) }
+        ensures bounds { IfOk result (λ r. (at < r.end) × (r.end ≤ length self.now.toks.now)) }
+        ensures read { IfOk result (λ r. Reads self.now.toks.now (room + 1) symbol.statement at r.end (trees.statement_of r.value)) }
+        ensures stopped { IfErr result (λ e. Stopped self.now.toks.now (room + 1) symbol.statement at e) }
+    {
         let replicator = self.replicator(at + 1)?;
         let branch = self.branch(replicator.end, room)?;
         let Replicator {
@@ -87,7 +120,11 @@ impl<'a> Parser<'a> {
     }
 
     /// `( int first = from ; second < to ; third ++ )`
-    fn replicator(&self, at: usize) -> Result<Read<Replicator>, Stop> {
+    fn replicator(&self, at: usize) -> Result<Read<Replicator>, Stop>
+        ensures bounds { IfOk result (λ r. (at < r.end) × (r.end ≤ length self.now.toks.now)) }
+        ensures read { IfOk result (λ r. ReadsReplicator self.now.toks.now at r.end r.value) }
+        ensures stopped { IfErr result (λ e. (room : ℕ) → StoppedRow self.now.toks.now room replicator at e) }
+    {
         let open = self.symbol(at, PAREN)?;
         let int = self.word(open.end, INT_WORD)?;
         let first = self.id(int.end)?;
@@ -110,7 +147,11 @@ impl<'a> Parser<'a> {
     }
 
     /// A symbol, a number and a `;`.
-    fn number_behind(&self, at: usize, symbol: u8) -> Result<Read<Numeral>, Stop> {
+    fn number_behind(&self, at: usize, symbol: u8) -> Result<Read<Numeral>, Stop>
+        ensures bounds { IfOk result (λ r. (at < r.end) × (r.end ≤ length self.now.toks.now)) }
+        ensures read { IfOk result (λ r. (p : Pos) × (q : Pos) × ((room : ℕ) → ReadsRow self.now.toks.now room (numbered symbol) at r.end (p, (numeral_of r.value, (q, tt))))) }
+        ensures stopped { IfErr result (λ e. (room : ℕ) → StoppedRow self.now.toks.now room (numbered symbol) at e) }
+    {
         let mark = self.symbol(at, symbol)?;
         let number = self.numeral(mark.end)?;
         let semicolon = self.symbol(number.end, SEMICOLON)?;
