@@ -142,13 +142,18 @@ module _ (toks : List Tok) (room i : ℕ) where
         pub reads_case : {n : ℕ} {ss : List plain.Statement} {b c : Pos} → ReadsRow toks room body_row k n (ss, (b, (c, tt))) → Reads toks room case i n (plain.case p g (Some v) (plain.statements ss))
         reads_case r = finish (read_row 0 body_row [] (read_row 0 event_row _ (read (lacks_word 5 (begin refl tt) other) word refl) event refl refl) r refl refl) refl
 
-  module _ {p : Pos} (on : On toks i (Key 5) p) where
-    pub default_colon_stops : (e : Stop) → Stopped toks room (sym 8) (i + 1) e → Stopped toks room case i e
-    default_colon_stops e r = stops e (over_word (begin refl tt) on refl) r refl
+  -- one that waits for nothing
+  module _ {x : Pos} (on : On toks i (Key 5) x) where
+    pub default_word_stops : (e : Stop) → Stopped toks room (key 5) i e → Stopped toks room case i e
+    default_word_stops e r = stops e (at_word (begin refl tt) on) r refl
 
-    module _ {k : ℕ} {q : Pos} (colon : Reads toks room (sym 8) (i + 1) k q) where
-      pub default_stops : (e : Stop) → StoppedRow toks room body_row k e → Stopped toks room case i e
-      default_stops e r = stops_row 0 body_row [] e (read (over_word (begin refl tt) on refl) colon refl) r refl
+    module _ {j : ℕ} {p : Pos} (word : Reads toks room (key 5) i j p) where
+      pub default_colon_stops : (e : Stop) → Stopped toks room (sym 8) j e → Stopped toks room case i e
+      default_colon_stops e r = stops e (read (at_word (begin refl tt) on) word refl) r refl
 
-      pub default_reads : {n : ℕ} {ss : List plain.Statement} {b c : Pos} → ReadsRow toks room body_row k n (ss, (b, (c, tt))) → Reads toks room case i n (plain.case p None None (plain.statements ss))
-      default_reads r = finish (read_row 0 body_row [] (read (over_word (begin refl tt) on refl) colon refl) r refl refl) refl
+      module _ {k : ℕ} {q : Pos} (colon : Reads toks room (sym 8) j k q) where
+        pub default_stops : (e : Stop) → StoppedRow toks room body_row k e → Stopped toks room case i e
+        default_stops e r = stops_row 0 body_row [] e (read (read (at_word (begin refl tt) on) word refl) colon refl) r refl
+
+        pub default_reads : {n : ℕ} {ss : List plain.Statement} {b c : Pos} → ReadsRow toks room body_row k n (ss, (b, (c, tt))) → Reads toks room case i n (plain.case p None None (plain.statements ss))
+        default_reads r = finish (read_row 0 body_row [] (read (read (at_word (begin refl tt) on) word refl) colon refl) r refl refl) refl

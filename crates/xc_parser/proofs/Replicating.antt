@@ -29,9 +29,9 @@ module _ (toks : List Tok) (room at : ℕ) where
   pub open_stops : (e : Stop) → Stopped toks room (sym 0) at e → StoppedRow toks room replicator at e
   open_stops e r = row_stops toks room at (sym 0) (key 11 ∷ to_first) e r refl
 
-  module _ {a : ℕ} {p : Pos} (open : Reads toks room (sym 0) at a p) where
+  module _ {a : ℕ} {p : Pos} (paren : Reads toks room (sym 0) at a p) where
     behind_open : (e : Stop) → StoppedRow toks room (key 11 ∷ to_first) a e → StoppedRow toks room replicator at e
-    behind_open e r = row_goes toks room at (sym 0) (key 11 ∷ to_first) e open r refl
+    behind_open e r = row_goes toks room at (sym 0) (key 11 ∷ to_first) e paren r refl
 
     pub int_stops : (e : Stop) → Stopped toks room (key 11) a e → StoppedRow toks room replicator at e
     int_stops e r = behind_open e (row_stops toks room a (key 11) to_first e r refl)
@@ -84,6 +84,6 @@ module _ (toks : List Tok) (room at : ℕ) where
 
                   pub replicator_reads : {m : ℕ} {t : Pos} → Reads toks room (sym 1) l m t → ReadsRow toks room replicator at m (p, (q, (x, (us.0, (us.1.0, (us.1.1.0, (y, (ws.0, (ws.1.0, (ws.1.1.0, (z, (s, (t, tt)))))))))))))
                   replicator_reads r =
-                      row_read open (row_read int (row_read first
+                      row_read paren (row_read int (row_read first
                       (rows_read (numbered 22) to_second from (row_read second
                       (rows_read (numbered 20) to_third until (row_read third (row_read step (row_read r no_more_row refl) refl) refl)) refl)) refl) refl) refl
