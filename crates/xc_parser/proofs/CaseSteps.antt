@@ -70,16 +70,16 @@ module _ {toks : List Tok} {room i : ℕ} where
         l.stops e (packed_stops (items_end on) room e b (beyond_start toks room k _ e b))
 
 -- how many tokens they have
-pub body_tokens : {toks : List Tok} {room i : ℕ} (k : ℕ) {ss : List plain.Statement} {p q : Pos} → ReadsRow toks room body_row i (k + 1 + 1) (ss, (p, (q, tt))) → k - i ≡ plain.all_tokens (plain.statements ss)
-body_tokens {toks} {room} {i} k {ss} {p} {q} r =
+pub body_tokens : {toks : List Tok} {room i : ℕ} (k : ℕ) {n : ℕ} {ss : List plain.Statement} {p q : Pos} → n ≡ k + 1 + 1 → ReadsRow toks room body_row i n (ss, (p, (q, tt))) → k - i ≡ plain.all_tokens (plain.statements ss)
+body_tokens {toks} {room} {i} k {n} {ss} {p} {q} t r =
     let a = unrow r.derives in
     let b = unrow a.2 in
     let c = unrow b.2 in
     let e = (token_derived {t = key 0} refl b.1).0 in
     let f = (token_derived {t = sym 6} refl c.1).0 in
     let g = unend c.2 in
-    let h : a.0 ≡ k = omega arith in
-    subst (λ (n : ℕ). n - i ≡ plain.all_tokens (plain.statements ss)) h (held_case (record { line = 0; col = 0 }) None None a.1)
+    let h : a.0 ≡ k = omega (arith, t) in
+    subst (λ (l : ℕ). l - i ≡ plain.all_tokens (plain.statements ss)) h (held_case (record { line = 0; col = 0 }) None None a.1)
 
 -- an input and its colon
 module _ (toks : List Tok) (room i : ℕ) where

@@ -25,7 +25,7 @@ items-preserved c =
     record {
       after = omega arith;
       within = c.in_ok-item.ensures.bounds.1;
-      leads = subst (λ (xs : List plain.Statement). Leads c.args.self.now.toks.now c.args.room c.args.at c.in_ok-item.result.end xs)
+      leads = subst (Leads c.args.self.now.toks.now c.args.room c.args.at _)
         (sym (ap (map statement_of) c.in_ok-push.ensures.ok ∙ map-append statement_of _ _))
         (leads_more c.items.invariant.leads (c.is_word.ensures.no c.items-test.true) c.in_ok-item.ensures.read);
     }
@@ -37,3 +37,6 @@ returns-in_err-semicolon-clause-stopped c =
 
 pub returns-clause-read : goal.returns-clause-read
 returns-clause-read c = (_, _, leads_end c.items.invariant.leads (c.is_word.ensures.yes c.items-test.false).1.1 (c.in_ok-semicolon.ensures.read _))
+
+pub returns-clause-held : goal.returns-clause-held
+returns-clause-held c = body_tokens _ c.in_ok-semicolon.ensures.bounds.0 (leads_end c.items.invariant.leads (c.is_word.ensures.yes c.items-test.false).1.1 (c.in_ok-semicolon.ensures.read _))
