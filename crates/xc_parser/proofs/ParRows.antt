@@ -1,5 +1,5 @@
 -- Paths through a `par`: its branches, or its replicator and its branch.
-use Rattle.std.proofs.Common.{◌≡◌, ℕ, ◌+◌, ◌-◌, ◌<◌, ◌≤◌, Bool, true, false, List, [], ◌∷◌, ◌++◌, Option, refl, sym as sym', subst, arith}
+use Rattle.std.proofs.Common.{◌≡◌, ℕ, ◌+◌, ◌-◌, ◌<◌, ◌≤◌, Bool, true, false, List, [], ◌∷◌, ◌++◌, Option, refl, sym as sym', ap, subst, ◌∙◌, arith}
 use Rattle.xw_words.specs.declared.pos.Pos.{Pos}
 use Rattle.xc_tree.specs.declared.token.Tok.{Tok}
 use Rattle.xc_tree.specs.declared.token.Kind.TheVariants.{Key, Sym}
@@ -18,6 +18,7 @@ use Rattle.xc_parser.proofs.Rests.{left}
 use Rattle.xc_parser.proofs.TokenSets.{one_disjoint, one_token_of}
 use Rattle.xc_parser.proofs.Paths.{Roomy, begin, over_symbol, over_word, at_symbol, lacks_symbol, read, stops, finish}
 use Rattle.xc_parser.proofs.Loops.{Run, having, one_more, one_stops, no_more}
+use Rattle.xc_parser.proofs.Counts.{branches_tokens_push, cases_tokens_push}
 use Rattle.xc_parser.proofs.Lasts.{read_last, stops_last}
 use Rattle.xc_parser.proofs.RowReads.{row_read, row_goes, row_stops, rows_read, rows_stop, rows_go, no_more_row}
 use Rattle.xc_parser.proofs.RowSteps.{read_row, stops_row}
@@ -114,6 +115,33 @@ module _ {toks : List Tok} {room at k : ℕ} {c : plain.Case} {cs : List plain.C
   all_cases {p} on =
       let o : OneOf toks k (sym 3 ∷ []) = record { token = sym 3; stands = (p, on); among = refl } in
       finish (over_symbol (no_more (cases_of_select c) cs h.roomy (one_disjoint (first case) refl o) refl) on refl) refl
+
+-- a `select` with one case at least
+pub record Selected (toks : List Tok) (room at k : ℕ) (all : List plain.Case) : Type 0 where
+  pub first : plain.Case
+  pub others : List plain.Case
+  pub all_are : all ≡ first ∷ others
+  pub cases : Cases toks room at k first others
+
+module _ {toks : List Tok} {room at k : ℕ} {all : List plain.Case} where
+  pub one_selected : {c : plain.Case} → all ≡ c ∷ [] → Cases toks room at k c [] → Selected toks room at k all
+  one_selected {c} e h = record { first = c; others = []; all_are = e; cases = h }
+
+  pub more_selected : {j : ℕ} {d : plain.Case} {more : List plain.Case} → more ≡ all ++ (d ∷ []) → Selected toks room at k all → Reads toks room case k j d → Selected toks room at j more
+  more_selected {d} e h r = record { first = h.first; others = h.others ++ (d ∷ []); all_are = e ∙ ap (λ (cs : List plain.Case). cs ++ (d ∷ [])) h.all_are; cases = case_added h.cases r }
+
+  pub selected_stops : (e : Stop) → Selected toks room at k all → ((p : Pos) → On toks k (Sym 3) p → ⊥) → Stopped toks room case k e → Stopped toks (room + 1) statement at e
+  selected_stops e h none s = case_halts h.cases e none s
+
+  pub all_selected : {p : Pos} → Selected toks room at k all → On toks k (Sym 3) p → Reads toks (room + 1) statement at (k + 1) (statement_of (extent toks at (k + 1)) (plain.select (plain.cases all)))
+  all_selected h on = subst (λ (cs : List plain.Case). Reads toks (room + 1) statement at (k + 1) (statement_of (extent toks at (k + 1)) (plain.select (plain.cases cs)))) (sym' h.all_are) (all_cases h.cases on)
+
+-- the tokens of the statements in one more of them
+pub branches_held : (bs : List plain.Branch) (b : plain.Branch) {more : List plain.Branch} {h n : ℕ} → more ≡ bs ++ (b ∷ []) → h ≡ plain.branches_tokens (plain.branches bs) → n ≡ plain.branch_tokens b → h + n ≡ plain.branches_tokens (plain.branches more)
+branches_held bs b e f g = let p = ap (λ (l : List plain.Branch). plain.branches_tokens (plain.branches l)) e ∙ branches_tokens_push bs b in omega (arith, p)
+
+pub cases_held : (cs : List plain.Case) (c : plain.Case) {more : List plain.Case} {h n : ℕ} → more ≡ cs ++ (c ∷ []) → h ≡ plain.cases_tokens (plain.cases cs) → n ≡ plain.case_tokens c → h + n ≡ plain.cases_tokens (plain.cases more)
+cases_held cs c e f g = let p = ap (λ (l : List plain.Case). plain.cases_tokens (plain.cases l)) e ∙ cases_tokens_push cs c in omega (arith, p)
 
 -- a symbol, a number and a `;`
 module _ (toks : List Tok) (o at room : ℕ) where
