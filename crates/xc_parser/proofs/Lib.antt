@@ -61,3 +61,4 @@ pub mod RightSides
 pub mod CaseItems
 pub mod CaseSteps
 pub mod ParRows
+pub mod Replicating

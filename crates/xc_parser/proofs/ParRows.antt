@@ -1,5 +1,5 @@
 -- Paths through a `par`: its branches, or its replicator and its branch.
-use Rattle.std.proofs.Common.{◌≡◌, ℕ, ◌+◌, ◌-◌, ◌<◌, ◌≤◌, Bool, true, false, List, [], ◌∷◌, ◌++◌, Option, refl, sym as sym', ap, subst, ◌∙◌, arith}
+use Rattle.std.proofs.Common.{◌≡◌, ℕ, ◌+◌, ◌-◌, ◌<◌, ◌≤◌, Bool, true, false, List, [], ◌∷◌, ◌++◌, map, Option, refl, sym as sym', ap, subst, ◌∙◌, arith}
 use Rattle.xw_words.specs.declared.pos.Pos.{Pos}
 use Rattle.xc_tree.specs.declared.token.Tok.{Tok}
 use Rattle.xc_tree.specs.declared.token.Kind.TheVariants.{Key, Sym}
@@ -135,6 +135,10 @@ module _ {toks : List Tok} {room at k : ℕ} {all : List plain.Case} where
 
   pub all_selected : {p : Pos} → Selected toks room at k all → On toks k (Sym 3) p → Reads toks (room + 1) statement at (k + 1) (statement_of (extent toks at (k + 1)) (plain.select (plain.cases all)))
   all_selected h on = subst (λ (cs : List plain.Case). Reads toks (room + 1) statement at (k + 1) (statement_of (extent toks at (k + 1)) (plain.select (plain.cases cs)))) (sym' h.all_are) (all_cases h.cases on)
+
+-- what a list stands for that one element was pushed on
+pub one_pushed : {A B : Type 0} (f : A → B) (xs : List A) (x : A) {ys : List A} → ys ≡ xs ++ (x ∷ []) → xs ≡ [] → map f ys ≡ f x ∷ []
+one_pushed f xs x e g = ap (map f) (e ∙ ap (λ l. l ++ (x ∷ [])) g)
 
 -- the tokens of the statements in one more of them
 pub branches_held : (bs : List plain.Branch) (b : plain.Branch) {more : List plain.Branch} {h n : ℕ} → more ≡ bs ++ (b ∷ []) → h ≡ plain.branches_tokens (plain.branches bs) → n ≡ plain.branch_tokens b → h + n ≡ plain.branches_tokens (plain.branches more)

@@ -5,7 +5,7 @@ use Rattle.xc_tree.specs.Trees.{case_of}
 use Rattle.xc_tree.proofs.Forms.{action-Select}
 use Rattle.xc_parser.proofs.Exits.{handed_on}
 use Rattle.xc_parser.proofs.Counts.{case_within}
-use Rattle.xc_parser.proofs.ParRows.{select_brace_stops, first_case_stops, first_case, one_selected, more_selected, selected_stops, all_selected, cases_held}
+use Rattle.xc_parser.proofs.ParRows.{select_brace_stops, first_case_stops, first_case, one_selected, more_selected, selected_stops, all_selected, cases_held, one_pushed}
 use Rattle.xc_parser.proofs.parser.Parser.select.Goals as goal
 
 pub returns-in_err-open-clause-stopped : goal.returns-in_err-open-clause-stopped
@@ -24,7 +24,7 @@ cases-init c =
     let h = c.in_ok-first.ensures.held in
     let a = c.in_ok-open.ensures.bounds.0 in
     let b = c.in_ok-first.ensures.bounds.0 in
-    let e = ap (map case_of) (c.in_ok-push.ensures.ok ∙ ap (λ l. l ++ (_ ∷ [])) c.new-cases.ensures) in
+    let e = one_pushed case_of _ _ c.in_ok-push.ensures.ok c.new-cases.ensures in
     record {
       within = c.in_ok-first.ensures.bounds.1;
       held = (let q = cases_held [] _ e refl h in omega (arith, q));
