@@ -1,0 +1,4 @@
+//! From a tree to its names: each name's declaration, or the first rule of names that the program breaks.
+#![tactic(auto)]
+
+mod marks;
