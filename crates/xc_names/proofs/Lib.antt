@@ -2,3 +2,4 @@ pub mod Steps
 pub mod Bodies
 pub mod Lists
 pub mod Starts
+pub mod Ends

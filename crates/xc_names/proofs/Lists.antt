@@ -1,6 +1,7 @@
 -- Items of a list that grows at its end.
-use Rattle.std.proofs.Common.{◌≡◌, ℕ, ◌+◌, ◌<◌, ◌≤◌, ◌⊎◌, inl, inr, suc, List, [], ◌∷◌, ◌++◌, length, take, get_or, slice_get, Option, Some, None, refl, sym, ap, ◌∙◌, add-one, arith, length-append}
+use Rattle.std.proofs.Common.{◌≡◌, ℕ, ◌+◌, ◌<◌, ◌≤◌, ◌⊎◌, inl, inr, suc, List, [], ◌∷◌, ◌++◌, length, take, get_or, slice_get, slice_set, ◌≢◌, Option, Some, None, refl, sym, ap, subst, ◌∙◌, add-one, arith, length-append}
 use Rattle.std.proofs.Math.Seq.{take-suc, get_or-append_seam}
+use Rattle.std.proofs.lemmas.List.{length-set, get_or-set_same, get_or-set_other}
 use Rattle.std.proofs.Math.Nat.{eq-or-lt_of_le}
 use Rattle.std.proofs.Math.ListN.{get_or-append}
 use Rattle.std.proofs.lemmas.Option.{slice_get-get_or, slice_get_read, slice_get_within, get_or_from_slice_get}
@@ -50,3 +51,9 @@ take_push {A = A} xs i x e =
   where
     get_or_some : (ys : List A) (j : ℕ) (y : A) → slice_get ys j ≡ Some y → get_or ys j y ≡ y
     get_or_some ys j y h = get_or_from_slice_get ys j y y h
+
+pub set_at : {A : Type 0} (xs : List A) (i : ℕ) (x : A) → i < length xs → slice_get (slice_set xs i x) i ≡ Some x
+set_at xs i x h = slice_get-get_or (slice_set xs i x) i x (subst (λ (n : ℕ). i < n) (sym (length-set xs i x)) h) ∙ ap Some (get_or-set_same xs i x x h)
+
+pub set_other : {A : Type 0} (xs : List A) (i j : ℕ) (x : A) → j ≢ i → j < length xs → slice_get (slice_set xs i x) j ≡ slice_get xs j
+set_other xs i j x n h = slice_get-get_or (slice_set xs i x) j x (subst (λ (m : ℕ). j < m) (sym (length-set xs i x)) h) ∙ ap Some (get_or-set_other xs i j x x n) ∙ sym (slice_get-get_or xs j x h)
