@@ -3,3 +3,9 @@ pub mod Bodies
 pub mod Lists
 pub mod Starts
 pub mod Ends
+pub mod Known
+pub mod Finds
+pub mod Reading
+pub mod News
+pub mod Leasts
+pub mod NameRules

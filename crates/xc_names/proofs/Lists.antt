@@ -1,6 +1,6 @@
 -- Items of a list that grows at its end.
-use Rattle.std.proofs.Common.{◌≡◌, ℕ, ◌+◌, ◌<◌, ◌≤◌, ◌⊎◌, inl, inr, suc, List, [], ◌∷◌, ◌++◌, length, take, get_or, slice_get, slice_set, ◌≢◌, Option, Some, None, refl, sym, ap, subst, ◌∙◌, add-one, arith, length-append}
-use Rattle.std.proofs.Math.Seq.{take-suc, get_or-append_seam}
+use Rattle.std.proofs.Common.{◌≡◌, ℕ, ◌+◌, ◌<◌, ◌≤◌, ◌⊎◌, inl, inr, suc, List, [], ◌∷◌, ◌++◌, length, take, drop, get_or, slice_get, slice_set, ◌≢◌, Option, Some, None, refl, sym, ap, subst, ◌∙◌, add-one, arith, length-append}
+use Rattle.std.proofs.Math.Seq.{take-suc, drop-cons, get_or-append_seam}
 use Rattle.std.proofs.lemmas.List.{length-set, get_or-set_same, get_or-set_other}
 use Rattle.std.proofs.Math.Nat.{eq-or-lt_of_le}
 use Rattle.std.proofs.Math.ListN.{get_or-append}
@@ -57,3 +57,6 @@ set_at xs i x h = slice_get-get_or (slice_set xs i x) i x (subst (λ (n : ℕ). 
 
 pub set_other : {A : Type 0} (xs : List A) (i j : ℕ) (x : A) → j ≢ i → j < length xs → slice_get (slice_set xs i x) j ≡ slice_get xs j
 set_other xs i j x n h = slice_get-get_or (slice_set xs i x) j x (subst (λ (m : ℕ). j < m) (sym (length-set xs i x)) h) ∙ ap Some (get_or-set_other xs i j x x n) ∙ sym (slice_get-get_or xs j x h)
+
+pub drop_found : {A : Type 0} (xs : List A) (i : ℕ) (x : A) → slice_get xs i ≡ Some x → drop i xs ≡ x ∷ drop (i + 1) xs
+drop_found xs i x e = let less = slice_get_within xs i x e in rw (add-one, drop-cons xs i x less) (ap (λ y. y ∷ drop (suc i) xs) (get_or_from_slice_get xs i x x e))

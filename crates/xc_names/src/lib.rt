@@ -1,5 +1,9 @@
 //! From a tree to its names: each name's declaration, or the first rule of names that the program breaks.
 #![tactic(auto)]
 
+mod latest;
+mod least;
 mod marks;
+mod meanings;
+mod names;
 mod scopes;
