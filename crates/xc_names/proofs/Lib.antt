@@ -9,3 +9,5 @@ pub mod Reading
 pub mod News
 pub mod Leasts
 pub mod NameRules
+pub mod Numbers
+pub mod Mains

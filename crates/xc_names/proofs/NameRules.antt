@@ -106,7 +106,7 @@ declaration_rule ms i d e (Some x) (means k) = by (nat_eq x i) refl
         strict : {a c : ℕ} → (a ≡ c → ⊥) → a ≤ c → a < c
         strict z w = omega arith
 
-spelled_here : (ms : List Mark) (i : ℕ) (m : Mark) (t : List ℕ) (meant : List (Option ℕ)) (o : Option ℕ) → AreMeanings ms meant → slice_get ms i ≡ Some m → spelling_of m ≡ Some t → slice_get meant i ≡ Some o → Meaning ms i t o
+pub spelled_here : (ms : List Mark) (i : ℕ) (m : Mark) (t : List ℕ) (meant : List (Option ℕ)) (o : Option ℕ) → AreMeanings ms meant → slice_get ms i ≡ Some m → spelling_of m ≡ Some t → slice_get meant i ≡ Some o → Meaning ms i t o
 spelled_here ms i m t meant o a e f g =
     let x = a.each i t (record { mark = m; there = e; spelled = f }) in
     subst (Meaning ms i t) (some_same x.found o (sym x.there ∙ g)) x.right

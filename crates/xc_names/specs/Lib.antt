@@ -5,3 +5,5 @@ pub mod Meanings
 pub mod Reads
 pub mod Least
 pub mod NameRules
+pub mod Mains
+pub mod Numbers

@@ -3,7 +3,9 @@
 
 mod latest;
 mod least;
+mod main_function;
 mod marks;
 mod meanings;
 mod names;
 mod scopes;
+mod uses;
