@@ -11,3 +11,5 @@ pub mod Leasts
 pub mod NameRules
 pub mod Numbers
 pub mod Mains
+pub mod Identifiers
+pub mod PortRules

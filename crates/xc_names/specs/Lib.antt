@@ -7,3 +7,5 @@ pub mod Least
 pub mod NameRules
 pub mod Mains
 pub mod Numbers
+pub mod Taken
+pub mod PortRules

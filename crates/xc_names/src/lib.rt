@@ -7,5 +7,7 @@ mod main_function;
 mod marks;
 mod meanings;
 mod names;
+mod ports;
 mod scopes;
+mod taken;
 mod uses;
