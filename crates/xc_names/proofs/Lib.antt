@@ -13,3 +13,6 @@ pub mod Numbers
 pub mod Mains
 pub mod Identifiers
 pub mod PortRules
+pub mod Callees
+pub mod Searches
+pub mod Cycles

@@ -9,3 +9,6 @@ pub mod Mains
 pub mod Numbers
 pub mod Taken
 pub mod PortRules
+pub mod Callees
+pub mod Searches
+pub mod Cycles

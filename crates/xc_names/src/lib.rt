@@ -1,6 +1,7 @@
 //! From a tree to its names: each name's declaration, or the first rule of names that the program breaks.
 #![tactic(auto)]
 
+mod calls;
 mod latest;
 mod least;
 mod main_function;
@@ -11,3 +12,4 @@ mod ports;
 mod scopes;
 mod taken;
 mod uses;
+
