@@ -4,9 +4,8 @@ use Rattle.std.proofs.lemmas.Option.{slice_get-get_or, slice_get_within}
 use Rattle.xw_words.specs.declared.pos.Pos.{Pos}
 use Rattle.xc_tree.specs.declared.names.Mark.{Mark}
 use Rattle.xc_tree.specs.declared.names.Mark.TheVariants.{Opens, Closes, Declares, Uses, Calls}
-use Rattle.xc_names.specs.declared.calls.Call.{Call}
 use Rattle.xc_names.specs.Meanings.{AreMeanings, Meaning, means, unknown}
-use Rattle.xc_names.specs.Callees.{called_at, declared_function, IsCall, FoundCall, a_call, no_call}
+use Rattle.xc_names.specs.Callees.{called_at, declared_function, FoundCall, a_call, no_call}
 use Rattle.xc_names.proofs.NameRules.{spelled_here}
 
 some_same : {A : Type 0} (a b : A) → Some a ≡ Some b → a ≡ b
@@ -39,6 +38,7 @@ module _ (ms : List Mark) (meant : List (Option ℕ)) (u : ℕ) (m : Mark) (ther
         of_meaning : (t : List ℕ) (o : Option ℕ) → Meaning ms u t o → o ≡ Some d → d < length ms
         of_meaning t o (means {d = x} k) q = subst (λ (j : ℕ). j < length ms) (some_same x d q) (slice_get_within ms x _ k.declared.there)
         of_meaning t o (unknown no_one) q = absurd (clash d q)
+
         by : (x : Mark) → slice_get ms u ≡ Some x → called_at x ≡ Some p → d < length ms
         by Opens g h = absurd (clash p h)
         by Closes g h = absurd (clash p h)

@@ -1,27 +1,25 @@
 -- The calls that the search finds are those that stand on a cycle of calls.
-use Rattle.std.proofs.Common.{◌≡◌, ℕ, ◌+◌, ◌<◌, ◌≤◌, ◌⊎◌, inl, inr, List, [], ◌∷◌, ◌++◌, length, take, slice_get, Option, None, Some, refl, sym, ap, subst, ◌∙◌, arith}
+use Rattle.std.proofs.Common.{◌≡◌, ℕ, ◌+◌, ◌<◌, ◌≤◌, ◌⊎◌, inl, inr, List, length, slice_get, Option, None, Some, refl, sym, ap, subst, ◌∙◌, arith}
 use Rattle.std.proofs.lemmas.Bool.{cases_lt}
 use Rattle.std.proofs.lemmas.List.{take_all}
 use Rattle.std.proofs.lemmas.Option.{slice_get_within}
 use Rattle.xw_words.specs.declared.pos.Pos.{Pos}
 use Rattle.xw_words.specs.declared.pos.Broken.{Broken}
 use Rattle.xc_tree.specs.declared.tree.Id.{Id}
-use Rattle.xc_tree.specs.declared.names.Decl.{Decl}
 use Rattle.xc_tree.specs.declared.names.What.{What}
 use Rattle.xc_tree.specs.declared.names.What.TheVariants as what
 use Rattle.xc_tree.specs.declared.names.Mark.{Mark}
 use Rattle.xc_tree.specs.declared.names.Mark.TheVariants.{Opens, Closes, Declares, Uses, Calls}
 use Rattle.xc_tree.specs.Plain as plain
 use Rattle.xc_tree.specs.Names.Marks.{of_items, of_program}
-use Rattle.xc_tree.specs.Names.Scopes.{Means, IsWithin, end_of}
-use Rattle.xc_tree.specs.Names.Calls.{first_of, IsInItem, CallsAt, Reaches, directly, through, IsOnCycle}
-use Rattle.xc_tree.specs.Names.Rules.{Breaks304}
+use Rattle.xc_tree.specs.Names.Scopes.{Means, IsWithin}
+use Rattle.xc_tree.specs.Names.Calls.{first_of, IsInItem, CallsAt, Reaches, directly, through}
 use Rattle.xc_names.specs.Starts.{AreStarts}
 use Rattle.xc_names.specs.Least.{IsLeastOf}
 use Rattle.xc_names.specs.Meanings.{AreMeanings, Meaning, means, unknown}
 use Rattle.xc_names.specs.Callees.{called_at, declared_function, function_of, IsCall}
 use Rattle.xc_names.specs.Cycles.{HasCycle, on_cycle}
-use Rattle.xc_names.specs.Searches.{IsInBody, IsStep, IsNext, IsBackIn, IsReached, itself, further, IsBackTo, IsBackToOne}
+use Rattle.xc_names.specs.Searches.{IsInBody, IsStep, IsNext, IsReached, itself, further, IsBackToOne}
 use Rattle.xc_names.proofs.Leasts.{of_same}
 use Rattle.xc_names.proofs.NameRules.{spelled_here}
 
@@ -67,6 +65,7 @@ module _ (program : List plain.Item) (meant : List (Option ℕ)) (starts : List 
     where
       same : length program ≤ f → first_of program f ≡ first_of program (f + 1)
       same h = ap (λ (is : List plain.Item). length (of_items 0 is)) (take_all f program h ∙ sym (take_all (f + 1) program (omega arith)))
+
       by : (f < length program) ⊎ (length program ≤ f) → f < length program
       by (inl h) = h
       by (inr h) = let e = same h in let a = i.begun in let b = i.before_next in absurd (omega arith)
@@ -105,6 +104,7 @@ module _ (program : List plain.Item) (meant : List (Option ℕ)) (starts : List 
             };
             place = q;
           }
+
       by : (m : Mark) → slice_get (of_program program) u ≡ Some m → called_at m ≡ Some p → IsNamed program u f g p
       by Opens e q = absurd (clash p q)
       by Closes e q = absurd (clash p q)
@@ -118,6 +118,7 @@ module _ (program : List plain.Item) (meant : List (Option ℕ)) (starts : List 
       kept : (o : Option ℕ) → slice_get meant u ≡ Some o → Meaning (of_program program) u n.text o → slice_get meant u ≡ Some (Some c.declared_at)
       kept o e (means {d = d} k) = e ∙ ap (λ (x : ℕ). Some (Some x)) (one_meaning (of_program program) u n.text d c.declared_at k c.means)
       kept o e (unknown no_one) = absurd (no_one c.declared_at c.means.declared c.means.known)
+
       call : IsCall (of_program program) meant u n.pos g
       call =
           let m = are.each u n.text (record { mark = Calls n; there = c.called; spelled = refl }) in
@@ -170,6 +171,7 @@ module _ (program : List plain.Item) (meant : List (Option ℕ)) (starts : List 
       small : (x.cycle.callee ≡ x.cycle.caller) ⊎ Reaches program x.cycle.callee x.cycle.caller → x.cycle.callee < length program
       small (inl e) = subst (λ (z : ℕ). z < length program) (sym e) (is_item x.«at» x.cycle.caller x.cycle.calls.inside)
       small (inr r) = calls_from x.cycle.callee x.cycle.caller r
+
       reached : (x.cycle.callee ≡ x.cycle.caller) ⊎ Reaches program x.cycle.callee x.cycle.caller → IsReached (of_program program) meant starts x.cycle.callee x.cycle.caller
       reached (inl e) = subst (IsReached (of_program program) meant starts x.cycle.callee) e itself
       reached (inr r) = of_reaches x.cycle.callee x.cycle.caller r

@@ -1,7 +1,7 @@
 -- Looking a declaration up along those that its name meant before.
-use Rattle.std.proofs.Common.{◌≡◌, ℕ, suc, ◌+◌, ◌-◌, ◌<◌, ◌≤◌, ◌⊎◌, inl, inr, List, [], ◌∷◌, ◌++◌, length, get_or, slice_get, Option, None, Some, refl, sym, ap, subst, ◌∙◌, arith}
+use Rattle.std.proofs.Common.{◌≡◌, ℕ, suc, ◌+◌, ◌-◌, ◌<◌, ◌≤◌, List, [], ◌∷◌, ◌++◌, length, get_or, slice_get, Option, None, Some, refl, sym, subst, ◌∙◌, arith}
 use Rattle.std.proofs.lemmas.Option.{slice_get-get_or, slice_get_within, get_or_from_slice_get}
-use Rattle.xc_names.specs.Reads.{EndsBehind, no_scope, behind, Finds, nothing, open_still, ended, IsFound}
+use Rattle.xc_names.specs.Reads.{EndsBehind, behind, Finds, nothing, open_still, ended, IsFound}
 use Rattle.xc_names.proofs.Lists.{push_before}
 
 -- what is found from the next one is found from the first, and there is such

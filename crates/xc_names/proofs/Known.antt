@@ -1,17 +1,13 @@
 -- Which declaration a name means, as the walk over the marks keeps it.
-use Rattle.std.proofs.Common.{◌≡◌, ℕ, zero, suc, ◌+◌, ◌-◌, ◌<◌, ◌≤◌, ◌⊎◌, inl, inr, List, [], ◌∷◌, ◌++◌, length, drop, get_or, slice_get, Option, None, Some, refl, sym, ap, subst, ◌∙◌, arith}
-use Rattle.std.proofs.lemmas.Bool.{cases_eq, cases_order}
+use Rattle.std.proofs.Common.{◌≡◌, ℕ, zero, suc, ◌+◌, ◌-◌, ◌<◌, ◌≤◌, ◌⊎◌, inl, inr, List, [], ◌∷◌, length, drop, Option, None, Some, sym, ap, subst, ◌∙◌, arith}
 use Rattle.std.proofs.lemmas.List.{drop-drop, length-drop}
-use Rattle.std.proofs.lemmas.Option.{slice_get_within}
 use Rattle.std.proofs.Math.Nat.{eq-or-lt_of_le}
 use Rattle.xc_tree.specs.declared.names.Mark.{Mark}
 use Rattle.xc_tree.specs.declared.names.Mark.TheVariants.{Opens, Closes, Declares, Uses, Calls}
-use Rattle.xc_tree.specs.Names.Scopes.{to_end, end_of, DeclaresAt, IsKnown, IsWithin, Means}
-use Rattle.xc_names.specs.Ends.{AreEnds}
-use Rattle.xc_names.specs.Meanings.{spelling_of, IsSpelledAt, Meaning, means, unknown, IsMeantAt, AreMeanings}
-use Rattle.xc_names.specs.Reads.{EndsBehind, no_scope, behind, Finds, nothing, open_still, ended, IsFound, IsSeen, Answer, best, none_known, Answers, HasRead}
-use Rattle.xc_names.proofs.Finds.{one_found, found_pushed, found_on}
-use Rattle.xc_names.proofs.Lists.{below_or_at, push_before, push_at, length_push, drop_found}
+use Rattle.xc_tree.specs.Names.Scopes.{to_end, end_of, DeclaresAt, IsKnown, IsWithin}
+use Rattle.xc_names.specs.Meanings.{spelling_of, IsSpelledAt, Meaning, means, unknown}
+use Rattle.xc_names.specs.Reads.{IsSeen, Answer, best, none_known}
+use Rattle.xc_names.proofs.Lists.{below_or_at, drop_found}
 
 -- more scopes that have begun since end no later
 to_end_mono : (ms : List Mark) (j k : ℕ) → j ≤ k → to_end j ms ≤ to_end k ms

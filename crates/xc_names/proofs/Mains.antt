@@ -1,16 +1,15 @@
 -- Whether there is a function `main` without parameters.
-use Rattle.std.proofs.Common.{◌≡◌, ℕ, suc, ◌+◌, ◌<◌, ◌≤◌, ◌⊎◌, inl, inr, List, [], ◌∷◌, length, map, get_or, slice_get, Bool, true, false, ◌&&◌, nat_eq, codes, option_map, Option, None, Some, refl, sym, ap, subst, ◌∙◌, arith}
+use Rattle.std.proofs.Common.{◌≡◌, ℕ, suc, ◌+◌, ◌<◌, ◌⊎◌, inl, inr, List, [], ◌∷◌, length, map, get_or, slice_get, Bool, true, false, ◌&&◌, nat_eq, codes, option_map, None, Some, refl, sym, ap, subst, ◌∙◌, arith}
 use Rattle.std.specs.Cmp.Lexicographic.{pointwise, bytes_decides}
 use Rattle.std.proofs.lemmas.Bool.Decides.{nat_tests}
-use Rattle.std.proofs.lemmas.List.{length-map}
-use Rattle.std.proofs.lemmas.Option.{slice_get_read, slice_get-map, slice_get_within}
+use Rattle.std.proofs.lemmas.Option.{slice_get_read, slice_get-map}
 use Rattle.xw_words.specs.declared.pos.Pos.{Pos}
 use Rattle.xw_words.specs.declared.pos.Broken.{Broken}
 use Rattle.xc_tree.specs.declared.tree.Param.{Param}
 use Rattle.xc_tree.specs.declared.tree.Item.{Item as Entry}
 use Rattle.xc_tree.specs.Plain as plain
 use Rattle.xc_tree.specs.Trees.{item_of}
-use Rattle.xc_tree.specs.Names.Rules.{IsMain, Breaks305}
+use Rattle.xc_tree.specs.Names.Rules.{IsMain}
 use Rattle.xc_names.specs.Least.{IsLeastOf}
 use Rattle.xc_names.specs.Mains.{IsMainless, mainless, is_main}
 use Rattle.xc_names.proofs.Leasts.{none_broken, one_broken}

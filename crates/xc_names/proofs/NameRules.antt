@@ -1,19 +1,18 @@
 -- The rules 301 and 302, by what names mean.
-use Rattle.std.proofs.Common.{◌≡◌, ℕ, ◌+◌, ◌<◌, ◌≤◌, ◌⊎◌, inl, inr, List, length, slice_get, get_or, Bool, true, false, nat_eq, if◌then◌else◌, Option, None, Some, refl, sym, ap, subst, ◌∙◌, arith}
+use Rattle.std.proofs.Common.{◌≡◌, ℕ, ◌+◌, ◌<◌, ◌≤◌, ◌⊎◌, inl, inr, List, length, slice_get, Bool, true, false, nat_eq, if◌then◌else◌, Option, None, Some, refl, sym, ap, subst, ◌∙◌, arith}
 use Rattle.std.proofs.lemmas.Option.{slice_get_within}
 use Rattle.std.proofs.lemmas.Bool.Decides.{nat_tests}
-use Rattle.xw_words.specs.declared.pos.Pos.{Pos}
 use Rattle.xw_words.specs.declared.pos.Broken.{Broken}
 use Rattle.xc_tree.specs.declared.tree.Id.{Id}
 use Rattle.xc_tree.specs.declared.names.Decl.{Decl}
 use Rattle.xc_tree.specs.declared.names.Mark.{Mark}
 use Rattle.xc_tree.specs.declared.names.Mark.TheVariants.{Opens, Closes, Declares, Uses, Calls}
-use Rattle.xc_tree.specs.Names.Scopes.{end_of, DeclaresAt, IsKnown, IsWithin, Means}
+use Rattle.xc_tree.specs.Names.Scopes.{end_of, DeclaresAt, IsKnown, IsWithin}
 use Rattle.xc_tree.specs.Names.Uses.{IsUse}
 use Rattle.xc_names.specs.Least.{IsLeastOf, first_of}
-use Rattle.xc_names.specs.Meanings.{spelling_of, IsSpelledAt, Meaning, means, unknown, IsMeantAt, AreMeanings}
+use Rattle.xc_names.specs.Meanings.{spelling_of, Meaning, means, unknown, AreMeanings}
 use Rattle.xc_names.specs.NameRules.{IsBrokenAt, unknown as unknown_name, again, IsBrokenBefore, at_use, at_declaration, broken_by}
-use Rattle.xc_names.proofs.Known.{knows_itself, ends_no_earlier, own_scope, nested}
+use Rattle.xc_names.proofs.Known.{knows_itself, ends_no_earlier, own_scope}
 use Rattle.xc_names.proofs.Leasts.{either, of_same, none_broken, one_broken}
 use Rattle.xc_names.proofs.Lists.{below_or_at}
 

@@ -4,9 +4,9 @@ use Rattle.std.proofs.lemmas.Option.{slice_get_within, slice_get_read, get_or_fr
 use Rattle.std.proofs.lemmas.Bool.Decides.{nat_tests}
 use Rattle.xc_tree.specs.declared.names.Mark.{Mark}
 use Rattle.xc_tree.specs.declared.names.Mark.TheVariants.{Opens, Closes, Declares, Uses, Calls}
-use Rattle.xc_tree.specs.Names.Scopes.{end_of, DeclaresAt, IsKnown, IsWithin}
+use Rattle.xc_tree.specs.Names.Scopes.{end_of, DeclaresAt, IsWithin}
 use Rattle.xc_names.specs.Ends.{AreEnds}
-use Rattle.xc_names.specs.Meanings.{spelling_of, declared_by, IsSpelledAt, AreMeanings}
+use Rattle.xc_names.specs.Meanings.{spelling_of, declared_by, AreMeanings}
 use Rattle.xc_names.specs.Reads.{Finds, nothing, open_still, IsFound, IsSeen, Answer, best, none_known, Answers, HasRead, FirstGlobal, first, absent, HasGlobals, ends_with, adds_one}
 use Rattle.xc_names.proofs.Known.{end_within, IsInScope, AddsNone}
 use Rattle.xc_names.proofs.Reading.{each_spelling, found_here, pass, look_up, declare}

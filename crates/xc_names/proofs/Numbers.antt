@@ -1,15 +1,13 @@
 -- The numbers of declarations, and the entries of names.
-use Rattle.std.proofs.Common.{◌≡◌, ℕ, suc, ◌+◌, ◌<◌, ◌≤◌, ◌⊎◌, inl, inr, List, [], ◌∷◌, ◌++◌, length, take, drop, get_or, slice_get, Bool, true, false, if◌then◌else◌, Option, None, Some, refl, sym, ap, subst, ◌∙◌, arith, length-append, append-nil, add-zero}
-use Rattle.std.proofs.lemmas.List.{take_all, take-append-drop}
-use Rattle.std.proofs.lemmas.Option.{slice_get_within, slice_get_read, slice_get-get_or}
+use Rattle.std.proofs.Common.{◌≡◌, ℕ, ◌+◌, ◌<◌, ◌≤◌, ◌⊎◌, inl, inr, List, [], ◌∷◌, ◌++◌, length, take, drop, slice_get, Option, None, Some, refl, sym, ap, subst, ◌∙◌, arith, length-append}
+use Rattle.std.proofs.lemmas.List.{take-append-drop}
+use Rattle.std.proofs.lemmas.Option.{slice_get_within}
 use Rattle.xw_words.specs.declared.pos.Broken.{Broken}
-use Rattle.xc_tree.specs.declared.names.Decl.{Decl}
 use Rattle.xc_tree.specs.declared.names.Mark.{Mark}
 use Rattle.xc_tree.specs.declared.names.Mark.TheVariants.{Opens, Closes, Declares, Uses, Calls}
-use Rattle.xc_tree.specs.Names.Scopes.{Means, DeclaresAt}
-use Rattle.xc_tree.specs.Names.Uses.{declarations, number_of, IsUse, Entries, none, past_begin, past_end, declared, used, AreUses}
-use Rattle.xc_names.specs.Meanings.{spelling_of, Meaning, means, unknown, AreMeanings}
-use Rattle.xc_names.specs.NameRules.{IsBrokenAt, unknown as unknown_name, IsBrokenBefore}
+use Rattle.xc_tree.specs.Names.Uses.{declarations, number_of, IsUse, Entries, past_begin, past_end, declared, used}
+use Rattle.xc_names.specs.Meanings.{Meaning, means, unknown, AreMeanings}
+use Rattle.xc_names.specs.NameRules.{unknown as unknown_name, IsBrokenBefore}
 use Rattle.xc_names.specs.Numbers.{AreNumbers, count_in, entry_of}
 use Rattle.xc_names.proofs.Lists.{below_or_at, push_before, push_at, length_push, take_push}
 use Rattle.xc_names.proofs.NameRules.{spelled_here}

@@ -1,14 +1,13 @@
 -- Rule 303, port by port.
-use Rattle.std.proofs.Common.{◌≡◌, ℕ, ◌+◌, ◌<◌, ◌≤◌, ◌⊎◌, inl, inr, Bool, true, false, not, ◌&&◌, nat_eq, if◌then◌else◌, List, [], ◌∷◌, ◌++◌, length, take, get_or, slice_get, map, Contains, Option, None, Some, refl, sym, ap, subst, ◌∙◌, arith, append-nil}
+use Rattle.std.proofs.Common.{◌≡◌, ℕ, ◌+◌, ◌<◌, ◌≤◌, ◌⊎◌, inl, inr, Bool, true, false, not, ◌&&◌, nat_eq, if◌then◌else◌, List, [], ◌∷◌, ◌++◌, length, take, slice_get, Contains, Option, None, Some, refl, sym, ap, subst, ◌∙◌, arith, append-nil}
 use Rattle.std.specs.Cmp.Lexicographic.{pointwise, bytes_decides}
 use Rattle.std.proofs.lemmas.Bool.Decides.{nat_tests}
-use Rattle.std.proofs.lemmas.Option.{slice_get-get_or, slice_get_read, slice_get_within, get_or_from_slice_get}
+use Rattle.std.proofs.lemmas.Option.{slice_get_read, slice_get_within, get_or_from_slice_get}
 use Rattle.std.proofs.lemmas.List.{length-take-le, get_or-take, take_all, take-append-le}
-use Rattle.xw_words.specs.declared.pos.Pos.{Pos}
 use Rattle.xw_words.specs.declared.pos.Broken.{Broken}
 use Rattle.xc_tree.specs.Plain as plain
 use Rattle.xc_tree.specs.Names.Ports.{identifiers, core_of, ports}
-use Rattle.xc_tree.specs.Names.Rules.{Breaks303, IsUsedAgain}
+use Rattle.xc_tree.specs.Names.Rules.{IsUsedAgain}
 use Rattle.xc_names.specs.Least.{IsLeastOf, first_of}
 use Rattle.xc_names.specs.PortRules.{HasWrongPort, wrong_port, IsOnCore, IsWrong, unnamed, doubled, AreTaken, Takes, TakesItem, by_port, by_function, is_taken_on, rule_of, rule_of_item}
 use Rattle.xc_names.specs.Taken.{is_among}

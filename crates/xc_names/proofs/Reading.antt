@@ -1,16 +1,16 @@
 -- One mark further in the walk that finds what names mean.
-use Rattle.std.proofs.Common.{◌≡◌, ℕ, suc, ◌+◌, ◌-◌, ◌<◌, ◌≤◌, ◌⊎◌, inl, inr, List, [], ◌∷◌, ◌++◌, length, get_or, slice_get, Bool, true, false, true≢false, nat_eq, Option, None, Some, refl, sym, ap, subst, ◌∙◌, arith}
+use Rattle.std.proofs.Common.{◌≡◌, ℕ, ◌+◌, ◌<◌, ◌≤◌, ◌⊎◌, inl, inr, List, [], ◌∷◌, ◌++◌, length, Bool, true, false, true≢false, nat_eq, Option, None, Some, refl, sym, ap, subst, ◌∙◌, arith}
 use Rattle.std.specs.Cmp.Lexicographic.{pointwise, bytes_decides}
 use Rattle.std.proofs.lemmas.Option.{slice_get_within}
 use Rattle.std.proofs.lemmas.Bool.{cases_lt}
 use Rattle.std.proofs.Math.Nat.{eq-or-lt_of_le}
 use Rattle.xc_tree.specs.declared.names.Mark.{Mark}
-use Rattle.xc_tree.specs.Names.Scopes.{end_of, DeclaresAt, IsKnown, IsWithin, Means}
+use Rattle.xc_tree.specs.Names.Scopes.{end_of, DeclaresAt, IsKnown, IsWithin}
 use Rattle.xc_names.specs.Ends.{AreEnds}
-use Rattle.xc_names.specs.Meanings.{spelling_of, IsSpelledAt, Meaning, IsMeantAt, AreMeanings}
-use Rattle.xc_names.specs.Reads.{EndsBehind, no_scope, behind, Finds, open_still, ended, IsFound, IsSeen, Answer, best, none_known, Answers, HasRead}
+use Rattle.xc_names.specs.Meanings.{IsSpelledAt, Meaning, IsMeantAt}
+use Rattle.xc_names.specs.Reads.{EndsBehind, no_scope, behind, Finds, open_still, ended, IsSeen, Answer, best, none_known, Answers, HasRead}
 use Rattle.xc_names.proofs.Finds.{one_found, found_pushed, found_on}
-use Rattle.xc_names.proofs.Known.{one_spelling, spelled_as, own_scope, knows_itself, seen_or_here, seen_more, seen_still, ends_no_earlier, known_on, IsInScope, AddsNone, stays, meaning_of}
+use Rattle.xc_names.proofs.Known.{one_spelling, spelled_as, own_scope, seen_more, seen_still, ends_no_earlier, known_on, IsInScope, AddsNone, stays, meaning_of}
 use Rattle.xc_names.proofs.Lists.{below_or_at, push_before, push_at, length_push}
 
 -- the meaning of one more place is kept

@@ -7,14 +7,13 @@ use Rattle.std.proofs.lemmas.Option.{slice_get-get_or, slice_get_read, slice_get
 use Rattle.indexmap.specs.IndexSet.{insert_key}
 use Rattle.indexmap.proofs.CallerLemmas.{Contains-insert_key, Contains-list_any}
 use Rattle.std.proofs.lemmas.Map.Steps.{length-le_from_distinct_below}
-
 use Rattle.xw_words.specs.declared.pos.Pos.{Pos}
 use Rattle.xw_words.specs.declared.pos.Broken.{Broken}
 use Rattle.xc_tree.specs.declared.names.Mark.{Mark}
 use Rattle.xc_names.specs.declared.calls.Call.{Call}
 use Rattle.xc_names.specs.Least.{IsLeastOf, first_of}
 use Rattle.xc_names.specs.Callees.{called_at, declared_function, IsCall, FoundCall, a_call, no_call}
-use Rattle.xc_names.specs.Searches.{Has, IsInBody, IsStep, IsCallBefore, IsBackBefore, Adds, AreBounds, AreWithin, IsNext, IsBackIn, AddsNext, IsReached, itself, further, IsBackTo, IsBackToOne, back_of}
+use Rattle.xc_names.specs.Searches.{Has, IsStep, IsCallBefore, IsBackBefore, Adds, AreBounds, IsNext, IsBackIn, AddsNext, IsReached, itself, further, IsBackTo, IsBackToOne, back_of}
 use Rattle.xc_names.proofs.Leasts.{either, of_same, none_broken, one_broken}
 use Rattle.xc_names.proofs.Lists.{below_or_at, pushed, push_before}
 
@@ -50,6 +49,7 @@ module _ (ks : List ℕ) (h : ℕ) where
       split : (slice_get ks g.place ≡ Some x) ⊎ ((g.place ≡ length ks) × (h ≡ x)) → Has ks x ⊎ (h ≡ x)
       split (inl e) = inl (record { place = g.place; there = e })
       split (inr e) = inr e.1
+
       by : (b : Bool) → list_any (nat_eq h) ks ≡ b → Has ks x ⊎ (h ≡ x)
       by true q = inl (record { place = g.place; there = ap (λ (xs : List ℕ). slice_get xs g.place) (sym (inserted true q)) ∙ g.there })
       by false q = split (pushed ks h x g.place (ap (λ (xs : List ℕ). slice_get xs g.place) (sym (inserted false q)) ∙ g.there))
@@ -92,6 +92,7 @@ module _ (ms : List Mark) (meant : List (Option ℕ)) where
       by : (x : ℕ) → Has old x ⊎ (call.callee ≡ x) → Has old x ⊎ IsCallBefore ms meant u (u + 1) x
       by x (inl h) = inl h
       by x (inr q) = inr (record { place = u; pos = call.pos; behind = omega arith; before = omega arith; call = subst (λ (y : ℕ). IsCall ms meant u call.pos y) q c })
+
       bound : ((x : ℕ) → Has old x → x < 2 ^ 32) → (x : ℕ) → Has old x ⊎ (call.callee ≡ x) → x < 2 ^ 32
       bound s x (inl h) = s x h
       bound s x (inr q) = subst (λ (y : ℕ). y < 2 ^ 32) q less
@@ -101,6 +102,7 @@ module _ (ms : List Mark) (meant : List (Option ℕ)) where
     where
       here : (b : Broken) → (d : IsBackBefore ms meant u (u + 1) g b) → (call.pos ≡ d.pos) × (call.callee ≡ g)
       here b d = one_call u call.pos d.pos call.callee g c (subst (λ (y : ℕ). IsCall ms meant y d.pos g) (sym (only_here u d.place d.behind d.before)) d.call)
+
       by : (t : Bool) → nat_eq call.callee g ≡ t → IsLeastOf (IsBackBefore ms meant u (u + 1) g) (if nat_eq call.callee g then Some (record { rule = 304; pos = call.pos }) else None)
       by true e = rw e (one_broken (IsBackBefore ms meant u (u + 1) g) _ (record { place = u; pos = call.pos; behind = omega arith; before = omega arith; call = subst (λ (y : ℕ). IsCall ms meant u call.pos y) (equal call.callee g e) c; is = refl }) (λ b d. d.is ∙ ap (λ (p : Pos). record { rule = 304; pos = p }) (sym (here b d).0)))
       by false e = rw e (none_broken (IsBackBefore ms meant u (u + 1) g) (λ b d. unequal call.callee g e (here b d).1))
@@ -120,11 +122,14 @@ module _ (ms : List Mark) (meant : List (Option ℕ)) where
       earlier : (z : ℕ) → Has a z ⊎ IsCallBefore ms meant from u z → Has a z ⊎ IsCallBefore ms meant from (u + 1) z
       earlier z (inl k) = inl k
       earlier z (inr k) = inr (record { place = k.place; pos = k.pos; behind = k.behind; before = let l = k.before in omega arith; call = k.call })
+
       only : (z : ℕ) → Has b z ⊎ IsCallBefore ms meant u (u + 1) z → Has a z ⊎ IsCallBefore ms meant from (u + 1) z
       only z (inl k) = earlier z (x.only z k)
       only z (inr k) = inr (record { place = k.place; pos = k.pos; behind = let l = k.behind in omega arith; before = k.before; call = k.call })
+
       kept : (z : ℕ) → Has b z → Has c z
       kept z k = record { place = k.place; there = y.keeps k.place z k.there }
+
       all : (z : ℕ) → (k : IsCallBefore ms meant from (u + 1) z) → (k.place < u) ⊎ (u ≤ k.place) → Has c z
       all z k (inl l) = kept z (x.all z (record { place = k.place; pos = k.pos; behind = k.behind; before = l; call = k.call }))
       all z k (inr l) = y.all z (record { place = k.place; pos = k.pos; behind = l; before = k.before; call = k.call })
@@ -138,6 +143,7 @@ module _ (ms : List Mark) (meant : List (Option ℕ)) where
       to : (b : Broken) → IsBackBefore ms meant from u g b ⊎ IsBackBefore ms meant u (u + 1) g b → IsBackBefore ms meant from (u + 1) g b
       to b (inl k) = record { place = k.place; pos = k.pos; behind = k.behind; before = let l = k.before in omega arith; call = k.call; is = k.is }
       to b (inr k) = record { place = k.place; pos = k.pos; behind = let l = k.behind in omega arith; before = k.before; call = k.call; is = k.is }
+
       back : (b : Broken) → IsBackBefore ms meant from (u + 1) g b → IsBackBefore ms meant from u g b ⊎ IsBackBefore ms meant u (u + 1) g b
       back b k = by (cases_lt k.place u)
         where
@@ -179,9 +185,9 @@ module _ (ms : List Mark) (meant : List (Option ℕ)) (starts : List ℕ) (n f f
 
   pub passed_back : (g : ℕ) (best : Option Broken) → IsLeastOf (IsBackBefore ms meant first end g) best → IsLeastOf (IsBackIn ms meant starts g f) best
   passed_back g best l = of_same (IsBackBefore ms meant first end g) (IsBackIn ms meant starts g f) best
-    (λ b k. record { place = k.place; pos = k.pos; step = step_of k.place k.pos g k.behind k.before k.call; is = k.is })
-    (λ b k. let i = bounds.inside k.place k.step.inside in record { place = k.place; pos = k.pos; behind = i.0; before = i.1; call = k.step.call; is = k.is })
-    l
+      (λ b k. record { place = k.place; pos = k.pos; step = step_of k.place k.pos g k.behind k.before k.call; is = k.is })
+      (λ b k. let i = bounds.inside k.place k.step.inside in record { place = k.place; pos = k.pos; behind = i.0; before = i.1; call = k.step.call; is = k.is })
+      l
 
 -- a call of g in one of the first items of a list
 pub record IsBackAmong (ms : List Mark) (meant : List (Option ℕ)) (starts : List ℕ) (g next : ℕ) (ks : List ℕ) (b : Broken) : Type 0 where
@@ -215,6 +221,7 @@ search_begins ms meant starts g empty ks less e f = rw (f, e) (record {
       where
         zero_only : (k : ℕ) → k < 1 → k ≡ 0
         zero_only k l = omega arith
+
         by : (k : ℕ) → k < 1 → slice_get (g ∷ []) k ≡ Some x → g ≡ x
         by k l q = some_same g x (subst (λ (i : ℕ). slice_get (g ∷ []) i ≡ Some x) (zero_only k l) q)
 
@@ -230,23 +237,29 @@ search_on ms meant starts g next f ks new best o s e a l = record {
   where
     kept : (x : ℕ) → Has ks x → Has new x
     kept x h = record { place = h.place; there = a.keeps h.place x h.there }
+
     reach : (x : ℕ) → Has ks x ⊎ IsNext ms meant starts f x → IsReached ms meant starts g x
     reach x (inl h) = s.reached x h
     reach x (inr h) = further (s.reached f (record { place = next; there = e })) h
+
     -- what stands early in the longer list stands there in the shorter
     early : (j y : ℕ) → j < next → slice_get new j ≡ Some y → slice_get ks j ≡ Some y
     early j y h q =
         let less : j < length ks = let w = s.within in omega arith in
         let r = slice_get-get_or ks j 0 less in
         r ∙ ap Some (some_same _ y (sym (a.keeps j (get_or ks j 0) r) ∙ q))
+
     at_next : (y : ℕ) → slice_get new next ≡ Some y → f ≡ y
     at_next y q = some_same f y (sym (a.keeps next f e) ∙ q)
+
     close : (j y x : ℕ) → slice_get new j ≡ Some y → IsNext ms meant starts y x → (j < next) ⊎ (j ≡ next) → Has new x
     close j y x q k (inl h) = kept x (s.closed j y x h (early j y h q) k)
     close j y x q k (inr h) = a.all x (subst (λ (z : ℕ). IsNext ms meant starts z x) (sym (at_next y (subst (λ (i : ℕ). slice_get new i ≡ Some y) h q))) k)
+
     to : (b : Broken) → IsBackAmong ms meant starts g next ks b ⊎ IsBackIn ms meant starts g f b → IsBackAmong ms meant starts g (next + 1) new b
     to b (inl k) = record { order = k.order; item = k.item; before = let h = k.before in omega arith; there = a.keeps k.order k.item k.there; back = k.back }
     to b (inr k) = record { order = next; item = f; before = omega arith; there = a.keeps next f e; back = k }
+
     back : (b : Broken) → IsBackAmong ms meant starts g (next + 1) new b → IsBackAmong ms meant starts g next ks b ⊎ IsBackIn ms meant starts g f b
     back b k = by (below_or_at k.order next k.before)
       where
@@ -259,13 +272,16 @@ all_searched ms meant starts g next ks best h s = of_same (IsBackAmong ms meant 
   where
     before : {j n m : ℕ} → j < n → n ≤ m → j < m
     before x y = omega arith
+
     complete : (x : ℕ) → IsReached ms meant starts g x → Has ks x
     complete x itself = s.rooted
     complete x (further {f = f} r k) =
         let i = complete f r in
         s.closed i.place f x (before (slice_get_within ks i.place f i.there) h) i.there k
+
     to : (b : Broken) → IsBackAmong ms meant starts g next ks b → IsBackTo ms meant starts g b
     to b k = record { item = k.item; reached = s.reached k.item (record { place = k.order; there = k.there }); back = k.back }
+
     back : (b : Broken) → IsBackTo ms meant starts g b → IsBackAmong ms meant starts g next ks b
     back b k =
         let i = complete k.item k.reached in
@@ -298,6 +314,7 @@ next_goal ms meant starts g best o x y = of_same (λ b. IsBackToOne ms meant sta
     to : (b : Broken) → IsBackToOne ms meant starts g b ⊎ IsBackTo ms meant starts g b → IsBackToOne ms meant starts (g + 1) b
     to b (inl k) = record { goal = k.goal; before = let h = k.before in omega arith; back = k.back }
     to b (inr k) = record { goal = g; before = omega arith; back = k }
+
     back : (b : Broken) → IsBackToOne ms meant starts (g + 1) b → IsBackToOne ms meant starts g b ⊎ IsBackTo ms meant starts g b
     back b k = by (below_or_at k.goal g k.before)
       where

@@ -1,5 +1,5 @@
 -- The function `main`.
-use Rattle.std.specs.Prelude.{◌≡◌, ℕ, ◌<◌, Bool, false, ◌&&◌, nat_eq, List, length, codes}
+use Rattle.std.specs.Prelude.{Bool, false, ◌&&◌, nat_eq, List, length, codes}
 use Rattle.std.specs.Cmp.Lexicographic.{pointwise}
 use Rattle.xw_words.specs.declared.pos.Pos.{Pos}
 use Rattle.xw_words.specs.declared.pos.Broken.{Broken}

@@ -1,8 +1,8 @@
 -- Rule 303, port by port.
-use Rattle.std.specs.Prelude.{◌≡◌, ℕ, ◌<◌, ◌⊎◌, Bool, true, false, not, ◌&&◌, if◌then◌else◌, List, [], ◌∷◌, slice_get, Contains, Option, Some, None}
+use Rattle.std.specs.Prelude.{◌≡◌, ℕ, Bool, true, false, not, ◌&&◌, if◌then◌else◌, List, slice_get, Contains, Option, Some, None}
 use Rattle.xw_words.specs.declared.pos.Broken.{Broken}
 use Rattle.xc_tree.specs.Plain as plain
-use Rattle.xc_tree.specs.Names.Ports.{identifiers, core_of, ports}
+use Rattle.xc_tree.specs.Names.Ports.{identifiers, core_of}
 use Rattle.xc_tree.specs.Names.Rules.{Breaks303}
 use Rattle.xc_names.specs.Taken.{is_among}
 

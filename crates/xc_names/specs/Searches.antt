@@ -1,5 +1,5 @@
 -- The search along calls from one function, which gives the calls that come back to it.
-use Rattle.std.specs.Prelude.{◌≡◌, ℕ, ◌+◌, ◌<◌, ◌≤◌, ◌^◌, ◌⊎◌, List, length, slice_get, nat_eq, if◌then◌else◌, Option, Some, None}
+use Rattle.std.specs.Prelude.{◌≡◌, ℕ, ◌+◌, ◌<◌, ◌≤◌, ◌^◌, ◌⊎◌, List, slice_get, nat_eq, if◌then◌else◌, Option, Some, None}
 use Rattle.xw_words.specs.declared.pos.Pos.{Pos}
 use Rattle.xw_words.specs.declared.pos.Broken.{Broken}
 use Rattle.xc_tree.specs.declared.names.Mark.{Mark}

@@ -12,4 +12,3 @@ mod ports;
 mod scopes;
 mod taken;
 mod uses;
-

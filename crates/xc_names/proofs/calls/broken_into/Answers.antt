@@ -1,5 +1,4 @@
-use Rattle.std.proofs.Common.{◌≡◌, ℕ, ◌+◌, ◌<◌, ◌≤◌, ◌^◌, List, length, get_or, slice_get, Some, sym, ap, subst, ◌∙◌, arith}
-use Rattle.xc_names.specs.Searches.{Has}
+use Rattle.std.proofs.Common.{◌≡◌, ℕ, ◌<◌, ◌≤◌, List, length, get_or, slice_get, Some, ap, arith}
 use Rattle.xc_names.proofs.Searches.{search_begins, search_on, all_searched, next_item, few, one_less}
 use Rattle.xc_names.proofs.calls.broken_into.Goals as goal
 

@@ -1,4 +1,4 @@
-use Rattle.std.proofs.Common.{◌≡◌, sym, ◌∙◌, arith}
+use Rattle.std.proofs.Common.{sym, ◌∙◌, arith}
 use Rattle.xc_names.proofs.News.{mark_at}
 use Rattle.xc_names.proofs.Callees.{is_none, none_called, none_meant, meant_inside, none_function, some_function}
 use Rattle.xc_names.proofs.calls.call_at.Goals as goal
@@ -16,7 +16,7 @@ returns-in_default-meant-clause-found c =
 pub prove-unreachable-requires : goal.prove-unreachable-requires
 prove-unreachable-requires c =
     let h = meant_inside c.args.marks.now c.args.meant.now c.args.at c.index-marks-at.result (mark_at _ _ _ c.index-marks-at.is c.requires.within) c.requires.meant
-        c.in-Some.pos (sym c.called.ensures ∙ c.in-Some.is) c.in-Some-meant.d c.in-Some-meant.is in
+    c.in-Some.pos (sym c.called.ensures ∙ c.in-Some.is) c.in-Some-meant.d c.in-Some-meant.is in
     omega arith
 
 pub returns-in-None-clause-found : goal.returns-in-None-clause-found

@@ -1,5 +1,4 @@
-use Rattle.std.proofs.Common.{◌≡◌, ℕ, ◌<◌, ◌^◌, Option, Some, None, IfSome, subst}
-use Rattle.xc_names.specs.declared.calls.Call.{Call}
+use Rattle.std.proofs.Common.{subst}
 use Rattle.xc_names.specs.Callees.{FoundCall}
 use Rattle.xc_names.proofs.Searches.{adds_none, back_none, adds_one, back_one}
 use Rattle.xc_names.proofs.calls.follow.Goals as goal

@@ -1,6 +1,3 @@
-use Rattle.std.proofs.Common.{◌≤◌}
-use Rattle.xc_names.specs.Least.{IsLeastOf}
-use Rattle.xc_names.specs.Searches.{Adds, IsBackBefore}
 use Rattle.xc_names.proofs.Searches.{InPass}
 use Rattle.xc_names.proofs.calls.pass.Given as goal
 

@@ -1,4 +1,4 @@
-use Rattle.std.proofs.Common.{◌≡◌, ℕ, ◌<◌, map}
+use Rattle.std.proofs.Common.{ℕ, ◌<◌, map}
 use Rattle.xc_tree.specs.Names.Rules.{IsMain}
 use Rattle.xc_tree.specs.Trees.{item_of}
 use Rattle.xc_names.proofs.main_function.broken_main.Given as goal

@@ -1,4 +1,4 @@
-use Rattle.xc_names.proofs.Finds.{begin, go_out, looks_at, none_left}
+use Rattle.xc_names.proofs.Finds.{begin, go_out}
 use Rattle.xc_names.proofs.meanings.find.Goals as goal
 
 pub out-init : goal.out-init

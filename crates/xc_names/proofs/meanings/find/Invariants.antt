@@ -1,5 +1,3 @@
-use Rattle.std.proofs.Common.{◌≡◌, ℕ, suc, ◌+◌, ◌-◌, List, Option, None, Some, get_or}
-use Rattle.xc_names.specs.Reads.{Finds, IsFound}
 use Rattle.xc_names.proofs.Finds.{Leads, left}
 use Rattle.xc_names.proofs.meanings.find.Given as goal
 

@@ -1,6 +1,5 @@
-use Rattle.std.proofs.Common.{◌≡◌, Some, sym, ◌∙◌}
+use Rattle.std.proofs.Common.{sym, ◌∙◌}
 use Rattle.xc_names.specs.Latest.{latest_of}
-use Rattle.xc_names.specs.Meanings.{declared_by}
 use Rattle.xc_names.proofs.News.{no_some, some_some, mark_at, global_none, global_inner, global_again, global_new}
 use Rattle.xc_names.proofs.meanings.keep_global.Goals as goal
 

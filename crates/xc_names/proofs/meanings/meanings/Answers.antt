@@ -1,4 +1,4 @@
-use Rattle.std.proofs.Common.{◌≡◌, ℕ, ◌≤◌, sym, subst, ◌∙◌, arith}
+use Rattle.std.proofs.Common.{arith}
 use Rattle.xc_names.specs.Latest.{latest_of}
 use Rattle.xc_names.proofs.News.{begins, all_read}
 use Rattle.xc_names.proofs.meanings.meanings.Goals as goal

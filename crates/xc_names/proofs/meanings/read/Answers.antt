@@ -1,4 +1,4 @@
-use Rattle.std.proofs.Common.{◌≡◌, ℕ, ◌<◌, length, List, Option, Some, None, IfSome, refl, sym, ap, subst, ◌∙◌, arith}
+use Rattle.std.proofs.Common.{◌≡◌, ℕ, ◌<◌, length, Option, Some, None, IfSome, refl, sym, ◌∙◌, arith}
 use Rattle.xc_names.specs.Latest.{latest_of}
 use Rattle.xc_names.proofs.News.{no_some, some_some, mark_at, over_none, can_find, finds_inside, over_new, over_old}
 use Rattle.xc_names.proofs.meanings.read.Goals as goal

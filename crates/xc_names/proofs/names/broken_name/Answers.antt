@@ -1,6 +1,5 @@
-use Rattle.std.proofs.Common.{◌≡◌, ℕ, ◌<◌, length, List, get_or, slice_get, Option, Some, None, refl, arith}
+use Rattle.std.proofs.Common.{◌≡◌, ℕ, ◌<◌, length, List, get_or, slice_get, Option, Some, None, arith}
 use Rattle.std.proofs.lemmas.Option.{slice_get-get_or}
-use Rattle.xc_names.specs.Meanings.{AreMeanings}
 use Rattle.xc_names.specs.NameRules.{broken_by}
 use Rattle.xc_names.proofs.News.{mark_at}
 use Rattle.xc_names.proofs.NameRules.{mark_rule, one_further}

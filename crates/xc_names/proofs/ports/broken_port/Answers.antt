@@ -1,8 +1,7 @@
-use Rattle.std.proofs.Common.{◌≡◌, ℕ, ◌≤◌, List, length, map, sym, ap, ◌∙◌, arith}
+use Rattle.std.proofs.Common.{ℕ, ◌≤◌, List, length, map, sym, arith}
 use Rattle.std.proofs.lemmas.List.{length-map}
 use Rattle.xc_tree.specs.declared.tree.Item.{Item}
 use Rattle.xc_tree.specs.Trees.{item_of}
-use Rattle.xc_names.specs.PortRules.{rule_of_item}
 use Rattle.xc_names.specs.Taken.{is_taken}
 use Rattle.xc_names.proofs.Mains.{item_at}
 use Rattle.xc_names.proofs.PortRules.{none_seen, see_item, all_seen}

@@ -1,4 +1,4 @@
-use Rattle.std.proofs.Common.{◌≡◌, sym, ◌∙◌}
+use Rattle.std.proofs.Common.{sym, ◌∙◌}
 use Rattle.xc_names.proofs.Identifiers.{found_row, passed_row, no_row}
 use Rattle.xc_names.proofs.ports.is_among.Goals as goal
 

@@ -1,7 +1,7 @@
-use Rattle.std.proofs.Common.{◌≡◌, ℕ, ◌+◌, ◌-◌, ◌<◌, ◌≤◌, List, length, get_or, slice_set, sym, ap, subst, ◌∙◌, arith}
+use Rattle.std.proofs.Common.{◌≡◌, ℕ, ◌+◌, ◌-◌, ◌<◌, List, length, get_or, slice_set, ap, subst, ◌∙◌, arith}
 use Rattle.xc_tree.specs.declared.names.Mark.{Mark}
 use Rattle.xc_names.specs.Ends.{open_before, last_or}
-use Rattle.xc_names.proofs.Ends.{Back, behind, back_over, all_known}
+use Rattle.xc_names.proofs.Ends.{Back, back_over}
 use Rattle.xc_names.proofs.scopes.scope_ends.Goals as goal
 
 below : (n : ℕ) → 0 < n → n ≡ n - 1 + 1

@@ -1,11 +1,6 @@
-use Rattle.std.proofs.Common.{◌≡◌, ℕ, ◌+◌, ◌<◌, List, [], ◌∷◌, ◌++◌, length, get_or, slice_get, Option, Some, None, sym, ap, subst, ◌∙◌, arith}
+use Rattle.std.proofs.Common.{◌≡◌, ℕ, ◌<◌, List, length, get_or, slice_get, Option, Some, None, sym, ◌∙◌, arith}
 use Rattle.std.proofs.lemmas.Option.{slice_get-get_or, get_or_from_slice_get}
-use Rattle.xw_words.specs.declared.pos.Broken.{Broken}
-use Rattle.xc_tree.specs.declared.names.Mark.{Mark}
-use Rattle.xc_tree.specs.Names.Uses.{Entries, number_of}
-use Rattle.xc_names.specs.Meanings.{AreMeanings}
-use Rattle.xc_names.specs.NameRules.{IsBrokenBefore}
-use Rattle.xc_names.specs.Numbers.{AreNumbers, entry_of}
+use Rattle.xc_tree.specs.Names.Uses.{number_of}
 use Rattle.xc_names.proofs.News.{mark_at}
 use Rattle.xc_names.proofs.Numbers.{onward, entry_inside}
 use Rattle.xc_names.proofs.uses.add_entry.Goals as goal

@@ -1,6 +1,6 @@
-use Rattle.std.proofs.Common.{◌≡◌, ℕ, ◌+◌, ◌<◌, ◌≤◌, ◌^◌, List, [], length, Fits, w32, sym, ap, ◌∙◌, arith}
+use Rattle.std.proofs.Common.{arith}
 use Rattle.xc_names.proofs.News.{mark_at}
-use Rattle.xc_names.proofs.Numbers.{no_counts, counted, room_for}
+use Rattle.xc_names.proofs.Numbers.{counted, room_for}
 use Rattle.xc_names.proofs.uses.numbers.Goals as goal
 
 pub loop-mark-preserved : goal.loop-mark-preserved

@@ -1,6 +1,5 @@
 use Rattle.std.proofs.Common.{◌≡◌, ℕ, Bool, true, false, List, nat_eq, refl, sym}
 use Rattle.std.specs.Cmp.Lexicographic.{pointwise, bytes_decides}
-use Rattle.xc_names.specs.Latest.{latest_of}
 use Rattle.xc_names.proofs.latest.Latest.keep.Goals as goal
 
 differ : (a b : List ℕ) → (b ≡ a → ⊥) → pointwise nat_eq a b ≡ false

@@ -1,7 +1,6 @@
 use Rattle.std.proofs.Common.{◌≡◌, ℕ, Bool, true, false, ◌&&◌, List, nat_eq, refl, sym, arith}
 use Rattle.std.specs.Cmp.Lexicographic.{pointwise, bytes_decides}
 use Rattle.std.proofs.lemmas.Bool.Decides.{nat_tests}
-use Rattle.xc_names.specs.Taken.{is_taken}
 use Rattle.xc_names.proofs.taken.Taken.take.Goals as goal
 
 differ : (a b : List ℕ) (m n : ℕ) → (b ≡ a → n ≡ m → ⊥) → (pointwise nat_eq a b && nat_eq m n) ≡ false
