@@ -16,3 +16,5 @@ pub mod PortRules
 pub mod Callees
 pub mod Searches
 pub mod Cycles
+pub mod Together
+pub mod Bounds

@@ -12,3 +12,4 @@ pub mod PortRules
 pub mod Callees
 pub mod Searches
 pub mod Cycles
+pub mod Errors

@@ -9,6 +9,9 @@ mod marks;
 mod meanings;
 mod names;
 mod ports;
+mod resolution;
 mod scopes;
 mod taken;
 mod uses;
+
+pub use resolution::{NameErr, resolve};
