@@ -15,11 +15,11 @@ use Rattle.xc_parser.proofs.Heads.{split_ends, join_ends, split_starts, join_sta
 -- with this room a symbol is read so, or not at all
 pub record Known (toks : List Tok) (room : Room) (t : Symbol) (k j : ℕ) (v : Value t) : Type 0 where
   pub derives : Derives toks room t k j v
-  pub only : (l : ℕ) (w : Value t) → Derives toks room t k l w → ((l ≡ j) × (w ≡ v)) ⊎ GoesOn toks t l
+  pub only : (l : ℕ) (w : Value t) → Derives toks room t k l w → ((l ≡ j) × (w ≡ v)) ⊎ GoesOn toks t l w
   pub most : (n : ℕ) → Prefix toks room t k n → n ≤ j
 
 pub record Never (toks : List Tok) (room : Room) (t : Symbol) (k m : ℕ) : Type 0 where
-  pub never : (l : ℕ) (w : Value t) → Derives toks room t k l w → GoesOn toks t l
+  pub never : (l : ℕ) (w : Value t) → Derives toks room t k l w → GoesOn toks t l w
   pub most : (n : ℕ) → Prefix toks room t k n → n ≤ m
 
 module _ {toks : List Tok} {room : ℕ} {t : Symbol} {k j : ℕ} where

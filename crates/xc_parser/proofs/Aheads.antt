@@ -13,7 +13,8 @@ use Rattle.xc_parser.specs.Follows.{StandsAt, OneOf, has, follows}
 use Rattle.xc_parser.specs.Reading.{GoesOn, Reads, Refuses, TooDeep, Unfit}
 use Rattle.xc_parser.specs.Stops.{Stopped}
 use Rattle.xc_parser.proofs.Rests.{Part, ValuesOf, Rest, Ends, Starts, EndsBy, StartsBy, Open, Stands, inside, left}
-use Rattle.xc_parser.proofs.Opening.{keep, without, over, sift, grown, layers, all_ready, is_any, moves, peak, firsts, nullables, is_apart, no_head, one_head, Heads, popped, heads_apart}
+use Rattle.xc_parser.proofs.Opening.{freely, keep, without, over, sift, grown, layers, all_ready, is_any, moves, peak, firsts, nullables, is_apart, no_head, one_head, Heads, popped, heads_apart}
+use Rattle.xc_parser.proofs.Goes.{goes_by, goes_one}
 use Rattle.xc_parser.proofs.TokenSets.{one_is}
 use Rattle.xc_parser.proofs.Firsts.{parts_first, begun_first}
 use Rattle.xc_parser.proofs.Forth.{forth, lift, lift_prefix, inside_free, inside_most}
@@ -48,19 +49,19 @@ module _ {toks : List Tok} {room : Room} {s : Symbol} {i k : ℕ} where
     starts = λ n x. elim (b.starts n (inl x)) [ inl h ↦ h | inr y ↦ absurd (subst (λ (l : List (Rest (Value s))). Starts toks room l m n) (none_left rs' e) y) ];
   }
 
-  dying : (t : Symbol) (v : Value t) → TokenAt toks k t v → (u : Symbol) → StandsAt toks (k + 1) u → (r : Rest (Value s)) → lasts (follows s) t v u r ≡ false → Gone toks room s i k (k + 1) r
+  dying : (t : Symbol) (v : Value t) → TokenAt toks k t v → (u : Symbol) → StandsAt toks (k + 1) u → (r : Rest (Value s)) → lasts (freely s) t v u r ≡ false → Gone toks room s i k (k + 1) r
   dying t v at u next r e =
-      let a = all_ready (follows s) t (grown layers (follows s) t (r ∷ [])) in
-      let c = is_any (keep (follows s) u (over (follows s) t v (r ∷ []))) in
+      let a = all_ready (freely s) t (grown layers (freely s) t (r ∷ [])) in
+      let c = is_any (keep (freely s) u (over (freely s) t v (r ∷ []))) in
       let p = and_parts a (not c) (not-false (a && not c) e) in
-      gone_by (compose (overs t v at (r ∷ []) p.0) (at_token u next (over (follows s) t v (r ∷ []))) (omega arith)) (not-true c p.1)
+      gone_by (compose (overs t v at (r ∷ []) p.0) (at_token u next (over (freely s) t v (r ∷ []))) (omega arith)) (not-true c p.1)
 
-  dying_else : (t : Symbol) (v : Value t) → TokenAt toks k t v → (us : List Symbol) → (OneOf toks (k + 1) us → ⊥) → (r : Rest (Value s)) → lasts_else (follows s) t v us r ≡ false → Gone toks room s i k (k + 1) r
+  dying_else : (t : Symbol) (v : Value t) → TokenAt toks k t v → (us : List Symbol) → (OneOf toks (k + 1) us → ⊥) → (r : Rest (Value s)) → lasts_else (freely s) t v us r ≡ false → Gone toks room s i k (k + 1) r
   dying_else t v at us none r e =
-      let a = all_ready (follows s) t (grown layers (follows s) t (r ∷ [])) in
-      let c = is_any (without us (over (follows s) t v (r ∷ []))) in
+      let a = all_ready (freely s) t (grown layers (freely s) t (r ∷ [])) in
+      let c = is_any (without us (over (freely s) t v (r ∷ []))) in
       let p = and_parts a (not c) (not-false (a && not c) e) in
-      gone_by (compose (overs t v at (r ∷ []) p.0) (at_none us none (over (follows s) t v (r ∷ []))) (omega arith)) (not-true c p.1)
+      gone_by (compose (overs t v at (r ∷ []) p.0) (at_none us none (over (freely s) t v (r ∷ []))) (omega arith)) (not-true c p.1)
 
 module _ {toks : List Tok} {room : ℕ} {s : Symbol} {i k : ℕ} {rs : List (Rest (Value s))} where
   ruled : (b : Rest (Value s) → Bool) → ((room : Room) (r : Rest (Value s)) → b r ≡ false → Gone toks room s i k (k + 1) r) → Roomy toks room s i k rs → Ahead toks room s i k (k + 1) (sift b rs)
@@ -74,34 +75,34 @@ module _ {toks : List Tok} {room : ℕ} {s : Symbol} {i k : ℕ} {rs : List (Res
       }
 
   -- a name, and a token or another behind it
-  pub name_symbol : {x : List ℕ} {p q : Pos} {o : ℕ} → Roomy toks room s i k rs → On toks k (Name x) p → On toks (k + 1) (Sym o) q → Ahead toks room s i k (k + 1) (sift (lasts (follows s) a_name (record { text = x; pos = p }) (sym o)) rs)
-  name_symbol {x} {p} {q} {o} st a b = ruled (lasts (follows s) a_name (record { text = x; pos = p }) (sym o)) (λ c r e. dying a_name (record { text = x; pos = p }) a (sym o) (q, b) r e) st
+  pub name_symbol : {x : List ℕ} {p q : Pos} {o : ℕ} → Roomy toks room s i k rs → On toks k (Name x) p → On toks (k + 1) (Sym o) q → Ahead toks room s i k (k + 1) (sift (lasts (freely s) a_name (record { text = x; pos = p }) (sym o)) rs)
+  name_symbol {x} {p} {q} {o} st a b = ruled (lasts (freely s) a_name (record { text = x; pos = p }) (sym o)) (λ c r e. dying a_name (record { text = x; pos = p }) a (sym o) (q, b) r e) st
 
-  pub name_word : {x : List ℕ} {p q : Pos} {w : ℕ} → Roomy toks room s i k rs → On toks k (Name x) p → On toks (k + 1) (Key w) q → Ahead toks room s i k (k + 1) (sift (lasts (follows s) a_name (record { text = x; pos = p }) (key w)) rs)
-  name_word {x} {p} {q} {w} st a b = ruled (lasts (follows s) a_name (record { text = x; pos = p }) (key w)) (λ c r e. dying a_name (record { text = x; pos = p }) a (key w) (q, b) r e) st
+  pub name_word : {x : List ℕ} {p q : Pos} {w : ℕ} → Roomy toks room s i k rs → On toks k (Name x) p → On toks (k + 1) (Key w) q → Ahead toks room s i k (k + 1) (sift (lasts (freely s) a_name (record { text = x; pos = p }) (key w)) rs)
+  name_word {x} {p} {q} {w} st a b = ruled (lasts (freely s) a_name (record { text = x; pos = p }) (key w)) (λ c r e. dying a_name (record { text = x; pos = p }) a (key w) (q, b) r e) st
 
   -- a name, and none of these behind it
-  pub name_else : (us : List Symbol) {x : List ℕ} {p : Pos} → Roomy toks room s i k rs → On toks k (Name x) p → (OneOf toks (k + 1) us → ⊥) → Ahead toks room s i k (k + 1) (sift (lasts_else (follows s) a_name (record { text = x; pos = p }) us) rs)
-  name_else us {x} {p} st a none = ruled (lasts_else (follows s) a_name (record { text = x; pos = p }) us) (λ c r e. dying_else a_name (record { text = x; pos = p }) a us none r e) st
+  pub name_else : (us : List Symbol) {x : List ℕ} {p : Pos} → Roomy toks room s i k rs → On toks k (Name x) p → (OneOf toks (k + 1) us → ⊥) → Ahead toks room s i k (k + 1) (sift (lasts_else (freely s) a_name (record { text = x; pos = p }) us) rs)
+  name_else us {x} {p} st a none = ruled (lasts_else (freely s) a_name (record { text = x; pos = p }) us) (λ c r e. dying_else a_name (record { text = x; pos = p }) a us none r e) st
 
   -- over the first token
-  pub over_ahead : (t : Symbol) (v : Value t) → TokenAt toks k t v → Ahead toks room s i k (k + 1) rs → moves (follows s) t rs (over (follows s) t v rs) ≡ true → Roomy toks room s i (k + 1) (over (follows s) t v rs)
+  pub over_ahead : (t : Symbol) (v : Value t) → TokenAt toks k t v → Ahead toks room s i k (k + 1) rs → moves (freely s) t rs (over (freely s) t v rs) ≡ true → Roomy toks room s i (k + 1) (over (freely s) t v rs)
   over_ahead t v at st e =
-      let m = moves_from (follows s) t rs (over (follows s) t v rs) e in
+      let m = moves_from (freely s) t rs (over (freely s) t v rs) e in
       let n = m.needs in
       let h = st.needs in
       record {
         stands = record {
-          free = ahead_pass unlimited st.free m.ready (any_has (over (follows s) t v rs) m.any);
-          held = ahead_pass (at_most room) st.held m.ready (peak_has room (over (follows s) t v rs) m.any (omega arith));
+          free = ahead_pass unlimited st.free m.ready (any_has (over (freely s) t v rs) m.any);
+          held = ahead_pass (at_most room) st.held m.ready (peak_has room (over (freely s) t v rs) m.any (omega arith));
         };
         needs = omega arith;
       }
     where
-      ahead_pass : (room : Room) → Open toks room s i k (k + 1) rs → all_ready (follows s) t (grown layers (follows s) t rs) ≡ true → OneHas room (over (follows s) t v rs) → Open toks room s i (k + 1) (k + 1) (over (follows s) t v rs)
+      ahead_pass : (room : Room) → Open toks room s i k (k + 1) rs → all_ready (freely s) t (grown layers (freely s) t rs) ≡ true → OneHas room (over (freely s) t v rs) → Open toks room s i (k + 1) (k + 1) (over (freely s) t v rs)
       ahead_pass room o f h =
           let g = grows {room = room} {s = s} {i = i} layers t (token_stands toks k t v at) rs in
-          narrow o (overs t v at rs f) (omega arith) (o.prefix (k + 1) (g.starts_back (k + 1) (behind_here toks room k t v at (grown layers (follows s) t rs) h)))
+          narrow o (overs t v at rs f) (omega arith) (o.prefix (k + 1) (g.starts_back (k + 1) (behind_here toks room k t v at (grown layers (freely s) t rs) h)))
 
 module _ {toks : List Tok} {room : ℕ} {s : Symbol} {i k m : ℕ} {rs : List (Rest (Value s))} {t : Symbol} {a : ℕ} (heads : Heads t a rs) where
   -- the symbol that all rests begin with is read from the first token on
@@ -149,7 +150,7 @@ module _ {toks : List Tok} {room : ℕ} {s : Symbol} {i k m n a : ℕ} {t : Symb
 
 -- A symbol that is read up to l at most, by any reading that doesn't go on.
 pub record Alone (toks : List Tok) (t : Symbol) (k l : ℕ) : Type 0 where
-  pub only : (j : ℕ) (w : Value t) → Derives toks unlimited t k j w → (j ≡ l) ⊎ GoesOn toks t j
+  pub only : (j : ℕ) (w : Value t) → Derives toks unlimited t k j w → (j ≡ l) ⊎ GoesOn toks t j w
   pub most : (n : ℕ) → Prefix toks unlimited t k n → n ≤ l
 
 pub alone_read : {toks : List Tok} {room : ℕ} {t : Symbol} {k l : ℕ} {v : Value t} → Reads toks room t k l v → Alone toks t k l
@@ -160,32 +161,32 @@ alone_unfit r = record { only = λ j w d. elim (r.only j w d) [ inl e ↦ inl e.
 
 -- the token behind such a symbol doesn't stand there in a rest
 abbrev pub rules_out : Symbol → Symbol → List Part → Symbol → Bool
-rules_out s t ps u = is_apart s t ps && (not (has (firsts ps) u) && (not (nullables ps) || has (follows s) u))
+rules_out s t ps u = is_apart s t ps && (not (has (firsts ps) u) && (not (nullables ps) || has (freely s) u))
 
 module _ {toks : List Tok} {room : Room} {s : Symbol} {i k l : ℕ} {n a : ℕ} {t : Symbol} {ps : List Part} {f : ValuesOf (record { above = a; symbol = t } ∷ ps) → Bool} {make : Extent → ValuesOf (record { above = a; symbol = t } ∷ ps) → Value s} where
   ruled_out : Alone toks t k l → (u : Symbol) → StandsAt toks l u → rules_out s t ps u ≡ true → Gone toks room s i k l (record { need = n; parts = record { above = a; symbol = t } ∷ ps; fits = f; make = make })
   ruled_out al u at e =
-      let p = and_parts (is_apart s t ps) (not (has (firsts ps) u) && (not (nullables ps) || has (follows s) u)) e in
-      let q = and_parts (not (has (firsts ps) u)) (not (nullables ps) || has (follows s) u) p.1 in
+      let p = and_parts (is_apart s t ps) (not (has (firsts ps) u) && (not (nullables ps) || has (freely s) u)) e in
+      let q = and_parts (not (has (firsts ps) u)) (not (nullables ps) || has (freely s) u) p.1 in
       let ap : Apart toks s t ps = apart_from s t ps p.0 in
       let no_first : OneOf toks l (firsts ps) → ⊥ = λ o. let b = one_is u at o in let c = not-true (has (firsts ps) u) q.0 in absurd (cc) in
-      let goes : nullables ps ≡ true → GoesOn toks s l = λ h. elim (or_cases (not (nullables ps)) (has (follows s) u) q.1) [ inl b ↦ let c = not-true (nullables ps) b in absurd (cc) | inr b ↦ record { token = u; stands = at; among = b } ] in
+      let goes : (v : Value s) → nullables ps ≡ true → GoesOn toks s l v = λ v h. elim (or_cases (not (nullables ps)) (has (freely s) u) q.1) [ inl b ↦ let c = not-true (nullables ps) b in absurd (cc) | inr b ↦ goes_by toks l s u v at b ] in
       record {
         ends = λ j v x. elim (al.only x.2.0 x.0.0 (lift x.2.2)) [
           | inl b ↦ elim (parts_first toks room ps x.2.0 j x.0.1 x.2.3) [
-            | inl c ↦ subst (GoesOn toks s) (sym' (c.0 ∙ b)) (goes c.1)
+            | inl c ↦ subst (λ (y : ℕ). GoesOn toks s y v) (sym' (c.0 ∙ b)) (goes v c.1)
             | inr o ↦ absurd (no_first (subst (λ (y : ℕ). OneOf toks y (firsts ps)) b o))
           ]
           | inr g ↦ elim (parts_first toks room ps x.2.0 j x.0.1 x.2.3) [
-            | inl c ↦ subst (GoesOn toks s) (sym' c.0) (ap.ends x.2.0 g c.1)
-            | inr o ↦ absurd (ap.begins x.2.0 g o)
+            | inl c ↦ subst (λ (y : ℕ). GoesOn toks s y v) (sym' c.0) (ap.ends x.2.0 v (goes_one toks t x.2.0 x.0.0 g) c.1)
+            | inr o ↦ absurd (ap.begins x.2.0 (goes_one toks t x.2.0 x.0.0 g) o)
           ]
         ];
         starts = λ b x. elim x.1 [
           | inl q ↦ al.most b (lift_prefix q.1)
           | inr y ↦ elim (al.only y.0 y.1 (lift y.3)) [
             | inl c ↦ elim (begun_first toks room ps y.0 b y.4) [ inl h ↦ omega (arith, c) | inr o ↦ absurd (no_first (subst (λ (z : ℕ). OneOf toks z (firsts ps)) c o)) ]
-            | inr g ↦ elim (begun_first toks room ps y.0 b y.4) [ inl h ↦ let d = al.most y.0 (whole (lift y.3)) in omega arith | inr o ↦ absurd (ap.begins y.0 g o) ]
+            | inr g ↦ elim (begun_first toks room ps y.0 b y.4) [ inl h ↦ let d = al.most y.0 (whole (lift y.3)) in omega arith | inr o ↦ absurd (ap.begins y.0 (goes_one toks t y.0 y.1 g) o) ]
           ]
         ];
       }

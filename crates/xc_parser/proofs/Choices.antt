@@ -14,7 +14,7 @@ use Rattle.xc_parser.proofs.Beginnings.{all_begun}
 use Rattle.xc_parser.proofs.Narrows.{at_token, at_none}
 use Rattle.xc_parser.proofs.Spreads.{spreads}
 use Rattle.xc_parser.proofs.Moves.{pass, stay, one_any, one_has, none_ends, none_starts}
-use Rattle.xc_parser.proofs.Opening.{is_token, beginnings, over, all_ready, grown, layers, OneFits, NoneFits, keep, without, spread, is_any}
+use Rattle.xc_parser.proofs.Opening.{freely, is_token, beginnings, over, all_ready, grown, layers, OneFits, NoneFits, keep, without, spread, is_any}
 
 module _ {toks : List Tok} {room : ℕ} {s : Symbol} where
   pub all_open : {i : ℕ} → is_token s ≡ false → Stands toks room s i i (beginnings s)
@@ -22,29 +22,29 @@ module _ {toks : List Tok} {room : ℕ} {s : Symbol} where
 
   module _ {i k : ℕ} {rs : List (Rest (Value s))} where
     -- over a token that at least one rest has room for
-    pub pass_token : (t : Symbol) (v : Value t) → TokenAt toks k t v → Stands toks room s i k rs → all_ready (follows s) t (grown layers (follows s) t rs) ≡ true → OneFits room (over (follows s) t v rs) → Stands toks room s i (k + 1) (over (follows s) t v rs)
-    pass_token t v at st e h = record { free = pass t v at st.free e (one_any room (over (follows s) t v rs) h); held = pass t v at st.held e (one_has room (over (follows s) t v rs) h) }
+    pub pass_token : (t : Symbol) (v : Value t) → TokenAt toks k t v → Stands toks room s i k rs → all_ready (freely s) t (grown layers (freely s) t rs) ≡ true → OneFits room (over (freely s) t v rs) → Stands toks room s i (k + 1) (over (freely s) t v rs)
+    pass_token t v at st e h = record { free = pass t v at st.free e (one_any room (over (freely s) t v rs) h); held = pass t v at st.held e (one_has room (over (freely s) t v rs) h) }
 
-    pub pass_symbol : {o : ℕ} {p : Pos} → Stands toks room s i k rs → On toks k (Sym o) p → all_ready (follows s) (sym o) (grown layers (follows s) (sym o) rs) ≡ true → OneFits room (over (follows s) (sym o) p rs) → Stands toks room s i (k + 1) (over (follows s) (sym o) p rs)
+    pub pass_symbol : {o : ℕ} {p : Pos} → Stands toks room s i k rs → On toks k (Sym o) p → all_ready (freely s) (sym o) (grown layers (freely s) (sym o) rs) ≡ true → OneFits room (over (freely s) (sym o) p rs) → Stands toks room s i (k + 1) (over (freely s) (sym o) p rs)
     pass_symbol {o} {p} st on e h = pass_token (sym o) p on st e h
 
-    pub pass_word : {w : ℕ} {p : Pos} → Stands toks room s i k rs → On toks k (Key w) p → all_ready (follows s) (key w) (grown layers (follows s) (key w) rs) ≡ true → OneFits room (over (follows s) (key w) p rs) → Stands toks room s i (k + 1) (over (follows s) (key w) p rs)
+    pub pass_word : {w : ℕ} {p : Pos} → Stands toks room s i k rs → On toks k (Key w) p → all_ready (freely s) (key w) (grown layers (freely s) (key w) rs) ≡ true → OneFits room (over (freely s) (key w) p rs) → Stands toks room s i (k + 1) (over (freely s) (key w) p rs)
     pass_word {w} {p} st on e h = pass_token (key w) p on st e h
 
-    pub pass_name : {t : List ℕ} {p : Pos} → Stands toks room s i k rs → On toks k (Name t) p → all_ready (follows s) a_name (grown layers (follows s) a_name rs) ≡ true → OneFits room (over (follows s) a_name (record { text = t; pos = p }) rs) → Stands toks room s i (k + 1) (over (follows s) a_name (record { text = t; pos = p }) rs)
+    pub pass_name : {t : List ℕ} {p : Pos} → Stands toks room s i k rs → On toks k (Name t) p → all_ready (freely s) a_name (grown layers (freely s) a_name rs) ≡ true → OneFits room (over (freely s) a_name (record { text = t; pos = p }) rs) → Stands toks room s i (k + 1) (over (freely s) a_name (record { text = t; pos = p }) rs)
     pass_name {t} {p} st on e h = pass_token a_name (record { text = t; pos = p }) on st e h
 
     -- the rests that a token leaves open
-    pub only_token : (t : Symbol) → StandsAt toks k t → Stands toks room s i k rs → Stands toks room s i k (keep (follows s) t rs)
+    pub only_token : (t : Symbol) → StandsAt toks k t → Stands toks room s i k rs → Stands toks room s i k (keep (freely s) t rs)
     only_token t at st = record { free = stay st.free (at_token t at rs); held = stay st.held (at_token t at rs) }
 
-    pub only_symbol : {o : ℕ} {p : Pos} → Stands toks room s i k rs → On toks k (Sym o) p → Stands toks room s i k (keep (follows s) (sym o) rs)
+    pub only_symbol : {o : ℕ} {p : Pos} → Stands toks room s i k rs → On toks k (Sym o) p → Stands toks room s i k (keep (freely s) (sym o) rs)
     only_symbol {o} {p} st on = only_token (sym o) (p, on) st
 
-    pub only_word : {w : ℕ} {p : Pos} → Stands toks room s i k rs → On toks k (Key w) p → Stands toks room s i k (keep (follows s) (key w) rs)
+    pub only_word : {w : ℕ} {p : Pos} → Stands toks room s i k rs → On toks k (Key w) p → Stands toks room s i k (keep (freely s) (key w) rs)
     only_word {w} {p} st on = only_token (key w) (p, on) st
 
-    pub only_name : {t : List ℕ} {p : Pos} → Stands toks room s i k rs → On toks k (Name t) p → Stands toks room s i k (keep (follows s) a_name rs)
+    pub only_name : {t : List ℕ} {p : Pos} → Stands toks room s i k rs → On toks k (Name t) p → Stands toks room s i k (keep (freely s) a_name rs)
     only_name {t} {p} st on = only_token a_name (t, p, on) st
 
     -- those that are left where none of these tokens stands
@@ -56,14 +56,14 @@ module _ {toks : List Tok} {room : ℕ} {s : Symbol} where
     spread_out st = record { free = stay st.free (spreads k rs); held = stay st.held (spreads k rs) }
 
     -- a token that only rests without room begin with: at the first of these tokens it is too deep
-    pub dead : (t : Symbol) → Stands toks room s i k rs → StandsAt toks k t → reaches t (keep (follows s) t rs) ≡ true → NoneFits room (keep (follows s) t rs) → TooDeep toks room s i k
+    pub dead : (t : Symbol) → Stands toks room s i k rs → StandsAt toks k t → reaches t (keep (freely s) t rs) ≡ true → NoneFits room (keep (freely s) t rs) → TooDeep toks room s i k
     dead t st at e h =
         let o = only_token t at st in
         record {
           prefix = st.held.here;
-          begins = o.free.prefix (k + 1) (rests_reached toks k t at (keep (follows s) t rs) e);
-          never = λ j v d. elim (o.held.only j v d) [ inl g ↦ g | inr x ↦ absurd (none_ends toks i k room (keep (follows s) t rs) j v h x) ];
-          most = λ n q. elim (o.held.most n q) [ inl l ↦ l | inr x ↦ absurd (none_starts toks i k room (keep (follows s) t rs) n h x) ];
+          begins = o.free.prefix (k + 1) (rests_reached toks k t at (keep (freely s) t rs) e);
+          never = λ j v d. elim (o.held.only j v d) [ inl g ↦ g | inr x ↦ absurd (none_ends toks i k room (keep (freely s) t rs) j v h x) ];
+          most = λ n q. elim (o.held.most n q) [ inl l ↦ l | inr x ↦ absurd (none_starts toks i k room (keep (freely s) t rs) n h x) ];
         }
 
   -- no rest is left

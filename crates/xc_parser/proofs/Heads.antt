@@ -8,7 +8,8 @@ use Rattle.xc_tree.specs.Derives.{Room, unlimited, at_most, HasRoom, Derives, Pr
 use Rattle.xc_parser.specs.Follows.{OneOf, has, follows}
 use Rattle.xc_parser.specs.Reading.{GoesOn}
 use Rattle.xc_parser.proofs.Rests.{Part, ValuesOf, Rest, RowOf, BeginsOf, EndsBy, Ends, StartsBy, Starts, inside}
-use Rattle.xc_parser.proofs.Opening.{firsts, nullables, within, is_disjoint, is_apart, all_apart, Heads, no_head, one_head, popped}
+use Rattle.xc_parser.proofs.Opening.{freely, ongoing, firsts, nullables, within, is_disjoint, is_apart, all_apart, Heads, no_head, one_head, popped}
+use Rattle.xc_parser.proofs.Goes.{goes_freely, goes_one}
 use Rattle.xc_parser.proofs.TokenSets.{one_within, one_disjoint}
 use Rattle.xc_parser.proofs.Firsts.{parts_first, begun_first}
 use Rattle.xc_parser.proofs.Forth.{forth, prefix_forth}
@@ -17,17 +18,17 @@ use Rattle.xc_parser.proofs.Narrows.{Narrows}
 
 -- what a longer reading of t goes on with begins nothing behind t, or a longer reading of s goes on with it
 pub record Apart (toks : List Tok) (s t : Symbol) (ps : List Part) : Type 0 where
-  pub begins : (m : ℕ) → GoesOn toks t m → OneOf toks m (firsts ps) → ⊥
-  pub ends : (m : ℕ) → GoesOn toks t m → nullables ps ≡ true → GoesOn toks s m
+  pub begins : (m : ℕ) → OneOf toks m (ongoing t) → OneOf toks m (firsts ps) → ⊥
+  pub ends : (m : ℕ) (v : Value s) → OneOf toks m (ongoing t) → nullables ps ≡ true → GoesOn toks s m v
 
 pub apart_from : {toks : List Tok} (s t : Symbol) (ps : List Part) → is_apart s t ps ≡ true → Apart toks s t ps
 apart_from {toks} s t ps e =
-    let p = and_parts (is_disjoint (follows t) (firsts ps)) (not (nullables ps) || within (follows t) (follows s)) e in
+    let p = and_parts (is_disjoint (ongoing t) (firsts ps)) (not (nullables ps) || within (ongoing t) (freely s)) e in
     record {
       begins = λ m g o. one_disjoint (firsts ps) p.0 g o;
-      ends = λ m g n. elim (or_cases (not (nullables ps)) (within (follows t) (follows s)) p.1) [
+      ends = λ m v g n. elim (or_cases (not (nullables ps)) (within (ongoing t) (freely s)) p.1) [
         | inl f ↦ let h = not-true (nullables ps) f in absurd (cc)
-        | inr w ↦ one_within (follows s) w g
+        | inr w ↦ goes_freely toks s m v (one_within (freely s) w g)
       ];
     }
 
@@ -53,19 +54,19 @@ module _ (toks : List Tok) (room : Room) (s : Symbol) (i : ℕ) {t : Symbol} {a 
   join_starts (one_head {n = need} hs) k m n x d (inl e) = let h = max_has room need a e.0 in inl (h.0, inr (m, x, h.1, d, e.1))
   join_starts (one_head hs) k m n x d (inr e) = inr (join_starts hs k m n x d e)
 
-  pub apart_ends : {rs : List (Rest (Value s))} (hs : Heads t a rs) (m j : ℕ) (x : Value t) (v : Value s) → all_apart s hs ≡ true → GoesOn toks t m → Ends toks room (popped hs x) i m j v → GoesOn toks s j
+  pub apart_ends : {rs : List (Rest (Value s))} (hs : Heads t a rs) (m j : ℕ) (x : Value t) (v : Value s) → all_apart s hs ≡ true → GoesOn toks t m x → Ends toks room (popped hs x) i m j v → GoesOn toks s j v
   apart_ends no_head m j x v e g y = absurd y
   apart_ends (one_head {ps} hs) m j x v e g (inl y) =
       let p = apart_from {toks = toks} s t ps (and_parts (is_apart s t ps) (all_apart s hs) e).0 in
       elim (parts_first toks room ps m j y.0 y.2) [
-        | inl z ↦ subst (GoesOn toks s) (sym' z.0) (p.ends m g z.1)
-        | inr o ↦ absurd (p.begins m g o)
+        | inl z ↦ subst (λ (n : ℕ). GoesOn toks s n v) (sym' z.0) (p.ends m v (goes_one toks t m x g) z.1)
+        | inr o ↦ absurd (p.begins m (goes_one toks t m x g) o)
       ]
   apart_ends (one_head {ps} hs) m j x v e g (inr y) = apart_ends hs m j x v (and_parts (is_apart s t ps) (all_apart s hs) e).1 g y
 
-  pub apart_starts : {rs : List (Rest (Value s))} (hs : Heads t a rs) (m n : ℕ) (x : Value t) → all_apart s hs ≡ true → GoesOn toks t m → Starts toks room (popped hs x) m n → n ≤ m
+  pub apart_starts : {rs : List (Rest (Value s))} (hs : Heads t a rs) (m n : ℕ) (x : Value t) → all_apart s hs ≡ true → GoesOn toks t m x → Starts toks room (popped hs x) m n → n ≤ m
   apart_starts no_head m n x e g y = absurd y
   apart_starts (one_head {ps} hs) m n x e g (inl y) =
       let p = apart_from {toks = toks} s t ps (and_parts (is_apart s t ps) (all_apart s hs) e).0 in
-      elim (begun_first toks room ps m n y.1) [ inl h ↦ h | inr o ↦ absurd (p.begins m g o) ]
+      elim (begun_first toks room ps m n y.1) [ inl h ↦ h | inr o ↦ absurd (p.begins m (goes_one toks t m x g) o) ]
   apart_starts (one_head {ps} hs) m n x e g (inr y) = apart_starts hs m n x (and_parts (is_apart s t ps) (all_apart s hs) e).1 g y

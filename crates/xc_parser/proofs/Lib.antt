@@ -1,6 +1,7 @@
 pub mod Rests
 pub mod Opening
 pub mod TokenSets
+pub mod Goes
 pub mod Covers
 pub mod Firsts
 pub mod Forth
@@ -21,6 +22,7 @@ pub mod Lists
 pub mod Loops
 pub mod Rows
 pub mod Aheads
+pub mod Lasts
 pub mod Levels
 pub mod Depths
 pub mod Rooms

@@ -8,20 +8,21 @@ use Rattle.xc_tree.specs.Derives.{Room, Derives, Prefix, HasRoom}
 use Rattle.xc_parser.specs.Follows.{StandsAt, OneOf, has, follows, first}
 use Rattle.xc_parser.specs.Reading.{GoesOn}
 use Rattle.xc_parser.proofs.Rests.{Part, ValuesOf, Rest, RowOf, BeginsOf, EndsBy, Ends, StartsBy, Starts, Open}
-use Rattle.xc_parser.proofs.Opening.{firsts, nullables, opens, keep, keep_if, sift, without, needs_none, within}
+use Rattle.xc_parser.proofs.Opening.{freely, firsts, nullables, opens, keep, keep_if, sift, without, needs_none, within}
+use Rattle.xc_parser.proofs.Goes.{goes_by}
 use Rattle.xc_parser.proofs.TokenSets.{one_is, one_within}
 use Rattle.xc_parser.proofs.Firsts.{parts_first, begun_first}
 
 -- Readings by some rests from k go by others from k', or go on at their end. Prefixes do so too, beyond token m.
 pub record Narrows (toks : List Tok) (room : Room) (s : Symbol) (i k : ℕ) (rs : List (Rest (Value s))) (k' m : ℕ) (rs' : List (Rest (Value s))) : Type 0 where
-  pub ends : (j : ℕ) (v : Value s) → Ends toks room rs i k j v → GoesOn toks s j ⊎ Ends toks room rs' i k' j v
+  pub ends : (j : ℕ) (v : Value s) → Ends toks room rs i k j v → GoesOn toks s j v ⊎ Ends toks room rs' i k' j v
   pub starts : (n : ℕ) → Starts toks room rs k n → (n ≤ m) ⊎ Starts toks room rs' k' n
   pub ends_back : (j : ℕ) (v : Value s) → Ends toks room rs' i k' j v → Ends toks room rs i k j v
   pub starts_back : (n : ℕ) → Starts toks room rs' k' n → Starts toks room rs k n
 
 -- a rest that ends nowhere but where the symbol goes on, and has no prefix beyond token m
 pub record Gone (toks : List Tok) (room : Room) (s : Symbol) (i k m : ℕ) (r : Rest (Value s)) : Type 0 where
-  pub ends : (j : ℕ) (v : Value s) → EndsBy toks room r i k j v → GoesOn toks s j
+  pub ends : (j : ℕ) (v : Value s) → EndsBy toks room r i k j v → GoesOn toks s j v
   pub starts : (n : ℕ) → StartsBy toks room r k n → n ≤ m
 
 module _ {toks : List Tok} {room : Room} {s : Symbol} {i : ℕ} where
@@ -48,13 +49,13 @@ module _ {toks : List Tok} {room : Room} {s : Symbol} {i : ℕ} where
 
   -- some rests are gone
   module _ {k m : ℕ} (b : Rest (Value s) → Bool) (gone : (r : Rest (Value s)) → b r ≡ false → Gone toks room s i k m r) where
-    ends_one : (r : Rest (Value s)) (rs kept : List (Rest (Value s))) (j : ℕ) (v : Value s) (c : Bool) → b r ≡ c → (Ends toks room rs i k j v → GoesOn toks s j ⊎ Ends toks room kept i k j v) → Ends toks room (r ∷ rs) i k j v → GoesOn toks s j ⊎ Ends toks room (keep_if c r kept) i k j v
+    ends_one : (r : Rest (Value s)) (rs kept : List (Rest (Value s))) (j : ℕ) (v : Value s) (c : Bool) → b r ≡ c → (Ends toks room rs i k j v → GoesOn toks s j v ⊎ Ends toks room kept i k j v) → Ends toks room (r ∷ rs) i k j v → GoesOn toks s j v ⊎ Ends toks room (keep_if c r kept) i k j v
     ends_one r rs kept j v true e f (inl x) = inr (inl x)
     ends_one r rs kept j v true e f (inr x) = elim (f x) [ inl g ↦ inl g | inr y ↦ inr (inr y) ]
     ends_one r rs kept j v false e f (inl x) = inl ((gone r e).ends j v x)
     ends_one r rs kept j v false e f (inr x) = f x
 
-    sift_ends : (rs : List (Rest (Value s))) (j : ℕ) (v : Value s) → Ends toks room rs i k j v → GoesOn toks s j ⊎ Ends toks room (sift b rs) i k j v
+    sift_ends : (rs : List (Rest (Value s))) (j : ℕ) (v : Value s) → Ends toks room rs i k j v → GoesOn toks s j v ⊎ Ends toks room (sift b rs) i k j v
     sift_ends [] j v x = absurd x
     sift_ends (r ∷ rs) j v x = ends_one r rs (sift b rs) j v (b r) refl (sift_ends rs j v) x
 
@@ -91,21 +92,21 @@ module _ {toks : List Tok} {room : Room} {s : Symbol} {i : ℕ} where
 
   -- at a token only the rests that it opens stay
   module _ {k : ℕ} (t : Symbol) (at : StandsAt toks k t) where
-    shut : (r : Rest (Value s)) → opens (follows s) t r ≡ false → Gone toks room s i k k r
+    shut : (r : Rest (Value s)) → opens (freely s) t r ≡ false → Gone toks room s i k k r
     shut r e =
-        let p = or_parts (has (firsts r.parts) t) (nullables r.parts && not (has (follows s) t)) e in
+        let p = or_parts (has (firsts r.parts) t) (nullables r.parts && not (has (freely s) t)) e in
         let none : OneOf toks k (firsts r.parts) → ⊥ = λ o. let g = one_is t at o in let h = p.0 in absurd (cc) in
-        let goes : nullables r.parts ≡ true → GoesOn toks s k = λ n. elim (and_cases (nullables r.parts) (not (has (follows s) t)) p.1) [
+        let goes : (w : Value s) → nullables r.parts ≡ true → GoesOn toks s k w = λ w n. elim (and_cases (nullables r.parts) (not (has (freely s) t)) p.1) [
           | inl h ↦ absurd (cc)
-          | inr h ↦ record { token = t; stands = at; among = not-false (has (follows s) t) h }
+          | inr h ↦ goes_by toks k s t w at (not-false (has (freely s) t) h)
         ] in
         record {
-          ends = λ j v x. elim (parts_first toks room r.parts k j x.0 x.2) [ inl y ↦ subst (GoesOn toks s) (sym' y.0) (goes y.1) | inr o ↦ absurd (none o) ];
+          ends = λ j v x. elim (parts_first toks room r.parts k j x.0 x.2) [ inl y ↦ subst (λ (n : ℕ). GoesOn toks s n v) (sym' y.0) (goes v y.1) | inr o ↦ absurd (none o) ];
           starts = λ n x. elim (begun_first toks room r.parts k n x.1) [ inl h ↦ h | inr o ↦ absurd (none o) ];
         }
 
-    pub at_token : (rs : List (Rest (Value s))) → Narrows toks room s i k rs k k (keep (follows s) t rs)
-    at_token rs = sifted (opens (follows s) t) shut rs
+    pub at_token : (rs : List (Rest (Value s))) → Narrows toks room s i k rs k k (keep (freely s) t rs)
+    at_token rs = sifted (opens (freely s) t) shut rs
 
   -- where none of these tokens stands the rests that begin with one of them are gone
   module _ {k : ℕ} (ts : List Symbol) (none : OneOf toks k ts → ⊥) where

@@ -7,6 +7,20 @@ use Rattle.xc_tree.specs.Grammar.{Rule, Extent, rules}
 use Rattle.xc_parser.specs.Follows.{has, first, follows, nullable, is_same}
 use Rattle.xc_parser.proofs.Rests.{Part, ValuesOf, Rest}
 
+-- the tokens that each value of a symbol can go on with
+abbrev pub freely : Symbol → List Symbol
+freely statement = []
+freely block_item = []
+freely case_item = []
+freely branch = []
+freely closed = []
+freely s = follows s
+
+-- the tokens that some value of a symbol can go on with
+abbrev pub ongoing : Symbol → List Symbol
+ongoing closed = []
+ongoing s = follows s
+
 -- whether a symbol is a token
 abbrev pub is_token : Symbol → Bool
 is_token (sym o) = true
@@ -221,7 +235,7 @@ is_disjoint (x ∷ xs) ys = not (has ys x) && is_disjoint xs ys
 -- what a longer reading of t goes on with begins none of the parts behind it; where these may be no token, a longer reading
 -- of s goes on with it
 abbrev pub is_apart : Symbol → Symbol → List Part → Bool
-is_apart s t ps = is_disjoint (follows t) (firsts ps) && (not (nullables ps) || within (follows t) (follows s))
+is_apart s t ps = is_disjoint (ongoing t) (firsts ps) && (not (nullables ps) || within (ongoing t) (freely s))
 
 -- a token moves some rests on: each that it opens begins with it, one is left, and none needs more room
 abbrev pub moves : {V : Type 0} → List Symbol → Symbol → (rs behind : List (Rest V)) → Bool

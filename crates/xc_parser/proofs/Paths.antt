@@ -19,7 +19,7 @@ use Rattle.xc_parser.proofs.Behinds.{TokenAt}
 use Rattle.xc_parser.proofs.Moves.{pass, any_has, peak_has, sift_peak, within_le, moves_from}
 use Rattle.xc_parser.proofs.Choices.{all_open, only_token, no_one, spread_out, stuck}
 use Rattle.xc_parser.proofs.Advances.{Known, Never, known_free, known_held, never_free, never_held, advance, refused, lead_free, lead_held, apart_all, popped_needs, freed_ends, deep_ends, freed_starts, deep_starts, no_end, no_start}
-use Rattle.xc_parser.proofs.Opening.{needs_none, opens, no_head, one_head, is_token, beginnings, over, moves, peak, Within, keep, without, spread, is_apart, heads_apart, Heads, popped, deepened}
+use Rattle.xc_parser.proofs.Opening.{freely, needs_none, opens, no_head, one_head, is_token, beginnings, over, moves, peak, Within, keep, without, spread, is_apart, heads_apart, Heads, popped, deepened}
 
 no_symbol : {toks : List Tok} {k : ℕ} (o : ℕ) → ((p : Pos) → On toks k (Sym o) p → ⊥) → OneOf toks k (sym o ∷ []) → ⊥
 no_symbol {toks} {k} o none x = let y = one_token_of (sym o) x in none y.0 y.1
@@ -42,45 +42,45 @@ roomy {room} {rs} st h = record { stands = st; needs = within_le (peak rs) room 
 
 module _ {toks : List Tok} {room : ℕ} {s : Symbol} {i k : ℕ} {rs : List (Rest (Value s))} where
   -- over a token
-  pub over_token : (t : Symbol) (v : Value t) → TokenAt toks k t v → Roomy toks room s i k rs → moves (follows s) t rs (over (follows s) t v rs) ≡ true → Roomy toks room s i (k + 1) (over (follows s) t v rs)
+  pub over_token : (t : Symbol) (v : Value t) → TokenAt toks k t v → Roomy toks room s i k rs → moves (freely s) t rs (over (freely s) t v rs) ≡ true → Roomy toks room s i (k + 1) (over (freely s) t v rs)
   over_token t v at st e =
-      let m = moves_from (follows s) t rs (over (follows s) t v rs) e in
+      let m = moves_from (freely s) t rs (over (freely s) t v rs) e in
       let n = m.needs in
       let h = st.needs in
       record {
         stands = record {
-          free = pass t v at st.stands.free m.ready (any_has (over (follows s) t v rs) m.any);
-          held = pass t v at st.stands.held m.ready (peak_has room (over (follows s) t v rs) m.any (omega arith));
+          free = pass t v at st.stands.free m.ready (any_has (over (freely s) t v rs) m.any);
+          held = pass t v at st.stands.held m.ready (peak_has room (over (freely s) t v rs) m.any (omega arith));
         };
         needs = omega arith;
       }
 
-  pub over_symbol : {o : ℕ} {p : Pos} → Roomy toks room s i k rs → On toks k (Sym o) p → moves (follows s) (sym o) rs (over (follows s) (sym o) p rs) ≡ true → Roomy toks room s i (k + 1) (over (follows s) (sym o) p rs)
+  pub over_symbol : {o : ℕ} {p : Pos} → Roomy toks room s i k rs → On toks k (Sym o) p → moves (freely s) (sym o) rs (over (freely s) (sym o) p rs) ≡ true → Roomy toks room s i (k + 1) (over (freely s) (sym o) p rs)
   over_symbol {o} {p} st on e = over_token (sym o) p on st e
 
-  pub over_word : {w : ℕ} {p : Pos} → Roomy toks room s i k rs → On toks k (Key w) p → moves (follows s) (key w) rs (over (follows s) (key w) p rs) ≡ true → Roomy toks room s i (k + 1) (over (follows s) (key w) p rs)
+  pub over_word : {w : ℕ} {p : Pos} → Roomy toks room s i k rs → On toks k (Key w) p → moves (freely s) (key w) rs (over (freely s) (key w) p rs) ≡ true → Roomy toks room s i (k + 1) (over (freely s) (key w) p rs)
   over_word {w} {p} st on e = over_token (key w) p on st e
 
-  pub over_name : {t : List ℕ} {p : Pos} → Roomy toks room s i k rs → On toks k (Name t) p → moves (follows s) a_name rs (over (follows s) a_name (record { text = t; pos = p }) rs) ≡ true → Roomy toks room s i (k + 1) (over (follows s) a_name (record { text = t; pos = p }) rs)
+  pub over_name : {t : List ℕ} {p : Pos} → Roomy toks room s i k rs → On toks k (Name t) p → moves (freely s) a_name rs (over (freely s) a_name (record { text = t; pos = p }) rs) ≡ true → Roomy toks room s i (k + 1) (over (freely s) a_name (record { text = t; pos = p }) rs)
   over_name {t} {p} st on e = over_token a_name (record { text = t; pos = p }) on st e
 
-  pub over_number : {n : ℕ} {u : Bool} {p : Pos} → Roomy toks room s i k rs → On toks k (Num n u) p → moves (follows s) a_number rs (over (follows s) a_number (record { value = n; is_unsigned = u; pos = p }) rs) ≡ true → Roomy toks room s i (k + 1) (over (follows s) a_number (record { value = n; is_unsigned = u; pos = p }) rs)
+  pub over_number : {n : ℕ} {u : Bool} {p : Pos} → Roomy toks room s i k rs → On toks k (Num n u) p → moves (freely s) a_number rs (over (freely s) a_number (record { value = n; is_unsigned = u; pos = p }) rs) ≡ true → Roomy toks room s i (k + 1) (over (freely s) a_number (record { value = n; is_unsigned = u; pos = p }) rs)
   over_number {n} {u} {p} st on e = over_token a_number (record { value = n; is_unsigned = u; pos = p }) on st e
 
   -- the rests that a token leaves open
-  pub at_one : (t : Symbol) → StandsAt toks k t → Roomy toks room s i k rs → Roomy toks room s i k (keep (follows s) t rs)
-  at_one t at st = let l = sift_peak (opens (follows s) t) rs in let h = st.needs in record { stands = only_token t at st.stands; needs = omega arith }
+  pub at_one : (t : Symbol) → StandsAt toks k t → Roomy toks room s i k rs → Roomy toks room s i k (keep (freely s) t rs)
+  at_one t at st = let l = sift_peak (opens (freely s) t) rs in let h = st.needs in record { stands = only_token t at st.stands; needs = omega arith }
 
-  pub at_symbol : {o : ℕ} {p : Pos} → Roomy toks room s i k rs → On toks k (Sym o) p → Roomy toks room s i k (keep (follows s) (sym o) rs)
+  pub at_symbol : {o : ℕ} {p : Pos} → Roomy toks room s i k rs → On toks k (Sym o) p → Roomy toks room s i k (keep (freely s) (sym o) rs)
   at_symbol {o} {p} st on = at_one (sym o) (p, on) st
 
-  pub at_word : {w : ℕ} {p : Pos} → Roomy toks room s i k rs → On toks k (Key w) p → Roomy toks room s i k (keep (follows s) (key w) rs)
+  pub at_word : {w : ℕ} {p : Pos} → Roomy toks room s i k rs → On toks k (Key w) p → Roomy toks room s i k (keep (freely s) (key w) rs)
   at_word {w} {p} st on = at_one (key w) (p, on) st
 
-  pub at_name : {t : List ℕ} {p : Pos} → Roomy toks room s i k rs → On toks k (Name t) p → Roomy toks room s i k (keep (follows s) a_name rs)
+  pub at_name : {t : List ℕ} {p : Pos} → Roomy toks room s i k rs → On toks k (Name t) p → Roomy toks room s i k (keep (freely s) a_name rs)
   at_name {t} {p} st on = at_one a_name (t, p, on) st
 
-  pub at_number : {n : ℕ} {u : Bool} {p : Pos} → Roomy toks room s i k rs → On toks k (Num n u) p → Roomy toks room s i k (keep (follows s) a_number rs)
+  pub at_number : {n : ℕ} {u : Bool} {p : Pos} → Roomy toks room s i k rs → On toks k (Num n u) p → Roomy toks room s i k (keep (freely s) a_number rs)
   at_number {n} {u} {p} st on = at_one a_number (n, u, p, on) st
 
   -- those that are left where none of these tokens stands

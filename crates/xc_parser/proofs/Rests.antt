@@ -65,7 +65,7 @@ Starts toks room (r ∷ rs) k n = StartsBy toks room r k n ⊎ Starts toks room 
 -- before token m.
 pub record Open (toks : List Tok) (room : Room) (s : Symbol) (i k m : ℕ) (rs : List (Rest (Value s))) : Type 0 where
   pub derives : (j : ℕ) (v : Value s) → Ends toks room rs i k j v → Derives toks room s i j v
-  pub only : (j : ℕ) (v : Value s) → Derives toks room s i j v → GoesOn toks s j ⊎ Ends toks room rs i k j v
+  pub only : (j : ℕ) (v : Value s) → Derives toks room s i j v → GoesOn toks s j v ⊎ Ends toks room rs i k j v
   pub prefix : (n : ℕ) → Starts toks room rs k n → Prefix toks room s i n
   pub here : Prefix toks room s i k
   pub most : (n : ℕ) → Prefix toks room s i n → (n ≤ m) ⊎ Starts toks room rs k n

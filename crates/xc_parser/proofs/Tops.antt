@@ -9,7 +9,7 @@ use Rattle.xc_tree.specs.Grammar.{kept}
 use Rattle.xc_tree.specs.Derives.{unlimited, at_most, Derives, Prefix, nothing, whole, IsProgram, IsBeginning, IsShallow, deepest}
 use Rattle.xc_tree.specs.Parses.{Breaks201, Breaks202, BreaksRule, FirstBroken, place_at}
 use Rattle.xc_tree.specs.Depth.{of_program}
-use Rattle.xc_parser.specs.Follows.{OneOf, first}
+use Rattle.xc_parser.specs.Follows.{OneOf, first, follows}
 use Rattle.xc_parser.specs.Reading.{Reads, Refuses, TooDeep, GoesOn}
 use Rattle.xc_parser.proofs.Rests.{Rest, Open}
 use Rattle.xc_parser.proofs.Forth.{lift, lift_prefix, prefix_forth}
@@ -47,7 +47,7 @@ program_read {toks} xs st =
       shallow = depth_most r.derives;
     }
 
-no_going : {toks : List Tok} {n : ℕ} → GoesOn toks item n → ⊥
+no_going : {toks : List Tok} {n : ℕ} → OneOf toks n (follows item) → ⊥
 no_going g = let e = g.among in absurd (cc)
 
 -- an item stopped

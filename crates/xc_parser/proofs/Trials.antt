@@ -32,6 +32,7 @@ use Rattle.xc_parser.proofs.Rests.{Stands}
 use Rattle.xc_parser.proofs.Opening.{is_any}
 use Rattle.xc_parser.proofs.Paths.{unfit, unfit_last}
 use Rattle.xc_parser.proofs.Choices.{stuck, no_one, spread_out}
+use Rattle.xc_parser.proofs.Lasts.{read_last, stops_last}
 use Rattle.xc_parser.proofs.Rows.{with_comma, last_one, row_unfit, row_stops}
 use Rattle.xc_parser.proofs.Aheads.{Alone, name_symbol, name_else, read_ahead, stops_ahead, over_ahead, not_first}
 
@@ -49,7 +50,7 @@ module _ (toks : List Tok) (room at : ℕ) where
   while_reads : (p q r : Pos) (m n : ℕ) (c : plain.Expression) (s : plain.Statement) → 1 ≤ room →
     On toks at (Key 29) p → On toks (at + 1) (Sym 0) q → Reads toks (room - 1) expr (at + 1 + 1) m c → On toks m (Sym 1) r →
     Reads toks (room - 1) statement (m + 1) n s → Reads toks room statement at n (statement_of (extent toks at n) (plain.while_loop c s))
-  while_reads p q r m n c s h w a c' b s' = finish (read (over_symbol (read (over_symbol (over_word (begin refl h) w refl) a refl) c' refl) b refl) s' refl) refl
+  while_reads p q r m n c s h w a c' b s' = finish (read_last (over_symbol (read (over_symbol (over_word (begin refl h) w refl) a refl) c' refl) b refl) s' (λ e x l f g. g)) refl
 
   while_stops : (p q r : Pos) (m : ℕ) (e : Stop) → 1 ≤ room →
     On toks at (Key 29) p → On toks (at + 1) (Sym 0) q → Stopped toks (room - 1) expr (at + 1 + 1) e → Stopped toks room statement at e
@@ -61,7 +62,7 @@ module _ (toks : List Tok) (room at : ℕ) where
     On toks m (Sym 6) r → On toks (m + 1) (Sym 6) t → On toks (m + 1 + 1) (Sym 1) u → Reads toks (room - 1) statement (m + 1 + 1 + 1) n s →
     Reads toks room statement at n (statement_of (extent toks at n) (plain.for_loop (plain.present a) None plain.absent s))
   for_head p q r t u m n a s h w b none x c d e y =
-      finish (read (over_symbol (over_symbol (over_symbol (read (lacks (sym 6 ∷ []) (taken (over_symbol (over_word (begin refl h) w refl) b refl) refl) none) x refl) c refl) d refl) e refl) y refl) refl
+      finish (read_last (over_symbol (over_symbol (over_symbol (read (lacks (sym 6 ∷ []) (taken (over_symbol (over_word (begin refl h) w refl) b refl) refl) none) x refl) c refl) d refl) e refl) y (λ e x l f g. g)) refl
 
   block_begins : (p : Pos) → On toks at (Sym 2) p → Roomy toks room block at (at + 1) (having items_of_block [] ∷ [])
   block_begins p b = over_symbol (begin refl tt) b refl

@@ -1,31 +1,38 @@
 -- What it means that a function has read a symbol from a place on, or refused it, with room for so many nodes.
-use Rattle.std.specs.Prelude.{◌≡◌, ℕ, ◌+◌, ◌≤◌, ◌⊎◌, List}
+use Rattle.std.specs.Prelude.{◌≡◌, ℕ, ◌+◌, ◌≤◌, ◌⊎◌, true, List}
 use Rattle.xc_tree.specs.declared.token.Tok.{Tok}
-use Rattle.xc_tree.specs.Symbol.{Symbol, Value}
+use Rattle.xc_tree.specs.Plain.{is_open, is_open_branch}
+use Rattle.xc_tree.specs.Symbol.{Symbol, statement, block_item, case_item, branch, closed, Value}
 use Rattle.xc_tree.specs.Derives.{Room, unlimited, at_most, Derives, Prefix}
 use Rattle.xc_parser.specs.Follows.{OneOf, follows}
 
--- at this place stands a token that a longer reading of the symbol can go on with
-abbrev pub GoesOn : List Tok → Symbol → ℕ → Type 0
-GoesOn toks s k = OneOf toks k (follows s)
+-- At this place stands a token that a longer reading of the symbol can go on with, where it begins with this value: an
+-- `else` behind a statement, where that is an `if` without one or ends in one.
+abbrev pub GoesOn : (toks : List Tok) (s : Symbol) → ℕ → Value s → Type 0
+GoesOn toks statement k v = OneOf toks k (follows statement) × (is_open v ≡ true)
+GoesOn toks block_item k v = OneOf toks k (follows block_item) × (is_open v ≡ true)
+GoesOn toks case_item k v = OneOf toks k (follows case_item) × (is_open v ≡ true)
+GoesOn toks branch k v = OneOf toks k (follows branch) × (is_open_branch v ≡ true)
+GoesOn toks closed k v = ⊥
+GoesOn toks s k v = OneOf toks k (follows s)
 
 -- It is read up to j with this value, and there is room. Each other reading goes on at its end, and no prefix is longer.
 pub record Reads (toks : List Tok) (room : ℕ) (s : Symbol) (i j : ℕ) (v : Value s) : Type 0 where
   pub derives : Derives toks (at_most room) s i j v
-  pub only : (k : ℕ) (w : Value s) → Derives toks unlimited s i k w → ((k ≡ j) × (w ≡ v)) ⊎ GoesOn toks s k
+  pub only : (k : ℕ) (w : Value s) → Derives toks unlimited s i k w → ((k ≡ j) × (w ≡ v)) ⊎ GoesOn toks s k w
   pub most : (n : ℕ) → Prefix toks unlimited s i n → n ≤ j
 
 -- Up to m it can be read, with room, and no prefix is longer. Each reading goes on at its end.
 pub record Refuses (toks : List Tok) (room : ℕ) (s : Symbol) (i m : ℕ) : Type 0 where
   pub prefix : Prefix toks (at_most room) s i m
-  pub never : (k : ℕ) (w : Value s) → Derives toks unlimited s i k w → GoesOn toks s k
+  pub never : (k : ℕ) (w : Value s) → Derives toks unlimited s i k w → GoesOn toks s k w
   pub most : (n : ℕ) → Prefix toks unlimited s i n → n ≤ m
 
 -- Up to m it can be read with room, and with token m only without. Each reading with room goes on at its end.
 pub record TooDeep (toks : List Tok) (room : ℕ) (s : Symbol) (i m : ℕ) : Type 0 where
   pub prefix : Prefix toks (at_most room) s i m
   pub begins : Prefix toks unlimited s i (m + 1)
-  pub never : (k : ℕ) (w : Value s) → Derives toks (at_most room) s i k w → GoesOn toks s k
+  pub never : (k : ℕ) (w : Value s) → Derives toks (at_most room) s i k w → GoesOn toks s k w
   pub most : (n : ℕ) → Prefix toks (at_most room) s i n → n ≤ m
 
 -- It is read up to j, but with room only its beginning is: what stands at j decides whether it is too deep or no such
@@ -33,7 +40,7 @@ pub record TooDeep (toks : List Tok) (room : ℕ) (s : Symbol) (i m : ℕ) : Typ
 pub record Unfit (toks : List Tok) (room : ℕ) (s : Symbol) (i j : ℕ) : Type 0 where
   pub value : Value s
   pub derives : Derives toks unlimited s i j value
-  pub only : (k : ℕ) (w : Value s) → Derives toks unlimited s i k w → ((k ≡ j) × (w ≡ value)) ⊎ GoesOn toks s k
+  pub only : (k : ℕ) (w : Value s) → Derives toks unlimited s i k w → ((k ≡ j) × (w ≡ value)) ⊎ GoesOn toks s k w
   pub most : (n : ℕ) → Prefix toks unlimited s i n → n ≤ j
   pub prefix : Prefix toks (at_most room) s i j
-  pub never : (k : ℕ) (w : Value s) → Derives toks (at_most room) s i k w → GoesOn toks s k
+  pub never : (k : ℕ) (w : Value s) → Derives toks (at_most room) s i k w → GoesOn toks s k w
