@@ -30,4 +30,5 @@ pub mod Sizes
 pub mod Prefixes
 pub mod Tops
 pub mod Elses
+pub mod Ifs
 pub mod Trials

@@ -13,7 +13,7 @@ use Rattle.xc_parser.proofs.Alternatives.{by_rules, from_rules, by_starts, from_
 use Rattle.xc_parser.proofs.Behinds.{TokenAt, token_derived, token_derives, no_rule}
 use Rattle.xc_parser.proofs.Opening.{is_token}
 
-no_nodes : (room : Room) → HasRoom room 0
+pub no_nodes : (room : Room) → HasRoom room 0
 no_nodes unlimited = tt
 no_nodes (at_most n) = omega arith
 
