@@ -33,6 +33,10 @@ use Rattle.xc_parser.proofs.Opening.{is_any}
 use Rattle.xc_parser.proofs.Paths.{unfit, unfit_last}
 use Rattle.xc_parser.proofs.Choices.{stuck, no_one, spread_out}
 use Rattle.xc_parser.proofs.Lasts.{read_last, stops_last}
+use Rattle.xc_parser.proofs.Ifs.{then_rest, else_rest, other_rest, if_read, if_else, if_stops}
+use Rattle.xc_tree.specs.Symbol.{case_item, branch, closed, place}
+use Rattle.std.proofs.Common.{not, ap}
+use Rattle.xc_parser.proofs.Paths.{at_word}
 use Rattle.xc_parser.proofs.Rows.{with_comma, last_one, row_unfit, row_stops}
 use Rattle.xc_parser.proofs.Aheads.{Alone, name_symbol, name_else, read_ahead, stops_ahead, over_ahead, not_first}
 
@@ -120,3 +124,18 @@ module _ (toks : List Tok) (room at : ℕ) where
 
   return_deep : (p q : Pos) (j : ℕ) → 1 ≤ room → On toks at (Key 19) p → (OneOf toks (at + 1) (sym 6 ∷ []) → ⊥) → Unfit toks (room - 1) rhs (at + 1) j → On toks j (Sym 6) q → TooDeep toks room statement at j
   return_deep p q j h a none u on = dead (sym 6) (unfit (lacks (sym 6 ∷ []) (taken (over_word (begin refl h) a refl) refl) none) u refl) (q, on) refl (omega arith, tt)
+
+  if_behind : (p q r : Pos) (m : ℕ) (c : plain.Expression) → 1 ≤ room → On toks at (Key 9) p → On toks (at + 1) (Sym 0) q → Reads toks (room - 1) expr (at + 1 + 1) m c → On toks m (Sym 1) r → Roomy toks room statement at (m + 1) (then_rest c ∷ else_rest c ∷ [])
+  if_behind p q r m c h a b d e = over_symbol (read_all (one_head (one_head no_head)) (over_symbol (over_word (begin refl h) a refl) b refl) d refl) e refl
+
+  if_else_reads : (k j n : ℕ) (p : Pos) (c : plain.Expression) (s o : plain.Statement) → Roomy toks room statement at k (then_rest c ∷ else_rest c ∷ []) → Reads toks (room - 1) statement k j s → On toks j (Key 7) p → Reads toks (room - 1) statement (j + 1) n o → Reads toks room statement at n (statement_of (extent toks at n) (plain.if_then c s (plain.present o)))
+  if_else_reads k j n p c s o st r on x = finish (read_last (if_else st r on) x (λ e x l f g. g)) refl
+
+  item_is : (j : ℕ) (p : Pos) (s : plain.Statement) → On toks at (Key 29) p → Reads toks room statement at j s → Reads toks room block_item at j s
+  item_is j p s on r = finish (read_last (at_word (begin refl tt) on) r (λ e x l f g. g)) refl
+
+  item_in_case : (j : ℕ) (p : Pos) (s : plain.Statement) → On toks at (Key 29) p → plain.is_break s ≡ false → Reads toks room statement at j s → Reads toks room case_item at j s
+  item_in_case j p s on e r = finish (read_last (at_word (begin refl tt) on) r (λ e x l f g. g)) (ap not e)
+
+  branch_is : (j : ℕ) (p : Pos) (s : plain.Statement) → On toks at (Key 29) p → Reads toks room statement at j s → Reads toks room branch at j (plain.branch None s)
+  branch_is j p s on r = finish (read_last (at_word (taken (begin refl tt) refl) on) r (λ e x l f g. g)) refl
