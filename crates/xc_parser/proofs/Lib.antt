@@ -31,4 +31,5 @@ pub mod Prefixes
 pub mod Tops
 pub mod Elses
 pub mod Ifs
+pub mod Breaks
 pub mod Trials

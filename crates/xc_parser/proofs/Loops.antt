@@ -208,5 +208,14 @@ module _ {toks : List Tok} {room : ℕ} {s : Symbol} {i k : ℕ} (r : Run (Value
       let l = loops_from s r.symbol r.parts d in
       stops e (elements (record { none = none; ends = λ v h. absurd (cc) }) st) x l.apart
 
+  -- the same where nothing that stands behind the list begins here
+  pub one_more_here : {j : ℕ} {v : Value r.symbol} → Roomy toks room s i k (having r xs ∷ []) → Reads toks (left room r.above) r.symbol k j v → (OneOf toks k (firsts r.parts) → ⊥) → nullables r.parts ≡ false → is_apart s r.symbol (record { above = 0; symbol = many r.symbol } ∷ r.parts) ≡ true → Roomy toks room s i j (having r (xs ++ (v ∷ [])) ∷ [])
+  one_more_here {j} {v} st x none n d =
+      let next = read (elements (record { none = none; ends = λ v h. absurd (cc) }) st) x d in
+      subst (λ (q : Rest (Value s)). Roomy toks room s i j (q ∷ [])) (same_having r xs v) next
+
+  pub one_stops_here : (e : Stop) → Roomy toks room s i k (having r xs ∷ []) → Stopped toks (left room r.above) r.symbol k e → (OneOf toks k (firsts r.parts) → ⊥) → nullables r.parts ≡ false → is_apart s r.symbol (record { above = 0; symbol = many r.symbol } ∷ r.parts) ≡ true → Stopped toks room s i e
+  one_stops_here e st x none n d = stops e (elements (record { none = none; ends = λ v h. absurd (cc) }) st) x d
+
   pub no_more : Roomy toks room s i k (having r xs ∷ []) → (OneOf toks k (first r.symbol) → ⊥) → nullable r.symbol ≡ false → Roomy toks room s i k (had r xs ∷ [])
   no_more st none e = let h = st.needs in record { stands = record { free = stay st.stands.free (by_end r xs e none); held = stay st.stands.held (by_end r xs e none) }; needs = grind arith }
