@@ -32,4 +32,5 @@ pub mod Tops
 pub mod Elses
 pub mod Ifs
 pub mod Breaks
+pub mod Names
 pub mod Trials
