@@ -33,4 +33,5 @@ pub mod Elses
 pub mod Ifs
 pub mod Breaks
 pub mod Names
+pub mod Unfits
 pub mod Trials

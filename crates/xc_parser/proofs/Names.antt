@@ -35,7 +35,7 @@ within_operators (suc (suc (suc (suc (suc (suc (suc (suc (suc (suc zero)))))))))
 within_operators (suc (suc (suc (suc (suc (suc (suc (suc (suc (suc (suc m))))))))))) = refl
 
 -- the symbols that a name alone is
-abbrev is_lead : Symbol → Bool
+abbrev pub is_lead : Symbol → Bool
 is_lead a_name = true
 is_lead atom = true
 is_lead (level m) = true
@@ -46,7 +46,7 @@ abbrev pub name_of : Id → plain.Expression
 name_of x = plain.expression (plain.name x.text) x.pos
 
 -- and its value then
-abbrev IsName : Id → (s : Symbol) → Value s → Type 0
+abbrev pub IsName : Id → (s : Symbol) → Value s → Type 0
 IsName x a_name v = v ≡ x
 IsName x atom v = v ≡ name_of x
 IsName x (level m) v = v ≡ name_of x
@@ -113,7 +113,7 @@ module _ (toks : List Tok) (k : ℕ) (x : Id) (on : On toks k (Name x.text) x.po
   ]
 
   mutual
-    derived_name : {room : Room} {s : Symbol} {j : ℕ} {v : Value s} → Derives toks room s k j v → is_lead s ≡ true → (j ≡ k + 1) × IsName x s v
+    pub derived_name : {room : Room} {s : Symbol} {j : ℕ} {v : Value s} → Derives toks room s k j v → is_lead s ≡ true → (j ≡ k + 1) × IsName x s v
     derived_name (a_sym on') e = absurd (cc)
     derived_name (a_key on') e = absurd (cc)
     derived_name (named {t} {p} on') e = (refl, same_value toks k a_name x (record { text = t; pos = p }) on on')
@@ -128,7 +128,7 @@ module _ (toks : List Tok) (k : ℕ) (x : Id) (on : On toks k (Name x.text) x.po
     row_name s make (next d (next d' r)) (inr o) e = absurd (off o d)
 
   mutual
-    prefix_name : {room : Room} {s : Symbol} {n : ℕ} → Prefix toks room s k n → is_lead s ≡ true → n ≤ k + 1
+    pub prefix_name : {room : Room} {s : Symbol} {n : ℕ} → Prefix toks room s k n → is_lead s ≡ true → n ≤ k + 1
     prefix_name nothing e = omega arith
     prefix_name (whole d) e = omega (arith, (derived_name d e).0)
     prefix_name {s} (begins {r} a h b) e = begins_name s r.make b (good_at s e r a.at a.there)
