@@ -1,5 +1,6 @@
 -- How many tokens the statements have that a symbol derives, or that stand in what it derives.
-use Rattle.std.proofs.Common.{◌≡◌, ℕ, zero, suc, ◌+◌, ◌-◌, ◌≤◌, Bool, List, [], ◌∷◌, ◌++◌, slice_get, Option, Some, None, refl, sym as sym', ap, subst, ◌∙◌, arith}
+use Rattle.std.proofs.Common.{◌≡◌, ℕ, zero, suc, ◌+◌, ◌-◌, ◌<◌, ◌≤◌, Bool, List, [], ◌∷◌, ◌++◌, length, get_or, slice_get, Option, Some, None, refl, sym as sym', ap, subst, ◌∙◌, arith}
+use Rattle.std.proofs.lemmas.Option.{slice_get-get_or}
 use Rattle.xw_words.specs.declared.pos.Pos.{Pos}
 use Rattle.xc_tree.specs.declared.token.Tok.{Tok}
 use Rattle.xc_tree.specs.Plain as plain
@@ -213,9 +214,16 @@ step_tokens d = tokens_of refl d
 pub held_within : {toks : List Tok} {room : Room} {i j : ℕ} (a : plain.Action) (first last : Pos) (own : ℕ) → Derives toks room statement i j (plain.statement a first last own) → held a ≤ j - i
 held_within a first last own d = let h = statement_tokens d in omega (arith, h)
 
+-- the place of a token that was read
+pub placed : (toks : List Tok) (i : ℕ) (t : Tok) → i < length toks → (get_or toks i t).pos ≡ position (slice_get toks i)
+placed toks i t h = sym' (ap position (slice_get-get_or toks i t h))
+
 -- a statement whose own tokens are all but those that it holds
-pub whole_is : (toks : List Tok) (i j n : ℕ) (a : plain.Action) → n ≡ held a → plain.statement a (position (slice_get toks i)) (position (slice_get toks (j - 1))) (j - i - n) ≡ statement_of (extent toks i j) a
-whole_is toks i j n a e = ap (λ m. plain.statement a (position (slice_get toks i)) (position (slice_get toks (j - 1))) (j - i - m)) e
+pub whole_is : (toks : List Tok) (i j n : ℕ) (a : plain.Action) (first last : Tok) → i < j → j ≤ length toks → n ≡ held a → plain.statement a (get_or toks i first).pos (get_or toks (j - 1) last).pos (j - i - n) ≡ statement_of (extent toks i j) a
+whole_is toks i j n a first last h l e =
+    let p = placed toks i first (omega arith) in
+    let q = placed toks (j - 1) last (omega arith) in
+    cc
 
 -- one more
 pub all_tokens_push : (ss : List plain.Statement) (s : plain.Statement) → all_tokens (plain.statements (ss ++ (s ∷ []))) ≡ all_tokens (plain.statements ss) + tokens s
