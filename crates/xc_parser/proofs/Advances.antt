@@ -5,7 +5,7 @@ use Rattle.xc_tree.specs.declared.token.Tok.{Tok}
 use Rattle.xc_tree.specs.Symbol.{Symbol, Value}
 use Rattle.xc_tree.specs.Grammar.{Extent}
 use Rattle.xc_tree.specs.Derives.{Room, unlimited, at_most, HasRoom, Derives, Prefix, nothing, whole, extent}
-use Rattle.xc_parser.specs.Reading.{GoesOn, Reads, Refuses, TooDeep, Unfit}
+use Rattle.xc_parser.specs.Reading.{IsFront, Reads, Refuses, TooDeep, Unfit}
 use Rattle.xc_parser.proofs.Rests.{Part, ValuesOf, Rest, RowOf, BeginsOf, EndsBy, Ends, StartsBy, Starts, Open, Stands, inside, left}
 use Rattle.xc_parser.proofs.Opening.{is_apart, all_apart, heads_apart, Heads, no_head, one_head, popped, deepened, peak, peak_of, peak_parts}
 use Rattle.xc_parser.proofs.Forth.{forth, prefix_forth, lift, lift_prefix, inside_most, inside_free}
@@ -15,11 +15,11 @@ use Rattle.xc_parser.proofs.Heads.{split_ends, join_ends, split_starts, join_sta
 -- with this room a symbol is read so, or not at all
 pub record Known (toks : List Tok) (room : Room) (t : Symbol) (k j : ℕ) (v : Value t) : Type 0 where
   pub derives : Derives toks room t k j v
-  pub only : (l : ℕ) (w : Value t) → Derives toks room t k l w → ((l ≡ j) × (w ≡ v)) ⊎ GoesOn toks t l
+  pub only : (l : ℕ) (w : Value t) → Derives toks room t k l w → ((l ≡ j) × (w ≡ v)) ⊎ IsFront toks t l w
   pub most : (n : ℕ) → Prefix toks room t k n → n ≤ j
 
 pub record Never (toks : List Tok) (room : Room) (t : Symbol) (k m : ℕ) : Type 0 where
-  pub never : (l : ℕ) (w : Value t) → Derives toks room t k l w → GoesOn toks t l
+  pub never : (l : ℕ) (w : Value t) → Derives toks room t k l w → IsFront toks t l w
   pub most : (n : ℕ) → Prefix toks room t k n → n ≤ m
 
 module _ {toks : List Tok} {room : ℕ} {t : Symbol} {k j : ℕ} where

@@ -5,7 +5,7 @@ use Rattle.xc_tree.specs.declared.token.Tok.{Tok}
 use Rattle.xc_tree.specs.declared.token.Kind.TheVariants.{Name, Num, Key, Sym}
 use Rattle.xc_tree.specs.Symbol.{Symbol, sym, key, a_name, a_number, Value}
 use Rattle.xc_tree.specs.Derives.{On, unlimited, at_most}
-use Rattle.xc_parser.specs.Follows.{OneOf, StandsAt, follows}
+use Rattle.xc_parser.specs.Follows.{OneOf, StandsAt}
 use Rattle.xc_parser.specs.Reading.{Refuses, TooDeep}
 use Rattle.xc_parser.proofs.Rests.{Rest, Stands}
 use Rattle.xc_parser.proofs.Reaches.{reaches, rests_reached}
@@ -14,7 +14,7 @@ use Rattle.xc_parser.proofs.Beginnings.{all_begun}
 use Rattle.xc_parser.proofs.Narrows.{at_token, at_none}
 use Rattle.xc_parser.proofs.Spreads.{spreads}
 use Rattle.xc_parser.proofs.Moves.{pass, stay, one_any, one_has, none_ends, none_starts}
-use Rattle.xc_parser.proofs.Opening.{is_token, beginnings, over, all_ready, grown, layers, OneFits, NoneFits, keep, without, spread, is_any}
+use Rattle.xc_parser.proofs.Opening.{fronts, is_token, beginnings, over, all_ready, grown, layers, OneFits, NoneFits, keep, without, spread, is_any}
 
 module _ {toks : List Tok} {room : ℕ} {s : Symbol} where
   pub all_open : {i : ℕ} → is_token s ≡ false → Stands toks room s i i (beginnings s)
@@ -22,16 +22,16 @@ module _ {toks : List Tok} {room : ℕ} {s : Symbol} where
 
   module _ {i k : ℕ} {rs : List (Rest (Value s))} where
     -- over a token that at least one rest has room for
-    pub pass_token : (t : Symbol) (v : Value t) → TokenAt toks k t v → Stands toks room s i k rs → all_ready (follows s) t (grown layers t rs) ≡ true → OneFits room (over t v rs) → Stands toks room s i (k + 1) (over t v rs)
+    pub pass_token : (t : Symbol) (v : Value t) → TokenAt toks k t v → Stands toks room s i k rs → all_ready (fronts s) t (grown layers t rs) ≡ true → OneFits room (over t v rs) → Stands toks room s i (k + 1) (over t v rs)
     pass_token t v at st e h = record { free = pass t v at st.free e (one_any room (over t v rs) h); held = pass t v at st.held e (one_has room (over t v rs) h) }
 
-    pub pass_symbol : {o : ℕ} {p : Pos} → Stands toks room s i k rs → On toks k (Sym o) p → all_ready (follows s) (sym o) (grown layers (sym o) rs) ≡ true → OneFits room (over (sym o) p rs) → Stands toks room s i (k + 1) (over (sym o) p rs)
+    pub pass_symbol : {o : ℕ} {p : Pos} → Stands toks room s i k rs → On toks k (Sym o) p → all_ready (fronts s) (sym o) (grown layers (sym o) rs) ≡ true → OneFits room (over (sym o) p rs) → Stands toks room s i (k + 1) (over (sym o) p rs)
     pass_symbol {o} {p} st on e h = pass_token (sym o) p on st e h
 
-    pub pass_word : {w : ℕ} {p : Pos} → Stands toks room s i k rs → On toks k (Key w) p → all_ready (follows s) (key w) (grown layers (key w) rs) ≡ true → OneFits room (over (key w) p rs) → Stands toks room s i (k + 1) (over (key w) p rs)
+    pub pass_word : {w : ℕ} {p : Pos} → Stands toks room s i k rs → On toks k (Key w) p → all_ready (fronts s) (key w) (grown layers (key w) rs) ≡ true → OneFits room (over (key w) p rs) → Stands toks room s i (k + 1) (over (key w) p rs)
     pass_word {w} {p} st on e h = pass_token (key w) p on st e h
 
-    pub pass_name : {t : List ℕ} {p : Pos} → Stands toks room s i k rs → On toks k (Name t) p → all_ready (follows s) a_name (grown layers a_name rs) ≡ true → OneFits room (over a_name (record { text = t; pos = p }) rs) → Stands toks room s i (k + 1) (over a_name (record { text = t; pos = p }) rs)
+    pub pass_name : {t : List ℕ} {p : Pos} → Stands toks room s i k rs → On toks k (Name t) p → all_ready (fronts s) a_name (grown layers a_name rs) ≡ true → OneFits room (over a_name (record { text = t; pos = p }) rs) → Stands toks room s i (k + 1) (over a_name (record { text = t; pos = p }) rs)
     pass_name {t} {p} st on e h = pass_token a_name (record { text = t; pos = p }) on st e h
 
     -- the rests that a token leaves open

@@ -25,4 +25,5 @@ pub mod Cuts
 pub mod Whole
 pub mod Items
 pub mod Rows
-pub mod Trial
+pub mod Ifs
+pub mod Lasts

@@ -10,12 +10,12 @@ use Rattle.xc_tree.specs.Terminals.{comma}
 use Rattle.xc_tree.specs.Derives.{On, Room, unlimited, at_most, extent}
 use Rattle.xc_parser.specs.declared.stop.Stop.{Stop}
 use Rattle.xc_parser.specs.Follows.{OneOf, first, follows, nullable, has}
-use Rattle.xc_parser.specs.Reading.{Reads, GoesOn}
+use Rattle.xc_parser.specs.Reading.{Reads, IsFront}
 use Rattle.xc_parser.specs.Stops.{Stopped}
 use Rattle.xc_parser.proofs.Rests.{Part, ValuesOf, Rest, RowOf, BeginsOf, Stands, inside, left}
-use Rattle.xc_parser.proofs.Opening.{firsts, nullables, is_disjoint, is_apart, within, Heads, no_head, one_head}
+use Rattle.xc_parser.proofs.Opening.{fronts, firsts, nullables, is_disjoint, is_apart, within, Heads, no_head, one_head}
 use Rattle.xc_parser.proofs.Lists.{many_split, many_none, many_more, many_begin, begin_many, more_many, commas_split, commas_last, commas_more, commas_begin, begin_commas, more_commas}
-use Rattle.xc_parser.proofs.TokenSets.{one_within, one_disjoint}
+use Rattle.xc_parser.proofs.TokenSets.{front, one_within, one_disjoint}
 use Rattle.xc_parser.proofs.Firsts.{parts_first, begun_first, prefix_first}
 use Rattle.xc_parser.proofs.Forth.{ahead}
 use Rattle.xc_parser.proofs.Spreads.{max_has}
@@ -56,11 +56,11 @@ had r xs = record { need = max r.need r.above; parts = r.parts; fits = λ x. r.f
 
 -- an element is told from what stands behind the list by its first token
 abbrev pub is_loop : Symbol → Symbol → List Part → Bool
-is_loop s t ps = (not (nullable t) && is_apart s t (record { above = 0; symbol = many t } ∷ ps)) && (is_disjoint (first t) (firsts ps) && (not (nullables ps) || within (first t) (follows s)))
+is_loop s t ps = (not (nullable t) && is_apart s t (record { above = 0; symbol = many t } ∷ ps)) && (is_disjoint (first t) (firsts ps) && (not (nullables ps) || within (first t) (fronts s)))
 
 -- an element of a row is told from a comma, and from what stands behind the row
 abbrev pub is_row : Symbol → Symbol → List Part → Bool
-is_row s t ps = (is_apart s t ps && is_apart s t (record { above = 0; symbol = comma } ∷ record { above = 0; symbol = commas t } ∷ ps)) && (not (has (firsts ps) comma) && (not (nullables ps) || has (follows s) comma))
+is_row s t ps = (is_apart s t ps && is_apart s t (record { above = 0; symbol = comma } ∷ record { above = 0; symbol = commas t } ∷ ps)) && (not (has (firsts ps) comma) && (not (nullables ps) || has (fronts s) comma))
 
 -- one more element, and then the list
 abbrev element : {V : Type 0} (r : Run V) → List (Value r.symbol) → Rest V
@@ -74,7 +74,7 @@ element r xs = record {
 -- the list can't end here
 record Skips (toks : List Tok) (s : Symbol) (k : ℕ) (ps : List Part) : Type 0 where
   pub none : OneOf toks k (firsts ps) → ⊥
-  pub ends : nullables ps ≡ true → GoesOn toks s k
+  pub ends : nullables ps ≡ true → OneOf toks k (fronts s)
 
 module _ {toks : List Tok} {room : Room} {s : Symbol} {i k : ℕ} (r : Run (Value s)) (xs : List (Value r.symbol)) where
   by_element : Skips toks s k r.parts → Narrows toks room s i k (having r xs ∷ []) k k (element r xs ∷ [])
@@ -82,7 +82,7 @@ module _ {toks : List Tok} {room : Room} {s : Symbol} {i k : ℕ} (r : Run (Valu
     ends = λ j v y. elim y [
       | inl (ws, h, (m, ha, d, row), f, q) ↦ elim (many_split d) [
         | inl e ↦ elim (parts_first toks room r.parts m j ws.1 row) [
-          | inl z ↦ inl (subst (GoesOn toks s) (sym' (z.0 ∙ e.0)) (sk.ends z.1))
+          | inl z ↦ inl (subst (λ (l : ℕ). IsFront toks s l v) (sym' (z.0 ∙ e.0)) (front s v (sk.ends z.1)))
           | inr o ↦ absurd (sk.none (subst (λ (n : ℕ). OneOf toks n (firsts r.parts)) e.0 o))
         ]
         | inr z ↦ inr (inl ((z.1, (z.2, ws.1)), h, (z.0, ha, z.3, (m, ha, z.4, row)), ap (λ (l : List (Value r.symbol)). r.fits (xs ++ l, ws.1)) (sym' z.5) ∙ f, q ∙ ap (λ (l : List (Value r.symbol)). r.make (extent toks i j) (xs ++ l, ws.1)) z.5))
@@ -155,22 +155,22 @@ record IsLoop (s t : Symbol) (ps : List Part) : Type 0 where
   pub visible : nullable t ≡ false
   pub apart : is_apart s t (record { above = 0; symbol = many t } ∷ ps) ≡ true
   pub told : is_disjoint (first t) (firsts ps) ≡ true
-  pub follows : not (nullables ps) || within (first t) (follows s) ≡ true
+  pub follows : not (nullables ps) || within (first t) (fronts s) ≡ true
 
 loops_from : (s t : Symbol) (ps : List Part) → is_loop s t ps ≡ true → IsLoop s t ps
 loops_from s t ps e =
-    let p = and_parts (not (nullable t) && is_apart s t (record { above = 0; symbol = many t } ∷ ps)) (is_disjoint (first t) (firsts ps) && (not (nullables ps) || within (first t) (follows s))) e in
+    let p = and_parts (not (nullable t) && is_apart s t (record { above = 0; symbol = many t } ∷ ps)) (is_disjoint (first t) (firsts ps) && (not (nullables ps) || within (first t) (fronts s))) e in
     let q = and_parts (not (nullable t)) (is_apart s t (record { above = 0; symbol = many t } ∷ ps)) p.0 in
-    let u = and_parts (is_disjoint (first t) (firsts ps)) (not (nullables ps) || within (first t) (follows s)) p.1 in
+    let u = and_parts (is_disjoint (first t) (firsts ps)) (not (nullables ps) || within (first t) (fronts s)) p.1 in
     record { visible = not-true (nullable t) q.0; apart = q.1; told = u.0; follows = u.1 }
 
 -- an element begins where the list goes on
 skips_at : {toks : List Tok} {s t : Symbol} {k : ℕ} {ps : List Part} → IsLoop s t ps → OneOf toks k (first t) → Skips toks s k ps
 skips_at {toks} {s} {t} {k} {ps} l o = record {
   none = λ q. one_disjoint (firsts ps) l.told o q;
-  ends = λ n. elim (or_cases (not (nullables ps)) (within (first t) (follows s)) l.follows) [
+  ends = λ n. elim (or_cases (not (nullables ps)) (within (first t) (fronts s)) l.follows) [
     | inl f ↦ let h = not-true (nullables ps) f in absurd (cc)
-    | inr w ↦ one_within (follows s) w o
+    | inr w ↦ one_within (fronts s) w o
   ];
 }
 

@@ -5,10 +5,10 @@ use Rattle.xc_tree.specs.declared.token.Tok.{Tok}
 use Rattle.xc_tree.specs.Symbol.{Symbol, Value}
 use Rattle.xc_tree.specs.Grammar.{Extent}
 use Rattle.xc_tree.specs.Derives.{Room, unlimited, at_most, HasRoom, Derives, Prefix, nothing, whole}
-use Rattle.xc_parser.specs.Follows.{StandsAt, OneOf, follows}
+use Rattle.xc_parser.specs.Follows.{StandsAt, OneOf}
 use Rattle.xc_parser.specs.Reading.{GoesOn}
 use Rattle.xc_parser.proofs.Rests.{Part, ValuesOf, Rest, Ends, Starts, Open, Stands, inside}
-use Rattle.xc_parser.proofs.Opening.{keep, without, spread, grown, layers, over, behind, behind_part, behind_parts, as_token, all_ready, is_any, peak, peak_of, peak_parts, sift, keep_if, least, OneFits, NoneFits, Within, moves}
+use Rattle.xc_parser.proofs.Opening.{fronts, keep, without, spread, grown, layers, over, behind, behind_part, behind_parts, as_token, all_ready, is_any, peak, peak_of, peak_parts, sift, keep_if, least, OneFits, NoneFits, Within, moves}
 use Rattle.xc_parser.proofs.Behinds.{TokenAt, token_derives, token_stands, as_back}
 use Rattle.xc_parser.proofs.Spreads.{spreads, max_has}
 use Rattle.xc_parser.proofs.Overs.{at_behind}
@@ -24,7 +24,7 @@ module _ {toks : List Tok} {room : Room} {s : Symbol} {i k : ℕ} where
   grows zero t at rs = at_token t at rs
   grows (suc n) t at rs = compose (compose (at_token t at rs) (spreads k (keep t rs)) (omega arith)) (grows n t at (spread (keep t rs))) (omega arith)
 
-  pub overs : (t : Symbol) (v : Value t) → TokenAt toks k t v → (rs : List (Rest (Value s))) → all_ready (follows s) t (grown layers t rs) ≡ true → Narrows toks room s i k rs (k + 1) (k + 1) (over t v rs)
+  pub overs : (t : Symbol) (v : Value t) → TokenAt toks k t v → (rs : List (Rest (Value s))) → all_ready (fronts s) t (grown layers t rs) ≡ true → Narrows toks room s i k rs (k + 1) (k + 1) (over t v rs)
   overs t v at rs e = compose (grows layers t (token_stands toks k t v at) rs) (at_behind toks room s i k t v at (grown layers t rs) e) (omega arith)
 
 -- a rest behind a token shows that the token is a prefix
@@ -44,7 +44,7 @@ module _ (toks : List Tok) (room : Room) {V : Type 0} (k : ℕ) (t : Symbol) (v 
 
 module _ {toks : List Tok} {room : Room} {s : Symbol} {i k : ℕ} {rs : List (Rest (Value s))} where
   -- over a token
-  pub pass : (t : Symbol) (v : Value t) → TokenAt toks k t v → Open toks room s i k k rs → all_ready (follows s) t (grown layers t rs) ≡ true → OneHas room (over t v rs) → Open toks room s i (k + 1) (k + 1) (over t v rs)
+  pub pass : (t : Symbol) (v : Value t) → TokenAt toks k t v → Open toks room s i k k rs → all_ready (fronts s) t (grown layers t rs) ≡ true → OneHas room (over t v rs) → Open toks room s i (k + 1) (k + 1) (over t v rs)
   pass t v at o e h =
       let g = grows {room = room} {s = s} {i = i} layers t (token_stands toks k t v at) rs in
       narrow o (overs t v at rs e) (omega arith) (o.prefix (k + 1) (g.starts_back (k + 1) (behind_here toks room k t v at (grown layers t rs) h)))

@@ -6,7 +6,7 @@ use Rattle.xc_tree.specs.declared.token.Tok.{Tok}
 use Rattle.xc_tree.specs.Symbol.{Symbol, Value}
 use Rattle.xc_tree.specs.Derives.{Room, Derives, Prefix, HasRoom}
 use Rattle.xc_parser.specs.Follows.{StandsAt, OneOf, has, follows, first}
-use Rattle.xc_parser.specs.Reading.{GoesOn}
+use Rattle.xc_parser.specs.Reading.{IsFront}
 use Rattle.xc_parser.proofs.Rests.{Part, ValuesOf, Rest, RowOf, BeginsOf, EndsBy, Ends, StartsBy, Starts, Open}
 use Rattle.xc_parser.proofs.Opening.{firsts, nullables, opens, keep, keep_if, sift, without, needs_none, within}
 use Rattle.xc_parser.proofs.TokenSets.{one_is, one_within}
@@ -14,14 +14,14 @@ use Rattle.xc_parser.proofs.Firsts.{parts_first, begun_first}
 
 -- Readings by some rests from k go by others from k', or go on at their end. Prefixes do so too, beyond token m.
 pub record Narrows (toks : List Tok) (room : Room) (s : Symbol) (i k : ℕ) (rs : List (Rest (Value s))) (k' m : ℕ) (rs' : List (Rest (Value s))) : Type 0 where
-  pub ends : (j : ℕ) (v : Value s) → Ends toks room rs i k j v → GoesOn toks s j ⊎ Ends toks room rs' i k' j v
+  pub ends : (j : ℕ) (v : Value s) → Ends toks room rs i k j v → IsFront toks s j v ⊎ Ends toks room rs' i k' j v
   pub starts : (n : ℕ) → Starts toks room rs k n → (n ≤ m) ⊎ Starts toks room rs' k' n
   pub ends_back : (j : ℕ) (v : Value s) → Ends toks room rs' i k' j v → Ends toks room rs i k j v
   pub starts_back : (n : ℕ) → Starts toks room rs' k' n → Starts toks room rs k n
 
 -- a rest that ends nowhere but where the symbol goes on, and has no prefix beyond token m
 pub record Gone (toks : List Tok) (room : Room) (s : Symbol) (i k m : ℕ) (r : Rest (Value s)) : Type 0 where
-  pub ends : (j : ℕ) (v : Value s) → EndsBy toks room r i k j v → GoesOn toks s j
+  pub ends : (j : ℕ) (v : Value s) → EndsBy toks room r i k j v → IsFront toks s j v
   pub starts : (n : ℕ) → StartsBy toks room r k n → n ≤ m
 
 not_open : {toks : List Tok} {k : ℕ} (t : Symbol) → StandsAt toks k t → (ps : List Part) → has (firsts ps) t || nullables ps ≡ false → OneOf toks k (firsts ps) → ⊥
@@ -54,13 +54,13 @@ module _ {toks : List Tok} {room : Room} {s : Symbol} {i : ℕ} where
 
   -- some rests are gone
   module _ {k m : ℕ} (b : Rest (Value s) → Bool) (gone : (r : Rest (Value s)) → b r ≡ false → Gone toks room s i k m r) where
-    ends_one : (r : Rest (Value s)) (rs kept : List (Rest (Value s))) (j : ℕ) (v : Value s) (c : Bool) → b r ≡ c → (Ends toks room rs i k j v → GoesOn toks s j ⊎ Ends toks room kept i k j v) → Ends toks room (r ∷ rs) i k j v → GoesOn toks s j ⊎ Ends toks room (keep_if c r kept) i k j v
+    ends_one : (r : Rest (Value s)) (rs kept : List (Rest (Value s))) (j : ℕ) (v : Value s) (c : Bool) → b r ≡ c → (Ends toks room rs i k j v → IsFront toks s j v ⊎ Ends toks room kept i k j v) → Ends toks room (r ∷ rs) i k j v → IsFront toks s j v ⊎ Ends toks room (keep_if c r kept) i k j v
     ends_one r rs kept j v true e f (inl x) = inr (inl x)
     ends_one r rs kept j v true e f (inr x) = elim (f x) [ inl g ↦ inl g | inr y ↦ inr (inr y) ]
     ends_one r rs kept j v false e f (inl x) = inl ((gone r e).ends j v x)
     ends_one r rs kept j v false e f (inr x) = f x
 
-    sift_ends : (rs : List (Rest (Value s))) (j : ℕ) (v : Value s) → Ends toks room rs i k j v → GoesOn toks s j ⊎ Ends toks room (sift b rs) i k j v
+    sift_ends : (rs : List (Rest (Value s))) (j : ℕ) (v : Value s) → Ends toks room rs i k j v → IsFront toks s j v ⊎ Ends toks room (sift b rs) i k j v
     sift_ends [] j v x = absurd x
     sift_ends (r ∷ rs) j v x = ends_one r rs (sift b rs) j v (b r) refl (sift_ends rs j v) x
 

@@ -218,10 +218,18 @@ abbrev pub is_disjoint : List Symbol → List Symbol → Bool
 is_disjoint [] ys = true
 is_disjoint (x ∷ xs) ys = not (has ys x) && is_disjoint xs ys
 
+-- the tokens that a reading of a symbol goes on with, whatever its value is
+abbrev pub fronts : Symbol → List Symbol
+fronts statement = []
+fronts block_item = []
+fronts case_item = []
+fronts branch = []
+fronts s = follows s
+
 -- what a longer reading of t goes on with begins none of the parts behind it; where these may be no token, a longer reading
 -- of s goes on with it
 abbrev pub is_apart : Symbol → Symbol → List Part → Bool
-is_apart s t ps = is_disjoint (follows t) (firsts ps) && (not (nullables ps) || within (follows t) (follows s))
+is_apart s t ps = is_disjoint (follows t) (firsts ps) && (not (nullables ps) || within (follows t) (fronts s))
 
 -- a token moves some rests on: each that it opens begins with it, one is left, and none needs more room
 abbrev pub moves : {V : Type 0} → List Symbol → Symbol → (rs behind : List (Rest V)) → Bool

@@ -9,7 +9,7 @@ use Rattle.xc_tree.specs.Grammar.{Extent}
 use Rattle.xc_tree.specs.Derives.{On, extent, Room, unlimited, at_most, Prefix, nothing, whole}
 use Rattle.xc_parser.specs.declared.stop.Stop.{Stop}
 use Rattle.xc_parser.specs.declared.stop.Stop.TheVariants.{Wrong, Deep, Memory}
-use Rattle.xc_parser.specs.Follows.{OneOf, StandsAt, follows}
+use Rattle.xc_parser.specs.Follows.{OneOf, StandsAt}
 use Rattle.xc_parser.specs.Reading.{Reads, Refuses, TooDeep, Unfit}
 use Rattle.xc_parser.specs.Stops.{Stopped}
 use Rattle.xc_parser.proofs.Rests.{Part, ValuesOf, Rest, Stands, left, inside}
@@ -19,7 +19,7 @@ use Rattle.xc_parser.proofs.Behinds.{TokenAt}
 use Rattle.xc_parser.proofs.Moves.{pass, any_has, peak_has, sift_peak, within_le, moves_from}
 use Rattle.xc_parser.proofs.Choices.{all_open, only_token, no_one, spread_out, stuck}
 use Rattle.xc_parser.proofs.Advances.{Known, Never, known_free, known_held, never_free, never_held, advance, refused, lead_free, lead_held, apart_all, popped_needs, freed_ends, deep_ends, freed_starts, deep_starts, no_end, no_start}
-use Rattle.xc_parser.proofs.Opening.{needs_none, opens, no_head, one_head, is_token, beginnings, over, moves, peak, Within, keep, without, spread, is_apart, heads_apart, Heads, popped, deepened}
+use Rattle.xc_parser.proofs.Opening.{fronts, needs_none, opens, no_head, one_head, is_token, beginnings, over, moves, peak, Within, keep, without, spread, is_apart, heads_apart, Heads, popped, deepened}
 
 no_symbol : {toks : List Tok} {k : ℕ} (o : ℕ) → ((p : Pos) → On toks k (Sym o) p → ⊥) → OneOf toks k (sym o ∷ []) → ⊥
 no_symbol {toks} {k} o none x = let y = one_token_of (sym o) x in none y.0 y.1
@@ -42,9 +42,9 @@ roomy {room} {rs} st h = record { stands = st; needs = within_le (peak rs) room 
 
 module _ {toks : List Tok} {room : ℕ} {s : Symbol} {i k : ℕ} {rs : List (Rest (Value s))} where
   -- over a token
-  pub over_token : (t : Symbol) (v : Value t) → TokenAt toks k t v → Roomy toks room s i k rs → moves (follows s) t rs (over t v rs) ≡ true → Roomy toks room s i (k + 1) (over t v rs)
+  pub over_token : (t : Symbol) (v : Value t) → TokenAt toks k t v → Roomy toks room s i k rs → moves (fronts s) t rs (over t v rs) ≡ true → Roomy toks room s i (k + 1) (over t v rs)
   over_token t v at st e =
-      let m = moves_from (follows s) t rs (over t v rs) e in
+      let m = moves_from (fronts s) t rs (over t v rs) e in
       let n = m.needs in
       let h = st.needs in
       record {
@@ -55,16 +55,16 @@ module _ {toks : List Tok} {room : ℕ} {s : Symbol} {i k : ℕ} {rs : List (Res
         needs = omega arith;
       }
 
-  pub over_symbol : {o : ℕ} {p : Pos} → Roomy toks room s i k rs → On toks k (Sym o) p → moves (follows s) (sym o) rs (over (sym o) p rs) ≡ true → Roomy toks room s i (k + 1) (over (sym o) p rs)
+  pub over_symbol : {o : ℕ} {p : Pos} → Roomy toks room s i k rs → On toks k (Sym o) p → moves (fronts s) (sym o) rs (over (sym o) p rs) ≡ true → Roomy toks room s i (k + 1) (over (sym o) p rs)
   over_symbol {o} {p} st on e = over_token (sym o) p on st e
 
-  pub over_word : {w : ℕ} {p : Pos} → Roomy toks room s i k rs → On toks k (Key w) p → moves (follows s) (key w) rs (over (key w) p rs) ≡ true → Roomy toks room s i (k + 1) (over (key w) p rs)
+  pub over_word : {w : ℕ} {p : Pos} → Roomy toks room s i k rs → On toks k (Key w) p → moves (fronts s) (key w) rs (over (key w) p rs) ≡ true → Roomy toks room s i (k + 1) (over (key w) p rs)
   over_word {w} {p} st on e = over_token (key w) p on st e
 
-  pub over_name : {t : List ℕ} {p : Pos} → Roomy toks room s i k rs → On toks k (Name t) p → moves (follows s) a_name rs (over a_name (record { text = t; pos = p }) rs) ≡ true → Roomy toks room s i (k + 1) (over a_name (record { text = t; pos = p }) rs)
+  pub over_name : {t : List ℕ} {p : Pos} → Roomy toks room s i k rs → On toks k (Name t) p → moves (fronts s) a_name rs (over a_name (record { text = t; pos = p }) rs) ≡ true → Roomy toks room s i (k + 1) (over a_name (record { text = t; pos = p }) rs)
   over_name {t} {p} st on e = over_token a_name (record { text = t; pos = p }) on st e
 
-  pub over_number : {n : ℕ} {u : Bool} {p : Pos} → Roomy toks room s i k rs → On toks k (Num n u) p → moves (follows s) a_number rs (over a_number (record { value = n; is_unsigned = u; pos = p }) rs) ≡ true → Roomy toks room s i (k + 1) (over a_number (record { value = n; is_unsigned = u; pos = p }) rs)
+  pub over_number : {n : ℕ} {u : Bool} {p : Pos} → Roomy toks room s i k rs → On toks k (Num n u) p → moves (fronts s) a_number rs (over a_number (record { value = n; is_unsigned = u; pos = p }) rs) ≡ true → Roomy toks room s i (k + 1) (over a_number (record { value = n; is_unsigned = u; pos = p }) rs)
   over_number {n} {u} {p} st on e = over_token a_number (record { value = n; is_unsigned = u; pos = p }) on st e
 
   -- the rests that a token leaves open

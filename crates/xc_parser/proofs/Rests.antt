@@ -5,7 +5,7 @@ use Rattle.xc_tree.specs.declared.token.Tok.{Tok}
 use Rattle.xc_tree.specs.Symbol.{Symbol, Value, Values}
 use Rattle.xc_tree.specs.Grammar.{Rule, Extent, rules}
 use Rattle.xc_tree.specs.Derives.{Derives, Prefix, Room, unlimited, at_most, HasRoom, below, extent}
-use Rattle.xc_parser.specs.Reading.{GoesOn}
+use Rattle.xc_parser.specs.Reading.{IsFront}
 
 -- a symbol, and how many nodes stand above it
 pub record Part : Type 0 where
@@ -65,7 +65,7 @@ Starts toks room (r ∷ rs) k n = StartsBy toks room r k n ⊎ Starts toks room 
 -- before token m.
 pub record Open (toks : List Tok) (room : Room) (s : Symbol) (i k m : ℕ) (rs : List (Rest (Value s))) : Type 0 where
   pub derives : (j : ℕ) (v : Value s) → Ends toks room rs i k j v → Derives toks room s i j v
-  pub only : (j : ℕ) (v : Value s) → Derives toks room s i j v → GoesOn toks s j ⊎ Ends toks room rs i k j v
+  pub only : (j : ℕ) (v : Value s) → Derives toks room s i j v → IsFront toks s j v ⊎ Ends toks room rs i k j v
   pub prefix : (n : ℕ) → Starts toks room rs k n → Prefix toks room s i n
   pub here : Prefix toks room s i k
   pub most : (n : ℕ) → Prefix toks room s i n → (n ≤ m) ⊎ Starts toks room rs k n

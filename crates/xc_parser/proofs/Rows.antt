@@ -10,11 +10,11 @@ use Rattle.xc_tree.specs.Terminals.{comma}
 use Rattle.xc_tree.specs.Derives.{On, Room, unlimited, at_most, Derives, Prefix, nothing, whole, extent}
 use Rattle.xc_parser.specs.declared.stop.Stop.{Stop}
 use Rattle.xc_parser.specs.Follows.{OneOf, has, follows}
-use Rattle.xc_parser.specs.Reading.{Reads, GoesOn, Unfit}
+use Rattle.xc_parser.specs.Reading.{Reads, IsFront, Unfit}
 use Rattle.xc_parser.specs.Stops.{Stopped}
 use Rattle.xc_parser.proofs.Rests.{Part, ValuesOf, Rest, RowOf, BeginsOf, Stands, inside, left}
-use Rattle.xc_parser.proofs.Opening.{firsts, nullables, is_apart, heads_apart, Heads, no_head, one_head, deepened}
-use Rattle.xc_parser.proofs.TokenSets.{one_is, one_token_of}
+use Rattle.xc_parser.proofs.Opening.{fronts, firsts, nullables, is_apart, heads_apart, Heads, no_head, one_head, deepened}
+use Rattle.xc_parser.proofs.TokenSets.{front, one_is, one_token_of}
 use Rattle.xc_parser.proofs.Firsts.{parts_first, begun_first}
 use Rattle.xc_parser.proofs.Behinds.{token_derives, token_derived, token_prefix}
 use Rattle.xc_parser.proofs.Lists.{token_begun}
@@ -118,15 +118,15 @@ pub record IsRow (s t : Symbol) (ps : List Part) : Type 0 where
   pub last : is_apart s t ps ≡ true
   pub more : is_apart s t (record { above = 0; symbol = comma } ∷ record { above = 0; symbol = commas t } ∷ ps) ≡ true
   pub told : has (firsts ps) comma ≡ false
-  pub follows : not (nullables ps) || has (follows s) comma ≡ true
+  pub follows : not (nullables ps) || has (fronts s) comma ≡ true
 
 pub row_from : (s t : Symbol) (ps : List Part) → is_row s t ps ≡ true → IsRow s t ps
 row_from s t ps e =
     let a = is_apart s t ps in
     let b = is_apart s t (record { above = 0; symbol = comma } ∷ record { above = 0; symbol = commas t } ∷ ps) in
-    let p = and_parts (a && b) (not (has (firsts ps) comma) && (not (nullables ps) || has (follows s) comma)) e in
+    let p = and_parts (a && b) (not (has (firsts ps) comma) && (not (nullables ps) || has (fronts s) comma)) e in
     let q = and_parts a b p.0 in
-    let u = and_parts (not (has (firsts ps) comma)) (not (nullables ps) || has (follows s) comma) p.1 in
+    let u = and_parts (not (has (firsts ps) comma)) (not (nullables ps) || has (fronts s) comma) p.1 in
     record { last = q.0; more = q.1; told = not-true (has (firsts ps) comma) u.0; follows = u.1 }
 
 -- a comma and the list, from behind the comma on
@@ -144,10 +144,10 @@ module _ {toks : List Tok} {room : Room} {s : Symbol} {i j : ℕ} (r : Run (Valu
   by_comma p on e = record {
     ends = λ l w y. elim y [
       | inl (ws, h, row, f, q) ↦ inl (elim (parts_first toks room r.parts j l ws row) [
-        | inl z ↦ subst (GoesOn toks s) (sym' z.0) (elim (or_cases (not (nullables r.parts)) (has (follows s) comma) e.follows) [
+        | inl z ↦ subst (λ (u : ℕ). IsFront toks s u w) (sym' z.0) (front s w (elim (or_cases (not (nullables r.parts)) (has (fronts s) comma) e.follows) [
           | inl g ↦ let a = not-true (nullables r.parts) g in let b = z.1 in absurd (cc)
           | inr g ↦ record { token = comma; stands = (p, on); among = g }
-        ])
+        ]))
         | inr o ↦ let a = one_is comma (p, on) o in let b = e.told in absurd (cc)
       ])
       | inr y ↦ elim y [

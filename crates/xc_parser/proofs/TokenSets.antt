@@ -5,10 +5,11 @@ use Rattle.xw_words.specs.declared.pos.Pos.{Pos}
 use Rattle.xc_tree.specs.declared.token.Tok.{Tok}
 use Rattle.xc_tree.specs.declared.token.Kind.{Kind}
 use Rattle.xc_tree.specs.declared.token.Kind.TheVariants.{Key}
-use Rattle.xc_tree.specs.Symbol.{Symbol, sym, key, a_name, a_number}
+use Rattle.xc_tree.specs.Symbol.{Symbol, sym, key, a_name, a_number, statement, block_item, case_item, branch, Value}
 use Rattle.xc_tree.specs.Derives.{On}
 use Rattle.xc_parser.specs.Follows.{StandsAt, is_same, has, OneOf}
-use Rattle.xc_parser.proofs.Opening.{within, is_disjoint}
+use Rattle.xc_parser.specs.Reading.{IsFront}
+use Rattle.xc_parser.proofs.Opening.{fronts, within, is_disjoint}
 
 pub is_same_eq : (x t : Symbol) → is_same x t ≡ true → x ≡ t
 is_same_eq (sym a) (sym b) e = ap sym (eqb-true a b e)
@@ -95,3 +96,14 @@ one_token_of {toks} {i} t o = elim (or_cases (is_same t o.token) false o.among) 
   | inl e ↦ subst (StandsAt toks i) (sym' (is_same_eq t o.token e)) o.stands
   | inr e ↦ absurd (cc)
 ]
+
+no_token : {toks : List Tok} {i : ℕ} → OneOf toks i [] → ⊥
+no_token o = let e = o.among in absurd (cc)
+
+-- what a symbol goes on with, whatever its value is
+pub front : {toks : List Tok} (s : Symbol) {i : ℕ} (v : Value s) → OneOf toks i (fronts s) → IsFront toks s i v
+front statement v o = absurd (no_token o)
+front block_item v o = absurd (no_token o)
+front case_item v o = absurd (no_token o)
+front branch v o = absurd (no_token o)
+front s v o = record { goes_on = o; may = refl }
