@@ -21,17 +21,30 @@ fn place_in(spellings: &[&[u8]], bytes: &[u8]) -> Option<u8> {
     None
 }
 
-/// What a word of a test is as a token: a symbol, a word, a number of one figure, `unsigned` with a letter behind it, and
-/// else a name.
+/// A decimal number, `unsigned` with a letter behind it.
+fn number(word: &[u8]) -> Kind {
+    let mut value = 0u32;
+    let mut is_unsigned = false;
+    for b in word {
+        if *b >= b'0' && *b <= b'9' {
+            value = value.wrapping_mul(10).wrapping_add((*b - b'0') as u32);
+        } else {
+            is_unsigned = true;
+        }
+    }
+    Kind::Num(value, is_unsigned)
+}
+
+/// What a word of a test is as a token: a number, a symbol, a word, and else a name.
 fn kind_of(alloc: Global, word: &[u8]) -> Result<Kind, AllocError> {
+    if word.len() > 0 && word[0] >= b'0' && word[0] <= b'9' {
+        return Ok(number(word));
+    }
     if let Some(place) = place_in(&SYMBOLS, word) {
         return Ok(Kind::Sym(place));
     }
     if let Some(place) = place_in(&WORDS, word) {
         return Ok(Kind::Key(place));
-    }
-    if word.len() > 0 && word[0] >= b'0' && word[0] <= b'9' {
-        return Ok(Kind::Num((word[0] - b'0') as u32, word.len() > 1));
     }
     let mut name = Vec::new(alloc);
     for b in word {
@@ -60,18 +73,18 @@ pub fn tokens(alloc: Global, text: &str) -> Result<List<Tok>, AllocError> {
     Ok(List::from_vec(toks))
 }
 
-fn put(shown: &mut String, bytes: &[u8]) -> Result<(), AllocError> {
+pub fn put(shown: &mut String, bytes: &[u8]) -> Result<(), AllocError> {
     for b in bytes {
         shown.push(*b as char)?;
     }
     Ok(())
 }
 
-fn put_symbol(shown: &mut String, symbol: u8) -> Result<(), AllocError> {
+pub fn put_symbol(shown: &mut String, symbol: u8) -> Result<(), AllocError> {
     put(shown, SYMBOLS.get(symbol as usize).copied().unwrap_or(b"?"))
 }
 
-fn put_number(alloc: Global, shown: &mut String, n: u32) -> Result<(), AllocError> {
+pub fn put_number(alloc: Global, shown: &mut String, n: u32) -> Result<(), AllocError> {
     let digits = format!(in alloc; "{}", n)?;
     shown.push_str(digits.as_str())
 }

@@ -1,5 +1,6 @@
 use super::{ParseErr, parse};
 use crate::parser::Parser;
+use crate::places::end_pos;
 use crate::stop::Stop;
 use crate::testing::{put_tree, tokens};
 use std::alloc::{AllocError, Global};
@@ -7,10 +8,17 @@ use std::process::Abort;
 use std::test::Fail;
 use xw_words::Pos;
 
+/// How many tokens a text of these tests has at most.
+const MOST: usize = 1_000_000;
+
 /// What a text is read as: its items, or the rule that it breaks and where; `end` is at 9:9.
 fn shown(alloc: Global, text: &str) -> Result<String, AllocError> {
     let toks = tokens(alloc, text)?;
     let mut shown = String::new(alloc);
+    if toks.len() > MOST {
+        shown.push_str("too many tokens")?;
+        return Ok(shown);
+    }
     match parse(alloc, &toks, Pos { line: 9, col: 9 }) {
         Ok(tree) => put_tree(alloc, &mut shown, &tree)?,
         Err(ParseErr::Broken(b)) => {
@@ -69,7 +77,7 @@ fn reads_programs(rt: HostRuntime) -> Result<(), Fail> {
 }
 
 /// Statements, and what they are read as.
-const STATEMENTS: [(&str, &str); 43] = [
+const STATEMENTS: [(&str, &str); 48] = [
     (";", "[1-1/1 empty]"),
     ("{ ; }", "[1-3/2 block [2-2/1 empty]]"),
     ("int x ;", "[1-3/3 declare int x@2]"),
@@ -77,6 +85,7 @@ const STATEMENTS: [(&str, &str); 43] = [
         "unsigned int x = 5 , y [ 7u ] , z = f ( ) ;",
         "[1-17/17 declare unsigned x@3 = 5 unsigned y@7[7@9] unsigned z@12 = f@14{}]",
     ),
+    ("int x = y , z ;", "[1-7/7 declare int x@2 = y int z@6]"),
     ("chan c , d ;", "[1-5/5 declare chan c@2 chan d@4]"),
     ("timer t ;", "[1-3/3 declare timer t@2]"),
     ("x = y + 1 ;", "[1-6/6 x =@2 +(y 1)]"),
@@ -92,6 +101,7 @@ const STATEMENTS: [(&str, &str); 43] = [
         "p @ t <: x @ s ;",
         "[1-8/8 output p@1 time@2 t x stamp@6 s]",
     ),
+    ("p <: x @ a [ 0 ] ;", "[1-9/9 output p@1 x stamp@4 a[0]]"),
     ("p :> x ;", "[1-4/4 input p@1 x]"),
     (
         "p @ t + 1 :> a [ 0 ] @ s ;",
@@ -134,8 +144,10 @@ const STATEMENTS: [(&str, &str); 43] = [
         "[1-12/5 for [3-8/6 declare unsigned i@4 = f@6{}] _ _ [12-12/1 empty]]",
     ),
     ("return ;", "[1-2/2 return]"),
+    ("return x + 1 ;", "[1-5/5 return +(x 1)]"),
     ("return f ( x ) ;", "[1-6/6 return f@2{ x@4}]"),
     ("break ;", "[1-2/2 break]"),
+    ("par { }", "[1-3/3 par]"),
     ("continue ;", "[1-2/2 continue]"),
     (
         "par { on tile [ 0 ] : f ( ) ; { } }",
@@ -166,6 +178,10 @@ const STATEMENTS: [(&str, &str); 43] = [
         "[1-15/15 select case@3 if a[0] input p@9 x :]",
     ),
     ("master { c <: x ; }", "[1-7/3 master [3-6/4 output c@3 x]]"),
+    (
+        "select { default : x = 1 ; break ; case c :> x : break ; }",
+        "[1-18/14 select case@3 : [5-8/4 x =@6 1] case@11 input c@12 x :]",
+    ),
     ("slave { }", "[1-3/3 slave]"),
 ];
 
@@ -176,6 +192,19 @@ fn reads_statements(rt: HostRuntime) -> Result<(), Fail> {
         let whole = format!(in alloc; "void f ( ) {{ \n {} \n }}", text)?;
         let shown = shown(alloc, whole.as_str())?;
         let wanted = format!(in alloc; "void f@2/4 [5-1/2 block {}]", wanted)?;
+        assert_eq!(rt; shown.as_str(), wanted.as_str());
+    }
+    Ok(())
+}
+
+#[test]
+fn ten_symbols_assign_with_an_operator(rt: HostRuntime) -> Result<(), Fail> {
+    let alloc = rt.alloc();
+    let symbols = ["+=", "-=", "*=", "/=", "%=", "&=", "|=", "^=", "<<=", ">>="];
+    for symbol in symbols {
+        let text = format!(in alloc; "void f ( ) {{ \n x {} y ; \n }}", symbol)?;
+        let shown = shown(alloc, text.as_str())?;
+        let wanted = format!(in alloc; "void f@2/4 [5-1/2 block [1-4/4 x {}@2 y]]", symbol)?;
         assert_eq!(rt; shown.as_str(), wanted.as_str());
     }
     Ok(())
@@ -221,27 +250,40 @@ fn refuses_at_the_first_wrong_token(rt: HostRuntime) -> Result<(), Fail> {
     Ok(())
 }
 
+/// A program of each kind of statement, and a serial transmitter; and after how many tokens an item of theirs ends.
+const CUT: [(&str, &[usize]); 2] = [
+    (
+        "int f ( int a [ 3 ] , chanend c ) { unsigned x = a [ 1 ] , y [ 2 ] ; for ( int i = 0 ; i < 3 ; i ++ ) if ( i ) x += ( int ) a [ i ] ; else y [ i ] = - 1 ; par { on tile [ 0 ] : g ( x , 1 ) ; par ( int k = 0 ; k < 2 ; k ++ ) ; } select { case x ? 1 : 0 => c @ 5 :> int z @ x : z ++ ; break ; default : do ; while ( x ) ; break ; } master { c <: 4 ; } return f ( y , c ) ; }",
+        &[0, 145],
+    ),
+    (
+        "out port tx = XS1_PORT_1A ; void send ( out port p , chanend c ) { unsigned t = 1000 ; int n , k , v ; for ( n = 0 ; n < 2 ; n ++ ) { c :> v ; p @ t <: 0 ; for ( k = 0 ; k < 8 ; k ++ ) { t += 868 ; p @ t <: v ; v >>= 1 ; } t += 868 ; p @ t <: 1 ; t += 868 ; } } void feed ( chanend c ) { c <: 85 ; c <: 65 ; } int main ( void ) { chan c ; par { feed ( c ) ; send ( tx , c ) ; } return 0 ; }",
+        &[0, 6, 98, 114, 142],
+    ),
+];
+
 #[test]
-fn each_cut_of_a_program_breaks_201_at_its_end(rt: HostRuntime) -> Result<(), Fail> {
+fn each_cut_inside_an_item_breaks_201_at_its_end(rt: HostRuntime) -> Result<(), Fail> {
     let alloc = rt.alloc();
-    let text =
-        "int f ( int a [ 3 ] , chanend c ) { unsigned x = a [ 1 ] , y [ 2 ] ; for ( int i = 0 ; i < 3 ; i ++ ) if ( i ) x += ( int ) a [ i ] ; else y [ i ] = - 1 ; par { on tile [ 0 ] : g ( x , 1 ) ; par ( int k = 0 ; k < 2 ; k ++ ) ; } select { case x ? 1 : 0 => c @ 5 :> int z @ x : z ++ ; break ; default : do ; while ( x ) ; break ; } master { c <: 4 ; } return f ( y , c ) ; }";
-    let toks = tokens(alloc, text)?;
-    let all = toks.as_slice();
-    for n in 1..all.len() {
-        let parser = Parser {
-            alloc,
-            toks: &all[..n],
-        };
-        match parser.program() {
-            Ok(_) => assert!(rt; false),
-            Err(Stop::Wrong(at)) => assert_eq!(rt; at, n),
-            Err(Stop::Deep(_)) => assert!(rt; false),
-            Err(Stop::Memory) => assert!(rt; false),
+    for (text, ends) in CUT {
+        let toks = tokens(alloc, text)?;
+        let all = toks.as_slice();
+        assert!(rt; all.len() < MOST);
+        assert_eq!(rt; ends.last().copied(), Some(all.len()));
+        for n in 0..all.len() + 1 {
+            let parser = Parser {
+                alloc,
+                toks: &all[..n],
+            };
+            let stopped_at = match parser.program() {
+                Ok(_) => None,
+                Err(Stop::Wrong(at)) => Some(at),
+                Err(Stop::Deep(_)) | Err(Stop::Memory) => Some(usize::MAX),
+            };
+            let wanted = if ends.contains(&n) { None } else { Some(n) };
+            assert_eq!(rt; stopped_at, wanted);
         }
     }
-    let parser = Parser { alloc, toks: all };
-    assert!(rt; parser.program().is_ok());
     Ok(())
 }
 
@@ -265,9 +307,13 @@ fn a_program_has_200_nodes_one_below_the_other(rt: HostRuntime) -> Result<(), Fa
         closing.push_str("} ")?;
     }
     let fits = nested(alloc, 199, closing.as_str())?;
-    let toks = tokens(alloc, fits.as_str())?;
-    assert!(rt; parse(alloc, &toks, Pos { line: 9, col: 9 }).is_ok());
-    let deep = nested(alloc, 200, "")?;
+    assert!(rt;
+        shown(alloc, fits.as_str())?
+            .as_str()
+            .starts_with("int main@2/4 [")
+    );
+    closing.push_str("}")?;
+    let deep = nested(alloc, 200, closing.as_str())?;
     assert_eq!(rt; shown(alloc, deep.as_str())?.as_str(), "202 at 2:200");
     let mut place = String::new(alloc);
     place.push_str("on tile [ ")?;
@@ -371,6 +417,84 @@ fn the_parts_of_a_for_are_nodes(rt: HostRuntime) -> Result<(), Fail> {
         let whole = nested(alloc, 197, text)?;
         let shown = shown(alloc, whole.as_str())?;
         assert_eq!(rt; shown.as_str(), wanted);
+    }
+    Ok(())
+}
+
+/// `int main ( ) {`, and in the next line a statement that assigns to `x`: a first part so many times, a middle, and a last
+/// part so many times.
+fn assigned(
+    alloc: Global,
+    first: &str,
+    count: u32,
+    middle: &str,
+    last: &str,
+) -> Result<String, AllocError> {
+    let mut whole = String::new(alloc);
+    whole.push_str("int main ( ) { \n x = ")?;
+    for _ in 0..count {
+        whole.push_str(first)?;
+    }
+    whole.push_str(middle)?;
+    for _ in 0..count {
+        whole.push_str(last)?;
+    }
+    Ok(whole)
+}
+
+#[test]
+fn many_brackets_are_read(rt: HostRuntime) -> Result<(), Fail> {
+    let alloc = rt.alloc();
+    let mut text = assigned(alloc, "( ", 100_000, "7 ", ") ")?;
+    text.push_str("; \n }")?;
+    assert_eq!(rt;
+        shown(alloc, text.as_str())?.as_str(),
+        "int main@2/4 [5-1/2 block [1-200004/200004 x =@2 7]]"
+    );
+    Ok(())
+}
+
+#[test]
+fn open_brackets_break_201_at_their_end(rt: HostRuntime) -> Result<(), Fail> {
+    let alloc = rt.alloc();
+    let text = assigned(alloc, "( ", 262_144, "", "")?;
+    assert_eq!(rt; shown(alloc, text.as_str())?.as_str(), "201 at 9:9");
+    Ok(())
+}
+
+#[test]
+fn a_chain_that_is_too_long_breaks_202_inside(rt: HostRuntime) -> Result<(), Fail> {
+    let alloc = rt.alloc();
+    // the assignment is 2 deep, so there is room for 198 nodes: a chain of 197 operators and what they stand between
+    let table = [
+        ("1 + ", 197, "201 at 9:9"),
+        ("1 + ", 198, "202 at 2:398"),
+        ("1 + ", 99_999, "202 at 2:398"),
+        ("1 ? 2 : ", 197, "201 at 9:9"),
+        ("1 ? 2 : ", 198, "202 at 2:792"),
+        ("1 ? 2 : ", 20_000, "202 at 2:792"),
+    ];
+    for (first, count, wanted) in table {
+        let text = assigned(alloc, first, count, "1", "")?;
+        assert_eq!(rt; shown(alloc, text.as_str())?.as_str(), wanted);
+    }
+    Ok(())
+}
+
+#[test]
+fn tells_where_a_text_ends(rt: HostRuntime) -> Result<(), Fail> {
+    let texts: [(&[u8], u32, u32); 6] = [
+        (b"", 1, 1),
+        (b"x", 1, 2),
+        (b"x\n", 2, 1),
+        (b"\n\n  x", 3, 4),
+        (b"\r\n\tx\r", 2, 4),
+        ("é".as_bytes(), 1, 3),
+    ];
+    for (text, line, col) in texts {
+        assert!(rt; text.len() < MOST);
+        let end = end_pos(text);
+        assert_eq!(rt; (end.line, end.col), (line, col));
     }
     Ok(())
 }
