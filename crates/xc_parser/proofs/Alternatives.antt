@@ -50,6 +50,8 @@ plain_ignores stamp e = (record { make = λ e f x. refl; fits = λ x. refl }, tt
 plain_ignores waits e = (record { make = λ e f x. refl; fits = λ x. refl }, (record { make = λ e f x. refl; fits = λ x. refl }, (record { make = λ e f x. refl; fits = λ x. refl }, tt)))
 plain_ignores test e = (record { make = λ e f x. refl; fits = λ x. refl }, (record { make = λ e f x. refl; fits = λ x. refl }, (record { make = λ e f x. refl; fits = λ x. refl }, tt)))
 plain_ignores dest e = (record { make = λ e f x. refl; fits = λ x. refl }, (record { make = λ e f x. refl; fits = λ x. refl }, (record { make = λ e f x. refl; fits = λ x. refl }, tt)))
+plain_ignores sign e = (record { make = λ e f x. refl; fits = λ x. refl }, (record { make = λ e f x. refl; fits = λ x. refl }, (record { make = λ e f x. refl; fits = λ x. refl }, (record { make = λ e f x. refl; fits = λ x. refl }, tt))))
+plain_ignores atom e = (record { make = λ e f x. refl; fits = λ x. refl }, (record { make = λ e f x. refl; fits = λ x. refl }, (record { make = λ e f x. refl; fits = λ x. refl }, (record { make = λ e f x. refl; fits = λ x. refl }, tt))))
 plain_ignores _ e = absurd (cc)
 
 abbrev pub HasValue : {V : Type 0} → List Tok → Room → Rule V → ℕ → ℕ → V → Type 0

@@ -7,7 +7,7 @@ use Rattle.xc_tree.specs.Plain as plain
 use Rattle.xc_tree.specs.Symbol.{Symbol, key, place}
 use Rattle.xc_tree.specs.Derives.{On}
 use Rattle.xc_parser.specs.declared.stop.Stop.{Stop}
-use Rattle.xc_parser.specs.Follows.{OneOf}
+use Rattle.xc_parser.specs.Follows.{OneOf, follows}
 use Rattle.xc_parser.specs.Reading.{Reads, Refuses}
 use Rattle.xc_parser.specs.Stops.{Stopped}
 use Rattle.xc_parser.proofs.Rests.{Rest}
@@ -22,7 +22,7 @@ abbrev pub behind_on : Pos → List (Rest plain.Place)
 behind_on p = popped place_heads p
 
 abbrev pub behind_core : Pos → List (Rest plain.Place)
-behind_core p = over (key 22) p (behind_on p)
+behind_core p = over (follows place) (key 22) p (behind_on p)
 
 pub on_stops : (toks : List Tok) (room at : ℕ) (e : Stop) → Stopped toks room (key 13) at e → Stopped toks room place at e
 on_stops toks room at e x = stops_all place_heads e (begin refl tt) x refl

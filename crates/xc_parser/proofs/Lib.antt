@@ -49,3 +49,18 @@ mod DeclaredRows
 mod Cores
 mod ItemHeads
 pub mod CaseRows
+pub mod Inverse
+pub mod Operators
+pub mod Heights
+pub mod Chains
+pub mod Climbing
+pub mod Atoms
+pub mod Choosing
+pub mod Tests
+pub mod Runs
+pub mod Trials
+pub mod RightSides
+pub mod Insides
+pub mod Simples
+pub mod Conditionals
+pub mod Braces

@@ -46,6 +46,8 @@ is_plain stamp = true
 is_plain waits = true
 is_plain test = true
 is_plain dest = true
+is_plain sign = true
+is_plain atom = true
 is_plain _ = false
 
 -- the tokens that some parts can begin with, and whether they may be no token

@@ -8,7 +8,7 @@ use Rattle.xw_words.specs.declared.pos.Pos.{Pos}
 use Rattle.xc_tree.specs.Symbol.{Symbol, sym, key, a_name, word, param}
 use Rattle.xc_tree.specs.Derives.{On}
 use Rattle.xc_parser.specs.declared.stop.Stop.{Stop}
-use Rattle.xc_parser.specs.Follows.{OneOf}
+use Rattle.xc_parser.specs.Follows.{OneOf, follows}
 use Rattle.xc_parser.specs.Reading.{Reads}
 use Rattle.xc_parser.specs.Stops.{Stopped}
 use Rattle.xc_parser.proofs.Rests.{Rest}
@@ -44,7 +44,7 @@ abbrev pub behind_name : Bool → Id → List (Rest Param)
 behind_name u n = popped (name_heads u) n
 
 abbrev pub in_brackets : Bool → Id → Pos → List (Rest Param)
-in_brackets u n p = over (sym 4) p (behind_name u n)
+in_brackets u n p = over (follows param) (sym 4) p (behind_name u n)
 
 module _ {toks : List Tok} {at : ℕ} (type : OneOf toks at types) where
   begins_typed : (room : ℕ) → Roomy toks room param at at typed

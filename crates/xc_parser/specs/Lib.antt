@@ -5,3 +5,7 @@ pub mod Stops
 pub mod Values
 pub mod Parts
 pub mod Errors
+pub mod Levels
+pub mod Operands
+pub mod RightSides
+pub mod Begun

@@ -1,5 +1,12 @@
 //! Loops.
 
+ghost use Rattle.std.specs.Prelude.{◌≡◌, ◌+◌, ◌^◌, ◌<◌, ◌≤◌, length, IfOk, IfErr};
+ghost use Rattle.xc_tree.specs.Symbol as symbol;
+ghost use Rattle.xc_tree.specs.Trees as trees;
+ghost use Rattle.xc_parser.specs.Follows.{StandsAt};
+ghost use Rattle.xc_parser.specs.Reading.{Reads};
+ghost use Rattle.xc_parser.specs.Stops.{Stopped};
+
 use crate::declarations::variable;
 use crate::parser::{Parser, Read};
 use crate::stop::Stop;
@@ -21,7 +28,13 @@ struct Parts {
 impl<'a> Parser<'a> {
     /// A `while`, with room for so many nodes inside it.
     #[cycle(statement)]
-    pub fn while_loop(&self, at: usize, room: u32) -> Result<Read<Stmt>, Stop> {
+    pub fn while_loop(&self, at: usize, room: u32) -> Result<Read<Stmt>, Stop>
+        requires short { length self.now.toks.now < 2 ^ 32 }
+        requires word { StandsAt self.now.toks.now at (symbol.key 29) }
+        ensures bounds { IfOk result (λ r. (at < r.end) × (r.end ≤ length self.now.toks.now)) }
+        ensures read { IfOk result (λ r. Reads self.now.toks.now (room + 1) symbol.statement at r.end (trees.statement_of r.value)) }
+        ensures stopped { IfErr result (λ e. Stopped self.now.toks.now (room + 1) symbol.statement at e) }
+    {
         let open = self.symbol(at + 1, PAREN)?;
         let test = self.expr(open.end, room)?;
         let close = self.symbol(test.end, END_PAREN)?;
@@ -33,7 +46,13 @@ impl<'a> Parser<'a> {
 
     /// A `do`, with room for so many nodes inside it.
     #[cycle(statement)]
-    pub fn do_loop(&self, at: usize, room: u32) -> Result<Read<Stmt>, Stop> {
+    pub fn do_loop(&self, at: usize, room: u32) -> Result<Read<Stmt>, Stop>
+        requires short { length self.now.toks.now < 2 ^ 32 }
+        requires word { StandsAt self.now.toks.now at (symbol.key 6) }
+        ensures bounds { IfOk result (λ r. (at < r.end) × (r.end ≤ length self.now.toks.now)) }
+        ensures read { IfOk result (λ r. Reads self.now.toks.now (room + 1) symbol.statement at r.end (trees.statement_of r.value)) }
+        ensures stopped { IfErr result (λ e. Stopped self.now.toks.now (room + 1) symbol.statement at e) }
+    {
         let body = self.statement(at + 1, room)?;
         let word = self.word(body.end, WHILE_WORD)?;
         let open = self.symbol(word.end, PAREN)?;
@@ -47,7 +66,13 @@ impl<'a> Parser<'a> {
 
     /// A `for`, with room for so many nodes inside it.
     #[cycle(statement)]
-    pub fn for_loop(&self, at: usize, room: u32) -> Result<Read<Stmt>, Stop> {
+    pub fn for_loop(&self, at: usize, room: u32) -> Result<Read<Stmt>, Stop>
+        requires short { length self.now.toks.now < 2 ^ 32 }
+        requires word { StandsAt self.now.toks.now at (symbol.key 8) }
+        ensures bounds { IfOk result (λ r. (at < r.end) × (r.end ≤ length self.now.toks.now)) }
+        ensures read { IfOk result (λ r. Reads self.now.toks.now (room + 1) symbol.statement at r.end (trees.statement_of r.value)) }
+        ensures stopped { IfErr result (λ e. Stopped self.now.toks.now (room + 1) symbol.statement at e) }
+    {
         let parts = self.for_parts(at + 1, room)?;
         let body = self.statement(parts.end, room)?;
         let Parts {

@@ -1,5 +1,14 @@
 //! Operands without brackets: numbers, names, elements, signs and casts.
 
+ghost use Rattle.std.specs.Prelude.{◌≡◌, ◌+◌, ◌<◌, ◌≤◌, length, IfOk, IfErr};
+ghost use Rattle.xc_tree.specs.declared.token.Kind.TheVariants.{Name, Sym};
+ghost use Rattle.xc_tree.specs.Derives.{On};
+ghost use Rattle.xc_tree.specs.Symbol as symbols;
+ghost use Rattle.xc_tree.specs.Trees.{expression_of};
+ghost use Rattle.xc_parser.specs.Reading.{Reads};
+ghost use Rattle.xc_parser.specs.Stops.{Stopped};
+ghost use Rattle.xc_parser.specs.Operands.{IsBracket, IsCast, IsSized, ReadsLevel};
+
 use crate::expressions::Operand;
 use crate::nodes;
 use crate::parser::Parser;
@@ -12,7 +21,13 @@ use xw_words::Pos;
 impl<'a> Parser<'a> {
     /// An operand that begins with no bracket.
     #[cycle(expression)]
-    pub fn bare(&self, at: usize, room: u32) -> Result<Operand, Stop> {
+    pub fn bare(&self, at: usize, room: u32) -> Result<Operand, Stop>
+        requires at { at ≤ length self.now.toks.now }
+        requires no_bracket { IsBracket self.now.toks.now at → ⊥ }
+        ensures sized { IfOk result (λ o. (at < o.end) × IsSized self.now.toks.now room o) }
+        ensures read { IfOk result (λ o. ReadsLevel self.now.toks.now room 0 at o) }
+        ensures stopped { IfErr result (λ e. Stopped self.now.toks.now room (symbols.level 0) at e) }
+    {
         if is_cast(self.toks, at) {
             return self.cast(at, room);
         }
@@ -44,7 +59,14 @@ impl<'a> Parser<'a> {
 
     /// A name, or an element of an array of this name.
     #[cycle(expression)]
-    pub fn variable(&self, text: &Text, pos: Pos, at: usize, room: u32) -> Result<Operand, Stop> {
+    pub fn variable(&self, text: &Text, pos: Pos, at: usize, room: u32) -> Result<Operand, Stop>
+        requires on { (at < length self.now.toks.now) × On self.now.toks.now at (Name text.now) pos }
+        ensures sized { IfOk result (λ o. (at < o.end) × IsSized self.now.toks.now room o) }
+        ensures read { IfOk result (λ o. ReadsLevel self.now.toks.now room 0 at o) }
+        ensures stopped { IfErr result (λ e. Stopped self.now.toks.now room (symbols.level 0) at e) }
+        ensures lval { IfOk result (λ o. Reads self.now.toks.now room symbols.lval at o.end (expression_of o.tree)) }
+        ensures no_lval { IfErr result (λ e. Stopped self.now.toks.now room symbols.lval at e) }
+    {
         if room == 0 {
             return Err(Stop::Deep(at));
         }
@@ -80,7 +102,13 @@ impl<'a> Parser<'a> {
 
     /// An operand behind a sign.
     #[cycle(expression)]
-    fn signed(&self, symbol: u8, pos: Pos, at: usize, room: u32) -> Result<Operand, Stop> {
+    fn signed(&self, symbol: u8, pos: Pos, at: usize, room: u32) -> Result<Operand, Stop>
+        requires sign { (13 ≤ symbol) × (symbol ≤ 16) }
+        requires on { (at < length self.now.toks.now) × On self.now.toks.now at (Sym symbol) pos }
+        ensures sized { IfOk result (λ o. (at < o.end) × IsSized self.now.toks.now room o) }
+        ensures read { IfOk result (λ o. ReadsLevel self.now.toks.now room 0 at o) }
+        ensures stopped { IfErr result (λ e. Stopped self.now.toks.now room (symbols.level 0) at e) }
+    {
         if room == 0 {
             return Err(Stop::Deep(at));
         }
@@ -98,7 +126,12 @@ impl<'a> Parser<'a> {
 
     /// An operand behind a cast, from the cast's bracket on.
     #[cycle(expression)]
-    fn cast(&self, at: usize, room: u32) -> Result<Operand, Stop> {
+    fn cast(&self, at: usize, room: u32) -> Result<Operand, Stop>
+        requires cast { (at + 1 < length self.now.toks.now) × IsCast self.now.toks.now at }
+        ensures sized { IfOk result (λ o. (at < o.end) × IsSized self.now.toks.now room o) }
+        ensures read { IfOk result (λ o. ReadsLevel self.now.toks.now room 0 at o) }
+        ensures stopped { IfErr result (λ e. Stopped self.now.toks.now room (symbols.level 0) at e) }
+    {
         let pos = self.toks[at].pos;
         if room == 0 {
             return Err(Stop::Deep(at + 1));

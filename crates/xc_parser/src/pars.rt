@@ -1,5 +1,12 @@
 //! Branches that run side by side.
 
+ghost use Rattle.std.specs.Prelude.{◌≡◌, ◌+◌, ◌^◌, ◌<◌, ◌≤◌, length, IfOk, IfErr};
+ghost use Rattle.xc_tree.specs.Symbol as symbol;
+ghost use Rattle.xc_tree.specs.Trees as trees;
+ghost use Rattle.xc_parser.specs.Follows.{StandsAt};
+ghost use Rattle.xc_parser.specs.Reading.{Reads};
+ghost use Rattle.xc_parser.specs.Stops.{Stopped};
+
 use crate::expected::Numeral;
 use crate::parser::{Parser, Read};
 use crate::stop::Stop;
@@ -31,7 +38,13 @@ struct Replicator {
 impl<'a> Parser<'a> {
     /// A `par`, with room for so many nodes inside it.
     #[cycle(statement)]
-    pub fn par(&self, at: usize, room: u32) -> Result<Read<Stmt>, Stop> {
+    pub fn par(&self, at: usize, room: u32) -> Result<Read<Stmt>, Stop>
+        requires short { length self.now.toks.now < 2 ^ 32 }
+        requires word { StandsAt self.now.toks.now at (symbol.key 15) }
+        ensures bounds { IfOk result (λ r. (at < r.end) × (r.end ≤ length self.now.toks.now)) }
+        ensures read { IfOk result (λ r. Reads self.now.toks.now (room + 1) symbol.statement at r.end (trees.statement_of r.value)) }
+        ensures stopped { IfErr result (λ e. Stopped self.now.toks.now (room + 1) symbol.statement at e) }
+    {
         if is_symbol(self.toks, at + 1, PAREN) {
             return self.replicated(at, room);
         }

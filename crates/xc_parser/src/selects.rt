@@ -1,5 +1,12 @@
 //! Selects and their cases.
 
+ghost use Rattle.std.specs.Prelude.{◌≡◌, ◌+◌, ◌^◌, ◌<◌, ◌≤◌, length, IfOk, IfErr};
+ghost use Rattle.xc_tree.specs.Symbol as symbol;
+ghost use Rattle.xc_tree.specs.Trees as trees;
+ghost use Rattle.xc_parser.specs.Follows.{StandsAt};
+ghost use Rattle.xc_parser.specs.Reading.{Reads};
+ghost use Rattle.xc_parser.specs.Stops.{Stopped};
+
 use crate::pars::Holder;
 use crate::parser::{Parser, Read};
 use crate::stop::Stop;
@@ -22,7 +29,13 @@ struct CaseHead {
 impl<'a> Parser<'a> {
     /// A `select`, with room for so many nodes inside it.
     #[cycle(statement)]
-    pub fn select(&self, at: usize, room: u32) -> Result<Read<Stmt>, Stop> {
+    pub fn select(&self, at: usize, room: u32) -> Result<Read<Stmt>, Stop>
+        requires short { length self.now.toks.now < 2 ^ 32 }
+        requires word { StandsAt self.now.toks.now at (symbol.key 20) }
+        ensures bounds { IfOk result (λ r. (at < r.end) × (r.end ≤ length self.now.toks.now)) }
+        ensures read { IfOk result (λ r. Reads self.now.toks.now (room + 1) symbol.statement at r.end (trees.statement_of r.value)) }
+        ensures stopped { IfErr result (λ e. Stopped self.now.toks.now (room + 1) symbol.statement at e) }
+    {
         let open = self.symbol(at + 1, BRACE)?;
         let first = self.case(open.end, room)?;
         let mut cases = List::new(self.alloc);

@@ -1,5 +1,17 @@
 //! Statements, and the blocks that hold them.
 
+ghost use Rattle.std.specs.Prelude.{◌≡◌, ℕ, ◌+◌, ◌-◌, ◌^◌, ◌<◌, ◌≤◌, length, slice_get, map, [], ◌∷◌, IfOk, IfErr, IfSome, IfNone, IsTrue, false, if◌then◌else◌};
+ghost use Rattle.xc_tree.specs.Derives.{extent};
+ghost use Rattle.xc_tree.specs.Grammar.{statement_of};
+ghost use Rattle.xc_tree.specs.Plain as plain;
+ghost use Rattle.xc_tree.specs.Symbol as symbol;
+ghost use Rattle.xc_tree.specs.Symbol.{sym, key, a_name};
+ghost use Rattle.xc_tree.specs.Trees as trees;
+ghost use Rattle.xc_parser.specs.Begun.{token_of, assigning};
+ghost use Rattle.xc_parser.specs.Follows.{OneOf, StandsAt, has, begins_statement};
+ghost use Rattle.xc_parser.specs.Reading.{Reads};
+ghost use Rattle.xc_parser.specs.Stops.{Stopped};
+
 use crate::parser::{Parser, Read};
 use crate::stop::Stop;
 use crate::terminals::{
@@ -34,7 +46,13 @@ enum First {
 impl<'a> Parser<'a> {
     /// A statement.
     #[cycle(statement)]
-    pub fn statement(&self, at: usize, room: u32) -> Result<Read<Stmt>, Stop> {
+    pub fn statement(&self, at: usize, room: u32) -> Result<Read<Stmt>, Stop>
+        requires short { length self.now.toks.now < 2 ^ 32 }
+        requires at { at ≤ length self.now.toks.now }
+        ensures bounds { IfOk result (λ r. (at < r.end) × (r.end ≤ length self.now.toks.now)) }
+        ensures read { IfOk result (λ r. Reads self.now.toks.now room symbol.statement at r.end (trees.statement_of r.value)) }
+        ensures stopped { IfErr result (λ e. Stopped self.now.toks.now room symbol.statement at e) }
+    {
         let Some(first) = self.first(at) else {
             return Err(Stop::Wrong(at));
         };
@@ -44,15 +62,15 @@ impl<'a> Parser<'a> {
         let inside = room - 1;
         match first {
             First::Semicolon => Ok(self.whole(at, at + 1, 0, St::Empty)),
-            First::Brace => self.body(at, room),
+            First::Brace => self.braced(at, inside),
             First::Name => self.simple(at, inside),
             First::If => self.conditional(at, inside),
             First::While => self.while_loop(at, inside),
             First::Do => self.do_loop(at, inside),
             First::For => self.for_loop(at, inside),
             First::Return => self.return_statement(at, inside),
-            First::Break => self.jump(at, St::Break),
-            First::Continue => self.jump(at, St::Continue),
+            First::Break => self.jump(at, true),
+            First::Continue => self.jump(at, false),
             First::Par => self.par(at, inside),
             First::Select => self.select(at, inside),
             First::Master => self.transaction(at, true, inside),
@@ -61,7 +79,10 @@ impl<'a> Parser<'a> {
     }
 
     /// How the statement at a place begins, if one begins there.
-    fn first(&self, at: usize) -> Option<First> {
+    fn first(&self, at: usize) -> Option<First>
+        ensures some { IfSome result (λ f. (at < length self.now.toks.now) × StandsAt self.now.toks.now at (token_of f)) }
+        ensures none { IfNone result (OneOf self.now.toks.now at begins_statement → ⊥) }
+    {
         if at >= self.toks.len() {
             return None;
         }
@@ -74,7 +95,15 @@ impl<'a> Parser<'a> {
     }
 
     /// The statement from one place up to another, which has so many tokens in statements that it holds.
-    pub fn whole(&self, at: usize, end: usize, held: usize, kind: St) -> Read<Stmt> {
+    pub fn whole(&self, at: usize, end: usize, held: usize, kind: St) -> Read<Stmt>
+        requires forth { at < end }
+        requires within { end ≤ length self.now.toks.now }
+        requires short { length self.now.toks.now < 2 ^ 32 }
+        requires held { held ≡ plain.held (trees.action_of kind) }
+        requires room { held ≤ end - at }
+        ensures end { result.end ≡ end }
+        ensures value { trees.statement_of result.value ≡ statement_of (extent self.now.toks.now at end) (trees.action_of kind) }
+    {
         let value = Stmt {
             kind,
             pos: self.toks[at].pos,
@@ -84,23 +113,48 @@ impl<'a> Parser<'a> {
         Read { value, end }
     }
 
-    /// A block as a statement.
-    #[cycle(statement)]
-    pub fn body(&self, at: usize, room: u32) -> Result<Read<Stmt>, Stop> {
-        if room == 0 {
-            if is_symbol(self.toks, at, BRACE) {
-                return Err(Stop::Deep(at));
-            }
-            return Err(Stop::Wrong(at));
+    /// The block of a function.
+    pub fn body(&self, at: usize, room: u32) -> Result<Read<Stmt>, Stop>
+        requires short { length self.now.toks.now < 2 ^ 32 }
+        requires at { at ≤ length self.now.toks.now }
+        ensures bounds { IfOk result (λ r. (at < r.end) × (r.end ≤ length self.now.toks.now)) }
+        ensures read { IfOk result (λ r. Reads self.now.toks.now room symbol.body at r.end (trees.statement_of r.value)) }
+        ensures stopped { IfErr result (λ e. Stopped self.now.toks.now room symbol.body at e) }
+    {
+        if room > 0 {
+            return self.braced(at, room - 1);
         }
-        let block = self.block(at, room - 1)?;
+        if is_symbol(self.toks, at, BRACE) {
+            return Err(Stop::Deep(at));
+        }
+        Err(Stop::Wrong(at))
+    }
+
+    /// A block as a statement, and as the block of a function, with room for so many nodes inside it.
+    #[cycle(statement)]
+    fn braced(&self, at: usize, room: u32) -> Result<Read<Stmt>, Stop>
+        requires short { length self.now.toks.now < 2 ^ 32 }
+        requires at { at ≤ length self.now.toks.now }
+        ensures bounds { IfOk result (λ r. (at < r.end) × (r.end ≤ length self.now.toks.now)) }
+        ensures read { IfOk result (λ r. StandsAt self.now.toks.now at (sym 2) → Reads self.now.toks.now (room + 1) symbol.statement at r.end (trees.statement_of r.value)) }
+        ensures stopped { IfErr result (λ e. StandsAt self.now.toks.now at (sym 2) → Stopped self.now.toks.now (room + 1) symbol.statement at e) }
+        ensures body { IfOk result (λ r. Reads self.now.toks.now (room + 1) symbol.body at r.end (trees.statement_of r.value)) }
+        ensures no_body { IfErr result (λ e. Stopped self.now.toks.now (room + 1) symbol.body at e) }
+    {
+        let block = self.block(at, room)?;
         let held = block.end - at - 2;
         Ok(self.whole(at, block.end, held, St::Block(block.value)))
     }
 
     /// What stands between `{` and `}`.
     #[cycle(statement)]
-    pub fn block(&self, at: usize, room: u32) -> Result<Read<List<Stmt>>, Stop> {
+    pub fn block(&self, at: usize, room: u32) -> Result<Read<List<Stmt>>, Stop>
+        requires short { length self.now.toks.now < 2 ^ 32 }
+        requires at { at ≤ length self.now.toks.now }
+        ensures bounds { IfOk result (λ r. (at < r.end) × (r.end ≤ length self.now.toks.now)) }
+        ensures read { IfOk result (λ r. Reads self.now.toks.now room symbol.block at r.end (map trees.statement_of r.value)) }
+        ensures stopped { IfErr result (λ e. Stopped self.now.toks.now room symbol.block at e) }
+    {
         let open = self.symbol(at, BRACE)?;
         let mut value = List::new(self.alloc);
         let mut end = open.end;
@@ -117,7 +171,13 @@ impl<'a> Parser<'a> {
 
     /// A declaration or a statement.
     #[cycle(statement)]
-    pub fn block_item(&self, at: usize, room: u32) -> Result<Read<Stmt>, Stop> {
+    pub fn block_item(&self, at: usize, room: u32) -> Result<Read<Stmt>, Stop>
+        requires short { length self.now.toks.now < 2 ^ 32 }
+        requires at { at ≤ length self.now.toks.now }
+        ensures bounds { IfOk result (λ r. (at < r.end) × (r.end ≤ length self.now.toks.now)) }
+        ensures read { IfOk result (λ r. Reads self.now.toks.now room symbol.block_item at r.end (trees.statement_of r.value)) }
+        ensures stopped { IfErr result (λ e. Stopped self.now.toks.now room symbol.block_item at e) }
+    {
         if self.begins_declaration(at) {
             return self.declaration(at, room);
         }
@@ -126,14 +186,26 @@ impl<'a> Parser<'a> {
 
     /// A transaction, of the master or else of the slave, with room for so many nodes inside it.
     #[cycle(statement)]
-    fn transaction(&self, at: usize, is_master: bool, room: u32) -> Result<Read<Stmt>, Stop> {
+    fn transaction(&self, at: usize, is_master: bool, room: u32) -> Result<Read<Stmt>, Stop>
+        requires short { length self.now.toks.now < 2 ^ 32 }
+        requires word { StandsAt self.now.toks.now at (key (if is_master then 12 else 21)) }
+        ensures bounds { IfOk result (λ r. (at < r.end) × (r.end ≤ length self.now.toks.now)) }
+        ensures read { IfOk result (λ r. Reads self.now.toks.now (room + 1) symbol.statement at r.end (trees.statement_of r.value)) }
+        ensures stopped { IfErr result (λ e. Stopped self.now.toks.now (room + 1) symbol.statement at e) }
+    {
         let block = self.block(at + 1, room)?;
         let held = block.end - at - 3;
         Ok(self.whole(at, block.end, held, St::Tran(is_master, block.value)))
     }
 
     /// A statement that begins with a name, which the token behind it decides, with room for so many nodes inside it.
-    fn simple(&self, at: usize, room: u32) -> Result<Read<Stmt>, Stop> {
+    fn simple(&self, at: usize, room: u32) -> Result<Read<Stmt>, Stop>
+        requires short { length self.now.toks.now < 2 ^ 32 }
+        requires name { StandsAt self.now.toks.now at a_name }
+        ensures bounds { IfOk result (λ r. (at < r.end) × (r.end ≤ length self.now.toks.now)) }
+        ensures read { IfOk result (λ r. Reads self.now.toks.now (room + 1) symbol.statement at r.end (trees.statement_of r.value)) }
+        ensures stopped { IfErr result (λ e. Stopped self.now.toks.now (room + 1) symbol.statement at e) }
+    {
         if is_symbol(self.toks, at + 1, PAREN) {
             return self.call_statement(at, room);
         }
@@ -155,7 +227,10 @@ impl<'a> Parser<'a> {
     }
 
     /// Whether a token that an assignment can go on with behind a name stands at a place.
-    fn assigns(&self, at: usize) -> bool {
+    fn assigns(&self, at: usize) -> bool
+        ensures yes { IsTrue result → OneOf self.now.toks.now at assigning }
+        ensures no { (result ≡ false) → OneOf self.now.toks.now at assigning → ⊥ }
+    {
         is_symbol(self.toks, at, EQUALS)
             || is_symbol(self.toks, at, BRACKET)
             || is_symbol(self.toks, at, PLUS_PLUS)
@@ -164,21 +239,43 @@ impl<'a> Parser<'a> {
     }
 
     /// A call as a statement, with room for so many nodes inside it.
-    fn call_statement(&self, at: usize, room: u32) -> Result<Read<Stmt>, Stop> {
+    fn call_statement(&self, at: usize, room: u32) -> Result<Read<Stmt>, Stop>
+        requires short { length self.now.toks.now < 2 ^ 32 }
+        requires name { StandsAt self.now.toks.now at a_name }
+        requires open { StandsAt self.now.toks.now (at + 1) (sym 0) }
+        ensures bounds { IfOk result (λ r. (at < r.end) × (r.end ≤ length self.now.toks.now)) }
+        ensures read { IfOk result (λ r. Reads self.now.toks.now (room + 1) symbol.statement at r.end (trees.statement_of r.value)) }
+        ensures stopped { IfErr result (λ e. Stopped self.now.toks.now (room + 1) symbol.statement at e) }
+    {
         let call = self.call(at, room)?;
         let semicolon = self.symbol(call.end, SEMICOLON)?;
         Ok(self.whole(at, semicolon.end, 0, St::Do(right_side(call.value))))
     }
 
-    /// `break ;` or `continue ;`, from the word on.
-    fn jump(&self, at: usize, kind: St) -> Result<Read<Stmt>, Stop> {
+    /// `break ;`, or else `continue ;`, from the word on.
+    fn jump(&self, at: usize, is_break: bool) -> Result<Read<Stmt>, Stop>
+        requires short { length self.now.toks.now < 2 ^ 32 }
+        requires word { StandsAt self.now.toks.now at (key (if is_break then 0 else 4)) }
+        ensures bounds { IfOk result (λ r. (at < r.end) × (r.end ≤ length self.now.toks.now)) }
+        ensures read { IfOk result (λ r. (room : ℕ) → Reads self.now.toks.now (room + 1) symbol.statement at r.end (trees.statement_of r.value)) }
+        ensures stopped { IfErr result (λ e. (room : ℕ) → Stopped self.now.toks.now (room + 1) symbol.statement at e) }
+    {
         let semicolon = self.symbol(at + 1, SEMICOLON)?;
-        Ok(self.whole(at, semicolon.end, 0, kind))
+        if is_break {
+            return Ok(self.whole(at, semicolon.end, 0, St::Break));
+        }
+        Ok(self.whole(at, semicolon.end, 0, St::Continue))
     }
 
     /// A `return`, with room for so many nodes inside it. A value that there is no room for is too deep where a `;` stands
     /// behind it.
-    fn return_statement(&self, at: usize, room: u32) -> Result<Read<Stmt>, Stop> {
+    fn return_statement(&self, at: usize, room: u32) -> Result<Read<Stmt>, Stop>
+        requires short { length self.now.toks.now < 2 ^ 32 }
+        requires word { StandsAt self.now.toks.now at (key 19) }
+        ensures bounds { IfOk result (λ r. (at < r.end) × (r.end ≤ length self.now.toks.now)) }
+        ensures read { IfOk result (λ r. Reads self.now.toks.now (room + 1) symbol.statement at r.end (trees.statement_of r.value)) }
+        ensures stopped { IfErr result (λ e. Stopped self.now.toks.now (room + 1) symbol.statement at e) }
+    {
         if is_symbol(self.toks, at + 1, SEMICOLON) {
             return Ok(self.whole(at, at + 2, 0, St::Return(None)));
         }
@@ -192,7 +289,13 @@ impl<'a> Parser<'a> {
 
     /// An `if`, with room for so many nodes inside it. An `else` belongs to the nearest `if`.
     #[cycle(statement)]
-    fn conditional(&self, at: usize, room: u32) -> Result<Read<Stmt>, Stop> {
+    fn conditional(&self, at: usize, room: u32) -> Result<Read<Stmt>, Stop>
+        requires short { length self.now.toks.now < 2 ^ 32 }
+        requires word { StandsAt self.now.toks.now at (key 9) }
+        ensures bounds { IfOk result (λ r. (at < r.end) × (r.end ≤ length self.now.toks.now)) }
+        ensures read { IfOk result (λ r. Reads self.now.toks.now (room + 1) symbol.statement at r.end (trees.statement_of r.value)) }
+        ensures stopped { IfErr result (λ e. Stopped self.now.toks.now (room + 1) symbol.statement at e) }
+    {
         let open = self.symbol(at + 1, PAREN)?;
         let test = self.expr(open.end, room)?;
         let close = self.symbol(test.end, END_PAREN)?;
@@ -210,7 +313,10 @@ impl<'a> Parser<'a> {
 }
 
 /// How a statement with this symbol first begins.
-fn first_by_symbol(symbol: u8) -> Option<First> {
+fn first_by_symbol(symbol: u8) -> Option<First>
+    ensures some { IfSome result (λ f. token_of f ≡ sym symbol) }
+    ensures none { IfNone result (has begins_statement (sym symbol) ≡ false) }
+{
     match symbol {
         SEMICOLON => Some(First::Semicolon),
         BRACE => Some(First::Brace),
@@ -219,7 +325,10 @@ fn first_by_symbol(symbol: u8) -> Option<First> {
 }
 
 /// How a statement with this word first begins.
-fn first_by_word(word: u8) -> Option<First> {
+fn first_by_word(word: u8) -> Option<First>
+    ensures some { IfSome result (λ f. token_of f ≡ key word) }
+    ensures none { IfNone result (has begins_statement (key word) ≡ false) }
+{
     match word {
         IF_WORD => Some(First::If),
         WHILE_WORD => Some(First::While),

@@ -1,5 +1,18 @@
 //! What statements hold of expressions: right sides, calls and their arguments, places to assign to, times and guards.
 
+ghost use Rattle.std.specs.Prelude.{◌≡◌, ℕ, ◌+◌, ◌<◌, ◌≤◌, ◌++◌, [], ◌∷◌, map, length, IfOk, IfErr};
+ghost use Rattle.xc_tree.specs.declared.token.Kind.TheVariants.{Name};
+ghost use Rattle.xc_tree.specs.declared.tree.Arg.{Arg};
+ghost use Rattle.xc_tree.specs.Derives.{On};
+ghost use Rattle.xc_tree.specs.Plain as plain;
+ghost use Rattle.xc_tree.specs.Symbol as symbol;
+ghost use Rattle.xc_tree.specs.Trees.{argument_of, expression_of, right_of, timing_of};
+ghost use Rattle.xc_parser.specs.Follows.{StandsAt};
+ghost use Rattle.xc_parser.specs.Operands.{IsSymbol};
+ghost use Rattle.xc_parser.specs.Reading.{Reads};
+ghost use Rattle.xc_parser.specs.Stops.{Stopped};
+ghost use Rattle.xc_parser.specs.RightSides.{call_of, IsMissing, ReadsRhs, ReadsInitial};
+
 use crate::parser::{Parser, Read};
 use crate::stop::Stop;
 use crate::terminals::{ARROW, AT_SIGN, COMMA, END_PAREN, EQUALS, PAREN};
@@ -16,7 +29,10 @@ pub struct Called {
 
 impl<'a> Parser<'a> {
     /// The name at a place.
-    pub fn name(&self, at: usize) -> Result<Id, Stop> {
+    pub fn name(&self, at: usize) -> Result<Id, Stop>
+        ensures named { IfOk result (λ n. (at < length self.now.toks.now) × On self.now.toks.now at (Name n.text) n.pos) }
+        ensures missing { IfErr result (IsMissing self.now.toks.now at symbol.a_name) }
+    {
         if at >= self.toks.len() {
             return Err(Stop::Wrong(at));
         }
@@ -33,7 +49,12 @@ impl<'a> Parser<'a> {
     }
 
     /// A variable, or an element of an array.
-    pub fn lval(&self, at: usize, room: u32) -> Result<Read<Expr>, Stop> {
+    pub fn lval(&self, at: usize, room: u32) -> Result<Read<Expr>, Stop>
+        requires at { at ≤ length self.now.toks.now }
+        ensures bounds { IfOk result (λ r. (at < r.end) × (r.end ≤ length self.now.toks.now)) }
+        ensures read { IfOk result (λ r. Reads self.now.toks.now room symbol.lval at r.end (expression_of r.value)) }
+        ensures stopped { IfErr result (λ e. Stopped self.now.toks.now room symbol.lval at e) }
+    {
         if at >= self.toks.len() {
             return Err(Stop::Wrong(at));
         }
@@ -53,7 +74,12 @@ impl<'a> Parser<'a> {
     }
 
     /// The number of a core: an expression, and its first token.
-    pub fn place_value(&self, at: usize, room: u32) -> Result<Read<Arg>, Stop> {
+    pub fn place_value(&self, at: usize, room: u32) -> Result<Read<Arg>, Stop>
+        requires at { at ≤ length self.now.toks.now }
+        ensures bounds { IfOk result (λ r. (at < r.end) × (r.end ≤ length self.now.toks.now)) }
+        ensures read { IfOk result (λ r. Reads self.now.toks.now room symbol.place_value at r.end (argument_of r.value)) }
+        ensures stopped { IfErr result (λ e. Stopped self.now.toks.now room symbol.place_value at e) }
+    {
         let read = match self.expr(at, room) {
             Ok(read) => read,
             Err(e) => return Err(e),
@@ -69,7 +95,12 @@ impl<'a> Parser<'a> {
     }
 
     /// An argument of a call: an expression, and its first token.
-    pub fn argument(&self, at: usize, room: u32) -> Result<Read<Arg>, Stop> {
+    pub fn argument(&self, at: usize, room: u32) -> Result<Read<Arg>, Stop>
+        requires at { at ≤ length self.now.toks.now }
+        ensures bounds { IfOk result (λ r. (at < r.end) × (r.end ≤ length self.now.toks.now)) }
+        ensures read { IfOk result (λ r. Reads self.now.toks.now room symbol.argument at r.end (argument_of r.value)) }
+        ensures stopped { IfErr result (λ e. Stopped self.now.toks.now room symbol.argument at e) }
+    {
         let read = match self.expr(at, room) {
             Ok(read) => read,
             Err(e) => return Err(e),
@@ -85,7 +116,12 @@ impl<'a> Parser<'a> {
     }
 
     /// The arguments of a call, which may be none.
-    pub fn arguments(&self, at: usize, room: u32) -> Result<Read<List<Arg>>, Stop> {
+    pub fn arguments(&self, at: usize, room: u32) -> Result<Read<List<Arg>>, Stop>
+        requires at { at ≤ length self.now.toks.now }
+        ensures bounds { IfOk result (λ r. (at ≤ r.end) × (r.end ≤ length self.now.toks.now)) }
+        ensures read { IfOk result (λ r. Reads self.now.toks.now room symbol.arguments at r.end (map argument_of r.value)) }
+        ensures stopped { IfErr result (λ e. Stopped self.now.toks.now room symbol.arguments at e) }
+    {
         let mut value = List::new(self.alloc);
         if !begins_operand(self.toks, at) {
             return Ok(Read { value, end: at });
@@ -109,7 +145,12 @@ impl<'a> Parser<'a> {
         arguments: &mut List<Arg>,
         at: usize,
         room: u32,
-    ) -> Result<usize, Stop> {
+    ) -> Result<usize, Stop>
+        requires at { at ≤ length self.now.toks.now }
+        ensures bounds { IfOk result (λ end. (at < end) × (end ≤ length self.now.toks.now)) }
+        ensures read { IfOk result (λ end. (a : Arg) × (arguments.new ≡ arguments.old ++ a ∷ []) × Reads self.now.toks.now room symbol.argument at end (argument_of a)) }
+        ensures stopped { IfErr result (λ e. Stopped self.now.toks.now room symbol.argument at e) }
+    {
         let read = match self.argument(at, room) {
             Ok(read) => read,
             Err(e) => return Err(e),
@@ -121,7 +162,12 @@ impl<'a> Parser<'a> {
     }
 
     /// A call of a function.
-    pub fn call(&self, at: usize, room: u32) -> Result<Read<Called>, Stop> {
+    pub fn call(&self, at: usize, room: u32) -> Result<Read<Called>, Stop>
+        requires at { at ≤ length self.now.toks.now }
+        ensures bounds { IfOk result (λ r. (at < r.end) × (r.end ≤ length self.now.toks.now)) }
+        ensures read { IfOk result (λ r. Reads self.now.toks.now room symbol.call at r.end (call_of r.value)) }
+        ensures stopped { IfErr result (λ e. Stopped self.now.toks.now room symbol.call at e) }
+    {
         let name = match self.name(at) {
             Ok(name) => name,
             Err(e) => return Err(e),
@@ -150,7 +196,12 @@ impl<'a> Parser<'a> {
     ///
     /// `None` where there is no room and a name stands there that is neither called nor goes on: then an expression ends
     /// there, but one that is too deep.
-    pub fn rhs(&self, at: usize, room: u32) -> Result<Read<Option<Rhs>>, Stop> {
+    pub fn rhs(&self, at: usize, room: u32) -> Result<Read<Option<Rhs>>, Stop>
+        requires at { at ≤ length self.now.toks.now }
+        ensures bounds { IfOk result (λ r. (at < r.end) × (r.end ≤ length self.now.toks.now)) }
+        ensures read { IfOk result (λ r. ReadsRhs self.now.toks.now room at r.end r.value) }
+        ensures stopped { IfErr result (λ e. Stopped self.now.toks.now room symbol.rhs at e) }
+    {
         if !is_name(self.toks, at) {
             return self.value(at, room);
         }
@@ -170,7 +221,14 @@ impl<'a> Parser<'a> {
     }
 
     /// An expression as a right side.
-    fn value(&self, at: usize, room: u32) -> Result<Read<Option<Rhs>>, Stop> {
+    fn value(&self, at: usize, room: u32) -> Result<Read<Option<Rhs>>, Stop>
+        requires at { at ≤ length self.now.toks.now }
+        requires no_call { StandsAt self.now.toks.now at symbol.a_name → IsSymbol self.now.toks.now (at + 1) 0 → ⊥ }
+        requires room { StandsAt self.now.toks.now at symbol.a_name → 1 ≤ room }
+        ensures bounds { IfOk result (λ r. (at < r.end) × (r.end ≤ length self.now.toks.now)) }
+        ensures read { IfOk result (λ r. ReadsRhs self.now.toks.now room at r.end r.value) }
+        ensures stopped { IfErr result (λ e. Stopped self.now.toks.now room symbol.rhs at e) }
+    {
         match self.expr(at, room) {
             Ok(read) => Ok(Read {
                 value: Some(Rhs::Value(read.value)),
@@ -181,7 +239,13 @@ impl<'a> Parser<'a> {
     }
 
     /// A call as a right side.
-    fn result(&self, at: usize, room: u32) -> Result<Read<Option<Rhs>>, Stop> {
+    fn result(&self, at: usize, room: u32) -> Result<Read<Option<Rhs>>, Stop>
+        requires name { (at < length self.now.toks.now) × StandsAt self.now.toks.now at symbol.a_name }
+        requires paren { IsSymbol self.now.toks.now (at + 1) 0 }
+        ensures bounds { IfOk result (λ r. (at < r.end) × (r.end ≤ length self.now.toks.now)) }
+        ensures read { IfOk result (λ r. ReadsRhs self.now.toks.now room at r.end r.value) }
+        ensures stopped { IfErr result (λ e. Stopped self.now.toks.now room symbol.rhs at e) }
+    {
         match self.call(at, room) {
             Ok(read) => Ok(Read {
                 value: Some(right_side(read.value)),
@@ -192,7 +256,12 @@ impl<'a> Parser<'a> {
     }
 
     /// `=` and what stands at its right; `None` as for `rhs`.
-    pub fn initial(&self, at: usize, room: u32) -> Result<Read<Option<Rhs>>, Stop> {
+    pub fn initial(&self, at: usize, room: u32) -> Result<Read<Option<Rhs>>, Stop>
+        requires at { at ≤ length self.now.toks.now }
+        ensures bounds { IfOk result (λ r. (at < r.end) × (r.end ≤ length self.now.toks.now)) }
+        ensures read { IfOk result (λ r. ReadsInitial self.now.toks.now room at r.end r.value) }
+        ensures stopped { IfErr result (λ e. Stopped self.now.toks.now room symbol.initial at e) }
+    {
         if !is_symbol(self.toks, at, EQUALS) {
             return Err(Stop::Wrong(at));
         }
@@ -200,7 +269,12 @@ impl<'a> Parser<'a> {
     }
 
     /// `@` and the time of a transfer.
-    pub fn time(&self, at: usize, room: u32) -> Result<Read<Timed>, Stop> {
+    pub fn time(&self, at: usize, room: u32) -> Result<Read<Timed>, Stop>
+        requires at { at ≤ length self.now.toks.now }
+        ensures bounds { IfOk result (λ r. (at < r.end) × (r.end ≤ length self.now.toks.now)) }
+        ensures read { IfOk result (λ r. Reads self.now.toks.now room symbol.time at r.end (timing_of r.value)) }
+        ensures stopped { IfErr result (λ e. Stopped self.now.toks.now room symbol.time at e) }
+    {
         if !is_symbol(self.toks, at, AT_SIGN) {
             return Err(Stop::Wrong(at));
         }
@@ -218,7 +292,12 @@ impl<'a> Parser<'a> {
     }
 
     /// `@` and where the time of a transfer is stored.
-    pub fn stamp(&self, at: usize, room: u32) -> Result<Read<Timed>, Stop> {
+    pub fn stamp(&self, at: usize, room: u32) -> Result<Read<Timed>, Stop>
+        requires at { at ≤ length self.now.toks.now }
+        ensures bounds { IfOk result (λ r. (at < r.end) × (r.end ≤ length self.now.toks.now)) }
+        ensures read { IfOk result (λ r. Reads self.now.toks.now room symbol.stamp at r.end (timing_of r.value)) }
+        ensures stopped { IfErr result (λ e. Stopped self.now.toks.now room symbol.stamp at e) }
+    {
         if !is_symbol(self.toks, at, AT_SIGN) {
             return Err(Stop::Wrong(at));
         }
@@ -236,7 +315,12 @@ impl<'a> Parser<'a> {
     }
 
     /// The guard of a case, and the `=>` behind it.
-    pub fn guard(&self, at: usize, room: u32) -> Result<Read<Expr>, Stop> {
+    pub fn guard(&self, at: usize, room: u32) -> Result<Read<Expr>, Stop>
+        requires at { at ≤ length self.now.toks.now }
+        ensures bounds { IfOk result (λ r. (at < r.end) × (r.end ≤ length self.now.toks.now)) }
+        ensures read { IfOk result (λ r. Reads self.now.toks.now room symbol.guard at r.end (expression_of r.value)) }
+        ensures stopped { IfErr result (λ e. Stopped self.now.toks.now room symbol.guard at e) }
+    {
         let read = match self.expr(at, room) {
             Ok(read) => read,
             Err(e) => return Err(e),
@@ -252,7 +336,9 @@ impl<'a> Parser<'a> {
 }
 
 /// A call as a right side.
-pub fn right_side(called: Called) -> Rhs {
+pub fn right_side(called: Called) -> Rhs
+    ensures { right_of result ≡ plain.result (call_of called) }
+{
     let Called { name, arguments } = called;
     let Id { text, pos } = name;
     Rhs::Call {
