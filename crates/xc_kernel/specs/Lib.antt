@@ -1,0 +1,11 @@
+pub mod Plain
+pub mod Kernels
+pub mod Operators
+pub mod Types
+pub mod Values
+pub mod Eval
+pub mod Paths
+pub mod Numbering
+pub mod Scopes
+pub mod Programs
+pub mod Expressions

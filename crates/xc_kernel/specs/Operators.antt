@@ -1,0 +1,60 @@
+-- The operators of expressions, by the places of their symbols in `SYMBOLS`.
+use Rattle.std.specs.Prelude.{ℕ, ◌-◌, List, [], ◌∷◌, slice_index, slice_index_or}
+
+pub data Operator : Type 0 where
+  -- `[`: the test of an index against a length
+  below_length : Operator
+  -- `? :`
+  choose : Operator
+  bit_and : Operator
+  bit_or : Operator
+  bit_xor : Operator
+  flip : Operator
+  not_true : Operator
+  plus : Operator
+  minus : Operator
+  times : Operator
+  divide : Operator
+  remainder : Operator
+  less : Operator
+  greater : Operator
+  equal : Operator
+  differs : Operator
+  at_most : Operator
+  at_least : Operator
+  -- `&&` and `||`
+  both : Operator
+  either : Operator
+  shift_up : Operator
+  shift_down : Operator
+  no_operator : Operator
+
+-- in the order of `SYMBOLS`, where `[` is the fifth symbol
+abbrev pub operators : List Operator
+operators =
+    no_operator ∷ no_operator ∷ no_operator ∷ no_operator ∷ below_length ∷ no_operator ∷ no_operator ∷ no_operator ∷ no_operator
+    ∷ choose ∷ bit_and ∷ bit_or ∷ bit_xor ∷ flip ∷ not_true ∷ plus ∷ minus ∷ times ∷ divide ∷ remainder ∷ less ∷ greater
+    ∷ no_operator ∷ no_operator ∷ no_operator ∷ no_operator ∷ no_operator ∷ equal ∷ differs ∷ at_most ∷ at_least
+    ∷ both ∷ either ∷ shift_up ∷ shift_down ∷ []
+
+-- the operator of a symbol
+abbrev pub operator_at : ℕ → Operator
+operator_at symbol = slice_index_or operators symbol no_operator
+
+-- the places of `[`, `?` and `=`
+abbrev pub bracket : ℕ
+bracket = 4
+
+abbrev pub question : ℕ
+question = 9
+
+abbrev pub equals : ℕ
+equals = 22
+
+-- for `++ -- += -= *= /= %= &= |= ^= <<= >>=`, which have the places from 35 on, the places of `+ - + - * / % & | ^ << >>`
+abbrev pub assigning : List ℕ
+assigning = 15 ∷ 16 ∷ 15 ∷ 16 ∷ 17 ∷ 18 ∷ 19 ∷ 10 ∷ 11 ∷ 12 ∷ 33 ∷ 34 ∷ []
+
+-- the symbol of the operator by which another symbol assigns
+abbrev pub operator_of : ℕ → ℕ
+operator_of symbol = slice_index assigning (symbol - 35)

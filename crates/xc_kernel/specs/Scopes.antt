@@ -1,0 +1,49 @@
+-- What names stand for at a place of a program.
+use Rattle.std.specs.Prelude.{ℕ, Bool, true, false, List, [], ◌∷◌, bytes_eq}
+use Rattle.xc_kernel.specs.Paths.{Path}
+
+pub data Entity : Type 0 where
+  -- a variable, or a parameter that holds a word
+  a_word : Path → (is_unsigned : Bool) → Entity
+  an_array : Path → (length : ℕ) (is_unsigned : Bool) → Entity
+  -- an element that an `&` parameter stands for: its array, and the variable that holds the tested index
+  an_element : (array index : Path) (is_unsigned : Bool) → Entity
+  a_channel : Path → Entity
+  a_timer : Path → Entity
+  -- a port, by its place among the declared ones
+  a_port : ℕ → Entity
+  -- the index of a replicated `par` in one of its branches
+  a_constant : ℕ → Entity
+  -- where no such name is declared
+  nothing_known : Entity
+
+pub record Binding : Type 0 where
+  pub name : List ℕ
+  pub entity : Entity
+
+-- the names that are known, the innermost first
+abbrev pub Scope : Type 0
+Scope = List Binding
+
+abbrev pub with_name : Scope → List ℕ → Entity → Scope
+with_name scope name entity = record { name = name; entity = entity } ∷ scope
+
+-- `entity_of`, by cases
+abbrev pub entity_by : Bool → Entity → Entity → Entity
+entity_by true here outside = here
+entity_by false here outside = outside
+
+-- what a name stands for
+abbrev pub entity_of : Scope → List ℕ → Entity
+entity_of [] name = nothing_known
+entity_of (b ∷ bs) name = entity_by (bytes_eq b.name name) b.entity (entity_of bs name)
+
+abbrev pub entity_is_unsigned : Entity → Bool
+entity_is_unsigned (a_word path is_unsigned) = is_unsigned
+entity_is_unsigned (an_array path length is_unsigned) = is_unsigned
+entity_is_unsigned (an_element array index is_unsigned) = is_unsigned
+entity_is_unsigned other = false
+
+-- whether a name stands for words that are `unsigned`
+abbrev pub name_is_unsigned : Scope → List ℕ → Bool
+name_is_unsigned scope name = entity_is_unsigned (entity_of scope name)
