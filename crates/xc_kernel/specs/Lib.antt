@@ -9,3 +9,14 @@ pub mod Numbering
 pub mod Scopes
 pub mod Programs
 pub mod Expressions
+pub mod Copy
+pub mod Context
+pub mod Parameters
+pub mod Calls
+pub mod Declarations
+pub mod Transfers
+pub mod Flow
+pub mod Statements
+pub mod Ports
+pub mod Roots
+pub mod Copies

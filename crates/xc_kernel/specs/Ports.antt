@@ -1,0 +1,59 @@
+-- The ports of a program, and the cores of places.
+use Rattle.std.specs.Prelude.{ℕ, ◌+◌, Bool, true, false, List, [], ◌∷◌, map, Option, Some, None, nat_le, codes, bytes_eq}
+use Rattle.xw_words.specs.declared.pos.Pos.{Pos}
+use Rattle.xc_tree.specs.Plain as tree
+use Rattle.xc_kernel.specs.declared.kernel.PortUse.{PortUse}
+use Rattle.xc_kernel.specs.Values.{Value, word, error}
+use Rattle.xc_kernel.specs.Paths.{place_by}
+use Rattle.xc_kernel.specs.Numbering.{no_numbering}
+use Rattle.xc_kernel.specs.Scopes.{Scope, a_port, with_name}
+use Rattle.xc_kernel.specs.Expressions.{eval_in}
+
+-- the identifiers of ports, in order
+abbrev pub identifiers : List (List ℕ)
+identifiers =
+    codes "XS1_PORT_1A" ∷ codes "XS1_PORT_1B" ∷ codes "XS1_PORT_1C" ∷ codes "XS1_PORT_1D" ∷ codes "XS1_PORT_1E" ∷ codes "XS1_PORT_1F"
+    ∷ codes "XS1_PORT_1G" ∷ codes "XS1_PORT_1H" ∷ codes "XS1_PORT_1I" ∷ codes "XS1_PORT_1J" ∷ codes "XS1_PORT_1K" ∷ codes "XS1_PORT_1L"
+    ∷ codes "XS1_PORT_1M" ∷ codes "XS1_PORT_1N" ∷ codes "XS1_PORT_1O" ∷ codes "XS1_PORT_1P"
+    ∷ codes "XS1_PORT_4A" ∷ codes "XS1_PORT_4B" ∷ codes "XS1_PORT_4C" ∷ codes "XS1_PORT_4D" ∷ codes "XS1_PORT_4E" ∷ codes "XS1_PORT_4F"
+    ∷ codes "XS1_PORT_8A" ∷ codes "XS1_PORT_8B" ∷ codes "XS1_PORT_8C" ∷ codes "XS1_PORT_8D"
+    ∷ codes "XS1_PORT_16A" ∷ codes "XS1_PORT_16B" ∷ codes "XS1_PORT_32A" ∷ []
+
+-- the place of a text in a table, from 0
+abbrev pub place_of_text : List (List ℕ) → List ℕ → ℕ
+place_of_text [] text = 0
+place_of_text (t ∷ ts) text = place_by (bytes_eq t text) (place_of_text ts text)
+
+-- `core_of_value`, by cases
+abbrev pub core_by : ℕ → Bool → ℕ
+core_by v true = v
+core_by v false = 255
+
+-- the core that a place's expression names, or 255 where it names none of 0 to 3
+abbrev pub core_of_value : Value → ℕ
+core_of_value (word v) = core_by v (nat_le v 3)
+core_of_value (error kind pos) = 255
+
+-- what isn't placed is on core 0
+abbrev pub core_of : Scope → Option tree.Place → ℕ
+core_of scope None = 0
+core_of scope (Some p) = core_of_value (eval_in no_numbering scope [] p.value)
+
+-- the first token of a place's expression, or else another position
+abbrev pub pos_of_place : Pos → Option tree.Place → Pos
+pos_of_place other None = other
+pos_of_place other (Some p) = p.first
+
+abbrev pub port_use : tree.Port → PortUse
+port_use p = record {
+  id = place_of_text identifiers p.ident.text;
+  dir = p.dir;
+  core = core_of [] p.place;
+  place = pos_of_place p.name.pos p.place;
+  pos = p.name.pos;
+}
+
+-- the names of ports, which have the numbers from n on
+abbrev pub scope_of_ports : ℕ → List tree.Port → Scope
+scope_of_ports n [] = []
+scope_of_ports n (p ∷ ps) = with_name (scope_of_ports (n + 1) ps) p.name.text (a_port n)
