@@ -88,8 +88,7 @@ unfoldable pub select_of : KSelect → plain.Statement
 select_of = fold-KSelect plain.Statement plain.Branch plain.Case plain.Statement statement_step branch_step case_step select_step
 
 abbrev pub default_of : Option (List Kst) → plain.Default
-default_of None = plain.no_default
-default_of (Some ss) = plain.default (plain.statements (map statement_of ss))
+default_of ss = plain.default_by (option_map (map statement_of) ss)
 
 abbrev pub root_of : Root → plain.Root
 root_of r = record { core = r.core; place = r.place; body = plain.statements (map statement_of r.body); pos = r.pos }

@@ -20,3 +20,7 @@ pub mod Statements
 pub mod Ports
 pub mod Roots
 pub mod Copies
+pub mod Counts
+pub mod Nodes
+pub mod Depths
+pub mod Size

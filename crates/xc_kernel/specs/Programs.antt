@@ -1,5 +1,5 @@
 -- The functions and ports of a program.
-use Rattle.std.specs.Prelude.{ℕ, Bool, true, false, List, [], ◌∷◌, Option, Some, None, bytes_eq}
+use Rattle.std.specs.Prelude.{ℕ, zero, suc, Bool, true, false, List, [], ◌∷◌, length, Option, Some, None, bytes_eq}
 use Rattle.xw_words.specs.declared.pos.Pos.{Pos}
 use Rattle.xc_tree.specs.Plain as tree
 
@@ -43,3 +43,13 @@ pos_of_function None = record { line = 1; col = 1 }
 -- the place of main's name
 abbrev pub main_pos : List tree.Item → Pos
 main_pos items = pos_of_function (main_of items)
+
+-- What a call counts by what the function counts that it calls, and what each call in that one counts. Calls are followed
+-- at most so deep.
+abbrev pub count_within : ((tree.Call → ℕ) → Option Function → ℕ) → List Function → ℕ → tree.Call → ℕ
+count_within of_function fs zero call = 0
+count_within of_function fs (suc n) call = of_function (count_within of_function fs n) (function_named fs call.called.text)
+
+-- as no function calls itself, calls go at most as deep as there are functions
+abbrev pub count_of_call : ((tree.Call → ℕ) → Option Function → ℕ) → List Function → tree.Call → ℕ
+count_of_call of_function fs call = count_within of_function fs (length fs) call
