@@ -1,1 +1,7 @@
 pub mod Kernels
+pub mod Written
+pub mod CallExamples
+pub mod BranchExamples
+pub mod FlowExamples
+pub mod EvalExamples
+pub mod CountExamples
