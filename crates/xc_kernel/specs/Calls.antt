@@ -4,9 +4,8 @@ use Rattle.xw_words.specs.declared.pos.Pos.{Pos}
 use Rattle.xc_tree.specs.Plain as tree
 use Rattle.xc_kernel.specs.Plain as kernel
 use Rattle.xc_kernel.specs.Paths.{Path, path_at}
-use Rattle.xc_kernel.specs.Scopes.{Scope}
+use Rattle.xc_kernel.specs.Scopes.{Scope, is_unsigned}
 use Rattle.xc_kernel.specs.Programs.{Function, function_named}
-use Rattle.xc_kernel.specs.Expressions.{is_unsigned}
 use Rattle.xc_kernel.specs.Copy.{Copy, no_copy, one_statement, joined, followed_by, in_scope_of, with_code, with_variable, with_block}
 use Rattle.xc_kernel.specs.Context.{Context, in_function, expression, word_at, set_zero, block_at, word_variable}
 use Rattle.xc_kernel.specs.Parameters.{all_passed}

@@ -21,7 +21,7 @@ pub record Copy : Type 0 where
   pub blocks : List Path
   pub functions : List Inst
   -- the channels that its communications name, without those in functions that it calls
-  pub named : List ℕ
+  pub named : List Path
 
 abbrev pub no_copy : Scope → Copy
 no_copy scope = record {

@@ -6,16 +6,12 @@ use Rattle.xc_kernel.specs.declared.statement.KRes.{KRes}
 use Rattle.xc_kernel.specs.declared.statement.KRes.TheVariants.{Port, Timer, Chan}
 use Rattle.xc_kernel.specs.Plain as kernel
 use Rattle.xc_kernel.specs.Operators.{operator_at, operator_of, question}
-use Rattle.xc_kernel.specs.Types.{type_of, operation_is_unsigned}
+use Rattle.xc_kernel.specs.Types.{operation_is_unsigned}
 use Rattle.xc_kernel.specs.Values.{Value}
 use Rattle.xc_kernel.specs.Eval.{Store, eval}
 use Rattle.xc_kernel.specs.Paths.{Path}
 use Rattle.xc_kernel.specs.Numbering.{Numbering, variable_number, channel_number, timer_number}
-use Rattle.xc_kernel.specs.Scopes.{Scope, Entity, a_word, an_array, an_element, a_channel, a_timer, a_port, a_constant, entity_of, name_is_unsigned}
-
--- whether an expression is `unsigned`
-abbrev pub is_unsigned : Scope → tree.Expression → Bool
-is_unsigned scope e = type_of (name_is_unsigned scope) e
+use Rattle.xc_kernel.specs.Scopes.{Scope, Entity, a_word, an_array, an_element, a_channel, a_timer, a_port, a_constant, entity_of, is_unsigned}
 
 -- the word of a variable
 abbrev pub word_of : Numbering → Path → kernel.Place

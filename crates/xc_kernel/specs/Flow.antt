@@ -1,9 +1,10 @@
 -- The copies of `if`, loops, `par`, `select` and transactions, by the copies of their parts.
-use Rattle.std.specs.Prelude.{ℕ, zero, suc, ◌+◌, Bool, List, [], ◌∷◌, ◌++◌, Option, Some, None, slice_index}
+use Rattle.std.specs.Prelude.{ℕ, zero, suc, ◌+◌, Bool, List, [], ◌∷◌, ◌++◌, Option, Some, None}
 use Rattle.xw_words.specs.declared.pos.Pos.{Pos}
 use Rattle.xc_tree.specs.Plain as tree
 use Rattle.xc_kernel.specs.Plain as kernel
 use Rattle.xc_kernel.specs.Paths.{Path, path_at, path_of_turn}
+use Rattle.xc_kernel.specs.Numbering.{channel_number}
 use Rattle.xc_kernel.specs.Scopes.{Scope, a_constant, with_name}
 use Rattle.xc_kernel.specs.Copy.{Copy, no_copy, joined, in_scope_of, with_code, with_block, code_of}
 use Rattle.xc_kernel.specs.Context.{Context, in_branch, expression, maybe_expression, block_at, leave}
@@ -121,7 +122,12 @@ and_case c scope pos guard (Some i) body others = record {
 abbrev pub select_copy : Scope → Pos → Cased → Copy
 select_copy scope pos s = in_scope_of scope (with_code s.made (kernel.select s.cases s.otherwise pos ∷ []))
 
+abbrev pub first_of : List Path → Path
+first_of [] = []
+first_of (path ∷ paths) = path
+
 -- a transaction, on the one channel that its communications name
-abbrev pub transaction_copy : Scope → (is_master : Bool) → (start close : Pos) → Copy → Copy
-transaction_copy scope is_master start close body =
-    in_scope_of scope (with_code body (kernel.transaction (slice_index body.named 0) is_master (code_of body) start close ∷ []))
+abbrev pub transaction_copy : Context → Scope → (is_master : Bool) → (start close : Pos) → Copy → Copy
+transaction_copy c scope is_master start close body =
+    in_scope_of scope
+    (with_code body (kernel.transaction (channel_number c.numbering (first_of body.named)) is_master (code_of body) start close ∷ []))

@@ -1,5 +1,7 @@
 -- What names stand for at a place of a program.
 use Rattle.std.specs.Prelude.{ℕ, Bool, true, false, List, [], ◌∷◌, bytes_eq}
+use Rattle.xc_tree.specs.Plain as tree
+use Rattle.xc_kernel.specs.Types.{NameType, of_word, of_array, of_other, is_unsigned_by}
 use Rattle.xc_kernel.specs.Paths.{Path}
 
 pub data Entity : Type 0 where
@@ -38,12 +40,17 @@ abbrev pub entity_of : Scope → List ℕ → Entity
 entity_of [] name = nothing_known
 entity_of (b ∷ bs) name = entity_by (bytes_eq b.name name) b.entity (entity_of bs name)
 
-abbrev pub entity_is_unsigned : Entity → Bool
-entity_is_unsigned (a_word path is_unsigned) = is_unsigned
-entity_is_unsigned (an_array path length is_unsigned) = is_unsigned
-entity_is_unsigned (an_element array index is_unsigned) = is_unsigned
-entity_is_unsigned other = false
+abbrev pub type_of_entity : Entity → NameType
+type_of_entity (a_word path is_unsigned) = of_word is_unsigned
+type_of_entity (an_array path length is_unsigned) = of_array is_unsigned
+type_of_entity (an_element array index is_unsigned) = of_word is_unsigned
+type_of_entity (a_constant v) = of_word false
+type_of_entity other = of_other
 
--- whether a name stands for words that are `unsigned`
-abbrev pub name_is_unsigned : Scope → List ℕ → Bool
-name_is_unsigned scope name = entity_is_unsigned (entity_of scope name)
+-- the type of what a name stands for
+abbrev pub type_of_name : Scope → List ℕ → NameType
+type_of_name scope name = type_of_entity (entity_of scope name)
+
+-- whether an expression is a word that is `unsigned`
+abbrev pub is_unsigned : Scope → tree.Expression → Bool
+is_unsigned scope e = is_unsigned_by (type_of_name scope) e

@@ -73,7 +73,7 @@ module _ (copies : CopiesCall) where
     action_copy (tree.replicated first second third from until b) pos close c scope =
         par_copy (replicated (numbered_copy (branch_copy b) c scope first.text) (pos_of_branch b) scope (until - from) 0 from)
     action_copy (tree.select cs) pos close c scope = select_copy scope pos (cases_copy cs c scope)
-    action_copy (tree.transaction is_master ss) pos close c scope = transaction_copy scope is_master pos close (statements_copy ss c scope)
+    action_copy (tree.transaction is_master ss) pos close c scope = transaction_copy c scope is_master pos close (statements_copy ss c scope)
 
     pub maybe_copy : tree.Maybe → Context → Scope → Copy
     maybe_copy tree.absent c scope = no_copy scope

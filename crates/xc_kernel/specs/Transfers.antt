@@ -2,10 +2,9 @@
 use Rattle.std.specs.Prelude.{ℕ, List, [], ◌∷◌, Option, Some, None, option_map}
 use Rattle.xc_tree.specs.Plain as tree
 use Rattle.xc_kernel.specs.declared.statement.KRes.{KRes}
-use Rattle.xc_kernel.specs.declared.statement.KRes.TheVariants.{Port, Timer, Chan}
 use Rattle.xc_kernel.specs.Plain as kernel
-use Rattle.xc_kernel.specs.Paths.{path_at}
-use Rattle.xc_kernel.specs.Scopes.{Scope, entity_of}
+use Rattle.xc_kernel.specs.Paths.{Path, path_at}
+use Rattle.xc_kernel.specs.Scopes.{Scope, Entity, a_channel, entity_of}
 use Rattle.xc_kernel.specs.Expressions.{resource_of}
 use Rattle.xc_kernel.specs.Copy.{Copy, no_copy, one_statement, with_code}
 use Rattle.xc_kernel.specs.Context.{Context, expression, place, word_at, declares_word}
@@ -13,14 +12,13 @@ use Rattle.xc_kernel.specs.Context.{Context, expression, place, word_at, declare
 abbrev pub resource : Context → Scope → List ℕ → KRes
 resource c scope name = resource_of c.numbering (entity_of scope name)
 
-abbrev pub channel_in : KRes → List ℕ
-channel_in (Chan channel) = channel ∷ []
-channel_in (Port port) = []
-channel_in (Timer timer) = []
+abbrev pub channel_of : Entity → List Path
+channel_of (a_channel path) = path ∷ []
+channel_of other = []
 
 -- a copy whose communication names this, which counts where it is a channel
-abbrev pub naming : KRes → Copy → Copy
-naming named copy = record copy { named = channel_in named }
+abbrev pub naming : Scope → List ℕ → Copy → Copy
+naming scope name copy = record copy { named = channel_of (entity_of scope name) }
 
 abbrev pub time_of : Context → Scope → tree.Timing → kernel.Expression
 time_of c scope t = expression c scope t.value
@@ -41,7 +39,7 @@ output_of c scope o = record {
 }
 
 abbrev pub output_copy : Context → Scope → tree.Output → Copy
-output_copy c scope o = naming (output_of c scope o).resource (one_statement scope (kernel.output (output_of c scope o)))
+output_copy c scope o = naming scope o.name.text (one_statement scope (kernel.output (output_of c scope o)))
 
 -- the name that a target declares, if it does
 abbrev pub target_copy : Context → Scope → tree.Target → Copy
@@ -71,7 +69,7 @@ input_of c scope i = record {
 
 -- what an input declares and names, without its statement
 abbrev pub input_names : Context → Scope → tree.Input → Copy
-input_names c scope i = naming (input_of c scope i).resource (target_copy c scope i.target)
+input_names c scope i = naming scope i.name.text (target_copy c scope i.target)
 
 abbrev pub input_copy : Context → Scope → tree.Input → Copy
 input_copy c scope i = with_code (input_names c scope i) (kernel.input (input_of c scope i) ∷ [])

@@ -1,7 +1,25 @@
--- Which expressions are `unsigned`, by which names are; the others are `int`.
+-- Which expressions are `unsigned`, by the types of names; the others that are words are `int`.
 use Rattle.std.specs.Prelude.{ℕ, Bool, true, false, ◌||◌, List}
 use Rattle.xc_tree.specs.Plain as tree
 use Rattle.xc_kernel.specs.Operators.{Operator, shift_up, shift_down, both, either, equal, differs, less, greater, at_most, at_least, not_true, operator_at}
+
+-- the type of what a name stands for
+pub data NameType : Type 0 where
+  of_word : (is_unsigned : Bool) → NameType
+  of_array : (is_unsigned : Bool) → NameType
+  of_other : NameType
+
+-- whether a name is a word that is `unsigned`
+abbrev pub word_is_unsigned : NameType → Bool
+word_is_unsigned (of_word is_unsigned) = is_unsigned
+word_is_unsigned (of_array is_unsigned) = false
+word_is_unsigned of_other = false
+
+-- whether a name is an array whose elements are
+abbrev pub elements_are_unsigned : NameType → Bool
+elements_are_unsigned (of_word is_unsigned) = false
+elements_are_unsigned (of_array is_unsigned) = is_unsigned
+elements_are_unsigned of_other = false
 
 -- an operation on two words is `unsigned` where one of them is, and a shift where its left one is
 abbrev pub operation_is_unsigned : Operator → Bool → Bool → Bool
@@ -27,15 +45,15 @@ sign_is_unsigned not_true a = false
 sign_is_unsigned other a = a
 
 abbrev mutual
-  -- whether an expression is `unsigned`
-  pub type_of : (List ℕ → Bool) → tree.Expression → Bool
-  type_of names (tree.expression form pos) = type_of_form names form
+  -- whether an expression is a word that is `unsigned`
+  pub is_unsigned_by : (List ℕ → NameType) → tree.Expression → Bool
+  is_unsigned_by names (tree.expression form pos) = form_is_unsigned names form
 
-  pub type_of_form : (List ℕ → Bool) → tree.Form → Bool
-  type_of_form names (tree.number value is_unsigned) = is_unsigned
-  type_of_form names (tree.name text) = names text
-  type_of_form names (tree.index text i) = names text
-  type_of_form names (tree.unary symbol a) = sign_is_unsigned (operator_at symbol) (type_of names a)
-  type_of_form names (tree.binary symbol a b) = result_is_unsigned (operator_at symbol) (type_of names a) (type_of names b)
-  type_of_form names (tree.choice test a b) = type_of names a || type_of names b
-  type_of_form names (tree.cast is_unsigned a) = is_unsigned
+  pub form_is_unsigned : (List ℕ → NameType) → tree.Form → Bool
+  form_is_unsigned names (tree.number value is_unsigned) = is_unsigned
+  form_is_unsigned names (tree.name text) = word_is_unsigned (names text)
+  form_is_unsigned names (tree.index text i) = elements_are_unsigned (names text)
+  form_is_unsigned names (tree.unary symbol a) = sign_is_unsigned (operator_at symbol) (is_unsigned_by names a)
+  form_is_unsigned names (tree.binary symbol a b) = result_is_unsigned (operator_at symbol) (is_unsigned_by names a) (is_unsigned_by names b)
+  form_is_unsigned names (tree.choice test a b) = is_unsigned_by names a || is_unsigned_by names b
+  form_is_unsigned names (tree.cast is_unsigned a) = is_unsigned
