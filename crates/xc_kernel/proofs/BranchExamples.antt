@@ -1,12 +1,12 @@
 -- Texts whose kernels were worked out by hand: placed and replicated branches.
-use Rattle.std.specs.Prelude.{◌≡◌, ℕ, Bool, true, false, List, [], ◌∷◌, ◌++◌, Option, Some, None, refl, codes}
-use Rattle.xc_tree.specs.declared.tree.TreeDir.TheVariants.{In, Out}
-use Rattle.xc_tree.specs.declared.tree.ParamKind.TheVariants.{Value, Ref, Array, End, Port as PortParam}
+use Rattle.std.specs.Prelude.{◌≡◌, ℕ, true, false, List, [], ◌∷◌, ◌++◌, Some, None, refl, codes}
+use Rattle.xc_tree.specs.declared.tree.TreeDir.TheVariants.{Out}
+use Rattle.xc_tree.specs.declared.tree.ParamKind.TheVariants.{Value, End}
 use Rattle.xc_tree.specs.Plain as tree
-use Rattle.xc_kernel.specs.declared.statement.KRes.TheVariants.{Port, Timer, Chan}
+use Rattle.xc_kernel.specs.declared.statement.KRes.TheVariants.{Port, Chan}
 use Rattle.xc_kernel.specs.Plain as kernel
 use Rattle.xc_kernel.specs.Copies.{copy_of}
-use Rattle.xc_kernel.proofs.Written.{at, id, number, name, index, binary, result, word_in, set_word, on_two, block, branch, par, put, take, root, variable, array_of, channel, timer, instance}
+use Rattle.xc_kernel.proofs.Written.{at, id, number, name, binary, result, word_in, set_word, on_two, block, branch, par, put, take, root, variable, channel, timer, instance}
 
 -- on tile[1] : out port p = XS1_PORT_1A;
 -- void feed(chanend c, int n) { timer t; c <: n; }

@@ -1,13 +1,13 @@
 -- Texts whose kernels were worked out by hand: calls, their parameters and their results.
-use Rattle.std.specs.Prelude.{◌≡◌, ℕ, Bool, true, false, List, [], ◌∷◌, ◌++◌, ◌+◌, Option, Some, None, refl, codes}
-use Rattle.xc_tree.specs.declared.tree.TreeDir.TheVariants.{In, Out}
+use Rattle.std.specs.Prelude.{◌≡◌, ℕ, true, false, List, [], ◌∷◌, ◌++◌, ◌+◌, Some, None, refl, codes}
+use Rattle.xc_tree.specs.declared.tree.TreeDir.TheVariants.{Out}
 use Rattle.xc_tree.specs.declared.tree.ParamKind.TheVariants.{Value, Ref, Array, End, Port as PortParam}
 use Rattle.xc_tree.specs.Plain as tree
-use Rattle.xc_kernel.specs.declared.statement.KRes.TheVariants.{Port, Timer, Chan}
+use Rattle.xc_kernel.specs.declared.statement.KRes.TheVariants.{Port, Chan}
 use Rattle.xc_kernel.specs.declared.kernel.Var.{Var}
 use Rattle.xc_kernel.specs.Plain as kernel
 use Rattle.xc_kernel.specs.Copies.{copy_of}
-use Rattle.xc_kernel.proofs.Written.{at, id, number, name, index, binary, result, word_in, set_word, on_two, block, branch, par, put, take, root, variable, array_of, channel, timer, instance}
+use Rattle.xc_kernel.proofs.Written.{at, id, number, name, index, binary, result, word_in, set_word, on_two, block, branch, par, put, take, root, variable, array_of, channel, instance}
 
 -- out port p = XS1_PORT_8A;
 -- int all(int v, int &r, int &e, int a[], chanend c, out port q) {

@@ -1,7 +1,7 @@
 -- Texts whose kernels were worked out by hand: cases, loops and transactions.
-use Rattle.std.specs.Prelude.{◌≡◌, ℕ, Bool, true, false, List, [], ◌∷◌, ◌++◌, Option, Some, None, refl, codes}
-use Rattle.xc_tree.specs.declared.tree.TreeDir.TheVariants.{In, Out}
-use Rattle.xc_tree.specs.declared.tree.ParamKind.TheVariants.{Value, Ref, Array, End, Port as PortParam}
+use Rattle.std.specs.Prelude.{◌≡◌, ℕ, true, false, List, [], ◌∷◌, ◌++◌, Some, None, refl, codes}
+use Rattle.xc_tree.specs.declared.tree.TreeDir.TheVariants.{In}
+use Rattle.xc_tree.specs.declared.tree.ParamKind.TheVariants.{End}
 use Rattle.xc_tree.specs.Plain as tree
 use Rattle.xc_kernel.specs.declared.statement.KRes.TheVariants.{Port, Timer, Chan}
 use Rattle.xc_kernel.specs.Plain as kernel

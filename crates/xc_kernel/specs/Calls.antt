@@ -1,5 +1,5 @@
 -- The copy of a call: its function's body over instances of its own.
-use Rattle.std.specs.Prelude.{ℕ, Bool, false, List, [], ◌∷◌, length, Option, Some, None}
+use Rattle.std.specs.Prelude.{Bool, false, List, [], ◌∷◌, length, Option, Some, None}
 use Rattle.xw_words.specs.declared.pos.Pos.{Pos}
 use Rattle.xc_tree.specs.Plain as tree
 use Rattle.xc_kernel.specs.Plain as kernel
@@ -21,10 +21,9 @@ abbrev pub instance_of : Context → Function → Scope → Copy
 instance_of c f scope = record (no_copy scope) { functions = record { core = c.core; params = length f.head.params } ∷ [] }
 
 -- the result's word becomes 0; a `void` function has none
-abbrev pub result_copy : Context → Path → Function → Scope → Option Bool → Copy
-result_copy c own f scope None = no_copy scope
-result_copy c own f scope (Some u) =
-    with_variable (one_statement scope (set_zero c (path_at own f.head.name.pos))) (word_variable c false (path_at own f.head.name.pos) f.head.name.pos)
+abbrev pub result_copy : Context → (result : Path) → Pos → Scope → Option Bool → Copy
+result_copy c result pos scope None = no_copy scope
+result_copy c result pos scope (Some u) = with_variable (one_statement scope (set_zero c result)) (word_variable c false result pos)
 
 -- a copy as a block of its own
 abbrev pub as_block : Context → Path → Copy → Copy
@@ -41,7 +40,8 @@ naming_none copy = record copy { named = [] }
 -- a function's instance of this path: its result, its parameters, and its body
 abbrev pub function_copy : CopiesStatement → Context → Scope → Path → Function → List tree.Argument → Copy
 function_copy copies c scope own f args =
-    in_scope_of scope (naming_none (joined (instance_of c f scope) (joined (result_copy c own f scope f.head.result)
+    in_scope_of scope (naming_none (joined (instance_of c f scope)
+    (joined (result_copy c (path_at own f.head.name.pos) f.head.name.pos scope f.head.result)
     (followed_by (all_passed c scope own f.head.params args) (body_copy copies c own f)))))
 
 -- the path of a call whose function's name stands at a place

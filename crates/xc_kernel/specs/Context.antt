@@ -1,5 +1,5 @@
 -- Where a statement stands: what is the same for a function's body, a branch, or a loop's body.
-use Rattle.std.specs.Prelude.{ℕ, Bool, true, false, List, [], ◌∷◌, Option, option_map}
+use Rattle.std.specs.Prelude.{ℕ, Bool, true, false, List, Option, option_map}
 use Rattle.xw_words.specs.declared.pos.Pos.{Pos}
 use Rattle.xc_tree.specs.Plain as tree
 use Rattle.xc_kernel.specs.declared.kernel.Var.{Var}
@@ -9,7 +9,7 @@ use Rattle.xc_kernel.specs.Numbering.{Numbering, variable_number, block_number}
 use Rattle.xc_kernel.specs.Scopes.{Scope, a_word, with_name}
 use Rattle.xc_kernel.specs.Programs.{Function}
 use Rattle.xc_kernel.specs.Expressions.{expression_in, place_in, word_of}
-use Rattle.xc_kernel.specs.Copy.{Copy, no_copy, one_statement, with_variable}
+use Rattle.xc_kernel.specs.Copy.{Copy, no_copy, with_variable}
 
 pub record Context : Type 0 where
   pub functions : List Function

@@ -1,5 +1,5 @@
 -- The copies of `if`, loops, `par`, `select` and transactions, by the copies of their parts.
-use Rattle.std.specs.Prelude.{ℕ, zero, suc, ◌+◌, Bool, List, [], ◌∷◌, ◌++◌, Option, Some, None}
+use Rattle.std.specs.Prelude.{ℕ, zero, suc, ◌+◌, Bool, List, [], ◌∷◌, Option, Some, None}
 use Rattle.xw_words.specs.declared.pos.Pos.{Pos}
 use Rattle.xc_tree.specs.Plain as tree
 use Rattle.xc_kernel.specs.Plain as kernel
@@ -19,11 +19,14 @@ if_copy test a b = with_code (joined a b) (kernel.if_then test (code_of a) (code
 abbrev pub turn : Context → Path → List kernel.Statement → List kernel.Statement → kernel.Statements
 turn c path body rest = kernel.statements (block_at c (path_of_turn path) body ∷ rest)
 
--- a loop whose word stands at a place, with the copy of all that it holds
-abbrev pub loop_copy : Context → Pos → kernel.Expression → kernel.Statements → kernel.Statements → Copy → Copy
-loop_copy c pos test body next held =
-    with_block (with_block (with_code held (block_at c (path_at c.path pos) (kernel.loop test body next ∷ []) ∷ [])) (path_of_turn (path_at c.path pos)))
-    (path_at c.path pos)
+-- a loop of this path, with the copy of all that it holds
+abbrev pub loop_at : Context → Path → kernel.Expression → (body next : kernel.Statements) → Copy → Copy
+loop_at c path test body next held =
+    with_block (with_block (with_code held (block_at c path (kernel.loop test body next ∷ []) ∷ [])) (path_of_turn path)) path
+
+-- a loop whose word stands at a place
+abbrev pub loop_copy : Context → Pos → kernel.Expression → (body next : kernel.Statements) → Copy → Copy
+loop_copy c pos test body next held = loop_at c (path_at c.path pos) test body next held
 
 abbrev pub while_copy : Context → Pos → kernel.Expression → Copy → Copy
 while_copy c pos test body = loop_copy c pos test (turn c (path_at c.path pos) body.code []) kernel.no_more body

@@ -1,5 +1,5 @@
 -- What the declared types of a kernel stand for as plain data.
-use Rattle.std.specs.Prelude.{ℕ, List, map, Option, Some, None, option_map}
+use Rattle.std.specs.Prelude.{ℕ, List, map, Option, option_map}
 use Rattle.xc_kernel.specs.declared.kernel.Kernel.{Kernel}
 use Rattle.xc_kernel.specs.declared.kernel.Root.{Root}
 use Rattle.xc_kernel.specs.declared.statement.KOut.{KOut}

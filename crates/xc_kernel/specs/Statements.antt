@@ -1,11 +1,10 @@
 -- The copies of statements.
-use Rattle.std.specs.Prelude.{ℕ, zero, suc, ◌+◌, ◌-◌, Bool, true, false, List, [], ◌∷◌, length, Option, Some, None, nat_eq}
+use Rattle.std.specs.Prelude.{ℕ, zero, suc, ◌+◌, ◌-◌, Bool, true, false, length, Option, Some, None, nat_eq}
 use Rattle.xw_words.specs.declared.pos.Pos.{Pos}
 use Rattle.xc_tree.specs.Plain as tree
 use Rattle.xc_kernel.specs.Plain as kernel
 use Rattle.xc_kernel.specs.Operators.{equals}
 use Rattle.xc_kernel.specs.Scopes.{Scope}
-use Rattle.xc_kernel.specs.Programs.{Function}
 use Rattle.xc_kernel.specs.Expressions.{updated}
 use Rattle.xc_kernel.specs.Copy.{Copy, no_copy, one_statement, joined, followed_by, in_scope_of}
 use Rattle.xc_kernel.specs.Context.{Context, in_branch, in_loop, in_case, expression, place, set_word, leave}

@@ -1,5 +1,5 @@
 -- Which expressions are `unsigned`, by the types of names; the others that are words are `int`.
-use Rattle.std.specs.Prelude.{ℕ, Bool, true, false, ◌||◌, List}
+use Rattle.std.specs.Prelude.{ℕ, Bool, false, ◌||◌, List}
 use Rattle.xc_tree.specs.Plain as tree
 use Rattle.xc_kernel.specs.Operators.{Operator, shift_up, shift_down, both, either, equal, differs, less, greater, at_most, at_least, not_true, operator_at}
 
