@@ -1,4 +1,5 @@
 pub mod Kernels
+pub mod Paths
 pub mod Written
 pub mod CallExamples
 pub mod BranchExamples
