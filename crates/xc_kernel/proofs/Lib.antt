@@ -1,5 +1,6 @@
 pub mod Kernels
 pub mod Paths
+pub mod Instances
 pub mod Written
 pub mod CallExamples
 pub mod BranchExamples
