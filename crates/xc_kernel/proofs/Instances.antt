@@ -1,5 +1,5 @@
 -- The instances that a copy makes don't depend on the numbers that stand in its statements.
-use Rattle.std.proofs.Common.{◌≡◌, ℕ, zero, suc, ◌+◌, ◌-◌, Bool, true, false, List, [], ◌∷◌, ◌++◌, Option, Some, None, nat_eq, refl, ap, subst}
+use Rattle.std.proofs.Common.{◌≡◌, ℕ, zero, suc, ◌+◌, ◌-◌, Bool, true, false, List, [], ◌∷◌, ◌++◌, length, Option, Some, None, nat_eq, refl, ap, subst}
 use Rattle.xw_words.specs.declared.pos.Pos.{Pos}
 use Rattle.xc_tree.specs.declared.tree.Param.{Param}
 use Rattle.xc_tree.specs.declared.tree.ParamKind.{ParamKind}
@@ -14,7 +14,7 @@ use Rattle.xc_kernel.specs.Programs.{Function}
 use Rattle.xc_kernel.specs.Copy.{Copy, no_copy, one_statement, joined, followed_by, in_scope_of, with_code, with_variable, with_block}
 use Rattle.xc_kernel.specs.Context.{Context, in_branch, in_loop, in_case, in_function, declares_word}
 use Rattle.xc_kernel.specs.Parameters.{Passed, by_element, form_by_reference, by_reference, passed, and_passed, all_passed}
-use Rattle.xc_kernel.specs.Calls.{CopiesStatement, CopiesCall, result_copy, as_block, body_copy, naming_none, function_copy, path_of_call, called, call_by, call_copy, right_copy}
+use Rattle.xc_kernel.specs.Calls.{CopiesCall, instance_of, result_copy, body_copy, naming_none, function_copy, path_of_call, called, call_by, call_copy, right_copy}
 use Rattle.xc_kernel.specs.Declarations.{array_copy, channel_copy, timer_copy, initial_copy, kind_copy, declaration_copy, declarations_copy}
 use Rattle.xc_kernel.specs.Transfers.{output_copy, target_copy, input_names, input_copy}
 use Rattle.xc_kernel.specs.Flow.{for_parts, Branched, no_branches, and_branch, par_copy, numbered_copy, replicated, Cased, no_cases, case_scope, and_case, select_copy, transaction_copy}
@@ -193,3 +193,78 @@ module _ (copies : CopiesCall) (blind : IsBlind copies) (n m : Numbering) where
     same_of_case (tree.case pos guard None ss) c scope others others' t = same_case c scope pos guard None others others' (same_of_statements ss (in_case c pos) scope) t
     same_of_case (tree.case pos guard (Some i) ss) c scope others others' t =
         same_case c scope pos guard (Some i) others others' (same_of_statements ss (in_case c pos) (case_scope c scope (Some i))) t
+
+-- Calls.
+
+-- two parameters stand for the same, and have the same variables
+record SamePassed (p q : Passed) : Type 0 where
+  pub entity : p.entity ≡ q.entity
+  pub variables : p.variables ≡ q.variables
+
+module _ (n m : Numbering) (c : Context) (scope : Scope) (own : Path) where
+  same_element : (pos : Pos) (i : tree.Expression) (at : Pos) (e : Entity) → SamePassed (by_element (renumbered c n) scope own pos i at e) (by_element (renumbered c m) scope own pos i at e)
+  same_element pos i at (an_array path length u) = record { entity = refl; variables = refl }
+  same_element pos i at (a_word path u) = record { entity = refl; variables = refl }
+  same_element pos i at (an_element array index u) = record { entity = refl; variables = refl }
+  same_element pos i at (a_channel path) = record { entity = refl; variables = refl }
+  same_element pos i at (a_timer path) = record { entity = refl; variables = refl }
+  same_element pos i at (a_port number) = record { entity = refl; variables = refl }
+  same_element pos i at (a_constant v) = record { entity = refl; variables = refl }
+  same_element pos i at nothing_known = record { entity = refl; variables = refl }
+
+  same_form : (pos at : Pos) (f : tree.Form) → SamePassed (form_by_reference (renumbered c n) scope own pos at f) (form_by_reference (renumbered c m) scope own pos at f)
+  same_form pos at (tree.name text) = record { entity = refl; variables = refl }
+  same_form pos at (tree.index text i) = same_element pos i at (entity_of scope text)
+  same_form pos at (tree.number v u) = record { entity = refl; variables = refl }
+  same_form pos at (tree.unary symbol a) = record { entity = refl; variables = refl }
+  same_form pos at (tree.binary symbol a b) = record { entity = refl; variables = refl }
+  same_form pos at (tree.choice test a b) = record { entity = refl; variables = refl }
+  same_form pos at (tree.cast u a) = record { entity = refl; variables = refl }
+
+  same_reference : (pos : Pos) (e : tree.Expression) → SamePassed (by_reference (renumbered c n) scope own pos e) (by_reference (renumbered c m) scope own pos e)
+  same_reference pos (tree.expression form at) = same_form pos at form
+
+  same_passed : (pos : Pos) (k : ParamKind) (e : tree.Expression) → SamePassed (passed (renumbered c n) scope own pos k e) (passed (renumbered c m) scope own pos k e)
+  same_passed pos (Value u) e = record { entity = refl; variables = refl }
+  same_passed pos (Ref u) e = same_reference pos e
+  same_passed pos (Array u length) e = record { entity = refl; variables = refl }
+  same_passed pos (End streaming) e = record { entity = refl; variables = refl }
+  same_passed pos (Port dir) e = record { entity = refl; variables = refl }
+
+  same_and_passed : (name : List ℕ) {p q : Passed} {a b : Copy} → SamePassed p q → SameInstances a b → SameInstances (and_passed name p a) (and_passed name q b)
+  same_and_passed name s t = record {
+    scope = λ i. with_name (t.scope i) name (s.entity i);
+    variables = λ i. s.variables i ++ t.variables i;
+    channels = t.channels;
+    timers = t.timers;
+    blocks = t.blocks;
+    functions = t.functions;
+    named = t.named;
+  }
+
+  same_all_passed : (ps : List Param) (args : List tree.Argument) → SameInstances (all_passed (renumbered c n) scope own ps args) (all_passed (renumbered c m) scope own ps args)
+  same_all_passed [] args = as_it_is (no_copy c.ports) [] []
+  same_all_passed (p ∷ ps) [] = as_it_is (no_copy c.ports) [] []
+  same_all_passed (p ∷ ps) (a ∷ args) = same_and_passed p.name.text (same_passed p.name.pos p.kind a.value) (same_all_passed ps args)
+
+  same_result : (result : Path) (pos : Pos) (r : Option Bool) → SameInstances (result_copy (renumbered c n) result pos scope r) (result_copy (renumbered c m) result pos scope r)
+  same_result result pos None = as_it_is (no_copy scope) [] []
+  same_result result pos (Some u) = as_it_is (result_copy c result pos scope (Some u)) _ _
+
+-- an instance of a function, by how calls in it are copied
+pub same_function : (copies : CopiesCall) → IsBlind copies → (n m : Numbering) (c : Context) (scope : Scope) (own : Path) (f : Function) (args : List tree.Argument) → SameInstances (function_copy (statement_copy copies) (renumbered c n) scope own f args) (function_copy (statement_copy copies) (renumbered c m) scope own f args)
+same_function copies blind n m c scope own f args =
+    same_scoped scope (same_unnamed (same_joined (as_it_is (instance_of c f scope) [] [])
+    (same_joined (same_result n m c scope own (path_at own f.head.name.pos) f.head.name.pos f.head.result)
+    (same_followed (body_copy (statement_copy copies) (renumbered c n) own f) (body_copy (statement_copy copies) (renumbered c m) own f)
+    (same_all_passed n m c scope own f.head.params args)
+    (λ inner. same_block own (same_coded _ _ (same_of_statement copies blind n m f.body (in_function c own f) inner)))))))
+
+pub calls_are_blind : (depth : ℕ) → IsBlind (calls_copy depth)
+calls_are_blind zero = record { same = λ c n m scope f pos args. as_it_is (no_copy scope) [] [] }
+calls_are_blind (suc depth) = record {
+  same = λ c n m scope f pos args. same_function (calls_copy depth) (calls_are_blind depth) n m c scope (path_of_call c pos) f args;
+}
+
+pub each_call_is_blind : IsBlind each_call_copy
+each_call_is_blind = record { same = λ c. (calls_are_blind (length c.functions)).same c }

@@ -1,6 +1,7 @@
 pub mod Kernels
 pub mod Paths
 pub mod Instances
+pub mod Roots
 pub mod Written
 pub mod CallExamples
 pub mod BranchExamples
