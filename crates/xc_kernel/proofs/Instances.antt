@@ -1,5 +1,5 @@
 -- The instances that a copy makes don't depend on the numbers that stand in its statements.
-use Rattle.std.proofs.Common.{◌≡◌, ℕ, zero, suc, ◌+◌, ◌-◌, Bool, true, false, List, [], ◌∷◌, ◌++◌, length, Option, Some, None, nat_eq, refl, ap, subst}
+use Rattle.std.proofs.Common.{◌≡◌, ℕ, zero, suc, ◌+◌, ◌-◌, Bool, true, false, List, [], ◌∷◌, ◌++◌, length, Option, Some, None, nat_eq, refl, subst}
 use Rattle.xw_words.specs.declared.pos.Pos.{Pos}
 use Rattle.xc_tree.specs.declared.tree.Param.{Param}
 use Rattle.xc_tree.specs.declared.tree.ParamKind.{ParamKind}
@@ -11,14 +11,14 @@ use Rattle.xc_kernel.specs.Paths.{Path, path_at, path_of_turn}
 use Rattle.xc_kernel.specs.Numbering.{Numbering}
 use Rattle.xc_kernel.specs.Scopes.{Scope, Entity, a_word, an_array, an_element, a_channel, a_timer, a_port, a_constant, nothing_known, a_constant, entity_of, with_name}
 use Rattle.xc_kernel.specs.Programs.{Function}
-use Rattle.xc_kernel.specs.Copy.{Copy, no_copy, one_statement, joined, followed_by, in_scope_of, with_code, with_variable, with_block}
+use Rattle.xc_kernel.specs.Copy.{Copy, no_copy, one_statement, joined, followed_by, in_scope_of, with_code, with_block}
 use Rattle.xc_kernel.specs.Context.{Context, in_branch, in_loop, in_case, in_function, declares_word}
 use Rattle.xc_kernel.specs.Parameters.{Passed, by_element, form_by_reference, by_reference, passed, and_passed, all_passed}
-use Rattle.xc_kernel.specs.Calls.{CopiesCall, instance_of, result_copy, body_copy, naming_none, function_copy, path_of_call, called, call_by, call_copy, right_copy}
-use Rattle.xc_kernel.specs.Declarations.{array_copy, channel_copy, timer_copy, initial_copy, kind_copy, declaration_copy, declarations_copy}
-use Rattle.xc_kernel.specs.Transfers.{output_copy, target_copy, input_names, input_copy}
-use Rattle.xc_kernel.specs.Flow.{for_parts, Branched, no_branches, and_branch, par_copy, numbered_copy, replicated, Cased, no_cases, case_scope, and_case, select_copy, transaction_copy}
-use Rattle.xc_kernel.specs.Statements.{pos_of_branch, set_copy, assign_by, assign_copy, return_copy, statement_copy, action_copy, maybe_copy, statements_copy, branch_copy, branches_copy, cases_copy, case_copy, calls_copy, each_call_copy}
+use Rattle.xc_kernel.specs.Calls.{CopiesCall, instance_of, result_copy, body_copy, naming_none, function_copy, path_of_call, called, call_by, right_copy}
+use Rattle.xc_kernel.specs.Declarations.{array_copy, channel_copy, timer_copy, initial_copy, kind_copy, declarations_copy}
+use Rattle.xc_kernel.specs.Transfers.{output_copy, input_names}
+use Rattle.xc_kernel.specs.Flow.{for_parts, numbered_copy, replicated, Cased, case_scope, and_case}
+use Rattle.xc_kernel.specs.Statements.{pos_of_branch, assign_by, return_copy, statement_copy, action_copy, maybe_copy, statements_copy, branch_copy, branches_copy, cases_copy, case_copy, calls_copy, each_call_copy}
 
 -- two copies make the same instances, and the same names are known behind them
 pub record SameInstances (a b : Copy) : Type 0 where

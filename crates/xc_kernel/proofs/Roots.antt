@@ -1,18 +1,16 @@
 -- The instances of a program's roots don't depend on the numbers that stand in their statements.
-use Rattle.std.proofs.Common.{◌≡◌, ℕ, zero, suc, ◌+◌, ◌-◌, Bool, true, false, List, [], ◌∷◌, Option, Some, None, refl, ap, subst}
+use Rattle.std.proofs.Common.{◌≡◌, ℕ, zero, suc, ◌+◌, ◌-◌, Bool, true, false, List, [], Option, Some, None, subst}
 use Rattle.xw_words.specs.declared.pos.Pos.{Pos}
 use Rattle.xc_tree.specs.Plain as tree
-use Rattle.xc_kernel.specs.Plain as kernel
-use Rattle.xc_kernel.specs.declared.kernel.Inst.{Inst}
 use Rattle.xc_kernel.specs.Numbering.{Numbering, numbering_of, no_numbering}
 use Rattle.xc_kernel.specs.Scopes.{Scope, a_constant, with_name}
 use Rattle.xc_kernel.specs.Programs.{Function, main_of}
-use Rattle.xc_kernel.specs.Copy.{Copy, no_copy, numbering_in}
+use Rattle.xc_kernel.specs.Copy.{no_copy, numbering_in}
 use Rattle.xc_kernel.specs.Context.{Context, in_branch}
 use Rattle.xc_kernel.specs.Calls.{instance_of}
 use Rattle.xc_kernel.specs.Statements.{each_call_copy}
 use Rattle.xc_kernel.specs.Ports.{core_of}
-use Rattle.xc_kernel.specs.Roots.{Rooted, branch_root, branch_roots, numbered_roots, action_roots, block_roots, block_has_placed, in_block, roots_by, roots_of, context_of}
+use Rattle.xc_kernel.specs.Roots.{branch_root, branch_roots, numbered_roots, action_roots, block_roots, block_has_placed, in_block, roots_by, roots_of, context_of}
 use Rattle.xc_kernel.specs.Copies.{rooted, numbering}
 use Rattle.xc_kernel.proofs.Instances.{SameInstances, as_it_is, same_coded, same_joined, same_scoped, renumbered, same_of_branch, same_declarations, same_function, each_call_is_blind}
 
