@@ -1,9 +1,11 @@
 -- Programs whose counts were worked out by hand.
+use Rattle.std.proofs.Common.{inr, arith}
 use Rattle.std.specs.Prelude.{◌≡◌, ℕ, zero, suc, ◌+◌, false, List, [], ◌∷◌, replicate, Some, None, refl, codes}
 use Rattle.xc_tree.specs.Plain as tree
 use Rattle.xc_kernel.specs.Counts.{statements_of}
 use Rattle.xc_kernel.specs.Nodes.{nodes_of}
 use Rattle.xc_kernel.specs.Depths.{depth_of}
+use Rattle.xc_kernel.specs.Size.{Breaks509}
 use Rattle.xc_kernel.proofs.Written.{at, id, number, name, binary, result}
 
 abbrev statement : tree.Action → tree.Statement
@@ -91,3 +93,7 @@ depth_of_498 = refl
 depth_of_499 : depth_of (chain_of 499) ≡ 1001
 unfolding depth_of
 depth_of_499 = refl
+
+-- so it breaks the rule, at main's name
+too_deep : Breaks509 (chain_of 499) (record { rule = 509; pos = at 1 1 })
+too_deep = record { too_large = inr (inr (rw depth_of_499 (omega arith))); rule = refl; place = refl }

@@ -27,19 +27,19 @@ pub record SameInstances (a b : Copy) : Type 0 where
   pub channels : a.channels ≡ b.channels
   pub timers : a.timers ≡ b.timers
   pub blocks : a.blocks ≡ b.blocks
-  pub functions : a.functions ≡ b.functions
+  pub instances : a.instances ≡ b.instances
   pub named : a.named ≡ b.named
 
 -- with other statements
 
 pub as_it_is : (a : Copy) (xs ys : List kernel.Statement) → SameInstances (with_code a xs) (with_code a ys)
-as_it_is a xs ys = record { scope = refl; variables = refl; channels = refl; timers = refl; blocks = refl; functions = refl; named = refl }
+as_it_is a xs ys = record { scope = refl; variables = refl; channels = refl; timers = refl; blocks = refl; instances = refl; named = refl }
 
 pub same_statement : (scope : Scope) (s t : kernel.Statement) → SameInstances (one_statement scope s) (one_statement scope t)
-same_statement scope s t = record { scope = refl; variables = refl; channels = refl; timers = refl; blocks = refl; functions = refl; named = refl }
+same_statement scope s t = record { scope = refl; variables = refl; channels = refl; timers = refl; blocks = refl; instances = refl; named = refl }
 
 pub same_coded : {a b : Copy} (xs ys : List kernel.Statement) → SameInstances a b → SameInstances (with_code a xs) (with_code b ys)
-same_coded xs ys s = record { scope = s.scope; variables = s.variables; channels = s.channels; timers = s.timers; blocks = s.blocks; functions = s.functions; named = s.named }
+same_coded xs ys s = record { scope = s.scope; variables = s.variables; channels = s.channels; timers = s.timers; blocks = s.blocks; instances = s.instances; named = s.named }
 
 pub same_joined : {a b c d : Copy} → SameInstances a b → SameInstances c d → SameInstances (joined a c) (joined b d)
 same_joined s t = record {
@@ -48,7 +48,7 @@ same_joined s t = record {
   channels = λ i. s.channels i ++ t.channels i;
   timers = λ i. s.timers i ++ t.timers i;
   blocks = λ i. s.blocks i ++ t.blocks i;
-  functions = λ i. s.functions i ++ t.functions i;
+  instances = λ i. s.instances i ++ t.instances i;
   named = λ i. s.named i ++ t.named i;
 }
 
@@ -56,13 +56,13 @@ pub same_followed : {a b : Copy} (next other : Scope → Copy) → SameInstances
 same_followed {a} {b} next other s t = same_joined s (subst (λ scope. SameInstances (next a.scope) (other scope)) s.scope (t a.scope))
 
 pub same_scoped : {a b : Copy} (scope : Scope) → SameInstances a b → SameInstances (in_scope_of scope a) (in_scope_of scope b)
-same_scoped scope s = record { scope = refl; variables = s.variables; channels = s.channels; timers = s.timers; blocks = s.blocks; functions = s.functions; named = s.named }
+same_scoped scope s = record { scope = refl; variables = s.variables; channels = s.channels; timers = s.timers; blocks = s.blocks; instances = s.instances; named = s.named }
 
 pub same_block : {a b : Copy} (path : Path) → SameInstances a b → SameInstances (with_block a path) (with_block b path)
-same_block path s = record { scope = s.scope; variables = s.variables; channels = s.channels; timers = s.timers; blocks = λ i. path ∷ s.blocks i; functions = s.functions; named = s.named }
+same_block path s = record { scope = s.scope; variables = s.variables; channels = s.channels; timers = s.timers; blocks = λ i. path ∷ s.blocks i; instances = s.instances; named = s.named }
 
 pub same_unnamed : {a b : Copy} → SameInstances a b → SameInstances (naming_none a) (naming_none b)
-same_unnamed s = record { scope = s.scope; variables = s.variables; channels = s.channels; timers = s.timers; blocks = s.blocks; functions = s.functions; named = refl }
+same_unnamed s = record { scope = s.scope; variables = s.variables; channels = s.channels; timers = s.timers; blocks = s.blocks; instances = s.instances; named = refl }
 
 -- of replicated branches, by those of each
 pub same_replicated : (copy other : ℕ → ℕ → Copy) (pos : Pos) (scope : Scope) → ((index number : ℕ) → SameInstances (copy index number) (other index number)) → (count index number : ℕ) → SameInstances (replicated copy pos scope count index number).made (replicated other pos scope count index number).made
@@ -238,7 +238,7 @@ module _ (n m : Numbering) (c : Context) (scope : Scope) (own : Path) where
     channels = t.channels;
     timers = t.timers;
     blocks = t.blocks;
-    functions = t.functions;
+    instances = t.instances;
     named = t.named;
   }
 

@@ -18,7 +18,7 @@ abbrev pub CopiesCall : Type 0
 CopiesCall = Context → Scope → Function → Pos → List tree.Argument → Copy
 
 abbrev pub instance_of : Context → Function → Scope → Copy
-instance_of c f scope = record (no_copy scope) { functions = record { core = c.core; params = length f.head.params } ∷ [] }
+instance_of c f scope = record (no_copy scope) { instances = record { core = c.core; params = length f.head.params } ∷ [] }
 
 -- the result's word becomes 0; a `void` function has none
 abbrev pub result_copy : Context → (result : Path) → Pos → Scope → Option Bool → Copy

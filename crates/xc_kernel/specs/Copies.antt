@@ -24,7 +24,7 @@ kernel_with items n = record {
   channels = n.channels;
   timers = n.timers;
   ports = map port_use (ports items);
-  instances = (rooted items n).made.functions;
+  instances = (rooted items n).made.instances;
   main = main_pos items;
 }
 

@@ -13,12 +13,13 @@ pub record Copy : Type 0 where
   pub code : List kernel.Statement
   -- the names that are known behind it
   pub scope : Scope
-  -- its instances in order of first sight; a block is an instance too
+  -- what it has instances of, in order of first sight
   pub variables : List Var
   pub channels : List Chan
   pub timers : List Timer
   pub blocks : List Path
-  pub functions : List Inst
+  -- the instances of functions
+  pub instances : List Inst
   -- the channels that its communications name, without those in functions that it calls
   pub named : List Path
 
@@ -30,7 +31,7 @@ no_copy scope = record {
   channels = [];
   timers = [];
   blocks = [];
-  functions = [];
+  instances = [];
   named = [];
 }
 
@@ -47,7 +48,7 @@ joined a b = record {
   channels = a.channels ++ b.channels;
   timers = a.timers ++ b.timers;
   blocks = a.blocks ++ b.blocks;
-  functions = a.functions ++ b.functions;
+  instances = a.instances ++ b.instances;
   named = a.named ++ b.named;
 }
 
