@@ -1,28 +1,13 @@
 -- The ports of a program, and the cores of places.
-use Rattle.std.specs.Prelude.{ℕ, ◌+◌, Bool, true, false, List, [], ◌∷◌, Option, Some, None, nat_le, codes, bytes_eq}
+use Rattle.std.specs.Prelude.{ℕ, ◌+◌, Bool, true, false, List, [], ◌∷◌, Option, Some, None, nat_le}
 use Rattle.xw_words.specs.declared.pos.Pos.{Pos}
 use Rattle.xc_tree.specs.Plain as tree
 use Rattle.xc_kernel.specs.declared.kernel.PortUse.{PortUse}
 use Rattle.xc_kernel.specs.Values.{Value, word, error}
-use Rattle.xc_kernel.specs.Paths.{place_by}
+use Rattle.xc_kernel.specs.Identifiers.{identifiers, place_among}
 use Rattle.xc_kernel.specs.Numbering.{no_numbering}
 use Rattle.xc_kernel.specs.Scopes.{Scope, a_port, with_name}
 use Rattle.xc_kernel.specs.Expressions.{eval_in}
-
--- the identifiers of ports, in order
-abbrev pub identifiers : List (List ℕ)
-identifiers =
-    codes "XS1_PORT_1A" ∷ codes "XS1_PORT_1B" ∷ codes "XS1_PORT_1C" ∷ codes "XS1_PORT_1D" ∷ codes "XS1_PORT_1E" ∷ codes "XS1_PORT_1F"
-    ∷ codes "XS1_PORT_1G" ∷ codes "XS1_PORT_1H" ∷ codes "XS1_PORT_1I" ∷ codes "XS1_PORT_1J" ∷ codes "XS1_PORT_1K" ∷ codes "XS1_PORT_1L"
-    ∷ codes "XS1_PORT_1M" ∷ codes "XS1_PORT_1N" ∷ codes "XS1_PORT_1O" ∷ codes "XS1_PORT_1P"
-    ∷ codes "XS1_PORT_4A" ∷ codes "XS1_PORT_4B" ∷ codes "XS1_PORT_4C" ∷ codes "XS1_PORT_4D" ∷ codes "XS1_PORT_4E" ∷ codes "XS1_PORT_4F"
-    ∷ codes "XS1_PORT_8A" ∷ codes "XS1_PORT_8B" ∷ codes "XS1_PORT_8C" ∷ codes "XS1_PORT_8D"
-    ∷ codes "XS1_PORT_16A" ∷ codes "XS1_PORT_16B" ∷ codes "XS1_PORT_32A" ∷ []
-
--- the place of a text in a table, from 0
-abbrev pub place_of_text : List (List ℕ) → List ℕ → ℕ
-place_of_text [] text = 0
-place_of_text (t ∷ ts) text = place_by (bytes_eq t text) (place_of_text ts text)
 
 -- `core_of_value`, by cases
 abbrev pub core_by : ℕ → Bool → ℕ
@@ -46,7 +31,7 @@ pos_of_place other (Some p) = p.first
 
 abbrev pub port_use : tree.Port → PortUse
 port_use p = record {
-  id = place_of_text identifiers p.ident.text;
+  id = place_among identifiers p.ident.text;
   dir = p.dir;
   core = core_of [] p.place;
   place = pos_of_place p.name.pos p.place;
