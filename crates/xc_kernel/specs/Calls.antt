@@ -17,6 +17,7 @@ CopiesStatement = tree.Statement → Context → Scope → Copy
 abbrev pub CopiesCall : Type 0
 CopiesCall = Context → Scope → Function → Pos → List tree.Argument → Copy
 
+-- an instance of a function, on the core of the call
 abbrev pub instance_of : Context → Function → Scope → Copy
 instance_of c f scope = record (no_copy scope) { instances = record { core = c.core; params = length f.head.params } ∷ [] }
 
@@ -53,6 +54,7 @@ abbrev pub path_of_result : Context → Pos → Option Function → Path
 path_of_result c pos None = []
 path_of_result c pos (Some f) = path_at (path_of_call c pos) f.head.name.pos
 
+-- the function that a call calls
 abbrev pub called : Context → tree.Call → Option Function
 called c call = function_named c.functions call.called.text
 
@@ -61,6 +63,7 @@ abbrev pub value_of : Context → Scope → tree.RightSide → kernel.Expression
 value_of c scope (tree.value e) = expression c scope e
 value_of c scope (tree.result call) = kernel.read (word_at c (path_of_result c call.called.pos (called c call)))
 
+-- whether a right side is `unsigned`; behind an operator that assigns there is never a call
 abbrev pub right_is_unsigned : Scope → tree.RightSide → Bool
 right_is_unsigned scope (tree.value e) = is_unsigned scope e
 right_is_unsigned scope (tree.result call) = false
@@ -70,6 +73,7 @@ abbrev pub call_by : CopiesCall → Context → Scope → Pos → List tree.Argu
 call_by copies c scope pos args None = no_copy scope
 call_by copies c scope pos args (Some f) = copies c scope f pos args
 
+-- a call by the name of its function
 abbrev pub call_copy : CopiesCall → Context → Scope → tree.Call → Copy
 call_copy copies c scope call = call_by copies c scope call.called.pos call.arguments (called c call)
 

@@ -59,9 +59,11 @@ word_at c path = word_of c.numbering path
 
 -- statements of the kernel here
 
+-- stores a word in the variable of this path
 abbrev pub set_word : Context → Path → kernel.Expression → kernel.Statement
 set_word c path e = kernel.set (word_at c path) e
 
+-- sets the words of the variable of this path to 0
 abbrev pub set_zero : Context → Path → kernel.Statement
 set_zero c path = kernel.set_zero (variable_number c.numbering path)
 
@@ -79,6 +81,7 @@ block_at c path code = kernel.block (block_number c.numbering path) (kernel.stat
 abbrev pub word_variable : Context → (counted : Bool) → Path → Pos → Var
 word_variable c counted path pos = record { words = 1; array = false; counted = counted; core = c.core; path = path; pos = pos }
 
+-- a variable of an array
 abbrev pub array_variable : Context → (length : ℕ) → Path → Pos → Var
 array_variable c length path pos = record { words = length; array = true; counted = true; core = c.core; path = path; pos = pos }
 

@@ -23,6 +23,7 @@ pub record Copy : Type 0 where
   -- the channels that its communications name, without those in functions that it calls
   pub named : List Path
 
+-- the copy of nothing
 abbrev pub no_copy : Scope → Copy
 no_copy scope = record {
   code = [];
@@ -64,9 +65,11 @@ in_scope_of scope c = record c { scope = scope }
 abbrev pub with_code : Copy → List kernel.Statement → Copy
 with_code c code = record c { code = code }
 
+-- one more variable, seen before the others
 abbrev pub with_variable : Copy → Var → Copy
 with_variable c v = record c { variables = v ∷ c.variables }
 
+-- one more block, seen before the others
 abbrev pub with_block : Copy → Path → Copy
 with_block c path = record c { blocks = path ∷ c.blocks }
 

@@ -6,10 +6,12 @@ use Rattle.xc_kernel.specs.Programs.{Function, functions, main_of, count_of_call
 
 -- by what a call counts
 module _ (of_call : tree.Call → ℕ) where
+  -- a right side counts what the call counts that it is
   abbrev pub of_right : tree.RightSide → ℕ
   of_right (tree.value e) = 0
   of_right (tree.result call) = of_call call
 
+  -- what is declared counts what the call counts behind its `=`
   abbrev pub of_kind : tree.Kind → ℕ
   of_kind (tree.word u r) = if_some of_right r
   of_kind (tree.array u length pos) = 0
@@ -73,6 +75,7 @@ abbrev pub of_function : (tree.Call → ℕ) → Option Function → ℕ
 of_function of_call None = 0
 of_function of_call (Some f) = of_statement of_call f.body + length f.head.params + 1
 
+-- a function's body by itself
 abbrev pub of_body : (tree.Call → ℕ) → Option Function → ℕ
 of_body of_call None = 0
 of_body of_call (Some f) = of_statement of_call f.body

@@ -13,10 +13,12 @@ abbrev pub array_copy : Context → Scope → List ℕ → Pos → Path → (is_
 array_copy c scope name pos path u length =
     with_variable (one_statement (with_name scope name (an_array path length u)) (set_zero c path)) (array_variable c length path pos)
 
+-- a channel, which has no statement
 abbrev pub channel_copy : Scope → List ℕ → Pos → Path → (is_streaming : Bool) → Copy
 channel_copy scope name pos path streaming =
     record (no_copy (with_name scope name (a_channel path))) { channels = record { streaming = streaming; path = path; pos = pos } ∷ [] }
 
+-- a timer, which has none either
 abbrev pub timer_copy : Context → Scope → List ℕ → Pos → Path → Copy
 timer_copy c scope name pos path =
     record (no_copy (with_name scope name (a_timer path))) { timers = record { core = c.core; path = path; pos = pos } ∷ [] }
@@ -34,9 +36,11 @@ module _ (copies : CopiesCall) where
   kind_copy c scope name pos (tree.channel streaming) = channel_copy scope name pos (path_at c.path pos) streaming
   kind_copy c scope name pos tree.timer = timer_copy c scope name pos (path_at c.path pos)
 
+  -- one declared name
   abbrev pub declaration_copy : Context → Scope → tree.Declaration → Copy
   declaration_copy c scope d = kind_copy c scope d.name.text d.name.pos d.kind
 
+  -- declared names, one behind the other
   abbrev pub declarations_copy : Context → List tree.Declaration → Scope → Copy
   declarations_copy c [] scope = no_copy scope
   declarations_copy c (d ∷ ds) scope = followed_by (declaration_copy c scope d) (declarations_copy c ds)

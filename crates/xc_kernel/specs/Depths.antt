@@ -6,10 +6,12 @@ use Rattle.xc_kernel.specs.Programs.{Function, functions, main_of, count_of_call
 
 -- by the depth of the function that a call calls
 module _ (of_call : tree.Call → ℕ) where
+  -- of a right side: its expression, or the arguments of a call and the function that it calls
   abbrev pub of_right : tree.RightSide → ℕ
   of_right (tree.value e) = of_expression e
   of_right (tree.result call) = max (highest of_argument call.arguments) (of_call call)
 
+  -- of what stands behind the `=` of a declared name
   abbrev pub of_kind : tree.Kind → ℕ
   of_kind (tree.word u r) = if_some of_right r
   of_kind (tree.array u length pos) = 0

@@ -28,10 +28,12 @@ abbrev pub word_of_entity : Numbering → Pos → Entity → kernel.Expression
 word_of_entity n pos (a_constant v) = kernel.number v
 word_of_entity n pos other = kernel.read (place_of_entity n pos other)
 
+-- the variable of an array
 abbrev pub array_number : Numbering → Entity → ℕ
 array_number n (an_array path length u) = variable_number n path
 array_number n other = 0
 
+-- the operands of an operator
 abbrev pub one_operand : kernel.Expression → kernel.Operands
 one_operand a = kernel.more_operands a kernel.no_operand
 
@@ -63,6 +65,7 @@ place_of_form n scope pos (tree.name text) = place_of_entity n pos (entity_of sc
 place_of_form n scope pos (tree.index text i) = kernel.element (array_number n (entity_of scope text)) (expression_in n scope i) pos
 place_of_form n scope pos other = kernel.word 0
 
+-- the place of an expression that can be assigned to
 abbrev pub place_in : Numbering → Scope → tree.Expression → kernel.Place
 place_in n scope (tree.expression form pos) = place_of_form n scope pos form
 

@@ -10,8 +10,13 @@ use Rattle.xc_kernel.specs.Copy.{Copy, no_copy, joined, in_scope_of, with_code, 
 use Rattle.xc_kernel.specs.Context.{Context, in_branch, expression, maybe_expression, block_at, leave}
 use Rattle.xc_kernel.specs.Transfers.{input_of, input_names}
 
+-- what is done where the test holds, and where not
 abbrev pub if_copy : kernel.Expression → Copy → Copy → Copy
 if_copy test a b = with_code (joined a b) (kernel.if_then test (code_of a) (code_of b) ∷ [])
+
+-- the same, where the second knows the names of the first
+abbrev pub if_parts : kernel.Expression → Copy → (Scope → Copy) → Copy
+if_parts test a b = if_copy test a (b a.scope)
 
 -- Loops: in a block that `break` leaves, the loop; in it, the body in a block that `continue` leaves.
 
@@ -28,6 +33,7 @@ loop_at c path test body next held =
 abbrev pub loop_copy : Context → Pos → kernel.Expression → (body next : kernel.Statements) → Copy → Copy
 loop_copy c pos test body next held = loop_at c (path_at c.path pos) test body next held
 
+-- a test before each turn
 abbrev pub while_copy : Context → Pos → kernel.Expression → Copy → Copy
 while_copy c pos test body = loop_copy c pos test (turn c (path_at c.path pos) body.code []) kernel.no_more body
 
@@ -62,6 +68,7 @@ pub record Branched : Type 0 where
   pub made : Copy
   pub branches : kernel.Branches
 
+-- no branches
 abbrev pub no_branches : Scope → Branched
 no_branches scope = record { made = no_copy scope; branches = kernel.no_branch }
 
@@ -72,6 +79,11 @@ and_branch pos copy others = record {
   branches = kernel.more_branches (kernel.branch (code_of copy) pos) others.branches;
 }
 
+-- a branch, and behind it those that know its names
+abbrev pub branch_then : Pos → Copy → (Scope → Branched) → Branched
+branch_then pos copy others = and_branch pos copy (others copy.scope)
+
+-- a `par` of branches
 abbrev pub par_copy : Branched → Copy
 par_copy b = with_code b.made (kernel.par b.branches ∷ [])
 
@@ -93,6 +105,7 @@ pub record Cased : Type 0 where
   pub cases : kernel.Cases
   pub otherwise : kernel.Default
 
+-- no cases
 abbrev pub no_cases : Scope → Cased
 no_cases scope = record { made = no_copy scope; cases = kernel.no_case; otherwise = kernel.no_default }
 
@@ -122,9 +135,11 @@ and_case c scope pos guard (Some i) body others = record {
   otherwise = others.otherwise;
 }
 
+-- a `select` of cases, each of which is a scope
 abbrev pub select_copy : Scope → Pos → Cased → Copy
 select_copy scope pos s = in_scope_of scope (with_code s.made (kernel.select s.cases s.otherwise pos ∷ []))
 
+-- the first path of some
 abbrev pub first_of : List Path → Path
 first_of [] = []
 first_of (path ∷ paths) = path

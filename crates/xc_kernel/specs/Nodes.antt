@@ -17,6 +17,7 @@ abbrev mutual
   of_form (tree.choice test a b) = of_expression test + of_expression a + of_expression b
   of_form (tree.cast u a) = of_expression a
 
+-- the nodes of the parts of statements
 abbrev pub of_argument : tree.Argument → ℕ
 of_argument a = of_expression a.value
 
@@ -42,10 +43,12 @@ of_place p = of_expression p.value
 
 -- by what the called body of a call counts
 module _ (of_call : tree.Call → ℕ) where
+  -- of a right side: its expression, or the arguments of a call and the body of what it calls
   abbrev pub of_right : tree.RightSide → ℕ
   of_right (tree.value e) = of_expression e
   of_right (tree.result call) = sum_by of_argument call.arguments + of_call call
 
+  -- of what stands behind the `=` of a declared name
   abbrev pub of_kind : tree.Kind → ℕ
   of_kind (tree.word u r) = if_some of_right r
   of_kind (tree.array u length pos) = 0
@@ -102,6 +105,7 @@ module _ (of_call : tree.Call → ℕ) where
     pub of_case : tree.Case → ℕ
     of_case (tree.case pos guard i ss) = if_some of_expression guard + if_some of_input i + of_statements ss
 
+-- of a function: those of its body
 abbrev pub of_function : (tree.Call → ℕ) → Option Function → ℕ
 of_function of_call None = 0
 of_function of_call (Some f) = of_statement of_call f.body

@@ -11,6 +11,7 @@ pub record Numbering : Type 0 where
   pub timers : List Timer
   pub blocks : List Path
 
+-- the paths of instances
 abbrev pub path_of_variable : Var → Path
 path_of_variable v = v.path
 
@@ -23,6 +24,7 @@ path_of_timer t = t.path
 abbrev pub path_of_block : Path → Path
 path_of_block b = b
 
+-- the numbers of paths
 abbrev pub variable_number : Numbering → Path → ℕ
 variable_number n path = place_of_path path_of_variable n.variables path
 

@@ -1,6 +1,7 @@
 -- The operators of expressions, by the places of their symbols in `SYMBOLS`.
 use Rattle.std.specs.Prelude.{ℕ, ◌-◌, List, [], ◌∷◌, slice_index, slice_index_or}
 
+-- what a symbol does to the words of its operands
 pub data Operator : Type 0 where
   -- `[`: the test of an index against a length
   below_length : Operator

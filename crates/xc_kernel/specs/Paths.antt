@@ -19,6 +19,7 @@ path_of_branch path index = path ++ 0 ∷ index ∷ []
 abbrev pub path_of_turn : Path → Path
 path_of_turn path = path ++ 0 ∷ []
 
+-- whether two paths are the same
 abbrev pub is_same : Path → Path → Bool
 is_same = pointwise nat_eq
 

@@ -29,6 +29,7 @@ pub record Condition : Type 0 where
   pub test : ℕ
   pub value : Expression
 
+-- an output: to where, when, what, and where the counter is stored
 pub record Output : Type 0 where
   pub resource : KRes
   pub time : Option Expression
@@ -36,6 +37,7 @@ pub record Output : Type 0 where
   pub stamp : Option Place
   pub pos : Pos
 
+-- an input: from where, what it waits for, and where the word and the counter are stored
 pub record Input : Type 0 where
   pub resource : KRes
   pub time : Option Expression
@@ -82,12 +84,14 @@ mutual
     no_branch : Branches
     more_branches : Branch → Branches → Branches
 
+-- a branch that runs from the start
 pub record Root : Type 0 where
   pub core : ℕ
   pub place : Pos
   pub body : Statements
   pub pos : Pos
 
+-- all of a kernel; numbers elsewhere are places in these lists
 pub record Kernel : Type 0 where
   pub roots : List Root
   pub variables : List Var
@@ -97,6 +101,7 @@ pub record Kernel : Type 0 where
   pub instances : List Inst
   pub main : Pos
 
+-- lists of plain data
 abbrev pub operands : List Expression → Operands
 operands [] = no_operand
 operands (e ∷ es) = more_operands e (operands es)

@@ -29,6 +29,7 @@ abbrev pub pos_of_place : Pos → Option tree.Place → Pos
 pos_of_place other None = other
 pos_of_place other (Some p) = p.first
 
+-- the kernel's entry for a port
 abbrev pub port_use : tree.Port → PortUse
 port_use p = record {
   id = place_among identifiers p.ident.text;

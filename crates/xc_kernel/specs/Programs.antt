@@ -1,8 +1,9 @@
 -- The functions and ports of a program.
-use Rattle.std.specs.Prelude.{ℕ, zero, suc, Bool, true, false, List, [], ◌∷◌, length, Option, Some, None, bytes_eq}
+use Rattle.std.specs.Prelude.{ℕ, zero, suc, Bool, true, false, List, [], ◌∷◌, length, Option, Some, None, codes, bytes_eq}
 use Rattle.xw_words.specs.declared.pos.Pos.{Pos}
 use Rattle.xc_tree.specs.Plain as tree
 
+-- a function with its body
 pub record Function : Type 0 where
   pub head : tree.Head
   pub body : tree.Statement
@@ -29,9 +30,11 @@ abbrev pub function_named : List Function → List ℕ → Option Function
 function_named [] name = None
 function_named (f ∷ fs) name = function_by (bytes_eq f.head.name.text name) f (function_named fs name)
 
+-- main's name
 abbrev pub name_of_main : List ℕ
-name_of_main = 109 ∷ 97 ∷ 105 ∷ 110 ∷ []
+name_of_main = codes "main"
 
+-- the function main
 abbrev pub main_of : List tree.Item → Option Function
 main_of items = function_named (functions items) name_of_main
 

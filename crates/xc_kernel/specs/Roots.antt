@@ -18,6 +18,7 @@ use Rattle.xc_kernel.specs.Ports.{core_of, pos_of_place, scope_of_ports}
 abbrev pub is_placed : tree.Branch → Bool
 is_placed (tree.branch place s) = is_some place
 
+-- whether some of them is
 abbrev pub has_placed : tree.Branches → Bool
 has_placed tree.no_branch = false
 has_placed (tree.more_branches b bs) = is_placed b || has_placed bs
@@ -28,6 +29,7 @@ action_has_placed (tree.par bs) = has_placed bs
 action_has_placed (tree.replicated first second third from until b) = is_placed b && nat_lt from until
 action_has_placed other = false
 
+-- whether a `par` directly in a block has a placed branch
 abbrev pub block_has_placed : tree.Statements → Bool
 block_has_placed tree.no_more = false
 block_has_placed (tree.more (tree.statement action pos close own) ss) = action_has_placed action || block_has_placed ss
@@ -43,12 +45,19 @@ pub record Rooted : Type 0 where
   pub made : Copy
   pub roots : List kernel.Root
 
+-- instances without a root
 abbrev pub no_roots : Copy → Rooted
 no_roots copy = record { made = with_code copy []; roots = [] }
 
+-- roots before others
 abbrev pub and_roots : Rooted → Rooted → Rooted
 and_roots a b = record { made = joined a.made b.made; roots = a.roots ++ b.roots }
 
+-- roots, and behind them what knows their names
+abbrev pub roots_then : Rooted → (Scope → Rooted) → Rooted
+roots_then a next = and_roots a (next a.made.scope)
+
+-- a root by the copy of its statement
 abbrev pub root_of : (core : ℕ) → (place pos : Pos) → Copy → Rooted
 root_of core place pos copy =
     record { made = with_code copy []; roots = record { core = core; place = place; body = code_of copy; pos = pos } ∷ [] }
@@ -63,8 +72,7 @@ branch_root main (tree.branch place s) c scope =
 abbrev pub branch_roots : Pos → tree.Branches → ℕ → Context → Scope → Rooted
 branch_roots main tree.no_branch index c scope = no_roots (no_copy scope)
 branch_roots main (tree.more_branches b bs) index c scope =
-    and_roots (branch_root main b (in_branch c index) scope)
-    (branch_roots main bs (index + 1) c (branch_root main b (in_branch c index) scope).made.scope)
+    roots_then (branch_root main b (in_branch c index) scope) (branch_roots main bs (index + 1) c)
 
 -- the scope of a root ends
 abbrev pub root_in_scope_of : Scope → Rooted → Rooted
@@ -85,10 +93,11 @@ action_roots main (tree.replicated first second third from until b) c scope =
     numbered_roots main b first.text c scope (until - from) 0 from
 action_roots main other c scope = no_roots (no_copy scope)
 
+-- of main's block
 abbrev pub block_roots : Pos → tree.Statements → Context → Scope → Rooted
 block_roots main tree.no_more c scope = no_roots (no_copy scope)
 block_roots main (tree.more (tree.statement action pos close own) ss) c scope =
-    and_roots (action_roots main action c scope) (block_roots main ss c (action_roots main action c scope).made.scope)
+    roots_then (action_roots main action c scope) (block_roots main ss c)
 
 -- where main stands
 abbrev pub context_of : List tree.Item → Numbering → Context

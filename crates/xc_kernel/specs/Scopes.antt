@@ -4,6 +4,7 @@ use Rattle.xc_tree.specs.Plain as tree
 use Rattle.xc_kernel.specs.Types.{NameType, of_word, of_array, of_other, is_unsigned_by}
 use Rattle.xc_kernel.specs.Paths.{Path}
 
+-- what a name stands for
 pub data Entity : Type 0 where
   -- a variable, or a parameter that holds a word
   a_word : Path → (is_unsigned : Bool) → Entity
@@ -19,6 +20,7 @@ pub data Entity : Type 0 where
   -- where no such name is declared
   nothing_known : Entity
 
+-- a name, and what it stands for
 pub record Binding : Type 0 where
   pub name : List ℕ
   pub entity : Entity
@@ -27,6 +29,7 @@ pub record Binding : Type 0 where
 abbrev pub Scope : Type 0
 Scope = List Binding
 
+-- a name before the others, which it hides
 abbrev pub with_name : Scope → List ℕ → Entity → Scope
 with_name scope name entity = record { name = name; entity = entity } ∷ scope
 
@@ -40,6 +43,7 @@ abbrev pub entity_of : Scope → List ℕ → Entity
 entity_of [] name = nothing_known
 entity_of (b ∷ bs) name = entity_by (bytes_eq b.name name) b.entity (entity_of bs name)
 
+-- the type of an entity; the index of a replicated `par` is an `int`
 abbrev pub type_of_entity : Entity → NameType
 type_of_entity (a_word path is_unsigned) = of_word is_unsigned
 type_of_entity (an_array path length is_unsigned) = of_array is_unsigned

@@ -7,6 +7,7 @@ use Rattle.xc_kernel.specs.Counts.{statements_of}
 use Rattle.xc_kernel.specs.Nodes.{nodes_of}
 use Rattle.xc_kernel.specs.Depths.{depth_of}
 
+-- the limits
 abbrev pub most_statements : ℕ
 most_statements = 100000
 

@@ -11,7 +11,7 @@ use Rattle.xc_kernel.specs.Context.{Context, in_branch, in_loop, in_case, expres
 use Rattle.xc_kernel.specs.Calls.{CopiesCall, right_is_unsigned, value_of, right_copy, function_copy, path_of_call}
 use Rattle.xc_kernel.specs.Declarations.{declarations_copy}
 use Rattle.xc_kernel.specs.Transfers.{output_copy, input_copy}
-use Rattle.xc_kernel.specs.Flow.{if_copy, while_copy, do_while_copy, for_parts, Branched, no_branches, and_branch, par_copy, numbered_copy, replicated, Cased, no_cases, case_scope, and_case, select_copy, transaction_copy}
+use Rattle.xc_kernel.specs.Flow.{if_parts, while_copy, do_while_copy, for_parts, Branched, no_branches, branch_then, par_copy, numbered_copy, replicated, Cased, no_cases, case_scope, and_case, select_copy, transaction_copy}
 
 -- the first token of a statement, and of a branch's statement
 abbrev pub pos_of : tree.Statement → Pos
@@ -59,7 +59,7 @@ module _ (copies : CopiesCall) where
     action_copy (tree.output o) pos close c scope = output_copy c scope o
     action_copy (tree.input i) pos close c scope = input_copy c scope i
     action_copy (tree.if_then test a b) pos close c scope =
-        if_copy (expression c scope test) (statement_copy a c scope) (maybe_copy b c (statement_copy a c scope).scope)
+        if_parts (expression c scope test) (statement_copy a c scope) (maybe_copy b c)
     action_copy (tree.while_loop test body) pos close c scope =
         while_copy c pos (expression c scope test) (statement_copy body (in_loop c pos) scope)
     action_copy (tree.do_while body test) pos close c scope = do_while_copy c pos test (statement_copy body (in_loop c pos) scope)
@@ -89,8 +89,7 @@ module _ (copies : CopiesCall) where
     pub branches_copy : tree.Branches → ℕ → Context → Scope → Branched
     branches_copy tree.no_branch index c scope = no_branches scope
     branches_copy (tree.more_branches b bs) index c scope =
-        and_branch (pos_of_branch b) (branch_copy b (in_branch c index) scope)
-        (branches_copy bs (index + 1) c (branch_copy b (in_branch c index) scope).scope)
+        branch_then (pos_of_branch b) (branch_copy b (in_branch c index) scope) (branches_copy bs (index + 1) c)
 
     pub cases_copy : tree.Cases → Context → Scope → Cased
     cases_copy tree.no_case c scope = no_cases scope

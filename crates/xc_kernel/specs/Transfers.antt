@@ -9,9 +9,11 @@ use Rattle.xc_kernel.specs.Expressions.{resource_of}
 use Rattle.xc_kernel.specs.Copy.{Copy, no_copy, one_statement, with_code}
 use Rattle.xc_kernel.specs.Context.{Context, expression, place, word_at, declares_word}
 
+-- the port, timer or channel that a name stands for here
 abbrev pub resource : Context → Scope → List ℕ → KRes
 resource c scope name = resource_of c.numbering (entity_of scope name)
 
+-- the channel that a name stands for, if it does
 abbrev pub channel_of : Entity → List Path
 channel_of (a_channel path) = path ∷ []
 channel_of other = []
@@ -20,6 +22,7 @@ channel_of other = []
 abbrev pub naming : Scope → List ℕ → Copy → Copy
 naming scope name copy = record copy { named = channel_of (entity_of scope name) }
 
+-- the time, stamp and condition of a transfer
 abbrev pub time_of : Context → Scope → tree.Timing → kernel.Expression
 time_of c scope t = expression c scope t.value
 
@@ -29,6 +32,7 @@ stamp_of c scope t = place c scope t.value
 abbrev pub condition_of : Context → Scope → tree.Condition → kernel.Condition
 condition_of c scope w = record { test = w.test; value = expression c scope w.value }
 
+-- the kernel's output
 abbrev pub output_of : Context → Scope → tree.Output → kernel.Output
 output_of c scope o = record {
   resource = resource c scope o.name.text;
@@ -38,6 +42,7 @@ output_of c scope o = record {
   pos = o.name.pos;
 }
 
+-- an output, with its channel named
 abbrev pub output_copy : Context → Scope → tree.Output → Copy
 output_copy c scope o = naming scope o.name.text (one_statement scope (kernel.output (output_of c scope o)))
 
@@ -51,6 +56,7 @@ target_copy c scope (tree.fresh u name) = declares_word c name.text name.pos u s
 abbrev pub behind_target : Context → Scope → tree.Input → Scope
 behind_target c scope i = (target_copy c scope i.target).scope
 
+-- where the word of an input goes
 abbrev pub target_of : Context → Scope → tree.Target → Option kernel.Place
 target_of c scope (tree.to e) = Some (place c scope e)
 target_of c scope tree.dropped = None
@@ -71,5 +77,6 @@ input_of c scope i = record {
 abbrev pub input_names : Context → Scope → tree.Input → Copy
 input_names c scope i = naming scope i.name.text (target_copy c scope i.target)
 
+-- an input, with its channel named and its name declared
 abbrev pub input_copy : Context → Scope → tree.Input → Copy
 input_copy c scope i = with_code (input_names c scope i) (kernel.input (input_of c scope i) ∷ [])

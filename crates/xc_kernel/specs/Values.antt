@@ -5,10 +5,12 @@ use Rattle.xw_words.specs.Words.{word_sum, word_difference, word_product, word_n
 use Rattle.xc_kernel.specs.Operators as operator
 use Rattle.xc_kernel.specs.Operators.{Operator}
 
+-- what an expression can err by
 pub data ErrorKind : Type 0 where
   arithmetic : ErrorKind
   index : ErrorKind
 
+-- a word, or an error and its place
 pub data Value : Type 0 where
   word : ℕ → Value
   error : ErrorKind → Pos → Value
@@ -31,6 +33,7 @@ abbrev pub divided : Pos → Option ℕ → Value
 divided pos (Some v) = word v
 divided pos None = error arithmetic pos
 
+-- by operators of `unsigned` words, or else of `int` ones
 abbrev pub quotient : Bool → ℕ → ℕ → Option ℕ
 quotient true a b = div_u a b
 quotient false a b = div_s a b
@@ -100,6 +103,7 @@ abbrev pub of_both : Operator → Bool → Pos → ℕ → Value → Value
 of_both o is_unsigned pos a (word b) = of_two o is_unsigned pos a b
 of_both o is_unsigned pos a (error kind at) = error kind at
 
+-- of a word and what its operator makes of a second value
 abbrev pub with_second : Operator → Bool → Pos → ℕ → Value → Value
 with_second operator.both is_unsigned pos a second = and_then (is_true a) second
 with_second operator.either is_unsigned pos a second = or_else (is_true a) second
