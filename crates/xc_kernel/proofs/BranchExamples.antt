@@ -11,7 +11,7 @@ use Rattle.xc_kernel.proofs.Written.{at, id, number, name, binary, result, word_
 -- on tile[1] : out port p = XS1_PORT_1A;
 -- void feed(chanend c, int n) { timer t; c <: n; }
 -- int main(void) { chan c; par { feed(c, 4); on tile[1] : c :> int x; on stdcore[4 - 1] : p <: x; } return 0; }
-abbrev placed : List tree.Item
+abbrev pub placed : List tree.Item
 placed =
     (tree.port (record { place = (Some (record { on = at 1 1; first = at 1 9; value = number 1 false 1 9 })); dir = Out; name = id (codes "p") 1 23; ident = id (codes "XS1_PORT_1A") 1 27 }))
     ∷ (tree.function (record { result = None; name = id (codes "feed") 2 6; params = ((record { kind = (End false); name = id (codes "c") 2 19 }) ∷ (record { kind = (Value false); name = id (codes "n") 2 26 }) ∷ []); own = 9 })
@@ -55,7 +55,7 @@ unfolding copy_of
 placed_copied = refl
 
 -- int main(void) { par (int i = 1; i < 3; i++) on tile[i] : { unsigned x = i * 2u; } }
-abbrev numbered : List tree.Item
+abbrev pub numbered : List tree.Item
 numbered =
     (tree.function (record { result = Some false; name = id (codes "main") 1 5; params = []; own = 5 })
     (tree.statement (tree.block (tree.statements (
@@ -126,7 +126,7 @@ unfolding copy_of
 replicated_copied = refl
 
 -- void main(void) { par (int i = 3; i < 3; i++) on tile[1] : { int x; } }
-abbrev no_branch : List tree.Item
+abbrev pub no_branch : List tree.Item
 no_branch =
     (tree.function (record { result = None; name = id (codes "main") 1 6; params = []; own = 5 })
     (tree.statement (tree.block (tree.statements (

@@ -14,7 +14,7 @@ use Rattle.xc_kernel.proofs.Written.{at, id, number, name, index, binary, result
 --   e = a[v]; c <: r; q <: e; return v;
 -- }
 -- int main(void) { chan c; int x; int b[3]; par { x = all(7, x, b[x + 1], b, c, p); c :> int y; } return x; }
-abbrev parameters : List tree.Item
+abbrev pub parameters : List tree.Item
 parameters =
     (tree.port (record { place = None; dir = Out; name = id (codes "p") 1 10; ident = id (codes "XS1_PORT_8A") 1 14 }))
     ∷ (tree.function (record { result = Some false; name = id (codes "all") 2 5; params = ((record { kind = (Value false); name = id (codes "v") 2 13 }) ∷ (record { kind = (Ref false); name = id (codes "r") 2 21 }) ∷ (record { kind = (Ref false); name = id (codes "e") 2 29 }) ∷ (record { kind = (Array false None); name = id (codes "a") 2 36 }) ∷ (record { kind = (End false); name = id (codes "c") 2 49 }) ∷ (record { kind = (PortParam Out); name = id (codes "q") 2 61 }) ∷ []); own = 26 })
@@ -96,7 +96,7 @@ parameters_copied = refl
 -- int half(int n) { return n / 2; }
 -- int twice(int n) { half(n); return half(n); }
 -- int main(void) { int x = twice(6); half(x); return twice(x); }
-abbrev results : List tree.Item
+abbrev pub results : List tree.Item
 results =
     (tree.function (record { result = Some false; name = id (codes "half") 1 5; params = ((record { kind = (Value false); name = id (codes "n") 1 14 }) ∷ []); own = 6 })
     (tree.statement (tree.block (tree.statements (

@@ -6,6 +6,9 @@ use Rattle.xc_kernel.specs.Counts.{statements_of}
 use Rattle.xc_kernel.specs.Nodes.{nodes_of}
 use Rattle.xc_kernel.specs.Depths.{depth_of}
 use Rattle.xc_kernel.specs.Size.{Breaks509}
+use Rattle.xc_kernel.proofs.CallExamples.{parameters, results}
+use Rattle.xc_kernel.proofs.BranchExamples.{placed, numbered, no_branch}
+use Rattle.xc_kernel.proofs.FlowExamples.{cases, transaction}
 use Rattle.xc_kernel.proofs.Written.{at, id, number, name, binary, result}
 
 abbrev statement : tree.Action → tree.Statement
@@ -97,3 +100,42 @@ depth_of_499 = refl
 -- so it breaks the rule, at main's name
 too_deep : Breaks509 (chain_of 499) (record { rule = 509; pos = at 1 1 })
 too_deep = record { too_large = inr (inr (rw depth_of_499 (omega arith))); rule = refl; place = refl }
+
+-- the texts of the other examples: their statements, nodes and depth
+
+abbrev counts_of : List tree.Item → ℕ × ℕ × ℕ
+counts_of items = (statements_of items, nodes_of items, depth_of items)
+
+-- the call counts 1, its six parameters and the four statements of `all`; a name that an input declares counts nothing
+parameters_count : counts_of parameters ≡ (20, 17, 7)
+unfolding statements_of nodes_of depth_of
+parameters_count = refl
+
+results_count : counts_of results ≡ (23, 22, 8)
+unfolding statements_of nodes_of depth_of
+results_count = refl
+
+-- the `select` counts 1, its cases 1 each
+cases_count : counts_of cases ≡ (16, 18, 7)
+unfolding statements_of nodes_of depth_of
+cases_count = refl
+
+-- a transaction counts 2
+transaction_count : counts_of transaction ≡ (25, 6, 10)
+unfolding statements_of nodes_of depth_of
+transaction_count = refl
+
+-- with the branches' places, and with main's `return`
+placed_count : counts_of placed ≡ (13, 9, 6)
+unfolding statements_of nodes_of depth_of
+placed_count = refl
+
+-- each copy with its place
+numbered_count : counts_of numbered ≡ (5, 8, 6)
+unfolding statements_of nodes_of depth_of
+numbered_count = refl
+
+-- no copy, but its statement is as deep as it stands
+no_branch_count : counts_of no_branch ≡ (1, 0, 4)
+unfolding statements_of nodes_of depth_of
+no_branch_count = refl

@@ -88,6 +88,9 @@ and_stops = refl
 and_goes_on : evals (of_int 31 (num 4) (num 8)) ≡ word 1
 and_goes_on = refl
 
+or_stops : evals (of_int 32 (num 5) (element (num 3))) ≡ word 1
+or_stops = refl
+
 or_goes_on : evals (of_int 32 (num 0) (element (num 3))) ≡ error index (at 1 1)
 or_goes_on = refl
 

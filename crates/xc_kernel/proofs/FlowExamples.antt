@@ -20,7 +20,7 @@ use Rattle.xc_kernel.proofs.Written.{at, id, number, name, index, binary, result
 --   }
 --   do n++; while (n);
 -- }
-abbrev cases : List tree.Item
+abbrev pub cases : List tree.Item
 cases =
     (tree.port (record { place = None; dir = In; name = id (codes "p") 1 9; ident = id (codes "XS1_PORT_1B") 1 13 }))
     ∷ (tree.function (record { result = None; name = id (codes "main") 2 6; params = []; own = 5 })
@@ -135,7 +135,7 @@ cases_copied = refl
 -- void wait(void) { chan d; timer t; par { d <: 1; d :> void; } t :> void; }
 -- void talk(chanend c) { master { wait(); { int x[2]; c :> x[1]; } c <: 5; } }
 -- void main(void) { chan c; chan d; par { talk(d); slave { d <: 2; d :> void; } } }
-abbrev transaction : List tree.Item
+abbrev pub transaction : List tree.Item
 transaction =
     (tree.function (record { result = None; name = id (codes "wait") 1 6; params = []; own = 5 })
     (tree.statement (tree.block (tree.statements (
