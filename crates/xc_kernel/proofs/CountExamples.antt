@@ -139,3 +139,14 @@ numbered_count = refl
 no_branch_count : counts_of no_branch ≡ (1, 0, 4)
 unfolding statements_of nodes_of depth_of
 no_branch_count = refl
+
+-- `par { on tile[1 + 1 + 1] : ; }`: the place is deeper than the statement
+abbrev deep_place : List tree.Item
+deep_place =
+    function (codes "main")
+    (statement (tree.par (tree.branches (tree.branch (Some (record { on = at 1 1; first = at 1 1; value = ones 2 })) (statement tree.empty) ∷ []))) ∷ [])
+    ∷ []
+
+deep_place_count : counts_of deep_place ≡ (2, 5, 5)
+unfolding statements_of nodes_of depth_of
+deep_place_count = refl

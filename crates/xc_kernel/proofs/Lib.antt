@@ -7,4 +7,5 @@ pub mod CallExamples
 pub mod BranchExamples
 pub mod FlowExamples
 pub mod EvalExamples
+pub mod TypeExamples
 pub mod CountExamples
