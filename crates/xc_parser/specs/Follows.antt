@@ -136,7 +136,6 @@ follows dv = sym 22 ∷ sym 4 ∷ after_right_side
 follows initial = after_right_side
 follows block_item = key 7 ∷ []
 follows statement = key 7 ∷ []
-follows closed = key 7 ∷ []
 follows case_item = key 7 ∷ []
 follows for_start = after_right_side
 follows for_step = after_right_side

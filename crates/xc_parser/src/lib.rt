@@ -1,2 +1,5 @@
 //! From the tokens of a program to its tree.
 #![tactic(auto)]
+
+mod stop;
+mod tokens;
