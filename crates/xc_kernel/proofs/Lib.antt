@@ -1,4 +1,4 @@
-pub mod Kernels
+pub mod Forms
 pub mod Paths
 pub mod Instances
 pub mod Roots

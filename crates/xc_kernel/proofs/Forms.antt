@@ -1,4 +1,5 @@
--- What the declared types of a kernel stand for, by their variants.
+-- What the declared types of a kernel stand for, by their variants: `forms` for a kernel that is read, `made` for one that is
+-- built.
 use Rattle.std.proofs.Common.{◌≡◌, ℕ, Bool, List, Option, Some, None, map, sym, ap, ◌∙◌}
 use Rattle.std.specs.declared.boxed.Box.{Box}
 use Rattle.std.specs.declared.alloc.Global.{Global}
@@ -97,24 +98,24 @@ case-KCase = fold_out-KCase plain.Statement plain.Branch plain.Case plain.Statem
 
 -- of a branch, a case and a `select` that were built of their parts
 
-pub branch-built : (ss : List Kst) (p : Pos) → branch_of (roll-KBranch (record { body = ss; pos = p })) ≡ plain.branch (plain.statements (map statement_of ss)) p
+pub branch-made : (ss : List Kst) (p : Pos) → branch_of (roll-KBranch (record { body = ss; pos = p })) ≡ plain.branch (plain.statements (map statement_of ss)) p
 unfolding statement_of branch_of case_of select_of
-branch-built ss p = fold-roll-KBranch plain.Statement plain.Branch plain.Case plain.Statement statement_step branch_step case_step select_step (record { body = ss; pos = p })
+branch-made ss p = fold-roll-KBranch plain.Statement plain.Branch plain.Case plain.Statement statement_step branch_step case_step select_step (record { body = ss; pos = p })
 
-pub case-built : (g : Option Kx) (h : KHead) (ss : List Kst) → case_of (roll-KCase (record { guard = g; head = h; body = ss })) ≡ plain.case (option_map expression_of g) (input_of h) (plain.statements (map statement_of ss))
+pub case-made : (g : Option Kx) (h : KHead) (ss : List Kst) → case_of (roll-KCase (record { guard = g; head = h; body = ss })) ≡ plain.case (option_map expression_of g) (input_of h) (plain.statements (map statement_of ss))
 unfolding statement_of branch_of case_of select_of
-case-built g h ss = fold-roll-KCase plain.Statement plain.Branch plain.Case plain.Statement statement_step branch_step case_step select_step (record { guard = g; head = h; body = ss })
+case-made g h ss = fold-roll-KCase plain.Statement plain.Branch plain.Case plain.Statement statement_step branch_step case_step select_step (record { guard = g; head = h; body = ss })
 
-pub select-built : (cs : List KCase) (o : Option (List Kst)) (p : Pos) → select_of (roll-KSelect (record { cases = cs; otherwise = o; pos = p })) ≡ plain.select (plain.cases (map case_of cs)) (default_of o) p
+pub select-made : (cs : List KCase) (o : Option (List Kst)) (p : Pos) → select_of (roll-KSelect (record { cases = cs; otherwise = o; pos = p })) ≡ plain.select (plain.cases (map case_of cs)) (default_of o) p
 unfolding statement_of branch_of case_of select_of
-select-built cs None p = fold-roll-KSelect plain.Statement plain.Branch plain.Case plain.Statement statement_step branch_step case_step select_step (record { cases = cs; otherwise = None; pos = p })
-select-built cs (Some ss) p = fold-roll-KSelect plain.Statement plain.Branch plain.Case plain.Statement statement_step branch_step case_step select_step (record { cases = cs; otherwise = Some ss; pos = p })
+select-made cs None p = fold-roll-KSelect plain.Statement plain.Branch plain.Case plain.Statement statement_step branch_step case_step select_step (record { cases = cs; otherwise = None; pos = p })
+select-made cs (Some ss) p = fold-roll-KSelect plain.Statement plain.Branch plain.Case plain.Statement statement_step branch_step case_step select_step (record { cases = cs; otherwise = Some ss; pos = p })
 
 -- of a `select` as it stands
 
 pub select-KSelect : (s : KSelect) → select_of s ≡ plain.select (plain.cases (map case_of (out-KSelect s).cases)) (default_of (out-KSelect s).otherwise) (out-KSelect s).pos
-select-KSelect s = ap select_of (sym (roll-out-KSelect s)) ∙ select-built (out-KSelect s).cases (out-KSelect s).otherwise (out-KSelect s).pos
+select-KSelect s = ap select_of (sym (roll-out-KSelect s)) ∙ select-made (out-KSelect s).cases (out-KSelect s).otherwise (out-KSelect s).pos
 
 pub ruleset forms = (expression-Num, expression-Read, expression-Op, place-Word, place-Elem, statement-Zero, statement-Set, statement-Out, statement-In, statement-If, statement-Loop, statement-Block, statement-Exit, statement-Select, statement-Par, statement-Tran, branch-KBranch, case-KCase, select-KSelect)
 
-pub ruleset built = (branch-built, case-built, select-built)
+pub ruleset made = (branch-made, case-made, select-made, expression-Num, expression-Read, expression-Op, place-Word, place-Elem, statement-Zero, statement-Set, statement-Out, statement-In, statement-If, statement-Loop, statement-Block, statement-Exit, statement-Select, statement-Par, statement-Tran)
