@@ -18,7 +18,7 @@ use Rattle.xc_kernel.specs.Calls.{CopiesCall, instance_of, result_copy, body_cop
 use Rattle.xc_kernel.specs.Declarations.{array_copy, channel_copy, timer_copy, initial_copy, kind_copy, declarations_copy}
 use Rattle.xc_kernel.specs.Transfers.{output_copy, input_names}
 use Rattle.xc_kernel.specs.Flow.{for_parts, numbered_copy, replicated, Cased, case_scope, and_case}
-use Rattle.xc_kernel.specs.Statements.{pos_of_branch, assign_by, return_copy, statement_copy, action_copy, maybe_copy, statements_copy, branch_copy, branches_copy, cases_copy, case_copy, calls_copy, each_call_copy}
+use Rattle.xc_kernel.specs.Statements.{pos_of_branch, assign_by, return_copy, statement_copy, action_copy, maybe_copy, statements_copy, branch_copy, branches_copy, cases_copy, case_copy, calls_copy}
 
 -- two copies make the same instances, and the same names are known behind them
 pub record SameInstances (a b : Copy) : Type 0 where
@@ -265,6 +265,3 @@ calls_are_blind zero = record { same = λ c n m scope f pos args. as_it_is (no_c
 calls_are_blind (suc depth) = record {
   same = λ c n m scope f pos args. same_function (calls_copy depth) (calls_are_blind depth) n m c scope (path_of_call c pos) f args;
 }
-
-pub each_call_is_blind : IsBlind each_call_copy
-each_call_is_blind = record { same = λ c. (calls_are_blind (length c.functions)).same c }

@@ -1,16 +1,22 @@
 -- The kernel of a program: the program with each call replaced by its function's body over instances of its own.
-use Rattle.std.specs.Prelude.{◌≡◌, List, map}
+use Rattle.std.specs.Prelude.{◌≡◌, List, map, length}
 use Rattle.xc_tree.specs.Plain as tree
 use Rattle.xc_kernel.specs.Plain as kernel
 use Rattle.xc_kernel.specs.Numbering.{Numbering, no_numbering}
-use Rattle.xc_kernel.specs.Programs.{ports, main_of, main_pos}
+use Rattle.xc_kernel.specs.Programs.{functions, ports, main_of, main_pos}
 use Rattle.xc_kernel.specs.Copy.{numbering_in}
+use Rattle.xc_kernel.specs.Calls.{CopiesCall}
+use Rattle.xc_kernel.specs.Statements.{calls_copy}
 use Rattle.xc_kernel.specs.Ports.{port_use}
 use Rattle.xc_kernel.specs.Roots.{Rooted, context_of, roots_of}
 
+-- How calls are copied in a program: as no function calls itself, they go at most as deep as there are functions.
+abbrev pub calls_of : List tree.Item → CopiesCall
+calls_of items = calls_copy (length (functions items))
+
 -- the roots of a program with their instances, by a numbering of instances
 abbrev pub rooted : List tree.Item → Numbering → Rooted
-rooted items n = roots_of (main_of items) (context_of items n)
+rooted items n = roots_of (calls_of items) (main_of items) (context_of items n)
 
 -- Its own instances in order of first sight. They don't depend on the numbering that stands in the statements.
 abbrev pub numbering : List tree.Item → Numbering

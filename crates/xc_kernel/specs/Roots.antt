@@ -8,9 +8,9 @@ use Rattle.xc_kernel.specs.Scopes.{Scope, a_constant, with_name}
 use Rattle.xc_kernel.specs.Programs.{Function, functions, ports}
 use Rattle.xc_kernel.specs.Copy.{Copy, no_copy, joined, in_scope_of, with_code, code_of}
 use Rattle.xc_kernel.specs.Context.{Context, in_branch}
-use Rattle.xc_kernel.specs.Calls.{instance_of, function_copy}
+use Rattle.xc_kernel.specs.Calls.{CopiesCall, instance_of, function_copy}
 use Rattle.xc_kernel.specs.Declarations.{declarations_copy}
-use Rattle.xc_kernel.specs.Statements.{pos_of_branch, statement_copy, branch_copy, each_call_copy}
+use Rattle.xc_kernel.specs.Statements.{pos_of_branch, statement_copy, branch_copy}
 use Rattle.xc_kernel.specs.Ports.{core_of, pos_of_place, scope_of_ports}
 
 -- Whether a branch is placed.
@@ -62,43 +62,6 @@ abbrev pub root_of : (core : ℕ) → (place pos : Pos) → Copy → Rooted
 root_of core place pos copy =
     record { made = with_code copy []; roots = record { core = core; place = place; body = code_of copy; pos = pos } ∷ [] }
 
--- a branch of main's on its core; what has no place stands at main's name
-abbrev pub branch_root : Pos → tree.Branch → Context → Scope → Rooted
-branch_root main (tree.branch place s) c scope =
-    root_of (core_of scope place) (pos_of_place main place) (pos_of_branch (tree.branch place s))
-    (branch_copy each_call_copy (tree.branch place s) (record c { core = core_of scope place }) scope)
-
--- from an index on; a name that one branch declares is known in the later ones
-abbrev pub branch_roots : Pos → tree.Branches → ℕ → Context → Scope → Rooted
-branch_roots main tree.no_branch index c scope = no_roots (no_copy scope)
-branch_roots main (tree.more_branches b bs) index c scope =
-    roots_then (branch_root main b (in_branch c index) scope) (branch_roots main bs (index + 1) c)
-
--- the scope of a root ends
-abbrev pub root_in_scope_of : Scope → Rooted → Rooted
-root_in_scope_of scope r = record r { made = in_scope_of scope r.made }
-
--- so many copies of a branch, in which a name stands for a number, from an index and a number on
-abbrev pub numbered_roots : Pos → tree.Branch → List ℕ → Context → Scope → (count index number : ℕ) → Rooted
-numbered_roots main b name c scope zero index number = no_roots (no_copy scope)
-numbered_roots main b name c scope (suc count) index number =
-    and_roots (root_in_scope_of scope (branch_root main b (in_branch c index) (with_name scope name (a_constant number))))
-    (numbered_roots main b name c scope count (index + 1) (number + 1))
-
--- Main's declarations, and the branches of its `par`. Its `return` is never executed and makes nothing.
-abbrev pub action_roots : Pos → tree.Action → Context → Scope → Rooted
-action_roots main (tree.declare ds) c scope = no_roots (declarations_copy each_call_copy c ds scope)
-action_roots main (tree.par bs) c scope = branch_roots main bs 0 c scope
-action_roots main (tree.replicated first second third from until b) c scope =
-    numbered_roots main b first.text c scope (until - from) 0 from
-action_roots main other c scope = no_roots (no_copy scope)
-
--- of main's block
-abbrev pub block_roots : Pos → tree.Statements → Context → Scope → Rooted
-block_roots main tree.no_more c scope = no_roots (no_copy scope)
-block_roots main (tree.more (tree.statement action pos close own) ss) c scope =
-    roots_then (action_roots main action c scope) (block_roots main ss c)
-
 -- where main stands
 abbrev pub context_of : List tree.Item → Numbering → Context
 context_of items n = record {
@@ -113,20 +76,59 @@ context_of items n = record {
   continues = [];
 }
 
--- where a branch of main's is placed: main's instance and its branches
-abbrev pub placed_roots : Function → Context → Rooted
-placed_roots f c = and_roots (no_roots (instance_of c f c.ports)) (block_roots f.head.name.pos (in_block f.body) c c.ports)
+-- by how calls are copied
+module _ (copies : CopiesCall) where
+  -- a branch of main's on its core; what has no place stands at main's name
+  abbrev pub branch_root : Pos → tree.Branch → Context → Scope → Rooted
+  branch_root main (tree.branch place s) c scope =
+      root_of (core_of scope place) (pos_of_place main place) (pos_of_branch (tree.branch place s))
+      (branch_copy copies (tree.branch place s) (record c { core = core_of scope place }) scope)
 
--- else main, by the empty path
-abbrev pub main_root : Function → Context → Rooted
-main_root f c = root_of 0 f.head.name.pos f.head.name.pos (function_copy (statement_copy each_call_copy) c c.ports [] f [])
+  -- from an index on; a name that one branch declares is known in the later ones
+  abbrev pub branch_roots : Pos → tree.Branches → ℕ → Context → Scope → Rooted
+  branch_roots main tree.no_branch index c scope = no_roots (no_copy scope)
+  branch_roots main (tree.more_branches b bs) index c scope =
+      roots_then (branch_root main b (in_branch c index) scope) (branch_roots main bs (index + 1) c)
 
--- `roots_of`, by cases
-abbrev pub roots_by : Bool → Function → Context → Rooted
-roots_by true f c = placed_roots f c
-roots_by false f c = main_root f c
+  -- the scope of a root ends
+  abbrev pub root_in_scope_of : Scope → Rooted → Rooted
+  root_in_scope_of scope r = record r { made = in_scope_of scope r.made }
 
--- the roots of a program by its main, where that is there
-abbrev pub roots_of : Option Function → Context → Rooted
-roots_of None c = no_roots (no_copy c.ports)
-roots_of (Some f) c = roots_by (block_has_placed (in_block f.body)) f c
+  -- so many copies of a branch, in which a name stands for a number, from an index and a number on
+  abbrev pub numbered_roots : Pos → tree.Branch → List ℕ → Context → Scope → (count index number : ℕ) → Rooted
+  numbered_roots main b name c scope zero index number = no_roots (no_copy scope)
+  numbered_roots main b name c scope (suc count) index number =
+      and_roots (root_in_scope_of scope (branch_root main b (in_branch c index) (with_name scope name (a_constant number))))
+      (numbered_roots main b name c scope count (index + 1) (number + 1))
+
+  -- Main's declarations, and the branches of its `par`. Its `return` is never executed and makes nothing.
+  abbrev pub action_roots : Pos → tree.Action → Context → Scope → Rooted
+  action_roots main (tree.declare ds) c scope = no_roots (declarations_copy copies c ds scope)
+  action_roots main (tree.par bs) c scope = branch_roots main bs 0 c scope
+  action_roots main (tree.replicated first second third from until b) c scope =
+      numbered_roots main b first.text c scope (until - from) 0 from
+  action_roots main other c scope = no_roots (no_copy scope)
+
+  -- of main's block
+  abbrev pub block_roots : Pos → tree.Statements → Context → Scope → Rooted
+  block_roots main tree.no_more c scope = no_roots (no_copy scope)
+  block_roots main (tree.more (tree.statement action pos close own) ss) c scope =
+      roots_then (action_roots main action c scope) (block_roots main ss c)
+
+  -- where a branch of main's is placed: main's instance and its branches
+  abbrev pub placed_roots : Function → Context → Rooted
+  placed_roots f c = and_roots (no_roots (instance_of c f c.ports)) (block_roots f.head.name.pos (in_block f.body) c c.ports)
+
+  -- else main, by the empty path
+  abbrev pub main_root : Function → Context → Rooted
+  main_root f c = root_of 0 f.head.name.pos f.head.name.pos (function_copy (statement_copy copies) c c.ports [] f [])
+
+  -- `roots_of`, by cases
+  abbrev pub roots_by : Bool → Function → Context → Rooted
+  roots_by true f c = placed_roots f c
+  roots_by false f c = main_root f c
+
+  -- the roots of a program by its main, where that is there
+  abbrev pub roots_of : Option Function → Context → Rooted
+  roots_of None c = no_roots (no_copy c.ports)
+  roots_of (Some f) c = roots_by (block_has_placed (in_block f.body)) f c

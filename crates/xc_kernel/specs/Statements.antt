@@ -1,5 +1,5 @@
 -- The copies of statements.
-use Rattle.std.specs.Prelude.{ℕ, zero, suc, ◌+◌, ◌-◌, Bool, true, false, length, Option, Some, None, nat_eq}
+use Rattle.std.specs.Prelude.{ℕ, zero, suc, ◌+◌, ◌-◌, Bool, true, false, Option, Some, None, nat_eq}
 use Rattle.xw_words.specs.declared.pos.Pos.{Pos}
 use Rattle.xc_tree.specs.Plain as tree
 use Rattle.xc_kernel.specs.Plain as kernel
@@ -103,7 +103,3 @@ module _ (copies : CopiesCall) where
 abbrev pub calls_copy : ℕ → CopiesCall
 calls_copy zero c scope f pos args = no_copy scope
 calls_copy (suc n) c scope f pos args = function_copy (statement_copy (calls_copy n)) c scope (path_of_call c pos) f args
-
--- as no function calls itself, calls go at most as deep as there are functions
-abbrev pub each_call_copy : CopiesCall
-each_call_copy c = calls_copy (length c.functions) c
