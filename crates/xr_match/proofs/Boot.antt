@@ -52,7 +52,7 @@ unused_there (suc n) zero = refl
 unused_there (suc n) (suc t) = unused_there n t
 
 -- the home of the core that has the program's part
-module _ (P : Program) (ok : IsWellFormed P) (home : Home) (number : home.number ≡ 0) (is : IsCoreOf P home.parts) where
+module _ (P : Program) (ok : IsWellFormed P) (home : Home) (number : home.number ≡ 0) (is : IsCoreOf P.ports P.outputs home.parts) where
   -- all outputs go to its ports
   usable : (outputs : List Output) → AreDeclared (length P.ports) outputs → AreUsable (owns_all P 0) (items_of outputs)
   usable [] h = tt

@@ -33,8 +33,8 @@ module _ (P : Program) (L : Image) (is : IsCodeOf P L) where
       ∙ ap (λ (n : ℕ). parts_by is.core (no_parts (suc c)) (nat_eq n (suc c))) is.of_program.number
       ∙ ap (parts_by is.core (no_parts (suc c))) (ne_eqb 0 (suc c) (λ e. cc))
 
-  pub first_is : IsCoreOf P (parts_in L.cores 0)
-  first_is = subst (IsCoreOf P) (sym first) is.of_program
+  pub first_is : IsCoreOf P.ports P.outputs (parts_in L.cores 0)
+  first_is = subst (IsCoreOf P.ports P.outputs) (sym first) is.of_program
 
   other_cores : (c : ℕ) (a : CoreState) → slice_get (boot L).cores (suc c) ≡ Some a → a ≡ boot_core (no_parts (suc c))
   other_cores zero a g = sym (same_Some _ a g) ∙ ap boot_core (others 0)

@@ -1,21 +1,12 @@
 -- The code of one output after another, its places and its size.
-use Rattle.std.proofs.Common.{◌≡◌, ℕ, zero, suc, ◌+◌, ◌*◌, ◌<◌, ◌≤◌, List, [], ◌∷◌, ◌++◌, length, get_or, Option, Some, None, refl, sym, subst, arith, append_assoc, length-append}
+use Rattle.std.proofs.Common.{◌≡◌, ℕ, suc, ◌+◌, ◌*◌, ◌<◌, ◌≤◌, List, [], ◌∷◌, ◌++◌, length, Option, Some, None, refl, sym, subst, arith, append_assoc, length-append}
 use Rattle.std.proofs.lemmas.List.{length-map}
 use Rattle.xw_words.specs.declared.pos.Pos.{Pos}
 use Rattle.xs_instr.specs.declared.instr.Instr.{Instr}
-use Rattle.xs_instr.specs.declared.instr.Instr.TheVariants.{Ldc, Out}
-use Rattle.xs_instr.specs.declared.instr.Reg.TheVariants.{R0, R1}
 use Rattle.xs_instr.specs.Valid.{AreGoodInstrs}
 use Rattle.xc_meaning.specs.declared.program.Output.{Output}
-use Rattle.xc_meaning.specs.Program.{AreDeclared}
 use Rattle.xc_meaning.specs.World.{Item, Outputs, Ends, items_of}
-use Rattle.xr_match.specs.Code.{time_code, output_code, items_code, output_places, items_places}
-
--- each output is declared
-pub declared_at : (n : ℕ) (outputs : List Output) (i : ℕ) (d : Output) → AreDeclared n outputs → i < length outputs → (get_or outputs i d).port < n
-declared_at n [] i d h lt = absurd (omega arith)
-declared_at n (output ∷ rest) zero d h lt = h.0
-declared_at n (output ∷ rest) (suc i) d h lt = declared_at n rest i d h.1 (omega arith)
+use Rattle.xr_match.specs.Code.{time_code, value_code, output_code, items_code, output_places, items_places}
 
 -- each instruction has a place
 pub places_match : (core : ℕ) (last : Pos) (items : List Item) → length (items_places core last items) ≡ length (items_code core items)
@@ -33,7 +24,7 @@ time_size (Some time) rest = omega arith
 pub code_size : (core : ℕ) (outputs : List Output) → length (items_code core (items_of outputs)) ≤ 5 * length outputs + 1
 code_size core [] = omega arith
 code_size core (output ∷ rest) =
-    omega (arith, length-append (output_code core output) (items_code core (items_of rest)), time_size output.time (Ldc R0 output.value ∷ Out R1 R0 ∷ []), code_size core rest)
+    omega (arith, length-append (output_code core output) (items_code core (items_of rest)), time_size output.time (value_code output.value), code_size core rest)
 
 -- and at least the end
 pub some_code : (core : ℕ) (outputs : List Output) → 0 < length (items_code core (items_of outputs))
@@ -49,7 +40,7 @@ good_time size i (Some time) more h = (tt, (tt, h (suc (suc i))))
 pub good_code : (size core i : ℕ) (items : List Item) → AreGoodInstrs size i (items_code core items)
 good_code size core i [] = tt
 good_code size core i (Outputs output ∷ rest) =
-    let value = Ldc R0 output.value ∷ Out R1 R0 ∷ [] in
+    let value = value_code output.value in
     let good = good_time size (suc i) output.time (value ++ items_code core rest) (λ k. (tt, (tt, good_code size core (suc (suc k)) rest))) in
     (tt, subst (AreGoodInstrs size (suc i)) (sym (append_assoc (time_code output.time) value (items_code core rest))) good)
 good_code size core i (Ends ∷ rest) = (tt, tt)

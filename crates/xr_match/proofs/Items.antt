@@ -9,7 +9,6 @@ use Rattle.xs_instr.specs.declared.state.Port.{Port}
 use Rattle.xs_instr.specs.declared.state.Regs.{Regs}
 use Rattle.xs_instr.specs.Ports.{can_send}
 use Rattle.xs_instr.specs.Registers.{reg_get}
-use Rattle.xs_instr.specs.Slot.{instr_at}
 use Rattle.xc_meaning.specs.declared.program.Output.{Output}
 use Rattle.xc_meaning.specs.declared.program.Program.{Program}
 use Rattle.xc_meaning.specs.World.{Item, Outputs, Ends}
@@ -57,7 +56,7 @@ module _ (P : Program) (home : Home) (own : ℕ → Bool) (t : ℕ) where
     pub r : Reg
     pub v : Reg
     pub here : slice_get a.threads t ≡ Some (running pc regs)
-    pub code : instr_at home pc ≡ Some (Out r v)
+    pub code : slice_get home.parts.code.instrs pc ≡ Some (Out r v)
     pub named : reg_get regs r ≡ port_name home.number output.port
     pub value : reg_get regs v ≡ output.value
     pub timed : PortStands P a.ports output.port (low_time output.time)
@@ -71,7 +70,7 @@ module _ (P : Program) (home : Home) (own : ℕ → Bool) (t : ℕ) where
     pub pc : ℕ
     pub regs : Regs
     pub here : slice_get a.threads t ≡ Some (running pc regs)
-    pub code : instr_at home pc ≡ Some Freet
+    pub code : slice_get home.parts.code.instrs pc ≡ Some Freet
 
   -- thread t stands at the instruction of the first item
   abbrev pub AtItems : List Item → CoreState → Type 0

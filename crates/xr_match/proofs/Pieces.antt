@@ -2,7 +2,6 @@
 use Rattle.std.proofs.Common.{◌≡◌, ℕ, ◌+◌, ◌%◌, ◌^◌, ◌≢◌, Bool, true, List, [], ◌∷◌, ◌++◌, Option, Some, None, refl, sym, ap, ◌∙◌, subst}
 use Rattle.std.specs.Prelude.{slice_get, slice_set}
 use Rattle.xs_instr.specs.declared.image.Home.{Home}
-use Rattle.xs_instr.specs.declared.instr.Instr.TheVariants.{Ldc, Out}
 use Rattle.xs_instr.specs.declared.instr.Reg.TheVariants.{R0, R1}
 use Rattle.xs_instr.specs.declared.state.CoreState.{CoreState}
 use Rattle.xs_instr.specs.declared.state.Port.{Port}
@@ -13,7 +12,7 @@ use Rattle.xs_instr.specs.Rows.{goes_on, put_ports}
 use Rattle.xc_meaning.specs.declared.program.Output.{Output}
 use Rattle.xc_meaning.specs.declared.program.Program.{Program}
 use Rattle.xc_meaning.specs.World.{Item, Outputs, Ends}
-use Rattle.xr_match.specs.Code.{port_name, time_code, items_code}
+use Rattle.xr_match.specs.Code.{port_name, time_code, value_code, items_code}
 use Rattle.xr_match.proofs.Lists.{get_set_same, get_set_other}
 use Rattle.xr_match.proofs.Leads.{running, Leads}
 use Rattle.xr_match.proofs.Names.{port_named}
@@ -27,7 +26,7 @@ module _ (P : Program) (home : Home) (own : ℕ → Bool) (t : ℕ) (output : Ou
   ToOutput a = Leads home own t (AtItems P home own t (Outputs output ∷ rest)) a
 
   -- with the time set, the value is loaded and the output is next
-  value_leads : (a : CoreState) (pc : ℕ) (regs : Regs) → slice_get a.threads t ≡ Some (running pc regs) → StandAt home.parts.code.instrs pc (Ldc R0 output.value ∷ Out R1 R0 ∷ items_code home.number rest) → regs.r1 ≡ port_name home.number output.port → PortStands P a.ports output.port (low_time output.time) → ((p : ℕ) → own p ≡ true → p ≢ output.port → PortStands P a.ports p None) → ToOutput a
+  value_leads : (a : CoreState) (pc : ℕ) (regs : Regs) → slice_get a.threads t ≡ Some (running pc regs) → StandAt home.parts.code.instrs pc (value_code output.value ++ items_code home.number rest) → regs.r1 ≡ port_name home.number output.port → PortStands P a.ports output.port (low_time output.time) → ((p : ℕ) → own p ≡ true → p ≢ output.port → PortStands P a.ports p None) → ToOutput a
   value_leads a pc regs here code name timed others =
       by_ldc home own t (AtItems P home own t (Outputs output ∷ rest)) (at_items_stable P home own t (Outputs output ∷ rest)) a pc regs R0 output.value here code.0 (
         0,
@@ -49,7 +48,7 @@ module _ (P : Program) (home : Home) (own : ℕ → Bool) (t : ℕ) (output : Ou
       )
 
   -- with the port named, the time is set where there is one
-  time_leads : (time : Option ℕ) → output.time ≡ time → (a : CoreState) (pc : ℕ) (regs : Regs) → slice_get a.threads t ≡ Some (running pc regs) → StandAt home.parts.code.instrs pc (time_code time ++ Ldc R0 output.value ∷ Out R1 R0 ∷ [] ++ items_code home.number rest) → regs.r1 ≡ port_name home.number output.port → AreAtRest P own a → ToOutput a
+  time_leads : (time : Option ℕ) → output.time ≡ time → (a : CoreState) (pc : ℕ) (regs : Regs) → slice_get a.threads t ≡ Some (running pc regs) → StandAt home.parts.code.instrs pc (time_code time ++ value_code output.value ++ items_code home.number rest) → regs.r1 ≡ port_name home.number output.port → AreAtRest P own a → ToOutput a
   time_leads None e a pc regs here code name quiet =
       let timed = subst (PortStands P a.ports output.port) (sym (ap low_time e)) (quiet output.port usable.mine) in
       value_leads a pc regs here code name timed (λ p o ne. quiet p o)

@@ -2,8 +2,9 @@
 use Rattle.std.proofs.Common.{◌≡◌, ℕ, zero, suc, ◌<◌, ◌≤◌, Bool, true, false, List, [], ◌∷◌, map, length, Some, refl, arith}
 use Rattle.std.proofs.Math.Dec.{eqb}
 use Rattle.std.proofs.lemmas.Bool.{eqb-true, ne_eqb}
+use Rattle.std.proofs.lemmas.List.Elements.{All-nil, All-cons}
 use Rattle.std.proofs.lemmas.Map.Steps.{length-le_from_distinct_below}
-use Rattle.std.specs.List.{AllByRecursion, IsDistinct, list_any}
+use Rattle.std.specs.List.{All, AllByRecursion, IsDistinct, list_any}
 use Rattle.std.specs.Prelude.{slice_get, slice_index, ◌||◌}
 use Rattle.xs_instr.specs.Machine.{boot_port, boot_ports}
 use Rattle.xs_instr.specs.Valid.{AreGoodPorts, IsNewPort}
@@ -36,6 +37,13 @@ few_ports ids h = length-le_from_distinct_below ids port_count (distinct ids h) 
 pub declared_below : (n : ℕ) (outputs : List Output) → n ≤ port_count → AreDeclared n outputs → AreDeclared port_count outputs
 declared_below n [] le h = tt
 declared_below n (output ∷ rest) le h = let here = h.0 in (omega arith, declared_below n rest le h.1)
+
+-- the same in std's words
+pub all_declared : (n : ℕ) (outputs : List Output) → n ≤ port_count → AreDeclared n outputs → All (λ output. output.port < port_count) outputs
+all_declared n [] le h = All-nil (λ output. output.port < port_count)
+all_declared n (output ∷ rest) le h =
+    let here = h.0 in
+    All-cons (λ output. output.port < port_count) output rest (omega arith) (all_declared n rest le h.1)
 
 new_port : (id : ℕ) (ids : List ℕ) → IsNew id ids → IsNewPort id (map out_port ids)
 new_port id [] h = tt

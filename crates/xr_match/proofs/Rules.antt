@@ -26,7 +26,7 @@ turn_is_row home a t pc regs i here code no_event =
 
 module _ (home : Home) (own : ℕ → Bool) (t : ℕ) (Q : CoreState → Type 0) (q : IsStable own t Q) where
   -- a constant is loaded
-  pub by_ldc : (a : CoreState) (pc : ℕ) (regs : Regs) (d : Reg) (v : ℕ) → slice_get a.threads t ≡ Some (running pc regs) → instr_at home pc ≡ Some (Ldc d v) → Leads home own t Q (goes_on a t (running pc regs) (reg_set regs d v)) → Leads home own t Q a
+  pub by_ldc : (a : CoreState) (pc : ℕ) (regs : Regs) (d : Reg) (v : ℕ) → slice_get a.threads t ≡ Some (running pc regs) → slice_get home.parts.code.instrs pc ≡ Some (Ldc d v) → Leads home own t Q (goes_on a t (running pc regs) (reg_set regs d v)) → Leads home own t Q a
   by_ldc a pc regs d v here code on =
       let th = running pc regs in
       let th' = running (pc + 1) (reg_set regs d v) in
@@ -41,7 +41,7 @@ module _ (home : Home) (own : ℕ → Bool) (t : ℕ) (Q : CoreState → Type 0)
       )) on
 
   -- a port that the branch owns gets its time
-  pub by_setpt : (a : CoreState) (pc : ℕ) (regs : Regs) (r s : Reg) (p : ℕ) (port : Port) → slice_get a.threads t ≡ Some (running pc regs) → instr_at home pc ≡ Some (Setpt r s) → own p ≡ true → named home.number (reg_get regs r) ≡ APort p → slice_get a.ports p ≡ Some port → Leads home own t Q (goes_on (put_ports a (slice_set a.ports p (record port { time = Some (reg_get regs s % 2 ^ 16) }))) t (running pc regs) regs) → Leads home own t Q a
+  pub by_setpt : (a : CoreState) (pc : ℕ) (regs : Regs) (r s : Reg) (p : ℕ) (port : Port) → slice_get a.threads t ≡ Some (running pc regs) → slice_get home.parts.code.instrs pc ≡ Some (Setpt r s) → own p ≡ true → named home.number (reg_get regs r) ≡ APort p → slice_get a.ports p ≡ Some port → Leads home own t Q (goes_on (put_ports a (slice_set a.ports p (record port { time = Some (reg_get regs s % 2 ^ 16) }))) t (running pc regs) regs) → Leads home own t Q a
   by_setpt a pc regs r s p port here code mine names_p there on =
       let th = running pc regs in
       let th' = running (pc + 1) regs in

@@ -22,10 +22,14 @@ abbrev pub time_code : Option ℕ → List Instr
 time_code None = []
 time_code (Some time) = Ldc R0 time ∷ Setpt R1 R0 ∷ []
 
+-- the value goes out at the port that r1 names
+abbrev pub value_code : ℕ → List Instr
+value_code value = Ldc R0 value ∷ Out R1 R0 ∷ []
+
 -- r1 names the port, which gets the time, and then the value goes out
 abbrev pub output_code : ℕ → Output → List Instr
 output_code core output =
-    Ldc R1 (port_name core output.port) ∷ time_code output.time ++ Ldc R0 output.value ∷ Out R1 R0 ∷ []
+    Ldc R1 (port_name core output.port) ∷ time_code output.time ++ value_code output.value
 
 -- a branch's code on a core: its outputs one after another, and the end of the thread
 abbrev pub items_code : ℕ → List Item → List Instr
@@ -51,21 +55,21 @@ first_place = record { line = 1; col = 1 }
 abbrev pub out_port : ℕ → PortDecl
 out_port id = record { port = id; dir = DirOut }
 
--- a core's part is that of the program: it is core 0, with the program's ports and no other resources, and with one
--- root at the front of the code
-pub record IsCoreOf (P : Program) (k : CoreImage) : Type 0 where
+-- a core's part is that of ports with these identifiers and of these outputs: it is core 0, with these ports and no
+-- other resources, and with one root at the front of the outputs' code
+pub record IsCoreOf (ids : List ℕ) (outputs : List Output) (k : CoreImage) : Type 0 where
   pub number : k.number ≡ 0
   pub words : k.words ≡ 0
   pub timers : k.timers ≡ 0
   pub ends : k.ends ≡ 0
-  pub ports : k.ports ≡ map out_port P.ports
+  pub ports : k.ports ≡ map out_port ids
   pub roots : k.roots ≡ 0 ∷ []
-  pub instrs : k.code.instrs ≡ items_code 0 (items_of P.outputs)
-  pub places : k.code.«at» ≡ items_places 0 first_place (items_of P.outputs)
+  pub instrs : k.code.instrs ≡ items_code 0 (items_of outputs)
+  pub places : k.code.«at» ≡ items_places 0 first_place (items_of outputs)
 
--- the image has one core, whose part is that of the program, and no channels
+-- the image has one core, whose part is that of the program's ports and outputs, and no channels
 pub record IsCodeOf (P : Program) (L : Image) : Type 0 where
   pub core : CoreImage
   pub cores : L.cores ≡ core ∷ []
   pub chans : L.chans ≡ []
-  pub of_program : IsCoreOf P core
+  pub of_program : IsCoreOf P.ports P.outputs core

@@ -1,7 +1,8 @@
 ghost use Rattle.std.specs.Prelude.{◌≡◌, ◌<◌, ◌^◌, [], ◌∷◌, ◌++◌, map, length, IfOk, OnOk};
-ghost use Rattle.xc_meaning.specs.Program.{AreDeclared, IsWellFormed, port_count};
+ghost use Rattle.std.specs.List.{All};
+ghost use Rattle.xc_meaning.specs.Program.{IsWellFormed, port_count};
 ghost use Rattle.xc_meaning.specs.World.{items_of};
-ghost use Rattle.xr_match.specs.Code.{IsCodeOf, first_place, items_code, items_places, out_port, output_code, output_places};
+ghost use Rattle.xr_match.specs.Code.{IsCodeOf, IsCoreOf, first_place, items_code, items_places, out_port, output_code, output_places};
 ghost use Rattle.xr_match.specs.Implements.{Implements};
 ghost use Rattle.xs_instr.specs.Valid.{Valid};
 
@@ -24,12 +25,26 @@ pub fn compile(alloc: Global, program: &Program) -> Result<Image, Memory>
     ensures valid { IfOk result (λ image. Valid image) }
     ensures code { IfOk result (λ image. IsCodeOf program.now image) }
 {
-    let ports = List::from_vec(out_ports(alloc, program.ports.as_slice())?);
-    let code = main_code(alloc, program.outputs.as_slice())?;
+    let ids = program.ports.as_slice();
+    let outputs = program.outputs.as_slice();
+    let core = main_core(alloc, ids, outputs)?;
+    let mut cores = List::new(alloc);
+    cores.push(core)?;
+    Ok(Image {
+        cores,
+        chans: List::new(alloc),
+    })
+}
+
+fn main_core(alloc: Global, ids: &[u8], outputs: &[Output]) -> Result<CoreImage, Memory>
+    requires { All (λ output. output.port < port_count) outputs.now }
+    ensures { IfOk result (λ core. IsCoreOf ids.now outputs.now core) }
+{
+    let ports = List::from_vec(out_ports(alloc, ids)?);
+    let code = main_code(alloc, outputs)?;
     let mut roots = List::new(alloc);
     roots.push(0)?;
-    let mut cores = List::new(alloc);
-    cores.push(CoreImage {
+    Ok(CoreImage {
         number: 0,
         words: 0,
         timers: 0,
@@ -37,10 +52,6 @@ pub fn compile(alloc: Global, program: &Program) -> Result<Image, Memory>
         ports,
         roots,
         code,
-    })?;
-    Ok(Image {
-        cores,
-        chans: List::new(alloc),
     })
 }
 
@@ -56,7 +67,7 @@ fn out_ports(alloc: Global, ids: &[u8]) -> Result<Vec<PortDecl>, AllocError>
 }
 
 fn main_code(alloc: Global, outputs: &[Output]) -> Result<Code, Memory>
-    requires { AreDeclared port_count outputs.now }
+    requires { All (λ output. output.port < port_count) outputs.now }
     ensures instrs { IfOk result (λ code. code.instrs ≡ items_code 0 (items_of outputs.now)) }
     ensures places { IfOk result (λ code. code.«at» ≡ items_places 0 first_place (items_of outputs.now)) }
 {
