@@ -62,3 +62,4 @@ pub mod RightSides
 pub mod Simples
 pub mod Conditionals
 pub mod Braces
+pub mod Stated

@@ -21,7 +21,7 @@ use crate::terminals::{
 };
 use crate::tokens::{is_symbol, is_word};
 use crate::values::right_side;
-use xc_tree::{Kind, St, Stmt};
+use xc_tree::{Kind, St, Stmt, Tok};
 use xw_words::List;
 
 /// How a statement begins.
@@ -59,22 +59,34 @@ impl<'a> Parser<'a> {
         if room == 0 {
             return Err(Stop::Deep(at));
         }
-        let inside = room - 1;
+        self.begun(at, first, room - 1)
+    }
+
+    /// The statement that begins so at a place, with room for so many nodes inside it.
+    #[cycle(statement)]
+    fn begun(&self, at: usize, first: First, room: u32) -> Result<Read<Stmt>, Stop>
+        requires short { length self.now.toks.now < 2 ^ 32 }
+        requires at { at < length self.now.toks.now }
+        requires begins { StandsAt self.now.toks.now at (token_of first) }
+        ensures bounds { IfOk result (λ r. (at < r.end) × (r.end ≤ length self.now.toks.now)) }
+        ensures read { IfOk result (λ r. Reads self.now.toks.now (room + 1) symbol.statement at r.end (trees.statement_of r.value)) }
+        ensures stopped { IfErr result (λ e. Stopped self.now.toks.now (room + 1) symbol.statement at e) }
+    {
         match first {
             First::Semicolon => Ok(self.whole(at, at + 1, 0, St::Empty)),
-            First::Brace => self.braced(at, inside),
-            First::Name => self.simple(at, inside),
-            First::If => self.conditional(at, inside),
-            First::While => self.while_loop(at, inside),
-            First::Do => self.do_loop(at, inside),
-            First::For => self.for_loop(at, inside),
-            First::Return => self.return_statement(at, inside),
+            First::Brace => self.braced(at, room),
+            First::Name => self.simple(at, room),
+            First::If => self.conditional(at, room),
+            First::While => self.while_loop(at, room),
+            First::Do => self.do_loop(at, room),
+            First::For => self.for_loop(at, room),
+            First::Return => self.return_statement(at, room),
             First::Break => self.jump(at, true),
             First::Continue => self.jump(at, false),
-            First::Par => self.par(at, inside),
-            First::Select => self.select(at, inside),
-            First::Master => self.transaction(at, true, inside),
-            First::Slave => self.transaction(at, false, inside),
+            First::Par => self.par(at, room),
+            First::Select => self.select(at, room),
+            First::Master => self.transaction(at, true, room),
+            First::Slave => self.transaction(at, false, room),
         }
     }
 
@@ -151,7 +163,7 @@ impl<'a> Parser<'a> {
     pub fn block(&self, at: usize, room: u32) -> Result<Read<List<Stmt>>, Stop>
         requires short { length self.now.toks.now < 2 ^ 32 }
         requires at { at ≤ length self.now.toks.now }
-        ensures bounds { IfOk result (λ r. (at < r.end) × (r.end ≤ length self.now.toks.now)) }
+        ensures bounds { IfOk result (λ r. (at + 1 < r.end) × (r.end ≤ length self.now.toks.now)) }
         ensures read { IfOk result (λ r. Reads self.now.toks.now room symbol.block at r.end (map trees.statement_of r.value)) }
         ensures stopped { IfErr result (λ e. Stopped self.now.toks.now room symbol.block at e) }
     {
@@ -206,36 +218,25 @@ impl<'a> Parser<'a> {
         ensures read { IfOk result (λ r. Reads self.now.toks.now (room + 1) symbol.statement at r.end (trees.statement_of r.value)) }
         ensures stopped { IfErr result (λ e. Stopped self.now.toks.now (room + 1) symbol.statement at e) }
     {
-        if is_symbol(self.toks, at + 1, PAREN) {
+        let behind = at + 1;
+        if is_symbol(self.toks, behind, PAREN) {
             return self.call_statement(at, room);
         }
-        if is_symbol(self.toks, at + 1, SENDS) || is_symbol(self.toks, at + 1, AT_SIGN) {
+        if sends(self.toks, behind) {
             return self.transfer(at, room);
         }
-        if is_symbol(self.toks, at + 1, RECEIVES) || is_word(self.toks, at + 1, WHEN_WORD) {
+        if receives(self.toks, behind) {
             return self.input_statement(at, room);
         }
-        if !self.assigns(at + 1) {
-            return Err(Stop::Wrong(at + 1));
+        if !assigns(self.toks, behind) {
+            return Err(Stop::Wrong(behind));
         }
         if room == 0 {
-            return Err(Stop::Deep(at + 1));
+            return Err(Stop::Deep(behind));
         }
         let assign = self.assign(at, room)?;
         let semicolon = self.symbol(assign.end, SEMICOLON)?;
         Ok(self.whole(at, semicolon.end, 0, assign.value))
-    }
-
-    /// Whether a token that an assignment can go on with behind a name stands at a place.
-    fn assigns(&self, at: usize) -> bool
-        ensures yes { IsTrue result → OneOf self.now.toks.now at assigning }
-        ensures no { (result ≡ false) → OneOf self.now.toks.now at assigning → ⊥ }
-    {
-        is_symbol(self.toks, at, EQUALS)
-            || is_symbol(self.toks, at, BRACKET)
-            || is_symbol(self.toks, at, PLUS_PLUS)
-            || is_symbol(self.toks, at, MINUS_MINUS)
-            || self.assign_op(at).is_ok()
     }
 
     /// A call as a statement, with room for so many nodes inside it.
@@ -276,15 +277,19 @@ impl<'a> Parser<'a> {
         ensures read { IfOk result (λ r. Reads self.now.toks.now (room + 1) symbol.statement at r.end (trees.statement_of r.value)) }
         ensures stopped { IfErr result (λ e. Stopped self.now.toks.now (room + 1) symbol.statement at e) }
     {
-        if is_symbol(self.toks, at + 1, SEMICOLON) {
-            return Ok(self.whole(at, at + 2, 0, St::Return(None)));
+        let behind = at + 1;
+        if is_symbol(self.toks, behind, SEMICOLON) {
+            return Ok(self.whole(at, behind + 1, 0, St::Return(None)));
         }
-        let right = self.rhs(at + 1, room)?;
-        let semicolon = self.symbol(right.end, SEMICOLON)?;
-        let Some(value) = right.value else {
-            return Err(Stop::Deep(right.end));
+        let Read { value, end } = self.rhs(behind, room)?;
+        let Some(right) = value else {
+            if is_symbol(self.toks, end, SEMICOLON) {
+                return Err(Stop::Deep(end));
+            }
+            return Err(Stop::Wrong(end));
         };
-        Ok(self.whole(at, semicolon.end, 0, St::Return(Some(value))))
+        let semicolon = self.symbol(end, SEMICOLON)?;
+        Ok(self.whole(at, semicolon.end, 0, St::Return(Some(right))))
     }
 
     /// An `if`, with room for so many nodes inside it. An `else` belongs to the nearest `if`.
@@ -342,5 +347,50 @@ fn first_by_word(word: u8) -> Option<First>
         MASTER_WORD => Some(First::Master),
         SLAVE_WORD => Some(First::Slave),
         _ => None,
+    }
+}
+
+/// Whether a token that an output can go on with behind a name stands at a place.
+fn sends(toks: &[Tok], at: usize) -> bool
+    ensures yes { IsTrue result → OneOf toks.now at (sym 24 ∷ sym 23 ∷ []) }
+    ensures no { (result ≡ false) → OneOf toks.now at (sym 24 ∷ sym 23 ∷ []) → ⊥ }
+{
+    is_symbol(toks, at, SENDS) || is_symbol(toks, at, AT_SIGN)
+}
+
+/// Whether a token that an input can go on with behind a name stands at a place.
+fn receives(toks: &[Tok], at: usize) -> bool
+    ensures yes { IsTrue result → OneOf toks.now at (sym 25 ∷ key 28 ∷ []) }
+    ensures no { (result ≡ false) → OneOf toks.now at (sym 25 ∷ key 28 ∷ []) → ⊥ }
+{
+    is_symbol(toks, at, RECEIVES) || is_word(toks, at, WHEN_WORD)
+}
+
+/// Whether a token that an assignment can go on with behind a name stands at a place.
+fn assigns(toks: &[Tok], at: usize) -> bool
+    ensures yes { IsTrue result → OneOf toks.now at assigning }
+    ensures no { (result ≡ false) → OneOf toks.now at assigning → ⊥ }
+{
+    if at >= toks.len() {
+        return false;
+    }
+    match &toks[at].kind {
+        Kind::Sym(symbol) => assigns_by(*symbol),
+        Kind::Key(_) => false,
+        Kind::Name(_) => false,
+        Kind::Num(..) => false,
+    }
+}
+
+/// Whether an assignment can go on with this symbol behind a name: `[`, `=`, `++`, `--`, or an operator and `=`.
+fn assigns_by(symbol: u8) -> bool
+    ensures { result ≡ has assigning (sym symbol) }
+{
+    match symbol {
+        BRACKET => true,
+        EQUALS => true,
+        PLUS_PLUS | MINUS_MINUS => true,
+        37 | 38 | 39 | 40 | 41 | 42 | 43 | 44 | 45 | 46 => true,
+        _ => false,
     }
 }
