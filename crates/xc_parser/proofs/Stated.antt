@@ -64,6 +64,7 @@ among_assigning {toks} {i} {n} on o = each_of assigning (λ t. StandsAt toks i t
   where
     same : (m : ℕ) → has assigning (sym m) ≡ true → StandsAt toks i (sym m) → has assigning (sym n) ≡ true
     same m h x = let e : Sym n ≡ Sym m = one_kind on x.1 in let f : m ≡ n = cc in subst (λ a. has assigning (sym a) ≡ true) f h
+
     all : Each assigning (λ t. StandsAt toks i t → has assigning (sym n) ≡ true)
     all = (same 22 refl, (same 4 refl, (same 35 refl, (same 36 refl, (same 37 refl, (same 38 refl, (same 39 refl, (same 40 refl, (same 41 refl, (same 42 refl, (same 43 refl, (same 44 refl, (same 45 refl, (same 46 refl, tt))))))))))))))
 

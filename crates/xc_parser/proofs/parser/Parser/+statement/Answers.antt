@@ -1,18 +1,25 @@
 use Rattle.std.proofs.Common.{ap, arith, map, option_map, refl, sym, ◌+◌, ◌-◌, ◌<◌, ◌∙◌, ◌≡◌, ◌≤◌}
 use Rattle.std.proofs.lemmas.List.{map_push}
+use Rattle.xc_parser.proofs.Braces.{opened, item_added, item_stops, closed_block, brace_missing, declared_item, declared_stops, stated_item, stated_stops, transaction_reads, transaction_stops}
 use Rattle.xc_parser.proofs.Branches.{body_stops, branch_added, branch_reads, branch_stops, par_closed, par_opened, par_unopened, place_stops}
 use Rattle.xc_parser.proofs.CaseLists.{case_added, case_missing, case_stops, first_case, select_closed, select_unopened}
-use Rattle.xc_parser.proofs.Counts.{branches_tokens_push, cases_tokens_push, held_branch}
+use Rattle.xc_parser.proofs.Conditionals.{open_stops, test_stops, close_stops, then_stops, then_reads, else_stops, else_reads}
+use Rattle.xc_parser.proofs.Counts.{branches_tokens_push, cases_tokens_push, held_branch, held_block, held_transaction, held_if, held_if_else}
+use Rattle.xc_parser.proofs.Cuts.{on_within}
 use Rattle.xc_parser.proofs.Exits.{handed_on}
 use Rattle.xc_parser.proofs.Insides.{inner_reads, inner_stopped}
 use Rattle.xc_parser.proofs.Lasts.{read_last, stops_last}
 use Rattle.xc_parser.proofs.Paths.{at_symbol, begin, over_word, read, stops}
-use Rattle.xc_tree.proofs.Forms.{action-Par, action-Repl, action-Select, branch-made}
+use Rattle.xc_parser.proofs.Simples.{semicolon_reads, none_begins, deep_begins}
+use Rattle.xc_parser.proofs.Stated.{ok_with, err_with, ok_room, err_room, begins_all, symbol_there, from_place, stopped_from}
+use Rattle.xc_parser.specs.Begun.{token_of}
+use Rattle.xc_tree.proofs.Forms.{action-Par, action-Repl, action-Select, branch-made, action-Empty, action-Block, action-Tran, action-If}
 use Rattle.xc_tree.specs.Plain.{branch_tokens}
-use Rattle.xc_tree.specs.Trees.{place_of}
+use Rattle.xc_tree.specs.Trees.{place_of, expression_of}
 use Rattle.xc_tree.specs.Plain as plain
 use Rattle.xc_tree.specs.Symbol as symbol
 use Rattle.xc_tree.specs.Trees as trees
+use Rattle.xc_parser.proofs.Simples as simples
 use Rattle.xc_parser.proofs.parser.Parser.+statement.Goals as goal
 
 pub branch-returns-in_err-place-clause-stopped : goal.branch-returns-in_err-place-clause-stopped
@@ -316,3 +323,240 @@ pub select-returns-clause-read : goal.select-returns-clause-read
 select-returns-clause-read t c =
     let on = (c.is_symbol.ensures.yes c.cases-test.false).1.1 in
     rw (c.whole.ensures.end, c.whole.ensures.value, action-Select) (select_closed c.cases.invariant.all on)
+
+pub begun-whole-requires-clause-held : goal.begun-whole-requires-clause-held
+begun-whole-requires-clause-held t c = rw action-Empty refl
+
+pub begun-returns-in-Semicolon-clause-read : goal.begun-returns-in-Semicolon-clause-read
+begun-returns-in-Semicolon-clause-read t c =
+    let s = rw c.in-Semicolon.is at c.requires.begins in
+    rw (c.whole.ensures.end, c.whole.ensures.value, action-Empty)
+    (semicolon_reads c.args.self.now.toks.now (c.args.room + 1) c.args.at (omega arith) s.1)
+
+pub begun-returns-in-Brace-clause-read : goal.begun-returns-in-Brace-clause-read
+begun-returns-in-Brace-clause-read t c =
+    let s = rw c.in-Brace.is at c.requires.begins in
+    ok_with _ _ c.braced.result (λ r h. h s) c.braced.ensures.read
+
+pub begun-returns-in-Brace-clause-stopped : goal.begun-returns-in-Brace-clause-stopped
+begun-returns-in-Brace-clause-stopped t c =
+    let s = rw c.in-Brace.is at c.requires.begins in
+    err_with _ _ c.braced.result (λ e h. h s) c.braced.ensures.stopped
+
+pub begun-returns-in-Break-clause-read : goal.begun-returns-in-Break-clause-read
+begun-returns-in-Break-clause-read t c = ok_with _ _ c.jump.result (λ r h. h c.args.room) c.jump.ensures.read
+
+pub begun-returns-in-Break-clause-stopped : goal.begun-returns-in-Break-clause-stopped
+begun-returns-in-Break-clause-stopped t c = err_with _ _ c.jump.result (λ e h. h c.args.room) c.jump.ensures.stopped
+
+pub begun-returns-in-Continue-clause-read : goal.begun-returns-in-Continue-clause-read
+begun-returns-in-Continue-clause-read t c = ok_with _ _ c.jump-2.result (λ r h. h c.args.room) c.jump-2.ensures.read
+
+pub begun-returns-in-Continue-clause-stopped : goal.begun-returns-in-Continue-clause-stopped
+begun-returns-in-Continue-clause-stopped t c = err_with _ _ c.jump-2.result (λ e h. h c.args.room) c.jump-2.ensures.stopped
+
+pub begun-simple-requires-clause-name : goal.begun-simple-requires-clause-name
+begun-simple-requires-clause-name t c = rw c.in-Name.is at c.requires.begins
+
+pub begun-conditional-requires-clause-word : goal.begun-conditional-requires-clause-word
+begun-conditional-requires-clause-word t c = rw c.in-If.is at c.requires.begins
+
+pub begun-while_loop-requires-clause-word : goal.begun-while_loop-requires-clause-word
+begun-while_loop-requires-clause-word t c = rw c.in-While.is at c.requires.begins
+
+pub begun-do_loop-requires-clause-word : goal.begun-do_loop-requires-clause-word
+begun-do_loop-requires-clause-word t c = rw c.in-Do.is at c.requires.begins
+
+pub begun-for_loop-requires-clause-word : goal.begun-for_loop-requires-clause-word
+begun-for_loop-requires-clause-word t c = rw c.in-For.is at c.requires.begins
+
+pub begun-return_statement-requires-clause-word : goal.begun-return_statement-requires-clause-word
+begun-return_statement-requires-clause-word t c = rw c.in-Return.is at c.requires.begins
+
+pub begun-jump-requires-clause-word : goal.begun-jump-requires-clause-word
+begun-jump-requires-clause-word t c = rw c.in-Break.is at c.requires.begins
+
+pub begun-jump-requires-2-clause-word : goal.begun-jump-requires-2-clause-word
+begun-jump-requires-2-clause-word t c = rw c.in-Continue.is at c.requires.begins
+
+pub begun-par-requires-clause-word : goal.begun-par-requires-clause-word
+begun-par-requires-clause-word t c = rw c.in-Par.is at c.requires.begins
+
+pub begun-select-requires-clause-word : goal.begun-select-requires-clause-word
+begun-select-requires-clause-word t c = rw c.in-Select.is at c.requires.begins
+
+pub begun-transaction-requires-clause-word : goal.begun-transaction-requires-clause-word
+begun-transaction-requires-clause-word t c = rw c.in-Master.is at c.requires.begins
+
+pub begun-transaction-requires-2-clause-word : goal.begun-transaction-requires-2-clause-word
+begun-transaction-requires-2-clause-word t c = rw c.in-Slave.is at c.requires.begins
+
+pub statement-returns-in_default-clause-stopped : goal.statement-returns-in_default-clause-stopped
+statement-returns-in_default-clause-stopped t c = none_begins c.args.self.now.toks.now c.args.room c.args.at c.in_default.ensures.none
+
+pub statement-returns-then-room-eq0-clause-stopped : goal.statement-returns-then-room-eq0-clause-stopped
+statement-returns-then-room-eq0-clause-stopped t c =
+    rw c.if-room-eq0.true (deep_begins c.args.self.now.toks.now 0 c.args.at (token_of c.in-Some.first) c.in-Some.ensures.some.1 (begins_all c.in-Some.first))
+
+pub statement-returns-clause-read : goal.statement-returns-clause-read
+statement-returns-clause-read t c =
+    let e : c.args.room - 1 + 1 ≡ c.args.room = omega arith in
+    ok_room c.args.self.now.toks.now symbol.statement c.args.at _ _ e c.begun.result c.begun.ensures.read
+
+pub statement-returns-clause-stopped : goal.statement-returns-clause-stopped
+statement-returns-clause-stopped t c =
+    let e : c.args.room - 1 + 1 ≡ c.args.room = omega arith in
+    err_room c.args.self.now.toks.now symbol.statement c.args.at e c.begun.result c.begun.ensures.stopped
+
+pub braced-returns-in_err-block-clause-stopped : goal.braced-returns-in_err-block-clause-stopped
+braced-returns-in_err-block-clause-stopped t c =
+    handed_on _ c.from_residual.result c.from_residual.ensures.1
+    (λ s. simples.block_stops c.args.self.now.toks.now c.args.room c.args.at _ s.1 c.in_err-block.ensures.stopped)
+
+pub braced-returns-in_err-block-clause-no_body : goal.braced-returns-in_err-block-clause-no_body
+braced-returns-in_err-block-clause-no_body t c =
+    handed_on _ c.from_residual.result c.from_residual.ensures.1
+    (simples.body_stops c.args.self.now.toks.now c.args.room c.args.at _ c.in_err-block.ensures.stopped)
+
+pub braced-whole-requires-clause-held : goal.braced-whole-requires-clause-held
+braced-whole-requires-clause-held t c = rw action-Block (held_block c.in_ok-block.ensures.read.derives)
+
+pub braced-returns-clause-read : goal.braced-returns-clause-read
+braced-returns-clause-read t c = λ s.
+    rw (c.whole.ensures.end, c.whole.ensures.value, action-Block)
+    (simples.block_reads c.args.self.now.toks.now c.args.room c.args.at s.1 c.in_ok-block.ensures.read)
+
+pub braced-returns-clause-body : goal.braced-returns-clause-body
+braced-returns-clause-body t c =
+    rw (c.whole.ensures.end, c.whole.ensures.value, action-Block)
+    (simples.body_reads c.args.self.now.toks.now c.args.room c.args.at c.in_ok-block.ensures.read)
+
+pub block-returns-in_err-open-clause-stopped : goal.block-returns-in_err-open-clause-stopped
+block-returns-in_err-open-clause-stopped t c =
+    handed_on _ c.from_residual.result c.from_residual.ensures.1
+    (brace_missing c.args.self.now.toks.now c.args.room c.args.at _ (c.in_err-open.ensures.stopped c.args.room))
+
+pub block-items-init : goal.block-items-init
+block-items-init t c =
+    let l = c.in_ok-open.ensures.bounds.0 in
+    record {
+      after = omega (arith, l);
+      within = c.in_ok-open.ensures.bounds.1;
+      holds = rw (c.new-value.ensures, l) (opened (symbol_there (c.in_ok-open.ensures.read 0)));
+    }
+
+pub block-returns-in_err-item-clause-stopped : goal.block-returns-in_err-item-clause-stopped
+block-returns-in_err-item-clause-stopped t c =
+    handed_on _ c.from_residual-in_err-item.result c.from_residual-in_err-item.ensures.1
+    (item_stops c.items.invariant.holds _ (c.is_symbol.ensures.no c.items-test.true) c.in_err-item.ensures.stopped)
+
+pub block-items-preserved : goal.block-items-preserved
+block-items-preserved t c =
+    let after = c.items.invariant.after in
+    let more = c.in_ok-item.ensures.bounds.0 in
+    record {
+      after = omega (arith, after, more);
+      within = c.in_ok-item.ensures.bounds.1;
+      holds = rw (c.in_ok-push.ensures.ok, map_push) (item_added c.items.invariant.holds c.in_ok-item.ensures.read);
+    }
+
+pub block-returns-clause-read : goal.block-returns-clause-read
+block-returns-clause-read t c =
+    closed_block c.items.invariant.holds (c.is_symbol.ensures.yes c.items-test.false).1.1
+
+pub block_item-returns-then-begins_declaration-clause-read : goal.block_item-returns-then-begins_declaration-clause-read
+block_item-returns-then-begins_declaration-clause-read t c =
+    ok_with _ _ c.declaration.result (λ r h. declared_item c.args.self.now.toks.now c.args.room c.args.at (c.begins_declaration.ensures.yes c.if-begins_declaration.true) h) c.declaration.ensures.read
+
+pub block_item-returns-then-begins_declaration-clause-stopped : goal.block_item-returns-then-begins_declaration-clause-stopped
+block_item-returns-then-begins_declaration-clause-stopped t c =
+    err_with _ _ c.declaration.result (λ e h. declared_stops c.args.self.now.toks.now c.args.room c.args.at e (c.begins_declaration.ensures.yes c.if-begins_declaration.true) h) c.declaration.ensures.stopped
+
+pub block_item-returns-clause-read : goal.block_item-returns-clause-read
+block_item-returns-clause-read t c =
+    ok_with _ _ c.statement.result (λ r h. stated_item c.args.self.now.toks.now c.args.room c.args.at (c.begins_declaration.ensures.no c.if-begins_declaration.false) h) c.statement.ensures.read
+
+pub block_item-returns-clause-stopped : goal.block_item-returns-clause-stopped
+block_item-returns-clause-stopped t c =
+    err_with _ _ c.statement.result (λ e h. stated_stops c.args.self.now.toks.now c.args.room c.args.at e (c.begins_declaration.ensures.no c.if-begins_declaration.false) h) c.statement.ensures.stopped
+
+pub transaction-returns-in_err-block-clause-stopped : goal.transaction-returns-in_err-block-clause-stopped
+transaction-returns-in_err-block-clause-stopped t c =
+    handed_on _ c.from_residual.result c.from_residual.ensures.1
+    (transaction_stops c.args.self.now.toks.now c.args.room c.args.at c.args.is_master _ c.requires.word.1 c.in_err-block.ensures.stopped)
+
+pub transaction-whole-requires-clause-held : goal.transaction-whole-requires-clause-held
+transaction-whole-requires-clause-held t c = rw action-Tran (held_transaction c.args.at c.args.is_master c.in_ok-block.ensures.read.derives)
+
+pub transaction-returns-clause-read : goal.transaction-returns-clause-read
+transaction-returns-clause-read t c =
+    rw (c.whole.ensures.end, c.whole.ensures.value, action-Tran)
+    (transaction_reads c.args.self.now.toks.now c.args.room c.args.at c.args.is_master c.requires.word.1 c.in_ok-block.ensures.read)
+
+pub conditional-returns-in_err-open-clause-stopped : goal.conditional-returns-in_err-open-clause-stopped
+conditional-returns-in_err-open-clause-stopped t c =
+    let w = c.requires.word.1 in
+    handed_on _ c.from_residual.result c.from_residual.ensures.1
+    (open_stops c.args.room w _ (c.in_err-open.ensures.stopped _))
+
+pub conditional-returns-in_err-test-clause-stopped : goal.conditional-returns-in_err-test-clause-stopped
+conditional-returns-in_err-test-clause-stopped t c =
+    let w = c.requires.word.1 in
+    let o = symbol_there (c.in_ok-open.ensures.read 0) in
+    handed_on _ c.from_residual-in_err-test.result c.from_residual-in_err-test.ensures.1
+    (test_stops c.args.room w o _ (stopped_from c.args.self.now.toks.now c.args.room symbol.expr _ c.in_ok-open.ensures.bounds.0 c.in_err-test.ensures.stopped))
+
+pub conditional-returns-in_err-close-clause-stopped : goal.conditional-returns-in_err-close-clause-stopped
+conditional-returns-in_err-close-clause-stopped t c =
+    let w = c.requires.word.1 in
+    let o = symbol_there (c.in_ok-open.ensures.read 0) in
+    let q = from_place c.in_ok-open.ensures.bounds.0 c.in_ok-test.ensures.read in
+    handed_on _ c.from_residual-in_err-close.result c.from_residual-in_err-close.ensures.1
+    (close_stops c.args.room w o q _ (c.in_err-close.ensures.stopped _))
+
+pub conditional-returns-in_err-first-clause-stopped : goal.conditional-returns-in_err-first-clause-stopped
+conditional-returns-in_err-first-clause-stopped t c =
+    let w = c.requires.word.1 in
+    let o = symbol_there (c.in_ok-open.ensures.read 0) in
+    let q = from_place c.in_ok-open.ensures.bounds.0 c.in_ok-test.ensures.read in
+    let l = symbol_there (c.in_ok-close.ensures.read 0) in
+    handed_on _ c.from_residual-in_err-first.result c.from_residual-in_err-first.ensures.1
+    (then_stops c.args.room w o q l _ (stopped_from c.args.self.now.toks.now c.args.room symbol.statement _ c.in_ok-close.ensures.bounds.0 c.in_err-first.ensures.stopped))
+
+pub conditional-whole-requires-clause-held : goal.conditional-whole-requires-clause-held
+conditional-whole-requires-clause-held t c = rw (action-If, c.in_ok-then.ensures.value) (held_if (expression_of c.in_ok-test.test.value) c.in_ok-first.ensures.read.derives)
+
+pub conditional-returns-then-not-is_word-clause-read : goal.conditional-returns-then-not-is_word-clause-read
+conditional-returns-then-not-is_word-clause-read t c =
+    let w = c.requires.word.1 in
+    let o = symbol_there (c.in_ok-open.ensures.read 0) in
+    let q = from_place c.in_ok-open.ensures.bounds.0 c.in_ok-test.ensures.read in
+    let l = symbol_there (c.in_ok-close.ensures.read 0) in
+    let s = from_place c.in_ok-close.ensures.bounds.0 c.in_ok-first.ensures.read in
+    rw (c.whole.ensures.end, c.whole.ensures.value, action-If, c.in_ok-then.ensures.value)
+    (then_reads c.args.room w o q l s (c.is_word.ensures.no c.if-not-is_word.true))
+
+pub conditional-returns-in_err-second-clause-stopped : goal.conditional-returns-in_err-second-clause-stopped
+conditional-returns-in_err-second-clause-stopped t c =
+    let w = c.requires.word.1 in
+    let o = symbol_there (c.in_ok-open.ensures.read 0) in
+    let q = from_place c.in_ok-open.ensures.bounds.0 c.in_ok-test.ensures.read in
+    let l = symbol_there (c.in_ok-close.ensures.read 0) in
+    let s = from_place c.in_ok-close.ensures.bounds.0 c.in_ok-first.ensures.read in
+    let els = (c.is_word.ensures.yes c.if-not-is_word.false).1.1 in
+    handed_on _ c.from_residual-in_err-second.result c.from_residual-in_err-second.ensures.1
+    (else_stops c.args.room w o q l s els _ c.in_err-second.ensures.stopped)
+
+pub conditional-whole-requires-2-clause-held : goal.conditional-whole-requires-2-clause-held
+conditional-whole-requires-2-clause-held t c = rw (action-If, c.in_ok-then.ensures.value, c.in_ok-other.ensures.value) (held_if_else (expression_of c.in_ok-test.test.value) c.in_ok-first.ensures.read.derives c.in_ok-second.ensures.read.derives)
+
+pub conditional-returns-clause-read : goal.conditional-returns-clause-read
+conditional-returns-clause-read t c =
+    let w = c.requires.word.1 in
+    let o = symbol_there (c.in_ok-open.ensures.read 0) in
+    let q = from_place c.in_ok-open.ensures.bounds.0 c.in_ok-test.ensures.read in
+    let l = symbol_there (c.in_ok-close.ensures.read 0) in
+    let s = from_place c.in_ok-close.ensures.bounds.0 c.in_ok-first.ensures.read in
+    let els = (c.is_word.ensures.yes c.if-not-is_word.false).1.1 in
+    rw (c.whole-2.ensures.end, c.whole-2.ensures.value, action-If, c.in_ok-then.ensures.value, c.in_ok-other.ensures.value)
+    (else_reads c.args.room w o q l s els c.in_ok-second.ensures.read)

@@ -1,4 +1,5 @@
 use Rattle.std.proofs.Common.{length, map, ◌+◌, ◌-◌, ◌<◌, ◌≡◌, ◌≤◌}
+use Rattle.xc_parser.proofs.Braces.{Holds}
 use Rattle.xc_parser.proofs.Branches.{Runs}
 use Rattle.xc_parser.proofs.CaseLists.{Cases}
 use Rattle.xc_tree.specs.Plain as plain
@@ -40,3 +41,34 @@ decreases-par l = 8 * l.room + 12
 
 abbrev pub decreases-select : goal.decreases-select
 decreases-select l = 8 * l.room + 12
+
+abbrev pub invariant-block-items : goal.invariant-block-items
+invariant-block-items l = record {
+  after : l.at < l.end;
+  within : l.end ≤ length l.self.toks.now;
+  holds : Holds l.self.toks.now l.room l.at l.end (map trees.statement_of l.value);
+}
+
+abbrev pub decreases-block-items : goal.decreases-block-items
+decreases-block-items l = length l.self.toks.now - l.end
+
+abbrev pub decreases-statement : goal.decreases-statement
+decreases-statement l = 8 * l.room + 6
+
+abbrev pub decreases-block_item : goal.decreases-block_item
+decreases-block_item l = 8 * l.room + 7
+
+abbrev pub decreases-block : goal.decreases-block
+decreases-block l = 8 * l.room + 8
+
+abbrev pub decreases-braced : goal.decreases-braced
+decreases-braced l = 8 * l.room + 9
+
+abbrev pub decreases-transaction : goal.decreases-transaction
+decreases-transaction l = 8 * l.room + 12
+
+abbrev pub decreases-conditional : goal.decreases-conditional
+decreases-conditional l = 8 * l.room + 12
+
+abbrev pub decreases-begun : goal.decreases-begun
+decreases-begun l = 8 * l.room + 13
