@@ -25,12 +25,12 @@ returns-in_err-value-clause-stopped c =
 pub returns-then-is_symbol-2-clause-stopped : goal.returns-then-is_symbol-2-clause-stopped
 returns-then-is_symbol-2-clause-stopped c =
     let u = rw c.in_default.is at c.in_ok-value.ensures.read in
-    return_deep c.args.self.now.toks.now c.args.room c.args.at c.requires.word.1 (c.is_symbol.ensures.no c.if-is_symbol.false) u (c.is_symbol-2.ensures.yes c.if-is_symbol-2.true).1.1
+    return_deep c.args.self.now.toks.now c.args.room c.args.at c.requires.word.1 (c.is_symbol.ensures.no c.if-is_symbol.false) u (c.is_symbol-in_default.ensures.yes c.if-is_symbol-2.true).1.1
 
 pub returns-in_default-clause-stopped : goal.returns-in_default-clause-stopped
 returns-in_default-clause-stopped c =
     let u = rw c.in_default.is at c.in_ok-value.ensures.read in
-    return_wrong c.args.self.now.toks.now c.args.room c.args.at c.requires.word.1 (c.is_symbol.ensures.no c.if-is_symbol.false) u (c.is_symbol-2.ensures.no c.if-is_symbol-2.false)
+    return_wrong c.args.self.now.toks.now c.args.room c.args.at c.requires.word.1 (c.is_symbol.ensures.no c.if-is_symbol.false) u (c.is_symbol-in_default.ensures.no c.if-is_symbol-2.false)
 
 pub returns-in_err-semicolon-clause-stopped : goal.returns-in_err-semicolon-clause-stopped
 returns-in_err-semicolon-clause-stopped c =
