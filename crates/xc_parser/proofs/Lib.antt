@@ -61,4 +61,5 @@ pub mod Runs
 pub mod RightSides
 pub mod Simples
 pub mod Conditionals
+pub mod Rounds
 pub mod Braces

@@ -9,3 +9,4 @@ pub mod Levels
 pub mod Operands
 pub mod RightSides
 pub mod Begun
+pub mod Rounds

@@ -1,10 +1,13 @@
 //! Loops.
 
-ghost use Rattle.std.specs.Prelude.{◌≡◌, ◌+◌, ◌^◌, ◌<◌, ◌≤◌, length, IfOk, IfErr};
+ghost use Rattle.std.specs.Prelude.{◌≡◌, ◌+◌, ◌^◌, ◌<◌, ◌≤◌, length, option_map, IfOk, IfErr};
 ghost use Rattle.xc_tree.specs.Symbol as symbol;
+ghost use Rattle.xc_tree.specs.Symbol.{maybe};
 ghost use Rattle.xc_tree.specs.Trees as trees;
+ghost use Rattle.xc_parser.specs.declared.stop.Stop.TheVariants as stop;
 ghost use Rattle.xc_parser.specs.Follows.{StandsAt};
 ghost use Rattle.xc_parser.specs.Reading.{Reads};
+ghost use Rattle.xc_parser.specs.Rounds.{StopsMaybe, StopsStart, ReadsStart, ReadsParts, NoType};
 ghost use Rattle.xc_parser.specs.Stops.{Stopped};
 
 use crate::declarations::variable;
@@ -73,7 +76,7 @@ impl<'a> Parser<'a> {
         ensures read { IfOk result (λ r. Reads self.now.toks.now (room + 1) symbol.statement at r.end (trees.statement_of r.value)) }
         ensures stopped { IfErr result (λ e. Stopped self.now.toks.now (room + 1) symbol.statement at e) }
     {
-        let parts = self.for_parts(at + 1, room)?;
+        let parts = self.for_parts(at, room)?;
         let body = self.statement(parts.end, room)?;
         let Parts {
             start,
@@ -86,9 +89,15 @@ impl<'a> Parser<'a> {
         Ok(self.whole(at, body.end, all, St::For(start, test, step, boxed)))
     }
 
-    /// What stands between the word of a `for` and its body.
-    fn for_parts(&self, at: usize, room: u32) -> Result<Read<Parts>, Stop> {
-        let open = self.symbol(at, PAREN)?;
+    /// What stands between the word of a `for` and its body, from the word on.
+    fn for_parts(&self, at: usize, room: u32) -> Result<Read<Parts>, Stop>
+        requires short { length self.now.toks.now < 2 ^ 32 }
+        requires word { StandsAt self.now.toks.now at (symbol.key 8) }
+        ensures bounds { IfOk result (λ r. (at < r.end) × (r.end ≤ length self.now.toks.now)) }
+        ensures read { IfOk result (λ r. ReadsParts self.now.toks.now room at r.end r.value) }
+        ensures stopped { IfErr result (λ e. Stopped self.now.toks.now (room + 1) symbol.statement at e) }
+    {
+        let open = self.symbol(at + 1, PAREN)?;
         let start = self.maybe_start(open.end, room)?;
         let first = self.symbol(start.end, SEMICOLON)?;
         let test = self.maybe_expr(first.end, room)?;
@@ -108,7 +117,13 @@ impl<'a> Parser<'a> {
     }
 
     /// The start of a `for`, or none. One that there is no room for is too deep where a `;` stands behind it.
-    fn maybe_start(&self, at: usize, room: u32) -> Result<Read<Option<Stmt>>, Stop> {
+    fn maybe_start(&self, at: usize, room: u32) -> Result<Read<Option<Stmt>>, Stop>
+        requires short { length self.now.toks.now < 2 ^ 32 }
+        requires at { at ≤ length self.now.toks.now }
+        ensures bounds { IfOk result (λ r. (at ≤ r.end) × (r.end ≤ length self.now.toks.now)) }
+        ensures read { IfOk result (λ r. Reads self.now.toks.now room (maybe symbol.for_start) at r.end (option_map trees.statement_of r.value)) }
+        ensures stopped { IfErr result (λ e. StopsStart self.now.toks.now room at e) }
+    {
         if is_symbol(self.toks, at, SEMICOLON) {
             return Ok(Read {
                 value: None,
@@ -126,7 +141,13 @@ impl<'a> Parser<'a> {
     }
 
     /// The start of a `for`: an assignment, or a declaration with an initial value; `None` as for `rhs`.
-    fn for_start(&self, at: usize, room: u32) -> Result<Read<Option<Stmt>>, Stop> {
+    fn for_start(&self, at: usize, room: u32) -> Result<Read<Option<Stmt>>, Stop>
+        requires short { length self.now.toks.now < 2 ^ 32 }
+        requires at { at ≤ length self.now.toks.now }
+        ensures bounds { IfOk result (λ r. (at < r.end) × (r.end ≤ length self.now.toks.now)) }
+        ensures read { IfOk result (λ r. ReadsStart self.now.toks.now room at r.end r.value) }
+        ensures stopped { IfErr result (λ e. Stopped self.now.toks.now room symbol.for_start at e) }
+    {
         if !begins_type(self.toks, at) {
             let step = self.for_step(at, room)?;
             return Ok(Read {
@@ -156,8 +177,16 @@ impl<'a> Parser<'a> {
         })
     }
 
-    /// An assignment as a statement without its `;`.
-    fn for_step(&self, at: usize, room: u32) -> Result<Read<Stmt>, Stop> {
+    /// An assignment as a statement without its `;`, which the start of a `for` is too where no type stands.
+    fn for_step(&self, at: usize, room: u32) -> Result<Read<Stmt>, Stop>
+        requires short { length self.now.toks.now < 2 ^ 32 }
+        requires at { at ≤ length self.now.toks.now }
+        ensures bounds { IfOk result (λ r. (at < r.end) × (r.end ≤ length self.now.toks.now)) }
+        ensures read { IfOk result (λ r. Reads self.now.toks.now room symbol.for_step at r.end (trees.statement_of r.value)) }
+        ensures stopped { IfErr result (λ e. Stopped self.now.toks.now room symbol.for_step at e) }
+        ensures start { IfOk result (λ r. NoType self.now.toks.now at → Reads self.now.toks.now room symbol.for_start at r.end (trees.statement_of r.value)) }
+        ensures no_start { IfErr result (λ e. NoType self.now.toks.now at → Stopped self.now.toks.now room symbol.for_start at e) }
+    {
         if room < 2 {
             if is_name(self.toks, at) {
                 return Err(Stop::Deep(at));
@@ -169,7 +198,13 @@ impl<'a> Parser<'a> {
     }
 
     /// The step of a `for`, or none.
-    fn maybe_step(&self, at: usize, room: u32) -> Result<Read<Option<Stmt>>, Stop> {
+    fn maybe_step(&self, at: usize, room: u32) -> Result<Read<Option<Stmt>>, Stop>
+        requires short { length self.now.toks.now < 2 ^ 32 }
+        requires at { at ≤ length self.now.toks.now }
+        ensures bounds { IfOk result (λ r. (at ≤ r.end) × (r.end ≤ length self.now.toks.now)) }
+        ensures read { IfOk result (λ r. Reads self.now.toks.now room (maybe symbol.for_step) at r.end (option_map trees.statement_of r.value)) }
+        ensures stopped { IfErr result (λ e. StopsMaybe self.now.toks.now room symbol.for_step 1 at e) }
+    {
         if is_symbol(self.toks, at, END_PAREN) {
             return Ok(Read {
                 value: None,
@@ -184,7 +219,12 @@ impl<'a> Parser<'a> {
     }
 
     /// The test of a `for`, or none.
-    fn maybe_expr(&self, at: usize, room: u32) -> Result<Read<Option<Expr>>, Stop> {
+    fn maybe_expr(&self, at: usize, room: u32) -> Result<Read<Option<Expr>>, Stop>
+        requires at { at ≤ length self.now.toks.now }
+        ensures bounds { IfOk result (λ r. (at ≤ r.end) × (r.end ≤ length self.now.toks.now)) }
+        ensures read { IfOk result (λ r. Reads self.now.toks.now room (maybe symbol.expr) at r.end (option_map trees.expression_of r.value)) }
+        ensures stopped { IfErr result (λ e. StopsMaybe self.now.toks.now room symbol.expr 6 at e) }
+    {
         if is_symbol(self.toks, at, SEMICOLON) {
             return Ok(Read {
                 value: None,
@@ -199,7 +239,10 @@ impl<'a> Parser<'a> {
     }
 
     /// A statement in memory of its own, if there is one.
-    fn maybe_boxed(&self, statement: Option<Stmt>) -> Result<Option<Box<Stmt>>, Stop> {
+    fn maybe_boxed(&self, statement: Option<Stmt>) -> Result<Option<Box<Stmt>>, Stop>
+        ensures value { IfOk result (λ b. option_map (λ s. s.value) b ≡ statement) }
+        ensures memory { IfErr result (λ e. e ≡ stop.Memory) }
+    {
         match statement {
             None => Ok(None),
             Some(statement) => Ok(Some(self.boxed(statement)?)),
