@@ -171,3 +171,134 @@ module _ {toks : List Tok} (room : ℕ) {at : ℕ} {p : Pos} (w : On toks at (Ke
 
             pub do_reads : {o : ℕ} {t : Pos} → Reads toks (left (room + 1) 1) (sym 6) n o t → Reads toks (room + 1) statement at o (statement_of (extent toks at o) (plain.do_while s c))
             do_reads x = finish (read (read (read (read (read (read (over_word (begin refl (omega arith)) w refl) (inner_reads room body) refl) word refl) paren refl) (inner_reads room test) refl) close refl) x refl) refl
+
+-- what is open of a `for` behind its word, and behind each part between its brackets
+abbrev behind_for : Pos → List (Rest plain.Statement)
+behind_for p = over (fronts statement) (key 8) p (beginnings statement)
+
+abbrev paren_heads : (p : Pos) → Heads (sym 0) 1 (behind_for p)
+paren_heads p = one_head no_head
+
+abbrev behind_paren : Pos → Pos → List (Rest plain.Statement)
+behind_paren p q = popped (paren_heads p) q
+
+abbrev start_heads : (p q : Pos) → Heads (maybe for_start) 1 (behind_paren p q)
+start_heads p q = one_head no_head
+
+abbrev behind_start : Pos → Pos → Option plain.Statement → List (Rest plain.Statement)
+behind_start p q a = popped (start_heads p q) a
+
+abbrev first_heads : (p q : Pos) (a : Option plain.Statement) → Heads (sym 6) 1 (behind_start p q a)
+first_heads p q a = one_head no_head
+
+abbrev behind_first : Pos → Pos → Option plain.Statement → Pos → List (Rest plain.Statement)
+behind_first p q a r = popped (first_heads p q a) r
+
+abbrev test_heads : (p q : Pos) (a : Option plain.Statement) (r : Pos) → Heads (maybe expr) 1 (behind_first p q a r)
+test_heads p q a r = one_head no_head
+
+abbrev behind_test : Pos → Pos → Option plain.Statement → Pos → Option plain.Expression → List (Rest plain.Statement)
+behind_test p q a r c = popped (test_heads p q a r) c
+
+abbrev second_heads : (p q : Pos) (a : Option plain.Statement) (r : Pos) (c : Option plain.Expression) → Heads (sym 6) 1 (behind_test p q a r c)
+second_heads p q a r c = one_head no_head
+
+abbrev behind_second : Pos → Pos → Option plain.Statement → Pos → Option plain.Expression → Pos → List (Rest plain.Statement)
+behind_second p q a r c s = popped (second_heads p q a r c) s
+
+abbrev step_heads : (p q : Pos) (a : Option plain.Statement) (r : Pos) (c : Option plain.Expression) (s : Pos) → Heads (maybe for_step) 1 (behind_second p q a r c s)
+step_heads p q a r c s = one_head no_head
+
+abbrev behind_step : Pos → Pos → Option plain.Statement → Pos → Option plain.Expression → Pos → Option plain.Statement → List (Rest plain.Statement)
+behind_step p q a r c s b = popped (step_heads p q a r c s) b
+
+abbrev close_heads : (p q : Pos) (a : Option plain.Statement) (r : Pos) (c : Option plain.Expression) (s : Pos) (b : Option plain.Statement) → Heads (sym 1) 1 (behind_step p q a r c s b)
+close_heads p q a r c s b = one_head no_head
+
+abbrev behind_close : Pos → Pos → Option plain.Statement → Pos → Option plain.Expression → Pos → Option plain.Statement → Pos → List (Rest plain.Statement)
+behind_close p q a r c s b t = popped (close_heads p q a r c s b) t
+
+-- a `for`
+module _ {toks : List Tok} (room : ℕ) {at : ℕ} {p : Pos} (w : On toks at (Key 8) p) where
+  at_for : Roomy toks (room + 1) statement at (at + 1) (behind_for p)
+  at_for = over_word (begin refl (omega arith)) w refl
+
+  pub for_open_stops : (e : Stop) → Stopped toks (left (room + 1) 1) (sym 0) (at + 1) e → Stopped toks (room + 1) statement at e
+  for_open_stops e x = stops_all (paren_heads p) e at_for x refl
+
+  module _ {k : ℕ} {q : Pos} (paren : Reads toks (left (room + 1) 1) (sym 0) (at + 1) k q) where
+    at_paren : Roomy toks (room + 1) statement at k (behind_paren p q)
+    at_paren = read_all (paren_heads p) at_for paren refl
+
+    -- a start that was not read with room
+    pub for_start_stops : (e : Stop) → StopsStart toks room k e → Stopped toks (room + 1) statement at e
+    for_start_stops e x = elim x.stops [
+      | inl y ↦ stops e (lacks_symbol 6 (taken at_paren refl) x.lacks) (inner_stopped toks room for_start k e y) refl
+      | inr u ↦ by_end e u.0 u.1 u.2
+    ]
+      where
+        no_end : (j : ℕ) → Lacks toks j 6 → OneOf toks j (sym 6 ∷ []) → ⊥
+        no_end j none o = elim (first_of (sym 6) [] o) [ inl y ↦ none y.0 y.1 | inr y ↦ none_of y ]
+
+        by_end : (e : Stop) (j : ℕ) → Unfit toks room for_start k j → IsEnded toks j e → Stopped toks (room + 1) statement at e
+        by_end (Deep m) j u y = subst (λ n. TooDeep toks (room + 1) statement at n) (sym' y.0) (dead (sym 6) (unfit (lacks_symbol 6 (taken at_paren refl) x.lacks) (inner_unfit room u) refl) y.1 refl (omega arith, tt))
+        by_end (Wrong m) j u y = subst (λ n. Refuses toks (room + 1) statement at n) (sym' y.0) (stuck (no_one (sym 6 ∷ []) (unfit (lacks_symbol 6 (taken at_paren refl) x.lacks) (inner_unfit room u) refl) (no_end j y.1)))
+        by_end Memory j u y = tt
+
+    module _ {l : ℕ} {a : Option plain.Statement} (start : Reads toks room (maybe for_start) k l a) where
+      at_start : Roomy toks (room + 1) statement at l (behind_start p q a)
+      at_start = read_all (start_heads p q) at_paren (inner_reads room start) refl
+
+      pub for_first_stops : (e : Stop) → Stopped toks (left (room + 1) 1) (sym 6) l e → Stopped toks (room + 1) statement at e
+      for_first_stops e x = stops_all (first_heads p q a) e at_start x refl
+
+      module _ {m : ℕ} {r : Pos} (semicolon : Reads toks (left (room + 1) 1) (sym 6) l m r) where
+        at_first : Roomy toks (room + 1) statement at m (behind_first p q a r)
+        at_first = read_all (first_heads p q a) at_start semicolon refl
+
+        pub for_test_stops : (e : Stop) → StopsMaybe toks room expr 6 m e → Stopped toks (room + 1) statement at e
+        for_test_stops e x = stops e (lacks_symbol 6 (taken at_first refl) x.lacks) (inner_stopped toks room expr m e x.stops) refl
+
+        module _ {n : ℕ} {c : Option plain.Expression} (test : Reads toks room (maybe expr) m n c) where
+          at_test : Roomy toks (room + 1) statement at n (behind_test p q a r c)
+          at_test = read_all (test_heads p q a r) at_first (inner_reads room test) refl
+
+          pub for_second_stops : (e : Stop) → Stopped toks (left (room + 1) 1) (sym 6) n e → Stopped toks (room + 1) statement at e
+          for_second_stops e x = stops_all (second_heads p q a r c) e at_test x refl
+
+          module _ {o : ℕ} {s : Pos} (second : Reads toks (left (room + 1) 1) (sym 6) n o s) where
+            at_second : Roomy toks (room + 1) statement at o (behind_second p q a r c s)
+            at_second = read_all (second_heads p q a r c) at_test second refl
+
+            pub for_step_stops : (e : Stop) → StopsMaybe toks room for_step 1 o e → Stopped toks (room + 1) statement at e
+            for_step_stops e x = stops e (lacks_symbol 1 (taken at_second refl) x.lacks) (inner_stopped toks room for_step o e x.stops) refl
+
+            module _ {h : ℕ} {b : Option plain.Statement} (step : Reads toks room (maybe for_step) o h b) where
+              at_step : Roomy toks (room + 1) statement at h (behind_step p q a r c s b)
+              at_step = read_all (step_heads p q a r c s) at_second (inner_reads room step) refl
+
+              pub for_close_stops : (e : Stop) → Stopped toks (left (room + 1) 1) (sym 1) h e → Stopped toks (room + 1) statement at e
+              for_close_stops e x = stops_all (close_heads p q a r c s b) e at_step x refl
+
+              module _ {i : ℕ} {t : Pos} (close : Reads toks (left (room + 1) 1) (sym 1) h i t) where
+                at_close : Roomy toks (room + 1) statement at i (behind_close p q a r c s b t)
+                at_close = read_all (close_heads p q a r c s b) at_step close refl
+
+                pub for_body_stops : (e : Stop) → Stopped toks room statement i e → Stopped toks (room + 1) statement at e
+                for_body_stops e x = stops_last e at_close (inner_stopped toks room statement i e x) refl (λ e x h. h)
+
+                pub for_reads : {g : ℕ} {v : plain.Statement} → Reads toks room statement i g v → Reads toks (room + 1) statement at g (statement_of (extent toks at g) (plain.for_loop (plain.maybe a) c (plain.maybe b) v))
+                for_reads x = read_last at_close (inner_reads room x) refl refl (λ e x h. h)
+
+-- what is in memory of its own, or absent
+pub maybe_made : (o : Option (Box Stmt Global)) → trees.maybe_of o ≡ plain.maybe (option_map (λ b. trees.statement_of b.value) o)
+maybe_made None = refl
+maybe_made (Some s) = refl
+
+pub boxed_values : (o : Option (Box Stmt Global)) → option_map (λ b. trees.statement_of b.value) o ≡ option_map trees.statement_of (option_map (λ b. b.value) o)
+boxed_values None = refl
+boxed_values (Some s) = refl
+
+-- a start or a step that was read, in memory of its own
+pub boxed_is : {s : Option Stmt} (o : Option (Box Stmt Global)) → option_map (λ b. b.value) o ≡ s → option_map (λ b. trees.statement_of b.value) o ≡ option_map trees.statement_of s
+boxed_is o e = boxed_values o ∙ ap (λ x. option_map trees.statement_of x) e

@@ -130,14 +130,17 @@ impl<'a> Parser<'a> {
                 end: at,
             });
         }
-        let start = self.for_start(at, room)?;
-        if start.value.is_none() {
-            if is_symbol(self.toks, start.end, SEMICOLON) {
-                return Err(Stop::Deep(start.end));
+        let Read { value, end } = self.for_start(at, room)?;
+        let Some(start) = value else {
+            if is_symbol(self.toks, end, SEMICOLON) {
+                return Err(Stop::Deep(end));
             }
-            return Err(Stop::Wrong(start.end));
-        }
-        Ok(start)
+            return Err(Stop::Wrong(end));
+        };
+        Ok(Read {
+            value: Some(start),
+            end,
+        })
     }
 
     /// The start of a `for`: an assignment, or a declaration with an initial value; `None` as for `rhs`.
