@@ -2,17 +2,18 @@ use Rattle.std.proofs.Common.{ap, arith, map, option_map, refl, sym, ◌+◌, �
 use Rattle.std.proofs.lemmas.List.{map_push}
 use Rattle.xc_parser.proofs.Branches.{body_stops, branch_added, branch_reads, branch_stops, par_closed, par_opened, par_unopened, place_stops}
 use Rattle.xc_parser.proofs.CaseLists.{case_added, case_missing, case_stops, first_case, select_closed, select_unopened}
-use Rattle.xc_parser.proofs.Counts.{branches_tokens_push, cases_tokens_push, held_branch}
+use Rattle.xc_parser.proofs.Counts.{branches_tokens_push, cases_tokens_push, held_branch, held_while, held_do, held_for}
 use Rattle.xc_parser.proofs.Exits.{handed_on}
 use Rattle.xc_parser.proofs.Insides.{inner_reads, inner_stopped}
 use Rattle.xc_parser.proofs.Lasts.{read_last, stops_last}
 use Rattle.xc_parser.proofs.Paths.{at_symbol, begin, over_word, read, stops}
-use Rattle.xc_tree.proofs.Forms.{action-Par, action-Repl, action-Select, branch-made}
+use Rattle.xc_tree.proofs.Forms.{action-Par, action-Repl, action-Select, branch-made, action-While, action-DoWhile, action-For}
 use Rattle.xc_tree.specs.Plain.{branch_tokens}
 use Rattle.xc_tree.specs.Trees.{place_of}
 use Rattle.xc_tree.specs.Plain as plain
 use Rattle.xc_tree.specs.Symbol as symbol
 use Rattle.xc_tree.specs.Trees as trees
+use Rattle.xc_parser.proofs.Rounds.{while_open_stops, while_test_stops, while_close_stops, while_body_stops, while_reads, do_body_stops, do_word_stops, do_open_stops, do_test_stops, do_close_stops, do_end_stops, do_reads, for_body_stops, for_reads, maybe_made}
 use Rattle.xc_parser.proofs.parser.Parser.+statement.Goals as goal
 
 pub branch-returns-in_err-place-clause-stopped : goal.branch-returns-in_err-place-clause-stopped
@@ -316,3 +317,91 @@ pub select-returns-clause-read : goal.select-returns-clause-read
 select-returns-clause-read t c =
     let on = (c.is_symbol.ensures.yes c.cases-test.false).1.1 in
     rw (c.whole.ensures.end, c.whole.ensures.value, action-Select) (select_closed c.cases.invariant.all on)
+
+pub while_loop-returns-in_err-open-clause-stopped : goal.while_loop-returns-in_err-open-clause-stopped
+while_loop-returns-in_err-open-clause-stopped t c =
+    handed_on _ c.from_residual.result c.from_residual.ensures.1
+    (while_open_stops c.args.room c.requires.word.1 _ (c.in_err-open.ensures.stopped _))
+
+pub while_loop-returns-in_err-test-clause-stopped : goal.while_loop-returns-in_err-test-clause-stopped
+while_loop-returns-in_err-test-clause-stopped t c =
+    handed_on _ c.from_residual-in_err-test.result c.from_residual-in_err-test.ensures.1
+    (while_test_stops c.args.room c.requires.word.1 (c.in_ok-open.ensures.read _) _ c.in_err-test.ensures.stopped)
+
+pub while_loop-returns-in_err-close-clause-stopped : goal.while_loop-returns-in_err-close-clause-stopped
+while_loop-returns-in_err-close-clause-stopped t c =
+    handed_on _ c.from_residual-in_err-close.result c.from_residual-in_err-close.ensures.1
+    (while_close_stops c.args.room c.requires.word.1 (c.in_ok-open.ensures.read _) c.in_ok-test.ensures.read _ (c.in_err-close.ensures.stopped _))
+
+pub while_loop-returns-in_err-body-clause-stopped : goal.while_loop-returns-in_err-body-clause-stopped
+while_loop-returns-in_err-body-clause-stopped t c =
+    handed_on _ c.from_residual-in_err-body.result c.from_residual-in_err-body.ensures.1
+    (while_body_stops c.args.room c.requires.word.1 (c.in_ok-open.ensures.read _) c.in_ok-test.ensures.read (c.in_ok-close.ensures.read _) _ c.in_err-body.ensures.stopped)
+
+pub while_loop-whole-requires-clause-held : goal.while_loop-whole-requires-clause-held
+while_loop-whole-requires-clause-held t c = rw (action-While, c.in_ok-boxed.ensures.value) (held_while _ c.in_ok-body.ensures.read.derives)
+
+pub while_loop-returns-clause-read : goal.while_loop-returns-clause-read
+while_loop-returns-clause-read t c =
+    rw (c.whole.ensures.end, c.whole.ensures.value, action-While, c.in_ok-boxed.ensures.value)
+    (while_reads c.args.room c.requires.word.1 (c.in_ok-open.ensures.read _) c.in_ok-test.ensures.read (c.in_ok-close.ensures.read _) c.in_ok-body.ensures.read)
+
+pub do_loop-returns-in_err-body-clause-stopped : goal.do_loop-returns-in_err-body-clause-stopped
+do_loop-returns-in_err-body-clause-stopped t c =
+    handed_on _ c.from_residual.result c.from_residual.ensures.1
+    (do_body_stops c.args.room c.requires.word.1 _ c.in_err-body.ensures.stopped)
+
+pub do_loop-returns-in_err-word-clause-stopped : goal.do_loop-returns-in_err-word-clause-stopped
+do_loop-returns-in_err-word-clause-stopped t c =
+    handed_on _ c.from_residual-in_err-word.result c.from_residual-in_err-word.ensures.1
+    (do_word_stops c.args.room c.requires.word.1 c.in_ok-body.ensures.read _ (c.in_err-word.ensures.stopped _))
+
+pub do_loop-returns-in_err-open-clause-stopped : goal.do_loop-returns-in_err-open-clause-stopped
+do_loop-returns-in_err-open-clause-stopped t c =
+    handed_on _ c.from_residual-in_err-open.result c.from_residual-in_err-open.ensures.1
+    (do_open_stops c.args.room c.requires.word.1 c.in_ok-body.ensures.read (c.in_ok-word.ensures.read _) _ (c.in_err-open.ensures.stopped _))
+
+pub do_loop-returns-in_err-test-clause-stopped : goal.do_loop-returns-in_err-test-clause-stopped
+do_loop-returns-in_err-test-clause-stopped t c =
+    handed_on _ c.from_residual-in_err-test.result c.from_residual-in_err-test.ensures.1
+    (do_test_stops c.args.room c.requires.word.1 c.in_ok-body.ensures.read (c.in_ok-word.ensures.read _) (c.in_ok-open.ensures.read _) _ c.in_err-test.ensures.stopped)
+
+pub do_loop-returns-in_err-close-clause-stopped : goal.do_loop-returns-in_err-close-clause-stopped
+do_loop-returns-in_err-close-clause-stopped t c =
+    handed_on _ c.from_residual-in_err-close.result c.from_residual-in_err-close.ensures.1
+    (do_close_stops c.args.room c.requires.word.1 c.in_ok-body.ensures.read (c.in_ok-word.ensures.read _) (c.in_ok-open.ensures.read _) c.in_ok-test.ensures.read _ (c.in_err-close.ensures.stopped _))
+
+pub do_loop-returns-in_err-semicolon-clause-stopped : goal.do_loop-returns-in_err-semicolon-clause-stopped
+do_loop-returns-in_err-semicolon-clause-stopped t c =
+    handed_on _ c.from_residual-in_err-semicolon.result c.from_residual-in_err-semicolon.ensures.1
+    (do_end_stops c.args.room c.requires.word.1 c.in_ok-body.ensures.read (c.in_ok-word.ensures.read _) (c.in_ok-open.ensures.read _) c.in_ok-test.ensures.read (c.in_ok-close.ensures.read _) _ (c.in_err-semicolon.ensures.stopped _))
+
+pub do_loop-whole-requires-clause-held : goal.do_loop-whole-requires-clause-held
+do_loop-whole-requires-clause-held t c = rw (action-DoWhile, c.in_ok-boxed.ensures.value) (held_do c.args.at _ c.in_ok-body.ensures.read.derives)
+
+pub do_loop-returns-clause-read : goal.do_loop-returns-clause-read
+do_loop-returns-clause-read t c =
+    rw (c.whole.ensures.end, c.whole.ensures.value, action-DoWhile, c.in_ok-boxed.ensures.value)
+    (do_reads c.args.room c.requires.word.1 c.in_ok-body.ensures.read (c.in_ok-word.ensures.read _) (c.in_ok-open.ensures.read _) c.in_ok-test.ensures.read (c.in_ok-close.ensures.read _) (c.in_ok-semicolon.ensures.read _))
+
+pub for_loop-returns-in_err-parts-clause-stopped : goal.for_loop-returns-in_err-parts-clause-stopped
+for_loop-returns-in_err-parts-clause-stopped t c =
+    handed_on _ c.from_residual.result c.from_residual.ensures.1 c.in_err-parts.ensures.stopped
+
+pub for_loop-returns-in_err-body-clause-stopped : goal.for_loop-returns-in_err-body-clause-stopped
+for_loop-returns-in_err-body-clause-stopped t c =
+    let r = c.in_ok-parts.ensures.read in
+    handed_on _ c.from_residual-in_err-body.result c.from_residual-in_err-body.ensures.1
+    (for_body_stops c.args.room c.requires.word.1 (r.opens _) r.starts (r.ends_start _) r.tests (r.ends_test _) r.steps (r.closes _) _ c.in_err-body.ensures.stopped)
+
+pub for_loop-whole-requires-clause-held : goal.for_loop-whole-requires-clause-held
+for_loop-whole-requires-clause-held t c =
+    let r = c.in_ok-parts.ensures.read in
+    rw (action-For, maybe_made, r.has_start, r.has_step, r.held, c.in_ok-boxed.ensures.value)
+    (held_for _ r.starts.derives r.steps.derives c.in_ok-body.ensures.read.derives)
+
+pub for_loop-returns-clause-read : goal.for_loop-returns-clause-read
+for_loop-returns-clause-read t c =
+    let r = c.in_ok-parts.ensures.read in
+    rw (c.whole.ensures.end, c.whole.ensures.value, action-For, maybe_made, r.has_start, r.has_step, c.in_ok-boxed.ensures.value)
+    (for_reads c.args.room c.requires.word.1 (r.opens _) r.starts (r.ends_start _) r.tests (r.ends_test _) r.steps (r.closes _) c.in_ok-body.ensures.read)

@@ -40,3 +40,12 @@ decreases-par l = 8 * l.room + 12
 
 abbrev pub decreases-select : goal.decreases-select
 decreases-select l = 8 * l.room + 12
+
+abbrev pub decreases-while_loop : goal.decreases-while_loop
+decreases-while_loop l = 8 * l.room + 12
+
+abbrev pub decreases-do_loop : goal.decreases-do_loop
+decreases-do_loop l = 8 * l.room + 12
+
+abbrev pub decreases-for_loop : goal.decreases-for_loop
+decreases-for_loop l = 8 * l.room + 12
