@@ -94,6 +94,7 @@ impl<'a> Parser<'a> {
         requires short { length self.now.toks.now < 2 ^ 32 }
         requires word { StandsAt self.now.toks.now at (symbol.key 8) }
         ensures bounds { IfOk result (λ r. (at < r.end) × (r.end ≤ length self.now.toks.now)) }
+        ensures held { IfOk result (λ r. at + r.value.held ≤ r.end) }
         ensures read { IfOk result (λ r. ReadsParts self.now.toks.now room at r.end r.value) }
         ensures stopped { IfErr result (λ e. Stopped self.now.toks.now (room + 1) symbol.statement at e) }
     {
@@ -105,11 +106,13 @@ impl<'a> Parser<'a> {
         let step = self.maybe_step(second.end, room)?;
         let close = self.symbol(step.end, END_PAREN)?;
         let held = (start.end - open.end) + (step.end - second.end);
+        let begun = self.maybe_boxed(start.value)?;
+        let stepped = self.maybe_boxed(step.value)?;
         Ok(Read {
             value: Parts {
-                start: self.maybe_boxed(start.value)?,
+                start: begun,
                 test: test.value,
-                step: self.maybe_boxed(step.value)?,
+                step: stepped,
                 held,
             },
             end: close.end,

@@ -59,7 +59,7 @@ returns-clause-read c = record {
   ends_test = c.in_ok-second.ensures.read;
   steps = c.in_ok-step.ensures.read;
   closes = c.in_ok-close.ensures.read;
-  has_start = boxed_is _ c.in_ok-branch.ensures.value;
-  has_step = boxed_is _ c.in_ok-branch-2.ensures.value;
+  has_start = boxed_is _ c.in_ok-begun.ensures.value;
+  has_step = boxed_is _ c.in_ok-stepped.ensures.value;
   held = refl;
 }
