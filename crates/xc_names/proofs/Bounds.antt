@@ -5,15 +5,9 @@ use Rattle.xc_tree.specs.Plain as plain
 use Rattle.xc_tree.specs.Names.Marks.{of_item, of_items, of_program, optional, of_place, declares}
 use Rattle.xc_tree.specs.declared.names.What.TheVariants as what
 use Rattle.xc_tree.specs.Names.Uses.{declarations}
+use Rattle.xc_tree.specs.Derives.{unlimited}
 use Rattle.xc_tree.specs.Programs.{IsParsed}
-use Rattle.xc_names.proofs.Numbers.{declarations_append}
-
--- the names that marks declare
-abbrev pub count : List Mark → ℕ
-count ms = length (declarations ms)
-
-pub count_append : (xs ys : List Mark) → count (xs ++ ys) ≡ count xs + count ys
-count_append xs ys = ap length (declarations_append xs ys) ∙ length-append (declarations xs) (declarations ys)
+use Rattle.xc_names.proofs.Declared.{count, count_append, program_bounded}
 
 item_counts : (k : ℕ) (i : plain.Item) → 1 ≤ count (of_item k i)
 item_counts k (plain.port p) = let e = count_append (optional of_place p.place) (declares p.name (what.Port p.dir) ∷ []) in omega arith
@@ -32,4 +26,5 @@ unfolding of_program
 few_items program = items_count 0 program
 
 pub few_names : (program : List plain.Item) → IsParsed program → count (of_program program) < 2 ^ 32
-few_names program p = ?
+unfolding of_program
+few_names program p = let e = program_bounded p.toks unlimited program p.derived in let f = p.few in omega arith

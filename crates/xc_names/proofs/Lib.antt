@@ -17,4 +17,5 @@ pub mod Callees
 pub mod Searches
 pub mod Cycles
 pub mod Together
+pub mod Declared
 pub mod Bounds
