@@ -27,7 +27,7 @@ not_after_trans a b c (inr h) (inr k) = inr (h.0 ∙ k.0, let x = h.1 in let y =
 one_place : (p q : Pos) → p.line ≡ q.line → p.col ≡ q.col → p ≡ q
 one_place p q e f = λ j. record { line = e j; col = f j }
 
-before : (a b : Broken) → comes_before a b ≡ true → IsNotAfter a b
+pub before : (a b : Broken) → comes_before a b ≡ true → IsNotAfter a b
 before a b h = by split
   where
     split : (a.pos.line < b.pos.line) ⊎ ((a.pos.line ≡ b.pos.line) × ((a.pos.col < b.pos.col) ⊎ ((a.pos.col ≡ b.pos.col) × (a.rule < b.rule))))
@@ -38,7 +38,7 @@ before a b h = by split
     by (inr (x, inl y)) = inl (inr (x, y))
     by (inr (x, inr y)) = inr (one_place a.pos b.pos x y.0, let z = y.1 in omega arith)
 
-not_before : (a b : Broken) → comes_before a b ≡ false → IsNotAfter b a
+pub not_before : (a b : Broken) → comes_before a b ≡ false → IsNotAfter b a
 not_before a b h = by split
   where
     split : (b.pos.line < a.pos.line) ⊎ ((b.pos.line ≡ a.pos.line) × ((b.pos.col < a.pos.col) ⊎ ((b.pos.col ≡ a.pos.col) × (b.rule ≤ a.rule))))

@@ -15,7 +15,6 @@ pub mod Identifiers
 pub mod PortRules
 pub mod Callees
 pub mod Searches
+pub mod Graphs
 pub mod Cycles
 pub mod Together
-pub mod Declared
-pub mod Bounds

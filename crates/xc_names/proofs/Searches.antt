@@ -56,7 +56,7 @@ module _ (ks : List ℕ) (h : ℕ) where
 
 module _ (ms : List Mark) (meant : List (Option ℕ)) where
   -- one place has at most one call
-  one_call : (u : ℕ) (p q : Pos) (g h : ℕ) → IsCall ms meant u p g → IsCall ms meant u q h → (p ≡ q) × (g ≡ h)
+  pub one_call : (u : ℕ) (p q : Pos) (g h : ℕ) → IsCall ms meant u p g → IsCall ms meant u q h → (p ≡ q) × (g ≡ h)
   one_call u p q g h a b =
       let marks : a.mark ≡ b.mark = some_same _ _ (sym a.there ∙ b.there) in
       let places : a.place ≡ b.place = some_same _ _ (some_same _ _ (sym a.means ∙ b.means)) in

@@ -11,5 +11,6 @@ pub mod Taken
 pub mod PortRules
 pub mod Callees
 pub mod Searches
+pub mod Graphs
 pub mod Cycles
 pub mod Errors

@@ -1,9 +1,9 @@
-ghost use Rattle.std.specs.Prelude.{◌≡◌, ◌+◌, ◌<◌, ◌≤◌, ◌^◌, length, nat_eq, IfSome, IfOk, OnOk};
+ghost use Rattle.std.specs.Prelude.{◌≡◌, ◌+◌, ◌<◌, ◌^◌, length, nat_eq, IfSome, IfOk, OnOk};
 ghost use Rattle.xc_names.specs.Callees.{called_at, declared_function as declared_function_of, FoundCall, function_of};
 ghost use Rattle.indexmap.specs.IndexSet.{insert_key};
 ghost use Rattle.xc_names.specs.Least.{IsLeastOf};
 ghost use Rattle.xc_names.specs.Meanings.{AreMeanings};
-ghost use Rattle.xc_names.specs.Searches.{Adds, AddsNext, AreBounds, AreWithin, back_of, IsBackBefore, IsBackIn, IsBackTo, IsBackToOne};
+ghost use Rattle.xc_names.specs.Searches.{Adds, AddsNext, AreBounds, AreWithin, back_of, IsBackBefore, IsBackIn, IsBackTo};
 
 use crate::least::earlier;
 use indexmap::IndexSet;
@@ -84,27 +84,8 @@ fn function(what: &What) -> Option<usize>
     }
 }
 
-/// The first call that stands on a cycle of calls, as rule 304, by what names mean and where the items begin.
-pub fn broken_call(
-    alloc: Global,
-    marks: &[Mark],
-    meant: &[Option<usize>],
-    starts: &[usize],
-) -> Result<Option<Broken>, Memory>
-    requires few { length starts.now ≤ 2 ^ 32 }
-    requires meant { AreMeanings marks.now meant.now }
-    requires starts { AreWithin starts.now (length marks.now) }
-    ensures { IfOk result (λ b. IsLeastOf (IsBackToOne marks.now meant.now starts.now (length starts.now)) b) }
-{
-    let mut best = None;
-    for goal in 0..starts.len() {
-        best = earlier(best, broken_into(alloc, marks, meant, starts, goal)?);
-    }
-    Ok(best)
-}
-
 /// The first call of a function that stands on a cycle, as rule 304.
-fn broken_into(
+pub fn broken_into(
     alloc: Global,
     marks: &[Mark],
     meant: &[Option<usize>],
@@ -152,7 +133,7 @@ fn pass(
 }
 
 /// From where up to where the marks of an item stand.
-fn body(starts: &[usize], f: usize, n: usize) -> (usize, usize)
+pub fn body(starts: &[usize], f: usize, n: usize) -> (usize, usize)
     requires small { f < 2 ^ 32 }
     requires within { AreWithin starts.now n }
     ensures { AreBounds starts.now n f result.0 result.1 }

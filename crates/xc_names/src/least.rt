@@ -15,7 +15,7 @@ pub fn earlier(a: Option<Broken>, b: Option<Broken>) -> Option<Broken>
 }
 
 /// Whether one broken rule stands before another.
-fn comes_before(a: Broken, b: Broken) -> bool
+pub fn comes_before(a: Broken, b: Broken) -> bool
     ensures { result ≡ is_before a b }
 {
     a.pos.line < b.pos.line

@@ -2,6 +2,9 @@
 #![tactic(auto)]
 
 mod calls;
+mod components;
+
+mod graph;
 mod latest;
 mod least;
 mod main_function;
@@ -9,6 +12,7 @@ mod marks;
 mod meanings;
 mod names;
 mod ports;
+mod recursion;
 mod resolution;
 mod scopes;
 mod taken;

@@ -22,7 +22,7 @@ pub fn scope_ends(alloc: Global, marks: &[Mark]) -> Result<List<usize>, Memory>
 }
 
 /// So many zeros.
-fn zeros(alloc: Global, n: usize) -> Result<List<usize>, Memory>
+pub fn zeros(alloc: Global, n: usize) -> Result<List<usize>, Memory>
     ensures { IfOk result (λ xs. length xs ≡ n) }
 {
     let mut xs = List::new(alloc);

@@ -1,5 +1,5 @@
 use Rattle.xc_names.proofs.Searches.{no_goal, next_goal}
-use Rattle.xc_names.proofs.calls.broken_call.Goals as goal
+use Rattle.xc_names.proofs.recursion.broken_by_search.Goals as goal
 
 pub loop-goal-init : goal.loop-goal-init
 loop-goal-init c = no_goal c.args.marks.now c.args.meant.now c.args.starts.now
