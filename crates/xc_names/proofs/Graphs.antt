@@ -54,6 +54,9 @@ module _ (ms : List Mark) (meant : List (Option ℕ)) (starts : List ℕ) where
   pub no_item : (edges : List Edge) → HasCalls ms meant starts 0 edges
   no_item edges f u h p less s = absurd (omega arith)
 
+  pub all_items : (k n : ℕ) (edges : List Edge) → n ≤ k → HasCalls ms meant starts k edges → HasCalls ms meant starts n edges
+  all_items k n edges long h f u g p less s = h f u g p (omega arith) s
+
   pub item_begins : (f first : ℕ) (edges : List Edge) → HasCalls ms meant starts f edges → InItem ms meant starts f first first edges
   item_begins f first edges b = record { onward = omega arith; before = b; here = λ v x y. absurd (omega arith) }
 

@@ -29,11 +29,13 @@ pub fn broken_call(
     ensures { IfOk result (λ b. IsLeastOf (IsBackToOne marks.now meant.now starts.now (length starts.now)) b) }
 {
     let graph = graph_of(alloc, marks, meant, starts)?;
-    let numbers = components(alloc, &graph)?;
-    if !never_rises(graph.edges.as_slice(), numbers.as_slice()) {
+    let components = components(alloc, &graph)?;
+    let edges = graph.edges.as_slice();
+    let numbers = components.as_slice();
+    if !never_rises(edges, numbers) {
         return broken_by_search(alloc, marks, meant, starts);
     }
-    let Some(first) = first_level(graph.edges.as_slice(), numbers.as_slice()) else {
+    let Some(first) = first_level(edges, numbers) else {
         return Ok(None);
     };
     if first.callee < starts.len() {
