@@ -95,7 +95,7 @@ enum Scope {
 }
 
 /// One statement that is a scope, in which `x` is declared at this place and then used 10 columns behind it.
-fn scope(alloc: Global, kind: Scope, col: u32) -> Result<Stmt, Fail> {
+fn scope_of(alloc: Global, kind: Scope, col: u32) -> Result<Stmt, Fail> {
     let mut inner = List::new(alloc);
     match kind {
         Scope::Block => {
@@ -211,7 +211,7 @@ fn around(alloc: Global, kind: Scope, is_declared: bool, is_used: bool) -> Resul
     if is_declared {
         declares(&mut body, alloc, "x", 10, None)?;
     }
-    body.push(scope(alloc, kind, 20)?)?;
+    body.push(scope_of(alloc, kind, 20)?)?;
     if is_used {
         uses(&mut body, alloc, "x", 40)?;
     }
