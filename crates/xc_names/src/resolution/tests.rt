@@ -94,55 +94,55 @@ enum Scope {
     Transaction,
 }
 
-/// One statement that is a scope, in which `x` is declared at this place and then used 10 columns behind it.
-fn scope_of(alloc: Global, kind: Scope, col: u32) -> Result<Stmt, Fail> {
+/// One statement that is a scope, in which `x` is declared at column 20 and then used at column 30.
+fn scope_of(alloc: Global, kind: Scope) -> Result<Stmt, Fail> {
     let mut inner = List::new(alloc);
     match kind {
         Scope::Block => {
-            declares(&mut inner, alloc, "x", col, None)?;
-            uses(&mut inner, alloc, "x", col + 10)?;
+            declares(&mut inner, alloc, "x", 20, None)?;
+            uses(&mut inner, alloc, "x", 30)?;
             Ok(block(inner))
         }
         Scope::Transaction => {
-            declares(&mut inner, alloc, "x", col, None)?;
-            uses(&mut inner, alloc, "x", col + 10)?;
+            declares(&mut inner, alloc, "x", 20, None)?;
+            uses(&mut inner, alloc, "x", 30)?;
             Ok(statement(St::Tran(true, inner)))
         }
         Scope::For => {
             let mut start = List::new(alloc);
             start.push(Declared {
                 kind: DeclKind::Word(false, Some(Rhs::Value(number(0)))),
-                name: id(alloc, "x", col)?,
+                name: id(alloc, "x", 20)?,
             })?;
             let first = Box::new(alloc, statement(St::Decl(start)))?;
-            let used = statement(St::Step(name(alloc, "x", col + 10)?, 35));
+            let used = statement(St::Step(name(alloc, "x", 30)?, 35));
             let body = Box::new(alloc, used)?;
             Ok(statement(St::For(Some(first), None, None, body)))
         }
         Scope::Replicated => {
-            let used = statement(St::Step(name(alloc, "x", col + 10)?, 35));
+            let used = statement(St::Step(name(alloc, "x", 30)?, 35));
             let body = Box::new(alloc, Branch { place: None, body: used })?;
             Ok(statement(St::Repl {
-                first: id(alloc, "x", col)?,
-                second: id(alloc, "x", col + 1)?,
-                third: id(alloc, "x", col + 2)?,
+                first: id(alloc, "x", 20)?,
+                second: id(alloc, "x", 21)?,
+                third: id(alloc, "x", 22)?,
                 from: 0,
                 to: 2,
                 body,
             }))
         }
         Scope::Case => {
-            uses(&mut inner, alloc, "x", col + 10)?;
+            uses(&mut inner, alloc, "x", 30)?;
             let mut cases = List::new(alloc);
             cases.push(Case {
-                pos: at(col),
+                pos: at(20),
                 guard: None,
                 head: Some(Head {
                     name: text(alloc, "main")?,
-                    pos: at(col),
+                    pos: at(20),
                     time: None,
                     cond: None,
-                    dest: Dest::Fresh(false, text(alloc, "x")?, at(col)),
+                    dest: Dest::Fresh(false, text(alloc, "x")?, at(20)),
                     stamp: None,
                 }),
                 body: inner,
@@ -184,7 +184,7 @@ fn port(items: &mut List<Item>, alloc: Global, name: &str, ident: &str, col: u32
         place,
         dir: TreeDir::Out,
         name: id(alloc, name, col)?,
-        ident: id(alloc, ident, col + 4)?,
+        ident: id(alloc, ident, col.saturating_add(4))?,
     }))?;
     Ok(())
 }
@@ -211,7 +211,7 @@ fn around(alloc: Global, kind: Scope, is_declared: bool, is_used: bool) -> Resul
     if is_declared {
         declares(&mut body, alloc, "x", 10, None)?;
     }
-    body.push(scope_of(alloc, kind, 20)?)?;
+    body.push(scope_of(alloc, kind)?)?;
     if is_used {
         uses(&mut body, alloc, "x", 40)?;
     }
@@ -320,7 +320,7 @@ fn chain(alloc: Global, length: u32, first_calls: &str) -> Result<Tree, Fail> {
     let mut before = format!(in alloc; "{first_calls}")?;
     for k in 0..length {
         let mut body = List::new(alloc);
-        calls(&mut body, alloc, before.as_str(), 100 + k)?;
+        calls(&mut body, alloc, before.as_str(), k.saturating_add(100))?;
         let name = format!(in alloc; "f{k}")?;
         function(&mut items, alloc, name.as_str(), k, None, body)?;
         before = name;
