@@ -42,6 +42,7 @@ are_within program ms starts e a = record { each = λ k x f. by k x f }
   where
     some_same : (x y : ℕ) → Some x ≡ Some y → x ≡ y
     some_same x y q = cc
+
     by : (k x : ℕ) → slice_get starts k ≡ Some x → x ≤ length ms
     by k x f =
         let less = slice_get_within starts k x f in

@@ -45,7 +45,9 @@ pub fn components(alloc: Global, graph: &Graph) -> Result<List<usize>, Memory> {
         numbers: zeros(alloc, items)?,
     };
     // Each item is begun at once, each call is followed once, and each item is left once.
-    let turns = items.saturating_add(items).saturating_add(graph.edges.len());
+    let turns = items
+        .saturating_add(items)
+        .saturating_add(graph.edges.len());
     for turn in 0..turns {
         advance(&mut walk, graph, turn + 1)?;
     }

@@ -3,7 +3,6 @@
 
 mod calls;
 mod components;
-
 mod graph;
 mod latest;
 mod least;

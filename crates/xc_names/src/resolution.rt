@@ -9,13 +9,13 @@ ghost use Rattle.xc_names.specs.Least.{IsLeastOf};
 ghost use Rattle.xc_names.specs.Meanings.{AreMeanings};
 ghost use Rattle.xc_names.specs.Starts.{AreStarts};
 
-use crate::recursion::broken_call;
 use crate::least::earlier;
 use crate::main_function::broken_main;
 use crate::marks::{Marks, marks_of};
 use crate::meanings::meanings;
 use crate::names::broken_name;
 use crate::ports::broken_port;
+use crate::recursion::broken_call;
 use crate::scopes::scope_ends;
 use crate::uses::{decls, uses};
 use std::alloc::Global;
@@ -71,7 +71,13 @@ pub fn resolve(alloc: Global, tree: Tree) -> Result<Named, NameErr>
     }
     let ends = scope_ends(alloc, all.as_slice())?;
     let meant = meanings(alloc, all.as_slice(), ends.as_slice())?;
-    let broken = first_broken(alloc, &tree, all.as_slice(), meant.as_slice(), starts.as_slice())?;
+    let broken = first_broken(
+        alloc,
+        &tree,
+        all.as_slice(),
+        meant.as_slice(),
+        starts.as_slice(),
+    )?;
     match broken {
         Some(broken) => Err(NameErr::Broken(broken)),
         None => {
@@ -98,10 +104,7 @@ fn first_broken(
 {
     let names_and_ports = earlier(broken_name(marks, meant), broken_port(alloc, tree)?);
     let calls = broken_call(alloc, marks, meant, starts)?;
-    Ok(earlier(
-        earlier(names_and_ports, calls),
-        broken_main(tree),
-    ))
+    Ok(earlier(earlier(names_and_ports, calls), broken_main(tree)))
 }
 
 #[cfg(test)]

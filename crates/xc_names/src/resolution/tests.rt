@@ -2,8 +2,8 @@ use crate::resolution::{NameErr, resolve};
 use std::alloc::Global;
 use std::test::Fail;
 use xc_tree::{
-    At, Branch, Case, DeclKind, Declared, Dest, Ex, Expr, FuncItem, Head, Id, Item, Param, ParamKind,
-    PortItem, Rhs, St, Stmt, Text, Tree, TreeDir,
+    At, Branch, Case, DeclKind, Declared, Dest, Ex, Expr, FuncItem, Head, Id, Item, Param,
+    ParamKind, PortItem, Rhs, St, Stmt, Text, Tree, TreeDir,
 };
 use xw_words::{List, Pos};
 
@@ -54,7 +54,13 @@ fn block(body: List<Stmt>) -> Stmt {
 }
 
 /// `int name = value;`, where there is a value.
-fn declares(body: &mut List<Stmt>, alloc: Global, name: &str, col: u32, value: Option<Expr>) -> Result<(), Fail> {
+fn declares(
+    body: &mut List<Stmt>,
+    alloc: Global,
+    name: &str,
+    col: u32,
+    value: Option<Expr>,
+) -> Result<(), Fail> {
     let mut all = List::new(alloc);
     let first = match value {
         None => None,
@@ -121,7 +127,13 @@ fn scope_of(alloc: Global, kind: Scope) -> Result<Stmt, Fail> {
         }
         Scope::Replicated => {
             let used = statement(St::Step(name(alloc, "x", 30)?, 35));
-            let body = Box::new(alloc, Branch { place: None, body: used })?;
+            let body = Box::new(
+                alloc,
+                Branch {
+                    place: None,
+                    body: used,
+                },
+            )?;
             Ok(statement(St::Repl {
                 first: id(alloc, "x", 20)?,
                 second: id(alloc, "x", 21)?,
@@ -152,7 +164,14 @@ fn scope_of(alloc: Global, kind: Scope) -> Result<Stmt, Fail> {
     }
 }
 
-fn function(items: &mut List<Item>, alloc: Global, name: &str, col: u32, param: Option<Id>, body: List<Stmt>) -> Result<(), Fail> {
+fn function(
+    items: &mut List<Item>,
+    alloc: Global,
+    name: &str,
+    col: u32,
+    param: Option<Id>,
+    body: List<Stmt>,
+) -> Result<(), Fail> {
     let mut params = List::new(alloc);
     if let Some(name) = param {
         params.push(Param {
@@ -171,7 +190,14 @@ fn function(items: &mut List<Item>, alloc: Global, name: &str, col: u32, param: 
 }
 
 /// `on stdcore[core] : port name = ident ;`
-fn port(items: &mut List<Item>, alloc: Global, name: &str, ident: &str, col: u32, core: Option<Expr>) -> Result<(), Fail> {
+fn port(
+    items: &mut List<Item>,
+    alloc: Global,
+    name: &str,
+    ident: &str,
+    col: u32,
+    core: Option<Expr>,
+) -> Result<(), Fail> {
     let place = match core {
         None => None,
         Some(value) => Some(At {
@@ -221,9 +247,18 @@ fn around(alloc: Global, kind: Scope, is_declared: bool, is_used: bool) -> Resul
 #[test]
 fn each_scope_ends_and_hides_what_is_around_it(rt: HostRuntime) -> Result<(), Fail> {
     let alloc = rt.alloc();
-    for kind in [Scope::Block, Scope::For, Scope::Replicated, Scope::Case, Scope::Transaction] {
+    for kind in [
+        Scope::Block,
+        Scope::For,
+        Scope::Replicated,
+        Scope::Case,
+        Scope::Transaction,
+    ] {
         assert_eq!(rt; broken(alloc, around(alloc, kind, false, false)?), None);
-        assert_eq!(rt; broken(alloc, around(alloc, kind, false, true)?), Some((301, 40)));
+        assert_eq!(rt;
+            broken(alloc, around(alloc, kind, false, true)?),
+            Some((301, 40))
+        );
         assert_eq!(rt; broken(alloc, around(alloc, kind, true, true)?), None);
         let tree = around(alloc, kind, true, true)?;
         match resolve(alloc, tree) {
@@ -282,13 +317,26 @@ fn parameters_share_the_scope_of_the_body(rt: HostRuntime) -> Result<(), Fail> {
     let mut body = List::new(alloc);
     calls(&mut body, alloc, "f", 12)?;
     function(&mut items, alloc, "main", 5, None, body)?;
-    function(&mut items, alloc, "f", 30, Some(id(alloc, "p", 36)?), List::new(alloc))?;
+    function(
+        &mut items,
+        alloc,
+        "f",
+        30,
+        Some(id(alloc, "p", 36)?),
+        List::new(alloc),
+    )?;
     function(&mut items, alloc, "f", 50, None, List::new(alloc))?;
     assert_eq!(rt; broken(alloc, Tree { items }), Some((302, 50)));
     Ok(())
 }
 
-fn two_ports(alloc: Global, first: &str, second: &str, one: Option<Expr>, other: Option<Expr>) -> Result<Tree, Fail> {
+fn two_ports(
+    alloc: Global,
+    first: &str,
+    second: &str,
+    one: Option<Expr>,
+    other: Option<Expr>,
+) -> Result<Tree, Fail> {
     let mut items = List::new(alloc);
     port(&mut items, alloc, "p", first, 10, one)?;
     port(&mut items, alloc, "q", second, 30, other)?;
@@ -299,18 +347,72 @@ fn two_ports(alloc: Global, first: &str, second: &str, one: Option<Expr>, other:
 #[test]
 fn a_port_is_there_once_on_a_core(rt: HostRuntime) -> Result<(), Fail> {
     let alloc = rt.alloc();
-    assert_eq!(rt; broken(alloc, two_ports(alloc, "XS1_PORT_2A", "XS1_PORT_1A", None, None)?), Some((303, 14)));
-    assert_eq!(rt; broken(alloc, two_ports(alloc, "XS1_PORT_1A", "XS1_PORT_1A", None, None)?), Some((303, 34)));
-    assert_eq!(rt; broken(alloc, two_ports(alloc, "XS1_PORT_1A", "XS1_PORT_1B", None, None)?), None);
+    assert_eq!(rt;
+        broken(
+            alloc,
+            two_ports(alloc, "XS1_PORT_2A", "XS1_PORT_1A", None, None)?
+        ),
+        Some((303, 14))
+    );
+    assert_eq!(rt;
+        broken(
+            alloc,
+            two_ports(alloc, "XS1_PORT_1A", "XS1_PORT_1A", None, None)?
+        ),
+        Some((303, 34))
+    );
+    assert_eq!(rt;
+        broken(
+            alloc,
+            two_ports(alloc, "XS1_PORT_1A", "XS1_PORT_1B", None, None)?
+        ),
+        None
+    );
     // `0x1` and `1` are one number, and no place is core 0.
-    assert_eq!(rt; broken(alloc, two_ports(alloc, "XS1_PORT_1A", "XS1_PORT_1A", Some(number(1)), Some(number(1)))?), Some((303, 34)));
-    assert_eq!(rt; broken(alloc, two_ports(alloc, "XS1_PORT_1A", "XS1_PORT_1A", None, Some(number(0)))?), Some((303, 34)));
-    assert_eq!(rt; broken(alloc, two_ports(alloc, "XS1_PORT_1A", "XS1_PORT_1A", None, Some(number(1)))?), None);
+    assert_eq!(rt;
+        broken(
+            alloc,
+            two_ports(
+                alloc,
+                "XS1_PORT_1A",
+                "XS1_PORT_1A",
+                Some(number(1)),
+                Some(number(1))
+            )?
+        ),
+        Some((303, 34))
+    );
+    assert_eq!(rt;
+        broken(
+            alloc,
+            two_ports(alloc, "XS1_PORT_1A", "XS1_PORT_1A", None, Some(number(0)))?
+        ),
+        Some((303, 34))
+    );
+    assert_eq!(rt;
+        broken(
+            alloc,
+            two_ports(alloc, "XS1_PORT_1A", "XS1_PORT_1A", None, Some(number(1)))?
+        ),
+        None
+    );
     let sum = Expr {
         kind: Ex::Bin(15, Box::new(alloc, number(1))?, Box::new(alloc, number(2))?),
         pos: at(1),
     };
-    assert_eq!(rt; broken(alloc, two_ports(alloc, "XS1_PORT_1A", "XS1_PORT_1A", Some(number(3)), Some(sum))?), Some((303, 34)));
+    assert_eq!(rt;
+        broken(
+            alloc,
+            two_ports(
+                alloc,
+                "XS1_PORT_1A",
+                "XS1_PORT_1A",
+                Some(number(3)),
+                Some(sum)
+            )?
+        ),
+        Some((303, 34))
+    );
     Ok(())
 }
 
@@ -349,9 +451,24 @@ fn a_cycle_is_named_by_its_first_call(rt: HostRuntime) -> Result<(), Fail> {
 #[test]
 fn a_program_has_a_main_without_parameters(rt: HostRuntime) -> Result<(), Fail> {
     let alloc = rt.alloc();
-    assert_eq!(rt; broken(alloc, Tree { items: List::new(alloc) }), Some((305, 1)));
+    assert_eq!(rt;
+        broken(
+            alloc,
+            Tree {
+                items: List::new(alloc)
+            }
+        ),
+        Some((305, 1))
+    );
     let mut items = List::new(alloc);
-    function(&mut items, alloc, "main", 5, Some(id(alloc, "p", 14)?), List::new(alloc))?;
+    function(
+        &mut items,
+        alloc,
+        "main",
+        5,
+        Some(id(alloc, "p", 14)?),
+        List::new(alloc),
+    )?;
     assert_eq!(rt; broken(alloc, Tree { items }), Some((305, 1)));
     // Of two rules the first place is named.
     let mut items = List::new(alloc);
