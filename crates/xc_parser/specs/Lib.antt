@@ -1,3 +1,10 @@
 pub mod Follows
+pub mod Programs
 pub mod Reading
 pub mod Stops
+pub mod Values
+pub mod Parts
+pub mod Levels
+pub mod Operands
+pub mod RightSides
+pub mod Begun
