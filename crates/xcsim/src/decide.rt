@@ -89,7 +89,7 @@ pub fn decide<'w, S: Shelf>(alloc: Global, words: &'w [String], shelf: &mut S) -
 }
 
 /// A status with a line and no output.
-fn saying(status: u8, line: Line<'_>) -> Decision<'_>
+pub fn saying(status: u8, line: Line<'_>) -> Decision<'_>
     ensures { result ≡ record { status = status; printed = Printed.Nothing; line = line.entry } }
 {
     Decision {

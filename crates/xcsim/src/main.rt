@@ -8,6 +8,8 @@ mod still;
 mod top;
 mod words;
 
+use decide::{Line, saying};
+use deliver::deliver;
 use std::alloc::Global;
 use std::io::ErrorKind;
 use std::process::ExitCode;
@@ -26,18 +28,19 @@ fn command_words(rt: &(impl Env + Alloc<A = Global>)) -> io::Result<Vec<String>>
 }
 
 fn main(rt: HostRuntime) -> ExitCode {
+    let mut out = StdSink::new(rt.stdout());
+    let mut err = StdSink::new(rt.stderr());
     let words = match command_words(&rt) {
         Ok(words) => words,
         Err(e) => {
             if e.kind() == ErrorKind::OutOfMemory {
-                return ExitCode::from(12);
+                let decision = saying(12, Line::NoMemory);
+                return ExitCode::from(deliver(&decision, &mut out, &mut err));
             }
             return ExitCode::from(15);
         }
     };
     let mut shelf = FsShelf::new(&rt);
-    let mut out = StdSink::new(rt.stdout());
-    let mut err = StdSink::new(rt.stderr());
     ExitCode::from(xcsim(
         &rt,
         rt.alloc(),
