@@ -44,10 +44,12 @@ mod DeclaredRows
 mod Cores
 mod ItemHeads
 mod Transferring
-pub mod CaseRows
 pub mod Insides
 pub mod Branches
 pub mod CaseLists
+pub mod RowReads
+pub mod RowSteps
+pub mod CaseEnds
 pub mod CaseItems
 pub mod Inverse
 pub mod Operators
@@ -59,6 +61,10 @@ pub mod Choosing
 pub mod Tests
 pub mod Runs
 pub mod RightSides
+pub mod Guards
+pub mod CaseSteps
 pub mod Simples
 pub mod Conditionals
 pub mod Braces
+pub mod Rounds
+pub mod Stated

@@ -4,7 +4,11 @@ pub mod Reading
 pub mod Stops
 pub mod Values
 pub mod Parts
+pub mod Errors
 pub mod Levels
 pub mod Operands
 pub mod RightSides
 pub mod Begun
+pub mod RowReading
+pub mod CaseParts
+pub mod Rounds

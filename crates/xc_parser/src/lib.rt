@@ -1,8 +1,5 @@
 //! From the tokens of a program to its tree.
 //!
-//! Expressions, transfers, assignments, declarations, ports and the heads of functions are read. Statements that hold
-//! statements, and so whole programs, aren't yet: the methods below are for them.
-//!
 //! A `Parser` holds the tokens. It has a method for each symbol of the grammar, which reads the symbol from a place on,
 //! with room for so many nodes one below the other, and answers a `Read` or the `Stop` at which no reading goes on. The
 //! methods stand in files by subject, and what they build in `nodes`.
@@ -14,12 +11,17 @@ mod declarations;
 mod expected;
 mod expressions;
 mod functions;
+mod iterations;
 mod memory;
 mod nodes;
 mod operands;
+mod pars;
 mod parser;
 mod places;
 mod ports;
+mod program;
+mod selects;
+mod statements;
 mod stop;
 mod terminals;
 mod tokens;
@@ -27,3 +29,4 @@ mod transfers;
 mod values;
 
 pub use places::end_pos;
+pub use program::{ParseErr, parse};

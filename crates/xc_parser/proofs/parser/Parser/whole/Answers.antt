@@ -1,4 +1,3 @@
-use Rattle.std.proofs.Common.{◌≡◌, ◌-◌}
 use Rattle.xc_tree.specs.Trees.{action_of}
 use Rattle.xc_tree.proofs.Forms.{statement-made}
 use Rattle.xc_parser.proofs.Counts.{whole_is}
