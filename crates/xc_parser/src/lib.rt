@@ -22,6 +22,8 @@ mod places;
 mod ports;
 mod stop;
 mod terminals;
+#[cfg(test)]
+mod testing;
 mod tokens;
 mod transfers;
 mod values;
