@@ -123,8 +123,7 @@ fn put_case(alloc: Global, shown: &mut String, case: &Case) -> Result<(), AllocE
         shown.push_str(" ")?;
         put_input(alloc, shown, input)?;
     }
-    shown.push_str(" :")?;
-    put_all(alloc, shown, &case.body)
+    put_all(alloc, shown, " :", &case.body)
 }
 
 /// A statement as `[first-last/own what it is]`.
@@ -142,7 +141,13 @@ pub fn put_statement(alloc: Global, shown: &mut String, s: &Stmt) -> Result<(), 
 }
 
 #[cycle(put_statement)]
-fn put_all(alloc: Global, shown: &mut String, statements: &List<Stmt>) -> Result<(), AllocError> {
+fn put_all(
+    alloc: Global,
+    shown: &mut String,
+    name: &str,
+    statements: &List<Stmt>,
+) -> Result<(), AllocError> {
+    shown.push_str(name)?;
     for s in statements.as_slice() {
         shown.push_str(" ")?;
         put_statement(alloc, shown, s)?;
@@ -175,6 +180,7 @@ fn put_branches(
     shown: &mut String,
     branches: &List<Branch>,
 ) -> Result<(), AllocError> {
+    shown.push_str("par")?;
     for branch in branches.as_slice() {
         put_branch(alloc, shown, branch)?;
     }
@@ -183,6 +189,7 @@ fn put_branches(
 
 #[cycle(put_statement)]
 fn put_cases(alloc: Global, shown: &mut String, cases: &List<Case>) -> Result<(), AllocError> {
+    shown.push_str("select")?;
     for case in cases.as_slice() {
         put_case(alloc, shown, case)?;
     }
@@ -264,13 +271,22 @@ fn put_leaf(alloc: Global, shown: &mut String, action: &St) -> Result<(), AllocE
     }
 }
 
+/// A test that may be lacking.
+fn put_maybe_test(
+    alloc: Global,
+    shown: &mut String,
+    test: &Option<Expr>,
+) -> Result<(), AllocError> {
+    match test {
+        None => shown.push_str(" _"),
+        Some(e) => put_test(alloc, shown, " ", e),
+    }
+}
+
 #[cycle(put_statement)]
 fn put_action(alloc: Global, shown: &mut String, action: &St) -> Result<(), AllocError> {
     match action {
-        St::Block(ss) => {
-            shown.push_str("block")?;
-            put_all(alloc, shown, ss)
-        }
+        St::Block(ss) => put_all(alloc, shown, "block", ss),
         St::If(c, s, o) => {
             put_test(alloc, shown, "if ", c)?;
             put_inner(alloc, shown, " ", s)?;
@@ -284,42 +300,21 @@ fn put_action(alloc: Global, shown: &mut String, action: &St) -> Result<(), Allo
             put_inner(alloc, shown, "do ", s)?;
             put_test(alloc, shown, " ", c)
         }
-        St::For(a, c, b, s) => put_for(alloc, shown, a, c, b, s),
-        St::Par(bs) => {
-            shown.push_str("par")?;
-            put_branches(alloc, shown, bs)
+        St::For(a, c, b, s) => {
+            shown.push_str("for")?;
+            put_maybe(alloc, shown, a)?;
+            put_maybe_test(alloc, shown, c)?;
+            put_maybe(alloc, shown, b)?;
+            put_inner(alloc, shown, " ", s)
         }
+        St::Par(bs) => put_branches(alloc, shown, bs),
         St::Repl { body, .. } => {
             put_repeated(alloc, shown, action)?;
             put_branch(alloc, shown, body)
         }
-        St::Select(cs) => {
-            shown.push_str("select")?;
-            put_cases(alloc, shown, cs)
-        }
-        St::Tran(is_master, ss) => {
-            shown.push_str(if *is_master { "master" } else { "slave" })?;
-            put_all(alloc, shown, ss)
-        }
+        St::Select(cs) => put_cases(alloc, shown, cs),
+        St::Tran(true, ss) => put_all(alloc, shown, "master", ss),
+        St::Tran(false, ss) => put_all(alloc, shown, "slave", ss),
         _ => put_leaf(alloc, shown, action),
     }
-}
-
-#[cycle(put_statement)]
-fn put_for(
-    alloc: Global,
-    shown: &mut String,
-    start: &Option<Box<Stmt>>,
-    test: &Option<Expr>,
-    step: &Option<Box<Stmt>>,
-    body: &Stmt,
-) -> Result<(), AllocError> {
-    shown.push_str("for")?;
-    put_maybe(alloc, shown, start)?;
-    match test {
-        None => shown.push_str(" _")?,
-        Some(e) => put_test(alloc, shown, " ", e)?,
-    }
-    put_maybe(alloc, shown, step)?;
-    put_inner(alloc, shown, " ", body)
 }
