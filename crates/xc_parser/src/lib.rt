@@ -24,6 +24,8 @@ mod selects;
 mod statements;
 mod stop;
 mod terminals;
+#[cfg(test)]
+mod testing;
 mod tokens;
 mod transfers;
 mod values;

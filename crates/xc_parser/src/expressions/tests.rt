@@ -1,142 +1,10 @@
 use crate::parser::{Parser, Read};
 use crate::stop::Stop;
+use crate::testing::{put_expr, put_rhs, tokens};
 use std::alloc::{AllocError, Global};
 use std::process::Abort;
 use std::test::Fail;
-use xc_tree::{Ex, Expr, Kind, Rhs, SYMBOLS, Tok, WORDS};
-use xw_words::{List, Pos};
-
-/// The place of some bytes in a list of spellings.
-fn place_in(spellings: &[&[u8]], bytes: &[u8]) -> Option<u8> {
-    let mut place = 0u8;
-    for spelling in spellings {
-        if *spelling == bytes {
-            return Some(place);
-        }
-        if place < 255 {
-            place += 1;
-        }
-    }
-    None
-}
-
-/// What a word of a test is as a token: a symbol, a word, a number of one figure, and else a name.
-fn kind_of(alloc: Global, word: &[u8]) -> Result<Kind, AllocError> {
-    if let Some(place) = place_in(&SYMBOLS, word) {
-        return Ok(Kind::Sym(place));
-    }
-    if let Some(place) = place_in(&WORDS, word) {
-        return Ok(Kind::Key(place));
-    }
-    if word.len() > 0 && word[0] >= b'0' && word[0] <= b'9' {
-        return Ok(Kind::Num((word[0] - b'0') as u32, word.len() > 1));
-    }
-    let mut name = Vec::new(alloc);
-    for b in word {
-        name.push(*b)?;
-    }
-    Ok(Kind::Name(List::from_vec(name)))
-}
-
-/// The tokens of a text in which blanks part them, each in the column that is its number, from 1 on.
-fn tokens(alloc: Global, text: &str) -> Result<Vec<Tok>, AllocError> {
-    let mut toks = Vec::new(alloc);
-    let mut col = 1u32;
-    for word in text.split(' ') {
-        if !word.is_empty() {
-            let kind = kind_of(alloc, word.as_bytes())?;
-            toks.push(Tok {
-                kind,
-                pos: Pos { line: 1, col },
-            })?;
-            if col < 1_000_000 {
-                col += 1;
-            }
-        }
-    }
-    Ok(toks)
-}
-
-fn put(shown: &mut String, bytes: &[u8]) -> Result<(), AllocError> {
-    for b in bytes {
-        shown.push(*b as char)?;
-    }
-    Ok(())
-}
-
-fn put_symbol(shown: &mut String, symbol: u8) -> Result<(), AllocError> {
-    put(shown, SYMBOLS.get(symbol as usize).copied().unwrap_or(b"?"))
-}
-
-fn put_number(alloc: Global, shown: &mut String, n: u32) -> Result<(), AllocError> {
-    let digits = format!(in alloc; "{}", n)?;
-    shown.push_str(digits.as_str())
-}
-
-/// A tree as `(operator:column operand ..)`.
-#[cycle(show)]
-fn show(alloc: Global, shown: &mut String, e: &Expr) -> Result<(), AllocError> {
-    match &e.kind {
-        Ex::Num(n, is_unsigned) => {
-            put_number(alloc, shown, *n)?;
-            shown.push_str(if *is_unsigned { "u:" } else { ":" })?;
-            put_number(alloc, shown, e.pos.col)
-        }
-        Ex::Name(t) => {
-            put(shown, t.as_slice())?;
-            shown.push_str(":")?;
-            put_number(alloc, shown, e.pos.col)
-        }
-        Ex::Index(t, i) => {
-            shown.push_str("([")?;
-            shown.push_str(":")?;
-            put_number(alloc, shown, e.pos.col)?;
-            shown.push_str(" ")?;
-            put(shown, t.as_slice())?;
-            shown.push_str(" ")?;
-            show(alloc, shown, i)?;
-            shown.push_str(")")
-        }
-        Ex::Un(o, a) => {
-            shown.push_str("(")?;
-            put_symbol(shown, *o)?;
-            shown.push_str(":")?;
-            put_number(alloc, shown, e.pos.col)?;
-            shown.push_str(" ")?;
-            show(alloc, shown, a)?;
-            shown.push_str(")")
-        }
-        Ex::Bin(o, a, b) => {
-            shown.push_str("(")?;
-            put_symbol(shown, *o)?;
-            shown.push_str(":")?;
-            put_number(alloc, shown, e.pos.col)?;
-            shown.push_str(" ")?;
-            show(alloc, shown, a)?;
-            shown.push_str(" ")?;
-            show(alloc, shown, b)?;
-            shown.push_str(")")
-        }
-        Ex::Cond(c, a, b) => {
-            shown.push_str("(?:")?;
-            put_number(alloc, shown, e.pos.col)?;
-            shown.push_str(" ")?;
-            show(alloc, shown, c)?;
-            shown.push_str(" ")?;
-            show(alloc, shown, a)?;
-            shown.push_str(" ")?;
-            show(alloc, shown, b)?;
-            shown.push_str(")")
-        }
-        Ex::Cast(is_unsigned, a) => {
-            shown.push_str(if *is_unsigned { "(unsigned:" } else { "(int:" })?;
-            put_number(alloc, shown, e.pos.col)?;
-            shown.push_str(" ")?;
-            show(alloc, shown, a)?;
-            shown.push_str(")")
-        }
-    }
-}
+use xc_tree::Expr;
 
 fn put_stop(alloc: Global, shown: &mut String, stop: Stop) -> Result<(), AllocError> {
     match stop {
@@ -153,7 +21,7 @@ fn put_stop(alloc: Global, shown: &mut String, stop: Stop) -> Result<(), AllocEr
 }
 
 fn put_read(alloc: Global, shown: &mut String, e: &Expr, end: usize) -> Result<(), AllocError> {
-    show(alloc, shown, e)?;
+    put_expr(alloc, shown, e)?;
     let end = format!(in alloc; " up to {}", end)?;
     shown.push_str(end.as_str())
 }
@@ -210,6 +78,12 @@ fn reads_expressions(rt: HostRuntime) -> Result<(), Fail> {
             9,
             "(?:4 (||:2 a:1 b:3) c:5 (||:8 d:7 e:9)) up to 9",
         ),
+        (
+            "a % b / c >> d >= e != f",
+            9,
+            "(!=:10 (>=:8 (>>:6 (/:4 (%:2 a:1 b:3) c:5) d:7) e:9) f:11) up to 11",
+        ),
+        ("a <= b > c", 9, "(>:4 (<=:2 a:1 b:3) c:5) up to 5"),
         ("- ~ ! + x", 9, "(-:1 (~:2 (!:3 (+:4 x:5)))) up to 5"),
         ("- a * b", 9, "(*:3 (-:1 a:2) b:4) up to 4"),
         ("( int ) a + b", 9, "(+:5 (int:1 a:4) b:6) up to 6"),
@@ -361,26 +235,6 @@ fn brackets_have_no_depth(rt: HostRuntime) -> Result<(), Fail> {
     Ok(())
 }
 
-/// A right side: a tree, or a call as `name:column(arguments)`, each argument with the column of its first token.
-fn put_right(alloc: Global, shown: &mut String, right: &Rhs) -> Result<(), AllocError> {
-    match right {
-        Rhs::Value(e) => show(alloc, shown, e),
-        Rhs::Call { name, pos, args } => {
-            put(shown, name.as_slice())?;
-            shown.push_str(":")?;
-            put_number(alloc, shown, pos.col)?;
-            shown.push_str("(")?;
-            for arg in args.as_slice() {
-                show(alloc, shown, &arg.value)?;
-                shown.push_str(" from ")?;
-                put_number(alloc, shown, arg.first.col)?;
-                shown.push_str(", ")?;
-            }
-            shown.push_str(")")
-        }
-    }
-}
-
 /// What stands behind an `=` is read as.
 fn read_initial(alloc: Global, text: &str, room: u32) -> Result<String, AllocError> {
     let toks = tokens(alloc, text)?;
@@ -393,7 +247,7 @@ fn read_initial(alloc: Global, text: &str, room: u32) -> Result<String, AllocErr
         Ok(read) => {
             match &read.value {
                 None => shown.push_str("no room")?,
-                Some(right) => put_right(alloc, &mut shown, right)?,
+                Some(right) => put_rhs(alloc, &mut shown, right)?,
             }
             let end = format!(in alloc; " up to {}", read.end)?;
             shown.push_str(end.as_str())?;
