@@ -14,3 +14,4 @@ pub mod Grammar
 pub mod Derives
 pub mod Parses
 pub mod Depth
+pub mod Names
