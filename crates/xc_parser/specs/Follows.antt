@@ -1,5 +1,5 @@
 -- The tokens that each symbol of the grammar can begin with, and those that a longer reading of it can go on with.
-use Rattle.std.specs.Prelude.{◌≡◌, ℕ, Bool, true, false, ◌||◌, List, [], ◌∷◌, ◌++◌, map, nat_eq, if◌then◌else◌}
+use Rattle.std.specs.Prelude.{◌≡◌, ℕ, zero, suc, Bool, true, false, ◌||◌, List, [], ◌∷◌, ◌++◌, map, nat_eq, if◌then◌else◌}
 use Rattle.xw_words.specs.declared.pos.Pos.{Pos}
 use Rattle.xc_tree.specs.declared.token.Tok.{Tok}
 use Rattle.xc_tree.specs.declared.token.Kind.TheVariants.{Name, Num, Key, Sym}
@@ -116,6 +116,11 @@ binary_operators = sym 17 ∷ sym 18 ∷ sym 19 ∷ sym 15 ∷ sym 16 ∷ sym 33
 abbrev pub after_operand : List Symbol
 after_operand = sym 4 ∷ binary_operators
 
+-- the operators of the levels from 1 up to this one
+abbrev pub operators_to : ℕ → List Symbol
+operators_to zero = []
+operators_to (suc m) = operators_to m ++ map sym (operators (suc m))
+
 abbrev pub after_expression : List Symbol
 after_expression = sym 9 ∷ after_operand
 
@@ -153,6 +158,6 @@ follows stamp = sym 4 ∷ []
 follows waits = sym 23 ∷ key 28 ∷ after_expression
 follows dest = sym 4 ∷ []
 follows expr = after_expression
-follows (level m) = after_operand
+follows (level m) = sym 4 ∷ operators_to m
 follows atom = sym 4 ∷ []
 follows _ = []

@@ -1,3 +1,14 @@
 pub mod Follows
+pub mod Programs
 pub mod Reading
 pub mod Stops
+pub mod Values
+pub mod Parts
+pub mod Errors
+pub mod Levels
+pub mod Operands
+pub mod RightSides
+pub mod Begun
+pub mod RowReading
+pub mod CaseParts
+pub mod Rounds

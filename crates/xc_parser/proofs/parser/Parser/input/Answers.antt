@@ -1,0 +1,42 @@
+use Rattle.std.proofs.Common.{refl}
+use Rattle.xc_parser.proofs.Exits.{handed_on}
+use Rattle.xc_parser.proofs.Paths.{begin, read, stops, finish}
+use Rattle.xc_parser.proofs.parser.Parser.input.Goals as goal
+
+pub returns-in_err-name-clause-stopped : goal.returns-in_err-name-clause-stopped
+returns-in_err-name-clause-stopped c =
+    handed_on _ c.from_residual.result c.from_residual.ensures.1 (stops _ (begin refl tt) (c.in_err-name.ensures.stopped _) refl)
+
+pub returns-in_err-waits-clause-stopped : goal.returns-in_err-waits-clause-stopped
+returns-in_err-waits-clause-stopped c =
+    let name = read (begin refl tt) (c.in_ok-name.ensures.read _) refl in
+    handed_on _ c.from_residual-in_err-waits.result c.from_residual-in_err-waits.ensures.1 (stops _ name c.in_err-waits.ensures.stopped refl)
+
+pub returns-in_err-receives-clause-stopped : goal.returns-in_err-receives-clause-stopped
+returns-in_err-receives-clause-stopped c =
+    let name = read (begin refl tt) (c.in_ok-name.ensures.read _) refl in
+    let waits = read name c.in_ok-waits.ensures.read refl in
+    handed_on _ c.from_residual-in_err-receives.result c.from_residual-in_err-receives.ensures.1 (stops _ waits (c.in_err-receives.ensures.stopped _) refl)
+
+pub returns-in_err-dest-clause-stopped : goal.returns-in_err-dest-clause-stopped
+returns-in_err-dest-clause-stopped c =
+    let name = read (begin refl tt) (c.in_ok-name.ensures.read _) refl in
+    let waits = read name c.in_ok-waits.ensures.read refl in
+    let receives = read waits (c.in_ok-receives.ensures.read _) refl in
+    handed_on _ c.from_residual-in_err-dest.result c.from_residual-in_err-dest.ensures.1 (stops _ receives c.in_err-dest.ensures.stopped refl)
+
+pub returns-in_err-stamp-clause-stopped : goal.returns-in_err-stamp-clause-stopped
+returns-in_err-stamp-clause-stopped c =
+    let name = read (begin refl tt) (c.in_ok-name.ensures.read _) refl in
+    let waits = read name c.in_ok-waits.ensures.read refl in
+    let receives = read waits (c.in_ok-receives.ensures.read _) refl in
+    let dest = read receives c.in_ok-dest.ensures.read refl in
+    handed_on _ c.from_residual-in_err-stamp.result c.from_residual-in_err-stamp.ensures.1 (stops _ dest c.in_err-stamp.ensures.stopped refl)
+
+pub returns-clause-read : goal.returns-clause-read
+returns-clause-read c =
+    let name = read (begin refl tt) (c.in_ok-name.ensures.read _) refl in
+    let waits = read name c.in_ok-waits.ensures.read refl in
+    let receives = read waits (c.in_ok-receives.ensures.read _) refl in
+    let dest = read receives c.in_ok-dest.ensures.read refl in
+    rw c.input_of.ensures (finish (read dest c.in_ok-stamp.ensures.read refl) refl)

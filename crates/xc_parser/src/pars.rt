@@ -1,0 +1,111 @@
+//! Branches that run side by side.
+
+ghost use Rattle.std.specs.Prelude.{◌≡◌, ℕ, ◌+◌, ◌^◌, ◌<◌, ◌≤◌, length, IfOk, IfErr};
+ghost use Rattle.xc_tree.specs.Plain as plain;
+ghost use Rattle.xc_tree.specs.Symbol as symbol;
+ghost use Rattle.xc_tree.specs.Symbol.{key};
+ghost use Rattle.xc_tree.specs.Trees as trees;
+ghost use Rattle.xc_parser.specs.Follows.{StandsAt};
+ghost use Rattle.xc_parser.specs.Reading.{Reads};
+ghost use Rattle.xc_parser.specs.Stops.{Stopped};
+
+use crate::parser::{Parser, Read};
+use crate::stop::Stop;
+use crate::terminals::{
+    BELOW, BRACE, END_BRACE, END_PAREN, EQUALS, INT_WORD, PAREN, PLUS_PLUS, SEMICOLON,
+};
+use crate::tokens::is_symbol;
+use xc_tree::{Branch, St, Stmt};
+use xw_words::List;
+
+/// What was read, how many of its tokens are in statements that it holds, and the place of the token behind it.
+#[derive(Drop)]
+pub struct Holder<T> {
+    pub value: T,
+    pub held: usize,
+    pub end: usize,
+}
+
+impl<'a> Parser<'a> {
+    /// A `par`, with room for so many nodes inside it.
+    #[cycle(statement)]
+    pub fn par(&self, at: usize, room: u32) -> Result<Read<Stmt>, Stop>
+        requires short { length self.now.toks.now < 2 ^ 32 }
+        requires word { StandsAt self.now.toks.now at (key 15) }
+        ensures bounds { IfOk result (λ r. (at < r.end) × (r.end ≤ length self.now.toks.now)) }
+        ensures read { IfOk result (λ r. Reads self.now.toks.now (room + 1) symbol.statement at r.end (trees.statement_of r.value)) }
+        ensures stopped { IfErr result (λ e. Stopped self.now.toks.now (room + 1) symbol.statement at e) }
+    {
+        if is_symbol(self.toks, at + 1, PAREN) {
+            return self.replicated(at, room);
+        }
+        let open = self.symbol(at + 1, BRACE)?;
+        let mut branches = List::new(self.alloc);
+        let mut held = 0;
+        let mut end = open.end;
+        'branches: while !is_symbol(self.toks, end, END_BRACE) {
+            let branch = self.branch(end, room)?;
+            branches.push(branch.value)?;
+            held += branch.held;
+            end = branch.end;
+        }
+        Ok(self.whole(at, end + 1, held, St::Par(branches)))
+    }
+
+    /// A branch.
+    #[cycle(statement)]
+    fn branch(&self, at: usize, room: u32) -> Result<Holder<Branch>, Stop>
+        requires short { length self.now.toks.now < 2 ^ 32 }
+        requires at { at ≤ length self.now.toks.now }
+        ensures bounds { IfOk result (λ r. (at < r.end) × (r.end ≤ length self.now.toks.now)) }
+        ensures holds { IfOk result (λ r. (r.held ≡ plain.branch_tokens (trees.branch_of r.value)) × (at + r.held ≤ r.end)) }
+        ensures read { IfOk result (λ r. Reads self.now.toks.now room symbol.branch at r.end (trees.branch_of r.value)) }
+        ensures stopped { IfErr result (λ e. Stopped self.now.toks.now room symbol.branch at e) }
+    {
+        let place = self.maybe_place(at, room)?;
+        let body = self.statement(place.end, room)?;
+        Ok(Holder {
+            value: Branch {
+                place: place.value,
+                body: body.value,
+            },
+            held: body.end - place.end,
+            end: body.end,
+        })
+    }
+
+    /// `par ( int first = from ; second < to ; third ++ )` and a branch, with room for so many nodes inside it.
+    #[cycle(statement)]
+    fn replicated(&self, at: usize, room: u32) -> Result<Read<Stmt>, Stop>
+        requires short { length self.now.toks.now < 2 ^ 32 }
+        requires word { StandsAt self.now.toks.now at (key 15) }
+        requires bracket { StandsAt self.now.toks.now (at + 1) (symbol.sym 0) }
+        ensures bounds { IfOk result (λ r. (at < r.end) × (r.end ≤ length self.now.toks.now)) }
+        ensures read { IfOk result (λ r. Reads self.now.toks.now (room + 1) symbol.statement at r.end (trees.statement_of r.value)) }
+        ensures stopped { IfErr result (λ e. Stopped self.now.toks.now (room + 1) symbol.statement at e) }
+    {
+        let open = self.symbol(at + 1, PAREN)?;
+        let int = self.word(open.end, INT_WORD)?;
+        let first = self.id(int.end)?;
+        let equals = self.symbol(first.end, EQUALS)?;
+        let from = self.numeral(equals.end)?;
+        let start = self.symbol(from.end, SEMICOLON)?;
+        let second = self.id(start.end)?;
+        let below = self.symbol(second.end, BELOW)?;
+        let to = self.numeral(below.end)?;
+        let test = self.symbol(to.end, SEMICOLON)?;
+        let third = self.id(test.end)?;
+        let step = self.symbol(third.end, PLUS_PLUS)?;
+        let close = self.symbol(step.end, END_PAREN)?;
+        let branch = self.branch(close.end, room)?;
+        let kind = St::Repl {
+            first: first.value,
+            second: second.value,
+            third: third.value,
+            from: from.value.value,
+            to: to.value.value,
+            body: self.boxed(branch.value)?,
+        };
+        Ok(self.whole(at, branch.end, branch.held, kind))
+    }
+}
