@@ -18,3 +18,5 @@ pub mod Searches
 pub mod Graphs
 pub mod Cycles
 pub mod Together
+pub mod Declared
+pub mod Bounds

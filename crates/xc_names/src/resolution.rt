@@ -3,6 +3,7 @@ ghost use Rattle.xw_words.specs.declared.pos.Broken.{Broken as Wrong};
 ghost use Rattle.xc_tree.specs.Names.Marks.{of_program};
 ghost use Rattle.xc_tree.specs.Names.Rules.{Breaks, FirstBroken};
 ghost use Rattle.xc_tree.specs.Names.Uses.{AreUses, declarations};
+ghost use Rattle.xc_tree.specs.Programs.{IsParsed};
 ghost use Rattle.xc_tree.specs.Trees.{program_of};
 ghost use Rattle.xc_names.specs.Errors.{IfBroken};
 ghost use Rattle.xc_names.specs.Least.{IsLeastOf};
@@ -45,30 +46,23 @@ impl From<Memory> for NameErr {
     }
 }
 
-/// The most names of a program, so that each has a `u32` for its number.
-const MOST_NAMES: usize = 4_294_967_295;
-
-/// The declarations of a program and for each of its names the number of its declaration.
+/// The declarations of a program and for each of its names the number of its declaration, where the tree is one that
+/// fewer than 2^32 tokens derive and has no node deeper than 200.
 ///
 /// A program that breaks a rule is dropped, and of all rules that it breaks the error is the one of the least place, and
 /// there of the least number: 301 a name is used that isn't declared there; 302 a name is declared a second time in one
 /// scope; 303 a port's identifier is none or is used again on the same core; 304 a call stands on a cycle of calls; 305
-/// there is no function `main` without parameters. The other error is that memory could not be had, or the program
-/// has more names than a `u32` counts; it drops the program too.
+/// there is no function `main` without parameters. The other error is that memory could not be had; it drops the program
+/// too.
 pub fn resolve(alloc: Global, tree: Tree) -> Result<Named, NameErr>
+    requires { IsParsed (program_of tree) }
     ensures program { IfOk result (λ named. named.tree ≡ tree) }
     ensures decls { IfOk result (λ named. named.decls ≡ declarations (of_program (program_of tree))) }
     ensures uses { IfOk result (λ named. AreUses (of_program (program_of tree)) named.uses) }
     ensures unbroken { IfOk result (λ named. (b : Wrong) → Breaks (program_of tree) b → ⊥) }
     ensures broken { IfErr result (λ e. IfBroken e (λ b. FirstBroken (program_of tree) b)) }
 {
-    if tree.items.len() > MOST_NAMES {
-        return Err(NameErr::Memory);
-    }
     let Marks { all, starts } = marks_of(alloc, &tree)?;
-    if all.len() > MOST_NAMES {
-        return Err(NameErr::Memory);
-    }
     let ends = scope_ends(alloc, all.as_slice())?;
     let meant = meanings(alloc, all.as_slice(), ends.as_slice())?;
     let broken = first_broken(
