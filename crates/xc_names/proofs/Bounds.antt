@@ -1,10 +1,8 @@
 -- How many names a program declares.
-use Rattle.std.proofs.Common.{◌≡◌, ℕ, suc, ◌+◌, ◌<◌, ◌≤◌, ◌^◌, List, [], ◌∷◌, ◌++◌, length, Option, None, Some, refl, sym, ap, subst, ◌∙◌, arith, length-append}
-use Rattle.xc_tree.specs.declared.names.Mark.{Mark}
+use Rattle.std.proofs.Common.{ℕ, ◌+◌, ◌<◌, ◌≤◌, ◌^◌, List, [], ◌∷◌, length, arith}
 use Rattle.xc_tree.specs.Plain as plain
 use Rattle.xc_tree.specs.Names.Marks.{of_item, of_items, of_program, optional, of_place, declares}
 use Rattle.xc_tree.specs.declared.names.What.TheVariants as what
-use Rattle.xc_tree.specs.Names.Uses.{declarations}
 use Rattle.xc_tree.specs.Derives.{unlimited}
 use Rattle.xc_tree.specs.Programs.{IsParsed}
 use Rattle.xc_names.proofs.Declared.{count, count_append, program_bounded}

@@ -5,13 +5,13 @@ use Rattle.xc_tree.specs.declared.token.Tok.{Tok}
 use Rattle.xc_tree.specs.declared.tree.Id.{Id}
 use Rattle.xc_tree.specs.declared.tree.Param.{Param}
 use Rattle.xc_tree.specs.declared.names.Mark.{Mark}
-use Rattle.xc_tree.specs.declared.names.Mark.TheVariants.{Opens, Closes, Declares, Uses, Calls}
+use Rattle.xc_tree.specs.declared.names.Mark.TheVariants.{Closes, Uses}
 use Rattle.xc_tree.specs.declared.names.What.TheVariants as what
 use Rattle.xc_tree.specs.Plain as plain
-use Rattle.xc_tree.specs.Symbol.{Symbol, sym, key, a_name, a_number, many, maybe, commas, program, item, portdecl, head, params, param, body, block, block_item, decl, dv, statement, closed, case_item, for_start, for_step, branch, case, assign, input, dest, Declarator, a_word, an_array, Waits, at_once, at_time, when_true, Value, Values}
+use Rattle.xc_tree.specs.Symbol.{Symbol, sym, key, a_name, a_number, many, maybe, commas, program, item, portdecl, head, params, param, body, block, block_item, decl, dv, statement, closed, case_item, for_start, for_step, branch, case, assign, input, dest, Declarator, Value, Values}
 use Rattle.xc_tree.specs.Grammar.{Rule, Extent, rules, kept, declared, named as kind_named, time_of, condition_of}
 use Rattle.xc_tree.specs.Derives.{Room, extent, Derives, a_sym, a_key, named, counted, by_rule, Row, done, next}
-use Rattle.xc_tree.specs.Names.Marks.{declares, in_scope, each, optional, of_expression, of_form, of_argument, of_call, of_right, of_timing, of_condition, of_output, of_target, of_input, what_of, of_initial, of_declaration, of_place, of_statement, of_action, of_maybe, of_statements, of_branch, of_branches, of_case, of_cases, of_param, of_body, of_item, of_items}
+use Rattle.xc_tree.specs.Names.Marks.{declares, in_scope, each, optional, of_expression, of_form, of_argument, of_call, of_right, of_timing, of_condition, of_output, of_target, of_input, of_initial, of_declaration, of_place, of_statement, of_action, of_maybe, of_statements, of_branch, of_branches, of_case, of_cases, of_param, of_body, of_item, of_items}
 use Rattle.xc_tree.specs.Names.Uses.{declarations}
 use Rattle.xc_names.proofs.Numbers.{declarations_append}
 

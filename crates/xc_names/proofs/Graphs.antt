@@ -1,7 +1,6 @@
 -- All calls are edges of the graph, and numbers that never rise along an edge show where no cycle is.
-use Rattle.std.proofs.Common.{◌≡◌, ℕ, ◌+◌, ◌<◌, ◌≤◌, ◌⊎◌, inl, inr, Bool, true, false, not, nat_eq, if◌then◌else◌, List, [], ◌∷◌, ◌++◌, length, get_or, slice_get, Option, None, Some, refl, sym, ap, subst, ◌∙◌, arith}
+use Rattle.std.proofs.Common.{◌≡◌, ℕ, ◌+◌, ◌<◌, ◌≤◌, ◌⊎◌, inl, inr, Bool, true, false, not, nat_eq, List, [], ◌∷◌, ◌++◌, length, get_or, slice_get, Option, None, Some, refl, sym, ap, subst, ◌∙◌, arith}
 use Rattle.std.proofs.lemmas.Bool.Decides.{nat_tests}
-use Rattle.std.proofs.lemmas.Bool.{cases_lt}
 use Rattle.std.proofs.lemmas.Option.{slice_get_read, slice_get_within}
 use Rattle.xw_words.specs.declared.pos.Pos.{Pos}
 use Rattle.xw_words.specs.declared.pos.Broken.{Broken}
@@ -11,7 +10,7 @@ use Rattle.xc_names.specs.declared.calls.Call.{Call}
 use Rattle.xc_names.specs.declared.graph.Edge.{Edge}
 use Rattle.xc_names.specs.Least.{IsLeastOf, comes_before}
 use Rattle.xc_names.specs.Callees.{IsCall, FoundCall, a_call, no_call}
-use Rattle.xc_names.specs.Searches.{IsStep, AreBounds, IsNext, IsReached, itself, further, IsBackTo, IsBackToOne}
+use Rattle.xc_names.specs.Searches.{IsStep, AreBounds, IsReached, itself, further, IsBackTo, IsBackToOne}
 use Rattle.xc_names.specs.Graphs.{HasEdge, IsLonger, HasCall, HasCalls, number_in, NeverRises, rule_at, IsNotLater, IsFirstLevel, first_edge, level_edge, no_later}
 use Rattle.xc_names.proofs.Leasts.{before, not_before, not_after_self, not_after_trans, none_broken}
 use Rattle.xc_names.proofs.Lists.{below_or_at, push_before, push_at}

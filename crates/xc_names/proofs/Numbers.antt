@@ -20,14 +20,6 @@ declarations_append (Declares d ∷ xs) ys = ap (λ ds. d ∷ ds) (declarations_
 declarations_append (Uses d ∷ xs) ys = declarations_append xs ys
 declarations_append (Calls d ∷ xs) ys = declarations_append xs ys
 
-pub few_declarations : (ms : List Mark) → length (declarations ms) ≤ length ms
-few_declarations [] = omega arith
-few_declarations (Opens ∷ ms) = omega (arith, few_declarations ms)
-few_declarations (Closes ∷ ms) = omega (arith, few_declarations ms)
-few_declarations (Declares d ∷ ms) = omega (arith, few_declarations ms)
-few_declarations (Uses n ∷ ms) = omega (arith, few_declarations ms)
-few_declarations (Calls n ∷ ms) = omega (arith, few_declarations ms)
-
 by_mark : (m : Mark) → length (declarations (m ∷ [])) ≡ count_in m
 by_mark Opens = refl
 by_mark Closes = refl

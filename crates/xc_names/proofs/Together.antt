@@ -1,5 +1,5 @@
 -- The rules of names together.
-use Rattle.std.proofs.Common.{◌≡◌, ℕ, suc, ◌+◌, ◌<◌, ◌≤◌, ◌^◌, ◌⊎◌, inl, inr, List, [], ◌∷◌, ◌++◌, length, take, drop, slice_get, Option, None, Some, refl, sym, ap, subst, ◌∙◌, arith, length-append, append_assoc}
+use Rattle.std.proofs.Common.{◌≡◌, ℕ, suc, ◌+◌, ◌<◌, ◌≤◌, ◌⊎◌, inl, inr, List, [], ◌∷◌, ◌++◌, length, take, drop, slice_get, Option, None, Some, refl, sym, ap, subst, ◌∙◌, arith, length-append, append_assoc}
 use Rattle.std.proofs.lemmas.List.{take-append-drop}
 use Rattle.std.proofs.lemmas.Option.{slice_get_within}
 use Rattle.xw_words.specs.declared.pos.Broken.{Broken}
@@ -9,10 +9,9 @@ use Rattle.xc_tree.specs.Lexes.{IsNotAfter}
 use Rattle.xc_tree.specs.Names.Marks.{of_item, of_items, of_program}
 use Rattle.xc_tree.specs.Names.Calls.{first_of}
 use Rattle.xc_tree.specs.Names.Uses.{IsUse}
-use Rattle.xc_tree.specs.Names.Rules.{Breaks, unknown as unknown_name, declared_again, wrong_port as a_wrong_port, on_cycle as a_cycle, without_main, FirstBroken, Breaks301, Breaks302}
+use Rattle.xc_tree.specs.Names.Rules.{Breaks, unknown as unknown_name, declared_again, wrong_port as a_wrong_port, on_cycle as a_cycle, without_main, FirstBroken}
 use Rattle.xc_names.specs.Least.{IsLeastOf, first_of as first_rule}
 use Rattle.xc_names.specs.Starts.{AreStarts}
-use Rattle.xc_names.specs.Meanings.{AreMeanings}
 use Rattle.xc_names.specs.NameRules.{IsBrokenAt, unknown, again, IsBrokenBefore}
 use Rattle.xc_names.specs.PortRules.{HasWrongPort, wrong_port}
 use Rattle.xc_names.specs.Cycles.{HasCycle, on_cycle}

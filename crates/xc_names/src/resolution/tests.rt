@@ -82,20 +82,14 @@ fn shown(alloc: Global, text: &str) -> Result<String, AllocError> {
 const SCOPES: [(&str, &str); 18] = [
     ("int main(){{int x;x++;}}", "main x : 0 1 1"),
     ("int main(){{int x;x++;}x++;}", "301 at 1:24"),
-    (
-        "int main(){int x;{int x;x++;}x++;}",
-        "main x x : 0 1 2 2 1",
-    ),
+    ("int main(){int x;{int x;x++;}x++;}", "main x x : 0 1 2 2 1"),
     ("int main(){for(int x=0;;)x++;}", "main x : 0 1 1"),
     ("int main(){for(int x=0;;)x++;x++;}", "301 at 1:30"),
     (
         "int main(){int x;for(int x=0;;)x++;x++;}",
         "main x x : 0 1 2 2 1",
     ),
-    (
-        "int main(){par(int x=0;x<2;x++)x++;}",
-        "main x : 0 1 1 1 1",
-    ),
+    ("int main(){par(int x=0;x<2;x++)x++;}", "main x : 0 1 1 1 1"),
     ("int main(){par(int x=0;x<2;x++)x++;x++;}", "301 at 1:36"),
     (
         "int main(){int x;par(int x=0;x<2;x++)x++;x++;}",
@@ -149,7 +143,10 @@ const RULES: [(&str, &str); 32] = [
     ("int main(){int x;\nint x;y++;}", "302 at 2:5"),
     ("int main(){int x;y++;int x;}", "301 at 1:18"),
     ("void f(int p){int p;}int main(){}", "302 at 1:19"),
-    ("void f(int p){{int p;}}int main(){}", "f p p main : 0 1 2 3"),
+    (
+        "void f(int p){{int p;}}int main(){}",
+        "f p p main : 0 1 2 3",
+    ),
     ("int main(){f();}void f(int p){}void f(){}", "302 at 1:37"),
     (
         "port p=XS1_PORT_2A;port q=XS1_PORT_1A;int main(){}",
@@ -186,7 +183,10 @@ const RULES: [(&str, &str); 32] = [
     ("void f(){f();}int main(){}", "304 at 1:10"),
     ("int main(){f();}void f(){f();}", "304 at 1:26"),
     ("int main(){main();}", "304 at 1:12"),
-    ("void f(){g();}void g(){f();}int main(){f();}", "304 at 1:10"),
+    (
+        "void f(){g();}void g(){f();}int main(){f();}",
+        "304 at 1:10",
+    ),
     (
         "void f(){g();}void g(){}int main(){f();g();}",
         "f g main : 0 1 1 2 0 1",
@@ -233,6 +233,9 @@ fn a_long_cycle_is_named_by_its_first_call(rt: HostRuntime) -> Result<(), Fail> 
     assert_eq!(rt; shown(alloc, behind.as_str())?.as_str(), "304 at 42:10");
     let mut none = chain(alloc, 3, "g")?;
     none.push_str("\nvoid g(){}")?;
-    assert_eq!(rt; shown(alloc, none.as_str())?.as_str(), "f0 f1 f2 main g : 0 4 1 0 2 1 3 2 4");
+    assert_eq!(rt;
+        shown(alloc, none.as_str())?.as_str(),
+        "f0 f1 f2 main g : 0 4 1 0 2 1 3 2 4"
+    );
     Ok(())
 }

@@ -1,7 +1,5 @@
-use Rattle.std.proofs.Common.{◌≡◌, List, length, Option, subst}
-use Rattle.xw_words.specs.declared.pos.Broken.{Broken}
+use Rattle.std.proofs.Common.{List, length, subst}
 use Rattle.xc_tree.specs.declared.names.Mark.{Mark}
-use Rattle.xc_tree.specs.Names.Marks.{of_program}
 use Rattle.xc_tree.specs.Trees.{program_of}
 use Rattle.xc_names.specs.Least.{IsLeastOf}
 use Rattle.xc_names.specs.Meanings.{AreMeanings}

@@ -1,9 +1,6 @@
-use Rattle.std.proofs.Common.{◌≡◌, ℕ, ◌+◌, ◌<◌, ◌≤◌, ◌^◌, List, length, map, None, sym, ap, subst, ◌∙◌, arith}
+use Rattle.std.proofs.Common.{subst, ◌∙◌, arith}
 use Rattle.std.proofs.lemmas.List.{length-map}
-use Rattle.xc_tree.specs.declared.names.Mark.{Mark}
-use Rattle.xc_tree.specs.Names.Marks.{of_program}
 use Rattle.xc_tree.specs.Names.Rules.{Breaks}
-use Rattle.xc_tree.specs.Names.Uses.{declarations}
 use Rattle.xc_tree.specs.Trees.{program_of, item_of}
 use Rattle.xc_names.specs.Least.{IsLeastOf}
 use Rattle.xc_names.proofs.Bounds.{few_items, few_names}
