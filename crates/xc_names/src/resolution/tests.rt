@@ -79,7 +79,7 @@ fn shown(alloc: Global, text: &str) -> Result<String, AllocError> {
 
 /// Each scope around an `x` of its own: alone, with a use of `x` behind it, and with another `x` around it, which the use
 /// behind it means.
-const SCOPES: [(&str, &str); 18] = [
+const SCOPES: [(&str, &str); 24] = [
     ("int main(){{int x;x++;}}", "main x : 0 1 1"),
     ("int main(){{int x;x++;}x++;}", "301 at 1:24"),
     ("int main(){int x;{int x;x++;}x++;}", "main x x : 0 1 2 2 1"),
@@ -119,6 +119,21 @@ const SCOPES: [(&str, &str); 18] = [
         "port x=XS1_PORT_1A;void f(int x){x++;}int main(){x++;}",
         "x f x main : 0 1 2 2 3 0",
     ),
+    (
+        "int main(){chan c;select{case c:>int x:break;case c:>int x:break;}}",
+        "main c x x : 0 1 1 2 1 3",
+    ),
+    (
+        "int main(){chan c;par{c:>int x;x++;}}",
+        "main c x : 0 1 1 2 2",
+    ),
+    (
+        "int main(){chan c;if(1)c:>int x;x++;}",
+        "main c x : 0 1 1 2 2",
+    ),
+    ("int main(){chan c;for(;;)c:>int x;x++;}", "301 at 1:35"),
+    ("int main(){chan c;for(;;x=1)c:>int x;}", "301 at 1:25"),
+    ("void f(){int f;f();}int main(){}", "f f main : 0 1 1 2"),
 ];
 
 #[test]
@@ -131,13 +146,16 @@ fn each_scope_ends_and_hides_what_is_around_it(rt: HostRuntime) -> Result<(), Fa
 }
 
 /// What breaks a rule, by the least text and its neighbours; of two rules the first place is named.
-const RULES: [(&str, &str); 32] = [
+const RULES: [(&str, &str); 42] = [
     ("int main(void) { y = 1; return 0; }", "301 at 1:18"),
     ("int main(){return x;}", "301 at 1:19"),
     ("int main(){x++;int x;}", "301 at 1:12"),
     ("int main(){int x=x;}", "main x : 0 1 1"),
     ("int main(){f();}", "301 at 1:12"),
     ("int main(){f();}void f(){}", "main f : 0 1 1"),
+    ("void f();int main(){f();}", "301 at 1:21"),
+    ("int main(){par(int i=0;j<2;i++);}", "301 at 1:24"),
+    ("int main(){par(int i=0;i<2;k++);}", "301 at 1:28"),
     ("int main(){int x;int x;}", "302 at 1:22"),
     ("int main(){int x;int y;}", "main x y : 0 1 2"),
     ("int main(){int x;\nint x;y++;}", "302 at 2:5"),
@@ -148,6 +166,10 @@ const RULES: [(&str, &str); 32] = [
         "f p p main : 0 1 2 3",
     ),
     ("int main(){f();}void f(int p){}void f(){}", "302 at 1:37"),
+    (
+        "int main(){chan c;select{case c:>int x:int x;break;}}",
+        "302 at 1:44",
+    ),
     (
         "port p=XS1_PORT_2A;port q=XS1_PORT_1A;int main(){}",
         "303 at 1:8",
@@ -180,7 +202,24 @@ const RULES: [(&str, &str); 32] = [
         "on tile[3]:port p=XS1_PORT_1A;\non tile[1+2]:port q=XS1_PORT_1A;int main(){}",
         "303 at 2:21",
     ),
+    (
+        "port n=XS1_PORT_1B;on tile[n]:port p=XS1_PORT_1A;on tile[n]:port q=XS1_PORT_1A;int main(){}",
+        "n p q main : 0 0 1 0 2 3",
+    ),
+    (
+        "on tile[4/2]:port p=XS1_PORT_1A;on tile[2]:port q=XS1_PORT_1A;int main(){}",
+        "p q main : 0 1 2",
+    ),
     ("void f(){f();}int main(){}", "304 at 1:10"),
+    ("void f(){f();int f;}int main(){}", "304 at 1:10"),
+    (
+        "void f(){g();}void f(){}void g(){f();}int main(){}",
+        "304 at 1:10",
+    ),
+    (
+        "void f(){}void f(){g();}void g(){f();}int main(){}",
+        "302 at 1:16",
+    ),
     ("int main(){f();}void f(){f();}", "304 at 1:26"),
     ("int main(){main();}", "304 at 1:12"),
     (
@@ -194,6 +233,7 @@ const RULES: [(&str, &str); 32] = [
     ("void f(){f();x++;}int main(){}", "304 at 1:10"),
     ("", "305 at 1:1"),
     ("int main(int p){}", "305 at 1:1"),
+    ("port main=XS1_PORT_1A;", "305 at 1:1"),
     ("void f(){}", "305 at 1:1"),
     ("void f(){x++;}", "305 at 1:1"),
     ("int main(void){}", "main : 0"),
