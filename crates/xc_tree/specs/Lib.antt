@@ -16,3 +16,6 @@ pub mod Parses
 pub mod Depth
 pub mod Programs
 pub mod Names
+pub mod Types
+pub mod Shapes
+pub mod Checks
