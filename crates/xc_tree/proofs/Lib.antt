@@ -1,1 +1,5 @@
 pub mod Forms
+pub mod Written
+pub mod TypeExamples
+pub mod TypeRuleExamples
+pub mod ShapeRuleExamples
