@@ -1,12 +1,12 @@
 -- Texts and the rules 501 to 508 that they break, worked out by hand.
-use Rattle.std.specs.Prelude.{◌≡◌, ℕ, Bool, true, false, List, [], ◌∷◌, Some, None, refl, codes}
+use Rattle.std.specs.Prelude.{◌≡◌, true, false, [], ◌∷◌, Some, None, refl, codes}
 use Rattle.xc_tree.specs.declared.tree.TreeDir.TheVariants as direction
 use Rattle.xc_tree.specs.declared.tree.ParamKind.TheVariants as param
 use Rattle.xc_tree.specs.Plain as plain
 use Rattle.xc_tree.specs.Names.Marks.{of_program}
 use Rattle.xc_tree.specs.Types.Named.{NamedProgram}
 use Rattle.xc_tree.specs.Types.Sites.{sites}
-use Rattle.xc_tree.proofs.Written.{at, id, number, name, index, unary, binary, choice, cast, given, call_of, timing, condition, placing, does, function_of, named, broken, rule}
+use Rattle.xc_tree.proofs.Written.{at, id, number, name, unary, binary, choice, cast, given, call_of, placing, does, function_of, named, broken, rule}
 
 -- void main(void) { break; if (1) continue; }
 abbrev pub break_alone : NamedProgram

@@ -1,12 +1,11 @@
 -- The types of the nodes of expressions, worked out by hand.
-use Rattle.std.specs.Prelude.{◌≡◌, ℕ, Bool, true, false, List, [], ◌∷◌, Some, None, refl, codes}
-use Rattle.xc_tree.specs.declared.tree.TreeDir.TheVariants as direction
+use Rattle.std.specs.Prelude.{◌≡◌, true, false, [], ◌∷◌, Some, None, refl, codes}
 use Rattle.xc_tree.specs.declared.tree.ParamKind.TheVariants as param
 use Rattle.xc_tree.specs.Plain as plain
 use Rattle.xc_tree.specs.Names.Marks.{of_program}
 use Rattle.xc_tree.specs.Types.Named.{NamedProgram}
 use Rattle.xc_tree.specs.Types.Sites.{sites, unsigned_at}
-use Rattle.xc_tree.proofs.Written.{at, id, number, name, index, unary, binary, choice, cast, given, call_of, timing, condition, placing, does, function_of, named}
+use Rattle.xc_tree.proofs.Written.{at, id, number, name, index, unary, binary, choice, cast, given, call_of, does, function_of, named}
 
 -- unsigned f(unsigned u, int x) { return u + x - (u < x) << u; }
 abbrev pub operators : NamedProgram

@@ -1,12 +1,12 @@
 -- Texts and the rules 401 to 416 that they break, worked out by hand.
-use Rattle.std.specs.Prelude.{◌≡◌, ℕ, Bool, true, false, List, [], ◌∷◌, Some, None, refl, codes}
+use Rattle.std.specs.Prelude.{◌≡◌, true, false, [], ◌∷◌, Some, None, refl, codes}
 use Rattle.xc_tree.specs.declared.tree.TreeDir.TheVariants as direction
 use Rattle.xc_tree.specs.declared.tree.ParamKind.TheVariants as param
 use Rattle.xc_tree.specs.Plain as plain
 use Rattle.xc_tree.specs.Names.Marks.{of_program}
 use Rattle.xc_tree.specs.Types.Named.{NamedProgram}
 use Rattle.xc_tree.specs.Types.Sites.{sites}
-use Rattle.xc_tree.proofs.Written.{at, id, number, name, index, unary, binary, choice, cast, given, call_of, timing, condition, placing, does, function_of, named, broken, rule}
+use Rattle.xc_tree.proofs.Written.{at, id, number, name, index, binary, given, call_of, timing, condition, does, function_of, named, broken, rule}
 
 -- void main(void) { int a[2]; int x; x = a; }
 abbrev pub word_of_array : NamedProgram
@@ -67,7 +67,7 @@ of_indexed_word = refl
 -- void f(int a[], int b[3]) { a[0] = b[1]; } void main(void) { int c[3]; int d[3]; c[0] = 1; f(c, d); }
 abbrev pub indexed_arrays : NamedProgram
 indexed_arrays = named (
-    function_of None (id (codes "f") 6) (record { kind = param.Array false None; name = id (codes "a") 12 } ∷ record { kind = param.Array false (Some (3 , at 23)); name = id (codes "b") 21 } ∷ []) (plain.statements ((does (plain.assign (index (codes "a") (number 0 false 31) 29) 22 (at 34) (plain.value (index (codes "b") (number 1 false 38) 36))) 29) ∷ [])) 27
+    function_of None (id (codes "f") 6) (record { kind = param.Array false None; name = id (codes "a") 12 } ∷ record { kind = param.Array false (Some (3, at 23)); name = id (codes "b") 21 } ∷ []) (plain.statements ((does (plain.assign (index (codes "a") (number 0 false 31) 29) 22 (at 34) (plain.value (index (codes "b") (number 1 false 38) 36))) 29) ∷ [])) 27
     ∷ function_of None (id (codes "main") 49) [] (plain.statements ((does (plain.declare (record { kind = plain.array false 3 (at 68); name = id (codes "c") 66 } ∷ [])) 62) ∷ (does (plain.declare (record { kind = plain.array false 3 (at 78); name = id (codes "d") 76 } ∷ [])) 72) ∷ (does (plain.assign (index (codes "c") (number 0 false 84) 82) 22 (at 87) (plain.value (number 1 false 89))) 82) ∷ (does (plain.perform (call_of (id (codes "f") 92) (given 94 (name (codes "c") 94) ∷ given 97 (name (codes "d") 97) ∷ []))) 92) ∷ [])) 60
     ∷ []) (0 ∷ 1 ∷ 2 ∷ 1 ∷ 2 ∷ 3 ∷ 4 ∷ 5 ∷ 4 ∷ 0 ∷ 4 ∷ 5 ∷ [])
 
@@ -194,7 +194,7 @@ of_reference_of_no_element = refl
 abbrev pub array_of_other : NamedProgram
 array_of_other = named (
     function_of None (id (codes "f") 6) (record { kind = param.Array false None; name = id (codes "a") 12 } ∷ []) (plain.statements []) 17
-    ∷ function_of None (id (codes "g") 26) (record { kind = param.Array false (Some (2 , at 34)); name = id (codes "b") 32 } ∷ []) (plain.statements []) 38
+    ∷ function_of None (id (codes "g") 26) (record { kind = param.Array false (Some (2, at 34)); name = id (codes "b") 32 } ∷ []) (plain.statements []) 38
     ∷ function_of None (id (codes "h") 47) (record { kind = param.Array false None; name = id (codes "c") 53 } ∷ []) (plain.statements ((does (plain.perform (call_of (id (codes "g") 60) (given 62 (name (codes "c") 62) ∷ []))) 60) ∷ [])) 58
     ∷ function_of None (id (codes "main") 73) [] (plain.statements ((does (plain.declare (record { kind = plain.word false None; name = id (codes "x") 90 } ∷ [])) 86) ∷ (does (plain.declare (record { kind = plain.array false 3 (at 99); name = id (codes "a") 97 } ∷ [])) 93) ∷ (does (plain.declare (record { kind = plain.array true 2 (at 114); name = id (codes "u") 112 } ∷ [])) 103) ∷ (does (plain.perform (call_of (id (codes "f") 118) (given 120 (name (codes "x") 120) ∷ []))) 118) ∷ (does (plain.perform (call_of (id (codes "f") 124) (given 126 (index (codes "a") (number 0 false 128) 126) ∷ []))) 124) ∷ (does (plain.perform (call_of (id (codes "f") 133) (given 135 (name (codes "u") 135) ∷ []))) 133) ∷ (does (plain.perform (call_of (id (codes "g") 139) (given 141 (name (codes "a") 141) ∷ []))) 139) ∷ [])) 84
     ∷ []) (0 ∷ 1 ∷ 2 ∷ 3 ∷ 4 ∷ 5 ∷ 2 ∷ 5 ∷ 6 ∷ 7 ∷ 8 ∷ 9 ∷ 0 ∷ 7 ∷ 0 ∷ 8 ∷ 0 ∷ 9 ∷ 2 ∷ 8 ∷ [])
@@ -208,7 +208,7 @@ of_array_of_other = refl
 abbrev pub arrays : NamedProgram
 arrays = named (
     function_of None (id (codes "f") 6) (record { kind = param.Array false None; name = id (codes "a") 12 } ∷ []) (plain.statements []) 17
-    ∷ function_of None (id (codes "g") 26) (record { kind = param.Array false (Some (2 , at 34)); name = id (codes "b") 32 } ∷ []) (plain.statements ((does (plain.perform (call_of (id (codes "f") 40) (given 42 (name (codes "b") 42) ∷ []))) 40) ∷ [])) 38
+    ∷ function_of None (id (codes "g") 26) (record { kind = param.Array false (Some (2, at 34)); name = id (codes "b") 32 } ∷ []) (plain.statements ((does (plain.perform (call_of (id (codes "f") 40) (given 42 (name (codes "b") 42) ∷ []))) 40) ∷ [])) 38
     ∷ function_of None (id (codes "main") 53) [] (plain.statements ((does (plain.declare (record { kind = plain.array false 2 (at 72); name = id (codes "a") 70 } ∷ [])) 66) ∷ (does (plain.perform (call_of (id (codes "f") 76) (given 78 (name (codes "a") 78) ∷ []))) 76) ∷ (does (plain.perform (call_of (id (codes "g") 82) (given 84 (name (codes "a") 84) ∷ []))) 82) ∷ (does (plain.perform (call_of (id (codes "g") 88) (given 90 (name (codes "a") 91) ∷ []))) 88) ∷ [])) 64
     ∷ []) (0 ∷ 1 ∷ 2 ∷ 3 ∷ 0 ∷ 3 ∷ 4 ∷ 5 ∷ 0 ∷ 5 ∷ 2 ∷ 5 ∷ 2 ∷ 5 ∷ [])
 
@@ -345,7 +345,7 @@ of_returns = refl
 -- void f(int a[0]) { } void main(void) { int a[0]; int b[16385], c[16384], d[1]; }
 abbrev pub lengths : NamedProgram
 lengths = named (
-    function_of None (id (codes "f") 6) (record { kind = param.Array false (Some (0 , at 14)); name = id (codes "a") 12 } ∷ []) (plain.statements []) 18
+    function_of None (id (codes "f") 6) (record { kind = param.Array false (Some (0, at 14)); name = id (codes "a") 12 } ∷ []) (plain.statements []) 18
     ∷ function_of None (id (codes "main") 27) [] (plain.statements ((does (plain.declare (record { kind = plain.array false 0 (at 46); name = id (codes "a") 44 } ∷ [])) 40) ∷ (does (plain.declare (record { kind = plain.array false 16385 (at 56); name = id (codes "b") 54 } ∷ record { kind = plain.array false 16384 (at 66); name = id (codes "c") 64 } ∷ record { kind = plain.array false 1 (at 76); name = id (codes "d") 74 } ∷ [])) 50) ∷ [])) 38
     ∷ []) (0 ∷ 1 ∷ 2 ∷ 3 ∷ 4 ∷ 5 ∷ 6 ∷ [])
 

@@ -1,5 +1,5 @@
 -- What stands around a statement in its function.
-use Rattle.std.specs.Prelude.{ℕ, Bool, true, false, ◌&&◌, List, [], ◌∷◌, codes, bytes_eq}
+use Rattle.std.specs.Prelude.{Bool, true, false, ◌&&◌, List, [], ◌∷◌, codes, bytes_eq}
 use Rattle.xc_tree.specs.Plain as plain
 
 -- what a statement stands in

@@ -1,5 +1,5 @@
 -- The form of main's block where it has a placed branch.
-use Rattle.std.specs.Prelude.{Bool, true, false, ◌&&◌, ◌||◌, List, [], ◌∷◌, Option, Some, None}
+use Rattle.std.specs.Prelude.{Bool, true, false, ◌&&◌, ◌||◌, List, [], ◌∷◌, Some, None}
 use Rattle.xc_tree.specs.Plain as plain
 
 abbrev pub is_placed : plain.Branch → Bool

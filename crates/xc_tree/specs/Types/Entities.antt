@@ -3,7 +3,7 @@ use Rattle.std.specs.Prelude.{ℕ, Bool, true, false, not, nat_eq, ◌&&◌, Opt
 use Rattle.xc_tree.specs.declared.tree.TreeDir.{TreeDir}
 use Rattle.xc_tree.specs.declared.tree.TreeDir.TheVariants.{In, Out, Both}
 use Rattle.xc_tree.specs.declared.names.What.{What}
-use Rattle.xc_tree.specs.declared.names.What.TheVariants.{Word, Array, Ref, ArrayParam, Chan, End, Timer, Port, PortParam, Func, Index}
+use Rattle.xc_tree.specs.declared.names.What.TheVariants.{Word, Array, Ref, ArrayParam, Chan, End, Timer, Port, PortParam, Index}
 
 -- a word: a variable, a parameter for one, or the index of a replicated `par`
 abbrev pub is_word : Option What → Bool

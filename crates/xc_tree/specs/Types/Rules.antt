@@ -1,9 +1,8 @@
 -- The rules 401 to 416 of types: for each what it says, and at which places it is broken by what stands somewhere in a program.
-use Rattle.std.specs.Prelude.{ℕ, Bool, true, false, not, nat_eq, nat_le, ◌&&◌, ◌||◌, if◌then◌else◌, List, [], ◌∷◌, ◌++◌, length, Option, Some, None, bytes_eq, is_some}
+use Rattle.std.specs.Prelude.{ℕ, Bool, true, false, not, nat_eq, nat_le, ◌&&◌, if◌then◌else◌, List, [], ◌∷◌, ◌++◌, length, Option, Some, None, bytes_eq, is_some}
 use Rattle.xw_words.specs.declared.pos.Pos.{Pos}
 use Rattle.xc_tree.specs.declared.tree.Id.{Id}
 use Rattle.xc_tree.specs.Plain as plain
-use Rattle.xc_tree.specs.Types.Named.{Name}
 use Rattle.xc_tree.specs.Types.Entities.{is_word, is_array, is_index, agree, is_port, is_timer, takes_output, gives_input}
 use Rattle.xc_tree.specs.Types.Calls.{Argument, fits, referred}
 use Rattle.xc_tree.specs.Types.Words.{is_among}
