@@ -6,6 +6,7 @@ mod lexing;
 mod names;
 mod token;
 mod tree;
+mod types;
 
 pub use lexing::{Number, Reading, Start};
 pub use names::{Decl, Mark, Named, What};
@@ -14,3 +15,4 @@ pub use tree::{
     Arg, At, Branch, Case, DeclKind, Declared, Dest, Ex, Expr, FuncItem, Head, Id, Item, Param,
     ParamKind, PortItem, Rhs, Send, St, Stmt, Timed, Tree, TreeDir, When,
 };
+pub use types::Typed;
