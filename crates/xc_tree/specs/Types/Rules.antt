@@ -77,7 +77,7 @@ longest_array = 16384
 
 -- Rule 409: an array's length is 0 or above 16,384. At the number.
 abbrev pub rule_409 : Site → List Pos
-rule_409 (site.length l p) = broken_unless (nat_le 1 l && nat_le l longest_array) p
+rule_409 (site.array_length l p) = broken_unless (nat_le 1 l && nat_le l longest_array) p
 rule_409 other = []
 
 -- Rule 410: `<:` stands behind something other than a channel, a chanend, an `out port` or a `port`. At the name.

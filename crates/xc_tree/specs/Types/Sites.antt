@@ -31,7 +31,7 @@ pub data Site : Type 0 where
   -- a `when` of an input from this name, and the place in `WORDS` of its test
   condition : Name → Pos → (test : ℕ) → Site
   -- the length of an array
-  length : ℕ → Pos → Site
+  array_length : ℕ → Pos → Site
   -- the names of a replicated `par`
   replicator : (first second third : Id) → Site
   -- these with their first word; a `return` also with whether it has a value
@@ -184,7 +184,7 @@ of_input n k i =
 -- what the kind of a declared name has, behind that name
 abbrev pub of_kind : NamedProgram → Around → ℕ → plain.Kind → List Site
 of_kind n around k (plain.word u r) = optional (of_right n around k true) r
-of_kind n around k (plain.array u l p) = length l p ∷ []
+of_kind n around k (plain.array u l p) = array_length l p ∷ []
 of_kind n around k (plain.channel s) = []
 of_kind n around k plain.timer = []
 
@@ -270,7 +270,7 @@ abbrev mutual
 
 -- the lengths of array parameters
 abbrev pub of_parameter_kind : ParamKind → List Site
-of_parameter_kind (param.Array u (Some l)) = length l.0 l.1 ∷ []
+of_parameter_kind (param.Array u (Some l)) = array_length l.0 l.1 ∷ []
 of_parameter_kind other = []
 
 abbrev pub of_parameter : Param → List Site
