@@ -10,6 +10,8 @@ use Rattle.xc_form.specs.Bytes.{start_at, pos_at}
 use Rattle.xc_form.specs.Words.{place_in, identifiers}
 use Rattle.xc_form.specs.Row.{Row}
 use Rattle.xc_form.specs.Form.{Form, IsDeclaration}
+use Rattle.xc_form.specs.OfTree.{AreDeclarations, AreDistinctNames}
+use Rattle.xc_tree.specs.Plain.{Item}
 
 -- this is of a kind, and nothing else is
 pub record IsOnly {X : Type 0} (R : X → Type 0) (x : X) : Type 0 where
@@ -66,3 +68,16 @@ pub record Declare (ls : List Lexeme) (ports : Ports) (at : ℕ) : Type 0 where
 pub record DeclareAll (ls : List Lexeme) (ports : Ports) (at : ℕ) : Type 0 where
   pub before : Declare ls ports at
   pub last : (name identifier : List ℕ) → IsDeclaration ls at name identifier → ⊥
+
+-- items declare these ports, which differ from each other
+pub record CanBeDeclared (items : List Item) (ports : Ports) : Type 0 where
+  pub declared : AreDeclarations items ports.names ports.ids
+  pub names_differ : AreDistinctNames ports.names
+  pub ports_differ : AreDistinctPorts ports.ids
+
+-- and no others; they are few
+pub record AreAllDeclared (items : List Item) (ports : Ports) : Type 0 where
+  pub can : CanBeDeclared items ports
+  pub only : (names : List (List ℕ)) (ids : List ℕ) → AreDeclarations items names ids → (names ≡ ports.names) × (ids ≡ ports.ids)
+  pub same : length ports.names ≡ length ports.ids
+  pub few : length ports.names ≤ 29

@@ -4,9 +4,11 @@
 
 mod lexeme;
 mod number;
+mod of_tree;
 mod parse;
 mod scan;
 mod table;
 mod text;
 
+pub use of_tree::of_tree;
 pub use text::{ReadErr, read};

@@ -8,12 +8,24 @@ use crate::parse::program;
 use crate::scan::scan;
 use std::alloc::Global;
 use xc_meaning::Program;
+use xw_words::Memory;
 
 /// Why a text gave no program: it is of another form, or memory could not be had.
 #[derive(Clone, Copy, Debug, PartialEq, Eq)]
 pub enum ReadErr {
     Other,
     Memory,
+}
+
+impl From<Memory> for ReadErr {
+    ghost use Rattle.std.specs.Prelude.{◌≡◌};
+    ghost use Rattle.xc_form.specs.declared.text.ReadErr.TheVariants as err;
+
+    ghost from_gives = { λ _ e. e ≡ err.Memory };
+
+    fn from(_: Memory) -> ReadErr {
+        ReadErr::Memory
+    }
 }
 
 /// The most bytes that a text may have.
