@@ -7,3 +7,5 @@ mod Rows
 mod Ports
 mod Statements
 mod Few
+mod Shapes
+mod Sends

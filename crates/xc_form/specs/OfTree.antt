@@ -37,14 +37,20 @@ pub data AreOutputs (names : List (List ℕ)) : List plain.Statement → List Ou
   no_output : AreOutputs names [] []
   further_output : {s : plain.Statement} {ss : List plain.Statement} {o : Output} {os : List Output} → IsOutput names s o → AreOutputs names ss os → AreOutputs names (s ∷ ss) (o ∷ os)
 
+-- the number 0 is returned
+pub record IsZero (r : Option plain.RightSide) : Type 0 where
+  pub value : plain.Expression
+  pub is : r ≡ Some (plain.value value)
+  pub zero : IsNumber value 0
+
 -- `return 0 ;`
 pub record ReturnsZero (s : plain.Statement) : Type 0 where
-  pub value : plain.Expression
+  pub value : Option plain.RightSide
   pub pos : Pos
   pub close : Pos
   pub own : ℕ
-  pub is : s ≡ plain.statement (plain.return_with (Some (plain.value value))) pos close own
-  pub zero : IsNumber value 0
+  pub is : s ≡ plain.statement (plain.return_with value) pos close own
+  pub zero : IsZero value
 
 -- `out port NAME = IDENTIFIER ;`, not placed, of a name other than `main`
 pub record IsDeclaration (item : plain.Item) (name identifier : List ℕ) : Type 0 where
@@ -61,16 +67,20 @@ pub data AreDeclarations : List plain.Item → List (List ℕ) → List ℕ → 
   no_declaration : AreDeclarations [] [] []
   further_declaration : {item : plain.Item} {items : List plain.Item} {name identifier : List ℕ} {id : ℕ} {names : List (List ℕ)} {ids : List ℕ} → IsDeclaration item name identifier → place_in identifiers identifier ≡ Some id → AreDeclarations items names ids → AreDeclarations (item ∷ items) (name ∷ names) (id ∷ ids)
 
--- `int main` without parameters, whose block holds these statements
+-- `int main` without parameters
+pub record IsMainHead (head : plain.Head) : Type 0 where
+  pub result : head.result ≡ Some false
+  pub spelled : head.name.text ≡ codes "main"
+  pub without : head.params ≡ []
+
+-- a function of this head, whose block holds these statements
 pub record IsMain (item : plain.Item) (statements : List plain.Statement) : Type 0 where
   pub head : plain.Head
   pub pos : Pos
   pub close : Pos
   pub own : ℕ
   pub is : item ≡ plain.function head (plain.statement (plain.block (plain.statements statements)) pos close own)
-  pub result : head.result ≡ Some false
-  pub spelled : head.name.text ≡ codes "main"
-  pub without : head.params ≡ []
+  pub is_main : IsMainHead head
 
 -- no name of the list is this one
 abbrev pub IsNewName : List ℕ → List (List ℕ) → Type 0

@@ -10,5 +10,5 @@ mod scan;
 mod table;
 mod text;
 
-pub use of_tree::of_tree;
+pub use of_tree::program_of_tree;
 pub use text::{ReadErr, read};

@@ -5,9 +5,9 @@ ghost use Rattle.xc_meaning.specs.declared.program.Program.{Program};
 ghost use Rattle.xc_tree.specs.declared.token.Tok.{Tok};
 ghost use Rattle.xc_tree.specs.Derives.{IsProgram};
 ghost use Rattle.xc_tree.specs.Plain as plain;
-ghost use Rattle.xc_tree.specs.Trees.{expression_of, item_of, program_of, statement_of, timing_of};
+ghost use Rattle.xc_tree.specs.Trees.{expression_of, head_of, item_of, program_of, right_of, statement_of, timing_of};
 ghost use Rattle.xc_form.specs.declared.parse.Ports.{Ports};
-ghost use Rattle.xc_form.specs.OfTree.{AreOutputs, IsDeclaration, IsMain, IsNumber, IsOfTree, IsOutput, IsTime, ReturnsZero};
+ghost use Rattle.xc_form.specs.OfTree.{AreOutputs, IsDeclaration, IsMain, IsMainHead, IsNumber, IsOfTree, IsOutput, IsTime, IsZero, ReturnsZero};
 ghost use Rattle.xc_form.specs.ReadErr.{IfOther};
 ghost use Rattle.xc_form.specs.Steps.{AreAllDeclared, CanBeDeclared, IsOnly};
 
@@ -16,12 +16,12 @@ use crate::table::name_place;
 use crate::text::ReadErr;
 use std::alloc::Global;
 use xc_meaning::{Output, Program};
-use xc_tree::{Ex, Expr, Item, Rhs, St, Stmt, Timed, Tree, TreeDir};
+use xc_tree::{Ex, Expr, FuncItem, Item, Rhs, St, Stmt, Timed, Tree, TreeDir};
 use xw_words::List;
 
 /// The program that a tree is. `Other` exactly where the tree is not of the form; `Memory` where memory for the program
 /// could not be had.
-pub fn of_tree(alloc: Global, tree: &Tree) -> Result<Program, ReadErr>
+pub fn program_of_tree(alloc: Global, tree: &Tree) -> Result<Program, ReadErr>
     ensures program { IfOk result (λ p. IsOfTree (program_of tree.now) p) }
     ensures no_other_program { IfOk result (λ p. (other : Program) → IsOfTree (program_of tree.now) other → other ≡ p) }
     ensures well_formed { IfOk result (λ p. IsWellFormed p) }
@@ -91,10 +91,7 @@ fn statements_of_main(item: &Item) -> Option<&[Stmt]>
     let Item::Func(function) = item else {
         return None;
     };
-    if function.result != Some(false)
-        || function.name.text.as_slice() != b"main".as_slice()
-        || function.params.len() != 0
-    {
+    if !is_main(function) {
         return None;
     }
     match &function.body.kind {
@@ -103,13 +100,33 @@ fn statements_of_main(item: &Item) -> Option<&[Stmt]>
     }
 }
 
+/// Whether a function is `int main` without parameters.
+fn is_main(function: &FuncItem) -> bool
+    ensures { IsTrue result ↔ IsMainHead (head_of function.now) }
+{
+    function.result == Some(false)
+        && function.name.text.as_slice() == b"main".as_slice()
+        && function.params.len() == 0
+}
+
 /// Whether a statement is `return 0 ;`.
 fn returns_zero(statement: &Stmt) -> bool
     ensures { IsTrue result ↔ ReturnsZero (statement_of statement.now) }
 {
     match &statement.kind {
-        St::Return(Some(Rhs::Value(value))) => number(value) == Some(0),
+        St::Return(value) => is_zero(value),
         _ => false,
+    }
+}
+
+/// Whether the number 0 is returned.
+fn is_zero(value: &Option<Rhs>) -> bool
+    ensures { IsTrue result ↔ IsZero (option_map right_of value.now) }
+{
+    match value {
+        Some(Rhs::Value(value)) => number(value) == Some(0),
+        Some(Rhs::Call { .. }) => false,
+        None => false,
     }
 }
 
