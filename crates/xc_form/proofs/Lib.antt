@@ -9,3 +9,5 @@ mod Statements
 mod Few
 mod Shapes
 mod Sends
+mod Items
+mod Sentences

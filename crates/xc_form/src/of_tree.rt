@@ -123,10 +123,12 @@ fn returns_zero(statement: &Stmt) -> bool
 fn is_zero(value: &Option<Rhs>) -> bool
     ensures { IsTrue result ↔ IsZero (option_map right_of value.now) }
 {
+    let Some(value) = value else {
+        return false;
+    };
     match value {
-        Some(Rhs::Value(value)) => number(value) == Some(0),
-        Some(Rhs::Call { .. }) => false,
-        None => false,
+        Rhs::Value(value) => number(value) == Some(0),
+        Rhs::Call { .. } => false,
     }
 }
 
