@@ -11,3 +11,5 @@ mod Shapes
 mod Sends
 mod Items
 mod Sentences
+mod Names
+mod Declarations

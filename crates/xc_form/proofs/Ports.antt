@@ -51,7 +51,7 @@ place_below k (x ∷ xs) w n e = let h = place_below_by (bytes_eq x w) k xs w n 
 pub place_within : (table : List (List ℕ)) (w : List ℕ) (n : ℕ) → place_in table w ≡ Some n → n < length table
 place_within table w n e = let h = place_below 0 table w n e in omega arith
 
-identifier_within : (w : List ℕ) (n : ℕ) → place_in identifiers w ≡ Some n → n < port_count
+pub identifier_within : (w : List ℕ) (n : ℕ) → place_in identifiers w ≡ Some n → n < port_count
 unfolding identifiers
 identifier_within w n e = place_within identifiers w n e
 
