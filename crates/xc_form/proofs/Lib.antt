@@ -13,3 +13,5 @@ mod Items
 mod Sentences
 mod Names
 mod Declarations
+mod Counts
+mod Programs

@@ -1,6 +1,6 @@
 use Rattle.std.proofs.Common.{arith}
 use Rattle.xc_form.proofs.Declarations.{none_declared, never_declared, few_names, more_begun, all_begun}
-use Rattle.xc_form.proofs.Founds.{if_other}
+use Rattle.xc_form.proofs.Programs.{error_passes}
 use Rattle.xc_form.proofs.of_tree.declared.Goals as goal
 
 pub returns-in_default-clause-other : goal.returns-in_default-clause-other
@@ -13,7 +13,8 @@ declare-requires c =
     omega arith
 
 pub returns-in_err-declare-clause-other : goal.returns-in_err-declare-clause-other
-returns-in_err-declare-clause-other c = let x : Unit {0} = c.from_residual.ensures in (?)
+returns-in_err-declare-clause-other c =
+    error_passes c.from_residual.result c.in_err-declare.field-0.0 c.from_residual.ensures.1 (never_declared c.args.items.now c.loop-item.item-index c.item-item.result c.item-item.is c.loop-item-test.true c.loop-item.invariant c.in-Some.ensures.some) c.in_err-declare.ensures.other
 
 pub loop-item-preserved : goal.loop-item-preserved
 loop-item-preserved c =
