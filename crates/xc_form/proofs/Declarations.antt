@@ -89,23 +89,23 @@ module _ (items : List Item) (k : ℕ) (x : Item) (is : x ≡ get_or items k x) 
       let s = b.same in
       record {
         derives = λ names ids r.
-          let one = subst (λ l. AreDeclarations l (name ∷ names) (a.id ∷ ids)) (sym on) (further_declaration d a.can.is r) in
-          let all = b.derives (name ∷ names) (a.id ∷ ids) one in
-          let n : before.names ++ name ∷ names ≡ after.names ++ names = sym (append_assoc before.names (name ∷ []) names) ∙ ap (λ l. l ++ names) (sym a.names) in
-          let i : before.ids ++ a.id ∷ ids ≡ after.ids ++ ids = sym (append_assoc before.ids (a.id ∷ []) ids) ∙ ap (λ l. l ++ ids) (sym a.ids) in
-          subst (λ l. AreDeclarations (map item_of items) (after.names ++ names) l) i (subst (λ l. AreDeclarations (map item_of items) l (before.ids ++ a.id ∷ ids)) n all);
+            let one = subst (λ l. AreDeclarations l (name ∷ names) (a.id ∷ ids)) (sym on) (further_declaration d a.can.is r) in
+            let all = b.derives (name ∷ names) (a.id ∷ ids) one in
+            let n : before.names ++ name ∷ names ≡ after.names ++ names = sym (append_assoc before.names (name ∷ []) names) ∙ ap (λ l. l ++ names) (sym a.names) in
+            let i : before.ids ++ a.id ∷ ids ≡ after.ids ++ ids = sym (append_assoc before.ids (a.id ∷ []) ids) ∙ ap (λ l. l ++ ids) (sym a.ids) in
+            subst (λ l. AreDeclarations (map item_of items) (after.names ++ names) l) i (subst (λ l. AreDeclarations (map item_of items) l (before.ids ++ a.id ∷ ids)) n all);
         only = λ names ids r.
-          let o = b.only names ids r in
-          let t = opened o.later_names o.later_ids o.then in
-          let same_name = name_one d t.is in
-          let same_id = some_same t.id a.id (sym t.known ∙ ap (place_in identifiers) (identifier_one d t.is) ∙ a.can.is) in
-          record {
-            later_names = t.later_names;
-            later_ids = t.later_ids;
-            names_are = o.names_are ∙ ap (λ l. before.names ++ l) (t.names_are ∙ ap (λ n. n ∷ t.later_names) same_name) ∙ sym (append_assoc before.names (name ∷ []) t.later_names) ∙ ap (λ l. l ++ t.later_names) (sym a.names);
-            ids_are = o.ids_are ∙ ap (λ l. before.ids ++ l) (t.ids_are ∙ ap (λ n. n ∷ t.later_ids) same_id) ∙ sym (append_assoc before.ids (a.id ∷ []) t.later_ids) ∙ ap (λ l. l ++ t.later_ids) (sym a.ids);
-            then = t.then;
-          };
+            let o = b.only names ids r in
+            let t = opened o.later_names o.later_ids o.then in
+            let same_name = name_one d t.is in
+            let same_id = some_same t.id a.id (sym t.known ∙ ap (place_in identifiers) (identifier_one d t.is) ∙ a.can.is) in
+            record {
+              later_names = t.later_names;
+              later_ids = t.later_ids;
+              names_are = o.names_are ∙ ap (λ l. before.names ++ l) (t.names_are ∙ ap (λ n. n ∷ t.later_names) same_name) ∙ sym (append_assoc before.names (name ∷ []) t.later_names) ∙ ap (λ l. l ++ t.later_names) (sym a.names);
+              ids_are = o.ids_are ∙ ap (λ l. before.ids ++ l) (t.ids_are ∙ ap (λ n. n ∷ t.later_ids) same_id) ∙ sym (append_assoc before.ids (a.id ∷ []) t.later_ids) ∙ ap (λ l. l ++ t.later_ids) (sym a.ids);
+              then = t.then;
+            };
         names_differ = subst AreDistinctNames (sym a.names) (names_behind name before.names (is_new_name before.names name a.can.new_name) b.names_differ);
         ports_differ = subst AreDistinctPorts (sym a.ids) (distinct_behind a.id before.ids (identifier_within identifier a.id a.can.is) a.can.new_id b.ports_differ);
         same = omega (arith, length-append {A = List ℕ}, length-append {A = ℕ});
@@ -143,9 +143,9 @@ all_begun items k ports h b =
         ports_differ = b.ports_differ;
       };
       only = λ names ids r.
-        let o = b.only names ids r in
-        let t = subst (λ l. AreDeclarations l o.later_names o.later_ids) end o.then in
-        (o.names_are ∙ ap (λ l. ports.names ++ l) (no_names t) ∙ append-nil ports.names, o.ids_are ∙ ap (λ l. ports.ids ++ l) (no_ids t) ∙ append-nil ports.ids);
+          let o = b.only names ids r in
+          let t = subst (λ l. AreDeclarations l o.later_names o.later_ids) end o.then in
+          (o.names_are ∙ ap (λ l. ports.names ++ l) (no_names t) ∙ append-nil ports.names, o.ids_are ∙ ap (λ l. ports.ids ++ l) (no_ids t) ∙ append-nil ports.ids);
       same = b.same;
       few = few_names items k ports b;
     }

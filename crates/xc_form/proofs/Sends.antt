@@ -25,9 +25,10 @@ use Rattle.xc_form.proofs.Shapes.{does, no_block, no_return, no_output_is}
 -- an expression is 0 where its number is
 pub zero_number : (e : plain.Expression) (r : Option ℕ) (t : Bool) → t ≡ option_eq eqb r (Some 0) → IfSome r (λ n. IsOnly (IsNumber e) n) → IfNone r ((n : ℕ) → IsNumber e n → ⊥) → IsTrue t ↔ IsNumber e 0
 zero_number e None t f some none = (λ y. absurd (cc), λ i. absurd (none 0 i))
-zero_number e (Some n) t f some none =
-    (λ y. let z = eqb-true n 0 (sym f ∙ y) in subst (IsNumber e) z some.is,
-     λ i. let z = some.only 0 i in f ∙ ap (λ k. eqb k 0) (sym z))
+zero_number e (Some n) t f some none = (
+  λ y. let z = eqb-true n 0 (sym f ∙ y) in subst (IsNumber e) z some.is,
+  λ i. let z = some.only 0 i in f ∙ ap (λ k. eqb k 0) (sym z),
+)
 
 module _ (o : Option Rhs) where
   some_value : plain.RightSide → plain.Expression → plain.Expression
@@ -39,9 +40,10 @@ module _ (o : Option Rhs) where
 
   pub zero_value : (e : Rhs) (v : plain.Expression) → o ≡ Some e → right_of e ≡ plain.value v → {t : Bool} → IsTrue t ↔ IsNumber v 0 → IsTrue t ↔ IsZero (option_map right_of o)
   zero_value e v is right {t} b =
-      let whole : option_map right_of o ≡ Some (plain.value v) = ap (option_map right_of) is ∙ ap Some right in
-      (λ y. record { value = v; is = whole; zero = b.0 y },
-       λ z. b.1 (subst (λ x. IsNumber x 0) (value_same z.value v (sym z.is ∙ whole)) z.zero))
+      let whole : option_map right_of o ≡ Some (plain.value v) = ap (option_map right_of) is ∙ ap Some right in (
+        λ y. record { value = v; is = whole; zero = b.0 y },
+        λ z. b.1 (subst (λ x. IsNumber x 0) (value_same z.value v (sym z.is ∙ whole)) z.zero),
+      )
 
 module _ (s : Stmt) (r : Option Rhs) (is : s.kind ≡ Return r) where
   return_same : (a b : Option plain.RightSide) → plain.return_with a ≡ plain.return_with b → a ≡ b
@@ -54,9 +56,10 @@ module _ (s : Stmt) (r : Option Rhs) (is : s.kind ≡ Return r) where
   whole = statement-Stmt s ∙ ap (λ a. plain.statement a s.pos s.close s.own) acts
 
   pub returns_by : {t : Bool} → IsTrue t ↔ IsZero (option_map right_of r) → IsTrue t ↔ ReturnsZero (statement_of s)
-  returns_by b =
-      (λ y. record { value = option_map right_of r; pos = s.pos; close = s.close; own = s.own; is = whole; zero = b.0 y },
-       λ z. b.1 (subst IsZero (return_same z.value (option_map right_of r) (sym (does s (plain.return_with z.value) z.is) ∙ acts)) z.zero))
+  returns_by b = (
+    λ y. record { value = option_map right_of r; pos = s.pos; close = s.close; own = s.own; is = whole; zero = b.0 y },
+    λ z. b.1 (subst IsZero (return_same z.value (option_map right_of r) (sym (does s (plain.return_with z.value) z.is) ∙ acts)) z.zero),
+  )
 
 pub returns_none : (s : Stmt) → ((r : Option Rhs) → s.kind ≡ Return r → ⊥) → ReturnsZero (statement_of s) → ⊥
 returns_none s n z = no_return s.kind n z.value (does s (plain.return_with z.value) z.is)
@@ -149,11 +152,11 @@ module _ (names : List (List ℕ)) (s : Stmt) (sent : Send) (is : s.kind ≡ Sen
           unstamped = unstamped sent.stamp e;
         };
         only = λ o i.
-          let a : o.port ≡ port = some_same o.port port (sym (port_of o i) ∙ sym p) in
-          let b = t.only o.time (time_of o i) in
-          let c = v.only o.value (value_of o i) in
-          let d : o.pos ≡ sent.pos = i.placed ∙ ap (λ x. x.name.pos) (its o i) in
-          ap (λ x. made x o.time o.value o.pos) a ∙ ap (λ x. made port x o.value o.pos) b ∙ ap (λ x. made port time x o.pos) c ∙ ap (made port time value) d;
+            let a : o.port ≡ port = some_same o.port port (sym (port_of o i) ∙ sym p) in
+            let b = t.only o.time (time_of o i) in
+            let c = v.only o.value (value_of o i) in
+            let d : o.pos ≡ sent.pos = i.placed ∙ ap (λ x. x.name.pos) (its o i) in
+            ap (λ x. made x o.time o.value o.pos) a ∙ ap (λ x. made port x o.value o.pos) b ∙ ap (λ x. made port time x o.pos) c ∙ ap (made port time value) d;
       }
 
 -- `main`

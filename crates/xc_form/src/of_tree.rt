@@ -133,11 +133,7 @@ fn is_zero(value: &Option<Rhs>) -> bool
 }
 
 /// The outputs that some statements are, to ports with these names.
-fn outputs(
-    alloc: Global,
-    statements: &[Stmt],
-    names: &[List<u8>],
-) -> Result<List<Output>, ReadErr>
+fn outputs(alloc: Global, statements: &[Stmt], names: &[List<u8>]) -> Result<List<Output>, ReadErr>
     requires { length names.now < 2 ^ 32 }
     ensures outputs { IfOk result (λ os. IsOnly (AreOutputs names.now (map statement_of statements.now)) os) }
     ensures declared { IfOk result (λ os. AreDeclared (length names.now) os) }
@@ -198,3 +194,6 @@ fn number(value: &Expr) -> Option<u32>
         _ => None,
     }
 }
+
+#[cfg(test)]
+mod tests;

@@ -82,7 +82,12 @@ fn declarations(alloc: Global, lexemes: &[Lexeme]) -> Result<(Ports, usize), Rea
 
 /// Declares a port behind others. `Other` exactly where the name or the identifier is declared already, or it is no
 /// identifier.
-pub fn declare(alloc: Global, ports: &mut Ports, name: &[u8], identifier: &[u8]) -> Result<(), ReadErr>
+pub fn declare(
+    alloc: Global,
+    ports: &mut Ports,
+    name: &[u8],
+    identifier: &[u8],
+) -> Result<(), ReadErr>
     requires { length ports.old.names < 2 ^ 32 }
     ensures declared { OnOk result (Declared ports.old name.now identifier.now ports.new) }
     ensures other { IfErr result (λ e. IfOther e ((id : ℕ) → CanDeclare ports.old name.now identifier.now id → ⊥)) }

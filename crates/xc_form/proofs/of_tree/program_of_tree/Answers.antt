@@ -29,8 +29,8 @@ returns-in_err-outputs-clause-of_another_form c =
     let sent = c.in-Some-split_last.sent.now in
     error_passes c.from_residual-in_err-outputs.result c.in_err-outputs.field-0.0 c.from_residual-in_err-outputs.ensures.1
     (λ n. no_sent c.args.tree.now.items c.in-Some.declarations.now c.in-Some.main.now (sym c.as_slice.ensures ∙ c.in-Some.ensures.cases.0)
-      c.in-Some-statements_of_main.statements.now sent c.in-Some-split_last.last.now c.in-Some-split_last.ensures.cases.0 c.in-Some-statements_of_main.ensures.some
-      ports c.in_ok-ports.ensures.ports (λ os r. n os (subst (λ names. AreOutputs names (map statement_of sent) os) (sym c.as_slice-2.ensures) r)))
+    c.in-Some-statements_of_main.statements.now sent c.in-Some-split_last.last.now c.in-Some-split_last.ensures.cases.0 c.in-Some-statements_of_main.ensures.some
+    ports c.in_ok-ports.ensures.ports (λ os r. n os (subst (λ names. AreOutputs names (map statement_of sent) os) (sym c.as_slice-2.ensures) r)))
     c.in_err-outputs.ensures.other
 
 pub returns-clause-no_other_program : goal.returns-clause-no_other_program
@@ -49,9 +49,9 @@ returns-clause-few c =
     let os = c.in_ok-outputs.outputs in
     let P : Program = record { ports = ports.ids; outputs = os } in
     let is : IsOfTree (program_of c.args.tree.now) P =
-      the_program c.args.tree.now.items c.in-Some.declarations.now c.in-Some.main.now (sym c.as_slice.ensures ∙ c.in-Some.ensures.cases.0)
-      c.in-Some-statements_of_main.statements.now sent c.in-Some-split_last.last.now c.in-Some-split_last.ensures.cases.0 c.in-Some-statements_of_main.ensures.some
-      ports c.in_ok-ports.ensures.ports os (subst (λ names. IsOnly (AreOutputs names (map statement_of sent)) os) c.as_slice-2.ensures c.in_ok-outputs.ensures.outputs)
-      (c.returns_zero.ensures.0 c.if-not-returns_zero.false)
+    the_program c.args.tree.now.items c.in-Some.declarations.now c.in-Some.main.now (sym c.as_slice.ensures ∙ c.in-Some.ensures.cases.0)
+    c.in-Some-statements_of_main.statements.now sent c.in-Some-split_last.last.now c.in-Some-split_last.ensures.cases.0 c.in-Some-statements_of_main.ensures.some
+    ports c.in_ok-ports.ensures.ports os (subst (λ names. IsOnly (AreOutputs names (map statement_of sent)) os) c.as_slice-2.ensures c.in_ok-outputs.ensures.outputs)
+    (c.returns_zero.ensures.0 c.if-not-returns_zero.false)
     in
     λ toks d. few_outputs toks (program_of c.args.tree.now) P is d
