@@ -4,5 +4,6 @@ pub mod Words
 pub mod Row
 pub mod Form
 pub mod OfTree
+pub mod WordOutputs
 pub mod ReadErr
 pub mod Steps
