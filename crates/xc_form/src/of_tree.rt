@@ -18,7 +18,7 @@ use crate::text::ReadErr;
 use std::alloc::Global;
 use xc_meaning::{Output, Program};
 use xc_tree::{Ex, Expr, FuncItem, Item, Rhs, St, Stmt, Timed, Tree, TreeDir};
-use xw_words::List;
+use xw_words::{List, Pos};
 
 /// The program that a tree is. `Other` exactly where the tree is not of the form; `Memory` where memory for the program
 /// could not be had.
@@ -168,11 +168,12 @@ fn output(statement: &Stmt, names: &[List<u8>]) -> Option<Output>
     let port = name_place(names, sent.name.as_slice())?;
     let time = time(&sent.time)?;
     let value = number(&sent.value)?;
+    let Pos { line, col } = sent.pos;
     Some(Output {
         port,
         time,
         value,
-        pos: sent.pos,
+        pos: Pos { line, col },
     })
 }
 
