@@ -4,6 +4,5 @@ pub mod Words
 pub mod Row
 pub mod Form
 pub mod OfTree
-pub mod WordOutputs
 pub mod ReadErr
 pub mod Steps

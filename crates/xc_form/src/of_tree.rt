@@ -9,7 +9,6 @@ ghost use Rattle.xc_tree.specs.Trees.{expression_of, head_of, item_of, program_o
 ghost use Rattle.xc_form.specs.declared.parse.Ports.{Ports};
 ghost use Rattle.xc_form.specs.OfTree.{AreOutputs, IsDeclaration, IsMain, IsMainHead, IsNumber, IsOfTree, IsOutput, IsTime, IsZero, ReturnsZero};
 ghost use Rattle.xc_form.specs.ReadErr.{IfOther};
-ghost use Rattle.xc_form.specs.WordOutputs.{AreWordOutputs, IsWordOutput, IsWordTime};
 ghost use Rattle.xc_form.specs.Steps.{AreAllDeclared, CanBeDeclared, IsOnly};
 
 use crate::parse::{Ports, declare};
@@ -18,7 +17,7 @@ use crate::text::ReadErr;
 use std::alloc::Global;
 use xc_meaning::{Output, Program};
 use xc_tree::{Ex, Expr, FuncItem, Item, Rhs, St, Stmt, Timed, Tree, TreeDir};
-use xw_words::{List, Pos};
+use xw_words::List;
 
 /// The program that a tree is. `Other` exactly where the tree is not of the form; `Memory` where memory for the program
 /// could not be had.
@@ -26,7 +25,6 @@ pub fn program_of_tree(alloc: Global, tree: &Tree) -> Result<Program, ReadErr>
     ensures program { IfOk result (λ p. IsOfTree (program_of tree.now) p) }
     ensures no_other_program { IfOk result (λ p. (other : Program) → IsOfTree (program_of tree.now) other → other ≡ p) }
     ensures well_formed { IfOk result (λ p. IsWellFormed p) }
-    ensures words { IfOk result (λ p. AreWordOutputs p.outputs) }
     ensures few { IfOk result (λ p. (toks : List Tok) → IsProgram toks (program_of tree.now) → length p.outputs ≤ length toks) }
     ensures of_another_form { IfErr result (λ e. IfOther e ((p : Program) → IsOfTree (program_of tree.now) p → ⊥)) }
 {
@@ -139,7 +137,6 @@ fn outputs(alloc: Global, statements: &[Stmt], names: &[List<u8>]) -> Result<Lis
     requires { length names.now < 2 ^ 32 }
     ensures outputs { IfOk result (λ os. IsOnly (AreOutputs names.now (map statement_of statements.now)) os) }
     ensures declared { IfOk result (λ os. AreDeclared (length names.now) os) }
-    ensures words { IfOk result (λ os. AreWordOutputs os) }
     ensures other { IfErr result (λ e. IfOther e ((os : List Output) → AreOutputs names.now (map statement_of statements.now) os → ⊥)) }
 {
     let mut outputs = List::new(alloc);
@@ -155,7 +152,6 @@ fn outputs(alloc: Global, statements: &[Stmt], names: &[List<u8>]) -> Result<Lis
 /// The output that a statement is, to one of the ports with these names.
 fn output(statement: &Stmt, names: &[List<u8>]) -> Option<Output>
     requires { length names.now < 2 ^ 32 }
-    ensures words { IfSome result (λ o. IsWordOutput o) }
     ensures some { IfSome result (λ o. IsOnly (IsOutput names.now (statement_of statement.now)) o) }
     ensures none { IfNone result ((o : Output) → IsOutput names.now (statement_of statement.now) o → ⊥) }
 {
@@ -168,18 +164,16 @@ fn output(statement: &Stmt, names: &[List<u8>]) -> Option<Output>
     let port = name_place(names, sent.name.as_slice())?;
     let time = time(&sent.time)?;
     let value = number(&sent.value)?;
-    let Pos { line, col } = sent.pos;
     Some(Output {
         port,
         time,
         value,
-        pos: Pos { line, col },
+        pos: sent.pos,
     })
 }
 
 /// The number that a time is, if there is one.
 fn time(timed: &Option<Timed>) -> Option<Option<u32>>
-    ensures words { IfSome result (λ time. IsWordTime time) }
     ensures some { IfSome result (λ time. IsOnly (IsTime (option_map timing_of timed.now)) time) }
     ensures none { IfNone result ((time : Option ℕ) → IsTime (option_map timing_of timed.now) time → ⊥) }
 {
@@ -192,7 +186,6 @@ fn time(timed: &Option<Timed>) -> Option<Option<u32>>
 /// The number that an expression is.
 #[tactic(auto, using(xc_tree::proofs::Forms::forms))]
 fn number(value: &Expr) -> Option<u32>
-    ensures word { IfSome result (λ n. n < 2 ^ 32) }
     ensures some { IfSome result (λ n. IsOnly (IsNumber (expression_of value.now)) n) }
     ensures none { IfNone result ((n : ℕ) → IsNumber (expression_of value.now) n → ⊥) }
 {
