@@ -4,13 +4,13 @@ use Rattle.xc_meaning.specs.Program.{AreDistinctPorts, IsNew, port_count}
 use Rattle.xc_tree.specs.declared.tree.Item.{Item}
 use Rattle.xc_tree.specs.Plain as plain
 use Rattle.xc_tree.specs.Trees.{item_of}
-use Rattle.xc_form.specs.declared.parse.Ports.{Ports}
+use Rattle.xc_form.specs.declared.ports.Ports.{Ports}
 use Rattle.xc_form.specs.OfTree.{IsDeclaration, AreDeclarations, no_declaration, further_declaration, AreDistinctNames, IsNewName}
 use Rattle.xc_form.specs.Steps.{CanDeclare, Declared, CanBeDeclared, AreAllDeclared}
 use Rattle.xc_form.specs.Words.{place_in, identifiers}
 use Rattle.xc_form.proofs.Items.{rest_on, rest_none}
 use Rattle.xc_form.proofs.Names.{new_before, name_before, names_behind, no_place, is_new_name, few_ports}
-use Rattle.xc_form.proofs.Ports.{distinct_behind, identifier_within}
+use Rattle.xc_form.proofs.Identifiers.{distinct_behind, identifier_within}
 
 -- what the items from the k-th on declare, behind these ports
 pub record Rest (items : List Item) (k : ℕ) (ports : Ports) (names : List (List ℕ)) (ids : List ℕ) : Type 0 where

@@ -1,12 +1,6 @@
 mod Tables
-mod Places
-mod Digits
-mod Symbols
 mod Founds
-mod Rows
-mod Ports
-mod Statements
-mod Few
+mod Identifiers
 mod Shapes
 mod Sends
 mod Items

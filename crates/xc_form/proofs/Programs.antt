@@ -8,8 +8,8 @@ use Rattle.xc_tree.specs.declared.tree.Item.{Item}
 use Rattle.xc_tree.specs.declared.tree.Stmt.{Stmt}
 use Rattle.xc_tree.specs.Plain as plain
 use Rattle.xc_tree.specs.Trees.{item_of, statement_of}
-use Rattle.xc_form.specs.declared.parse.Ports.{Ports}
-use Rattle.xc_form.specs.declared.text.ReadErr.{ReadErr}
+use Rattle.xc_form.specs.declared.ports.Ports.{Ports}
+use Rattle.xc_form.specs.declared.error.ReadErr.{ReadErr}
 use Rattle.xc_form.specs.OfTree.{AreDeclarations, AreOutputs, IsMain, ReturnsZero, IsOfTree}
 use Rattle.xc_form.specs.ReadErr.{IfOther}
 use Rattle.xc_form.specs.Steps.{AreAllDeclared, CanBeDeclared, IsOnly}

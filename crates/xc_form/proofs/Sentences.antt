@@ -6,11 +6,16 @@ use Rattle.xc_tree.specs.declared.tree.Stmt.{Stmt}
 use Rattle.xc_tree.specs.Plain as plain
 use Rattle.xc_tree.specs.Trees.{statement_of}
 use Rattle.xc_form.specs.OfTree.{IsOutput, AreOutputs, no_output, further_output}
+use Rattle.xc_form.specs.Ranges.{AreWordOutputs, IsWordOutput}
 use Rattle.xc_form.specs.Steps.{IsOnly, Found}
 use Rattle.xc_form.proofs.Founds.{found_more, found_all, found_never}
 use Rattle.xc_form.proofs.Items.{rest_on, rest_none}
-use Rattle.xc_form.proofs.Ports.{place_within}
-use Rattle.xc_form.proofs.Statements.{declared_behind}
+use Rattle.xc_form.proofs.Identifiers.{place_within}
+
+-- another output behind those to declared ports
+pub declared_behind : (n : ℕ) (os : List Output) (o : Output) → o.port < n → AreDeclared n os → AreDeclared n (os ++ o ∷ [])
+declared_behind n [] o h d = (h, tt)
+declared_behind n (a ∷ os) o h d = (d.0, declared_behind n os o h d.1)
 
 -- what the statements from the k-th on are
 abbrev pub From : List (List ℕ) → List Stmt → ℕ → List Output → Type 0
@@ -55,3 +60,8 @@ pub all_outputs : (names : List (List ℕ)) (ss : List Stmt) (k : ℕ) (os : Lis
 all_outputs names ss k os h f =
     let end = rest_none statement_of ss k h in
     found_all os f (subst (λ l. AreOutputs names l []) (sym end) no_output) (λ rest r. none_left (subst (λ l. AreOutputs names l rest) end r))
+
+-- another output behind those of words
+pub word_behind : (os : List Output) (o : Output) → AreWordOutputs os → IsWordOutput o → AreWordOutputs (os ++ o ∷ [])
+word_behind [] o d h = (h, tt)
+word_behind (a ∷ os) o d h = (d.0, word_behind os o d.1 h)

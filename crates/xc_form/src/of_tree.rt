@@ -6,18 +6,19 @@ ghost use Rattle.xc_tree.specs.declared.token.Tok.{Tok};
 ghost use Rattle.xc_tree.specs.Derives.{IsProgram};
 ghost use Rattle.xc_tree.specs.Plain as plain;
 ghost use Rattle.xc_tree.specs.Trees.{expression_of, head_of, item_of, program_of, right_of, statement_of, timing_of};
-ghost use Rattle.xc_form.specs.declared.parse.Ports.{Ports};
+ghost use Rattle.xc_form.specs.declared.ports.Ports.{Ports};
 ghost use Rattle.xc_form.specs.OfTree.{AreOutputs, IsDeclaration, IsMain, IsMainHead, IsNumber, IsOfTree, IsOutput, IsTime, IsZero, ReturnsZero};
 ghost use Rattle.xc_form.specs.ReadErr.{IfOther};
+ghost use Rattle.xc_form.specs.Ranges.{AreWordOutputs, IsWordOutput, IsWordPlace, IsWordTime};
 ghost use Rattle.xc_form.specs.Steps.{AreAllDeclared, CanBeDeclared, IsOnly};
 
-use crate::parse::{Ports, declare};
+use crate::error::ReadErr;
+use crate::ports::{Ports, declare};
 use crate::table::name_place;
-use crate::text::ReadErr;
 use std::alloc::Global;
 use xc_meaning::{Output, Program};
 use xc_tree::{Ex, Expr, FuncItem, Item, Rhs, St, Stmt, Timed, Tree, TreeDir};
-use xw_words::List;
+use xw_words::{List, Pos};
 
 /// The program that a tree is. `Other` exactly where the tree is not of the form; `Memory` where memory for the program
 /// could not be had.
@@ -25,6 +26,7 @@ pub fn program_of_tree(alloc: Global, tree: &Tree) -> Result<Program, ReadErr>
     ensures program { IfOk result (λ p. IsOfTree (program_of tree.now) p) }
     ensures no_other_program { IfOk result (λ p. (other : Program) → IsOfTree (program_of tree.now) other → other ≡ p) }
     ensures well_formed { IfOk result (λ p. IsWellFormed p) }
+    ensures words { IfOk result (λ p. AreWordOutputs p.outputs) }
     ensures few { IfOk result (λ p. (toks : List Tok) → IsProgram toks (program_of tree.now) → length p.outputs ≤ length toks) }
     ensures of_another_form { IfErr result (λ e. IfOther e ((p : Program) → IsOfTree (program_of tree.now) p → ⊥)) }
 {
@@ -137,6 +139,7 @@ fn outputs(alloc: Global, statements: &[Stmt], names: &[List<u8>]) -> Result<Lis
     requires { length names.now < 2 ^ 32 }
     ensures outputs { IfOk result (λ os. IsOnly (AreOutputs names.now (map statement_of statements.now)) os) }
     ensures declared { IfOk result (λ os. AreDeclared (length names.now) os) }
+    ensures words { IfOk result (λ os. AreWordOutputs os) }
     ensures other { IfErr result (λ e. IfOther e ((os : List Output) → AreOutputs names.now (map statement_of statements.now) os → ⊥)) }
 {
     let mut outputs = List::new(alloc);
@@ -152,6 +155,7 @@ fn outputs(alloc: Global, statements: &[Stmt], names: &[List<u8>]) -> Result<Lis
 /// The output that a statement is, to one of the ports with these names.
 fn output(statement: &Stmt, names: &[List<u8>]) -> Option<Output>
     requires { length names.now < 2 ^ 32 }
+    ensures words { IfSome result (λ o. IsWordOutput o) }
     ensures some { IfSome result (λ o. IsOnly (IsOutput names.now (statement_of statement.now)) o) }
     ensures none { IfNone result ((o : Output) → IsOutput names.now (statement_of statement.now) o → ⊥) }
 {
@@ -168,12 +172,21 @@ fn output(statement: &Stmt, names: &[List<u8>]) -> Option<Output>
         port,
         time,
         value,
-        pos: sent.pos,
+        pos: word_place(sent.pos),
     })
+}
+
+/// A place, whose line and column are words.
+fn word_place(pos: Pos) -> Pos
+    ensures words { IsWordPlace result }
+    ensures same { result ≡ pos }
+{
+    pos
 }
 
 /// The number that a time is, if there is one.
 fn time(timed: &Option<Timed>) -> Option<Option<u32>>
+    ensures words { IfSome result (λ time. IsWordTime time) }
     ensures some { IfSome result (λ time. IsOnly (IsTime (option_map timing_of timed.now)) time) }
     ensures none { IfNone result ((time : Option ℕ) → IsTime (option_map timing_of timed.now) time → ⊥) }
 {
@@ -186,6 +199,7 @@ fn time(timed: &Option<Timed>) -> Option<Option<u32>>
 /// The number that an expression is.
 #[tactic(auto, using(xc_tree::proofs::Forms::forms))]
 fn number(value: &Expr) -> Option<u32>
+    ensures word { IfSome result (λ n. n < 2 ^ 32) }
     ensures some { IfSome result (λ n. IsOnly (IsNumber (expression_of value.now)) n) }
     ensures none { IfNone result ((n : ℕ) → IsNumber (expression_of value.now) n → ⊥) }
 {

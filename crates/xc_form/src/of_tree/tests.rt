@@ -2,7 +2,6 @@ use super::*;
 use std::fmt::Write;
 use std::test::Fail;
 use xc_tree::{At, FuncItem, Id, PortItem, Send, Timed};
-use xw_words::Pos;
 
 const POS: Pos = Pos { line: 1, col: 1 };
 

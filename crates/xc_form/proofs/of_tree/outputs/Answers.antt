@@ -1,7 +1,8 @@
 use Rattle.std.proofs.Common.{◌+◌, length, sym, subst}
 use Rattle.xc_meaning.specs.Program.{AreDeclared}
+use Rattle.xc_form.specs.Ranges.{AreWordOutputs}
 use Rattle.xc_form.specs.Steps.{Found}
-use Rattle.xc_form.proofs.Sentences.{From, more_outputs, no_outputs, port_declared, all_outputs}
+use Rattle.xc_form.proofs.Sentences.{From, more_outputs, no_outputs, port_declared, word_behind, all_outputs}
 use Rattle.xc_form.proofs.of_tree.outputs.Goals as goal
 
 pub returns-in_default-clause-other : goal.returns-in_default-clause-other
@@ -17,6 +18,7 @@ loop-statement-preserved c =
     record {
       so_far = subst (λ x. Found (From names ss) 0 x (k + 1)) (sym c.in_ok-push.ensures.ok) (more_outputs names ss k c.statement-item.result c.statement-item.is c.loop-statement-test.true os c.loop-statement.invariant.so_far c.in-Some.output c.in-Some.ensures.some);
       declared = subst (AreDeclared (length names)) (sym c.in_ok-push.ensures.ok) (port_declared names ss k c.statement-item.result c.statement-item.is c.loop-statement-test.true os c.loop-statement.invariant.declared c.in-Some.output c.in-Some.ensures.some);
+      words = subst AreWordOutputs (sym c.in_ok-push.ensures.ok) (word_behind os c.in-Some.output c.loop-statement.invariant.words c.in-Some.ensures.words);
     }
 
 pub returns-clause-outputs : goal.returns-clause-outputs

@@ -1,6 +1,6 @@
 use Rattle.std.proofs.Common.{sym, arith}
-use Rattle.xc_form.proofs.Ports.{new_on}
-use Rattle.xc_form.proofs.parse.is_new.Goals as goal
+use Rattle.xc_form.proofs.Identifiers.{new_on}
+use Rattle.xc_form.proofs.ports.is_new.Goals as goal
 
 pub returns-then-other-id : goal.returns-then-other-id
 returns-then-other-id c = (

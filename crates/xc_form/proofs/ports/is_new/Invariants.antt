@@ -1,6 +1,6 @@
 use Rattle.std.proofs.Common.{drop}
 use Rattle.xc_meaning.specs.Program.{IsNew}
-use Rattle.xc_form.proofs.parse.is_new.Given as goal
+use Rattle.xc_form.proofs.ports.is_new.Given as goal
 
 abbrev pub invariant-loop-other : goal.invariant-loop-other
 invariant-loop-other l = record {
