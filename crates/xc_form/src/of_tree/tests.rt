@@ -110,33 +110,32 @@ fn shown(alloc: Global, tree: &Tree) -> Result<String, Fail> {
 
 #[test]
 fn tells_programs_by_their_names_and_numbers(rt: HostRuntime) -> Result<(), Fail> {
-    let one: [(&str, &str); 1] = [("p", "XS1_PORT_1A")];
-    let two: [(&str, &str); 2] = [("a", "XS1_PORT_32A"), ("b", "XS1_PORT_4B")];
-    let again: [(&str, &str); 2] = [("p", "XS1_PORT_1A"), ("p", "XS1_PORT_1B")];
-    let shared: [(&str, &str); 2] = [("p", "XS1_PORT_1A"), ("q", "XS1_PORT_1A")];
-    let main: [(&str, &str); 1] = [("main", "XS1_PORT_1A")];
-    let unknown: [(&str, &str); 1] = [("p", "XS1_PORT_1Q")];
-    let none: [Sent<'_>; 0] = [];
-    let pulse: [Sent<'_>; 1] = [("p", Some(100), 1)];
-    let both: [Sent<'_>; 2] = [("b", None, 7), ("a", Some(0), 4_294_967_295)];
-    let rows: [(&[(&str, &str)], &[Sent<'_>], &str); 9] = [
-        (&one, &pulse, "ports 0; port 0 @ 100 <: 1"),
-        (&one, &none, "ports 0"),
-        (
-            &two,
-            &both,
-            "ports 28 17; port 1 <: 7; port 0 @ 0 <: 4294967295",
-        ),
-        (&two, &pulse, "other"),
-        (&again, &pulse, "other"),
-        (&shared, &pulse, "other"),
-        (&main, &none, "other"),
-        (&unknown, &none, "other"),
-        (&again, &none, "other"),
+    let alloc = rt.alloc();
+    let pulse = ("p", Some(100), 1);
+    let one = tree(alloc, &[("p", "XS1_PORT_1A")], &[pulse])?;
+    let idle = tree(alloc, &[("p", "XS1_PORT_1A")], &[])?;
+    let both = tree(
+        alloc,
+        &[("a", "XS1_PORT_32A"), ("b", "XS1_PORT_4B")],
+        &[("b", None, 7), ("a", Some(0), 4_294_967_295)],
+    )?;
+    let undeclared = tree(alloc, &[("a", "XS1_PORT_32A")], &[pulse])?;
+    let again = tree(alloc, &[("p", "XS1_PORT_1A"), ("p", "XS1_PORT_1B")], &[])?;
+    let shared = tree(alloc, &[("p", "XS1_PORT_1A"), ("q", "XS1_PORT_1A")], &[])?;
+    let main = tree(alloc, &[("main", "XS1_PORT_1A")], &[])?;
+    let unknown = tree(alloc, &[("p", "XS1_PORT_1Q")], &[])?;
+    let rows = [
+        (one, "ports 0; port 0 @ 100 <: 1"),
+        (idle, "ports 0"),
+        (both, "ports 28 17; port 1 <: 7; port 0 @ 0 <: 4294967295"),
+        (undeclared, "other"),
+        (again, "other"),
+        (shared, "other"),
+        (main, "other"),
+        (unknown, "other"),
     ];
-    for (ports, sent, program) in rows {
-        let tree = tree(rt.alloc(), ports, sent)?;
-        let line = shown(rt.alloc(), &tree)?;
+    for (tree, program) in rows {
+        let line = shown(alloc, &tree)?;
         assert_eq!(rt; line.as_str(), program);
     }
     Ok(())
