@@ -14,7 +14,7 @@ use Rattle.xc_meaning.specs.World.{items_of}
 use Rattle.xr_match.specs.Code.{IsCodeOf, first_place, items_code, items_places, output_code, output_places, port_name, time_code}
 use Rattle.xr_match.proofs.Ports.{declared_below, few_ports}
 use Rattle.xr_text.specs.Ranges.{AreWordCores, AreWordInstrs, AreWordPlaces, HasWords}
-use Rattle.xcsim.proofs.TextWords.{AreWordOutputs, IsWordPlace, IsWordTime}
+use Rattle.xc_form.specs.Ranges.{AreWordOutputs, IsWordPlace, IsWordTime}
 
 output_instrs : (n v : ℕ) (time : Option ℕ) (rest : List Instr) → n < 2 ^ 32 → v < 2 ^ 32 → IsWordTime time → AreWordInstrs rest → AreWordInstrs ((Ldc R1 n ∷ time_code time ++ Ldc R0 v ∷ Out R1 R0 ∷ []) ++ rest)
 output_instrs n v None rest a b t h = (a, (b, (tt, h)))
