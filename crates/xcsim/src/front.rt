@@ -20,7 +20,7 @@ const NOT_BUILT: Broken = Broken {
 };
 
 /// Why a text has no program.
-#[derive(Drop)]
+#[derive(Debug, Drop)]
 pub enum Refusal {
     /// It breaks a rule, of all that it breaks the first.
     Broken(Broken),
