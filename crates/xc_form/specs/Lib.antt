@@ -5,3 +5,4 @@ pub mod Row
 pub mod Form
 pub mod ReadErr
 pub mod Steps
+pub mod Ranges
