@@ -1,20 +1,16 @@
 -- The statements of a case end where a `break` stands: a statement that begins with one is `break ;`, which doesn't stand
 -- directly in a case.
-use Rattle.std.proofs.Common.{◌≡◌, ℕ, ◌≤◌, ◌⊎◌, inl, inr, Bool, true, false, ◌&&◌, ◌||◌, List, [], ◌∷◌, refl, sym as sym', ap, subst}
-use Rattle.std.proofs.lemmas.Bool.{and_parts, or_parts}
+use Rattle.std.proofs.Common.{◌≡◌, ℕ, ◌≤◌, ◌⊎◌, inl, inr, Bool, true, ◌&&◌, List, [], ◌∷◌, refl, sym as sym', ap, subst}
+use Rattle.std.proofs.lemmas.Bool.{and_parts}
 use Rattle.xw_words.specs.declared.pos.Pos.{Pos}
 use Rattle.xc_tree.specs.declared.token.Tok.{Tok}
 use Rattle.xc_tree.specs.declared.token.Kind.TheVariants.{Key}
 use Rattle.xc_tree.specs.Plain as plain
 use Rattle.xc_tree.specs.Symbol.{Symbol, sym, key, many, statement, case_item}
-use Rattle.xc_tree.specs.Grammar.{Rule, rules}
-use Rattle.xc_tree.specs.Derives.{On, Room, below, Derives, Row, next, Prefix, nothing, whole, Begins, in_this, after}
-use Rattle.xc_parser.specs.Follows.{StandsAt, OneOf, has}
+use Rattle.xc_tree.specs.Grammar.{rules}
+use Rattle.xc_tree.specs.Derives.{On, Room, Derives, Row, next, Prefix, nothing, whole, Begins, in_this, after}
 use Rattle.xc_parser.proofs.Opening.{is_token}
-use Rattle.xc_parser.proofs.Covers.{row_firsts, row_nullable}
-use Rattle.xc_parser.proofs.TokenSets.{one_is}
-use Rattle.xc_parser.proofs.Firsts.{row_first, begins_first}
-use Rattle.xc_parser.proofs.Alternatives.{ByRules, BeginsRules, by_rules, by_starts}
+use Rattle.xc_parser.proofs.Alternatives.{by_starts}
 use Rattle.xc_parser.proofs.Behinds.{token_derives, token_derived}
 use Rattle.xc_parser.proofs.Openers.{begins_opened, no_item}
 use Rattle.xc_parser.proofs.Lists.{token_begun, unrow, unbegin, unbegin_none, many_split, many_none, many_begin}

@@ -1,5 +1,5 @@
 -- Rows of symbols that tell by computing that of two readings from one place one goes on, or that there are no two.
-use Rattle.std.proofs.Common.{◌≡◌, ℕ, zero, suc, ◌⊎◌, inl, inr, Bool, true, false, not, ◌&&◌, ◌||◌, nat_eq, List, [], ◌∷◌, ◌++◌, refl, sym as sym', ap, subst, ◌∙◌}
+use Rattle.std.proofs.Common.{◌≡◌, ℕ, zero, suc, ◌⊎◌, inl, inr, Bool, true, false, not, ◌&&◌, ◌||◌, nat_eq, List, [], ◌∷◌, ◌++◌, refl, sym as sym', ap, subst}
 use Rattle.std.proofs.lemmas.Bool.{and_parts, or_cases, not-true, eqb-true}
 use Rattle.xc_tree.specs.declared.token.Tok.{Tok}
 use Rattle.xc_tree.specs.Symbol.{Symbol, sym, key, a_name, a_number, level, head, word, param, dv, argument, lval, time, expr, Value, Values}
@@ -9,7 +9,7 @@ use Rattle.xc_parser.specs.Reading.{IsFront}
 use Rattle.xc_parser.proofs.Opening.{fronts, within, is_disjoint, is_token}
 use Rattle.xc_parser.proofs.TokenSets.{one_disjoint, one_within, front}
 use Rattle.xc_parser.proofs.Covers.{row_firsts, row_nullable, implies}
-use Rattle.xc_parser.proofs.Statures.{RowBy, ByOne, By, Tree, row_begin, opened_same}
+use Rattle.xc_parser.proofs.Statures.{RowBy, By, Tree, row_begin, opened_same}
 use Rattle.xc_parser.proofs.Meetings.{AllMeet, is_listed, Differ, DifferFrom, AllDiffer}
 
 -- whether two symbols are the same, of those that several alternatives begin with

@@ -1,9 +1,9 @@
 -- Two readings of one symbol from one place are the same, or one of them goes on at its end.
-use Rattle.std.proofs.Common.{◌≡◌, ℕ, ◌⊎◌, inl, inr, Bool, true, false, not, ◌&&◌, ◌||◌, nat_eq, List, [], ◌∷◌, refl, sym as sym', ap, subst, ◌∙◌}
+use Rattle.std.proofs.Common.{◌≡◌, ℕ, ◌⊎◌, inl, inr, Bool, true, false, not, ◌&&◌, ◌||◌, List, [], ◌∷◌, refl, sym as sym', ap, subst, ◌∙◌}
 use Rattle.std.proofs.lemmas.Bool.{and_parts, or_cases, not-true}
 use Rattle.xc_tree.specs.declared.token.Tok.{Tok}
-use Rattle.xc_tree.specs.Symbol.{Symbol, many, maybe, commas, level, item, place, initial, for_start, for_step, rhs, guard, time, stamp, expr, block_item, case_item, branch, case, param, dv, a_name, argument, Value, Values}
-use Rattle.xc_tree.specs.Grammar.{Rule, Extent, rules}
+use Rattle.xc_tree.specs.Symbol.{Symbol, many, maybe, commas, item, place, initial, for_start, for_step, rhs, guard, time, stamp, expr, block_item, case_item, branch, case, param, dv, a_name, argument, Value, Values}
+use Rattle.xc_tree.specs.Grammar.{Rule, Extent}
 use Rattle.xc_tree.specs.Derives.{extent}
 use Rattle.xc_parser.specs.Follows.{OneOf, follows}
 use Rattle.xc_parser.specs.Reading.{IsFront}

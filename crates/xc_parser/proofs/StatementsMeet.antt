@@ -1,20 +1,18 @@
 -- Two readings of a statement meet: an `else` belongs to the last `if` before it that has none.
-use Rattle.std.proofs.Common.{◌≡◌, ℕ, zero, suc, ◌+◌, ◌⊎◌, inl, inr, Bool, true, false, not, ◌&&◌, List, [], ◌∷◌, ◌++◌, refl, sym as sym', ap, subst, ◌∙◌}
+use Rattle.std.proofs.Common.{◌≡◌, ℕ, zero, suc, ◌+◌, inl, inr, Bool, true, not, ◌&&◌, List, [], ◌∷◌, ◌++◌, refl, sym as sym', ap, subst, ◌∙◌}
 use Rattle.std.proofs.lemmas.Bool.{and_parts, not-true}
 use Rattle.xc_tree.specs.declared.token.Tok.{Tok}
-use Rattle.xc_tree.specs.declared.token.Kind.TheVariants.{Key}
 use Rattle.xc_tree.specs.Plain as plain
 use Rattle.xc_tree.specs.Plain.{is_open}
-use Rattle.xc_tree.specs.Symbol.{Symbol, sym, key, a_name, a_number, maybe, place, expr, statement, closed, block_item, case_item, branch, for_start, for_step, Value, Values}
-use Rattle.xc_tree.specs.Grammar.{Rule, Extent, rules, does}
+use Rattle.xc_tree.specs.Symbol.{Symbol, key, a_name, a_number, maybe, place, expr, statement, closed, block_item, case_item, branch, for_start, for_step, Value, Values}
+use Rattle.xc_tree.specs.Grammar.{Rule, rules, does}
 use Rattle.xc_tree.specs.Terminals.{paren, end_paren, semicolon, equals, below, plus_plus, if_word, else_word, while_word, for_word, int_word, par_word}
-use Rattle.xc_tree.specs.Derives.{On}
 use Rattle.xc_parser.specs.Follows.{OneOf, follows}
 use Rattle.xc_parser.specs.Reading.{IsFront}
 use Rattle.xc_parser.proofs.Opening.{fronts, is_disjoint}
 use Rattle.xc_parser.proofs.Behinds.{token_derived}
 use Rattle.xc_parser.proofs.Covers.{row_firsts, row_nullable}
-use Rattle.xc_parser.proofs.Statures.{RowBy, ByOne, By, Tree, opened_same, derived}
+use Rattle.xc_parser.proofs.Statures.{RowBy, By, Tree, opened_same, derived}
 use Rattle.xc_parser.proofs.Meetings.{AllMeet, Meets, Tail, is_listed, OneMeets, AllOneMeet, Differ, DifferFrom, AllDiffer, row_meets, behind_front, each_told, each_meets, rules_meet}
 use Rattle.xc_parser.proofs.Differing.{differ_from, told_from, told_all}
 
