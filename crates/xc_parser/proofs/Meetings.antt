@@ -157,8 +157,10 @@ pub each_meets : (toks : List Tok) (n : ℕ) → AllMeet toks n → (s : Symbol)
 each_meets toks n meet s [] e = tt
 each_meets toks n meet s (r ∷ rs) e =
     let p = and_parts (is_told r.parts && tails_within (fronts s) r.parts) (each_told (fronts s) rs) e in
-    let q = and_parts (is_told r.parts) (tails_within (fronts s) r.parts) p.0 in
-    (record {
-      meets = row_meets toks n meet r.parts q.0;
-      tail = λ x vs j f t. front s (r.make x vs) (tail_among toks n (fronts s) r.parts j vs q.1 t);
-    }, each_meets toks n meet s rs p.1)
+    let q = and_parts (is_told r.parts) (tails_within (fronts s) r.parts) p.0 in (
+      record {
+        meets = row_meets toks n meet r.parts q.0;
+        tail = λ x vs j f t. front s (r.make x vs) (tail_among toks n (fronts s) r.parts j vs q.1 t);
+      },
+      each_meets toks n meet s rs p.1,
+    )

@@ -1,5 +1,5 @@
 -- Two readings of a statement meet: an `else` belongs to the last `if` before it that has none.
-use Rattle.std.proofs.Common.{◌≡◌, ℕ, zero, suc, ◌+◌, inl, inr, Bool, true, not, ◌&&◌, List, [], ◌∷◌, ◌++◌, refl, sym as sym', ap, subst, ◌∙◌}
+use Rattle.std.proofs.Common.{◌≡◌, ℕ, zero, suc, inl, inr, Bool, true, not, ◌&&◌, List, [], ◌∷◌, ◌++◌, refl, sym as sym', ap, subst, ◌∙◌}
 use Rattle.std.proofs.lemmas.Bool.{and_parts, not-true}
 use Rattle.xc_tree.specs.declared.token.Tok.{Tok}
 use Rattle.xc_tree.specs.Plain as plain
@@ -145,53 +145,68 @@ module _ (toks : List Tok) (n : ℕ) (meet : AllMeet toks n) where
 
   meets_all : AllOneMeet toks n statement (rules statement)
   meets_all = (
-    head_meets statement (rest 0) refl, (
-      head_meets statement (rest 1) refl, (
-        head_meets statement (rest 2) refl, (
-          head_meets statement (rest 3) refl, (
-            head_meets statement (rest 4) refl, (
-              head_meets statement (rest 5) refl, (
+    head_meets statement (rest 0) refl,
+    (
+      head_meets statement (rest 1) refl,
+      (
+        head_meets statement (rest 2) refl,
+        (
+          head_meets statement (rest 3) refl,
+          (
+            head_meets statement (rest 4) refl,
+            (
+              head_meets statement (rest 5) refl,
+              (
                 record {
                   meets = row_meets toks n meet (if_word ∷ looped) refl;
                   tail = λ e vs j f t. record { goes_on = (last_front toks if_word looped j vs refl t).goes_on; may = refl };
-                }, (
+                },
+                (
                   record {
                     meets = row_meets toks n meet (if_word ∷ chosen) refl;
                     tail = λ e vs j f t. let h = last_front toks if_word chosen j vs refl t in record { goes_on = h.goes_on; may = h.may };
-                  }, (
+                  },
+                  (
                     record {
                       meets = row_meets toks n meet (while_word ∷ looped) refl;
                       tail = λ e vs j f t. let h = last_front toks while_word looped j vs refl t in record { goes_on = h.goes_on; may = h.may };
-                    }, (
-                      head_meets statement (rest 9) refl, (
+                    },
+                    (
+                      head_meets statement (rest 9) refl,
+                      (
                         record {
                           meets = row_meets toks n meet (for_word ∷ counted) refl;
                           tail = λ e vs j f t. let h = last_front toks for_word counted j vs refl t in record { goes_on = h.goes_on; may = h.may };
-                        }, (
-                          head_meets statement (rest 11) refl, (
-                            head_meets statement (rest 12) refl, (
-                              head_meets statement (rest 13) refl, (
-                                head_meets statement (rest 14) refl, (
+                        },
+                        (
+                          head_meets statement (rest 11) refl,
+                          (
+                            head_meets statement (rest 12) refl,
+                            (
+                              head_meets statement (rest 13) refl,
+                              (
+                                head_meets statement (rest 14) refl,
+                                (
                                   record {
                                     meets = row_meets toks n meet (par_word ∷ spread) refl;
                                     tail = λ e vs j f t. let h = last_front toks par_word spread j vs refl t in record { goes_on = h.goes_on; may = h.may };
                                   },
                                   each_meets toks n meet statement (rest 16) refl,
-                                )
-                              )
-                            )
-                          )
-                        )
-                      )
-                    )
-                  )
-                )
-              )
-            )
-          )
-        )
-      )
-    )
+                                ),
+                              ),
+                            ),
+                          ),
+                        ),
+                      ),
+                    ),
+                  ),
+                ),
+              ),
+            ),
+          ),
+        ),
+      ),
+    ),
   )
 
   pub statement_meets : (i j k : ℕ) (v w : plain.Statement) → By toks (Tree toks n) (rules statement) i j v → By toks (Tree toks n) (rules statement) i k w → Meets toks statement j v k w
@@ -199,25 +214,43 @@ module _ (toks : List Tok) (n : ℕ) (meet : AllMeet toks n) where
 
   -- what stands for a statement
   pub closed_meets : (i j k : ℕ) (v w : plain.Statement) → By toks (Tree toks n) (rules closed) i j v → By toks (Tree toks n) (rules closed) i k w → Meets toks closed j v k w
-  closed_meets i j k v w x y = rules_meet toks n closed i j k v w (rules closed) (record {
-    meets = row_meets toks n meet (statement ∷ []) refl;
-    tail = λ e vs q f t. let h = last_front toks statement [] q vs refl t in let g = not-true (is_open vs.0) f in let o : is_open vs.0 ≡ true = h.may in absurd (cc);
-  }, tt) (tt, tt) x y
+  closed_meets i j k v w x y = rules_meet toks n closed i j k v w (rules closed) (
+    record {
+      meets = row_meets toks n meet (statement ∷ []) refl;
+      tail = λ e vs q f t. let h = last_front toks statement [] q vs refl t in let g = not-true (is_open vs.0) f in let o : is_open vs.0 ≡ true = h.may in absurd (cc);
+    },
+    tt,
+  ) (tt, tt) x y
 
   pub block_item_meets : (i j k : ℕ) (v w : plain.Statement) → By toks (Tree toks n) (rules block_item) i j v → By toks (Tree toks n) (rules block_item) i k w → Meets toks block_item j v k w
-  block_item_meets i j k v w x y = rules_meet toks n block_item i j k v w (rules block_item) (head_meets block_item (rules block_item) refl, (record {
-    meets = row_meets toks n meet (statement ∷ []) refl;
-    tail = λ e vs q f t. let h = last_front toks statement [] q vs refl t in record { goes_on = h.goes_on; may = h.may };
-  }, tt)) (told_all toks n meet block_item (rules block_item) refl) x y
+  block_item_meets i j k v w x y = rules_meet toks n block_item i j k v w (rules block_item) (
+    head_meets block_item (rules block_item) refl,
+    (
+      record {
+        meets = row_meets toks n meet (statement ∷ []) refl;
+        tail = λ e vs q f t. let h = last_front toks statement [] q vs refl t in record { goes_on = h.goes_on; may = h.may };
+      },
+      tt,
+    ),
+  ) (told_all toks n meet block_item (rules block_item) refl) x y
 
   pub case_item_meets : (i j k : ℕ) (v w : plain.Statement) → By toks (Tree toks n) (rules case_item) i j v → By toks (Tree toks n) (rules case_item) i k w → Meets toks case_item j v k w
-  case_item_meets i j k v w x y = rules_meet toks n case_item i j k v w (rules case_item) (head_meets case_item (rules case_item) refl, (record {
-    meets = row_meets toks n meet (statement ∷ []) refl;
-    tail = λ e vs q f t. let h = last_front toks statement [] q vs refl t in record { goes_on = h.goes_on; may = h.may };
-  }, tt)) (told_all toks n meet case_item (rules case_item) refl) x y
+  case_item_meets i j k v w x y = rules_meet toks n case_item i j k v w (rules case_item) (
+    head_meets case_item (rules case_item) refl,
+    (
+      record {
+        meets = row_meets toks n meet (statement ∷ []) refl;
+        tail = λ e vs q f t. let h = last_front toks statement [] q vs refl t in record { goes_on = h.goes_on; may = h.may };
+      },
+      tt,
+    ),
+  ) (told_all toks n meet case_item (rules case_item) refl) x y
 
   pub branch_meets : (i j k : ℕ) (v w : plain.Branch) → By toks (Tree toks n) (rules branch) i j v → By toks (Tree toks n) (rules branch) i k w → Meets toks branch j v k w
-  branch_meets i j k v w x y = rules_meet toks n branch i j k v w (rules branch) (record {
-    meets = row_meets toks n meet (maybe place ∷ statement ∷ []) refl;
-    tail = λ e vs q f t. let h = last_front toks (maybe place) (statement ∷ []) q vs refl t in record { goes_on = h.goes_on; may = h.may };
-  }, tt) (tt, tt) x y
+  branch_meets i j k v w x y = rules_meet toks n branch i j k v w (rules branch) (
+    record {
+      meets = row_meets toks n meet (maybe place ∷ statement ∷ []) refl;
+      tail = λ e vs q f t. let h = last_front toks (maybe place) (statement ∷ []) q vs refl t in record { goes_on = h.goes_on; may = h.may };
+    },
+    tt,
+  ) (tt, tt) x y
