@@ -22,7 +22,7 @@ pub struct Kernel {
 #[derive(Drop)]
 pub struct Root {
     pub core: u8,
-    /// The first token of the branch's place, or main's name where it has none.
+    /// The first token of the expression of the branch's place, or main's name where it has none.
     pub place: Pos,
     pub body: List<Kst>,
     /// The first token of the branch's statement, or main's name where main itself is the root.
@@ -68,7 +68,7 @@ pub struct PortUse {
     pub id: u8,
     pub dir: TreeDir,
     pub core: u8,
-    /// The first token of its place, or its name where it has none.
+    /// The first token of the expression of its place, or its name where it has none.
     pub place: Pos,
     /// The declaring name.
     pub pos: Pos,

@@ -1,15 +1,12 @@
 -- The symbol that all open rests begin with is read, refused or too deep.
-use Rattle.std.proofs.Common.{◌≡◌, ℕ, zero, suc, ◌+◌, ◌<◌, ◌≤◌, ◌⊎◌, inl, inr, Bool, true, false, ◌&&◌, max, List, [], ◌∷◌, refl, sym as sym', ap, subst, ◌∙◌, arith}
-use Rattle.std.proofs.lemmas.Bool.{and_parts, and_from}
+use Rattle.std.proofs.Common.{◌≡◌, ℕ, ◌≤◌, ◌⊎◌, inl, inr, true, List, subst, arith}
 use Rattle.xc_tree.specs.declared.token.Tok.{Tok}
 use Rattle.xc_tree.specs.Symbol.{Symbol, Value}
-use Rattle.xc_tree.specs.Grammar.{Extent}
-use Rattle.xc_tree.specs.Derives.{Room, unlimited, at_most, HasRoom, Derives, Prefix, nothing, whole, extent}
-use Rattle.xc_parser.specs.Reading.{IsFront, Reads, Refuses, TooDeep, Unfit}
-use Rattle.xc_parser.proofs.Rests.{Part, ValuesOf, Rest, RowOf, BeginsOf, EndsBy, Ends, StartsBy, Starts, Open, Stands, inside, left}
-use Rattle.xc_parser.proofs.Opening.{is_apart, all_apart, heads_apart, Heads, no_head, one_head, popped, deepened, peak, peak_of, peak_parts}
-use Rattle.xc_parser.proofs.Forth.{forth, prefix_forth, lift, lift_prefix, inside_most, inside_free}
-use Rattle.xc_parser.proofs.Spreads.{has_max, max_has}
+use Rattle.xc_tree.specs.Derives.{Room, unlimited, at_most, Derives, Prefix, whole}
+use Rattle.xc_parser.specs.Reading.{IsFront, Reads, Refuses, TooDeep}
+use Rattle.xc_parser.proofs.Rests.{Rest, Ends, Starts, Open, inside}
+use Rattle.xc_parser.proofs.Opening.{all_apart, heads_apart, Heads, no_head, one_head, popped, deepened, peak}
+use Rattle.xc_parser.proofs.Forth.{lift, lift_prefix}
 use Rattle.xc_parser.proofs.Heads.{split_ends, join_ends, split_starts, join_starts, apart_ends, apart_starts}
 
 -- with this room a symbol is read so, or not at all

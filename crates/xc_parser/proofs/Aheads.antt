@@ -1,22 +1,22 @@
 -- Two tokens of view: rests that the second of them rules out.
 use Rattle.std.proofs.Common.{◌≡◌, ℕ, max, ◌+◌, ◌≤◌, ◌⊎◌, inl, inr, Bool, true, false, not, ◌&&◌, ◌||◌, List, [], ◌∷◌, refl, sym as sym', subst, ◌∙◌, arith}
-use Rattle.std.proofs.lemmas.Bool.{and_parts, and_from, and_cases, or_cases, not-true, not-false}
+use Rattle.std.proofs.lemmas.Bool.{and_parts, and_from, or_cases, not-true, not-false}
 use Rattle.xw_words.specs.declared.pos.Pos.{Pos}
 use Rattle.xc_tree.specs.declared.token.Tok.{Tok}
 use Rattle.xc_tree.specs.declared.token.Kind.TheVariants.{Name, Key, Sym}
 use Rattle.xc_tree.specs.Symbol.{Symbol, sym, key, a_name, Value}
 use Rattle.xc_tree.specs.Grammar.{Extent}
-use Rattle.xc_tree.specs.Derives.{On, Room, unlimited, at_most, Derives, Prefix, whole, nothing}
+use Rattle.xc_tree.specs.Derives.{On, Room, unlimited, at_most, Derives, Prefix, whole}
 use Rattle.xc_parser.specs.declared.stop.Stop.{Stop}
 use Rattle.xc_parser.specs.declared.stop.Stop.TheVariants.{Wrong, Deep, Memory}
-use Rattle.xc_parser.specs.Follows.{StandsAt, OneOf, has, follows}
-use Rattle.xc_parser.specs.Reading.{IsFront, Reads, Refuses, TooDeep, Unfit}
+use Rattle.xc_parser.specs.Follows.{StandsAt, OneOf, has}
+use Rattle.xc_parser.specs.Reading.{IsFront, Reads, Unfit}
 use Rattle.xc_parser.specs.Stops.{Stopped}
-use Rattle.xc_parser.proofs.Rests.{Part, ValuesOf, Rest, Ends, Starts, EndsBy, StartsBy, Open, Stands, inside, left}
+use Rattle.xc_parser.proofs.Rests.{Part, ValuesOf, Rest, Ends, Starts, Open, inside, left}
 use Rattle.xc_parser.proofs.Opening.{fronts, keep, without, over, sift, grown, layers, all_ready, is_any, moves, peak, firsts, nullables, is_apart, no_head, one_head, Heads, popped, heads_apart}
 use Rattle.xc_parser.proofs.TokenSets.{front, one_is}
 use Rattle.xc_parser.proofs.Firsts.{parts_first, begun_first}
-use Rattle.xc_parser.proofs.Forth.{forth, lift, lift_prefix, inside_free, inside_most}
+use Rattle.xc_parser.proofs.Forth.{lift, lift_prefix, inside_free, inside_most}
 use Rattle.xc_parser.proofs.Heads.{Apart, apart_from}
 use Rattle.xc_parser.proofs.Behinds.{TokenAt, token_stands}
 use Rattle.xc_parser.proofs.Narrows.{Narrows, Gone, compose, narrow, sifted, at_token, at_none}

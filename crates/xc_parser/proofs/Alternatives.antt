@@ -1,15 +1,11 @@
 -- A rest whose first part is a plain symbol, and the rests by that symbol's alternatives.
-use Rattle.std.proofs.Common.{◌≡◌, ℕ, zero, suc, ◌+◌, ◌<◌, ◌≤◌, ◌⊎◌, inl, inr, Bool, true, false, not, ◌&&◌, ◌||◌, max, List, [], ◌∷◌, ◌++◌, slice_get, Some, None, refl, sym as sym', ap, subst, ◌∙◌, arith}
-use Rattle.std.proofs.lemmas.Bool.{and_parts, and_from}
+use Rattle.std.proofs.Common.{◌≡◌, ℕ, zero, suc, ◌≤◌, ◌⊎◌, inl, inr, true, false, List, [], ◌∷◌, slice_get, Some, refl, sym as sym', ap, subst, arith}
 use Rattle.xc_tree.specs.declared.token.Tok.{Tok}
-use Rattle.xc_tree.specs.Symbol.{Symbol, sym, key, a_name, a_number, many, maybe, commas, program, item, portdecl, dir, place, place_value, head, result, word, params, param, body, block, block_item, decl, dv, initial, statement, closed, case_item, for_start, for_step, branch, case, guard, assign, assign_op, rhs, call, arguments, argument, lval, output, input, time, stamp, waits, test, dest, expr, level, operator, sign, atom, Value, Values}
+use Rattle.xc_tree.specs.Symbol.{Symbol, many, maybe, commas, portdecl, dir, place, result, word, params, param, block, block_item, dv, initial, branch, case, guard, assign, rhs, call, arguments, lval, output, input, time, stamp, waits, test, dest, sign, atom, Value, Values}
 use Rattle.xc_tree.specs.Grammar.{Rule, Extent, rules}
-use Rattle.xc_tree.specs.Derives.{Among, Room, unlimited, at_most, HasRoom, below, Derives, a_sym, a_key, named, counted, by_rule, Row, done, next, Prefix, nothing, whole, begins, Begins, in_this, after, extent}
-use Rattle.xc_parser.specs.Reading.{GoesOn}
-use Rattle.xc_parser.proofs.Rests.{Part, ValuesOf, Rest, RowOf, BeginsOf, EndsBy, Ends, StartsBy, Starts, Open, inside}
-use Rattle.xc_parser.proofs.Opening.{is_token, is_plain, put, front, back, nowhere, begun, begin_all, beginnings, opened, open_all, spread_if, spread_parts, spread}
-use Rattle.xc_parser.proofs.Forth.{inside_below, inside_has, has_inside, forth, prefix_forth}
-use Rattle.xc_parser.proofs.Narrows.{Narrows}
+use Rattle.xc_tree.specs.Derives.{Among, Room, HasRoom, below, Derives, a_sym, a_key, named, counted, by_rule, Row, done, next, Prefix, nothing, whole, begins, Begins, in_this, after, extent}
+use Rattle.xc_parser.proofs.Rests.{Part, ValuesOf, RowOf, BeginsOf, inside}
+use Rattle.xc_parser.proofs.Opening.{is_token, is_plain, put, front, back}
 
 -- an alternative has no condition, and its value doesn't depend on its tokens' extent
 pub record Ignores {V : Type 0} (r : Rule V) : Type 0 where

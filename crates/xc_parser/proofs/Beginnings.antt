@@ -1,13 +1,13 @@
 -- At its beginning all alternatives of a symbol are open.
-use Rattle.std.proofs.Common.{◌≡◌, ℕ, zero, suc, ◌+◌, ◌≤◌, ◌⊎◌, inl, inr, Bool, true, false, List, [], ◌∷◌, ◌++◌, refl, sym as sym', ap, subst, ◌∙◌, arith}
+use Rattle.std.proofs.Common.{◌≡◌, ℕ, inl, inr, false, List, [], ◌∷◌, refl, sym as sym', ap, subst, ◌∙◌}
 use Rattle.xc_tree.specs.declared.token.Tok.{Tok}
-use Rattle.xc_tree.specs.Symbol.{Symbol, Value, Values}
-use Rattle.xc_tree.specs.Grammar.{Rule, Extent, rules}
-use Rattle.xc_tree.specs.Derives.{Room, unlimited, at_most, HasRoom, below, Derives, Row, Prefix, nothing, Begins, extent}
-use Rattle.xc_parser.proofs.Rests.{Part, ValuesOf, Rest, RowOf, BeginsOf, EndsBy, Ends, StartsBy, Starts, Open, inside}
-use Rattle.xc_parser.proofs.Opening.{is_token, put, front, back, begun, begin_all, beginnings}
+use Rattle.xc_tree.specs.Symbol.{Symbol}
+use Rattle.xc_tree.specs.Grammar.{Rule, rules}
+use Rattle.xc_tree.specs.Derives.{Room, Row, nothing, Begins, extent}
+use Rattle.xc_parser.proofs.Rests.{Ends, Starts, Open, inside}
+use Rattle.xc_parser.proofs.Opening.{is_token, front, begin_all, beginnings}
 use Rattle.xc_parser.proofs.Forth.{inside_same}
-use Rattle.xc_parser.proofs.Alternatives.{HasValue, ByRules, BeginsRules, by_rules, from_rules, by_starts, from_starts, Joined, row_put, put_row, begins_put, put_begins}
+use Rattle.xc_parser.proofs.Alternatives.{ByRules, BeginsRules, by_rules, from_rules, by_starts, from_starts, Joined, row_put, put_row, begins_put, put_begins}
 
 module _ (toks : List Tok) (room : Room) {V : Type 0} where
   begun_ends : (rs : List (Rule V)) (i j : ℕ) (v : V) → ByRules toks room rs i j v → Ends toks room (begin_all rs) i i j v

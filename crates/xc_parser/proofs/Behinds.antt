@@ -1,21 +1,16 @@
 -- Rests behind a token, and behind a symbol that all of them begin with.
-use Rattle.std.proofs.Common.{◌≡◌, ℕ, zero, suc, ◌+◌, ◌<◌, ◌≤◌, ◌⊎◌, inl, inr, Bool, true, false, not, ◌&&◌, ◌||◌, List, [], ◌∷◌, ◌++◌, Option, Some, None, nat_eq, if◌then◌else◌, refl, sym as sym', ap, ap₂, subst, ◌∙◌, arith}
-use Rattle.std.proofs.lemmas.Bool.{and_parts, or_parts, or_cases, not-true, eq-eqb, eqb-true}
+use Rattle.std.proofs.Common.{◌≡◌, ℕ, ◌+◌, ◌≤◌, Bool, true, false, List, Option, Some, None, nat_eq, if◌then◌else◌, refl, sym as sym', ap, ap₂, subst, ◌∙◌, arith}
+use Rattle.std.proofs.lemmas.Bool.{eq-eqb, eqb-true}
 use Rattle.xw_words.specs.declared.pos.Pos.{Pos}
 use Rattle.xc_tree.specs.declared.token.Tok.{Tok}
 use Rattle.xc_tree.specs.declared.token.Kind.{Kind}
 use Rattle.xc_tree.specs.declared.token.Kind.TheVariants.{Name, Num, Key, Sym}
-use Rattle.xc_tree.specs.Symbol.{Symbol, sym, key, a_name, a_number, Value, Values, Numeral}
-use Rattle.xc_tree.specs.Grammar.{Rule, Extent, rules}
-use Rattle.xc_tree.specs.Derives.{On, Among, Room, HasRoom, Derives, a_sym, a_key, named, counted, by_rule, Prefix, nothing, whole, begins, extent}
-use Rattle.xc_parser.specs.Follows.{StandsAt, OneOf, has, is_same, follows, first}
-use Rattle.xc_parser.specs.Reading.{GoesOn}
-use Rattle.xc_parser.proofs.Rests.{Part, ValuesOf, Rest, RowOf, BeginsOf, EndsBy, Ends, StartsBy, Starts, Open, inside}
-use Rattle.xc_parser.proofs.Opening.{is_token, firsts, nullables, as_token, behind_part, behind_parts, behind, is_ready, all_ready, within, is_disjoint, is_apart, all_apart, Heads, no_head, one_head, popped}
-use Rattle.xc_parser.proofs.TokenSets.{one_is, one_within, one_disjoint, is_same_eq, one_class, same_kind}
-use Rattle.xc_parser.proofs.Firsts.{parts_first, begun_first}
-use Rattle.xc_parser.proofs.Forth.{forth, prefix_forth}
-use Rattle.xc_parser.proofs.Narrows.{Narrows}
+use Rattle.xc_tree.specs.Symbol.{Symbol, sym, key, a_name, a_number, Value, Numeral}
+use Rattle.xc_tree.specs.Grammar.{Rule, rules}
+use Rattle.xc_tree.specs.Derives.{On, Among, Room, Derives, a_sym, a_key, named, counted, by_rule, Prefix, nothing, whole, begins}
+use Rattle.xc_parser.specs.Follows.{StandsAt}
+use Rattle.xc_parser.proofs.Opening.{is_token, as_token}
+use Rattle.xc_parser.proofs.TokenSets.{same_kind}
 
 -- this token stands at a place, with this value
 abbrev pub TokenAt : List Tok → ℕ → (t : Symbol) → Value t → Type 0

@@ -1,17 +1,16 @@
 -- Paths through blocks, what stands in them, and transactions.
-use Rattle.std.proofs.Common.{◌≡◌, ℕ, ◌+◌, ◌-◌, ◌<◌, ◌≤◌, Bool, true, false, if◌then◌else◌, List, [], ◌∷◌, ◌++◌, refl, sym as sym', subst, arith}
+use Rattle.std.proofs.Common.{ℕ, ◌+◌, Bool, true, false, if◌then◌else◌, List, [], ◌∷◌, ◌++◌, refl, arith}
 use Rattle.xw_words.specs.declared.pos.Pos.{Pos}
 use Rattle.xc_tree.specs.declared.token.Tok.{Tok}
 use Rattle.xc_tree.specs.declared.token.Kind.TheVariants.{Key, Sym}
 use Rattle.xc_tree.specs.Plain as plain
-use Rattle.xc_tree.specs.Symbol.{Symbol, sym, key, block, block_item, decl, statement, Value}
+use Rattle.xc_tree.specs.Symbol.{sym, block, block_item, decl, statement}
 use Rattle.xc_tree.specs.Grammar.{statement_of}
 use Rattle.xc_tree.specs.Derives.{On, extent}
 use Rattle.xc_parser.specs.declared.stop.Stop.{Stop}
 use Rattle.xc_parser.specs.Follows.{OneOf, StandsAt, first, begins_declaration, begins_statement}
 use Rattle.xc_parser.specs.Reading.{Reads}
 use Rattle.xc_parser.specs.Stops.{Stopped}
-use Rattle.xc_parser.proofs.Rests.{left}
 use Rattle.xc_parser.proofs.TokenSets.{one_disjoint}
 use Rattle.xc_parser.proofs.Paths.{Roomy, begin, over_symbol, over_word, lacks, read, stops, finish}
 use Rattle.xc_parser.proofs.Loops.{Run, having, one_more, one_stops, no_more}

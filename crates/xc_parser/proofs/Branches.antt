@@ -1,18 +1,16 @@
 -- Paths through a `par`: its branches, and a replicated one.
-use Rattle.std.proofs.Common.{◌≡◌, ℕ, ◌+◌, ◌≤◌, Bool, true, List, [], ◌∷◌, ◌++◌, Option, refl, sym as sym', arith}
+use Rattle.std.proofs.Common.{ℕ, ◌+◌, true, List, [], ◌∷◌, ◌++◌, Option, refl, arith}
 use Rattle.xw_words.specs.declared.pos.Pos.{Pos}
 use Rattle.xc_tree.specs.declared.token.Tok.{Tok}
 use Rattle.xc_tree.specs.declared.token.Kind.TheVariants.{Key, Sym}
-use Rattle.xc_tree.specs.declared.tree.Id.{Id}
 use Rattle.xc_tree.specs.Plain as plain
-use Rattle.xc_tree.specs.Symbol.{Symbol, sym, key, a_name, a_number, maybe, place, branch, statement, Numeral, Value}
+use Rattle.xc_tree.specs.Symbol.{sym, maybe, place, branch, statement}
 use Rattle.xc_tree.specs.Grammar.{statement_of}
 use Rattle.xc_tree.specs.Derives.{On, extent}
 use Rattle.xc_parser.specs.declared.stop.Stop.{Stop}
 use Rattle.xc_parser.specs.Follows.{OneOf, first}
 use Rattle.xc_parser.specs.Reading.{Reads}
 use Rattle.xc_parser.specs.Stops.{Stopped}
-use Rattle.xc_parser.proofs.Rests.{Rest}
 use Rattle.xc_parser.proofs.TokenSets.{one_disjoint, one_token_of}
 use Rattle.xc_parser.proofs.Single.{one_symbol}
 use Rattle.xc_parser.proofs.Paths.{Roomy, begin, over_word, over_symbol, lacks_symbol, read, stops, finish}

@@ -1,10 +1,10 @@
 -- Paths through a `select`: its cases, of which there is one at least.
-use Rattle.std.proofs.Common.{◌≡◌, ℕ, ◌+◌, ◌≤◌, Bool, true, List, [], ◌∷◌, ◌++◌, refl, sym as sym', ap, subst, arith}
+use Rattle.std.proofs.Common.{◌≡◌, ℕ, ◌+◌, true, List, [], ◌∷◌, ◌++◌, refl, sym as sym', ap, subst, arith}
 use Rattle.xw_words.specs.declared.pos.Pos.{Pos}
 use Rattle.xc_tree.specs.declared.token.Tok.{Tok}
 use Rattle.xc_tree.specs.declared.token.Kind.TheVariants.{Key, Sym}
 use Rattle.xc_tree.specs.Plain as plain
-use Rattle.xc_tree.specs.Symbol.{Symbol, sym, key, case, statement, Value}
+use Rattle.xc_tree.specs.Symbol.{sym, case, statement}
 use Rattle.xc_tree.specs.Grammar.{statement_of}
 use Rattle.xc_tree.specs.Derives.{On, extent}
 use Rattle.xc_parser.specs.declared.stop.Stop.{Stop}

@@ -1,9 +1,9 @@
 -- Places where some alternatives have room and others have none, or none has.
-use Rattle.std.proofs.Common.{◌≡◌, inl, inr, ℕ, ◌+◌, ◌<◌, ◌≤◌, Bool, true, false, ◌||◌, List, [], ◌∷◌}
+use Rattle.std.proofs.Common.{◌≡◌, inl, inr, ℕ, ◌+◌, true, false, List, []}
 use Rattle.xw_words.specs.declared.pos.Pos.{Pos}
 use Rattle.xc_tree.specs.declared.token.Tok.{Tok}
-use Rattle.xc_tree.specs.declared.token.Kind.TheVariants.{Name, Num, Key, Sym}
-use Rattle.xc_tree.specs.Symbol.{Symbol, sym, key, a_name, a_number, Value}
+use Rattle.xc_tree.specs.declared.token.Kind.TheVariants.{Name, Key, Sym}
+use Rattle.xc_tree.specs.Symbol.{Symbol, sym, key, a_name, Value}
 use Rattle.xc_tree.specs.Derives.{On, unlimited, at_most}
 use Rattle.xc_parser.specs.Follows.{OneOf, StandsAt}
 use Rattle.xc_parser.specs.Reading.{Refuses, TooDeep}
@@ -14,7 +14,7 @@ use Rattle.xc_parser.proofs.Beginnings.{all_begun}
 use Rattle.xc_parser.proofs.Narrows.{at_token, at_none}
 use Rattle.xc_parser.proofs.Spreads.{spreads}
 use Rattle.xc_parser.proofs.Moves.{pass, stay, one_any, one_has, none_ends, none_starts}
-use Rattle.xc_parser.proofs.Opening.{fronts, is_token, beginnings, over, all_ready, grown, layers, OneFits, NoneFits, keep, without, spread, is_any}
+use Rattle.xc_parser.proofs.Opening.{fronts, is_token, beginnings, over, all_ready, grown, layers, OneFits, NoneFits, keep, without, spread}
 
 module _ {toks : List Tok} {room : ℕ} {s : Symbol} where
   pub all_open : {i : ℕ} → is_token s ≡ false → Stands toks room s i i (beginnings s)

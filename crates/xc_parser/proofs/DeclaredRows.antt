@@ -1,5 +1,5 @@
 -- Declarations: the rows of their names, as they are read.
-use Rattle.std.proofs.Common.{◌≡◌, ℕ, ◌+◌, ◌-◌, ◌<◌, ◌≤◌, inl, inr, Bool, true, false, List, [], ◌∷◌, ◌++◌, map, IsTrue, refl, sym as sym', ap, subst, ◌∙◌, if◌then◌else◌, lit<, arith}
+use Rattle.std.proofs.Common.{◌≡◌, ℕ, ◌+◌, ◌-◌, ◌≤◌, inl, inr, Bool, true, false, List, [], ◌∷◌, ◌++◌, map, IsTrue, refl, sym as sym', ap, subst, ◌∙◌, if◌then◌else◌, lit<, arith}
 use Rattle.std.proofs.lemmas.List.{map-append}
 use Rattle.xw_words.specs.declared.pos.Pos.{Pos}
 use Rattle.xc_tree.specs.declared.token.Tok.{Tok}

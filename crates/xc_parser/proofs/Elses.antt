@@ -1,5 +1,5 @@
 -- An open statement with an `else` behind it goes on with it.
-use Rattle.std.proofs.Common.{◌≡◌, ℕ, zero, suc, ◌+◌, ◌<◌, ◌≤◌, ◌⊎◌, inl, inr, Bool, true, false, not, List, [], ◌∷◌, refl, sym as sym', ap, subst, ◌∙◌, arith}
+use Rattle.std.proofs.Common.{◌≡◌, ℕ, zero, suc, ◌+◌, ◌≤◌, inl, inr, Bool, true, false, not, List, [], ◌∷◌, refl, sym as sym', ap, subst, ◌∙◌, arith}
 use Rattle.xw_words.specs.declared.pos.Pos.{Pos}
 use Rattle.xc_tree.specs.declared.token.Tok.{Tok}
 use Rattle.xc_tree.specs.declared.token.Kind.TheVariants.{Key}
@@ -10,7 +10,7 @@ use Rattle.xc_tree.specs.Grammar.{rules}
 use Rattle.xc_tree.specs.Terminals.{paren, end_paren, else_word, if_word, while_word, for_word, par_word}
 use Rattle.xc_tree.specs.Derives.{On, Room, unlimited, Derives, Row, done, next, Prefix, whole, Begins, in_this, after}
 use Rattle.xc_parser.specs.Reading.{Reads}
-use Rattle.xc_parser.proofs.Alternatives.{ByRules, BeginsRules, by_rules, from_rules, from_starts}
+use Rattle.xc_parser.proofs.Alternatives.{ByRules, by_rules, from_rules, from_starts}
 use Rattle.xc_parser.proofs.Behinds.{token_derived, token_derives}
 use Rattle.xc_parser.proofs.Lists.{unrow, unend}
 use Rattle.xc_parser.proofs.Forth.{forth, lift, strict}

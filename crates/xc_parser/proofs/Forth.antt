@@ -1,11 +1,11 @@
 -- No symbol ends before it begins, and what there is room for is so without a limit.
-use Rattle.std.proofs.Common.{◌≡◌, ℕ, zero, suc, ◌+◌, ◌-◌, ◌<◌, ◌≤◌, ◌⊎◌, inl, inr, Bool, false, true, ◌||◌, List, [], ◌∷◌, refl, sym as sym', ap, ◌∙◌, subst, arith}
+use Rattle.std.proofs.Common.{◌≡◌, ℕ, zero, suc, ◌+◌, ◌-◌, ◌<◌, ◌≤◌, inl, inr, Bool, false, true, List, refl, sym as sym', ap, ◌∙◌, subst, arith}
 use Rattle.std.proofs.lemmas.Bool.{and_cases}
 use Rattle.xc_tree.specs.declared.token.Tok.{Tok}
 use Rattle.xc_tree.specs.Symbol.{Symbol, Value, Values}
 use Rattle.xc_tree.specs.Derives.{Room, unlimited, at_most, HasRoom, below, Derives, a_sym, a_key, named, counted, by_rule, Row, done, next, Prefix, nothing, whole, begins, Begins, in_this, after}
 use Rattle.xc_parser.specs.Follows.{OneOf, first, nullable}
-use Rattle.xc_parser.proofs.Rests.{Part, ValuesOf, RowOf, BeginsOf, inside, left}
+use Rattle.xc_parser.proofs.Rests.{inside, left}
 use Rattle.xc_parser.proofs.Covers.{Fits, all_fit, row_nullable}
 use Rattle.xc_parser.proofs.Firsts.{derived_first}
 

@@ -1,19 +1,16 @@
 -- Rests that all begin with one symbol, and they behind it.
-use Rattle.std.proofs.Common.{◌≡◌, ℕ, zero, suc, ◌+◌, ◌<◌, ◌≤◌, ◌⊎◌, inl, inr, Bool, true, false, not, ◌&&◌, ◌||◌, max, List, [], ◌∷◌, refl, sym as sym', ap, subst, ◌∙◌, arith}
+use Rattle.std.proofs.Common.{◌≡◌, ℕ, ◌≤◌, ◌⊎◌, inl, inr, true, not, ◌||◌, List, sym as sym', subst}
 use Rattle.std.proofs.lemmas.Bool.{and_parts, or_cases, not-true}
 use Rattle.xc_tree.specs.declared.token.Tok.{Tok}
 use Rattle.xc_tree.specs.Symbol.{Symbol, Value}
-use Rattle.xc_tree.specs.Grammar.{Extent}
-use Rattle.xc_tree.specs.Derives.{Room, unlimited, at_most, HasRoom, Derives, Prefix, nothing, whole, extent}
-use Rattle.xc_parser.specs.Follows.{OneOf, has, follows}
+use Rattle.xc_tree.specs.Derives.{Room, HasRoom, Derives, Prefix}
+use Rattle.xc_parser.specs.Follows.{OneOf, follows}
 use Rattle.xc_parser.specs.Reading.{GoesOn, IsFront}
-use Rattle.xc_parser.proofs.Rests.{Part, ValuesOf, Rest, RowOf, BeginsOf, EndsBy, Ends, StartsBy, Starts, inside}
+use Rattle.xc_parser.proofs.Rests.{Part, Rest, Ends, Starts, inside}
 use Rattle.xc_parser.proofs.Opening.{fronts, firsts, nullables, within, is_disjoint, is_apart, all_apart, Heads, no_head, one_head, popped}
 use Rattle.xc_parser.proofs.TokenSets.{one_within, one_disjoint, front}
 use Rattle.xc_parser.proofs.Firsts.{parts_first, begun_first}
-use Rattle.xc_parser.proofs.Forth.{forth, prefix_forth}
 use Rattle.xc_parser.proofs.Spreads.{has_max, max_has}
-use Rattle.xc_parser.proofs.Narrows.{Narrows}
 
 -- what a longer reading of t goes on with begins nothing behind t, or a longer reading of s goes on with it
 pub record Apart (toks : List Tok) (s t : Symbol) (ps : List Part) : Type 0 where

@@ -1,5 +1,5 @@
 -- An `if` behind its condition: its statement without an `else` behind it, and with one.
-use Rattle.std.proofs.Common.{◌≡◌, ℕ, zero, suc, ◌+◌, ◌-◌, ◌<◌, ◌≤◌, ◌⊎◌, inl, inr, Bool, true, false, not, List, [], ◌∷◌, refl, sym as sym', ap, subst, ◌∙◌, arith}
+use Rattle.std.proofs.Common.{◌≡◌, ℕ, ◌+◌, ◌-◌, ◌≤◌, ◌⊎◌, inl, inr, Bool, true, false, not, List, [], ◌∷◌, refl, sym as sym', ap, subst, ◌∙◌, arith}
 use Rattle.std.proofs.lemmas.Bool.{not-true}
 use Rattle.xw_words.specs.declared.pos.Pos.{Pos}
 use Rattle.xc_tree.specs.declared.token.Tok.{Tok}
@@ -7,13 +7,13 @@ use Rattle.xc_tree.specs.declared.token.Kind.{Kind}
 use Rattle.xc_tree.specs.declared.token.Kind.TheVariants.{Key}
 use Rattle.xc_tree.specs.Plain as plain
 use Rattle.xc_tree.specs.Plain.{is_open}
-use Rattle.xc_tree.specs.Symbol.{Symbol, key, statement, closed, Value, Values}
+use Rattle.xc_tree.specs.Symbol.{Symbol, key, statement, closed, Values}
 use Rattle.xc_tree.specs.Grammar.{Extent}
 use Rattle.xc_tree.specs.Derives.{On, Room, unlimited, at_most, HasRoom, below, Derives, a_key, Row, done, next, Prefix, nothing, whole, begins, Begins, in_this, after, extent, position}
 use Rattle.xc_parser.specs.Follows.{OneOf, follows}
 use Rattle.xc_parser.specs.Reading.{IsFront}
-use Rattle.xc_parser.proofs.Rests.{Part, ValuesOf, Rest, RowOf, BeginsOf, EndsBy, Ends, StartsBy, Starts, inside, Open}
-use Rattle.xc_parser.proofs.Alternatives.{by_rules, from_rules, by_starts, from_starts}
+use Rattle.xc_parser.proofs.Rests.{Part, ValuesOf, Rest, RowOf, BeginsOf, inside, Open}
+use Rattle.xc_parser.proofs.Alternatives.{by_rules, from_rules, by_starts}
 use Rattle.xc_parser.proofs.Advances.{Never}
 use Rattle.xc_parser.proofs.Behinds.{token_derived, token_prefix}
 use Rattle.xc_parser.proofs.Forth.{prefix_forth, forth}

@@ -1,6 +1,6 @@
 -- The last part of a symbol, where what goes on behind it with an `else` goes on behind the whole; and the statement of an
 -- `if`, behind which an `else` may stand.
-use Rattle.std.proofs.Common.{◌≡◌, ℕ, max, ◌+◌, ◌<◌, ◌≤◌, ◌⊎◌, inl, inr, Bool, true, false, List, [], ◌∷◌, refl, sym as sym', ap, subst, ◌∙◌, arith}
+use Rattle.std.proofs.Common.{◌≡◌, ℕ, ◌+◌, ◌≤◌, ◌⊎◌, inl, inr, Bool, true, false, List, [], ◌∷◌, refl, sym as sym', ap, subst, ◌∙◌, arith}
 use Rattle.xw_words.specs.declared.pos.Pos.{Pos}
 use Rattle.xc_tree.specs.declared.token.Tok.{Tok}
 use Rattle.xc_tree.specs.declared.token.Kind.TheVariants.{Key}
@@ -8,16 +8,16 @@ use Rattle.xc_tree.specs.Plain as plain
 use Rattle.xc_tree.specs.Plain.{is_open}
 use Rattle.xc_tree.specs.Symbol.{Symbol, statement, Value}
 use Rattle.xc_tree.specs.Grammar.{Extent}
-use Rattle.xc_tree.specs.Derives.{On, Room, unlimited, at_most, HasRoom, Derives, Prefix, nothing, whole, extent}
+use Rattle.xc_tree.specs.Derives.{On, Room, unlimited, at_most, Derives, Prefix, nothing, extent}
 use Rattle.xc_parser.specs.declared.stop.Stop.{Stop}
 use Rattle.xc_parser.specs.declared.stop.Stop.TheVariants.{Wrong, Deep, Memory}
 use Rattle.xc_parser.specs.Follows.{OneOf, follows}
-use Rattle.xc_parser.specs.Reading.{IsFront, Reads, Refuses, TooDeep, may_go_on}
+use Rattle.xc_parser.specs.Reading.{IsFront, Reads, may_go_on}
 use Rattle.xc_parser.specs.Stops.{Stopped}
-use Rattle.xc_parser.proofs.Rests.{Part, ValuesOf, Rest, Open, Stands, left, inside}
-use Rattle.xc_parser.proofs.Opening.{within, peak}
+use Rattle.xc_parser.proofs.Rests.{ValuesOf, Rest, Open, left, inside}
+use Rattle.xc_parser.proofs.Opening.{within}
 use Rattle.xc_parser.proofs.TokenSets.{one_within}
-use Rattle.xc_parser.proofs.Forth.{forth, inside_free, inside_most}
+use Rattle.xc_parser.proofs.Forth.{inside_free, inside_most}
 use Rattle.xc_parser.proofs.Advances.{Known, Never, known_free, known_held, never_free, never_held}
 use Rattle.xc_parser.proofs.Paths.{Roomy}
 use Rattle.xc_parser.proofs.Ifs.{Sole, lone, with_else, ending, going_on, behind_else, ends_here, goes_on_here, stops_here}

@@ -1,12 +1,12 @@
 -- Binary operators: a level is what stands on the level below it, with operators and right sides behind it.
-use Rattle.std.proofs.Common.{◌≡◌, ℕ, zero, suc, ◌+◌, ◌<◌, ◌≤◌, ◌⊎◌, inl, inr, List, [], ◌∷◌, refl, sym as sym', subst, ◌∙◌, arith}
+use Rattle.std.proofs.Common.{◌≡◌, ℕ, zero, suc, ◌+◌, ◌<◌, ◌≤◌, inl, inr, List, [], ◌∷◌, refl, sym as sym', subst, ◌∙◌, arith}
 use Rattle.xc_tree.specs.declared.token.Tok.{Tok}
 use Rattle.xc_tree.specs.Plain as plain
-use Rattle.xc_tree.specs.Symbol.{Symbol, sym, level, operator, Marked, Value, Values}
+use Rattle.xc_tree.specs.Symbol.{sym, level, operator, Marked}
 use Rattle.xc_tree.specs.Grammar.{rules, operators, one_of}
-use Rattle.xc_tree.specs.Derives.{Room, unlimited, below, Derives, Row, done, next}
+use Rattle.xc_tree.specs.Derives.{Room, unlimited, Derives}
 use Rattle.xc_parser.proofs.Alternatives.{ByRules, by_rules}
-use Rattle.xc_parser.proofs.Forth.{forth, inside_same}
+use Rattle.xc_parser.proofs.Forth.{forth}
 use Rattle.xc_parser.proofs.Behinds.{token_derived}
 use Rattle.xc_parser.proofs.Lists.{unrow, unend}
 

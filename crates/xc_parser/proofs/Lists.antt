@@ -1,13 +1,11 @@
 -- What `{ t }` and `t { "," t }` derive, an element at a time.
-use Rattle.std.proofs.Common.{◌≡◌, ℕ, ◌+◌, ◌-◌, ◌≤◌, ◌⊎◌, inl, inr, Bool, true, false, List, [], ◌∷◌, slice_get, Some, refl, sym as sym', ap, subst, ◌∙◌, arith}
+use Rattle.std.proofs.Common.{◌≡◌, ℕ, ◌+◌, ◌≤◌, ◌⊎◌, inl, inr, true, List, [], ◌∷◌, refl, sym as sym', subst, arith}
 use Rattle.xw_words.specs.declared.pos.Pos.{Pos}
 use Rattle.xc_tree.specs.declared.token.Tok.{Tok}
 use Rattle.xc_tree.specs.declared.token.Kind.TheVariants.{Sym}
 use Rattle.xc_tree.specs.Symbol.{Symbol, many, commas, Value, Values}
 use Rattle.xc_tree.specs.Terminals.{comma}
-use Rattle.xc_tree.specs.Grammar.{rules}
-use Rattle.xc_tree.specs.Derives.{On, Room, unlimited, at_most, HasRoom, below, Derives, by_rule, Row, done, next, Prefix, nothing, whole, begins, Begins, in_this, after, extent}
-use Rattle.xc_parser.proofs.Rests.{inside}
+use Rattle.xc_tree.specs.Derives.{On, Room, unlimited, at_most, HasRoom, Derives, Row, done, next, Prefix, nothing, whole, begins, Begins, in_this, after}
 use Rattle.xc_parser.proofs.Forth.{inside_same}
 use Rattle.xc_parser.proofs.Alternatives.{by_rules, from_rules, by_starts, from_starts}
 use Rattle.xc_parser.proofs.Behinds.{TokenAt, token_derived, token_derives, no_rule}

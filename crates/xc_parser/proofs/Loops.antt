@@ -1,27 +1,25 @@
 -- Loops over `{ t }` and `t { "," t }`: what was read of them so far, and each step.
-use Rattle.std.proofs.Common.{◌≡◌, ℕ, max, ◌+◌, ◌≤◌, Bool, true, false, not, ◌&&◌, ◌||◌, List, [], ◌∷◌, ◌++◌, ◌⊎◌, inl, inr, refl, sym as sym', ap, subst, ◌∙◌, append_assoc, append-nil, arith}
+use Rattle.std.proofs.Common.{◌≡◌, ℕ, max, Bool, true, false, not, ◌&&◌, ◌||◌, List, [], ◌∷◌, ◌++◌, inl, inr, sym as sym', ap, subst, ◌∙◌, append_assoc, append-nil, arith}
 use Rattle.std.proofs.lemmas.Bool.{and_parts, or_cases, not-true}
-use Rattle.xw_words.specs.declared.pos.Pos.{Pos}
 use Rattle.xc_tree.specs.declared.token.Tok.{Tok}
-use Rattle.xc_tree.specs.declared.token.Kind.TheVariants.{Sym}
 use Rattle.xc_tree.specs.Symbol.{Symbol, many, commas, Value}
 use Rattle.xc_tree.specs.Grammar.{Extent}
 use Rattle.xc_tree.specs.Terminals.{comma}
-use Rattle.xc_tree.specs.Derives.{On, Room, unlimited, at_most, extent}
+use Rattle.xc_tree.specs.Derives.{Room, extent}
 use Rattle.xc_parser.specs.declared.stop.Stop.{Stop}
-use Rattle.xc_parser.specs.Follows.{OneOf, first, follows, nullable, has}
+use Rattle.xc_parser.specs.Follows.{OneOf, first, nullable, has}
 use Rattle.xc_parser.specs.Reading.{Reads, IsFront}
 use Rattle.xc_parser.specs.Stops.{Stopped}
-use Rattle.xc_parser.proofs.Rests.{Part, ValuesOf, Rest, RowOf, BeginsOf, Stands, inside, left}
-use Rattle.xc_parser.proofs.Opening.{fronts, firsts, nullables, is_disjoint, is_apart, within, Heads, no_head, one_head}
-use Rattle.xc_parser.proofs.Lists.{many_split, many_none, many_more, many_begin, begin_many, more_many, commas_split, commas_last, commas_more, commas_begin, begin_commas, more_commas}
+use Rattle.xc_parser.proofs.Rests.{Part, ValuesOf, Rest, RowOf, BeginsOf, inside, left}
+use Rattle.xc_parser.proofs.Opening.{fronts, firsts, nullables, is_disjoint, is_apart, within}
+use Rattle.xc_parser.proofs.Lists.{many_split, many_none, many_more, many_begin, begin_many, more_many}
 use Rattle.xc_parser.proofs.TokenSets.{front, one_within, one_disjoint}
 use Rattle.xc_parser.proofs.Firsts.{parts_first, begun_first, prefix_first}
 use Rattle.xc_parser.proofs.Forth.{ahead}
 use Rattle.xc_parser.proofs.Spreads.{max_has}
 use Rattle.xc_parser.proofs.Narrows.{Narrows}
 use Rattle.xc_parser.proofs.Moves.{stay}
-use Rattle.xc_parser.proofs.Paths.{Roomy, read, stops, read_all, stops_all}
+use Rattle.xc_parser.proofs.Paths.{Roomy, read, stops}
 
 -- a rest that begins with a list of a symbol below so many nodes
 pub record Run (V : Type 0) : Type 0 where

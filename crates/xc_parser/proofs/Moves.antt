@@ -1,18 +1,17 @@
 -- Steps over the rests of a symbol, for one room.
-use Rattle.std.proofs.Common.{◌≡◌, ℕ, zero, suc, ◌+◌, ◌<◌, ◌≤◌, ◌⊎◌, inl, inr, Bool, true, false, ◌&&◌, leb, max, List, [], ◌∷◌, ◌++◌, if◌then◌else◌, Option, Some, None, refl, sym as sym', ap, subst, arith}
+use Rattle.std.proofs.Common.{◌≡◌, ℕ, zero, suc, ◌+◌, ◌≤◌, ◌⊎◌, inl, inr, Bool, true, false, ◌&&◌, leb, List, [], ◌∷◌, if◌then◌else◌, Option, Some, None, refl, arith}
 use Rattle.std.proofs.lemmas.Bool.{and_parts, leb-true}
 use Rattle.xc_tree.specs.declared.token.Tok.{Tok}
 use Rattle.xc_tree.specs.Symbol.{Symbol, Value}
 use Rattle.xc_tree.specs.Grammar.{Extent}
-use Rattle.xc_tree.specs.Derives.{Room, unlimited, at_most, HasRoom, Derives, Prefix, nothing, whole}
-use Rattle.xc_parser.specs.Follows.{StandsAt, OneOf}
-use Rattle.xc_parser.specs.Reading.{GoesOn}
-use Rattle.xc_parser.proofs.Rests.{Part, ValuesOf, Rest, Ends, Starts, Open, Stands, inside}
-use Rattle.xc_parser.proofs.Opening.{fronts, keep, without, spread, grown, layers, over, behind, behind_part, behind_parts, as_token, all_ready, is_any, peak, peak_of, peak_parts, sift, keep_if, least, OneFits, NoneFits, Within, moves}
+use Rattle.xc_tree.specs.Derives.{Room, unlimited, at_most, HasRoom, whole}
+use Rattle.xc_parser.specs.Follows.{StandsAt}
+use Rattle.xc_parser.proofs.Rests.{Part, ValuesOf, Rest, Ends, Starts, Open}
+use Rattle.xc_parser.proofs.Opening.{fronts, keep, spread, grown, layers, over, behind, behind_part, behind_parts, as_token, all_ready, is_any, peak, sift, keep_if, least, OneFits, NoneFits, Within, moves}
 use Rattle.xc_parser.proofs.Behinds.{TokenAt, token_derives, token_stands, as_back}
 use Rattle.xc_parser.proofs.Spreads.{spreads, max_has}
 use Rattle.xc_parser.proofs.Overs.{at_behind}
-use Rattle.xc_parser.proofs.Narrows.{Narrows, compose, same, narrow, at_token, at_none}
+use Rattle.xc_parser.proofs.Narrows.{Narrows, compose, narrow, at_token}
 
 -- one of some rests has room
 abbrev pub OneHas : {V : Type 0} → Room → List (Rest V) → Type 0

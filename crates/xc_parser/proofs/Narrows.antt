@@ -1,13 +1,13 @@
 -- How the rests of a symbol become others: the ones that a token leaves open, their alternatives, and what stands behind a
 -- token or a symbol.
-use Rattle.std.proofs.Common.{◌≡◌, ℕ, zero, suc, ◌+◌, ◌<◌, ◌≤◌, ◌⊎◌, inl, inr, Bool, true, false, not, ◌&&◌, ◌||◌, List, [], ◌∷◌, ◌++◌, refl, sym as sym', ap, subst, ◌∙◌, arith}
-use Rattle.std.proofs.lemmas.Bool.{and_parts, and_cases, or_parts, not-true, not-false}
+use Rattle.std.proofs.Common.{◌≡◌, ℕ, ◌≤◌, ◌⊎◌, inl, inr, Bool, true, false, not, ◌&&◌, List, [], ◌∷◌, refl, sym as sym', subst, arith}
+use Rattle.std.proofs.lemmas.Bool.{and_cases, or_parts, not-false}
 use Rattle.xc_tree.specs.declared.token.Tok.{Tok}
 use Rattle.xc_tree.specs.Symbol.{Symbol, Value}
-use Rattle.xc_tree.specs.Derives.{Room, Derives, Prefix, HasRoom}
-use Rattle.xc_parser.specs.Follows.{StandsAt, OneOf, has, follows, first}
+use Rattle.xc_tree.specs.Derives.{Room, Prefix}
+use Rattle.xc_parser.specs.Follows.{StandsAt, OneOf, has}
 use Rattle.xc_parser.specs.Reading.{IsFront}
-use Rattle.xc_parser.proofs.Rests.{Part, ValuesOf, Rest, RowOf, BeginsOf, EndsBy, Ends, StartsBy, Starts, Open}
+use Rattle.xc_parser.proofs.Rests.{Rest, EndsBy, Ends, StartsBy, Starts, Open}
 use Rattle.xc_parser.proofs.Opening.{fronts, firsts, nullables, opens, keep, keep_if, sift, without, needs_none, within}
 use Rattle.xc_parser.proofs.TokenSets.{front, one_is, one_within}
 use Rattle.xc_parser.proofs.Firsts.{parts_first, begun_first}

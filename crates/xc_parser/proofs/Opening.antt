@@ -1,10 +1,8 @@
 -- Which rests a token opens, and what they are behind it: all of it computes.
-use Rattle.std.proofs.Common.{◌≡◌, ℕ, zero, suc, ◌+◌, ◌-◌, ◌<◌, ◌≤◌, ◌⊎◌, Bool, true, false, not, ◌&&◌, ◌||◌, max, List, [], ◌∷◌, ◌++◌, if◌then◌else◌, nat_eq, leb, Option, Some, None}
-use Rattle.xw_words.specs.declared.pos.Pos.{Pos}
-use Rattle.xc_tree.specs.declared.token.Tok.{Tok}
-use Rattle.xc_tree.specs.Symbol.{Symbol, sym, key, a_name, a_number, many, maybe, commas, program, item, portdecl, dir, place, place_value, head, result, word, params, param, body, block, block_item, decl, dv, initial, statement, closed, case_item, for_start, for_step, branch, case, guard, assign, assign_op, rhs, call, arguments, argument, lval, output, input, time, stamp, waits, test, dest, expr, level, operator, sign, atom, Value, Values}
+use Rattle.std.proofs.Common.{ℕ, zero, suc, ◌+◌, ◌<◌, ◌≤◌, Bool, true, false, not, ◌&&◌, ◌||◌, max, List, [], ◌∷◌, ◌++◌, if◌then◌else◌, nat_eq, leb, Option, Some, None}
+use Rattle.xc_tree.specs.Symbol.{Symbol, sym, key, a_name, a_number, many, maybe, commas, portdecl, dir, place, result, word, params, param, block, block_item, dv, initial, statement, case_item, branch, case, guard, assign, rhs, call, arguments, lval, output, input, time, stamp, waits, test, dest, sign, atom, Value, Values}
 use Rattle.xc_tree.specs.Grammar.{Rule, Extent, rules}
-use Rattle.xc_parser.specs.Follows.{has, first, follows, nullable, is_same}
+use Rattle.xc_parser.specs.Follows.{has, first, follows, nullable}
 use Rattle.xc_parser.proofs.Rests.{Part, ValuesOf, Rest}
 
 -- whether a symbol is a token

@@ -1,17 +1,14 @@
 -- Rests behind a token.
-use Rattle.std.proofs.Common.{◌≡◌, ℕ, zero, suc, ◌+◌, ◌<◌, ◌≤◌, ◌⊎◌, inl, inr, Bool, true, false, not, ◌&&◌, ◌||◌, max, List, [], ◌∷◌, ◌++◌, Option, Some, None, refl, sym as sym', ap, subst, ◌∙◌, arith}
-use Rattle.std.proofs.lemmas.Bool.{and_parts, or_cases, not-true}
+use Rattle.std.proofs.Common.{◌≡◌, ℕ, ◌+◌, ◌≤◌, ◌⊎◌, inl, inr, Bool, true, List, [], ◌∷◌, Option, Some, None, refl, sym as sym', subst}
+use Rattle.std.proofs.lemmas.Bool.{and_parts}
 use Rattle.xc_tree.specs.declared.token.Tok.{Tok}
 use Rattle.xc_tree.specs.Symbol.{Symbol, Value}
 use Rattle.xc_tree.specs.Grammar.{Extent}
-use Rattle.xc_tree.specs.Derives.{Room, unlimited, at_most, HasRoom, Derives, Prefix, nothing, whole, extent}
-use Rattle.xc_parser.specs.Follows.{StandsAt, OneOf, has, follows}
-use Rattle.xc_parser.specs.Reading.{IsFront, Reads, Refuses, TooDeep, Unfit}
-use Rattle.xc_parser.proofs.Rests.{Part, ValuesOf, Rest, RowOf, BeginsOf, EndsBy, Ends, StartsBy, Starts, Open, inside, left}
-use Rattle.xc_parser.proofs.Opening.{fronts, is_token, firsts, nullables, as_token, behind_part, behind_parts, behind, is_ready, all_ready, within, is_disjoint, is_apart, all_apart, Heads, no_head, one_head, popped}
-use Rattle.xc_parser.proofs.TokenSets.{one_within, one_disjoint}
-use Rattle.xc_parser.proofs.Firsts.{parts_first, begun_first}
-use Rattle.xc_parser.proofs.Forth.{forth, prefix_forth, lift, lift_prefix, inside_most, inside_free}
+use Rattle.xc_tree.specs.Derives.{Room}
+use Rattle.xc_parser.specs.Follows.{StandsAt, has}
+use Rattle.xc_parser.specs.Reading.{IsFront}
+use Rattle.xc_parser.proofs.Rests.{Part, ValuesOf, Rest, RowOf, BeginsOf, EndsBy, Ends, StartsBy, Starts}
+use Rattle.xc_parser.proofs.Opening.{fronts, is_token, as_token, behind_part, behind_parts, behind, is_ready, all_ready}
 use Rattle.xc_parser.proofs.Spreads.{has_max, max_has}
 use Rattle.xc_parser.proofs.Behinds.{TokenAt, token_derives, token_derived, token_prefix, token_stands, as_same, as_back}
 use Rattle.xc_parser.proofs.Narrows.{Narrows}

@@ -1,5 +1,5 @@
 -- Rows of parameters.
-use Rattle.std.proofs.Common.{ℕ, true, List, []}
+use Rattle.std.proofs.Common.{true, List, []}
 use Rattle.xc_tree.specs.declared.tree.Param.{Param}
 use Rattle.xc_tree.specs.Symbol.{param}
 use Rattle.xc_parser.proofs.Loops.{Run}

@@ -1,5 +1,5 @@
 -- Parameters that begin with the type of a word: what is open behind it.
-use Rattle.std.proofs.Common.{◌≡◌, ℕ, ◌+◌, Bool, true, List, [], ◌∷◌, refl}
+use Rattle.std.proofs.Common.{ℕ, ◌+◌, Bool, List, [], ◌∷◌, refl}
 use Rattle.xc_tree.specs.declared.token.Tok.{Tok}
 use Rattle.xc_tree.specs.declared.token.Kind.TheVariants.{Sym}
 use Rattle.xc_tree.specs.declared.tree.Param.{Param}

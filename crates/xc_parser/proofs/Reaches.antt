@@ -1,11 +1,11 @@
 -- A token with which parts can begin is a prefix of them, where no limit is set.
-use Rattle.std.proofs.Common.{◌≡◌, ℕ, zero, suc, ◌+◌, ◌≤◌, ◌⊎◌, inl, inr, Bool, true, false, List, [], ◌∷◌, slice_get, Some, None, refl, sym as sym', ap, subst, arith}
+use Rattle.std.proofs.Common.{◌≡◌, ℕ, zero, suc, ◌+◌, ◌⊎◌, inl, inr, Bool, true, false, List, [], ◌∷◌, slice_get, None, refl, sym as sym', ap, subst}
 use Rattle.xc_tree.specs.declared.token.Tok.{Tok}
 use Rattle.xc_tree.specs.Symbol.{Symbol, sym, key, a_name, a_number, many, maybe, params, arguments, waits, at_once, Value}
 use Rattle.xc_tree.specs.Grammar.{Rule, rules}
-use Rattle.xc_tree.specs.Derives.{Among, Room, unlimited, Derives, a_sym, a_key, named, counted, by_rule, Row, done, next, Prefix, nothing, whole, begins, Begins, in_this, after}
+use Rattle.xc_tree.specs.Derives.{Among, Room, unlimited, Derives, a_sym, a_key, named, counted, by_rule, done, Prefix, whole, begins, Begins, in_this, after}
 use Rattle.xc_parser.specs.Follows.{StandsAt, has, first, is_same}
-use Rattle.xc_parser.proofs.Rests.{Part, Rest, BeginsOf, StartsBy, Starts, inside}
+use Rattle.xc_parser.proofs.Rests.{Part, Rest, BeginsOf, Starts}
 use Rattle.xc_parser.proofs.TokenSets.{is_same_eq}
 use Rattle.xc_parser.proofs.Forth.{inside_free}
 

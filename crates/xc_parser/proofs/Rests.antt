@@ -1,9 +1,8 @@
 -- What is left of a symbol that was read up to a place: the rests of its alternatives that are still open.
-use Rattle.std.proofs.Common.{◌≡◌, ℕ, zero, suc, ◌+◌, ◌-◌, ◌<◌, ◌≤◌, ◌⊎◌, Bool, true, ◌&&◌, max, List, [], ◌∷◌, if◌then◌else◌}
-use Rattle.xw_words.specs.declared.pos.Pos.{Pos}
+use Rattle.std.proofs.Common.{◌≡◌, ℕ, zero, suc, ◌-◌, ◌≤◌, ◌⊎◌, Bool, true, List, [], ◌∷◌}
 use Rattle.xc_tree.specs.declared.token.Tok.{Tok}
-use Rattle.xc_tree.specs.Symbol.{Symbol, Value, Values}
-use Rattle.xc_tree.specs.Grammar.{Rule, Extent, rules}
+use Rattle.xc_tree.specs.Symbol.{Symbol, Value}
+use Rattle.xc_tree.specs.Grammar.{Extent}
 use Rattle.xc_tree.specs.Derives.{Derives, Prefix, Room, unlimited, at_most, HasRoom, below, extent}
 use Rattle.xc_parser.specs.Reading.{IsFront}
 

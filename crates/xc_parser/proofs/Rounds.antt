@@ -1,10 +1,10 @@
 -- The paths through loops.
-use Rattle.std.proofs.Common.{◌≡◌, ℕ, ◌+◌, ◌-◌, ◌<◌, ◌≤◌, ◌⊎◌, inl, inr, Bool, true, false, List, [], ◌∷◌, Option, Some, None, option_map, refl, sym as sym', ap, subst, ◌∙◌, lit<, lit≤, arith}
+use Rattle.std.proofs.Common.{◌≡◌, ℕ, ◌+◌, ◌<◌, ◌≤◌, inl, inr, Bool, List, [], ◌∷◌, Option, Some, None, option_map, refl, sym as sym', ap, subst, ◌∙◌, lit<, arith}
 use Rattle.std.specs.declared.boxed.Box.{Box}
 use Rattle.std.specs.declared.alloc.Global.{Global}
 use Rattle.xw_words.specs.declared.pos.Pos.{Pos}
 use Rattle.xc_tree.specs.declared.token.Tok.{Tok}
-use Rattle.xc_tree.specs.declared.token.Kind.TheVariants.{Name, Key, Sym}
+use Rattle.xc_tree.specs.declared.token.Kind.TheVariants.{Key, Sym}
 use Rattle.xc_tree.specs.declared.tree.Id.{Id}
 use Rattle.xc_tree.specs.declared.tree.Expr.{Expr}
 use Rattle.xc_tree.specs.declared.tree.St.{For}
@@ -26,7 +26,7 @@ use Rattle.xc_parser.proofs.Rests.{Rest, left}
 use Rattle.xc_parser.proofs.Alternatives.{by_rules}
 use Rattle.xc_parser.proofs.Firsts.{derived_first}
 use Rattle.xc_parser.proofs.TokenSets.{one_within}
-use Rattle.xc_parser.proofs.Opening.{fronts, beginnings, over, Heads, no_head, one_head, popped, without, spread}
+use Rattle.xc_parser.proofs.Opening.{fronts, beginnings, over, Heads, no_head, one_head, popped}
 use Rattle.xc_parser.proofs.Choices.{all_open, no_one, dead, stuck, spread_out}
 use Rattle.xc_parser.proofs.Paths.{Roomy, begin, at_symbol, over_word, lacks, lacks_symbol, taken, read, stops, read_all, stops_all, unfit, unfit_last, finish}
 use Rattle.xc_parser.proofs.Unfinished.{unfinished}

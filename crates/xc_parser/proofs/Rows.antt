@@ -1,20 +1,19 @@
 -- Loops over `t { "," t }`, an element at a time.
-use Rattle.std.proofs.Common.{◌≡◌, ℕ, suc, max, ◌+◌, ◌≤◌, Bool, true, false, not, ◌&&◌, ◌||◌, List, [], ◌∷◌, ◌++◌, ◌⊎◌, inl, inr, refl, sym as sym', ap, subst, ◌∙◌, append_assoc, arith}
+use Rattle.std.proofs.Common.{◌≡◌, ℕ, suc, max, ◌+◌, ◌≤◌, true, false, not, ◌&&◌, ◌||◌, List, [], ◌∷◌, ◌++◌, inl, inr, refl, sym as sym', ap, subst, ◌∙◌, append_assoc, arith}
 use Rattle.std.proofs.lemmas.Bool.{and_parts, and_from, or_cases, not-true}
 use Rattle.xw_words.specs.declared.pos.Pos.{Pos}
 use Rattle.xc_tree.specs.declared.token.Tok.{Tok}
 use Rattle.xc_tree.specs.declared.token.Kind.TheVariants.{Sym}
 use Rattle.xc_tree.specs.Symbol.{Symbol, commas, Value}
-use Rattle.xc_tree.specs.Grammar.{Extent}
 use Rattle.xc_tree.specs.Terminals.{comma}
 use Rattle.xc_tree.specs.Derives.{On, Room, unlimited, at_most, Derives, Prefix, nothing, whole, extent}
 use Rattle.xc_parser.specs.declared.stop.Stop.{Stop}
-use Rattle.xc_parser.specs.Follows.{OneOf, has, follows}
+use Rattle.xc_parser.specs.Follows.{has}
 use Rattle.xc_parser.specs.Reading.{Reads, IsFront, Unfit}
 use Rattle.xc_parser.specs.Stops.{Stopped}
-use Rattle.xc_parser.proofs.Rests.{Part, ValuesOf, Rest, RowOf, BeginsOf, Stands, inside, left}
-use Rattle.xc_parser.proofs.Opening.{fronts, firsts, nullables, is_apart, heads_apart, Heads, no_head, one_head, deepened}
-use Rattle.xc_parser.proofs.TokenSets.{front, one_is, one_token_of}
+use Rattle.xc_parser.proofs.Rests.{Part, Rest, RowOf, BeginsOf, Stands, inside, left}
+use Rattle.xc_parser.proofs.Opening.{fronts, firsts, nullables, is_apart, heads_apart, Heads, no_head, one_head}
+use Rattle.xc_parser.proofs.TokenSets.{front, one_is}
 use Rattle.xc_parser.proofs.Firsts.{parts_first, begun_first}
 use Rattle.xc_parser.proofs.Behinds.{token_derives, token_derived, token_prefix}
 use Rattle.xc_parser.proofs.Lists.{token_begun}

@@ -1,11 +1,11 @@
 -- Paths through the statements that hold no statement.
-use Rattle.std.proofs.Common.{◌≡◌, ℕ, ◌+◌, ◌-◌, ◌<◌, ◌≤◌, ◌⊎◌, inl, inr, Bool, true, false, ◌||◌, List, [], ◌∷◌, Option, Some, None, refl, sym as sym', ap, subst, arith, lit<, lit≤}
+use Rattle.std.proofs.Common.{◌≡◌, ℕ, ◌+◌, ◌<◌, ◌≤◌, inl, inr, true, List, [], ◌∷◌, Some, None, refl, subst, arith, lit<, lit≤}
 use Rattle.std.proofs.lemmas.Bool.{or_cases}
 use Rattle.xw_words.specs.declared.pos.Pos.{Pos}
 use Rattle.xc_tree.specs.declared.token.Tok.{Tok}
 use Rattle.xc_tree.specs.declared.token.Kind.TheVariants.{Name, Key, Sym}
 use Rattle.xc_tree.specs.Plain as plain
-use Rattle.xc_tree.specs.Symbol.{Symbol, sym, key, a_name, assign, block, body, call, rhs, statement, Value}
+use Rattle.xc_tree.specs.Symbol.{Symbol, sym, key, a_name, assign, block, body, call, rhs, statement}
 use Rattle.xc_tree.specs.Grammar.{statement_of}
 use Rattle.xc_tree.specs.Derives.{On, extent}
 use Rattle.xc_parser.specs.declared.stop.Stop.{Stop}
@@ -16,7 +16,7 @@ use Rattle.xc_parser.specs.Stops.{Stopped}
 use Rattle.xc_parser.proofs.Rests.{left}
 use Rattle.xc_parser.proofs.TokenSets.{is_same_eq}
 use Rattle.xc_parser.proofs.Choices.{all_open, pass_name, dead, stuck, no_one}
-use Rattle.xc_parser.proofs.Paths.{Roomy, roomy, begin, at_symbol, lacks_symbol, over_symbol, over_word, over_name, lacks, taken, read, stops, unfit, finish, none_left}
+use Rattle.xc_parser.proofs.Paths.{roomy, begin, at_symbol, lacks_symbol, over_symbol, over_word, over_name, taken, read, stops, unfit, finish}
 use Rattle.xc_parser.proofs.Aheads.{name_symbol, name_else, read_ahead, stops_ahead}
 use Rattle.xc_parser.proofs.Insides.{inner_roomy, inner_reads, inner_stopped, inner_unfit}
 

@@ -1,15 +1,14 @@
 -- Plain symbols that rests begin with, taken for their alternatives.
-use Rattle.std.proofs.Common.{◌≡◌, ℕ, zero, suc, ◌+◌, ◌<◌, ◌≤◌, ◌⊎◌, inl, inr, Bool, true, false, ◌&&◌, max, List, [], ◌∷◌, ◌++◌, refl, sym as sym', ap, subst, ◌∙◌, arith}
+use Rattle.std.proofs.Common.{◌≡◌, ℕ, ◌+◌, ◌≤◌, ◌⊎◌, inl, inr, Bool, true, false, max, List, [], ◌∷◌, ◌++◌, refl, sym as sym', ap, subst, ◌∙◌, arith}
 use Rattle.std.proofs.lemmas.Bool.{and_parts, and_from}
 use Rattle.xc_tree.specs.declared.token.Tok.{Tok}
-use Rattle.xc_tree.specs.Symbol.{Symbol, Value, Values, sym, key, a_name, a_number}
+use Rattle.xc_tree.specs.Symbol.{Symbol, Value, sym, key, a_name, a_number}
 use Rattle.xc_tree.specs.Grammar.{Rule, Extent, rules}
-use Rattle.xc_tree.specs.Derives.{Room, unlimited, at_most, HasRoom, below, Derives, Row, Prefix, nothing, Begins, extent}
-use Rattle.xc_parser.specs.Reading.{GoesOn}
-use Rattle.xc_parser.proofs.Rests.{Part, ValuesOf, Rest, RowOf, BeginsOf, EndsBy, Ends, StartsBy, Starts, Open, inside}
-use Rattle.xc_parser.proofs.Opening.{is_token, is_plain, put, front, back, nowhere, begun, begin_all, beginnings, opened, open_all, spread_if, spread_parts, spread}
+use Rattle.xc_tree.specs.Derives.{Room, unlimited, at_most, HasRoom, below, Row, Begins, extent}
+use Rattle.xc_parser.proofs.Rests.{Part, ValuesOf, Rest, RowOf, BeginsOf, EndsBy, Ends, StartsBy, Starts, inside}
+use Rattle.xc_parser.proofs.Opening.{is_token, is_plain, front, back, nowhere, open_all, spread_if, spread_parts, spread}
 use Rattle.xc_parser.proofs.Forth.{inside_below, inside_has, has_inside}
-use Rattle.xc_parser.proofs.Alternatives.{Ignores, AllIgnore, plain_ignores, HasValue, ByRules, BeginsRules, by_rules, from_rules, by_starts, from_starts, Joined, row_put, put_row, begins_put, put_begins, put_after}
+use Rattle.xc_parser.proofs.Alternatives.{AllIgnore, plain_ignores, ByRules, BeginsRules, by_rules, from_rules, by_starts, from_starts, Joined, row_put, put_row, begins_put, put_begins, put_after}
 use Rattle.xc_parser.proofs.Narrows.{Narrows}
 
 -- a plain symbol is no token

@@ -1,10 +1,10 @@
 -- How far a token reaches.
-use Rattle.std.proofs.Common.{◌≡◌, ℕ, ◌+◌, ◌≤◌, ◌⊎◌, inl, inr, Bool, true, false, List, Some, refl, sym as sym', ap, subst, arith}
+use Rattle.std.proofs.Common.{◌≡◌, ℕ, ◌+◌, ◌≤◌, inl, Bool, true, List, refl, arith}
 use Rattle.xw_words.specs.declared.pos.Pos.{Pos}
 use Rattle.xc_tree.specs.declared.token.Tok.{Tok}
 use Rattle.xc_tree.specs.declared.token.Kind.TheVariants.{Name, Num, Key, Sym}
 use Rattle.xc_tree.specs.Symbol.{Symbol, sym, key, a_name, a_number, Value}
-use Rattle.xc_tree.specs.Derives.{On, Derives, Prefix, nothing, whole, begins, at_most, unlimited}
+use Rattle.xc_tree.specs.Derives.{On, Prefix, nothing, whole, begins, unlimited}
 use Rattle.xc_parser.specs.Reading.{Reads, Refuses}
 use Rattle.xc_parser.proofs.Opening.{is_token}
 use Rattle.xc_parser.proofs.Behinds.{TokenAt, token_derives, token_derived, token_prefix, same_value, no_rule}

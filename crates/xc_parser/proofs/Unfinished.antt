@@ -1,12 +1,12 @@
 -- Where a token stands that a longer reading of the symbol goes on with, the rests that are at their end don't count.
-use Rattle.std.proofs.Common.{◌≡◌, ℕ, ◌≤◌, ◌⊎◌, inl, inr, max, Bool, true, false, List, [], ◌∷◌, subst, sym, arith}
+use Rattle.std.proofs.Common.{◌≡◌, ℕ, ◌≤◌, Bool, true, false, List, [], ◌∷◌, subst, sym, arith}
 use Rattle.xc_tree.specs.declared.token.Tok.{Tok}
 use Rattle.xc_tree.specs.Symbol.{Symbol, Value}
 use Rattle.xc_tree.specs.Derives.{Room, unlimited, at_most}
 use Rattle.xc_parser.specs.Follows.{OneOf}
 use Rattle.xc_parser.proofs.TokenSets.{front}
-use Rattle.xc_parser.proofs.Rests.{Part, Rest, ValuesOf, RowOf, BeginsOf, Open, Stands}
-use Rattle.xc_parser.proofs.Opening.{fronts, sift, keep_if, peak, peak_of}
+use Rattle.xc_parser.proofs.Rests.{Part, Rest, ValuesOf, RowOf, BeginsOf}
+use Rattle.xc_parser.proofs.Opening.{fronts, sift, keep_if, peak}
 use Rattle.xc_parser.proofs.Narrows.{Gone, narrow, sifted}
 use Rattle.xc_parser.proofs.Paths.{Roomy}
 

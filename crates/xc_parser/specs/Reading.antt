@@ -3,7 +3,7 @@ use Rattle.std.specs.Prelude.{◌≡◌, ℕ, ◌+◌, ◌≤◌, ◌⊎◌, Boo
 use Rattle.xc_tree.specs.declared.token.Tok.{Tok}
 use Rattle.xc_tree.specs.Plain.{is_open, is_open_branch}
 use Rattle.xc_tree.specs.Symbol.{Symbol, statement, block_item, case_item, branch, Value}
-use Rattle.xc_tree.specs.Derives.{Room, unlimited, at_most, Derives, Prefix}
+use Rattle.xc_tree.specs.Derives.{unlimited, at_most, Derives, Prefix}
 use Rattle.xc_parser.specs.Follows.{OneOf, follows}
 
 -- at this place stands a token that a longer reading of the symbol can go on with

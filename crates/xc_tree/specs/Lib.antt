@@ -14,3 +14,5 @@ pub mod Grammar
 pub mod Derives
 pub mod Parses
 pub mod Depth
+pub mod Programs
+pub mod Names

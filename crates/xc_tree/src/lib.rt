@@ -3,10 +3,12 @@
 #![tactic(auto)]
 
 mod lexing;
+mod names;
 mod token;
 mod tree;
 
 pub use lexing::{Number, Reading, Start};
+pub use names::{Decl, Mark, Named, What};
 pub use token::{Kind, SYMBOLS, Text, Tok, WORDS};
 pub use tree::{
     Arg, At, Branch, Case, DeclKind, Declared, Dest, Ex, Expr, FuncItem, Head, Id, Item, Param,

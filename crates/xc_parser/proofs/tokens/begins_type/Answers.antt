@@ -1,4 +1,4 @@
-use Rattle.std.proofs.Common.{◌≡◌, [], ◌∷◌, refl}
+use Rattle.std.proofs.Common.{[], ◌∷◌, refl}
 use Rattle.xc_tree.specs.Symbol.{key}
 use Rattle.xc_parser.proofs.Single.{one_word}
 use Rattle.xc_parser.proofs.tokens.begins_type.Goals as goal

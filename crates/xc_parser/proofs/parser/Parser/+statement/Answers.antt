@@ -1,4 +1,4 @@
-use Rattle.std.proofs.Common.{arith, option_map, refl, ◌-◌, ◌∙◌, ap, map, sym, ◌+◌, ◌<◌, ◌≡◌, ◌≤◌, rules}
+use Rattle.std.proofs.Common.{arith, option_map, refl, ◌-◌, ◌∙◌, ◌+◌, ◌≡◌, rules}
 use Rattle.std.proofs.lemmas.List.{map_push}
 use Rattle.xc_parser.proofs.Braces.{brace_missing, closed_block, declared_item, declared_stops, item_added, item_stops, opened, stated_item, stated_stops, transaction_reads, transaction_stops}
 use Rattle.xc_parser.proofs.Branches.{body_stops, branch_added, branch_reads, branch_stops, par_closed, par_opened, par_unopened, place_stops}
@@ -15,11 +15,8 @@ use Rattle.xc_parser.proofs.Simples.{deep_begins, none_begins, semicolon_reads}
 use Rattle.xc_parser.proofs.Stated.{begins_all, err_room, err_with, from_place, ok_room, ok_with, stopped_from, symbol_there}
 use Rattle.xc_parser.specs.Begun.{token_of}
 use Rattle.xc_tree.proofs.Forms.{action-Par, action-Repl, action-Select, branch-made, case-made, action-While, action-DoWhile, action-Block, action-Empty, action-If, action-Tran}
-use Rattle.xc_tree.specs.Plain.{branch_tokens}
 use Rattle.xc_tree.specs.Trees.{place_of, expression_of}
-use Rattle.xc_tree.specs.Plain as plain
 use Rattle.xc_tree.specs.Symbol as symbol
-use Rattle.xc_tree.specs.Trees as trees
 use Rattle.xc_parser.proofs.Simples as simples
 use Rattle.xc_parser.proofs.parser.Parser.+statement.Goals as goal
 

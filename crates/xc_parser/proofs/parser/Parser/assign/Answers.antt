@@ -1,4 +1,4 @@
-use Rattle.std.proofs.Common.{◌≡◌, arith}
+use Rattle.std.proofs.Common.{arith}
 use Rattle.xc_tree.proofs.Forms.{action-Assign, action-Step}
 use Rattle.xc_parser.proofs.Exits.{handed_on}
 use Rattle.xc_parser.proofs.Marks.{on_it}

@@ -1,4 +1,4 @@
-use Rattle.std.proofs.Common.{◌≡◌, arith}
+use Rattle.std.proofs.Common.{arith}
 use Rattle.xc_parser.proofs.Single.{on_kind, other_kind, past_all}
 use Rattle.xc_parser.proofs.Marks.{mark_reads, mark_refuses, other_mark}
 use Rattle.xc_parser.proofs.parser.Parser.assign_op.Goals as goal

@@ -1,4 +1,4 @@
-use Rattle.std.proofs.Common.{◌≡◌, IsTrue, refl, subst}
+use Rattle.std.proofs.Common.{IsTrue, refl, subst}
 use Rattle.xc_tree.specs.Symbol.{key}
 use Rattle.xc_parser.specs.Follows.{begins_declaration}
 use Rattle.xc_parser.proofs.TokenSets.{one_within}

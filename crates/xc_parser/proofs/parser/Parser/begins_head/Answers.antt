@@ -1,4 +1,4 @@
-use Rattle.std.proofs.Common.{◌≡◌, refl}
+use Rattle.std.proofs.Common.{refl}
 use Rattle.xc_tree.specs.Symbol.{head}
 use Rattle.xc_parser.specs.Follows.{first}
 use Rattle.xc_parser.proofs.Single.{one_word}

@@ -1,4 +1,4 @@
-use Rattle.std.proofs.Common.{◌≡◌, ◌+◌, ◌<◌, ◌≤◌, refl, arith}
+use Rattle.std.proofs.Common.{◌+◌, ◌≤◌, refl, arith}
 use Rattle.xc_tree.proofs.Forms.{action-Do}
 use Rattle.xc_parser.proofs.Exits.{handed_on}
 use Rattle.xc_parser.proofs.Simples.{call_reads, call_stops, call_ends}

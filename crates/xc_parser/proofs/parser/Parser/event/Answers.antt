@@ -1,4 +1,4 @@
-use Rattle.std.proofs.Common.{◌+◌, arith}
+use Rattle.std.proofs.Common.{arith}
 use Rattle.xc_parser.proofs.Exits.{handed_on}
 use Rattle.xc_parser.proofs.Guards.{no_guarded, no_name, no_transfer}
 use Rattle.xc_parser.proofs.CaseSteps.{alone_reads, alone_stops, guarded_reads, guarded_stops, guard_stops, named_guard, any_guard}

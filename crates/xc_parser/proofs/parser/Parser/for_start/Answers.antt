@@ -1,4 +1,4 @@
-use Rattle.std.proofs.Common.{◌≡◌, ◌+◌, refl, arith}
+use Rattle.std.proofs.Common.{refl, arith}
 use Rattle.xc_tree.proofs.Forms.{action-Decl}
 use Rattle.xc_parser.proofs.Exits.{handed_on}
 use Rattle.xc_parser.proofs.Rounds.{declared_deep, type_stops, name_stops, equals_stops, value_stops, value_unfit, value_reads}

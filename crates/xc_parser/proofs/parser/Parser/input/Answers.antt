@@ -1,4 +1,4 @@
-use Rattle.std.proofs.Common.{◌≡◌, refl}
+use Rattle.std.proofs.Common.{refl}
 use Rattle.xc_parser.proofs.Exits.{handed_on}
 use Rattle.xc_parser.proofs.Paths.{begin, read, stops, finish}
 use Rattle.xc_parser.proofs.parser.Parser.input.Goals as goal

@@ -1,4 +1,4 @@
-use Rattle.std.proofs.Common.{refl, ◌≡◌, ◌+◌}
+use Rattle.std.proofs.Common.{refl, ◌+◌}
 use Rattle.xc_tree.specs.Symbol.{statement}
 use Rattle.xc_tree.proofs.Forms.{action-Input}
 use Rattle.xc_parser.proofs.Exits.{handed_on}

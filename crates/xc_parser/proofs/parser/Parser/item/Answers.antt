@@ -1,4 +1,4 @@
-use Rattle.std.proofs.Common.{◌≡◌, refl}
+use Rattle.std.proofs.Common.{refl}
 use Rattle.xc_tree.specs.Symbol as symbol
 use Rattle.xc_tree.specs.Derives.{deepest}
 use Rattle.xc_parser.specs.Follows.{first}

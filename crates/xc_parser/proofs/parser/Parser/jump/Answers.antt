@@ -1,4 +1,4 @@
-use Rattle.std.proofs.Common.{◌≡◌, ◌+◌, refl}
+use Rattle.std.proofs.Common.{refl}
 use Rattle.xc_tree.proofs.Forms.{action-Break, action-Continue}
 use Rattle.xc_parser.proofs.Exits.{handed_on}
 use Rattle.xc_parser.proofs.Simples.{break_reads, continue_reads}

@@ -1,4 +1,3 @@
-use Rattle.std.proofs.Common.{◌≡◌}
 use Rattle.xc_parser.proofs.Rounds.{no_test, some_test}
 use Rattle.xc_parser.proofs.parser.Parser.maybe_expr.Goals as goal
 

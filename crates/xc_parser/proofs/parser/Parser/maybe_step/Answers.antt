@@ -1,4 +1,3 @@
-use Rattle.std.proofs.Common.{◌≡◌}
 use Rattle.xc_parser.proofs.Rounds.{no_step, some_step}
 use Rattle.xc_parser.proofs.parser.Parser.maybe_step.Goals as goal
 

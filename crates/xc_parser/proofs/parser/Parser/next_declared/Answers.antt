@@ -1,4 +1,4 @@
-use Rattle.std.proofs.Common.{◌≡◌, inr, refl}
+use Rattle.std.proofs.Common.{inr, refl}
 use Rattle.xc_tree.specs.Symbol.{sym}
 use Rattle.xc_parser.proofs.parser.Parser.next_declared.Goals as goal
 use Rattle.xc_parser.proofs.parser.Parser.next_declared.Goals.{then-is_symbol-via-then-is_symbol, then-is_symbol-via-else-is_symbol+then-is_symbol-2}

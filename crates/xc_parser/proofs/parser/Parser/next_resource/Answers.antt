@@ -1,4 +1,4 @@
-use Rattle.std.proofs.Common.{◌≡◌, sym, ap, subst, ◌∙◌}
+use Rattle.std.proofs.Common.{sym, ap, subst, ◌∙◌}
 use Rattle.xc_tree.specs.Symbol.{a_name}
 use Rattle.xc_tree.specs.Grammar.{named}
 use Rattle.xc_parser.specs.Reading.{Reads}

@@ -1,5 +1,4 @@
-use Rattle.std.proofs.Common.{◌≡◌, ◌+◌, ap, subst, arith}
-use Rattle.xc_tree.specs.declared.token.Kind.TheVariants.{Name, Num, Key, Sym}
+use Rattle.std.proofs.Common.{arith}
 use Rattle.xc_parser.proofs.Single.{number_reads, number_refuses, on_kind, other_kind, past_all}
 use Rattle.xc_parser.proofs.parser.Parser.numeral.Goals as goal
 

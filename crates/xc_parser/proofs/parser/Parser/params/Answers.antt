@@ -1,9 +1,9 @@
-use Rattle.std.proofs.Common.{◌≡◌, ◌≤◌, ◌<◌, [], ◌∷◌, ◌++◌, refl, subst, sym, arith}
+use Rattle.std.proofs.Common.{[], refl, sym, arith}
 use Rattle.xc_tree.specs.Symbol as symbol
 use Rattle.xc_parser.specs.Follows.{first}
 use Rattle.xc_parser.proofs.Exits.{handed_on}
 use Rattle.xc_parser.proofs.TokenSets.{one_within}
-use Rattle.xc_parser.proofs.Paths.{begin, over_word, lacks, lacks_word, read, stops, finish}
+use Rattle.xc_parser.proofs.Paths.{begin, over_word, lacks, lacks_word, finish}
 use Rattle.xc_parser.proofs.Opening.{fronts}
 use Rattle.xc_parser.proofs.Unfinished.{unfinished}
 use Rattle.xc_parser.proofs.Rows.{row_stops}

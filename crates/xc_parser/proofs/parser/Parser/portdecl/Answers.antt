@@ -1,6 +1,6 @@
-use Rattle.std.proofs.Common.{◌≡◌, [], ◌∷◌, refl, arith}
+use Rattle.std.proofs.Common.{refl}
 use Rattle.xc_parser.proofs.Exits.{handed_on}
-use Rattle.xc_parser.proofs.Paths.{begin, over_word, over_symbol, lacks, lacks_word, lacks_symbol, taken, read, stops, finish}
+use Rattle.xc_parser.proofs.Paths.{begin, read, stops, finish}
 use Rattle.xc_parser.proofs.parser.Parser.portdecl.Goals as goal
 
 pub returns-in_err-place-clause-stopped : goal.returns-in_err-place-clause-stopped

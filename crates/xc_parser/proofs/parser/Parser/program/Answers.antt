@@ -1,13 +1,12 @@
-use Rattle.std.proofs.Common.{◌≡◌, ◌≤◌, [], ◌∷◌, ◌++◌, length, map, option_map, Option, Some, None, refl, sym, subst, ◌∙◌, ap, arith}
+use Rattle.std.proofs.Common.{◌≡◌, length, map, option_map, Some, None, subst, arith}
 use Rattle.std.proofs.lemmas.List.{map_push}
 use Rattle.xc_tree.specs.Derives.{deepest}
 use Rattle.xc_tree.specs.Symbol as symbol
 use Rattle.xc_tree.specs.Trees.{item_of}
-use Rattle.xc_tree.specs.declared.tree.Item.{Item}
 use Rattle.xc_parser.specs.Reading.{Reads}
 use Rattle.xc_parser.proofs.Exits.{handed_on}
 use Rattle.xc_parser.proofs.Cuts.{one_of_within}
-use Rattle.xc_parser.proofs.Items.{Gathers, gathers_none, one_item, one_prototype, no_item, item_stops}
+use Rattle.xc_parser.proofs.Items.{gathers_none, one_item, one_prototype, no_item, item_stops}
 use Rattle.xc_parser.proofs.parser.Parser.program.Goals as goal
 
 pub items-init : goal.items-init

@@ -1,4 +1,4 @@
-use Rattle.std.proofs.Common.{◌≡◌, ◌+◌, ◌<◌, ◌≤◌, refl, arith}
+use Rattle.std.proofs.Common.{refl, arith}
 use Rattle.xc_tree.proofs.Forms.{action-Return}
 use Rattle.xc_parser.proofs.Cuts.{on_within}
 use Rattle.xc_parser.proofs.Exits.{handed_on}

@@ -1,4 +1,4 @@
-use Rattle.std.proofs.Common.{◌≡◌, ◌+◌, ◌<◌, ◌≤◌, refl, arith}
+use Rattle.std.proofs.Common.{◌+◌, ◌≤◌, arith}
 use Rattle.xc_parser.proofs.Exits.{handed_on}
 use Rattle.xc_parser.proofs.Simples.{assign_stops, assign_ends, assign_reads, name_wrong, name_deep}
 use Rattle.xc_parser.proofs.Stated.{symbol_there, no_others, assign_holds_none}

@@ -1,4 +1,4 @@
-use Rattle.std.proofs.Common.{◌≡◌, ◌+◌, subst}
+use Rattle.std.proofs.Common.{◌+◌, subst}
 use Rattle.xc_tree.specs.Symbol.{sym}
 use Rattle.xc_parser.specs.Reading.{Reads}
 use Rattle.xc_parser.proofs.Single.{sym_reads, sym_refuses, on_pos}

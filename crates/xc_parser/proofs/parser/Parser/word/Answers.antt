@@ -1,4 +1,4 @@
-use Rattle.std.proofs.Common.{◌≡◌, ◌+◌, subst}
+use Rattle.std.proofs.Common.{◌+◌, subst}
 use Rattle.xc_tree.specs.Symbol.{key}
 use Rattle.xc_parser.specs.Reading.{Reads}
 use Rattle.xc_parser.proofs.Single.{key_reads, key_refuses, on_pos}

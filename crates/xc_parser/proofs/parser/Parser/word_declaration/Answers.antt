@@ -1,4 +1,4 @@
-use Rattle.std.proofs.Common.{refl, ◌≡◌, [], arith}
+use Rattle.std.proofs.Common.{refl, [], arith}
 use Rattle.xc_tree.proofs.Forms.{action-Decl}
 use Rattle.xc_parser.proofs.Exits.{handed_on}
 use Rattle.xc_parser.proofs.DeclaredRows.{word_stops, word_begins, declared_stops, words_first, words_next, words_next_stops, words_close_stops, words_read}

@@ -1,5 +1,5 @@
-use Rattle.std.proofs.Common.{◌≡◌, refl, arith}
-use Rattle.xc_parser.proofs.Exits.{handed_on, ends_at}
+use Rattle.std.proofs.Common.{refl}
+use Rattle.xc_parser.proofs.Exits.{handed_on}
 use Rattle.xc_parser.proofs.Params.{type_stops, at_type, name_stops, at_name, at_bracket}
 use Rattle.xc_parser.proofs.Paths.{over_symbol, lacks_symbol, read, stops, finish}
 use Rattle.xc_parser.proofs.parser.Parser.word_param.Goals as goal

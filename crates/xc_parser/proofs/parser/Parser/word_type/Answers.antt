@@ -1,4 +1,4 @@
-use Rattle.std.proofs.Common.{◌≡◌, refl, arith}
+use Rattle.std.proofs.Common.{refl, arith}
 use Rattle.xc_parser.proofs.Exits.{handed_on, ends_at}
 use Rattle.xc_parser.proofs.Paths.{begin, over_word, lacks_word, read, stops, finish}
 use Rattle.xc_parser.proofs.parser.Parser.word_type.Goals as goal

@@ -1,0 +1,16 @@
+pub mod Starts
+pub mod Ends
+pub mod Latest
+pub mod Meanings
+pub mod Reads
+pub mod Least
+pub mod NameRules
+pub mod Mains
+pub mod Numbers
+pub mod Taken
+pub mod PortRules
+pub mod Callees
+pub mod Searches
+pub mod Graphs
+pub mod Cycles
+pub mod Errors

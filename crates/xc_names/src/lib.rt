@@ -1,0 +1,20 @@
+//! From a tree to its names: each name's declaration, or the first rule of names that the program breaks.
+#![tactic(auto)]
+
+mod calls;
+mod components;
+mod graph;
+mod latest;
+mod least;
+mod main_function;
+mod marks;
+mod meanings;
+mod names;
+mod ports;
+mod recursion;
+mod resolution;
+mod scopes;
+mod taken;
+mod uses;
+
+pub use resolution::{NameErr, resolve};

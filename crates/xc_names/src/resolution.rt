@@ -1,0 +1,105 @@
+ghost use Rattle.std.specs.Prelude.{◌≡◌, ◌<◌, ◌≤◌, ◌^◌, length, IfErr, IfOk};
+ghost use Rattle.xw_words.specs.declared.pos.Broken.{Broken as Wrong};
+ghost use Rattle.xc_tree.specs.Names.Marks.{of_program};
+ghost use Rattle.xc_tree.specs.Names.Rules.{Breaks, FirstBroken};
+ghost use Rattle.xc_tree.specs.Names.Uses.{AreUses, declarations};
+ghost use Rattle.xc_tree.specs.Programs.{IsParsed};
+ghost use Rattle.xc_tree.specs.Trees.{program_of};
+ghost use Rattle.xc_names.specs.Errors.{IfBroken};
+ghost use Rattle.xc_names.specs.Least.{IsLeastOf};
+ghost use Rattle.xc_names.specs.Meanings.{AreMeanings};
+ghost use Rattle.xc_names.specs.Starts.{AreStarts};
+
+use crate::least::earlier;
+use crate::main_function::broken_main;
+use crate::marks::{Marks, marks_of};
+use crate::meanings::meanings;
+use crate::names::broken_name;
+use crate::ports::broken_port;
+use crate::recursion::broken_call;
+use crate::scopes::scope_ends;
+use crate::uses::{decls, uses};
+use std::alloc::Global;
+use thiserror::Error;
+use xc_tree::{Mark, Named, Tree};
+use xw_words::{Broken, Memory};
+
+/// Why the names of a program have no declarations.
+#[derive(Debug, Drop, Error)]
+pub enum NameErr {
+    /// It breaks a rule, of all that it breaks the first.
+    #[error("{}:{}: rule {} is broken", .0.pos.line, .0.pos.col, .0.rule)]
+    Broken(Broken),
+    /// Memory could not be had.
+    #[error("out of memory")]
+    Memory,
+}
+
+impl From<Memory> for NameErr {
+    ghost use Rattle.std.specs.Prelude.{◌≡◌};
+    ghost use Rattle.xc_names.specs.declared.resolution.NameErr.TheVariants as err;
+
+    ghost from_gives = { λ _ e. e ≡ err.Memory };
+
+    fn from(_: Memory) -> NameErr {
+        NameErr::Memory
+    }
+}
+
+/// The declarations of a program and for each of its names the number of its declaration, where the tree is one that
+/// fewer than 2^32 tokens derive and has no node deeper than 200.
+///
+/// A program that breaks a rule is dropped, and of all rules that it breaks the error is the one of the least place, and
+/// there of the least number: 301 a name is used that isn't declared there; 302 a name is declared a second time in one
+/// scope; 303 a port's identifier is none or is used again on the same core; 304 a call stands on a cycle of calls; 305
+/// there is no function `main` without parameters. The other error is that memory could not be had; it drops the program
+/// too.
+pub fn resolve(alloc: Global, tree: Tree) -> Result<Named, NameErr>
+    requires { IsParsed (program_of tree) }
+    ensures program { IfOk result (λ named. named.tree ≡ tree) }
+    ensures decls { IfOk result (λ named. named.decls ≡ declarations (of_program (program_of tree))) }
+    ensures uses { IfOk result (λ named. AreUses (of_program (program_of tree)) named.uses) }
+    ensures unbroken { IfOk result (λ named. (b : Wrong) → Breaks (program_of tree) b → ⊥) }
+    ensures broken { IfErr result (λ e. IfBroken e (λ b. FirstBroken (program_of tree) b)) }
+{
+    let Marks { all, starts } = marks_of(alloc, &tree)?;
+    let ends = scope_ends(alloc, all.as_slice())?;
+    let meant = meanings(alloc, all.as_slice(), ends.as_slice())?;
+    let broken = first_broken(
+        alloc,
+        &tree,
+        all.as_slice(),
+        meant.as_slice(),
+        starts.as_slice(),
+    )?;
+    match broken {
+        Some(broken) => Err(NameErr::Broken(broken)),
+        None => {
+            let uses = uses(alloc, all.as_slice(), meant.as_slice())?;
+            let decls = decls(alloc, all)?;
+            Ok(Named { tree, decls, uses })
+        }
+    }
+}
+
+/// The first rule that a program breaks, by its marks, what its names mean, and where its items begin.
+fn first_broken(
+    alloc: Global,
+    tree: &Tree,
+    marks: &[Mark],
+    meant: &[Option<usize>],
+    starts: &[usize],
+) -> Result<Option<Broken>, Memory>
+    requires few { length starts.now ≤ 2 ^ 32 }
+    requires marks { marks.now ≡ of_program (program_of tree.now) }
+    requires meant { AreMeanings marks.now meant.now }
+    requires starts { AreStarts (program_of tree.now) starts.now }
+    ensures { IfOk result (λ best. IsLeastOf (Breaks (program_of tree.now)) best) }
+{
+    let names_and_ports = earlier(broken_name(marks, meant), broken_port(alloc, tree)?);
+    let calls = broken_call(alloc, marks, meant, starts)?;
+    Ok(earlier(earlier(names_and_ports, calls), broken_main(tree)))
+}
+
+#[cfg(test)]
+mod tests;
