@@ -1,6 +1,6 @@
 //! From a text to the program that it means, or the first rule that it breaks.
 
-ghost use Rattle.std.specs.Prelude.{◌≡◌, ◌≤◌, length, IfOk, IfErr};
+ghost use Rattle.std.specs.Prelude.{◌≤◌, length, IfOk, IfErr};
 ghost use Rattle.xc_form.specs.Ranges.{AreWordOutputs};
 ghost use Rattle.xc_meaning.specs.Program.{IsWellFormed};
 ghost use Rattle.xcsim.specs.Refusals.{IfBroken};

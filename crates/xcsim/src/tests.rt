@@ -27,6 +27,10 @@ const PULSE: &str = "out port p = XS1_PORT_1A;\nint main(void) { p @ 100 <: 1; r
 const PULSE_CODE: &str =
     "code\n.core 0\n.words 0\n.timers 0\n.ends 0\n.port 1A out\n.root 0\n0: LDC r1, 0 @2:18\n1: LDC r0, 100 @2:18\n2: SETPT r1, r0 @2:18\n3: LDC r0, 1 @2:18\n4: OUT r1, r0 @2:18\n5: FREET @2:18\n";
 
+/// A text of the language that isn't of the built form.
+const TWO_BRANCHES: &str =
+    "out port p = XS1_PORT_8A;\nint main(void) { chan c; int x; par { c <: 7; c :> x; } p @ 30000 <: x; return 0; }\n";
+
 /// A call, with the file `a.xc`, and what is expected of it.
 #[derive(Clone, Copy)]
 struct Row {
@@ -42,18 +46,6 @@ struct Row {
 const fn run(text: &'static str, status: u8, out: &'static str, err: &'static str) -> Row {
     Row {
         words: ["run", "a.xc", "", ""],
-        text,
-        load_fails: false,
-        status,
-        out,
-        err,
-    }
-}
-
-/// A call of `check a.xc`.
-const fn check(text: &'static str, status: u8, out: &'static str, err: &'static str) -> Row {
-    Row {
-        words: ["check", "a.xc", "", ""],
         text,
         load_fails: false,
         status,
@@ -185,28 +177,44 @@ fn runs_programs(rt: HostRuntime) -> Result<(), Fail> {
     Ok(())
 }
 
-/// Accepted texts, and the first broken rule of others.
 #[test]
-fn checks_texts(rt: HostRuntime) -> Result<(), Fail> {
+fn accepts_texts(rt: HostRuntime) -> Result<(), Fail> {
+    let accepted = Row {
+        words: ["check", "a.xc", "", ""],
+        text: PULSE,
+        load_fails: false,
+        status: 0,
+        out: "accepted\n",
+        err: "",
+    };
+    check_row(&rt, rt.alloc(), &accepted)
+}
+
+/// The first broken rule of texts.
+#[test]
+fn refuses_texts(rt: HostRuntime) -> Result<(), Fail> {
     let rows = [
-        check(PULSE, 0, "accepted\n", ""),
-        check("int main(void) {\n  if (1\n$\n", 1, "", "a.xc:3:1: rule 101\n"),
-        check("int main(void) {\n  if (1\n", 1, "", "a.xc:3:1: rule 201\n"),
-        check("int main(void) { return 4294967296; }", 1, "", "a.xc:1:25: rule 102\n"),
-        check("int main(void) { return 0; } /* x", 1, "", "a.xc:1:30: rule 103\n"),
-        check("#if 1\nint main(void) { return 0; }", 1, "", "a.xc:1:1: rule 104\n"),
-        check("int main(void) { return 09; }", 1, "", "a.xc:1:25: rule 106\n"),
-        check("int main(void) { x = ; }", 1, "", "a.xc:1:22: rule 201\n"),
-        check("int main(void) { p <: 1; return 0; }", 1, "", "a.xc:1:1: rule 299\n"),
-        check(
-            "out port p = XS1_PORT_8A;\nint main(void) { chan c; int x; par { c <: 7; c :> x; } p @ 30000 <: x; return 0; }\n",
-            1,
-            "",
+        ("int main(void) {\n  if (1\n$\n", "a.xc:3:1: rule 101\n"),
+        ("int main(void) {\n  if (1\n", "a.xc:3:1: rule 201\n"),
+        (
+            "int main(void) { return 4294967296; }",
+            "a.xc:1:25: rule 102\n",
+        ),
+        ("int main(void) { return 0; } /* x", "a.xc:1:30: rule 103\n"),
+        (
+            "#if 1\nint main(void) { return 0; }",
+            "a.xc:1:1: rule 104\n",
+        ),
+        ("int main(void) { return 09; }", "a.xc:1:25: rule 106\n"),
+        ("int main(void) { x = ; }", "a.xc:1:22: rule 201\n"),
+        (
+            "int main(void) { p <: 1; return 0; }",
             "a.xc:1:1: rule 299\n",
         ),
+        (TWO_BRANCHES, "a.xc:1:1: rule 299\n"),
     ];
-    for row in &rows {
-        check_row(&rt, rt.alloc(), row)?;
+    for (text, line) in rows {
+        check_refused(&rt, rt.alloc(), text.as_bytes(), line)?;
     }
     Ok(())
 }

@@ -13,14 +13,14 @@ parse-requires c =
 pub returns-in-Err-Broken-clause-first : goal.returns-in-Err-Broken-clause-first
 returns-in-Err-Broken-clause-first c =
     let first = rw c.in-Err-Broken.field-0-is at c.in-Err-Broken.ensures.broken in
-    first_in_bytes c.args.text.now c.in-Err-Broken.broken first
+    rw c.in-Err-Broken.field-0-is (first_in_bytes c.args.text.now c.in-Err-Broken.broken first)
 
 pub returns-in-Err-Broken-parse-clause-first : goal.returns-in-Err-Broken-parse-clause-first
 returns-in-Err-Broken-parse-clause-first c =
     let b = c.in-Err-Broken-parse.broken in
     let first = rw c.in-Err-Broken-parse.field-0-is at c.in-Err-Broken-parse.ensures.broken in
     let placed = subst (λ end. FirstBroken c.in-Ok.toks end b) c.end_pos.ensures first in
-    first_in_tokens c.args.text.now c.in-Ok.toks c.in-Ok.ensures.tokens b placed
+    rw c.in-Err-Broken-parse.field-0-is (first_in_tokens c.args.text.now c.in-Ok.toks c.in-Ok.ensures.tokens b placed)
 
 pub returns-in-Err-Other-clause-first : goal.returns-in-Err-Other-clause-first
 returns-in-Err-Other-clause-first c =
