@@ -15,12 +15,12 @@ use Rattle.xc_tree.specs.Names.Marks.{of_items, of_program}
 use Rattle.xc_tree.specs.Names.Scopes.{Means, IsWithin}
 use Rattle.xc_tree.specs.Names.Calls.{first_of, IsInItem, CallsAt, Reaches, directly, through}
 use Rattle.xc_names.specs.Starts.{AreStarts}
-use Rattle.xc_names.specs.Least.{IsLeastOf}
+use Rattle.xc_tree.specs.Least.{IsLeastOf}
 use Rattle.xc_names.specs.Meanings.{AreMeanings, Meaning, means, unknown}
 use Rattle.xc_names.specs.Callees.{called_at, declared_function, function_of, IsCall}
 use Rattle.xc_names.specs.Cycles.{HasCycle, on_cycle}
 use Rattle.xc_names.specs.Searches.{IsInBody, IsStep, IsNext, IsReached, itself, further, IsBackToOne}
-use Rattle.xc_names.proofs.Leasts.{of_same}
+use Rattle.xc_tree.proofs.Leasts.{of_same}
 use Rattle.xc_names.proofs.NameRules.{spelled_here}
 
 some_same : {A : Type 0} (a b : A) → Some a ≡ Some b → a ≡ b

@@ -7,7 +7,6 @@ pub mod Known
 pub mod Finds
 pub mod Reading
 pub mod News
-pub mod Leasts
 pub mod NameRules
 pub mod Numbers
 pub mod Mains

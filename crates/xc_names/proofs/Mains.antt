@@ -10,9 +10,9 @@ use Rattle.xc_tree.specs.declared.tree.Item.{Item as Entry}
 use Rattle.xc_tree.specs.Plain as plain
 use Rattle.xc_tree.specs.Trees.{item_of}
 use Rattle.xc_tree.specs.Names.Rules.{IsMain}
-use Rattle.xc_names.specs.Least.{IsLeastOf}
+use Rattle.xc_tree.specs.Least.{IsLeastOf}
 use Rattle.xc_names.specs.Mains.{IsMainless, mainless, is_main}
-use Rattle.xc_names.proofs.Leasts.{none_broken, one_broken}
+use Rattle.xc_tree.proofs.Leasts.{none_broken, one_broken}
 use Rattle.xc_names.proofs.Lists.{below_or_at}
 
 some_same : {A : Type 0} (a b : A) → Some a ≡ Some b → a ≡ b

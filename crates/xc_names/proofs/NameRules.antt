@@ -9,11 +9,11 @@ use Rattle.xc_tree.specs.declared.names.Mark.{Mark}
 use Rattle.xc_tree.specs.declared.names.Mark.TheVariants.{Opens, Closes, Declares, Uses, Calls}
 use Rattle.xc_tree.specs.Names.Scopes.{end_of, DeclaresAt, IsKnown, IsWithin}
 use Rattle.xc_tree.specs.Names.Uses.{IsUse}
-use Rattle.xc_names.specs.Least.{IsLeastOf, first_of}
+use Rattle.xc_tree.specs.Least.{IsLeastOf, first_of}
 use Rattle.xc_names.specs.Meanings.{spelling_of, Meaning, means, unknown, AreMeanings}
 use Rattle.xc_names.specs.NameRules.{IsBrokenAt, unknown as unknown_name, again, IsBrokenBefore, at_use, at_declaration, broken_by}
 use Rattle.xc_names.proofs.Known.{knows_itself, ends_no_earlier, own_scope}
-use Rattle.xc_names.proofs.Leasts.{either, of_same, none_broken, one_broken}
+use Rattle.xc_tree.proofs.Leasts.{either, of_same, none_broken, one_broken}
 use Rattle.xc_names.proofs.Lists.{below_or_at}
 
 some_same : {A : Type 0} (a b : A) → Some a ≡ Some b → a ≡ b

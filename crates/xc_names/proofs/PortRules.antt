@@ -8,11 +8,11 @@ use Rattle.xw_words.specs.declared.pos.Broken.{Broken}
 use Rattle.xc_tree.specs.Plain as plain
 use Rattle.xc_tree.specs.Names.Ports.{identifiers, core_of, ports}
 use Rattle.xc_tree.specs.Names.Rules.{IsUsedAgain}
-use Rattle.xc_names.specs.Least.{IsLeastOf, first_of}
+use Rattle.xc_tree.specs.Least.{IsLeastOf, first_of}
 use Rattle.xc_names.specs.PortRules.{HasWrongPort, wrong_port, IsOnCore, IsWrong, unnamed, doubled, AreTaken, Takes, TakesItem, by_port, by_function, is_taken_on, rule_of, rule_of_item}
 use Rattle.xc_names.specs.Taken.{is_among}
 use Rattle.xc_names.proofs.Identifiers.{among_contains, contains_among}
-use Rattle.xc_names.proofs.Leasts.{either, of_same, none_broken, one_broken}
+use Rattle.xc_tree.proofs.Leasts.{either, of_same, none_broken, one_broken}
 use Rattle.xc_names.proofs.Lists.{pushed, push_before, push_at, take_push}
 
 some_same : {A : Type 0} (a b : A) → Some a ≡ Some b → a ≡ b

@@ -11,10 +11,10 @@ use Rattle.xw_words.specs.declared.pos.Pos.{Pos}
 use Rattle.xw_words.specs.declared.pos.Broken.{Broken}
 use Rattle.xc_tree.specs.declared.names.Mark.{Mark}
 use Rattle.xc_names.specs.declared.calls.Call.{Call}
-use Rattle.xc_names.specs.Least.{IsLeastOf, first_of}
+use Rattle.xc_tree.specs.Least.{IsLeastOf, first_of}
 use Rattle.xc_names.specs.Callees.{called_at, declared_function, IsCall, FoundCall, a_call, no_call}
 use Rattle.xc_names.specs.Searches.{Has, IsStep, IsCallBefore, IsBackBefore, Adds, AreBounds, IsNext, IsBackIn, AddsNext, IsReached, itself, further, IsBackTo, IsBackToOne, back_of}
-use Rattle.xc_names.proofs.Leasts.{either, of_same, none_broken, one_broken}
+use Rattle.xc_tree.proofs.Leasts.{either, of_same, none_broken, one_broken}
 use Rattle.xc_names.proofs.Lists.{below_or_at, pushed, push_before}
 
 some_same : {A : Type 0} (a b : A) → Some a ≡ Some b → a ≡ b

@@ -10,14 +10,14 @@ use Rattle.xc_tree.specs.Names.Marks.{of_item, of_items, of_program}
 use Rattle.xc_tree.specs.Names.Calls.{first_of}
 use Rattle.xc_tree.specs.Names.Uses.{IsUse}
 use Rattle.xc_tree.specs.Names.Rules.{Breaks, unknown as unknown_name, declared_again, wrong_port as a_wrong_port, on_cycle as a_cycle, without_main, FirstBroken}
-use Rattle.xc_names.specs.Least.{IsLeastOf, first_of as first_rule}
+use Rattle.xc_tree.specs.Least.{IsLeastOf, first_of as first_rule}
 use Rattle.xc_names.specs.Starts.{AreStarts}
 use Rattle.xc_names.specs.NameRules.{IsBrokenAt, unknown, again, IsBrokenBefore}
 use Rattle.xc_names.specs.PortRules.{HasWrongPort, wrong_port}
 use Rattle.xc_names.specs.Cycles.{HasCycle, on_cycle}
 use Rattle.xc_names.specs.Mains.{IsMainless, mainless}
 use Rattle.xc_names.specs.Searches.{AreWithin}
-use Rattle.xc_names.proofs.Leasts.{of_same, either}
+use Rattle.xc_tree.proofs.Leasts.{of_same, either}
 
 items_append : (n : ℕ) (xs ys : List Item) → of_items n (xs ++ ys) ≡ of_items n xs ++ of_items (n + length xs) ys
 items_append n [] ys = ap (λ k. of_items k ys) (sym (plus_zero n))

@@ -3,7 +3,6 @@ pub mod Ends
 pub mod Latest
 pub mod Meanings
 pub mod Reads
-pub mod Least
 pub mod NameRules
 pub mod Mains
 pub mod Numbers

@@ -1,14 +1,13 @@
 ghost use Rattle.std.specs.Prelude.{◌≡◌, ◌+◌, ◌<◌, ◌^◌, length, nat_eq, IfSome, IfOk, OnOk};
 ghost use Rattle.xc_names.specs.Callees.{called_at, declared_function as declared_function_of, FoundCall, function_of};
 ghost use Rattle.indexmap.specs.IndexSet.{insert_key};
-ghost use Rattle.xc_names.specs.Least.{IsLeastOf};
+ghost use Rattle.xc_tree.specs.Least.{IsLeastOf};
 ghost use Rattle.xc_names.specs.Meanings.{AreMeanings};
 ghost use Rattle.xc_names.specs.Searches.{Adds, AddsNext, AreBounds, AreWithin, back_of, IsBackBefore, IsBackIn, IsBackTo};
 
-use crate::least::earlier;
 use indexmap::IndexSet;
 use std::alloc::Global;
-use xc_tree::{Mark, What};
+use xc_tree::{Mark, What, earlier};
 use xw_words::{Broken, Memory, Pos};
 
 /// A call: the function that is called, by its place among the items, and the place of its name.

@@ -5,7 +5,6 @@ mod calls;
 mod components;
 mod graph;
 mod latest;
-mod least;
 mod main_function;
 mod marks;
 mod meanings;

@@ -1,6 +1,6 @@
 ghost use Rattle.std.specs.Prelude.{◌≡◌};
 ghost use Rattle.xc_tree.specs.Trees.{item_of, program_of};
-ghost use Rattle.xc_names.specs.Least.{IsLeastOf};
+ghost use Rattle.xc_tree.specs.Least.{IsLeastOf};
 ghost use Rattle.xc_names.specs.Mains.{IsMainless, is_main as is_main_of};
 
 use xc_tree::{Item, Tree};

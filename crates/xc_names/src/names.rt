@@ -1,10 +1,9 @@
 ghost use Rattle.std.specs.Prelude.{◌≡◌, length};
-ghost use Rattle.xc_names.specs.Least.{IsLeastOf};
+ghost use Rattle.xc_tree.specs.Least.{IsLeastOf};
 ghost use Rattle.xc_names.specs.Meanings.{AreMeanings};
 ghost use Rattle.xc_names.specs.NameRules.{at_declaration as by_declaration, at_use as by_use, broken_by as rule_of, IsBrokenBefore};
 
-use crate::least::earlier;
-use xc_tree::Mark;
+use xc_tree::{Mark, earlier};
 use xw_words::{Broken, Pos};
 
 /// The first of the rules 301 and 302 that names break, by what they mean.

@@ -3,14 +3,13 @@ ghost use Rattle.xc_tree.specs.Names.Ports as spec;
 ghost use Rattle.xc_tree.specs.Names.Ports.{identifiers};
 ghost use Rattle.xc_tree.specs.Trees as tree;
 ghost use Rattle.xc_tree.specs.Trees.{item_of, program_of};
-ghost use Rattle.xc_names.specs.Least.{IsLeastOf};
+ghost use Rattle.xc_tree.specs.Least.{IsLeastOf};
 ghost use Rattle.xc_names.specs.PortRules.{HasWrongPort, rule_of, rule_of_item, Takes, TakesItem};
 ghost use Rattle.xc_names.specs.Taken.{is_among as among, is_taken, texts};
 
-use crate::least::earlier;
 use crate::taken::Taken;
 use std::alloc::Global;
-use xc_tree::{Ex, Expr, Item, PortItem, Tree};
+use xc_tree::{Ex, Expr, Item, PortItem, Tree, earlier};
 use xw_words::{Broken, Memory};
 
 /// The identifiers of ports.

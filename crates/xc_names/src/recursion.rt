@@ -1,15 +1,14 @@
 ghost use Rattle.std.specs.Prelude.{◌≡◌, ◌<◌, ◌≤◌, ◌^◌, true, length, IfOk};
 ghost use Rattle.xc_names.specs.Graphs.{IsFirstLevel, level_edge, NeverRises, no_later, number_in, rule_at};
-ghost use Rattle.xc_names.specs.Least.{IsLeastOf};
+ghost use Rattle.xc_tree.specs.Least.{IsLeastOf};
 ghost use Rattle.xc_names.specs.Meanings.{AreMeanings};
 ghost use Rattle.xc_names.specs.Searches.{AreWithin, IsBackToOne};
 
 use crate::calls::broken_into;
 use crate::components::components;
 use crate::graph::{Edge, graph_of};
-use crate::least::{comes_before, earlier};
 use std::alloc::Global;
-use xc_tree::Mark;
+use xc_tree::{Mark, comes_before, earlier};
 use xw_words::{Broken, Memory, Pos};
 
 /// The first call that stands on a cycle of calls, as rule 304, by what names mean and where the items begin.

@@ -6,11 +6,10 @@ ghost use Rattle.xc_tree.specs.Names.Uses.{AreUses, declarations};
 ghost use Rattle.xc_tree.specs.Programs.{IsParsed};
 ghost use Rattle.xc_tree.specs.Trees.{program_of};
 ghost use Rattle.xc_names.specs.Errors.{IfBroken};
-ghost use Rattle.xc_names.specs.Least.{IsLeastOf};
+ghost use Rattle.xc_tree.specs.Least.{IsLeastOf};
 ghost use Rattle.xc_names.specs.Meanings.{AreMeanings};
 ghost use Rattle.xc_names.specs.Starts.{AreStarts};
 
-use crate::least::earlier;
 use crate::main_function::broken_main;
 use crate::marks::{Marks, marks_of};
 use crate::meanings::meanings;
@@ -21,7 +20,7 @@ use crate::scopes::scope_ends;
 use crate::uses::{decls, uses};
 use std::alloc::Global;
 use thiserror::Error;
-use xc_tree::{Mark, Named, Tree};
+use xc_tree::{Mark, Named, Tree, earlier};
 use xw_words::{Broken, Memory};
 
 /// Why the names of a program have no declarations.
@@ -47,7 +46,7 @@ impl From<Memory> for NameErr {
 }
 
 /// The declarations of a program and for each of its names the number of its declaration, where the tree is one that
-/// fewer than 2^32 tokens derive and has no node deeper than 200.
+/// fewer than 2^32 tokens derive. The stack that it needs grows with the depth of the tree.
 ///
 /// A program that breaks a rule is dropped, and of all rules that it breaks the error is the one of the least place, and
 /// there of the least number: 301 a name is used that isn't declared there; 302 a name is declared a second time in one

@@ -68,3 +68,13 @@ pub mod Conditionals
 pub mod Braces
 pub mod Rounds
 pub mod Stated
+mod Openers
+mod Statures
+mod Meetings
+mod Differing
+mod LevelsMeet
+mod NamesEnd
+mod CallsMeet
+mod CasesMeet
+mod StatementsMeet
+mod Sole

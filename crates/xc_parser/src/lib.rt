@@ -12,6 +12,7 @@ mod expected;
 mod expressions;
 mod functions;
 mod iterations;
+mod laws;
 mod memory;
 mod nodes;
 mod operands;
@@ -30,5 +31,6 @@ mod tokens;
 mod transfers;
 mod values;
 
+pub use laws::at_most_one_tree;
 pub use places::end_pos;
 pub use program::{ParseErr, parse};

@@ -1,1 +1,6 @@
 pub mod Forms
+pub mod Leasts
+pub mod Written
+pub mod TypeExamples
+pub mod TypeRuleExamples
+pub mod ShapeRuleExamples

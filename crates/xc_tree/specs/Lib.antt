@@ -5,6 +5,7 @@ pub mod Tables
 pub mod HashLines
 pub mod Pieces
 pub mod Lexes
+pub mod Least
 pub mod Extents
 pub mod Plain
 pub mod Trees
@@ -16,3 +17,6 @@ pub mod Parses
 pub mod Depth
 pub mod Programs
 pub mod Names
+pub mod Types
+pub mod Shapes
+pub mod Checks

@@ -2,11 +2,14 @@
 //! tokens and they this tree, and the rules of lexing and of the grammar.
 #![tactic(auto)]
 
+mod least;
 mod lexing;
 mod names;
 mod token;
 mod tree;
+mod types;
 
+pub use least::{comes_before, earlier};
 pub use lexing::{Number, Reading, Start};
 pub use names::{Decl, Mark, Named, What};
 pub use token::{Kind, SYMBOLS, Text, Tok, WORDS};
@@ -14,3 +17,4 @@ pub use tree::{
     Arg, At, Branch, Case, DeclKind, Declared, Dest, Ex, Expr, FuncItem, Head, Id, Item, Param,
     ParamKind, PortItem, Rhs, Send, St, Stmt, Timed, Tree, TreeDir, When,
 };
+pub use types::Typed;

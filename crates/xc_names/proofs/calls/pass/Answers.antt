@@ -1,5 +1,5 @@
 use Rattle.std.proofs.Common.{◌≡◌, ℕ, ◌≤◌, subst, arith}
-use Rattle.xc_names.specs.Least.{IsLeastOf}
+use Rattle.xc_tree.specs.Least.{IsLeastOf}
 use Rattle.xc_names.specs.Searches.{Adds, IsBackBefore}
 use Rattle.xc_names.proofs.Searches.{pass_on, passed_adds, passed_back}
 use Rattle.xc_names.proofs.calls.pass.Goals as goal

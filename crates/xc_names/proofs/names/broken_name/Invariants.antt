@@ -1,4 +1,4 @@
-use Rattle.xc_names.specs.Least.{IsLeastOf}
+use Rattle.xc_tree.specs.Least.{IsLeastOf}
 use Rattle.xc_names.specs.NameRules.{IsBrokenBefore}
 use Rattle.xc_names.proofs.names.broken_name.Given as goal
 

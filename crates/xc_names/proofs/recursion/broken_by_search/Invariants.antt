@@ -1,4 +1,4 @@
-use Rattle.xc_names.specs.Least.{IsLeastOf}
+use Rattle.xc_tree.specs.Least.{IsLeastOf}
 use Rattle.xc_names.specs.Searches.{IsBackToOne}
 use Rattle.xc_names.proofs.recursion.broken_by_search.Given as goal
 

@@ -1,7 +1,7 @@
 use Rattle.std.proofs.Common.{List, length, subst}
 use Rattle.xc_tree.specs.declared.names.Mark.{Mark}
 use Rattle.xc_tree.specs.Trees.{program_of}
-use Rattle.xc_names.specs.Least.{IsLeastOf}
+use Rattle.xc_tree.specs.Least.{IsLeastOf}
 use Rattle.xc_names.specs.Meanings.{AreMeanings}
 use Rattle.xc_names.specs.Searches.{IsBackToOne}
 use Rattle.xc_names.proofs.Cycles.{cycle_rule}

@@ -2,7 +2,7 @@ use Rattle.std.proofs.Common.{subst, ◌∙◌, arith}
 use Rattle.std.proofs.lemmas.List.{length-map}
 use Rattle.xc_tree.specs.Names.Rules.{Breaks}
 use Rattle.xc_tree.specs.Trees.{program_of, item_of}
-use Rattle.xc_names.specs.Least.{IsLeastOf}
+use Rattle.xc_tree.specs.Least.{IsLeastOf}
 use Rattle.xc_names.proofs.Bounds.{few_items, few_names}
 use Rattle.xc_names.proofs.Together.{no_rule, no_name}
 use Rattle.xc_names.proofs.resolution.resolve.Goals as goal

@@ -4,7 +4,7 @@ use Rattle.std.proofs.lemmas.Bool.Decides.{nat_tests}
 use Rattle.xw_words.specs.declared.pos.Pos.{Pos}
 use Rattle.xw_words.specs.declared.pos.Broken.{Broken}
 use Rattle.xc_tree.specs.Lexes.{IsBefore, IsNotAfter}
-use Rattle.xc_names.specs.Least.{IsLeastOf, comes_before, first_of}
+use Rattle.xc_tree.specs.Least.{IsLeastOf, comes_before, first_of}
 
 some_same : {A : Type 0} (a b : A) → Some a ≡ Some b → a ≡ b
 some_same a b e = cc

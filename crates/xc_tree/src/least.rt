@@ -1,5 +1,5 @@
 ghost use Rattle.std.specs.Prelude.{◌≡◌};
-ghost use Rattle.xc_names.specs.Least.{comes_before as is_before, first_of};
+ghost use Rattle.xc_tree.specs.Least.{comes_before as is_before, first_of};
 
 use xw_words::Broken;
 
