@@ -30,6 +30,7 @@ given_form n k p other = another
 abbrev pub given_by : NamedProgram → ℕ → plain.Expression → Given
 given_by n k (plain.expression f p) = given_form n k p f
 
+-- what the first of these parameters takes, and the parameters behind it
 abbrev pub first_of : List Param → Option ParamKind
 first_of [] = None
 first_of (p ∷ ps) = Some p.kind

@@ -5,7 +5,7 @@ use Rattle.xc_tree.specs.declared.tree.TreeDir.TheVariants.{In, Out, Both}
 use Rattle.xc_tree.specs.declared.names.What.{What}
 use Rattle.xc_tree.specs.declared.names.What.TheVariants.{Word, Array, Ref, ArrayParam, Chan, End, Timer, Port, PortParam, Index}
 
--- a word: a variable, a parameter for one, or the index of a replicated `par`
+-- a word: one that is declared, a parameter for one, or the index of a replicated `par`
 abbrev pub is_word : Option What → Bool
 is_word (Some (Word u)) = true
 is_word (Some (Ref u)) = true
