@@ -1,8 +1,9 @@
 mod BuiltImage
 mod Completes
 mod Decides
+mod Firsts
 mod Given
 mod ImageWords
 mod OnlyCauses
+mod Order
 mod Rounds
-mod TextWords
