@@ -3,7 +3,8 @@ use Rattle.std.proofs.Common.{◌≡◌, ◌≢◌, ℕ, ◌+◌, ◌<◌, ◌�
 use Rattle.std.proofs.lemmas.List.{at_drop_more, at_drop_all}
 use Rattle.std.specs.Prelude.{bytes_eq}
 use Rattle.xc_meaning.specs.Program.{IsNew, AreDistinctPorts, port_count}
-use Rattle.xc_form.specs.Words.{place_from, place_in, identifiers}
+use Rattle.xc_tree.specs.Names.Ports.{identifiers}
+use Rattle.xc_form.specs.Words.{place_from, place_in}
 
 module _ (id : ℕ) (ids : List ℕ) (i : ℕ) (h : i < length ids) where
   split_ids : drop i ids ≡ get_or ids i 0 ∷ drop (i + 1) ids

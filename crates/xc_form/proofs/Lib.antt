@@ -9,3 +9,7 @@ mod Names
 mod Declarations
 mod Counts
 mod Programs
+mod FormMarks
+mod FormUses
+mod FormNames
+mod FormPrograms

@@ -3,3 +3,4 @@ pub mod OfTree
 pub mod ReadErr
 pub mod Steps
 pub mod Ranges
+pub mod Form

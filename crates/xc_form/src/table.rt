@@ -1,5 +1,6 @@
 ghost use Rattle.std.specs.Prelude.{◌≡◌, ◌<◌, ◌≤◌, ◌^◌, length, Some, None, List};
-ghost use Rattle.xc_form.specs.Words.{place_in, texts, identifiers};
+ghost use Rattle.xc_form.specs.Words.{place_in, texts};
+ghost use Rattle.xc_tree.specs.Names.Ports.{identifiers};
 
 use xw_words::List;
 
@@ -50,7 +51,7 @@ fn place(table: &[&[u8]], spelled: &[u8]) -> Option<u8>
 }
 
 /// The place of an identifier of a port among all.
-#[tactic(auto, unfolding(crate::specs::Words::identifiers))]
+#[tactic(auto, unfolding(xc_tree::specs::Names::Ports::identifiers))]
 pub fn identifier_place(spelled: &[u8]) -> Option<u8>
     ensures { result ≡ place_in identifiers spelled.now }
 {
