@@ -7,7 +7,7 @@ use Rattle.xc_tree.specs.declared.tree.Id.{Id}
 use Rattle.xc_tree.specs.Plain as plain
 use Rattle.xc_tree.specs.Names.Marks as marks
 use Rattle.xc_tree.specs.Names.Scopes.{end_of, to_end}
-use Rattle.xc_form.specs.Form.{AreOutPorts, AreSent, HasForm, IsOutPort, IsSent, further_sent, none_sent}
+use Rattle.xc_form.proofs.Formed.{AreFreePorts, AreAllSent, Formed, IsFreePort, Sends, further_sent, none_sent}
 use Rattle.xc_form.specs.OfTree.{IsMain, IsNumber, IsTime, IsZero, ReturnsZero, at_number, at_once}
 
 abbrev pub port_mark : plain.Port → Mark
@@ -28,7 +28,7 @@ main_marks name j sent = marks.declares name (what.Func j) ∷ Opens ∷ (sent_m
 abbrev pub all_marks : List plain.Port → Id → ℕ → List plain.Output → List Mark
 all_marks ports name j sent = port_marks ports ++ main_marks name j sent
 
-pub of_ports : (i : ℕ) (ps : List plain.Port) (rest : List plain.Item) → AreOutPorts ps → (j : ℕ) × (marks.of_items i (map plain.port ps ++ rest) ≡ port_marks ps ++ marks.of_items j rest)
+pub of_ports : (i : ℕ) (ps : List plain.Port) (rest : List plain.Item) → AreFreePorts ps → (j : ℕ) × (marks.of_items i (map plain.port ps ++ rest) ≡ port_marks ps ++ marks.of_items j rest)
 of_ports i [] rest h = (i, refl)
 of_ports i (p ∷ ps) rest h =
     let later = of_ports (i + 1) ps rest h.1 in
@@ -41,7 +41,7 @@ pub of_time : {t : Option plain.Timing} {n : Option ℕ} → IsTime t n → mark
 of_time at_once = refl
 of_time (at_number h) = of_number h
 
-pub of_sent : {s : plain.Statement} {o : plain.Output} → IsSent s o → marks.of_statement s ≡ Uses o.name ∷ []
+pub of_sent : {s : plain.Statement} {o : plain.Output} → Sends s o → marks.of_statement s ≡ Uses o.name ∷ []
 of_sent {s} {o} h =
     ap marks.of_statement h.is
     ∙ ap (λ m. Uses o.name ∷ (m ++ (marks.of_expression o.value ++ marks.optional marks.of_timing o.stamp))) (of_time h.timed)
@@ -54,7 +54,7 @@ of_returned h = ap (marks.optional marks.of_right) h.is ∙ of_number h.zero
 of_return : {s : plain.Statement} → ReturnsZero s → marks.of_statement s ≡ []
 of_return h = ap marks.of_statement h.is ∙ of_returned h.zero
 
-of_statements : (ss : List plain.Statement) (os : List plain.Output) (last : plain.Statement) → AreSent ss os → ReturnsZero last → marks.of_statements (plain.statements (ss ++ last ∷ [])) ≡ sent_marks os
+of_statements : (ss : List plain.Statement) (os : List plain.Output) (last : plain.Statement) → AreAllSent ss os → ReturnsZero last → marks.of_statements (plain.statements (ss ++ last ∷ [])) ≡ sent_marks os
 of_statements [] [] last none_sent r = append-nil (marks.of_statement last) ∙ of_return r
 of_statements [] (o ∷ os) last h r = elim h [ ]
 of_statements (s ∷ ss) [] last h r = elim h [ ]
@@ -68,7 +68,7 @@ of_main main ss os j m e =
     ∙ ap (λ ms. marks.declares m.head.name (what.Func j) ∷ Opens ∷ (ms ++ Closes ∷ [])) e
 
 -- all of a tree
-pub of_form : (items : List plain.Item) (h : HasForm items) → (j : ℕ) × (marks.of_program items ≡ all_marks h.ports h.is_main.head.name j h.sent)
+pub of_form : (items : List plain.Item) (h : Formed items) → (j : ℕ) × (marks.of_program items ≡ all_marks h.ports h.is_main.head.name j h.sent)
 unfolding marks.of_program
 of_form items h =
     let ports = of_ports 0 h.ports (h.main ∷ []) h.declared in

@@ -16,7 +16,7 @@ use Rattle.xc_tree.specs.Names.Marks as marks
 use Rattle.xc_tree.specs.Names.Ports.{core_at, core_of, identifiers, ports}
 use Rattle.xc_tree.specs.Names.Rules.{Breaks, Breaks302, IsUsedAgain, declared_again, wrong_port}
 use Rattle.xc_tree.specs.Names.Scopes.{DeclaresAt, end_of}
-use Rattle.xc_form.specs.Form.{AreOutPorts, HasForm, IsOutPort}
+use Rattle.xc_form.proofs.Formed.{AreFreePorts, Formed, IsFreePort}
 use Rattle.xc_form.specs.OfTree.{AreDeclarations, AreDistinctNames, IsDeclaration, IsNewName, further_declaration, no_declaration}
 use Rattle.xc_form.specs.Words.{place_from, place_in}
 use Rattle.xc_form.proofs.FormMarks.{all_marks, end_at, main_there, of_form, port_there}
@@ -112,7 +112,7 @@ distinct_ids (p ∷ ps) (id ∷ ids) f (further_port e r) =
      new_id p.ident.text id ps ids r e (λ j q y. f.identifiers_differ 0 (suc j) p q (omega arith) refl y),
      distinct_ids ps ids (but_first p ps f) r)
 
-declarations : (ps : List plain.Port) (ids : List ℕ) → AreOutPorts ps → Fine ps → Placed ps ids → AreDeclarations (map plain.port ps) (names_of ps) ids
+declarations : (ps : List plain.Port) (ids : List ℕ) → AreFreePorts ps → Fine ps → Placed ps ids → AreDeclarations (map plain.port ps) (names_of ps) ids
 declarations [] [] o f no_port = no_declaration
 declarations [] (id ∷ ids) o f r = elim r [ ]
 declarations (p ∷ ps) [] o f r = elim r [ ]
@@ -121,16 +121,16 @@ declarations (p ∷ ps) (id ∷ ids) o f (further_port e r) =
     (record { port = p; is = refl; unplaced = o.0.unplaced; out = o.0.out; named = refl; not_main = f.not_main 0 p refl; identified = refl })
     e (declarations ps ids o.1 (but_first p ps f) r)
 
-out_at : (ps : List plain.Port) (i : ℕ) (p : plain.Port) → AreOutPorts ps → slice_get ps i ≡ Some p → IsOutPort p
+out_at : (ps : List plain.Port) (i : ℕ) (p : plain.Port) → AreFreePorts ps → slice_get ps i ≡ Some p → IsFreePort p
 out_at [] i p o e = absurd (cc)
-out_at (q ∷ ps) zero p o e = let same : q ≡ p = cc in subst IsOutPort same o.0
+out_at (q ∷ ps) zero p o e = let same : q ≡ p = cc in subst IsFreePort same o.0
 out_at (q ∷ ps) (suc i) p o e = out_at ps i p o.1 e
 
 ports_are : (ps : List plain.Port) (head : plain.Head) (body : plain.Statement) → ports (map plain.port ps ++ plain.function head body ∷ []) ≡ ps
 ports_are [] head body = refl
 ports_are (p ∷ ps) head body = ap (λ l. p ∷ l) (ports_are ps head body)
 
-module _ (items : List plain.Item) (h : HasForm items) (unbroken : (b : Broken) → Breaks items b → ⊥) where
+module _ (items : List plain.Item) (h : Formed items) (unbroken : (b : Broken) → Breaks items b → ⊥) where
   -- the marks, and where the scope of a port or of `main` ends
   abbrev all : List Mark
   all = all_marks h.ports h.is_main.head.name (of_form items h).0 h.sent

@@ -19,7 +19,8 @@ use Rattle.xc_tree.specs.Types.Entities.{takes_output}
 use Rattle.xc_tree.specs.Types.Named.{Name, NamedProgram, name_at, past, what_at, what_of}
 use Rattle.xc_tree.specs.Types.Rules.{broken_unless, rule_410}
 use Rattle.xc_tree.specs.Types.Sites as site
-use Rattle.xc_form.specs.Form.{AreOutPorts, AreSent, HasForm, IsSent, further_sent, none_sent}
+use Rattle.xc_form.proofs.Formed.{AreFreePorts, AreAllSent, Formed, Sends, formed, further_sent, none_sent}
+use Rattle.xc_form.specs.Form.{HasForm}
 use Rattle.xc_form.specs.OfTree.{AreOutputs, IsMain, IsOfTree, further_output, no_output}
 use Rattle.xc_form.specs.Words.{place_in}
 use Rattle.xc_form.proofs.FormMarks.{all_marks, main_marks, of_form, of_sent, port_mark, port_marks, sent_marks}
@@ -53,14 +54,14 @@ module _ (n : NamedProgram) where
       (subst (λ ps. In x (site.function m.head (plain.statement (plain.block (plain.statements ss)) m.pos m.close m.own) ∷ (site.each site.of_parameter ps ++ site.of_statements n (in_block_of m.head) (past (k + 1) (marks.each marks.of_param ps)) (plain.statements ss)))) (sym m.is_main.without)
       (later h))
 
-  in_items : (i k : ℕ) (ps : List plain.Port) (main : plain.Item) (x : site.Site) → AreOutPorts ps → In x (site.of_item n (past k (port_marks ps)) main) → In x (site.of_items n i k (map plain.port ps ++ main ∷ []))
+  in_items : (i k : ℕ) (ps : List plain.Port) (main : plain.Item) (x : site.Site) → AreFreePorts ps → In x (site.of_item n (past k (port_marks ps)) main) → In x (site.of_items n i k (map plain.port ps ++ main ∷ []))
   in_items i k [] main x o h = in_left x (site.of_item n k main) [] h
   in_items i k (p ∷ ps) main x o h =
       subst (λ z. In x (site.optional (site.of_place n k) z ++ site.of_items n (i + 1) (past k (marks.optional marks.of_place z ++ port_mark p ∷ [])) (map plain.port ps ++ main ∷ []))) (sym o.0.unplaced)
       (in_items (i + 1) (k + 1) ps main x o.1 h)
 
   -- the output that a statement is
-  in_sent : (around : Around) (k : ℕ) (s : plain.Statement) (o : plain.Output) → IsSent s o → In (site.output (name_at n k o.name)) (site.of_statement n around k s)
+  in_sent : (around : Around) (k : ℕ) (s : plain.Statement) (o : plain.Output) → Sends s o → In (site.output (name_at n k o.name)) (site.of_statement n around k s)
   in_sent around k s o h = subst (λ t. In (site.output (name_at n k o.name)) (site.of_statement n around k t)) (sym h.is) here
 
   module _ (unbroken : (b : Broken) → BreaksTypes n b → ⊥) where
@@ -96,9 +97,13 @@ declared_port [] name j os (suc (suc d)) decl e t = absurd (none_sent_declares o
     none_sent_declares (o ∷ os) zero decl e = absurd (cc)
     none_sent_declares (o ∷ os) (suc d) decl e = none_sent_declares os d decl e
 
-module _ (items : List plain.Item) (h : HasForm items) (uses : List ℕ) where
+-- a program with its declarations and these uses
+abbrev pub named_by : List plain.Item → List ℕ → NamedProgram
+named_by items uses = record { program = items; decls = names.declarations (marks.of_program items); uses = uses }
+
+module _ (items : List plain.Item) (h : Formed items) (uses : List ℕ) where
   abbrev named : NamedProgram
-  named = record { program = items; decls = names.declarations (marks.of_program items); uses = uses }
+  named = named_by items uses
 
   module _ (names_unbroken : (b : Broken) → BreaksNames items b → ⊥) (meant : names.AreUses (marks.of_program items) uses) (types_unbroken : (b : Broken) → BreaksTypes named b → ⊥) where
     -- an output goes to one of the ports
@@ -113,7 +118,7 @@ module _ (items : List plain.Item) (h : HasForm items) (uses : List ℕ) where
         let among = declared_port h.ports h.is_main.head.name (of_form items h).0 h.sent m.0 declared.decl at_place by_declaration in
         placed (names_of h.ports) o.name.text (λ absent. absent (subst (Contains (names_of h.ports)) declared.spelled among))
 
-    outputs_of : (k : ℕ) (before : List Mark) (ss : List plain.Statement) (os : List plain.Output) → AreSent ss os → past 0 before ≡ k → marks.of_program items ≡ before ++ (sent_marks os ++ Closes ∷ []) → ((x : site.Site) → In x (site.of_statements named (in_block_of h.is_main.head) k (plain.statements (ss ++ h.last ∷ []))) → In x (site.sites named)) → (outs : List Output) × AreOutputs (names_of h.ports) ss outs
+    outputs_of : (k : ℕ) (before : List Mark) (ss : List plain.Statement) (os : List plain.Output) → AreAllSent ss os → past 0 before ≡ k → marks.of_program items ≡ before ++ (sent_marks os ++ Closes ∷ []) → ((x : site.Site) → In x (site.of_statements named (in_block_of h.is_main.head) k (plain.statements (ss ++ h.last ∷ []))) → In x (site.sites named)) → (outs : List Output) × AreOutputs (names_of h.ports) ss outs
     outputs_of k before [] [] none_sent counted is into = ([], no_output)
     outputs_of k before [] (o ∷ os) h' counted is into = elim h' [ ]
     outputs_of k before (s ∷ ss) [] h' counted is into = elim h' [ ]
@@ -144,9 +149,8 @@ module _ (items : List plain.Item) (h : HasForm items) (uses : List ℕ) where
         ((of_form items h).1 ∙ sym (append_assoc (port_marks h.ports) begun (sent_marks h.sent ++ Closes ∷ [])))
         in_sites
 
-    -- a tree of the form that breaks no rule of names or types is a program
-    pub program_of_form : (P : Program) × IsOfTree items P
-    program_of_form =
+    program_of_formed : (P : Program) × IsOfTree items P
+    program_of_formed =
         let ports = ports_of items h names_unbroken in
         (record { ports = ports.0; outputs = sent_in_main.0 }, record {
           declarations = map plain.port h.ports;
@@ -162,3 +166,7 @@ module _ (items : List plain.Item) (h : HasForm items) (uses : List ℕ) where
           sent = sent_in_main.1;
           returns = h.returns;
         })
+
+-- a tree of the form that breaks no rule of names or types is a program
+pub program_of_form : (items : List plain.Item) → HasForm items → (uses : List ℕ) → ((b : Broken) → BreaksNames items b → ⊥) → names.AreUses (marks.of_program items) uses → ((b : Broken) → BreaksTypes (named_by items uses) b → ⊥) → (P : Program) × IsOfTree items P
+program_of_form items h uses names_unbroken meant types_unbroken = program_of_formed items (formed items h) uses names_unbroken meant types_unbroken

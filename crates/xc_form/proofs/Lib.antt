@@ -9,6 +9,8 @@ mod Names
 mod Declarations
 mod Counts
 mod Programs
+mod FormChecks
+mod Formed
 mod FormMarks
 mod FormUses
 mod FormNames

@@ -39,7 +39,7 @@ body (plain.function h (plain.statement (plain.block ss) p c own)) = ss
 body _ = plain.no_more
 
 -- a `main` holds one list of statements
-one_body : {i : plain.Item} {ss ts : List plain.Statement} → IsMain i ss → IsMain i ts → ss ≡ ts
+pub one_body : {i : plain.Item} {ss ts : List plain.Statement} → IsMain i ss → IsMain i ts → ss ≡ ts
 one_body {i} {ss} {ts} a b = statements_same ss ts (ap body (sym a.is ∙ b.is))
 
 module _ (items front : List Item) (last : Item) (are : items ≡ front ++ last ∷ []) where

@@ -2,9 +2,11 @@
 #![tactic(auto)]
 
 mod error;
+mod form;
 mod of_tree;
 mod ports;
 mod table;
 
 pub use error::ReadErr;
+pub use form::has_form;
 pub use of_tree::program_of_tree;

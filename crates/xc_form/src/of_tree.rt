@@ -86,7 +86,7 @@ fn declaration(item: &Item) -> Option<(&[u8], &[u8])>
 }
 
 /// The statements of `int main` without parameters.
-fn statements_of_main(item: &Item) -> Option<&[Stmt]>
+pub fn statements_of_main(item: &Item) -> Option<&[Stmt]>
     ensures some { IfSome result (λ ss. IsMain (item_of item.now) (map statement_of ss.now)) }
     ensures none { IfNone result ((ss : List plain.Statement) → IsMain (item_of item.now) ss → ⊥) }
 {
@@ -112,7 +112,7 @@ fn is_main(function: &FuncItem) -> bool
 }
 
 /// Whether a statement is `return 0 ;`.
-fn returns_zero(statement: &Stmt) -> bool
+pub fn returns_zero(statement: &Stmt) -> bool
     ensures { IsTrue result ↔ ReturnsZero (statement_of statement.now) }
 {
     match &statement.kind {
@@ -185,7 +185,7 @@ fn word_place(pos: Pos) -> Pos
 }
 
 /// The number that a time is, if there is one.
-fn time(timed: &Option<Timed>) -> Option<Option<u32>>
+pub fn time(timed: &Option<Timed>) -> Option<Option<u32>>
     ensures words { IfSome result (λ time. IsWordTime time) }
     ensures some { IfSome result (λ time. IsOnly (IsTime (option_map timing_of timed.now)) time) }
     ensures none { IfNone result ((time : Option ℕ) → IsTime (option_map timing_of timed.now) time → ⊥) }
@@ -198,7 +198,7 @@ fn time(timed: &Option<Timed>) -> Option<Option<u32>>
 
 /// The number that an expression is.
 #[tactic(auto, using(xc_tree::proofs::Forms::forms))]
-fn number(value: &Expr) -> Option<u32>
+pub fn number(value: &Expr) -> Option<u32>
     ensures word { IfSome result (λ n. n < 2 ^ 32) }
     ensures some { IfSome result (λ n. IsOnly (IsNumber (expression_of value.now)) n) }
     ensures none { IfNone result ((n : ℕ) → IsNumber (expression_of value.now) n → ⊥) }
