@@ -1,10 +1,10 @@
 -- A program's `main` holds no more statements than the program has tokens: each has a token of its own.
-use Rattle.std.proofs.Common.{◌≡◌, ℕ, zero, suc, ◌+◌, ◌≤◌, List, [], ◌∷◌, ◌++◌, length, map, slice_get, Option, None, Some, refl, ap, subst, ◌∙◌, arith, length-append}
+use Rattle.std.proofs.Common.{◌≡◌, ℕ, zero, suc, ◌+◌, ◌≤◌, List, [], ◌∷◌, ◌++◌, length, slice_get, Option, None, Some, refl, ap, subst, arith, length-append}
 use Rattle.xc_meaning.specs.declared.program.Output.{Output}
 use Rattle.xc_meaning.specs.declared.program.Program.{Program}
 use Rattle.xc_tree.specs.declared.token.Tok.{Tok}
 use Rattle.xc_tree.specs.Plain as plain
-use Rattle.xc_tree.specs.Symbol.{Symbol, sym, key, a_name, a_number, many, maybe, commas, program, item, body, block, block_item, decl, statement, Value, Values}
+use Rattle.xc_tree.specs.Symbol.{Symbol, sym, key, many, program, item, body, block, block_item, decl, statement, Value, Values}
 use Rattle.xc_tree.specs.Grammar.{Rule, Extent, rules, kept}
 use Rattle.xc_tree.specs.Derives.{Room, extent, Derives, a_sym, a_key, named, counted, by_rule, Row, done, next, IsProgram}
 use Rattle.xc_form.specs.OfTree.{AreOutputs, no_output, further_output, IsOfTree}

@@ -1,11 +1,11 @@
 -- Declarations, one after the other.
-use Rattle.std.proofs.Common.{◌≡◌, ℕ, ◌+◌, ◌<◌, ◌≤◌, ◌^◌, List, [], ◌∷◌, ◌++◌, length, map, drop, get_or, Some, refl, sym, ap, subst, ◌∙◌, append_assoc, append-nil, length-append, arith}
-use Rattle.xc_meaning.specs.Program.{AreDistinctPorts, IsNew, port_count}
+use Rattle.std.proofs.Common.{◌≡◌, ℕ, ◌+◌, ◌<◌, ◌≤◌, List, [], ◌∷◌, ◌++◌, length, map, drop, get_or, Some, refl, sym, ap, subst, ◌∙◌, append_assoc, append-nil, length-append, arith}
+use Rattle.xc_meaning.specs.Program.{AreDistinctPorts}
 use Rattle.xc_tree.specs.declared.tree.Item.{Item}
 use Rattle.xc_tree.specs.Plain as plain
 use Rattle.xc_tree.specs.Trees.{item_of}
 use Rattle.xc_form.specs.declared.ports.Ports.{Ports}
-use Rattle.xc_form.specs.OfTree.{IsDeclaration, AreDeclarations, no_declaration, further_declaration, AreDistinctNames, IsNewName}
+use Rattle.xc_form.specs.OfTree.{IsDeclaration, AreDeclarations, no_declaration, further_declaration, AreDistinctNames}
 use Rattle.xc_form.specs.Steps.{CanDeclare, Declared, CanBeDeclared, AreAllDeclared}
 use Rattle.xc_tree.specs.Names.Ports.{identifiers}
 use Rattle.xc_form.specs.Words.{place_in}

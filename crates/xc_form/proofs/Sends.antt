@@ -1,17 +1,16 @@
 -- Outputs, the return of 0, and `main`, as they stand in a tree.
-use Rattle.std.proofs.Common.{◌≡◌, ℕ, Bool, true, false, IsTrue, ◌↔◌, List, [], ◌∷◌, Option, Some, None, map, option_map, IfSome, IfNone, refl, sym, ap, subst, ◌∙◌}
+use Rattle.std.proofs.Common.{◌≡◌, ℕ, Bool, true, false, IsTrue, ◌↔◌, List, Option, Some, None, map, option_map, IfSome, IfNone, refl, sym, ap, subst, ◌∙◌}
 use Rattle.std.specs.Option.{option_eq, is_some}
 use Rattle.std.proofs.Math.Dec.{eqb}
-use Rattle.std.proofs.lemmas.Bool.{eqb-true, eq-eqb}
+use Rattle.std.proofs.lemmas.Bool.{eqb-true}
 use Rattle.xw_words.specs.declared.pos.Pos.{Pos}
 use Rattle.xc_meaning.specs.declared.program.Output.{Output}
 use Rattle.xc_tree.specs.declared.tree.FuncItem.{FuncItem}
 use Rattle.xc_tree.specs.declared.tree.Item.{Item}
 use Rattle.xc_tree.specs.declared.tree.Item.TheVariants as item
 use Rattle.xc_tree.specs.declared.tree.Rhs.{Rhs}
-use Rattle.xc_tree.specs.declared.tree.Rhs.TheVariants as rhs
 use Rattle.xc_tree.specs.declared.tree.Send.{Send}
-use Rattle.xc_tree.specs.declared.tree.St.{St, Block, Output as Sent, Return}
+use Rattle.xc_tree.specs.declared.tree.St.{Block, Output as Sent, Return}
 use Rattle.xc_tree.specs.declared.tree.Stmt.{Stmt}
 use Rattle.xc_tree.specs.declared.tree.Timed.{Timed}
 use Rattle.xc_tree.specs.Plain as plain

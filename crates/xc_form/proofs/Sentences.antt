@@ -1,5 +1,5 @@
 -- Outputs, one after the other.
-use Rattle.std.proofs.Common.{◌≡◌, ℕ, ◌+◌, ◌<◌, ◌≤◌, List, [], ◌∷◌, ◌++◌, length, map, drop, get_or, Some, refl, sym, ap, subst, ◌∙◌, append-nil}
+use Rattle.std.proofs.Common.{◌≡◌, ℕ, ◌+◌, ◌<◌, ◌≤◌, List, [], ◌∷◌, ◌++◌, length, map, drop, get_or, refl, sym, ap, subst, ◌∙◌}
 use Rattle.xc_meaning.specs.Program.{AreDeclared}
 use Rattle.xc_meaning.specs.declared.program.Output.{Output}
 use Rattle.xc_tree.specs.declared.tree.Stmt.{Stmt}

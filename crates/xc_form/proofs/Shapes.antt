@@ -1,12 +1,11 @@
 -- What of a tree is a number, a block, a `return` or an output, and what is none.
-use Rattle.std.proofs.Common.{◌≡◌, ℕ, Bool, true, false, List, Option, Some, None, map, option_map, refl, sym, ap, subst, ◌∙◌}
+use Rattle.std.proofs.Common.{◌≡◌, ℕ, Bool, true, false, List, Option, Some, None, sym, ap, subst, ◌∙◌}
 use Rattle.xw_words.specs.declared.pos.Pos.{Pos}
 use Rattle.xc_tree.specs.declared.tree.Expr.{Expr}
 use Rattle.xc_tree.specs.declared.tree.Ex.TheOpen as E
 use Rattle.xc_tree.specs.declared.tree.Ex.{Ex, Num, out-Ex, roll-Ex, roll-out-Ex, fold-roll-Ex}
 use Rattle.xc_tree.specs.declared.tree.Ex.TheVariants.{rolls-Num}
 use Rattle.xc_tree.specs.declared.tree.Rhs.{Rhs}
-use Rattle.xc_tree.specs.declared.tree.Rhs.TheVariants as rhs
 use Rattle.xc_tree.specs.declared.tree.Send.{Send}
 use Rattle.xc_tree.specs.declared.tree.Stmt.{Stmt}
 use Rattle.xc_tree.specs.declared.tree.Branch.{Branch}
@@ -15,8 +14,8 @@ use Rattle.xc_tree.specs.declared.tree.St.TheOpen as S
 use Rattle.xc_tree.specs.declared.tree.St.{St, Block, Output, Return, out-St, roll-St, roll-out-St, fold-roll-St}
 use Rattle.xc_tree.specs.declared.tree.St.TheVariants.{rolls-Block, rolls-Output, rolls-Return}
 use Rattle.xc_tree.specs.Plain as plain
-use Rattle.xc_tree.specs.Trees.{expression_of, form_of, form_step, expression_step, right_of, output_of, statement_of, action_of, branch_of, case_of, action_step, branch_step, case_step, statement_step}
-use Rattle.xc_tree.proofs.Forms.{expression-Expr, statement-Stmt, form-Num, action-Block, action-Output, action-Return}
+use Rattle.xc_tree.specs.Trees.{expression_of, form_of, form_step, expression_step, statement_of, action_of, branch_of, case_of, action_step, branch_step, case_step, statement_step}
+use Rattle.xc_tree.proofs.Forms.{expression-Expr, statement-Stmt, action-Block, action-Output, action-Return}
 use Rattle.xc_form.specs.OfTree.{IsNumber}
 
 abbrev is_number : plain.Form → Bool

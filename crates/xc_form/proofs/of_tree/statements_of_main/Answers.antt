@@ -1,4 +1,4 @@
-use Rattle.std.proofs.Common.{map, sym, ap, subst, ◌∙◌}
+use Rattle.std.proofs.Common.{map, sym, subst}
 use Rattle.xc_tree.specs.Trees.{item_of, statement_of}
 use Rattle.xc_form.specs.OfTree.{IsMain}
 use Rattle.xc_form.proofs.Sends.{the_main, block_never}
