@@ -14,4 +14,4 @@ mod Formed
 mod FormMarks
 mod FormUses
 mod FormNames
-mod FormPrograms
+pub mod FormPrograms

@@ -4,6 +4,7 @@ mod Decides
 mod Firsts
 mod Given
 mod ImageWords
+mod Meanings
 mod OnlyCauses
 mod Order
 mod Rounds

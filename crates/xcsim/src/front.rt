@@ -7,10 +7,12 @@ ghost use Rattle.xcsim.specs.Refusals.{IfBroken};
 ghost use Rattle.xcsim.specs.Rules.{First, IsAccepted};
 
 use std::alloc::Global;
-use xc_form::{ReadErr, program_of_tree};
+use xc_form::{ReadErr, has_form, program_of_tree};
 use xc_lexer::{LexErr, lex};
 use xc_meaning::Program;
+use xc_names::{NameErr, resolve};
 use xc_parser::{ParseErr, end_pos, parse};
+use xc_types::{TypeErr, check};
 use xw_words::{Broken, Pos};
 
 /// The tree isn't of the form that is built.
@@ -47,9 +49,22 @@ pub fn read_text(alloc: Global, text: &[u8]) -> Result<Program, Refusal>
         Err(ParseErr::Broken(broken)) => return Err(Refusal::Broken(broken)),
         Err(ParseErr::Memory) => return Err(Refusal::Memory),
     };
-    match program_of_tree(alloc, &tree) {
+    if !has_form(&tree) {
+        return Err(Refusal::Broken(NOT_BUILT));
+    }
+    let named = match resolve(alloc, tree) {
+        Ok(named) => named,
+        Err(NameErr::Broken(broken)) => return Err(Refusal::Broken(broken)),
+        Err(NameErr::Memory) => return Err(Refusal::Memory),
+    };
+    let typed = match check(alloc, named) {
+        Ok(typed) => typed,
+        Err(TypeErr::Broken(broken)) => return Err(Refusal::Broken(broken)),
+        Err(TypeErr::Memory) => return Err(Refusal::Memory),
+    };
+    match program_of_tree(alloc, &typed.named.tree) {
         Ok(program) => Ok(program),
-        Err(ReadErr::Other) => Err(Refusal::Broken(NOT_BUILT)),
+        Err(ReadErr::Other) => unreachable!(),
         Err(ReadErr::Memory) => Err(Refusal::Memory),
     }
 }

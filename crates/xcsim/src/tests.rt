@@ -207,11 +207,36 @@ fn refuses_texts(rt: HostRuntime) -> Result<(), Fail> {
         ),
         ("int main(void) { return 09; }", "a.xc:1:25: rule 106\n"),
         ("int main(void) { x = ; }", "a.xc:1:22: rule 201\n"),
+        (TWO_BRANCHES, "a.xc:1:1: rule 299\n"),
         (
-            "int main(void) { p <: 1; return 0; }",
+            "int main(void) { y = 1; return 0; }",
             "a.xc:1:1: rule 299\n",
         ),
-        (TWO_BRANCHES, "a.xc:1:1: rule 299\n"),
+        ("void f() { }", "a.xc:1:1: rule 299\n"),
+        (
+            "int main(void) { p <: 1; return 0; }",
+            "a.xc:1:18: rule 301\n",
+        ),
+        (
+            "out port p = XS1_PORT_1A;\nout port p = XS1_PORT_1B;\nint main(void) { return 0; }",
+            "a.xc:2:10: rule 302\n",
+        ),
+        (
+            "out port main = XS1_PORT_1A;\nint main(void) { return 0; }",
+            "a.xc:2:5: rule 302\n",
+        ),
+        (
+            "out port p = XS1_PORT_1Q;\nint main(void) { p @ 100 <: 1; return 0; }\n",
+            "a.xc:1:14: rule 303\n",
+        ),
+        (
+            "out port p = XS1_PORT_1A;\nout port q = XS1_PORT_1A;\nint main(void) { return 0; }",
+            "a.xc:2:14: rule 303\n",
+        ),
+        (
+            "int main(void) { main <: 1; return 0; }",
+            "a.xc:1:18: rule 410\n",
+        ),
     ];
     for (text, line) in rows {
         check_refused(&rt, rt.alloc(), text.as_bytes(), line)?;

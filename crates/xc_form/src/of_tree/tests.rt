@@ -1,4 +1,5 @@
 use super::*;
+use crate::form::has_form;
 use std::fmt::Write;
 use std::test::Fail;
 use xc_tree::{At, FuncItem, Id, PortItem, Send, Timed};
@@ -87,14 +88,19 @@ fn tree(alloc: Global, ports: &[(&str, &str)], sent: &[Sent<'_>]) -> Result<Tree
     Ok(Tree { items })
 }
 
-/// A tree's program in one line: the identifiers of its ports, and each output. Or its error.
+/// A tree's program in one line: the identifiers of its ports, and each output. Or that it has none, since its form or its
+/// names are others.
 fn shown(alloc: Global, tree: &Tree) -> Result<String, Fail> {
+    let form = has_form(tree);
     let program = match program_of_tree(alloc, tree) {
         Ok(program) => program,
-        Err(ReadErr::Other) => return Ok(String::from_str(alloc, "other")?),
+        Err(ReadErr::Other) => {
+            let why = if form { "other names" } else { "other form" };
+            return Ok(String::from_str(alloc, why)?);
+        }
         Err(ReadErr::Memory) => return Ok(String::from_str(alloc, "memory")?),
     };
-    let mut line = String::from_str(alloc, "ports")?;
+    let mut line = String::from_str(alloc, if form { "ports" } else { "no form" })?;
     for id in program.ports.as_slice() {
         write!(line, " {id}")?;
     }
@@ -128,11 +134,11 @@ fn tells_programs_by_their_names_and_numbers(rt: HostRuntime) -> Result<(), Fail
         (one, "ports 0; port 0 @ 100 <: 1"),
         (idle, "ports 0"),
         (both, "ports 28 17; port 1 <: 7; port 0 @ 0 <: 4294967295"),
-        (undeclared, "other"),
-        (again, "other"),
-        (shared, "other"),
-        (main, "other"),
-        (unknown, "other"),
+        (undeclared, "other names"),
+        (again, "other names"),
+        (shared, "other names"),
+        (main, "other names"),
+        (unknown, "other names"),
     ];
     for (tree, program) in rows {
         let line = shown(alloc, &tree)?;
@@ -176,12 +182,12 @@ fn refuses_other_functions(rt: HostRuntime) -> Result<(), Fail> {
     let nothing = main_of(alloc, statement(St::Return(None)))?;
     let rows = [
         (good, "ports"),
-        (unsigned, "other"),
-        (void, "other"),
-        (other, "other"),
-        (one, "other"),
-        (empty, "other"),
-        (nothing, "other"),
+        (unsigned, "other form"),
+        (void, "other form"),
+        (other, "other form"),
+        (one, "other form"),
+        (empty, "other form"),
+        (nothing, "other form"),
     ];
     for (function, program) in rows {
         let tree = alone(alloc, Item::Func(function))?;
@@ -219,9 +225,9 @@ fn refuses_other_ports(rt: HostRuntime) -> Result<(), Fail> {
     };
     let good = port(alloc, "p", "XS1_PORT_1A")?;
     for (port, program) in [
-        (placed, "other"),
-        (input, "other"),
-        (both, "other"),
+        (placed, "other form"),
+        (input, "other form"),
+        (both, "other form"),
         (good, "ports 0"),
     ] {
         let tree = beside_main(alloc, port)?;
@@ -230,7 +236,7 @@ fn refuses_other_ports(rt: HostRuntime) -> Result<(), Fail> {
     }
     let last = alone(alloc, Item::Port(port(alloc, "p", "XS1_PORT_1A")?))?;
     let line = shown(alloc, &last)?;
-    assert_eq!(rt; line.as_str(), "other");
+    assert_eq!(rt; line.as_str(), "other form");
     Ok(())
 }
 
@@ -253,8 +259,8 @@ fn refuses_other_outputs(rt: HostRuntime) -> Result<(), Fail> {
     };
     let good = send(alloc, ("p", None, 1))?;
     for (output, program) in [
-        (stamped, "other"),
-        (named, "other"),
+        (stamped, "other form"),
+        (named, "other form"),
         (good, "ports 0; port 0 <: 1"),
     ] {
         let mut statements = List::new(alloc);

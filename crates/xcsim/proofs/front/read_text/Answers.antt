@@ -1,6 +1,7 @@
-use Rattle.std.proofs.Common.{subst, arith}
+use Rattle.std.proofs.Common.{refl, sym, ap, subst, arith}
 use Rattle.xc_tree.specs.Parses.{FirstBroken}
-use Rattle.xcsim.proofs.Firsts.{accepts, first_in_bytes, first_in_tokens, first_of_form}
+use Rattle.xc_tree.specs.Trees.{program_of}
+use Rattle.xcsim.proofs.Firsts.{accepts, first_in_bytes, first_in_names, first_in_tokens, first_in_types, first_of_form, is_program}
 use Rattle.xcsim.proofs.Order.{tokens_few}
 use Rattle.xcsim.proofs.front.read_text.Goals as goal
 
@@ -21,20 +22,3 @@ returns-in-Err-Broken-parse-clause-first c =
     let first = rw c.in-Err-Broken-parse.field-0-is at c.in-Err-Broken-parse.ensures.broken in
     let placed = subst (λ end. FirstBroken c.in-Ok.toks end b) c.end_pos.ensures first in
     rw c.in-Err-Broken-parse.field-0-is (first_in_tokens c.args.text.now c.in-Ok.toks c.in-Ok.ensures.tokens b placed)
-
-pub returns-in-Err-Other-clause-first : goal.returns-in-Err-Other-clause-first
-returns-in-Err-Other-clause-first c =
-    let not = rw c.in-Err-Other.field-0-is at c.in-Err-Other.ensures.of_another_form in
-    first_of_form c.args.text.now c.in-Ok.toks c.in-Ok.ensures.tokens _ c.in-Ok-parse.ensures.tree c.in-Ok-parse.ensures.unbroken not
-
-pub returns-in-Ok-program_of_tree-clause-accepted : goal.returns-in-Ok-program_of_tree-clause-accepted
-returns-in-Ok-program_of_tree-clause-accepted c =
-    accepts c.args.text.now c.in-Ok.toks c.in-Ok.ensures.tokens _ c.in-Ok-parse.ensures.tree c.in-Ok-parse.ensures.unbroken c.in-Ok-parse.ensures.only
-    c.in-Ok-program_of_tree.program c.in-Ok-program_of_tree.ensures.program
-
-pub returns-in-Ok-program_of_tree-clause-few : goal.returns-in-Ok-program_of_tree-clause-few
-returns-in-Ok-program_of_tree-clause-few c =
-    let few = tokens_few c.args.text.now c.in-Ok.toks c.in-Ok.ensures.tokens in
-    let short = c.in-Ok.ensures.tokens.short in
-    let less = c.in-Ok-program_of_tree.ensures.few c.in-Ok.toks c.in-Ok-parse.ensures.tree in
-    omega (arith, few, short, less)
