@@ -3,9 +3,15 @@ use Rattle.std.proofs.Common.{◌≡◌, ◌+◌, ◌⊎◌, inl, inr, ℕ, zero
 use Rattle.xc_tree.specs.declared.names.Mark.{Mark}
 use Rattle.xc_tree.specs.declared.names.Mark.TheVariants.{Opens, Closes, Declares, Uses, Calls}
 use Rattle.xc_tree.specs.Names.Scopes.{Means}
-use Rattle.xc_tree.specs.Names.Uses.{AreUses, Entries, number_of, none, past_begin, past_end, declared, used}
+use Rattle.xc_tree.specs.Names.Marks.{of_program}
+use Rattle.xc_tree.specs.Names.Rules.{Breaks}
+use Rattle.xc_tree.specs.Names.Uses.{AreUses, Entries, declarations, number_of, none, past_begin, past_end, declared, used}
 use Rattle.xc_tree.specs.Plain.{Item}
-use Rattle.xc_tree.specs.Types.Named.{NamedProgram}
+use Rattle.xc_tree.specs.Trees.{program_of}
+use Rattle.xc_tree.specs.declared.names.Named.{Named}
+use Rattle.xc_tree.specs.declared.tree.Tree.{Tree}
+use Rattle.xw_words.specs.declared.pos.Broken.{Broken}
+use Rattle.xc_tree.specs.Types.Named.{NamedProgram, named_of}
 use Rattle.xc_form.proofs.FormPrograms.{named_by}
 use Rattle.xc_names.proofs.Cycles.{one_meaning}
 use Rattle.xcsim.specs.Rules.{IsNamed}
@@ -88,3 +94,7 @@ named_one items a b x y = named_same a b (x.program ∙ sym y.program) (x.decls 
 -- it is known by its uses
 pub named_by_uses : (items : List Item) (n : NamedProgram) → IsNamed items n → n ≡ named_by items n.uses
 named_by_uses items n h = named_same n (named_by items n.uses) h.program h.decls refl
+
+-- what was found of a tree's names
+pub named_tree : (tree : Tree) (n : Named) → n.tree ≡ tree → n.decls ≡ declarations (of_program (program_of tree)) → AreUses (of_program (program_of tree)) n.uses → ((b : Broken) → Breaks (program_of tree) b → ⊥) → IsNamed (program_of tree) (named_of n)
+named_tree tree n same decls uses unbroken = record { unbroken = unbroken; program = ap program_of same; decls = decls; uses = uses }
