@@ -1,13 +1,13 @@
 -- What a tree of the form has of names: those of its ports, `main`, and the port of each output.
-use Rattle.std.proofs.Common.{◌≡◌, ◌<◌, ◌≤◌, ◌+◌, ℕ, zero, suc, List, [], ◌∷◌, ◌++◌, length, map, drop, slice_get, Option, None, Some, refl, sym, ap, subst, ◌∙◌, append-nil, arith}
+use Rattle.std.proofs.Common.{◌≡◌, ◌≤◌, ◌+◌, ℕ, zero, suc, List, [], ◌∷◌, ◌++◌, length, map, slice_get, Option, Some, refl, ap, ◌∙◌, append-nil, arith}
 use Rattle.xc_tree.specs.declared.names.Mark.{Mark}
-use Rattle.xc_tree.specs.declared.names.Mark.TheVariants.{Opens, Closes, Declares, Uses, Calls}
+use Rattle.xc_tree.specs.declared.names.Mark.TheVariants.{Opens, Closes, Uses}
 use Rattle.xc_tree.specs.declared.names.What.TheVariants as what
 use Rattle.xc_tree.specs.declared.tree.Id.{Id}
 use Rattle.xc_tree.specs.Plain as plain
 use Rattle.xc_tree.specs.Names.Marks as marks
 use Rattle.xc_tree.specs.Names.Scopes.{end_of, to_end}
-use Rattle.xc_form.proofs.Formed.{AreFreePorts, AreAllSent, Formed, IsFreePort, Sends, further_sent, none_sent}
+use Rattle.xc_form.proofs.Formed.{AreFreePorts, AreAllSent, Formed, Sends, further_sent, none_sent}
 use Rattle.xc_form.specs.OfTree.{IsMain, IsNumber, IsTime, IsZero, ReturnsZero, at_number, at_once}
 
 abbrev pub port_mark : plain.Port → Mark

@@ -8,16 +8,13 @@ use Rattle.xw_words.specs.declared.pos.Pos.{Pos}
 use Rattle.xw_words.specs.declared.pos.Broken.{Broken}
 use Rattle.xc_meaning.specs.Program.{AreDistinctPorts, IsNew}
 use Rattle.xc_tree.specs.declared.names.Mark.{Mark}
-use Rattle.xc_tree.specs.declared.names.Mark.TheVariants.{Declares}
 use Rattle.xc_tree.specs.declared.names.What.TheVariants as what
-use Rattle.xc_tree.specs.declared.tree.Id.{Id}
 use Rattle.xc_tree.specs.Plain as plain
-use Rattle.xc_tree.specs.Names.Marks as marks
 use Rattle.xc_tree.specs.Names.Ports.{core_at, core_of, identifiers, ports}
 use Rattle.xc_tree.specs.Names.Rules.{Breaks, Breaks302, IsUsedAgain, declared_again, wrong_port}
 use Rattle.xc_tree.specs.Names.Scopes.{DeclaresAt, end_of}
 use Rattle.xc_form.proofs.Formed.{AreFreePorts, Formed, IsFreePort}
-use Rattle.xc_form.specs.OfTree.{AreDeclarations, AreDistinctNames, IsDeclaration, IsNewName, further_declaration, no_declaration}
+use Rattle.xc_form.specs.OfTree.{AreDeclarations, AreDistinctNames, IsNewName, further_declaration, no_declaration}
 use Rattle.xc_form.specs.Words.{place_from, place_in}
 use Rattle.xc_form.proofs.FormMarks.{all_marks, end_at, main_there, of_form, port_there}
 use Rattle.xc_form.proofs.Identifiers.{identifier_within}

@@ -1,5 +1,5 @@
 -- A tree of the form that breaks no rule of names or types is a program.
-use Rattle.std.proofs.Common.{◌≡◌, ◌<◌, ◌≤◌, ◌+◌, ℕ, zero, suc, Bool, true, false, List, [], ◌∷◌, ◌++◌, length, map, slice_get, Option, None, Some, refl, sym, ap, subst, ◌∙◌, append_assoc, append-nil, arith}
+use Rattle.std.proofs.Common.{◌≡◌, ◌+◌, ℕ, zero, suc, Bool, true, false, List, [], ◌∷◌, ◌++◌, map, slice_get, Some, refl, sym, ap, subst, ◌∙◌, append_assoc, arith}
 use Rattle.std.specs.List.{Contains}
 use Rattle.xw_words.specs.declared.pos.Broken.{Broken}
 use Rattle.xc_meaning.specs.declared.program.Output.{Output}
@@ -23,7 +23,7 @@ use Rattle.xc_form.proofs.Formed.{AreFreePorts, AreAllSent, Formed, Sends, forme
 use Rattle.xc_form.specs.Form.{HasForm}
 use Rattle.xc_form.specs.OfTree.{AreOutputs, IsMain, IsOfTree, further_output, no_output}
 use Rattle.xc_form.specs.Words.{place_in}
-use Rattle.xc_form.proofs.FormMarks.{all_marks, main_marks, of_form, of_sent, port_mark, port_marks, sent_marks}
+use Rattle.xc_form.proofs.FormMarks.{all_marks, of_form, of_sent, port_mark, port_marks, sent_marks}
 use Rattle.xc_form.proofs.FormNames.{names_distinct, names_of, placed, ports_of}
 use Rattle.xc_form.proofs.FormUses.{declaration_there, meant_behind, past_append}
 

@@ -1,4 +1,4 @@
-use Rattle.std.proofs.Common.{map, sym, ◌∙◌}
+use Rattle.std.proofs.Common.{sym, ◌∙◌}
 use Rattle.xc_form.proofs.FormChecks.{formless_block, formless_main, its_ports, its_return, its_sent, the_form}
 use Rattle.xc_form.proofs.form.has_form.Goals as goal
 

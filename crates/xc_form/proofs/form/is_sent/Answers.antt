@@ -1,14 +1,4 @@
-use Rattle.std.proofs.Common.{◌≡◌, ℕ, ◌^◌, ◌<◌, Bool, true, false, IsTrue, ◌↔◌, Option, None, Some, IfSome, IfNone}
-use Rattle.std.specs.Option.{is_some}
-use Rattle.xc_tree.specs.Trees.{expression_of}
-use Rattle.xc_tree.specs.declared.tree.Send.{Send}
-use Rattle.xc_tree.specs.declared.tree.St.{Output as Sent}
-use Rattle.xc_tree.specs.declared.tree.Stmt.{Stmt}
-use Rattle.xc_tree.specs.Trees.{statement_of}
-use Rattle.xc_form.specs.Form.{IsSent}
-use Rattle.xc_form.specs.OfTree.{IsNumber}
-use Rattle.xc_form.specs.Steps.{IsOnly}
-use Rattle.xc_form.proofs.FormChecks.{by_value, sent_so, stamped_unsent, timeless_unsent, unsent, worthless_unsent}
+use Rattle.xc_form.proofs.FormChecks.{by_value, stamped_unsent, timeless_unsent, unsent}
 use Rattle.xc_form.proofs.form.is_sent.Goals as goal
 
 pub returns-in_default : goal.returns-in_default
