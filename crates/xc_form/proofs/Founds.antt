@@ -1,7 +1,7 @@
 -- Lists that are found item by item.
 use Rattle.std.proofs.Common.{◌≡◌, ℕ, List, [], ◌++◌, refl, sym, ap, subst, ◌∙◌, append_assoc, append-nil}
-use Rattle.xc_form.specs.declared.text.ReadErr.{ReadErr}
-use Rattle.xc_form.specs.declared.text.ReadErr.TheVariants as err
+use Rattle.xc_form.specs.declared.error.ReadErr.{ReadErr}
+use Rattle.xc_form.specs.declared.error.ReadErr.TheVariants as err
 use Rattle.xc_form.specs.ReadErr.{IfOther}
 use Rattle.xc_form.specs.Steps.{IsOnly, Found}
 

@@ -1,9 +1,17 @@
 mod Tables
-mod Places
-mod Digits
-mod Symbols
 mod Founds
-mod Rows
-mod Ports
-mod Statements
-mod Few
+mod Identifiers
+mod Shapes
+mod Sends
+mod Items
+mod Sentences
+mod Names
+mod Declarations
+mod Counts
+mod Programs
+mod FormChecks
+mod Formed
+mod FormMarks
+mod FormUses
+mod FormNames
+pub mod FormPrograms

@@ -1,12 +1,12 @@
-//! From a text to its program: the bytes are scanned into lexemes, and the lexemes read as declarations of ports and
-//! a `main` that outputs to them.
+//! From a tree to its program: declarations of ports, and a `main` that outputs to them.
 #![tactic(auto)]
 
-mod lexeme;
-mod number;
-mod parse;
-mod scan;
+mod error;
+mod form;
+mod of_tree;
+mod ports;
 mod table;
-mod text;
 
-pub use text::{ReadErr, read};
+pub use error::ReadErr;
+pub use form::has_form;
+pub use of_tree::program_of_tree;

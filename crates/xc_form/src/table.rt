@@ -1,57 +1,8 @@
 ghost use Rattle.std.specs.Prelude.{◌≡◌, ◌<◌, ◌≤◌, ◌^◌, length, Some, None, List};
-ghost use Rattle.xc_form.specs.Words.{place_in, texts, reserved, identifiers};
-ghost use Rattle.xc_form.specs.Words as spec;
+ghost use Rattle.xc_form.specs.Words.{place_in, texts};
+ghost use Rattle.xc_tree.specs.Names.Ports.{identifiers};
 
-use crate::lexeme::Fixed;
 use xw_words::List;
-
-/// The words of the language that are neither names nor words of the form.
-const RESERVED: [&[u8]; 44] = [
-    b"break",
-    b"case",
-    b"chan",
-    b"chanend",
-    b"continue",
-    b"default",
-    b"do",
-    b"else",
-    b"for",
-    b"if",
-    b"in",
-    b"master",
-    b"on",
-    b"par",
-    b"pinseq",
-    b"pinsneq",
-    b"select",
-    b"slave",
-    b"stdcore",
-    b"tile",
-    b"timer",
-    b"timerafter",
-    b"unsigned",
-    b"when",
-    b"while",
-    b"buffered",
-    b"char",
-    b"clock",
-    b"const",
-    b"float",
-    b"goto",
-    b"inline",
-    b"interface",
-    b"long",
-    b"short",
-    b"signed",
-    b"sizeof",
-    b"static",
-    b"streaming",
-    b"struct",
-    b"switch",
-    b"transaction",
-    b"typedef",
-    b"union",
-];
 
 /// The identifiers of ports, in their order.
 const IDENTIFIERS: [&[u8]; 29] = [
@@ -99,16 +50,8 @@ fn place(table: &[&[u8]], spelled: &[u8]) -> Option<u8>
     None
 }
 
-/// The place of a row of bytes among the words of the language that are not of the form.
-#[tactic(auto, unfolding(crate::specs::Words::reserved))]
-pub fn reserved_place(spelled: &[u8]) -> Option<u8>
-    ensures { result ≡ place_in reserved spelled.now }
-{
-    place(&RESERVED, spelled)
-}
-
 /// The place of an identifier of a port among all.
-#[tactic(auto, unfolding(crate::specs::Words::identifiers))]
+#[tactic(auto, unfolding(xc_tree::specs::Names::Ports::identifiers))]
 pub fn identifier_place(spelled: &[u8]) -> Option<u8>
     ensures { result ≡ place_in identifiers spelled.now }
 {
@@ -124,32 +67,6 @@ pub fn name_place(names: &[List<u8>], name: &[u8]) -> Option<u32>
         if other.as_slice() == name {
             return Some(k as u32);
         }
-    }
-    None
-}
-
-/// The word of the form that some letters spell.
-#[tactic(auto, unfolding(crate::specs::Words::keyword_of))]
-pub fn keyword_of(run: &[u8]) -> Option<Fixed>
-    ensures { result ≡ spec.keyword_of run.now }
-{
-    if run == b"int".as_slice() {
-        return Some(Fixed::Int);
-    }
-    if run == b"main".as_slice() {
-        return Some(Fixed::Main);
-    }
-    if run == b"void".as_slice() {
-        return Some(Fixed::Void);
-    }
-    if run == b"return".as_slice() {
-        return Some(Fixed::Return);
-    }
-    if run == b"out".as_slice() {
-        return Some(Fixed::Out);
-    }
-    if run == b"port".as_slice() {
-        return Some(Fixed::Port);
     }
     None
 }

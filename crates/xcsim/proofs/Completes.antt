@@ -4,12 +4,12 @@ use Rattle.std.specs.Prelude.{Option, Some, None}
 use Rattle.xw_io.specs.Outside.{WhereTold, IsFileOf, found, max_file}
 use Rattle.xw_io.specs.declared.file.File.{File}
 use Rattle.xc_meaning.specs.declared.program.Program.{Program}
-use Rattle.xc_form.specs.Form.{IsText}
-use Rattle.xcsim.specs.Answers.{Answers, Decided, no_command, missing, too_long, read_fault, refused, assembled, ran, no_memory, Delivered, whole, out_fell, err_fell, Outcome}
+use Rattle.xw_words.specs.declared.pos.Broken.{Broken}
+use Rattle.xcsim.specs.Answers.{Answers, Decided, no_command, missing, too_long, read_fault, refused, checked, assembled, ran, no_memory, Delivered, whole, out_fell, err_fell, Outcome}
 use Rattle.xcsim.specs.Causes.{AllCauses, Completes, DoneWith, NoFault}
-use Rattle.xcsim.specs.Command.{Command, Run, Asm, file_of, means}
+use Rattle.xcsim.specs.Command.{Command, Run, Asm, Check, file_of, means}
 use Rattle.xcsim.specs.Outside.{Loads, Span, Gained}
-use Rattle.xcsim.specs.Runs.{IsOther}
+use Rattle.xcsim.specs.Rules.{First, IsAccepted}
 
 none_some : {A : Type 0} (o : Option A) (x : A) → o ≡ None → o ≡ Some x → ⊥
 none_some o x p q = absurd (cc)
@@ -40,9 +40,9 @@ module _ (words : List (List ℕ)) (shelf : Loads) (out err : Span) (files : Lis
   no_long : (c d : Command) (text other : List ℕ) → means words ≡ Some c → means words ≡ Some d → IsFileOf shelf.files (file_of c) text → found files (file_of d) ≡ Some other → max_file < length other → ⊥
   no_long c d text other m n h f long = not_both (length other) long (subst (λ t. length t ≤ max_file) (same_text c d text other m n h f) h.short)
 
-  -- a text of the form is absent other
-  no_other : (c d : Command) (text other : List ℕ) → means words ≡ Some c → means words ≡ Some d → IsFileOf shelf.files (file_of c) text → found files (file_of d) ≡ Some other → (P : Program) → IsText text P → IsOther other → ⊥
-  no_other c d text other m n h f P is absent = absent P (subst (λ t. IsText t P) (same_text c d text other m n h f) is)
+  -- a text that is accepted breaks no rule
+  no_other : (c d : Command) (text other : List ℕ) (b : Broken) → means words ≡ Some c → means words ≡ Some d → IsFileOf shelf.files (file_of c) text → found files (file_of d) ≡ Some other → (P : Program) → IsAccepted text P → First other b → ⊥
+  no_other c d text other b m n h f P is first = (subst (λ t. IsAccepted t P) (same_text c d text other m n h f) is).unbroken first.phase b first.breaks
 
   done_at : (c d : Command) (text other : List ℕ) (status : ℕ) → means words ≡ Some c → means words ≡ Some d → IsFileOf shelf.files (file_of c) text → found files (file_of d) ≡ Some other → DoneWith c text out status → DoneWith d other out status
   done_at c d text other status m n h f done =
@@ -50,12 +50,12 @@ module _ (words : List (List ℕ)) (shelf : Loads) (out err : Span) (files : Lis
       (subst (λ t. DoneWith c t out status) (same_text c d text other m n h f) done)
 
   -- what was done of a text
-  all_done : (c : Command) (text : List ℕ) (status : ℕ) (P : Program) → means words ≡ Some c → IsFileOf shelf.files (file_of c) text → IsText text P → DoneWith c text out status → AllCauses words files out status
+  all_done : (c : Command) (text : List ℕ) (status : ℕ) (P : Program) → means words ≡ Some c → IsFileOf shelf.files (file_of c) text → IsAccepted text P → DoneWith c text out status → AllCauses words files out status
   all_done c text status P m h is done = record {
     usage = λ none. absurd (none_some (means words) c none m);
     missing = λ d n f. absurd (no_file c d text m n h f);
     too_long = λ d other n f long. absurd (no_long c d text other m n h f long);
-    refused = λ d other n f short absent. absurd (no_other c d text other m n h f P is absent);
+    refused = λ d other b n f short first. absurd (no_other c d text other b m n h f P is first);
     done = λ d other Q n f short isQ. done_at c d text other status m n h f done;
   }
 
@@ -64,7 +64,7 @@ module _ (words : List (List ℕ)) (shelf : Loads) (out err : Span) (files : Lis
     usage = λ n. refl;
     missing = λ d n f. absurd (none_some (means words) d none n);
     too_long = λ d other n f long. absurd (none_some (means words) d none n);
-    refused = λ d other n f short absent. absurd (none_some (means words) d none n);
+    refused = λ d other b n f short first. absurd (none_some (means words) d none n);
     done = λ d other Q n f short is. absurd (none_some (means words) d none n);
   })
   by_decided o (missing c m rose gone) g =
@@ -74,7 +74,7 @@ module _ (words : List (List ℕ)) (shelf : Loads) (out err : Span) (files : Lis
         usage = λ none. absurd (none_some (means words) c none m);
         missing = λ d n f. refl;
         too_long = λ d other n f long. absurd (absent d other n f);
-        refused = λ d other n f short other_is. absurd (absent d other n f);
+        refused = λ d other b n f short first. absurd (absent d other n f);
         done = λ d other Q n f short is. absurd (absent d other n f);
       })
   by_decided o (too_long c m rose long) g =
@@ -85,17 +85,19 @@ module _ (words : List (List ℕ)) (shelf : Loads) (out err : Span) (files : Lis
         usage = λ none. absurd (none_some (means words) c none m);
         missing = λ d n f. absurd (none_some (found files (file_of d)) there.0 f (at_d d n));
         too_long = λ d other n f is. refl;
-        refused = λ d other n f short other_is. absurd (absent d other n f short);
+        refused = λ d other b n f short first. absurd (absent d other n f short);
         done = λ d other Q n f short is. absurd (absent d other n f short);
       })
   by_decided o (read_fault c m rose) g = absurd (kept.shelf_kept rose)
-  by_decided o (refused c text m h other) g = inr (record {
+  by_decided o (refused c text b m h first) g = inr (record {
     usage = λ none. absurd (none_some (means words) c none m);
     missing = λ d n f. absurd (no_file c d text m n h f);
     too_long = λ d t n f long. absurd (no_long c d text t m n h f long);
-    refused = λ d t n f short absent. refl;
-    done = λ d t Q n f short is. absurd (other Q (subst (λ x. IsText x Q) (sym (same_text c d text t m n h f)) is));
+    refused = λ d t k n f short others. refl;
+    done = λ d t Q n f short is. absurd ((subst (λ x. IsAccepted x Q) (sym (same_text c d text t m n h f)) is).unbroken first.phase b first.breaks);
   })
+  by_decided o (checked file text P m h accepted) g =
+      inr (all_done (Check file) text 0 P m h accepted (record { status_is = refl; output = g }))
   by_decided o (assembled file text L m h compiled) g =
       inr (all_done (Asm file) text 0 compiled.program m h compiled.means_so (record { L = L; compiled = compiled; status_is = refl; output = g }))
   by_decided o (ran file text L lines word trapped m h compiled lockstep) g =

@@ -2,14 +2,17 @@
 use Rattle.std.proofs.Common.{◌≡◌, ℕ, Bool, List, ap, ◌∙◌, sym, subst}
 use Rattle.std.specs.Prelude.{Some}
 use Rattle.xw_io.specs.Outside.{Rose, IsFileOf, IsMissing, IsTooLong}
+use Rattle.xw_words.specs.declared.pos.Broken.{Broken}
 use Rattle.xs_instr.specs.declared.image.Image.{Image}
 use Rattle.xs_instr.specs.declared.trace.EndWord.{EndWord}
 use Rattle.xs_instr.specs.declared.trace.Record.{Record}
-use Rattle.xcsim.specs.Answers.{Decided, missing, too_long, read_fault, refused, assembled, ran, says, prints, status_of_run}
-use Rattle.xcsim.specs.Command.{Command, Run, Asm, file_of, means}
-use Rattle.xcsim.specs.Lines.{broken_line, code_section, no_file_line, read_fault_line, run_output, too_long_line}
+use Rattle.xc_meaning.specs.declared.program.Program.{Program}
+use Rattle.xcsim.specs.Answers.{Decided, missing, too_long, read_fault, refused, checked, assembled, ran, says, prints, status_of_run}
+use Rattle.xcsim.specs.Command.{Command, Run, Asm, Check, file_of, means}
+use Rattle.xcsim.specs.Lines.{accepted_line, broken_line, code_section, no_file_line, read_fault_line, run_output, too_long_line}
 use Rattle.xcsim.specs.Outside.{Loads}
-use Rattle.xcsim.specs.Runs.{IsCompiled, IsLockstep, IsOther, not_built}
+use Rattle.xcsim.specs.Rules.{First, IsAccepted}
+use Rattle.xcsim.specs.Runs.{IsCompiled, IsLockstep}
 
 module _ (words : List (List ℕ)) (shelf : Loads) (c : Command) (meant : means words ≡ Some c) (name : List ℕ) (is : name ≡ file_of c) where
   pub missing_at : Rose shelf.misses shelf.misses' → IsMissing shelf.files name → Decided words shelf (says 6 (no_file_line name))
@@ -24,8 +27,11 @@ module _ (words : List (List ℕ)) (shelf : Loads) (c : Command) (meant : means 
   file_at : (text : List ℕ) → IsFileOf shelf.files name text → IsFileOf shelf.files (file_of c) text
   file_at text h = subst (λ n. IsFileOf shelf.files n text) is h
 
-  pub refused_at : (text : List ℕ) → IsFileOf shelf.files name text → IsOther text → Decided words shelf (says 1 (broken_line name not_built))
-  refused_at text h other = subst (λ n. Decided words shelf (says 1 (broken_line n not_built))) (sym is) (refused c text meant (file_at text h) other)
+  pub refused_at : (text : List ℕ) (b : Broken) → IsFileOf shelf.files name text → First text b → Decided words shelf (says 1 (broken_line name b))
+  refused_at text b h first = subst (λ n. Decided words shelf (says 1 (broken_line n b))) (sym is) (refused c text b meant (file_at text h) first)
+
+  pub checked_at : (file text : List ℕ) (P : Program) → c ≡ Check file → IsFileOf shelf.files name text → IsAccepted text P → Decided words shelf (prints 0 accepted_line)
+  checked_at file text P e h accepted = checked file text P (meant ∙ ap (λ d. Some d) e) (subst (λ n. IsFileOf shelf.files n text) (is ∙ ap file_of e) h) accepted
 
   pub assembled_at : (file text : List ℕ) (L : Image) → c ≡ Asm file → IsFileOf shelf.files name text → IsCompiled text L → Decided words shelf (prints 0 (code_section L))
   assembled_at file text L e h compiled = assembled file text L (meant ∙ ap (λ d. Some d) e) (subst (λ n. IsFileOf shelf.files n text) (is ∙ ap file_of e) h) compiled

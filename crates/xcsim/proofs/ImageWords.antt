@@ -1,8 +1,7 @@
 -- The numbers of a compiled image are words.
-use Rattle.std.proofs.Common.{◌≡◌, ◌+◌, ◌*◌, ◌^◌, ◌<◌, ℕ, List, [], ◌∷◌, ◌++◌, map, refl, sym, ap, subst, arith}
+use Rattle.std.proofs.Common.{◌^◌, ◌<◌, ℕ, List, [], ◌∷◌, ◌++◌, map, sym, subst, arith}
 use Rattle.std.specs.Prelude.{Option, Some, None}
 use Rattle.xw_words.specs.declared.pos.Pos.{Pos}
-use Rattle.xs_instr.specs.declared.image.CoreImage.{CoreImage}
 use Rattle.xs_instr.specs.declared.image.Image.{Image}
 use Rattle.xs_instr.specs.declared.instr.Instr.{Instr}
 use Rattle.xs_instr.specs.declared.instr.Instr.TheVariants.{Ldc, Out}
@@ -11,10 +10,10 @@ use Rattle.xc_meaning.specs.declared.program.Output.{Output}
 use Rattle.xc_meaning.specs.declared.program.Program.{Program}
 use Rattle.xc_meaning.specs.Program.{AreDeclared, IsWellFormed, port_count}
 use Rattle.xc_meaning.specs.World.{items_of}
-use Rattle.xr_match.specs.Code.{IsCodeOf, first_place, items_code, items_places, output_code, output_places, port_name, time_code}
+use Rattle.xr_match.specs.Code.{IsCodeOf, first_place, items_code, items_places, port_name, time_code}
 use Rattle.xr_match.proofs.Ports.{declared_below, few_ports}
 use Rattle.xr_text.specs.Ranges.{AreWordCores, AreWordInstrs, AreWordPlaces, HasWords}
-use Rattle.xcsim.proofs.TextWords.{AreWordOutputs, IsWordPlace, IsWordTime}
+use Rattle.xc_form.specs.Ranges.{AreWordOutputs, IsWordPlace, IsWordTime}
 
 output_instrs : (n v : ℕ) (time : Option ℕ) (rest : List Instr) → n < 2 ^ 32 → v < 2 ^ 32 → IsWordTime time → AreWordInstrs rest → AreWordInstrs ((Ldc R1 n ∷ time_code time ++ Ldc R0 v ∷ Out R1 R0 ∷ []) ++ rest)
 output_instrs n v None rest a b t h = (a, (b, (tt, h)))

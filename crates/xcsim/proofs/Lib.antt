@@ -1,8 +1,10 @@
 mod BuiltImage
 mod Completes
 mod Decides
+mod Firsts
 mod Given
 mod ImageWords
+mod Meanings
 mod OnlyCauses
+mod Order
 mod Rounds
-mod TextWords

@@ -2,7 +2,7 @@
 use Rattle.std.proofs.Common.{◌≡◌, ◌⊎◌, ◌≤◌, ℕ, Bool, true, false, List, refl, inl, inr, arith}
 use Rattle.xs_instr.specs.declared.trace.EndWord.{EndWord}
 use Rattle.xs_instr.specs.declared.trace.EndWord.TheVariants.{Finished, Trapped, Stuck, Stopped}
-use Rattle.xcsim.specs.Answers.{Answers, Decided, no_command, missing, too_long, read_fault, refused, assembled, ran, no_memory, Delivered, whole, out_fell, err_fell, Outcome, status_of_run}
+use Rattle.xcsim.specs.Answers.{Answers, Decided, no_command, missing, too_long, read_fault, refused, checked, assembled, ran, no_memory, Delivered, whole, out_fell, err_fell, Outcome, status_of_run}
 use Rattle.xcsim.specs.Causes.{OnlyCauses}
 use Rattle.xcsim.specs.Outside.{Loads, Span, Gained}
 use Rattle.xw_io.specs.Outside.{Rose}
@@ -79,8 +79,8 @@ module _ (words : List (List ℕ)) (shelf : Loads) (out err : Span) where
     write_fault = λ e. absurd (omega (arith, e));
     no_memory = λ e. g;
   }
-  by_decided o (refused c text m told other) g = record {
-    refused = λ e. (c, m, (text, told, other));
+  by_decided o (refused c text b m told first) g = record {
+    refused = λ e. (c, m, (text, told, (b, first)));
     usage = λ e. absurd (omega (arith, e));
     missing = λ e. absurd (omega (arith, e));
     too_long = λ e. absurd (omega (arith, e));
@@ -88,6 +88,7 @@ module _ (words : List (List ℕ)) (shelf : Loads) (out err : Span) where
     write_fault = λ e. absurd (omega (arith, e));
     no_memory = λ e. g;
   }
+  by_decided o (checked file text P m told accepted) g = printed 0 (omega arith, inl refl)
   by_decided o (assembled file text L m told compiled) g = printed 0 (omega arith, inl refl)
   by_decided o (ran file text L lines word trapped m told compiled lockstep) g = printed (status_of_run trapped word) (run_status trapped word)
   by_decided o no_memory g = record {

@@ -1,14 +1,17 @@
 -- What the program answers: what is decided, and how it is delivered.
 use Rattle.std.specs.Prelude.{◌≡◌, ◌≢◌, ℕ, Bool, true, false, List, [], Some, None}
 use Rattle.xw_io.specs.Outside.{Rose, IsFileOf, IsMissing, IsTooLong}
+use Rattle.xw_words.specs.declared.pos.Broken.{Broken}
 use Rattle.xs_instr.specs.declared.image.Image.{Image}
 use Rattle.xs_instr.specs.declared.trace.EndWord.{EndWord}
 use Rattle.xs_instr.specs.declared.trace.EndWord.TheVariants.{Finished, Trapped, Stuck, Stopped}
 use Rattle.xs_instr.specs.declared.trace.Record.{Record}
-use Rattle.xcsim.specs.Command.{Run, Asm, Command, file_of, means}
-use Rattle.xcsim.specs.Lines.{code_section, run_output, usage_line, no_file_line, too_long_line, read_fault_line, broken_line, no_memory_line}
+use Rattle.xc_meaning.specs.declared.program.Program.{Program}
+use Rattle.xcsim.specs.Command.{Run, Asm, Check, Command, file_of, means}
+use Rattle.xcsim.specs.Lines.{accepted_line, code_section, run_output, usage_line, no_file_line, too_long_line, read_fault_line, broken_line, no_memory_line}
 use Rattle.xcsim.specs.Outside.{Loads, Span, Gained, GainedFront}
-use Rattle.xcsim.specs.Runs.{IsCompiled, IsLockstep, IsOther, not_built}
+use Rattle.xcsim.specs.Rules.{First, IsAccepted}
+use Rattle.xcsim.specs.Runs.{IsCompiled, IsLockstep}
 
 -- what is decided: the status, what is due on `out`, and the line that is due on `err`
 pub record Outcome : Type 0 where
@@ -48,9 +51,12 @@ pub data Decided (words : List (List ℕ)) (shelf : Loads) : Outcome → Type 0 
   read_fault : (c : Command) → means words ≡ Some c →
       Rose shelf.faults shelf.faults' →
       Decided words shelf (says 8 (read_fault_line (file_of c)))
-  refused : (c : Command) (text : List ℕ) → means words ≡ Some c →
-      IsFileOf shelf.files (file_of c) text → IsOther text →
-      Decided words shelf (says 1 (broken_line (file_of c) not_built))
+  refused : (c : Command) (text : List ℕ) (b : Broken) → means words ≡ Some c →
+      IsFileOf shelf.files (file_of c) text → First text b →
+      Decided words shelf (says 1 (broken_line (file_of c) b))
+  checked : (file text : List ℕ) (P : Program) → means words ≡ Some (Check file) →
+      IsFileOf shelf.files file text → IsAccepted text P →
+      Decided words shelf (prints 0 accepted_line)
   assembled : (file text : List ℕ) (L : Image) → means words ≡ Some (Asm file) →
       IsFileOf shelf.files file text → IsCompiled text L →
       Decided words shelf (prints 0 (code_section L))

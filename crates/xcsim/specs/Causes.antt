@@ -2,16 +2,17 @@
 use Rattle.std.specs.Prelude.{◌≡◌, ◌⊎◌, ◌<◌, ◌≤◌, ℕ, Bool, List, [], length, Some, None}
 use Rattle.xw_io.specs.Outside.{Rose, IsFileOf, IsMissing, IsTooLong, found, max_file}
 use Rattle.xw_io.specs.declared.file.File.{File}
+use Rattle.xw_words.specs.declared.pos.Broken.{Broken}
 use Rattle.xs_instr.specs.declared.image.Image.{Image}
 use Rattle.xs_instr.specs.declared.trace.EndWord.{EndWord}
 use Rattle.xs_instr.specs.declared.trace.Record.{Record}
 use Rattle.xc_meaning.specs.declared.program.Program.{Program}
-use Rattle.xc_form.specs.Form.{IsText}
 use Rattle.xcsim.specs.Answers.{status_of_run}
-use Rattle.xcsim.specs.Command.{Run, Asm, Command, file_of, means}
-use Rattle.xcsim.specs.Lines.{code_section, run_output}
+use Rattle.xcsim.specs.Command.{Run, Asm, Check, Command, file_of, means}
+use Rattle.xcsim.specs.Lines.{accepted_line, code_section, run_output}
 use Rattle.xcsim.specs.Outside.{Loads, Span, Gained}
-use Rattle.xcsim.specs.Runs.{IsCompiled, IsLockstep, IsOther}
+use Rattle.xcsim.specs.Rules.{First, IsAccepted}
+use Rattle.xcsim.specs.Runs.{IsCompiled, IsLockstep}
 
 -- the words mean a command about a file, of which this is so
 abbrev pub OfFile : List (List ℕ) → (List ℕ → Type 0) → Type 0
@@ -19,7 +20,7 @@ OfFile words P = (c : Command) × (means words ≡ Some c) × P (file_of c)
 
 -- Each status comes only with its cause.
 pub record OnlyCauses (words : List (List ℕ)) (shelf : Loads) (out err : Span) (status : ℕ) : Type 0 where
-  pub refused : status ≡ 1 → OfFile words (λ file. (text : List ℕ) × IsFileOf shelf.files file text × IsOther text)
+  pub refused : status ≡ 1 → OfFile words (λ file. (text : List ℕ) × IsFileOf shelf.files file text × ((b : Broken) × First text b))
   pub usage : status ≡ 2 → means words ≡ None
   pub missing : status ≡ 6 → Rose shelf.misses shelf.misses' × OfFile words (IsMissing shelf.files)
   pub too_long : status ≡ 7 → Rose shelf.longs shelf.longs' × OfFile words (IsTooLong shelf.files)
@@ -51,19 +52,25 @@ pub record Assembled (text : List ℕ) (out : Span) (status : ℕ) : Type 0 wher
   pub status_is : status ≡ 0
   pub output : Gained out (code_section L)
 
--- what a command makes of a text of the built form
+-- the word that the text is accepted
+pub record Checked (out : Span) (status : ℕ) : Type 0 where
+  pub status_is : status ≡ 0
+  pub output : Gained out accepted_line
+
+-- what a command makes of an accepted text
 abbrev pub DoneWith : Command → List ℕ → Span → ℕ → Type 0
 DoneWith (Run file) text out status = Ran text out status
 DoneWith (Asm file) text out status = Assembled text out status
+DoneWith (Check file) text out status = Checked out status
 
 -- Where nothing fails and memory isn't wanting, each cause has its status. The shelf tells its files.
 pub record AllCauses (words : List (List ℕ)) (files : List File) (out : Span) (status : ℕ) : Type 0 where
   pub usage : means words ≡ None → status ≡ 2
   pub missing : (c : Command) → means words ≡ Some c → found files (file_of c) ≡ None → status ≡ 6
   pub too_long : (c : Command) (text : List ℕ) → means words ≡ Some c → found files (file_of c) ≡ Some text → max_file < length text → status ≡ 7
-  pub refused : (c : Command) (text : List ℕ) → means words ≡ Some c → found files (file_of c) ≡ Some text → length text ≤ max_file → IsOther text → status ≡ 1
+  pub refused : (c : Command) (text : List ℕ) (b : Broken) → means words ≡ Some c → found files (file_of c) ≡ Some text → length text ≤ max_file → First text b → status ≡ 1
   pub done : (c : Command) (text : List ℕ) (P : Program) → means words ≡ Some c → found files (file_of c) ≡ Some text → length text ≤ max_file →
-      IsText text P → DoneWith c text out status
+      IsAccepted text P → DoneWith c text out status
 
 -- Where the shelf tells its files and no fault is counted, memory is wanting or all is done.
 abbrev pub Completes : List (List ℕ) → Loads → Span → Span → ℕ → Type 0

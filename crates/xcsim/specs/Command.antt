@@ -7,6 +7,8 @@ pub data Command : Type 0 where
   Run : (file : List ℕ) → Command
   -- compile a file, and write its listing
   Asm : (file : List ℕ) → Command
+  -- say whether a file is accepted
+  Check : (file : List ℕ) → Command
 
 -- the word begins with two dashes
 abbrev pub is_option : List ℕ → Bool
@@ -21,7 +23,10 @@ is_operand (a ∷ rest) = not (is_option (a ∷ rest))
 -- `means`, by the first word
 abbrev pub command_on : List ℕ → List ℕ → Option Command
 command_on word file =
-    if bytes_eq word (codes "run") then Some (Run file) else if bytes_eq word (codes "asm") then Some (Asm file) else None
+    if bytes_eq word (codes "run") then Some (Run file)
+    else (if bytes_eq word (codes "asm") then Some (Asm file)
+    else (if bytes_eq word (codes "check") then Some (Check file)
+    else None))
 
 -- a command and its one operand; all other words mean nothing
 abbrev pub means : List (List ℕ) → Option Command
@@ -32,3 +37,4 @@ means other = None
 abbrev pub file_of : Command → List ℕ
 file_of (Run file) = file
 file_of (Asm file) = file
+file_of (Check file) = file

@@ -4,29 +4,32 @@ use Rattle.xs_instr.specs.Valid.{Valid}
 use Rattle.xs_fabric.specs.Seen.{state_of}
 use Rattle.xcsim.specs.declared.decide.Decision.{Decision}
 use Rattle.xcsim.specs.declared.decide.Printed.{Printed}
-use Rattle.xcsim.specs.declared.decide.Printed.TheVariants.{Nothing, Code, Whole}
+use Rattle.xcsim.specs.declared.decide.Printed.TheVariants.{Nothing, Accepted, Code, Whole}
 use Rattle.xcsim.specs.declared.decide.Line.{Line}
 use Rattle.xcsim.specs.declared.decide.Line.TheVariants.{Nothing as NoLine, Usage, NoFile, TooLong, ReadFault, Broken as BrokenLine, NoMemory}
 use Rattle.xcsim.specs.declared.words.Command.{Command}
-use Rattle.xcsim.specs.declared.words.Command.TheVariants.{Run, Asm}
-use Rattle.xcsim.specs.Command.{Command as Meant, Run as MeansRun, Asm as MeansAsm}
-use Rattle.xcsim.specs.Lines.{code_section, run_output, usage_line, no_file_line, too_long_line, read_fault_line, broken_line, no_memory_line}
+use Rattle.xcsim.specs.declared.words.Command.TheVariants.{Run, Asm, Check}
+use Rattle.xcsim.specs.Command.{Command as Meant, Run as MeansRun, Asm as MeansAsm, Check as MeansCheck}
+use Rattle.xcsim.specs.Lines.{accepted_line, code_section, run_output, usage_line, no_file_line, too_long_line, read_fault_line, broken_line, no_memory_line}
 use Rattle.xcsim.specs.Answers.{Outcome}
 
 -- the meaning of a command
 abbrev pub command_of : Command → Meant
 command_of (Run file) = MeansRun file.now
 command_of (Asm file) = MeansAsm file.now
+command_of (Check file) = MeansCheck file.now
 
 -- what is due on `out`
 abbrev pub printed_text : Printed → List ℕ
 printed_text Nothing = []
+printed_text Accepted = accepted_line
 printed_text (Code L) = code_section L
 printed_text (Whole L run) = run_output L (state_of run.machine).trace run.end
 
 -- what is due can be written
 abbrev pub IsPrintable : Printed → Type 0
 IsPrintable Nothing = Unit {0}
+IsPrintable Accepted = Unit {0}
 IsPrintable (Code L) = Valid L
 IsPrintable (Whole L run) = Valid L
 

@@ -1,5 +1,7 @@
 pub mod Command
 pub mod Lines
+pub mod Rules
+pub mod Refusals
 pub mod Runs
 pub mod Outside
 pub mod Answers

@@ -15,6 +15,9 @@ unfoldable pub run_output : Image → List Record → EndWord → List ℕ
 run_output L lines word =
     codes "code\n" ++ image_text L ++ codes "trace\n" ++ all_texts record_line lines ++ codes "end " ++ end_text word ++ codes "\n"
 
+abbrev pub accepted_line : List ℕ
+accepted_line = codes "accepted\n"
+
 abbrev pub usage_line : List ℕ
 usage_line = codes "usage: xcsim check FILE | asm FILE | run FILE [STIM] [--ticks N] [--workers W] | debug FILE STIM SCRIPT | make N | bench N\n"
 

@@ -1,6 +1,5 @@
 -- What a text compiles to, and the run that is written.
 use Rattle.std.specs.Prelude.{◌≡◌, ℕ, Bool, List, []}
-use Rattle.xw_words.specs.declared.pos.Broken.{Broken}
 use Rattle.xs_instr.specs.declared.image.Image.{Image}
 use Rattle.xs_instr.specs.declared.image.Stim.{Stim}
 use Rattle.xs_instr.specs.declared.trace.EndWord.{EndWord}
@@ -10,26 +9,18 @@ use Rattle.xs_instr.specs.Valid.{Valid}
 use Rattle.xs_fabric.specs.EndWord.{end_of, has_trap}
 use Rattle.xs_fabric.specs.Lockstep.{lockstep}
 use Rattle.xc_meaning.specs.declared.program.Program.{Program}
-use Rattle.xc_form.specs.Form.{IsText}
 use Rattle.xr_match.specs.Implements.{Implements}
 use Rattle.xr_text.specs.Ranges.{HasWords}
+use Rattle.xcsim.specs.Rules.{IsAccepted}
 
 -- a valid image that implements the program that the text means. Its numbers are words, so no other such image has its
 -- listing
 pub record IsCompiled (text : List ℕ) (L : Image) : Type 0 where
   pub program : Program
-  pub means_so : IsText text program
+  pub means_so : IsAccepted text program
   pub valid : Valid L
   pub words : HasWords L
   pub implements : Implements L program
-
--- the text isn't of the built form
-abbrev pub IsOther : List ℕ → Type 0
-IsOther text = (P : Program) → IsText text P → ⊥
-
--- where a text isn't of the built form, rule 299 is broken at its first byte
-abbrev pub not_built : Broken
-not_built = record { rule = 299; pos = record { line = 1; col = 1 } }
 
 -- pins that are never driven
 abbrev pub no_stim : Stim

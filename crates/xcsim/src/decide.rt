@@ -1,29 +1,31 @@
 // What is answered, before anything is written.
 
-ghost use Rattle.std.specs.Prelude.{◌≡◌, ◌≤◌, map, string_bytes};
+ghost use Rattle.std.specs.Prelude.{◌≡◌, ◌≤◌, ◌<◌, ◌^◌, length, map, string_bytes, IfOk};
+ghost use Rattle.xs_instr.specs.Valid.{Valid};
+ghost use Rattle.xs_fabric.specs.Seen.{state_of};
+ghost use Rattle.xc_meaning.specs.Program.{IsWellFormed};
+ghost use Rattle.xr_match.specs.Code.{IsCodeOf};
+ghost use Rattle.xr_match.specs.Implements.{Implements};
 ghost use Rattle.xcsim.specs.Answers.{Decided, status_of_run};
 ghost use Rattle.xcsim.specs.Decision.{outcome_of, IsPrintable};
 ghost use Rattle.xcsim.specs.Outside.{loads};
+ghost use Rattle.xcsim.specs.Runs.{IsLockstep};
 
+use crate::front::{Refusal, read_text};
 use crate::run::{Run, run_lockstep};
 use crate::words::{Command, meaning};
 use std::alloc::Global;
-use xc_form::{ReadErr, read};
+use xc_meaning::Program;
 use xr_match::compile;
 use xs_instr::{EndWord, Image};
 use xw_io::{LoadErr, Shelf};
-use xw_words::{Broken, Memory, Pos};
-
-/// The text isn't of the form that is built.
-const NOT_BUILT: Broken = Broken {
-    rule: 299,
-    pos: Pos { line: 1, col: 1 },
-};
+use xw_words::{Broken, Memory};
 
 /// What is due on `out`.
 #[derive(Drop)]
 pub enum Printed {
     Nothing,
+    Accepted,
     Code(Image),
     Whole(Image, Run),
 }
@@ -67,25 +69,39 @@ pub fn decide<'w, S: Shelf>(alloc: Global, words: &'w [String], shelf: &mut S) -
         Err(LoadErr::Failed) => return saying(8, Line::ReadFault(file)),
         Err(LoadErr::Memory) => return saying(12, Line::NoMemory),
     };
-    let program = match read(alloc, text.as_slice()) {
+    let program = match read_text(alloc, text.as_slice()) {
         Ok(program) => program,
-        Err(ReadErr::Other) => return saying(1, Line::Broken(file, NOT_BUILT)),
-        Err(ReadErr::Memory) => return saying(12, Line::NoMemory),
-    };
-    let image = match compile(alloc, &program) {
-        Ok(image) => image,
-        Err(Memory) => return saying(12, Line::NoMemory),
+        Err(Refusal::Broken(broken)) => return saying(1, Line::Broken(file, broken)),
+        Err(Refusal::Memory) => return saying(12, Line::NoMemory),
     };
     match command {
-        Command::Asm(_) => printing(0, Printed::Code(image)),
-        Command::Run(_) => match run_lockstep(alloc, &image) {
-            Ok(run) => {
+        Command::Check(_) => printing(0, Printed::Accepted),
+        Command::Asm(_) => match compile(alloc, &program) {
+            Ok(image) => printing(0, Printed::Code(image)),
+            Err(Memory) => saying(12, Line::NoMemory),
+        },
+        Command::Run(_) => match compile_and_run(alloc, &program) {
+            Ok((image, run)) => {
                 let status = status(run.trapped, run.end);
                 printing(status, Printed::Whole(image, run))
             }
             Err(Memory) => saying(12, Line::NoMemory),
         },
     }
+}
+
+/// The image of a program, and its run.
+fn compile_and_run(alloc: Global, program: &Program) -> Result<(Image, Run), Memory>
+    requires well_formed { IsWellFormed program.now }
+    requires few { length program.now.outputs < 2 ^ 28 }
+    ensures implements { IfOk result (λ r. Implements r.0 program.now) }
+    ensures valid { IfOk result (λ r. Valid r.0) }
+    ensures code { IfOk result (λ r. IsCodeOf program.now r.0) }
+    ensures lockstep { IfOk result (λ r. IsLockstep r.0 (state_of r.1.machine).trace r.1.end r.1.trapped) }
+{
+    let image = compile(alloc, program)?;
+    let run = run_lockstep(alloc, &image)?;
+    Ok((image, run))
 }
 
 /// A status with a line and no output.

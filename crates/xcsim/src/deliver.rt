@@ -54,6 +54,7 @@ fn add_printed<O: Sink>(out: &mut Out<'_, O>, printed: &Printed)
 {
     match printed {
         Printed::Nothing => {}
+        Printed::Accepted => out.add(b"accepted\n"),
         Printed::Code(image) => {
             out.add(b"code\n");
             add_image(out, image);

@@ -3,6 +3,7 @@
 
 mod decide;
 mod deliver;
+mod front;
 mod run;
 mod still;
 mod top;

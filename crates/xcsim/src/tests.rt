@@ -4,13 +4,13 @@ ghost use Rattle.std.specs.Prelude.{◌≤◌, length, IfOk};
 ghost use Rattle.xs_core.specs.Built.{IsBuilt};
 ghost use Rattle.xs_instr.specs.Valid.{Valid};
 
+use crate::front::read_text;
 use crate::top::xcsim;
 use std::alloc::{AllocError, Global};
 use std::process::Abort;
 use std::sync::Wait;
 use std::test::Fail;
 use std::thread::Threads;
-use xc_form::read;
 use xr_match::compile;
 use xs_fabric::{Event, Machine};
 use xs_instr::{EndWord, Image, Record, Stim};
@@ -26,6 +26,10 @@ const PULSE: &str = "out port p = XS1_PORT_1A;\nint main(void) { p @ 100 <: 1; r
 
 const PULSE_CODE: &str =
     "code\n.core 0\n.words 0\n.timers 0\n.ends 0\n.port 1A out\n.root 0\n0: LDC r1, 0 @2:18\n1: LDC r0, 100 @2:18\n2: SETPT r1, r0 @2:18\n3: LDC r0, 1 @2:18\n4: OUT r1, r0 @2:18\n5: FREET @2:18\n";
+
+/// A text of the language that isn't of the built form.
+const TWO_BRANCHES: &str =
+    "out port p = XS1_PORT_8A;\nint main(void) { chan c; int x; par { c <: 7; c :> x; } p @ 30000 <: x; return 0; }\n";
 
 /// A call, with the file `a.xc`, and what is expected of it.
 #[derive(Clone, Copy)]
@@ -160,10 +164,82 @@ fn runs_programs(rt: HostRuntime) -> Result<(), Fail> {
             "code\n.core 0\n.words 0\n.timers 0\n.ends 0\n.port 1A out\n.port 8B out\n.root 0\n0: LDC r1, 256 @2:18\n1: LDC r0, 300 @2:18\n2: OUT r1, r0 @2:18\n3: FREET @2:18\ntrace\nout 0 8B @3 44\nend finished\n",
             "",
         ),
-        run("int main() { return 0; }", 1, "", "a.xc:1:1: rule 299\n"),
+        run(
+            "#include <xs1.h>\n#define HIGH 1\n/* a pulse */\nout port p = XS1_PORT_1A; // one bit\nint main() { p @ 0x64 <: HIGH; return 0; }\n",
+            0,
+            "code\n.core 0\n.words 0\n.timers 0\n.ends 0\n.port 1A out\n.root 0\n0: LDC r1, 0 @5:14\n1: LDC r0, 100 @5:14\n2: SETPT r1, r0 @5:14\n3: LDC r0, 1 @5:14\n4: OUT r1, r0 @5:14\n5: FREET @5:14\ntrace\nout 0 1A @100 1\nend finished\n",
+            "",
+        ),
     ];
     for row in &rows {
         check_row(&rt, rt.alloc(), row)?;
+    }
+    Ok(())
+}
+
+#[test]
+fn accepts_texts(rt: HostRuntime) -> Result<(), Fail> {
+    let accepted = Row {
+        words: ["check", "a.xc", "", ""],
+        text: PULSE,
+        load_fails: false,
+        status: 0,
+        out: "accepted\n",
+        err: "",
+    };
+    check_row(&rt, rt.alloc(), &accepted)
+}
+
+/// The first broken rule of texts.
+#[test]
+fn refuses_texts(rt: HostRuntime) -> Result<(), Fail> {
+    let rows = [
+        ("int main(void) {\n  if (1\n$\n", "a.xc:3:1: rule 101\n"),
+        ("int main(void) {\n  if (1\n", "a.xc:3:1: rule 201\n"),
+        (
+            "int main(void) { return 4294967296; }",
+            "a.xc:1:25: rule 102\n",
+        ),
+        ("int main(void) { return 0; } /* x", "a.xc:1:30: rule 103\n"),
+        (
+            "#if 1\nint main(void) { return 0; }",
+            "a.xc:1:1: rule 104\n",
+        ),
+        ("int main(void) { return 09; }", "a.xc:1:25: rule 106\n"),
+        ("int main(void) { x = ; }", "a.xc:1:22: rule 201\n"),
+        (TWO_BRANCHES, "a.xc:1:1: rule 299\n"),
+        (
+            "int main(void) { y = 1; return 0; }",
+            "a.xc:1:1: rule 299\n",
+        ),
+        ("void f() { }", "a.xc:1:1: rule 299\n"),
+        (
+            "int main(void) { p <: 1; return 0; }",
+            "a.xc:1:18: rule 301\n",
+        ),
+        (
+            "out port p = XS1_PORT_1A;\nout port p = XS1_PORT_1B;\nint main(void) { return 0; }",
+            "a.xc:2:10: rule 302\n",
+        ),
+        (
+            "out port main = XS1_PORT_1A;\nint main(void) { return 0; }",
+            "a.xc:2:5: rule 302\n",
+        ),
+        (
+            "out port p = XS1_PORT_1Q;\nint main(void) { p @ 100 <: 1; return 0; }\n",
+            "a.xc:1:14: rule 303\n",
+        ),
+        (
+            "out port p = XS1_PORT_1A;\nout port q = XS1_PORT_1A;\nint main(void) { return 0; }",
+            "a.xc:2:14: rule 303\n",
+        ),
+        (
+            "int main(void) { main <: 1; return 0; }",
+            "a.xc:1:18: rule 410\n",
+        ),
+    ];
+    for (text, line) in rows {
+        check_refused(&rt, rt.alloc(), text.as_bytes(), line)?;
     }
     Ok(())
 }
@@ -178,6 +254,8 @@ fn reads_words(rt: HostRuntime) -> Result<(), Fail> {
         refused(["run", "a.xc", "--fast", ""]),
         refused(["run", "--a.xc", "", ""]),
         refused(["walk", "a.xc", "", ""]),
+        refused(["check", "", "", ""]),
+        refused(["check", "--a.xc", "", ""]),
         Row {
             words: ["asm", "a.xc", "", ""],
             text: PULSE,
@@ -258,13 +336,52 @@ fn refuses_long_files(rt: HostRuntime) -> Result<(), Fail> {
     Ok(())
 }
 
-/// The image of a text of the built form.
+/// A call of `check a.xc` with a text that is refused.
+fn check_refused<Rt: Threads + Wait + Sync + Abort>(
+    rt: &Rt,
+    alloc: Global,
+    text: &[u8],
+    line: &str,
+) -> Result<(), Fail> {
+    let words = word_list(alloc, &["check", "a.xc", "", ""])?;
+    let mut shelf = shelf_of(alloc, text, List::new(alloc))?;
+    let mut out = MemSink::new(alloc, 100, List::new(alloc))?;
+    let mut err = MemSink::new(alloc, 100, List::new(alloc))?;
+    let status = xcsim(
+        rt,
+        alloc,
+        words.as_slice(),
+        &mut shelf,
+        &mut out,
+        &mut err,
+        &OpenGate,
+    );
+    assert_eq!(rt; status, 1);
+    assert_eq!(rt; out.bytes(), b"".as_slice());
+    assert_eq!(rt; err.bytes(), line.as_bytes());
+    Ok(())
+}
+
+/// A text of one byte more than a text may have, and one of 201 blocks in each other.
+#[test]
+fn keeps_limits(rt: HostRuntime) -> Result<(), Fail> {
+    let alloc = rt.alloc();
+    let spaces = vec![in alloc; b' '; 262_145]?;
+    check_refused(&rt, alloc, spaces.as_slice(), "a.xc:1:1: rule 105\n")?;
+    let mut blocks = Vec::from_slice(alloc, b"int main(void) ")?;
+    for _ in 0..201 {
+        blocks.push(b'{')?;
+    }
+    check_refused(&rt, alloc, blocks.as_slice(), "a.xc:1:216: rule 202\n")
+}
+
+/// The image of a text that is accepted.
 fn compiled(alloc: Global, text: &[u8]) -> Result<Image, Fail>
-    requires { length text.now ≤ 262144 }
+    requires { length text.now ≤ 4194304 }
     ensures valid { IfOk result (λ image. Valid image) }
     ensures built { IfOk result (λ image. IsBuilt image) }
 {
-    let program = read(alloc, text)?;
+    let program = read_text(alloc, text)?;
     let image = compile(alloc, &program)?;
     Ok(image)
 }

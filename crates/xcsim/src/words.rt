@@ -9,6 +9,8 @@ pub enum Command<'w> {
     Run(&'w str),
     /// Compile a file, and write its listing.
     Asm(&'w str),
+    /// Say whether a file is accepted.
+    Check(&'w str),
 }
 
 impl<'w> Command<'w> {
@@ -19,6 +21,7 @@ impl<'w> Command<'w> {
         match self {
             Command::Run(file) => file,
             Command::Asm(file) => file,
+            Command::Check(file) => file,
         }
     }
 }
@@ -51,6 +54,9 @@ pub fn meaning(words: &[String]) -> Option<Command<'_>>
     }
     if words[0].as_str() == "asm" {
         return Some(Command::Asm(file));
+    }
+    if words[0].as_str() == "check" {
+        return Some(Command::Check(file));
     }
     None
 }

@@ -1,0 +1,131 @@
+-- The first broken rule of a text, by the phase that found it, and the texts that break none.
+use Rattle.std.proofs.Common.{◌≡◌, ◌⊎◌, ◌<◌, ◌≤◌, ℕ, List, length, refl, sym, ap, subst, inl, inr, ◌∙◌, arith}
+use Rattle.xw_words.specs.declared.pos.Broken.{Broken}
+use Rattle.xc_tree.specs.declared.token.Tok.{Tok}
+use Rattle.xc_tree.specs.Derives.{IsProgram}
+use Rattle.xc_tree.specs.Lexes.{Lexes, IsBefore, IsNotAfter, Breaks as BreaksInBytes, FirstBroken as FirstInBytes}
+use Rattle.xc_tree.specs.Parses.{BreaksRule, FirstBroken as FirstInTokens, place_at}
+use Rattle.xc_tree.specs.Plain.{Item}
+use Rattle.xc_tree.specs.Names.Rules.{Breaks as BreaksInNames, FirstBroken as FirstInNames}
+use Rattle.xc_tree.specs.Types.Named.{NamedProgram}
+use Rattle.xc_tree.specs.Checks.{Breaks as BreaksInTypes, FirstBroken as FirstInTypes}
+use Rattle.xc_meaning.specs.declared.program.Program.{Program}
+use Rattle.xc_form.specs.Form.{HasForm}
+use Rattle.xc_form.specs.OfTree.{IsOfTree}
+use Rattle.xc_form.proofs.FormPrograms.{program_of_form}
+use Rattle.xc_lexer.proofs.Rows.{tokens_one, tokens_unbroken}
+use Rattle.xcsim.specs.Rules.{Breaks, of_bytes, of_form, of_names, of_tokens, of_types, First, IsAccepted, IsNamed, IsTree, end_of, not_built}
+use Rattle.xcsim.proofs.Meanings.{named_by_uses, named_one}
+use Rattle.xcsim.proofs.Order.{tokens_in_order}
+
+pub first_in_bytes : (text : List ℕ) (b : Broken) → FirstInBytes text b → First text b
+first_in_bytes text b f = record { phase = 1; breaks = of_bytes b f.breaks; least = least }
+  where
+    least : (later : ℕ) (other : Broken) → Breaks text later other → (1 < later) ⊎ ((1 ≡ later) × IsNotAfter b other)
+    least later other (of_form items tree not) = absurd (tokens_unbroken text tree.toks b tree.lexes f.breaks)
+    least later other (of_bytes c breaks) = inr (refl, f.least c breaks)
+    least later other (of_tokens toks rule i lexes breaks) = inl (omega arith)
+    least later other (of_names items c tree breaks) = inl (omega arith)
+    least later other (of_types items n c tree named breaks) = inl (omega arith)
+
+-- a broken rule stands at a token or at the end
+within : (toks : List Tok) (rule i : ℕ) → BreaksRule toks rule i → i ≤ length toks
+within toks rule i (inl h) = h.1.within
+within toks rule i (inr h) = let l = h.1.within in omega (arith, l)
+
+module _ (text : List ℕ) (toks : List Tok) (lexes : Lexes text toks) where
+  same : (others : List Tok) → Lexes text others → others ≡ toks
+  same others l = tokens_one text others toks l lexes
+
+  pub first_in_tokens : (b : Broken) → FirstInTokens toks (end_of text) b → First text b
+  first_in_tokens b f = record { phase = 2; breaks = subst (Breaks text 2) (sym is) (of_tokens toks b.rule f.«at» lexes f.breaks); least = least }
+    where
+      is : b ≡ record { rule = b.rule; pos = place_at toks (end_of text) f.«at» }
+      is = ap (λ p. let c : Broken = record { rule = b.rule; pos = p } in c) f.place
+
+      by : (rule i : ℕ) → i ≤ length toks → (f.«at» < i) ⊎ ((f.«at» ≡ i) × (b.rule ≤ rule)) → IsNotAfter b (record { rule = rule; pos = place_at toks (end_of text) i })
+      by rule i few (inl before) = inl (subst (λ p. IsBefore p (place_at toks (end_of text) i)) (sym f.place) (tokens_in_order text toks lexes f.«at» i before few))
+      by rule i few (inr here) = inr (f.place ∙ ap (place_at toks (end_of text)) here.0, here.1)
+
+      least : (later : ℕ) (other : Broken) → Breaks text later other → (2 < later) ⊎ ((2 ≡ later) × IsNotAfter b other)
+      least later other (of_form items tree not) = absurd (tree.unbroken b.rule f.«at» (subst (λ ts. BreaksRule ts b.rule f.«at») (sym (same tree.toks tree.lexes)) f.breaks))
+      least later other (of_bytes c breaks) = absurd (tokens_unbroken text toks c lexes breaks)
+      least later other (of_tokens others rule i l breaks) =
+          let e = same others l in
+          let at_toks = subst (λ ts. BreaksRule ts rule i) e breaks in
+          inr (refl, subst (λ ts. IsNotAfter b (record { rule = rule; pos = place_at ts (end_of text) i })) (sym e) (by rule i (within toks rule i at_toks) (f.least rule i at_toks)))
+      least later other (of_names items c tree breaks) = inl (omega arith)
+      least later other (of_types items n c tree named breaks) = inl (omega arith)
+
+  module _ (items : List Item) (derives : IsProgram toks items) (unbroken : (rule i : ℕ) → BreaksRule toks rule i → ⊥) where
+    tree : IsTree text items
+    tree = record { toks = toks; lexes = lexes; derives = derives; unbroken = unbroken }
+
+    pub first_of_form : (HasForm items → ⊥) → First text not_built
+    first_of_form not = record { phase = 0; breaks = of_form items tree not; least = least }
+      where
+        least : (later : ℕ) (other : Broken) → Breaks text later other → (0 < later) ⊎ ((0 ≡ later) × IsNotAfter not_built other)
+        least later other (of_form others t n) = inr (refl, inr (refl, omega arith))
+        least later other (of_bytes c breaks) = inl (omega arith)
+        least later other (of_tokens others rule i l breaks) = inl (omega arith)
+        least later other (of_names others c t breaks) = inl (omega arith)
+        least later other (of_types others n c t named breaks) = inl (omega arith)
+
+    no_bytes : (c : Broken) → BreaksInBytes text c → ⊥
+    no_bytes c breaks = tokens_unbroken text toks c lexes breaks
+
+    no_tokens : (others : List Tok) (rule i : ℕ) → Lexes text others → BreaksRule others rule i → ⊥
+    no_tokens others rule i l breaks = unbroken rule i (subst (λ ts. BreaksRule ts rule i) (same others l) breaks)
+
+    module _ (only : (v : List Item) → IsProgram toks v → v ≡ items) (form : HasForm items) where
+      one_tree : (others : List Item) → IsTree text others → others ≡ items
+      one_tree others t = only others (subst (λ ts. IsProgram ts others) (same t.toks t.lexes) t.derives)
+
+      no_other_form : (others : List Item) → IsTree text others → (HasForm others → ⊥) → ⊥
+      no_other_form others t not = not (subst HasForm (sym (one_tree others t)) form)
+
+      pub first_in_names : (b : Broken) → FirstInNames items b → First text b
+      first_in_names b f = record { phase = 3; breaks = of_names items b tree f.breaks; least = least }
+        where
+          least : (later : ℕ) (other : Broken) → Breaks text later other → (3 < later) ⊎ ((3 ≡ later) × IsNotAfter b other)
+          least later other (of_form others t not) = absurd (no_other_form others t not)
+          least later other (of_bytes c breaks) = absurd (no_bytes c breaks)
+          least later other (of_tokens others rule i l breaks) = absurd (no_tokens others rule i l breaks)
+          least later other (of_names others c t breaks) = inr (refl, f.least c (subst (λ v. BreaksInNames v c) (one_tree others t) breaks))
+          least later other (of_types others n c t named breaks) = inl (omega arith)
+
+      module _ (n : NamedProgram) (named : IsNamed items n) where
+        no_names : (others : List Item) (c : Broken) → IsTree text others → BreaksInNames others c → ⊥
+        no_names others c t breaks = named.unbroken c (subst (λ v. BreaksInNames v c) (one_tree others t) breaks)
+
+        in_types : (others : List Item) (m : NamedProgram) (c : Broken) → IsTree text others → IsNamed others m → BreaksInTypes m c → BreaksInTypes n c
+        in_types others m c t other_named breaks =
+            subst (λ x. BreaksInTypes x c) (named_one items m n (subst (λ v. IsNamed v m) (one_tree others t) other_named) named) breaks
+
+        pub first_in_types : (b : Broken) → FirstInTypes n b → First text b
+        first_in_types b f = record { phase = 4; breaks = of_types items n b tree named f.breaks; least = least }
+          where
+            least : (later : ℕ) (other : Broken) → Breaks text later other → (4 < later) ⊎ ((4 ≡ later) × IsNotAfter b other)
+            least later other (of_form others t not) = absurd (no_other_form others t not)
+            least later other (of_bytes c breaks) = absurd (no_bytes c breaks)
+            least later other (of_tokens others rule i l breaks) = absurd (no_tokens others rule i l breaks)
+            least later other (of_names others c t breaks) = absurd (no_names others c t breaks)
+            least later other (of_types others m c t other_named breaks) = inr (refl, f.least c (in_types others m c t other_named breaks))
+
+        module _ (typed : (b : Broken) → BreaksInTypes n b → ⊥) where
+          pub accepts : (P : Program) → IsOfTree items P → IsAccepted text P
+          accepts P is = record { items = items; tree = tree; form = is; unbroken = none }
+            where
+              none : (phase : ℕ) (b : Broken) → Breaks text phase b → ⊥
+              none phase b (of_form others t not) = no_other_form others t not
+              none phase b (of_bytes c breaks) = no_bytes c breaks
+              none phase b (of_tokens others rule i l breaks) = no_tokens others rule i l breaks
+              none phase b (of_names others c t breaks) = no_names others c t breaks
+              none phase b (of_types others m c t other_named breaks) = typed c (in_types others m c t other_named breaks)
+
+          -- it is a program
+          pub is_program : ((P : Program) → IsOfTree items P → ⊥) → ⊥
+          is_program not =
+              let typed_so = subst (λ x. (b : Broken) → BreaksInTypes x b → ⊥) (named_by_uses items n named) typed in
+              let made = program_of_form items form n.uses named.unbroken named.uses typed_so in
+              not made.0 made.1

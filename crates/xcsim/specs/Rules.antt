@@ -1,0 +1,63 @@
+-- The rules that a text breaks, which of them is told, and which texts are accepted.
+use Rattle.std.specs.Prelude.{◌≡◌, ◌⊎◌, ◌<◌, ℕ, List, length}
+use Rattle.xw_words.specs.declared.pos.Pos.{Pos}
+use Rattle.xw_words.specs.declared.pos.Broken.{Broken}
+use Rattle.xc_tree.specs.declared.token.Tok.{Tok}
+use Rattle.xc_tree.specs.Places.{pos_at}
+use Rattle.xc_tree.specs.Lexes.{Lexes, IsNotAfter, Breaks as BreaksInBytes}
+use Rattle.xc_tree.specs.Derives.{IsProgram}
+use Rattle.xc_tree.specs.Parses.{BreaksRule, place_at}
+use Rattle.xc_tree.specs.Plain.{Item}
+use Rattle.xc_tree.specs.Names.Marks.{of_program}
+use Rattle.xc_tree.specs.Names.Rules.{Breaks as BreaksInNames}
+use Rattle.xc_tree.specs.Names.Uses.{AreUses, declarations}
+use Rattle.xc_tree.specs.Types.Named.{NamedProgram}
+use Rattle.xc_tree.specs.Checks.{Breaks as BreaksInTypes}
+use Rattle.xc_meaning.specs.declared.program.Program.{Program}
+use Rattle.xc_form.specs.Form.{HasForm}
+use Rattle.xc_form.specs.OfTree.{IsOfTree}
+
+-- the text has tokens, these are a program with this tree, and no rule on tokens is broken
+pub record IsTree (text : List ℕ) (items : List Item) : Type 0 where
+  pub toks : List Tok
+  pub lexes : Lexes text toks
+  pub derives : IsProgram toks items
+  pub unbroken : (rule i : ℕ) → BreaksRule toks rule i → ⊥
+
+-- the items break no rule of names, and these are their declarations and what each of their names means
+pub record IsNamed (items : List Item) (n : NamedProgram) : Type 0 where
+  pub unbroken : (b : Broken) → BreaksInNames items b → ⊥
+  pub program : n.program ≡ items
+  pub decls : n.decls ≡ declarations (of_program items)
+  pub uses : AreUses (of_program items) n.uses
+
+-- the place just behind a text
+abbrev pub end_of : List ℕ → Pos
+end_of text = pos_at text (length text)
+
+-- rule 299, "not built yet", at the first byte
+abbrev pub not_built : Broken
+not_built = record { rule = 299; pos = record { line = 1; col = 1 } }
+
+-- A text breaks a rule of a phase: 0 it has a tree that isn't of the built form; 1 one of the rules 101 to 106, of bytes;
+-- 2 it has tokens, and these break 201 or 202; 3 it has a tree, and this breaks one of the rules 301 to 305, of names; 4 its
+-- names are whole, and it breaks one of the rules 401 to 416 and 501 to 508, of types and shapes.
+pub data Breaks (text : List ℕ) : ℕ → Broken → Type 0 where
+  of_form : (items : List Item) → IsTree text items → (HasForm items → ⊥) → Breaks text 0 not_built
+  of_bytes : (b : Broken) → BreaksInBytes text b → Breaks text 1 b
+  of_tokens : (toks : List Tok) (rule i : ℕ) → Lexes text toks → BreaksRule toks rule i → Breaks text 2 (record { rule = rule; pos = place_at toks (end_of text) i })
+  of_names : (items : List Item) (b : Broken) → IsTree text items → BreaksInNames items b → Breaks text 3 b
+  of_types : (items : List Item) (n : NamedProgram) (b : Broken) → IsTree text items → IsNamed items n → BreaksInTypes n b → Breaks text 4 b
+
+-- the broken rule of the least phase, there of the least place, and there of the least number
+pub record First (text : List ℕ) (b : Broken) : Type 0 where
+  pub phase : ℕ
+  pub breaks : Breaks text phase b
+  pub least : (later : ℕ) (other : Broken) → Breaks text later other → (phase < later) ⊎ ((phase ≡ later) × IsNotAfter b other)
+
+-- the text has a tree, the tree is this program, and the text breaks no rule
+pub record IsAccepted (text : List ℕ) (P : Program) : Type 0 where
+  pub items : List Item
+  pub tree : IsTree text items
+  pub form : IsOfTree items P
+  pub unbroken : (phase : ℕ) (b : Broken) → Breaks text phase b → ⊥
