@@ -1,0 +1,4 @@
+pub mod ExamplePrograms
+pub mod Running
+mod KernelExamples
+mod TextExamples
