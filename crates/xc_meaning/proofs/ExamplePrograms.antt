@@ -1,7 +1,7 @@
 -- Small programs as trees: each is written in the comment above it.
-use Rattle.std.specs.Prelude.{true, false, List, [], ◌∷◌, Some, None, codes}
+use Rattle.std.specs.Prelude.{ℕ, Bool, true, false, List, [], ◌∷◌, Some, None, codes}
 use Rattle.xc_tree.specs.declared.tree.TreeDir.TheVariants.{In, Out}
-use Rattle.xc_tree.specs.declared.tree.ParamKind.TheVariants.{End}
+use Rattle.xc_tree.specs.declared.tree.ParamKind.TheVariants.{Value, End}
 use Rattle.xc_tree.specs.Plain as tree
 use Rattle.xc_kernel.proofs.Written.{at, id, number, name, index, unary, binary, result}
 
@@ -223,4 +223,21 @@ word_too_many =
     ∷ []))) (at 8 26) (at 8 44) 3)
     ∷ (tree.statement (tree.return_with (Some (tree.value (number 0 false 8 53)))) (at 8 46) (at 8 54) 3)
     ∷ []))) (at 8 16) (at 8 56) 2))
+    ∷ []
+
+-- two branches of which each waits for the other
+-- int main(void) { chan c; int x; int y; par { c :> x; c :> y; } return 0; }
+abbrev pub both_input : List tree.Item
+both_input =
+    (tree.function (record { result = Some false; name = id (codes "main") 1 5; params = []; own = 5 })
+    (tree.statement (tree.block (tree.statements (
+    (tree.statement (tree.declare ((record { kind = tree.channel false; name = id (codes "c") 1 23 }) ∷ [])) (at 1 18) (at 1 24) 3)
+    ∷ (tree.statement (tree.declare ((record { kind = (tree.word false None); name = id (codes "x") 1 30 }) ∷ [])) (at 1 26) (at 1 31) 3)
+    ∷ (tree.statement (tree.declare ((record { kind = (tree.word false None); name = id (codes "y") 1 37 }) ∷ [])) (at 1 33) (at 1 38) 3)
+    ∷ (tree.statement (tree.par (tree.branches (
+    (tree.branch None (tree.statement (tree.input (record { name = id (codes "c") 1 46; time = None; condition = None; target = (tree.to (name (codes "x") 1 51)); stamp = None })) (at 1 46) (at 1 52) 4))
+    ∷ (tree.branch None (tree.statement (tree.input (record { name = id (codes "c") 1 54; time = None; condition = None; target = (tree.to (name (codes "y") 1 59)); stamp = None })) (at 1 54) (at 1 60) 4))
+    ∷ []))) (at 1 40) (at 1 62) 3)
+    ∷ (tree.statement (tree.return_with (Some (tree.value (number 0 false 1 71)))) (at 1 64) (at 1 72) 3)
+    ∷ []))) (at 1 16) (at 1 74) 2))
     ∷ []

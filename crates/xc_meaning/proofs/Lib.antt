@@ -2,3 +2,5 @@ pub mod ExamplePrograms
 pub mod Running
 mod KernelExamples
 mod TextExamples
+mod CountExamples
+mod QuietExamples
