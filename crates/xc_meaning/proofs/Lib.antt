@@ -4,3 +4,4 @@ mod KernelExamples
 mod TextExamples
 mod CountExamples
 mod QuietExamples
+mod MixedExample

@@ -1,5 +1,5 @@
 -- States in which nothing is left but to wait, and one in which something is.
-use Rattle.std.specs.Prelude.{◌≡◌, ℕ, zero, suc, false, List, [], ◌∷◌, ◌++◌, Some, None, IsSome, IsTrue, unwrap_or, refl}
+use Rattle.std.specs.Prelude.{◌≡◌, zero, suc, false, List, ◌++◌, IsSome, IsTrue, unwrap_or, refl}
 use Rattle.xc_tree.specs.Plain as tree
 use Rattle.xc_kernel.specs.Copies.{copy_of}
 use Rattle.xc_meaning.specs.States.Worlds.{World, Move, clock, go, take, default}

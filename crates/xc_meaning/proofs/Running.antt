@@ -1,10 +1,10 @@
 -- How runs are written down in examples, and what is said of where they lead.
-use Rattle.std.specs.Prelude.{ℕ, Bool, true, false, ◌&&◌, List, [], ◌∷◌, replicate, Option, Some, option_map}
+use Rattle.std.specs.Prelude.{ℕ, Bool, true, false, List, [], ◌∷◌, replicate, Option, Some, option_map}
 use Rattle.xs_instr.specs.declared.image.Stim.{Stim}
 use Rattle.xs_instr.specs.declared.trace.Record.{Record}
 use Rattle.xc_tree.specs.Plain as tree
 use Rattle.xc_kernel.specs.Copies.{copy_of}
-use Rattle.xc_meaning.specs.States.Branches.{has_ended, Branch}
+use Rattle.xc_meaning.specs.States.Branches.{all_ended}
 use Rattle.xc_meaning.specs.States.Worlds.{World, Move, clock, go}
 use Rattle.xc_meaning.specs.Runs.{kernel_run, program_run}
 
@@ -21,10 +21,6 @@ steps n b = replicate n (go b)
 
 abbrev pub wait : ℕ → List Move
 wait n = replicate n (clock 0)
-
-abbrev pub all_ended : List Branch → Bool
-all_ended [] = true
-all_ended (b ∷ bs) = has_ended b.mode && all_ended bs
 
 -- what is seen of a state: its trace, and whether each branch has ended
 pub record Seen : Type 0 where

@@ -7,3 +7,4 @@ pub mod Texts
 pub mod Runs
 pub mod Counts
 pub mod Quiet
+pub mod Follows

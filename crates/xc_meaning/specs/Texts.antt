@@ -8,3 +8,4 @@ pub mod Par
 pub mod Select
 pub mod Statements
 pub mod Roots
+pub mod Called

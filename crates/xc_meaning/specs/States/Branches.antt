@@ -1,5 +1,5 @@
 -- A branch of a run.
-use Rattle.std.specs.Prelude.{ℕ, Bool, true, false, List, Option, None, slice_index_or}
+use Rattle.std.specs.Prelude.{ℕ, Bool, true, false, ◌&&◌, List, [], ◌∷◌, Option, None, slice_index_or}
 use Rattle.xc_meaning.specs.States.Channels.{Side}
 use Rattle.xc_meaning.specs.States.Items.{Item}
 
@@ -36,6 +36,10 @@ has_ended mode = false
 abbrev pub has_erred : Mode → Bool
 has_erred erred = true
 has_erred mode = false
+
+abbrev pub all_ended : List Branch → Bool
+all_ended [] = true
+all_ended (b ∷ bs) = has_ended b.mode && all_ended bs
 
 -- the side that a branch is of a channel or stands in, if it is on one
 abbrev pub side_of : Branch → ℕ → Option Side
