@@ -2,3 +2,4 @@
 pub mod Families
 pub mod KernelCounts
 pub mod TextCounts
+pub mod Fit
