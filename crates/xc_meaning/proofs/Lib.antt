@@ -5,3 +5,4 @@ mod TextExamples
 mod CountExamples
 mod QuietExamples
 mod MixedExample
+pub mod Law

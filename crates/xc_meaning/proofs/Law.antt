@@ -1,0 +1,2 @@
+-- Towards the law between a program's text and its kernel: docs/plan-law.md tells the way.
+pub mod Depths
