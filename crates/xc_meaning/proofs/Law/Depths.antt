@@ -1,21 +1,21 @@
 -- The copy of a statement is the same at each depth to which calls are followed that its own calls stay within.
-use Rattle.std.specs.Prelude.{◌≡◌, ℕ, zero, suc, ◌+◌, ◌-◌, Bool, true, false, List, [], ◌∷◌, length, Option, Some, None, nat_eq, refl}
+use Rattle.std.proofs.Common.{◌≡◌, ◌≤◌, IsNone, arith, true≢false, ℕ, zero, suc, ◌+◌, ◌-◌, Bool, true, false, List, [], ◌∷◌, length, Option, Some, None, nat_eq, refl, sym, subst}
 use Rattle.xw_words.specs.declared.pos.Pos.{Pos}
 use Rattle.xc_tree.specs.Plain as tree
 use Rattle.xc_kernel.specs.Plain as kernel
 use Rattle.xc_kernel.specs.Operators.{equals}
 use Rattle.xc_kernel.specs.Paths.{Path, path_at}
 use Rattle.xc_kernel.specs.Scopes.{Scope, a_constant, with_name}
-use Rattle.xc_kernel.specs.Programs.{Function}
+use Rattle.xc_kernel.specs.Programs.{Function, function_named}
 use Rattle.xc_kernel.specs.Copy.{Copy, one_statement, joined, in_scope_of}
 use Rattle.xc_kernel.specs.Context.{Context, in_branch, in_loop, in_case, in_function, expression, place, set_word, leave}
 use Rattle.xc_kernel.specs.Parameters.{all_passed}
-use Rattle.xc_kernel.specs.Calls.{CopiesCall, instance_of, result_copy, as_block, naming_none, call_copy, right_copy, function_copy, value_of}
+use Rattle.xc_kernel.specs.Calls.{CopiesCall, instance_of, result_copy, as_block, naming_none, call_copy, right_copy, function_copy, value_of, called, call_by, path_of_call}
 use Rattle.xc_kernel.specs.Declarations.{initial_copy, kind_copy, declarations_copy}
 use Rattle.xc_kernel.specs.Context.{declares_word}
 use Rattle.xc_kernel.specs.Flow.{if_copy, while_copy, do_while_copy, for_copy, and_branch, par_copy, replicated, numbered_copy, Cased, case_scope, and_case, select_copy, transaction_copy}
-use Rattle.xc_kernel.specs.Statements.{pos_of_branch, assign_by, return_copy, statement_copy, action_copy, maybe_copy, statements_copy, branch_copy, branches_copy, cases_copy, case_copy}
-use Rattle.xc_meaning.specs.Texts.Called.{EachRight, EachMaybeRight, EachKind, EachName, EachCall, EachIn, EachMaybe, EachOf, EachOne, EachBranch, EachCase, EachOneCase}
+use Rattle.xc_kernel.specs.Statements.{pos_of_branch, assign_by, return_copy, statement_copy, action_copy, maybe_copy, statements_copy, branch_copy, branches_copy, cases_copy, case_copy, calls_copy}
+use Rattle.xc_meaning.specs.Texts.Called.{EachRight, EachMaybeRight, EachKind, EachName, EachCall, EachIn, EachMaybe, EachOf, EachOne, EachBranch, EachCase, EachOneCase, EachInFunction, GoesWithin}
 
 -- two ways to copy calls that agree on some calls in programs of these functions
 pub record Agree (fs : List Function) (Holds : tree.Call → Type 0) (one other : CopiesCall) : Type 0 where
@@ -124,3 +124,27 @@ same_function fs Holds one other agree c scope own f args fine h =
     (joined (result_copy c (path_at own f.head.name.pos) f.head.name.pos scope f.head.result)
     (joined (all_passed c scope own f.head.params args)
     (as_block c own (same_statement fs Holds one other agree f.body (in_function c own f) (all_passed c scope own f.head.params args).scope fine h i))))))
+
+-- Depths.
+
+-- calls that aren't followed, where there is no function to be called
+none_copied : (k : ℕ) (c : Context) (scope : Scope) (pos : Pos) (args : List tree.Argument) (f : Option Function) → IsNone f → call_by (calls_copy zero) c scope pos args f ≡ call_by (calls_copy k) c scope pos args f
+none_copied k c scope pos args None h = refl
+none_copied k c scope pos args (Some f) h = absurd (true≢false h)
+
+-- by the function that is called, where its own calls are copied alike at depths n and k
+called_alike : (fs : List Function) (n k : ℕ) → Agree fs (GoesWithin fs n) (calls_copy n) (calls_copy k) → (c : Context) (scope : Scope) (pos : Pos) (args : List tree.Argument) (f : Option Function) → c.functions ≡ fs → EachInFunction (GoesWithin fs n) f → call_by (calls_copy (suc n)) c scope pos args f ≡ call_by (calls_copy (suc k)) c scope pos args f
+called_alike fs n k agree c scope pos args None fine h = refl
+called_alike fs n k agree c scope pos args (Some f) fine h =
+    same_function fs (GoesWithin fs n) (calls_copy n) (calls_copy k) agree c scope (path_of_call c pos) f args fine h
+
+-- calls that go within n are copied alike at each depth from n on
+pub depths_agree : (fs : List Function) (n k : ℕ) → n ≤ k → Agree fs (GoesWithin fs n) (calls_copy n) (calls_copy k)
+depths_agree fs zero k le = record {
+  same = λ call h c scope fine. none_copied k c scope call.called.pos call.arguments (called c call) (subst (λ g. IsNone (function_named g call.called.text)) (sym fine) h);
+}
+depths_agree fs (suc n) zero le = absurd (omega arith)
+depths_agree fs (suc n) (suc k) le = record {
+  same = λ call h c scope fine. called_alike fs n k (depths_agree fs n k (omega arith)) c scope call.called.pos call.arguments (called c call) fine
+      (subst (λ g. EachInFunction (GoesWithin fs n) (function_named g call.called.text)) (sym fine) h);
+}

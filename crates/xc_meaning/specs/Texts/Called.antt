@@ -1,5 +1,5 @@
 -- The calls in a statement, and how deep they go.
-use Rattle.std.specs.Prelude.{ℕ, zero, suc, List, [], ◌∷◌, length, Option, Some, None}
+use Rattle.std.specs.Prelude.{ℕ, zero, suc, List, [], ◌∷◌, length, Option, Some, None, IsNone}
 use Rattle.xc_tree.specs.Plain as tree
 use Rattle.xc_kernel.specs.Programs.{Function, functions, function_named, main_of}
 
@@ -74,10 +74,6 @@ module _ (Holds : tree.Call → Type 0) where
 abbrev pub EachInFunction : (tree.Call → Type 0) → Option Function → Type 0
 EachInFunction Holds None = Unit {0}
 EachInFunction Holds (Some f) = EachCall Holds f.body
-
-abbrev pub IsNone : Option Function → Type 0
-IsNone None = Unit {0}
-IsNone (Some f) = ⊥
 
 -- a call goes at most so deep: it calls a function whose calls go less deep, or none that is there
 abbrev pub GoesWithin : List Function → ℕ → tree.Call → Type 0
