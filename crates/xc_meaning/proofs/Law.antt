@@ -1,2 +1,3 @@
 -- Towards the law between a program's text and its kernel: docs/plan-law.md tells the way.
 pub mod Depths
+pub mod KernelItems
