@@ -1,3 +1,4 @@
 -- Towards the law between a program's text and its kernel: docs/plan-law.md tells the way.
 pub mod Depths
 pub mod KernelItems
+pub mod Mixed
