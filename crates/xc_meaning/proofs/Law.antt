@@ -2,3 +2,4 @@
 pub mod Depths
 pub mod KernelItems
 pub mod Mixed
+pub mod Alike

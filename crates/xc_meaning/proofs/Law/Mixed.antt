@@ -1,8 +1,8 @@
 -- A kernel's state beside a text's: the same but for the items of branches, which are those that the text's stand for, or others
 -- where the kernel's branch is ahead.
-use Rattle.std.proofs.Common.{◌≡◌, ℕ, zero, suc, ◌≤◌, Bool, true, false, List, [], ◌∷◌, ◌++◌, map, length, Option, Some, None, option_map, slice_get, slice_set, refl, arith}
+use Rattle.std.proofs.Common.{◌≡◌, ℕ, zero, suc, ◌≤◌, List, [], ◌∷◌, ◌++◌, map, length, Option, Some, None, option_map, slice_get, slice_set, refl, arith}
 use Rattle.xc_meaning.specs.States.Items.{Item}
-use Rattle.xc_meaning.specs.States.Branches.{Branch, all_ended, has_ended}
+use Rattle.xc_meaning.specs.States.Branches.{Branch}
 use Rattle.xc_meaning.specs.States.Worlds.{World}
 use Rattle.xc_meaning.specs.Moves.Step.{Step}
 use Rattle.xc_meaning.proofs.Law.KernelItems.{kernel_items}
