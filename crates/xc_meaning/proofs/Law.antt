@@ -3,3 +3,5 @@ pub mod Depths
 pub mod KernelItems
 pub mod Mixed
 pub mod Alike
+pub mod Select
+pub mod Par

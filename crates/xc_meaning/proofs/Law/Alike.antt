@@ -59,7 +59,7 @@ module _ (os : Ahead) (items : List Item) (s : Step) where
   pub with_word_alike : (x : kernel.Expression) (go go' : ℕ → Option World) → ((w : ℕ) → go' w ≡ option_map after (go w)) → with_word_of step x go' ≡ option_map after (with_word_of s x go)
   with_word_alike x go go' e = with_value_alike (eval s.world.store x) go go' e
 
-  only_if_alike : (b : Bool) (x : World) {x' : World} → x' ≡ after x → only_if b x' ≡ option_map after (only_if b x)
+  pub only_if_alike : (b : Bool) (x : World) {x' : World} → x' ≡ after x → only_if b x' ≡ option_map after (only_if b x)
   only_if_alike true x e = λ i. Some (e i)
   only_if_alike false x e = refl
 
@@ -193,14 +193,14 @@ module _ (os : Ahead) (items : List Item) (s : Step) where
   with_timing_alike (passes when) go go' e = e when
   with_timing_alike (fails kind pos) go go' e = errs_alike (kind_of kind) pos
 
-  port_alike : (p : ℕ) (when : When) → port_may_pass step p when ≡ port_may_pass s p when
+  pub port_alike : (p : ℕ) (when : When) → port_may_pass step p when ≡ port_may_pass s p when
   port_alike p Rattle.xc_meaning.specs.States.Items.now = refl
   port_alike p (Rattle.xc_meaning.specs.States.Items.at_time t) = refl
   port_alike p (Rattle.xc_meaning.specs.States.Items.pins_equal v) = refl
   port_alike p (Rattle.xc_meaning.specs.States.Items.pins_differ v) = refl
   port_alike p (Rattle.xc_meaning.specs.States.Items.after_time t) = refl
 
-  timer_alike : (when : When) → timer_may_pass step when ≡ timer_may_pass s when
+  pub timer_alike : (when : When) → timer_may_pass step when ≡ timer_may_pass s when
   timer_alike Rattle.xc_meaning.specs.States.Items.now = refl
   timer_alike (Rattle.xc_meaning.specs.States.Items.at_time t) = refl
   timer_alike (Rattle.xc_meaning.specs.States.Items.pins_equal v) = refl
@@ -208,7 +208,7 @@ module _ (os : Ahead) (items : List Item) (s : Step) where
   timer_alike (Rattle.xc_meaning.specs.States.Items.after_time t) = refl
 
   -- where both ask the same
-  only_if_same : {b b' : Bool} (x : World) {x' : World} → b' ≡ b → x' ≡ after x → only_if b' x' ≡ option_map after (only_if b x)
+  pub only_if_same : {b b' : Bool} (x : World) {x' : World} → b' ≡ b → x' ≡ after x → only_if b' x' ≡ option_map after (only_if b x)
   only_if_same {b} {b'} x {x'} e f = ap (λ c. only_if c x') e ∙ only_if_alike b x f
 
   drives_alike : (o : kernel.Output) (p : ℕ) (when : When) (v : ℕ) → drives step o p when v ≡ option_map after (drives s o p when v)
