@@ -14,7 +14,7 @@ use Rattle.xc_kernel.specs.Calls.{body_copy}
 use Rattle.xc_kernel.specs.Declarations.{declaration_copy, declarations_copy}
 use Rattle.xc_kernel.specs.Flow.{turn, leave_unless}
 use Rattle.xc_kernel.specs.Statements.{statement_copy, maybe_copy, statements_copy}
-use Rattle.xc_meaning.specs.States.Items.{Loop, TextItem, statement, name, bound, body, again, again_do, returned, Body, of_kernel, of_text, Choice, Item, does, says, stores, mark, awaits, closes, chooses, fixed, ends, todo, body_items}
+use Rattle.xc_meaning.specs.States.Items.{Loop, TextItem, statement, name, bound, body, first_test, again, again_do, returned, Body, of_kernel, of_text, Choice, Item, does, says, stores, mark, awaits, closes, chooses, fixed, ends, todo, body_items}
 use Rattle.xc_meaning.specs.Moves.Flow.{from_mark_by, items_from_mark}
 use Rattle.xc_meaning.specs.Texts.Copied.{calls_in, behind, behind_name, code_in}
 use Rattle.xc_meaning.specs.Texts.Items.{name_items, statement_items, maybe_items, statements_items, only, body_item}
@@ -46,6 +46,7 @@ code_of_item (statement t c scope) = code_in t c scope
 code_of_item (name d c scope) = code_of (declaration_copy (calls_in c) c scope d)
 code_of_item bound = kernel.no_more
 code_of_item (body block ss c scope) = kernel.statements (block_at c block (statements_copy (calls_in c) ss c scope).code ∷ [])
+code_of_item (first_test l) = kernel.statements (block_at l.context (loop_path l) (loop_of l ∷ []) ∷ [])
 code_of_item (again l) = kernel.statements (loop_of l ∷ [])
 code_of_item (again_do l) = kernel.statements (do_test l ∷ do_loop_of l ∷ [])
 code_of_item (returned e c) = kernel.statements (set_word c c.result e ∷ leave c c.returns ∷ [])

@@ -26,7 +26,8 @@ pub data TextItem : Type 0 where
   bound : TextItem
   -- the body of a function, a loop or a case, as the block that `return`, `continue` or `break` leaves
   body : (block : Path) → tree.Statements → Context → Scope → TextItem
-  -- the test of a `while` or `for` behind a turn, and of a `do`
+  -- the test of a `for` that begins, that of a `while` or `for` behind a turn, and that of a `do`
+  first_test : Loop → TextItem
   again : Loop → TextItem
   again_do : Loop → TextItem
   -- the value of a `return`, once its call is done

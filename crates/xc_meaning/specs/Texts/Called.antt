@@ -1,7 +1,7 @@
 -- The calls in a statement, and how deep they go.
 use Rattle.std.specs.Prelude.{ℕ, zero, suc, List, [], ◌∷◌, length, Option, Some, None, IsNone}
 use Rattle.xc_tree.specs.Plain as tree
-use Rattle.xc_kernel.specs.Programs.{Function, functions, function_named, main_of}
+use Rattle.xc_kernel.specs.Programs.{Function, functions, function_named}
 
 -- something holds of each call in a statement, also where the call is in one that it holds
 module _ (Holds : tree.Call → Type 0) where
@@ -80,6 +80,6 @@ abbrev pub GoesWithin : List Function → ℕ → tree.Call → Type 0
 GoesWithin fs zero call = IsNone (function_named fs call.called.text)
 GoesWithin fs (suc n) call = EachInFunction (GoesWithin fs n) (function_named fs call.called.text)
 
--- No chain of calls from main is longer than there are functions. So it is where no call stands on a cycle of calls.
+-- No chain of calls is longer than there are functions. So it is where no call stands on a cycle of calls.
 pub record CallsEnd (P : List tree.Item) : Type 0 where
-  pub main : EachInFunction (GoesWithin (functions P) (length (functions P))) (main_of P)
+  pub each : (call : tree.Call) → GoesWithin (functions P) (length (functions P)) call

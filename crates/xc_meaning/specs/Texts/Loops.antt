@@ -7,7 +7,7 @@ use Rattle.xc_kernel.specs.Paths.{path_at, path_of_turn}
 use Rattle.xc_kernel.specs.Scopes.{Scope}
 use Rattle.xc_kernel.specs.Context.{Context, in_loop, maybe_expression}
 use Rattle.xc_kernel.specs.Flow.{test_or_true}
-use Rattle.xc_meaning.specs.States.Items.{Loop, again, again_do, Item, says, mark}
+use Rattle.xc_meaning.specs.States.Items.{Loop, first_test, again, again_do, Item, says, mark}
 use Rattle.xc_meaning.specs.States.Worlds.{World}
 use Rattle.xc_meaning.specs.Moves.Step.{Step, goes_to}
 use Rattle.xc_meaning.specs.Moves.Flow.{tests}
@@ -42,9 +42,9 @@ abbrev pub tests_do : Step → Loop → Option World
 tests_do s l =
     tests s (test_in l.context (behind l.body (turn_context l) l.scope) l.test) (turn_item l ∷ says (again_do l) ∷ s.rest) s.rest
 
--- a `while` begins with its test
-abbrev pub begins_while : Step → Loop → Option World
-begins_while s l = tests_loop s l (loop_mark l ∷ s.rest)
+-- the first test of a `while` or `for`
+abbrev pub tests_first : Step → Loop → Option World
+tests_first s l = tests_loop s l (loop_mark l ∷ s.rest)
 
 -- a `do` begins with its body, and then comes its test
 abbrev pub begins_do : Step → Loop → Option World
@@ -52,7 +52,7 @@ begins_do s l = Some (goes_to s (turn_item l ∷ says (again_do l) ∷ loop_mark
 
 -- a `for` begins with its initialiser, and then comes its test
 abbrev pub begins_for : Step → tree.Maybe → Scope → Loop → Option World
-begins_for s first scope l = Some (goes_to s (maybe_items first l.context scope (says (again l) ∷ loop_mark l ∷ s.rest)))
+begins_for s first scope l = Some (goes_to s (maybe_items first l.context scope (says (first_test l) ∷ s.rest)))
 
 -- the loops of a text, by the place of their word
 

@@ -9,7 +9,7 @@ use Rattle.xc_kernel.specs.Expressions.{updated}
 use Rattle.xc_kernel.specs.Context.{Context, expression, place, word_at}
 use Rattle.xc_kernel.specs.Calls.{value_of, right_is_unsigned}
 use Rattle.xc_kernel.specs.Transfers.{output_of, input_of}
-use Rattle.xc_meaning.specs.States.Items.{TextItem, statement, name, bound, body, again, again_do, returned, says, closes}
+use Rattle.xc_meaning.specs.States.Items.{TextItem, statement, name, bound, body, first_test, again, again_do, returned, says, closes}
 use Rattle.xc_meaning.specs.States.Worlds.{World}
 use Rattle.xc_meaning.specs.Moves.Step.{Step, goes_to, goes_on, with_word_of}
 use Rattle.xc_meaning.specs.Moves.Stores.{stored, assigned}
@@ -22,7 +22,7 @@ use Rattle.xc_meaning.specs.Texts.Copied.{behind, behind_maybe, channel_in, bloc
 use Rattle.xc_meaning.specs.Texts.Items.{name_items, statement_items, maybe_items, statements_items, entered_items}
 use Rattle.xc_meaning.specs.Texts.Calls.{calls, stores_right}
 use Rattle.xc_meaning.specs.Texts.Declarations.{declares}
-use Rattle.xc_meaning.specs.Texts.Loops.{while_loop, for_loop, tests_loop, tests_do, begins_while, begins_do, begins_for}
+use Rattle.xc_meaning.specs.Texts.Loops.{while_loop, for_loop, tests_loop, tests_do, tests_first, begins_do, begins_for}
 use Rattle.xc_meaning.specs.Texts.Par.{branches_begun, copies_begun}
 use Rattle.xc_meaning.specs.Texts.Select.{text_enabled, text_default}
 
@@ -68,7 +68,7 @@ does_action s c scope pos close (tree.output o) = outputs_to s (output_of c scop
 does_action s c scope pos close (tree.input i) = inputs_from s (input_of c scope i) (input_of c scope i).resource
 does_action s c scope pos close (tree.if_then test a b) =
     tests s (expression c scope test) (statement_items a c scope s.rest) (maybe_items b c (behind a c scope) s.rest)
-does_action s c scope pos close (tree.while_loop test inner) = begins_while s (while_loop test inner pos c scope)
+does_action s c scope pos close (tree.while_loop test inner) = tests_first s (while_loop test inner pos c scope)
 does_action s c scope pos close (tree.do_while inner test) = begins_do s (while_loop test inner pos c scope)
 does_action s c scope pos close (tree.for_loop first test next inner) =
     begins_for s first scope (for_loop test next inner pos c (behind_maybe first c scope))
@@ -89,6 +89,7 @@ says_item s (statement t c scope) = does_text s c scope t
 says_item s (name d c scope) = declares s c scope d
 says_item s bound = Some (goes_on s)
 says_item s (body block ss c scope) = Some (goes_to s (entered_items block ss c scope s.rest))
+says_item s (first_test l) = tests_first s l
 says_item s (again l) = tests_loop s l s.rest
 says_item s (again_do l) = tests_do s l
 says_item s (returned e c) = returns_value s c e
