@@ -5,3 +5,5 @@ pub mod Mixed
 pub mod Alike
 pub mod Select
 pub mod Par
+pub mod Calls
+pub mod Ready
