@@ -7,3 +7,4 @@ pub mod Select
 pub mod Par
 pub mod Calls
 pub mod Ready
+pub mod Sound
