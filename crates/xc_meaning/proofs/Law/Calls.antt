@@ -1,12 +1,9 @@
 -- A call's copy is its function's instance, in which calls are copied as they are around it.
-use Rattle.std.proofs.Common.{◌≡◌, ℕ, zero, suc, ◌≤◌, Bool, true, false, List, [], ◌∷◌, ◌++◌, length, Option, Some, None, IsNone, refl, sym, subst, ◌∙◌, ap, true≢false, arith}
-use Rattle.xw_words.specs.declared.pos.Pos.{Pos}
+use Rattle.std.proofs.Common.{◌≡◌, ℕ, zero, suc, List, [], ◌++◌, length, Some, None, IsNone, sym, subst, ◌∙◌, ap, true≢false, arith}
 use Rattle.xc_tree.specs.Plain as tree
-use Rattle.xc_kernel.specs.Plain as kernel
-use Rattle.xc_kernel.specs.Paths.{Path, path_at}
+use Rattle.xc_kernel.specs.Paths.{path_at}
 use Rattle.xc_kernel.specs.Scopes.{Scope}
 use Rattle.xc_kernel.specs.Programs.{Function, function_named}
-use Rattle.xc_kernel.specs.Copy.{Copy}
 use Rattle.xc_kernel.specs.Context.{Context}
 use Rattle.xc_kernel.specs.Calls.{called, call_by, call_copy, function_copy, path_of_call, result_copy}
 use Rattle.xc_kernel.specs.Statements.{statement_copy, calls_copy}

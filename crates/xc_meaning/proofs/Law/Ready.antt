@@ -1,6 +1,6 @@
 -- The items of a text settle: after some silent steps, which leave the kernel's items as they are, the first one is met by the
 -- kernel's first.
-use Rattle.std.proofs.Common.{◌≡◌, ℕ, zero, suc, ◌+◌, ◌-◌, ◌≤◌, Bool, true, false, List, [], ◌∷◌, ◌++◌, map, length, Option, Some, None, option_map, nat_eq, refl, sym, ◌∙◌, ap, ap₂}
+use Rattle.std.proofs.Common.{◌≡◌, ℕ, ◌-◌, ◌≤◌, Bool, true, false, List, [], ◌∷◌, ◌++◌, length, Option, Some, None, option_map, nat_eq, refl, sym, ◌∙◌, ap, ap₂}
 use Rattle.xw_words.specs.declared.pos.Pos.{Pos}
 use Rattle.xc_tree.specs.declared.tree.Id.{Id}
 use Rattle.xc_tree.specs.declared.tree.Param.{Param}
@@ -11,28 +11,28 @@ use Rattle.xc_kernel.specs.Paths.{Path, path_at}
 use Rattle.xc_kernel.specs.Numbering.{variable_number}
 use Rattle.xc_kernel.specs.Scopes.{Scope}
 use Rattle.xc_kernel.specs.Programs.{Function}
-use Rattle.xc_kernel.specs.Copy.{Copy, code_of}
-use Rattle.xc_kernel.specs.Context.{Context, in_branch, expression, place, word_at, set_word, set_zero, leave, block_at, declares_word}
+use Rattle.xc_kernel.specs.Copy.{code_of}
+use Rattle.xc_kernel.specs.Context.{Context, expression, place, word_at, set_word, set_zero, leave, block_at, declares_word}
 use Rattle.xc_kernel.specs.Expressions.{updated}
 use Rattle.xc_kernel.specs.Parameters.{passed}
 use Rattle.xc_kernel.specs.Calls.{called, call_copy, result_copy, path_of_call, path_of_result, value_of, right_is_unsigned}
 use Rattle.xc_kernel.specs.Transfers.{output_of, input_of}
 use Rattle.xc_kernel.specs.Flow.{numbered_copy, replicated}
-use Rattle.xc_kernel.specs.Statements.{pos_of_branch, assign_by, branch_copy, branches_copy, cases_copy, statement_copy, maybe_copy, statements_copy}
-use Rattle.xc_meaning.specs.States.Items.{Loop, TextItem, statement, name, bound, body, first_test, again, again_do, returned, Item, does, says, stores, mark, awaits, closes, chooses, fixed, ends, todo}
+use Rattle.xc_kernel.specs.Statements.{pos_of_branch, assign_by, branch_copy, branches_copy, cases_copy, maybe_copy, statements_copy}
+use Rattle.xc_meaning.specs.States.Items.{Loop, TextItem, statement, name, bound, body, first_test, again_do, returned, Item, does, says, stores, mark, awaits, closes, chooses, fixed, ends, todo}
 use Rattle.xc_meaning.specs.States.Worlds.{World, with_zeros}
 use Rattle.xc_meaning.specs.Moves.Step.{Step, goes_to}
 use Rattle.xc_meaning.specs.Moves.Par.{makes}
 use Rattle.xc_meaning.specs.Moves.Select.{begins_select}
 use Rattle.xc_meaning.specs.Moves.Kernel.{does_statement}
 use Rattle.xc_meaning.specs.Texts.Copied.{calls_in, behind, behind_maybe, behind_name, channel_in, block_in}
-use Rattle.xc_meaning.specs.Texts.Items.{name_items, statement_items, maybe_items, statements_items, entered_items, only}
+use Rattle.xc_meaning.specs.Texts.Items.{name_items, statement_items, maybe_items, statements_items, entered_items}
 use Rattle.xc_meaning.specs.Texts.Calls.{passing_items, parameter_items, call_items, with_result, begins_call, calls}
-use Rattle.xc_meaning.specs.Texts.Loops.{turn_items, turn_item, for_loop, while_loop, tests_first, begins_do}
+use Rattle.xc_meaning.specs.Texts.Loops.{for_loop, while_loop, tests_first, begins_do}
 use Rattle.xc_meaning.specs.Texts.Par.{branches_begun, copies_begun}
 use Rattle.xc_meaning.specs.Texts.Select.{text_enabled, text_default}
 use Rattle.xc_meaning.specs.Texts.Statements.{assigns_by, returns_value, says_item}
-use Rattle.xc_meaning.proofs.Law.KernelItems.{loop_path, loop_of, do_loop_of, code_of_item, kernel_items, todo_all, of_names, of_statement, of_maybe, of_statements, of_only, call_code, of_call}
+use Rattle.xc_meaning.proofs.Law.KernelItems.{loop_path, loop_of, do_loop_of, kernel_items, todo_all, of_names, of_statement, of_maybe, of_statements, call_code, of_call}
 use Rattle.xc_meaning.proofs.Law.Mixed.{Ahead, mixed, with_ahead, mixed_step}
 use Rattle.xc_meaning.proofs.Law.Alike.{goes_to_by, assigned_alike, zeroed_alike, tests_alike, leaves_alike, opens_alike, outputs_to_alike, inputs_from_alike}
 use Rattle.xc_meaning.proofs.Law.Select.{enabled_alike, default_alike, begins_alike}

@@ -1,6 +1,6 @@
 -- Sound states: each item of a text stands in a program of the same functions, and the test of a `do` in front of its mark. Steps
 -- keep states sound.
-use Rattle.std.proofs.Common.{◌≡◌, ℕ, zero, suc, ◌+◌, ◌-◌, Bool, true, false, List, [], ◌∷◌, ◌++◌, map, length, Option, Some, None, slice_get, slice_set, nat_eq, refl, sym, ◌∙◌}
+use Rattle.std.proofs.Common.{◌≡◌, ℕ, zero, suc, ◌+◌, ◌-◌, Bool, true, false, List, [], ◌∷◌, ◌++◌, length, Option, Some, None, slice_get, slice_set, nat_eq, refl, sym, append-nil}
 use Rattle.xw_words.specs.declared.pos.Pos.{Pos}
 use Rattle.xs_instr.specs.declared.trace.Trap.{Trap}
 use Rattle.xs_instr.specs.declared.trace.Trap.TheVariants.{Mismatch}
@@ -14,8 +14,8 @@ use Rattle.xc_kernel.specs.Operators.{equals}
 use Rattle.xc_kernel.specs.Paths.{Path, path_at}
 use Rattle.xc_kernel.specs.Scopes.{Scope, a_constant, with_name}
 use Rattle.xc_kernel.specs.Programs.{Function}
-use Rattle.xc_kernel.specs.Context.{Context, in_branch, in_function, in_loop, expression, maybe_expression, place, declares_word, word_at}
-use Rattle.xc_kernel.specs.Parameters.{passed, all_passed}
+use Rattle.xc_kernel.specs.Context.{Context, in_branch, expression, maybe_expression, place, declares_word, word_at}
+use Rattle.xc_kernel.specs.Parameters.{passed}
 use Rattle.xc_kernel.specs.Calls.{called, value_of, right_is_unsigned}
 use Rattle.xc_kernel.specs.Transfers.{output_of, input_of}
 use Rattle.xc_kernel.specs.Expressions.{updated}
@@ -24,19 +24,19 @@ use Rattle.xc_kernel.specs.Eval.{Store, eval, words_of}
 use Rattle.xc_meaning.specs.States.Channels.{Parcel, offer, opening, closing, taken, Side}
 use Rattle.xc_meaning.specs.States.Channels as channel
 use Rattle.xc_meaning.specs.States.Items.{Loop, TextItem, statement, name, bound, body, first_test, again, again_do, returned, When, Body, of_kernel, of_text, Choice, Item, does, says, stores, mark, awaits, closes, chooses, fixed, ends, todo, body_items, storing}
-use Rattle.xc_meaning.specs.States.Branches.{Branch, side_of}
+use Rattle.xc_meaning.specs.States.Branches.{Branch, waits, side_of}
 use Rattle.xc_meaning.specs.States.Worlds.{World, only_if}
-use Rattle.xc_meaning.specs.Moves.Step.{Step, becomes, goes_to, errs, kind_of, with_value, with_word_of}
-use Rattle.xc_meaning.specs.Moves.Stores.{stored, assigned, zeroed, stored_in}
+use Rattle.xc_meaning.specs.Moves.Step.{Step, becomes, goes_to, errs, kind_of, with_value}
+use Rattle.xc_meaning.specs.Moves.Stores.{stored, assigned}
 use Rattle.xc_meaning.specs.Moves.Flow.{items_by, tests, from_mark_by, items_from_mark, leaves}
-use Rattle.xc_meaning.specs.Moves.Par.{Begun, begun, all_begun, children, waits_for, makes, joins, all_done}
-use Rattle.xc_meaning.specs.Moves.Channels.{Manner, plain, inside, manner_of, on_side, parcel_at, has_room, outputs, inputs_parcel, awaits_parcel, awaits_answer}
+use Rattle.xc_meaning.specs.Moves.Par.{Begun, all_begun, children, makes}
+use Rattle.xc_meaning.specs.Moves.Channels.{Manner, plain, inside, manner_of, parcel_at, has_room, outputs, inputs_parcel, awaits_parcel, awaits_answer}
 use Rattle.xc_meaning.specs.Moves.Transactions as transaction
 use Rattle.xc_meaning.specs.Moves.Time.{Timing, passes, fails, timing, with_timing, port_may_pass, timer_may_pass, counter_of}
 use Rattle.xc_meaning.specs.Moves.Transfers.{outputs_to, inputs_from, inputs_fixed}
 use Rattle.xc_meaning.specs.Moves.Select.{Enabled, these, wrong, kept, elsewhere, same_resource, before_others, timed_case, case_by, guarded_case, guard_value, and_case, enabled, default_of, begins_select, is_ready, none_ready, input_taken, takes_case, takes, takes_default}
 use Rattle.xc_meaning.specs.Moves.Kernel.{does_statement}
-use Rattle.xc_meaning.specs.Texts.Copied.{behind, behind_maybe, behind_name, behind_branch, channel_in, block_in}
+use Rattle.xc_meaning.specs.Texts.Copied.{behind, behind_name, behind_branch, block_in}
 use Rattle.xc_meaning.specs.Texts.Items.{name_items, statement_items, maybe_items, statements_items}
 use Rattle.xc_meaning.specs.Texts.Calls.{passing_items, parameter_items, call_items, with_result, begins_call, calls, stores_right}
 use Rattle.xc_meaning.specs.Texts.Declarations.{declares}
@@ -97,9 +97,21 @@ module _ (fs : List Function) where
   abbrev pub SoundWorld : World → Type 0
   SoundWorld x = SoundBranches x.branches
 
-  abbrev pub Keeps : Option World → Type 0
-  Keeps None = Unit {0}
-  Keeps (Some x) = SoundWorld x
+  -- of some branches one has become another, and there are new ones, with sound items
+  pub record Changed (n : ℕ) (bs after : List Branch) : Type 0 where
+    pub now : Branch
+    pub more : List Branch
+    pub is : after ≡ slice_set bs n now ++ more
+    pub sound_now : SoundItems now.items
+    pub sound_more : SoundBranches more
+
+  abbrev pub Kept : Step → World → Type 0
+  Kept s x = Changed s.number s.world.branches x.branches
+
+  -- what a step leaves
+  abbrev pub Keeps : Step → Option World → Type 0
+  Keeps s None = Unit {0}
+  Keeps s (Some x) = Kept s x
 
   abbrev pub SoundBegun : List Begun → Type 0
   SoundBegun [] = Unit {0}
@@ -189,163 +201,168 @@ module _ (fs : List Function) where
 
   -- Steps.
 
-  module _ (s : Step) (hw : SoundWorld s.world) where
-    pub keeps_becomes : (b : Branch) → SoundItems b.items → SoundWorld (becomes s b)
-    keeps_becomes b h = sound_set s.world.branches s.number b hw h
+  module _ (s : Step) where
+    pub keeps_becomes : (b : Branch) → SoundItems b.items → Kept s (becomes s b)
+    keeps_becomes b h = record { now = b; more = []; is = sym (append-nil (slice_set s.world.branches s.number b)); sound_now = h; sound_more = tt }
 
-    pub keeps_goes : (left : List Item) → SoundItems left → SoundWorld (goes_to s left)
+    pub keeps_goes : (left : List Item) → SoundItems left → Kept s (goes_to s left)
     keeps_goes left h = keeps_becomes (record s.branch { items = left }) h
 
-    pub keeps_errs : (kind : Trap) (pos : Pos) → Keeps (errs s kind pos)
+    pub keeps_errs : (kind : Trap) (pos : Pos) → Keeps s (errs s kind pos)
     keeps_errs kind pos = keeps_becomes _ tt
 
-    pub keeps_value : (v : Value) (go : ℕ → Option World) → ((w : ℕ) → Keeps (go w)) → Keeps (with_value s v go)
+    pub keeps_value : (v : Value) (go : ℕ → Option World) → ((w : ℕ) → Keeps s (go w)) → Keeps s (with_value s v go)
     keeps_value (word w) go h = h w
     keeps_value (error kind pos) go h = keeps_errs (kind_of kind) pos
 
-    keeps_timing : (t : Timing) (go : When → Option World) → ((when : When) → Keeps (go when)) → Keeps (with_timing s t go)
+    keeps_timing : (t : Timing) (go : When → Option World) → ((when : When) → Keeps s (go when)) → Keeps s (with_timing s t go)
     keeps_timing (passes when) go h = h when
     keeps_timing (fails kind pos) go h = keeps_errs (kind_of kind) pos
 
-    keeps_if : (b : Bool) (x : World) → SoundWorld x → Keeps (only_if b x)
+    keeps_if : (b : Bool) (x : World) → Kept s x → Keeps s (only_if b x)
     keeps_if true x h = h
     keeps_if false x h = tt
 
-    keeps_side : (side : Option Side) (go : Side → Option World) → ((side : Side) → Keeps (go side)) → Keeps (and_then side go)
+    keeps_side : (side : Option Side) (go : Side → Option World) → ((side : Side) → Keeps s (go side)) → Keeps s (and_then side go)
     keeps_side None go h = tt
     keeps_side (Some side) go h = h side
 
-    pub keeps_makes : (bs : List Begun) → SoundItems s.rest → SoundBegun bs → Keeps (makes s bs)
+    pub keeps_makes : (bs : List Begun) → SoundItems s.rest → SoundBegun bs → Keeps s (makes s bs)
     keeps_makes [] hr hb = keeps_goes s.rest hr
-    keeps_makes (b ∷ bs) hr hb =
-        sound_append (waits_for s (length (b ∷ bs))).branches (children s (length (b ∷ bs)) 0 [] (b ∷ bs)) (keeps_becomes _ hr) (born (length (b ∷ bs)) 0 [] (b ∷ bs) hb)
+    keeps_makes (b ∷ bs) hr hb = record {
+      now = record s.branch { mode = waits (length s.world.branches) (length (b ∷ bs)); items = s.rest };
+      more = children s (length (b ∷ bs)) 0 [] (b ∷ bs);
+      is = refl;
+      sound_now = hr;
+      sound_more = born (length (b ∷ bs)) 0 [] (b ∷ bs) hb;
+    }
       where
         born : (among index : ℕ) (before : List kernel.Statements) (bs : List Begun) → SoundBegun bs → SoundBranches (children s among index before bs)
         born among index before [] h = tt
         born among index before (b ∷ bs) h = (h.0, born among (index + 1) (b.code ∷ before) bs h.1)
 
   -- a step with sound items behind it
-  module _ (s : Step) (hw : SoundWorld s.world) (hr : SoundItems s.rest) where
-    pub keeps_stored : (place : kernel.Place) (v : ℕ) → Keeps (stored s place v)
-    keeps_stored (kernel.word variable) v = keeps_goes s hw s.rest hr
+  module _ (s : Step) (hr : SoundItems s.rest) where
+    pub keeps_stored : (place : kernel.Place) (v : ℕ) → Keeps s (stored s place v)
+    keeps_stored (kernel.word variable) v = keeps_goes s s.rest hr
     keeps_stored (kernel.element variable index pos) v =
-        keeps_value s hw (eval s.world.store index) _ (λ i. keeps_value s hw (tested i (length (words_of s.world.store variable)) pos) _ (λ j. keeps_goes s hw s.rest hr))
+        keeps_value s (eval s.world.store index) _ (λ i. keeps_value s (tested i (length (words_of s.world.store variable)) pos) _ (λ j. keeps_goes s s.rest hr))
 
-    pub keeps_assigned : (place : kernel.Place) (e : kernel.Expression) → Keeps (assigned s place e)
-    keeps_assigned place e = keeps_value s hw (eval s.world.store e) _ (keeps_stored place)
+    pub keeps_assigned : (place : kernel.Place) (e : kernel.Expression) → Keeps s (assigned s place e)
+    keeps_assigned place e = keeps_value s (eval s.world.store e) _ (keeps_stored place)
 
-    keeps_items : (b : Bool) (held other : List Item) → SoundItems held → SoundItems other → SoundWorld (goes_to s (items_by b held other))
-    keeps_items true held other h g = keeps_goes s hw held h
-    keeps_items false held other h g = keeps_goes s hw other g
+    keeps_items : (b : Bool) (held other : List Item) → SoundItems held → SoundItems other → Kept s (goes_to s (items_by b held other))
+    keeps_items true held other h g = keeps_goes s held h
+    keeps_items false held other h g = keeps_goes s other g
 
-    pub keeps_tests : (test : kernel.Expression) (held other : List Item) → SoundItems held → SoundItems other → Keeps (tests s test held other)
-    keeps_tests test held other h g = keeps_value s hw (eval s.world.store test) _ (λ v. keeps_items (is_true v) held other h g)
+    pub keeps_tests : (test : kernel.Expression) (held other : List Item) → SoundItems held → SoundItems other → Keeps s (tests s test held other)
+    keeps_tests test held other h g = keeps_value s (eval s.world.store test) _ (λ v. keeps_items (is_true v) held other h g)
 
-    pub keeps_leaves : (n : ℕ) → Keeps (leaves s n)
-    keeps_leaves n = keeps_goes s hw (items_from_mark n s.rest) (sound_from_mark n s.rest hr)
+    pub keeps_leaves : (n : ℕ) → Keeps s (leaves s n)
+    keeps_leaves n = keeps_goes s (items_from_mark n s.rest) (sound_from_mark n s.rest hr)
 
-    keeps_output : (c : ℕ) (pos : Pos) (v : ℕ) (manner : Manner) (side : Side) → Keeps (outputs s c pos v manner side)
-    keeps_output c pos v plain side = keeps_goes s hw (awaits c pos ∷ s.rest) hr
-    keeps_output c pos v inside side = keeps_if s hw (has_room s c side) _ (keeps_goes s hw s.rest hr)
+    keeps_output : (c : ℕ) (pos : Pos) (v : ℕ) (manner : Manner) (side : Side) → Keeps s (outputs s c pos v manner side)
+    keeps_output c pos v plain side = keeps_goes s (awaits c pos ∷ s.rest) hr
+    keeps_output c pos v inside side = keeps_if s (has_room s c side) _ (keeps_goes s s.rest hr)
 
-    keeps_input : (c : ℕ) (target : Option kernel.Place) (pos : Pos) (side : Side) (manner : Manner) (parcel : Option Parcel) → Keeps (inputs_parcel s c target pos side manner parcel)
+    keeps_input : (c : ℕ) (target : Option kernel.Place) (pos : Pos) (side : Side) (manner : Manner) (parcel : Option Parcel) → Keeps s (inputs_parcel s c target pos side manner parcel)
     keeps_input c target pos side manner None = tt
-    keeps_input c target pos side plain (Some (offer v)) = keeps_goes s hw (storing target v s.rest) (sound_storing target v s.rest hr)
-    keeps_input c target pos side plain (Some opening) = keeps_errs s hw Mismatch pos
-    keeps_input c target pos side plain (Some (channel.word v)) = keeps_errs s hw Mismatch pos
-    keeps_input c target pos side plain (Some closing) = keeps_errs s hw Mismatch pos
-    keeps_input c target pos side plain (Some taken) = keeps_errs s hw Mismatch pos
-    keeps_input c target pos side inside (Some (offer v)) = keeps_errs s hw Mismatch pos
-    keeps_input c target pos side inside (Some opening) = keeps_errs s hw Mismatch pos
-    keeps_input c target pos side inside (Some (channel.word v)) = keeps_goes s hw (storing target v s.rest) (sound_storing target v s.rest hr)
-    keeps_input c target pos side inside (Some closing) = keeps_errs s hw Mismatch pos
-    keeps_input c target pos side inside (Some taken) = keeps_errs s hw Mismatch pos
+    keeps_input c target pos side plain (Some (offer v)) = keeps_goes s (storing target v s.rest) (sound_storing target v s.rest hr)
+    keeps_input c target pos side plain (Some opening) = keeps_errs s Mismatch pos
+    keeps_input c target pos side plain (Some (channel.word v)) = keeps_errs s Mismatch pos
+    keeps_input c target pos side plain (Some closing) = keeps_errs s Mismatch pos
+    keeps_input c target pos side plain (Some taken) = keeps_errs s Mismatch pos
+    keeps_input c target pos side inside (Some (offer v)) = keeps_errs s Mismatch pos
+    keeps_input c target pos side inside (Some opening) = keeps_errs s Mismatch pos
+    keeps_input c target pos side inside (Some (channel.word v)) = keeps_goes s (storing target v s.rest) (sound_storing target v s.rest hr)
+    keeps_input c target pos side inside (Some closing) = keeps_errs s Mismatch pos
+    keeps_input c target pos side inside (Some taken) = keeps_errs s Mismatch pos
 
-    keeps_answer : (c : ℕ) (pos : Pos) (side : Side) (parcel : Option Parcel) → Keeps (awaits_parcel s c pos side parcel)
+    keeps_answer : (c : ℕ) (pos : Pos) (side : Side) (parcel : Option Parcel) → Keeps s (awaits_parcel s c pos side parcel)
     keeps_answer c pos side None = tt
-    keeps_answer c pos side (Some (offer v)) = keeps_errs s hw Mismatch pos
-    keeps_answer c pos side (Some opening) = keeps_errs s hw Mismatch pos
-    keeps_answer c pos side (Some (channel.word v)) = keeps_errs s hw Mismatch pos
-    keeps_answer c pos side (Some closing) = keeps_errs s hw Mismatch pos
-    keeps_answer c pos side (Some taken) = keeps_goes s hw s.rest hr
+    keeps_answer c pos side (Some (offer v)) = keeps_errs s Mismatch pos
+    keeps_answer c pos side (Some opening) = keeps_errs s Mismatch pos
+    keeps_answer c pos side (Some (channel.word v)) = keeps_errs s Mismatch pos
+    keeps_answer c pos side (Some closing) = keeps_errs s Mismatch pos
+    keeps_answer c pos side (Some taken) = keeps_goes s s.rest hr
 
-    pub keeps_awaits : (c : ℕ) (pos : Pos) → Keeps (awaits_answer s c pos)
-    keeps_awaits c pos = keeps_side s hw (side_of s.branch c) _ (λ side. keeps_answer c pos side (parcel_at s c side))
+    pub keeps_awaits : (c : ℕ) (pos : Pos) → Keeps s (awaits_answer s c pos)
+    keeps_awaits c pos = keeps_side s (side_of s.branch c) _ (λ side. keeps_answer c pos side (parcel_at s c side))
 
-    keeps_opened : (c : ℕ) (left : List Item) (pos : Pos) (side : Side) (parcel : Option Parcel) → SoundItems left → Keeps (transaction.is_opened s c left pos side parcel)
+    keeps_opened : (c : ℕ) (left : List Item) (pos : Pos) (side : Side) (parcel : Option Parcel) → SoundItems left → Keeps s (transaction.is_opened s c left pos side parcel)
     keeps_opened c left pos side None h = tt
-    keeps_opened c left pos side (Some (offer v)) h = keeps_errs s hw Mismatch pos
-    keeps_opened c left pos side (Some opening) h = keeps_becomes s hw _ h
-    keeps_opened c left pos side (Some (channel.word v)) h = keeps_errs s hw Mismatch pos
-    keeps_opened c left pos side (Some closing) h = keeps_errs s hw Mismatch pos
-    keeps_opened c left pos side (Some taken) h = keeps_errs s hw Mismatch pos
+    keeps_opened c left pos side (Some (offer v)) h = keeps_errs s Mismatch pos
+    keeps_opened c left pos side (Some opening) h = keeps_becomes s _ h
+    keeps_opened c left pos side (Some (channel.word v)) h = keeps_errs s Mismatch pos
+    keeps_opened c left pos side (Some closing) h = keeps_errs s Mismatch pos
+    keeps_opened c left pos side (Some taken) h = keeps_errs s Mismatch pos
 
-    keeps_opens_by : (is_master : Bool) (c : ℕ) (left : List Item) (pos : Pos) (side : Side) → SoundItems left → Keeps (transaction.opens_by is_master s c left pos side)
-    keeps_opens_by true c left pos side h = keeps_becomes s hw _ h
+    keeps_opens_by : (is_master : Bool) (c : ℕ) (left : List Item) (pos : Pos) (side : Side) → SoundItems left → Keeps s (transaction.opens_by is_master s c left pos side)
+    keeps_opens_by true c left pos side h = keeps_becomes s _ h
     keeps_opens_by false c left pos side h = keeps_opened c left pos side (parcel_at s c side) h
 
-    pub keeps_opens : (c : ℕ) (is_master : Bool) (left : List Item) (pos : Pos) → SoundItems left → Keeps (transaction.opens s c is_master left pos)
-    keeps_opens c is_master left pos h = keeps_side s hw (side_of s.branch c) _ (λ side. keeps_opens_by is_master c left pos side h)
+    pub keeps_opens : (c : ℕ) (is_master : Bool) (left : List Item) (pos : Pos) → SoundItems left → Keeps s (transaction.opens s c is_master left pos)
+    keeps_opens c is_master left pos h = keeps_side s (side_of s.branch c) _ (λ side. keeps_opens_by is_master c left pos side h)
 
-    keeps_closed : (c : ℕ) (pos : Pos) (side : Side) (parcel : Option Parcel) → Keeps (transaction.is_closed s c pos side parcel)
+    keeps_closed : (c : ℕ) (pos : Pos) (side : Side) (parcel : Option Parcel) → Keeps s (transaction.is_closed s c pos side parcel)
     keeps_closed c pos side None = tt
-    keeps_closed c pos side (Some (offer v)) = keeps_errs s hw Mismatch pos
-    keeps_closed c pos side (Some opening) = keeps_errs s hw Mismatch pos
-    keeps_closed c pos side (Some (channel.word v)) = keeps_errs s hw Mismatch pos
-    keeps_closed c pos side (Some closing) = keeps_becomes s hw _ hr
-    keeps_closed c pos side (Some taken) = keeps_errs s hw Mismatch pos
+    keeps_closed c pos side (Some (offer v)) = keeps_errs s Mismatch pos
+    keeps_closed c pos side (Some opening) = keeps_errs s Mismatch pos
+    keeps_closed c pos side (Some (channel.word v)) = keeps_errs s Mismatch pos
+    keeps_closed c pos side (Some closing) = keeps_becomes s _ hr
+    keeps_closed c pos side (Some taken) = keeps_errs s Mismatch pos
 
-    keeps_closes_by : (is_master : Bool) (c : ℕ) (pos : Pos) (side : Side) → Keeps (transaction.closes_by is_master s c pos side)
-    keeps_closes_by true c pos side = keeps_if s hw (has_room s c side) _ (keeps_becomes s hw _ hr)
+    keeps_closes_by : (is_master : Bool) (c : ℕ) (pos : Pos) (side : Side) → Keeps s (transaction.closes_by is_master s c pos side)
+    keeps_closes_by true c pos side = keeps_if s (has_room s c side) _ (keeps_becomes s _ hr)
     keeps_closes_by false c pos side = keeps_closed c pos side (parcel_at s c side)
 
-    pub keeps_closes : (c : ℕ) (is_master : Bool) (pos : Pos) → Keeps (transaction.closes s c is_master pos)
-    keeps_closes c is_master pos = keeps_side s hw (side_of s.branch c) _ (λ side. keeps_closes_by is_master c pos side)
+    pub keeps_closes : (c : ℕ) (is_master : Bool) (pos : Pos) → Keeps s (transaction.closes s c is_master pos)
+    keeps_closes c is_master pos = keeps_side s (side_of s.branch c) _ (λ side. keeps_closes_by is_master c pos side)
 
     sound_two : (a b : Option kernel.Place) (v w : ℕ) → SoundItems (storing a v (storing b w s.rest))
     sound_two a b v w = sound_storing a v (storing b w s.rest) (sound_storing b w s.rest hr)
 
-    pub keeps_outputs : (o : kernel.Output) (r : KRes) → Keeps (outputs_to s o r)
+    pub keeps_outputs : (o : kernel.Output) (r : KRes) → Keeps s (outputs_to s o r)
     keeps_outputs o (Port p) =
-        keeps_timing s hw (timing s.world.store o.time None) _ (λ when. keeps_value s hw (eval s.world.store o.value) _ (λ v. keeps_if s hw (port_may_pass s p when) _
-        (keeps_goes s hw (storing o.stamp (counter_of s) s.rest) (sound_storing o.stamp (counter_of s) s.rest hr))))
+        keeps_timing s (timing s.world.store o.time None) _ (λ when. keeps_value s (eval s.world.store o.value) _ (λ v. keeps_if s (port_may_pass s p when) _
+        (keeps_goes s (storing o.stamp (counter_of s) s.rest) (sound_storing o.stamp (counter_of s) s.rest hr))))
     keeps_outputs o (Timer t) = tt
-    keeps_outputs o (Chan c) = keeps_value s hw (eval s.world.store o.value) _ (λ v. keeps_side s hw (side_of s.branch c) _ (λ side. keeps_output c o.pos v (manner_of s c) side))
+    keeps_outputs o (Chan c) = keeps_value s (eval s.world.store o.value) _ (λ v. keeps_side s (side_of s.branch c) _ (λ side. keeps_output c o.pos v (manner_of s c) side))
 
-    pub keeps_inputs : (i : kernel.Input) (r : KRes) → Keeps (inputs_from s i r)
+    pub keeps_inputs : (i : kernel.Input) (r : KRes) → Keeps s (inputs_from s i r)
     keeps_inputs input (Port p) =
-        keeps_timing s hw (timing s.world.store input.time input.condition) _ (λ when. keeps_if s hw (port_may_pass s p when) _ (keeps_goes s hw _ (sound_two input.target input.stamp _ _)))
+        keeps_timing s (timing s.world.store input.time input.condition) _ (λ when. keeps_if s (port_may_pass s p when) _ (keeps_goes s _ (sound_two input.target input.stamp _ _)))
     keeps_inputs input (Timer t) =
-        keeps_timing s hw (timing s.world.store input.time input.condition) _ (λ when. keeps_if s hw (timer_may_pass s when) _ (keeps_goes s hw _ (sound_storing input.target _ s.rest hr)))
-    keeps_inputs input (Chan c) = keeps_side s hw (side_of s.branch c) _ (λ side. keeps_input c input.target input.pos side (manner_of s c) (parcel_at s c side))
+        keeps_timing s (timing s.world.store input.time input.condition) _ (λ when. keeps_if s (timer_may_pass s when) _ (keeps_goes s _ (sound_storing input.target _ s.rest hr)))
+    keeps_inputs input (Chan c) = keeps_side s (side_of s.branch c) _ (λ side. keeps_input c input.target input.pos side (manner_of s c) (parcel_at s c side))
 
-    pub keeps_fixed : (i : kernel.Input) (v counter : ℕ) (r : KRes) → Keeps (inputs_fixed s i v counter r)
-    keeps_fixed input v counter (Port p) = keeps_goes s hw _ (sound_two input.target input.stamp v counter)
-    keeps_fixed input v counter (Timer t) = keeps_goes s hw _ (sound_storing input.target v s.rest hr)
+    pub keeps_fixed : (i : kernel.Input) (v counter : ℕ) (r : KRes) → Keeps s (inputs_fixed s i v counter r)
+    keeps_fixed input v counter (Port p) = keeps_goes s _ (sound_two input.target input.stamp v counter)
+    keeps_fixed input v counter (Timer t) = keeps_goes s _ (sound_storing input.target v s.rest hr)
     keeps_fixed input v counter (Chan c) = tt
 
     -- selects
 
-    pub keeps_begins : (otherwise : Option Body) (e : Enabled) → SoundDefault otherwise → SoundEnabled e → Keeps (begins_select s otherwise e)
-    keeps_begins otherwise (these cs) hd he = keeps_goes s hw (chooses cs otherwise ∷ s.rest) (he, hd, hr)
-    keeps_begins otherwise (wrong kind pos) hd he = keeps_errs s hw (kind_of kind) pos
+    pub keeps_begins : (otherwise : Option Body) (e : Enabled) → SoundDefault otherwise → SoundEnabled e → Keeps s (begins_select s otherwise e)
+    keeps_begins otherwise (these cs) hd he = keeps_goes s (chooses cs otherwise ∷ s.rest) (he, hd, hr)
+    keeps_begins otherwise (wrong kind pos) hd he = keeps_errs s (kind_of kind) pos
 
     sound_taken : (i : kernel.Input) (r : KRes) (b : Body) → SoundBody b → SoundItems (input_taken s i r ∷ body_items b s.rest)
     sound_taken input (Port p) b hb = sound_body b s.rest hb hr
     sound_taken input (Timer t) b hb = sound_body b s.rest hb hr
     sound_taken input (Chan c) b hb = sound_body b s.rest hb hr
 
-    keeps_case : (choices : List Choice) (n : ℕ) → SoundChoices choices → Keeps (and_then (slice_get choices n) (takes_case s))
+    keeps_case : (choices : List Choice) (n : ℕ) → SoundChoices choices → Keeps s (and_then (slice_get choices n) (takes_case s))
     keeps_case [] n h = tt
-    keeps_case (c ∷ cs) zero h = keeps_if s hw (is_ready s c) _ (keeps_goes s hw _ (sound_taken c.input c.input.resource c.body h.0))
+    keeps_case (c ∷ cs) zero h = keeps_if s (is_ready s c) _ (keeps_goes s _ (sound_taken c.input c.input.resource c.body h.0))
     keeps_case (c ∷ cs) (suc n) h = keeps_case cs n h.1
 
-    pub keeps_takes : (n : ℕ) (choices : List Choice) (otherwise : Option Body) → SoundChoices choices → Keeps (takes s n (chooses choices otherwise))
+    pub keeps_takes : (n : ℕ) (choices : List Choice) (otherwise : Option Body) → SoundChoices choices → Keeps s (takes s n (chooses choices otherwise))
     keeps_takes n choices otherwise h = keeps_case choices n h
 
-    pub keeps_default : (choices : List Choice) (otherwise : Option Body) → SoundDefault otherwise → Keeps (takes_default s (chooses choices otherwise))
+    pub keeps_default : (choices : List Choice) (otherwise : Option Body) → SoundDefault otherwise → Keeps s (takes_default s (chooses choices otherwise))
     keeps_default choices None h = tt
-    keeps_default choices (Some b) h = keeps_if s hw (none_ready s choices) _ (keeps_goes s hw (body_items b s.rest) (sound_body b s.rest h hr))
+    keeps_default choices (Some b) h = keeps_if s (none_ready s choices) _ (keeps_goes s (body_items b s.rest) (sound_body b s.rest h hr))
 
   sound_kept : (b : Bool) (c : Choice) (cs : List Choice) → SoundBody c.body → SoundChoices cs → SoundChoices (kept b c cs)
   sound_kept true c cs h hs = hs
@@ -413,90 +430,90 @@ module _ (fs : List Function) where
 
   -- Statements.
 
-  module _ (s : Step) (hw : SoundWorld s.world) (hr : SoundItems s.rest) where
-    pub keeps_statement : (t : kernel.Statement) → Keeps (does_statement s t)
-    keeps_statement (kernel.set_zero variable) = keeps_goes s hw s.rest hr
-    keeps_statement (kernel.set place e) = keeps_assigned s hw hr place e
-    keeps_statement (kernel.output o) = keeps_outputs s hw hr o o.resource
-    keeps_statement (kernel.input input) = keeps_inputs s hw hr input input.resource
-    keeps_statement (kernel.if_then test a b) = keeps_tests s hw hr test _ _ (sound_todo a s.rest hr) (sound_todo b s.rest hr)
-    keeps_statement (kernel.loop test inner next) = keeps_tests s hw hr test _ _ (sound_todo inner _ (sound_todo next (does (kernel.loop test inner next) ∷ s.rest) hr)) hr
-    keeps_statement (kernel.block n ss) = keeps_goes s hw _ (sound_todo ss (mark n ∷ s.rest) hr)
-    keeps_statement (kernel.exit n) = keeps_leaves s hw hr n
-    keeps_statement (kernel.select cases otherwise pos) = keeps_begins s hw hr _ _ (sound_default otherwise) (sound_enabled s.world.store cases)
-    keeps_statement (kernel.par bs) = keeps_makes s hw (all_begun bs) hr (sound_all_begun bs)
-    keeps_statement (kernel.transaction c is_master ss start close) = keeps_opens s hw hr c is_master _ start (sound_todo ss (closes c is_master close ∷ s.rest) hr)
+  module _ (s : Step) (hr : SoundItems s.rest) where
+    pub keeps_statement : (t : kernel.Statement) → Keeps s (does_statement s t)
+    keeps_statement (kernel.set_zero variable) = keeps_goes s s.rest hr
+    keeps_statement (kernel.set place e) = keeps_assigned s hr place e
+    keeps_statement (kernel.output o) = keeps_outputs s hr o o.resource
+    keeps_statement (kernel.input input) = keeps_inputs s hr input input.resource
+    keeps_statement (kernel.if_then test a b) = keeps_tests s hr test _ _ (sound_todo a s.rest hr) (sound_todo b s.rest hr)
+    keeps_statement (kernel.loop test inner next) = keeps_tests s hr test _ _ (sound_todo inner _ (sound_todo next (does (kernel.loop test inner next) ∷ s.rest) hr)) hr
+    keeps_statement (kernel.block n ss) = keeps_goes s _ (sound_todo ss (mark n ∷ s.rest) hr)
+    keeps_statement (kernel.exit n) = keeps_leaves s hr n
+    keeps_statement (kernel.select cases otherwise pos) = keeps_begins s hr _ _ (sound_default otherwise) (sound_enabled s.world.store cases)
+    keeps_statement (kernel.par bs) = keeps_makes s (all_begun bs) hr (sound_all_begun bs)
+    keeps_statement (kernel.transaction c is_master ss start close) = keeps_opens s hr c is_master _ start (sound_todo ss (closes c is_master close ∷ s.rest) hr)
 
-    keeps_result : (r : Option Bool) (x : World) (variable : ℕ) → SoundWorld x → SoundWorld (with_result r x variable)
+    keeps_result : (r : Option Bool) (x : World) (variable : ℕ) → Kept s x → Kept s (with_result r x variable)
     keeps_result None x variable h = h
     keeps_result (Some u) x variable h = h
 
-    keeps_called : (c : Context) (scope : Scope) (pos : Pos) (args : List tree.Argument) (left : List Item) (f : Option Function) → c.functions ≡ fs → SoundItems left → Keeps (begins_call s c scope pos args left f)
-    keeps_called c scope pos args left None fine h = keeps_goes s hw left h
-    keeps_called c scope pos args left (Some f) fine h = keeps_result f.head.result _ _ (keeps_goes s hw _ (sound_call c scope _ f args left fine h))
+    keeps_called : (c : Context) (scope : Scope) (pos : Pos) (args : List tree.Argument) (left : List Item) (f : Option Function) → c.functions ≡ fs → SoundItems left → Keeps s (begins_call s c scope pos args left f)
+    keeps_called c scope pos args left None fine h = keeps_goes s left h
+    keeps_called c scope pos args left (Some f) fine h = keeps_result f.head.result _ _ (keeps_goes s _ (sound_call c scope _ f args left fine h))
 
-    keeps_calls : (c : Context) (scope : Scope) (call : tree.Call) (left : List Item) → c.functions ≡ fs → SoundItems left → Keeps (calls s c scope call left)
+    keeps_calls : (c : Context) (scope : Scope) (call : tree.Call) (left : List Item) → c.functions ≡ fs → SoundItems left → Keeps s (calls s c scope call left)
     keeps_calls c scope call left fine h = keeps_called c scope call.called.pos call.arguments left (called c call) fine h
 
-    keeps_right : (c : Context) (scope : Scope) (place : kernel.Place) (r : tree.RightSide) → c.functions ≡ fs → Keeps (stores_right s c scope place r)
-    keeps_right c scope place (tree.value e) fine = keeps_assigned s hw hr place (expression c scope e)
+    keeps_right : (c : Context) (scope : Scope) (place : kernel.Place) (r : tree.RightSide) → c.functions ≡ fs → Keeps s (stores_right s c scope place r)
+    keeps_right c scope place (tree.value e) fine = keeps_assigned s hr place (expression c scope e)
     keeps_right c scope place (tree.result call) fine = keeps_calls c scope call (does (kernel.set place (value_of c scope (tree.result call))) ∷ s.rest) fine hr
 
-    keeps_declares : (d : tree.Declaration) (k : tree.Kind) (c : Context) (scope : Scope) → c.functions ≡ fs → Keeps (Rattle.xc_meaning.specs.Texts.Declarations.declares_kind s c scope d k)
-    keeps_declares d (tree.word u None) c scope fine = keeps_goes s hw s.rest hr
+    keeps_declares : (d : tree.Declaration) (k : tree.Kind) (c : Context) (scope : Scope) → c.functions ≡ fs → Keeps s (Rattle.xc_meaning.specs.Texts.Declarations.declares_kind s c scope d k)
+    keeps_declares d (tree.word u None) c scope fine = keeps_goes s s.rest hr
     keeps_declares d (tree.word u (Some r)) c scope fine = keeps_right c (declares_word c d.name.text d.name.pos u scope).scope (word_at c (path_at c.path d.name.pos)) r fine
-    keeps_declares d (tree.array u length at) c scope fine = keeps_goes s hw s.rest hr
-    keeps_declares d (tree.channel is_streaming) c scope fine = keeps_goes s hw s.rest hr
-    keeps_declares d tree.timer c scope fine = keeps_goes s hw s.rest hr
+    keeps_declares d (tree.array u length at) c scope fine = keeps_goes s s.rest hr
+    keeps_declares d (tree.channel is_streaming) c scope fine = keeps_goes s s.rest hr
+    keeps_declares d tree.timer c scope fine = keeps_goes s s.rest hr
 
-    keeps_assigns : (b : Bool) (c : Context) (scope : Scope) (to : tree.Expression) (symbol : ℕ) (sign : Pos) (r : tree.RightSide) → c.functions ≡ fs → Keeps (assigns_by b s c scope to symbol sign r)
+    keeps_assigns : (b : Bool) (c : Context) (scope : Scope) (to : tree.Expression) (symbol : ℕ) (sign : Pos) (r : tree.RightSide) → c.functions ≡ fs → Keeps s (assigns_by b s c scope to symbol sign r)
     keeps_assigns true c scope to symbol sign r fine = keeps_right c scope (place c scope to) r fine
-    keeps_assigns false c scope to symbol sign r fine = keeps_assigned s hw hr (place c scope to) (updated c.numbering scope to symbol sign (right_is_unsigned scope r) (value_of c scope r))
+    keeps_assigns false c scope to symbol sign r fine = keeps_assigned s hr (place c scope to) (updated c.numbering scope to symbol sign (right_is_unsigned scope r) (value_of c scope r))
 
     sound_turns : (l : Loop) (rest : List Item) → l.context.functions ≡ fs → SoundItems rest → SoundItems (turn_items l rest)
     sound_turns l rest fine h = (fine, tt, sound_maybe l.next l.context l.scope (says (again l) ∷ rest) fine (fine, tt, h))
 
-    keeps_tests_first : (l : Loop) → l.context.functions ≡ fs → Keeps (tests_first s l)
+    keeps_tests_first : (l : Loop) → l.context.functions ≡ fs → Keeps s (tests_first s l)
     keeps_tests_first l fine =
-        keeps_tests s hw hr (test_in l.context l.scope l.test) (turn_items l (loop_mark l ∷ s.rest)) (loop_mark l ∷ s.rest) (sound_turns l (loop_mark l ∷ s.rest) fine hr) hr
+        keeps_tests s hr (test_in l.context l.scope l.test) (turn_items l (loop_mark l ∷ s.rest)) (loop_mark l ∷ s.rest) (sound_turns l (loop_mark l ∷ s.rest) fine hr) hr
 
-    pub keeps_returns : (c : Context) (e : kernel.Expression) → Keeps (returns_value s c e)
+    pub keeps_returns : (c : Context) (e : kernel.Expression) → Keeps s (returns_value s c e)
     keeps_returns c e =
-        keeps_value s hw (eval s.world.store e) (returns_word s c)
-        (λ v. keeps_stored (record s { rest = items_from_mark (block_in c c.returns) s.rest }) hw (sound_from_mark (block_in c c.returns) s.rest hr) (word_at c c.result) v)
+        keeps_value s (eval s.world.store e) (returns_word s c)
+        (λ v. keeps_stored (record s { rest = items_from_mark (block_in c c.returns) s.rest }) (sound_from_mark (block_in c c.returns) s.rest hr) (word_at c c.result) v)
 
-    keeps_action : (a : tree.Action) (pos close : Pos) (c : Context) (scope : Scope) → c.functions ≡ fs → Keeps (does_action s c scope pos close a)
-    keeps_action tree.empty pos close c scope fine = keeps_goes s hw s.rest hr
-    keeps_action (tree.block ss) pos close c scope fine = keeps_goes s hw _ (sound_statements ss c scope s.rest fine hr)
-    keeps_action (tree.declare ds) pos close c scope fine = keeps_goes s hw _ (sound_names ds c scope s.rest fine hr)
+    keeps_action : (a : tree.Action) (pos close : Pos) (c : Context) (scope : Scope) → c.functions ≡ fs → Keeps s (does_action s c scope pos close a)
+    keeps_action tree.empty pos close c scope fine = keeps_goes s s.rest hr
+    keeps_action (tree.block ss) pos close c scope fine = keeps_goes s _ (sound_statements ss c scope s.rest fine hr)
+    keeps_action (tree.declare ds) pos close c scope fine = keeps_goes s _ (sound_names ds c scope s.rest fine hr)
     keeps_action (tree.assign to symbol sign r) pos close c scope fine = keeps_assigns (nat_eq symbol equals) c scope to symbol sign r fine
-    keeps_action (tree.step to symbol) pos close c scope fine = keeps_assigned s hw hr (place c scope to) (updated c.numbering scope to symbol pos false (kernel.number 1))
-    keeps_action (tree.perform (tree.value e)) pos close c scope fine = keeps_goes s hw s.rest hr
+    keeps_action (tree.step to symbol) pos close c scope fine = keeps_assigned s hr (place c scope to) (updated c.numbering scope to symbol pos false (kernel.number 1))
+    keeps_action (tree.perform (tree.value e)) pos close c scope fine = keeps_goes s s.rest hr
     keeps_action (tree.perform (tree.result call)) pos close c scope fine = keeps_calls c scope call s.rest fine hr
-    keeps_action (tree.output o) pos close c scope fine = keeps_outputs s hw hr (output_of c scope o) (output_of c scope o).resource
-    keeps_action (tree.input input) pos close c scope fine = keeps_inputs s hw hr (input_of c scope input) (input_of c scope input).resource
+    keeps_action (tree.output o) pos close c scope fine = keeps_outputs s hr (output_of c scope o) (output_of c scope o).resource
+    keeps_action (tree.input input) pos close c scope fine = keeps_inputs s hr (input_of c scope input) (input_of c scope input).resource
     keeps_action (tree.if_then test a b) pos close c scope fine =
-        keeps_tests s hw hr (expression c scope test) (statement_items a c scope s.rest) (maybe_items b c (behind a c scope) s.rest) (sound_statement a c scope s.rest fine hr) (sound_maybe b c (behind a c scope) s.rest fine hr)
+        keeps_tests s hr (expression c scope test) (statement_items a c scope s.rest) (maybe_items b c (behind a c scope) s.rest) (sound_statement a c scope s.rest fine hr) (sound_maybe b c (behind a c scope) s.rest fine hr)
     keeps_action (tree.while_loop test inner) pos close c scope fine = keeps_tests_first (while_loop test inner pos c scope) fine
-    keeps_action (tree.do_while inner test) pos close c scope fine = keeps_goes s hw _ (fine, tt, (fine, record { behind = s.rest; is = refl }, hr))
-    keeps_action (tree.for_loop first test next inner) pos close c scope fine = keeps_goes s hw _ (sound_maybe first c scope _ fine (fine, tt, hr))
-    keeps_action (tree.return_with None) pos close c scope fine = keeps_leaves s hw hr _
+    keeps_action (tree.do_while inner test) pos close c scope fine = keeps_goes s _ (fine, tt, (fine, record { behind = s.rest; is = refl }, hr))
+    keeps_action (tree.for_loop first test next inner) pos close c scope fine = keeps_goes s _ (sound_maybe first c scope _ fine (fine, tt, hr))
+    keeps_action (tree.return_with None) pos close c scope fine = keeps_leaves s hr _
     keeps_action (tree.return_with (Some (tree.value e))) pos close c scope fine =
         keeps_returns c (expression c scope e)
     keeps_action (tree.return_with (Some (tree.result call))) pos close c scope fine = keeps_calls c scope call _ fine (tt, tt, hr)
-    keeps_action tree.break_out pos close c scope fine = keeps_leaves s hw hr _
-    keeps_action tree.continue_on pos close c scope fine = keeps_leaves s hw hr _
-    keeps_action (tree.par bs) pos close c scope fine = keeps_makes s hw _ hr (sound_branches bs 0 c scope fine)
-    keeps_action (tree.replicated first second third from until b) pos close c scope fine = keeps_makes s hw _ hr (sound_copies b first.text c scope (until - from) 0 from fine)
-    keeps_action (tree.select cs) pos close c scope fine = keeps_begins s hw hr _ _ (sound_text_default c scope cs fine) (sound_text_enabled s.world.store c scope cs fine)
-    keeps_action (tree.transaction is_master ss) pos close c scope fine = keeps_opens s hw hr _ is_master _ pos (sound_statements ss c scope _ fine hr)
+    keeps_action tree.break_out pos close c scope fine = keeps_leaves s hr _
+    keeps_action tree.continue_on pos close c scope fine = keeps_leaves s hr _
+    keeps_action (tree.par bs) pos close c scope fine = keeps_makes s _ hr (sound_branches bs 0 c scope fine)
+    keeps_action (tree.replicated first second third from until b) pos close c scope fine = keeps_makes s _ hr (sound_copies b first.text c scope (until - from) 0 from fine)
+    keeps_action (tree.select cs) pos close c scope fine = keeps_begins s hr _ _ (sound_text_default c scope cs fine) (sound_text_enabled s.world.store c scope cs fine)
+    keeps_action (tree.transaction is_master ss) pos close c scope fine = keeps_opens s hr _ is_master _ pos (sound_statements ss c scope _ fine hr)
 
-    pub keeps_says : (i : TextItem) → SoundItem i → SoundBefore i s.rest → Keeps (says_item s i)
+    pub keeps_says : (i : TextItem) → SoundItem i → SoundBefore i s.rest → Keeps s (says_item s i)
     keeps_says (statement (tree.statement a pos close own) c scope) fine before = keeps_action a pos close c scope fine
     keeps_says (name d c scope) fine before = keeps_declares d d.kind c scope fine
-    keeps_says bound fine before = keeps_goes s hw s.rest hr
-    keeps_says (body block ss c scope) fine before = keeps_goes s hw _ (sound_statements ss c scope _ fine hr)
+    keeps_says bound fine before = keeps_goes s s.rest hr
+    keeps_says (body block ss c scope) fine before = keeps_goes s _ (sound_statements ss c scope _ fine hr)
     keeps_says (first_test l) fine before = keeps_tests_first l fine
-    keeps_says (again l) fine before = keeps_tests s hw hr (test_in l.context l.scope l.test) (turn_items l s.rest) s.rest (sound_turns l s.rest fine hr) hr
-    keeps_says (again_do l) fine before = keeps_tests s hw hr (test_in l.context (behind l.body (turn_context l) l.scope) l.test) (turn_item l ∷ says (again_do l) ∷ s.rest) s.rest (fine, tt, (fine, before, hr)) hr
+    keeps_says (again l) fine before = keeps_tests s hr (test_in l.context l.scope l.test) (turn_items l s.rest) s.rest (sound_turns l s.rest fine hr) hr
+    keeps_says (again_do l) fine before = keeps_tests s hr (test_in l.context (behind l.body (turn_context l) l.scope) l.test) (turn_item l ∷ says (again_do l) ∷ s.rest) s.rest (fine, tt, (fine, before, hr)) hr
     keeps_says (returned e c) fine before = keeps_returns c e
