@@ -8,3 +8,4 @@ pub mod Par
 pub mod Calls
 pub mod Ready
 pub mod Sound
+pub mod Beside
