@@ -9,3 +9,5 @@ pub mod Calls
 pub mod Ready
 pub mod Sound
 pub mod Beside
+pub mod Plain
+pub mod Settle

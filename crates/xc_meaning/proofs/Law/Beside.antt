@@ -1,5 +1,5 @@
 -- A state of a kernel beside one of a text: the relation between them, and how it is kept.
-use Rattle.std.proofs.Common.{◌≡◌, ℕ, zero, suc, ◌+◌, ◌≤◌, ◌<◌, Bool, true, false, List, [], ◌∷◌, ◌++◌, length, Option, Some, None, option_map, slice_get, slice_set, refl, sym, subst, ◌∙◌, ap, arith, is_some, true≢false}
+use Rattle.std.proofs.Common.{◌≡◌, ℕ, zero, suc, ◌≤◌, ◌<◌, List, [], ◌∷◌, ◌++◌, length, Option, Some, None, slice_get, slice_set, refl, sym, subst, ◌∙◌, ap, arith, is_some, true≢false}
 use Rattle.xc_kernel.specs.Plain as kernel
 use Rattle.xc_kernel.specs.Programs.{Function}
 use Rattle.xc_meaning.specs.States.Items.{Loop, TextItem, again_do, Item, does, says}
@@ -10,7 +10,7 @@ use Rattle.xc_meaning.specs.Moves.Flow.{items_from_mark}
 use Rattle.xc_meaning.specs.Texts.Loops.{loop_mark, turn_item, tests_first, begins_do}
 use Rattle.xc_meaning.specs.Texts.Statements.{says_item}
 use Rattle.xc_meaning.proofs.Law.KernelItems.{kernel_items, loop_of, do_loop_of}
-use Rattle.xc_meaning.proofs.Law.Mixed.{Ahead, mixed_branch, mixed_branches, mixed, ahead_at, with_ahead, mixed_set, mixed_get}
+use Rattle.xc_meaning.proofs.Law.Mixed.{Ahead, mixed_branch, mixed_branches, mixed, ahead_at, with_ahead, mixed_set}
 use Rattle.xc_meaning.proofs.Law.Par.{with_ahead_length, set_length}
 use Rattle.xc_meaning.proofs.Law.Ready.{with_rest}
 use Rattle.xc_meaning.proofs.Law.Sound.{SoundWorld, SoundBranches, Changed, sound_set, sound_append}
@@ -89,7 +89,7 @@ module _ (fs : List Function) where
   pub beside_after : {x y : World} (h : Beside fs x y) (n : ℕ) (b : Branch) → slice_get y.branches n ≡ Some b → (o : Option (List Item)) {x' : World} (y' : World) → x' ≡ mixed (with_ahead h.ahead n o) y' → (c : Changed fs n y.branches y'.branches) → Stands o c.now → Beside fs x' y'
   beside_after {x} {y} h n b e o {x'} y' m c st =
       let short : length (with_ahead h.ahead n o) ≤ length (slice_set y.branches n c.now) =
-          subst (λ l. length (with_ahead h.ahead n o) ≤ l) (sym (set_length y.branches n c.now)) (with_ahead_length h.ahead n o (length y.branches) h.fits (in_range y.branches n b e)) in
+      subst (λ l. length (with_ahead h.ahead n o) ≤ l) (sym (set_length y.branches n c.now)) (with_ahead_length h.ahead n o (length y.branches) h.fits (in_range y.branches n b e)) in
       record {
         ahead = with_ahead h.ahead n o;
         fits = subst (λ bs. length (with_ahead h.ahead n o) ≤ length bs) (sym c.is)

@@ -94,13 +94,13 @@ pub record Settles (items : List Item) : Type 0 where
   pub reaches : Reaches items final
   pub ready : Ready final
 
-settled : (i : TextItem) (rest : List Item) → Meets i rest → Settles (says i ∷ rest)
+pub settled : (i : TextItem) (rest : List Item) → Meets i rest → Settles (says i ∷ rest)
 settled i rest m = record { final = says i ∷ rest; reaches = here (says i ∷ rest); ready = text i rest m }
 
-settled_plain : (item : Item) (rest : List Item) → IsPlain item → Settles (item ∷ rest)
+pub settled_plain : (item : Item) (rest : List Item) → IsPlain item → Settles (item ∷ rest)
 settled_plain item rest p = record { final = item ∷ rest; reaches = here (item ∷ rest); ready = plain item rest p }
 
-settles_by : (i : TextItem) (rest left : List Item) → IsSilent i rest left → Settles left → Settles (says i ∷ rest)
+pub settles_by : (i : TextItem) (rest left : List Item) → IsSilent i rest left → Settles left → Settles (says i ∷ rest)
 settles_by i rest left silent h = record { final = h.final; reaches = silently i rest left h.final silent h.reaches; ready = h.ready }
 
 -- Calls.
@@ -115,7 +115,7 @@ settle_parameters c scope own (p ∷ ps) [] rest h = h
 settle_parameters c scope own (p ∷ ps) (a ∷ args) rest h =
     settle_passing (passed c scope own p.name.pos p.kind a.value).code (parameter_items c scope own ps args rest) (settle_parameters c scope own ps args rest h)
 
-body_meets : (block : Path) (ss : tree.Statements) (c : Context) (scope : Scope) (rest : List Item) → Meets (body block ss c scope) rest
+pub body_meets : (block : Path) (ss : tree.Statements) (c : Context) (scope : Scope) (rest : List Item) → Meets (body block ss c scope) rest
 body_meets block ss c scope rest =
     same (block_at c block (statements_copy (calls_in c) ss c scope).code) (kernel_items rest) refl
     (record { step = λ os items s fits. λ i. Some (goes_to_by os items (with_rest s rest) (entered_items block ss c scope rest) (of_statements ss c scope (mark (block_in c block) ∷ rest)) i) })

@@ -52,7 +52,7 @@ guarded_alike : (v : Value) (with_it : Enabled) {with_it' : Enabled} (others : E
 guarded_alike (word v) with_it others e = case_alike (is_true v) with_it others e
 guarded_alike (error kind pos) with_it others e = refl
 
-and_case_alike : (store : Store) (guard : Option kernel.Expression) (i : kernel.Input) (body : Body) (others : Enabled) → and_case store guard i (kernel_body body) (kernel_enabled others) ≡ kernel_enabled (and_case store guard i body others)
+pub and_case_alike : (store : Store) (guard : Option kernel.Expression) (i : kernel.Input) (body : Body) (others : Enabled) → and_case store guard i (kernel_body body) (kernel_enabled others) ≡ kernel_enabled (and_case store guard i body others)
 and_case_alike store guard input body others =
     guarded_alike (guard_value store guard) (timed_case input body others (timing store input.time input.condition)) others (timed_alike input body others (timing store input.time input.condition))
 
