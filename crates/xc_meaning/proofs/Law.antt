@@ -11,3 +11,4 @@ pub mod Sound
 pub mod Beside
 pub mod Plain
 pub mod Settle
+pub mod Go
