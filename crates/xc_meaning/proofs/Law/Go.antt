@@ -187,3 +187,66 @@ module _ (fs : List Function) (end : AllEnd fs) (K : kernel.Kernel) (stim : Stim
         (Rattle.xc_meaning.proofs.Law.Sound.sound_from_mark fs (block_in c c.returns) rest sound) (leaving (block_in c c.returns) rest refl refl) (sym (some_given ek))
     returned_by c rest (error kind pos) em sound ek et =
         both rest _ _ et (errs_alike h.ahead (mixed_items (ahead_at h.ahead n) b.items) (step_of K stim y n b rest) (kind_of kind) pos) ek (keeps_errs fs (step_of K stim y n b rest) (kind_of kind) pos)
+
+    -- by how the kernel's first item meets the text's
+    module _ (em : b.mode ≡ runs) {x' : World} (hk : moves K stim (mixed h.ahead y) (go n) ≡ Some x') where
+      abbrev before : List Item
+      before = mixed_items (ahead_at h.ahead n) b.items
+
+      abbrev step_before : List Item → Step
+      step_before rest = step_of K stim y n b rest
+
+      follow_meets : (i : TextItem) (rest : List Item) → b.items ≡ says i ∷ rest → mixed_items (ahead_at h.ahead n) b.items ≡ kernel_items (says i ∷ rest) → SoundItems fs (says i ∷ rest) → Meets i rest → Followed x' y
+      follow_meets i rest ei ek sound (same k behind coded alike) =
+          both rest (says_item (step_before rest) i) (does_item (kernel_step behind) (does k)) (text_goes (says i) rest em ei)
+          (alike.step h.ahead before (step_before rest) its_fits) (sym (kernel_goes (does k) behind em (ek ∙ coded)) ∙ hk)
+          (keeps_says fs (step_before rest) sound.2 i sound.0 sound.1)
+      follow_meets i rest ei ek sound (loops l coded stepped) =
+          alone (Some (does (loop_of l) ∷ loop_mark l ∷ kernel_items rest)) (record { mode = em; leads = in_loop i rest l ei refl stepped })
+          (some_given (sym (kernel_goes _ (kernel_items rest) em (ek ∙ coded)) ∙ hk))
+      follow_meets i rest ei ek sound (does_loop l coded stepped) =
+          alone (Some (does (do_loop_of l) ∷ loop_mark l ∷ kernel_items rest)) (record { mode = em; leads = in_do i rest l ei refl stepped })
+          (some_given (sym (kernel_goes _ (kernel_items rest) em (ek ∙ coded)) ∙ hk))
+      follow_meets i rest ei ek sound (repeats l is) =
+          let ei' : b.items ≡ says (again_do l) ∷ rest = ei ∙ ap (λ j. says j ∷ rest) is in
+          let sound' : SoundItems fs (says (again_do l) ∷ rest) = subst (λ j. SoundItems fs (says j ∷ rest)) is sound in
+          by_value l rest em ei' sound' (eval y.store (test_in l.context (behind l.body (turn_context l) l.scope) l.test))
+          (sym (kernel_goes (does (do_test l)) (do_behind l rest em ei' sound') em (ek ∙ ap (λ j. kernel_items (says j ∷ rest)) is)) ∙ hk)
+          (text_goes (says (again_do l)) rest em ei')
+      follow_meets i rest ei ek sound (returns_it c value coded stepped) =
+          returned_by c rest (eval y.store value) em sound.2
+          (sym (kernel_goes _ (does (leave c c.returns) ∷ kernel_items rest) em (ek ∙ coded)) ∙ hk)
+          (text_goes (says i) rest em ei ∙ stepped (step_before rest))
+
+      follow_ready : (items : List Item) → b.items ≡ items → mixed_items (ahead_at h.ahead n) b.items ≡ kernel_items items → SoundItems fs items → Ready items → Followed x' y
+      follow_ready items ei ek sound nothing = absurd (true≢false (sym (ap is_some (sym (kernel_stops em ek) ∙ hk))))
+      follow_ready items ei ek sound (plain item rest p) =
+          both rest (does_item (step_before rest) item) (does_item (kernel_step (kernel_items rest)) (kernel_item item)) (text_goes item rest em ei)
+          (plain_alike h.ahead before (step_before rest) its_fits item p) (sym (kernel_goes (kernel_item item) (kernel_items rest) em (ek ∙ plain_items item rest p)) ∙ hk)
+          (keeps_plain fs (step_before rest) (sound_behind fs item rest sound) item p)
+      follow_ready items ei ek sound (text i rest m) = follow_meets i rest ei ek sound m
+
+      -- a branch of the kernel that is ahead
+      follow_leads : (k : List Item) → mixed_items (ahead_at h.ahead n) b.items ≡ k → SoundItems fs b.items → Leads k b.items → Followed x' y
+      follow_leads k ek sound (in_loop i rest l et eq stepped) =
+          let its : SoundItems fs (says i ∷ rest) = subst (SoundItems fs) et sound in
+          both rest (says_item (step_before rest) i) (does_item (kernel_step (loop_mark l ∷ kernel_items rest)) (does (loop_of l))) (text_goes (says i) rest em et)
+          (tests_alike h.ahead before (step_before rest) (test_in l.context l.scope l.test) _ _ (turn_items l (loop_mark l ∷ rest)) (loop_mark l ∷ rest) (of_turn l (loop_mark l ∷ rest)) refl
+          ∙ sym (ap (option_map (mixed (with_ahead h.ahead n None))) (stepped (step_before rest))))
+          (sym (kernel_goes (does (loop_of l)) (loop_mark l ∷ kernel_items rest) em (ek ∙ eq)) ∙ hk)
+          (keeps_says fs (step_before rest) its.2 i its.0 its.1)
+      follow_leads k ek sound (in_do i rest l et eq stepped) =
+          let its : SoundItems fs (says i ∷ rest) = subst (SoundItems fs) et sound in
+          both rest (says_item (step_before rest) i) (does_item (kernel_step (loop_mark l ∷ kernel_items rest)) (does (do_loop_of l))) (text_goes (says i) rest em et)
+          ((λ j. Some (goes_to_by h.ahead before (step_before rest) (turn_item l ∷ says (again_do l) ∷ loop_mark l ∷ rest) (of_turn_item l (says (again_do l) ∷ loop_mark l ∷ rest)) j))
+          ∙ sym (ap (option_map (mixed (with_ahead h.ahead n None))) (stepped (step_before rest))))
+          (sym (kernel_goes (does (do_loop_of l)) (loop_mark l ∷ kernel_items rest) em (ek ∙ eq)) ∙ hk)
+          (keeps_says fs (step_before rest) its.2 i its.0 its.1)
+      follow_leads k ek sound (in_turn rest l et eq) =
+          alone None tt
+          (ap (λ items. moved fs h.ahead y n (record b { items = items })) (ap kernel_items et ∙ of_turn_item l (says (again_do l) ∷ rest))
+          ∙ some_given (sym (kernel_goes (does (do_loop_of l)) (kernel_items rest) em (ek ∙ eq)) ∙ hk))
+      follow_leads k ek sound (leaving m more et eq) =
+          alone None tt
+          (ap (λ items. moved fs h.ahead y n (record b { items = items })) (ap kernel_items et ∙ sym (of_mark m more))
+          ∙ some_given (sym (kernel_goes (does (kernel.exit m)) (kernel_items more) em (ek ∙ eq)) ∙ hk))
