@@ -12,3 +12,4 @@ pub mod Beside
 pub mod Plain
 pub mod Settle
 pub mod Go
+pub mod Follow

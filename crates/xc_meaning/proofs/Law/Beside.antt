@@ -112,3 +112,7 @@ module _ (fs : List Function) where
     sound = h.sound;
     stand = subst (AllStand (with_ahead h.ahead n o)) (here_is y.branches n b e) (stand_set h.ahead y.branches n o b h.stand st);
   }
+
+  pub after_ahead : {x y : World} (h : Beside fs x y) (n : ℕ) (b : Branch) (e : slice_get y.branches n ≡ Some b) (o : Option (List Item)) {x' : World} (y' : World) (m : x' ≡ mixed (with_ahead h.ahead n o) y') (c : Changed fs n y.branches y'.branches) (st : Stands o c.now) → (beside_after h n b e o y' m c st).ahead ≡ with_ahead h.ahead n o
+  unfolding beside_after
+  after_ahead h n b e o y' m c st = refl

@@ -45,13 +45,13 @@ pub given : (o : Option World) (f : World → World) (x : World) → option_map 
 given None f x e = absurd (true≢false (sym (ap is_some e)))
 given (Some y) f x e = record { result = y; is = refl; from = sym (some_given e) }
 
-ahead_there : (os : Ahead) (n : ℕ) (o : Option (List Item)) → ahead_at (with_ahead os n o) n ≡ o
+pub ahead_there : (os : Ahead) (n : ℕ) (o : Option (List Item)) → ahead_at (with_ahead os n o) n ≡ o
 ahead_there [] zero o = refl
 ahead_there [] (suc n) o = ahead_there [] n o
 ahead_there (p ∷ os) zero o = refl
 ahead_there (p ∷ os) (suc n) o = ahead_there os n o
 
-set_there : (bs : List Branch) (n : ℕ) (b c : Branch) → slice_get bs n ≡ Some b → slice_get (slice_set bs n c) n ≡ Some c
+pub set_there : (bs : List Branch) (n : ℕ) (b c : Branch) → slice_get bs n ≡ Some b → slice_get (slice_set bs n c) n ≡ Some c
 set_there [] n b c e = absurd (true≢false (sym (ap is_some e)))
 set_there (a ∷ bs) zero b c e = refl
 set_there (a ∷ bs) (suc n) b c e = set_there bs n b c e
@@ -65,7 +65,7 @@ sound_at fs (a ∷ bs) zero b h e = subst (λ c. SoundItems fs c.items) (some_gi
 sound_at fs (a ∷ bs) (suc n) b h e = sound_at fs bs n b h.1 e
 
 module _ (fs : List Function) where
-  sound_behind : (item : Item) (rest : List Item) → SoundItems fs (item ∷ rest) → SoundItems fs rest
+  pub sound_behind : (item : Item) (rest : List Item) → SoundItems fs (item ∷ rest) → SoundItems fs rest
   sound_behind (does s) rest h = h
   sound_behind (says i) rest h = h.2
   sound_behind (stores place v) rest h = h
@@ -101,7 +101,7 @@ module _ (fs : List Function) (end : AllEnd fs) (K : kernel.Kernel) (stim : Stim
   pub by_one : {x y : World} (m : Move) (y' : World) → moves K stim y m ≡ Some y' → Beside fs x y' → Followed x y
   by_one {x} {y} m y' e h = record { steps = m ∷ []; leads = y'; led = ap (λ o. moves_all K stim o []) e; beside = h }
 
-  by_more : {x y : World} (m : Move) (y' : World) → moves K stim y m ≡ Some y' → Followed x y' → Followed x y
+  pub by_more : {x y : World} (m : Move) (y' : World) → moves K stim y m ≡ Some y' → Followed x y' → Followed x y
   by_more {x} {y} m y' e f = record { steps = m ∷ f.steps; leads = f.leads; led = ap (λ o. moves_all K stim o f.steps) e ∙ f.led; beside = f.beside }
 
   -- a branch that runs, in the text and in the kernel
@@ -109,29 +109,29 @@ module _ (fs : List Function) (end : AllEnd fs) (K : kernel.Kernel) (stim : Stim
     abbrev kernel_step : List Item → Step
     kernel_step behind = step_of K stim (mixed h.ahead y) n (mixed_branch (ahead_at h.ahead n) b) behind
 
-    text_goes : (item : Item) (rest : List Item) → b.mode ≡ runs → b.items ≡ item ∷ rest → moves K stim y (go n) ≡ does_item (step_of K stim y n b rest) item
+    pub text_goes : (item : Item) (rest : List Item) → b.mode ≡ runs → b.items ≡ item ∷ rest → moves K stim y (go n) ≡ does_item (step_of K stim y n b rest) item
     text_goes item rest em ei =
         ap (λ o. and_then o (goes K stim y n)) e ∙ ap (goes_by K stim y n b) em ∙ ap (does_first K stim y n b does_item) ei
 
-    kernel_goes_by : moves K stim (mixed h.ahead y) (go n) ≡ goes_by K stim (mixed h.ahead y) n (mixed_branch (ahead_at h.ahead n) b) b.mode
+    pub kernel_goes_by : moves K stim (mixed h.ahead y) (go n) ≡ goes_by K stim (mixed h.ahead y) n (mixed_branch (ahead_at h.ahead n) b) b.mode
     kernel_goes_by =
         ap (λ o. and_then o (goes K stim (mixed h.ahead y) n)) (mixed_get h.ahead y.branches n ∙ ap (option_map (mixed_branch (ahead_at h.ahead n))) e)
 
-    kernel_goes : (item : Item) (behind : List Item) → b.mode ≡ runs → mixed_items (ahead_at h.ahead n) b.items ≡ item ∷ behind → moves K stim (mixed h.ahead y) (go n) ≡ does_item (kernel_step behind) item
+    pub kernel_goes : (item : Item) (behind : List Item) → b.mode ≡ runs → mixed_items (ahead_at h.ahead n) b.items ≡ item ∷ behind → moves K stim (mixed h.ahead y) (go n) ≡ does_item (kernel_step behind) item
     kernel_goes item behind em ei =
         kernel_goes_by ∙ ap (goes_by K stim (mixed h.ahead y) n (mixed_branch (ahead_at h.ahead n) b)) em
         ∙ ap (does_first K stim (mixed h.ahead y) n (mixed_branch (ahead_at h.ahead n) b) does_item) ei
 
-    kernel_stops : b.mode ≡ runs → mixed_items (ahead_at h.ahead n) b.items ≡ [] → moves K stim (mixed h.ahead y) (go n) ≡ None
+    pub kernel_stops : b.mode ≡ runs → mixed_items (ahead_at h.ahead n) b.items ≡ [] → moves K stim (mixed h.ahead y) (go n) ≡ None
     kernel_stops em ei =
         kernel_goes_by ∙ ap (goes_by K stim (mixed h.ahead y) n (mixed_branch (ahead_at h.ahead n) b)) em
         ∙ ap (does_first K stim (mixed h.ahead y) n (mixed_branch (ahead_at h.ahead n) b) does_item) ei
 
-    its_fits : length (with_ahead h.ahead n None) ≤ length y.branches
+    pub its_fits : length (with_ahead h.ahead n None) ≤ length y.branches
     its_fits = with_ahead_length h.ahead n None (length y.branches) h.fits (Rattle.xc_meaning.proofs.Law.Beside.in_range y.branches n b e)
 
     -- both do the same, and the kernel's branch isn't ahead
-    both : {x' : World} (rest : List Item) (made theirs : Option World) → moves K stim y (go n) ≡ made → theirs ≡ option_map (mixed (with_ahead h.ahead n None)) made → theirs ≡ Some x' → Keeps fs (step_of K stim y n b rest) made → Followed x' y
+    pub both : {x' : World} (rest : List Item) (made theirs : Option World) → moves K stim y (go n) ≡ made → theirs ≡ option_map (mixed (with_ahead h.ahead n None)) made → theirs ≡ Some x' → Keeps fs (step_of K stim y n b rest) made → Followed x' y
     both {x'} rest made theirs et ea ek keeps =
         let g : Given made (mixed (with_ahead h.ahead n None)) x' = given made (mixed (with_ahead h.ahead n None)) x' (sym ea ∙ ek) in
         by_one (go n) g.result (et ∙ g.is) (beside_after fs h n b e None g.result g.from (subst (Keeps fs (step_of K stim y n b rest)) g.is keeps) tt)
@@ -146,7 +146,7 @@ module _ (fs : List Function) (end : AllEnd fs) (K : kernel.Kernel) (stim : Stim
         (record { mode = em; leads = leads }))
 
     -- the kernel goes on alone
-    alone : {x' : World} (o : Option (List Item)) → Stands o b → moved fs h.ahead y n (mixed_branch o b) ≡ x' → Followed x' y
+    pub alone : {x' : World} (o : Option (List Item)) → Stands o b → moved fs h.ahead y n (mixed_branch o b) ≡ x' → Followed x' y
     alone o st ex = stay (subst (λ w. Beside fs w y) ex (beside_moved fs h n b e o st))
 
     -- the test of a `do`
@@ -218,7 +218,7 @@ module _ (fs : List Function) (end : AllEnd fs) (K : kernel.Kernel) (stim : Stim
           (sym (kernel_goes _ (does (leave c c.returns) ∷ kernel_items rest) em (ek ∙ coded)) ∙ hk)
           (text_goes (says i) rest em ei ∙ stepped (step_before rest))
 
-      follow_ready : (items : List Item) → b.items ≡ items → mixed_items (ahead_at h.ahead n) b.items ≡ kernel_items items → SoundItems fs items → Ready items → Followed x' y
+      pub follow_ready : (items : List Item) → b.items ≡ items → mixed_items (ahead_at h.ahead n) b.items ≡ kernel_items items → SoundItems fs items → Ready items → Followed x' y
       follow_ready items ei ek sound nothing = absurd (true≢false (sym (ap is_some (sym (kernel_stops em ek) ∙ hk))))
       follow_ready items ei ek sound (plain item rest p) =
           both rest (does_item (step_before rest) item) (does_item (kernel_step (kernel_items rest)) (kernel_item item)) (text_goes item rest em ei)
@@ -227,7 +227,7 @@ module _ (fs : List Function) (end : AllEnd fs) (K : kernel.Kernel) (stim : Stim
       follow_ready items ei ek sound (text i rest m) = follow_meets i rest ei ek sound m
 
       -- a branch of the kernel that is ahead
-      follow_leads : (k : List Item) → mixed_items (ahead_at h.ahead n) b.items ≡ k → SoundItems fs b.items → Leads k b.items → Followed x' y
+      pub follow_leads : (k : List Item) → mixed_items (ahead_at h.ahead n) b.items ≡ k → SoundItems fs b.items → Leads k b.items → Followed x' y
       follow_leads k ek sound (in_loop i rest l et eq stepped) =
           let its : SoundItems fs (says i ∷ rest) = subst (SoundItems fs) et sound in
           both rest (says_item (step_before rest) i) (does_item (kernel_step (loop_mark l ∷ kernel_items rest)) (does (loop_of l))) (text_goes (says i) rest em et)

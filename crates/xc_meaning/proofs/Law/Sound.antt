@@ -219,7 +219,7 @@ module _ (fs : List Function) where
     keeps_timing (passes when) go h = h when
     keeps_timing (fails kind pos) go h = keeps_errs (kind_of kind) pos
 
-    keeps_if : (b : Bool) (x : World) → Kept s x → Keeps s (only_if b x)
+    pub keeps_if : (b : Bool) (x : World) → Kept s x → Keeps s (only_if b x)
     keeps_if true x h = h
     keeps_if false x h = tt
 

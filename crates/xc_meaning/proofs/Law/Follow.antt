@@ -1,0 +1,137 @@
+-- Each step of a kernel is followed by the text.
+use Rattle.std.proofs.Common.{◌≡◌, ℕ, zero, suc, Bool, true, false, List, [], ◌∷◌, map, Option, Some, None, option_map, is_some, slice_get, slice_set, nat_lt, refl, sym, subst, ◌∙◌, ap, true≢false}
+use Rattle.xs_instr.specs.declared.image.Stim.{Stim}
+use Rattle.xs_instr.specs.Machine.{and_then}
+use Rattle.xs_instr.specs.Slot.{last_clock}
+use Rattle.xc_kernel.specs.Plain as kernel
+use Rattle.xc_kernel.specs.Programs.{Function}
+use Rattle.xc_meaning.specs.States.Items.{Body, Choice, TextItem, Item, does, says, stores, mark, awaits, closes, chooses, fixed, ends}
+use Rattle.xc_meaning.specs.States.Branches.{Mode, runs, waits, ended, erred, Branch}
+use Rattle.xc_meaning.specs.States.Worlds.{World, Move, clock, go, take, default, only_if}
+use Rattle.xc_meaning.specs.Moves.Step.{Step, becomes, goes_to}
+use Rattle.xc_meaning.specs.Moves.Par.{joins, all_done}
+use Rattle.xc_meaning.specs.Moves.Select.{takes, takes_default}
+use Rattle.xc_meaning.specs.Moves.Time.{ticks}
+use Rattle.xc_meaning.specs.Texts.Statements.{says_item}
+use Rattle.xc_meaning.specs.Runs.{does_item, step_of, does_first, goes_by, goes, selects_by, selects, moves}
+use Rattle.xc_meaning.proofs.Law.KernelItems.{kernel_body, kernel_choice, kernel_items}
+use Rattle.xc_meaning.proofs.Law.Mixed.{Ahead, mixed_items, mixed_branch, mixed_branches, mixed, ahead_at, with_ahead, mixed_step, mixed_set, mixed_get}
+use Rattle.xc_meaning.proofs.Law.Alike.{becomes_alike, only_if_same}
+use Rattle.xc_meaning.proofs.Law.Select.{takes_alike, takes_default_alike}
+use Rattle.xc_meaning.proofs.Law.Par.{all_done_alike}
+use Rattle.xc_meaning.proofs.Law.Calls.{AllEnd}
+use Rattle.xc_meaning.proofs.Law.Ready.{Meets, same, loops, does_loop, repeats, returns_it, IsSilent, Reaches, here, silently, IsPlain, Ready, nothing, plain, text, Settles}
+use Rattle.xc_meaning.proofs.Law.Sound.{SoundItems, SoundChoices, SoundDefault, Changed, Keeps, keeps_if, keeps_becomes, keeps_says, keeps_takes, keeps_default}
+use Rattle.xc_meaning.proofs.Law.Plain.{kernel_item, plain_items}
+use Rattle.xc_meaning.proofs.Law.Settle.{settle_items}
+use Rattle.xc_meaning.proofs.Law.Beside.{Leads, in_loop, in_do, in_turn, leaving, Running, Stands, Beside, stand_at, here_is, beside_after, after_ahead}
+use Rattle.xc_meaning.proofs.Law.Go.{Given, given, ahead_there, set_there, sound_at, sound_behind, Followed, by_one, by_more, text_goes, kernel_goes_by, kernel_goes, kernel_stops, its_fits, both, follow_ready, follow_leads}
+
+module _ (fs : List Function) (end : AllEnd fs) (K : kernel.Kernel) (stim : Stim) where
+  -- A silent step of the text leaves it beside the kernel.
+  module _ {x y : World} (h : Beside fs x y) (n : ℕ) (b : Branch) (e : slice_get y.branches n ≡ Some b) (em : b.mode ≡ runs) (none : ahead_at h.ahead n ≡ None)
+    (i : TextItem) (rest left : List Item) (ei : b.items ≡ says i ∷ rest) (sound : SoundItems fs (says i ∷ rest)) (sil : IsSilent i rest left) where
+    abbrev later : World
+    later = goes_to (step_of K stim y n b rest) left
+
+    abbrev branch_later : Branch
+    branch_later = record b { items = left }
+
+    silent_goes : moves K stim y (go n) ≡ Some later
+    silent_goes = text_goes fs end K stim h n b e (says i) rest em ei ∙ sil.step (step_of K stim y n b rest)
+
+    silent_changed : Changed fs n y.branches later.branches
+    silent_changed =
+        subst (Keeps fs (step_of K stim y n b rest)) (sil.step (step_of K stim y n b rest)) (keeps_says fs (step_of K stim y n b rest) sound.2 i sound.0 sound.1)
+
+    -- the kernel's items are the same
+    items_stay : mixed_items (ahead_at h.ahead n) b.items ≡ kernel_items left
+    items_stay = ap (λ o. mixed_items o b.items) none ∙ ap kernel_items ei ∙ sil.same_items
+
+    silent_mixed : x ≡ mixed (with_ahead h.ahead n None) later
+    silent_mixed =
+        h.is_mixed
+        ∙ (λ j. record y { branches = sym (here_is (mixed_branches h.ahead y.branches) n (mixed_branch None branch_later)
+          (mixed_get h.ahead y.branches n ∙ ap (option_map (mixed_branch (ahead_at h.ahead n))) e ∙ ap (λ items. Some (record b { items = items })) items_stay)) j })
+        ∙ (λ j. record y { branches = sym (mixed_set h.ahead n None y.branches branch_later) j })
+
+    pub silent_beside : Beside fs x later
+    silent_beside = beside_after fs h n b e None later silent_mixed silent_changed tt
+
+    pub silent_none : ahead_at silent_beside.ahead n ≡ None
+    unfolding silent_beside
+    silent_none = ap (λ os. ahead_at os n) (after_ahead fs h n b e None later silent_mixed silent_changed tt) ∙ ahead_there h.ahead n None
+
+    pub silent_there : slice_get later.branches n ≡ Some branch_later
+    silent_there = set_there y.branches n b branch_later e
+
+    pub silent_follow : {x' : World} → Followed fs end K stim x' later → Followed fs end K stim x' y
+    silent_follow f = by_more fs end K stim (go n) later silent_goes f
+
+  -- Steps by `go`.
+
+  follow_reaches : {x y x' : World} (h : Beside fs x y) (n : ℕ) (b : Branch) (e : slice_get y.branches n ≡ Some b) (em : b.mode ≡ runs) (none : ahead_at h.ahead n ≡ None) → moves K stim x (go n) ≡ Some x' → (items final : List Item) → b.items ≡ items → SoundItems fs items → Reaches items final → Ready final → Followed fs end K stim x' y
+  follow_reaches {x} {y} {x'} h n b e em none hk items final ei sound (here all) ready =
+      follow_ready fs end K stim h n b e em (subst (λ w. moves K stim w (go n) ≡ Some x') h.is_mixed hk) items ei (ap (λ o. mixed_items o b.items) none ∙ ap kernel_items ei) sound ready
+  follow_reaches h n b e em none hk items final ei sound (silently i rest left others sil more) ready =
+      silent_follow h n b e em none i rest left ei sound sil
+      (follow_reaches (silent_beside h n b e em none i rest left ei sound sil) n (record b { items = left })
+      (silent_there h n b e em none i rest left ei sound sil) em (silent_none h n b e em none i rest left ei sound sil) hk left others refl
+      (sound_at fs _ n (record b { items = left }) (silent_beside h n b e em none i rest left ei sound sil).sound (silent_there h n b e em none i rest left ei sound sil)) more ready)
+
+  follow_runs : {x y x' : World} (h : Beside fs x y) (n : ℕ) (b : Branch) (e : slice_get y.branches n ≡ Some b) → b.mode ≡ runs → moves K stim x (go n) ≡ Some x' → (o : Option (List Item)) → ahead_at h.ahead n ≡ o → Followed fs end K stim x' y
+  follow_runs {x} {y} h n b e em hk None eo =
+      let sound : SoundItems fs b.items = sound_at fs y.branches n b h.sound e in
+      let it : Settles b.items = settle_items fs end b.items sound in
+      follow_reaches h n b e em eo hk b.items it.final refl sound it.reaches it.ready
+  follow_runs {x} {y} {x'} h n b e em hk (Some k) eo =
+      follow_leads fs end K stim h n b e em (subst (λ w. moves K stim w (go n) ≡ Some x') h.is_mixed hk) k (ap (λ o. mixed_items o b.items) eo) (sound_at fs y.branches n b h.sound e)
+      (subst (λ o. Stands o b) eo (stand_at h.ahead y.branches n b h.stand e)).leads
+
+  -- behind a `par`
+  follow_waits : {x y x' : World} (h : Beside fs x y) (n : ℕ) (b : Branch) (e : slice_get y.branches n ≡ Some b) (from count : ℕ) → b.mode ≡ waits from count → moves K stim x (go n) ≡ Some x' → (o : Option (List Item)) → ahead_at h.ahead n ≡ o → Followed fs end K stim x' y
+  follow_waits {x} {y} {x'} h n b e from count em hk None eo =
+      both fs end K stim h n b e b.items (joins (step_of K stim y n b b.items) from count)
+      (joins (step_of K stim (mixed h.ahead y) n (mixed_branch (ahead_at h.ahead n) b) (mixed_items (ahead_at h.ahead n) b.items)) from count)
+      (ap (λ o. and_then o (goes K stim y n)) e ∙ ap (goes_by K stim y n b) em)
+      (only_if_same h.ahead (mixed_items (ahead_at h.ahead n) b.items) (step_of K stim y n b b.items) (becomes (step_of K stim y n b b.items) (record b { mode = runs }))
+      (all_done_alike h.ahead (mixed_items (ahead_at h.ahead n) b.items) (step_of K stim y n b b.items) from count)
+      (ap (λ o. becomes (step_of K stim (mixed h.ahead y) n b b.items) (record b { mode = runs; items = mixed_items o b.items })) eo
+      ∙ becomes_alike h.ahead (mixed_items (ahead_at h.ahead n) b.items) (step_of K stim y n b b.items) (record b { mode = runs })))
+      (sym (kernel_goes_by fs end K stim h n b e ∙ ap (goes_by K stim (mixed h.ahead y) n (mixed_branch (ahead_at h.ahead n) b)) em)
+      ∙ subst (λ w. moves K stim w (go n) ≡ Some x') h.is_mixed hk)
+      (keeps_if fs (step_of K stim y n b b.items) (all_done y from count) (becomes (step_of K stim y n b b.items) (record b { mode = runs }))
+      (keeps_becomes fs (step_of K stim y n b b.items) (record b { mode = runs }) (sound_at fs y.branches n b h.sound e)))
+  follow_waits {x} {y} h n b e from count em hk (Some k) eo =
+      absurd (not_both (sym em ∙ (subst (λ o. Stands o b) eo (stand_at h.ahead y.branches n b h.stand e)).mode))
+    where
+      not_both : {from count : ℕ} → waits from count ≡ runs → ⊥
+      not_both e = cc
+
+  follow_mode : {x y x' : World} (h : Beside fs x y) (n : ℕ) (b : Branch) (e : slice_get y.branches n ≡ Some b) (m : Mode) → b.mode ≡ m → moves K stim x (go n) ≡ Some x' → Followed fs end K stim x' y
+  follow_mode h n b e runs em hk = follow_runs h n b e em hk (ahead_at h.ahead n) refl
+  follow_mode h n b e (waits from count) em hk = follow_waits h n b e from count em hk (ahead_at h.ahead n) refl
+  follow_mode {x} {y} {x'} h n b e ended em hk =
+      absurd (true≢false (sym (ap is_some (sym (kernel_goes_by fs end K stim h n b e ∙ ap (goes_by K stim (mixed h.ahead y) n (mixed_branch (ahead_at h.ahead n) b)) em)
+      ∙ subst (λ w. moves K stim w (go n) ≡ Some x') h.is_mixed hk))))
+  follow_mode {x} {y} {x'} h n b e erred em hk =
+      absurd (true≢false (sym (ap is_some (sym (kernel_goes_by fs end K stim h n b e ∙ ap (goes_by K stim (mixed h.ahead y) n (mixed_branch (ahead_at h.ahead n) b)) em)
+      ∙ subst (λ w. moves K stim w (go n) ≡ Some x') h.is_mixed hk))))
+
+  follow_branch : {x y x' : World} (h : Beside fs x y) (n : ℕ) (ob : Option Branch) → slice_get y.branches n ≡ ob → moves K stim x (go n) ≡ Some x' → Followed fs end K stim x' y
+  follow_branch {x} {y} {x'} h n None e hk =
+      absurd (true≢false (sym (ap is_some (sym (ap (λ o. and_then o (goes K stim (mixed h.ahead y) n)) (mixed_get h.ahead y.branches n ∙ ap (option_map (mixed_branch (ahead_at h.ahead n))) e))
+      ∙ subst (λ w. moves K stim w (go n) ≡ Some x') h.is_mixed hk))))
+  follow_branch h n (Some b) e hk = follow_mode h n b e b.mode refl hk
+
+  -- Clocks.
+
+  follow_tick : {x y x' : World} (h : Beside fs x y) (core : ℕ) (now : Option ℕ) → and_then now (ticks (mixed h.ahead y) core) ≡ Some x' → moves K stim y (clock core) ≡ and_then now (ticks y core) → Followed fs end K stim x' y
+  follow_tick h core None hk et = absurd (true≢false (sym (ap is_some hk)))
+  follow_tick {x} {y} {x'} h core (Some now) hk et = by_room (nat_lt now last_clock) hk et
+    where
+      by_room : (room : Bool) → only_if room (record (mixed h.ahead y) { clocks = slice_set y.clocks core (Rattle.std.specs.Prelude.◌+◌ now 1) }) ≡ Some x' → moves K stim y (clock core) ≡ only_if room (record y { clocks = slice_set y.clocks core (Rattle.std.specs.Prelude.◌+◌ now 1) }) → Followed fs end K stim x' y
+      by_room false hk et = absurd (true≢false (sym (ap is_some hk)))
+      by_room true hk et =
+          by_one fs end K stim (clock core) (record y { clocks = slice_set y.clocks core (Rattle.std.specs.Prelude.◌+◌ now 1) }) et
+          (record { ahead = h.ahead; fits = h.fits; is_mixed = sym (Rattle.xc_meaning.proofs.Law.Go.some_given hk); sound = h.sound; stand = h.stand })
