@@ -13,3 +13,5 @@ pub mod Plain
 pub mod Settle
 pub mod Go
 pub mod Follow
+pub mod Start
+pub mod Theorem

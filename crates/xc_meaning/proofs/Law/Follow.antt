@@ -14,7 +14,9 @@ use Rattle.xc_meaning.specs.Moves.Select.{takes, takes_default}
 use Rattle.xc_meaning.specs.Moves.Time.{ticks}
 use Rattle.xc_meaning.specs.Texts.Statements.{says_item}
 use Rattle.xc_meaning.specs.Runs.{does_item, step_of, does_first, goes_by, goes, selects_by, selects, moves}
-use Rattle.xc_meaning.proofs.Law.KernelItems.{kernel_body, kernel_choice, kernel_items}
+use Rattle.xc_meaning.proofs.Law.KernelItems.{kernel_body, kernel_choice, kernel_items, loop_of, do_test, do_loop_of}
+use Rattle.xc_kernel.specs.Context.{leave}
+use Rattle.xc_meaning.specs.Texts.Loops.{loop_mark}
 use Rattle.xc_meaning.proofs.Law.Mixed.{Ahead, mixed_items, mixed_branch, mixed_branches, mixed, ahead_at, with_ahead, mixed_step, mixed_set, mixed_get}
 use Rattle.xc_meaning.proofs.Law.Alike.{becomes_alike, only_if_same}
 use Rattle.xc_meaning.proofs.Law.Select.{takes_alike, takes_default_alike}
@@ -135,3 +137,161 @@ module _ (fs : List Function) (end : AllEnd fs) (K : kernel.Kernel) (stim : Stim
       by_room true hk et =
           by_one fs end K stim (clock core) (record y { clocks = slice_set y.clocks core (Rattle.std.specs.Prelude.◌+◌ now 1) }) et
           (record { ahead = h.ahead; fits = h.fits; is_mixed = sym (Rattle.xc_meaning.proofs.Law.Go.some_given hk); sound = h.sound; stand = h.stand })
+
+  -- Steps of a select: by a case, or by the default.
+
+  abbrev pub IsNoChoice : Item → Type 0
+  IsNoChoice (does s) = Unit {0}
+  IsNoChoice (says i) = Unit {0}
+  IsNoChoice (stores place v) = Unit {0}
+  IsNoChoice (mark n) = Unit {0}
+  IsNoChoice (awaits c pos) = Unit {0}
+  IsNoChoice (closes c is_master pos) = Unit {0}
+  IsNoChoice (chooses choices otherwise) = ⊥
+  IsNoChoice (fixed i v counter) = Unit {0}
+  IsNoChoice ends = Unit {0}
+
+  pub record Selecting (f : Step → Item → Option World) (m : ℕ → Move) : Type 0 where
+    pub moved : (w : World) (n : ℕ) → moves K stim w (m n) ≡ and_then (slice_get w.branches n) (selects K stim w n f)
+    pub others : (s : Step) (item : Item) → IsNoChoice item → f s item ≡ None
+    pub alike : (os : Ahead) (items : List Item) (s : Step) (cs : List Choice) (d : Option Body) → f (mixed_step os items s) (chooses (map kernel_choice cs) (option_map kernel_body d)) ≡ option_map (mixed (with_ahead os s.number None)) (f s (chooses cs d))
+    pub keeps : (s : Step) → SoundItems fs s.rest → (cs : List Choice) (d : Option Body) → SoundChoices fs cs → SoundDefault fs d → Keeps fs s (f s (chooses cs d))
+
+  module _ (f : Step → Item → Option World) (m : ℕ → Move) (sel : Selecting f m) where
+    module _ {x y x' : World} (h : Beside fs x y) (n : ℕ) (b : Branch) (e : slice_get y.branches n ≡ Some b) (hk : moves K stim (mixed h.ahead y) (m n) ≡ Some x') where
+      kernel_selects : moves K stim (mixed h.ahead y) (m n) ≡ selects_by K stim (mixed h.ahead y) n f (mixed_branch (ahead_at h.ahead n) b) b.mode
+      kernel_selects =
+          sel.moved (mixed h.ahead y) n
+          ∙ ap (λ o. and_then o (selects K stim (mixed h.ahead y) n f)) (mixed_get h.ahead y.branches n ∙ ap (option_map (mixed_branch (ahead_at h.ahead n))) e)
+
+      -- a branch that doesn't run does no such step
+      stuck_mode : selects_by K stim (mixed h.ahead y) n f (mixed_branch (ahead_at h.ahead n) b) b.mode ≡ None → Followed fs end K stim x' y
+      stuck_mode en = absurd (true≢false (sym (ap is_some (sym (kernel_selects ∙ en) ∙ hk))))
+
+      first_is : (items : List Item) → b.mode ≡ runs → mixed_items (ahead_at h.ahead n) b.items ≡ items → selects_by K stim (mixed h.ahead y) n f (mixed_branch (ahead_at h.ahead n) b) b.mode ≡ does_first K stim (mixed h.ahead y) n (mixed_branch (ahead_at h.ahead n) b) f items
+      first_is items em ei =
+          ap (selects_by K stim (mixed h.ahead y) n f (mixed_branch (ahead_at h.ahead n) b)) em
+          ∙ ap (does_first K stim (mixed h.ahead y) n (mixed_branch (ahead_at h.ahead n) b) f) ei
+
+      stuck : (item : Item) (behind : List Item) → b.mode ≡ runs → mixed_items (ahead_at h.ahead n) b.items ≡ item ∷ behind → IsNoChoice item → Followed fs end K stim x' y
+      stuck item behind em ei nc = stuck_mode (first_is (item ∷ behind) em ei ∙ sel.others (step_of K stim (mixed h.ahead y) n (mixed_branch (ahead_at h.ahead n) b) behind) item nc)
+
+      chosen : (cs : List Choice) (d : Option Body) (rest : List Item) → b.mode ≡ runs → b.items ≡ chooses cs d ∷ rest → mixed_items (ahead_at h.ahead n) b.items ≡ kernel_items (chooses cs d ∷ rest) → SoundItems fs (chooses cs d ∷ rest) → Followed fs end K stim x' y
+      chosen cs d rest em ei ek sound =
+          let s : Step = step_of K stim y n b rest in
+          let g : Given (f s (chooses cs d)) (mixed (with_ahead h.ahead n None)) x' =
+              given (f s (chooses cs d)) (mixed (with_ahead h.ahead n None)) x'
+              (sym (sel.alike h.ahead (mixed_items (ahead_at h.ahead n) b.items) s cs d) ∙ sym (kernel_selects ∙ first_is (kernel_items (chooses cs d ∷ rest)) em ek) ∙ hk) in
+          by_one fs end K stim (m n) g.result
+          (sel.moved y n ∙ ap (λ o. and_then o (selects K stim y n f)) e ∙ ap (selects_by K stim y n f b) em ∙ ap (does_first K stim y n b f) ei ∙ g.is)
+          (beside_after fs h n b e None g.result g.from (subst (Keeps fs s) g.is (sel.keeps s sound.2 cs d sound.0 sound.1)) tt)
+
+      by_item : (item : Item) (rest : List Item) → IsPlain item → b.mode ≡ runs → b.items ≡ item ∷ rest → mixed_items (ahead_at h.ahead n) b.items ≡ kernel_items (item ∷ rest) → SoundItems fs (item ∷ rest) → Followed fs end K stim x' y
+      by_item (does s) rest p em ei ek sound = stuck (does s) (kernel_items rest) em ek tt
+      by_item (says i) rest p em ei ek sound = absurd p
+      by_item (stores place v) rest p em ei ek sound = stuck (stores place v) (kernel_items rest) em ek tt
+      by_item (mark k) rest p em ei ek sound = stuck (mark k) (kernel_items rest) em ek tt
+      by_item (awaits c pos) rest p em ei ek sound = stuck (awaits c pos) (kernel_items rest) em ek tt
+      by_item (closes c is_master pos) rest p em ei ek sound = stuck (closes c is_master pos) (kernel_items rest) em ek tt
+      by_item (chooses cs d) rest p em ei ek sound = chosen cs d rest em ei ek sound
+      by_item (fixed i v counter) rest p em ei ek sound = stuck (fixed i v counter) (kernel_items rest) em ek tt
+      by_item ends rest p em ei ek sound = stuck ends (kernel_items rest) em ek tt
+
+      by_meets : (i : TextItem) (rest : List Item) → b.mode ≡ runs → mixed_items (ahead_at h.ahead n) b.items ≡ kernel_items (says i ∷ rest) → Meets i rest → Followed fs end K stim x' y
+      by_meets i rest em ek (same k behind coded alike) = stuck (does k) behind em (ek ∙ coded) tt
+      by_meets i rest em ek (loops l coded stepped) = stuck _ (kernel_items rest) em (ek ∙ coded) tt
+      by_meets i rest em ek (does_loop l coded stepped) = stuck _ (kernel_items rest) em (ek ∙ coded) tt
+      by_meets i rest em ek (repeats l is) = stuck (does (do_test l)) (does (do_loop_of l) ∷ kernel_items rest) em (ek ∙ ap (λ j. kernel_items (says j ∷ rest)) is) tt
+      by_meets i rest em ek (returns_it c value coded stepped) = stuck _ (does (leave c c.returns) ∷ kernel_items rest) em (ek ∙ coded) tt
+
+      by_ready : (items : List Item) → b.mode ≡ runs → b.items ≡ items → mixed_items (ahead_at h.ahead n) b.items ≡ kernel_items items → SoundItems fs items → Ready items → Followed fs end K stim x' y
+      by_ready items em ei ek sound nothing = stuck_mode (first_is [] em ek)
+      by_ready items em ei ek sound (plain item rest p) = by_item item rest p em ei ek sound
+      by_ready items em ei ek sound (text i rest meets) = by_meets i rest em ek meets
+
+      by_leads : (k : List Item) → b.mode ≡ runs → mixed_items (ahead_at h.ahead n) b.items ≡ k → Leads k b.items → Followed fs end K stim x' y
+      by_leads k em ek (in_loop i rest l et eq stepped) = stuck (does (loop_of l)) (loop_mark l ∷ kernel_items rest) em (ek ∙ eq) tt
+      by_leads k em ek (in_do i rest l et eq stepped) = stuck (does (do_loop_of l)) (loop_mark l ∷ kernel_items rest) em (ek ∙ eq) tt
+      by_leads k em ek (in_turn rest l et eq) = stuck (does (do_loop_of l)) (kernel_items rest) em (ek ∙ eq) tt
+      by_leads k em ek (leaving q more et eq) = stuck (does (kernel.exit q)) (kernel_items more) em (ek ∙ eq) tt
+
+    select_reaches : {x y x' : World} (h : Beside fs x y) (n : ℕ) (b : Branch) (e : slice_get y.branches n ≡ Some b) (em : b.mode ≡ runs) (none : ahead_at h.ahead n ≡ None) → moves K stim x (m n) ≡ Some x' → (items final : List Item) → b.items ≡ items → SoundItems fs items → Reaches items final → Ready final → Followed fs end K stim x' y
+    select_reaches {x} {y} {x'} h n b e em none hk items final ei sound (here all) ready =
+        by_ready h n b e (subst (λ w. moves K stim w (m n) ≡ Some x') h.is_mixed hk) items em ei (ap (λ o. mixed_items o b.items) none ∙ ap kernel_items ei) sound ready
+    select_reaches h n b e em none hk items final ei sound (silently i rest left others sil more) ready =
+        silent_follow h n b e em none i rest left ei sound sil
+        (select_reaches (silent_beside h n b e em none i rest left ei sound sil) n (record b { items = left })
+        (silent_there h n b e em none i rest left ei sound sil) em (silent_none h n b e em none i rest left ei sound sil) hk left others refl
+        (sound_at fs _ n (record b { items = left }) (silent_beside h n b e em none i rest left ei sound sil).sound (silent_there h n b e em none i rest left ei sound sil)) more ready)
+
+    select_runs : {x y x' : World} (h : Beside fs x y) (n : ℕ) (b : Branch) (e : slice_get y.branches n ≡ Some b) → b.mode ≡ runs → moves K stim x (m n) ≡ Some x' → (o : Option (List Item)) → ahead_at h.ahead n ≡ o → Followed fs end K stim x' y
+    select_runs {x} {y} h n b e em hk None eo =
+        let sound : SoundItems fs b.items = sound_at fs y.branches n b h.sound e in
+        let it : Settles b.items = settle_items fs end b.items sound in
+        select_reaches h n b e em eo hk b.items it.final refl sound it.reaches it.ready
+    select_runs {x} {y} {x'} h n b e em hk (Some k) eo =
+        by_leads h n b e (subst (λ w. moves K stim w (m n) ≡ Some x') h.is_mixed hk) k em (ap (λ o. mixed_items o b.items) eo)
+        (subst (λ o. Stands o b) eo (stand_at h.ahead y.branches n b h.stand e)).leads
+
+    select_mode : {x y x' : World} (h : Beside fs x y) (n : ℕ) (b : Branch) (e : slice_get y.branches n ≡ Some b) (mode : Mode) → b.mode ≡ mode → moves K stim x (m n) ≡ Some x' → Followed fs end K stim x' y
+    select_mode h n b e runs em hk = select_runs h n b e em hk (ahead_at h.ahead n) refl
+    select_mode {x} {y} {x'} h n b e (waits from count) em hk =
+        stuck_mode h n b e (subst (λ w. moves K stim w (m n) ≡ Some x') h.is_mixed hk) (ap (selects_by K stim (mixed h.ahead y) n f (mixed_branch (ahead_at h.ahead n) b)) em)
+    select_mode {x} {y} {x'} h n b e ended em hk =
+        stuck_mode h n b e (subst (λ w. moves K stim w (m n) ≡ Some x') h.is_mixed hk) (ap (selects_by K stim (mixed h.ahead y) n f (mixed_branch (ahead_at h.ahead n) b)) em)
+    select_mode {x} {y} {x'} h n b e erred em hk =
+        stuck_mode h n b e (subst (λ w. moves K stim w (m n) ≡ Some x') h.is_mixed hk) (ap (selects_by K stim (mixed h.ahead y) n f (mixed_branch (ahead_at h.ahead n) b)) em)
+
+    select_branch : {x y x' : World} (h : Beside fs x y) (n : ℕ) (ob : Option Branch) → slice_get y.branches n ≡ ob → moves K stim x (m n) ≡ Some x' → Followed fs end K stim x' y
+    select_branch {x} {y} {x'} h n None e hk =
+        absurd (true≢false (sym (ap is_some (sym (sel.moved (mixed h.ahead y) n
+        ∙ ap (λ o. and_then o (selects K stim (mixed h.ahead y) n f)) (mixed_get h.ahead y.branches n ∙ ap (option_map (mixed_branch (ahead_at h.ahead n))) e))
+        ∙ subst (λ w. moves K stim w (m n) ≡ Some x') h.is_mixed hk))))
+    select_branch h n (Some b) e hk = select_mode h n b e b.mode refl hk
+
+  no_case : (c : ℕ) (s : Step) (item : Item) → IsNoChoice item → takes s c item ≡ None
+  no_case c s (does t) nc = refl
+  no_case c s (says i) nc = refl
+  no_case c s (stores place v) nc = refl
+  no_case c s (mark n) nc = refl
+  no_case c s (awaits d pos) nc = refl
+  no_case c s (closes d is_master pos) nc = refl
+  no_case c s (chooses choices otherwise) nc = absurd nc
+  no_case c s (fixed i v counter) nc = refl
+  no_case c s ends nc = refl
+
+  no_default : (s : Step) (item : Item) → IsNoChoice item → takes_default s item ≡ None
+  no_default s (does t) nc = refl
+  no_default s (says i) nc = refl
+  no_default s (stores place v) nc = refl
+  no_default s (mark n) nc = refl
+  no_default s (awaits d pos) nc = refl
+  no_default s (closes d is_master pos) nc = refl
+  no_default s (chooses choices otherwise) nc = absurd nc
+  no_default s (fixed i v counter) nc = refl
+  no_default s ends nc = refl
+
+  selecting_case : (c : ℕ) → Selecting (λ s. takes s c) (λ n. take n c)
+  selecting_case c = record {
+    moved = λ w n. refl;
+    others = no_case c;
+    alike = λ os items s cs d. takes_alike os items s c cs d;
+    keeps = λ s h cs d hc hd. keeps_takes fs s h c cs d hc;
+  }
+
+  selecting_default : Selecting takes_default default
+  selecting_default = record {
+    moved = λ w n. refl;
+    others = no_default;
+    alike = λ os items s cs d. takes_default_alike os items s cs d;
+    keeps = λ s h cs d hc hd. keeps_default fs s h cs d hd;
+  }
+
+  -- All steps.
+
+  pub follow_move : {x y x' : World} → Beside fs x y → (m : Move) → moves K stim x m ≡ Some x' → Followed fs end K stim x' y
+  follow_move {x} {y} {x'} h (clock core) hk =
+      follow_tick h core (slice_get y.clocks core) (subst (λ w. moves K stim w (clock core) ≡ Some x') h.is_mixed hk) refl
+  follow_move {x} {y} {x'} h (go n) hk = follow_branch h n (slice_get y.branches n) refl hk
+  follow_move {x} {y} {x'} h (take n c) hk = select_branch (λ s. takes s c) (λ n. take n c) (selecting_case c) h n (slice_get y.branches n) refl hk
+  follow_move {x} {y} {x'} h (default n) hk = select_branch takes_default default selecting_default h n (slice_get y.branches n) refl hk

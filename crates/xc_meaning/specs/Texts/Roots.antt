@@ -15,7 +15,7 @@ use Rattle.xc_kernel.specs.Paths.{path_at}
 use Rattle.xc_kernel.specs.Copies.{numbering}
 use Rattle.xc_meaning.specs.States.Items.{ends, todo}
 use Rattle.xc_meaning.specs.Moves.Par.{Begun}
-use Rattle.xc_meaning.specs.Texts.Copied.{calls_in, behind_branch}
+use Rattle.xc_meaning.specs.Texts.Copied.{calls_in}
 use Rattle.xc_meaning.specs.Texts.Items.{body_item}
 use Rattle.xc_meaning.specs.Texts.Par.{statement_begun}
 
@@ -29,11 +29,15 @@ abbrev pub branch_root : tree.Branch → Context → Scope → Root
 branch_root (tree.branch place s) c scope =
     record { core = core_of scope place; begun = statement_begun s (record c { core = core_of scope place }) scope }
 
+-- the names that are known behind such a branch
+abbrev pub behind_root : (main : Pos) → tree.Branch → Context → Scope → Scope
+behind_root main b c scope = (copied.branch_root (calls_in c) main b c scope).made.scope
+
 -- from an index on; a name that one branch declares is known in the later ones
-abbrev pub branch_roots : tree.Branches → (index : ℕ) → Context → Scope → List Root
-branch_roots tree.no_branch index c scope = []
-branch_roots (tree.more_branches b bs) index c scope =
-    branch_root b (in_branch c index) scope ∷ branch_roots bs (index + 1) c (behind_branch b (in_branch c index) scope)
+abbrev pub branch_roots : (main : Pos) → tree.Branches → (index : ℕ) → Context → Scope → List Root
+branch_roots main tree.no_branch index c scope = []
+branch_roots main (tree.more_branches b bs) index c scope =
+    branch_root b (in_branch c index) scope ∷ branch_roots main bs (index + 1) c (behind_root main b (in_branch c index) scope)
 
 -- so many copies of a branch, in which a name stands for a number, from an index and a number on
 abbrev pub numbered_roots : tree.Branch → (name : List ℕ) → Context → Scope → (count index number : ℕ) → List Root
@@ -43,19 +47,19 @@ numbered_roots b name c scope (suc count) index number =
     ∷ numbered_roots b name c scope count (index + 1) (number + 1)
 
 -- a statement in main's block makes the branches of its `par`
-abbrev pub action_roots : tree.Action → Context → Scope → List Root
-action_roots (tree.par bs) c scope = branch_roots bs 0 c scope
-action_roots (tree.replicated first second third from until b) c scope = numbered_roots b first.text c scope (until - from) 0 from
-action_roots other c scope = []
+abbrev pub action_roots : (main : Pos) → tree.Action → Context → Scope → List Root
+action_roots main (tree.par bs) c scope = branch_roots main bs 0 c scope
+action_roots main (tree.replicated first second third from until b) c scope = numbered_roots b first.text c scope (until - from) 0 from
+action_roots main other c scope = []
 
 -- the names that main's branches know behind such a statement
-abbrev pub behind_action : Pos → tree.Action → Context → Scope → Scope
+abbrev pub behind_action : (main : Pos) → tree.Action → Context → Scope → Scope
 behind_action main action c scope = (copied.action_roots (calls_in c) main action c scope).made.scope
 
-abbrev pub block_roots : Pos → tree.Statements → Context → Scope → List Root
+abbrev pub block_roots : (main : Pos) → tree.Statements → Context → Scope → List Root
 block_roots main tree.no_more c scope = []
 block_roots main (tree.more (tree.statement action pos close own) ss) c scope =
-    action_roots action c scope ++ block_roots main ss c (behind_action main action c scope)
+    action_roots main action c scope ++ block_roots main ss c (behind_action main action c scope)
 
 -- main itself begins as a call of it does: its result becomes 0, and then its body is done
 abbrev pub main_begun : Function → Context → Begun
