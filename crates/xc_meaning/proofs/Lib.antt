@@ -5,4 +5,4 @@ mod TextExamples
 mod CountExamples
 mod QuietExamples
 mod MixedExample
-pub mod Law
+pub mod Simulation

@@ -9,11 +9,11 @@ use Rattle.xc_meaning.specs.Moves.Step.{Step}
 use Rattle.xc_meaning.specs.Moves.Flow.{items_from_mark}
 use Rattle.xc_meaning.specs.Texts.Loops.{loop_mark, turn_item, tests_first, begins_do}
 use Rattle.xc_meaning.specs.Texts.Statements.{says_item}
-use Rattle.xc_meaning.proofs.Law.KernelItems.{kernel_items, loop_of, do_loop_of}
-use Rattle.xc_meaning.proofs.Law.Mixed.{Ahead, mixed_branch, mixed_branches, mixed, ahead_at, with_ahead, mixed_set}
-use Rattle.xc_meaning.proofs.Law.Par.{with_ahead_length, set_length}
-use Rattle.xc_meaning.proofs.Law.Ready.{with_rest}
-use Rattle.xc_meaning.proofs.Law.Sound.{SoundWorld, SoundBranches, Changed, sound_set, sound_append}
+use Rattle.xc_meaning.proofs.Simulation.KernelItems.{kernel_items, loop_of, do_loop_of}
+use Rattle.xc_meaning.proofs.Simulation.Mixed.{Ahead, mixed_branch, mixed_branches, mixed, ahead_at, with_ahead, mixed_set}
+use Rattle.xc_meaning.proofs.Simulation.Par.{with_ahead_length, set_length}
+use Rattle.xc_meaning.proofs.Simulation.Ready.{with_rest}
+use Rattle.xc_meaning.proofs.Simulation.Sound.{SoundWorld, SoundBranches, Changed, sound_set, sound_append}
 
 -- the items of a kernel's branch that is ahead of the text's with those items
 pub data Leads (k t : List Item) : Type 0 where

@@ -7,11 +7,11 @@ use Rattle.xc_meaning.specs.States.Items.{Loop, TextItem, statement, name, bound
 use Rattle.xc_meaning.specs.Texts.Items.{maybe_items}
 use Rattle.xc_meaning.specs.Texts.Loops.{turn_context, test_in, turn_item, turn_items}
 use Rattle.xc_kernel.specs.Paths.{path_of_turn}
-use Rattle.xc_meaning.proofs.Law.KernelItems.{loop_path, loop_body, loop_of, kernel_items, of_maybe, of_only}
-use Rattle.xc_meaning.proofs.Law.Alike.{tests_alike}
-use Rattle.xc_meaning.proofs.Law.Calls.{AllEnd}
-use Rattle.xc_meaning.proofs.Law.Ready.{with_rest, same, loops, repeats, returns_it, nothing, Settles, settled, settled_plain, settles_by, body_meets, settle_name, settle_action}
-use Rattle.xc_meaning.proofs.Law.Sound.{SoundItem, SoundItems}
+use Rattle.xc_meaning.proofs.Simulation.KernelItems.{loop_path, loop_body, loop_of, kernel_items, of_maybe, of_only}
+use Rattle.xc_meaning.proofs.Simulation.Alike.{tests_alike}
+use Rattle.xc_meaning.proofs.Simulation.Calls.{AllEnd}
+use Rattle.xc_meaning.proofs.Simulation.Ready.{with_rest, same, loops, repeats, returns_it, nothing, Settles, settled, settled_plain, settles_by, body_meets, settle_name, settle_action}
+use Rattle.xc_meaning.proofs.Simulation.Sound.{SoundItem, SoundItems}
 
 -- a turn of a kernel's loop is what a turn of the text's stands for
 pub of_turn_item : (l : Loop) (rest : List Item) → kernel_items (turn_item l ∷ rest) ≡ todo (turn l.context (loop_path l) (loop_body l).code []) (kernel_items rest)
@@ -36,7 +36,7 @@ module _ (fs : List Function) (end : AllEnd fs) where
   settle_text (returned e c) rest fine h = settled (returned e c) rest (returns_it c e refl (λ s. refl))
 
   pub settle_items : (items : List Item) → SoundItems fs items → Settles items
-  settle_items [] h = record { final = []; reaches = Rattle.xc_meaning.proofs.Law.Ready.here []; ready = nothing }
+  settle_items [] h = record { final = []; reaches = Rattle.xc_meaning.proofs.Simulation.Ready.here []; ready = nothing }
   settle_items (does s ∷ rest) h = settled_plain (does s) rest tt
   settle_items (says i ∷ rest) h = settle_text i rest h.0 (settle_items rest h.2)
   settle_items (stores place v ∷ rest) h = settled_plain (stores place v) rest tt

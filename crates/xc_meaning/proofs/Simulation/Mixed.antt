@@ -5,7 +5,7 @@ use Rattle.xc_meaning.specs.States.Items.{Item}
 use Rattle.xc_meaning.specs.States.Branches.{Branch}
 use Rattle.xc_meaning.specs.States.Worlds.{World}
 use Rattle.xc_meaning.specs.Moves.Step.{Step}
-use Rattle.xc_meaning.proofs.Law.KernelItems.{kernel_items}
+use Rattle.xc_meaning.proofs.Simulation.KernelItems.{kernel_items}
 
 -- for each branch its items in the kernel where it is ahead
 abbrev pub Ahead : Type 0

@@ -32,12 +32,12 @@ use Rattle.xc_meaning.specs.Texts.Loops.{for_loop, while_loop, tests_first, begi
 use Rattle.xc_meaning.specs.Texts.Par.{branches_begun, copies_begun}
 use Rattle.xc_meaning.specs.Texts.Select.{text_enabled, text_default}
 use Rattle.xc_meaning.specs.Texts.Statements.{assigns_by, returns_value, says_item}
-use Rattle.xc_meaning.proofs.Law.KernelItems.{loop_path, loop_of, do_loop_of, kernel_items, todo_all, of_names, of_statement, of_maybe, of_statements, call_code, of_call}
-use Rattle.xc_meaning.proofs.Law.Mixed.{Ahead, mixed, with_ahead, mixed_step}
-use Rattle.xc_meaning.proofs.Law.Alike.{goes_to_by, assigned_alike, zeroed_alike, tests_alike, leaves_alike, opens_alike, outputs_to_alike, inputs_from_alike}
-use Rattle.xc_meaning.proofs.Law.Select.{enabled_alike, default_alike, begins_alike}
-use Rattle.xc_meaning.proofs.Law.Par.{branches_alike, copies_alike, makes_alike}
-use Rattle.xc_meaning.proofs.Law.Calls.{AllEnd, call_code_is, no_call_code}
+use Rattle.xc_meaning.proofs.Simulation.KernelItems.{loop_path, loop_of, do_loop_of, kernel_items, todo_all, of_names, of_statement, of_maybe, of_statements, call_code, of_call}
+use Rattle.xc_meaning.proofs.Simulation.Mixed.{Ahead, mixed, with_ahead, mixed_step}
+use Rattle.xc_meaning.proofs.Simulation.Alike.{goes_to_by, assigned_alike, zeroed_alike, tests_alike, leaves_alike, opens_alike, outputs_to_alike, inputs_from_alike}
+use Rattle.xc_meaning.proofs.Simulation.Select.{enabled_alike, default_alike, begins_alike}
+use Rattle.xc_meaning.proofs.Simulation.Par.{branches_alike, copies_alike, makes_alike}
+use Rattle.xc_meaning.proofs.Simulation.Calls.{AllEnd, call_code_is, no_call_code}
 
 abbrev pub with_rest : Step → List Item → Step
 with_rest s rest = record s { rest = rest }

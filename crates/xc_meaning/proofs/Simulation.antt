@@ -1,4 +1,4 @@
--- Towards the law between a program's text and its kernel: docs/plan-law.md tells the way.
+-- The proof of the law between a program's text and its kernel: docs/law.md tells the way.
 pub mod Depths
 pub mod KernelItems
 pub mod Mixed

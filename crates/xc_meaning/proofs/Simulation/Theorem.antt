@@ -1,21 +1,20 @@
 -- The law: each run of a kernel has a run of the program's text beside it.
-use Rattle.std.proofs.Common.{◌≡◌, ℕ, ◌++◌, Bool, true, false, ◌&&◌, List, [], ◌∷◌, Option, Some, None, IsSome, is_some, refl, sym, subst, ◌∙◌, ap, append_assoc, true≢false}
+use Rattle.std.proofs.Common.{◌≡◌, ◌++◌, ◌&&◌, List, [], ◌∷◌, Option, Some, None, IsSome, refl, sym, subst, ◌∙◌, ap, true≢false}
 use Rattle.xs_instr.specs.declared.image.Stim.{Stim}
 use Rattle.xc_tree.specs.Plain as tree
 use Rattle.xc_kernel.specs.Plain as kernel
 use Rattle.xc_kernel.specs.Programs.{functions}
-use Rattle.xc_kernel.specs.Copies.{copy_of, Copies}
+use Rattle.xc_kernel.specs.Copies.{copy_of}
 use Rattle.xc_meaning.specs.States.Branches.{Branch, has_ended, all_ended}
 use Rattle.xc_meaning.specs.States.Worlds.{World, Move}
-use Rattle.xc_meaning.specs.Texts.Called.{CallsEnd}
 use Rattle.xc_meaning.specs.Runs.{moves, moves_all, kernel_start, program_start, kernel_run, program_run}
 use Rattle.xc_meaning.specs.Follows.{AreAlike, StandAlike, StandAlong, HasBeside, TextFollows}
-use Rattle.xc_meaning.proofs.Law.Mixed.{Ahead, mixed_branches, mixed}
-use Rattle.xc_meaning.proofs.Law.Calls.{AllEnd}
-use Rattle.xc_meaning.proofs.Law.Beside.{Beside}
-use Rattle.xc_meaning.proofs.Law.Go.{Followed}
-use Rattle.xc_meaning.proofs.Law.Follow.{follow_move}
-use Rattle.xc_meaning.proofs.Law.Start.{starts_beside}
+use Rattle.xc_meaning.proofs.Simulation.Mixed.{Ahead, mixed_branches}
+use Rattle.xc_meaning.proofs.Simulation.Calls.{AllEnd}
+use Rattle.xc_meaning.proofs.Simulation.Beside.{Beside}
+use Rattle.xc_meaning.proofs.Simulation.Go.{Followed}
+use Rattle.xc_meaning.proofs.Simulation.Follow.{follow_move}
+use Rattle.xc_meaning.proofs.Simulation.Start.{starts_beside}
 
 ended_alike : (os : Ahead) (bs : List Branch) → all_ended (mixed_branches os bs) ≡ all_ended bs
 ended_alike os [] = refl

@@ -15,9 +15,9 @@ use Rattle.xc_meaning.specs.Moves.Sides.{sides_in}
 use Rattle.xc_meaning.specs.Moves.Par.{Begun, codes_of, begun, all_begun, family_of, child, children, with_branches, waits_for, makes, is_done, all_done}
 use Rattle.xc_meaning.specs.Texts.Copied.{calls_in, behind_branch, code_in}
 use Rattle.xc_meaning.specs.Texts.Par.{statement_begun, branch_begun, branches_begun, copies_begun}
-use Rattle.xc_meaning.proofs.Law.KernelItems.{kernel_items, of_statement}
-use Rattle.xc_meaning.proofs.Law.Mixed.{Ahead, even, mixed_branch, mixed, ahead_at, with_ahead, mixed_step, mixed_get, mixed_more, mixed_length}
-use Rattle.xc_meaning.proofs.Law.Alike.{goes_on_alike, becomes_alike}
+use Rattle.xc_meaning.proofs.Simulation.KernelItems.{kernel_items, of_statement}
+use Rattle.xc_meaning.proofs.Simulation.Mixed.{Ahead, even, mixed_branch, mixed, ahead_at, with_ahead, mixed_step, mixed_get, mixed_more, mixed_length}
+use Rattle.xc_meaning.proofs.Simulation.Alike.{goes_on_alike, becomes_alike}
 
 -- What branches begin with.
 

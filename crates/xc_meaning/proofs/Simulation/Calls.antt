@@ -9,8 +9,8 @@ use Rattle.xc_kernel.specs.Calls.{called, call_by, call_copy, function_copy, pat
 use Rattle.xc_kernel.specs.Statements.{statement_copy, calls_copy}
 use Rattle.xc_meaning.specs.Texts.Copied.{calls_in}
 use Rattle.xc_meaning.specs.Texts.Called.{EachCall, EachInFunction, GoesWithin}
-use Rattle.xc_meaning.proofs.Law.Depths.{depths_agree, same_function}
-use Rattle.xc_meaning.proofs.Law.KernelItems.{call_code}
+use Rattle.xc_meaning.proofs.Simulation.Depths.{depths_agree, same_function}
+use Rattle.xc_meaning.proofs.Simulation.KernelItems.{call_code}
 
 -- calls in programs of these functions go at most as deep as there are functions
 pub record AllEnd (fs : List Function) : Type 0 where

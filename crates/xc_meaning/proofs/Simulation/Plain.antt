@@ -10,12 +10,12 @@ use Rattle.xc_meaning.specs.Moves.Flow.{turn_items}
 use Rattle.xc_meaning.specs.Moves.Select.{enabled, and_case, default_of, begins_select}
 use Rattle.xc_meaning.specs.Moves.Kernel.{does_statement}
 use Rattle.xc_meaning.specs.Runs.{does_item}
-use Rattle.xc_meaning.proofs.Law.KernelItems.{kernel_body, kernel_choice, kernel_items, of_todo}
-use Rattle.xc_meaning.proofs.Law.Mixed.{Ahead, mixed_step}
-use Rattle.xc_meaning.proofs.Law.Alike.{becomes_alike, goes_on_alike, goes_to_by, stored_alike, assigned_alike, zeroed_alike, tests_alike, leaves_alike, awaits_alike, opens_alike, closes_alike, outputs_to_alike, inputs_from_alike, inputs_fixed_alike}
-use Rattle.xc_meaning.proofs.Law.Select.{kernel_enabled, and_case_alike, begins_alike}
-use Rattle.xc_meaning.proofs.Law.Par.{even_begun, makes_alike}
-use Rattle.xc_meaning.proofs.Law.Ready.{after, Fits, IsPlain}
+use Rattle.xc_meaning.proofs.Simulation.KernelItems.{kernel_body, kernel_choice, kernel_items, of_todo}
+use Rattle.xc_meaning.proofs.Simulation.Mixed.{Ahead, mixed_step}
+use Rattle.xc_meaning.proofs.Simulation.Alike.{becomes_alike, goes_on_alike, goes_to_by, stored_alike, assigned_alike, zeroed_alike, tests_alike, leaves_alike, awaits_alike, opens_alike, closes_alike, outputs_to_alike, inputs_from_alike, inputs_fixed_alike}
+use Rattle.xc_meaning.proofs.Simulation.Select.{kernel_enabled, and_case_alike, begins_alike}
+use Rattle.xc_meaning.proofs.Simulation.Par.{even_begun, makes_alike}
+use Rattle.xc_meaning.proofs.Simulation.Ready.{after, Fits, IsPlain}
 
 enabled_same : (store : Store) (cs : kernel.Cases) → enabled store cs ≡ kernel_enabled (enabled store cs)
 enabled_same store kernel.no_case = refl

@@ -1,5 +1,5 @@
 -- Each step of a kernel is followed by the text.
-use Rattle.std.proofs.Common.{◌≡◌, ℕ, zero, suc, Bool, true, false, List, [], ◌∷◌, map, Option, Some, None, option_map, is_some, slice_get, slice_set, nat_lt, refl, sym, subst, ◌∙◌, ap, true≢false}
+use Rattle.std.proofs.Common.{◌≡◌, ℕ, Bool, true, false, List, [], ◌∷◌, map, Option, Some, None, option_map, is_some, slice_get, slice_set, nat_lt, refl, sym, subst, ◌∙◌, ap, true≢false}
 use Rattle.xs_instr.specs.declared.image.Stim.{Stim}
 use Rattle.xs_instr.specs.Machine.{and_then}
 use Rattle.xs_instr.specs.Slot.{last_clock}
@@ -12,22 +12,20 @@ use Rattle.xc_meaning.specs.Moves.Step.{Step, becomes, goes_to}
 use Rattle.xc_meaning.specs.Moves.Par.{joins, all_done}
 use Rattle.xc_meaning.specs.Moves.Select.{takes, takes_default}
 use Rattle.xc_meaning.specs.Moves.Time.{ticks}
-use Rattle.xc_meaning.specs.Texts.Statements.{says_item}
-use Rattle.xc_meaning.specs.Runs.{does_item, step_of, does_first, goes_by, goes, selects_by, selects, moves}
-use Rattle.xc_meaning.proofs.Law.KernelItems.{kernel_body, kernel_choice, kernel_items, loop_of, do_test, do_loop_of}
+use Rattle.xc_meaning.specs.Runs.{step_of, does_first, goes_by, goes, selects_by, selects, moves}
+use Rattle.xc_meaning.proofs.Simulation.KernelItems.{kernel_body, kernel_choice, kernel_items, loop_of, do_test, do_loop_of}
 use Rattle.xc_kernel.specs.Context.{leave}
 use Rattle.xc_meaning.specs.Texts.Loops.{loop_mark}
-use Rattle.xc_meaning.proofs.Law.Mixed.{Ahead, mixed_items, mixed_branch, mixed_branches, mixed, ahead_at, with_ahead, mixed_step, mixed_set, mixed_get}
-use Rattle.xc_meaning.proofs.Law.Alike.{becomes_alike, only_if_same}
-use Rattle.xc_meaning.proofs.Law.Select.{takes_alike, takes_default_alike}
-use Rattle.xc_meaning.proofs.Law.Par.{all_done_alike}
-use Rattle.xc_meaning.proofs.Law.Calls.{AllEnd}
-use Rattle.xc_meaning.proofs.Law.Ready.{Meets, same, loops, does_loop, repeats, returns_it, IsSilent, Reaches, here, silently, IsPlain, Ready, nothing, plain, text, Settles}
-use Rattle.xc_meaning.proofs.Law.Sound.{SoundItems, SoundChoices, SoundDefault, Changed, Keeps, keeps_if, keeps_becomes, keeps_says, keeps_takes, keeps_default}
-use Rattle.xc_meaning.proofs.Law.Plain.{kernel_item, plain_items}
-use Rattle.xc_meaning.proofs.Law.Settle.{settle_items}
-use Rattle.xc_meaning.proofs.Law.Beside.{Leads, in_loop, in_do, in_turn, leaving, Running, Stands, Beside, stand_at, here_is, beside_after, after_ahead}
-use Rattle.xc_meaning.proofs.Law.Go.{Given, given, ahead_there, set_there, sound_at, sound_behind, Followed, by_one, by_more, text_goes, kernel_goes_by, kernel_goes, kernel_stops, its_fits, both, follow_ready, follow_leads}
+use Rattle.xc_meaning.proofs.Simulation.Mixed.{Ahead, mixed_items, mixed_branch, mixed_branches, mixed, ahead_at, with_ahead, mixed_step, mixed_set, mixed_get}
+use Rattle.xc_meaning.proofs.Simulation.Alike.{becomes_alike, only_if_same}
+use Rattle.xc_meaning.proofs.Simulation.Select.{takes_alike, takes_default_alike}
+use Rattle.xc_meaning.proofs.Simulation.Par.{all_done_alike}
+use Rattle.xc_meaning.proofs.Simulation.Calls.{AllEnd}
+use Rattle.xc_meaning.proofs.Simulation.Ready.{Meets, same, loops, does_loop, repeats, returns_it, IsSilent, Reaches, here, silently, IsPlain, Ready, nothing, plain, text, Settles}
+use Rattle.xc_meaning.proofs.Simulation.Sound.{SoundItems, SoundChoices, SoundDefault, Changed, Keeps, keeps_if, keeps_becomes, keeps_says, keeps_takes, keeps_default}
+use Rattle.xc_meaning.proofs.Simulation.Settle.{settle_items}
+use Rattle.xc_meaning.proofs.Simulation.Beside.{Leads, in_loop, in_do, in_turn, leaving, Stands, Beside, stand_at, here_is, beside_after, after_ahead}
+use Rattle.xc_meaning.proofs.Simulation.Go.{Given, given, ahead_there, set_there, sound_at, sound_behind, Followed, by_one, by_more, text_goes, kernel_goes_by, kernel_goes, kernel_stops, its_fits, both, follow_ready, follow_leads}
 
 module _ (fs : List Function) (end : AllEnd fs) (K : kernel.Kernel) (stim : Stim) where
   -- A silent step of the text leaves it beside the kernel.
@@ -136,7 +134,7 @@ module _ (fs : List Function) (end : AllEnd fs) (K : kernel.Kernel) (stim : Stim
       by_room false hk et = absurd (true≢false (sym (ap is_some hk)))
       by_room true hk et =
           by_one fs end K stim (clock core) (record y { clocks = slice_set y.clocks core (Rattle.std.specs.Prelude.◌+◌ now 1) }) et
-          (record { ahead = h.ahead; fits = h.fits; is_mixed = sym (Rattle.xc_meaning.proofs.Law.Go.some_given hk); sound = h.sound; stand = h.stand })
+          (record { ahead = h.ahead; fits = h.fits; is_mixed = sym (Rattle.xc_meaning.proofs.Simulation.Go.some_given hk); sound = h.sound; stand = h.stand })
 
   -- Steps of a select: by a case, or by the default.
 

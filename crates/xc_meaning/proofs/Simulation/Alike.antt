@@ -21,8 +21,8 @@ use Rattle.xc_meaning.specs.Moves.Channels.{Manner, plain, inside, manner_of, on
 use Rattle.xc_meaning.specs.Moves.Transactions.{enters, exits, is_opened, opens_by, opens, is_closed, closes_by, closes}
 use Rattle.xc_meaning.specs.Moves.Time.{clock_of, counter_of, pins_of, Timing, passes, fails, timing, with_timing, port_may_pass, timer_may_pass}
 use Rattle.xc_meaning.specs.Moves.Transfers.{drives, output_record, samples, reads_clock, outputs_to, inputs_from, inputs_fixed}
-use Rattle.xc_meaning.proofs.Law.KernelItems.{kernel_items, of_mark}
-use Rattle.xc_meaning.proofs.Law.Mixed.{Ahead, even, mixed, with_ahead, mixed_step, mixed_set}
+use Rattle.xc_meaning.proofs.Simulation.KernelItems.{kernel_items, of_mark}
+use Rattle.xc_meaning.proofs.Simulation.Mixed.{Ahead, even, mixed, with_ahead, mixed_step, mixed_set}
 
 pub of_storing : (place : Option kernel.Place) (v : ℕ) (rest : List Item) → kernel_items (storing place v rest) ≡ storing place v (kernel_items rest)
 of_storing None v rest = refl

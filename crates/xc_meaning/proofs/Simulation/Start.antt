@@ -1,13 +1,13 @@
 -- At the start the kernel's state stands beside the text's.
-use Rattle.std.proofs.Common.{◌≡◌, ℕ, zero, suc, ◌+◌, ◌-◌, ◌≤◌, Bool, true, false, List, [], ◌∷◌, ◌++◌, map, length, Option, Some, None, refl, sym, ◌∙◌, ap, arith}
+use Rattle.std.proofs.Common.{◌≡◌, ℕ, zero, suc, ◌+◌, ◌-◌, Bool, true, false, List, [], ◌∷◌, ◌++◌, map, Option, Some, None, refl, sym, ◌∙◌, ap, arith}
 use Rattle.xw_words.specs.declared.pos.Pos.{Pos}
 use Rattle.xc_tree.specs.declared.tree.Param.{Param}
 use Rattle.xc_tree.specs.Plain as tree
 use Rattle.xc_kernel.specs.Plain as kernel
-use Rattle.xc_kernel.specs.Paths.{Path, path_at}
+use Rattle.xc_kernel.specs.Paths.{path_at}
 use Rattle.xc_kernel.specs.Scopes.{Scope, a_constant, with_name}
 use Rattle.xc_kernel.specs.Programs.{Function, functions, main_of}
-use Rattle.xc_kernel.specs.Copy.{Copy, no_copy, code_of, joined}
+use Rattle.xc_kernel.specs.Copy.{no_copy, code_of, joined}
 use Rattle.xc_kernel.specs.Context.{Context, in_branch, in_function, block_at}
 use Rattle.xc_kernel.specs.Parameters.{all_passed}
 use Rattle.xc_kernel.specs.Calls.{result_copy, function_copy, body_copy}
@@ -17,19 +17,18 @@ use Rattle.xc_kernel.specs.Roots as copied
 use Rattle.xc_kernel.specs.Roots.{context_of, block_has_placed, in_block}
 use Rattle.xc_kernel.specs.Copies.{numbering, copy_of}
 use Rattle.xc_meaning.specs.States.Channels.{Side}
-use Rattle.xc_meaning.specs.States.Items.{Item, ends, todo}
-use Rattle.xc_meaning.specs.States.Branches.{Branch}
+use Rattle.xc_meaning.specs.States.Items.{ends, todo}
 use Rattle.xc_meaning.specs.Moves.Sides.{sides_in}
 use Rattle.xc_meaning.specs.Moves.Par.{begun}
 use Rattle.xc_meaning.specs.Texts.Copied.{calls_in}
 use Rattle.xc_meaning.specs.Texts.Items.{body_item}
 use Rattle.xc_meaning.specs.Texts.Roots.{Root, branch_root, behind_root, branch_roots, numbered_roots, action_roots, behind_action, block_roots, main_begun, roots_by, roots_of, program_roots}
 use Rattle.xc_meaning.specs.Runs.{codes_of_roots, root_branch, root_branches, no_side, kernel_root, kernel_start, program_start}
-use Rattle.xc_meaning.proofs.Law.KernelItems.{kernel_items, todo_all, of_todo, of_only}
-use Rattle.xc_meaning.proofs.Law.Mixed.{mixed_branches, even}
-use Rattle.xc_meaning.proofs.Law.Par.{even_begun, statement_alike}
-use Rattle.xc_meaning.proofs.Law.Sound.{SoundItems, SoundBranches, sound_statement, sound_todo}
-use Rattle.xc_meaning.proofs.Law.Beside.{Beside}
+use Rattle.xc_meaning.proofs.Simulation.KernelItems.{kernel_items, todo_all, of_todo, of_only}
+use Rattle.xc_meaning.proofs.Simulation.Mixed.{mixed_branches, even}
+use Rattle.xc_meaning.proofs.Simulation.Par.{even_begun, statement_alike}
+use Rattle.xc_meaning.proofs.Simulation.Sound.{SoundItems, SoundBranches, sound_statement, sound_todo}
+use Rattle.xc_meaning.proofs.Simulation.Beside.{Beside}
 
 abbrev pub even_root : Root → Root
 even_root r = record r { begun = even_begun r.begun }

@@ -1,6 +1,5 @@
 -- A step of a kernel's branch is followed by the text.
-use Rattle.std.proofs.Common.{◌≡◌, ℕ, zero, suc, ◌+◌, ◌≤◌, Bool, true, false, List, [], ◌∷◌, ◌++◌, length, Option, Some, None, option_map, is_some, slice_get, slice_set, nat_eq, refl, sym, subst, ◌∙◌, ap, append-nil, true≢false, arith}
-use Rattle.xw_words.specs.declared.pos.Pos.{Pos}
+use Rattle.std.proofs.Common.{◌≡◌, ℕ, zero, suc, ◌≤◌, Bool, true, false, List, [], ◌∷◌, length, Option, Some, None, option_map, is_some, slice_get, slice_set, nat_eq, refl, sym, subst, ◌∙◌, ap, append-nil, true≢false, arith}
 use Rattle.xs_instr.specs.declared.image.Stim.{Stim}
 use Rattle.xs_instr.specs.Machine.{and_then}
 use Rattle.xc_kernel.specs.Plain as kernel
@@ -10,27 +9,26 @@ use Rattle.xc_kernel.specs.Context.{Context, leave, word_at}
 use Rattle.xc_kernel.specs.Values.{Value, word, error, is_true}
 use Rattle.xc_kernel.specs.Eval.{eval}
 use Rattle.xc_meaning.specs.States.Items.{Loop, TextItem, again_do, Item, does, says, stores, mark, awaits, closes, chooses, fixed, ends}
-use Rattle.xc_meaning.specs.States.Branches.{Mode, runs, waits, ended, erred, Branch}
+use Rattle.xc_meaning.specs.States.Branches.{runs, ended, Branch}
 use Rattle.xc_meaning.specs.States.Worlds.{World, Move, go, with_word}
-use Rattle.xc_meaning.specs.Moves.Step.{Step, goes_to, errs, kind_of, with_value}
+use Rattle.xc_meaning.specs.Moves.Step.{Step, goes_to, kind_of, with_value}
 use Rattle.xc_meaning.specs.Moves.Stores.{stored}
 use Rattle.xc_meaning.specs.Moves.Flow.{items_by, from_mark_by, items_from_mark}
-use Rattle.xc_meaning.specs.Moves.Par.{joins, all_done}
 use Rattle.xc_meaning.specs.Texts.Copied.{behind, block_in}
 use Rattle.xc_meaning.specs.Texts.Loops.{turn_context, test_in, loop_mark, turn_item, turn_items}
 use Rattle.xc_meaning.specs.Texts.Statements.{returns_word, says_item}
 use Rattle.xc_meaning.specs.Runs.{does_item, step_of, does_first, goes_by, goes, moves, moves_all}
 use Rattle.xc_kernel.specs.Paths.{path_at}
-use Rattle.xc_meaning.proofs.Law.KernelItems.{kernel_items, loop_of, do_test, do_loop_of, of_mark}
-use Rattle.xc_meaning.proofs.Law.Mixed.{Ahead, mixed_items, mixed_branch, mixed_branches, mixed, ahead_at, with_ahead, mixed_step, mixed_set, mixed_get}
-use Rattle.xc_meaning.proofs.Law.Alike.{becomes_alike, goes_to_by, errs_alike, tests_alike, only_if_same}
-use Rattle.xc_meaning.proofs.Law.Par.{with_ahead_length, all_done_alike}
-use Rattle.xc_meaning.proofs.Law.Calls.{AllEnd}
-use Rattle.xc_meaning.proofs.Law.Ready.{Fits, Meets, same, loops, does_loop, repeats, returns_it, IsSilent, Reaches, here, silently, IsPlain, Ready, nothing, plain, text, Settles}
-use Rattle.xc_meaning.proofs.Law.Sound.{Begins, SoundItem, SoundBefore, SoundItems, SoundBranches, Changed, Keeps, keeps_goes, keeps_errs, keeps_becomes, keeps_says, keeps_statement, keeps_stored, keeps_awaits, keeps_closes, keeps_fixed}
-use Rattle.xc_meaning.proofs.Law.Plain.{kernel_item, plain_items, plain_alike}
-use Rattle.xc_meaning.proofs.Law.Settle.{of_turn_item, of_turn, settle_items}
-use Rattle.xc_meaning.proofs.Law.Beside.{Leads, in_loop, in_do, in_turn, leaving, Running, Stands, Beside, stand_at, here_is, moved, beside_after, beside_moved}
+use Rattle.xc_meaning.proofs.Simulation.KernelItems.{kernel_items, loop_of, do_test, do_loop_of, of_mark}
+use Rattle.xc_meaning.proofs.Simulation.Mixed.{Ahead, mixed_items, mixed_branch, mixed_branches, mixed, ahead_at, with_ahead, mixed_set, mixed_get}
+use Rattle.xc_meaning.proofs.Simulation.Alike.{goes_to_by, errs_alike, tests_alike}
+use Rattle.xc_meaning.proofs.Simulation.Par.{with_ahead_length}
+use Rattle.xc_meaning.proofs.Simulation.Calls.{AllEnd}
+use Rattle.xc_meaning.proofs.Simulation.Ready.{Meets, same, loops, does_loop, repeats, returns_it, IsPlain, Ready, nothing, plain, text}
+use Rattle.xc_meaning.proofs.Simulation.Sound.{Begins, SoundItem, SoundBefore, SoundItems, SoundBranches, Changed, Keeps, keeps_goes, keeps_errs, keeps_becomes, keeps_says, keeps_statement, keeps_stored, keeps_awaits, keeps_closes, keeps_fixed}
+use Rattle.xc_meaning.proofs.Simulation.Plain.{kernel_item, plain_items, plain_alike}
+use Rattle.xc_meaning.proofs.Simulation.Settle.{of_turn_item, of_turn}
+use Rattle.xc_meaning.proofs.Simulation.Beside.{Leads, in_loop, in_do, in_turn, leaving, Running, Stands, Beside, stand_at, here_is, moved, beside_after, beside_moved}
 
 pub some_given : {A : Type 0} {a b : A} → Some a ≡ Some b → a ≡ b
 some_given e = cc
@@ -128,7 +126,7 @@ module _ (fs : List Function) (end : AllEnd fs) (K : kernel.Kernel) (stim : Stim
         ∙ ap (does_first K stim (mixed h.ahead y) n (mixed_branch (ahead_at h.ahead n) b) does_item) ei
 
     pub its_fits : length (with_ahead h.ahead n None) ≤ length y.branches
-    its_fits = with_ahead_length h.ahead n None (length y.branches) h.fits (Rattle.xc_meaning.proofs.Law.Beside.in_range y.branches n b e)
+    its_fits = with_ahead_length h.ahead n None (length y.branches) h.fits (Rattle.xc_meaning.proofs.Simulation.Beside.in_range y.branches n b e)
 
     -- both do the same, and the kernel's branch isn't ahead
     pub both : {x' : World} (rest : List Item) (made theirs : Option World) → moves K stim y (go n) ≡ made → theirs ≡ option_map (mixed (with_ahead h.ahead n None)) made → theirs ≡ Some x' → Keeps fs (step_of K stim y n b rest) made → Followed x' y
@@ -184,7 +182,7 @@ module _ (fs : List Function) (end : AllEnd fs) (K : kernel.Kernel) (stim : Stim
     returned_by c rest (word w) em sound ek et =
         both_ahead (items_from_mark (block_in c c.returns) rest) (does (leave c c.returns) ∷ kernel_items rest)
         (with_word (goes_to (step_of K stim y n b rest) (items_from_mark (block_in c c.returns) rest)) (variable_number c.numbering c.result) 0 w) em et refl
-        (Rattle.xc_meaning.proofs.Law.Sound.sound_from_mark fs (block_in c c.returns) rest sound) (leaving (block_in c c.returns) rest refl refl) (sym (some_given ek))
+        (Rattle.xc_meaning.proofs.Simulation.Sound.sound_from_mark fs (block_in c c.returns) rest sound) (leaving (block_in c c.returns) rest refl refl) (sym (some_given ek))
     returned_by c rest (error kind pos) em sound ek et =
         both rest _ _ et (errs_alike h.ahead (mixed_items (ahead_at h.ahead n) b.items) (step_of K stim y n b rest) (kind_of kind) pos) ek (keeps_errs fs (step_of K stim y n b rest) (kind_of kind) pos)
 

@@ -18,9 +18,9 @@ use Rattle.xc_meaning.specs.Moves.Time.{Timing, passes, fails, timing, clock_of,
 use Rattle.xc_meaning.specs.Moves.Select.{Enabled, these, wrong, same_resource, kept, elsewhere, before_others, timed_case, case_by, guarded_case, guard_value, and_case, enabled, default_of, begins_select, is_ready, resource_is_ready, none_ready, input_taken, takes_case, takes, takes_default}
 use Rattle.xc_meaning.specs.Texts.Copied.{calls_in}
 use Rattle.xc_meaning.specs.Texts.Select.{case_body, text_enabled, text_default}
-use Rattle.xc_meaning.proofs.Law.KernelItems.{kernel_body, kernel_choice, kernel_items, of_body}
-use Rattle.xc_meaning.proofs.Law.Mixed.{Ahead, mixed, with_ahead, mixed_step}
-use Rattle.xc_meaning.proofs.Law.Alike.{goes_to_alike, goes_to_by, errs_alike, port_alike, timer_alike, only_if_same}
+use Rattle.xc_meaning.proofs.Simulation.KernelItems.{kernel_body, kernel_choice, kernel_items, of_body}
+use Rattle.xc_meaning.proofs.Simulation.Mixed.{Ahead, mixed, with_ahead, mixed_step}
+use Rattle.xc_meaning.proofs.Simulation.Alike.{goes_to_alike, goes_to_by, errs_alike, port_alike, timer_alike, only_if_same}
 
 -- Enabled cases.
 
