@@ -1,0 +1,8 @@
+pub mod ExamplePrograms
+pub mod Running
+mod KernelExamples
+mod TextExamples
+mod CountExamples
+mod QuietExamples
+mod MixedExample
+pub mod Simulation

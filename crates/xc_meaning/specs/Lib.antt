@@ -1,3 +1,10 @@
 pub mod Program
 pub mod World
 pub mod Steps
+pub mod States
+pub mod Moves
+pub mod Texts
+pub mod Runs
+pub mod Counts
+pub mod Quiet
+pub mod Follows

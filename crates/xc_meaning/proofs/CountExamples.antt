@@ -1,0 +1,61 @@
+-- The counts of small programs, and the steps of families.
+use Rattle.std.specs.Prelude.{◌≡◌, ℕ, ◌++◌, Option, Some, option_map, refl}
+use Rattle.xc_kernel.specs.Copies.{copy_of}
+use Rattle.xc_meaning.specs.States.Worlds.{World}
+use Rattle.xc_meaning.specs.Runs.{kernel_start, kernel_run}
+use Rattle.xc_meaning.specs.Counts.Families.{steps_of, child_family}
+use Rattle.xc_meaning.specs.Counts.KernelCounts.{greatest_count, kernel_bound}
+use Rattle.xc_meaning.specs.Counts.TextCounts.{twice_greatest, program_bound}
+use Rattle.xc_meaning.proofs.ExamplePrograms.{timed_output, hand_over, out_of_range, timer_case, divided}
+use Rattle.xc_meaning.proofs.Running.{no_stimulus, steps}
+
+-- the output counts 2, a time and a value, as does the assignment of the result
+timed_count : greatest_count (copy_of timed_output) ≡ 2
+unfolding copy_of
+timed_count = refl
+
+timed_bound : kernel_bound (copy_of timed_output) ≡ 144
+unfolding copy_of
+timed_bound = refl
+
+-- ten words become 0
+array_count : greatest_count (copy_of out_of_range) ≡ 10
+unfolding copy_of
+array_count = refl
+
+-- a quotient of two reads, stored at a place
+divided_count : greatest_count (copy_of divided) ≡ 4
+unfolding copy_of
+divided_count = refl
+
+-- two cases, with a guard of three nodes, a place and a condition
+select_count : greatest_count (copy_of timer_case) ≡ 7
+unfolding copy_of
+select_count = refl
+
+-- `p @ 100 <: 1 ;` has six tokens
+timed_twice : twice_greatest timed_output ≡ 12
+timed_twice = refl
+
+timed_program_bound : program_bound timed_output ≡ 1280
+timed_program_bound = refl
+
+-- `int a [ 10 ] ;` has six tokens and ten words
+array_twice : twice_greatest out_of_range ≡ 32
+array_twice = refl
+
+-- in the kernel main does four steps and its `par`'s first branch one; the second branch, with the number 2, begins a family
+main_steps : steps_of (copy_of hand_over) no_stimulus 0 (Some (kernel_start (copy_of hand_over))) (steps 4 0 ++ steps 1 1 ++ steps 1 2) ≡ 5
+unfolding copy_of
+main_steps = refl
+
+second_steps : steps_of (copy_of hand_over) no_stimulus 2 (Some (kernel_start (copy_of hand_over))) (steps 4 0 ++ steps 1 1 ++ steps 1 2) ≡ 1
+unfolding copy_of
+second_steps = refl
+
+abbrev second_child : World → Option ℕ
+second_child x = child_family x 0 0 1
+
+second_family : option_map second_child (kernel_run (copy_of hand_over) no_stimulus (steps 4 0)) ≡ Some (Some 2)
+unfolding copy_of
+second_family = refl

@@ -1,0 +1,57 @@
+-- Families: a branch with the family of the first branch of each `par` that it makes. How many steps each has done.
+use Rattle.std.specs.Prelude.{ℕ, zero, suc, ◌+◌, Bool, true, false, ◌&&◌, List, [], ◌∷◌, Option, Some, None, option_map, nat_eq, nat_lt, slice_get}
+use Rattle.xs_instr.specs.declared.image.Stim.{Stim}
+use Rattle.xc_kernel.specs.Plain as kernel
+use Rattle.xc_meaning.specs.States.Branches.{Birth, Branch}
+use Rattle.xc_meaning.specs.States.Worlds.{World, Move, clock, go, take, default}
+use Rattle.xc_meaning.specs.Runs.{moves}
+
+abbrev pub family_of_branch : Branch → ℕ
+family_of_branch b = b.family
+
+-- the family of a branch by its number
+abbrev pub family_at : World → (branch : ℕ) → Option ℕ
+family_at x b = option_map family_of_branch (slice_get x.branches b)
+
+-- the family whose step this is; a clock's step is none's
+abbrev pub mover : World → Move → Option ℕ
+mover x (clock core) = None
+mover x (go b) = family_at x b
+mover x (take b n) = family_at x b
+mover x (default b) = family_at x b
+
+abbrev pub one_if : Bool → ℕ
+one_if true = 1
+one_if false = 0
+
+-- 1 for a step of this family, else 0
+abbrev pub counted_for : (family : ℕ) → Option ℕ → ℕ
+counted_for family None = 0
+counted_for family (Some other) = one_if (nat_eq family other)
+
+-- the steps of a family in a list of steps from a state on
+abbrev pub steps_of : kernel.Kernel → Stim → (family : ℕ) → Option World → List Move → ℕ
+steps_of K s family None ms = 0
+steps_of K s family (Some x) [] = 0
+steps_of K s family (Some x) (m ∷ ms) = counted_for family (mover x m) + steps_of K s family (moves K s x m) ms
+
+-- whether a branch has this index in a `par` of two or more branches that the family made
+abbrev pub is_child : (family index : ℕ) → Option Birth → Bool
+is_child family index None = false
+is_child family index (Some b) = nat_eq b.family family && nat_eq b.index index && nat_lt 1 b.among
+
+-- `child_of`, by cases
+abbrev pub child_by : Bool → (number j : ℕ) → (others : ℕ → Option ℕ) → Option ℕ
+child_by true number zero others = Some number
+child_by true number (suc j) others = others j
+child_by false number j others = others j
+
+-- Of the branches from a number on: the one with this index, from 1, in the j-th such `par`, from 0. It begins a family, which
+-- has its number.
+abbrev pub child_among : (family index number : ℕ) → List Branch → (j : ℕ) → Option ℕ
+child_among family index number [] j = None
+child_among family index number (b ∷ bs) j = child_by (is_child family index b.birth) number j (child_among family index (number + 1) bs)
+
+-- the family of the branch with this index, from 1, in the j-th `par` of two or more branches that a family made
+abbrev pub child_family : World → (family j index : ℕ) → Option ℕ
+child_family x family j index = child_among family index 0 x.branches j

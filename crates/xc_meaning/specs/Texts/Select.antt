@@ -1,0 +1,44 @@
+-- The cases of a select.
+use Rattle.std.specs.Prelude.{Option, Some, None}
+use Rattle.xw_words.specs.declared.pos.Pos.{Pos}
+use Rattle.xc_tree.specs.Plain as tree
+use Rattle.xc_kernel.specs.Eval.{Store}
+use Rattle.xc_kernel.specs.Paths.{path_at}
+use Rattle.xc_kernel.specs.Scopes.{Scope}
+use Rattle.xc_kernel.specs.Context.{Context, in_case, maybe_expression}
+use Rattle.xc_kernel.specs.Transfers.{input_of}
+use Rattle.xc_kernel.specs.Flow.{case_scope}
+use Rattle.xc_meaning.specs.States.Items.{body, Body, of_text}
+use Rattle.xc_meaning.specs.Moves.Select.{Enabled, these, and_case}
+use Rattle.std.specs.Prelude.{[]}
+
+-- the body of a case that begins at a place, in the block that its `break` leaves
+abbrev pub case_body : Context → Scope → Pos → Option tree.Input → tree.Statements → Body
+case_body c scope pos i ss = of_text (body (path_at c.path pos) ss (in_case c pos) (case_scope c scope i))
+
+-- a case with an input, and the others; `default` is none
+abbrev pub input_case : Store → Context → Scope → Pos → Option tree.Expression → tree.Statements → Option tree.Input → Enabled → Enabled
+input_case store c scope pos guard ss None others = others
+input_case store c scope pos guard ss (Some i) others =
+    and_case store (maybe_expression c scope guard) (input_of c scope i) (case_body c scope pos (Some i) ss) others
+
+abbrev pub text_case : Store → Context → Scope → tree.Case → Enabled → Enabled
+text_case store c scope (tree.case pos guard i ss) others = input_case store c scope pos guard ss i others
+
+-- the enabled cases of a select
+abbrev pub text_enabled : Store → Context → Scope → tree.Cases → Enabled
+text_enabled store c scope tree.no_case = these []
+text_enabled store c scope (tree.more_cases a cs) = text_case store c scope a (text_enabled store c scope cs)
+
+-- the body of a case that is `default`, or another default
+abbrev pub default_or : Context → Scope → Pos → tree.Statements → Option tree.Input → Option Body → Option Body
+default_or c scope pos ss None other = Some (case_body c scope pos None ss)
+default_or c scope pos ss (Some i) other = other
+
+abbrev pub default_in : Context → Scope → tree.Case → Option Body → Option Body
+default_in c scope (tree.case pos guard i ss) other = default_or c scope pos ss i other
+
+-- the default of a select
+abbrev pub text_default : Context → Scope → tree.Cases → Option Body
+text_default c scope tree.no_case = None
+text_default c scope (tree.more_cases a cs) = default_in c scope a (text_default c scope cs)
