@@ -104,10 +104,11 @@ distinct_ids : (ps : List plain.Port) (ids : List ℕ) → Fine ps → Placed ps
 distinct_ids [] [] f no_port = tt
 distinct_ids [] (id ∷ ids) f r = elim r [ ]
 distinct_ids (p ∷ ps) [] f r = elim r [ ]
-distinct_ids (p ∷ ps) (id ∷ ids) f (further_port e r) =
-    (identifier_within p.ident.text id e,
-     new_id p.ident.text id ps ids r e (λ j q y. f.identifiers_differ 0 (suc j) p q (omega arith) refl y),
-     distinct_ids ps ids (but_first p ps f) r)
+distinct_ids (p ∷ ps) (id ∷ ids) f (further_port e r) = (
+  identifier_within p.ident.text id e,
+  new_id p.ident.text id ps ids r e (λ j q y. f.identifiers_differ 0 (suc j) p q (omega arith) refl y),
+  distinct_ids ps ids (but_first p ps f) r,
+)
 
 declarations : (ps : List plain.Port) (ids : List ℕ) → AreFreePorts ps → Fine ps → Placed ps ids → AreDeclarations (map plain.port ps) (names_of ps) ids
 declarations [] [] o f no_port = no_declaration

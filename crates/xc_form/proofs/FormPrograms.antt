@@ -128,11 +128,12 @@ module _ (items : List plain.Item) (h : Formed items) (uses : List ℕ) where
         let there = into (site.output (name_at named k o.name)) (in_left _ (site.of_statement named around k s) _ (in_sent named around k s o x)) in
         let port = sent_to_port before (sent_marks os ++ Closes ∷ []) o is (subst (λ i. In (site.output (name_at named i o.name)) (site.sites named)) (sym counted) there) in
         let further = outputs_of (k + 1) (before ++ Uses o.name ∷ []) ss os xs
-            (past_append 0 before (Uses o.name ∷ []) ∙ ap (λ i. i + 1) counted)
-            (is ∙ sym (append_assoc before (Uses o.name ∷ []) (sent_marks os ++ Closes ∷ [])))
-            (λ y i. into y (in_right y (site.of_statement named around k s) _ (subst (λ j. In y (site.of_statements named around j rest)) (sym (ap (past k) (of_sent x))) i))) in
-        (record { port = port.0; time = x.time; value = x.value; pos = o.name.pos } ∷ further.0,
-         further_output (record { sent = o; pos = x.pos; close = x.close; own = x.own; is = x.is; declared = port.1; placed = refl; timed = x.timed; literal = x.literal; unstamped = x.unstamped }) further.1)
+        (past_append 0 before (Uses o.name ∷ []) ∙ ap (λ i. i + 1) counted)
+        (is ∙ sym (append_assoc before (Uses o.name ∷ []) (sent_marks os ++ Closes ∷ [])))
+        (λ y i. into y (in_right y (site.of_statement named around k s) _ (subst (λ j. In y (site.of_statements named around j rest)) (sym (ap (past k) (of_sent x))) i))) in (
+          record { port = port.0; time = x.time; value = x.value; pos = o.name.pos } ∷ further.0,
+          further_output (record { sent = o; pos = x.pos; close = x.close; own = x.own; is = x.is; declared = port.1; placed = refl; timed = x.timed; literal = x.literal; unstamped = x.unstamped }) further.1,
+        )
 
     in_sites : (x : site.Site) → In x (site.of_statements named (in_block_of h.is_main.head) (past 0 (port_marks h.ports) + 1) (plain.statements (h.statements ++ h.last ∷ []))) → In x (site.sites named)
     unfolding site.sites
@@ -151,21 +152,23 @@ module _ (items : List plain.Item) (h : Formed items) (uses : List ℕ) where
 
     program_of_formed : (P : Program) × IsOfTree items P
     program_of_formed =
-        let ports = ports_of items h names_unbroken in
-        (record { ports = ports.0; outputs = sent_in_main.0 }, record {
-          declarations = map plain.port h.ports;
-          main = h.main;
-          items_are = h.items_are;
-          names = names_of h.ports;
-          declared = ports.1;
-          names_differ = names_distinct items h names_unbroken;
-          ports_differ = ports.2;
-          outputs = h.statements;
-          last = h.last;
-          is_main = h.is_main;
-          sent = sent_in_main.1;
-          returns = h.returns;
-        })
+        let ports = ports_of items h names_unbroken in (
+          record { ports = ports.0; outputs = sent_in_main.0 },
+          record {
+            declarations = map plain.port h.ports;
+            main = h.main;
+            items_are = h.items_are;
+            names = names_of h.ports;
+            declared = ports.1;
+            names_differ = names_distinct items h names_unbroken;
+            ports_differ = ports.2;
+            outputs = h.statements;
+            last = h.last;
+            is_main = h.is_main;
+            sent = sent_in_main.1;
+            returns = h.returns;
+          },
+        )
 
 -- a tree of the form that breaks no rule of names or types is a program
 pub program_of_form : (items : List plain.Item) → HasForm items → (uses : List ℕ) → ((b : Broken) → BreaksNames items b → ⊥) → names.AreUses (marks.of_program items) uses → ((b : Broken) → BreaksTypes (named_by items uses) b → ⊥) → (P : Program) × IsOfTree items P
