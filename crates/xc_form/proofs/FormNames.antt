@@ -6,7 +6,7 @@ use Rattle.std.specs.List.{Contains}
 use Rattle.std.specs.Prelude.{bytes_eq, codes}
 use Rattle.xw_words.specs.declared.pos.Pos.{Pos}
 use Rattle.xw_words.specs.declared.pos.Broken.{Broken}
-use Rattle.xc_meaning.specs.Program.{AreDistinctPorts, IsNew}
+use Rattle.xc_built.specs.Program.{AreDistinctPorts, IsNew}
 use Rattle.xc_tree.specs.declared.names.Mark.{Mark}
 use Rattle.xc_tree.specs.declared.names.What.TheVariants as what
 use Rattle.xc_tree.specs.Plain as plain

@@ -2,8 +2,8 @@
 use Rattle.std.proofs.Common.{◌≡◌, ◌+◌, ℕ, zero, suc, Bool, true, false, List, [], ◌∷◌, ◌++◌, map, slice_get, Some, refl, sym, ap, subst, ◌∙◌, append_assoc, arith}
 use Rattle.std.specs.List.{Contains}
 use Rattle.xw_words.specs.declared.pos.Broken.{Broken}
-use Rattle.xc_meaning.specs.declared.program.Output.{Output}
-use Rattle.xc_meaning.specs.declared.program.Program.{Program}
+use Rattle.xc_built.specs.declared.program.Output.{Output}
+use Rattle.xc_built.specs.declared.program.Program.{Program}
 use Rattle.xc_tree.specs.declared.names.Decl.{Decl}
 use Rattle.xc_tree.specs.declared.names.Mark.{Mark}
 use Rattle.xc_tree.specs.declared.names.Mark.TheVariants.{Opens, Closes, Declares, Uses}

@@ -2,7 +2,7 @@
 use Rattle.std.proofs.Common.{◌≡◌, ◌≢◌, ℕ, ◌+◌, ◌<◌, ◌≤◌, Bool, true, false, if◌then◌else◌, List, [], ◌∷◌, ◌++◌, length, drop, get_or, Some, sym, subst, arith}
 use Rattle.std.proofs.lemmas.List.{at_drop_more, at_drop_all}
 use Rattle.std.specs.Prelude.{bytes_eq}
-use Rattle.xc_meaning.specs.Program.{IsNew, AreDistinctPorts, port_count}
+use Rattle.xc_built.specs.Program.{IsNew, AreDistinctPorts, port_count}
 use Rattle.xc_tree.specs.Names.Ports.{identifiers}
 use Rattle.xc_form.specs.Words.{place_from, place_in}
 

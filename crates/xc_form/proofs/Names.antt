@@ -6,7 +6,7 @@ use Rattle.std.proofs.lemmas.Map.Steps.{length-le_from_distinct_below}
 use Rattle.std.proofs.lemmas.Slice.Eq.{bytes_eq-Decides}
 use Rattle.std.specs.List.{AllByRecursion, IsDistinct, list_any}
 use Rattle.std.specs.Prelude.{bytes_eq}
-use Rattle.xc_meaning.specs.Program.{AreDistinctPorts, IsNew, port_count}
+use Rattle.xc_built.specs.Program.{AreDistinctPorts, IsNew, port_count}
 use Rattle.xc_form.specs.OfTree.{IsNewName, AreDistinctNames}
 use Rattle.xc_form.specs.Words.{place_from, place_in}
 

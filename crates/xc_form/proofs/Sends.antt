@@ -4,7 +4,7 @@ use Rattle.std.specs.Option.{option_eq, is_some}
 use Rattle.std.proofs.Math.Dec.{eqb}
 use Rattle.std.proofs.lemmas.Bool.{eqb-true}
 use Rattle.xw_words.specs.declared.pos.Pos.{Pos}
-use Rattle.xc_meaning.specs.declared.program.Output.{Output}
+use Rattle.xc_built.specs.declared.program.Output.{Output}
 use Rattle.xc_tree.specs.declared.tree.FuncItem.{FuncItem}
 use Rattle.xc_tree.specs.declared.tree.Item.{Item}
 use Rattle.xc_tree.specs.declared.tree.Item.TheVariants as item

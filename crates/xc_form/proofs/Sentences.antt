@@ -1,7 +1,7 @@
 -- Outputs, one after the other.
 use Rattle.std.proofs.Common.{◌≡◌, ℕ, ◌+◌, ◌<◌, ◌≤◌, List, [], ◌∷◌, ◌++◌, length, map, drop, get_or, refl, sym, ap, subst, ◌∙◌}
-use Rattle.xc_meaning.specs.Program.{AreDeclared}
-use Rattle.xc_meaning.specs.declared.program.Output.{Output}
+use Rattle.xc_built.specs.Program.{AreDeclared}
+use Rattle.xc_built.specs.declared.program.Output.{Output}
 use Rattle.xc_tree.specs.declared.tree.Stmt.{Stmt}
 use Rattle.xc_tree.specs.Plain as plain
 use Rattle.xc_tree.specs.Trees.{statement_of}

@@ -1,8 +1,8 @@
 -- Which trees are of the form, and the program that one is.
 use Rattle.std.specs.Prelude.{◌≡◌, ◌≢◌, ℕ, Bool, false, List, [], ◌∷◌, ◌++◌, codes, Option, Some, None}
-use Rattle.xc_meaning.specs.declared.program.Output.{Output}
-use Rattle.xc_meaning.specs.declared.program.Program.{Program}
-use Rattle.xc_meaning.specs.Program.{AreDistinctPorts}
+use Rattle.xc_built.specs.declared.program.Output.{Output}
+use Rattle.xc_built.specs.declared.program.Program.{Program}
+use Rattle.xc_built.specs.Program.{AreDistinctPorts}
 use Rattle.xw_words.specs.declared.pos.Pos.{Pos}
 use Rattle.xc_tree.specs.declared.tree.TreeDir.TheVariants.{Out}
 use Rattle.xc_tree.specs.Plain as plain

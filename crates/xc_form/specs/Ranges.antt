@@ -1,7 +1,7 @@
 -- The numbers of a program that are words.
 use Rattle.std.specs.Prelude.{ℕ, ◌<◌, ◌^◌, List, [], ◌∷◌, Option, Some, None}
 use Rattle.xw_words.specs.declared.pos.Pos.{Pos}
-use Rattle.xc_meaning.specs.declared.program.Output.{Output}
+use Rattle.xc_built.specs.declared.program.Output.{Output}
 
 -- line and column are words
 abbrev pub IsWordPlace : Pos → Type 0

@@ -1,6 +1,6 @@
 -- What the steps of the reader tell each other.
 use Rattle.std.specs.Prelude.{◌≡◌, ℕ, ◌≤◌, List, [], ◌∷◌, ◌++◌, length, Some, None}
-use Rattle.xc_meaning.specs.Program.{IsNew, AreDistinctPorts}
+use Rattle.xc_built.specs.Program.{IsNew, AreDistinctPorts}
 use Rattle.xc_form.specs.declared.ports.Ports.{Ports}
 use Rattle.xc_tree.specs.Names.Ports.{identifiers}
 use Rattle.xc_form.specs.Words.{place_in}

@@ -1,7 +1,7 @@
 ghost use Rattle.std.specs.Prelude.{◌≡◌, ◌^◌, ◌<◌, ◌≤◌, ℕ, List, Option, length, map, option_map, IfOk, IfErr, IfSome, IfNone, IsTrue, ◌↔◌};
-ghost use Rattle.xc_meaning.specs.Program.{IsWellFormed, AreDeclared};
-ghost use Rattle.xc_meaning.specs.declared.program.Output.{Output};
-ghost use Rattle.xc_meaning.specs.declared.program.Program.{Program};
+ghost use Rattle.xc_built.specs.Program.{IsWellFormed, AreDeclared};
+ghost use Rattle.xc_built.specs.declared.program.Output.{Output};
+ghost use Rattle.xc_built.specs.declared.program.Program.{Program};
 ghost use Rattle.xc_tree.specs.declared.token.Tok.{Tok};
 ghost use Rattle.xc_tree.specs.Derives.{IsProgram};
 ghost use Rattle.xc_tree.specs.Plain as plain;
@@ -16,7 +16,7 @@ use crate::error::ReadErr;
 use crate::ports::{Ports, declare};
 use crate::table::name_place;
 use std::alloc::Global;
-use xc_meaning::{Output, Program};
+use xc_built::{Output, Program};
 use xc_tree::{Ex, Expr, FuncItem, Item, Rhs, St, Stmt, Timed, Tree, TreeDir};
 use xw_words::{List, Pos};
 

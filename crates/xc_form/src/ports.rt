@@ -1,5 +1,5 @@
 ghost use Rattle.std.specs.Prelude.{◌≡◌, ℕ, ◌^◌, ◌<◌, length, IfOk, IfErr, OnOk, IsTrue, ◌↔◌};
-ghost use Rattle.xc_meaning.specs.Program.{IsNew};
+ghost use Rattle.xc_built.specs.Program.{IsNew};
 ghost use Rattle.xc_form.specs.ReadErr.{IfOther};
 ghost use Rattle.xc_form.specs.Steps.{CanDeclare, Declared};
 

@@ -1,6 +1,3 @@
-pub mod Program
-pub mod World
-pub mod Steps
 pub mod States
 pub mod Moves
 pub mod Texts

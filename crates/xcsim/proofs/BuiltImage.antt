@@ -6,9 +6,9 @@ use Rattle.xs_instr.specs.declared.instr.Instr.{Instr}
 use Rattle.xs_instr.specs.declared.instr.Instr.TheVariants.{Ldc, Out}
 use Rattle.xs_instr.specs.declared.instr.Reg.TheVariants.{R0, R1}
 use Rattle.xs_core.specs.Built.{IsBuilt, all_built, all_built_cores}
-use Rattle.xc_meaning.specs.declared.program.Output.{Output}
-use Rattle.xc_meaning.specs.declared.program.Program.{Program}
-use Rattle.xc_meaning.specs.World.{items_of}
+use Rattle.xc_built.specs.declared.program.Output.{Output}
+use Rattle.xc_built.specs.declared.program.Program.{Program}
+use Rattle.xc_built.specs.World.{items_of}
 use Rattle.xr_match.specs.Code.{IsCodeOf, items_code, port_name, time_code}
 
 output_built : (n v : ℕ) (time : Option ℕ) (rest : List Instr) → all_built rest ≡ true → all_built ((Ldc R1 n ∷ time_code time ++ Ldc R0 v ∷ Out R1 R0 ∷ []) ++ rest) ≡ true

@@ -3,7 +3,7 @@ use Rattle.std.proofs.Common.{◌≡◌, ◌⊎◌, ℕ, ◌<◌, ◌≤◌, Lis
 use Rattle.std.specs.Prelude.{Option, Some, None}
 use Rattle.xw_io.specs.Outside.{WhereTold, IsFileOf, found, max_file}
 use Rattle.xw_io.specs.declared.file.File.{File}
-use Rattle.xc_meaning.specs.declared.program.Program.{Program}
+use Rattle.xc_built.specs.declared.program.Program.{Program}
 use Rattle.xw_words.specs.declared.pos.Broken.{Broken}
 use Rattle.xcsim.specs.Answers.{Answers, Decided, no_command, missing, too_long, read_fault, refused, checked, assembled, ran, no_memory, Delivered, whole, out_fell, err_fell, Outcome}
 use Rattle.xcsim.specs.Causes.{AllCauses, Completes, DoneWith, NoFault}

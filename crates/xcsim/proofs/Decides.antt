@@ -6,7 +6,7 @@ use Rattle.xw_words.specs.declared.pos.Broken.{Broken}
 use Rattle.xs_instr.specs.declared.image.Image.{Image}
 use Rattle.xs_instr.specs.declared.trace.EndWord.{EndWord}
 use Rattle.xs_instr.specs.declared.trace.Record.{Record}
-use Rattle.xc_meaning.specs.declared.program.Program.{Program}
+use Rattle.xc_built.specs.declared.program.Program.{Program}
 use Rattle.xcsim.specs.Answers.{Decided, missing, too_long, read_fault, refused, checked, assembled, ran, says, prints, status_of_run}
 use Rattle.xcsim.specs.Command.{Command, Run, Asm, Check, file_of, means}
 use Rattle.xcsim.specs.Lines.{accepted_line, broken_line, code_section, no_file_line, read_fault_line, run_output, too_long_line}

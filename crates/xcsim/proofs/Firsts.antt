@@ -9,7 +9,7 @@ use Rattle.xc_tree.specs.Plain.{Item}
 use Rattle.xc_tree.specs.Names.Rules.{Breaks as BreaksInNames, FirstBroken as FirstInNames}
 use Rattle.xc_tree.specs.Types.Named.{NamedProgram}
 use Rattle.xc_tree.specs.Checks.{Breaks as BreaksInTypes, FirstBroken as FirstInTypes}
-use Rattle.xc_meaning.specs.declared.program.Program.{Program}
+use Rattle.xc_built.specs.declared.program.Program.{Program}
 use Rattle.xc_form.specs.Form.{HasForm}
 use Rattle.xc_form.specs.OfTree.{IsOfTree}
 use Rattle.xc_form.proofs.FormPrograms.{program_of_form}

@@ -6,10 +6,10 @@ use Rattle.xs_instr.specs.declared.image.Image.{Image}
 use Rattle.xs_instr.specs.declared.instr.Instr.{Instr}
 use Rattle.xs_instr.specs.declared.instr.Instr.TheVariants.{Ldc, Out}
 use Rattle.xs_instr.specs.declared.instr.Reg.TheVariants.{R0, R1}
-use Rattle.xc_meaning.specs.declared.program.Output.{Output}
-use Rattle.xc_meaning.specs.declared.program.Program.{Program}
-use Rattle.xc_meaning.specs.Program.{AreDeclared, IsWellFormed, port_count}
-use Rattle.xc_meaning.specs.World.{items_of}
+use Rattle.xc_built.specs.declared.program.Output.{Output}
+use Rattle.xc_built.specs.declared.program.Program.{Program}
+use Rattle.xc_built.specs.Program.{AreDeclared, IsWellFormed, port_count}
+use Rattle.xc_built.specs.World.{items_of}
 use Rattle.xr_match.specs.Code.{IsCodeOf, first_place, items_code, items_places, port_name, time_code}
 use Rattle.xr_match.proofs.Ports.{declared_below, few_ports}
 use Rattle.xr_text.specs.Ranges.{AreWordCores, AreWordInstrs, AreWordPlaces, HasWords}

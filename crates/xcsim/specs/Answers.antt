@@ -6,7 +6,7 @@ use Rattle.xs_instr.specs.declared.image.Image.{Image}
 use Rattle.xs_instr.specs.declared.trace.EndWord.{EndWord}
 use Rattle.xs_instr.specs.declared.trace.EndWord.TheVariants.{Finished, Trapped, Stuck, Stopped}
 use Rattle.xs_instr.specs.declared.trace.Record.{Record}
-use Rattle.xc_meaning.specs.declared.program.Program.{Program}
+use Rattle.xc_built.specs.declared.program.Program.{Program}
 use Rattle.xcsim.specs.Command.{Run, Asm, Check, Command, file_of, means}
 use Rattle.xcsim.specs.Lines.{accepted_line, code_section, run_output, usage_line, no_file_line, too_long_line, read_fault_line, broken_line, no_memory_line}
 use Rattle.xcsim.specs.Outside.{Loads, Span, Gained, GainedFront}

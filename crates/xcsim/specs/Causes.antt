@@ -6,7 +6,7 @@ use Rattle.xw_words.specs.declared.pos.Broken.{Broken}
 use Rattle.xs_instr.specs.declared.image.Image.{Image}
 use Rattle.xs_instr.specs.declared.trace.EndWord.{EndWord}
 use Rattle.xs_instr.specs.declared.trace.Record.{Record}
-use Rattle.xc_meaning.specs.declared.program.Program.{Program}
+use Rattle.xc_built.specs.declared.program.Program.{Program}
 use Rattle.xcsim.specs.Answers.{status_of_run}
 use Rattle.xcsim.specs.Command.{Run, Asm, Check, Command, file_of, means}
 use Rattle.xcsim.specs.Lines.{accepted_line, code_section, run_output}

@@ -13,7 +13,7 @@ use Rattle.xc_tree.specs.Names.Rules.{Breaks as BreaksInNames}
 use Rattle.xc_tree.specs.Names.Uses.{AreUses, declarations}
 use Rattle.xc_tree.specs.Types.Named.{NamedProgram}
 use Rattle.xc_tree.specs.Checks.{Breaks as BreaksInTypes}
-use Rattle.xc_meaning.specs.declared.program.Program.{Program}
+use Rattle.xc_built.specs.declared.program.Program.{Program}
 use Rattle.xc_form.specs.Form.{HasForm}
 use Rattle.xc_form.specs.OfTree.{IsOfTree}
 

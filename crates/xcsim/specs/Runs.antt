@@ -8,7 +8,7 @@ use Rattle.xs_instr.specs.Machine.{Machine}
 use Rattle.xs_instr.specs.Valid.{Valid}
 use Rattle.xs_fabric.specs.EndWord.{end_of, has_trap}
 use Rattle.xs_fabric.specs.Lockstep.{lockstep}
-use Rattle.xc_meaning.specs.declared.program.Program.{Program}
+use Rattle.xc_built.specs.declared.program.Program.{Program}
 use Rattle.xr_match.specs.Implements.{Implements}
 use Rattle.xr_text.specs.Ranges.{HasWords}
 use Rattle.xcsim.specs.Rules.{IsAccepted}

@@ -3,7 +3,7 @@
 ghost use Rattle.std.specs.Prelude.{◌≡◌, ◌≤◌, ◌<◌, ◌^◌, length, map, string_bytes, IfOk};
 ghost use Rattle.xs_instr.specs.Valid.{Valid};
 ghost use Rattle.xs_fabric.specs.Seen.{state_of};
-ghost use Rattle.xc_meaning.specs.Program.{IsWellFormed};
+ghost use Rattle.xc_built.specs.Program.{IsWellFormed};
 ghost use Rattle.xr_match.specs.Code.{IsCodeOf};
 ghost use Rattle.xr_match.specs.Implements.{Implements};
 ghost use Rattle.xcsim.specs.Answers.{Decided, status_of_run};
@@ -15,7 +15,7 @@ use crate::front::{Refusal, read_text};
 use crate::run::{Run, run_lockstep};
 use crate::words::{Command, meaning};
 use std::alloc::Global;
-use xc_meaning::Program;
+use xc_built::Program;
 use xr_match::compile;
 use xs_instr::{EndWord, Image};
 use xw_io::{LoadErr, Shelf};

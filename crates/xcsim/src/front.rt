@@ -2,14 +2,14 @@
 
 ghost use Rattle.std.specs.Prelude.{◌≤◌, length, IfOk, IfErr};
 ghost use Rattle.xc_form.specs.Ranges.{AreWordOutputs};
-ghost use Rattle.xc_meaning.specs.Program.{IsWellFormed};
+ghost use Rattle.xc_built.specs.Program.{IsWellFormed};
 ghost use Rattle.xcsim.specs.Refusals.{IfBroken};
 ghost use Rattle.xcsim.specs.Rules.{First, IsAccepted};
 
 use std::alloc::Global;
 use xc_form::{ReadErr, has_form, program_of_tree};
 use xc_lexer::{LexErr, lex};
-use xc_meaning::Program;
+use xc_built::Program;
 use xc_names::{NameErr, resolve};
 use xc_parser::{ParseErr, end_pos, parse};
 use xc_types::{TypeErr, check};

@@ -6,8 +6,8 @@ use Rattle.xs_instr.specs.declared.image.Image.{Image}
 use Rattle.xs_instr.specs.declared.image.Stim.{Stim}
 use Rattle.xs_instr.specs.declared.state.CoreState.{CoreState}
 use Rattle.xs_instr.specs.Machine.{Machine}
-use Rattle.xc_meaning.specs.declared.program.Program.{Program}
-use Rattle.xc_meaning.specs.World.{World}
+use Rattle.xc_built.specs.declared.program.Program.{Program}
+use Rattle.xc_built.specs.World.{World}
 use Rattle.xr_match.specs.Implements.{Agree, AllRootsEnded}
 use Rattle.xr_match.proofs.Counts.{all_ended, none_running}
 use Rattle.xr_match.proofs.Standing.{Standing}

@@ -17,10 +17,10 @@ use Rattle.xs_instr.specs.Registers.{reg_get}
 use Rattle.xs_instr.specs.Resources.{named, usable}
 use Rattle.xs_instr.specs.Rows.{goes_on, goes_with, put_ports, out_row, with_thread}
 use Rattle.xs_instr.specs.Slot.{slot}
-use Rattle.xc_meaning.specs.declared.program.Output.{Output}
-use Rattle.xc_meaning.specs.declared.program.Program.{Program}
-use Rattle.xc_meaning.specs.World.{Item, Outputs, Ends, Life, Running, Ended, Branch, World}
-use Rattle.xc_meaning.specs.Steps.{Go, is_time, output_record, outputs, outputs_by, first_item, goes, moves}
+use Rattle.xc_built.specs.declared.program.Output.{Output}
+use Rattle.xc_built.specs.declared.program.Program.{Program}
+use Rattle.xc_built.specs.World.{Item, Outputs, Ends, Life, Running, Ended, Branch, World}
+use Rattle.xc_built.specs.Steps.{Go, is_time, output_record, outputs, outputs_by, first_item, goes, moves}
 use Rattle.xr_match.proofs.Lists.{get_set_same, get_set_other}
 use Rattle.xr_match.proofs.Leads.{running, Touched, Leads}
 use Rattle.xr_match.proofs.Names.{port_named}

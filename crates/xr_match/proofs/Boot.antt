@@ -5,10 +5,10 @@ use Rattle.std.proofs.lemmas.Bool.{ltb-true, lt-ltb}
 use Rattle.xs_instr.specs.declared.image.Home.{Home}
 use Rattle.xs_instr.specs.Machine.{boot_core, boot_port, boot_ports, boot_threads, root_thread}
 use Rattle.xs_instr.specs.Registers.{no_regs}
-use Rattle.xc_meaning.specs.declared.program.Output.{Output}
-use Rattle.xc_meaning.specs.declared.program.Program.{Program}
-use Rattle.xc_meaning.specs.Program.{AreDeclared, IsWellFormed}
-use Rattle.xc_meaning.specs.World.{items_of}
+use Rattle.xc_built.specs.declared.program.Output.{Output}
+use Rattle.xc_built.specs.declared.program.Program.{Program}
+use Rattle.xc_built.specs.Program.{AreDeclared, IsWellFormed}
+use Rattle.xc_built.specs.World.{items_of}
 use Rattle.xr_match.specs.Code.{IsCoreOf, items_code, out_port}
 use Rattle.xr_match.proofs.Leads.{Leads}
 use Rattle.xr_match.proofs.Placed.{StandAt, all_stand}

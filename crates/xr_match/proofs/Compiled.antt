@@ -7,9 +7,9 @@ use Rattle.xs_instr.specs.declared.image.Image.{Image}
 use Rattle.xs_instr.specs.declared.image.Stim.{Stim}
 use Rattle.xs_instr.specs.declared.state.CoreState.{CoreState}
 use Rattle.xs_instr.specs.Machine.{boot, boot_core, home_of, no_parts, parts_by, parts_in}
-use Rattle.xc_meaning.specs.declared.program.Program.{Program}
-use Rattle.xc_meaning.specs.Program.{IsWellFormed}
-use Rattle.xc_meaning.specs.World.{Branch, Running, start}
+use Rattle.xc_built.specs.declared.program.Program.{Program}
+use Rattle.xc_built.specs.Program.{IsWellFormed}
+use Rattle.xc_built.specs.World.{Branch, Running, start}
 use Rattle.xr_match.specs.Code.{IsCodeOf, IsCoreOf}
 use Rattle.xr_match.specs.Implements.{Implements}
 use Rattle.xr_match.proofs.Simulates.{Simulates, implements_by}

@@ -2,7 +2,7 @@
 use Rattle.std.proofs.Common.{◌≡◌, ℕ, zero, suc, ◌+◌, ◌<◌, ◌≤◌, ◌≢◌, List, [], ◌∷◌, Some, refl, ap, arith, eq-eqb}
 use Rattle.std.proofs.lemmas.Bool.{ne_eqb}
 use Rattle.std.specs.Prelude.{slice_get, slice_set}
-use Rattle.xc_meaning.specs.World.{Life, Running, Ended, Branch}
+use Rattle.xc_built.specs.World.{Life, Running, Ended, Branch}
 use Rattle.xr_match.specs.Implements.{AllBranchesEnded, HasEnded}
 use Rattle.xr_match.proofs.Answers.{one_where, counts}
 

@@ -4,8 +4,8 @@ use Rattle.std.proofs.lemmas.List.{length-map}
 use Rattle.xw_words.specs.declared.pos.Pos.{Pos}
 use Rattle.xs_instr.specs.declared.instr.Instr.{Instr}
 use Rattle.xs_instr.specs.Valid.{AreGoodInstrs}
-use Rattle.xc_meaning.specs.declared.program.Output.{Output}
-use Rattle.xc_meaning.specs.World.{Item, Outputs, Ends, items_of}
+use Rattle.xc_built.specs.declared.program.Output.{Output}
+use Rattle.xc_built.specs.World.{Item, Outputs, Ends, items_of}
 use Rattle.xr_match.specs.Code.{time_code, value_code, output_code, items_code, output_places, items_places}
 
 -- each instruction has a place

@@ -8,8 +8,8 @@ use Rattle.xs_instr.specs.declared.state.CoreState.{CoreState}
 use Rattle.xs_instr.specs.Did.{Did, Made, Paused, Idle, makes}
 use Rattle.xs_instr.specs.Machine.{Machine, Event, Step, Tick, Move, does, home_of, link_of, move_at, step_at, stepped, tick_at}
 use Rattle.xs_instr.specs.Slot.{slot}
-use Rattle.xc_meaning.specs.declared.program.Program.{Program}
-use Rattle.xc_meaning.specs.World.{World, Branch, Item, Outputs, Ends, Life, Running, Ended}
+use Rattle.xc_built.specs.declared.program.Program.{Program}
+use Rattle.xc_built.specs.World.{World, Branch, Item, Outputs, Ends, Life, Running, Ended}
 use Rattle.xr_match.specs.Implements.{IsThere}
 use Rattle.xr_match.proofs.Links.{link_empty}
 use Rattle.xr_match.proofs.Simulates.{Follows}

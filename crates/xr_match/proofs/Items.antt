@@ -9,9 +9,9 @@ use Rattle.xs_instr.specs.declared.state.Port.{Port}
 use Rattle.xs_instr.specs.declared.state.Regs.{Regs}
 use Rattle.xs_instr.specs.Ports.{can_send}
 use Rattle.xs_instr.specs.Registers.{reg_get}
-use Rattle.xc_meaning.specs.declared.program.Output.{Output}
-use Rattle.xc_meaning.specs.declared.program.Program.{Program}
-use Rattle.xc_meaning.specs.World.{Item, Outputs, Ends}
+use Rattle.xc_built.specs.declared.program.Output.{Output}
+use Rattle.xc_built.specs.declared.program.Program.{Program}
+use Rattle.xc_built.specs.World.{Item, Outputs, Ends}
 use Rattle.xr_match.specs.Code.{port_name, items_code}
 use Rattle.xr_match.proofs.Leads.{running, IsStable}
 use Rattle.xr_match.proofs.Placed.{StandAt}

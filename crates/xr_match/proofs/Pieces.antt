@@ -9,9 +9,9 @@ use Rattle.xs_instr.specs.declared.state.Regs.{Regs}
 use Rattle.xs_instr.specs.Registers.{reg_set}
 use Rattle.xs_instr.specs.Resources.{named}
 use Rattle.xs_instr.specs.Rows.{goes_on, put_ports}
-use Rattle.xc_meaning.specs.declared.program.Output.{Output}
-use Rattle.xc_meaning.specs.declared.program.Program.{Program}
-use Rattle.xc_meaning.specs.World.{Item, Outputs, Ends}
+use Rattle.xc_built.specs.declared.program.Output.{Output}
+use Rattle.xc_built.specs.declared.program.Program.{Program}
+use Rattle.xc_built.specs.World.{Item, Outputs, Ends}
 use Rattle.xr_match.specs.Code.{port_name, time_code, value_code, items_code}
 use Rattle.xr_match.proofs.Lists.{get_set_same, get_set_other}
 use Rattle.xr_match.proofs.Leads.{running, Leads}

@@ -4,9 +4,9 @@ use Rattle.xs_instr.specs.declared.image.Image.{Image}
 use Rattle.xs_instr.specs.declared.image.Stim.{Stim}
 use Rattle.xs_instr.specs.Machine.{Machine, Event, does, runs, boot, and_then}
 use Rattle.xs_instr.specs.Valid.{IsGoodStim}
-use Rattle.xc_meaning.specs.declared.program.Program.{Program}
-use Rattle.xc_meaning.specs.World.{World, start}
-use Rattle.xc_meaning.specs.Steps.{Move, allowed}
+use Rattle.xc_built.specs.declared.program.Program.{Program}
+use Rattle.xc_built.specs.World.{World, start}
+use Rattle.xc_built.specs.Steps.{Move, allowed}
 use Rattle.xr_match.specs.Implements.{Agree, IsThere, Together, Implements}
 
 -- a piece of the program's run leads to where S holds again

@@ -12,8 +12,8 @@ use Rattle.xs_instr.specs.declared.trace.Record.{Record}
 use Rattle.xs_instr.specs.Did.{Idle}
 use Rattle.xs_instr.specs.Machine.{Machine, home_of, no_links, noted}
 use Rattle.xs_instr.specs.Slot.{turn_at, turn_of}
-use Rattle.xc_meaning.specs.declared.program.Program.{Program}
-use Rattle.xc_meaning.specs.World.{World, Branch, Item, Life, Running, Ended}
+use Rattle.xc_built.specs.declared.program.Program.{Program}
+use Rattle.xc_built.specs.World.{World, Branch, Item, Life, Running, Ended}
 use Rattle.xr_match.specs.Implements.{IsThere}
 use Rattle.xr_match.proofs.Lists.{get_set_cases}
 use Rattle.xr_match.proofs.Leads.{Kept, leads_in_stable}

@@ -8,9 +8,9 @@ use Rattle.xs_instr.specs.declared.image.Image.{Image}
 use Rattle.xs_instr.specs.declared.image.Stim.{Stim}
 use Rattle.xs_instr.specs.declared.state.CoreState.{CoreState}
 use Rattle.xs_instr.specs.Machine.{Machine, home_of, noted}
-use Rattle.xc_meaning.specs.declared.program.Program.{Program}
-use Rattle.xc_meaning.specs.World.{World, Branch, Running}
-use Rattle.xc_meaning.specs.Steps.{Go}
+use Rattle.xc_built.specs.declared.program.Program.{Program}
+use Rattle.xc_built.specs.World.{World, Branch, Running}
+use Rattle.xc_built.specs.Steps.{Go}
 use Rattle.xr_match.specs.Implements.{IsThere}
 use Rattle.xr_match.proofs.Lists.{get_set_same, get_set_other, get_set_cases}
 use Rattle.xr_match.proofs.Simulates.{Follows}

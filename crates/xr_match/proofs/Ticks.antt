@@ -8,9 +8,9 @@ use Rattle.xs_instr.specs.declared.image.Stim.{Stim}
 use Rattle.xs_instr.specs.declared.state.CoreState.{CoreState}
 use Rattle.xs_instr.specs.Machine.{Machine, and_then, tick_at, tick_by}
 use Rattle.xs_instr.specs.Slot.{last_clock, ticked}
-use Rattle.xc_meaning.specs.declared.program.Program.{Program}
-use Rattle.xc_meaning.specs.World.{World}
-use Rattle.xc_meaning.specs.Steps.{Clock, moves, ticks, ticks_by}
+use Rattle.xc_built.specs.declared.program.Program.{Program}
+use Rattle.xc_built.specs.World.{World}
+use Rattle.xc_built.specs.Steps.{Clock, moves, ticks, ticks_by}
 use Rattle.xr_match.proofs.Simulates.{Follows}
 use Rattle.xr_match.proofs.Standing.{clock_of, there_then, Runs, Stands, Standing, runs_still, clock_at, stands_next}
 

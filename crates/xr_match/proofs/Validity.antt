@@ -5,10 +5,10 @@ use Rattle.xs_instr.specs.declared.image.CoreImage.{CoreImage}
 use Rattle.xs_instr.specs.declared.image.Image.{Image}
 use Rattle.xs_instr.specs.Machine.{no_parts, parts_by}
 use Rattle.xs_instr.specs.Valid.{AreGoodCores, AreGoodInstrs, AreGoodPairs, AreGoodPorts, AreIndices, IsGoodCore, IsThere, Valid}
-use Rattle.xc_meaning.specs.declared.program.Output.{Output}
-use Rattle.xc_meaning.specs.declared.program.Program.{Program}
-use Rattle.xc_meaning.specs.Program.{AreDistinctPorts, IsWellFormed}
-use Rattle.xc_meaning.specs.World.{items_of}
+use Rattle.xc_built.specs.declared.program.Output.{Output}
+use Rattle.xc_built.specs.declared.program.Program.{Program}
+use Rattle.xc_built.specs.Program.{AreDistinctPorts, IsWellFormed}
+use Rattle.xc_built.specs.World.{items_of}
 use Rattle.xr_match.specs.Code.{IsCodeOf, IsCoreOf, first_place, items_code}
 use Rattle.xr_match.proofs.Emitted.{places_match, code_size, good_code, some_code}
 use Rattle.xr_match.proofs.Ports.{good_ports}

@@ -9,9 +9,9 @@ use Rattle.xs_instr.specs.declared.instr.Instr.{Instr}
 use Rattle.xs_instr.specs.declared.instr.Instr.TheVariants.{Ldc, Setpt, Out, Freet}
 use Rattle.xs_instr.specs.declared.instr.Reg.TheVariants.{R0, R1}
 use Rattle.xs_instr.specs.Resources.{name_of}
-use Rattle.xc_meaning.specs.declared.program.Output.{Output}
-use Rattle.xc_meaning.specs.declared.program.Program.{Program}
-use Rattle.xc_meaning.specs.World.{Item, Outputs, Ends, items_of}
+use Rattle.xc_built.specs.declared.program.Output.{Output}
+use Rattle.xc_built.specs.declared.program.Program.{Program}
+use Rattle.xc_built.specs.World.{Item, Outputs, Ends, items_of}
 
 -- the identifier of a core's port: ports are resources of kind 0
 abbrev pub port_name : ℕ → ℕ → ℕ

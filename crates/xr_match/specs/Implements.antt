@@ -5,9 +5,9 @@ use Rattle.xs_instr.specs.declared.image.Stim.{Stim}
 use Rattle.xs_instr.specs.declared.state.CoreState.{CoreState}
 use Rattle.xs_instr.specs.Machine.{Machine, Event, does, runs, boot}
 use Rattle.xs_instr.specs.Valid.{IsGoodStim}
-use Rattle.xc_meaning.specs.declared.program.Program.{Program}
-use Rattle.xc_meaning.specs.World.{World, Branch, Life, Running, Ended, start}
-use Rattle.xc_meaning.specs.Steps.{Move, allowed}
+use Rattle.xc_built.specs.declared.program.Program.{Program}
+use Rattle.xc_built.specs.World.{World, Branch, Life, Running, Ended, start}
+use Rattle.xc_built.specs.Steps.{Move, allowed}
 
 -- there is something, and it is so
 abbrev pub IsThere : {A : Type 0} → Option A → (A → Type 0) → Type 0

@@ -1,13 +1,13 @@
 ghost use Rattle.std.specs.Prelude.{◌≡◌, ◌<◌, ◌^◌, [], ◌∷◌, ◌++◌, map, length, IfOk, OnOk};
 ghost use Rattle.std.specs.List.{All};
-ghost use Rattle.xc_meaning.specs.Program.{IsWellFormed, port_count};
-ghost use Rattle.xc_meaning.specs.World.{items_of};
+ghost use Rattle.xc_built.specs.Program.{IsWellFormed, port_count};
+ghost use Rattle.xc_built.specs.World.{items_of};
 ghost use Rattle.xr_match.specs.Code.{IsCodeOf, IsCoreOf, first_place, items_code, items_places, out_port, output_code, output_places};
 ghost use Rattle.xr_match.specs.Implements.{Implements};
 ghost use Rattle.xs_instr.specs.Valid.{Valid};
 
 use std::alloc::{AllocError, Global};
-use xc_meaning::{Output, Program};
+use xc_built::{Output, Program};
 use xs_instr::{Code, CoreImage, Dir, Image, Instr, PortDecl, Reg};
 use xw_words::{List, Memory, Pos};
 

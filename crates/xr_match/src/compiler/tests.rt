@@ -1,5 +1,5 @@
 ghost use Rattle.std.specs.Prelude.{◌≡◌, ◌<◌, ◌^◌, length, IfOk};
-ghost use Rattle.xc_meaning.specs.Program.{AreDeclared, AreDistinctPorts, IsWellFormed};
+ghost use Rattle.xc_built.specs.Program.{AreDeclared, AreDistinctPorts, IsWellFormed};
 
 use super::*;
 use std::process::Abort;

@@ -1,5 +1,5 @@
 use Rattle.std.proofs.Common.{◌+◌, length, sym, subst}
-use Rattle.xc_meaning.specs.Program.{AreDeclared}
+use Rattle.xc_built.specs.Program.{AreDeclared}
 use Rattle.xc_form.specs.Ranges.{AreWordOutputs}
 use Rattle.xc_form.specs.Steps.{Found}
 use Rattle.xc_form.proofs.Sentences.{From, more_outputs, no_outputs, port_declared, word_behind, all_outputs}

@@ -1,5 +1,5 @@
 use Rattle.std.proofs.Common.{map, sym, subst, ◌∙◌}
-use Rattle.xc_meaning.specs.declared.program.Program.{Program}
+use Rattle.xc_built.specs.declared.program.Program.{Program}
 use Rattle.xc_tree.specs.Trees.{statement_of, program_of}
 use Rattle.xc_form.specs.OfTree.{AreOutputs, IsOfTree}
 use Rattle.xc_form.specs.Steps.{IsOnly}

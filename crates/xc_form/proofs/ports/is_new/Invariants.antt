@@ -1,5 +1,5 @@
 use Rattle.std.proofs.Common.{drop}
-use Rattle.xc_meaning.specs.Program.{IsNew}
+use Rattle.xc_built.specs.Program.{IsNew}
 use Rattle.xc_form.proofs.ports.is_new.Given as goal
 
 abbrev pub invariant-loop-other : goal.invariant-loop-other

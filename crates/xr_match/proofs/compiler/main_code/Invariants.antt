@@ -1,5 +1,5 @@
 use Rattle.std.proofs.Common.{◌≡◌, ◌++◌, drop}
-use Rattle.xc_meaning.specs.World.{items_of}
+use Rattle.xc_built.specs.World.{items_of}
 use Rattle.xr_match.specs.Code.{first_place, items_code, items_places}
 use Rattle.xr_match.proofs.compiler.main_code.Given as goal
 

@@ -1,8 +1,8 @@
 -- The state of a program's run.
 use Rattle.std.specs.Prelude.{ℕ, List, [], ◌∷◌}
 use Rattle.xs_instr.specs.declared.trace.Record.{Record}
-use Rattle.xc_meaning.specs.declared.program.Output.{Output}
-use Rattle.xc_meaning.specs.declared.program.Program.{Program}
+use Rattle.xc_built.specs.declared.program.Output.{Output}
+use Rattle.xc_built.specs.declared.program.Program.{Program}
 
 -- what a branch has still to do; the last item of each branch is the end
 pub data Item : Type 0 where

@@ -6,9 +6,9 @@ use Rattle.xs_instr.specs.declared.trace.Record.TheVariants.{PortOut}
 use Rattle.xs_instr.specs.Machine.{and_then}
 use Rattle.xs_instr.specs.Ports.{counter, low_bits}
 use Rattle.xs_instr.specs.Slot.{last_clock}
-use Rattle.xc_meaning.specs.declared.program.Output.{Output}
-use Rattle.xc_meaning.specs.declared.program.Program.{Program}
-use Rattle.xc_meaning.specs.World.{Item, Outputs, Ends, Life, Running, Ended, Branch, World}
+use Rattle.xc_built.specs.declared.program.Output.{Output}
+use Rattle.xc_built.specs.declared.program.Program.{Program}
+use Rattle.xc_built.specs.World.{Item, Outputs, Ends, Life, Running, Ended, Branch, World}
 
 -- a step, by whose it is: a core's clock goes up, or a branch does its first item
 pub data Move : Type 0 where
