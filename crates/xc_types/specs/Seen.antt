@@ -1,0 +1,56 @@
+-- What a walk has seen of a program: how many names, the types of its nodes, the first of the broken rules, and the channels
+-- that communications name.
+use Rattle.std.specs.Prelude.{ℕ, ◌+◌, Bool, true, false, if◌then◌else◌, List, [], ◌∷◌, ◌++◌, map, slice_set, Option, Some, None}
+use Rattle.xw_words.specs.declared.pos.Pos.{Pos}
+use Rattle.xw_words.specs.declared.pos.Broken.{Broken}
+use Rattle.xc_tree.specs.declared.names.Mark.{Mark}
+use Rattle.xc_tree.specs.Checks.{Rule, rules}
+use Rattle.xc_tree.specs.Least.{first_of}
+use Rattle.xc_tree.specs.Types.Named.{past}
+use Rattle.xc_tree.specs.Types.Sites.{Site, types, communications}
+use Rattle.xc_tree.specs.Shapes.Rules.{channels}
+use Rattle.xc_types.specs.declared.seen.Seen.{Seen}
+
+abbrev pub broken_at : ℕ → Pos → Broken
+broken_at n p = record { rule = n; pos = p }
+
+-- what a site breaks of these rules
+abbrev pub broken_of : List Rule → Site → List Broken
+broken_of [] s = []
+broken_of (r ∷ rs) s = map (broken_at r.number) (r.broken_at s) ++ broken_of rs s
+
+-- all that these sites break
+abbrev pub all_broken : List Site → List Broken
+all_broken [] = []
+all_broken (s ∷ ss) = broken_of rules s ++ all_broken ss
+
+-- the first of these, or this one
+abbrev pub first_among : Option Broken → List Broken → Option Broken
+first_among b [] = b
+first_among b (x ∷ xs) = first_among (first_of b (Some x)) xs
+
+-- what was seen behind a part of the text that has these marks and these sites
+unfoldable pub saw : Seen → List Mark → List Site → Seen
+saw s ms ss = record {
+  names = past s.names ms;
+  types = s.types ++ types ss;
+  best = first_among s.best (all_broken ss);
+  channels = s.channels ++ channels (communications ss);
+}
+
+-- with one more name
+unfoldable pub one_more_name : Seen → Seen
+one_more_name s = record s { names = s.names + 1 }
+
+-- with the type of one more node
+unfoldable pub with_type : Bool → Seen → Seen
+with_type u s = record s { types = s.types ++ u ∷ [] }
+
+-- with another type for this node
+unfoldable pub with_type_at : ℕ → Bool → Seen → Seen
+with_type_at i u s = record s { types = slice_set s.types i u }
+
+-- with a broken rule, where this holds
+unfoldable pub with_broken : Bool → ℕ → Pos → Seen → Seen
+with_broken true n p s = record s { best = first_of s.best (Some (broken_at n p)) }
+with_broken false n p s = s
