@@ -50,7 +50,11 @@ with_type u s = record s { types = s.types ++ u ∷ [] }
 unfoldable pub with_type_at : ℕ → Bool → Seen → Seen
 with_type_at i u s = record s { types = slice_set s.types i u }
 
--- with a broken rule, where this holds
+-- the first of what was broken and of a rule that is broken where this holds
+abbrev pub first_with : Bool → ℕ → Pos → Option Broken → Option Broken
+first_with true n p best = first_of best (Some (broken_at n p))
+first_with false n p best = best
+
+-- with a rule that is broken where this holds
 unfoldable pub with_broken : Bool → ℕ → Pos → Seen → Seen
-with_broken true n p s = record s { best = first_of s.best (Some (broken_at n p)) }
-with_broken false n p s = s
+with_broken t n p s = record s { best = first_with t n p s.best }
