@@ -42,14 +42,13 @@ pub first_join : (best : Option Broken) (a b : List Broken) → first_among best
 first_join best [] b = refl
 first_join best (x ∷ xs) b = first_join (first_of best (Option.Some x)) xs b
 
--- a list that grew, item by item of a record
-pub one : (n n2 : ℕ) (t t2 : List Bool) (b b2 : Option Broken) (c c2 : List ℕ) → n ≡ n2 → t ≡ t2 → b ≡ b2 → c ≡ c2 →
-  ◌≡◌ {A = Seen} (record { names = n; types = t; best = b; channels = c }) (record { names = n2; types = t2; best = b2; channels = c2 })
-one n n2 t t2 b b2 c c2 e f g h = λ i. record { names = e i; types = f i; best = g i; channels = h i }
+pub one : (s : Seen) (n n2 : ℕ) (t t2 : List Bool) (b b2 : Option Broken) (c c2 : List ℕ) → n ≡ n2 → t ≡ t2 → b ≡ b2 → c ≡ c2 →
+  ◌≡◌ {A = Seen} (record s { names = n; types = t; best = b; channels = c }) (record s { names = n2; types = t2; best = b2; channels = c2 })
+one s n n2 t t2 b b2 c c2 e f g h = λ i. record s { names = e i; types = f i; best = g i; channels = h i }
 
 pub saw_join : (s : Seen) (a b : List Mark) (x y : List Site) → saw s (a ++ b) (x ++ y) ≡ saw (saw s a x) b y
 unfolding saw
-saw_join s a b x y = one _ _ _ _ _ _ _ _ (past_join s.names a b) (rw types_join (sym (append_assoc s.types (types x) (types y)))) (rw broken_join (first_join s.best (all_broken x) (all_broken y))) (rw (communications_join, channels_join) (sym (append_assoc s.channels (channels (communications x)) (channels (communications y)))))
+saw_join s a b x y = one s _ _ _ _ _ _ _ _ (past_join s.names a b) (rw types_join (sym (append_assoc s.types (types x) (types y)))) (rw broken_join (first_join s.best (all_broken x) (all_broken y))) (rw (communications_join, channels_join) (sym (append_assoc s.channels (channels (communications x)) (channels (communications y)))))
 
 pub saw_names : (s : Seen) (a : List Mark) (x : List Site) → (saw s a x).names ≡ past s.names a
 unfolding saw
@@ -57,4 +56,4 @@ saw_names s a x = refl
 
 pub saw_nothing : (s : Seen) → saw s [] [] ≡ s
 unfolding saw
-saw_nothing s = one _ _ _ _ _ _ _ _ refl (append-nil s.types) refl (append-nil s.channels)
+saw_nothing s = one s _ _ _ _ _ _ _ _ refl (append-nil s.types) refl (append-nil s.channels)

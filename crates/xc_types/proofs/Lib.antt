@@ -1,2 +1,3 @@
+pub mod Holders
 pub mod Joins
 pub mod Steps

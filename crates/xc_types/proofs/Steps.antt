@@ -1,5 +1,5 @@
 -- How what was seen grows by the mark or the site that stands first.
-use Rattle.std.proofs.Common.{◌≡◌, ℕ, ◌+◌, ◌≤◌, Bool, true, false, not, List, [], ◌∷◌, ◌++◌, length, map, Option, Some, refl, sym, ap, subst, ◌∙◌, append_assoc, append-nil, slice_set, arith, length-append}
+use Rattle.std.proofs.Common.{◌≡◌, ℕ, ◌+◌, ◌≤◌, Bool, true, false, not, ◌&&◌, nat_le, List, [], ◌∷◌, ◌++◌, length, map, Option, Some, refl, sym, ap, subst, ◌∙◌, append_assoc, append-nil, slice_set, arith, length-append}
 use Rattle.xw_words.specs.declared.pos.Pos.{Pos}
 use Rattle.xw_words.specs.declared.pos.Broken.{Broken}
 use Rattle.xc_tree.specs.declared.tree.Id.{Id}
@@ -36,15 +36,24 @@ saw_declaration s d ms ss = refl
 
 pub saw_node : (s : Seen) (u : Bool) (ms : List Mark) (ss : List Site) → saw s ms (site.node u ∷ ss) ≡ saw (with_type u s) ms ss
 unfolding saw with_type
-saw_node s u ms ss = one _ _ _ _ _ _ _ _ refl (sym (append_assoc s.types (u ∷ []) (site.types ss))) refl refl
+saw_node s u ms ss = one s _ _ _ _ _ _ _ _ refl (sym (append_assoc s.types (u ∷ []) (site.types ss))) refl refl
 
 pub saw_word : (s : Seen) (x : Name) (ms : List Mark) (ss : List Site) → saw s ms (site.word x ∷ ss) ≡ saw (with_broken (not (is_word x.what)) 401 x.id.pos s) ms ss
 unfolding saw with_broken
-saw_word s x ms ss = one _ _ _ _ _ _ _ _ refl refl (first_here s.best (not (is_word x.what)) 401 x.id.pos [] (all_broken ss)) refl
+saw_word s x ms ss = one s _ _ _ _ _ _ _ _ refl refl (first_here s.best (not (is_word x.what)) 401 x.id.pos [] (all_broken ss)) refl
+
+pub saw_lval : (s : Seen) (x : Name) (ms : List Mark) (ss : List Site) → saw s ms (site.lval x ∷ ss) ≡ saw (with_broken (is_index x.what) 412 x.id.pos (with_broken (not (is_word x.what)) 403 x.id.pos s)) ms ss
+unfolding saw with_broken
+saw_lval s x ms ss =
+    one s _ _ _ _ _ _ _ _ refl refl (first_here s.best (not (is_word x.what)) 403 x.id.pos (map (broken_at 412) (broken_where (is_index x.what) x.id.pos) ++ []) (all_broken ss) ∙ first_here (first_with (not (is_word x.what)) 403 x.id.pos s.best) (is_index x.what) 412 x.id.pos [] (all_broken ss)) refl
+
+pub saw_length : (s : Seen) (l : ℕ) (p : Pos) (ms : List Mark) (ss : List Site) → saw s ms (site.array_length l p ∷ ss) ≡ saw (with_broken (not (nat_le 1 l && nat_le l 16384)) 409 p s) ms ss
+unfolding saw with_broken
+saw_length s l p ms ss = one s _ _ _ _ _ _ _ _ refl refl (first_here s.best (not (nat_le 1 l && nat_le l 16384)) 409 p [] (all_broken ss)) refl
 
 pub saw_indexed : (s : Seen) (x : Name) (ms : List Mark) (ss : List Site) → saw s ms (site.indexed x ∷ ss) ≡ saw (with_broken (not (is_array x.what)) 402 x.id.pos s) ms ss
 unfolding saw with_broken
-saw_indexed s x ms ss = one _ _ _ _ _ _ _ _ refl refl (first_here s.best (not (is_array x.what)) 402 x.id.pos [] (all_broken ss)) refl
+saw_indexed s x ms ss = one s _ _ _ _ _ _ _ _ refl refl (first_here s.best (not (is_array x.what)) 402 x.id.pos [] (all_broken ss)) refl
 
 pub names_more : (s : Seen) → (one_more_name s).names ≡ s.names + 1
 unfolding one_more_name
@@ -69,7 +78,7 @@ set_seam (x ∷ xs) ys u v = ap (λ zs. x ∷ zs) (set_seam xs ys u v)
 -- the type of a node is set behind what stands in it
 pub saw_set : (s : Seen) (i : ℕ) (u v : Bool) (ms : List Mark) (ss : List Site) → i ≡ length s.types → with_type_at i u (saw (with_type v s) ms ss) ≡ saw (with_type u s) ms ss
 unfolding saw with_type with_type_at
-saw_set s i u v ms ss e = rw e (one _ _ _ _ _ _ _ _ refl (set_seam s.types (site.types ss) u v) refl refl)
+saw_set s i u v ms ss e = rw e (one s _ _ _ _ _ _ _ _ refl (set_seam s.types (site.types ss) u v) refl refl)
 
 -- the same behind two parts of it
 pub saw_set_twice : (s : Seen) (i : ℕ) (u v : Bool) (a b : List Mark) (x y : List Site) → i ≡ length s.types → with_type_at i u (saw (saw (with_type v s) a x) b y) ≡ saw (saw (with_type u s) a x) b y
@@ -83,4 +92,4 @@ types_grow s u i ms ss e = rw (length-append (s.types ++ u ∷ []) (site.types s
 pub types_grow_twice : (s : Seen) (u : Bool) (i : ℕ) (a b : List Mark) (x y : List Site) → i ≡ length s.types → i + 1 ≤ length (saw (saw (with_type u s) a x) b y).types
 types_grow_twice s u i a b x y e = subst (λ (seen : Seen). i + 1 ≤ length seen.types) (saw_join (with_type u s) a b x y) (types_grow s u i (a ++ b) (x ++ y) e)
 
-pub ruleset steps = (forms, append_assoc, append-nil, saw_join, saw_names, saw_nothing, saw_use, saw_call, saw_declaration, saw_node, saw_word, saw_indexed, names_more, names_typed, names_set, names_broken, saw_set, saw_set_twice, types_grow, types_grow_twice)
+pub ruleset steps = (forms, append_assoc, append-nil, saw_join, saw_names, saw_nothing, saw_use, saw_call, saw_declaration, saw_node, saw_word, saw_lval, saw_length, saw_indexed, names_more, names_typed, names_set, names_broken, saw_set, saw_set_twice, types_grow, types_grow_twice)

@@ -1,1 +1,4 @@
+pub mod Around
 pub mod Seen
+pub mod Judged
+pub mod Communications

@@ -8,7 +8,7 @@ use Rattle.xc_tree.specs.Checks.{Rule, rules}
 use Rattle.xc_tree.specs.Least.{first_of}
 use Rattle.xc_tree.specs.Types.Named.{past}
 use Rattle.xc_tree.specs.Types.Sites.{Site, types, communications}
-use Rattle.xc_tree.specs.Shapes.Rules.{channels}
+use Rattle.xc_tree.specs.Shapes.Rules.{channels, declared_as_channel}
 use Rattle.xc_types.specs.declared.seen.Seen.{Seen}
 
 abbrev pub broken_at : ℕ → Pos → Broken
@@ -31,7 +31,7 @@ first_among b (x ∷ xs) = first_among (first_of b (Some x)) xs
 
 -- what was seen behind a part of the text that has these marks and these sites
 unfoldable pub saw : Seen → List Mark → List Site → Seen
-saw s ms ss = record {
+saw s ms ss = record s {
   names = past s.names ms;
   types = s.types ++ types ss;
   best = first_among s.best (all_broken ss);
@@ -58,3 +58,15 @@ first_with false n p best = best
 -- with a rule that is broken where this holds
 unfoldable pub with_broken : Bool → ℕ → Pos → Seen → Seen
 with_broken t n p s = record s { best = first_with t n p s.best }
+
+-- with what a communication names, where that is a channel
+unfoldable pub with_channel : Bool → Option ℕ → Seen → Seen
+with_channel b d s = record s { channels = s.channels ++ declared_as_channel b d }
+
+-- with the first of these broken rules
+unfoldable pub with_first : Option Broken → Seen → Seen
+with_first b s = record s { best = first_of s.best b }
+
+-- with one rule that is broken at these places
+unfoldable pub with_broken_at : ℕ → List Pos → Seen → Seen
+with_broken_at n ps s = record s { best = first_among s.best (map (broken_at n) ps) }

@@ -2,6 +2,13 @@
 //! breaks.
 #![tactic(auto)]
 
+mod arguments;
+mod around;
+mod calls;
+mod communications;
+mod declarations;
 mod entities;
 mod expressions;
+mod judged;
+mod lvals;
 mod seen;

@@ -1,12 +1,15 @@
 ghost use Rattle.std.specs.Prelude.{◌≡◌, ◌<◌, ◌+◌, length, IfOk, OnOk};
-ghost use Rattle.xc_types.specs.Seen.{one_more_name, with_type, with_type_at, with_broken};
+ghost use Rattle.xc_types.specs.Seen.{one_more_name, with_type, with_type_at, with_broken, with_channel, with_first};
 
+use std::alloc::Global;
 use xc_tree::earlier;
 use xw_words::{Broken, List, Memory, Pos};
 
 /// What a walk has seen of a program.
 #[derive(Drop)]
 pub struct Seen {
+    /// Where memory is taken.
+    pub alloc: Global,
     /// How many names were passed.
     pub names: usize,
     /// For each node that was passed whether it is a word that is `unsigned`.
@@ -55,5 +58,25 @@ impl Seen {
         if is_broken {
             self.best = earlier(self.best, Some(Broken { rule, pos }));
         }
+    }
+
+    /// Keeps what a communication names, where that is a channel.
+    #[tactic(auto, unfolding(crate::specs::Seen::with_channel))]
+    pub fn names_channel(&mut self, is_channel: bool, declared: Option<u32>) -> Result<(), Memory>
+        ensures { OnOk result (self.new ≡ with_channel is_channel declared self.old) }
+    {
+        match (is_channel, declared) {
+            (true, Some(declared)) => self.channels.push(declared),
+            (true, None) => Ok(()),
+            (false, _) => Ok(()),
+        }
+    }
+
+    /// Keeps one more broken rule, if there is one.
+    #[tactic(auto, unfolding(crate::specs::Seen::with_first))]
+    pub fn breaks(&mut self, broken: Option<Broken>)
+        ensures { self.new ≡ with_first broken self.old }
+    {
+        self.best = earlier(self.best, broken);
     }
 }

@@ -1,0 +1,36 @@
+-- What was seen behind the parts of a communication, by what its name is declared as.
+use Rattle.std.specs.Prelude.{ℕ, Bool, not, nat_eq, if◌then◌else◌, Option, Some, None}
+use Rattle.xc_tree.specs.declared.names.What.{What}
+use Rattle.xc_tree.specs.Plain as plain
+use Rattle.xc_tree.specs.Names.Marks as marks
+use Rattle.xc_tree.specs.Types.Named.{NamedProgram}
+use Rattle.xc_tree.specs.Types.Entities.{is_port, is_timer}
+use Rattle.xc_tree.specs.Types.Rules.{timerafter}
+use Rattle.xc_tree.specs.Types.Sites.{of_expression, of_lval}
+use Rattle.xc_types.specs.declared.seen.Seen.{Seen}
+use Rattle.xc_types.specs.Seen.{saw, with_broken}
+
+-- behind an expression, and behind an `lval`
+abbrev pub saw_expression : NamedProgram → plain.Expression → Seen → Seen
+saw_expression n e s = saw s (marks.of_expression e) (of_expression n s.names e)
+
+abbrev pub saw_lval : NamedProgram → plain.Expression → Seen → Seen
+saw_lval n e s = saw s (marks.of_expression e) (of_lval n s.names e)
+
+-- behind a time and a stamp, which break rule 413 where the name is no port
+abbrev pub with_time : NamedProgram → Bool → Option plain.Timing → Seen → Seen
+with_time n is_port None s = s
+with_time n is_port (Some t) s = saw_expression n t.value (with_broken (not is_port) 413 t.at s)
+
+abbrev pub with_stamp : NamedProgram → Bool → Option plain.Timing → Seen → Seen
+with_stamp n is_port None s = s
+with_stamp n is_port (Some t) s = saw_lval n t.value (with_broken (not is_port) 413 t.at s)
+
+-- whether a condition's test can be asked of something
+abbrev pub can_ask : Option What → ℕ → Bool
+can_ask what test = if nat_eq test timerafter then is_timer what else is_port what
+
+-- behind a condition, which breaks rule 414 where it can't be asked
+abbrev pub with_condition : NamedProgram → Option What → Option plain.Condition → Seen → Seen
+with_condition n what None s = s
+with_condition n what (Some c) s = saw_expression n c.value (with_broken (not (can_ask what c.test)) 414 c.at s)

@@ -1,0 +1,34 @@
+-- What is said of the arguments of a call together.
+use Rattle.std.specs.Prelude.{ℕ, Bool, true, false, not, nat_eq, ◌||◌, List, [], ◌∷◌, ◌++◌, length, Option, Some, None}
+use Rattle.xc_tree.specs.Plain as plain
+use Rattle.xc_tree.specs.Types.Calls.{Argument, fits, referred, is_channel_given}
+use Rattle.xc_tree.specs.Types.Rules.{is_one_of}
+use Rattle.xc_types.specs.declared.judged.Judged.{Judged}
+use Rattle.xc_types.specs.Seen.{first_with}
+
+abbrev pub judged_nothing : Judged
+judged_nothing = record { misfit = None; again = None; variables = []; has_channel = false }
+
+-- a variable at the end of others
+abbrev pub with_last : List ℕ → Option ℕ → List ℕ
+with_last vs None = vs
+with_last vs (Some v) = vs ++ v ∷ []
+
+-- with one more argument
+abbrev pub judged_with : Judged → Argument → Judged
+judged_with j a = record {
+  misfit = first_with (not (fits a.parameter a.given)) 406 a.first j.misfit;
+  again = first_with (is_one_of j.variables (referred a)) 416 a.first j.again;
+  variables = with_last j.variables (referred a);
+  has_channel = j.has_channel || is_channel_given a.given;
+}
+
+-- with these arguments
+abbrev pub judged : Judged → List Argument → Judged
+judged j [] = j
+judged j (a ∷ rest) = judged (judged_with j a) rest
+
+-- whether so many arguments are as many as parameters, where what is called is a function
+abbrev pub has_number_of : Option plain.Head → ℕ → Bool
+has_number_of None n = true
+has_number_of (Some h) n = nat_eq n (length h.params)
