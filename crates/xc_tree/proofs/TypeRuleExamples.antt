@@ -497,3 +497,16 @@ variables = named (
 pub of_variables : broken variables ≡ []
 unfolding of_program sites
 of_variables = refl
+
+-- port p = XS1_PORT_1A; void f(int &x, int a[]) { } void main(void) { chan c; f(c, c); f(p[0], p); par (int i = 0; i < 2; i++) f(i, i); }
+abbrev pub others_twice : NamedProgram
+others_twice = named (
+    (plain.port (record { place = None; dir = direction.Both; name = id (codes "p") 6; ident = id (codes "XS1_PORT_1A") 10 }))
+    ∷ function_of None (id (codes "f") 28) (record { kind = param.Ref false; name = id (codes "x") 35 } ∷ record { kind = param.Array false None; name = id (codes "a") 42 } ∷ []) (plain.statements []) 47
+    ∷ function_of None (id (codes "main") 56) [] (plain.statements ((does (plain.declare (record { kind = plain.channel false; name = id (codes "c") 74 } ∷ [])) 69) ∷ (does (plain.perform (call_of (id (codes "f") 77) (given 79 (name (codes "c") 79) ∷ given 82 (name (codes "c") 82) ∷ []))) 77) ∷ (does (plain.perform (call_of (id (codes "f") 86) (given 88 (index (codes "p") (number 0 false 90) 88) ∷ given 94 (name (codes "p") 94) ∷ []))) 86) ∷ (does (plain.replicated (id (codes "i") 107) (id (codes "i") 114) (id (codes "i") 121) 0 2 (plain.branch None (does (plain.perform (call_of (id (codes "f") 126) (given 128 (name (codes "i") 128) ∷ given 131 (name (codes "i") 131) ∷ []))) 126))) 98) ∷ [])) 67
+    ∷ []) (0 ∷ 1 ∷ 2 ∷ 3 ∷ 4 ∷ 5 ∷ 1 ∷ 5 ∷ 5 ∷ 1 ∷ 0 ∷ 0 ∷ 6 ∷ 6 ∷ 6 ∷ 1 ∷ 6 ∷ 6 ∷ [])
+
+-- what isn't a variable breaks other rules alone
+pub of_others_twice : broken others_twice ≡ rule 402 88 ∷ rule 403 79 ∷ rule 406 79 ∷ rule 406 82 ∷ rule 406 88 ∷ rule 406 94 ∷ rule 406 131 ∷ rule 412 128 ∷ []
+unfolding of_program sites
+of_others_twice = refl

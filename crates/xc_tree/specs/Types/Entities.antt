@@ -17,6 +17,14 @@ is_array (Some (Array u n)) = true
 is_array (Some (ArrayParam u n)) = true
 is_array other = false
 
+-- a variable: a word or an array that is declared, or a parameter for one
+abbrev pub is_variable : Option What → Bool
+is_variable (Some (Word u)) = true
+is_variable (Some (Array u n)) = true
+is_variable (Some (Ref u)) = true
+is_variable (Some (ArrayParam u n)) = true
+is_variable other = false
+
 -- the index of a replicated `par`
 abbrev pub is_index : Option What → Bool
 is_index (Some Index) = true
