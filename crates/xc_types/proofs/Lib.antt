@@ -1,3 +1,4 @@
 pub mod Holders
 pub mod Joins
 pub mod Steps
+pub mod Talks

@@ -1,13 +1,14 @@
 // Which parameters an argument fits.
 ghost use Rattle.std.specs.Option.{option_copied};
-ghost use Rattle.std.specs.Prelude.{◌≡◌, slice_get};
+ghost use Rattle.std.specs.Prelude.{◌≡◌, if◌then◌else◌, slice_get};
 ghost use Rattle.xc_tree.specs.Names.Marks as marks;
 ghost use Rattle.xc_tree.specs.Trees.{expression_of};
 ghost use Rattle.xc_tree.specs.Types.Calls as call;
-ghost use Rattle.xc_tree.specs.Types.Named.{named_of};
+ghost use Rattle.xc_tree.specs.Types.Entities.{is_variable as is_a_variable};
+ghost use Rattle.xc_tree.specs.Types.Named.{named_of, what_at};
 
 use crate::entities::{
-    declaration_of, is_array_of, is_channel, is_channel_of, is_port_of, is_word_of, length_does,
+    declaration_of, is_array_of, is_channel, is_channel_of, is_port_of, is_variable, is_word_of, length_does,
     length_of, what_of,
 };
 use xc_tree::{Ex, Expr, Named, ParamKind, TreeDir};
@@ -135,12 +136,23 @@ fn variable_of(named: &Named, k: usize, e: &Expr) -> Option<u32>
     ensures { result ≡ call.variable_of (call.given_by (named_of named.now) k (expression_of e.now)) }
 {
     match &e.kind {
-        Ex::Name(_) => declaration_of(named, k),
-        Ex::Index(_, _) => declaration_of(named, k),
+        Ex::Name(_) => declared_variable(named, k),
+        Ex::Index(_, _) => declared_variable(named, k),
         Ex::Num(_, _) => None,
         Ex::Un(_, _) => None,
         Ex::Bin(_, _, _) => None,
         Ex::Cond(_, _, _) => None,
         Ex::Cast(_, _) => None,
+    }
+}
+
+/// The declaration of the name before which k others stand, if it is a variable.
+fn declared_variable(named: &Named, k: usize) -> Option<u32>
+    ensures { result ≡ (if is_a_variable (what_at (named_of named.now) (slice_get named.now.uses k)) then slice_get named.now.uses k else None) }
+{
+    if is_variable(what_of(named, k)) {
+        declaration_of(named, k)
+    } else {
+        None
     }
 }

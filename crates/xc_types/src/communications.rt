@@ -17,7 +17,7 @@ use xw_words::Memory;
 const TIMERAFTER: u8 = 25;
 
 /// Checks an output.
-#[tactic(auto, using(crate::proofs::Steps::steps))]
+#[tactic(auto, using(crate::proofs::Talks::talks))]
 pub fn output(seen: &mut Seen, named: &Named, send: &Send) -> Result<(), Memory>
     ensures { OnOk result (seen.new ≡ saw seen.old (marks.of_output (tree.output_of send.now)) (sites.of_output (named_of named.now) seen.old.names (tree.output_of send.now))) }
 {
@@ -31,7 +31,7 @@ pub fn output(seen: &mut Seen, named: &Named, send: &Send) -> Result<(), Memory>
 }
 
 /// Checks an input.
-#[tactic(auto, using(crate::proofs::Steps::steps))]
+#[tactic(auto, using(crate::proofs::Talks::talks))]
 pub fn input(seen: &mut Seen, named: &Named, head: &Head) -> Result<(), Memory>
     ensures { OnOk result (seen.new ≡ saw seen.old (marks.of_input (tree.input_of head.now)) (sites.of_input (named_of named.now) seen.old.names (tree.input_of head.now))) }
 {

@@ -36,6 +36,16 @@ pub fn is_array(what: Option<&What>) -> bool
     matches!(what, Some(What::Array(_, _) | What::ArrayParam(_, _)))
 }
 
+/// Whether it is a variable: a word or an array that is declared, or a parameter for one.
+pub fn is_variable(what: Option<&What>) -> bool
+    ensures { result ≡ entity.is_variable (option_copied what.entry) }
+{
+    matches!(
+        what,
+        Some(What::Word(_) | What::Array(_, _) | What::Ref(_) | What::ArrayParam(_, _))
+    )
+}
+
 /// Whether it is the index of a replicated `par`.
 pub fn is_index(what: Option<&What>) -> bool
     ensures { result ≡ entity.is_index (option_copied what.entry) }
