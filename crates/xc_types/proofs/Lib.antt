@@ -2,3 +2,5 @@ pub mod Holders
 pub mod Joins
 pub mod Steps
 pub mod Talks
+pub mod Firsts
+pub mod Judging

@@ -4,14 +4,14 @@ ghost use Rattle.xc_tree.specs.Names.Marks as marks;
 ghost use Rattle.xc_tree.specs.Trees as tree;
 ghost use Rattle.xc_tree.specs.Types.Named.{named_of};
 ghost use Rattle.xc_tree.specs.Types.Sites as sites;
-ghost use Rattle.xc_types.specs.Communications.{can_ask, with_condition, with_stamp, with_time};
+ghost use Rattle.xc_types.specs.Communications.{can_ask, past_input, with_condition, with_stamp, with_target_and_stamp, with_time};
 ghost use Rattle.xc_types.specs.Seen.{saw};
 
 use crate::entities::{declaration_of, gives_input, is_channel, is_port, is_timer, takes_output, what_of};
 use crate::lvals::{lval, part};
 use crate::seen::Seen;
 use xc_tree::{Dest, Head, Named, Send, Timed, What, When};
-use xw_words::Memory;
+use xw_words::{Memory, Pos};
 
 /// The place of `timerafter` in `WORDS`.
 const TIMERAFTER: u8 = 25;
@@ -31,18 +31,39 @@ pub fn output(seen: &mut Seen, named: &Named, send: &Send) -> Result<(), Memory>
 }
 
 /// Checks an input.
-#[tactic(auto, using(crate::proofs::Talks::talks))]
 pub fn input(seen: &mut Seen, named: &Named, head: &Head) -> Result<(), Memory>
     ensures { OnOk result (seen.new ≡ saw seen.old (marks.of_input (tree.input_of head.now)) (sites.of_input (named_of named.now) seen.old.names (tree.input_of head.now))) }
 {
     let what = what_of(named, seen.names);
-    seen.breaks_where(!gives_input(what), 411, head.pos);
-    seen.names_channel(is_channel(what), declaration_of(named, seen.names))?;
-    seen.pass()?;
-    time(seen, named, is_port(what), &head.time)?;
+    let is_port = is_port(what);
+    input_name(seen, named, head.pos)?;
+    time(seen, named, is_port, &head.time)?;
     condition(seen, named, what, &head.cond)?;
+    target_and_stamp(seen, named, is_port, head)
+}
+
+/// Checks the name of an input, which stands at this place.
+#[tactic(auto, using(crate::proofs::Talks::same_names))]
+fn input_name(seen: &mut Seen, named: &Named, pos: Pos) -> Result<(), Memory>
+    ensures { OnOk result (seen.new ≡ past_input (named_of named.now) pos seen.old) }
+{
+    let what = what_of(named, seen.names);
+    seen.breaks_where(!gives_input(what), 411, pos);
+    seen.names_channel(is_channel(what), declaration_of(named, seen.names))?;
+    seen.pass()
+}
+
+/// Checks where an input goes, and the stamp behind that.
+fn target_and_stamp(
+    seen: &mut Seen,
+    named: &Named,
+    is_port: bool,
+    head: &Head,
+) -> Result<(), Memory>
+    ensures { OnOk result (seen.new ≡ with_target_and_stamp (named_of named.now) is_port (tree.input_of head.now) seen.old) }
+{
     target(seen, named, &head.dest)?;
-    stamp(seen, named, is_port(what), &head.stamp)
+    stamp(seen, named, is_port, &head.stamp)
 }
 
 /// Checks a time, in a communication with a port or something else.
