@@ -1,8 +1,13 @@
 -- What is said of the arguments of a call together, and a call by it.
-use Rattle.std.proofs.Common.{◌≡◌, ℕ, ◌+◌, ◌<◌, Bool, true, false, not, ◌&&◌, ◌||◌, nat_eq, is_some, List, [], ◌∷◌, ◌++◌, length, suc, map, drop, get_or, slice_get, option_map, Option, Some, None, refl, sym, ap, subst, ◌∙◌, append_assoc, append-nil, arith}
+use Rattle.std.proofs.Common.{◌≡◌, ℕ, ◌+◌, ◌<◌, ◌≤◌, Bool, true, false, not, ◌&&◌, ◌||◌, nat_eq, is_some, List, [], ◌∷◌, ◌++◌, length, suc, zero, map, drop, get_or, slice_get, option_map, Option, Some, None, refl, sym, ap, subst, ◌∙◌, add-one}
 use Rattle.xw_words.specs.declared.pos.Pos.{Pos}
 use Rattle.xw_words.specs.declared.pos.Broken.{Broken}
+use Rattle.std.proofs.Math.Seq.{drop-cons}
+use Rattle.std.proofs.lemmas.List.{drop_all}
+use Rattle.xc_tree.specs.declared.tree.Arg.{Arg}
 use Rattle.xc_tree.specs.declared.tree.Param.{Param}
+use Rattle.xc_tree.specs.declared.tree.ParamKind.{ParamKind}
+use Rattle.xc_tree.specs.Trees.{argument_of, expression_of}
 use Rattle.xc_tree.specs.declared.names.Mark.{Mark}
 use Rattle.xc_tree.specs.Least.{first_of}
 use Rattle.xc_tree.specs.Names.Marks as marks
@@ -17,10 +22,10 @@ use Rattle.xc_tree.specs.Types.Sites as site
 use Rattle.xc_tree.specs.Types.Words.{is_among}
 use Rattle.xc_types.specs.declared.judged.Judged.{Judged}
 use Rattle.xc_types.specs.declared.seen.Seen.{Seen}
-use Rattle.xc_types.specs.Judged.{judged, judged_nothing, judged_with, with_last, has_number_of}
+use Rattle.xc_types.specs.Judged.{judged, judged_nothing, judged_with, with_last, has_number_of, kind_of}
 use Rattle.xc_types.specs.Seen.{saw, all_broken, first_among, first_with, broken_at, with_broken, with_first}
 use Rattle.xc_types.proofs.Firsts.{first_from, others_first}
-use Rattle.xc_types.proofs.Joins.{one, first_join}
+use Rattle.xc_types.proofs.Joins.{one, first_join, saw_join, saw_names, saw_nothing}
 
 -- one rule that is broken at some of these places
 first_one : (best : Option Broken) (t : Bool) (n : ℕ) (p : Pos) (ps : List Pos) →
@@ -93,8 +98,11 @@ first_many : (best : Option Broken) (many others : List Broken) → first_among 
 first_many best many others = first_join best many others ∙ ap (λ b. first_among b others) (first_from best many)
 
 -- what a call breaks, behind what was broken
-broken_by_call : (best : Option Broken) (t4 t5 t7 t6 : Bool) (p : Pos) (m g : List Pos) →
-  first_among best (map (broken_at 404) (broken_where t4 p) ++ (map (broken_at 405) (broken_where t5 p) ++ (map (broken_at 406) m ++ (map (broken_at 407) (broken_where t7 p) ++ (map (broken_at 416) g ++ (map (broken_at 506) (broken_where t6 p) ++ []))))))
+abbrev of_call : (t4 t5 t7 t6 : Bool) (p : Pos) (m g : List Pos) → List Broken
+of_call t4 t5 t7 t6 p m g =
+    map (broken_at 404) (broken_where t4 p) ++ (map (broken_at 405) (broken_where t5 p) ++ (map (broken_at 406) m ++ (map (broken_at 407) (broken_where t7 p) ++ (map (broken_at 416) g ++ (map (broken_at 506) (broken_where t6 p) ++ [])))))
+
+broken_by_call : (best : Option Broken) (t4 t5 t7 t6 : Bool) (p : Pos) (m g : List Pos) → first_among best (of_call t4 t5 t7 t6 p m g)
   ≡ first_with t6 506 p (first_of (first_with t7 407 p (first_of (first_with t5 405 p (first_with t4 404 p best)) (first_among None (map (broken_at 406) m)))) (first_among None (map (broken_at 416) g)))
 broken_by_call best t4 t5 t7 t6 p m g =
     first_step best t4 404 p _
@@ -115,15 +123,51 @@ pub saw_call_site : (s : Seen) (ms : List Mark) (ss : List Site) (around : Aroun
       (with_broken (not (is_some meant)) 404 x.id.pos (saw s ms ss))))))
 unfolding saw with_broken with_first
 saw_call_site s ms ss around x meant given r =
+    let own : List Broken = of_call (not (is_some meant)) (not (has_number meant given)) (r && not (gives_word meant)) (in_transaction around.holders && is_channel_among given) x.id.pos (misfits given) (again [] given) in
     rw (misfit_of judged_nothing given, again_of judged_nothing [] given (record { same = λ v. refl }), channel_of judged_nothing given)
       (one s _ _ _ _ _ _ _ _ refl refl
-        (first_join s.best _ (all_broken ss) ∙ others_first s.best _ (all_broken ss)
+        (first_join s.best own (all_broken ss) ∙ others_first s.best own (all_broken ss)
         ∙ broken_by_call (first_among s.best (all_broken ss)) (not (is_some meant)) (not (has_number meant given)) (r && not (gives_word meant)) (in_transaction around.holders && is_channel_among given) x.id.pos (misfits given) (again [] given))
         refl)
 
 -- the parameter for an argument, and those for the arguments behind it
-pub kind_at : (ps : List Param) (i : ℕ) → kind_first (drop i ps) ≡ option_map (λ (p : Param). p.kind) (slice_get ps i)
-kind_at ps i = ?
+kind_at : (ps : List Param) (i : ℕ) → kind_first (drop i ps) ≡ kind_of ps i
+kind_at [] zero = refl
+kind_at [] (suc i) = refl
+kind_at (p ∷ ps) zero = refl
+kind_at (p ∷ ps) (suc i) = kind_at ps i
 
-pub rest_at : (ps : List Param) (i : ℕ) → rest_of (drop i ps) ≡ drop (i + 1) ps
-rest_at ps i = ?
+rest_at : (ps : List Param) (i : ℕ) → rest_of (drop i ps) ≡ drop (i + 1) ps
+rest_at ps i = rw add-one (by ps i)
+  where
+    by : (ps : List Param) (i : ℕ) → rest_of (drop i ps) ≡ drop (suc i) ps
+    by [] zero = refl
+    by [] (suc i) = refl
+    by (p ∷ ps) zero = refl
+    by (p ∷ ps) (suc i) = by ps i
+
+drop_item : {A : Type 0} (xs : List A) (i : ℕ) (x : A) → x ≡ get_or xs i x → i < length xs → drop i xs ≡ x ∷ drop (i + 1) xs
+drop_item xs i x e h = rw (add-one, drop-cons xs i x) (ap (λ y. y ∷ drop (suc i) xs) (sym e))
+
+module _ (n : NamedProgram) (ps : List Param) (args : List Arg) (i : ℕ) (x : Arg) (e : x ≡ get_or args i x) (h : i < length args) (kind : Option ParamKind) (f : kind ≡ kind_of ps i) (s t : Seen) (g : t ≡ saw s (marks.of_expression (expression_of x.value)) (site.of_argument n s.names kind (expression_of x.value))) where
+  names_on : t.names ≡ past s.names (marks.of_expression (expression_of x.value))
+  names_on = ap (λ (z : Seen). z.names) g ∙ saw_names s (marks.of_expression (expression_of x.value)) (site.of_argument n s.names kind (expression_of x.value))
+
+  -- one argument further
+  pub argument_seen : saw s (marks.each marks.of_argument (map argument_of (drop i args))) (site.of_arguments n s.names (drop i ps) (map argument_of (drop i args)))
+    ≡ saw t (marks.each marks.of_argument (map argument_of (drop (i + 1) args))) (site.of_arguments n t.names (drop (i + 1) ps) (map argument_of (drop (i + 1) args)))
+  unfolding saw expression_of
+  argument_seen =
+    rw (drop_item args i x e h, kind_at ps i, rest_at ps i, sym f, names_on, g)
+      (saw_join s (marks.of_expression (expression_of x.value)) _ (site.of_argument n s.names kind (expression_of x.value)) _)
+
+  pub argument_judged : (j k : Judged) → k ≡ judged_with j (record { first = x.first; parameter = kind; given = given_by n s.names (expression_of x.value) })
+    → judged j (arguments n s.names (drop i ps) (map argument_of (drop i args))) ≡ judged k (arguments n t.names (drop (i + 1) ps) (map argument_of (drop (i + 1) args)))
+  argument_judged j k d = rw (drop_item args i x e h, kind_at ps i, rest_at ps i, sym f, names_on, d) refl
+
+-- no argument is left
+pub argument_none : (n : NamedProgram) (ps : List Param) (args : List Arg) (i : ℕ) (s : Seen) → length args ≤ i
+  → saw s (marks.each marks.of_argument (map argument_of (drop i args))) (site.of_arguments n s.names (drop i ps) (map argument_of (drop i args))) ≡ s
+argument_none n ps args i s h = rw (drop_all i args h) (saw_nothing s)
+
+pub ruleset passing = (saw_nothing, argument_seen, argument_judged, argument_none)

@@ -1,5 +1,7 @@
 -- What is said of the arguments of a call together.
-use Rattle.std.specs.Prelude.{ℕ, Bool, true, false, not, nat_eq, ◌||◌, List, [], ◌∷◌, ◌++◌, length, Option, Some, None}
+use Rattle.std.specs.Prelude.{ℕ, Bool, true, false, not, nat_eq, ◌||◌, List, [], ◌∷◌, ◌++◌, length, slice_get, Option, Some, None, option_map}
+use Rattle.xc_tree.specs.declared.tree.Param.{Param}
+use Rattle.xc_tree.specs.declared.tree.ParamKind.{ParamKind}
 use Rattle.xc_tree.specs.Plain as plain
 use Rattle.xc_tree.specs.Types.Calls.{Argument, fits, referred, is_channel_given}
 use Rattle.xc_tree.specs.Types.Rules.{is_one_of}
@@ -32,3 +34,7 @@ judged j (a ∷ rest) = judged (judged_with j a) rest
 abbrev pub has_number_of : Option plain.Head → ℕ → Bool
 has_number_of None n = true
 has_number_of (Some h) n = nat_eq n (length h.params)
+
+-- what the parameter at a place is
+abbrev pub kind_of : List Param → ℕ → Option ParamKind
+kind_of ps i = option_map (λ (p : Param). p.kind) (slice_get ps i)

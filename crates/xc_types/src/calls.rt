@@ -7,7 +7,7 @@ ghost use Rattle.xc_tree.specs.Types.Named.{function_of as function, named_of};
 ghost use Rattle.xc_tree.specs.Types.Rules as rule;
 ghost use Rattle.xc_tree.specs.Types.Sites as sites;
 ghost use Rattle.xc_types.specs.Around.{around_of};
-ghost use Rattle.xc_types.specs.Judged.{has_number_of, judged_nothing, judged};
+ghost use Rattle.xc_types.specs.Judged.{has_number_of, judged_nothing, judged, kind_of};
 ghost use Rattle.xc_types.specs.Seen.{saw};
 
 use crate::around::{Around, in_transaction};
@@ -107,7 +107,7 @@ fn gives_word(called: Option<&FuncItem>) -> bool
 }
 
 /// Checks the arguments of a call, and says what is to be said of them together.
-#[tactic(auto, using(crate::proofs::Steps::steps))]
+#[tactic(auto, using(crate::proofs::Judging::passing))]
 fn arguments(
     seen: &mut Seen,
     named: &Named,
@@ -119,11 +119,21 @@ fn arguments(
 {
     let mut judged = Judged::new(seen.alloc);
     for (i, arg) in args.iter().enumerate() {
-        let parameter = params.get(i).map(|p| &p.kind);
+        let parameter = parameter_at(params, i);
         judged.judge(named, seen.names, parameter, arg)?;
         argument(seen, named, parameter, &arg.value)?;
     }
     Ok(judged)
+}
+
+/// What the parameter at a place is, if there is one.
+fn parameter_at(params: &[Param], i: usize) -> Option<&ParamKind>
+    ensures { option_copied result ≡ kind_of params.now i }
+{
+    match params.get(i) {
+        None => None,
+        Some(parameter) => Some(&parameter.kind),
+    }
 }
 
 /// Checks an argument for its parameter, where it has one.
