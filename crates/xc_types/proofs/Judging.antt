@@ -3,29 +3,33 @@ use Rattle.std.proofs.Common.{◌≡◌, ℕ, ◌+◌, ◌<◌, ◌≤◌, Bool,
 use Rattle.xw_words.specs.declared.pos.Pos.{Pos}
 use Rattle.xw_words.specs.declared.pos.Broken.{Broken}
 use Rattle.std.proofs.Math.Seq.{drop-cons}
-use Rattle.std.proofs.lemmas.List.{drop_all}
+use Rattle.std.proofs.lemmas.List.{drop_all, length-map}
 use Rattle.xc_tree.specs.declared.tree.Arg.{Arg}
+use Rattle.xc_tree.specs.declared.tree.FuncItem.{FuncItem}
+use Rattle.xc_tree.specs.declared.tree.Id.{Id}
 use Rattle.xc_tree.specs.declared.tree.Param.{Param}
 use Rattle.xc_tree.specs.declared.tree.ParamKind.{ParamKind}
-use Rattle.xc_tree.specs.Trees.{argument_of, expression_of}
+use Rattle.xc_tree.specs.Trees.{argument_of, expression_of, head_of}
 use Rattle.xc_tree.specs.declared.names.Mark.{Mark}
+use Rattle.xc_tree.specs.declared.names.What.{What}
 use Rattle.xc_tree.specs.Least.{first_of}
 use Rattle.xc_tree.specs.Names.Marks as marks
 use Rattle.xc_tree.specs.Plain as plain
 use Rattle.xc_tree.specs.Shapes.Around.{Around, in_transaction}
 use Rattle.xc_tree.specs.Shapes.Rules.{is_channel_among}
 use Rattle.xc_tree.specs.Types.Calls.{Argument, arguments, first_of as kind_first, rest_of, fits, referred, is_channel_given, given_by}
-use Rattle.xc_tree.specs.Types.Named.{NamedProgram, Name, past}
+use Rattle.xc_tree.specs.Types.Named.{NamedProgram, Name, past, what_at, function_of}
 use Rattle.xc_tree.specs.Types.Rules.{broken_where, has_number, gives_word, misfits, again, is_one_of, with_variable}
 use Rattle.xc_tree.specs.Types.Sites.{Site}
 use Rattle.xc_tree.specs.Types.Sites as site
 use Rattle.xc_tree.specs.Types.Words.{is_among}
 use Rattle.xc_types.specs.declared.judged.Judged.{Judged}
 use Rattle.xc_types.specs.declared.seen.Seen.{Seen}
-use Rattle.xc_types.specs.Judged.{judged, judged_nothing, judged_with, with_last, has_number_of, kind_of}
-use Rattle.xc_types.specs.Seen.{saw, all_broken, first_among, first_with, broken_at, with_broken, with_first}
+use Rattle.xc_types.specs.Judged.{judged, judged_nothing, judged_with, with_last, has_number_of, kind_of, with_call}
+use Rattle.xc_types.specs.Seen.{saw, all_broken, first_among, first_with, broken_at, one_more_name, with_broken, with_first}
 use Rattle.xc_types.proofs.Firsts.{first_from, others_first}
 use Rattle.xc_types.proofs.Joins.{one, first_join, saw_join, saw_names, saw_nothing}
+use Rattle.xc_types.proofs.Steps.{saw_call, names_more}
 
 -- one rule that is broken at some of these places
 first_one : (best : Option Broken) (t : Bool) (n : ℕ) (p : Pos) (ps : List Pos) →
@@ -171,3 +175,30 @@ pub argument_none : (n : NamedProgram) (ps : List Param) (args : List Arg) (i : 
 argument_none n ps args i s h = rw (drop_all i args h) (saw_nothing s)
 
 pub ruleset passing = (saw_nothing, argument_seen, argument_judged, argument_none)
+
+pub some_mapped : (f : Option FuncItem) → is_some (option_map head_of f) ≡ is_some f
+some_mapped None = refl
+some_mapped (Some f) = refl
+
+pub ruleset callable = (some_mapped)
+
+number_is : (n : NamedProgram) (k : ℕ) (ps : List Param) (args : List Arg) (meant : Option plain.Head) → has_number meant (arguments n k ps (map argument_of args)) ≡ has_number_of meant (length args)
+number_is n k ps args meant = number_of n k ps (map argument_of args) meant ∙ ap (has_number_of meant) (length-map args argument_of)
+
+-- behind a whole call, by what is seen behind its parts
+pub whole_call : (n : NamedProgram) (s : Seen) (around : Around) (r : Bool) (i : Id) (args : List Arg) (called : Option FuncItem) (s1 s2 : Seen) (j : Judged)
+  → option_map head_of called ≡ function_of n (what_at n (slice_get n.uses s.names))
+  → s1 ≡ one_more_name s
+  → s2 ≡ saw s1 (marks.each marks.of_argument (map argument_of args)) (site.of_arguments n s1.names (site.params_of (option_map head_of called)) (map argument_of args))
+  → j ≡ judged judged_nothing (arguments n s1.names (site.params_of (option_map head_of called)) (map argument_of args))
+  → with_call around (option_map head_of called) (length args) j r i.pos s2 ≡ saw s (marks.of_call (record { called = i; arguments = map argument_of args })) (site.of_call n around s.names r (record { called = i; arguments = map argument_of args }))
+unfolding saw one_more_name
+whole_call n s around r i args called s1 s2 j m e1 e2 ej =
+    let what : Option What = what_at n (slice_get n.uses s.names) in
+    let meant : Option plain.Head = function_of n what in
+    let given : List plain.Argument = map argument_of args in
+    let judged_ones : List Argument = arguments n (s.names + 1) (site.params_of meant) given in
+    let name : Name = record { id = i; declared = slice_get n.uses s.names; what = what } in
+    let rest : List Site = site.of_arguments n (s.names + 1) (site.params_of meant) given in
+    rw (ej, m, e2, m, e1, names_more s, sym (number_is n (s.names + 1) (site.params_of meant) args meant))
+      (sym (saw_call s i (marks.each marks.of_argument given) (site.call around name meant judged_ones r ∷ rest) ∙ saw_call_site (one_more_name s) (marks.each marks.of_argument given) rest around name meant judged_ones r))

@@ -1,13 +1,14 @@
 ghost use Rattle.std.specs.Option.{option_copied};
-ghost use Rattle.std.specs.Prelude.{◌≡◌, map, option_map, true, IfOk, OnOk};
+ghost use Rattle.std.specs.Prelude.{◌≡◌, ◌&&◌, not, map, option_map, true, IfOk, OnOk};
 ghost use Rattle.xc_tree.specs.Names.Marks as marks;
+ghost use Rattle.xc_tree.specs.Shapes.Around as shape;
 ghost use Rattle.xc_tree.specs.Trees as tree;
 ghost use Rattle.xc_tree.specs.Types.Calls.{arguments as arguments_of};
 ghost use Rattle.xc_tree.specs.Types.Named.{function_of as function, named_of};
 ghost use Rattle.xc_tree.specs.Types.Rules as rule;
 ghost use Rattle.xc_tree.specs.Types.Sites as sites;
 ghost use Rattle.xc_types.specs.Around.{around_of};
-ghost use Rattle.xc_types.specs.Judged.{has_number_of, judged_nothing, judged, kind_of};
+ghost use Rattle.xc_types.specs.Judged.{has_number_of, judged_nothing, judged, kind_of, with_call};
 ghost use Rattle.xc_types.specs.Seen.{saw};
 
 use crate::around::{Around, in_transaction};
@@ -51,15 +52,46 @@ pub fn right_side(
             let called = function_of(named, what_of(named, seen.names));
             seen.pass()?;
             let judged = arguments(seen, named, params_of(called), args.as_slice())?;
-            seen.breaks_where(called.is_none(), 404, *pos);
-            seen.breaks_where(!has_number(called, args.len()), 405, *pos);
-            seen.breaks(judged.misfit);
-            seen.breaks_where(is_right_side && !gives_word(called), 407, *pos);
-            seen.breaks(judged.again);
-            seen.breaks_where(in_transaction(around) && judged.has_channel, 506, *pos);
+            judge_call(seen, around, called, args.len(), &judged, is_right_side, *pos);
             Ok(())
         }
     }
+}
+
+/// Keeps what a call breaks, whose name stands at this place, by what is called, how many arguments it has, and what is said
+/// of them.
+#[tactic(auto, using(crate::proofs::Judging::callable))]
+fn judge_call(
+    seen: &mut Seen,
+    around: &Around,
+    called: Option<&FuncItem>,
+    number: usize,
+    judged: &Judged,
+    is_right_side: bool,
+    pos: Pos,
+)
+    ensures { seen.new ≡ with_call (around_of around.now) (option_map tree.head_of (option_copied called.entry)) number judged.now is_right_side pos seen.old }
+{
+    seen.breaks_where(!called.is_some(), 404, pos);
+    seen.breaks_where(!has_number(called, number), 405, pos);
+    seen.breaks(judged.misfit);
+    seen.breaks_where(lacks_word(is_right_side, called), 407, pos);
+    seen.breaks(judged.again);
+    seen.breaks_where(has_channel_inside(around, judged), 506, pos);
+}
+
+/// Whether a call is a right side that gives no word.
+fn lacks_word(is_right_side: bool, called: Option<&FuncItem>) -> bool
+    ensures { result ≡ (is_right_side && not (rule.gives_word (option_map tree.head_of (option_copied called.entry)))) }
+{
+    is_right_side && !gives_word(called)
+}
+
+/// Whether a channel is an argument of a call inside a transaction.
+fn has_channel_inside(around: &Around, judged: &Judged) -> bool
+    ensures { result ≡ (shape.in_transaction (around_of around.now).holders && judged.now.has_channel) }
+{
+    in_transaction(around) && judged.has_channel
 }
 
 /// The function that a name means.
