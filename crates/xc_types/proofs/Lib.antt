@@ -4,3 +4,4 @@ pub mod Steps
 pub mod Talks
 pub mod Firsts
 pub mod Judging
+pub mod Loops

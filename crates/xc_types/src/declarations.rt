@@ -16,7 +16,7 @@ use xw_words::{Memory, Pos};
 const LONGEST_ARRAY: u32 = 16_384;
 
 /// Checks what a declaration declares.
-#[tactic(auto, using(crate::proofs::Steps::steps))]
+#[tactic(auto, using(crate::proofs::Loops::loops))]
 pub fn declarations(
     seen: &mut Seen,
     named: &Named,
