@@ -5,3 +5,5 @@ pub mod Talks
 pub mod Firsts
 pub mod Judging
 pub mod Loops
+pub mod Shaping
+pub mod Placings

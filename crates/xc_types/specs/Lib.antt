@@ -2,3 +2,4 @@ pub mod Around
 pub mod Seen
 pub mod Judged
 pub mod Communications
+pub mod Places

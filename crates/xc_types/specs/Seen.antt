@@ -8,6 +8,8 @@ use Rattle.xc_tree.specs.Checks.{Rule, rules}
 use Rattle.xc_tree.specs.Least.{first_of}
 use Rattle.xc_tree.specs.Types.Named.{past}
 use Rattle.xc_tree.specs.Types.Sites.{Site, types, communications}
+use Rattle.xc_tree.specs.declared.tree.Id.{Id}
+use Rattle.xc_tree.specs.Types.Rules.{first_that_differs}
 use Rattle.xc_tree.specs.Shapes.Rules.{channels, declared_as_channel}
 use Rattle.xc_types.specs.declared.seen.Seen.{Seen}
 
@@ -70,3 +72,7 @@ with_first b s = record s { best = first_of s.best b }
 -- with one rule that is broken at these places
 unfoldable pub with_broken_at : ℕ → List Pos → Seen → Seen
 with_broken_at n ps s = record s { best = first_among s.best (map (broken_at n) ps) }
+
+-- behind the names at the head of a replicated `par`, where rule 415 is broken at the first that differs
+abbrev pub with_replicated : Id → Id → Id → Seen → Seen
+with_replicated a b c s = one_more_name (one_more_name (one_more_name (with_broken_at 415 (first_that_differs a b c) s)))

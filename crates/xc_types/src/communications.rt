@@ -42,6 +42,17 @@ pub fn input(seen: &mut Seen, named: &Named, head: &Head) -> Result<(), Memory>
     target_and_stamp(seen, named, is_port, head)
 }
 
+/// Checks an input, if there is one.
+#[tactic(auto, using(crate::proofs::Steps::steps))]
+pub fn input_if_any(seen: &mut Seen, named: &Named, head: &Option<Head>) -> Result<(), Memory>
+    ensures { OnOk result (seen.new ≡ saw seen.old (marks.optional marks.of_input (option_map tree.input_of head.now)) (sites.optional (sites.of_input (named_of named.now) seen.old.names) (option_map tree.input_of head.now))) }
+{
+    match head {
+        None => Ok(()),
+        Some(head) => input(seen, named, head),
+    }
+}
+
 /// Checks the name of an input, which stands at this place.
 #[tactic(auto, using(crate::proofs::Talks::same_names))]
 fn input_name(seen: &mut Seen, named: &Named, pos: Pos) -> Result<(), Memory>

@@ -11,4 +11,7 @@ mod entities;
 mod expressions;
 mod judged;
 mod lvals;
+mod places;
 mod seen;
+mod shapes;
+mod statements;

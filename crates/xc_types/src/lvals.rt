@@ -1,4 +1,4 @@
-ghost use Rattle.std.specs.Prelude.{◌≡◌, OnOk};
+ghost use Rattle.std.specs.Prelude.{◌≡◌, option_map, OnOk};
 ghost use Rattle.xc_tree.specs.Names.Marks as marks;
 ghost use Rattle.xc_tree.specs.Trees.{expression_of};
 ghost use Rattle.xc_tree.specs.Types.Named.{named_of};
@@ -58,4 +58,15 @@ pub fn part(seen: &mut Seen, named: &Named, e: &Expr) -> Result<(), Memory>
 {
     expression(seen, named, e)?;
     Ok(())
+}
+
+/// Checks an expression, if there is one.
+#[tactic(auto, using(crate::proofs::Steps::steps))]
+pub fn part_if_any(seen: &mut Seen, named: &Named, e: &Option<Expr>) -> Result<(), Memory>
+    ensures { OnOk result (seen.new ≡ saw seen.old (marks.optional marks.of_expression (option_map expression_of e.now)) (sites.optional (sites.of_expression (named_of named.now) seen.old.names) (option_map expression_of e.now))) }
+{
+    match e {
+        None => Ok(()),
+        Some(e) => part(seen, named, e),
+    }
 }

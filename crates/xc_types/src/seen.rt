@@ -1,6 +1,8 @@
-ghost use Rattle.std.specs.Prelude.{◌≡◌, ◌<◌, ◌+◌, length, IfOk, OnOk};
+ghost use Rattle.std.specs.Prelude.{◌≡◌, ◌<◌, ◌≤◌, drop, length, IfOk, OnOk};
+ghost use Rattle.xc_tree.specs.Shapes.Rules.{are_one as one};
 ghost use Rattle.xc_types.specs.Seen.{one_more_name, with_type, with_type_at, with_broken, with_channel, with_first};
 
+use crate::shapes::are_one;
 use std::alloc::Global;
 use xc_tree::earlier;
 use xw_words::{Broken, List, Memory, Pos};
@@ -78,5 +80,13 @@ impl Seen {
         ensures { self.new ≡ with_first broken self.old }
     {
         self.best = earlier(self.best, broken);
+    }
+
+    /// Whether the communications that were seen since there were so many channels named one.
+    pub fn names_one_channel(&self, begin: usize) -> bool
+        requires { begin ≤ length self.now.channels }
+        ensures { result ≡ one (drop begin self.now.channels) }
+    {
+        are_one(&self.channels.as_slice()[begin..])
     }
 }
