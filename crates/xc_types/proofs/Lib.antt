@@ -7,3 +7,4 @@ pub mod Judging
 pub mod Loops
 pub mod Shaping
 pub mod Placings
+pub mod Defaults

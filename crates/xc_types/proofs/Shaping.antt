@@ -1,5 +1,6 @@
 -- How what was seen grows by statements.
 use Rattle.std.proofs.Common.{◌≡◌, ℕ, ◌+◌, ◌≤◌, Bool, true, false, not, ◌&&◌, if◌then◌else◌, is_some, bytes_eq, List, [], ◌∷◌, ◌++◌, length, drop, map, option_map, Option, Some, None, refl, sym, ap, subst, ◌∙◌, append-nil, append_assoc, length-append, arith}
+use Rattle.std.proofs.Transfers.{drop-appended}
 use Rattle.xw_words.specs.declared.pos.Pos.{Pos}
 use Rattle.xw_words.specs.declared.pos.Broken.{Broken}
 use Rattle.xc_tree.specs.declared.tree.Id.{Id}
@@ -108,3 +109,42 @@ saw_transaction s around xs p ms ss =
     turned a b = ap (λ (x : Option Broken). first_among x (all_broken ss)) (swap a b) ∙ late (first_with b 506 p s.best) a 505 p (all_broken ss)
 
 pub ruleset shaping = (steps, arounds, saw_opens, saw_closes, saw_break, saw_continue, saw_par, saw_return, saw_select, saw_replicator, names_broken_at, names_replicated, some_right)
+
+pub replicated_is : (t u : Bool) (p q : Pos) (s : Seen) → with_broken (t && not u) 415 p (with_broken (not t) 415 q s) ≡ with_broken_at 415 (if t then broken_unless u p else q ∷ []) s
+unfolding with_broken with_broken_at
+replicated_is true true p q s = refl
+replicated_is true false p q s = refl
+replicated_is false u p q s = refl
+
+pub ruleset replicating = (replicated_is)
+
+pub channels_grow : (s r t : Seen) (b : Bool) (p : Pos) (ms : List Mark) (ss : List Site) → r ≡ with_broken b 506 p s → t ≡ saw r ms ss → length s.channels ≤ length t.channels
+unfolding saw with_broken
+channels_grow s r t b p ms ss e f = rw (f, e, length-append s.channels (channels (communications ss))) (omega arith)
+
+channels_behind : (s : Seen) (ms : List Mark) (ss : List Site) → drop (length s.channels) (saw s ms ss).channels ≡ channels (communications ss)
+unfolding saw
+channels_behind s ms ss = drop-appended s.channels (s.channels ++ channels (communications ss)) (channels (communications ss)) refl
+
+-- behind a whole transaction, by what is seen behind what it holds
+pub whole_transaction : (n : NamedProgram) (s : Seen) (around : Around) (inner : Around) (ss : plain.Statements) (p : Pos) (r t : Seen) → inner ≡ inside a_transaction around
+  → r ≡ with_broken (in_transaction around.holders) 506 p s → t ≡ saw r (marks.of_statements ss) (site.of_statements n inner r.names ss)
+  → with_broken (not (are_one (drop (length s.channels) t.channels))) 505 p t ≡ saw s (marks.in_scope (marks.of_statements ss)) (site.of_action n around s.names p (plain.transaction true ss))
+unfolding with_broken
+whole_transaction n s around inner ss p r t d e f =
+    rw (f, d, e)
+      (ap (λ (cs : List ℕ). with_broken (not (are_one cs)) 505 p (saw s6 ms own)) behind
+      ∙ sym (saw_transaction s around (communications own) p ms own)
+      ∙ sym (saw_opens s (ms ++ Closes ∷ []) (site.transaction around (communications own) p ∷ own) ∙ saw_closes s ms (site.transaction around (communications own) p ∷ own)))
+  where
+    ms : List Mark
+    ms = marks.of_statements ss
+
+    s6 : Seen
+    s6 = with_broken (in_transaction around.holders) 506 p s
+
+    own : List Site
+    own = site.of_statements n (inside a_transaction around) s.names ss
+
+    behind : drop (length s.channels) (saw s6 ms own).channels ≡ channels (communications own)
+    behind = channels_behind s6 ms own

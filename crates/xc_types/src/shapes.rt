@@ -1,7 +1,7 @@
 ghost use Rattle.std.specs.Prelude.{◌≡◌, ◌&&◌, not, is_some, drop, map, bytes_eq, OnOk};
 ghost use Rattle.xc_tree.specs.Plain as plain;
 ghost use Rattle.xc_tree.specs.Shapes.Around.{in_par_or_transaction as par_or_transaction};
-ghost use Rattle.xc_tree.specs.Shapes.Rules.{are_one as one, defaults as defaults_of};
+ghost use Rattle.xc_tree.specs.Shapes.Rules.{are_all as all, are_one as one, defaults as defaults_of};
 ghost use Rattle.xc_tree.specs.Trees.{case_of};
 ghost use Rattle.xc_tree.specs.Types.Entities.{agree};
 ghost use Rattle.xc_types.specs.Around.{around_of};
@@ -22,6 +22,7 @@ pub fn returns(seen: &mut Seen, around: &Around, has_value: bool, pos: Pos)
 }
 
 /// Checks the names at the head of a replicated `par`: rule 415.
+#[tactic(auto, using(crate::proofs::Shaping::replicating))]
 pub fn begin_replicated(
     seen: &mut Seen,
     first: &Id,
@@ -53,15 +54,19 @@ fn both(a: bool, b: bool) -> bool
 }
 
 /// Checks that a select has at most one `default`: rule 507.
-#[tactic(auto, using(crate::proofs::Shaping::shaping))]
+#[tactic(auto, using(crate::proofs::Defaults::one_by_one))]
 pub fn defaults(seen: &mut Seen, cs: &[Case])
     ensures { seen.new ≡ with_broken_at 507 (drop 1 (defaults_of (plain.cases (map case_of cs.now)))) seen.old }
 {
     let mut has_default = false;
     for c in cs {
-        let is_default = c.head.is_none();
-        seen.breaks_where(both(has_default, is_default), 507, c.pos);
-        has_default = has_default || is_default;
+        match &c.head {
+            None => {
+                seen.breaks_where(has_default, 507, c.pos);
+                has_default = true;
+            }
+            Some(_) => {}
+        }
     }
 }
 
@@ -69,8 +74,20 @@ pub fn defaults(seen: &mut Seen, cs: &[Case])
 pub fn are_one(channels: &[u32]) -> bool
     ensures { result ≡ one channels.now }
 {
-    match channels {
-        [] => false,
-        [first, rest @ ..] => rest.iter().all(|channel| first == channel),
+    match channels.get(0) {
+        None => false,
+        Some(first) => are_all(*first, channels),
     }
+}
+
+/// Whether these are all this one.
+fn are_all(first: u32, channels: &[u32]) -> bool
+    ensures { result ≡ all first channels.now }
+{
+    for channel in channels {
+        if first != *channel {
+            return false;
+        }
+    }
+    true
 }

@@ -28,7 +28,7 @@ pub fn statement(seen: &mut Seen, named: &Named, s: &Stmt, around: &Around) -> R
     match &s.kind {
         St::Empty => Ok(()),
         St::Block(ss) => {
-            statements(seen, named, ss.as_slice(), &Around::Inside(Holder::Block, around))
+            statements(seen, named, ss.as_slice(), &Around::Inside(Holder::Block, &*around))
         }
         St::Decl(ds) => declarations(seen, named, around, ds.as_slice()),
         St::Assign(left, _, _, rhs) => {
@@ -40,24 +40,24 @@ pub fn statement(seen: &mut Seen, named: &Named, s: &Stmt, around: &Around) -> R
         St::Output(send) => output(seen, named, send),
         St::Input(head) => input(seen, named, head),
         St::If(test, then, otherwise) => {
-            let inner = Around::Inside(Holder::If, around);
+            let inner = Around::Inside(Holder::If, &*around);
             part(seen, named, test)?;
             statement(seen, named, then, &inner)?;
             statement_if_any(seen, named, otherwise, &inner)
         }
         St::While(test, body) => {
             part(seen, named, test)?;
-            statement(seen, named, body, &Around::Inside(Holder::Loop, around))
+            statement(seen, named, body, &Around::Inside(Holder::Loop, &*around))
         }
         St::DoWhile(body, test) => {
-            statement(seen, named, body, &Around::Inside(Holder::Loop, around))?;
+            statement(seen, named, body, &Around::Inside(Holder::Loop, &*around))?;
             part(seen, named, test)
         }
         St::For(first, test, step, body) => {
             statement_if_any(seen, named, first, around)?;
             part_if_any(seen, named, test)?;
             statement_if_any(seen, named, step, around)?;
-            statement(seen, named, body, &Around::Inside(Holder::Loop, around))
+            statement(seen, named, body, &Around::Inside(Holder::Loop, &*around))
         }
         St::Return(rhs) => {
             returns(seen, around, rhs.is_some(), s.pos);
@@ -145,7 +145,7 @@ fn transaction(
 {
     let begin = seen.channels.len();
     seen.breaks_where(in_transaction(around), 506, pos);
-    statements(seen, named, ss, &Around::Inside(Holder::Transaction, around))?;
+    statements(seen, named, ss, &Around::Inside(Holder::Transaction, &*around))?;
     let names_one = seen.names_one_channel(begin);
     seen.breaks_where(!names_one, 505, pos);
     Ok(())
@@ -158,7 +158,7 @@ fn branch(seen: &mut Seen, named: &Named, b: &Branch, around: &Around) -> Result
     ensures { OnOk result (seen.new ≡ saw seen.old (marks.of_branch (tree.branch_of b.now)) (sites.of_branch (named_of named.now) (around_of around.now) seen.old.names (tree.branch_of b.now))) }
 {
     branch_place(seen, named, around, &b.place)?;
-    statement(seen, named, &b.body, &Around::Inside(Holder::Branch, around))
+    statement(seen, named, &b.body, &Around::Inside(Holder::Branch, &*around))
 }
 
 #[cycle(statement)]
@@ -185,7 +185,7 @@ fn case(seen: &mut Seen, named: &Named, c: &Case, around: &Around) -> Result<(),
 {
     part_if_any(seen, named, &c.guard)?;
     input_if_any(seen, named, &c.head)?;
-    statements(seen, named, c.body.as_slice(), &Around::Inside(Holder::Case, around))
+    statements(seen, named, c.body.as_slice(), &Around::Inside(Holder::Case, &*around))
 }
 
 #[cycle(statement)]
