@@ -48,10 +48,10 @@ one_least P (Some a) (Some b) p q =
     second_is x e h = subst (λ (y : Broken). IsNotAfter y a) (sym (some_same b x e)) h
 
 -- what there is, is the least of itself
-abbrev Itself : Option Broken → Broken → Type 0
+abbrev pub Itself : Option Broken → Broken → Type 0
 Itself a x = a ≡ Some x
 
-itself : (a : Option Broken) → IsLeastOf (Itself a) a
+pub itself : (a : Option Broken) → IsLeastOf (Itself a) a
 itself a = record { among = λ x e. e; least = λ b e. (b, e, not_after_self b) }
 
 swapped : {A B : Type 0} → A ⊎ B → B ⊎ A

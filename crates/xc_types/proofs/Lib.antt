@@ -8,3 +8,7 @@ pub mod Loops
 pub mod Shaping
 pub mod Placings
 pub mod Defaults
+pub mod Mains
+pub mod Programs
+pub mod Breaking
+pub mod Whole

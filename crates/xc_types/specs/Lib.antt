@@ -3,3 +3,5 @@ pub mod Seen
 pub mod Judged
 pub mod Communications
 pub mod Places
+pub mod Mains
+pub mod Errors

@@ -5,13 +5,18 @@
 mod arguments;
 mod around;
 mod calls;
+mod checking;
 mod communications;
 mod declarations;
 mod entities;
 mod expressions;
 mod judged;
 mod lvals;
+mod main_function;
 mod places;
+mod program;
 mod seen;
 mod shapes;
 mod statements;
+
+pub use checking::{TypeErr, check};

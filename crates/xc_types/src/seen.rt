@@ -1,4 +1,4 @@
-ghost use Rattle.std.specs.Prelude.{◌≡◌, ◌<◌, ◌≤◌, drop, length, IfOk, OnOk};
+ghost use Rattle.std.specs.Prelude.{◌≡◌, [], ◌<◌, ◌≤◌, drop, length, IfOk, OnOk};
 ghost use Rattle.xc_tree.specs.Shapes.Rules.{are_one as one};
 ghost use Rattle.xc_types.specs.Seen.{one_more_name, with_type, with_type_at, with_broken, with_channel, with_first};
 
@@ -23,6 +23,22 @@ pub struct Seen {
 }
 
 impl Seen {
+    /// Of nothing.
+    pub fn new(alloc: Global) -> Seen
+        ensures names { result.names ≡ 0 }
+        ensures types { result.types ≡ [] }
+        ensures best { result.best ≡ None }
+        ensures channels { result.channels ≡ [] }
+    {
+        Seen {
+            alloc,
+            names: 0,
+            types: List::new(alloc),
+            best: None,
+            channels: List::new(alloc),
+        }
+    }
+
     /// Goes past a name.
     #[tactic(auto, unfolding(crate::specs::Seen::one_more_name))]
     pub fn pass(&mut self) -> Result<(), Memory>

@@ -1,0 +1,28 @@
+-- How what was seen grows by the items of a program.
+use Rattle.std.proofs.Common.{◌≡◌, ℕ, Bool, not, ◌&&◌, List, [], ◌∷◌, ◌++◌, refl}
+use Rattle.xc_tree.specs.declared.names.Decl.{Decl}
+use Rattle.xc_tree.specs.declared.names.Mark.{Mark}
+use Rattle.xc_tree.specs.declared.names.Mark.TheVariants.{Declares}
+use Rattle.xc_tree.specs.Plain as plain
+use Rattle.xc_tree.specs.Shapes.Around.{is_main}
+use Rattle.xc_tree.specs.Shapes.Main.{place_branches, is_channels_par_return, statements_in}
+use Rattle.xc_tree.specs.Types.Sites.{Site}
+use Rattle.xc_tree.specs.Types.Sites as site
+use Rattle.xc_types.specs.declared.seen.Seen.{Seen}
+use Rattle.xc_types.specs.Seen.{saw, all_broken, one_more_name, with_broken}
+use Rattle.xc_types.proofs.Joins.{one, past_join}
+use Rattle.xc_types.proofs.Shaping.{shaping}
+use Rattle.xc_types.proofs.Steps.{first_here}
+
+pub saw_last_declaration : (s : Seen) (d : Decl) (ms : List Mark) (ss : List Site) → saw s (ms ++ Declares d ∷ []) ss ≡ one_more_name (saw s ms ss)
+unfolding saw one_more_name
+saw_last_declaration s d ms ss = one s _ _ _ _ _ _ _ _ (past_join s.names ms (Declares d ∷ [])) refl refl refl
+
+abbrev breaks_form : plain.Head → plain.Statement → Bool
+breaks_form h b = is_main h && (place_branches (statements_in b) && not (is_channels_par_return (statements_in b)))
+
+pub saw_function : (s : Seen) (h : plain.Head) (b : plain.Statement) (ms : List Mark) (ss : List Site) → saw s ms (site.function h b ∷ ss) ≡ saw (with_broken (breaks_form h b) 504 h.name.pos s) ms ss
+unfolding saw with_broken
+saw_function s h b ms ss = one s _ _ _ _ _ _ _ _ refl refl (first_here s.best (breaks_form h b) 504 h.name.pos [] (all_broken ss)) refl
+
+pub ruleset programs = (shaping, saw_last_declaration, saw_function)
