@@ -48,7 +48,7 @@ pub fn has_way_out(around: &Around) -> bool
     match around {
         Around::Block(_) => false,
         Around::Inside(Holder::Loop | Holder::Case, _) => true,
-        Around::Inside(Holder::Branch | Holder::Transaction, _) => false,
+        Around::Inside(Holder::Transaction | Holder::Branch, _) => false,
         Around::Inside(Holder::Block | Holder::If, outer) => has_way_out(outer),
     }
 }

@@ -7,6 +7,7 @@ ghost use Rattle.xc_tree.specs.Trees as tree;
 ghost use Rattle.xc_types.specs.Mains.{part_of, statement_places};
 
 use crate::around::is_main;
+use crate::shapes::both;
 use xc_tree::{Branch, DeclKind, Declared, FuncItem, St, Stmt};
 
 /// Whether a function is `main`, has a placed branch, and its block hasn't the form for that.
@@ -150,7 +151,7 @@ fn is_channels_par_return(ss: &[Stmt]) -> bool
     ensures { result ≡ main.is_channels_par_return (plain.statements (map tree.statement_of ss.now)) }
 {
     for (i, s) in ss.iter().enumerate() {
-        match part(s) {
+        match place_in_form(s) {
             Part::Channels => {}
             Part::Par => return is_return_at_most(&ss[i + 1..]),
             Part::Other => return false,
@@ -160,7 +161,7 @@ fn is_channels_par_return(ss: &[Stmt]) -> bool
 }
 
 #[tactic(auto, using(crate::proofs::Mains::mains))]
-fn part(s: &Stmt) -> Part
+fn place_in_form(s: &Stmt) -> Part
     ensures { result ≡ part_of (tree.statement_of s.now) }
 {
     match &s.kind {
@@ -219,9 +220,9 @@ fn is_channel(kind: &DeclKind) -> bool
 fn is_return_at_most(ss: &[Stmt]) -> bool
     ensures { result ≡ main.is_return_at_most (plain.statements (map tree.statement_of ss.now)) }
 {
-    match ss.get(0) {
+    match ss.first() {
         None => true,
-        Some(first) => ss.len() == 1 && is_return(first),
+        Some(first) => both(ss.len() == 1, is_return(first)),
     }
 }
 

@@ -17,7 +17,7 @@ use xc_tree::{FuncItem, Item, Named, Param, ParamKind, PortItem, St, Stmt};
 use xw_words::Memory;
 
 /// Checks a program.
-#[tactic(auto, using(crate::proofs::Loops::loops))]
+#[tactic(auto, using(crate::proofs::Programs::items))]
 pub fn program(seen: &mut Seen, named: &Named) -> Result<(), Memory>
     ensures { OnOk result (seen.new ≡ saw seen.old (marks.of_items 0 (tree.program_of named.now.tree)) (sites.of_items (named_of named.now) 0 seen.old.names (tree.program_of named.now.tree))) }
 {

@@ -47,7 +47,8 @@ fn is_same(a: &Id, b: &Id) -> bool
     a.text.as_slice() == b.text.as_slice()
 }
 
-fn both(a: bool, b: bool) -> bool
+/// Both of two facts.
+pub fn both(a: bool, b: bool) -> bool
     ensures { result ≡ (a && b) }
 {
     a && b
