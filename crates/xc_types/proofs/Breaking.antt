@@ -64,11 +64,11 @@ from_place n (p ∷ ps) b (inr h) = let k = from_place n ps b h in (k.0, has_lat
 
 to_place : (n : ℕ) (ps : List Pos) (b : Broken) → n ≡ b.rule → Contains ps b.pos → Among (map (broken_at n) ps) b
 to_place n [] b e h = absurd (has_none b.pos h)
-to_place n (p ∷ ps) b e h = by (first_or_later p b.pos ps h)
+to_place n (p ∷ ps) b e h = by (λ k. to_place n ps b e k) (first_or_later p b.pos ps h)
   where
-    by : (p ≡ b.pos) ⊎ Contains ps b.pos → Among (map (broken_at n) (p ∷ ps)) b
-    by (inl f) = inl (λ i. Some (record { rule = e i; pos = f i }))
-    by (inr k) = inr (to_place n ps b e k)
+    by : (Contains ps b.pos → Among (map (broken_at n) ps) b) → (p ≡ b.pos) ⊎ Contains ps b.pos → Among (map (broken_at n) (p ∷ ps)) b
+    by rest (inl f) = inl (λ i. Some (record { rule = e i; pos = f i }))
+    by rest (inr k) = inr (rest k)
 
 -- a site breaks one of these rules
 record BreaksHere (rs : List Rule) (s : Site) (b : Broken) : Type 0 where
@@ -79,7 +79,7 @@ record BreaksHere (rs : List Rule) (s : Site) (b : Broken) : Type 0 where
 
 from_rules : (rs : List Rule) (s : Site) (b : Broken) → Among (broken_of rs s) b → BreaksHere rs s b
 from_rules [] s b h = absurd h
-from_rules (r ∷ rs) s b h = by (among_split (map (broken_at r.number) (r.broken_at s)) (broken_of rs s) b h)
+from_rules (r ∷ rs) s b h = by (λ k. from_rules rs s b k) (among_split (map (broken_at r.number) (r.broken_at s)) (broken_of rs s) b h)
   where
     later : BreaksHere rs s b → BreaksHere (r ∷ rs) s b
     later k = record { rule = k.rule; among = has_later r k.rule rs k.among; numbered = k.numbered; broken = k.broken }
@@ -87,20 +87,20 @@ from_rules (r ∷ rs) s b h = by (among_split (map (broken_at r.number) (r.broke
     first : (r.number ≡ b.rule) × Contains (r.broken_at s) b.pos → BreaksHere (r ∷ rs) s b
     first k = record { rule = r; among = has_first r rs; numbered = k.0; broken = k.1 }
 
-    by : Among (map (broken_at r.number) (r.broken_at s)) b ⊎ Among (broken_of rs s) b → BreaksHere (r ∷ rs) s b
-    by (inl k) = first (from_place r.number (r.broken_at s) b k)
-    by (inr k) = later (from_rules rs s b k)
+    by : (Among (broken_of rs s) b → BreaksHere rs s b) → Among (map (broken_at r.number) (r.broken_at s)) b ⊎ Among (broken_of rs s) b → BreaksHere (r ∷ rs) s b
+    by rest (inl k) = first (from_place r.number (r.broken_at s) b k)
+    by rest (inr k) = later (rest k)
 
 to_rules : (rs : List Rule) (s : Site) (b : Broken) (r : Rule) → Contains rs r → r.number ≡ b.rule → Contains (r.broken_at s) b.pos → Among (broken_of rs s) b
 to_rules [] s b r h e k = absurd (has_none r h)
-to_rules (x ∷ xs) s b r h e k = by (first_or_later x r xs h)
+to_rules (x ∷ xs) s b r h e k = by (λ l. to_rules xs s b r l e k) (first_or_later x r xs h)
   where
     first : (q : Rule) → q.number ≡ b.rule → Contains (q.broken_at s) b.pos → Among (map (broken_at q.number) (q.broken_at s) ++ broken_of xs s) b
     first q f g = among_front (map (broken_at q.number) (q.broken_at s)) (broken_of xs s) b (to_place q.number (q.broken_at s) b f g)
 
-    by : (x ≡ r) ⊎ Contains xs r → Among (broken_of (x ∷ xs) s) b
-    by (inl f) = subst (λ (q : Rule). Among (map (broken_at q.number) (q.broken_at s) ++ broken_of xs s) b) (sym f) (first r e k)
-    by (inr l) = among_back (map (broken_at x.number) (x.broken_at s)) (broken_of xs s) b (to_rules xs s b r l e k)
+    by : (Contains xs r → Among (broken_of xs s) b) → (x ≡ r) ⊎ Contains xs r → Among (broken_of (x ∷ xs) s) b
+    by rest (inl f) = subst (λ (q : Rule). Among (map (broken_at q.number) (q.broken_at s) ++ broken_of xs s) b) (sym f) (first r e k)
+    by rest (inr l) = among_back (map (broken_at x.number) (x.broken_at s)) (broken_of xs s) b (rest l)
 
 -- one of these sites breaks a rule
 record BreaksThere (ss : List Site) (b : Broken) : Type 0 where
@@ -110,22 +110,22 @@ record BreaksThere (ss : List Site) (b : Broken) : Type 0 where
 
 from_sites : (ss : List Site) (b : Broken) → Among (all_broken ss) b → BreaksThere ss b
 from_sites [] b h = absurd h
-from_sites (s ∷ ss) b h = by (among_split (broken_of rules s) (all_broken ss) b h)
+from_sites (s ∷ ss) b h = by (λ k. from_sites ss b k) (among_split (broken_of rules s) (all_broken ss) b h)
   where
     later : BreaksThere ss b → BreaksThere (s ∷ ss) b
     later k = record { site = k.site; there = has_later s k.site ss k.there; here = k.here }
 
-    by : Among (broken_of rules s) b ⊎ Among (all_broken ss) b → BreaksThere (s ∷ ss) b
-    by (inl k) = record { site = s; there = has_first s ss; here = from_rules rules s b k }
-    by (inr k) = later (from_sites ss b k)
+    by : (Among (all_broken ss) b → BreaksThere ss b) → Among (broken_of rules s) b ⊎ Among (all_broken ss) b → BreaksThere (s ∷ ss) b
+    by rest (inl k) = record { site = s; there = has_first s ss; here = from_rules rules s b k }
+    by rest (inr k) = later (rest k)
 
 to_sites : (ss : List Site) (b : Broken) (s : Site) → Contains ss s → Among (broken_of rules s) b → Among (all_broken ss) b
 to_sites [] b s h k = absurd (has_none s h)
-to_sites (x ∷ xs) b s h k = by (first_or_later x s xs h)
+to_sites (x ∷ xs) b s h k = by (λ l. to_sites xs b s l k) (first_or_later x s xs h)
   where
-    by : (x ≡ s) ⊎ Contains xs s → Among (all_broken (x ∷ xs)) b
-    by (inl f) = among_front (broken_of rules x) (all_broken xs) b (subst (λ (q : Site). Among (broken_of rules q) b) (sym f) k)
-    by (inr l) = among_back (broken_of rules x) (all_broken xs) b (to_sites xs b s l k)
+    by : (Contains xs s → Among (all_broken xs) b) → (x ≡ s) ⊎ Contains xs s → Among (all_broken (x ∷ xs)) b
+    by rest (inl f) = among_front (broken_of rules x) (all_broken xs) b (subst (λ (q : Site). Among (broken_of rules q) b) (sym f) k)
+    by rest (inr l) = among_back (broken_of rules x) (all_broken xs) b (rest l)
 
 pub least_broken : (n : NamedProgram) → IsLeastOf (Breaks n) (first_among None (all_broken (sites n)))
 least_broken n = of_same (Among (all_broken (sites n))) (Breaks n) (first_among None (all_broken (sites n))) to from (least_among (all_broken (sites n)))
