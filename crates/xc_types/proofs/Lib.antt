@@ -1,0 +1,14 @@
+pub mod Holders
+pub mod Joins
+pub mod Steps
+pub mod Talks
+pub mod Firsts
+pub mod Judging
+pub mod Loops
+pub mod Shaping
+pub mod Placings
+pub mod Defaults
+pub mod Mains
+pub mod Programs
+pub mod Breaking
+pub mod Whole

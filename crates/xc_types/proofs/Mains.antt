@@ -1,0 +1,97 @@
+-- The statements of main's block, one at a time.
+use Rattle.std.proofs.Common.{◌≡◌, ℕ, ◌+◌, ◌<◌, ◌≤◌, suc, zero, Bool, true, false, ◌&&◌, ◌||◌, if◌then◌else◌, nat_eq, List, [], ◌∷◌, length, drop, get_or, slice_get, map, Option, Some, None, refl, sym, ap, subst, ◌∙◌, add-one, arith}
+use Rattle.std.proofs.Math.Seq.{drop-cons}
+use Rattle.std.proofs.lemmas.Bool.Decides.{nat_tests}
+use Rattle.std.proofs.lemmas.List.{drop_all}
+use Rattle.xc_tree.specs.declared.tree.Branch.{Branch}
+use Rattle.xc_tree.specs.declared.tree.Declared.{Declared}
+use Rattle.xc_tree.specs.declared.tree.Stmt.{Stmt}
+use Rattle.xc_tree.specs.Plain as plain
+use Rattle.xc_tree.specs.Shapes.Main.{place_branches, has_placed, is_placed, is_channels_par_return, is_return_at_most, are_channels, is_channel_kind}
+use Rattle.xc_tree.specs.Trees.{statement_of, branch_of, declaration_of}
+use Rattle.xc_tree.proofs.Forms.{forms}
+use Rattle.xc_types.specs.declared.main_function.Part.{Part}
+use Rattle.xc_types.specs.declared.main_function.Part.TheVariants.{Channels, Par, Other}
+use Rattle.xc_types.specs.Mains.{part_of, statement_places}
+
+drop_item : {A : Type 0} (xs : List A) (i : ℕ) (x : A) → x ≡ get_or xs i x → i < length xs → drop i xs ≡ x ∷ drop (i + 1) xs
+drop_item xs i x e h = rw (add-one, drop-cons xs i x) (ap (λ y. y ∷ drop (suc i) xs) (sym e))
+
+place_first : (s : plain.Statement) (ss : plain.Statements) → place_branches (plain.more s ss) ≡ (statement_places s || place_branches ss)
+place_first (plain.statement a p c own) ss = refl
+
+pub next_places : (xs : List Stmt) (i : ℕ) (x : Stmt) → x ≡ get_or xs i x → i < length xs → place_branches (plain.statements (map statement_of (drop i xs))) ≡ (statement_places (statement_of x) || place_branches (plain.statements (map statement_of (drop (i + 1) xs))))
+next_places xs i x e h = rw (drop_item xs i x e h) (place_first (statement_of x) (plain.statements (map statement_of (drop (i + 1) xs))))
+
+pub no_place : (xs : List Stmt) (i : ℕ) → length xs ≤ i → place_branches (plain.statements (map statement_of (drop i xs))) ≡ false
+no_place xs i h = rw (drop_all i xs h) refl
+
+pub next_placed : (xs : List Branch) (i : ℕ) (x : Branch) → x ≡ get_or xs i x → i < length xs → has_placed (plain.branches (map branch_of (drop i xs))) ≡ (is_placed (branch_of x) || has_placed (plain.branches (map branch_of (drop (i + 1) xs))))
+next_placed xs i x e h = rw (drop_item xs i x e h) refl
+
+pub none_placed : (xs : List Branch) (i : ℕ) → length xs ≤ i → has_placed (plain.branches (map branch_of (drop i xs))) ≡ false
+none_placed xs i h = rw (drop_all i xs h) refl
+
+pub next_channels : (xs : List Declared) (i : ℕ) (x : Declared) → x ≡ get_or xs i x → i < length xs → are_channels (map declaration_of (drop i xs)) ≡ (is_channel_kind (declaration_of x).kind && are_channels (map declaration_of (drop (i + 1) xs)))
+next_channels xs i x e h = rw (drop_item xs i x e h) refl
+
+pub none_declared : (xs : List Declared) (i : ℕ) → length xs ≤ i → are_channels (map declaration_of (drop i xs)) ≡ true
+none_declared xs i h = rw (drop_all i xs h) refl
+
+-- whether statements are of the form, by what the first is, and the others
+abbrev pub by_part : Part → plain.Statements → Bool
+by_part Channels ss = is_channels_par_return ss
+by_part Par ss = is_return_at_most ss
+by_part Other ss = false
+
+first_part : (s : plain.Statement) (ss : plain.Statements) → is_channels_par_return (plain.more s ss) ≡ by_part (part_of s) ss
+first_part (plain.statement a p c own) ss = by a
+  where
+    declared : (t : Bool) → (t && is_channels_par_return ss) ≡ by_part (if t then Channels else Other) ss
+    declared true = refl
+    declared false = refl
+
+    by : (b : plain.Action) → is_channels_par_return (plain.more (plain.statement b p c own) ss) ≡ by_part (part_of (plain.statement b p c own)) ss
+    by (plain.declare ds) = declared (are_channels ds)
+    by (plain.par bs) = refl
+    by (plain.replicated x y z from until body) = refl
+    by _ = refl
+
+pub next_form : (xs : List Stmt) (i : ℕ) (x : Stmt) → x ≡ get_or xs i x → i < length xs → is_channels_par_return (plain.statements (map statement_of (drop i xs))) ≡ by_part (part_of (statement_of x)) (plain.statements (map statement_of (drop (i + 1) xs)))
+next_form xs i x e h = ap (λ (ys : List Stmt). is_channels_par_return (plain.statements (map statement_of ys))) (drop_item xs i x e h) ∙ first_part (statement_of x) (plain.statements (map statement_of (drop (i + 1) xs)))
+
+pub no_form : (xs : List Stmt) (i : ℕ) → length xs ≤ i → is_channels_par_return (plain.statements (map statement_of (drop i xs))) ≡ false
+no_form xs i h = rw (drop_all i xs h) refl
+
+two_left : (s t : plain.Statement) (ss : plain.Statements) → is_return_at_most (plain.more s (plain.more t ss)) ≡ false
+two_left (plain.statement a p c own) t ss = by a
+  where
+    by : (b : plain.Action) → is_return_at_most (plain.more (plain.statement b p c own) (plain.more t ss)) ≡ false
+    by (plain.return_with r) = refl
+    by _ = refl
+
+above_one : (n : ℕ) → nat_eq (suc (suc n)) 1 ≡ false
+above_one n = grind (arith, nat_tests)
+
+pub first_left : (xs : List Stmt) (x : Stmt) → slice_get xs 0 ≡ Some x → is_return_at_most (plain.statements (map statement_of xs)) ≡ (nat_eq (length xs) 1 && is_return_at_most (plain.more (statement_of x) plain.no_more))
+first_left [] x e = absurd (clash x e)
+  where
+    clash : (y : Stmt) → None ≡ Some y → ⊥
+    clash y h = cc
+first_left (y ∷ []) x e = ap (λ (z : Stmt). is_return_at_most (plain.more (statement_of z) plain.no_more)) (same y x e)
+  where
+    same : (a b : Stmt) → Some a ≡ Some b → a ≡ b
+    same a b h = cc
+first_left (y ∷ (z ∷ zs)) x e =
+    two_left (statement_of y) (statement_of z) (plain.statements (map statement_of zs)) ∙ sym (ap (λ b. b && is_return_at_most (plain.more (statement_of x) plain.no_more)) (above_one (length zs)))
+
+pub none_left : (xs : List Stmt) → slice_get xs 0 ≡ None → is_return_at_most (plain.statements (map statement_of xs)) ≡ true
+none_left [] e = refl
+none_left (x ∷ xs) e = absurd (clash x e)
+  where
+    clash : (y : Stmt) → Some y ≡ None → ⊥
+    clash y h = cc
+
+pub ruleset mains = (forms, next_places, no_place, next_placed, none_placed, next_channels, none_declared)
+
+pub ruleset parts = (next_form, no_form, first_left, none_left)

@@ -1,0 +1,48 @@
+-- What was seen behind the parts of a communication, by what its name is declared as.
+use Rattle.std.specs.Prelude.{ℕ, Bool, not, nat_eq, slice_get, if◌then◌else◌, Option, Some, None}
+use Rattle.xw_words.specs.declared.pos.Pos.{Pos}
+use Rattle.xc_tree.specs.declared.names.What.{What}
+use Rattle.xc_tree.specs.Plain as plain
+use Rattle.xc_tree.specs.Names.Marks as marks
+use Rattle.xc_tree.specs.Types.Named.{NamedProgram, what_at}
+use Rattle.xc_tree.specs.Types.Entities.{is_channel, is_port, is_timer, gives_input}
+use Rattle.xc_tree.specs.Types.Rules.{timerafter}
+use Rattle.xc_tree.specs.Types.Sites.{of_expression, of_lval, of_target}
+use Rattle.xc_types.specs.declared.seen.Seen.{Seen}
+use Rattle.xc_types.specs.Seen.{saw, one_more_name, with_broken, with_channel}
+
+-- behind an expression, and behind an `lval`
+abbrev pub saw_expression : NamedProgram → plain.Expression → Seen → Seen
+saw_expression n e s = saw s (marks.of_expression e) (of_expression n s.names e)
+
+abbrev pub saw_lval : NamedProgram → plain.Expression → Seen → Seen
+saw_lval n e s = saw s (marks.of_expression e) (of_lval n s.names e)
+
+-- behind the name of an input, which breaks rule 411 where it gives none
+abbrev pub past_input : NamedProgram → Pos → Seen → Seen
+past_input n p s =
+    let declared = slice_get n.uses s.names in
+    let what = what_at n declared in
+    one_more_name (with_channel (is_channel what) declared (with_broken (not (gives_input what)) 411 p s))
+
+-- behind a time and a stamp, which break rule 413 where the name is no port
+abbrev pub with_time : NamedProgram → Bool → Option plain.Timing → Seen → Seen
+with_time n is_port None s = s
+with_time n is_port (Some t) s = saw_expression n t.value (with_broken (not is_port) 413 t.at s)
+
+abbrev pub with_stamp : NamedProgram → Bool → Option plain.Timing → Seen → Seen
+with_stamp n is_port None s = s
+with_stamp n is_port (Some t) s = saw_lval n t.value (with_broken (not is_port) 413 t.at s)
+
+-- whether a condition's test can be asked of something
+abbrev pub can_ask : Option What → ℕ → Bool
+can_ask what test = if nat_eq test timerafter then is_timer what else is_port what
+
+-- behind a condition, which breaks rule 414 where it can't be asked
+abbrev pub with_condition : NamedProgram → Option What → Option plain.Condition → Seen → Seen
+with_condition n what None s = s
+with_condition n what (Some c) s = saw_expression n c.value (with_broken (not (can_ask what c.test)) 414 c.at s)
+
+-- behind where an input goes and its stamp
+abbrev pub with_target_and_stamp : NamedProgram → Bool → plain.Input → Seen → Seen
+with_target_and_stamp n is_port i s = with_stamp n is_port i.stamp (saw s (marks.of_target i.target) (of_target n s.names i.target))

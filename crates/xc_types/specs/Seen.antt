@@ -1,0 +1,78 @@
+-- What a walk has seen of a program: how many names, the types of its nodes, the first of the broken rules, and the channels
+-- that communications name.
+use Rattle.std.specs.Prelude.{ℕ, ◌+◌, Bool, true, false, if◌then◌else◌, List, [], ◌∷◌, ◌++◌, map, slice_set, Option, Some, None}
+use Rattle.xw_words.specs.declared.pos.Pos.{Pos}
+use Rattle.xw_words.specs.declared.pos.Broken.{Broken}
+use Rattle.xc_tree.specs.declared.names.Mark.{Mark}
+use Rattle.xc_tree.specs.Checks.{Rule, rules}
+use Rattle.xc_tree.specs.Least.{first_of}
+use Rattle.xc_tree.specs.Types.Named.{past}
+use Rattle.xc_tree.specs.Types.Sites.{Site, types, communications}
+use Rattle.xc_tree.specs.declared.tree.Id.{Id}
+use Rattle.xc_tree.specs.Types.Rules.{first_that_differs}
+use Rattle.xc_tree.specs.Shapes.Rules.{channels, declared_as_channel}
+use Rattle.xc_types.specs.declared.seen.Seen.{Seen}
+
+abbrev pub broken_at : ℕ → Pos → Broken
+broken_at n p = record { rule = n; pos = p }
+
+-- what a site breaks of these rules
+abbrev pub broken_of : List Rule → Site → List Broken
+broken_of [] s = []
+broken_of (r ∷ rs) s = map (broken_at r.number) (r.broken_at s) ++ broken_of rs s
+
+-- all that these sites break
+abbrev pub all_broken : List Site → List Broken
+all_broken [] = []
+all_broken (s ∷ ss) = broken_of rules s ++ all_broken ss
+
+-- the first of these, or this one
+abbrev pub first_among : Option Broken → List Broken → Option Broken
+first_among b [] = b
+first_among b (x ∷ xs) = first_among (first_of b (Some x)) xs
+
+-- what was seen behind a part of the text that has these marks and these sites
+unfoldable pub saw : Seen → List Mark → List Site → Seen
+saw s ms ss = record s {
+  names = past s.names ms;
+  types = s.types ++ types ss;
+  best = first_among s.best (all_broken ss);
+  channels = s.channels ++ channels (communications ss);
+}
+
+-- with one more name
+unfoldable pub one_more_name : Seen → Seen
+one_more_name s = record s { names = s.names + 1 }
+
+-- with the type of one more node
+unfoldable pub with_type : Bool → Seen → Seen
+with_type u s = record s { types = s.types ++ u ∷ [] }
+
+-- with another type for this node
+unfoldable pub with_type_at : ℕ → Bool → Seen → Seen
+with_type_at i u s = record s { types = slice_set s.types i u }
+
+-- the first of what was broken and of a rule that is broken where this holds
+abbrev pub first_with : Bool → ℕ → Pos → Option Broken → Option Broken
+first_with true n p best = first_of best (Some (broken_at n p))
+first_with false n p best = best
+
+-- with a rule that is broken where this holds
+unfoldable pub with_broken : Bool → ℕ → Pos → Seen → Seen
+with_broken t n p s = record s { best = first_with t n p s.best }
+
+-- with what a communication names, where that is a channel
+unfoldable pub with_channel : Bool → Option ℕ → Seen → Seen
+with_channel b d s = record s { channels = s.channels ++ declared_as_channel b d }
+
+-- with the first of these broken rules
+unfoldable pub with_first : Option Broken → Seen → Seen
+with_first b s = record s { best = first_of s.best b }
+
+-- with one rule that is broken at these places
+unfoldable pub with_broken_at : ℕ → List Pos → Seen → Seen
+with_broken_at n ps s = record s { best = first_among s.best (map (broken_at n) ps) }
+
+-- behind the names at the head of a replicated `par`, where rule 415 is broken at the first that differs
+abbrev pub with_replicated : Id → Id → Id → Seen → Seen
+with_replicated a b c s = one_more_name (one_more_name (one_more_name (with_broken_at 415 (first_that_differs a b c) s)))

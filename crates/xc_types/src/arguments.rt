@@ -1,0 +1,158 @@
+// Which parameters an argument fits.
+ghost use Rattle.std.specs.Option.{option_copied};
+ghost use Rattle.std.specs.Prelude.{◌≡◌, if◌then◌else◌, slice_get};
+ghost use Rattle.xc_tree.specs.Names.Marks as marks;
+ghost use Rattle.xc_tree.specs.Trees.{expression_of};
+ghost use Rattle.xc_tree.specs.Types.Calls as call;
+ghost use Rattle.xc_tree.specs.Types.Entities.{is_variable as is_a_variable};
+ghost use Rattle.xc_tree.specs.Types.Named.{named_of, what_at};
+
+use crate::entities::{
+    declaration_of, is_array_of, is_channel, is_channel_of, is_port_of, is_variable, is_word_of, length_does,
+    length_of, what_of,
+};
+use xc_tree::{Ex, Expr, Named, ParamKind, TreeDir};
+use xw_words::Pos;
+
+/// Whether an argument, before which the text has k names, fits its parameter, where it has one.
+pub fn fits(named: &Named, k: usize, parameter: Option<&ParamKind>, e: &Expr) -> bool
+    ensures { result ≡ call.fits (option_copied parameter.entry) (call.given_by (named_of named.now) k (expression_of e.now)) }
+{
+    match parameter {
+        None => true,
+        Some(ParamKind::Value(_)) => true,
+        Some(ParamKind::Ref(is_unsigned)) => fits_reference(named, k, *is_unsigned, e),
+        Some(ParamKind::Array(is_unsigned, length)) => {
+            fits_array(named, k, *is_unsigned, number_of(length), e)
+        }
+        Some(ParamKind::End(is_streaming)) => fits_end(named, k, *is_streaming, e),
+        Some(ParamKind::Port(dir)) => fits_port(named, k, *dir, e),
+    }
+}
+
+/// A length without the place of its number.
+fn number_of(length: &Option<(u32, Pos)>) -> Option<u32>
+    ensures { result ≡ marks.length_of length.now }
+{
+    match length {
+        None => None,
+        Some((length, _)) => Some(*length),
+    }
+}
+
+#[tactic(auto, using(crate::proofs::Steps::steps))]
+fn fits_reference(named: &Named, k: usize, is_unsigned: bool, e: &Expr) -> bool
+    ensures { result ≡ call.fits_reference is_unsigned (call.given_by (named_of named.now) k (expression_of e.now)) }
+{
+    match &e.kind {
+        Ex::Name(_) => is_word_of(is_unsigned, what_of(named, k)),
+        Ex::Index(_, _) => is_array_of(is_unsigned, what_of(named, k)),
+        Ex::Num(_, _) => false,
+        Ex::Un(_, _) => false,
+        Ex::Bin(_, _, _) => false,
+        Ex::Cond(_, _, _) => false,
+        Ex::Cast(_, _) => false,
+    }
+}
+
+/// What an argument is declared as that is a name alone.
+#[tactic(auto, using(crate::proofs::Steps::steps))]
+fn fits_array(named: &Named, k: usize, is_unsigned: bool, length: Option<u32>, e: &Expr) -> bool
+    ensures { result ≡ call.fits_array is_unsigned length (call.given_by (named_of named.now) k (expression_of e.now)) }
+{
+    match &e.kind {
+        Ex::Name(_) => {
+            let what = what_of(named, k);
+            is_array_of(is_unsigned, what) && length_does(length, length_of(what))
+        }
+        Ex::Index(_, _) => false,
+        Ex::Num(_, _) => false,
+        Ex::Un(_, _) => false,
+        Ex::Bin(_, _, _) => false,
+        Ex::Cond(_, _, _) => false,
+        Ex::Cast(_, _) => false,
+    }
+}
+
+#[tactic(auto, using(crate::proofs::Steps::steps))]
+fn fits_end(named: &Named, k: usize, is_streaming: bool, e: &Expr) -> bool
+    ensures { result ≡ call.fits_end is_streaming (call.given_by (named_of named.now) k (expression_of e.now)) }
+{
+    match &e.kind {
+        Ex::Name(_) => is_channel_of(is_streaming, what_of(named, k)),
+        Ex::Index(_, _) => false,
+        Ex::Num(_, _) => false,
+        Ex::Un(_, _) => false,
+        Ex::Bin(_, _, _) => false,
+        Ex::Cond(_, _, _) => false,
+        Ex::Cast(_, _) => false,
+    }
+}
+
+#[tactic(auto, using(crate::proofs::Steps::steps))]
+fn fits_port(named: &Named, k: usize, dir: TreeDir, e: &Expr) -> bool
+    ensures { result ≡ call.fits_port dir (call.given_by (named_of named.now) k (expression_of e.now)) }
+{
+    match &e.kind {
+        Ex::Name(_) => is_port_of(dir, what_of(named, k)),
+        Ex::Index(_, _) => false,
+        Ex::Num(_, _) => false,
+        Ex::Un(_, _) => false,
+        Ex::Bin(_, _, _) => false,
+        Ex::Cond(_, _, _) => false,
+        Ex::Cast(_, _) => false,
+    }
+}
+
+/// Whether an argument, before which the text has k names, is a channel.
+#[tactic(auto, using(crate::proofs::Steps::steps))]
+pub fn is_channel_given(named: &Named, k: usize, e: &Expr) -> bool
+    ensures { result ≡ call.is_channel_given (call.given_by (named_of named.now) k (expression_of e.now)) }
+{
+    match &e.kind {
+        Ex::Name(_) => is_channel(what_of(named, k)),
+        Ex::Index(_, _) => false,
+        Ex::Num(_, _) => false,
+        Ex::Un(_, _) => false,
+        Ex::Bin(_, _, _) => false,
+        Ex::Cond(_, _, _) => false,
+        Ex::Cast(_, _) => false,
+    }
+}
+
+/// The variable that a call may change through an argument: for an `&` or array parameter the one that is given by itself or
+/// by an element.
+pub fn referred(named: &Named, k: usize, parameter: Option<&ParamKind>, e: &Expr) -> Option<u32>
+    ensures { result ≡ call.referred (record { first = e.now.pos; parameter = option_copied parameter.entry; given = call.given_by (named_of named.now) k (expression_of e.now) }) }
+{
+    match parameter {
+        Some(ParamKind::Ref(_) | ParamKind::Array(_, _)) => variable_of(named, k, e),
+        _ => None,
+    }
+}
+
+#[tactic(auto, using(crate::proofs::Steps::steps))]
+fn variable_of(named: &Named, k: usize, e: &Expr) -> Option<u32>
+    ensures { result ≡ call.variable_of (call.given_by (named_of named.now) k (expression_of e.now)) }
+{
+    match &e.kind {
+        Ex::Name(_) => declared_variable(named, k),
+        Ex::Index(_, _) => declared_variable(named, k),
+        Ex::Num(_, _) => None,
+        Ex::Un(_, _) => None,
+        Ex::Bin(_, _, _) => None,
+        Ex::Cond(_, _, _) => None,
+        Ex::Cast(_, _) => None,
+    }
+}
+
+/// The declaration of the name before which k others stand, if it is a variable.
+fn declared_variable(named: &Named, k: usize) -> Option<u32>
+    ensures { result ≡ (if is_a_variable (what_at (named_of named.now) (slice_get named.now.uses k)) then slice_get named.now.uses k else None) }
+{
+    if is_variable(what_of(named, k)) {
+        declaration_of(named, k)
+    } else {
+        None
+    }
+}

@@ -1,0 +1,94 @@
+ghost use Rattle.std.specs.Prelude.{◌≡◌, ◌&&◌, not, is_some, drop, map, bytes_eq, OnOk};
+ghost use Rattle.xc_tree.specs.Plain as plain;
+ghost use Rattle.xc_tree.specs.Shapes.Around.{in_par_or_transaction as par_or_transaction};
+ghost use Rattle.xc_tree.specs.Shapes.Rules.{are_all as all, are_one as one, defaults as defaults_of};
+ghost use Rattle.xc_tree.specs.Trees.{case_of};
+ghost use Rattle.xc_tree.specs.Types.Entities.{agree};
+ghost use Rattle.xc_types.specs.Around.{around_of};
+ghost use Rattle.xc_types.specs.Seen.{with_broken, with_broken_at, with_replicated};
+
+use crate::around::{Around, function_around, in_par_or_transaction};
+use crate::seen::Seen;
+use xc_tree::{Case, Id};
+use xw_words::{Memory, Pos};
+
+/// Checks a `return`, whose word stands at this place: rules 408 and 502.
+pub fn returns(seen: &mut Seen, around: &Around, has_value: bool, pos: Pos)
+    ensures { seen.new ≡ with_broken (par_or_transaction (around_of around.now).holders) 502 pos (with_broken (not (agree has_value (is_some (around_of around.now).function.result))) 408 pos seen.old) }
+{
+    let gives_word = function_around(around).result.is_some();
+    seen.breaks_where(has_value != gives_word, 408, pos);
+    seen.breaks_where(in_par_or_transaction(around), 502, pos);
+}
+
+/// Checks the names at the head of a replicated `par`: rule 415.
+#[tactic(auto, using(crate::proofs::Shaping::replicating))]
+pub fn begin_replicated(
+    seen: &mut Seen,
+    first: &Id,
+    second: &Id,
+    third: &Id,
+) -> Result<(), Memory>
+    ensures { OnOk result (seen.new ≡ with_replicated first.now second.now third.now seen.old) }
+{
+    let second_is_same = is_same(first, second);
+    let third_differs = !is_same(first, third);
+    seen.breaks_where(!second_is_same, 415, second.pos);
+    seen.breaks_where(both(second_is_same, third_differs), 415, third.pos);
+    seen.pass()?;
+    seen.pass()?;
+    seen.pass()
+}
+
+/// Whether two names are spelled in one way.
+fn is_same(a: &Id, b: &Id) -> bool
+    ensures { result ≡ bytes_eq a.now.text b.now.text }
+{
+    a.text.as_slice() == b.text.as_slice()
+}
+
+/// Both of two facts.
+pub fn both(a: bool, b: bool) -> bool
+    ensures { result ≡ (a && b) }
+{
+    a && b
+}
+
+/// Checks that a select has at most one `default`: rule 507.
+#[tactic(auto, using(crate::proofs::Defaults::one_by_one))]
+pub fn defaults(seen: &mut Seen, cs: &[Case])
+    ensures { seen.new ≡ with_broken_at 507 (drop 1 (defaults_of (plain.cases (map case_of cs.now)))) seen.old }
+{
+    let mut has_default = false;
+    for c in cs {
+        match &c.head {
+            None => {
+                seen.breaks_where(has_default, 507, c.pos);
+                has_default = true;
+            }
+            Some(_) => {}
+        }
+    }
+}
+
+/// Whether these are one channel, however often.
+pub fn are_one(channels: &[u32]) -> bool
+    ensures { result ≡ one channels.now }
+{
+    match channels.get(0) {
+        None => false,
+        Some(first) => are_all(*first, channels),
+    }
+}
+
+/// Whether these are all this one.
+fn are_all(first: u32, channels: &[u32]) -> bool
+    ensures { result ≡ all first channels.now }
+{
+    for channel in channels {
+        if first != *channel {
+            return false;
+        }
+    }
+    true
+}
