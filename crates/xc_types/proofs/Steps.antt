@@ -18,7 +18,7 @@ use Rattle.xc_types.proofs.Joins.{one, saw_join, saw_names, saw_nothing}
 
 -- what is broken at a site, where the other rules that the site may break are these
 pub first_here : (best : Option Broken) (t : Bool) (n : ℕ) (p : Pos) (others rest : List Broken) →
-  first_among best ((map (broken_at n) (broken_where t p) ++ others) ++ rest) ≡ first_among (first_with t n p best) (others ++ rest)
+    first_among best ((map (broken_at n) (broken_where t p) ++ others) ++ rest) ≡ first_among (first_with t n p best) (others ++ rest)
 first_here best true n p others rest = refl
 first_here best false n p others rest = refl
 

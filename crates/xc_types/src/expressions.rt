@@ -16,7 +16,9 @@ pub fn gives_unsigned(symbol: u8, first: bool, second: bool) -> bool
     ensures { result ≡ gives symbol first second }
 {
     match symbol {
+        // The tests: `!`, `<`, `>`, and from `==` to `||`.
         14 | 20 | 21 | 27..=32 => false,
+        // `<<` and `>>`.
         33 | 34 => first,
         _ => first || second,
     }

@@ -25,5 +25,5 @@ transaction-returns t c =
     ∙ ap (λ (b : Bool). with_broken (not b) 505 c.args.pos seen) c.names_one_channel-names_one.ensures
     ∙ ap (λ (k : ℕ). with_broken (not (are_one (drop k seen.channels))) 505 c.args.pos seen) c.len-begin.ensures
     ∙ whole_transaction (named_of c.args.named.now) c.args.seen.now around _ ss c.args.pos c.breaks_where.new.self seen (around-Inside _ _)
-      (c.breaks_where.ensures ∙ ap (λ (b : Bool). with_broken b 506 c.args.pos c.args.seen.now) c.in_transaction.ensures)
-      c.in_ok-statements.ensures
+    (c.breaks_where.ensures ∙ ap (λ (b : Bool). with_broken b 506 c.args.pos c.args.seen.now) c.in_transaction.ensures)
+    c.in_ok-statements.ensures
