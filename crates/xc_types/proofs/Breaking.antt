@@ -1,9 +1,9 @@
 -- The first of all that the sites of a program break is the first rule that the program breaks.
-use Rattle.std.proofs.Common.{◌≡◌, ℕ, ◌<◌, ◌⊎◌, inl, inr, zero, suc, List, [], ◌∷◌, ◌++◌, length, map, slice_index_or, Option, Some, None, refl, sym, ap, subst, ◌∙◌, arith}
+use Rattle.std.proofs.Common.{◌≡◌, ℕ, ◌<◌, ◌⊎◌, inl, inr, zero, suc, List, [], ◌∷◌, ◌++◌, length, map, slice_index_or, Some, None, refl, sym, ap, subst, arith}
 use Rattle.std.specs.Prelude.{Contains}
 use Rattle.xw_words.specs.declared.pos.Pos.{Pos}
 use Rattle.xw_words.specs.declared.pos.Broken.{Broken}
-use Rattle.xc_tree.specs.Checks.{Rule, rules, Breaks, BreaksRule}
+use Rattle.xc_tree.specs.Checks.{Rule, rules, Breaks}
 use Rattle.xc_tree.specs.Least.{IsLeastOf}
 use Rattle.xc_tree.specs.Types.Named.{NamedProgram}
 use Rattle.xc_tree.specs.Types.Sites.{Site, sites}

@@ -3,7 +3,7 @@ use Rattle.std.proofs.Common.{◌≡◌, ℕ, ◌+◌, Bool, List, [], ◌∷◌
 use Rattle.xw_words.specs.declared.pos.Broken.{Broken}
 use Rattle.xc_tree.specs.declared.names.Mark.{Mark}
 use Rattle.xc_tree.specs.declared.names.Mark.TheVariants.{Opens, Closes, Declares, Uses, Calls}
-use Rattle.xc_tree.specs.Checks.{Rule, rules}
+use Rattle.xc_tree.specs.Checks.{rules}
 use Rattle.xc_tree.specs.Least.{first_of}
 use Rattle.xc_tree.specs.Types.Named.{Name, past}
 use Rattle.xc_tree.specs.Types.Sites.{Site, types, type_of, communications, named_by}

@@ -1,8 +1,7 @@
 -- What is said of the arguments of a call together, and a call by it.
-use Rattle.std.proofs.Common.{◌≡◌, ℕ, ◌+◌, ◌<◌, ◌≤◌, Bool, true, false, not, ◌&&◌, ◌||◌, nat_eq, is_some, List, [], ◌∷◌, ◌++◌, length, suc, zero, map, drop, get_or, slice_get, option_map, Option, Some, None, refl, sym, ap, subst, ◌∙◌, add-one}
+use Rattle.std.proofs.Common.{◌≡◌, ℕ, ◌+◌, ◌<◌, ◌≤◌, Bool, true, false, not, ◌&&◌, ◌||◌, nat_eq, is_some, List, [], ◌∷◌, ◌++◌, length, suc, zero, map, drop, get_or, slice_get, option_map, Option, Some, None, refl, sym, ap, ◌∙◌, add-one}
 use Rattle.xw_words.specs.declared.pos.Pos.{Pos}
 use Rattle.xw_words.specs.declared.pos.Broken.{Broken}
-use Rattle.std.proofs.Math.Seq.{drop-cons}
 use Rattle.std.proofs.lemmas.List.{drop_all, length-map}
 use Rattle.xc_tree.specs.declared.tree.Arg.{Arg}
 use Rattle.xc_tree.specs.declared.tree.FuncItem.{FuncItem}

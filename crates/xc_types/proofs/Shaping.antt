@@ -1,5 +1,5 @@
 -- How what was seen grows by statements.
-use Rattle.std.proofs.Common.{◌≡◌, ℕ, ◌+◌, ◌≤◌, Bool, true, false, not, ◌&&◌, if◌then◌else◌, is_some, bytes_eq, List, [], ◌∷◌, ◌++◌, length, drop, map, option_map, Option, Some, None, refl, sym, ap, subst, ◌∙◌, append-nil, append_assoc, length-append, arith}
+use Rattle.std.proofs.Common.{◌≡◌, ℕ, ◌+◌, ◌≤◌, Bool, true, false, not, ◌&&◌, if◌then◌else◌, is_some, List, [], ◌∷◌, ◌++◌, length, drop, map, option_map, Option, Some, None, refl, sym, ap, ◌∙◌, append-nil, length-append, arith}
 use Rattle.std.proofs.Transfers.{drop-appended}
 use Rattle.xw_words.specs.declared.pos.Pos.{Pos}
 use Rattle.xw_words.specs.declared.pos.Broken.{Broken}
@@ -7,15 +7,14 @@ use Rattle.xc_tree.specs.declared.tree.Id.{Id}
 use Rattle.xc_tree.specs.declared.tree.Rhs.{Rhs}
 use Rattle.xc_tree.specs.declared.names.Decl.{Decl}
 use Rattle.xc_tree.specs.declared.names.Mark.{Mark}
-use Rattle.xc_tree.specs.declared.names.Mark.TheVariants.{Opens, Closes, Declares, Uses, Calls}
-use Rattle.xc_tree.specs.Least.{first_of}
+use Rattle.xc_tree.specs.declared.names.Mark.TheVariants.{Opens, Closes, Declares, Uses}
 use Rattle.xc_tree.specs.Names.Marks as marks
 use Rattle.xc_tree.specs.Plain as plain
 use Rattle.xc_tree.specs.Shapes.Around.{Around, inside, a_transaction, has_way_out, has_next_turn, in_transaction, in_par_or_transaction}
 use Rattle.xc_tree.specs.Shapes.Rules.{are_one, channels, defaults}
 use Rattle.xc_tree.specs.Trees.{right_of}
 use Rattle.xc_tree.specs.Types.Entities.{agree}
-use Rattle.xc_tree.specs.Types.Named.{NamedProgram, Name, past}
+use Rattle.xc_tree.specs.Types.Named.{NamedProgram, Name}
 use Rattle.xc_tree.specs.Types.Rules.{broken_where, broken_unless, first_that_differs}
 use Rattle.xc_tree.specs.Types.Sites.{Site, communications}
 use Rattle.xc_tree.specs.Types.Sites as site
@@ -23,7 +22,7 @@ use Rattle.xc_types.specs.declared.seen.Seen.{Seen}
 use Rattle.xc_types.specs.Seen.{saw, all_broken, first_among, first_with, broken_at, one_more_name, with_broken, with_broken_at, with_replicated}
 use Rattle.xc_types.proofs.Firsts.{first_last}
 use Rattle.xc_types.proofs.Holders.{arounds}
-use Rattle.xc_types.proofs.Joins.{one, past_join, first_join, saw_join, saw_names, saw_nothing}
+use Rattle.xc_types.proofs.Joins.{one, past_join, first_join}
 use Rattle.xc_types.proofs.Steps.{steps, first_here}
 
 pub saw_opens : (s : Seen) (ms : List Mark) (ss : List Site) → saw s (Opens ∷ ms) ss ≡ saw s ms ss

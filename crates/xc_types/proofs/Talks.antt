@@ -1,5 +1,5 @@
 -- How what was seen grows by the parts of a communication.
-use Rattle.std.proofs.Common.{◌≡◌, ℕ, ◌+◌, arith, slice_get, Bool, true, false, not, List, [], ◌∷◌, ◌++◌, Option, Some, None, refl, sym, ◌∙◌, append_assoc}
+use Rattle.std.proofs.Common.{◌≡◌, ℕ, ◌+◌, arith, slice_get, Bool, not, List, [], ◌∷◌, ◌++◌, Option, Some, None, refl, sym, ◌∙◌, append_assoc}
 use Rattle.xc_tree.specs.declared.names.Mark.{Mark}
 use Rattle.xw_words.specs.declared.pos.Pos.{Pos}
 use Rattle.xc_tree.specs.declared.tree.Id.{Id}

@@ -1,7 +1,7 @@
-ghost use Rattle.std.specs.Prelude.{◌≡◌, ◌++◌, ◌||◌, IfOk, OnOk};
+ghost use Rattle.std.specs.Prelude.{◌≡◌, ◌||◌, IfOk, OnOk};
 ghost use Rattle.xc_tree.specs.Names.Marks as marks;
 ghost use Rattle.xc_tree.specs.Trees.{expression_of};
-ghost use Rattle.xc_tree.specs.Types.Named.{named_of, past};
+ghost use Rattle.xc_tree.specs.Types.Named.{named_of};
 ghost use Rattle.xc_tree.specs.Types.Sites as sites;
 ghost use Rattle.xc_tree.specs.Types.Words.{gives_unsigned as gives, is_unsigned};
 ghost use Rattle.xc_types.specs.Seen.{saw};

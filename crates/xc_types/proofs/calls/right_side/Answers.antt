@@ -1,4 +1,4 @@
-use Rattle.std.proofs.Common.{◌≡◌, ℕ, map, option_map, sym, ap, ◌∙◌}
+use Rattle.std.proofs.Common.{ℕ, option_map, sym, ap, ◌∙◌}
 use Rattle.std.specs.Option.{option_copied}
 use Rattle.xc_tree.specs.Trees as tree
 use Rattle.xc_tree.specs.Types.Named.{named_of, function_of}

@@ -1,5 +1,4 @@
-use Rattle.std.proofs.Common.{◌≡◌, ℕ, ◌≤◌, Bool, not, length, drop, map, ap, ◌∙◌, arith}
-use Rattle.xc_tree.specs.Names.Marks as marks
+use Rattle.std.proofs.Common.{ℕ, Bool, not, drop, map, ap, ◌∙◌, arith}
 use Rattle.xc_tree.specs.Plain as plain
 use Rattle.xc_tree.specs.Shapes.Rules.{are_one}
 use Rattle.xc_tree.specs.Trees as tree
