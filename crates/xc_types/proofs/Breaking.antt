@@ -1,15 +1,16 @@
 -- The first of all that the sites of a program break is the first rule that the program breaks.
-use Rattle.std.proofs.Common.{◌≡◌, ℕ, ◌<◌, ◌⊎◌, inl, inr, zero, suc, List, [], ◌∷◌, ◌++◌, length, map, slice_index_or, Option, Some, None, refl, sym, ap, subst, ◌∙◌, arith}
+use Rattle.std.proofs.Common.{◌≡◌, ℕ, ◌<◌, ◌⊎◌, inl, inr, zero, suc, List, [], ◌∷◌, ◌++◌, length, map, slice_index_or, Some, None, refl, sym, ap, subst, arith}
 use Rattle.std.specs.Prelude.{Contains}
 use Rattle.xw_words.specs.declared.pos.Pos.{Pos}
 use Rattle.xw_words.specs.declared.pos.Broken.{Broken}
-use Rattle.xc_tree.specs.Checks.{Rule, rules, Breaks, BreaksRule}
+use Rattle.xc_tree.specs.Checks.{Rule, rules, Breaks}
 use Rattle.xc_tree.specs.Least.{IsLeastOf}
 use Rattle.xc_tree.specs.Types.Named.{NamedProgram}
 use Rattle.xc_tree.specs.Types.Sites.{Site, sites}
 use Rattle.xc_tree.proofs.Leasts.{either, of_same, none_broken}
 use Rattle.xc_types.specs.Seen.{all_broken, broken_at, broken_of, first_among}
 use Rattle.xc_types.proofs.Firsts.{Itself, itself, first_from}
+use Rattle.xc_types.proofs.Lists.{some_same}
 
 -- it is one of these
 abbrev Among : List Broken → Broken → Type 0
@@ -19,9 +20,6 @@ Among (x ∷ xs) b = Itself (Some x) b ⊎ Among xs b
 least_among : (xs : List Broken) → IsLeastOf (Among xs) (first_among None xs)
 least_among [] = none_broken (Among []) (λ b h. h)
 least_among (x ∷ xs) = subst (IsLeastOf (Among (x ∷ xs))) (sym (first_from (Some x) xs)) (either (Itself (Some x)) (Among xs) (Some x) (first_among None xs) (itself (Some x)) (least_among xs))
-
-same : {A : Type 0} (a b : A) → Some a ≡ Some b → a ≡ b
-same a b e = cc
 
 among_front : (xs ys : List Broken) (b : Broken) → Among xs b → Among (xs ++ ys) b
 among_front [] ys b h = absurd h
@@ -59,7 +57,7 @@ first_or_later {A = A} x y xs h = by h.0 h.1 h.2
 
 from_place : (n : ℕ) (ps : List Pos) (b : Broken) → Among (map (broken_at n) ps) b → (n ≡ b.rule) × Contains ps b.pos
 from_place n [] b h = absurd h
-from_place n (p ∷ ps) b (inl e) = let f = same (broken_at n p) b e in (ap (λ (c : Broken). c.rule) f, subst (Contains (p ∷ ps)) (ap (λ (c : Broken). c.pos) f) (has_first p ps))
+from_place n (p ∷ ps) b (inl e) = let f = some_same (broken_at n p) b e in (ap (λ (c : Broken). c.rule) f, subst (Contains (p ∷ ps)) (ap (λ (c : Broken). c.pos) f) (has_first p ps))
 from_place n (p ∷ ps) b (inr h) = let k = from_place n ps b h in (k.0, has_later p b.pos ps k.1)
 
 to_place : (n : ℕ) (ps : List Pos) (b : Broken) → n ≡ b.rule → Contains ps b.pos → Among (map (broken_at n) ps) b

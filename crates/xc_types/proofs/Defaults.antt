@@ -1,6 +1,5 @@
 -- The cases of a select, one at a time, for those that are `default`.
-use Rattle.std.proofs.Common.{◌≡◌, ℕ, ◌+◌, ◌<◌, ◌≤◌, suc, Bool, true, false, List, [], ◌∷◌, length, drop, get_or, map, Option, Some, None, refl, sym, ap, ◌∙◌, add-one}
-use Rattle.std.proofs.Math.Seq.{drop-cons}
+use Rattle.std.proofs.Common.{◌≡◌, ℕ, ◌+◌, ◌<◌, ◌≤◌, Bool, true, false, List, ◌∷◌, length, drop, get_or, map, Some, None, refl, ap, ◌∙◌}
 use Rattle.std.proofs.lemmas.List.{drop_all}
 use Rattle.xw_words.specs.declared.pos.Pos.{Pos}
 use Rattle.xc_tree.specs.declared.tree.Case.{Case, out-Case}
@@ -11,14 +10,12 @@ use Rattle.xc_tree.specs.Trees.{case_of}
 use Rattle.xc_tree.proofs.Forms.{case-Case}
 use Rattle.xc_types.specs.declared.seen.Seen.{Seen}
 use Rattle.xc_types.specs.Seen.{with_broken, with_broken_at}
+use Rattle.xc_types.proofs.Lists.{drop_item}
 
 -- the places of all, or of those behind the first
 abbrev pub behind_first : Bool → List Pos → List Pos
 behind_first true ps = ps
 behind_first false ps = drop 1 ps
-
-drop_item : {A : Type 0} (xs : List A) (i : ℕ) (x : A) → x ≡ get_or xs i x → i < length xs → drop i xs ≡ x ∷ drop (i + 1) xs
-drop_item xs i x e h = rw (add-one, drop-cons xs i x) (ap (λ y. y ∷ drop (suc i) xs) (sym e))
 
 here : (b : Bool) (p : Pos) (ps : List Pos) (s : Seen) → with_broken_at 507 (behind_first b (p ∷ ps)) s ≡ with_broken_at 507 ps (with_broken b 507 p s)
 unfolding with_broken_at with_broken
@@ -35,7 +32,7 @@ module _ (cs : List Case) (i : ℕ) (x : Case) (e : x ≡ get_or cs i x) (l : i 
   pub next_default : (out-Case x).head ≡ None → with_broken_at 507 (behind_first b (defaults (plain.cases (map case_of (drop i cs))))) s ≡ with_broken_at 507 (behind_first true (defaults (plain.cases (map case_of (drop (i + 1) cs))))) (with_broken b 507 (out-Case x).pos s)
   next_default h =
       rw (drop_item cs i x e l)
-        (ap (λ (ps : List Pos). with_broken_at 507 (behind_first b ps) s) (head_none x (plain.cases (map case_of (drop (i + 1) cs))) h) ∙ here b (out-Case x).pos (defaults (plain.cases (map case_of (drop (i + 1) cs)))) s)
+      (ap (λ (ps : List Pos). with_broken_at 507 (behind_first b ps) s) (head_none x (plain.cases (map case_of (drop (i + 1) cs))) h) ∙ here b (out-Case x).pos (defaults (plain.cases (map case_of (drop (i + 1) cs)))) s)
 
   pub next_other : (h : Head) → (out-Case x).head ≡ Some h → with_broken_at 507 (behind_first b (defaults (plain.cases (map case_of (drop i cs))))) s ≡ with_broken_at 507 (behind_first b (defaults (plain.cases (map case_of (drop (i + 1) cs))))) s
   next_other y h = rw (drop_item cs i x e l) (ap (λ (ps : List Pos). with_broken_at 507 (behind_first b ps) s) (head_some x y (plain.cases (map case_of (drop (i + 1) cs))) h))

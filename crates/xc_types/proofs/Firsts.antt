@@ -1,17 +1,12 @@
 -- The first of broken rules doesn't depend on their order.
-use Rattle.std.proofs.Common.{◌≡◌, ℕ, ◌<◌, ◌≤◌, ◌⊎◌, inl, inr, List, [], ◌∷◌, ◌++◌, Option, None, Some, refl, sym, ap, subst, ◌∙◌, arith}
+use Rattle.std.proofs.Common.{◌≡◌, ◌⊎◌, inl, inr, List, [], ◌∷◌, Option, None, Some, refl, sym, ap, subst, ◌∙◌, arith}
 use Rattle.xw_words.specs.declared.pos.Pos.{Pos}
 use Rattle.xw_words.specs.declared.pos.Broken.{Broken}
 use Rattle.xc_tree.specs.Lexes.{IsBefore, IsNotAfter}
 use Rattle.xc_tree.specs.Least.{IsLeastOf, first_of}
 use Rattle.xc_tree.proofs.Leasts.{either, of_same, not_after_self}
 use Rattle.xc_types.specs.Seen.{first_among}
-
-some_same : {A : Type 0} (a b : A) → Some a ≡ Some b → a ≡ b
-some_same a b e = cc
-
-clash : {A : Type 0} (x : A) → None ≡ Some x → ⊥
-clash x e = cc
+use Rattle.xc_types.proofs.Lists.{some_same, none_clash}
 
 same_broken : (a b : Broken) → a.pos ≡ b.pos → a.rule ≡ b.rule → a ≡ b
 same_broken a b e f = λ i. record { rule = f i; pos = e i }
@@ -34,8 +29,8 @@ one_broken_rule a b (inr h) (inr k) = same_broken a b h.0 (let x = h.1 in let y 
 
 pub one_least : (P : Broken → Type 0) (a b : Option Broken) → IsLeastOf P a → IsLeastOf P b → a ≡ b
 one_least P None None p q = refl
-one_least P None (Some b) p q = let l = p.least b (q.among b refl) in absurd (clash l.0 l.1)
-one_least P (Some a) None p q = let l = q.least a (p.among a refl) in absurd (clash l.0 l.1)
+one_least P None (Some b) p q = let l = p.least b (q.among b refl) in absurd (none_clash l.0 l.1)
+one_least P (Some a) None p q = let l = q.least a (p.among a refl) in absurd (none_clash l.0 l.1)
 one_least P (Some a) (Some b) p q =
     let l = p.least b (q.among b refl) in
     let m = q.least a (p.among a refl) in
@@ -71,14 +66,14 @@ right (inr (inr c)) = inr c
 pub first_swapped : (a b : Option Broken) → first_of a b ≡ first_of b a
 first_swapped a b =
     one_least (λ x. Itself a x ⊎ Itself b x) (first_of a b) (first_of b a) (either (Itself a) (Itself b) a b (itself a) (itself b))
-      (of_same (λ x. Itself b x ⊎ Itself a x) (λ x. Itself a x ⊎ Itself b x) (first_of b a) (λ x. swapped) (λ x. swapped) (either (Itself b) (Itself a) b a (itself b) (itself a)))
+    (of_same (λ x. Itself b x ⊎ Itself a x) (λ x. Itself a x ⊎ Itself b x) (first_of b a) (λ x. swapped) (λ x. swapped) (either (Itself b) (Itself a) b a (itself b) (itself a)))
 
 pub first_regrouped : (a b c : Option Broken) → first_of (first_of a b) c ≡ first_of a (first_of b c)
 first_regrouped a b c =
     one_least (λ x. Itself a x ⊎ (Itself b x ⊎ Itself c x)) (first_of (first_of a b) c) (first_of a (first_of b c))
-      (of_same (λ x. (Itself a x ⊎ Itself b x) ⊎ Itself c x) (λ x. Itself a x ⊎ (Itself b x ⊎ Itself c x)) (first_of (first_of a b) c) (λ x. left) (λ x. right)
-        (either (λ x. Itself a x ⊎ Itself b x) (Itself c) (first_of a b) c (either (Itself a) (Itself b) a b (itself a) (itself b)) (itself c)))
-      (either (Itself a) (λ x. Itself b x ⊎ Itself c x) a (first_of b c) (itself a) (either (Itself b) (Itself c) b c (itself b) (itself c)))
+    (of_same (λ x. (Itself a x ⊎ Itself b x) ⊎ Itself c x) (λ x. Itself a x ⊎ (Itself b x ⊎ Itself c x)) (first_of (first_of a b) c) (λ x. left) (λ x. right)
+    (either (λ x. Itself a x ⊎ Itself b x) (Itself c) (first_of a b) c (either (Itself a) (Itself b) a b (itself a) (itself b)) (itself c)))
+    (either (Itself a) (λ x. Itself b x ⊎ Itself c x) a (first_of b c) (itself a) (either (Itself b) (Itself c) b c (itself b) (itself c)))
 
 -- the first of these may be taken last
 pub first_last : (a b : Option Broken) (xs : List Broken) → first_among (first_of a b) xs ≡ first_of (first_among a xs) b

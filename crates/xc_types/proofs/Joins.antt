@@ -3,7 +3,7 @@ use Rattle.std.proofs.Common.{◌≡◌, ℕ, ◌+◌, Bool, List, [], ◌∷◌
 use Rattle.xw_words.specs.declared.pos.Broken.{Broken}
 use Rattle.xc_tree.specs.declared.names.Mark.{Mark}
 use Rattle.xc_tree.specs.declared.names.Mark.TheVariants.{Opens, Closes, Declares, Uses, Calls}
-use Rattle.xc_tree.specs.Checks.{Rule, rules}
+use Rattle.xc_tree.specs.Checks.{rules}
 use Rattle.xc_tree.specs.Least.{first_of}
 use Rattle.xc_tree.specs.Types.Named.{Name, past}
 use Rattle.xc_tree.specs.Types.Sites.{Site, types, type_of, communications, named_by}
@@ -43,7 +43,7 @@ first_join best [] b = refl
 first_join best (x ∷ xs) b = first_join (first_of best (Option.Some x)) xs b
 
 pub one : (s : Seen) (n n2 : ℕ) (t t2 : List Bool) (b b2 : Option Broken) (c c2 : List ℕ) → n ≡ n2 → t ≡ t2 → b ≡ b2 → c ≡ c2 →
-  ◌≡◌ {A = Seen} (record s { names = n; types = t; best = b; channels = c }) (record s { names = n2; types = t2; best = b2; channels = c2 })
+    ◌≡◌ {A = Seen} (record s { names = n; types = t; best = b; channels = c }) (record s { names = n2; types = t2; best = b2; channels = c2 })
 one s n n2 t t2 b b2 c c2 e f g h = λ i. record s { names = e i; types = f i; best = g i; channels = h i }
 
 pub saw_join : (s : Seen) (a b : List Mark) (x y : List Site) → saw s (a ++ b) (x ++ y) ≡ saw (saw s a x) b y

@@ -1,8 +1,7 @@
 -- What is said of the arguments of a call together, and a call by it.
-use Rattle.std.proofs.Common.{◌≡◌, ℕ, ◌+◌, ◌<◌, ◌≤◌, Bool, true, false, not, ◌&&◌, ◌||◌, nat_eq, is_some, List, [], ◌∷◌, ◌++◌, length, suc, zero, map, drop, get_or, slice_get, option_map, Option, Some, None, refl, sym, ap, subst, ◌∙◌, add-one}
+use Rattle.std.proofs.Common.{◌≡◌, ℕ, ◌+◌, ◌<◌, ◌≤◌, Bool, true, false, not, ◌&&◌, ◌||◌, nat_eq, is_some, List, [], ◌∷◌, ◌++◌, length, suc, zero, map, drop, get_or, slice_get, option_map, Option, Some, None, refl, sym, ap, ◌∙◌, add-one}
 use Rattle.xw_words.specs.declared.pos.Pos.{Pos}
 use Rattle.xw_words.specs.declared.pos.Broken.{Broken}
-use Rattle.std.proofs.Math.Seq.{drop-cons}
 use Rattle.std.proofs.lemmas.List.{drop_all, length-map}
 use Rattle.xc_tree.specs.declared.tree.Arg.{Arg}
 use Rattle.xc_tree.specs.declared.tree.FuncItem.{FuncItem}
@@ -30,10 +29,11 @@ use Rattle.xc_types.specs.Seen.{saw, all_broken, first_among, first_with, broken
 use Rattle.xc_types.proofs.Firsts.{first_from, others_first}
 use Rattle.xc_types.proofs.Joins.{one, first_join, saw_join, saw_names, saw_nothing}
 use Rattle.xc_types.proofs.Steps.{saw_call, names_more}
+use Rattle.xc_types.proofs.Lists.{drop_item}
 
 -- one rule that is broken at some of these places
 first_one : (best : Option Broken) (t : Bool) (n : ℕ) (p : Pos) (ps : List Pos) →
-  first_among best (map (broken_at n) (broken_where t p ++ ps)) ≡ first_among (first_with t n p best) (map (broken_at n) ps)
+    first_among best (map (broken_at n) (broken_where t p ++ ps)) ≡ first_among (first_with t n p best) (map (broken_at n) ps)
 first_one best true n p ps = refl
 first_one best false n p ps = refl
 
@@ -93,7 +93,7 @@ number_of n k ps given (Some h) = ap (λ m. nat_eq m (length h.params)) (length_
 
 -- a rule that is broken at one place, and others behind it
 first_step : (best : Option Broken) (t : Bool) (n : ℕ) (p : Pos) (others : List Broken) →
-  first_among best (map (broken_at n) (broken_where t p) ++ others) ≡ first_among (first_with t n p best) others
+    first_among best (map (broken_at n) (broken_where t p) ++ others) ≡ first_among (first_with t n p best) others
 first_step best true n p others = refl
 first_step best false n p others = refl
 
@@ -107,7 +107,7 @@ of_call t4 t5 t7 t6 p m g =
     map (broken_at 404) (broken_where t4 p) ++ (map (broken_at 405) (broken_where t5 p) ++ (map (broken_at 406) m ++ (map (broken_at 407) (broken_where t7 p) ++ (map (broken_at 416) g ++ (map (broken_at 506) (broken_where t6 p) ++ [])))))
 
 broken_by_call : (best : Option Broken) (t4 t5 t7 t6 : Bool) (p : Pos) (m g : List Pos) → first_among best (of_call t4 t5 t7 t6 p m g)
-  ≡ first_with t6 506 p (first_of (first_with t7 407 p (first_of (first_with t5 405 p (first_with t4 404 p best)) (first_among None (map (broken_at 406) m)))) (first_among None (map (broken_at 416) g)))
+    ≡ first_with t6 506 p (first_of (first_with t7 407 p (first_of (first_with t5 405 p (first_with t4 404 p best)) (first_among None (map (broken_at 406) m)))) (first_among None (map (broken_at 416) g)))
 broken_by_call best t4 t5 t7 t6 p m g =
     first_step best t4 404 p _
     ∙ (first_step _ t5 405 p _
@@ -118,21 +118,21 @@ broken_by_call best t4 t5 t7 t6 p m g =
 
 -- a call, behind its arguments
 pub saw_call_site : (s : Seen) (ms : List Mark) (ss : List Site) (around : Around) (x : Name) (meant : Option plain.Head) (given : List Argument) (r : Bool) →
-  saw s ms (site.call around x meant given r ∷ ss)
-  ≡ with_broken (in_transaction around.holders && (judged judged_nothing given).has_channel) 506 x.id.pos
-      (with_first (judged judged_nothing given).again
-      (with_broken (r && not (gives_word meant)) 407 x.id.pos
-      (with_first (judged judged_nothing given).misfit
-      (with_broken (not (has_number meant given)) 405 x.id.pos
-      (with_broken (not (is_some meant)) 404 x.id.pos (saw s ms ss))))))
+    saw s ms (site.call around x meant given r ∷ ss)
+    ≡ with_broken (in_transaction around.holders && (judged judged_nothing given).has_channel) 506 x.id.pos
+    (with_first (judged judged_nothing given).again
+    (with_broken (r && not (gives_word meant)) 407 x.id.pos
+    (with_first (judged judged_nothing given).misfit
+    (with_broken (not (has_number meant given)) 405 x.id.pos
+    (with_broken (not (is_some meant)) 404 x.id.pos (saw s ms ss))))))
 unfolding saw with_broken with_first
 saw_call_site s ms ss around x meant given r =
     let own : List Broken = of_call (not (is_some meant)) (not (has_number meant given)) (r && not (gives_word meant)) (in_transaction around.holders && is_channel_among given) x.id.pos (misfits given) (again [] given) in
     rw (misfit_of judged_nothing given, again_of judged_nothing [] given (record { same = λ v. refl }), channel_of judged_nothing given)
-      (one s _ _ _ _ _ _ _ _ refl refl
-        (first_join s.best own (all_broken ss) ∙ others_first s.best own (all_broken ss)
-        ∙ broken_by_call (first_among s.best (all_broken ss)) (not (is_some meant)) (not (has_number meant given)) (r && not (gives_word meant)) (in_transaction around.holders && is_channel_among given) x.id.pos (misfits given) (again [] given))
-        refl)
+    (one s _ _ _ _ _ _ _ _ refl refl
+    (first_join s.best own (all_broken ss) ∙ others_first s.best own (all_broken ss)
+    ∙ broken_by_call (first_among s.best (all_broken ss)) (not (is_some meant)) (not (has_number meant given)) (r && not (gives_word meant)) (in_transaction around.holders && is_channel_among given) x.id.pos (misfits given) (again [] given))
+    refl)
 
 -- the parameter for an argument, and those for the arguments behind it
 kind_at : (ps : List Param) (i : ℕ) → kind_first (drop i ps) ≡ kind_of ps i
@@ -150,28 +150,25 @@ rest_at ps i = rw add-one (by ps i)
     by (p ∷ ps) zero = refl
     by (p ∷ ps) (suc i) = by ps i
 
-drop_item : {A : Type 0} (xs : List A) (i : ℕ) (x : A) → x ≡ get_or xs i x → i < length xs → drop i xs ≡ x ∷ drop (i + 1) xs
-drop_item xs i x e h = rw (add-one, drop-cons xs i x) (ap (λ y. y ∷ drop (suc i) xs) (sym e))
-
 module _ (n : NamedProgram) (ps : List Param) (args : List Arg) (i : ℕ) (x : Arg) (e : x ≡ get_or args i x) (h : i < length args) (kind : Option ParamKind) (f : kind ≡ kind_of ps i) (s t : Seen) (g : t ≡ saw s (marks.of_expression (expression_of x.value)) (site.of_argument n s.names kind (expression_of x.value))) where
   names_on : t.names ≡ past s.names (marks.of_expression (expression_of x.value))
   names_on = ap (λ (z : Seen). z.names) g ∙ saw_names s (marks.of_expression (expression_of x.value)) (site.of_argument n s.names kind (expression_of x.value))
 
   -- one argument further
   pub argument_seen : saw s (marks.each marks.of_argument (map argument_of (drop i args))) (site.of_arguments n s.names (drop i ps) (map argument_of (drop i args)))
-    ≡ saw t (marks.each marks.of_argument (map argument_of (drop (i + 1) args))) (site.of_arguments n t.names (drop (i + 1) ps) (map argument_of (drop (i + 1) args)))
+      ≡ saw t (marks.each marks.of_argument (map argument_of (drop (i + 1) args))) (site.of_arguments n t.names (drop (i + 1) ps) (map argument_of (drop (i + 1) args)))
   unfolding saw expression_of
   argument_seen =
-    rw (drop_item args i x e h, kind_at ps i, rest_at ps i, sym f, names_on, g)
+      rw (drop_item args i x e h, kind_at ps i, rest_at ps i, sym f, names_on, g)
       (saw_join s (marks.of_expression (expression_of x.value)) _ (site.of_argument n s.names kind (expression_of x.value)) _)
 
   pub argument_judged : (j k : Judged) → k ≡ judged_with j (record { first = x.first; parameter = kind; given = given_by n s.names (expression_of x.value) })
-    → judged j (arguments n s.names (drop i ps) (map argument_of (drop i args))) ≡ judged k (arguments n t.names (drop (i + 1) ps) (map argument_of (drop (i + 1) args)))
+      → judged j (arguments n s.names (drop i ps) (map argument_of (drop i args))) ≡ judged k (arguments n t.names (drop (i + 1) ps) (map argument_of (drop (i + 1) args)))
   argument_judged j k d = rw (drop_item args i x e h, kind_at ps i, rest_at ps i, sym f, names_on, d) refl
 
 -- no argument is left
 pub argument_none : (n : NamedProgram) (ps : List Param) (args : List Arg) (i : ℕ) (s : Seen) → length args ≤ i
-  → saw s (marks.each marks.of_argument (map argument_of (drop i args))) (site.of_arguments n s.names (drop i ps) (map argument_of (drop i args))) ≡ s
+    → saw s (marks.each marks.of_argument (map argument_of (drop i args))) (site.of_arguments n s.names (drop i ps) (map argument_of (drop i args))) ≡ s
 argument_none n ps args i s h = rw (drop_all i args h) (saw_nothing s)
 
 pub ruleset passing = (saw_nothing, argument_seen, argument_judged, argument_none)
@@ -187,11 +184,11 @@ number_is n k ps args meant = number_of n k ps (map argument_of args) meant ∙ 
 
 -- behind a whole call, by what is seen behind its parts
 pub whole_call : (n : NamedProgram) (s : Seen) (around : Around) (r : Bool) (i : Id) (args : List Arg) (called : Option FuncItem) (s1 s2 : Seen) (j : Judged)
-  → option_map head_of called ≡ function_of n (what_at n (slice_get n.uses s.names))
-  → s1 ≡ one_more_name s
-  → s2 ≡ saw s1 (marks.each marks.of_argument (map argument_of args)) (site.of_arguments n s1.names (site.params_of (option_map head_of called)) (map argument_of args))
-  → j ≡ judged judged_nothing (arguments n s1.names (site.params_of (option_map head_of called)) (map argument_of args))
-  → with_call around (option_map head_of called) (length args) j r i.pos s2 ≡ saw s (marks.of_call (record { called = i; arguments = map argument_of args })) (site.of_call n around s.names r (record { called = i; arguments = map argument_of args }))
+    → option_map head_of called ≡ function_of n (what_at n (slice_get n.uses s.names))
+    → s1 ≡ one_more_name s
+    → s2 ≡ saw s1 (marks.each marks.of_argument (map argument_of args)) (site.of_arguments n s1.names (site.params_of (option_map head_of called)) (map argument_of args))
+    → j ≡ judged judged_nothing (arguments n s1.names (site.params_of (option_map head_of called)) (map argument_of args))
+    → with_call around (option_map head_of called) (length args) j r i.pos s2 ≡ saw s (marks.of_call (record { called = i; arguments = map argument_of args })) (site.of_call n around s.names r (record { called = i; arguments = map argument_of args }))
 unfolding saw one_more_name
 whole_call n s around r i args called s1 s2 j m e1 e2 ej =
     let what : Option What = what_at n (slice_get n.uses s.names) in
@@ -201,4 +198,4 @@ whole_call n s around r i args called s1 s2 j m e1 e2 ej =
     let name : Name = record { id = i; declared = slice_get n.uses s.names; what = what } in
     let rest : List Site = site.of_arguments n (s.names + 1) (site.params_of meant) given in
     rw (ej, m, e2, m, e1, names_more s, sym (number_is n (s.names + 1) (site.params_of meant) args meant))
-      (sym (saw_call s i (marks.each marks.of_argument given) (site.call around name meant judged_ones r ∷ rest) ∙ saw_call_site (one_more_name s) (marks.each marks.of_argument given) rest around name meant judged_ones r))
+    (sym (saw_call s i (marks.each marks.of_argument given) (site.call around name meant judged_ones r ∷ rest) ∙ saw_call_site (one_more_name s) (marks.each marks.of_argument given) rest around name meant judged_ones r))

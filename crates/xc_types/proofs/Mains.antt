@@ -1,6 +1,5 @@
 -- The statements of main's block, one at a time.
-use Rattle.std.proofs.Common.{◌≡◌, ℕ, ◌+◌, ◌<◌, ◌≤◌, suc, zero, Bool, true, false, ◌&&◌, ◌||◌, if◌then◌else◌, nat_eq, List, [], ◌∷◌, length, drop, get_or, slice_get, map, Option, Some, None, refl, sym, ap, subst, ◌∙◌, add-one, arith}
-use Rattle.std.proofs.Math.Seq.{drop-cons}
+use Rattle.std.proofs.Common.{◌≡◌, ℕ, ◌+◌, ◌<◌, ◌≤◌, suc, Bool, true, false, ◌&&◌, ◌||◌, if◌then◌else◌, nat_eq, List, [], ◌∷◌, length, drop, get_or, slice_get, map, Some, None, refl, sym, ap, ◌∙◌, arith}
 use Rattle.std.proofs.lemmas.Bool.Decides.{nat_tests}
 use Rattle.std.proofs.lemmas.List.{drop_all}
 use Rattle.xc_tree.specs.declared.tree.Branch.{Branch}
@@ -13,9 +12,7 @@ use Rattle.xc_tree.proofs.Forms.{forms}
 use Rattle.xc_types.specs.declared.main_function.Part.{Part}
 use Rattle.xc_types.specs.declared.main_function.Part.TheVariants.{Channels, Par, Other}
 use Rattle.xc_types.specs.Mains.{part_of, statement_places}
-
-drop_item : {A : Type 0} (xs : List A) (i : ℕ) (x : A) → x ≡ get_or xs i x → i < length xs → drop i xs ≡ x ∷ drop (i + 1) xs
-drop_item xs i x e h = rw (add-one, drop-cons xs i x) (ap (λ y. y ∷ drop (suc i) xs) (sym e))
+use Rattle.xc_types.proofs.Lists.{drop_item, some_same, none_clash}
 
 place_first : (s : plain.Statement) (ss : plain.Statements) → place_branches (plain.more s ss) ≡ (statement_places s || place_branches ss)
 place_first (plain.statement a p c own) ss = refl
@@ -74,23 +71,14 @@ above_one : (n : ℕ) → nat_eq (suc (suc n)) 1 ≡ false
 above_one n = grind (arith, nat_tests)
 
 pub first_left : (xs : List Stmt) (x : Stmt) → slice_get xs 0 ≡ Some x → is_return_at_most (plain.statements (map statement_of xs)) ≡ (nat_eq (length xs) 1 && is_return_at_most (plain.more (statement_of x) plain.no_more))
-first_left [] x e = absurd (clash x e)
-  where
-    clash : (y : Stmt) → None ≡ Some y → ⊥
-    clash y h = cc
-first_left (y ∷ []) x e = ap (λ (z : Stmt). is_return_at_most (plain.more (statement_of z) plain.no_more)) (same y x e)
-  where
-    same : (a b : Stmt) → Some a ≡ Some b → a ≡ b
-    same a b h = cc
+first_left [] x e = absurd (none_clash x e)
+first_left (y ∷ []) x e = ap (λ (z : Stmt). is_return_at_most (plain.more (statement_of z) plain.no_more)) (some_same y x e)
 first_left (y ∷ (z ∷ zs)) x e =
     two_left (statement_of y) (statement_of z) (plain.statements (map statement_of zs)) ∙ sym (ap (λ b. b && is_return_at_most (plain.more (statement_of x) plain.no_more)) (above_one (length zs)))
 
 pub none_left : (xs : List Stmt) → slice_get xs 0 ≡ None → is_return_at_most (plain.statements (map statement_of xs)) ≡ true
 none_left [] e = refl
-none_left (x ∷ xs) e = absurd (clash x e)
-  where
-    clash : (y : Stmt) → Some y ≡ None → ⊥
-    clash y h = cc
+none_left (x ∷ xs) e = absurd (none_clash x (sym e))
 
 pub ruleset mains = (forms, next_places, no_place, next_placed, none_placed, next_channels, none_declared)
 

@@ -1,9 +1,9 @@
 -- How what was seen grows by the places of branches and ports.
-use Rattle.std.proofs.Common.{◌≡◌, ℕ, ◌+◌, ◌-◌, ◌<◌, ◌≤◌, zero, suc, Bool, true, false, not, ◌&&◌, slice_get, List, [], ◌∷◌, ◌++◌, length, refl, sym, ap, subst, ◌∙◌, add-one, length-append, arith}
+use Rattle.std.proofs.Common.{◌≡◌, ℕ, ◌+◌, ◌-◌, ◌<◌, ◌≤◌, suc, true, not, ◌&&◌, slice_get, List, [], ◌∷◌, ◌++◌, length, refl, sym, ap, ◌∙◌, arith}
 use Rattle.xw_words.specs.declared.pos.Pos.{Pos}
 use Rattle.xc_tree.specs.declared.tree.Id.{Id}
 use Rattle.xc_tree.specs.declared.names.Mark.{Mark}
-use Rattle.xc_tree.specs.declared.names.Mark.TheVariants.{Opens, Closes, Declares, Uses, Calls}
+use Rattle.xc_tree.specs.declared.names.Mark.TheVariants.{Uses}
 use Rattle.xc_tree.specs.Names.Marks as marks
 use Rattle.xc_tree.specs.Plain as plain
 use Rattle.xc_tree.specs.Shapes.Around.{Around, directly_in_main}
@@ -61,7 +61,7 @@ saw_place s p xs ms ss =
 
 -- behind a place, by what is seen behind its expression
 pub whole_place : (n : NamedProgram) (s : Seen) (p : plain.Place) (t : Seen) → t ≡ saw s (marks.of_expression p.value) (site.of_expression n s.names p.value)
-  → with_broken (not (is_made_of_these p.value && all_indices n s.names (t.names - s.names))) 508 p.first t ≡ saw s (marks.of_place p) (site.of_place n s.names p)
+    → with_broken (not (is_made_of_these p.value && all_indices n s.names (t.names - s.names))) 508 p.first t ≡ saw s (marks.of_place p) (site.of_place n s.names p)
 whole_place n s p t e =
     ap (λ b. with_broken (not (is_made_of_these p.value && b)) 508 p.first t) same ∙ ap (with_broken (not (has_form_of_place p.value used)) 508 p.first) e ∙ sym (saw_place s p used ms (site.of_expression n s.names p.value))
   where

@@ -37,7 +37,7 @@ same_item s i (plain.function h b) ss = refl
 
 -- one item further, whatever its number
 pub next_of_program : (n : NamedProgram) (xs : List Item) (i : ℕ) (s : Seen) (x : Item) → x ≡ get_or xs i x → i < length xs → (t : Seen) → t ≡ saw s (marks.of_item 0 (item_of x)) (site.of_item n s.names (item_of x))
-  → saw s (marks.of_items i (map item_of (drop i xs))) (site.of_items n i s.names (map item_of (drop i xs))) ≡ saw t (marks.of_items (i + 1) (map item_of (drop (i + 1) xs))) (site.of_items n (i + 1) t.names (map item_of (drop (i + 1) xs)))
+    → saw s (marks.of_items i (map item_of (drop i xs))) (site.of_items n i s.names (map item_of (drop i xs))) ≡ saw t (marks.of_items (i + 1) (map item_of (drop (i + 1) xs))) (site.of_items n (i + 1) t.names (map item_of (drop (i + 1) xs)))
 next_of_program n xs i s x e h t g = next_item n xs i s x e h t (g ∙ same_item s i (item_of x) (site.of_item n s.names (item_of x)))
 
 pub ruleset items = (next_of_program, no_item)

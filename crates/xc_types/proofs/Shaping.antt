@@ -1,5 +1,5 @@
 -- How what was seen grows by statements.
-use Rattle.std.proofs.Common.{◌≡◌, ℕ, ◌+◌, ◌≤◌, Bool, true, false, not, ◌&&◌, if◌then◌else◌, is_some, bytes_eq, List, [], ◌∷◌, ◌++◌, length, drop, map, option_map, Option, Some, None, refl, sym, ap, subst, ◌∙◌, append-nil, append_assoc, length-append, arith}
+use Rattle.std.proofs.Common.{◌≡◌, ℕ, ◌+◌, ◌≤◌, Bool, true, false, not, ◌&&◌, if◌then◌else◌, is_some, List, [], ◌∷◌, ◌++◌, length, drop, map, option_map, Option, Some, None, refl, sym, ap, ◌∙◌, append-nil, length-append, arith}
 use Rattle.std.proofs.Transfers.{drop-appended}
 use Rattle.xw_words.specs.declared.pos.Pos.{Pos}
 use Rattle.xw_words.specs.declared.pos.Broken.{Broken}
@@ -7,15 +7,14 @@ use Rattle.xc_tree.specs.declared.tree.Id.{Id}
 use Rattle.xc_tree.specs.declared.tree.Rhs.{Rhs}
 use Rattle.xc_tree.specs.declared.names.Decl.{Decl}
 use Rattle.xc_tree.specs.declared.names.Mark.{Mark}
-use Rattle.xc_tree.specs.declared.names.Mark.TheVariants.{Opens, Closes, Declares, Uses, Calls}
-use Rattle.xc_tree.specs.Least.{first_of}
+use Rattle.xc_tree.specs.declared.names.Mark.TheVariants.{Opens, Closes, Declares, Uses}
 use Rattle.xc_tree.specs.Names.Marks as marks
 use Rattle.xc_tree.specs.Plain as plain
 use Rattle.xc_tree.specs.Shapes.Around.{Around, inside, a_transaction, has_way_out, has_next_turn, in_transaction, in_par_or_transaction}
 use Rattle.xc_tree.specs.Shapes.Rules.{are_one, channels, defaults}
 use Rattle.xc_tree.specs.Trees.{right_of}
 use Rattle.xc_tree.specs.Types.Entities.{agree}
-use Rattle.xc_tree.specs.Types.Named.{NamedProgram, Name, past}
+use Rattle.xc_tree.specs.Types.Named.{NamedProgram, Name}
 use Rattle.xc_tree.specs.Types.Rules.{broken_where, broken_unless, first_that_differs}
 use Rattle.xc_tree.specs.Types.Sites.{Site, communications}
 use Rattle.xc_tree.specs.Types.Sites as site
@@ -23,7 +22,7 @@ use Rattle.xc_types.specs.declared.seen.Seen.{Seen}
 use Rattle.xc_types.specs.Seen.{saw, all_broken, first_among, first_with, broken_at, one_more_name, with_broken, with_broken_at, with_replicated}
 use Rattle.xc_types.proofs.Firsts.{first_last}
 use Rattle.xc_types.proofs.Holders.{arounds}
-use Rattle.xc_types.proofs.Joins.{one, past_join, first_join, saw_join, saw_names, saw_nothing}
+use Rattle.xc_types.proofs.Joins.{one, past_join, first_join}
 use Rattle.xc_types.proofs.Steps.{steps, first_here}
 
 pub saw_opens : (s : Seen) (ms : List Mark) (ss : List Site) → saw s (Opens ∷ ms) ss ≡ saw s ms ss
@@ -47,26 +46,26 @@ unfolding saw with_broken
 saw_par s around p ms ss = one s _ _ _ _ _ _ _ _ refl refl (first_here s.best (in_transaction around.holders) 506 p [] (all_broken ss)) refl
 
 pub saw_return : (s : Seen) (around : Around) (v : Bool) (p : Pos) (ms : List Mark) (ss : List Site) →
-  saw s ms (site.return around v p ∷ ss) ≡ saw (with_broken (in_par_or_transaction around.holders) 502 p (with_broken (not (agree v (is_some around.function.result))) 408 p s)) ms ss
+    saw s ms (site.return around v p ∷ ss) ≡ saw (with_broken (in_par_or_transaction around.holders) 502 p (with_broken (not (agree v (is_some around.function.result))) 408 p s)) ms ss
 unfolding saw with_broken
 saw_return s around v p ms ss =
     one s _ _ _ _ _ _ _ _ refl refl
-      (first_here s.best (not (agree v (is_some around.function.result))) 408 p (map (broken_at 502) (broken_where (in_par_or_transaction around.holders) p) ++ []) (all_broken ss)
-      ∙ first_here (first_with (not (agree v (is_some around.function.result))) 408 p s.best) (in_par_or_transaction around.holders) 502 p [] (all_broken ss))
-      refl
+    (first_here s.best (not (agree v (is_some around.function.result))) 408 p (map (broken_at 502) (broken_where (in_par_or_transaction around.holders) p) ++ []) (all_broken ss)
+    ∙ first_here (first_with (not (agree v (is_some around.function.result))) 408 p s.best) (in_par_or_transaction around.holders) 502 p [] (all_broken ss))
+    refl
 
 -- one rule that is broken at many places
 many_here : (best : Option Broken) (many rest : List Broken) → first_among best ((many ++ []) ++ rest) ≡ first_among (first_among best many) rest
 many_here best many rest = ap (λ (xs : List Broken). first_among best (xs ++ rest)) (append-nil many) ∙ first_join best many rest
 
 pub saw_select : (s : Seen) (around : Around) (cs : plain.Cases) (p : Pos) (ms : List Mark) (ss : List Site) →
-  saw s ms (site.select around cs p ∷ ss) ≡ saw (with_broken_at 507 (drop 1 (defaults cs)) (with_broken (in_transaction around.holders) 506 p s)) ms ss
+    saw s ms (site.select around cs p ∷ ss) ≡ saw (with_broken_at 507 (drop 1 (defaults cs)) (with_broken (in_transaction around.holders) 506 p s)) ms ss
 unfolding saw with_broken with_broken_at
 saw_select s around cs p ms ss =
     one s _ _ _ _ _ _ _ _ refl refl
-      (first_here s.best (in_transaction around.holders) 506 p (map (broken_at 507) (drop 1 (defaults cs)) ++ []) (all_broken ss)
-      ∙ many_here (first_with (in_transaction around.holders) 506 p s.best) (map (broken_at 507) (drop 1 (defaults cs))) (all_broken ss))
-      refl
+    (first_here s.best (in_transaction around.holders) 506 p (map (broken_at 507) (drop 1 (defaults cs)) ++ []) (all_broken ss)
+    ∙ many_here (first_with (in_transaction around.holders) 506 p s.best) (map (broken_at 507) (drop 1 (defaults cs))) (all_broken ss))
+    refl
 
 pub saw_replicator : (s : Seen) (a b c : Id) (d : Decl) (ms : List Mark) (ss : List Site) → saw s (Declares d ∷ Uses b ∷ Uses c ∷ ms) (site.replicator a b c ∷ ss) ≡ saw (with_replicated a b c s) ms ss
 unfolding saw with_broken_at one_more_name
@@ -90,14 +89,14 @@ late best true n p rest = first_last best (Some (broken_at n p)) rest
 late best false n p rest = refl
 
 saw_transaction : (s : Seen) (around : Around) (xs : List Name) (p : Pos) (ms : List Mark) (ss : List Site) →
-  saw s ms (site.transaction around xs p ∷ ss) ≡ with_broken (not (are_one (channels xs))) 505 p (saw (with_broken (in_transaction around.holders) 506 p s) ms ss)
+    saw s ms (site.transaction around xs p ∷ ss) ≡ with_broken (not (are_one (channels xs))) 505 p (saw (with_broken (in_transaction around.holders) 506 p s) ms ss)
 unfolding saw with_broken
 saw_transaction s around xs p ms ss =
     one s _ _ _ _ _ _ _ _ refl refl
-      (first_here s.best (not (are_one (channels xs))) 505 p (map (broken_at 506) (broken_where (in_transaction around.holders) p) ++ []) (all_broken ss)
-      ∙ first_here (first_with (not (are_one (channels xs))) 505 p s.best) (in_transaction around.holders) 506 p [] (all_broken ss)
-      ∙ turned (not (are_one (channels xs))) (in_transaction around.holders))
-      refl
+    (first_here s.best (not (are_one (channels xs))) 505 p (map (broken_at 506) (broken_where (in_transaction around.holders) p) ++ []) (all_broken ss)
+    ∙ first_here (first_with (not (are_one (channels xs))) 505 p s.best) (in_transaction around.holders) 506 p [] (all_broken ss)
+    ∙ turned (not (are_one (channels xs))) (in_transaction around.holders))
+    refl
   where
     swap : (a b : Bool) → first_with b 506 p (first_with a 505 p s.best) ≡ first_with a 505 p (first_with b 506 p s.best)
     swap true true = first_last s.best (Some (broken_at 505 p)) (broken_at 506 p ∷ [])
@@ -128,14 +127,14 @@ channels_behind s ms ss = drop-appended s.channels (s.channels ++ channels (comm
 
 -- behind a whole transaction, by what is seen behind what it holds
 pub whole_transaction : (n : NamedProgram) (s : Seen) (around : Around) (inner : Around) (ss : plain.Statements) (p : Pos) (r t : Seen) → inner ≡ inside a_transaction around
-  → r ≡ with_broken (in_transaction around.holders) 506 p s → t ≡ saw r (marks.of_statements ss) (site.of_statements n inner r.names ss)
-  → with_broken (not (are_one (drop (length s.channels) t.channels))) 505 p t ≡ saw s (marks.in_scope (marks.of_statements ss)) (site.of_action n around s.names p (plain.transaction true ss))
+    → r ≡ with_broken (in_transaction around.holders) 506 p s → t ≡ saw r (marks.of_statements ss) (site.of_statements n inner r.names ss)
+    → with_broken (not (are_one (drop (length s.channels) t.channels))) 505 p t ≡ saw s (marks.in_scope (marks.of_statements ss)) (site.of_action n around s.names p (plain.transaction true ss))
 unfolding with_broken
 whole_transaction n s around inner ss p r t d e f =
     rw (f, d, e)
-      (ap (λ (cs : List ℕ). with_broken (not (are_one cs)) 505 p (saw s6 ms own)) behind
-      ∙ sym (saw_transaction s around (communications own) p ms own)
-      ∙ sym (saw_opens s (ms ++ Closes ∷ []) (site.transaction around (communications own) p ∷ own) ∙ saw_closes s ms (site.transaction around (communications own) p ∷ own)))
+    (ap (λ (cs : List ℕ). with_broken (not (are_one cs)) 505 p (saw s6 ms own)) behind
+    ∙ sym (saw_transaction s around (communications own) p ms own)
+    ∙ sym (saw_opens s (ms ++ Closes ∷ []) (site.transaction around (communications own) p ∷ own) ∙ saw_closes s ms (site.transaction around (communications own) p ∷ own)))
   where
     ms : List Mark
     ms = marks.of_statements ss

@@ -1,12 +1,12 @@
 -- How what was seen grows by the mark or the site that stands first.
-use Rattle.std.proofs.Common.{◌≡◌, ℕ, ◌+◌, ◌≤◌, Bool, true, false, not, ◌&&◌, nat_le, List, [], ◌∷◌, ◌++◌, length, map, Option, Some, refl, sym, ap, subst, ◌∙◌, append_assoc, append-nil, slice_set, arith, length-append}
+use Rattle.std.proofs.Common.{◌≡◌, ℕ, ◌+◌, ◌≤◌, Bool, true, false, not, ◌&&◌, nat_le, List, [], ◌∷◌, ◌++◌, length, map, Option, refl, sym, ap, subst, ◌∙◌, append_assoc, append-nil, slice_set, arith, length-append}
 use Rattle.xw_words.specs.declared.pos.Pos.{Pos}
 use Rattle.xw_words.specs.declared.pos.Broken.{Broken}
 use Rattle.xc_tree.specs.declared.tree.Id.{Id}
 use Rattle.xc_tree.specs.declared.names.Decl.{Decl}
 use Rattle.xc_tree.specs.declared.names.Mark.{Mark}
-use Rattle.xc_tree.specs.declared.names.Mark.TheVariants.{Opens, Closes, Declares, Uses, Calls}
-use Rattle.xc_tree.specs.Types.Named.{Name, past}
+use Rattle.xc_tree.specs.declared.names.Mark.TheVariants.{Declares, Uses, Calls}
+use Rattle.xc_tree.specs.Types.Named.{Name}
 use Rattle.xc_tree.specs.Types.Entities.{is_word, is_array, is_index}
 use Rattle.xc_tree.specs.Types.Rules.{broken_where}
 use Rattle.xc_tree.specs.Types.Sites.{Site}
@@ -18,7 +18,7 @@ use Rattle.xc_types.proofs.Joins.{one, saw_join, saw_names, saw_nothing}
 
 -- what is broken at a site, where the other rules that the site may break are these
 pub first_here : (best : Option Broken) (t : Bool) (n : ℕ) (p : Pos) (others rest : List Broken) →
-  first_among best ((map (broken_at n) (broken_where t p) ++ others) ++ rest) ≡ first_among (first_with t n p best) (others ++ rest)
+    first_among best ((map (broken_at n) (broken_where t p) ++ others) ++ rest) ≡ first_among (first_with t n p best) (others ++ rest)
 first_here best true n p others rest = refl
 first_here best false n p others rest = refl
 

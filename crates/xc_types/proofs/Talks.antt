@@ -1,5 +1,5 @@
 -- How what was seen grows by the parts of a communication.
-use Rattle.std.proofs.Common.{◌≡◌, ℕ, ◌+◌, arith, slice_get, Bool, true, false, not, List, [], ◌∷◌, ◌++◌, Option, Some, None, refl, sym, ◌∙◌, append_assoc}
+use Rattle.std.proofs.Common.{◌≡◌, ℕ, ◌+◌, arith, slice_get, Bool, not, List, [], ◌∷◌, ◌++◌, Option, Some, None, refl, sym, ◌∙◌, append_assoc}
 use Rattle.xc_tree.specs.declared.names.Mark.{Mark}
 use Rattle.xw_words.specs.declared.pos.Pos.{Pos}
 use Rattle.xc_tree.specs.declared.tree.Id.{Id}
@@ -67,7 +67,7 @@ names_condition n w None s = refl
 names_condition n w (Some t) s = refl
 
 pub saw_target_and_stamp : (n : NamedProgram) (s : Seen) (k : ℕ) (x : Name) (i : plain.Input) → k ≡ s.names →
-  saw s (marks.of_target i.target ++ marks.optional marks.of_timing i.stamp) (site.of_target_and_stamp n k x i) ≡ with_target_and_stamp n (is_port x.what) i s
+    saw s (marks.of_target i.target ++ marks.optional marks.of_timing i.stamp) (site.of_target_and_stamp n k x i) ≡ with_target_and_stamp n (is_port x.what) i s
 saw_target_and_stamp n s k x i e = rw e (saw_join s _ _ _ _ ∙ saw_stamp n _ _ x i.stamp (sym (saw_names s (marks.of_target i.target) _)))
 
 pub saw_input_name : (n : NamedProgram) (s : Seen) (k : ℕ) (i : Id) (ms : List Mark) (ss : List Site) → k ≡ s.names → saw s (Uses i ∷ ms) (site.input (name_at n k i) ∷ ss) ≡ saw (past_input n i.pos s) ms ss
@@ -83,6 +83,6 @@ pub ruleset same_names = (names_broken, names_channel)
 
 -- behind a whole input, by what is seen behind its parts
 pub whole_input : (n : NamedProgram) (s : Seen) (i : plain.Input) (w : Option What) (b : Bool) (s1 s2 s3 : Seen) → w ≡ what_at n (slice_get n.uses s.names) → b ≡ is_port w
-  → s1 ≡ past_input n i.name.pos s → s2 ≡ with_time n b i.time s1 → s3 ≡ with_condition n w i.condition s2
-  → with_target_and_stamp n b i s3 ≡ saw s (marks.of_input i) (site.of_input n s.names i)
+    → s1 ≡ past_input n i.name.pos s → s2 ≡ with_time n b i.time s1 → s3 ≡ with_condition n w i.condition s2
+    → with_target_and_stamp n b i s3 ≡ saw s (marks.of_input i) (site.of_input n s.names i)
 whole_input n s i w b s1 s2 s3 e f g h j = grind (arith, talks)

@@ -46,8 +46,8 @@ kind_of ps i = option_map (λ (p : Param). p.kind) (slice_get ps i)
 abbrev pub with_call : Around → Option plain.Head → (number : ℕ) → Judged → (is_right_side : Bool) → Pos → Seen → Seen
 with_call around meant number j r p s =
     with_broken (in_transaction around.holders && j.has_channel) 506 p
-      (with_first j.again
-      (with_broken (r && not (gives_word meant)) 407 p
-      (with_first j.misfit
-      (with_broken (not (has_number_of meant number)) 405 p
-      (with_broken (not (is_some meant)) 404 p s)))))
+    (with_first j.again
+    (with_broken (r && not (gives_word meant)) 407 p
+    (with_first j.misfit
+    (with_broken (not (has_number_of meant number)) 405 p
+    (with_broken (not (is_some meant)) 404 p s)))))

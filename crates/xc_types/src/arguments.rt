@@ -8,8 +8,8 @@ ghost use Rattle.xc_tree.specs.Types.Entities.{is_variable as is_a_variable};
 ghost use Rattle.xc_tree.specs.Types.Named.{named_of, what_at};
 
 use crate::entities::{
-    declaration_of, is_array_of, is_channel, is_channel_of, is_port_of, is_variable, is_word_of, length_does,
-    length_of, what_of,
+    declaration_of, is_array_of, is_channel, is_channel_of, is_port_of, is_variable, is_word_of,
+    length_does, length_of, what_of,
 };
 use xc_tree::{Ex, Expr, Named, ParamKind, TreeDir};
 use xw_words::Pos;
@@ -55,7 +55,6 @@ fn fits_reference(named: &Named, k: usize, is_unsigned: bool, e: &Expr) -> bool
     }
 }
 
-/// What an argument is declared as that is a name alone.
 #[tactic(auto, using(crate::proofs::Steps::steps))]
 fn fits_array(named: &Named, k: usize, is_unsigned: bool, length: Option<u32>, e: &Expr) -> bool
     ensures { result ≡ call.fits_array is_unsigned length (call.given_by (named_of named.now) k (expression_of e.now)) }

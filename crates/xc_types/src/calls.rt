@@ -52,7 +52,15 @@ pub fn right_side(
             let called = function_of(named, what_of(named, seen.names));
             seen.pass()?;
             let judged = arguments(seen, named, params_of(called), args.as_slice())?;
-            judge_call(seen, around, called, args.len(), &judged, is_right_side, *pos);
+            judge_call(
+                seen,
+                around,
+                called,
+                args.len(),
+                &judged,
+                is_right_side,
+                *pos,
+            );
             Ok(())
         }
     }

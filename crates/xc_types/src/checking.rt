@@ -66,3 +66,5 @@ fn seen_of(alloc: Global, named: &Named) -> Result<Seen, Memory>
     Ok(seen)
 }
 
+#[cfg(test)]
+mod tests;

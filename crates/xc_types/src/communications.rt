@@ -7,7 +7,9 @@ ghost use Rattle.xc_tree.specs.Types.Sites as sites;
 ghost use Rattle.xc_types.specs.Communications.{can_ask, past_input, with_condition, with_stamp, with_target_and_stamp, with_time};
 ghost use Rattle.xc_types.specs.Seen.{saw};
 
-use crate::entities::{declaration_of, gives_input, is_channel, is_port, is_timer, takes_output, what_of};
+use crate::entities::{
+    declaration_of, gives_input, is_channel, is_port, is_timer, takes_output, what_of,
+};
 use crate::lvals::{lval, part};
 use crate::seen::Seen;
 use xc_tree::{Dest, Head, Named, Send, Timed, What, When};

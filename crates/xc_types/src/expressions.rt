@@ -1,7 +1,7 @@
-ghost use Rattle.std.specs.Prelude.{◌≡◌, ◌++◌, ◌||◌, IfOk, OnOk};
+ghost use Rattle.std.specs.Prelude.{◌≡◌, ◌||◌, IfOk, OnOk};
 ghost use Rattle.xc_tree.specs.Names.Marks as marks;
 ghost use Rattle.xc_tree.specs.Trees.{expression_of};
-ghost use Rattle.xc_tree.specs.Types.Named.{named_of, past};
+ghost use Rattle.xc_tree.specs.Types.Named.{named_of};
 ghost use Rattle.xc_tree.specs.Types.Sites as sites;
 ghost use Rattle.xc_tree.specs.Types.Words.{gives_unsigned as gives, is_unsigned};
 ghost use Rattle.xc_types.specs.Seen.{saw};
@@ -16,7 +16,9 @@ pub fn gives_unsigned(symbol: u8, first: bool, second: bool) -> bool
     ensures { result ≡ gives symbol first second }
 {
     match symbol {
+        // The tests: `!`, `<`, `>`, and from `==` to `||`.
         14 | 20 | 21 | 27..=32 => false,
+        // `<<` and `>>`.
         33 | 34 => first,
         _ => first || second,
     }

@@ -23,12 +23,7 @@ pub fn returns(seen: &mut Seen, around: &Around, has_value: bool, pos: Pos)
 
 /// Checks the names at the head of a replicated `par`: rule 415.
 #[tactic(auto, using(crate::proofs::Shaping::replicating))]
-pub fn begin_replicated(
-    seen: &mut Seen,
-    first: &Id,
-    second: &Id,
-    third: &Id,
-) -> Result<(), Memory>
+pub fn begin_replicated(seen: &mut Seen, first: &Id, second: &Id, third: &Id) -> Result<(), Memory>
     ensures { OnOk result (seen.new ≡ with_replicated first.now second.now third.now seen.old) }
 {
     let second_is_same = is_same(first, second);

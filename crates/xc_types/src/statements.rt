@@ -1,7 +1,6 @@
 ghost use Rattle.std.specs.Prelude.{◌≡◌, true, map, OnOk};
 ghost use Rattle.xc_tree.specs.Names.Marks as marks;
 ghost use Rattle.xc_tree.specs.Plain as plain;
-
 ghost use Rattle.xc_tree.specs.Trees as tree;
 ghost use Rattle.xc_tree.specs.Types.Named.{named_of};
 ghost use Rattle.xc_tree.specs.Types.Sites as sites;
@@ -28,7 +27,12 @@ pub fn statement(seen: &mut Seen, named: &Named, s: &Stmt, around: &Around) -> R
     match &s.kind {
         St::Empty => Ok(()),
         St::Block(ss) => {
-            statements(seen, named, ss.as_slice(), &Around::Inside(Holder::Block, &*around))
+            statements(
+                seen,
+                named,
+                ss.as_slice(),
+                &Around::Inside(Holder::Block, &*around),
+            )
         }
         St::Decl(ds) => declarations(seen, named, around, ds.as_slice()),
         St::Assign(left, _, _, rhs) => {
@@ -145,7 +149,12 @@ fn transaction(
 {
     let begin = seen.channels.len();
     seen.breaks_where(in_transaction(around), 506, pos);
-    statements(seen, named, ss, &Around::Inside(Holder::Transaction, &*around))?;
+    statements(
+        seen,
+        named,
+        ss,
+        &Around::Inside(Holder::Transaction, &*around),
+    )?;
     let names_one = seen.names_one_channel(begin);
     seen.breaks_where(!names_one, 505, pos);
     Ok(())
@@ -158,17 +167,17 @@ fn branch(seen: &mut Seen, named: &Named, b: &Branch, around: &Around) -> Result
     ensures { OnOk result (seen.new ≡ saw seen.old (marks.of_branch (tree.branch_of b.now)) (sites.of_branch (named_of named.now) (around_of around.now) seen.old.names (tree.branch_of b.now))) }
 {
     branch_place(seen, named, around, &b.place)?;
-    statement(seen, named, &b.body, &Around::Inside(Holder::Branch, &*around))
+    statement(
+        seen,
+        named,
+        &b.body,
+        &Around::Inside(Holder::Branch, &*around),
+    )
 }
 
 #[cycle(statement)]
 #[tactic(auto, using(crate::proofs::Loops::loops))]
-fn branches(
-    seen: &mut Seen,
-    named: &Named,
-    bs: &[Branch],
-    around: &Around,
-) -> Result<(), Memory>
+fn branches(seen: &mut Seen, named: &Named, bs: &[Branch], around: &Around) -> Result<(), Memory>
     ensures { OnOk result (seen.new ≡ saw seen.old (marks.of_branches (plain.branches (map tree.branch_of bs.now))) (sites.of_branches (named_of named.now) (around_of around.now) seen.old.names (plain.branches (map tree.branch_of bs.now)))) }
 {
     for b in bs {
@@ -185,7 +194,12 @@ fn case(seen: &mut Seen, named: &Named, c: &Case, around: &Around) -> Result<(),
 {
     part_if_any(seen, named, &c.guard)?;
     input_if_any(seen, named, &c.head)?;
-    statements(seen, named, c.body.as_slice(), &Around::Inside(Holder::Case, &*around))
+    statements(
+        seen,
+        named,
+        c.body.as_slice(),
+        &Around::Inside(Holder::Case, &*around),
+    )
 }
 
 #[cycle(statement)]

@@ -9,6 +9,6 @@ use Rattle.xc_types.proofs.communications.input.Goals as goal
 pub returns : goal.returns
 returns c =
     subst (λ (s : Seen). OnOk c.target_and_stamp.result (c.target_and_stamp.new.seen ≡ s))
-      (whole_input (named_of c.args.named.now) c.args.seen.now (tree.input_of c.args.head.now) (option_copied c.what_of-what.result) c.is_port-is_port.result c.input_name.new.seen c.time.new.seen c.condition.new.seen
-        c.what_of-what.ensures c.is_port-is_port.ensures c.in_ok-input_name.ensures c.in_ok-time.ensures c.in_ok-condition.ensures)
-      c.target_and_stamp.ensures
+    (whole_input (named_of c.args.named.now) c.args.seen.now (tree.input_of c.args.head.now) (option_copied c.what_of-what.result) c.is_port-is_port.result c.input_name.new.seen c.time.new.seen c.condition.new.seen
+    c.what_of-what.ensures c.is_port-is_port.ensures c.in_ok-input_name.ensures c.in_ok-time.ensures c.in_ok-condition.ensures)
+    c.target_and_stamp.ensures

@@ -1,4 +1,4 @@
-use Rattle.std.proofs.Common.{◌≡◌, Bool, ◌&&◌, nat_eq, length, sym, ap, ◌∙◌}
+use Rattle.std.proofs.Common.{Bool, ◌&&◌, nat_eq, length, sym, ap, ◌∙◌}
 use Rattle.std.specs.Option.{option_copied}
 use Rattle.xc_types.proofs.Mains.{first_left}
 use Rattle.xc_types.proofs.main_function.is_return_at_most.Goals as goal

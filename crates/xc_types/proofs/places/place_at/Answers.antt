@@ -1,4 +1,4 @@
-use Rattle.std.proofs.Common.{◌≡◌, Bool, not, ap, ◌∙◌}
+use Rattle.std.proofs.Common.{Bool, not, ap, ◌∙◌}
 use Rattle.xc_tree.specs.Trees as tree
 use Rattle.xc_tree.specs.Types.Named.{named_of}
 use Rattle.xc_types.specs.Seen.{with_broken}

@@ -1,5 +1,4 @@
-use Rattle.std.proofs.Common.{◌≡◌, ℕ, ◌≤◌, Bool, not, length, drop, map, ap, ◌∙◌, arith}
-use Rattle.xc_tree.specs.Names.Marks as marks
+use Rattle.std.proofs.Common.{ℕ, Bool, not, drop, map, ap, ◌∙◌, arith}
 use Rattle.xc_tree.specs.Plain as plain
 use Rattle.xc_tree.specs.Shapes.Rules.{are_one}
 use Rattle.xc_tree.specs.Trees as tree
@@ -25,5 +24,5 @@ transaction-returns t c =
     ∙ ap (λ (b : Bool). with_broken (not b) 505 c.args.pos seen) c.names_one_channel-names_one.ensures
     ∙ ap (λ (k : ℕ). with_broken (not (are_one (drop k seen.channels))) 505 c.args.pos seen) c.len-begin.ensures
     ∙ whole_transaction (named_of c.args.named.now) c.args.seen.now around _ ss c.args.pos c.breaks_where.new.self seen (around-Inside _ _)
-      (c.breaks_where.ensures ∙ ap (λ (b : Bool). with_broken b 506 c.args.pos c.args.seen.now) c.in_transaction.ensures)
-      c.in_ok-statements.ensures
+    (c.breaks_where.ensures ∙ ap (λ (b : Bool). with_broken b 506 c.args.pos c.args.seen.now) c.in_transaction.ensures)
+    c.in_ok-statements.ensures

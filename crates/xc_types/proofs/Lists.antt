@@ -1,0 +1,12 @@
+-- Items of lists and of options.
+use Rattle.std.proofs.Common.{◌≡◌, ℕ, ◌+◌, ◌<◌, suc, List, ◌∷◌, length, drop, get_or, Some, None, sym, ap, add-one}
+use Rattle.std.proofs.Math.Seq.{drop-cons}
+
+pub drop_item : {A : Type 0} (xs : List A) (i : ℕ) (x : A) → x ≡ get_or xs i x → i < length xs → drop i xs ≡ x ∷ drop (i + 1) xs
+drop_item xs i x e h = rw (add-one, drop-cons xs i x) (ap (λ y. y ∷ drop (suc i) xs) (sym e))
+
+pub some_same : {A : Type 0} (a b : A) → Some a ≡ Some b → a ≡ b
+some_same a b e = cc
+
+pub none_clash : {A : Type 0} (x : A) → None ≡ Some x → ⊥
+none_clash x e = cc
