@@ -74,7 +74,7 @@ fn types(alloc: Global, text: &str) -> Result<String, AllocError> {
 }
 
 /// Texts that break each rule, in other places of the grammar, and their neighbours that break none.
-const RULES: [(&str, &str); 102] = [
+const RULES: [(&str, &str); 106] = [
     ("void main(void) { int a[2]; int x; x = a; }", "401 at 1:40"),
     (
         "port p = XS1_PORT_1A; void f(void) { } void main(void) { chan c; timer t; int x; x = c + t * p - f; }",
@@ -438,6 +438,22 @@ const RULES: [(&str, &str); 102] = [
         "void main(void) { par { on tile[1 << 1]: ; } }",
         "508 at 1:33",
     ),
+    (
+        "void main(void) { chan c; select { case c :> void: if (1) break; break; } }",
+        "ok",
+    ),
+    (
+        "void main(void) { chan c; int a[2]; int x; select { case a => c :> x: break; } }",
+        "401 at 1:58",
+    ),
+    (
+        "port p = XS1_PORT_1A; void main(void) { int a[2]; p when pinseq(a) :> void; }",
+        "401 at 1:65",
+    ),
+    (
+        "port p = XS1_PORT_1A; void main(void) { int a[2]; p @ a <: 1; }",
+        "401 at 1:55",
+    ),
 ];
 
 #[test]
@@ -450,7 +466,7 @@ fn names_the_first_broken_rule(rt: HostRuntime) -> Result<(), Fail> {
 }
 
 /// Texts that break two rules: at one place, and in both orders of place.
-const PAIRS: [(&str, &str); 15] = [
+const PAIRS: [(&str, &str); 16] = [
     (
         "port n = XS1_PORT_1B; on tile[n]: port p = XS1_PORT_1A; void main(void) { }",
         "401 at 1:31",
@@ -499,6 +515,10 @@ const PAIRS: [(&str, &str); 15] = [
     ),
     ("void main(void) { break; return 1; }", "501 at 1:19"),
     ("void main(void) { return 1; break; }", "408 at 1:19"),
+    (
+        "void f(int x) { } void main(void) { chan c; master { c <: 1; f(c); } }",
+        "506 at 1:62",
+    ),
 ];
 
 #[test]
@@ -511,7 +531,7 @@ fn of_two_rules_names_the_first(rt: HostRuntime) -> Result<(), Fail> {
 }
 
 /// Texts with the types of their nodes.
-const TYPES: [(&str, &str); 12] = [
+const TYPES: [(&str, &str); 13] = [
     (
         "unsigned f(unsigned u, int x) { return u + x - (u < x) << u; } void main(void) { }",
         "uuiuuiiuu",
@@ -525,6 +545,7 @@ const TYPES: [(&str, &str); 12] = [
     ("void main(void) { int x; unsigned u; x = u >> x; }", "iuui"),
     ("void main(void) { int x; unsigned u; x = u == u; }", "iuiu"),
     ("void main(void) { int x; unsigned u; x = !u; }", "iiu"),
+    ("void main(void) { int x; unsigned u; x = u || u; }", "iuiu"),
     ("void main(void) { int x; unsigned u; x = -u; }", "iuu"),
     (
         "void main(void) { int x; unsigned u; x = 1 ? x : u; }",
