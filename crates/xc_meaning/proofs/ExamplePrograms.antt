@@ -1,7 +1,7 @@
 -- Small programs as trees: each is written in the comment above it.
 use Rattle.std.specs.Prelude.{true, false, List, [], ◌∷◌, Some, None, codes}
 use Rattle.xc_tree.specs.declared.tree.TreeDir.TheVariants.{In, Out}
-use Rattle.xc_tree.specs.declared.tree.ParamKind.TheVariants.{Value, Ref, Array, End}
+use Rattle.xc_tree.specs.declared.tree.ParamKind.TheVariants.{Value, Ref, Array, End, Port}
 use Rattle.xc_tree.specs.Plain as tree
 use Rattle.xc_kernel.proofs.Written.{at, id, number, name, index, unary, binary, choice, cast, result}
 
@@ -331,4 +331,86 @@ mixed =
     ∷ []))) (at 17 3) (at 17 81) 17)
     ∷ (tree.statement (tree.return_with (Some (result (id (codes "twice") 18 10) ((record { value = (name (codes "s") 18 16); first = at 18 16 }) ∷ [])))) (at 18 3) (at 18 18) 6)
     ∷ []))) (at 6 16) (at 19 1) 2))
+    ∷ []
+
+-- branches on two cores
+-- on stdcore[1] : out port p = XS1_PORT_4A;
+-- void a(chanend c) { c <: 20; }
+-- void b(out port q, chanend c) { int x; c :> x; q @ 700 <: x; }
+-- int main(void) { chan c; par { on tile[0] : a(c); on tile[1] : b(p, c); } return 0; }
+abbrev pub two_cores : List tree.Item
+two_cores =
+    (tree.port (record { place = (Some (record { on = at 1 1; first = at 1 12; value = (number 1 false 1 12) })); dir = Out; name = id (codes "p") 1 26; ident = id (codes "XS1_PORT_4A") 1 30 }))
+    ∷ (tree.function (record { result = None; name = id (codes "a") 2 6; params = ((record { kind = (End false); name = id (codes "c") 2 16 }) ∷ []); own = 6 })
+    (tree.statement (tree.block (tree.statements (
+    (tree.statement (tree.output (record { name = id (codes "c") 2 21; time = None; value = (number 20 false 2 26); stamp = None })) (at 2 21) (at 2 28) 4)
+    ∷ []))) (at 2 19) (at 2 30) 2))
+    ∷ (tree.function (record { result = None; name = id (codes "b") 3 6; params = ((record { kind = (Port Out); name = id (codes "q") 3 17 }) ∷ (record { kind = (End false); name = id (codes "c") 3 28 }) ∷ []); own = 10 })
+    (tree.statement (tree.block (tree.statements (
+    (tree.statement (tree.declare ((record { kind = (tree.word false None); name = id (codes "x") 3 37 }) ∷ [])) (at 3 33) (at 3 38) 3)
+    ∷ (tree.statement (tree.input (record { name = id (codes "c") 3 40; time = None; condition = None; target = (tree.to (name (codes "x") 3 45)); stamp = None })) (at 3 40) (at 3 46) 4)
+    ∷ (tree.statement (tree.output (record { name = id (codes "q") 3 48; time = (Some (record { «at» = at 3 50; value = (number 700 false 3 52) })); value = (name (codes "x") 3 59); stamp = None })) (at 3 48) (at 3 60) 6)
+    ∷ []))) (at 3 31) (at 3 62) 2))
+    ∷ (tree.function (record { result = Some false; name = id (codes "main") 4 5; params = []; own = 5 })
+    (tree.statement (tree.block (tree.statements (
+    (tree.statement (tree.declare ((record { kind = tree.channel false; name = id (codes "c") 4 23 }) ∷ [])) (at 4 18) (at 4 24) 3)
+    ∷ (tree.statement (tree.par (tree.branches (
+    (tree.branch (Some (record { on = at 4 32; first = at 4 40; value = (number 0 false 4 40) })) (tree.statement (tree.perform (result (id (codes "a") 4 45) ((record { value = (name (codes "c") 4 47); first = at 4 47 })
+    ∷ []))) (at 4 45) (at 4 49) 5))
+    ∷ (tree.branch (Some (record { on = at 4 51; first = at 4 59; value = (number 1 false 4 59) })) (tree.statement (tree.perform (result (id (codes "b") 4 64) ((record { value = (name (codes "p") 4 66); first = at 4 66 }) ∷ (record { value = (name (codes "c") 4 69); first = at 4 69 })
+    ∷ []))) (at 4 64) (at 4 71) 7))
+    ∷ []))) (at 4 26) (at 4 73) 15)
+    ∷ (tree.statement (tree.return_with (Some (tree.value (number 0 false 4 82)))) (at 4 75) (at 4 83) 3)
+    ∷ []))) (at 4 16) (at 4 85) 2))
+    ∷ []
+
+-- a transaction that ends on both sides
+-- void m(chanend c) { master { c <: 1; c <: 2; } }
+-- void s(chanend c) { int x; slave { c :> x; c :> x; } }
+-- int main(void) { chan c; par { m(c); s(c); } return 0; }
+abbrev pub agreed : List tree.Item
+agreed =
+    (tree.function (record { result = None; name = id (codes "m") 1 6; params = ((record { kind = (End false); name = id (codes "c") 1 16 }) ∷ []); own = 6 })
+    (tree.statement (tree.block (tree.statements (
+    (tree.statement (tree.transaction true (tree.statements (
+    (tree.statement (tree.output (record { name = id (codes "c") 1 30; time = None; value = (number 1 false 1 35); stamp = None })) (at 1 30) (at 1 36) 4)
+    ∷ (tree.statement (tree.output (record { name = id (codes "c") 1 38; time = None; value = (number 2 false 1 43); stamp = None })) (at 1 38) (at 1 44) 4)
+    ∷ []))) (at 1 21) (at 1 46) 3)
+    ∷ []))) (at 1 19) (at 1 48) 2))
+    ∷ (tree.function (record { result = None; name = id (codes "s") 2 6; params = ((record { kind = (End false); name = id (codes "c") 2 16 }) ∷ []); own = 6 })
+    (tree.statement (tree.block (tree.statements (
+    (tree.statement (tree.declare ((record { kind = (tree.word false None); name = id (codes "x") 2 25 }) ∷ [])) (at 2 21) (at 2 26) 3)
+    ∷ (tree.statement (tree.transaction false (tree.statements (
+    (tree.statement (tree.input (record { name = id (codes "c") 2 36; time = None; condition = None; target = (tree.to (name (codes "x") 2 41)); stamp = None })) (at 2 36) (at 2 42) 4)
+    ∷ (tree.statement (tree.input (record { name = id (codes "c") 2 44; time = None; condition = None; target = (tree.to (name (codes "x") 2 49)); stamp = None })) (at 2 44) (at 2 50) 4)
+    ∷ []))) (at 2 28) (at 2 52) 3)
+    ∷ []))) (at 2 19) (at 2 54) 2))
+    ∷ (tree.function (record { result = Some false; name = id (codes "main") 3 5; params = []; own = 5 })
+    (tree.statement (tree.block (tree.statements (
+    (tree.statement (tree.declare ((record { kind = tree.channel false; name = id (codes "c") 3 23 }) ∷ [])) (at 3 18) (at 3 24) 3)
+    ∷ (tree.statement (tree.par (tree.branches (
+    (tree.branch None (tree.statement (tree.perform (result (id (codes "m") 3 32) ((record { value = (name (codes "c") 3 34); first = at 3 34 })
+    ∷ []))) (at 3 32) (at 3 36) 5))
+    ∷ (tree.branch None (tree.statement (tree.perform (result (id (codes "s") 3 38) ((record { value = (name (codes "c") 3 40); first = at 3 40 })
+    ∷ []))) (at 3 38) (at 3 42) 5))
+    ∷ []))) (at 3 26) (at 3 44) 3)
+    ∷ (tree.statement (tree.return_with (Some (tree.value (number 0 false 3 53)))) (at 3 46) (at 3 54) 3)
+    ∷ []))) (at 3 16) (at 3 56) 2))
+    ∷ []
+
+-- a select whose case samples a port
+-- in port b = XS1_PORT_1B;
+-- int main(void) { int x; int t; select { case b when pinseq(1) :> x @ t: break; } return 0; }
+abbrev pub sampled : List tree.Item
+sampled =
+    (tree.port (record { place = None; dir = In; name = id (codes "b") 1 9; ident = id (codes "XS1_PORT_1B") 1 13 }))
+    ∷ (tree.function (record { result = Some false; name = id (codes "main") 2 5; params = []; own = 5 })
+    (tree.statement (tree.block (tree.statements (
+    (tree.statement (tree.declare ((record { kind = (tree.word false None); name = id (codes "x") 2 22 }) ∷ [])) (at 2 18) (at 2 23) 3)
+    ∷ (tree.statement (tree.declare ((record { kind = (tree.word false None); name = id (codes "t") 2 29 }) ∷ [])) (at 2 25) (at 2 30) 3)
+    ∷ (tree.statement (tree.select (tree.cases (
+    (tree.case (at 2 41) None (Some (record { name = id (codes "b") 2 46; time = None; condition = (Some (record { «at» = at 2 48; test = 17; value = (number 1 false 2 60) })); target = (tree.to (name (codes "x") 2 66)); stamp = (Some (record { «at» = at 2 68; value = (name (codes "t") 2 70) })) })) (tree.statements []))
+    ∷ []))) (at 2 32) (at 2 80) 17)
+    ∷ (tree.statement (tree.return_with (Some (tree.value (number 0 false 2 89)))) (at 2 82) (at 2 90) 3)
+    ∷ []))) (at 2 16) (at 2 92) 2))
     ∷ []

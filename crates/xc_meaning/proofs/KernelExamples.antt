@@ -1,12 +1,12 @@
 -- Runs of the kernels of small programs, and lists of steps that are none.
-use Rattle.std.specs.Prelude.{◌≡◌, List, [], ◌∷◌, ◌++◌, None, refl}
+use Rattle.std.specs.Prelude.{◌≡◌, replicate, List, [], ◌∷◌, ◌++◌, None, refl}
 use Rattle.xs_instr.specs.declared.trace.Trap.TheVariants.{Arithmetic, Index, Mismatch}
 use Rattle.xs_instr.specs.declared.trace.Record.TheVariants.{Com, PortOut, PortIn, Fault}
 use Rattle.xc_kernel.specs.Copies.{copy_of}
 use Rattle.xc_kernel.proofs.Written.{at}
-use Rattle.xc_meaning.specs.States.Worlds.{Move, take, default}
-use Rattle.xc_meaning.proofs.ExamplePrograms.{timed_output, hand_over, conditional_input, timer_case, guard_off, divided, out_of_range, word_too_many}
-use Rattle.xc_meaning.proofs.Running.{no_stimulus, pulse, steps, wait, kernel_seen, going, finished}
+use Rattle.xc_meaning.specs.States.Worlds.{Move, clock, take, default}
+use Rattle.xc_meaning.proofs.ExamplePrograms.{timed_output, hand_over, conditional_input, timer_case, guard_off, divided, out_of_range, word_too_many, agreed, two_cores, sampled}
+use Rattle.xc_meaning.proofs.Running.{no_stimulus, pulse, short_pulse, steps, wait, kernel_seen, going, finished}
 
 -- a timed output: the result becomes 0, the block begins, and behind the output come the result, the block's end and the end
 timed : kernel_seen timed_output no_stimulus (steps 2 0 ++ wait 100 ++ steps 5 0) ≡ finished (PortOut 0 0 100 1 ∷ [])
@@ -129,3 +129,34 @@ too_many : kernel_seen word_too_many no_stimulus (two_words ++ steps 2 2 ++ step
     ≡ going (Com 0 1 ∷ Com 0 2 ∷ Fault 0 (at 6 3) Mismatch ∷ [])
 unfolding copy_of
 too_many = refl
+
+-- the closing isn't put while two words are unread, and then both sides end
+agreeing : kernel_seen agreed no_stimulus (two_words ++ steps 2 2 ++ steps 1 1 ++ steps 3 2 ++ steps 3 1 ++ steps 2 2 ++ steps 5 0) ≡ finished (Com 0 1 ∷ Com 0 2 ∷ [])
+unfolding copy_of
+agreeing = refl
+
+closing_waits : kernel_seen agreed no_stimulus (two_words ++ steps 1 1) ≡ None
+unfolding copy_of
+closing_waits = refl
+
+-- roots on two cores, each by its own clock
+apart : kernel_seen two_cores no_stimulus (steps 2 0 ++ steps 4 1 ++ replicate 700 (clock 1) ++ steps 3 1 ++ steps 3 0) ≡ finished (Com 1 20 ∷ PortOut 1 16 700 4 ∷ [])
+unfolding copy_of
+apart = refl
+
+other_clock : kernel_seen two_cores no_stimulus (steps 2 0 ++ steps 4 1 ++ replicate 700 (clock 0) ++ steps 1 1) ≡ None
+unfolding copy_of
+other_clock = refl
+
+-- a select's case takes its value and counter when it is taken, and its record comes later
+sampled_then : kernel_seen sampled short_pulse (steps 5 0 ++ wait 500 ++ take 0 0 ∷ [] ++ wait 10 ++ steps 9 0) ≡ finished (PortIn 0 1 500 1 ∷ [])
+unfolding copy_of
+sampled_then = refl
+
+sampled_early : kernel_seen sampled short_pulse (steps 5 0 ++ wait 499 ++ take 0 0 ∷ []) ≡ None
+unfolding copy_of
+sampled_early = refl
+
+sampled_late : kernel_seen sampled short_pulse (steps 5 0 ++ wait 501 ++ take 0 0 ∷ []) ≡ None
+unfolding copy_of
+sampled_late = refl

@@ -15,6 +15,10 @@ no_stimulus = record { lines = [] }
 abbrev pub pulse : Stim
 pulse = record { lines = record { tick = 500; core = 0; port = 1; value = 1 } ∷ [] }
 
+-- from tick 500 on, and no more from tick 501 on
+abbrev pub short_pulse : Stim
+short_pulse = record { lines = record { tick = 500; core = 0; port = 1; value = 1 } ∷ record { tick = 501; core = 0; port = 1; value = 0 } ∷ [] }
+
 -- so many steps of a branch, and so many ticks of core 0
 abbrev pub steps : ℕ → (branch : ℕ) → List Move
 steps n b = replicate n (go b)

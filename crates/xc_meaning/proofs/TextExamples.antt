@@ -1,11 +1,11 @@
 -- Runs of the texts of small programs, and lists of steps that are none.
-use Rattle.std.specs.Prelude.{◌≡◌, List, [], ◌∷◌, ◌++◌, None, refl}
+use Rattle.std.specs.Prelude.{◌≡◌, replicate, List, [], ◌∷◌, ◌++◌, None, refl}
 use Rattle.xs_instr.specs.declared.trace.Trap.TheVariants.{Arithmetic, Index, Mismatch}
 use Rattle.xs_instr.specs.declared.trace.Record.TheVariants.{Com, PortOut, PortIn, Fault}
 use Rattle.xc_kernel.specs.Copies.{copy_of}
 use Rattle.xc_kernel.proofs.Written.{at}
-use Rattle.xc_meaning.specs.States.Worlds.{Move, take, default}
-use Rattle.xc_meaning.proofs.ExamplePrograms.{timed_output, hand_over, conditional_input, timer_case, guard_off, divided, out_of_range, word_too_many}
+use Rattle.xc_meaning.specs.States.Worlds.{Move, clock, take, default}
+use Rattle.xc_meaning.proofs.ExamplePrograms.{timed_output, hand_over, conditional_input, timer_case, guard_off, divided, out_of_range, word_too_many, two_cores}
 use Rattle.xc_meaning.proofs.Running.{no_stimulus, pulse, steps, wait, program_seen, going, finished}
 
 -- the result, the body, its block; then the output, the `return`, the mark and the end
@@ -84,3 +84,8 @@ too_many : program_seen word_too_many no_stimulus (two_words ++ steps 2 2 ++ ste
     ≡ going (Com 0 1 ∷ Com 0 2 ∷ Fault 0 (at 6 3) Mismatch ∷ [])
 unfolding copy_of
 too_many = refl
+
+-- roots on two cores: each calls a function
+apart : program_seen two_cores no_stimulus (steps 5 0 ++ steps 8 1 ++ replicate 700 (clock 1) ++ steps 3 1 ++ steps 3 0) ≡ finished (Com 1 20 ∷ PortOut 1 16 700 4 ∷ [])
+unfolding copy_of
+apart = refl

@@ -7,6 +7,7 @@ use Rattle.xc_kernel.specs.Copies.{copy_of, Copies}
 use Rattle.xc_meaning.specs.States.Branches.{all_ended}
 use Rattle.xc_meaning.specs.States.Worlds.{World, Move}
 use Rattle.xc_meaning.specs.Texts.Called.{CallsEnd}
+use Rattle.xc_meaning.specs.Texts.Returns.{ReturnsStay}
 use Rattle.xc_meaning.specs.Runs.{kernel_start, program_start, kernel_run, program_run}
 use Rattle.xc_meaning.specs.Quiet.{IsQuiet}
 use Rattle.xc_meaning.specs.Counts.Families.{steps_of}
@@ -60,8 +61,9 @@ TextFollows =
     (P : List tree.Item) (K : kernel.Kernel) → CallsEnd P → Copies P K →
     (s : Stim) (ms : List Move) → IsSome (kernel_run K s ms) → HasBeside (StandAlike P K s) ms
 
--- The same, quiet together, and with the steps of each family bounded.
+-- The same, quiet together, and with the steps of each family bounded, where no `return` stands in a branch of a `par`: a branch
+-- that returned would have nothing left in the text, while its kernel has yet to leave a block that isn't there.
 abbrev pub TextFollowsClosely : Type 0
 TextFollowsClosely =
-    (P : List tree.Item) (K : kernel.Kernel) → CallsEnd P → Copies P K →
+    (P : List tree.Item) (K : kernel.Kernel) → CallsEnd P → ReturnsStay P → Copies P K →
     (s : Stim) (ms : List Move) → IsSome (kernel_run K s ms) → HasBeside (StandClose P K s) ms

@@ -9,3 +9,4 @@ pub mod Select
 pub mod Statements
 pub mod Roots
 pub mod Called
+pub mod Returns

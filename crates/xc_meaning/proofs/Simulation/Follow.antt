@@ -30,7 +30,7 @@ use Rattle.xc_meaning.proofs.Simulation.Go.{Given, given, ahead_there, set_there
 module _ (fs : List Function) (end : AllEnd fs) (K : kernel.Kernel) (stim : Stim) where
   -- A silent step of the text leaves it beside the kernel.
   module _ {x y : World} (h : Beside fs x y) (n : ℕ) (b : Branch) (e : slice_get y.branches n ≡ Some b) (em : b.mode ≡ runs) (none : ahead_at h.ahead n ≡ None)
-    (i : TextItem) (rest left : List Item) (ei : b.items ≡ says i ∷ rest) (sound : SoundItems fs (says i ∷ rest)) (sil : IsSilent i rest left) where
+      (i : TextItem) (rest left : List Item) (ei : b.items ≡ says i ∷ rest) (sound : SoundItems fs (says i ∷ rest)) (sil : IsSilent i rest left) where
     abbrev later : World
     later = goes_to (step_of K stim y n b rest) left
 
@@ -51,8 +51,10 @@ module _ (fs : List Function) (end : AllEnd fs) (K : kernel.Kernel) (stim : Stim
     silent_mixed : x ≡ mixed (with_ahead h.ahead n None) later
     silent_mixed =
         h.is_mixed
-        ∙ (λ j. record y { branches = sym (here_is (mixed_branches h.ahead y.branches) n (mixed_branch None branch_later)
-          (mixed_get h.ahead y.branches n ∙ ap (option_map (mixed_branch (ahead_at h.ahead n))) e ∙ ap (λ items. Some (record b { items = items })) items_stay)) j })
+        ∙ (λ j. record y {
+          branches = sym (here_is (mixed_branches h.ahead y.branches) n (mixed_branch None branch_later)
+              (mixed_get h.ahead y.branches n ∙ ap (option_map (mixed_branch (ahead_at h.ahead n))) e ∙ ap (λ items. Some (record b { items = items })) items_stay)) j;
+        })
         ∙ (λ j. record y { branches = sym (mixed_set h.ahead n None y.branches branch_later) j })
 
     pub silent_beside : Beside fs x later
@@ -178,8 +180,8 @@ module _ (fs : List Function) (end : AllEnd fs) (K : kernel.Kernel) (stim : Stim
       chosen cs d rest em ei ek sound =
           let s : Step = step_of K stim y n b rest in
           let g : Given (f s (chooses cs d)) (mixed (with_ahead h.ahead n None)) x' =
-              given (f s (chooses cs d)) (mixed (with_ahead h.ahead n None)) x'
-              (sym (sel.alike h.ahead (mixed_items (ahead_at h.ahead n) b.items) s cs d) ∙ sym (kernel_selects ∙ first_is (kernel_items (chooses cs d ∷ rest)) em ek) ∙ hk) in
+          given (f s (chooses cs d)) (mixed (with_ahead h.ahead n None)) x'
+          (sym (sel.alike h.ahead (mixed_items (ahead_at h.ahead n) b.items) s cs d) ∙ sym (kernel_selects ∙ first_is (kernel_items (chooses cs d ∷ rest)) em ek) ∙ hk) in
           by_one fs end K stim (m n) g.result
           (sel.moved y n ∙ ap (λ o. and_then o (selects K stim y n f)) e ∙ ap (selects_by K stim y n f b) em ∙ ap (does_first K stim y n b f) ei ∙ g.is)
           (beside_after fs h n b e None g.result g.from (subst (Keeps fs s) g.is (sel.keeps s sound.2 cs d sound.0 sound.1)) tt)

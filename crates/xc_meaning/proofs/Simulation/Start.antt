@@ -101,9 +101,9 @@ main_alike f c =
     let result : List kernel.Statement = (result_copy c (path_at [] f.head.name.pos) f.head.name.pos c.ports f.head.result).code in
     let block : kernel.Statement = block_at c [] (statement_copy (calls_in c) f.body (in_function c [] f) c.ports).code in
     let e : todo (code_of (function_copy (statement_copy (calls_in c)) c c.ports [] f [])) (ends ∷ []) ≡ kernel_items (todo (kernel.statements result) (body_item [] f.body (in_function c [] f) c.ports ∷ ends ∷ [])) =
-        ap (λ code. todo code (ends ∷ [])) (main_code f c) ∙ todo_all result (block ∷ []) (ends ∷ [])
-        ∙ ap (λ code. todo (kernel.statements result) (todo code (ends ∷ []))) (sym (of_only [] f.body (in_function c [] f) c.ports))
-        ∙ sym (of_todo (kernel.statements result) (body_item [] f.body (in_function c [] f) c.ports ∷ ends ∷ [])) in
+    ap (λ code. todo code (ends ∷ [])) (main_code f c) ∙ todo_all result (block ∷ []) (ends ∷ [])
+    ∙ ap (λ code. todo (kernel.statements result) (todo code (ends ∷ []))) (sym (of_only [] f.body (in_function c [] f) c.ports))
+    ∙ sym (of_todo (kernel.statements result) (body_item [] f.body (in_function c [] f) c.ports ∷ ends ∷ [])) in
     λ i. record { items = e i; code = code_of (function_copy (statement_copy (calls_in c)) c c.ports [] f []) }
 
 roots_alike_by : (b : Bool) (f : Function) (c : Context) → map kernel_root (copied.roots_by (calls_in c) b f c).roots ≡ map even_root (roots_by b f c)

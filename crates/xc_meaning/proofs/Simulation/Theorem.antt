@@ -56,9 +56,9 @@ module _ (P : List tree.Item) (end : AllEnd (functions P)) (s : Stim) where
   steps_along m further on ms ns x y ek et h (Some x') em leads =
       let f : Followed (functions P) end (copy_of P) s x' y = follow_move (functions P) end (copy_of P) s h m em in
       let others : Along (ms ++ m ∷ []) (ns ++ f.steps) further =
-          on (ms ++ m ∷ []) (ns ++ f.steps) x' f.leads
-          (moves_append (copy_of P) s (Some (kernel_start (copy_of P))) ms (m ∷ []) ∙ ap (λ o. moves_all (copy_of P) s o (m ∷ [])) ek ∙ ap (λ o. moves_all (copy_of P) s o []) em)
-          (moves_append (copy_of P) s (Some (program_start P)) ns f.steps ∙ ap (λ o. moves_all (copy_of P) s o f.steps) et ∙ f.led) f.beside leads in
+      on (ms ++ m ∷ []) (ns ++ f.steps) x' f.leads
+      (moves_append (copy_of P) s (Some (kernel_start (copy_of P))) ms (m ∷ []) ∙ ap (λ o. moves_all (copy_of P) s o (m ∷ [])) ek ∙ ap (λ o. moves_all (copy_of P) s o []) em)
+      (moves_append (copy_of P) s (Some (program_start P)) ns f.steps ∙ ap (λ o. moves_all (copy_of P) s o f.steps) et ∙ f.led) f.beside leads in
       record { pieces = f.steps ∷ others.pieces; along = (stands ms ns x y ek et h, others.along) }
 
   goes_along : (further : List Move) → GoesAlong further
