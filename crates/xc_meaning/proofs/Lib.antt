@@ -7,3 +7,4 @@ mod QuietExamples
 mod MixedExample
 pub mod Simulation
 pub mod Recursion
+pub mod Law

@@ -1,16 +1,13 @@
 -- Where the functions of a program are declared, and which of them a called name means.
-use Rattle.std.proofs.Common.{◌≡◌, ℕ, zero, suc, ◌+◌, ◌<◌, ◌≤◌, ◌⊎◌, inl, inr, Bool, true, false, bytes_eq, List, [], ◌∷◌, ◌++◌, length, take, drop, slice_get, Option, None, Some, refl, sym, ap, subst, ◌∙◌, arith, append_assoc, append-nil, length-append, add-zero}
+use Rattle.std.proofs.Common.{◌≡◌, ℕ, zero, suc, ◌+◌, ◌<◌, ◌⊎◌, inl, inr, Bool, true, false, bytes_eq, List, [], ◌∷◌, ◌++◌, length, take, drop, slice_get, None, Some, refl, sym, ap, subst, ◌∙◌, arith, append_assoc, append-nil, length-append, add-zero}
 use Rattle.std.proofs.Math.Nat.{eq-or-lt_of_le}
-use Rattle.xw_words.specs.declared.pos.Broken.{Broken}
-use Rattle.xc_tree.specs.declared.tree.Id.{Id}
 use Rattle.xc_tree.specs.declared.names.Decl.{Decl}
-use Rattle.xc_tree.specs.declared.names.What.{What}
 use Rattle.xc_tree.specs.declared.names.What.TheVariants as what
 use Rattle.xc_tree.specs.declared.names.Mark.{Mark}
 use Rattle.xc_tree.specs.declared.names.Mark.TheVariants.{Opens, Closes, Declares, Uses, Calls}
 use Rattle.xc_tree.specs.Plain as plain
-use Rattle.xc_tree.specs.Names.Marks.{of_item, of_items, of_program, in_scope, each, of_param, of_body, declares, optional, of_place as marks_of_place}
-use Rattle.xc_tree.specs.Names.Scopes.{to_end, end_of, DeclaresAt, IsKnown, IsWithin, Means}
+use Rattle.xc_tree.specs.Names.Marks.{of_item, of_items, in_scope, each, of_param, of_body, declares, of_place as marks_of_place}
+use Rattle.xc_tree.specs.Names.Scopes.{to_end, end_of, DeclaresAt, IsWithin, Means}
 use Rattle.xc_tree.specs.Names.Rules.{Breaks302}
 use Rattle.xc_tree.specs.Names.Calls.{first_of}
 use Rattle.xc_kernel.specs.Programs.{Function, functions, function_named, function_by}

@@ -1,35 +1,7 @@
 -- The places of a program's functions, and lists of numbers without one of them.
-use Rattle.std.proofs.Common.{◌≡◌, ℕ, zero, suc, ◌+◌, ◌<◌, ◌≤◌, ◌⊎◌, inl, inr, Bool, true, false, List, [], ◌∷◌, ◌++◌, length, take, drop, slice_get, Contains, is_some, Option, None, Some, refl, sym, ap, subst, ◌∙◌, arith, append_assoc, length-append}
-use Rattle.std.proofs.lemmas.List.Elements.{Contains-append_left, Contains-append_right}
-use Rattle.std.proofs.lemmas.Option.{slice_get_within}
-use Rattle.std.proofs.lemmas.Slice.Eq.{bytes_eq-Decides}
-use Rattle.xw_words.specs.declared.pos.Pos.{Pos}
-use Rattle.xw_words.specs.declared.pos.Broken.{Broken}
-use Rattle.xc_tree.specs.declared.tree.Id.{Id}
-use Rattle.xc_tree.specs.declared.names.Decl.{Decl}
-use Rattle.xc_tree.specs.declared.names.What.{What}
-use Rattle.xc_tree.specs.declared.names.What.TheVariants as what
-use Rattle.xc_tree.specs.declared.names.Mark.{Mark}
-use Rattle.xc_tree.specs.declared.names.Mark.TheVariants.{Opens, Closes, Declares, Uses, Calls}
+use Rattle.std.proofs.Common.{◌≡◌, ℕ, zero, suc, ◌+◌, List, [], ◌∷◌, length, slice_get, None, Some, refl, subst, arith}
 use Rattle.xc_tree.specs.Plain as plain
-use Rattle.xc_tree.specs.Names.Marks as marks
-use Rattle.xc_tree.specs.Names.Scopes.{Means}
-use Rattle.xc_tree.specs.Names.Uses.{AreUses, declarations, number_of}
-use Rattle.xc_tree.specs.Names.Calls.{first_of, IsInItem, CallsAt, Reaches, directly, through, IsOnCycle}
-use Rattle.xc_tree.specs.Names.Rules as names
-use Rattle.xc_tree.specs.Types.Named.{NamedProgram, name_at, what_at, what_of, function_of, past}
-use Rattle.xc_tree.specs.Types.Calls.{Argument}
-use Rattle.xc_tree.specs.Types.Sites as sites
-use Rattle.xc_tree.specs.Types.Rules.{rule_404, broken_unless}
-use Rattle.xc_tree.specs.Shapes.Around.{Around, in_block_of}
-use Rattle.xc_tree.specs.Checks as checks
-use Rattle.xc_kernel.specs.Programs.{Function, functions, function_named}
-use Rattle.xc_kernel.specs.Sound.{IsNamed, IsTyped}
-use Rattle.xc_meaning.specs.Texts.Called.{EachCall, EachInFunction, GoesWithin, CallsEnd}
-use Rattle.xc_meaning.proofs.Recursion.Scopes.{is_function}
-use Rattle.xc_meaning.proofs.Recursion.Items.{at_front, item_stands, item_next, declared_at, callee_is, Named, named}
-use Rattle.xc_meaning.proofs.Recursion.Uses.{past_both, numbered, Entry, EntriesStand, entries_stand}
-use Rattle.xc_meaning.proofs.Recursion.Walk.{Walk, of_body}
+use Rattle.xc_kernel.specs.Programs.{functions}
 
 clash : {A : Type 0} (x : A) → None ≡ Some x → ⊥
 clash x e = cc
@@ -94,4 +66,3 @@ function_place is j h b e = subst (λ (n : ℕ). Member n (places 0 is)) (sum j)
   where
     sum : (n : ℕ) → 0 + n ≡ n
     sum n = omega arith
-

@@ -1,5 +1,5 @@
 -- What stands inside a function ends each scope that it begins, and declares no function.
-use Rattle.std.proofs.Common.{◌≡◌, ℕ, zero, suc, ◌+◌, List, [], ◌∷◌, ◌++◌, length, slice_get, Option, None, Some, refl, sym, ap, subst, ◌∙◌, arith, append_assoc, append-nil, length-append}
+use Rattle.std.proofs.Common.{◌≡◌, ℕ, suc, ◌+◌, List, [], ◌∷◌, ◌++◌, length, Option, None, Some, refl, sym, ap, subst, arith, append_assoc, length-append}
 use Rattle.xc_tree.specs.declared.tree.Id.{Id}
 use Rattle.xc_tree.specs.declared.tree.Param.{Param}
 use Rattle.xc_tree.specs.declared.tree.ParamKind.{ParamKind}
@@ -213,4 +213,3 @@ to_end_past (Opens ∷ ks) (scope {ms = ms} {rest = more} a c) k rest =
 
 clash : {A : Type 0} (x : A) → None ≡ Some x → ⊥
 clash x e = cc
-

@@ -1,8 +1,8 @@
 -- Each call in a statement stands among the marks of the statement, and among what the rules of types speak of.
-use Rattle.std.proofs.Common.{◌≡◌, ℕ, zero, suc, ◌+◌, ◌<◌, ◌≤◌, List, [], ◌∷◌, ◌++◌, length, Contains, Option, None, Some, refl, sym, ap, subst, ◌∙◌, arith}
+use Rattle.std.proofs.Common.{◌≡◌, ℕ, ◌+◌, List, [], ◌∷◌, ◌++◌, Option, None, Some, subst, arith}
 use Rattle.xw_words.specs.declared.pos.Pos.{Pos}
 use Rattle.xc_tree.specs.declared.names.Mark.{Mark}
-use Rattle.xc_tree.specs.declared.names.Mark.TheVariants.{Opens, Closes, Declares, Uses, Calls}
+use Rattle.xc_tree.specs.declared.names.Mark.TheVariants.{Opens, Closes, Uses, Calls}
 use Rattle.xc_tree.specs.Plain as plain
 use Rattle.xc_tree.specs.Names.Marks as marks
 use Rattle.xc_tree.specs.Types.Named.{NamedProgram, name_at, function_of, past}
@@ -47,9 +47,9 @@ module _ (n : NamedProgram) (Marked : ℕ → List Mark → Type 0) (Among : Lis
   of_declarations : (around : Around) (k : ℕ) (ds : List plain.Declaration) → Marked k (marks.each marks.of_declaration ds) → Among (sites.of_declarations n around k ds) → EachName Holds ds
   of_declarations around k [] m a = tt
   of_declarations around k (d ∷ ds) m a = (
-      of_kind around (k + 1) d.kind (next k _ (marks.of_initial d.kind) (w.first k (marks.of_declaration d) (marks.each marks.of_declaration ds) m)) (w.left _ _ a),
-      of_declarations around (past k (marks.of_declaration d)) ds (w.second k (marks.of_declaration d) (marks.each marks.of_declaration ds) m) (w.right (sites.of_kind n around (k + 1) d.kind) _ a),
-    )
+    of_kind around (k + 1) d.kind (next k _ (marks.of_initial d.kind) (w.first k (marks.of_declaration d) (marks.each marks.of_declaration ds) m)) (w.left _ _ a),
+    of_declarations around (past k (marks.of_declaration d)) ds (w.second k (marks.of_declaration d) (marks.each marks.of_declaration ds) m) (w.right (sites.of_kind n around (k + 1) d.kind) _ a),
+  )
 
   three : (k : ℕ) → ((k + 1) + 1) + 1 ≡ k + 3
   three k = omega arith
@@ -102,9 +102,9 @@ module _ (n : NamedProgram) (Marked : ℕ → List Mark → Type 0) (Among : Lis
     pub of_statements : (around : Around) (k : ℕ) (ss : plain.Statements) → Marked k (marks.of_statements ss) → Among (sites.of_statements n around k ss) → EachOf Holds ss
     of_statements around k plain.no_more m a = tt
     of_statements around k (plain.more s ss) m a = (
-        of_statement around k s (w.first k (marks.of_statement s) (marks.of_statements ss) m) (w.left _ _ a),
-        of_statements around (past k (marks.of_statement s)) ss (w.second k (marks.of_statement s) (marks.of_statements ss) m) (w.right (sites.of_statement n around k s) _ a),
-      )
+      of_statement around k s (w.first k (marks.of_statement s) (marks.of_statements ss) m) (w.left _ _ a),
+      of_statements around (past k (marks.of_statement s)) ss (w.second k (marks.of_statement s) (marks.of_statements ss) m) (w.right (sites.of_statement n around k s) _ a),
+    )
 
     of_branch : (around : Around) (k : ℕ) (x : plain.Branch) → Marked k (marks.of_branch x) → Among (sites.of_branch n around k x) → EachOne Holds x
     of_branch around k (plain.branch p s) m a =
@@ -113,9 +113,9 @@ module _ (n : NamedProgram) (Marked : ℕ → List Mark → Type 0) (Among : Lis
     of_branches : (around : Around) (k : ℕ) (bs : plain.Branches) → Marked k (marks.of_branches bs) → Among (sites.of_branches n around k bs) → EachBranch Holds bs
     of_branches around k plain.no_branch m a = tt
     of_branches around k (plain.more_branches b bs) m a = (
-        of_branch around k b (w.first k (marks.of_branch b) (marks.of_branches bs) m) (w.left _ _ a),
-        of_branches around (past k (marks.of_branch b)) bs (w.second k (marks.of_branch b) (marks.of_branches bs) m) (w.right (sites.of_branch n around k b) _ a),
-      )
+      of_branch around k b (w.first k (marks.of_branch b) (marks.of_branches bs) m) (w.left _ _ a),
+      of_branches around (past k (marks.of_branch b)) bs (w.second k (marks.of_branch b) (marks.of_branches bs) m) (w.right (sites.of_branch n around k b) _ a),
+    )
 
     of_case : (around : Around) (k : ℕ) (x : plain.Case) → Marked k (marks.of_case x) → Among (sites.of_case n around k x) → EachOneCase Holds x
     of_case around k (plain.case p g i ss) m a =
@@ -127,9 +127,9 @@ module _ (n : NamedProgram) (Marked : ℕ → List Mark → Type 0) (Among : Lis
     of_cases : (around : Around) (k : ℕ) (cs : plain.Cases) → Marked k (marks.of_cases cs) → Among (sites.of_cases n around k cs) → EachCase Holds cs
     of_cases around k plain.no_case m a = tt
     of_cases around k (plain.more_cases c cs) m a = (
-        of_case around k c (w.first k (marks.of_case c) (marks.of_cases cs) m) (w.left _ _ a),
-        of_cases around (past k (marks.of_case c)) cs (w.second k (marks.of_case c) (marks.of_cases cs) m) (w.right (sites.of_case n around k c) _ a),
-      )
+      of_case around k c (w.first k (marks.of_case c) (marks.of_cases cs) m) (w.left _ _ a),
+      of_cases around (past k (marks.of_case c)) cs (w.second k (marks.of_case c) (marks.of_cases cs) m) (w.right (sites.of_case n around k c) _ a),
+    )
 
   -- what stands directly in a function's block
   pub of_body : (around : Around) (k : ℕ) (s : plain.Statement) → Marked k (marks.of_body s) → Among (sites.of_body n around k s) → EachCall Holds s
