@@ -12,6 +12,6 @@ ghost use Rattle.xc_meaning.specs.Follows.{TextFollows, TypedTextFollows};
 /// calls is longer than there are functions. The law also holds of each other tree whose chains of calls are no longer.
 #[tactic(auto, using(crate::proofs::Simulation::Theorem::text_follows, crate::proofs::Law::typed_text_follows))]
 pub fn text_follows()
-    ensures { TextFollows }
-    ensures { TypedTextFollows }
+    ensures of_typed_programs { TypedTextFollows }
+    ensures where_calls_end { TextFollows }
 {}
