@@ -7,4 +7,3 @@ mod QuietExamples
 mod MixedExample
 pub mod Simulation
 pub mod Recursion
-pub mod Law

@@ -9,3 +9,4 @@ pub mod Walk
 pub mod Places
 pub mod Calls
 pub mod End
+pub mod Typed
