@@ -10,7 +10,7 @@ ghost use Rattle.xc_meaning.specs.Follows.{TextFollows, TypedTextFollows};
 /// That is so of each program that breaks no rule of names, types and shapes. Of these rules it needs that each called name
 /// means a function, that no name is declared twice in a scope, and that no call stands on a cycle of calls: so no chain of
 /// calls is longer than there are functions. The law also holds of each other tree whose chains of calls are no longer.
-#[tactic(auto, using(crate::proofs::Simulation::Theorem::text_follows, crate::proofs::Recursion::Typed::typed_text_follows))]
+#[tactic(auto, using(crate::proofs::Simulation::Theorem::text_follows))]
 pub fn text_follows()
     ensures of_typed_programs { TypedTextFollows }
     ensures where_calls_end { TextFollows }
