@@ -6,3 +6,4 @@ mod CountExamples
 mod QuietExamples
 mod MixedExample
 pub mod Simulation
+pub mod Recursion

@@ -1,8 +1,10 @@
 -- The law between a program's kernel and its text: each run of the kernel has a run of the text beside it.
-use Rattle.std.specs.Prelude.{◌≡◌, ℕ, ◌+◌, ◌*◌, ◌≤◌, ◌↔◌, List, [], ◌∷◌, ◌++◌, Some, IsSome}
+use Rattle.std.specs.Prelude.{◌≡◌, ℕ, Bool, ◌+◌, ◌*◌, ◌≤◌, ◌↔◌, List, [], ◌∷◌, ◌++◌, Some, IsSome}
 use Rattle.xs_instr.specs.declared.image.Stim.{Stim}
 use Rattle.xc_tree.specs.Plain as tree
+use Rattle.xc_tree.specs.Types.Named.{NamedProgram}
 use Rattle.xc_kernel.specs.Plain as kernel
+use Rattle.xc_kernel.specs.Sound.{IsTyped}
 use Rattle.xc_kernel.specs.Copies.{copy_of, Copies}
 use Rattle.xc_meaning.specs.States.Branches.{all_ended}
 use Rattle.xc_meaning.specs.States.Worlds.{World, Move}
@@ -55,13 +57,21 @@ pub record HasBeside (Stand : List Move → List Move → Type 0) (ms : List Mov
   pub pieces : List (List Move)
   pub along : StandAlong Stand [] first ms pieces
 
--- Each run of a kernel has a run of the program's text beside it: with the same clocks, trace and inboxes, and ended together.
+-- Where calls end, each run of a kernel has a run of the program's text beside it: with the same clocks, trace and inboxes, and
+-- ended together.
 abbrev pub TextFollows : Type 0
 TextFollows =
     (P : List tree.Item) (K : kernel.Kernel) → CallsEnd P → Copies P K →
     (s : Stim) (ms : List Move) → IsSome (kernel_run K s ms) → HasBeside (StandAlike P K s) ms
 
--- The same, quiet together, and with the steps of each family bounded, where no `return` stands in a branch of a `par`: a branch
+-- The same of each program that breaks no rule of names, types and shapes. Its calls end, since each called name means a function
+-- and no call stands on a cycle of calls.
+abbrev pub TypedTextFollows : Type 0
+TypedTextFollows =
+    (P : List tree.Item) (K : kernel.Kernel) (named : NamedProgram) (types : List Bool) → IsTyped P named types → Copies P K →
+    (s : Stim) (ms : List Move) → IsSome (kernel_run K s ms) → HasBeside (StandAlike P K s) ms
+
+-- As where calls end, quiet together, and with the steps of each family bounded, where no `return` stands in a branch of a `par`: a branch
 -- that returned would have nothing left in the text, while its kernel has yet to leave a block that isn't there.
 abbrev pub TextFollowsClosely : Type 0
 TextFollowsClosely =

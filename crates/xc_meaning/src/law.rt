@@ -1,12 +1,17 @@
 //! The law between a program's text and its kernel.
 
-ghost use Rattle.xc_meaning.specs.Follows.{TextFollows};
+ghost use Rattle.xc_meaning.specs.Follows.{TextFollows, TypedTextFollows};
 
 /// Each run of a program's kernel has a run of the program's text beside it, cut into a first piece and one piece for each
 /// step of the kernel's, some perhaps empty: after the first piece, and again after each step and its piece, the two stand
 /// with the same clocks, trace and inboxes and have ended together. So what is proved of a kernel's runs holds of the
 /// program's.
+///
+/// That is so of each program that breaks no rule of names, types and shapes. Of these rules it needs that each called name
+/// means a function, that no name is declared twice in a scope, and that no call stands on a cycle of calls: so no chain of
+/// calls is longer than there are functions. The law also holds of each other tree whose chains of calls are no longer.
 #[tactic(auto, using(crate::proofs::Simulation::Theorem::text_follows))]
 pub fn text_follows()
-    ensures { TextFollows }
+    ensures of_typed_programs { TypedTextFollows }
+    ensures where_calls_end { TextFollows }
 {}

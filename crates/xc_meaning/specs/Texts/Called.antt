@@ -80,6 +80,7 @@ abbrev pub GoesWithin : List Function → ℕ → tree.Call → Type 0
 GoesWithin fs zero call = IsNone (function_named fs call.called.text)
 GoesWithin fs (suc n) call = EachInFunction (GoesWithin fs n) (function_named fs call.called.text)
 
--- No chain of calls is longer than there are functions. So it is where no call stands on a cycle of calls.
+-- No chain of calls is longer than there are functions. So it is where each called name means a function, no name is declared
+-- twice in a scope, and no call stands on a cycle of calls.
 pub record CallsEnd (P : List tree.Item) : Type 0 where
   pub each : (call : tree.Call) → GoesWithin (functions P) (length (functions P)) call
