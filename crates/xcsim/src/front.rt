@@ -7,9 +7,9 @@ ghost use Rattle.xcsim.specs.Refusals.{IfBroken};
 ghost use Rattle.xcsim.specs.Rules.{First, IsAccepted};
 
 use std::alloc::Global;
+use xc_built::Program;
 use xc_form::{ReadErr, has_form, program_of_tree};
 use xc_lexer::{LexErr, lex};
-use xc_built::Program;
 use xc_names::{NameErr, resolve};
 use xc_parser::{ParseErr, end_pos, parse};
 use xc_types::{TypeErr, check};
