@@ -1,0 +1,7 @@
+//! From a typed program to its kernel.
+#![tactic(auto)]
+
+mod measure;
+mod names;
+mod size;
+mod sizes;
