@@ -1,2 +1,3 @@
 pub mod UpTo
+pub mod Gathers
 pub mod Measures

@@ -1,4 +1,4 @@
-ghost use Rattle.std.specs.Prelude.{◌≡◌, Some, map, option_map, sum_by};
+ghost use Rattle.std.specs.Prelude.{◌≡◌, ◌+◌, Some, map, max, option_map, sum_by};
 ghost use Rattle.xc_flat.specs.Functions.{function_of};
 ghost use Rattle.xc_flat.specs.Sizes.{depth_called, nodes_called, statements_called, up_to};
 ghost use Rattle.xc_kernel.specs.Counts as counts;
@@ -145,13 +145,23 @@ fn target(dest: &Dest) -> Size
     }
 }
 
+/// The size of what is stored behind an input.
+#[tactic(auto, using(crate::proofs::Measures::measures))]
+fn stored(dest: &Dest, stamp: &Option<Timed>) -> Size
+    ensures statements { result.statements ≡ up_to most_statements 0 }
+    ensures nodes { result.nodes ≡ up_to most_nodes (nodes.of_target (tree.target_of dest.now) + depth.if_some nodes.of_timing (option_map tree.timing_of stamp.now)) }
+    ensures depth { result.depth ≡ up_to greatest_depth (max (depth.of_target (tree.target_of dest.now)) (depth.if_some depth.of_timing (option_map tree.timing_of stamp.now))) }
+{
+    target(dest).beside(timing(stamp))
+}
+
 #[tactic(auto, using(crate::proofs::Measures::measures))]
 fn input(head: &Head) -> Size
     ensures statements { result.statements ≡ up_to most_statements 0 }
     ensures nodes { result.nodes ≡ up_to most_nodes (nodes.of_input (tree.input_of head.now)) }
     ensures depth { result.depth ≡ up_to greatest_depth (depth.of_input (tree.input_of head.now)) }
 {
-    let stored = target(&head.dest).beside(timing(&head.stamp));
+    let stored = stored(&head.dest, &head.stamp);
     timing(&head.time).beside(condition(&head.cond).beside(stored))
 }
 
@@ -195,6 +205,15 @@ fn initial<'a>(sizes: &Sizes<'a>, kind: &'a DeclKind) -> Size
 }
 
 #[tactic(auto, using(crate::proofs::Measures::measures))]
+fn declaration<'a>(sizes: &Sizes<'a>, d: &'a Declared) -> Size
+    ensures statements { result.statements ≡ up_to most_statements (counts.of_declaration (statements_called sizes.now) (tree.declaration_of d.now)) }
+    ensures nodes { result.nodes ≡ up_to most_nodes (nodes.of_declaration (nodes_called sizes.now) (tree.declaration_of d.now)) }
+    ensures depth { result.depth ≡ up_to greatest_depth (depths.of_declaration (depth_called sizes.now) (tree.declaration_of d.now)) }
+{
+    initial(sizes, &d.kind).counted(1)
+}
+
+#[tactic(auto, using(crate::proofs::Measures::measures))]
 fn declarations<'a>(sizes: &Sizes<'a>, declared: &'a [Declared]) -> Size
     ensures statements { result.statements ≡ up_to most_statements (sum_by (counts.of_declaration (statements_called sizes.now)) (map tree.declaration_of declared.now)) }
     ensures nodes { result.nodes ≡ up_to most_nodes (sum_by (nodes.of_declaration (nodes_called sizes.now)) (map tree.declaration_of declared.now)) }
@@ -202,7 +221,7 @@ fn declarations<'a>(sizes: &Sizes<'a>, declared: &'a [Declared]) -> Size
 {
     let mut size = Size::none();
     for d in declared {
-        size = size.beside(initial(sizes, &d.kind).counted(1));
+        size = size.beside(declaration(sizes, d));
     }
     size
 }
@@ -256,9 +275,10 @@ fn action<'a>(sizes: &Sizes<'a>, kind: &'a St) -> Size
             from,
             to,
             body,
-        } => branch(sizes, body)
-            .times(to.saturating_sub(*from))
-            .counted(1),
+        } => {
+            let copies = to.saturating_sub(*from);
+            branch(sizes, body).times(copies).counted(1)
+        }
         St::Select(cs) => cases(sizes, cs.as_slice()).counted(1),
         St::Tran(_, ss) => statements(sizes, ss.as_slice()).counted(2),
     }

@@ -1,0 +1,22 @@
+use Rattle.std.proofs.Common.{drop, map}
+use Rattle.xc_kernel.specs.Counts as counts
+use Rattle.xc_kernel.specs.Nodes as nodes
+use Rattle.xc_kernel.specs.Depths as depths
+use Rattle.xc_tree.specs.Depth as depth
+use Rattle.xc_tree.specs.Plain as plain
+use Rattle.xc_tree.specs.Trees as tree
+use Rattle.xc_flat.specs.Sizes.{statements_called, nodes_called, depth_called}
+use Rattle.std.specs.Prelude.{sum_by}
+use Rattle.xc_flat.proofs.Gathers.{Gathered}
+use Rattle.xc_flat.proofs.measure.arguments.Given as goal
+
+abbrev pub invariant-loop-arg : goal.invariant-loop-arg
+invariant-loop-arg l =
+    Gathered
+    (0)
+    (sum_by nodes.of_argument (map tree.argument_of l.args))
+    (depth.highest depth.of_argument (map tree.argument_of l.args))
+    l.size
+    (0)
+    (sum_by nodes.of_argument (map tree.argument_of (drop l.arg-index l.args)))
+    (depth.highest depth.of_argument (map tree.argument_of (drop l.arg-index l.args)))
