@@ -1,3 +1,4 @@
 pub mod UpTo
 pub mod Gathers
 pub mod Measures
+pub mod Called

@@ -1,3 +1,4 @@
 pub mod Functions
+pub mod Callees
 pub mod Numbers
 pub mod Sizes

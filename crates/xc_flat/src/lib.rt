@@ -1,6 +1,7 @@
 //! From a typed program to its kernel.
 #![tactic(auto)]
 
+mod callees;
 mod measure;
 mod names;
 mod size;
