@@ -2,6 +2,8 @@ pub mod UpTo
 pub mod Gathers
 pub mod Measures
 pub mod Called
+pub mod Numbered
+pub mod Listed
 pub mod Same
 pub mod AgreeCounts
 pub mod AgreeNodes

@@ -2,3 +2,4 @@ pub mod Functions
 pub mod Callees
 pub mod Numbers
 pub mod Sizes
+pub mod Known

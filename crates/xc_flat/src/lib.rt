@@ -2,6 +2,8 @@
 #![tactic(auto)]
 
 mod callees;
+mod filling;
+mod functions;
 mod measure;
 mod names;
 mod size;

@@ -1,14 +1,19 @@
-ghost use Rattle.std.specs.Prelude.{◌≡◌};
+ghost use Rattle.std.specs.Prelude.{◌≡◌, None, replicate, true, IfOk};
+ghost use Rattle.xc_flat.specs.Known.{AreKnown, AreOfFunctions, AreSizesFrom, IsKnown};
 ghost use Rattle.xc_flat.specs.Sizes.{size_called};
 
+use crate::functions::numbers_of;
 use crate::names::Names;
 use crate::size::Size;
-use xc_tree::Text;
-use xw_words::List;
+use std::alloc::Global;
+use xc_tree::{FuncItem, Text};
+use xw_words::{List, Memory};
 
 /// The sizes of functions, as far as they are known.
 #[derive(Drop)]
 pub struct Sizes<'a> {
+    /// The functions, in the order of the text.
+    pub all: List<&'a FuncItem>,
     /// The functions' numbers.
     pub names: Names<'a>,
     /// By the functions' numbers the size that a call of it adds to the part in which it stands.
@@ -16,6 +21,17 @@ pub struct Sizes<'a> {
 }
 
 impl<'a> Sizes<'a> {
+    /// Of these functions, with no size known.
+    pub fn new(alloc: Global, all: List<&'a FuncItem>) -> Result<Sizes<'a>, Memory>
+        ensures all { IfOk result (λ sizes. sizes.all ≡ all) }
+        ensures functions { IfOk result (λ sizes. AreOfFunctions sizes) }
+        ensures none { IfOk result (λ sizes. AreSizesFrom sizes 0) }
+    {
+        let names = numbers_of(alloc, all.as_slice())?;
+        let each = unknown(alloc, all.len())?;
+        Ok(Sizes { all, names, each })
+    }
+
     /// The size that a call adds of the function with a name: of nothing where it isn't known.
     pub fn called(&self, name: &'a Text) -> Size
         ensures { result ≡ size_called self.now name.now }
@@ -28,4 +44,39 @@ impl<'a> Sizes<'a> {
             _ => Size::none(),
         }
     }
+
+    /// Whether the sizes of these functions are known.
+    pub fn knows(&self, callees: &[Option<usize>]) -> bool
+        ensures { result ≡ true → AreKnown self.now.each callees.now }
+    {
+        for callee in callees {
+            if !self.knows_one(*callee) {
+                return false;
+            }
+        }
+        true
+    }
+
+    fn knows_one(&self, callee: Option<usize>) -> bool
+        ensures { result ≡ true → IsKnown self.now.each callee }
+    {
+        let Some(number) = callee else {
+            return true;
+        };
+        match self.each.get(number) {
+            Some(Some(_)) => true,
+            _ => false,
+        }
+    }
+}
+
+/// So many sizes that aren't known.
+fn unknown(alloc: Global, count: usize) -> Result<List<Option<Size>>, Memory>
+    ensures { IfOk result (λ each. each ≡ replicate count None) }
+{
+    let mut each = List::new(alloc);
+    for _ in 0..count {
+        each.push(None)?;
+    }
+    Ok(each)
 }
