@@ -8,3 +8,4 @@ pub mod Same
 pub mod AgreeCounts
 pub mod AgreeNodes
 pub mod AgreeDepths
+pub mod Right

@@ -1,12 +1,11 @@
-ghost use Rattle.std.specs.Prelude.{◌≡◌, ℕ, ◌+◌, length, replicate, Some, IfOk, OnOk};
+ghost use Rattle.std.specs.Prelude.{◌≡◌, ℕ, ◌+◌, length, IfOk, OnOk};
 ghost use Rattle.xc_flat.specs.Known.{AreNextSizes, AreOfFunctions, AreSizesAt, AreSizesFrom, IsSizeOfBody, listed};
-ghost use Rattle.xc_flat.specs.Sizes.{no_size};
 ghost use Rattle.xc_tree.specs.Trees as tree;
 
 use crate::callees::callees;
 use crate::measure::{function, statement};
 use crate::size::Size;
-use crate::sizes::Sizes;
+use crate::sizes::{Sizes, repeated};
 use std::alloc::Global;
 use xc_tree::Stmt;
 use xw_words::{List, Memory};
@@ -81,22 +80,11 @@ fn add_by_rounds<'a>(alloc: Global, sizes: &mut Sizes<'a>) -> Result<(), Memory>
     ensures functions { OnOk result (AreOfFunctions sizes.new) }
     ensures right { OnOk result (AreSizesAt sizes.new (length sizes.old.all)) }
 {
-    sizes.each = empty_sizes(alloc, sizes.all.len())?;
+    sizes.each = List::from_vec(repeated(alloc, Some(Size::none()), sizes.all.len())?);
     for _ in 0..sizes.all.len() {
         sizes.each = next_sizes(alloc, sizes)?;
     }
     Ok(())
-}
-
-/// So many sizes of nothing.
-fn empty_sizes(alloc: Global, count: usize) -> Result<List<Option<Size>>, Memory>
-    ensures { IfOk result (λ each. each ≡ replicate count (Some no_size)) }
-{
-    let mut each = List::new(alloc);
-    for _ in 0..count {
-        each.push(Some(Size::none()))?;
-    }
-    Ok(each)
 }
 
 /// The sizes of functions where calls are followed one step further.

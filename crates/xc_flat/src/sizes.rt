@@ -1,4 +1,4 @@
-ghost use Rattle.std.specs.Prelude.{◌≡◌, None, replicate, true, IfOk};
+ghost use Rattle.std.specs.Prelude.{◌≡◌, replicate, true, IfOk};
 ghost use Rattle.xc_flat.specs.Known.{AreKnown, AreOfFunctions, AreSizesFrom, IsKnown};
 ghost use Rattle.xc_flat.specs.Sizes.{size_called};
 
@@ -23,12 +23,12 @@ pub struct Sizes<'a> {
 impl<'a> Sizes<'a> {
     /// Of these functions, with no size known.
     pub fn new(alloc: Global, all: List<&'a FuncItem>) -> Result<Sizes<'a>, Memory>
-        ensures all { IfOk result (λ sizes. sizes.all ≡ all) }
+        ensures all { IfOk result (λ sizes. sizes.all ≡ all.entry) }
         ensures functions { IfOk result (λ sizes. AreOfFunctions sizes) }
         ensures none { IfOk result (λ sizes. AreSizesFrom sizes 0) }
     {
         let names = numbers_of(alloc, all.as_slice())?;
-        let each = unknown(alloc, all.len())?;
+        let each = List::from_vec(repeated(alloc, None, all.len())?);
         Ok(Sizes { all, names, each })
     }
 
@@ -70,13 +70,16 @@ impl<'a> Sizes<'a> {
     }
 }
 
-/// So many sizes that aren't known.
-fn unknown(alloc: Global, count: usize) -> Result<List<Option<Size>>, Memory>
-    ensures { IfOk result (λ each. each ≡ replicate count None) }
+/// So many times one size, or none.
+pub fn repeated(
+    alloc: Global,
+    size: Option<Size>,
+    count: usize,
+) -> Result<Vec<Option<Size>>, Memory>
+    ensures { IfOk result (λ each. each.items ≡ replicate count size) }
 {
-    let mut each = List::new(alloc);
-    for _ in 0..count {
-        each.push(None)?;
+    match vec![in alloc; size; count] {
+        Ok(each) => Ok(each),
+        Err(_) => Err(Memory),
     }
-    Ok(each)
 }
