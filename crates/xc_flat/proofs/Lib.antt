@@ -8,4 +8,6 @@ pub mod Same
 pub mod AgreeCounts
 pub mod AgreeNodes
 pub mod AgreeDepths
+pub mod Places
 pub mod Right
+pub mod Filled

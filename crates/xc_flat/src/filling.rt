@@ -47,29 +47,34 @@ fn add_in_order<'a>(
     ensures right { OnOk result (AreSizesFrom sizes.new (length sizes.old.all)) }
 {
     for turn in 0..sizes.all.len() {
-        if let Some(number) = order.get(turn) {
-            add(alloc, sizes, *number)?;
-        }
+        add(alloc, sizes, order, turn)?;
     }
     Ok(())
 }
 
-/// Adds the size of a function, if those of what it calls are known.
-fn add<'a>(alloc: Global, sizes: &mut Sizes<'a>, number: usize) -> Result<(), Memory>
+/// Adds the size of the function at a place of the order, if there is one and the sizes of what it calls are known.
+fn add<'a>(
+    alloc: Global,
+    sizes: &mut Sizes<'a>,
+    order: &[usize],
+    turn: usize,
+) -> Result<(), Memory>
     requires functions { AreOfFunctions sizes.old }
     ensures all { OnOk result (sizes.new.all ≡ sizes.old.all) }
     ensures functions { OnOk result (AreOfFunctions sizes.new) }
     ensures right { OnOk result ((deep : ℕ) → AreSizesFrom sizes.old deep → AreSizesFrom sizes.new (deep + 1)) }
 {
-    if number >= sizes.all.len() {
+    if turn >= order.len() || order[turn] >= sizes.all.len() {
         return Ok(());
     }
+    let number = order[turn];
     let f = sizes.all.as_slice()[number];
     let callees = callees(alloc, &sizes.names, &f.body)?;
-    if sizes.knows(callees.as_slice()) {
-        let size = function(sizes, f);
-        sizes.each.set(number, Some(size));
+    if !sizes.knows(callees.as_slice()) {
+        return Ok(());
     }
+    let size = function(sizes, f);
+    sizes.each.set(number, Some(size));
     Ok(())
 }
 
