@@ -97,7 +97,7 @@ at_more sizes each deep of are next = record { right = λ call number e.
   let long = length-map sizes.all (λ (x : Bor FuncItem). function_of x.now) in
   let f = read (listed sizes) number less in
   let found = next.next number f.0 (omega arith) f.1 in
-  (found.0, found.1, subst (λ (d : ℕ). IsSizeOfCall (listed sizes) d call found.0) (sym add-one)
+  (found.0, found.1, subst (λ (d : ℕ). IsSizeOfCall (listed sizes) d call found.0) (sym (add-one deep))
     (function_right sizes deep f.0 call found.0 (named_at sizes call number f.0 of e f.1) (all_at sizes deep (callees.of_statement (number_of sizes.names) f.0.body) of are) found.2)) }
   where
     read : (fs : List Function) (k : ℕ) → k < length fs → (f : Function) × (slice_get fs k ≡ Some f)

@@ -94,3 +94,11 @@ function_right sizes n f call size e right is = record {
   nodes = is.nodes ∙ nodes_right sizes n f.body right ∙ sym (ap (λ o. up_to most_nodes (nodes.of_function (count_within nodes.of_function (listed sizes) n) o)) e);
   depth = is.depth ∙ depth_right sizes n f.body right ∙ sym (ap (λ o. up_to greatest_depth (depths.of_function (count_within depths.of_function (listed sizes) n) o)) e);
 }
+
+-- a statement is as large as it is measured where its calls are right
+pub body_is : (sizes : Sizes) (n : ℕ) (s : tree.Statement) (size : Size) → n ≡ length (listed sizes) → Each (Right sizes n) (callees.of_statement (number_of sizes.names) s) → size.statements ≡ up_to most_statements (counts.of_statement (statements_called sizes) s) → size.nodes ≡ up_to most_nodes (nodes.of_statement (nodes_called sizes) s) → size.depth ≡ up_to greatest_depth (depths.of_statement (depth_called sizes) s) → IsSizeOfBody (listed sizes) s size
+body_is sizes n s size e right a b c = record {
+  statements = a ∙ statements_right sizes n s right ∙ ap (λ m. up_to most_statements (counts.of_statement (count_within counts.of_function (listed sizes) m) s)) e;
+  nodes = b ∙ nodes_right sizes n s right ∙ ap (λ m. up_to most_nodes (nodes.of_statement (count_within nodes.of_function (listed sizes) m) s)) e;
+  depth = c ∙ depth_right sizes n s right ∙ ap (λ m. up_to greatest_depth (depths.of_statement (count_within depths.of_function (listed sizes) m) s)) e;
+}
