@@ -25,3 +25,4 @@ pub mod Counts
 pub mod Nodes
 pub mod Depths
 pub mod Size
+pub mod Sound

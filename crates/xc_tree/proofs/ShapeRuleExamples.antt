@@ -38,6 +38,17 @@ pub of_continue_in_case : broken continue_in_case ≡ rule 501 52 ∷ []
 unfolding of_program sites
 of_continue_in_case = refl
 
+-- void main(void) { chan c; select { case c :> void: if (1) break; break; default: { break; } break; } }
+abbrev pub break_in_case : NamedProgram
+break_in_case = named (
+    function_of None (id (codes "main") 6) [] (plain.statements ((does (plain.declare (record { kind = plain.channel false; name = id (codes "c") 24 } ∷ [])) 19) ∷ (does (plain.select (plain.cases (plain.case (at 36) None (Some (record { name = id (codes "c") 41; time = None; condition = None; target = plain.dropped; stamp = None })) (plain.statements ((does (plain.if_then (number 1 false 56) (does plain.break_out 59) plain.absent) 52) ∷ [])) ∷ plain.case (at 73) None None (plain.statements ((does (plain.block (plain.statements ((does plain.break_out 84) ∷ []))) 82) ∷ [])) ∷ []))) 27) ∷ [])) 17
+    ∷ []) (0 ∷ 1 ∷ 1 ∷ [])
+
+-- a case is left without a loop around it
+pub of_break_in_case : broken break_in_case ≡ []
+unfolding of_program sites
+of_break_in_case = refl
+
 -- void main(void) { chan c; while (1) { if (1) { break; } do continue; while (0); select { case c :> void: if (1) break; continue; break; } } par { for (;;) break; } }
 abbrev pub breaks : NamedProgram
 breaks = named (

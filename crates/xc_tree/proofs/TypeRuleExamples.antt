@@ -44,6 +44,19 @@ pub of_word_in_argument : broken word_in_argument ≡ rule 401 51 ∷ rule 406 5
 unfolding of_program sites
 of_word_in_argument = refl
 
+-- port p = XS1_PORT_1A; int f(void) { int a[1]; int y = a; return a; } void main(void) { int a[2]; int x; p @ a <: a @ x; p when pinseq(a) :> void @ a[a]; select { case a => p @ a :> x : break; } if (a) while (a) do for (x = a; a; x += a) ; while (a); }
+abbrev pub words_in_statements : NamedProgram
+words_in_statements = named (
+    (plain.port (record { place = None; dir = direction.Both; name = id (codes "p") 6; ident = id (codes "XS1_PORT_1A") 10 }))
+    ∷ function_of (Some false) (id (codes "f") 27) [] (plain.statements ((does (plain.declare (record { kind = plain.array false 1 (at 43); name = id (codes "a") 41 } ∷ [])) 37) ∷ (does (plain.declare (record { kind = plain.word false (Some (plain.value (name (codes "a") 55))); name = id (codes "y") 51 } ∷ [])) 47) ∷ (does (plain.return_with (Some (plain.value (name (codes "a") 65)))) 58) ∷ [])) 35
+    ∷ function_of None (id (codes "main") 75) [] (plain.statements ((does (plain.declare (record { kind = plain.array false 2 (at 94); name = id (codes "a") 92 } ∷ [])) 88) ∷ (does (plain.declare (record { kind = plain.word false None; name = id (codes "x") 102 } ∷ [])) 98) ∷ (does (plain.output (record { name = id (codes "p") 105; time = (Some (timing 107 (name (codes "a") 109))); value = (name (codes "a") 114); stamp = (Some (timing 116 (name (codes "x") 118))) })) 105) ∷ (does (plain.input (record { name = id (codes "p") 121; time = None; condition = (Some (condition 123 17 (name (codes "a") 135))); target = plain.dropped; stamp = (Some (timing 146 (index (codes "a") (name (codes "a") 150) 148))) })) 121) ∷ (does (plain.select (plain.cases (plain.case (at 163) (Some (name (codes "a") 168)) (Some (record { name = id (codes "p") 173; time = (Some (timing 175 (name (codes "a") 177))); condition = None; target = (plain.to (name (codes "x") 182)); stamp = None })) (plain.statements []) ∷ []))) 154) ∷ (does (plain.if_then (name (codes "a") 199) (does (plain.while_loop (name (codes "a") 209) (does (plain.do_while (does (plain.for_loop (plain.present (does (plain.assign (name (codes "x") 220) 22 (at 222) (plain.value (name (codes "a") 224))) 220)) (Some (name (codes "a") 227)) (plain.present (does (plain.assign (name (codes "x") 230) 37 (at 232) (plain.value (name (codes "a") 235))) 230)) (does plain.empty 238)) 215) (name (codes "a") 247)) 212)) 202) plain.absent) 195) ∷ [])) 86
+    ∷ []) (0 ∷ 1 ∷ 2 ∷ 3 ∷ 2 ∷ 2 ∷ 4 ∷ 5 ∷ 6 ∷ 0 ∷ 5 ∷ 5 ∷ 6 ∷ 0 ∷ 5 ∷ 5 ∷ 5 ∷ 5 ∷ 0 ∷ 5 ∷ 6 ∷ 5 ∷ 5 ∷ 6 ∷ 5 ∷ 5 ∷ 6 ∷ 5 ∷ 5 ∷ [])
+
+-- each `a` without an index
+pub of_words_in_statements : broken words_in_statements ≡ rule 401 55 ∷ rule 401 65 ∷ rule 401 109 ∷ rule 401 114 ∷ rule 401 135 ∷ rule 401 150 ∷ rule 401 168 ∷ rule 401 177 ∷ rule 401 199 ∷ rule 401 209 ∷ rule 401 224 ∷ rule 401 227 ∷ rule 401 235 ∷ rule 401 247 ∷ []
+unfolding of_program sites
+of_words_in_statements = refl
+
 -- void main(void) { int a[2]; int x; x = a[1] + x; par (int i = 0; i < 2; i++) a[i] = i; }
 abbrev pub words : NamedProgram
 words = named (
@@ -497,3 +510,16 @@ variables = named (
 pub of_variables : broken variables ≡ []
 unfolding of_program sites
 of_variables = refl
+
+-- port p = XS1_PORT_1A; void f(int &x, int a[]) { } void main(void) { chan c; f(c, c); f(p[0], p); par (int i = 0; i < 2; i++) f(i, i); }
+abbrev pub others_twice : NamedProgram
+others_twice = named (
+    (plain.port (record { place = None; dir = direction.Both; name = id (codes "p") 6; ident = id (codes "XS1_PORT_1A") 10 }))
+    ∷ function_of None (id (codes "f") 28) (record { kind = param.Ref false; name = id (codes "x") 35 } ∷ record { kind = param.Array false None; name = id (codes "a") 42 } ∷ []) (plain.statements []) 47
+    ∷ function_of None (id (codes "main") 56) [] (plain.statements ((does (plain.declare (record { kind = plain.channel false; name = id (codes "c") 74 } ∷ [])) 69) ∷ (does (plain.perform (call_of (id (codes "f") 77) (given 79 (name (codes "c") 79) ∷ given 82 (name (codes "c") 82) ∷ []))) 77) ∷ (does (plain.perform (call_of (id (codes "f") 86) (given 88 (index (codes "p") (number 0 false 90) 88) ∷ given 94 (name (codes "p") 94) ∷ []))) 86) ∷ (does (plain.replicated (id (codes "i") 107) (id (codes "i") 114) (id (codes "i") 121) 0 2 (plain.branch None (does (plain.perform (call_of (id (codes "f") 126) (given 128 (name (codes "i") 128) ∷ given 131 (name (codes "i") 131) ∷ []))) 126))) 98) ∷ [])) 67
+    ∷ []) (0 ∷ 1 ∷ 2 ∷ 3 ∷ 4 ∷ 5 ∷ 1 ∷ 5 ∷ 5 ∷ 1 ∷ 0 ∷ 0 ∷ 6 ∷ 6 ∷ 6 ∷ 1 ∷ 6 ∷ 6 ∷ [])
+
+-- what isn't a variable breaks other rules alone
+pub of_others_twice : broken others_twice ≡ rule 402 88 ∷ rule 403 79 ∷ rule 406 79 ∷ rule 406 82 ∷ rule 406 88 ∷ rule 406 94 ∷ rule 406 131 ∷ rule 412 128 ∷ []
+unfolding of_program sites
+of_others_twice = refl

@@ -16,6 +16,7 @@ pub record Rule : Type 0 where
 abbrev pub rule : ℕ → (Site → List Pos) → Rule
 rule n f = record { number = n; broken_at = f }
 
+-- those of types, and those of shapes
 abbrev pub rules : List Rule
 rules =
     rule 401 rule_401 ∷ rule 402 rule_402 ∷ rule 403 rule_403 ∷ rule 404 rule_404 ∷ rule 405 rule_405 ∷ rule 406 rule_406

@@ -13,7 +13,7 @@ abbrev pub comes_before : Broken → Broken → Bool
 comes_before a b =
     nat_lt a.pos.line b.pos.line || (nat_eq a.pos.line b.pos.line && (nat_lt a.pos.col b.pos.col || (nat_eq a.pos.col b.pos.col && nat_lt a.rule b.rule)))
 
--- the one that comes first
+-- of two, each of which may be absent, the one that comes first
 abbrev pub first_of : Option Broken → Option Broken → Option Broken
 first_of None b = b
 first_of (Some a) None = Some a

@@ -3,7 +3,7 @@ ghost use Rattle.xc_tree.specs.Least.{comes_before as is_before, first_of};
 
 use xw_words::Broken;
 
-/// Of two broken rules the one that stands first, and at one place that of the lesser number.
+/// Of two broken rules, each of which may be absent, the one that stands first, and at one place that of the lesser number.
 pub fn earlier(a: Option<Broken>, b: Option<Broken>) -> Option<Broken>
     ensures { result ≡ first_of a b }
 {
@@ -14,7 +14,7 @@ pub fn earlier(a: Option<Broken>, b: Option<Broken>) -> Option<Broken>
     }
 }
 
-/// Whether one broken rule stands before another.
+/// Whether one broken rule stands before another, or at its place and has the lesser number.
 pub fn comes_before(a: Broken, b: Broken) -> bool
     ensures { result ≡ is_before a b }
 {

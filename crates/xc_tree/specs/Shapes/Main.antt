@@ -25,6 +25,7 @@ abbrev pub is_channel_kind : plain.Kind → Bool
 is_channel_kind (plain.channel s) = true
 is_channel_kind other = false
 
+-- whether all of these declare channels
 abbrev pub are_channels : List plain.Declaration → Bool
 are_channels [] = true
 are_channels (d ∷ ds) = is_channel_kind d.kind && are_channels ds

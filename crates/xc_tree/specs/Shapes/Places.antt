@@ -5,10 +5,11 @@ use Rattle.xc_tree.specs.Types.Named.{Name}
 use Rattle.xc_tree.specs.Types.Entities.{is_index}
 use Rattle.xc_tree.specs.Types.Words.{is_among}
 
--- the places of `+`, `-` and `*` among the symbols
+-- the places among the symbols of `+` and `-`, which may stand before one operand
 abbrev pub signs : List ℕ
 signs = 15 ∷ 16 ∷ []
 
+-- and of `+`, `-` and `*`, which may stand between two
 abbrev pub operators : List ℕ
 operators = 15 ∷ 16 ∷ 17 ∷ []
 
@@ -26,7 +27,7 @@ abbrev mutual
   form_is_made_of_these (plain.choice c a b) = false
   form_is_made_of_these (plain.cast u a) = false
 
--- the indices of replicated `par`s alone
+-- these names are indices of replicated `par`s
 abbrev pub are_indices : List Name → Bool
 are_indices [] = true
 are_indices (x ∷ xs) = is_index x.what && are_indices xs

@@ -35,20 +35,22 @@ rule_504 (site.function h b) =
     broken_where (is_main h && (place_branches (statements_in b) && not (is_channels_par_return (statements_in b)))) h.name.pos
 rule_504 other = []
 
--- the declarations of the channels among these names
+-- the declaration of a name, where it is one of a channel
 abbrev pub declared_as_channel : Bool → Option ℕ → List ℕ
 declared_as_channel true (Some d) = d ∷ []
 declared_as_channel b d = []
 
+-- the declarations of the channels among these names
 abbrev pub channels : List Name → List ℕ
 channels [] = []
 channels (x ∷ xs) = declared_as_channel (is_channel x.what) x.declared ++ channels xs
 
+-- whether all of these are that one
 abbrev pub are_all : ℕ → List ℕ → Bool
 are_all c [] = true
 are_all c (d ∷ ds) = nat_eq c d && are_all c ds
 
--- one, however often
+-- whether there is one among these, however often
 abbrev pub are_one : List ℕ → Bool
 are_one [] = false
 are_one (c ∷ cs) = are_all c cs
@@ -58,6 +60,7 @@ abbrev pub rule_505 : Site → List Pos
 rule_505 (site.transaction around inside p) = broken_unless (are_one (channels inside)) p
 rule_505 other = []
 
+-- whether a channel is given by one of these arguments
 abbrev pub is_channel_among : List Argument → Bool
 is_channel_among [] = false
 is_channel_among (a ∷ rest) = is_channel_given a.given || is_channel_among rest
@@ -71,7 +74,7 @@ rule_506 (site.transaction around inside p) = broken_where (in_transaction aroun
 rule_506 (site.call around x meant given r) = broken_where (in_transaction around.holders && is_channel_among given) x.id.pos
 rule_506 other = []
 
--- the places of `default`
+-- the places of each `default` among the cases
 abbrev pub defaults : plain.Cases → List Pos
 defaults plain.no_case = []
 defaults (plain.more_cases (plain.case p g (Some i) ss) cs) = defaults cs

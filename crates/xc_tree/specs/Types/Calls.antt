@@ -8,7 +8,7 @@ use Rattle.xc_tree.specs.declared.tree.ParamKind.TheVariants as param
 use Rattle.xc_tree.specs.Plain as plain
 use Rattle.xc_tree.specs.Names.Marks as marks
 use Rattle.xc_tree.specs.Types.Named.{NamedProgram, Name, name_at, past}
-use Rattle.xc_tree.specs.Types.Entities.{is_word_of, is_array_of, is_channel, is_channel_of, is_port_of, length_of, length_does}
+use Rattle.xc_tree.specs.Types.Entities.{is_variable, is_word_of, is_array_of, is_channel, is_channel_of, is_port_of, length_of, length_does}
 
 -- what is given as an argument: a name, an element of an array, or another expression
 pub data Given : Type 0 where
@@ -30,6 +30,7 @@ given_form n k p other = another
 abbrev pub given_by : NamedProgram → ℕ → plain.Expression → Given
 given_by n k (plain.expression f p) = given_form n k p f
 
+-- what the first of these parameters takes, and the parameters behind it
 abbrev pub first_of : List Param → Option ParamKind
 first_of [] = None
 first_of (p ∷ ps) = Some p.kind
@@ -87,10 +88,14 @@ abbrev pub is_channel_given : Given → Bool
 is_channel_given (a_name x) = is_channel x.what
 is_channel_given other = false
 
+-- the declaration that a name means, where that is one of a variable
+abbrev pub declared_variable : Name → Option ℕ
+declared_variable x = if is_variable x.what then x.declared else None
+
 -- the declaration of the variable that is given by itself or by an element
 abbrev pub variable_of : Given → Option ℕ
-variable_of (a_name x) = x.declared
-variable_of (an_element x) = x.declared
+variable_of (a_name x) = declared_variable x
+variable_of (an_element x) = declared_variable x
 variable_of another = None
 
 -- the variable that a call may change through this argument

@@ -5,7 +5,7 @@ use Rattle.xc_tree.specs.declared.tree.TreeDir.TheVariants.{In, Out, Both}
 use Rattle.xc_tree.specs.declared.names.What.{What}
 use Rattle.xc_tree.specs.declared.names.What.TheVariants.{Word, Array, Ref, ArrayParam, Chan, End, Timer, Port, PortParam, Index}
 
--- a word: a variable, a parameter for one, or the index of a replicated `par`
+-- a word: one that is declared, a parameter for one, or the index of a replicated `par`
 abbrev pub is_word : Option What → Bool
 is_word (Some (Word u)) = true
 is_word (Some (Ref u)) = true
@@ -16,6 +16,14 @@ abbrev pub is_array : Option What → Bool
 is_array (Some (Array u n)) = true
 is_array (Some (ArrayParam u n)) = true
 is_array other = false
+
+-- a variable: a word or an array that is declared, or a parameter for one
+abbrev pub is_variable : Option What → Bool
+is_variable (Some (Word u)) = true
+is_variable (Some (Array u n)) = true
+is_variable (Some (Ref u)) = true
+is_variable (Some (ArrayParam u n)) = true
+is_variable other = false
 
 -- the index of a replicated `par`
 abbrev pub is_index : Option What → Bool

@@ -47,6 +47,7 @@ abbrev pub rule_405 : Site → List Pos
 rule_405 (site.call around x meant given r) = broken_unless (has_number meant given) x.id.pos
 rule_405 other = []
 
+-- the arguments that don't fit their parameters, each by its first token
 abbrev pub misfits : List Argument → List Pos
 misfits [] = []
 misfits (a ∷ rest) = broken_unless (fits a.parameter a.given) a.first ++ misfits rest
@@ -110,6 +111,7 @@ abbrev pub rule_414 : Site → List Pos
 rule_414 (site.condition x p t) = broken_unless (if nat_eq t timerafter then is_timer x.what else is_port x.what) p
 rule_414 other = []
 
+-- of the second and the third name the first that isn't spelled as the first name
 abbrev pub first_that_differs : (first second third : Id) → List Pos
 first_that_differs a b c =
     if bytes_eq a.text b.text then broken_unless (bytes_eq a.text c.text) c.pos else b.pos ∷ []
@@ -124,6 +126,7 @@ abbrev pub is_one_of : List ℕ → Option ℕ → Bool
 is_one_of before None = false
 is_one_of before (Some v) = is_among before v
 
+-- these variables, and one more where there is one
 abbrev pub with_variable : Option ℕ → List ℕ → List ℕ
 with_variable None before = before
 with_variable (Some v) before = v ∷ before

@@ -99,27 +99,30 @@ abbrev mutual
       ++ of_expression n (past (past k (marks.of_expression c)) (marks.of_expression a)) b)
   of_form n k p (plain.cast u a) = node u ∷ of_expression n k a
 
--- a name alone has no other part than itself
+-- what stands where an `lval` is needed: a name alone is looked at as one, and anything else as an expression
 abbrev pub of_lval : NamedProgram → ℕ → plain.Expression → List Site
 of_lval n k (plain.expression (plain.name t) p) =
     lval (name_at n k (record { text = t; pos = p })) ∷ node (is_unsigned n k (plain.expression (plain.name t) p)) ∷ []
 of_lval n k other = of_expression n k other
 
--- what an argument has whose parameter is neither by value nor `&`: a name alone needs be no word
+-- what an argument has whose parameter is neither by value nor `&`, or that has none: a name alone need not be a word
 abbrev pub of_whole : NamedProgram → ℕ → plain.Expression → List Site
 of_whole n k (plain.expression (plain.name t) p) = node (is_unsigned n k (plain.expression (plain.name t) p)) ∷ []
 of_whole n k other = of_expression n k other
 
+-- what an argument has, by its parameter
 abbrev pub of_argument : NamedProgram → ℕ → Option ParamKind → plain.Expression → List Site
 of_argument n k (Some (param.Value u)) e = of_expression n k e
 of_argument n k (Some (param.Ref u)) e = of_lval n k e
 of_argument n k other e = of_whole n k e
 
+-- the arguments of a call, the first of which has k names before it, for these parameters
 abbrev pub of_arguments : NamedProgram → ℕ → List Param → List plain.Argument → List Site
 of_arguments n k ps [] = []
 of_arguments n k ps (a ∷ rest) =
     of_argument n k (first_of ps) a.value ++ of_arguments n (past k (marks.of_argument a)) (rest_of ps) rest
 
+-- the parameters of the function that is called; what isn't one has none
 abbrev pub params_of : Option plain.Head → List Param
 params_of None = []
 params_of (Some h) = h.params

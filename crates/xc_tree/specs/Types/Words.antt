@@ -5,6 +5,7 @@ use Rattle.xc_tree.specs.Names.Marks as marks
 use Rattle.xc_tree.specs.Types.Named.{NamedProgram, what_at, past}
 use Rattle.xc_tree.specs.Types.Entities.{word_is_unsigned, elements_are_unsigned}
 
+-- whether a number is one of these
 abbrev pub is_among : List ℕ → ℕ → Bool
 is_among [] o = false
 is_among (x ∷ xs) o = nat_eq x o || is_among xs o
