@@ -11,3 +11,4 @@ pub mod AgreeDepths
 pub mod Places
 pub mod Right
 pub mod Filled
+pub mod TooLarge

@@ -3,3 +3,4 @@ pub mod Callees
 pub mod Numbers
 pub mod Sizes
 pub mod Known
+pub mod Limits

@@ -6,5 +6,7 @@ mod filling;
 mod functions;
 mod measure;
 mod names;
+mod order;
 mod size;
 mod sizes;
+mod too_large;

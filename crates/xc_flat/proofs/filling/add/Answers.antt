@@ -1,8 +1,4 @@
-use Rattle.std.proofs.Common.{◌≡◌, ◌<◌, ◌+◌, ℕ, List, length, Option, Some, get_or, Bor, subst, sym, ap, ◌∙◌, arith}
-use Rattle.xc_tree.specs.declared.tree.FuncItem.{FuncItem}
-use Rattle.xc_tree.specs.Trees as tree
-use Rattle.xc_flat.specs.Callees as callees
-use Rattle.xc_flat.specs.Numbers.{number_of}
+use Rattle.std.proofs.Common.{◌≡◌, ◌<◌, ◌+◌, ℕ, List, length, Option, Some, get_or, subst, sym, ap, ◌∙◌, arith}
 use Rattle.xc_flat.specs.declared.size.Size.{Size}
 use Rattle.xc_flat.specs.Known.{AreKnown, AreSizesFrom}
 use Rattle.xc_flat.proofs.Filled.{from_deeper, from_more}
@@ -22,5 +18,5 @@ returns-clause-right c = λ deep from.
     let known = c.knows.ensures c.if-not-knows.false in
     subst (λ (each : List (Option Size)). AreSizesFrom (record { all = c.args.sizes.now.all; names = c.args.sizes.now.names; each = each }) (deep + 1)) (sym c.set.ensures)
     (from_more c.args.sizes.now number c.index-as_slice-number.result c.function-size.result c.requires.functions is within
-    (subst (AreKnown c.args.sizes.now.each) (c.as_slice-2.ensures ∙ c.in_ok-callees.ensures ∙ ap (λ (f : Bor FuncItem). callees.of_statement (number_of c.args.sizes.now.names) (tree.statement_of f.now.body)) (sym c.index-as_slice-number.is)) known)
+    (subst (AreKnown c.args.sizes.now.each) (c.as_slice-2.ensures ∙ c.in_ok-callees.ensures) known)
     (record { statements = c.function-size.ensures.statements; nodes = c.function-size.ensures.nodes; depth = c.function-size.ensures.depth }) deep from)
