@@ -1,6 +1,8 @@
 -- A program is too large exactly where its main function is.
-use Rattle.std.proofs.Common.{◌≡◌, ℕ, ◌<◌, List, length, Option, Some, None, refl, sym, ap, subst, ◌∙◌, arith, ◌⊎◌, inl, inr}
-use Rattle.std.specs.Prelude.{slice_get}
+use Rattle.std.proofs.Common.{◌≡◌, ℕ, ◌<◌, List, length, map, Bor, Option, Some, None, refl, sym, ap, subst, ◌∙◌, arith, ◌⊎◌, inl, inr}
+use Rattle.std.specs.Prelude.{slice_get, option_map, IfSome, IfNone}
+use Rattle.std.proofs.lemmas.Option.{slice_get-map}
+use Rattle.xc_tree.specs.declared.tree.FuncItem.{FuncItem}
 use Rattle.xw_words.specs.declared.pos.Broken.{Broken}
 use Rattle.xc_tree.specs.Plain as tree
 use Rattle.xc_kernel.specs.Counts.{statements_of, of_body as body_counts, of_function as counts_of}
@@ -9,7 +11,10 @@ use Rattle.xc_kernel.specs.Nodes.{nodes_of, of_function as nodes_in}
 use Rattle.xc_kernel.specs.Programs.{Function, functions, function_named, main_of, main_pos, name_of_main, count_of_call, pos_of_function}
 use Rattle.xc_kernel.specs.Size.{IsTooLarge, Breaks509, most_statements, most_nodes, greatest_depth}
 use Rattle.xc_flat.specs.declared.size.Size.{Size}
-use Rattle.xc_flat.specs.Known.{IsSizeOfBody}
+use Rattle.xc_flat.specs.declared.sizes.Sizes.{Sizes}
+use Rattle.xc_flat.specs.Functions.{function_of, function_at}
+use Rattle.xc_flat.specs.Numbers.{number_of}
+use Rattle.xc_flat.specs.Known.{IsSizeOfBody, AreOfFunctions, listed}
 use Rattle.xc_flat.specs.Limits.{IsAbove, rule_509}
 use Rattle.xc_flat.specs.Sizes.{up_to}
 
@@ -47,9 +52,24 @@ module _ (program : List tree.Item) (f : Function) (size : Size) (main : main_of
   too_large (inr (inr h)) = inr (inr (above greatest_depth (depth_of program) size.depth depth_is h))
 
   pub small : (IsAbove size → ⊥) → IsTooLarge program → ⊥
-  small no (inl h) = no (inl (is_above most_statements (statements_of program) size.statements statements_are h))
-  small no (inr (inl h)) = no (inr (inl (is_above most_nodes (nodes_of program) size.nodes nodes_are h)))
-  small no (inr (inr h)) = no (inr (inr (is_above greatest_depth (depth_of program) size.depth depth_is h)))
+  small not_above (inl h) = not_above (inl (is_above most_statements (statements_of program) size.statements statements_are h))
+  small not_above (inr (inl h)) = not_above (inr (inl (is_above most_nodes (nodes_of program) size.nodes nodes_are h)))
+  small not_above (inr (inr h)) = not_above (inr (inr (is_above greatest_depth (depth_of program) size.depth depth_is h)))
 
   pub breaks : (b : Broken) → IsAbove size → b ≡ rule_509 f.head.name.pos → Breaks509 program b
   breaks b h e = subst (Breaks509 program) (sym e) (record { too_large = too_large h; rule = refl; place = sym (ap pos_of_function main) })
+
+  pub broken_is : (o : Option Broken) → IfSome o (λ b. IsAbove size × (b ≡ rule_509 f.head.name.pos)) → IfSome o (λ b. Breaks509 program b)
+  broken_is None h = tt
+  broken_is (Some b) h = breaks b h.0 h.1
+
+  pub small_is : (o : Option Broken) → IfNone o (IsAbove size → ⊥) → IfNone o (IsTooLarge program → ⊥)
+  small_is None h = small h
+  small_is (Some b) h = tt
+
+-- main by its number
+pub main_is : (sizes : Sizes) (program : List tree.Item) (number : Option ℕ) → AreOfFunctions sizes → listed sizes ≡ functions program → number ≡ number_of sizes.names name_of_main → main_of program ≡ function_at (listed sizes) number
+main_is sizes program number of same e = ap (λ fs. function_named fs name_of_main) (sym same) ∙ of.numbers.named name_of_main ∙ ap (function_at (listed sizes)) (sym e)
+
+pub listed_at : (sizes : Sizes) (number : ℕ) (o : Option (Bor FuncItem)) → o ≡ slice_get sizes.all number → function_at (listed sizes) (Some number) ≡ option_map (λ (f : Bor FuncItem). function_of f.now) o
+listed_at sizes number o e = slice_get-map (λ (f : Bor FuncItem). function_of f.now) sizes.all number ∙ ap (option_map (λ (f : Bor FuncItem). function_of f.now)) (sym e)

@@ -22,8 +22,10 @@ pub fn broken_size(alloc: Global, tree: &Tree) -> Result<Option<Broken>, Memory>
     let Some(number) = sizes.names.number(b"main") else {
         return Ok(None);
     };
+    let Some(main) = sizes.all.get(number).copied() else {
+        return Ok(None);
+    };
     let order = order_from(alloc, &sizes, number)?;
-    let main = sizes.all.as_slice()[number];
     let size = whole_size(alloc, &mut sizes, order.as_slice(), &main.body)?;
     Ok(broken_by(size, main.name.pos))
 }
