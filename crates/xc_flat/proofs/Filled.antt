@@ -83,22 +83,29 @@ next_more sizes each new k f size is within grown right so_far = record {
 
 -- no call is followed
 pub empty_at : (sizes : Sizes) (each : List (Option Size)) → AreOfFunctions sizes → each ≡ replicate (length sizes.all) (Some no_size) → AreSizesAt (record sizes { each = each }) 0
-empty_at sizes each of same = record { right = λ call number e.
-  let less : number < length sizes.all = let w = of.numbers.within call.called.text number e in let q = length-map sizes.all (λ (x : Bor FuncItem). function_of x.now) in omega arith in
-  (no_size, ap (λ xs. slice_get xs number) same ∙ repeats (length sizes.all) number (Some no_size) less, record { statements = sym (up_to_none most_statements); nodes = sym (up_to_none most_nodes); depth = sym (up_to_none greatest_depth) }) }
+empty_at sizes each of same = record {
+  right = λ call number e.
+      let less : number < length sizes.all = let w = of.numbers.within call.called.text number e in let q = length-map sizes.all (λ (x : Bor FuncItem). function_of x.now) in omega arith in
+      (no_size, ap (λ xs. slice_get xs number) same ∙ repeats (length sizes.all) number (Some no_size) less, record { statements = sym (up_to_none most_statements); nodes = sym (up_to_none most_nodes); depth = sym (up_to_none greatest_depth) });
+}
 
 pub of_empty : (sizes : Sizes) (each : List (Option Size)) → AreOfFunctions sizes → each ≡ replicate (length sizes.all) (Some no_size) → AreOfFunctions (record sizes { each = each })
 of_empty sizes each of same = record { numbers = of.numbers; places = ap length same ∙ length-replicate (length sizes.all) (Some no_size) }
 
 -- calls are followed one step further
 pub at_more : (sizes : Sizes) (each : List (Option Size)) (deep : ℕ) → AreOfFunctions sizes → AreSizesAt sizes deep → AreNextSizes sizes each (length sizes.all) → AreSizesAt (record sizes { each = each }) (deep + 1)
-at_more sizes each deep of are next = record { right = λ call number e.
-  let less : number < length (listed sizes) = of.numbers.within call.called.text number e in
-  let long = length-map sizes.all (λ (x : Bor FuncItem). function_of x.now) in
-  let f = read (listed sizes) number less in
-  let found = next.next number f.0 (omega arith) f.1 in
-  (found.0, found.1, subst (λ (d : ℕ). IsSizeOfCall (listed sizes) d call found.0) (sym (add-one deep))
-    (function_right sizes deep f.0 call found.0 (named_at sizes call number f.0 of e f.1) (all_at sizes deep (callees.of_statement (number_of sizes.names) f.0.body) of are) found.2)) }
+at_more sizes each deep of are next = record {
+  right = λ call number e.
+      let less : number < length (listed sizes) = of.numbers.within call.called.text number e in
+      let long = length-map sizes.all (λ (x : Bor FuncItem). function_of x.now) in
+      let f = read (listed sizes) number less in
+      let found = next.next number f.0 (omega arith) f.1 in (
+        found.0,
+        found.1,
+        subst (λ (d : ℕ). IsSizeOfCall (listed sizes) d call found.0) (sym (add-one deep))
+            (function_right sizes deep f.0 call found.0 (named_at sizes call number f.0 of e f.1) (all_at sizes deep (callees.of_statement (number_of sizes.names) f.0.body) of are) found.2),
+      );
+}
   where
     read : (fs : List Function) (k : ℕ) → k < length fs → (f : Function) × (slice_get fs k ≡ Some f)
     read [] k h = absurd (omega arith)

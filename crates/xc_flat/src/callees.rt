@@ -193,11 +193,7 @@ fn branches<'a>(
 
 #[cycle(statement)]
 #[tactic(auto, using(crate::proofs::Called::called))]
-fn case<'a>(
-    list: &mut List<Option<usize>>,
-    names: &Names<'a>,
-    c: &'a Case,
-) -> Result<(), Memory>
+fn case<'a>(list: &mut List<Option<usize>>, names: &Names<'a>, c: &'a Case) -> Result<(), Memory>
     ensures { OnOk result (list.new ≡ list.old ++ callees.of_case (number_of names.now) (tree.case_of c.now)) }
 {
     statements(list, names, c.body.as_slice())

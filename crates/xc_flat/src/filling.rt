@@ -35,11 +35,7 @@ pub fn whole_size<'a>(
 }
 
 /// Adds the sizes of functions in an order, as far as those of what they call are known.
-fn add_in_order<'a>(
-    alloc: Global,
-    sizes: &mut Sizes<'a>,
-    order: &[usize],
-) -> Result<(), Memory>
+fn add_in_order<'a>(alloc: Global, sizes: &mut Sizes<'a>, order: &[usize]) -> Result<(), Memory>
     requires functions { AreOfFunctions sizes.old }
     requires none { AreSizesFrom sizes.old 0 }
     ensures all { OnOk result (sizes.new.all ≡ sizes.old.all) }
@@ -53,12 +49,7 @@ fn add_in_order<'a>(
 }
 
 /// Adds the size of the function at a place of the order, if there is one and the sizes of what it calls are known.
-fn add<'a>(
-    alloc: Global,
-    sizes: &mut Sizes<'a>,
-    order: &[usize],
-    turn: usize,
-) -> Result<(), Memory>
+fn add<'a>(alloc: Global, sizes: &mut Sizes<'a>, order: &[usize], turn: usize) -> Result<(), Memory>
     requires functions { AreOfFunctions sizes.old }
     ensures all { OnOk result (sizes.new.all ≡ sizes.old.all) }
     ensures functions { OnOk result (AreOfFunctions sizes.new) }

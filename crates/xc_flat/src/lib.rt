@@ -10,3 +10,5 @@ mod order;
 mod size;
 mod sizes;
 mod too_large;
+
+pub use too_large::broken_size;

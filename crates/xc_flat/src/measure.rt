@@ -318,9 +318,7 @@ fn branch<'a>(sizes: &Sizes<'a>, b: &'a Branch) -> Size
     ensures nodes { result.nodes ≡ up_to most_nodes (nodes.of_branch (nodes_called sizes.now) (tree.branch_of b.now)) }
     ensures depth { result.depth ≡ up_to greatest_depth (depths.of_branch (depth_called sizes.now) (tree.branch_of b.now)) }
 {
-    place(&b.place)
-        .beside(statement(sizes, &b.body))
-        .counted(1)
+    place(&b.place).beside(statement(sizes, &b.body)).counted(1)
 }
 
 #[cycle(statement)]

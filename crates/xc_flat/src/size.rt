@@ -13,7 +13,9 @@ pub struct Size {
 
 /// One more than the greatest count that is allowed.
 const ABOVE_STATEMENTS: u32 = 100_001;
+
 const ABOVE_NODES: u32 = 1_000_001;
+
 const ABOVE_DEPTH: u32 = 1_001;
 
 impl Size {

@@ -91,4 +91,3 @@ action-returns-in-Repl-clause-statements t c = rw (c.in-Repl.is, action-Repl c.i
 
 pub action-returns-in-Repl-clause-nodes : goal.action-returns-in-Repl-clause-nodes
 action-returns-in-Repl-clause-nodes t c = rw (c.in-Repl.is, action-Repl c.in-Repl.first c.in-Repl.second c.in-Repl.third c.in-Repl.from c.in-Repl.to c.in-Repl.body, ← c.deref-in-Repl.ensures, ← c.saturating_sub-copies.ensures) (c.counted-in-Repl.ensures.nodes ∙ copies_of _ c.saturating_sub-copies.result _ _ _ c.branch-sizes.ensures.nodes c.times.ensures.nodes)
-

@@ -41,4 +41,3 @@ invariant-cases-loop-c l =
     (counts.of_cases (statements_called l.sizes) (plain.cases (map tree.case_of (drop l.c-index l.cs))))
     (nodes.of_cases (nodes_called l.sizes) (plain.cases (map tree.case_of (drop l.c-index l.cs))))
     (depths.of_cases (depth_called l.sizes) (plain.cases (map tree.case_of (drop l.c-index l.cs))))
-

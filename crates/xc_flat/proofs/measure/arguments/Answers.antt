@@ -27,4 +27,3 @@ returns-clause-nodes c = gathers_all _ _ _ _ (sum_done nodes.of_argument tree.ar
 
 pub returns-clause-depth : goal.returns-clause-depth
 returns-clause-depth c = highest_all _ _ _ _ (highest_done depth.of_argument tree.argument_of c.args.args.now c.loop-arg.arg-index c.loop-arg-test.false) c.loop-arg.invariant.depth
-

@@ -27,4 +27,3 @@ returns-clause-nodes c = gathers_all _ _ _ _ (sum_done (nodes.of_declaration (no
 
 pub returns-clause-depth : goal.returns-clause-depth
 returns-clause-depth c = highest_all _ _ _ _ (highest_done (depths.of_declaration (depth_called c.args.sizes.now)) tree.declaration_of c.args.declared.now c.loop-d.d-index c.loop-d-test.false) c.loop-d.invariant.depth
-
