@@ -1,3 +1,4 @@
+pub mod Errors
 pub mod Functions
 pub mod Callees
 pub mod Numbers

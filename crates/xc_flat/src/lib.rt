@@ -2,7 +2,9 @@
 #![tactic(auto)]
 
 mod callees;
+mod copying;
 mod filling;
+mod flattening;
 mod functions;
 mod measure;
 mod names;
@@ -11,4 +13,4 @@ mod size;
 mod sizes;
 mod too_large;
 
-pub use too_large::broken_size;
+pub use flattening::{FlatErr, flatten};
