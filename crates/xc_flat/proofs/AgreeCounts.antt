@@ -1,5 +1,5 @@
 -- Two ways to count calls that agree at the calls of a part, as far as counts go, agree at the part: its statements.
-use Rattle.std.proofs.Common.{◌≡◌, ℕ, ◌+◌, ◌-◌, ◌*◌, max, List, [], ◌∷◌, ◌++◌, Option, Some, None, refl, sym, ap, ◌∙◌}
+use Rattle.std.proofs.Common.{◌≡◌, ℕ, ◌-◌, List, [], ◌∷◌, Option, Some, None, refl}
 use Rattle.std.specs.Prelude.{sum_by}
 use Rattle.std.proofs.lemmas.List.Sums.{sum_by-cons}
 use Rattle.xc_tree.specs.Depth as depth
@@ -7,7 +7,7 @@ use Rattle.xc_tree.specs.Plain as tree
 use Rattle.xc_kernel.specs.Counts as counts
 use Rattle.xc_flat.specs.Sizes.{up_to}
 use Rattle.xc_flat.specs.Callees as callees
-use Rattle.xc_flat.proofs.Same.{Each, each_front, each_back, same_sum, same_greater, same_copies}
+use Rattle.xc_flat.proofs.Same.{Each, each_front, each_back, same_sum, same_copies}
 
 module _ (number : List ℕ → Option ℕ) (l : ℕ) (g h : tree.Call → ℕ) where
   -- they agree at the calls of the function with this number

@@ -1,11 +1,11 @@
 -- Two ways to count calls that agree at the calls of a part, as far as counts go, agree at the part: how deep its nodes stand.
-use Rattle.std.proofs.Common.{◌≡◌, ℕ, ◌+◌, ◌-◌, ◌*◌, max, List, [], ◌∷◌, ◌++◌, Option, Some, None, refl, sym, ap, ◌∙◌}
+use Rattle.std.proofs.Common.{◌≡◌, ℕ, List, [], ◌∷◌, Option, Some, None, refl}
 use Rattle.xc_tree.specs.Depth as depth
 use Rattle.xc_tree.specs.Plain as tree
 use Rattle.xc_kernel.specs.Depths as depths
 use Rattle.xc_flat.specs.Sizes.{up_to}
 use Rattle.xc_flat.specs.Callees as callees
-use Rattle.xc_flat.proofs.Same.{Each, each_front, each_back, same_sum, same_greater, same_copies}
+use Rattle.xc_flat.proofs.Same.{Each, each_front, each_back, same_sum, same_greater}
 
 module _ (number : List ℕ → Option ℕ) (l : ℕ) (g h : tree.Call → ℕ) where
   -- they agree at the calls of the function with this number

@@ -1,8 +1,7 @@
 -- Sizes as they are found, one function after another or in rounds.
-use Rattle.std.proofs.Common.{◌≡◌, ℕ, zero, suc, ◌+◌, ◌<◌, ◌≤◌, ◌≢◌, ◌⊎◌, inl, inr, List, [], ◌∷◌, ◌++◌, length, map, get_or, replicate, Bor, Option, Some, None, refl, sym, ap, subst, ◌∙◌, arith, add-one}
+use Rattle.std.proofs.Common.{◌≡◌, ℕ, zero, suc, ◌+◌, ◌<◌, ◌≤◌, ◌≢◌, ◌⊎◌, inl, inr, List, [], ◌∷◌, ◌++◌, length, get_or, replicate, Bor, Option, Some, None, refl, sym, ap, subst, ◌∙◌, arith, add-one}
 use Rattle.std.specs.Prelude.{slice_get, slice_set}
 use Rattle.std.proofs.lemmas.List.{length-map, length-set, length-append, length-replicate}
-use Rattle.std.proofs.lemmas.Option.{slice_get_within}
 use Rattle.xc_tree.specs.declared.tree.FuncItem.{FuncItem}
 use Rattle.xc_tree.specs.Plain as tree
 use Rattle.xc_kernel.specs.Programs.{Function, function_named}
@@ -12,13 +11,12 @@ use Rattle.xc_flat.specs.declared.size.Size.{Size}
 use Rattle.xc_flat.specs.declared.sizes.Sizes.{Sizes}
 use Rattle.xc_flat.specs.Callees as callees
 use Rattle.xc_flat.specs.Functions.{function_of, function_at}
-use Rattle.xc_flat.specs.Known.{IsKnown, AreKnown, IsSizeOfCall, IsSizeOfFunction, AreOfFunctions, AreSizesFrom, AreSizesAt, AreNextSizes, listed}
+use Rattle.xc_flat.specs.Known.{AreKnown, IsSizeOfCall, IsSizeOfFunction, AreOfFunctions, AreSizesFrom, AreSizesAt, AreNextSizes, listed}
 use Rattle.xc_flat.specs.Numbers.{number_of}
-use Rattle.xc_flat.specs.Sizes.{up_to, no_size}
+use Rattle.xc_flat.specs.Sizes.{no_size}
 use Rattle.xc_flat.proofs.Numbered.{mapped}
 use Rattle.xc_flat.proofs.Places.{some_same, same_or_other, below_or_at, push_before, push_at, set_at, set_other, repeats, repeats_only}
-use Rattle.xc_flat.proofs.Same.{Each}
-use Rattle.xc_flat.proofs.Right.{Right, all_known, all_at, function_right}
+use Rattle.xc_flat.proofs.Right.{all_known, all_at, function_right}
 use Rattle.xc_flat.proofs.UpTo.{up_to_none}
 
 clash : {A B : Type 0} (x : A) → None ≡ Some x → B

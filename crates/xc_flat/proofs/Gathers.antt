@@ -1,5 +1,5 @@
 -- Counts of a list that are gathered from its front, no further than one above their limits.
-use Rattle.std.proofs.Common.{◌≡◌, ℕ, ◌+◌, ◌<◌, max, suc, List, ◌∷◌, length, drop, get_or, map, sym, ap, add-one, ◌∙◌, arith}
+use Rattle.std.proofs.Common.{◌≡◌, ℕ, ◌+◌, ◌<◌, max, suc, List, ◌∷◌, length, drop, get_or, sym, ap, add-one, arith}
 use Rattle.std.proofs.Math.Seq.{drop-cons}
 use Rattle.xc_kernel.specs.Size.{most_statements, most_nodes, greatest_depth}
 use Rattle.xc_flat.specs.declared.size.Size.{Size}

@@ -1,8 +1,6 @@
 -- Sizes of functions that are right, and what they make right.
-use Rattle.std.proofs.Common.{◌≡◌, ℕ, zero, suc, ◌+◌, ◌<◌, ◌≤◌, Bool, true, false, nat_eq, List, [], ◌∷◌, length, map, Bor, set, replicate, Option, Some, None, refl, sym, ap, subst, ◌∙◌, arith, add-one, inl, inr, ◌⊎◌}
-use Rattle.std.specs.Prelude.{slice_get, slice_set}
-use Rattle.std.proofs.lemmas.List.{length-map, length-set}
-use Rattle.std.proofs.lemmas.Option.{slice_get_within}
+use Rattle.std.proofs.Common.{◌≡◌, ℕ, zero, suc, ◌≤◌, List, [], ◌∷◌, length, Option, Some, None, refl, sym, ap, subst, ◌∙◌}
+use Rattle.std.specs.Prelude.{slice_get}
 use Rattle.xc_tree.specs.Plain as tree
 use Rattle.xc_kernel.specs.Counts as counts
 use Rattle.xc_kernel.specs.Depths as depths
@@ -12,8 +10,8 @@ use Rattle.xc_kernel.specs.Size.{most_statements, most_nodes, greatest_depth}
 use Rattle.xc_flat.specs.declared.size.Size.{Size}
 use Rattle.xc_flat.specs.declared.sizes.Sizes.{Sizes}
 use Rattle.xc_flat.specs.Callees as callees
-use Rattle.xc_flat.specs.Functions.{function_at, AreNumbers}
-use Rattle.xc_flat.specs.Known.{IsKnown, AreKnown, IsSizeOfCall, IsSizeOfFunction, IsSizeOfBody, AreOfFunctions, AreSizesFrom, AreSizesAt, AreNextSizes, listed}
+use Rattle.xc_flat.specs.Functions.{function_at}
+use Rattle.xc_flat.specs.Known.{IsKnown, AreKnown, IsSizeOfCall, IsSizeOfFunction, IsSizeOfBody, AreOfFunctions, AreSizesFrom, AreSizesAt, listed}
 use Rattle.xc_flat.specs.Numbers.{number_of}
 use Rattle.xc_flat.specs.Sizes.{up_to, no_size, known_size, size_by, size_called, statements_called, nodes_called, depth_called}
 use Rattle.xc_flat.proofs.Same.{Each, same_sum}

@@ -1,5 +1,5 @@
 -- A program is too large exactly where its main function is.
-use Rattle.std.proofs.Common.{◌≡◌, ℕ, ◌<◌, List, length, map, Bor, Option, Some, None, refl, sym, ap, subst, ◌∙◌, arith, ◌⊎◌, inl, inr}
+use Rattle.std.proofs.Common.{◌≡◌, ℕ, ◌<◌, List, Bor, Option, Some, None, refl, sym, ap, subst, ◌∙◌, arith, inl, inr}
 use Rattle.std.specs.Prelude.{slice_get, option_map, IfSome, IfNone}
 use Rattle.std.proofs.lemmas.Option.{slice_get-map}
 use Rattle.xc_tree.specs.declared.tree.FuncItem.{FuncItem}
@@ -8,7 +8,7 @@ use Rattle.xc_tree.specs.Plain as tree
 use Rattle.xc_kernel.specs.Counts.{statements_of, of_body as body_counts, of_function as counts_of}
 use Rattle.xc_kernel.specs.Depths.{depth_of, of_function as depths_of}
 use Rattle.xc_kernel.specs.Nodes.{nodes_of, of_function as nodes_in}
-use Rattle.xc_kernel.specs.Programs.{Function, functions, function_named, main_of, main_pos, name_of_main, count_of_call, pos_of_function}
+use Rattle.xc_kernel.specs.Programs.{Function, functions, function_named, main_of, name_of_main, count_of_call, pos_of_function}
 use Rattle.xc_kernel.specs.Size.{IsTooLarge, Breaks509, most_statements, most_nodes, greatest_depth}
 use Rattle.xc_flat.specs.declared.size.Size.{Size}
 use Rattle.xc_flat.specs.declared.sizes.Sizes.{Sizes}

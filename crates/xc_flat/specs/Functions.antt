@@ -1,5 +1,5 @@
 -- The functions of a program as the tree has them, and their numbers, which are their places among the functions.
-use Rattle.std.specs.Prelude.{◌≡◌, ℕ, ◌<◌, List, [], map, length, slice_get, Option, Some, None}
+use Rattle.std.specs.Prelude.{◌≡◌, ℕ, ◌<◌, List, length, slice_get, Option, Some, None}
 use Rattle.xc_tree.specs.declared.tree.FuncItem.{FuncItem}
 use Rattle.xc_tree.specs.Trees.{head_of, statement_of}
 use Rattle.xc_kernel.specs.Programs.{Function, function_named}

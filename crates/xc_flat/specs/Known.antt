@@ -1,5 +1,5 @@
 -- When the size of a function is known, and when it is right.
-use Rattle.std.specs.Prelude.{◌≡◌, ℕ, ◌<◌, ◌≤◌, List, [], ◌∷◌, map, length, slice_get, Option, Some, None}
+use Rattle.std.specs.Prelude.{◌≡◌, ℕ, ◌<◌, ◌≤◌, List, [], ◌∷◌, map, length, slice_get, Option, Some}
 use Rattle.xc_tree.specs.Plain as tree
 use Rattle.xc_kernel.specs.Counts as counts
 use Rattle.xc_kernel.specs.Depths as depths

@@ -1,5 +1,5 @@
 -- Sizes above the limits.
-use Rattle.std.specs.Prelude.{ℕ, ◌<◌, ◌⊎◌}
+use Rattle.std.specs.Prelude.{◌<◌, ◌⊎◌}
 use Rattle.xw_words.specs.declared.pos.Pos.{Pos}
 use Rattle.xw_words.specs.declared.pos.Broken.{Broken}
 use Rattle.xc_kernel.specs.Size.{most_statements, most_nodes, greatest_depth}

@@ -1,4 +1,4 @@
-use Rattle.std.proofs.Common.{◌≡◌, ◌<◌, ◌+◌, ℕ, List, length, Option, Some, get_or, subst, sym, ap, ◌∙◌, arith}
+use Rattle.std.proofs.Common.{◌≡◌, ◌<◌, ◌+◌, List, length, Option, get_or, subst, sym, ◌∙◌}
 use Rattle.xc_flat.specs.declared.size.Size.{Size}
 use Rattle.xc_flat.specs.Known.{AreKnown, AreSizesFrom}
 use Rattle.xc_flat.proofs.Filled.{from_deeper, from_more}

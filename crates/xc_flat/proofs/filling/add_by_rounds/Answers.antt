@@ -1,5 +1,4 @@
-use Rattle.std.proofs.Common.{◌≡◌, length, replicate, Some, refl, ◌∙◌, ap, subst}
-use Rattle.xc_flat.specs.Known.{AreNextSizes}
+use Rattle.std.proofs.Common.{◌≡◌, length, replicate, Some, refl, ◌∙◌}
 use Rattle.xc_flat.specs.Sizes.{no_size}
 use Rattle.xc_flat.proofs.Filled.{empty_at, of_empty, at_more, of_next}
 use Rattle.xc_flat.proofs.filling.add_by_rounds.Goals as goal

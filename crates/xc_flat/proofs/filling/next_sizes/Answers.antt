@@ -1,4 +1,3 @@
-use Rattle.std.proofs.Common.{◌∙◌, ap, subst, arith}
 use Rattle.xc_flat.proofs.Filled.{next_more}
 use Rattle.xc_flat.proofs.filling.next_sizes.Goals as goal
 

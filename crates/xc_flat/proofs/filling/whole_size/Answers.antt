@@ -1,4 +1,4 @@
-use Rattle.std.proofs.Common.{◌≡◌, ◌≤◌, ℕ, List, length, map, Bor, Option, subst, sym, ap, ◌∙◌, arith}
+use Rattle.std.proofs.Common.{◌≡◌, List, length, map, Bor, subst, sym, ap, ◌∙◌, arith}
 use Rattle.std.proofs.lemmas.List.{length-map}
 use Rattle.xc_tree.specs.declared.tree.FuncItem.{FuncItem}
 use Rattle.xc_kernel.specs.Programs.{Function}

@@ -1,12 +1,7 @@
 use Rattle.std.proofs.Common.{refl, ◌∙◌, arith}
-use Rattle.xc_kernel.specs.Counts as counts
-use Rattle.xc_kernel.specs.Nodes as nodes
-use Rattle.xc_kernel.specs.Depths as depths
-use Rattle.xc_tree.specs.Depth as depth
-use Rattle.xc_tree.specs.Trees as tree
 use Rattle.xc_tree.proofs.Forms.{action-If, action-For, action-Repl}
 use Rattle.xc_flat.specs.Sizes.{statements_called, nodes_called, depth_called}
-use Rattle.xc_flat.proofs.Gathers.{gathered_none, gathered_more, gathers_all, highest_all}
+use Rattle.xc_flat.proofs.Gathers.{gathered_more, gathers_all, highest_all}
 use Rattle.xc_flat.proofs.UpTo.{sum_of_three, greatest_of_three, sum_of_four, greatest_of_four, one_more, copies_of}
 use Rattle.xc_flat.proofs.Measures.{counts_of_statements, counts_of_statements_done, nodes_of_statements, nodes_of_statements_done, depths_of_statements, depths_of_statements_done, counts_of_branches, counts_of_branches_done, nodes_of_branches, nodes_of_branches_done, depths_of_branches, depths_of_branches_done, counts_of_cases, counts_of_cases_done, nodes_of_cases, nodes_of_cases_done, depths_of_cases, depths_of_cases_done}
 use Rattle.xc_flat.proofs.measure.+statement.Goals as goal

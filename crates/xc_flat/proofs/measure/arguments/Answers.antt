@@ -1,11 +1,8 @@
 use Rattle.std.proofs.Common.{refl}
-use Rattle.xc_kernel.specs.Counts as counts
 use Rattle.xc_kernel.specs.Nodes as nodes
-use Rattle.xc_kernel.specs.Depths as depths
 use Rattle.xc_tree.specs.Depth as depth
 use Rattle.xc_tree.specs.Trees as tree
-use Rattle.xc_flat.specs.Sizes.{statements_called, nodes_called, depth_called}
-use Rattle.xc_flat.proofs.Gathers.{gathered_none, gathered_more, gathers_all, highest_all}
+use Rattle.xc_flat.proofs.Gathers.{gathered_more, gathers_all, highest_all}
 use Rattle.xc_flat.proofs.Measures.{sum_step, highest_step, sum_done, highest_done}
 use Rattle.xc_flat.proofs.measure.arguments.Goals as goal
 

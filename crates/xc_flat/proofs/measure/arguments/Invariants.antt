@@ -1,11 +1,7 @@
 use Rattle.std.proofs.Common.{drop, map}
-use Rattle.xc_kernel.specs.Counts as counts
 use Rattle.xc_kernel.specs.Nodes as nodes
-use Rattle.xc_kernel.specs.Depths as depths
 use Rattle.xc_tree.specs.Depth as depth
-use Rattle.xc_tree.specs.Plain as plain
 use Rattle.xc_tree.specs.Trees as tree
-use Rattle.xc_flat.specs.Sizes.{statements_called, nodes_called, depth_called}
 use Rattle.std.specs.Prelude.{sum_by}
 use Rattle.xc_flat.proofs.Gathers.{Gathered}
 use Rattle.xc_flat.proofs.measure.arguments.Given as goal
