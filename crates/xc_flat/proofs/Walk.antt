@@ -1,0 +1,4 @@
+-- Lemmas of the copying walk.
+pub mod Lists
+pub mod Scopes
+pub mod Functions

@@ -1,0 +1,6 @@
+-- What the types of the copying walk stand for.
+pub mod Scopes
+pub mod Copied
+pub mod PathSets
+pub mod Numbers
+pub mod Functions

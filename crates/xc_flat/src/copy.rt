@@ -1,0 +1,6 @@
+mod copied;
+mod functions;
+mod numbering;
+mod numbers;
+mod paths;
+mod scope;
