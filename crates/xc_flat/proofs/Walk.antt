@@ -2,3 +2,6 @@
 pub mod Lists
 pub mod Scopes
 pub mod Functions
+pub mod PathSets
+pub mod Operators
+pub mod Expressions

@@ -4,3 +4,4 @@ pub mod Copied
 pub mod PathSets
 pub mod Numbers
 pub mod Functions
+pub mod Truths

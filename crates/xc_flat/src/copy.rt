@@ -1,6 +1,9 @@
 mod copied;
+mod entities;
+mod expressions;
 mod functions;
 mod numbering;
 mod numbers;
+mod operators;
 mod paths;
 mod scope;

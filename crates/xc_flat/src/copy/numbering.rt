@@ -48,6 +48,7 @@ impl Numbers {
         })
     }
 
+    #[tactic(auto, using(crate::proofs::Walk::PathSets::place_mapped))]
     /// The number of a variable.
     pub fn variable(&self, path: &[u32]) -> u32
         ensures { result ≡ spec.variable_number (numbering_of self.now) path.now }
@@ -55,6 +56,7 @@ impl Numbers {
         place(&self.variable_paths, path)
     }
 
+    #[tactic(auto, using(crate::proofs::Walk::PathSets::place_mapped))]
     /// The number of a channel.
     pub fn channel(&self, path: &[u32]) -> u32
         ensures { result ≡ spec.channel_number (numbering_of self.now) path.now }
@@ -62,6 +64,7 @@ impl Numbers {
         place(&self.channel_paths, path)
     }
 
+    #[tactic(auto, using(crate::proofs::Walk::PathSets::place_mapped))]
     /// The number of a timer.
     pub fn timer(&self, path: &[u32]) -> u32
         ensures { result ≡ spec.timer_number (numbering_of self.now) path.now }
@@ -69,6 +72,7 @@ impl Numbers {
         place(&self.timer_paths, path)
     }
 
+    #[tactic(auto, using(crate::proofs::Walk::PathSets::place_mapped))]
     /// The number of a block.
     pub fn block(&self, path: &[u32]) -> u32
         ensures { result ≡ spec.block_number (numbering_of self.now) path.now }

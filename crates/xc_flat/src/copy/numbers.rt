@@ -59,37 +59,59 @@ pub struct Once<T> {
     pub paths: IndexSet<Vec<u32>>,
 }
 
-/// Each path of some instances once. The one error is want of memory.
-pub fn each_once<T: HasPath + Drop>(alloc: Global, seen: VecDeque<T>) -> Result<Once<T>, Memory>
+/// Each path of some instances once. The one error is want of memory, or of numbers for 2^32 instances and more.
+pub fn each_once<T: HasPath + Drop>(
+    alloc: Global,
+    mut seen: VecDeque<T>,
+) -> Result<Once<T>, Memory>
     ensures items { IfOk result (λ once. once.items.items ≡ spec_paths.each_once T.path_of seen.items) }
     ensures paths { IfOk result (λ once. paths_in once.paths ≡ map T.path_of once.items.items) }
     ensures few { IfOk result (λ once. length (paths_in once.paths) < 2 ^ 32) }
 {
-    let mut items = Vec::new(alloc);
-    let mut paths = IndexSet::new(alloc);
-    for instance in Vec::from(seen) {
-        if add(alloc, &mut paths, instance.path())? && items.push(instance).is_err() {
-            return Err(Memory);
-        }
+    let mut once = Once {
+        items: Vec::new(alloc),
+        paths: IndexSet::new(alloc),
+    };
+    'sights: while let Some(instance) = seen.pop_front() {
+        keep(alloc, &mut once, instance)?;
     }
-    if u32::try_from(paths.len()).is_err() {
+    if u32::try_from(once.paths.len()).is_err() {
         return Err(Memory);
     }
-    Ok(Once { items, paths })
+    Ok(once)
 }
 
+/// Keeps an instance, if its path is new. The one error is want of memory.
+#[tactic(auto, using(crate::proofs::Walk::PathSets::kept_new, crate::proofs::Walk::PathSets::kept_known))]
+fn keep<T: HasPath + Drop>(alloc: Global, once: &mut Once<T>, instance: T) -> Result<(), Memory>
+    requires { paths_in once.old.paths ≡ map T.path_of once.old.items.items }
+    ensures items { OnOk result (once.new.items.items ≡ with_new T.path_of once.old.items.items instance) }
+    ensures paths { OnOk result (paths_in once.new.paths ≡ map T.path_of once.new.items.items) }
+{
+    if !add(alloc, &mut once.paths, instance.path())? {
+        return Ok(());
+    }
+    match once.items.push(instance) {
+        Ok(()) => Ok(()),
+        Err(_) => Err(Memory),
+    }
+}
+
+#[tactic(auto, using(crate::proofs::Walk::PathSets::path_added, crate::proofs::Walk::PathSets::has_is))]
 /// Adds a path, and says whether it is new. The one error is want of memory.
 fn add(alloc: Global, paths: &mut IndexSet<Vec<u32>>, path: &[u32]) -> Result<bool, Memory>
     ensures paths { OnOk result (paths_in paths.new ≡ with_new itself (paths_in paths.old) path.now) }
     ensures new { IfOk result (λ new. new ≡ not (has_path itself (paths_in paths.old) path.now)) }
 {
     let path = Vec::from_slice(alloc, path)?;
-    match paths.insert_full(path) {
-        Ok((_, new)) => Ok(new),
-        Err(_) => Err(Memory),
-    }
+    let place = match paths.insert_full(path) {
+        Ok(place) => place,
+        Err(_) => return Err(Memory),
+    };
+    Ok(place.1)
 }
 
+#[tactic(auto, using(crate::proofs::Walk::PathSets::place_found, crate::proofs::Walk::PathSets::place_missing))]
 /// The place of a path among some, or their number where it isn't there.
 pub fn place(paths: &IndexSet<Vec<u32>>, path: &[u32]) -> u32
     requires few { length (paths_in paths.now) < 2 ^ 32 }
