@@ -5,3 +5,5 @@ pub mod PathSets
 pub mod Numbers
 pub mod Functions
 pub mod Truths
+pub mod Contexts
+pub mod Handed

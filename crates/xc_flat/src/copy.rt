@@ -1,9 +1,13 @@
+mod context;
 mod copied;
 mod entities;
 mod expressions;
+mod flow;
 mod functions;
 mod numbering;
 mod numbers;
 mod operators;
+mod parameters;
 mod paths;
 mod scope;
+mod transfers;

@@ -1,5 +1,6 @@
 -- Operators by the places of their symbols.
-use Rattle.std.proofs.Common.{◌≡◌, ℕ, zero, suc, ◌<◌, ◌+◌, Bool, true, false, ◌||◌, nat_eq, arith, refl, ap}
+use Rattle.std.proofs.Common.{◌≡◌, ℕ, zero, suc, ◌<◌, ◌+◌, Bool, true, false, ◌||◌, List, [], ◌∷◌, nat_eq, arith, refl, ap}
+use Rattle.std.specs.List.{list_any}
 use Rattle.xc_kernel.specs.Operators.{operator_at}
 use Rattle.xc_kernel.specs.Types.{operation_is_unsigned, result_is_unsigned, sign_is_unsigned}
 use Rattle.xc_kernel.specs.Operators as operator
@@ -83,11 +84,18 @@ plain_sign (suc (suc (suc (suc (suc (suc (suc (suc (suc (suc (suc (suc (suc (suc
 plain_sign (suc (suc (suc (suc (suc (suc (suc (suc (suc (suc (suc (suc (suc (suc (suc (suc (suc (suc (suc (suc (suc (suc (suc (suc (suc (suc (suc (suc (suc (suc (suc (suc (suc (suc zero)))))))))))))))))))))))))))))))))) a h = refl
 plain_sign (suc (suc (suc (suc (suc (suc (suc (suc (suc (suc (suc (suc (suc (suc (suc (suc (suc (suc (suc (suc (suc (suc (suc (suc (suc (suc (suc (suc (suc (suc (suc (suc (suc (suc (suc n))))))))))))))))))))))))))))))))))) a h = refl
 
-far : (n k : ℕ) → k < n → nat_eq n k ≡ false
+far : (n k : ℕ) → k < n → nat_eq k n ≡ false
 far n k h = grind arith
 
+-- symbols past the table are none of these
+none_of : (s : ℕ) → 34 < s → list_any (λ y. nat_eq y s) (20 ∷ 21 ∷ 27 ∷ 28 ∷ 29 ∷ 30 ∷ 31 ∷ 32 ∷ []) ≡ false
+none_of s h = rw (far s 20 (omega (arith, h)), far s 21 (omega (arith, h)), far s 27 (omega (arith, h)), far s 28 (omega (arith, h)), far s 29 (omega (arith, h)), far s 30 (omega (arith, h)), far s 31 (omega (arith, h)), far s 32 (omega (arith, h))) refl
+
 -- the symbols whose operators give 1 or 0
-pub truth_by_symbol : (s : ℕ) → (nat_eq s 20 || (nat_eq s 21 || (nat_eq s 27 || (nat_eq s 28 || (nat_eq s 29 || (nat_eq s 30 || (nat_eq s 31 || nat_eq s 32))))))) ≡ is_truth (operator_at s)
+abbrev pub truths : List ℕ
+truths = 20 ∷ 21 ∷ 27 ∷ 28 ∷ 29 ∷ 30 ∷ 31 ∷ 32 ∷ []
+
+pub truth_by_symbol : (s : ℕ) → list_any (λ y. nat_eq y s) truths ≡ is_truth (operator_at s)
 truth_by_symbol zero  = refl
 truth_by_symbol (suc zero)  = refl
 truth_by_symbol (suc (suc zero))  = refl
@@ -123,7 +131,7 @@ truth_by_symbol (suc (suc (suc (suc (suc (suc (suc (suc (suc (suc (suc (suc (suc
 truth_by_symbol (suc (suc (suc (suc (suc (suc (suc (suc (suc (suc (suc (suc (suc (suc (suc (suc (suc (suc (suc (suc (suc (suc (suc (suc (suc (suc (suc (suc (suc (suc (suc (suc zero))))))))))))))))))))))))))))))))  = refl
 truth_by_symbol (suc (suc (suc (suc (suc (suc (suc (suc (suc (suc (suc (suc (suc (suc (suc (suc (suc (suc (suc (suc (suc (suc (suc (suc (suc (suc (suc (suc (suc (suc (suc (suc (suc zero)))))))))))))))))))))))))))))))))  = refl
 truth_by_symbol (suc (suc (suc (suc (suc (suc (suc (suc (suc (suc (suc (suc (suc (suc (suc (suc (suc (suc (suc (suc (suc (suc (suc (suc (suc (suc (suc (suc (suc (suc (suc (suc (suc (suc zero))))))))))))))))))))))))))))))))))  = refl
-truth_by_symbol (suc (suc (suc (suc (suc (suc (suc (suc (suc (suc (suc (suc (suc (suc (suc (suc (suc (suc (suc (suc (suc (suc (suc (suc (suc (suc (suc (suc (suc (suc (suc (suc (suc (suc (suc n))))))))))))))))))))))))))))))))))) = ?
+truth_by_symbol (suc (suc (suc (suc (suc (suc (suc (suc (suc (suc (suc (suc (suc (suc (suc (suc (suc (suc (suc (suc (suc (suc (suc (suc (suc (suc (suc (suc (suc (suc (suc (suc (suc (suc (suc n))))))))))))))))))))))))))))))))))) = none_of (suc (suc (suc (suc (suc (suc (suc (suc (suc (suc (suc (suc (suc (suc (suc (suc (suc (suc (suc (suc (suc (suc (suc (suc (suc (suc (suc (suc (suc (suc (suc (suc (suc (suc (suc n))))))))))))))))))))))))))))))))))) (omega arith)
 
 -- what gives 1 or 0 is an `int`, and the others give what they are
 pub truth_is_signed : (o : operator.Operator) (a b : Bool) → is_truth o ≡ true → result_is_unsigned o a b ≡ false

@@ -6,25 +6,12 @@ ghost use Rattle.xc_flat.specs.Walk.Truths.{is_truth};
 /// The places of these operators among the symbols.
 const NOT: u8 = 14;
 
-const LESS: u8 = 20;
-
-const GREATER: u8 = 21;
-
-const EQUAL: u8 = 27;
-
-const DIFFERS: u8 = 28;
-
-const AT_MOST: u8 = 29;
-
-const AT_LEAST: u8 = 30;
-
-const BOTH: u8 = 31;
-
-const EITHER: u8 = 32;
-
 const SHIFT_UP: u8 = 33;
 
 const SHIFT_DOWN: u8 = 34;
+
+/// The places of `< > == != <= >= && ||`.
+const TRUTHS: [u8; 8] = [20, 21, 27, 28, 29, 30, 31, 32];
 
 /// The place of `++`, the first symbol by which an operator assigns.
 const FIRST_ASSIGNING: u8 = 35;
@@ -33,7 +20,6 @@ const FIRST_ASSIGNING: u8 = 35;
 const ASSIGNING: [u8; 12] = [15, 16, 15, 16, 17, 18, 19, 10, 11, 12, 33, 34];
 
 /// Whether an operation on two words is that of `unsigned` words: where one of them is, and a shift where its left one is.
-#[tactic(auto, using(crate::proofs::Walk::Operators::plain_operation))]
 pub fn operation_is_unsigned(symbol: u8, left: bool, right: bool) -> bool
     ensures { result ≡ types.operation_is_unsigned (spec.operator_at symbol) left right }
 {
@@ -58,22 +44,13 @@ pub fn result_is_unsigned(symbol: u8, left: bool, right: bool) -> bool
 }
 
 /// Whether an operator gives the `int` 1 or 0.
-#[tactic(auto, using(crate::proofs::Walk::Operators::truth_by_symbol))]
 fn gives_truth(symbol: u8) -> bool
     ensures { result ≡ is_truth (spec.operator_at symbol) }
 {
-    symbol == LESS
-        || symbol == GREATER
-        || symbol == EQUAL
-        || symbol == DIFFERS
-        || symbol == AT_MOST
-        || symbol == AT_LEAST
-        || symbol == BOTH
-        || symbol == EITHER
+    TRUTHS.contains(&symbol)
 }
 
 /// Whether what an operator before an expression gives is `unsigned`.
-#[tactic(auto, using(crate::proofs::Walk::Operators::plain_sign))]
 pub fn sign_is_unsigned(symbol: u8, operand: bool) -> bool
     ensures { result ≡ types.sign_is_unsigned (spec.operator_at symbol) operand }
 {
