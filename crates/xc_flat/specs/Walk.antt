@@ -7,3 +7,5 @@ pub mod Functions
 pub mod Truths
 pub mod Contexts
 pub mod Handed
+pub mod Words
+pub mod Roots

@@ -1,6 +1,8 @@
 ghost use Rattle.std.specs.Prelude.{◌≡◌, [], ◌∷◌, ◌++◌, IfOk, OnOk, map};
 ghost use Rattle.xc_kernel.specs.Scopes.{Scope as Names};
+ghost use Rattle.xc_kernel.specs.Calls.{naming_none};
 ghost use Rattle.xc_kernel.specs.Copy as spec;
+ghost use Rattle.xc_kernel.specs.Flow.{first_of};
 ghost use Rattle.xc_kernel.specs.Kernels.{statement_of};
 ghost use Rattle.xc_flat.specs.Walk.Copied.{copy_of};
 
@@ -90,6 +92,25 @@ impl Copied {
         match self.blocks.push_front(path) {
             Ok(()) => Ok(()),
             Err(_) => Err(Memory),
+        }
+    }
+
+    /// A call's channels aren't named by the caller.
+    pub fn naming_none(self, alloc: Global) -> Copied
+        ensures { (behind : Names) → copy_of result behind ≡ naming_none (copy_of self behind) }
+    {
+        let mut copied = self;
+        copied.named = VecDeque::new(alloc);
+        copied
+    }
+
+    /// The path of the first channel that is named, and the empty path where none is.
+    pub fn first_named(&self) -> &[u32]
+        ensures { (behind : Names) → result.now ≡ first_of (copy_of self.now behind).named }
+    {
+        match self.named.front() {
+            None => &[],
+            Some(path) => path.as_slice(),
         }
     }
 

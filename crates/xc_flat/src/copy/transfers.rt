@@ -1,4 +1,4 @@
-#![tactic(auto, using(crate::proofs::Walk::Expressions::words))]
+#![tactic(none)]
 
 ghost use Rattle.std.specs.Prelude.{◌≡◌, IfOk, option_map, option_to_list};
 ghost use Rattle.xc_tree.specs.Trees as tree;
