@@ -5,3 +5,4 @@ pub mod Functions
 pub mod PathSets
 pub mod Operators
 pub mod Expressions
+pub mod Flow

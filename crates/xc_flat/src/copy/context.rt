@@ -1,4 +1,4 @@
-#![tactic(none)]
+#![tactic(auto, using(crate::proofs::Walk::Expressions::words))]
 
 ghost use Rattle.std.specs.Prelude.{◌≡◌, [], ◌∷◌, IfOk};
 ghost use Rattle.xc_kernel.specs.Context as spec;
@@ -99,6 +99,7 @@ impl<'p, 'a> Context<'p, 'a> {
     }
 
     /// The names that each function knows. The one error is want of memory, or of numbers for 2^32 ports and more.
+    #[tactic(auto)]
     pub fn scope_of_ports(&self, alloc: Global) -> Result<Scope<'a>, Memory>
         ensures { IfOk result (λ scope. scope_of scope ≡ (context_of self.now).ports) }
     {

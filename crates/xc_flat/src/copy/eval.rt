@@ -21,7 +21,6 @@ pub fn eval(e: &Kx) -> Option<u32>
 }
 
 /// What stands at a place: 0 in a word, and there is no element.
-#[cycle(eval)]
 fn eval_place(place: &Place) -> Option<u32>
     ensures { result ≡ word_in (spec.eval_place [] (kernel.place_of place.now)) }
 {

@@ -1,4 +1,4 @@
-#![tactic(none)]
+#![tactic(auto, using(crate::proofs::Walk::Expressions::words))]
 
 ghost use Rattle.std.specs.Prelude.{◌≡◌, ◌++◌, [], ◌∷◌, IfOk, OnOk, map, option_map, option_to_list};
 ghost use Rattle.xc_kernel.specs.Calls as calls;
@@ -20,6 +20,7 @@ use xw_words::{List, Memory, Pos};
 
 impl<'p, 'a> Context<'p, 'a> {
     /// The statements of a copy as the block of this path. The one error is want of memory.
+    #[tactic(auto)]
     pub fn as_block(&self, alloc: Global, path: List<u32>, mut copied: Copied) -> Result<Copied, Memory>
         ensures { IfOk result (λ block. (behind : Names) → copy_of block behind ≡ calls.as_block (context_of self.now) path (copy_of copied behind)) }
     {
@@ -38,6 +39,7 @@ impl<'p, 'a> Context<'p, 'a> {
 
     /// A loop of this path: its body in a block that `continue` leaves, what else is done in each turn, and what follows each.
     /// The one error is want of memory.
+    #[tactic(auto)]
     pub fn loop_at(
         &self,
         alloc: Global,
@@ -88,6 +90,7 @@ pub struct LoopPaths {
 }
 
 /// What is done where the test holds, and where not. The one error is want of memory.
+#[tactic(auto)]
 pub fn if_copy(alloc: Global, test: Kx, mut first: Copied, mut second: Copied) -> Result<Copied, Memory>
     ensures { IfOk result (λ copied. (between behind : Names) → copy_of copied behind ≡ spec.if_copy (kernel.expression_of test) (copy_of first between) (copy_of second behind)) }
 {

@@ -1,9 +1,12 @@
-#![tactic(none)]
+#![tactic(auto, using(crate::proofs::Walk::Expressions::words))]
 
-ghost use Rattle.std.specs.Prelude.{◌≡◌, IfOk, map, min};
+ghost use Rattle.std.specs.Prelude.{◌≡◌, false, IfOk, map, min};
 ghost use Rattle.xc_tree.specs.Trees as tree;
 ghost use Rattle.xc_kernel.specs.Parameters as spec;
+ghost use Rattle.xc_kernel.specs.Context as contexts;
+ghost use Rattle.xc_kernel.specs.Copy as copies;
 ghost use Rattle.xc_kernel.specs.Kernels as kernel;
+ghost use Rattle.xc_kernel.specs.Scopes.{Scope as Names};
 ghost use Rattle.xc_flat.specs.Walk.Contexts.{context_of};
 ghost use Rattle.xc_flat.specs.Walk.Copied.{copy_of};
 ghost use Rattle.xc_flat.specs.Walk.Handed.{IsPassed};
@@ -15,6 +18,7 @@ use crate::copy::expressions::{index_test, word};
 use crate::copy::paths::path_at;
 use crate::copy::scope::{Entity, Scope};
 use std::alloc::Global;
+use xc_kernel::Kx;
 use xc_tree::{Arg, Ex, Expr, Param, ParamKind};
 use xw_words::{Memory, Pos};
 
@@ -35,6 +39,7 @@ pub struct Entered<'a> {
 impl<'p, 'a> Context<'p, 'a> {
     /// All arguments of a call, from left to right; a function knows the ports and its parameters. The one error is want of
     /// memory.
+    #[tactic(auto)]
     pub fn all_passed(
         &self,
         alloc: Global,
@@ -84,6 +89,7 @@ impl<'p, 'a> Context<'p, 'a> {
     }
 
     /// By value: a variable of its own holds the argument's word. The one error is want of memory.
+    #[tactic(auto)]
     fn by_value(
         &self,
         alloc: Global,
@@ -97,15 +103,14 @@ impl<'p, 'a> Context<'p, 'a> {
     {
         let value = word(alloc, self.numbers, scope, argument)?.value;
         let path = path_at(alloc, own, pos)?;
-        let mut copied = Copied::one_statement(alloc, self.set_word(path.as_slice(), value))?;
-        copied.add_variable(self.word_variable(alloc, false, path.as_slice(), pos)?)?;
+        let copied = self.stored(alloc, path.as_slice(), pos, value)?;
         Ok(Handed {
             copied,
             entity: Entity::Word(path, unsigned),
         })
     }
 
-    /// By reference: a name, or an element, whose index a variable of its own holds. The one error is want of memory.
+    /// By reference: a name, or an element. The one error is want of memory.
     fn by_reference(
         &self,
         alloc: Global,
@@ -118,34 +123,63 @@ impl<'p, 'a> Context<'p, 'a> {
     {
         match &argument.kind {
             Ex::Name(name) => stands_for(alloc, scope.entity(name.as_slice())),
-            Ex::Index(name, index) => match scope.entity(name.as_slice()) {
-                Some(Entity::Array(array, words, unsigned)) => {
-                    let index = word(alloc, self.numbers, scope, index)?.value;
-                    let test = index_test(alloc, index, *words, argument.pos)?;
-                    let path = path_at(alloc, own, pos)?;
-                    let mut copied =
-                        Copied::one_statement(alloc, self.set_word(path.as_slice(), test))?;
-                    copied.add_variable(self.word_variable(alloc, false, path.as_slice(), pos)?)?;
-                    Ok(Handed {
-                        copied,
-                        entity: Entity::Element(array.copy(alloc)?, path, *unsigned),
-                    })
-                }
-                Some(Entity::Word(_, _)) => stands_for(alloc, None),
-                Some(Entity::Element(_, _, _)) => stands_for(alloc, None),
-                Some(Entity::Channel(_)) => stands_for(alloc, None),
-                Some(Entity::Timer(_)) => stands_for(alloc, None),
-                Some(Entity::Port(_)) => stands_for(alloc, None),
-                Some(Entity::Constant(_)) => stands_for(alloc, None),
-                Some(Entity::Unknown) => stands_for(alloc, None),
-                None => stands_for(alloc, None),
-            },
+            Ex::Index(name, index) => {
+                let entity = scope.entity(name.as_slice());
+                self.by_element(alloc, scope, own, pos, index, argument.pos, entity)
+            }
             Ex::Num(_, _) => stands_for(alloc, None),
             Ex::Un(_, _) => stands_for(alloc, None),
             Ex::Bin(_, _, _) => stands_for(alloc, None),
             Ex::Cond(_, _, _) => stands_for(alloc, None),
             Ex::Cast(_, _) => stands_for(alloc, None),
         }
+    }
+
+    /// An element by reference: a variable of its own holds the index, which is tested at the call. The one error is want of
+    /// memory.
+    #[tactic(auto)]
+    fn by_element(
+        &self,
+        alloc: Global,
+        scope: &Scope<'a>,
+        own: &[u32],
+        pos: Pos,
+        index: &Expr,
+        array_pos: Pos,
+        entity: Option<&Entity>,
+    ) -> Result<Handed, Memory>
+        ensures { IfOk result (λ handed. IsPassed (spec.by_element (context_of self.now) (scope_of scope.now) own.now pos (tree.expression_of index.now) array_pos (entity_found entity.entry)) handed) }
+    {
+        match entity {
+            Some(Entity::Array(array, words, unsigned)) => {
+                let value = word(alloc, self.numbers, scope, index)?.value;
+                let test = index_test(alloc, value, *words, array_pos)?;
+                let path = path_at(alloc, own, pos)?;
+                let copied = self.stored(alloc, path.as_slice(), pos, test)?;
+                Ok(Handed {
+                    copied,
+                    entity: Entity::Element(array.copy(alloc)?, path, *unsigned),
+                })
+            }
+            Some(Entity::Word(_, _)) => stands_for(alloc, None),
+            Some(Entity::Element(_, _, _)) => stands_for(alloc, None),
+            Some(Entity::Channel(_)) => stands_for(alloc, None),
+            Some(Entity::Timer(_)) => stands_for(alloc, None),
+            Some(Entity::Port(_)) => stands_for(alloc, None),
+            Some(Entity::Constant(_)) => stands_for(alloc, None),
+            Some(Entity::Unknown) => stands_for(alloc, None),
+            None => stands_for(alloc, None),
+        }
+    }
+
+    /// The copy of a parameter's variable of this path, which holds a word. The one error is want of memory.
+    #[tactic(auto)]
+    fn stored(&self, alloc: Global, path: &[u32], pos: Pos, value: Kx) -> Result<Copied, Memory>
+        ensures { IfOk result (λ copied. (behind : Names) → copy_of copied behind ≡ copies.with_variable (copies.one_statement behind (contexts.set_word (context_of self.now) path.now (kernel.expression_of value))) (contexts.word_variable (context_of self.now) false path.now pos)) }
+    {
+        let mut copied = Copied::one_statement(alloc, self.set_word(path, value))?;
+        copied.add_variable(self.word_variable(alloc, false, path, pos)?)?;
+        Ok(copied)
     }
 }
 

@@ -1,4 +1,4 @@
-#![tactic(none)]
+#![tactic(auto, using(crate::proofs::Walk::Expressions::words))]
 
 ghost use Rattle.std.specs.Prelude.{◌≡◌, IfOk, option_map, option_to_list};
 ghost use Rattle.xc_tree.specs.Trees as tree;
@@ -38,6 +38,7 @@ struct Target {
 
 impl<'p, 'a> Context<'p, 'a> {
     /// The copy of an output, with its channel named. The one error is want of memory.
+    #[tactic(auto)]
     pub fn output(&self, alloc: Global, scope: &Scope<'a>, o: &Send) -> Result<Copied, Memory>
         ensures { IfOk result (λ copied. copy_of copied (scope_of scope.now) ≡ spec.output_copy (context_of self.now) (scope_of scope.now) (tree.output_of o.now)) }
     {
@@ -54,6 +55,7 @@ impl<'p, 'a> Context<'p, 'a> {
     }
 
     /// The copy of an input, with its channel named and its name declared. The one error is want of memory.
+    #[tactic(auto)]
     pub fn input(
         &self,
         alloc: Global,
@@ -68,6 +70,7 @@ impl<'p, 'a> Context<'p, 'a> {
     }
 
     /// The kernel's input, and what it declares and names. The one error is want of memory.
+    #[tactic(auto)]
     pub fn received(
         &self,
         alloc: Global,
@@ -96,6 +99,7 @@ impl<'p, 'a> Context<'p, 'a> {
     }
 
     /// Where the word of an input goes, and the name that the target declares. The one error is want of memory.
+    #[tactic(auto)]
     fn target(
         &self,
         alloc: Global,
@@ -175,6 +179,7 @@ impl<'p, 'a> Context<'p, 'a> {
     }
 
     /// A word variable that a name at a place declares. The one error is want of memory.
+    #[tactic(auto)]
     pub fn declares_word(
         &self,
         alloc: Global,
@@ -196,6 +201,7 @@ impl<'p, 'a> Context<'p, 'a> {
 
 /// The copy of a communication without its statement: it names what a name stands for, where that is a channel. The one error
 /// is want of memory.
+#[tactic(auto)]
 fn channel_named(alloc: Global, scope: &Scope, name: &[u8]) -> Result<Copied, Memory>
     ensures { IfOk result (λ copied. (behind : Names) → copy_of copied behind ≡ spec.naming (scope_of scope.now) name.now (copies.no_copy behind)) }
 {
