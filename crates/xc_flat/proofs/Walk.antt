@@ -6,3 +6,6 @@ pub mod PathSets
 pub mod Operators
 pub mod Expressions
 pub mod Flow
+pub mod Parameters
+pub mod Transfers
+pub mod Growth

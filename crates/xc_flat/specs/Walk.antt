@@ -8,4 +8,3 @@ pub mod Truths
 pub mod Contexts
 pub mod Handed
 pub mod Words
-pub mod Roots

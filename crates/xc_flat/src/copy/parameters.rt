@@ -10,7 +10,7 @@ ghost use Rattle.xc_kernel.specs.Scopes.{Scope as Names};
 ghost use Rattle.xc_flat.specs.Walk.Contexts.{context_of};
 ghost use Rattle.xc_flat.specs.Walk.Copied.{copy_of};
 ghost use Rattle.xc_flat.specs.Walk.Handed.{IsPassed};
-ghost use Rattle.xc_flat.specs.Walk.Scopes.{entity_found, scope_of};
+ghost use Rattle.xc_flat.specs.Walk.Scopes.{entity_found, entity_meant, scope_of};
 
 use crate::copy::context::Context;
 use crate::copy::copied::Copied;
@@ -123,10 +123,12 @@ impl<'p, 'a> Context<'p, 'a> {
     {
         match &argument.kind {
             Ex::Name(name) => stands_for(alloc, scope.entity(name.as_slice())),
-            Ex::Index(name, index) => {
-                let entity = scope.entity(name.as_slice());
-                self.by_element(alloc, scope, own, pos, index, argument.pos, entity)
-            }
+            Ex::Index(name, index) => match scope.entity(name.as_slice()) {
+                None => stands_for(alloc, None),
+                Some(array) => {
+                    self.by_element(alloc, scope, own, pos, index, argument.pos, array)
+                }
+            },
             Ex::Num(_, _) => stands_for(alloc, None),
             Ex::Un(_, _) => stands_for(alloc, None),
             Ex::Bin(_, _, _) => stands_for(alloc, None),
@@ -146,29 +148,29 @@ impl<'p, 'a> Context<'p, 'a> {
         pos: Pos,
         index: &Expr,
         array_pos: Pos,
-        entity: Option<&Entity>,
+        array: &Entity,
     ) -> Result<Handed, Memory>
-        ensures { IfOk result (λ handed. IsPassed (spec.by_element (context_of self.now) (scope_of scope.now) own.now pos (tree.expression_of index.now) array_pos (entity_found entity.entry)) handed) }
+        ensures { IfOk result (λ handed. IsPassed (spec.by_element (context_of self.now) (scope_of scope.now) own.now pos (tree.expression_of index.now) array_pos (entity_meant array.now)) handed) }
     {
-        match entity {
-            Some(Entity::Array(array, words, unsigned)) => {
+        match array {
+            Entity::Array(path, words, unsigned) => {
                 let value = word(alloc, self.numbers, scope, index)?.value;
                 let test = index_test(alloc, value, *words, array_pos)?;
-                let path = path_at(alloc, own, pos)?;
-                let copied = self.stored(alloc, path.as_slice(), pos, test)?;
+                let own = path_at(alloc, own, pos)?;
+                let copied = self.stored(alloc, own.as_slice(), pos, test)?;
+                let array = path.copy(alloc)?;
                 Ok(Handed {
                     copied,
-                    entity: Entity::Element(array.copy(alloc)?, path, *unsigned),
+                    entity: Entity::Element(array, own, *unsigned),
                 })
             }
-            Some(Entity::Word(_, _)) => stands_for(alloc, None),
-            Some(Entity::Element(_, _, _)) => stands_for(alloc, None),
-            Some(Entity::Channel(_)) => stands_for(alloc, None),
-            Some(Entity::Timer(_)) => stands_for(alloc, None),
-            Some(Entity::Port(_)) => stands_for(alloc, None),
-            Some(Entity::Constant(_)) => stands_for(alloc, None),
-            Some(Entity::Unknown) => stands_for(alloc, None),
-            None => stands_for(alloc, None),
+            Entity::Word(_, _) => stands_for(alloc, None),
+            Entity::Element(_, _, _) => stands_for(alloc, None),
+            Entity::Channel(_) => stands_for(alloc, None),
+            Entity::Timer(_) => stands_for(alloc, None),
+            Entity::Port(_) => stands_for(alloc, None),
+            Entity::Constant(_) => stands_for(alloc, None),
+            Entity::Unknown => stands_for(alloc, None),
         }
     }
 

@@ -1,6 +1,6 @@
 #![tactic(auto, using(crate::proofs::Walk::Expressions::words))]
 
-ghost use Rattle.std.specs.Prelude.{◌≡◌, IfOk, option_map, option_to_list};
+ghost use Rattle.std.specs.Prelude.{◌≡◌, [], ◌∷◌, IfOk, option_map};
 ghost use Rattle.xc_tree.specs.Trees as tree;
 ghost use Rattle.xc_kernel.specs.Transfers as spec;
 ghost use Rattle.xc_kernel.specs.Context as contexts;
@@ -15,12 +15,13 @@ use crate::copy::context::Context;
 use crate::copy::copied::Copied;
 use crate::copy::entities::resource;
 use crate::copy::expressions::{place, word};
-use crate::copy::paths::{path_at, same_path};
+use crate::copy::paths::path_at;
 use crate::copy::scope::{Entity, Scope};
 use std::alloc::Global;
+use std::collections::VecDeque;
 use xc_kernel::{KHead, KOut, Kst, Kx, Place};
 use xc_tree::{Dest, Head, Send, Timed, When};
-use xw_words::{Memory, Pos};
+use xw_words::{List, Memory, Pos};
 
 /// An input of the kernel, and the copy of what it declares and names, without its statement.
 #[derive(Drop)]
@@ -201,32 +202,45 @@ impl<'p, 'a> Context<'p, 'a> {
 
 /// The copy of a communication without its statement: it names what a name stands for, where that is a channel. The one error
 /// is want of memory.
-#[tactic(auto)]
 fn channel_named(alloc: Global, scope: &Scope, name: &[u8]) -> Result<Copied, Memory>
     ensures { IfOk result (λ copied. (behind : Names) → copy_of copied behind ≡ spec.naming (scope_of scope.now) name.now (copies.no_copy behind)) }
 {
-    let mut copied = Copied::nothing(alloc);
-    if let Some(path) = channel_path(scope.entity(name)) {
-        if copied.named.push_back(same_path(alloc, path)?).is_err() {
-            return Err(Memory);
-        }
-    }
-    Ok(copied)
+    let named = channels_in(alloc, scope.entity(name))?;
+    Ok(Copied {
+        code: VecDeque::new(alloc),
+        variables: VecDeque::new(alloc),
+        channels: VecDeque::new(alloc),
+        timers: VecDeque::new(alloc),
+        blocks: VecDeque::new(alloc),
+        instances: VecDeque::new(alloc),
+        named,
+    })
 }
 
-/// The path of a channel.
-fn channel_path(entity: Option<&Entity>) -> Option<&[u32]>
-    ensures { option_to_list (option_map (λ path. path.now) result) ≡ spec.channel_of (entity_found entity.entry) }
+/// The channel that a name stands for, if it does. The one error is want of memory.
+fn channels_in(alloc: Global, entity: Option<&Entity>) -> Result<VecDeque<List<u32>>, Memory>
+    ensures { IfOk result (λ paths. paths.items ≡ spec.channel_of (entity_found entity.entry)) }
 {
     match entity {
-        Some(Entity::Channel(path)) => Some(path.as_slice()),
-        Some(Entity::Word(_, _)) => None,
-        Some(Entity::Array(_, _, _)) => None,
-        Some(Entity::Element(_, _, _)) => None,
-        Some(Entity::Timer(_)) => None,
-        Some(Entity::Port(_)) => None,
-        Some(Entity::Constant(_)) => None,
-        Some(Entity::Unknown) => None,
-        None => None,
+        Some(Entity::Channel(path)) => one_path(alloc, path),
+        Some(Entity::Word(_, _)) => Ok(VecDeque::new(alloc)),
+        Some(Entity::Array(_, _, _)) => Ok(VecDeque::new(alloc)),
+        Some(Entity::Element(_, _, _)) => Ok(VecDeque::new(alloc)),
+        Some(Entity::Timer(_)) => Ok(VecDeque::new(alloc)),
+        Some(Entity::Port(_)) => Ok(VecDeque::new(alloc)),
+        Some(Entity::Constant(_)) => Ok(VecDeque::new(alloc)),
+        Some(Entity::Unknown) => Ok(VecDeque::new(alloc)),
+        None => Ok(VecDeque::new(alloc)),
+    }
+}
+
+/// One path by itself. The one error is want of memory.
+fn one_path(alloc: Global, path: &List<u32>) -> Result<VecDeque<List<u32>>, Memory>
+    ensures { IfOk result (λ paths. paths.items ≡ path.now ∷ []) }
+{
+    let mut paths = VecDeque::new(alloc);
+    match paths.push_back(path.copy(alloc)?) {
+        Ok(()) => Ok(paths),
+        Err(_) => Err(Memory),
     }
 }

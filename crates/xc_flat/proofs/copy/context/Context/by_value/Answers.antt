@@ -8,7 +8,7 @@ use Rattle.xc_flat.proofs.copy.context.Context.by_value.Goals as goal
 pub returns : goal.returns
 returns c =
     let here = context_of c.args.self.now in
-    let path = c.as_slice.ensures.value ∙ c.in_ok-path.ensures in
+    let path = c.as_slice.ensures ∙ c.in_ok-path.ensures in
     let value = c.in_ok-value.ensures.value in
     record {
       copy = λ behind. c.in_ok-copied.ensures behind ∙ λ i. copies.with_variable (copies.one_statement behind (contexts.set_word here (path i) (value i))) (contexts.word_variable here false (path i) c.args.pos);

@@ -13,9 +13,9 @@ returns c = λ between behind.
     let here = context_of c.args.self.now in
     let last = option_to_list (option_map kernel.statement_of c.args.last) in
     let code = c.take_code.ensures.code behind in
-    let path = c.as_slice.ensures.value in
+    let path = c.as_slice.ensures in
     let round = ap (map kernel.statement_of) c.in_ok-round.ensures in
-    let whole = c.as_slice-2.ensures.value in
+    let whole = c.as_slice-2.ensures in
     loop_made here (copy_of c.args.body behind) (c.take_code-followed.ensures.code between)
     (c.in_ok-turn.ensures ∙ λ i. contexts.block_at here (path i) (code i) ∷ last)
     c.requires (c.take_code-followed.ensures.left between) (c.take_code.ensures.left behind) (c.in_ok-copied.ensures between behind)
