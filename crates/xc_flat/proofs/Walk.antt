@@ -9,3 +9,5 @@ pub mod Flow
 pub mod Parameters
 pub mod Transfers
 pub mod Growth
+pub mod Parts
+pub mod Depths

@@ -8,3 +8,6 @@ pub mod Truths
 pub mod Contexts
 pub mod Handed
 pub mod Words
+pub mod Growth
+pub mod Parts
+pub mod Roots

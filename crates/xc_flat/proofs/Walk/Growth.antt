@@ -6,6 +6,7 @@ use Rattle.xc_kernel.specs.Operators.{equals}
 use Rattle.xc_kernel.specs.Paths.{Path, path_at}
 use Rattle.xc_kernel.specs.Scopes.{Scope, Binding, Entity, with_name}
 use Rattle.xc_kernel.specs.Programs.{Function}
+use Rattle.xc_flat.specs.Walk.Growth.{Grows}
 use Rattle.xc_kernel.specs.Copy.{Copy, no_copy, joined, followed_by}
 use Rattle.xc_kernel.specs.Context.{Context, in_branch, in_loop, in_case}
 use Rattle.xc_kernel.specs.Calls.{CopiesCall, called, call_by, right_copy}
@@ -13,11 +14,6 @@ use Rattle.xc_kernel.specs.Declarations.{initial_copy, kind_copy, declarations_c
 use Rattle.xc_kernel.specs.Transfers.{target_copy}
 use Rattle.xc_kernel.specs.Flow.{replicated, numbered_copy}
 use Rattle.xc_kernel.specs.Statements.{assign_by, return_copy, statement_copy, action_copy, maybe_copy, statements_copy, branch_copy, branches_copy, calls_copy, pos_of_branch}
-
--- some names, and behind them others
-pub record Grows (before after : Scope) : Type 0 where
-  pub more : List Binding
-  pub is : after ≡ more ++ before
 
 pub as_before : (scope : Scope) → Grows scope scope
 as_before scope = record { more = []; is = refl }

@@ -23,7 +23,7 @@ names_joined scope name copy named other none both =
 
 -- a statement in the place of none
 pub coded : (copy : Copy) {names added : Copy} {s t : kernel.Statement} → copy.code ≡ [] → names ≡ copy → s ≡ t → added ≡ with_code names (names.code ++ s ∷ []) → added ≡ with_code copy (t ∷ [])
-coded copy none names s added = added ∙ (λ i. with_code (names i) ((names i).code ++ s i ∷ [])) ∙ λ i. with_code copy (none i ++ _ ∷ [])
+coded copy {t = t} none names s added = added ∙ (λ i. with_code (names i) ((names i).code ++ s i ∷ [])) ∙ λ i. with_code copy (none i ++ t ∷ [])
 
 -- a target has no statement
 pub target_code : (c : Context) (scope : Scope) (t : tree.Target) → (target_copy c scope t).code ≡ []

@@ -43,15 +43,20 @@ impl<'p, 'a> Context<'p, 'a> {
     pub fn output(&self, alloc: Global, scope: &Scope<'a>, o: &Send) -> Result<Copied, Memory>
         ensures { IfOk result (λ copied. copy_of copied (scope_of scope.now) ≡ spec.output_copy (context_of self.now) (scope_of scope.now) (tree.output_of o.now)) }
     {
+        let res = resource(self.numbers, scope.entity(o.name.as_slice()));
         let named = channel_named(alloc, scope, o.name.as_slice())?;
+        let time = self.time(alloc, scope, &o.time)?;
+        let value = word(alloc, self.numbers, scope, &o.value)?;
+        let stamp = self.stamp(alloc, scope, &o.stamp)?;
         let output = KOut {
-            res: resource(self.numbers, scope.entity(o.name.as_slice())),
-            time: self.time(alloc, scope, &o.time)?,
-            value: word(alloc, self.numbers, scope, &o.value)?.value,
-            stamp: self.stamp(alloc, scope, &o.stamp)?,
+            res,
+            time,
+            value: value.value,
+            stamp,
             pos: o.pos,
         };
-        let copied = named.followed_by(Copied::one_statement(alloc, Kst::Out(output))?)?;
+        let one = Copied::one_statement(alloc, Kst::Out(output))?;
+        let copied = named.followed_by(one)?;
         Ok(copied)
     }
 

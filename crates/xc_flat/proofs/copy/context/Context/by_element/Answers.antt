@@ -7,6 +7,7 @@ use Rattle.xc_kernel.specs.Operators.{bracket}
 use Rattle.xc_kernel.specs.Parameters as spec
 use Rattle.xc_kernel.specs.Plain as plain
 use Rattle.xc_kernel.specs.Scopes as scopes
+use Rattle.xc_flat.specs.declared.copy.scope.Entity.TheVariants.{Element}
 use Rattle.xc_flat.specs.Walk.Contexts.{context_of}
 use Rattle.xc_flat.specs.Walk.Handed.{IsPassed}
 use Rattle.xc_flat.specs.Walk.Scopes.{entity_meant, scope_of}
@@ -19,7 +20,7 @@ returns-in_ok-array-in-Array c =
     let slice = c.as_slice.ensures ∙ path in
     let value = c.in_ok-value-in-Array.ensures.value in
     let test = c.in_ok-test-in-Array.ensures ∙ ap (λ e. plain.operation bracket true (two_operands e (plain.number c.in-Array.words)) c.args.array_pos) value in
-    subst (λ e. IsPassed (spec.by_element here (scope_of c.args.scope.now) c.args.own.now c.args.pos (tree.expression_of c.args.index.now) c.args.array_pos (entity_meant e)) _) (sym c.in-Array.is)
+    subst (λ e. IsPassed (spec.by_element here (scope_of c.args.scope.now) c.args.own.now c.args.pos (tree.expression_of c.args.index.now) c.args.array_pos (entity_meant e)) (record { copied = c.in_ok-copied-in-Array.copied; entity = Element c.in_ok-array-in-Array.array c.in_ok-own-in-Array.own c.in-Array.unsigned })) (sym c.in-Array.is)
     (record {
       copy = λ behind. c.in_ok-copied-in-Array.ensures behind ∙ λ i. copies.with_variable (copies.one_statement behind (contexts.set_word here (slice i) (test i))) (contexts.word_variable here false (slice i) c.args.pos);
       entity = λ i. scopes.an_element (c.in_ok-array-in-Array.ensures i) (path i) c.in-Array.unsigned;
