@@ -15,7 +15,12 @@ use xc_kernel::{KRes, Kx, Place};
 use xw_words::{Memory, Pos};
 
 /// The word that a name alone stands for. The one error is want of memory.
-pub fn word_of_name(alloc: Global, numbers: &Numbers, entity: Option<&Entity>, pos: Pos) -> Result<Kx, Memory>
+pub fn word_of_name(
+    alloc: Global,
+    numbers: &Numbers,
+    entity: Option<&Entity>,
+    pos: Pos,
+) -> Result<Kx, Memory>
     ensures { IfOk result (λ e. kernel.expression_of e ≡ spec.word_of_entity (numbering_of numbers.now) pos (entity_found entity.entry)) }
 {
     match entity {
@@ -26,7 +31,12 @@ pub fn word_of_name(alloc: Global, numbers: &Numbers, entity: Option<&Entity>, p
 }
 
 /// The place that a name alone stands for. The one error is want of memory.
-pub fn place_of_name(alloc: Global, numbers: &Numbers, entity: Option<&Entity>, pos: Pos) -> Result<Place, Memory>
+pub fn place_of_name(
+    alloc: Global,
+    numbers: &Numbers,
+    entity: Option<&Entity>,
+    pos: Pos,
+) -> Result<Place, Memory>
     ensures { IfOk result (λ p. kernel.place_of p ≡ spec.place_of_entity (numbering_of numbers.now) pos (entity_found entity.entry)) }
 {
     match entity {
@@ -35,7 +45,12 @@ pub fn place_of_name(alloc: Global, numbers: &Numbers, entity: Option<&Entity>, 
     }
 }
 
-fn place_of_entity(alloc: Global, numbers: &Numbers, entity: &Entity, pos: Pos) -> Result<Place, Memory>
+fn place_of_entity(
+    alloc: Global,
+    numbers: &Numbers,
+    entity: &Entity,
+    pos: Pos,
+) -> Result<Place, Memory>
     ensures { IfOk result (λ p. kernel.place_of p ≡ spec.place_of_entity (numbering_of numbers.now) pos (entity_meant entity.now)) }
 {
     match entity {

@@ -16,7 +16,11 @@ pub fn eval(e: &Kx) -> Option<u32>
     match e {
         Kx::Num(value) => Some(*value),
         Kx::Read(place) => eval_place(place),
-        Kx::Op(symbol, unsigned, operands, _) => eval_operation(*symbol, *unsigned, operands.as_slice()),
+        Kx::Op(symbol, unsigned, operands, _) => eval_operation(
+            *symbol,
+            *unsigned,
+            operands.as_slice(),
+        ),
     }
 }
 
@@ -44,7 +48,11 @@ fn eval_operation(symbol: u8, unsigned: bool, operands: &[Kx]) -> Option<u32> {
     if operands.len() == 2 {
         return with_second(symbol, unsigned, first, second);
     }
-    if first != 0 { second } else { eval(&operands[2]) }
+    if first != 0 {
+        second
+    } else {
+        eval(&operands[2])
+    }
 }
 
 /// Of one word; `+` leaves it.
@@ -81,33 +89,15 @@ fn with_second(symbol: u8, unsigned: bool, a: u32, second: Option<u32>) -> Optio
 /// Of two words, for operators of `unsigned` words or else of `int` ones.
 fn of_two(symbol: u8, unsigned: bool, a: u32, b: u32) -> Option<u32> {
     match symbol {
-        4 => {
-            if a < b {
-                Some(a)
-            } else {
-                None
-            }
-        }
+        4 => { if a < b { Some(a) } else { None } }
         10 => Some(a & b),
         11 => Some(a | b),
         12 => Some(a ^ b),
         15 => Some(a.wrapping_add(b)),
         16 => Some(a.wrapping_sub(b)),
         17 => Some(a.wrapping_mul(b)),
-        18 => {
-            if unsigned {
-                div_u(a, b)
-            } else {
-                div_s(a, b)
-            }
-        }
-        19 => {
-            if unsigned {
-                rem_u(a, b)
-            } else {
-                rem_s(a, b)
-            }
-        }
+        18 => { if unsigned { div_u(a, b) } else { div_s(a, b) } }
+        19 => { if unsigned { rem_u(a, b) } else { rem_s(a, b) } }
         20 => Some(truth(is_less(unsigned, a, b))),
         21 => Some(truth(is_less(unsigned, b, a))),
         27 => Some(truth(a == b)),

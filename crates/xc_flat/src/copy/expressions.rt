@@ -11,9 +11,13 @@ ghost use Rattle.xc_kernel.specs.Types as types;
 ghost use Rattle.xc_flat.specs.Walk.Numbers.{numbering_of};
 ghost use Rattle.xc_flat.specs.Walk.Scopes.{entity_found, scope_of};
 
-use crate::copy::entities::{array_number, elements_are_unsigned, name_is_unsigned, place_of_name, word_of_name};
+use crate::copy::entities::{
+    array_number, elements_are_unsigned, name_is_unsigned, place_of_name, word_of_name,
+};
 use crate::copy::numbers::Numbers;
-use crate::copy::operators::{operation_is_unsigned, operator_of, result_is_unsigned, sign_is_unsigned};
+use crate::copy::operators::{
+    operation_is_unsigned, operator_of, result_is_unsigned, sign_is_unsigned,
+};
 use crate::copy::scope::Scope;
 use std::alloc::{AllocError, Global};
 use xc_kernel::{Kx, Place};
@@ -98,7 +102,13 @@ fn unary(alloc: Global, symbol: u8, operand: Typed, pos: Pos) -> Result<Typed, M
 }
 
 /// An operator between two expressions. The one error is want of memory.
-pub fn binary(alloc: Global, symbol: u8, left: Typed, right: Typed, pos: Pos) -> Result<Typed, Memory>
+pub fn binary(
+    alloc: Global,
+    symbol: u8,
+    left: Typed,
+    right: Typed,
+    pos: Pos,
+) -> Result<Typed, Memory>
     ensures value { IfOk result (λ w. kernel.expression_of w.value ≡ plain.operation symbol (types.operation_is_unsigned (operators.operator_at symbol) left.unsigned right.unsigned) (spec.two_operands (kernel.expression_of left.value) (kernel.expression_of right.value)) pos) }
     ensures unsigned { IfOk result (λ w. w.unsigned ≡ types.result_is_unsigned (operators.operator_at symbol) left.unsigned right.unsigned) }
 {

@@ -21,7 +21,12 @@ use xw_words::{List, Memory, Pos};
 impl<'p, 'a> Context<'p, 'a> {
     /// The statements of a copy as the block of this path. The one error is want of memory.
     #[tactic(auto)]
-    pub fn as_block(&self, alloc: Global, path: List<u32>, mut copied: Copied) -> Result<Copied, Memory>
+    pub fn as_block(
+        &self,
+        alloc: Global,
+        path: List<u32>,
+        mut copied: Copied,
+    ) -> Result<Copied, Memory>
         ensures { IfOk result (λ block. (behind : Names) → copy_of block behind ≡ calls.as_block (context_of self.now) path (copy_of copied behind)) }
     {
         let code = copied.take_code(alloc);
@@ -64,7 +69,13 @@ impl<'p, 'a> Context<'p, 'a> {
     }
 
     /// The statements of a loop's turn: the body in a block of this path, and what else is done. The one error is want of memory.
-    fn turn(&self, alloc: Global, path: &[u32], body: List<Kst>, last: Option<Kst>) -> Result<List<Kst>, Memory>
+    fn turn(
+        &self,
+        alloc: Global,
+        path: &[u32],
+        body: List<Kst>,
+        last: Option<Kst>,
+    ) -> Result<List<Kst>, Memory>
         ensures { IfOk result (λ turn. map kernel.statement_of turn ≡ contexts.block_at (context_of self.now) path.now (map kernel.statement_of body) ∷ option_to_list (option_map kernel.statement_of last)) }
     {
         let mut turn = single(alloc, self.block_at(path, body))?;
@@ -91,7 +102,12 @@ pub struct LoopPaths {
 
 /// What is done where the test holds, and where not. The one error is want of memory.
 #[tactic(auto)]
-pub fn if_copy(alloc: Global, test: Kx, mut first: Copied, mut second: Copied) -> Result<Copied, Memory>
+pub fn if_copy(
+    alloc: Global,
+    test: Kx,
+    mut first: Copied,
+    mut second: Copied,
+) -> Result<Copied, Memory>
     ensures { IfOk result (λ copied. (between behind : Names) → copy_of copied behind ≡ spec.if_copy (kernel.expression_of test) (copy_of first between) (copy_of second behind)) }
 {
     let then = first.take_code(alloc);

@@ -4,7 +4,6 @@ ghost use Rattle.xc_kernel.specs.Paths as spec_paths;
 ghost use Rattle.xc_kernel.specs.Paths.{Path, place_of_path, has_path, with_new};
 ghost use Rattle.xc_flat.specs.Walk.PathSets.{itself, paths_in};
 
-
 use indexmap::IndexSet;
 use std::alloc::Global;
 use std::collections::VecDeque;
@@ -60,10 +59,7 @@ pub struct Once<T> {
 }
 
 /// Each path of some instances once. The one error is want of memory, or of numbers for 2^32 instances and more.
-pub fn each_once<T: HasPath + Drop>(
-    alloc: Global,
-    mut seen: VecDeque<T>,
-) -> Result<Once<T>, Memory>
+pub fn each_once<T: HasPath + Drop>(alloc: Global, mut seen: VecDeque<T>) -> Result<Once<T>, Memory>
     ensures items { IfOk result (λ once. once.items.items ≡ spec_paths.each_once T.path_of seen.items) }
     ensures paths { IfOk result (λ once. paths_in once.paths ≡ map T.path_of once.items.items) }
     ensures few { IfOk result (λ once. length (paths_in once.paths) < 2 ^ 32) }

@@ -237,10 +237,14 @@ impl<'p, 'a> Context<'p, 'a> {
         scope: &mut Scope<'a>,
     ) -> Result<Rooted, Memory> {
         let core = core_of(alloc, &b.place, scope)?;
-        let copied = self
-            .on_core(core)
-            .statement(alloc, calls, &b.body, scope)?;
-        rooted.and_root(alloc, core, pos_of_place(main, &b.place), b.body.pos, copied)
+        let copied = self.on_core(core).statement(alloc, calls, &b.body, scope)?;
+        rooted.and_root(
+            alloc,
+            core,
+            pos_of_place(main, &b.place),
+            b.body.pos,
+            copied,
+        )
     }
 }
 

@@ -57,9 +57,7 @@ impl<'p, 'a> Context<'p, 'a> {
             St::Do(right) => self.right(alloc, calls, right, scope),
             St::Output(o) => self.output(alloc, scope, o),
             St::Input(i) => self.input(alloc, scope, i),
-            St::If(test, first, second) => {
-                self.choice(alloc, calls, test, first, second, scope)
-            }
+            St::If(test, first, second) => { self.choice(alloc, calls, test, first, second, scope) }
             St::While(test, body) => self.while_loop(alloc, calls, s.pos, test, body, scope),
             St::DoWhile(body, test) => self.do_while(alloc, calls, s.pos, body, test, scope),
             St::For(first, test, next, body) => {
@@ -313,14 +311,10 @@ impl<'p, 'a> Context<'p, 'a> {
         let result = path_at(alloc, own, function.name.pos)?;
         let made = self.instance(alloc, function)?;
         let zeroed = self.zeroed_result(alloc, result.as_slice(), function)?;
-        let mut entered =
-            self.all_passed(alloc, scope, own, function.params.as_slice(), args)?;
-        let body = self.in_function(own, result.as_slice()).statement(
-            alloc,
-            calls,
-            &function.body,
-            &mut entered.scope,
-        )?;
+        let mut entered = self.all_passed(alloc, scope, own, function.params.as_slice(), args)?;
+        let body = self
+            .in_function(own, result.as_slice())
+            .statement(alloc, calls, &function.body, &mut entered.scope)?;
         let block = self.as_block(alloc, same_path(alloc, own)?, body)?;
         let inside = entered.copied.followed_by(block)?;
         let copied = made.followed_by(zeroed.followed_by(inside)?)?;
@@ -386,7 +380,14 @@ impl<'p, 'a> Context<'p, 'a> {
             .statement(alloc, calls, body, scope)?;
         let test = word(alloc, self.numbers, scope, test)?;
         let last = self.leave_unless(alloc, paths.whole.as_slice(), test.value)?;
-        self.loop_at(alloc, paths, Kx::Num(1), Copied::nothing(alloc), body, Some(last))
+        self.loop_at(
+            alloc,
+            paths,
+            Kx::Num(1),
+            Copied::nothing(alloc),
+            body,
+            Some(last),
+        )
     }
 
     /// The copy of `for`, whose word stands at a place, and which is a scope.

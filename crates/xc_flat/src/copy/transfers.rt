@@ -62,12 +62,7 @@ impl<'p, 'a> Context<'p, 'a> {
 
     /// The copy of an input, with its channel named and its name declared. The one error is want of memory.
     #[tactic(auto)]
-    pub fn input(
-        &self,
-        alloc: Global,
-        scope: &mut Scope<'a>,
-        i: &'a Head,
-    ) -> Result<Copied, Memory>
+    pub fn input(&self, alloc: Global, scope: &mut Scope<'a>, i: &'a Head) -> Result<Copied, Memory>
         ensures { IfOk result (λ copied. copy_of copied (scope_of scope.new) ≡ spec.input_copy (context_of self.now) (scope_of scope.old) (tree.input_of i.now)) }
     {
         let Received { head, mut names } = self.received(alloc, scope, i)?;
