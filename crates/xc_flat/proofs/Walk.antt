@@ -11,3 +11,4 @@ pub mod Transfers
 pub mod Growth
 pub mod Parts
 pub mod Depths
+pub mod Pieces
