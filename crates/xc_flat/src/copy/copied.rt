@@ -95,6 +95,36 @@ impl Copied {
         }
     }
 
+    /// One more channel, behind the others. The one error is want of memory.
+    pub fn add_channel(&mut self, channel: Chan) -> Result<(), Memory>
+        ensures { OnOk result ((scope : Names) → copy_of self.new scope ≡ record (copy_of self.old scope) { channels = (copy_of self.old scope).channels ++ channel ∷ [] }) }
+    {
+        match self.channels.push_back(channel) {
+            Ok(()) => Ok(()),
+            Err(_) => Err(Memory),
+        }
+    }
+
+    /// One more timer, behind the others. The one error is want of memory.
+    pub fn add_timer(&mut self, timer: Timer) -> Result<(), Memory>
+        ensures { OnOk result ((scope : Names) → copy_of self.new scope ≡ record (copy_of self.old scope) { timers = (copy_of self.old scope).timers ++ timer ∷ [] }) }
+    {
+        match self.timers.push_back(timer) {
+            Ok(()) => Ok(()),
+            Err(_) => Err(Memory),
+        }
+    }
+
+    /// One more instance of a function, behind the others. The one error is want of memory.
+    pub fn add_instance(&mut self, instance: Inst) -> Result<(), Memory>
+        ensures { OnOk result ((scope : Names) → copy_of self.new scope ≡ record (copy_of self.old scope) { instances = (copy_of self.old scope).instances ++ instance ∷ [] }) }
+    {
+        match self.instances.push_back(instance) {
+            Ok(()) => Ok(()),
+            Err(_) => Err(Memory),
+        }
+    }
+
     /// A call's channels aren't named by the caller.
     pub fn naming_none(self, alloc: Global) -> Copied
         ensures { (behind : Names) → copy_of result behind ≡ naming_none (copy_of self behind) }

@@ -60,15 +60,13 @@ impl<'p, 'a> Context<'p, 'a> {
         ensures { IfOk result (λ copied. copy_of copied (scope_of scope.new) ≡ declarations.channel_copy (scope_of scope.old) name.now pos (paths.path_at self.now.path.now pos) streaming) }
     {
         let path = path_at(alloc, self.path, pos)?;
+        let own = same_path(alloc, path.as_slice())?;
         let mut copied = Copied::nothing(alloc);
-        let channel = Chan {
+        copied.add_channel(Chan {
             streaming,
-            path: same_path(alloc, path.as_slice())?,
+            path: own,
             pos,
-        };
-        if copied.channels.push_back(channel).is_err() {
-            return Err(Memory);
-        }
+        })?;
         scope.declare(name, Entity::Channel(path))?;
         Ok(copied)
     }
@@ -84,15 +82,13 @@ impl<'p, 'a> Context<'p, 'a> {
         ensures { IfOk result (λ copied. copy_of copied (scope_of scope.new) ≡ declarations.timer_copy (context_of self.now) (scope_of scope.old) name.now pos (paths.path_at self.now.path.now pos)) }
     {
         let path = path_at(alloc, self.path, pos)?;
+        let own = same_path(alloc, path.as_slice())?;
         let mut copied = Copied::nothing(alloc);
-        let timer = Timer {
+        copied.add_timer(Timer {
             core: self.core,
-            path: same_path(alloc, path.as_slice())?,
+            path: own,
             pos,
-        };
-        if copied.timers.push_back(timer).is_err() {
-            return Err(Memory);
-        }
+        })?;
         scope.declare(name, Entity::Timer(path))?;
         Ok(copied)
     }
@@ -137,7 +133,6 @@ impl<'p, 'a> Context<'p, 'a> {
     }
 
     /// The copy of an assignment by an operator. The one error is want of memory.
-    #[tactic(auto, using(crate::proofs::Walk::Expressions::words))]
     pub fn update(
         &self,
         alloc: Global,
@@ -150,12 +145,12 @@ impl<'p, 'a> Context<'p, 'a> {
         ensures { IfOk result (λ copied. copy_of copied (scope_of scope.now) ≡ spec.update_copy (context_of self.now) (scope_of scope.now) (tree.expression_of to.now) symbol pos right.unsigned (kernel.expression_of right.value)) }
     {
         let stored = updated(alloc, self.numbers, scope, to, symbol, pos, right)?;
-        let to = place(alloc, self.numbers, scope, to)?;
-        Copied::one_statement(alloc, Kst::Set(to, stored))
+        let place = place(alloc, self.numbers, scope, to)?;
+        let copied = Copied::one_statement(alloc, Kst::Set(place, stored))?;
+        Ok(copied)
     }
 
     /// The copy of a step by 1. The one error is want of memory.
-    #[tactic(auto, using(crate::proofs::Walk::Expressions::words))]
     pub fn step(
         &self,
         alloc: Global,
@@ -177,18 +172,15 @@ impl<'p, 'a> Context<'p, 'a> {
     pub fn instance(&self, alloc: Global, function: &FuncItem) -> Result<Copied, Memory>
         ensures { IfOk result (λ copied. (behind : Names) → copy_of copied behind ≡ calls.instance_of (context_of self.now) (function_of function.now) behind) }
     {
-        let mut copied = Copied::nothing(alloc);
         let params = match u32::try_from(function.params.len()) {
             Ok(params) => params,
             Err(_) => return Err(Memory),
         };
-        let instance = Inst {
+        let mut copied = Copied::nothing(alloc);
+        copied.add_instance(Inst {
             core: self.core,
             params,
-        };
-        if copied.instances.push_back(instance).is_err() {
-            return Err(Memory);
-        }
+        })?;
         Ok(copied)
     }
 
