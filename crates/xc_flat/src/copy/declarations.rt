@@ -4,6 +4,7 @@ ghost use Rattle.std.specs.Prelude.{◌≡◌, false, IfOk, option_map};
 ghost use Rattle.xc_tree.specs.Trees as tree;
 ghost use Rattle.xc_kernel.specs.Calls as calls;
 ghost use Rattle.xc_kernel.specs.Context as contexts;
+ghost use Rattle.xc_kernel.specs.Copy as copies;
 ghost use Rattle.xc_kernel.specs.Declarations as declarations;
 ghost use Rattle.xc_kernel.specs.Flow as flow;
 ghost use Rattle.xc_kernel.specs.Kernels as kernel;
@@ -193,11 +194,21 @@ impl<'p, 'a> Context<'p, 'a> {
     ) -> Result<Copied, Memory>
         ensures { IfOk result (λ copied. (behind : Names) → copy_of copied behind ≡ calls.result_copy (context_of self.now) path.now function.now.name.pos behind function.now.result) }
     {
-        if function.result.is_none() {
-            return Ok(Copied::nothing(alloc));
+        match function.result {
+            None => Ok(Copied::nothing(alloc)),
+            Some(_) => {
+                let zeroed = self.zeroed_word(alloc, path, function.name.pos)?;
+                Ok(zeroed)
+            }
         }
+    }
+
+    /// The copy of the variable of this path, whose word becomes 0. The one error is want of memory.
+    fn zeroed_word(&self, alloc: Global, path: &[u32], pos: Pos) -> Result<Copied, Memory>
+        ensures { IfOk result (λ copied. (behind : Names) → copy_of copied behind ≡ copies.with_variable (copies.one_statement behind (contexts.set_zero (context_of self.now) path.now)) (contexts.word_variable (context_of self.now) false path.now pos)) }
+    {
         let mut copied = Copied::one_statement(alloc, self.set_zero(path))?;
-        copied.add_variable(self.word_variable(alloc, false, path, function.name.pos)?)?;
+        copied.add_variable(self.word_variable(alloc, false, path, pos)?)?;
         Ok(copied)
     }
 
