@@ -65,8 +65,9 @@ impl<'p, 'a> Context<'p, 'a> {
     pub fn input(&self, alloc: Global, scope: &mut Scope<'a>, i: &'a Head) -> Result<Copied, Memory>
         ensures { IfOk result (λ copied. copy_of copied (scope_of scope.new) ≡ spec.input_copy (context_of self.now) (scope_of scope.old) (tree.input_of i.now)) }
     {
-        let Received { head, mut names } = self.received(alloc, scope, i)?;
-        names.add_statement(Kst::In(head))?;
+        let received = self.received(alloc, scope, i)?;
+        let mut names = received.names;
+        names.add_statement(Kst::In(received.head))?;
         Ok(names)
     }
 
@@ -100,7 +101,7 @@ impl<'p, 'a> Context<'p, 'a> {
     }
 
     /// Where the word of an input goes, and the name that the target declares. The one error is want of memory.
-    #[tactic(auto)]
+    #[tactic(auto, using(crate::proofs::Walk::Expressions::words))]
     fn target(
         &self,
         alloc: Global,
