@@ -1,2 +1,4 @@
 mod Steps
 mod ThreadSteps
+mod Entries
+mod SideSteps

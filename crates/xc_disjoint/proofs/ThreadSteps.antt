@@ -1,5 +1,5 @@
 -- How a walk's count of threads grows by what stands at its place.
-use Rattle.std.proofs.Common.{◌≡◌, ℕ, ◌+◌, ◌<◌, List, ◌∷◌, length, drop, get_or, map, max, min, ap, arith}
+use Rattle.std.proofs.Common.{◌≡◌, ℕ, ◌+◌, ◌-◌, ◌^◌, ◌<◌, List, ◌∷◌, length, drop, get_or, map, max, min, ap, arith}
 use Rattle.xc_kernel.specs.declared.statement.Kst.{Kst}
 use Rattle.xc_kernel.specs.declared.statement.KBranch.{KBranch}
 use Rattle.xc_kernel.specs.declared.statement.KCase.{KCase}
@@ -27,4 +27,4 @@ branches_step xs i x e h = ap (λ ys. of_branches (branches (map branch_of ys)))
 pub cases_step : (xs : List KCase) (i : ℕ) (x : KCase) → x ≡ get_or xs i x → i < length xs → of_cases (cases (map case_of (drop i xs))) ≡ max (of_case (case_of x)) (of_cases (cases (map case_of (drop (i + 1) xs))))
 cases_step xs i x e h = ap (λ ys. of_cases (cases (map case_of ys))) (drop_item xs i x e h)
 
-pub ruleset steps = (forms, capped_max, capped_sum, statements_step, branches_step, cases_step)
+pub ruleset steps = (forms, statements_step, branches_step, cases_step)

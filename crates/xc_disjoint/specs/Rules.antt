@@ -47,9 +47,9 @@ pub record IsElsewhere (k : kernel.Kernel) (r : kernel.Root) (u : Use) : Type 0 
 pub record UsesElsewhere (k : kernel.Kernel) (pos : Pos) : Type 0 where
   pub root : kernel.Root
   pub among : Contains k.roots root
-  pub use : Use
-  pub elsewhere : IsElsewhere k root use
-  pub place : pos ≡ use.pos
+  pub used : Use
+  pub elsewhere : IsElsewhere k root used
+  pub place : pos ≡ used.pos
 
 -- One of the rules is broken, and where: more threads, channel ends, timers or words are needed on a core than it has, at
 -- main; a place gives no core, at the place; a port is used on another core than its own, at the use.
@@ -58,7 +58,7 @@ pub data Breaks (k : kernel.Kernel) : Broken → Type 0 where
   ends : IsAbove most_ends (ends_on k) → Breaks k (record { rule = 702; pos = k.main })
   timers : IsAbove most_timers (timers_on k) → Breaks k (record { rule = 703; pos = k.main })
   words : IsAbove most_words (words_on k) → Breaks k (record { rule = 704; pos = k.main })
-  no_core : {pos : Pos} → HasNoCore k pos → Breaks k (record { rule = 705; pos = pos })
+  without_core : {pos : Pos} → HasNoCore k pos → Breaks k (record { rule = 705; pos = pos })
   elsewhere : {pos : Pos} → UsesElsewhere k pos → Breaks k (record { rule = 706; pos = pos })
 
 -- the broken rule of the least place, and there of the least number

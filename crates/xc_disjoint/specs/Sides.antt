@@ -38,10 +38,10 @@ Sides = ℕ → Side
 abbrev pub Shares : Type 0
 Shares = ℕ → Share
 
-abbrev pub no_sides : Sides
+unfoldable pub no_sides : Sides
 no_sides channel = Unused
 
-abbrev pub no_shares : Shares
+unfoldable pub no_shares : Shares
 no_shares channel = Nobody
 
 unfoldable pub all_after : Sides → Sides → Sides

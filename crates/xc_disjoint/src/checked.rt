@@ -15,8 +15,12 @@ impl Model for Checked {
     ghost use Rattle.xc_disjoint.specs.Accepted.{IsAccepted};
     ghost use Rattle.xc_kernel.specs.Kernels.{kernel_of};
     ghost use Rattle.xc_kernel.specs.declared.kernel.Kernel.{Kernel as K};
+    ghost use Rattle.xc_kernel.specs.contracts.statement.Kst as e;
+    ghost use Rattle.std.specs.Coded.{codes};
 
     ghost Value = { K };
+
+    ghost coded = { Prim.hlevel (codes, e.the_row.coded) };
 
     ghost view = { λ c. c.kernel };
 

@@ -4,6 +4,7 @@
 
 mod checked;
 mod disjointness;
+mod ends;
 mod side;
 mod tables;
 mod threads;

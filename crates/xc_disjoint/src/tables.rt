@@ -1,4 +1,5 @@
-ghost use Rattle.std.specs.Prelude.{◌≡◌, OnOk};
+ghost use Rattle.std.specs.Prelude.{◌≡◌, ◌<◌, slice_get, Some, OnOk};
+ghost use Rattle.indexmap.specs.IndexMap.{index_map_len};
 ghost use Rattle.xc_disjoint.specs.Sides.{after as behind, all_after, all_with, no_shares, no_sides, only, side_of as side_by, sides_of, with_branch as with_one_more};
 ghost use Rattle.xc_disjoint.specs.Tables.{shares_in, sides_in};
 
@@ -54,8 +55,9 @@ impl SideTable {
     pub fn follow_par(&mut self, shares: &ShareTable) -> Result<(), Memory>
         ensures { OnOk result (sides_in self.new ≡ all_after (sides_in self.old) (sides_of (shares_in shares.now))) }
     {
-        for (channel, share) in shares.entries.iter() {
-            self.follow(*channel, side_of(*share))?;
+        for at in 0..shares.entries.len() {
+            let (channel, share) = entry_at(&shares.entries, at);
+            self.follow(channel, side_of(share))?;
         }
         Ok(())
     }
@@ -96,10 +98,22 @@ impl ShareTable {
     pub fn add_branch(&mut self, sides: &SideTable) -> Result<(), Memory>
         ensures { OnOk result (shares_in self.new ≡ all_with (shares_in self.old) (sides_in sides.now)) }
     {
-        for (channel, side) in sides.entries.iter() {
-            self.add(*channel, *side)?;
+        for at in 0..sides.entries.len() {
+            let (channel, side) = entry_at(&sides.entries, at);
+            self.add(channel, side)?;
         }
         Ok(())
+    }
+}
+
+/// The entry at a place.
+fn entry_at<V: Copy>(entries: &IndexMap<u32, V>, at: usize) -> (u32, V)
+    requires { at < index_map_len entries.now }
+    ensures { slice_get entries.now.entries at ≡ Some result }
+{
+    match entries.get_index(at) {
+        Some((channel, value)) => (*channel, *value),
+        None => unreachable!(),
     }
 }
 

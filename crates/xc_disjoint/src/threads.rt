@@ -1,27 +1,26 @@
 ghost use Rattle.std.specs.Prelude.{◌≡◌, map};
 ghost use Rattle.xc_disjoint.specs.Sums.{capped};
-ghost use Rattle.xc_disjoint.specs.Threads.{of_branches, of_case, of_cases, of_default, of_statement, of_statements};
-ghost use Rattle.xc_kernel.specs.Kernels.{branch_of, case_of, default_of, statement_of};
+ghost use Rattle.xc_disjoint.specs.Threads.{of_branches, of_case, of_cases, of_statement, of_statements};
+ghost use Rattle.xc_kernel.specs.Kernels.{branch_of, case_of, statement_of};
 ghost use Rattle.xc_kernel.specs.Plain as plain;
 
 use xc_kernel::{KBranch, KCase, Kst};
-use xw_words::List;
 
 /// How many threads a sequence of statements needs.
 #[cycle(threads)]
-#[tactic(auto, using(crate::proofs::ThreadSteps::steps))]
+#[tactic(auto, using(crate::proofs::ThreadSteps::steps), unfolding(crate::specs::Sums::capped))]
 pub fn of_sequence(ss: &[Kst]) -> u64
     ensures { result ≡ capped (of_statements (plain.statements (map statement_of ss.now))) }
 {
-    let mut most: u64 = 1;
+    let mut most: u64 = 0;
     for s in ss {
         most = most.max(of_one(s));
     }
-    most
+    most.max(1)
 }
 
 #[cycle(threads)]
-#[tactic(auto, using(crate::proofs::ThreadSteps::steps))]
+#[tactic(auto, using(crate::proofs::ThreadSteps::steps), unfolding(crate::specs::Sums::capped))]
 fn of_one(s: &Kst) -> u64
     ensures { result ≡ capped (of_statement (statement_of s.now)) }
 {
@@ -37,7 +36,11 @@ fn of_one(s: &Kst) -> u64
         Kst::Block(_, body) => of_sequence(body.as_slice()),
         Kst::Exit(_) => 1,
         Kst::Select(select) => {
-            of_all_cases(select.cases.as_slice()).max(of_otherwise(&select.otherwise))
+            let cases = of_all_cases(select.cases.as_slice());
+            match &select.otherwise {
+                None => cases.max(1),
+                Some(body) => cases.max(of_sequence(body.as_slice())),
+            }
         }
         Kst::Par(branches) => of_all_branches(branches.as_slice()).max(1),
         Kst::Tran { body, .. } => of_sequence(body.as_slice()),
@@ -45,30 +48,27 @@ fn of_one(s: &Kst) -> u64
 }
 
 #[cycle(threads)]
-#[tactic(auto, using(crate::proofs::ThreadSteps::steps))]
+#[tactic(auto, using(crate::proofs::ThreadSteps::steps), unfolding(crate::specs::Sums::capped))]
 fn of_all_cases(cases: &[KCase]) -> u64
     ensures { result ≡ capped (of_cases (plain.cases (map case_of cases.now))) }
 {
-    let mut most: u64 = 1;
+    let mut most: u64 = 0;
     for case in cases {
-        most = most.max(of_sequence(case.body.as_slice()));
+        most = most.max(of_one_case(case));
     }
-    most
+    most.max(1)
 }
 
 #[cycle(threads)]
-#[tactic(auto, using(crate::proofs::ThreadSteps::steps))]
-fn of_otherwise(otherwise: &Option<List<Kst>>) -> u64
-    ensures { result ≡ capped (of_default (default_of otherwise.now)) }
+#[tactic(auto, using(crate::proofs::ThreadSteps::steps), unfolding(crate::specs::Sums::capped))]
+fn of_one_case(case: &KCase) -> u64
+    ensures { result ≡ capped (of_case (case_of case.now)) }
 {
-    match otherwise {
-        None => 1,
-        Some(body) => of_sequence(body.as_slice()),
-    }
+    of_sequence(case.body.as_slice())
 }
 
 #[cycle(threads)]
-#[tactic(auto, using(crate::proofs::ThreadSteps::steps))]
+#[tactic(auto, using(crate::proofs::ThreadSteps::steps), unfolding(crate::specs::Sums::capped))]
 fn of_all_branches(branches: &[KBranch]) -> u64
     ensures { result ≡ capped (of_branches (plain.branches (map branch_of branches.now))) }
 {

@@ -1,0 +1,144 @@
+ghost use Rattle.std.specs.Prelude.{◌≡◌, ◌≤◌, ◌<◌, length, map, OnOk, IfOk};
+ghost use Rattle.xc_disjoint.specs.Sides as sides;
+ghost use Rattle.xc_disjoint.specs.Sides.{all_after, no_shares, of_root};
+ghost use Rattle.xc_disjoint.specs.Sums.{capped};
+ghost use Rattle.xc_disjoint.specs.Tables.{shares_in, sides_in};
+ghost use Rattle.xc_kernel.specs.Kernels.{branch_of, case_of, root_of, statement_of};
+ghost use Rattle.xc_kernel.specs.Plain as plain;
+
+use crate::side::{Share, Side};
+use crate::tables::{ShareTable, SideTable};
+use std::alloc::Global;
+use xc_kernel::{KBranch, KCase, KRes, Kst, Root};
+use xw_words::{List, Memory};
+
+/// For each root how far the sides of channels are settled in it, and which roots use channels.
+#[derive(Drop)]
+pub struct Channels {
+    pub in_roots: List<SideTable>,
+    pub among_roots: ShareTable,
+}
+
+/// Goes through all roots. The stack that it needs grows with the depth of the kernel.
+pub fn channels_of(alloc: Global, roots: &[Root]) -> Result<Channels, Memory>
+    ensures in_roots { IfOk result (λ c. map sides_in c.in_roots ≡ map of_root (map root_of roots.now)) }
+    ensures among_roots { IfOk result (λ c. shares_in c.among_roots ≡ sides.with_roots no_shares (map root_of roots.now)) }
+{
+    let mut in_roots = List::new(alloc);
+    let mut among_roots = ShareTable::new(alloc);
+    for root in roots {
+        let mut table = SideTable::new(alloc);
+        statements(alloc, &mut table, root.body.as_slice())?;
+        among_roots.add_branch(&table)?;
+        in_roots.push(table)?;
+    }
+    Ok(Channels {
+        in_roots,
+        among_roots,
+    })
+}
+
+/// Goes on in a table behind some statements.
+#[cycle(channels)]
+#[tactic(auto, using(crate::proofs::SideSteps::steps))]
+fn statements(alloc: Global, table: &mut SideTable, ss: &[Kst]) -> Result<(), Memory>
+    ensures { OnOk result (sides_in table.new ≡ all_after (sides_in table.old) (sides.of_statements (plain.statements (map statement_of ss.now)))) }
+{
+    for s in ss {
+        statement(alloc, table, s)?;
+    }
+    Ok(())
+}
+
+#[cycle(channels)]
+#[tactic(auto, using(crate::proofs::SideSteps::steps))]
+fn statement(alloc: Global, table: &mut SideTable, s: &Kst) -> Result<(), Memory>
+    ensures { OnOk result (sides_in table.new ≡ all_after (sides_in table.old) (sides.of_statement (statement_of s.now))) }
+{
+    match s {
+        Kst::Zero(_) => Ok(()),
+        Kst::Set(_, _) => Ok(()),
+        Kst::Out(output) => used(table, output.res),
+        Kst::In(input) => used(table, input.res),
+        Kst::If(_, first, second) => {
+            statements(alloc, table, first.as_slice())?;
+            statements(alloc, table, second.as_slice())
+        }
+        Kst::Loop(_, body, next) => {
+            statements(alloc, table, body.as_slice())?;
+            statements(alloc, table, next.as_slice())
+        }
+        Kst::Block(_, body) => statements(alloc, table, body.as_slice()),
+        Kst::Exit(_) => Ok(()),
+        Kst::Select(select) => {
+            cases(alloc, table, select.cases.as_slice())?;
+            match &select.otherwise {
+                None => Ok(()),
+                Some(body) => statements(alloc, table, body.as_slice()),
+            }
+        }
+        Kst::Par(all) => {
+            let mut shares = ShareTable::new(alloc);
+            branches(alloc, &mut shares, all.as_slice())?;
+            table.follow_par(&shares)
+        }
+        Kst::Tran { chan, body, .. } => {
+            table.follow(*chan, Side::Apart)?;
+            statements(alloc, table, body.as_slice())
+        }
+    }
+}
+
+#[cycle(channels)]
+#[tactic(auto, using(crate::proofs::SideSteps::steps))]
+fn cases(alloc: Global, table: &mut SideTable, all: &[KCase]) -> Result<(), Memory>
+    ensures { OnOk result (sides_in table.new ≡ all_after (sides_in table.old) (sides.of_cases (plain.cases (map case_of all.now)))) }
+{
+    for c in all {
+        case(alloc, table, c)?;
+    }
+    Ok(())
+}
+
+#[cycle(channels)]
+#[tactic(auto, using(crate::proofs::SideSteps::steps))]
+fn case(alloc: Global, table: &mut SideTable, c: &KCase) -> Result<(), Memory>
+    ensures { OnOk result (sides_in table.new ≡ all_after (sides_in table.old) (sides.of_case (case_of c.now))) }
+{
+    used(table, c.head.res)?;
+    statements(alloc, table, c.body.as_slice())
+}
+
+/// Goes on to more branches of a `par`.
+#[cycle(channels)]
+#[tactic(auto, using(crate::proofs::SideSteps::steps))]
+fn branches(alloc: Global, shares: &mut ShareTable, all: &[KBranch]) -> Result<(), Memory>
+    ensures { OnOk result (shares_in shares.new ≡ sides.with_branches (shares_in shares.old) (plain.branches (map branch_of all.now))) }
+{
+    for b in all {
+        branch(alloc, shares, b)?;
+    }
+    Ok(())
+}
+
+#[cycle(channels)]
+#[tactic(auto, using(crate::proofs::SideSteps::steps))]
+fn branch(alloc: Global, shares: &mut ShareTable, b: &KBranch) -> Result<(), Memory>
+    ensures { OnOk result (shares_in shares.new ≡ sides.all_with (shares_in shares.old) (sides.of_branch (branch_of b.now))) }
+{
+    let mut table = SideTable::new(alloc);
+    statements(alloc, &mut table, b.body.as_slice())?;
+    shares.add_branch(&table)
+}
+
+/// Goes on behind a use.
+#[tactic(auto, using(crate::proofs::SideSteps::steps))]
+fn used(table: &mut SideTable, resource: KRes) -> Result<(), Memory>
+    ensures { OnOk result (sides_in table.new ≡ all_after (sides_in table.old) (sides.of_resource resource)) }
+{
+    match resource {
+        KRes::Port(_) => Ok(()),
+        KRes::Timer(_) => Ok(()),
+        KRes::Chan(channel) => table.follow(channel, Side::Apart),
+    }
+}
