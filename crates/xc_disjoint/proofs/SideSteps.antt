@@ -1,12 +1,14 @@
 -- How a walk's table of channels goes on by what stands at its place.
-use Rattle.std.proofs.Common.{◌≡◌, ℕ, ◌+◌, ◌<◌, List, ◌∷◌, length, drop, get_or, map, refl, ap}
+use Rattle.std.proofs.Common.{◌≡◌, ℕ, ◌+◌, ◌<◌, List, [], ◌∷◌, ◌++◌, length, drop, get_or, map, refl, sym, ap}
 use Rattle.xc_kernel.specs.declared.statement.Kst.{Kst}
 use Rattle.xc_kernel.specs.declared.statement.KBranch.{KBranch}
 use Rattle.xc_kernel.specs.declared.statement.KCase.{KCase}
 use Rattle.xc_kernel.specs.Kernels.{statement_of, branch_of, case_of}
 use Rattle.xc_kernel.specs.Plain.{statements, branches, cases}
 use Rattle.xc_kernel.proofs.Forms.{forms}
-use Rattle.xc_disjoint.specs.Sides.{Sides, Shares, no_sides, all_after, all_with, of_statement, of_statements, of_branch, with_branches, of_case, of_cases}
+use Rattle.xc_disjoint.specs.Sides.{Sides, Shares, no_sides, all_after, all_with, of_statement, of_statements, of_branch, Seen, with_branches, of_case, of_cases}
+use Rattle.xc_disjoint.specs.declared.ends.RootSides.{RootSides}
+use Rattle.xc_disjoint.specs.Tables.{seen_in}
 use Rattle.xc_disjoint.proofs.Entries.{same_sides, after_unused, after_assoc}
 use Rattle.xc_disjoint.proofs.Steps.{drop_item}
 
@@ -30,5 +32,10 @@ cases_step xs i x e h = ap (λ ys. of_cases (cases (map case_of ys))) (drop_item
 
 pub branches_step : (shares : Shares) (xs : List KBranch) (i : ℕ) (x : KBranch) → x ≡ get_or xs i x → i < length xs → with_branches shares (branches (map branch_of (drop i xs))) ≡ with_branches (all_with shares (of_branch (branch_of x))) (branches (map branch_of (drop (i + 1) xs)))
 branches_step shares xs i x e h = ap (λ ys. with_branches shares (branches (map branch_of ys))) (drop_item xs i x e h)
+
+-- a root's table more behind some, and a root less before others
+pub pushed_root : (ts : List RootSides) (t : RootSides) (r : Seen) (rs : List Seen) → seen_in t ≡ r → map seen_in ts ++ r ∷ rs ≡ map seen_in (ts ++ t ∷ []) ++ rs
+pushed_root [] t r rs e = ap (λ s. s ∷ rs) (sym e)
+pushed_root (x ∷ ts) t r rs e = ap (λ ss. seen_in x ∷ ss) (pushed_root ts t r rs e)
 
 pub ruleset steps = (forms, after_none, none_before, after_each, statements_step, cases_step, branches_step)

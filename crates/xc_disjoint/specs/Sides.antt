@@ -4,6 +4,7 @@ use Rattle.std.specs.Prelude.{ℕ, zero, suc, ◌+◌, Bool, true, false, List, 
 use Rattle.xc_kernel.specs.declared.statement.KRes.{KRes}
 use Rattle.xc_kernel.specs.declared.statement.KRes.TheVariants.{Port, Timer, Chan}
 use Rattle.xc_kernel.specs.Plain as kernel
+use Rattle.xc_disjoint.specs.Cores.{on_core}
 use Rattle.xc_disjoint.specs.declared.side.Side.{Side}
 use Rattle.xc_disjoint.specs.declared.side.Side.TheVariants.{Unused, Apart, Settled}
 use Rattle.xc_disjoint.specs.declared.side.Share.{Share}
@@ -110,9 +111,13 @@ abbrev pub with_roots : Shares → List kernel.Root → Shares
 with_roots shares [] = shares
 with_roots shares (r ∷ rs) = with_roots (all_with shares (of_statements r.body)) rs
 
--- the sides of channels in each root
-abbrev pub of_root : kernel.Root → Sides
-of_root r = of_statements r.body
+-- a root's core, and the sides of channels in the root
+pub record Seen : Type 0 where
+  pub core : ℕ
+  pub sides : Sides
+
+abbrev pub seen_of : kernel.Root → Seen
+seen_of r = record { core = r.core; sides = of_statements r.body }
 
 -- the ends that a root needs for a channel, by the roots that use it and by its sides in this root
 abbrev pub ends_by : Share → Side → ℕ
@@ -125,3 +130,7 @@ ends_by share side = 0
 abbrev pub ends_below : Shares → Sides → ℕ → ℕ
 ends_below shares sides zero = 0
 ends_below shares sides (suc n) = ends_below shares sides n + ends_by (shares n) (sides n)
+
+-- the ends that a root needs on a core
+abbrev pub ends_at : Shares → (channels core : ℕ) → Seen → ℕ
+ends_at shares channels core root = on_core core root.core (ends_below shares root.sides channels)

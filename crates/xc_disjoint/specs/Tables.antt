@@ -7,7 +7,8 @@ use Rattle.xc_disjoint.specs.declared.side.Share.{Share}
 use Rattle.xc_disjoint.specs.declared.side.Share.TheVariants.{Nobody}
 use Rattle.xc_disjoint.specs.declared.tables.SideTable.{SideTable}
 use Rattle.xc_disjoint.specs.declared.tables.ShareTable.{ShareTable}
-use Rattle.xc_disjoint.specs.Sides.{Sides, Shares, only, all_after, all_with, side_of}
+use Rattle.xc_disjoint.specs.declared.ends.RootSides.{RootSides}
+use Rattle.xc_disjoint.specs.Sides.{Sides, Shares, Seen, only, all_after, all_with, side_of}
 
 -- a channel that isn't in the table isn't used
 abbrev pub side_or : Option Side → Side
@@ -30,6 +31,10 @@ sides_in table = sides_at table.entries.entries
 
 abbrev pub shares_in : ShareTable → Shares
 shares_in table = shares_at table.entries.entries
+
+-- what is seen of a root
+abbrev pub seen_in : RootSides → Seen
+seen_in root = record { core = root.core; sides = sides_in root.sides }
 
 -- with one entry behind the other
 abbrev pub with_entries : Shares → List (ℕ × Side) → Shares

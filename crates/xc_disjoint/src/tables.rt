@@ -11,13 +11,13 @@ use xw_words::Memory;
 /// How far the sides of channels are settled in some statements. A channel that isn't there isn't used in them.
 #[derive(Drop)]
 pub struct SideTable {
-    pub entries: IndexMap<u32, Side>,
+    pub entries: IndexMap<usize, Side>,
 }
 
 /// Which branches of a `par` use channels. A channel that isn't there is used by none.
 #[derive(Drop)]
 pub struct ShareTable {
-    pub entries: IndexMap<u32, Share>,
+    pub entries: IndexMap<usize, Share>,
 }
 
 impl SideTable {
@@ -31,7 +31,7 @@ impl SideTable {
     }
 
     /// How far the sides of a channel are settled.
-    pub fn side(&self, channel: u32) -> Side
+    pub fn side(&self, channel: usize) -> Side
         ensures { result ≡ sides_in self.now channel }
     {
         match self.entries.get(&channel) {
@@ -41,7 +41,7 @@ impl SideTable {
     }
 
     /// Goes on behind statements that use one channel.
-    pub fn follow(&mut self, channel: u32, side: Side) -> Result<(), Memory>
+    pub fn follow(&mut self, channel: usize, side: Side) -> Result<(), Memory>
         ensures { OnOk result (sides_in self.new ≡ all_after (sides_in self.old) (only channel side)) }
     {
         let sides = after(self.side(channel), side);
@@ -74,7 +74,7 @@ impl ShareTable {
     }
 
     /// Which branches use a channel.
-    pub fn share(&self, channel: u32) -> Share
+    pub fn share(&self, channel: usize) -> Share
         ensures { result ≡ shares_in self.now channel }
     {
         match self.entries.get(&channel) {
@@ -84,7 +84,7 @@ impl ShareTable {
     }
 
     /// Goes on to one more branch, as far as it uses one channel.
-    pub fn add(&mut self, channel: u32, side: Side) -> Result<(), Memory>
+    pub fn add(&mut self, channel: usize, side: Side) -> Result<(), Memory>
         ensures { OnOk result (shares_in self.new ≡ all_with (shares_in self.old) (only channel side)) }
     {
         let share = with_branch(self.share(channel), side);
@@ -107,7 +107,7 @@ impl ShareTable {
 }
 
 /// The entry at a place.
-fn entry_at<V: Copy>(entries: &IndexMap<u32, V>, at: usize) -> (u32, V)
+fn entry_at<V: Copy>(entries: &IndexMap<usize, V>, at: usize) -> (usize, V)
     requires { at < index_map_len entries.now }
     ensures { slice_get entries.now.entries at ≡ Some result }
 {
