@@ -2,3 +2,4 @@ mod Steps
 mod ThreadSteps
 mod Entries
 mod SideSteps
+mod UseSteps

@@ -51,13 +51,17 @@ pub record UsesElsewhere (k : kernel.Kernel) (pos : Pos) : Type 0 where
   pub elsewhere : IsElsewhere k root used
   pub place : pos ≡ used.pos
 
--- One of the rules is broken, and where: more threads, channel ends, timers or words are needed on a core than it has, at
--- main; a place gives no core, at the place; a port is used on another core than its own, at the use.
+-- a core needs more threads, channel ends, timers or words than it has, which breaks a rule at main
+pub data NeedsMore (k : kernel.Kernel) : Broken → Type 0 where
+  threads : IsAbove most_threads (threads_on k) → NeedsMore k (record { rule = 701; pos = k.main })
+  ends : IsAbove most_ends (ends_on k) → NeedsMore k (record { rule = 702; pos = k.main })
+  timers : IsAbove most_timers (timers_on k) → NeedsMore k (record { rule = 703; pos = k.main })
+  words : IsAbove most_words (words_on k) → NeedsMore k (record { rule = 704; pos = k.main })
+
+-- One of the rules is broken, and where: a core needs more than it has; a place gives no core, at the place; a port is used on
+-- another core than its own, at the use.
 pub data Breaks (k : kernel.Kernel) : Broken → Type 0 where
-  threads : IsAbove most_threads (threads_on k) → Breaks k (record { rule = 701; pos = k.main })
-  ends : IsAbove most_ends (ends_on k) → Breaks k (record { rule = 702; pos = k.main })
-  timers : IsAbove most_timers (timers_on k) → Breaks k (record { rule = 703; pos = k.main })
-  words : IsAbove most_words (words_on k) → Breaks k (record { rule = 704; pos = k.main })
+  needs : {b : Broken} → NeedsMore k b → Breaks k b
   without_core : {pos : Pos} → HasNoCore k pos → Breaks k (record { rule = 705; pos = pos })
   elsewhere : {pos : Pos} → UsesElsewhere k pos → Breaks k (record { rule = 706; pos = pos })
 

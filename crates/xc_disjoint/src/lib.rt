@@ -5,9 +5,12 @@
 mod checked;
 mod disjointness;
 mod ends;
+mod needs;
+mod places;
+mod ports;
 mod side;
 mod tables;
 mod threads;
 
 pub use checked::Checked;
-pub use disjointness::DisErr;
+pub use disjointness::{DisErr, disjoint};
