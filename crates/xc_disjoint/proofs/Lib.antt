@@ -3,3 +3,5 @@ mod ThreadSteps
 mod Entries
 mod SideSteps
 mod UseSteps
+mod Limits
+mod Settled

@@ -1,6 +1,6 @@
-ghost use Rattle.std.specs.Prelude.{◌≡◌, IsTrue, false, map, sum_by, IfOk};
+ghost use Rattle.std.specs.Prelude.{◌≡◌, map, sum_by, Decides, IfOk};
 ghost use Rattle.xc_disjoint.specs.Needs.{ends_on, threads_of_root, threads_on, timers_of, timers_on, words_of_instance as instance_needs, words_of_variable as variable_needs, words_on};
-ghost use Rattle.xc_disjoint.specs.Rules.{IsAbove};
+ghost use Rattle.xc_disjoint.specs.Rules.{IsAbove, most_ends, most_threads, most_timers, most_words};
 ghost use Rattle.xc_disjoint.specs.Sums.{capped, some_above};
 ghost use Rattle.xc_kernel.specs.Kernels.{kernel_of, root_of};
 
@@ -27,8 +27,7 @@ const WORDS_OF_INSTANCE: u64 = 4;
 
 /// Whether some core needs too many threads.
 pub fn too_many_threads(kernel: &Kernel) -> bool
-    ensures more { IsTrue result → IsAbove 8 (threads_on (kernel_of kernel.now)) }
-    ensures within { (result ≡ false) → IsAbove 8 (threads_on (kernel_of kernel.now)) → ⊥ }
+    ensures { Decides result (IsAbove most_threads (threads_on (kernel_of kernel.now))) }
 {
     let roots = kernel.roots.as_slice();
     let needed = [
@@ -42,8 +41,7 @@ pub fn too_many_threads(kernel: &Kernel) -> bool
 
 /// Whether some core needs too many channel ends. The stack that it needs grows with the depth of the kernel.
 pub fn too_many_ends(alloc: Global, kernel: &Kernel) -> Result<bool, Memory>
-    ensures more { IfOk result (λ above. IsTrue above → IsAbove 32 (ends_on (kernel_of kernel.now))) }
-    ensures within { IfOk result (λ above. (above ≡ false) → IsAbove 32 (ends_on (kernel_of kernel.now)) → ⊥) }
+    ensures { IfOk result (λ above. Decides above (IsAbove most_ends (ends_on (kernel_of kernel.now)))) }
 {
     let channels = channels_of(alloc, kernel.roots.as_slice())?;
     let count = kernel.chans.len();
@@ -58,8 +56,7 @@ pub fn too_many_ends(alloc: Global, kernel: &Kernel) -> Result<bool, Memory>
 
 /// Whether some core needs too many timers.
 pub fn too_many_timers(kernel: &Kernel) -> bool
-    ensures more { IsTrue result → IsAbove 10 (timers_on (kernel_of kernel.now)) }
-    ensures within { (result ≡ false) → IsAbove 10 (timers_on (kernel_of kernel.now)) → ⊥ }
+    ensures { Decides result (IsAbove most_timers (timers_on (kernel_of kernel.now))) }
 {
     let timers = kernel.timers.as_slice();
     let needed = [
@@ -73,8 +70,7 @@ pub fn too_many_timers(kernel: &Kernel) -> bool
 
 /// Whether some core needs too many words.
 pub fn too_many_words(kernel: &Kernel) -> bool
-    ensures more { IsTrue result → IsAbove 16384 (words_on (kernel_of kernel.now)) }
-    ensures within { (result ≡ false) → IsAbove 16384 (words_on (kernel_of kernel.now)) → ⊥ }
+    ensures { Decides result (IsAbove most_words (words_on (kernel_of kernel.now))) }
 {
     let needed = [
         core_words(kernel, 0),

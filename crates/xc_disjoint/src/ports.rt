@@ -130,7 +130,7 @@ impl<'a> Here<'a> {
 
 /// The rule that is broken where a port is used on a core.
 fn rule_by_port(port: Option<&PortUse>, core: u8, pos: Pos) -> Option<Broken>
-    ensures { result ≡ by_port core pos (option_copied port) }
+    ensures { result ≡ by_port core pos (option_copied port.entry) }
 {
     match port {
         None => None,
