@@ -5,3 +5,5 @@ mod SideSteps
 mod UseSteps
 mod Limits
 mod Settled
+mod RootEnds
+mod Firsts

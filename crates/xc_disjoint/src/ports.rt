@@ -110,9 +110,17 @@ impl<'a> Here<'a> {
     {
         let mut best = best;
         for b in branches {
-            best = self.in_statements(best, b.body.as_slice());
+            best = self.in_branch(best, b);
         }
         best
+    }
+
+    #[cycle(uses)]
+    #[tactic(auto, using(crate::proofs::UseSteps::steps))]
+    fn in_branch(&self, best: Option<Broken>, b: &KBranch) -> Option<Broken>
+        ensures { result ≡ first_among (rule_of_use self.now.ports.now self.now.core) best (uses.of_branch (branch_of b.now)) }
+    {
+        self.in_statements(best, b.body.as_slice())
     }
 
     /// The rule that a use breaks.
