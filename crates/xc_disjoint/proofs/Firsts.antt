@@ -1,5 +1,5 @@
 -- The first of the rules that the items of a list break, and the first of a kernel's.
-use Rattle.std.proofs.Common.{◌≡◌, ℕ, ◌<◌, ◌≤◌, ◌⊎◌, inl, inr, Bool, true, false, not, List, [], ◌∷◌, length, slice_get, slice_index_or, Contains, nat_eq, Option, Some, None, refl, sym, ap, subst, ◌∙◌, arith}
+use Rattle.std.proofs.Common.{◌≡◌, ℕ, zero, suc, ◌<◌, ◌≤◌, ◌⊎◌, inl, inr, Bool, true, false, not, List, [], ◌∷◌, length, slice_get, slice_index_or, Contains, nat_eq, Option, Some, None, refl, sym, ap, subst, ◌∙◌, arith}
 use Rattle.std.specs.Bool.{Decides}
 use Rattle.std.proofs.lemmas.Bool.{eqb-true, eqb-false, ne_eqb, eq-eqb}
 use Rattle.std.proofs.lemmas.List.Elements.{Contains-append_cases, Contains-append_left, Contains-append_right}
@@ -24,10 +24,10 @@ module _ {V : Type 0} (rule_of : V → Option Broken) where
     least = λ b e. (b, e, not_after_self b);
   }
 
-  first_is : (x : V) (xs : List V) → Contains (x ∷ xs) x
+  pub first_is : (x : V) (xs : List V) → Contains (x ∷ xs) x
   first_is x xs = Contains-append_left (x ∷ []) xs x (0, omega arith, refl)
 
-  split : (x : V) (xs : List V) (y : V) → Contains (x ∷ xs) y → (x ≡ y) ⊎ Contains xs y
+  pub split : (x : V) (xs : List V) (y : V) → Contains (x ∷ xs) y → (x ≡ y) ⊎ Contains xs y
   split x xs y h = by (Contains-append_cases (x ∷ []) xs y h)
     where
       only : (k : ℕ) → k < 1 → slice_index_or (x ∷ []) k y ≡ y → x ≡ y

@@ -7,3 +7,4 @@ mod Limits
 mod Settled
 mod RootEnds
 mod Firsts
+mod Whole

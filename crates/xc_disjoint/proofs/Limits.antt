@@ -57,3 +57,11 @@ module _ (limit : ℕ) (small : limit < 2 ^ 64 - 1) (f : ℕ → ℕ) where
   decides r a b c d e p q s t =
       let g : r ≡ some_above limit (capped (f 0) ∷ capped (f 1) ∷ capped (f 2) ∷ capped (f 3) ∷ []) = e ∙ (λ j. some_above limit (p j ∷ q j ∷ s j ∷ t j ∷ [])) in
       (λ h. from_some (sym g ∙ h), λ a. g ∙ to_some a.core a.is_core a.more)
+
+-- what is decided, by the answer
+
+pub is_so : {P : Type 0} (r : Bool) → Decides r P → r ≡ true → P
+is_so r d e = d.0 e
+
+pub not_so : {P : Type 0} (r : Bool) → Decides r P → r ≡ false → P → ⊥
+not_so r d e p = let h = d.1 p in cc
