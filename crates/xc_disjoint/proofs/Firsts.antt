@@ -1,13 +1,9 @@
 -- The first of the rules that the items of a list break, and the first of a kernel's.
-use Rattle.std.proofs.Common.{◌≡◌, ℕ, zero, suc, ◌<◌, ◌≤◌, ◌⊎◌, inl, inr, Bool, true, false, not, List, [], ◌∷◌, length, slice_get, slice_index_or, Contains, nat_eq, Option, Some, None, refl, sym, ap, subst, ◌∙◌, arith}
-use Rattle.std.specs.Bool.{Decides}
-use Rattle.std.proofs.lemmas.Bool.{eqb-true, eqb-false, ne_eqb, eq-eqb}
+use Rattle.std.proofs.Common.{◌≡◌, ℕ, zero, suc, ◌<◌, ◌⊎◌, inl, inr, List, [], ◌∷◌, slice_index_or, Contains, Option, Some, None, refl, ap, ◌∙◌, arith}
 use Rattle.std.proofs.lemmas.List.Elements.{Contains-append_cases, Contains-append_left, Contains-append_right}
-use Rattle.xw_words.specs.declared.pos.Pos.{Pos}
 use Rattle.xw_words.specs.declared.pos.Broken.{Broken}
-use Rattle.xc_tree.specs.Lexes.{IsNotAfter}
 use Rattle.xc_tree.specs.Least.{IsLeastOf, first_of}
-use Rattle.xc_tree.proofs.Leasts.{either, of_same, none_broken, not_after_self}
+use Rattle.xc_tree.proofs.Leasts.{either, of_same, not_after_self}
 use Rattle.xc_disjoint.specs.Leasts.{first_among, IsBrokenBy}
 
 some_same : {A : Type 0} (a b : A) → Some a ≡ Some b → a ≡ b

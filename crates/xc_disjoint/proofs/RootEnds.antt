@@ -5,7 +5,6 @@ use Rattle.std.proofs.lemmas.Bool.{ne_eqb}
 use Rattle.std.proofs.lemmas.List.Sums.{sum_by-cons}
 use Rattle.xc_kernel.specs.Plain as kernel
 use Rattle.xc_disjoint.specs.declared.side.Side.{Side}
-use Rattle.xc_disjoint.specs.declared.side.Side.TheVariants.{Unused, Apart, Settled}
 use Rattle.xc_disjoint.specs.declared.side.Share.{Share}
 use Rattle.xc_disjoint.specs.declared.side.Share.TheVariants.{Nobody, One, Two, Many}
 use Rattle.xc_disjoint.specs.Cores.{if_so, on_core}
@@ -121,7 +120,7 @@ roots_as_branches shares (r ∷ rs) = roots_as_branches (all_with shares (sides.
 
 -- of all roots the share is that of all uses
 shared : (c : ℕ) (rs : List kernel.Root) → Shared c (uses.of_branches (branches_of rs)) (pars.of_branches (branches_of rs)) (all_users c rs) (with_roots no_shares rs c)
-shared c rs = 
+shared c rs =
     rw (roots_as_branches no_shares rs)
     (from_start c (uses.of_branches (branches_of rs)) (pars.of_branches (branches_of rs)) (all_users c rs) (with_branches no_shares (branches_of rs) c)
     (of_branches c [] [] 0 no_shares (branches_of rs) (no_branch_yet c)))

@@ -1,5 +1,5 @@
 -- How a walk's count of threads grows by what stands at its place.
-use Rattle.std.proofs.Common.{◌≡◌, ℕ, ◌+◌, ◌-◌, ◌^◌, ◌<◌, List, ◌∷◌, length, drop, get_or, map, max, min, ap, arith}
+use Rattle.std.proofs.Common.{◌≡◌, ℕ, ◌+◌, ◌-◌, ◌^◌, ◌<◌, List, length, drop, get_or, map, max, min, ap, arith}
 use Rattle.xc_kernel.specs.declared.statement.Kst.{Kst}
 use Rattle.xc_kernel.specs.declared.statement.KBranch.{KBranch}
 use Rattle.xc_kernel.specs.declared.statement.KCase.{KCase}

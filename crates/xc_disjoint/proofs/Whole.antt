@@ -1,11 +1,11 @@
 -- The first of all the rules that a kernel breaks.
-use Rattle.std.proofs.Common.{◌≡◌, ℕ, zero, suc, ◌<◌, ◌≤◌, ◌⊎◌, inl, inr, Bool, true, false, not, List, [], ◌∷◌, length, slice_get, Contains, nat_eq, Option, Some, None, refl, sym, ap, subst, ◌∙◌, arith}
+use Rattle.std.proofs.Common.{◌≡◌, ℕ, ◌⊎◌, inl, inr, Bool, true, false, not, List, [], ◌∷◌, slice_get, Contains, nat_eq, Option, Some, None, refl, sym, ap, subst, ◌∙◌, arith}
 use Rattle.std.proofs.lemmas.Bool.{eqb-true, eqb-false, ne_eqb, eq-eqb}
 use Rattle.std.proofs.lemmas.List.Elements.{Contains-append_right}
 use Rattle.xw_words.specs.declared.pos.Pos.{Pos}
 use Rattle.xw_words.specs.declared.pos.Broken.{Broken}
 use Rattle.xc_tree.specs.Lexes.{IsNotAfter}
-use Rattle.xc_tree.specs.Least.{IsLeastOf, first_of}
+use Rattle.xc_tree.specs.Least.{IsLeastOf}
 use Rattle.xc_tree.proofs.Leasts.{of_same, none_broken}
 use Rattle.xc_kernel.specs.declared.kernel.PortUse.{PortUse}
 use Rattle.xc_kernel.specs.declared.statement.KRes.{KRes}
@@ -15,7 +15,7 @@ use Rattle.xc_disjoint.specs.Cores.{no_core}
 use Rattle.xc_disjoint.specs.Leasts.{first_among, IsBrokenBy}
 use Rattle.xc_disjoint.specs.Needs.{threads_on, ends_on, timers_on, words_on}
 use Rattle.xc_disjoint.specs.Places.{rule_if, rule_of_root, rule_of_port, rule_by_port, rule_of_resource, rule_of_use, first_in_roots}
-use Rattle.xc_disjoint.specs.Rules.{IsAbove, most_threads, most_ends, most_timers, most_words, NeedsMore, threads, ends, timers, words, HasNoCore, of_root, of_port, IsElsewhere, UsesElsewhere, Breaks, needs, without_core, elsewhere}
+use Rattle.xc_disjoint.specs.Rules.{IsAbove, most_threads, most_ends, most_timers, most_words, NeedsMore, threads, ends, timers, words, HasNoCore, of_root, of_port, UsesElsewhere, Breaks, needs, without_core, elsewhere}
 use Rattle.xc_disjoint.specs.Uses as uses
 use Rattle.xc_disjoint.specs.Uses.{Use}
 use Rattle.xc_disjoint.proofs.Firsts.{least_among, first_is, split}

@@ -63,11 +63,7 @@ fn first_broken(alloc: Global, kernel: &Kernel) -> Result<Option<Broken>, Memory
     let needs = broken_need(alloc, kernel)?;
     let roots = first_of_roots(kernel.roots.as_slice(), needs);
     let places = first_of_ports(kernel.ports.as_slice(), roots);
-    Ok(first_elsewhere(
-        kernel.ports.as_slice(),
-        kernel.roots.as_slice(),
-        places,
-    ))
+    Ok(first_elsewhere(kernel.ports.as_slice(), kernel.roots.as_slice(), places))
 }
 
 /// The least of the rules by which a core needs more than it has, which all stand at main.

@@ -81,10 +81,7 @@ fn ends_for(sides: &SideTable, among_roots: &ShareTable, channels: usize) -> u64
 {
     let mut ends: u64 = 0;
     for channel in 0..channels {
-        ends = ends.saturating_add(channel_ends(
-            among_roots.share(channel),
-            sides.side(channel),
-        ));
+        ends = ends.saturating_add(channel_ends(among_roots.share(channel), sides.side(channel)));
     }
     ends
 }

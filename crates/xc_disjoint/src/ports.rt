@@ -11,11 +11,7 @@ use xc_tree::earlier;
 use xw_words::{Broken, Pos};
 
 /// The first use of a port on a core other than its own, as rule 706, or this rule where it stands before.
-pub fn first_elsewhere(
-    ports: &[PortUse],
-    roots: &[Root],
-    best: Option<Broken>,
-) -> Option<Broken>
+pub fn first_elsewhere(ports: &[PortUse], roots: &[Root], best: Option<Broken>) -> Option<Broken>
     ensures { result ≡ first_in_roots ports.now best (map root_of roots.now) }
 {
     let mut best = best;

@@ -1,12 +1,4 @@
-use Rattle.std.proofs.Common.{List, map, sym, ap, subst, ◌∙◌, Option}
-use Rattle.xw_words.specs.declared.pos.Broken.{Broken}
-use Rattle.xc_kernel.specs.declared.kernel.Root.{Root}
-use Rattle.xc_kernel.specs.declared.kernel.PortUse.{PortUse}
-use Rattle.xc_kernel.specs.Kernels.{kernel_of, root_of}
-use Rattle.xc_tree.specs.Least.{IsLeastOf}
-use Rattle.xc_disjoint.specs.Leasts.{first_among}
-use Rattle.xc_disjoint.specs.Places.{rule_of_root, rule_of_port, first_in_roots}
-use Rattle.xc_disjoint.specs.Rules.{Breaks}
+use Rattle.xc_kernel.specs.Kernels.{kernel_of}
 use Rattle.xc_disjoint.proofs.Whole.{first_of_all}
 use Rattle.xc_disjoint.proofs.disjointness.first_broken.Goals as goal
 

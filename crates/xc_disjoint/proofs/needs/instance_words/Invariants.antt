@@ -1,4 +1,4 @@
-use Rattle.std.proofs.Common.{◌≡◌, ◌+◌, ◌-◌, ◌^◌, ◌≤◌, drop, map, min, sum_by}
+use Rattle.std.proofs.Common.{◌≡◌, ◌+◌, ◌-◌, ◌^◌, ◌≤◌, drop, min, sum_by}
 use Rattle.xc_disjoint.specs.Needs.{words_of_instance}
 use Rattle.xc_disjoint.specs.Sums.{capped}
 use Rattle.xc_disjoint.proofs.needs.instance_words.Given as goal

@@ -14,9 +14,9 @@ returns c =
     let channels = c.in_ok-channels.channels in
     let roots = (kernel_of c.args.kernel.now).roots in
     let seen : map seen_in channels.in_roots ≡ map seen_of roots =
-        c.in_ok-channels.ensures.in_roots ∙ ap (λ (rs : List Root). map seen_of (map root_of rs)) c.as_slice.ensures in
+    c.in_ok-channels.ensures.in_roots ∙ ap (λ (rs : List Root). map seen_of (map root_of rs)) c.as_slice.ensures in
     let among : shares_in channels.among_roots ≡ with_roots no_shares roots =
-        c.in_ok-channels.ensures.among_roots ∙ ap (λ (rs : List Root). with_roots no_shares (map root_of rs)) c.as_slice.ensures in
+    c.in_ok-channels.ensures.among_roots ∙ ap (λ (rs : List Root). with_roots no_shares (map root_of rs)) c.as_slice.ensures in
     decides most_ends (omega arith) (ends_on (kernel_of c.args.kernel.now)) c.is_above.result c.ends_on.result c.ends_on-2.result c.ends_on-3.result c.ends_on-4.result c.is_above.ensures
     (needs_by (kernel_of c.args.kernel.now) 0 (shares_in channels.among_roots) (map seen_in channels.in_roots) c.len-count.result c.ends_on.result c.ends_on.ensures among seen c.len-count.ensures)
     (needs_by (kernel_of c.args.kernel.now) 1 (shares_in channels.among_roots) (map seen_in channels.in_roots) c.len-count.result c.ends_on-2.result c.ends_on-2.ensures among seen c.len-count.ensures)

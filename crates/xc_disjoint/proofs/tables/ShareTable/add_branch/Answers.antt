@@ -1,5 +1,5 @@
 use Rattle.std.proofs.Common.{drop, ◌+◌, sym, ap, ◌∙◌}
-use Rattle.xc_disjoint.specs.Sides.{Shares, all_with, only}
+use Rattle.xc_disjoint.specs.Sides.{Shares}
 use Rattle.xc_disjoint.specs.Tables.{shares_in, with_entries}
 use Rattle.xc_disjoint.proofs.Entries.{all_shares}
 use Rattle.xc_disjoint.proofs.Steps.{drop_found, drop_past}

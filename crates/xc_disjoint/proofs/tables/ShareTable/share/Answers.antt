@@ -1,4 +1,4 @@
-use Rattle.std.proofs.Common.{sym, ap, ◌∙◌}
+use Rattle.std.proofs.Common.{ap}
 use Rattle.xc_disjoint.specs.Tables.{share_or, shares_at}
 use Rattle.xc_disjoint.proofs.tables.ShareTable.share.Goals as goal
 

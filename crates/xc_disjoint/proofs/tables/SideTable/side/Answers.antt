@@ -1,4 +1,4 @@
-use Rattle.std.proofs.Common.{sym, ap, ◌∙◌}
+use Rattle.std.proofs.Common.{ap}
 use Rattle.xc_disjoint.specs.Tables.{side_or, sides_at}
 use Rattle.xc_disjoint.proofs.tables.SideTable.side.Goals as goal
 
