@@ -2,12 +2,12 @@ ghost use Rattle.std.specs.Prelude.{◌≡◌, map, sum_by, OnOk, IfOk};
 ghost use Rattle.xc_disjoint.specs.Sides as sides;
 ghost use Rattle.xc_disjoint.specs.Sides.{all_after, ends_at, ends_below, ends_by, no_shares, seen_of};
 ghost use Rattle.xc_disjoint.specs.Sums.{capped};
-ghost use Rattle.xc_disjoint.specs.Tables.{seen_in, shares_in, sides_in};
+ghost use Rattle.xc_disjoint.specs.Tables.{seen_in, shares_in, shares_of, sides_in};
 ghost use Rattle.xc_kernel.specs.Kernels.{branch_of, case_of, root_of, statement_of};
 ghost use Rattle.xc_kernel.specs.Plain as plain;
 
 use crate::side::{Share, Side};
-use crate::tables::{ShareTable, SideTable};
+use crate::tables::{ParTable, ShareTable, SideTable};
 use std::alloc::Global;
 use xc_kernel::{KBranch, KCase, KRes, Kst, Root};
 use xw_words::{List, Memory};
@@ -138,9 +138,9 @@ fn statement(alloc: Global, table: &mut SideTable, s: &Kst) -> Result<(), Memory
             }
         }
         Kst::Par(all) => {
-            let mut shares = ShareTable::new(alloc);
-            branches(alloc, &mut shares, all.as_slice())?;
-            table.follow_par(&shares)
+            let mut par = ParTable::new(alloc);
+            branches(alloc, &mut par, all.as_slice())?;
+            table.follow_all(alloc, par.sides()?)
         }
         Kst::Tran { chan, body, .. } => {
             table.follow(*chan as usize, Side::Apart)?;
@@ -172,23 +172,23 @@ fn case(alloc: Global, table: &mut SideTable, c: &KCase) -> Result<(), Memory>
 /// Goes on to more branches of a `par`.
 #[cycle(channels)]
 #[tactic(auto, using(crate::proofs::SideSteps::steps))]
-fn branches(alloc: Global, shares: &mut ShareTable, all: &[KBranch]) -> Result<(), Memory>
-    ensures { OnOk result (shares_in shares.new ≡ sides.with_branches (shares_in shares.old) (plain.branches (map branch_of all.now))) }
+fn branches(alloc: Global, par: &mut ParTable, all: &[KBranch]) -> Result<(), Memory>
+    ensures { OnOk result (shares_of par.new ≡ sides.with_branches (shares_of par.old) (plain.branches (map branch_of all.now))) }
 {
     for b in all {
-        branch(alloc, shares, b)?;
+        branch(alloc, par, b)?;
     }
     Ok(())
 }
 
 #[cycle(channels)]
 #[tactic(auto, using(crate::proofs::SideSteps::steps))]
-fn branch(alloc: Global, shares: &mut ShareTable, b: &KBranch) -> Result<(), Memory>
-    ensures { OnOk result (shares_in shares.new ≡ sides.all_with (shares_in shares.old) (sides.of_branch (branch_of b.now))) }
+fn branch(alloc: Global, par: &mut ParTable, b: &KBranch) -> Result<(), Memory>
+    ensures { OnOk result (shares_of par.new ≡ sides.all_with (shares_of par.old) (sides.of_branch (branch_of b.now))) }
 {
     let mut table = SideTable::new(alloc);
     statements(alloc, &mut table, b.body.as_slice())?;
-    shares.add_branch(&table)
+    par.add(alloc, table)
 }
 
 /// Goes on behind a use.

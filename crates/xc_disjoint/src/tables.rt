@@ -1,11 +1,12 @@
-ghost use Rattle.std.specs.Prelude.{◌≡◌, ◌<◌, slice_get, Some, OnOk};
+ghost use Rattle.std.specs.Prelude.{◌≡◌, ◌<◌, slice_get, Some, IfOk, OnOk};
 ghost use Rattle.indexmap.specs.IndexMap.{index_map_len};
-ghost use Rattle.xc_disjoint.specs.Sides.{after as behind, all_after, all_with, no_shares, no_sides, only, side_of as side_by, sides_of, with_branch as with_one_more};
-ghost use Rattle.xc_disjoint.specs.Tables.{shares_in, sides_in};
+ghost use Rattle.xc_disjoint.specs.Sides.{after as behind, Shares, all_after, all_with, no_shares, no_sides, only, side_of as side_by, sides_of, with_branch as with_one_more};
+ghost use Rattle.xc_disjoint.specs.Tables.{settled_at, shares_in, shares_of, sides_in};
 
 use crate::side::{Share, Side};
 use indexmap::IndexMap;
 use std::alloc::Global;
+use std::mem;
 use xw_words::Memory;
 
 /// How far the sides of channels are settled in some statements. A channel that isn't there isn't used in them.
@@ -51,15 +52,35 @@ impl SideTable {
         }
     }
 
-    /// Goes on behind a `par` of whose branches these use channels.
-    pub fn follow_par(&mut self, shares: &ShareTable) -> Result<(), Memory>
-        ensures { OnOk result (sides_in self.new ≡ all_after (sides_in self.old) (sides_of (shares_in shares.now))) }
+    /// Goes on behind statements that use channels like this. It goes through the smaller of both tables.
+    pub fn follow_all(&mut self, alloc: Global, next: SideTable) -> Result<(), Memory>
+        ensures { OnOk result (sides_in self.new ≡ all_after (sides_in self.old) (sides_in next)) }
     {
-        for at in 0..shares.entries.len() {
-            let (channel, share) = entry_at(&shares.entries, at);
-            self.follow(channel, side_of(share))?;
+        let first = mem::replace(self, SideTable::new(alloc));
+        let (larger, smaller) = larger_first(first, next);
+        *self = larger;
+        self.follow_each(&smaller)
+    }
+
+    fn follow_each(&mut self, next: &SideTable) -> Result<(), Memory>
+        ensures { OnOk result (sides_in self.new ≡ all_after (sides_in self.old) (sides_in next.now)) }
+    {
+        for at in 0..next.entries.len() {
+            let (channel, side) = entry_at(&next.entries, at);
+            self.follow(channel, side)?;
         }
         Ok(())
+    }
+
+    /// Takes the sides in one branch of a `par` for those in the whole, where this share of the others uses a channel.
+    fn settle(&mut self, channel: usize, share: Share) -> Result<(), Memory>
+        ensures { OnOk result (sides_in self.new ≡ settled_at (sides_in self.old) channel share) }
+    {
+        let side = side_of(with_branch(share, self.side(channel)));
+        match self.entries.insert(channel, side) {
+            Ok(_) => Ok(()),
+            Err(_) => Err(Memory),
+        }
     }
 }
 
@@ -103,6 +124,62 @@ impl ShareTable {
             self.add(channel, side)?;
         }
         Ok(())
+    }
+}
+
+/// Which branches of a `par` use channels: the largest of their tables, and what the others share.
+#[derive(Drop)]
+pub struct ParTable {
+    pub largest: SideTable,
+    pub others: ShareTable,
+}
+
+impl ParTable {
+    /// No branch.
+    pub fn new(alloc: Global) -> ParTable
+        ensures { shares_of result ≡ no_shares }
+    {
+        ParTable {
+            largest: SideTable::new(alloc),
+            others: ShareTable::new(alloc),
+        }
+    }
+
+    /// Goes on to one more branch. It goes through this branch's table or the largest so far, the smaller of both.
+    pub fn add(&mut self, alloc: Global, sides: SideTable) -> Result<(), Memory>
+        ensures { OnOk result (shares_of self.new ≡ all_with (shares_of self.old) (sides_in sides)) }
+    {
+        let largest = mem::replace(&mut self.largest, SideTable::new(alloc));
+        let (larger, smaller) = larger_first(largest, sides);
+        self.largest = larger;
+        self.others.add_branch(&smaller)
+    }
+
+    /// The sides in the whole `par`. It goes through what the branches but the largest share.
+    pub fn sides(self) -> Result<SideTable, Memory>
+        ensures { IfOk result (λ sides. sides_in sides ≡ sides_of (shares_of self)) }
+    {
+        let ParTable {
+            mut largest,
+            others,
+        } = self;
+        for at in 0..others.entries.len() {
+            let (channel, share) = entry_at(&others.entries, at);
+            largest.settle(channel, share)?;
+        }
+        Ok(largest)
+    }
+}
+
+/// Two tables, of which the first has no fewer entries than the second.
+fn larger_first(first: SideTable, second: SideTable) -> (SideTable, SideTable)
+    ensures followed { all_after (sides_in result.0) (sides_in result.1) ≡ all_after (sides_in first) (sides_in second) }
+    ensures shared { (shares : Shares) → all_with (all_with shares (sides_in result.1)) (sides_in result.0) ≡ all_with (all_with shares (sides_in first)) (sides_in second) }
+{
+    if first.entries.len() < second.entries.len() {
+        (second, first)
+    } else {
+        (first, second)
     }
 }
 

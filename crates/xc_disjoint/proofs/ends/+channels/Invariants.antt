@@ -1,6 +1,6 @@
 use Rattle.std.proofs.Common.{◌≡◌, drop, map}
 use Rattle.xc_disjoint.specs.Sides.{all_after, of_cases, of_statements, with_branches}
-use Rattle.xc_disjoint.specs.Tables.{shares_in, sides_in}
+use Rattle.xc_disjoint.specs.Tables.{shares_of, sides_in}
 use Rattle.xc_kernel.specs.Kernels.{branch_of, case_of, statement_of}
 use Rattle.xc_kernel.specs.Plain as plain
 use Rattle.xc_disjoint.proofs.ends.+channels.Given as goal
@@ -15,4 +15,4 @@ invariant-cases-loop-c l =
 
 abbrev pub invariant-branches-loop-b : goal.invariant-branches-loop-b
 invariant-branches-loop-b l =
-    with_branches (shares_in l.initial.shares) (plain.branches (map branch_of l.all)) ≡ with_branches (shares_in l.shares) (plain.branches (map branch_of (drop l.b-index l.all)))
+    with_branches (shares_of l.initial.par) (plain.branches (map branch_of l.all)) ≡ with_branches (shares_of l.par) (plain.branches (map branch_of (drop l.b-index l.all)))
