@@ -93,3 +93,6 @@ fn at_main(kernel: &Kernel, rule: u16) -> Option<Broken>
         pos: kernel.main,
     })
 }
+
+#[cfg(test)]
+mod tests;
