@@ -8,3 +8,4 @@ mod Settled
 mod RootEnds
 mod Firsts
 mod Whole
+mod NeedsExamples
