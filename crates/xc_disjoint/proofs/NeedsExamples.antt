@@ -62,7 +62,7 @@ counted n =
     (tree.statement (tree.replicated (id (codes "i") 1 27) (id (codes "i") 1 34) (id (codes "i") 1 41) 0 n
     (tree.branch None (tree.statement (tree.block (tree.statements (
     (tree.statement (tree.declare ((record { kind = (tree.word false None); name = id (codes "x") 1 52 }) ∷ [])) (at 1 48) (at 1 53) 3)
-    ∷ (tree.statement (tree.assign (name (codes "x") 1 55) None (at 1 57) (tree.value (name (codes "i") 1 59))) (at 1 55) (at 1 60) 4)
+    ∷ (tree.statement (tree.assign (name (codes "x") 1 55) 22 (at 1 57) (tree.value (name (codes "i") 1 59))) (at 1 55) (at 1 60) 4)
     ∷ []))) (at 1 46) (at 1 62) 2))) (at 1 18) (at 1 62) 14)
     ∷ (tree.statement (tree.return_with (Some (tree.value (number 0 false 1 71)))) (at 1 64) (at 1 72) 3)
     ∷ []))) (at 1 16) (at 1 74) 2))
@@ -107,7 +107,7 @@ abbrev copies : List tree.Item
 copies =
     function (codes "f0") (
     (tree.statement (tree.declare ((record { kind = (tree.word false None); name = id (codes "x") 1 21 }) ∷ [])) (at 1 17) (at 1 22) 3)
-    ∷ (tree.statement (tree.assign (name (codes "x") 1 24) None (at 1 26) (tree.value (number 1 false 1 28))) (at 1 24) (at 1 29) 4)
+    ∷ (tree.statement (tree.assign (name (codes "x") 1 24) 22 (at 1 26) (tree.value (number 1 false 1 28))) (at 1 24) (at 1 29) 4)
     ∷ [])
     ∷ function (codes "f1") (three_calls (codes "f0") 2)
     ∷ function (codes "f2") (three_calls (codes "f1") 3)

@@ -151,33 +151,46 @@ fn meetings(alloc: Global, channels: u32) -> Result<List<Kst>, Memory> {
     Ok(ss)
 }
 
-/// A variable of so many words that counts by itself.
-fn variable(alloc: Global, core: u8, words: u32) -> Var {
+/// A variable of so many words, which counts by itself or not.
+fn variable(alloc: Global, core: u8, words: u32, counted: bool) -> Var {
     Var {
         words,
         array: true,
-        counted: true,
+        counted,
         core,
         path: List::new(alloc),
         pos: at(60),
     }
 }
 
-fn timer(alloc: Global, core: u8) -> Timer {
-    Timer {
-        core,
-        path: List::new(alloc),
-        pos: at(61),
-    }
-}
-
-fn port(core: u8) -> PortUse {
+fn port(core: u8, place: Pos) -> PortUse {
     PortUse {
         id: 0,
         dir: TreeDir::Out,
         core,
-        place: at(50),
+        place,
         pos: at(51),
+    }
+}
+
+fn add_timers(alloc: Global, kernel: &mut Kernel, core: u8, count: u32) -> Result<(), Memory> {
+    for col in 0..count {
+        kernel.timers.push(Timer {
+            core,
+            path: List::new(alloc),
+            pos: at(col),
+        })?;
+    }
+    Ok(())
+}
+
+fn transaction(chan: u32, body: List<Kst>) -> Kst {
+    Kst::Tran {
+        chan,
+        master: true,
+        body,
+        open_at: at(13),
+        close_at: at(14),
     }
 }
 
@@ -193,101 +206,133 @@ fn show(alloc: Global, shown: &mut String, kernel: Kernel) -> Result<(), AllocEr
     }
 }
 
-/// A core has eight threads: a `par` of eight and of nine, first alone, then at each place in a statement.
+/// A `par` of nine branches at each place in a statement, and of eight.
+fn wide_at(a: Global, number: u32) -> Result<Kst, Memory> {
+    let nine = one(a, wide(a, 9)?)?;
+    match number {
+        0 => wide(a, 8),
+        1 => Ok(Kst::If(Kx::Num(0), nine, List::new(a))),
+        2 => Ok(Kst::If(Kx::Num(0), List::new(a), nine)),
+        3 => Ok(Kst::Loop(Kx::Num(0), nine, List::new(a))),
+        4 => Ok(Kst::Loop(Kx::Num(0), List::new(a), nine)),
+        5 => Ok(Kst::Block(0, nine)),
+        6 => select(a, input(KRes::Timer(0), 10), nine, None),
+        7 => select(a, input(KRes::Timer(0), 10), List::new(a), Some(nine)),
+        8 => par(a, nine),
+        _ => Ok(transaction(0, nine)),
+    }
+}
+
+/// A core has eight threads.
 #[test]
 fn threads(rt: HostRuntime) -> Result<(), Fail> {
     let a = rt.alloc();
     let mut shown = String::new(a);
-    show(a, &mut shown, alone(a, 0, one(a, wide(a, 8)?)?, 0)?)?;
-    show(a, &mut shown, alone(a, 0, one(a, wide(a, 9)?)?, 0)?)?;
-    show(a, &mut shown, alone(a, 3, one(a, wide(a, 9)?)?, 0)?)?;
-    show(
-        a,
-        &mut shown,
-        alone(a, 0, two(a, wide(a, 8)?, wide(a, 8)?)?, 0)?,
-    )?;
-    show(
-        a,
-        &mut shown,
-        alone(a, 0, two(a, wide(a, 1)?, wide(a, 9)?)?, 0)?,
-    )?;
-    let chosen = Kst::If(Kx::Num(0), one(a, wide(a, 8)?)?, one(a, wide(a, 9)?)?);
-    show(a, &mut shown, alone(a, 0, one(a, chosen)?, 0)?)?;
-    let turned = Kst::Loop(Kx::Num(0), one(a, wide(a, 9)?)?, one(a, wide(a, 8)?)?);
-    show(a, &mut shown, alone(a, 0, one(a, turned)?, 0)?)?;
-    let block = Kst::Block(0, one(a, wide(a, 9)?)?);
-    show(a, &mut shown, alone(a, 0, one(a, block)?, 0)?)?;
-    let case = select(a, input(KRes::Timer(0), 10), one(a, wide(a, 9)?)?, None)?;
-    show(a, &mut shown, alone(a, 0, one(a, case)?, 0)?)?;
-    let other = Some(one(a, wide(a, 9)?)?);
-    let otherwise = select(a, input(KRes::Timer(0), 10), List::new(a), other)?;
-    show(a, &mut shown, alone(a, 0, one(a, otherwise)?, 0)?)?;
-    let eight = par(a, two(a, wide(a, 4)?, wide(a, 4)?)?)?;
-    show(a, &mut shown, alone(a, 0, one(a, eight)?, 0)?)?;
-    let nine = par(a, two(a, wide(a, 4)?, wide(a, 5)?)?)?;
-    show(a, &mut shown, alone(a, 0, one(a, nine)?, 0)?)?;
+    for number in 0..10 {
+        show(a, &mut shown, alone(a, 0, one(a, wide_at(a, number)?)?, 0)?)?;
+    }
     assert_eq!(rt;
         shown.as_str(),
-        "ok\n701 at 1:5\n701 at 1:5\nok\n701 at 1:5\n701 at 1:5\n701 at 1:5\n701 at 1:5\n701 at 1:5\n701 at 1:5\nok\n701 at 1:5\n"
+        "ok\n701 at 1:5\n701 at 1:5\n701 at 1:5\n701 at 1:5\n701 at 1:5\n701 at 1:5\n701 at 1:5\n701 at 1:5\n701 at 1:5\n"
     );
     Ok(())
 }
 
-/// The threads of all roots on a core count together. A root and a `par` that do nothing need one.
+/// Statements one behind the other need the greatest number, and branches the sum.
+#[test]
+fn threads_together(rt: HostRuntime) -> Result<(), Fail> {
+    let a = rt.alloc();
+    let mut shown = String::new(a);
+    for (first, second) in [(8, 8), (1, 9), (9, 1)] {
+        let row = two(a, wide(a, first)?, wide(a, second)?)?;
+        show(a, &mut shown, alone(a, 3, row, 0)?)?;
+    }
+    for (first, second) in [(4, 4), (4, 5), (0, 7), (0, 8)] {
+        let branches = two(a, wide(a, first)?, wide(a, second)?)?;
+        show(a, &mut shown, alone(a, 0, one(a, par(a, branches)?)?, 0)?)?;
+    }
+    assert_eq!(rt;
+        shown.as_str(),
+        "ok\n701 at 1:5\n701 at 1:5\nok\n701 at 1:5\nok\n701 at 1:5\n"
+    );
+    Ok(())
+}
+
+/// The threads of all roots on a core count together, and a root that does nothing needs one.
 #[test]
 fn threads_of_several_roots(rt: HostRuntime) -> Result<(), Fail> {
     let a = rt.alloc();
     let mut shown = String::new(a);
-    let mut apart = empty(a);
-    apart.roots.push(root(2, one(a, wide(a, 5)?)?))?;
-    apart.roots.push(root(1, one(a, wide(a, 4)?)?))?;
-    show(a, &mut shown, apart)?;
-    let mut together = empty(a);
-    together.roots.push(root(2, one(a, wide(a, 5)?)?))?;
-    together.roots.push(root(2, one(a, wide(a, 4)?)?))?;
-    show(a, &mut shown, together)?;
-    let mut eight = empty(a);
-    for _ in 0..7 {
-        eight.roots.push(root(0, List::new(a)))?;
+    for (core, other, others) in [(2, 1, 1), (2, 2, 1), (0, 0, 3), (0, 0, 4)] {
+        let mut kernel = alone(a, core, one(a, wide(a, 5)?)?, 0)?;
+        for _ in 1..others {
+            kernel.roots.push(root(other, List::new(a)))?;
+        }
+        kernel.roots.push(root(other, one(a, wide(a, if others < 2 { 4 } else { 0 })?)?))?;
+        show(a, &mut shown, kernel)?;
     }
-    eight.roots.push(root(0, one(a, wide(a, 0)?)?))?;
-    show(a, &mut shown, eight)?;
-    let mut nine = empty(a);
-    for _ in 0..9 {
-        nine.roots.push(root(0, List::new(a)))?;
-    }
-    show(a, &mut shown, nine)?;
     assert_eq!(rt; shown.as_str(), "ok\n701 at 1:5\nok\n701 at 1:5\n");
     Ok(())
 }
 
-/// A core has 32 channel ends, and a channel in two branches of one root needs two of them.
+/// What stands behind sixteen channels that have their sides in `par`s of their own: the seventeenth, in different ways.
+fn seventeenth(a: Global, number: u32) -> Result<Kst, Memory> {
+    let put = output(KRes::Chan(16), 12);
+    let take = Kst::In(input(KRes::Chan(16), 13));
+    match number {
+        0 => Ok(Kst::Exit(0)),
+        1 => meeting(a, 16),
+        2 => par(a, two(a, meeting(a, 16)?, Kst::Exit(0))?),
+        3 => par(a, two(a, meeting(a, 16)?, put)?),
+        4 => Ok(Kst::Block(0, two(a, meeting(a, 16)?, put)?)),
+        5 => Ok(Kst::Block(0, two(a, put, take)?)),
+        6 => par(a, two(a, put, Kst::Exit(0))?),
+        7 => Ok(Kst::Block(0, two(a, meeting(a, 16)?, meeting(a, 16)?)?)),
+        8 => {
+            let case = select(a, input(KRes::Chan(16), 12), List::new(a), None)?;
+            par(a, two(a, case, transaction(16, List::new(a)))?)
+        }
+        9 => {
+            let ported = output(KRes::Port(16), 12);
+            par(a, two(a, Kst::In(input(KRes::Timer(16), 12)), ported)?)
+        }
+        _ => {
+            let mut three = two(a, put, take)?;
+            three.push(output(KRes::Chan(16), 14))?;
+            par(a, three)
+        }
+    }
+}
+
+/// A core has 32 channel ends, and a channel that exactly two branches of the innermost `par` around all its uses use needs two
+/// of them.
 #[test]
 fn ends(rt: HostRuntime) -> Result<(), Fail> {
     let a = rt.alloc();
     let mut shown = String::new(a);
-    show(a, &mut shown, alone(a, 0, meetings(a, 16)?, 16)?)?;
-    show(a, &mut shown, alone(a, 0, meetings(a, 17)?, 17)?)?;
-    show(a, &mut shown, alone(a, 3, meetings(a, 17)?, 17)?)?;
-    let in_one_branch = par(a, two(a, Kst::Block(0, meetings(a, 17)?), Kst::Exit(0))?)?;
-    show(a, &mut shown, alone(a, 0, one(a, in_one_branch)?, 17)?)?;
-    let mut used_again = meetings(a, 17)?;
-    used_again.push(output(KRes::Chan(0), 12))?;
-    show(a, &mut shown, alone(a, 0, used_again, 17)?)?;
-    let mut by_third = meetings(a, 16)?;
-    let second = two(a, output(KRes::Chan(16), 12), output(KRes::Chan(16), 13))?;
-    let mut three = second;
-    three.push(output(KRes::Chan(16), 14))?;
-    by_third.push(par(a, three)?)?;
-    show(a, &mut shown, alone(a, 0, by_third, 17)?)?;
-    let mut by_one = meetings(a, 16)?;
-    by_one.push(par(a, two(a, output(KRes::Chan(16), 12), Kst::Exit(0))?)?)?;
-    show(a, &mut shown, alone(a, 0, by_one, 17)?)?;
+    for number in 0..11 {
+        let mut body = meetings(a, 16)?;
+        body.push(seventeenth(a, number)?)?;
+        show(a, &mut shown, alone(a, 3, body, 17)?)?;
+    }
     assert_eq!(rt;
         shown.as_str(),
-        "ok\n702 at 1:5\n702 at 1:5\n702 at 1:5\nok\nok\nok\n"
+        "ok\n702 at 1:5\n702 at 1:5\n702 at 1:5\nok\nok\nok\nok\n702 at 1:5\nok\nok\n"
     );
     Ok(())
+}
+
+/// A kernel with so many channels inside the first of some roots, and so many in all of them.
+fn across(a: Global, inside: u32, shared: u32, cores: &[u8]) -> Result<Kernel, Memory> {
+    let mut kernel = alone(a, 0, meetings(a, inside)?, 30)?;
+    for core in cores {
+        let mut body = List::new(a);
+        for channel in 0..shared {
+            body.push(output(KRes::Chan(20u32.saturating_add(channel)), 12))?;
+        }
+        kernel.roots.push(root(*core, body))?;
+    }
+    Ok(kernel)
 }
 
 /// A channel in two roots needs an end on the core of each, and one in three roots none.
@@ -295,56 +340,17 @@ fn ends(rt: HostRuntime) -> Result<(), Fail> {
 fn ends_of_several_roots(rt: HostRuntime) -> Result<(), Fail> {
     let a = rt.alloc();
     let mut shown = String::new(a);
-    for (inside, across) in [(15, 2), (15, 3), (16, 0), (16, 1)] {
-        let mut first = meetings(a, inside)?;
-        let mut second = List::new(a);
-        for channel in 20..30 {
-            if channel < 20 + across {
-                first.push(output(KRes::Chan(channel), 12))?;
-                second.push(Kst::In(input(KRes::Chan(channel), 13)))?;
-            }
-        }
-        let mut kernel = empty(a);
-        kernel.roots.push(root(0, first))?;
-        kernel.roots.push(root(1, second))?;
-        add_channels(a, &mut kernel, 30)?;
-        show(a, &mut shown, kernel)?;
+    for (inside, shared) in [(15, 2), (15, 3), (16, 0), (16, 1)] {
+        show(a, &mut shown, across(a, inside, shared, &[0, 1])?)?;
     }
-    let mut three = empty(a);
-    three.roots.push(root(0, meetings(a, 16)?))?;
-    for core in 0..3 {
-        three
-            .roots
-            .push(root(core, one(a, output(KRes::Chan(20), 12))?))?;
-    }
-    add_channels(a, &mut three, 30)?;
-    show(a, &mut shown, three)?;
-    assert_eq!(rt; shown.as_str(), "ok\n702 at 1:5\nok\n702 at 1:5\nok\n");
-    Ok(())
-}
-
-/// A case and a transaction use their channel, and timers and ports are no channels.
-#[test]
-fn uses_of_channels(rt: HostRuntime) -> Result<(), Fail> {
-    let a = rt.alloc();
-    let mut shown = String::new(a);
-    let mut by_case = meetings(a, 16)?;
-    let case = select(a, input(KRes::Chan(16), 12), List::new(a), None)?;
-    let transaction = Kst::Tran {
-        chan: 16,
-        master: true,
-        body: List::new(a),
-        open_at: at(13),
-        close_at: at(14),
-    };
-    by_case.push(par(a, two(a, case, transaction)?)?)?;
-    show(a, &mut shown, alone(a, 0, by_case, 17)?)?;
-    let mut by_timer = meetings(a, 16)?;
-    let first = Kst::In(input(KRes::Timer(16), 12));
-    let second = Kst::In(input(KRes::Port(16), 13));
-    by_timer.push(par(a, two(a, first, second)?)?)?;
-    show(a, &mut shown, alone(a, 0, by_timer, 17)?)?;
-    assert_eq!(rt; shown.as_str(), "702 at 1:5\nok\n");
+    show(a, &mut shown, across(a, 16, 1, &[1, 2])?)?;
+    show(a, &mut shown, across(a, 16, 1, &[0, 1, 2])?)?;
+    show(a, &mut shown, across(a, 15, 2, &[0, 0])?)?;
+    show(a, &mut shown, across(a, 16, 1, &[0, 255])?)?;
+    assert_eq!(rt;
+        shown.as_str(),
+        "ok\n702 at 1:5\nok\n702 at 1:5\nok\nok\n702 at 1:5\n702 at 1:5\n"
+    );
     Ok(())
 }
 
@@ -355,32 +361,19 @@ fn timers(rt: HostRuntime) -> Result<(), Fail> {
     let mut shown = String::new(a);
     for (first, second) in [(10, 0), (11, 0), (0, 11), (10, 10)] {
         let mut kernel = alone(a, 0, List::new(a), 0)?;
-        for _ in 0..first {
-            kernel.timers.push(timer(a, 0))?;
-        }
-        for _ in 0..second {
-            kernel.timers.push(timer(a, 3))?;
-        }
+        add_timers(a, &mut kernel, 0, first)?;
+        add_timers(a, &mut kernel, 3, second)?;
         show(a, &mut shown, kernel)?;
     }
     assert_eq!(rt; shown.as_str(), "ok\n703 at 1:5\n703 at 1:5\nok\n");
     Ok(())
 }
 
-/// The rule for so many words of a variable, parameters of an instance, and threads on a core.
-fn of_words(
-    alloc: Global,
-    core: u8,
-    words: u32,
-    params: u32,
-    threads: u32,
-) -> Result<Kernel, Memory> {
-    let mut kernel = alone(alloc, core, one(alloc, wide(alloc, threads)?)?, 0)?;
-    kernel.vars.push(variable(alloc, core, words))?;
-    kernel.vars.push(Var {
-        counted: false,
-        ..variable(alloc, core, 16_384)
-    })?;
+/// A kernel with a variable of so many words, so many parameters of an instance, and so many threads on a core.
+fn of_words(a: Global, core: u8, words: u32, params: u32, threads: u32) -> Result<Kernel, Memory> {
+    let mut kernel = alone(a, core, one(a, wide(a, threads)?)?, 0)?;
+    kernel.vars.push(variable(a, core, words, true))?;
+    kernel.vars.push(variable(a, core, 16_384, false))?;
     kernel.insts.push(Inst { core, params })?;
     Ok(kernel)
 }
@@ -390,15 +383,19 @@ fn of_words(
 fn words(rt: HostRuntime) -> Result<(), Fail> {
     let a = rt.alloc();
     let mut shown = String::new(a);
-    show(a, &mut shown, of_words(a, 0, 15_868, 0, 1)?)?;
-    show(a, &mut shown, of_words(a, 0, 15_869, 0, 1)?)?;
-    show(a, &mut shown, of_words(a, 2, 15_868, 1, 1)?)?;
-    show(a, &mut shown, of_words(a, 2, 15_867, 1, 1)?)?;
-    show(a, &mut shown, of_words(a, 0, 15_356, 0, 2)?)?;
-    show(a, &mut shown, of_words(a, 0, 15_357, 0, 2)?)?;
+    for (core, words, params, threads) in [
+        (0, 15_868, 0, 1),
+        (0, 15_869, 0, 1),
+        (2, 15_867, 1, 1),
+        (2, 15_868, 1, 1),
+        (0, 15_356, 0, 2),
+        (0, 15_357, 0, 2),
+    ] {
+        show(a, &mut shown, of_words(a, core, words, params, threads)?)?;
+    }
     assert_eq!(rt;
         shown.as_str(),
-        "ok\n704 at 1:5\n704 at 1:5\nok\nok\n704 at 1:5\n"
+        "ok\n704 at 1:5\nok\n704 at 1:5\nok\n704 at 1:5\n"
     );
     Ok(())
 }
@@ -415,7 +412,7 @@ fn words_of_copies(rt: HostRuntime) -> Result<(), Fail> {
             kernel.insts.push(Inst { core: 0, params: 0 })?;
         }
         for _ in 0..variables {
-            kernel.vars.push(variable(a, 0, 1))?;
+            kernel.vars.push(variable(a, 0, 1, true))?;
         }
         show(a, &mut shown, kernel)?;
     }
@@ -423,29 +420,41 @@ fn words_of_copies(rt: HostRuntime) -> Result<(), Fail> {
     Ok(())
 }
 
+/// A kernel with a port on one core and nine threads, or none, on another.
+fn placed(a: Global, core: u8, threads: u32, own: u8, place: Pos) -> Result<Kernel, Memory> {
+    let mut kernel = alone(a, core, one(a, wide(a, threads)?)?, 0)?;
+    kernel.ports.push(port(own, place))?;
+    Ok(kernel)
+}
+
 /// A place that gives no core stands at its first token, and what is on it needs nothing.
 #[test]
 fn places(rt: HostRuntime) -> Result<(), Fail> {
     let a = rt.alloc();
     let mut shown = String::new(a);
-    show(a, &mut shown, alone(a, 255, one(a, wide(a, 9)?)?, 0)?)?;
-    let mut ported = alone(a, 0, List::new(a), 0)?;
-    ported.ports.push(port(255))?;
-    show(a, &mut shown, ported)?;
-    let mut crowded = alone(a, 255, List::new(a), 0)?;
-    crowded.roots.push(root(3, one(a, wide(a, 9)?)?))?;
-    show(a, &mut shown, crowded)?;
-    let mut before = alone(a, 0, one(a, wide(a, 9)?)?, 0)?;
-    before.ports.push(PortUse {
-        place: Pos { line: 1, col: 1 },
-        ..port(255)
-    })?;
-    show(a, &mut shown, before)?;
+    show(a, &mut shown, placed(a, 255, 9, 0, at(50))?)?;
+    show(a, &mut shown, placed(a, 0, 1, 255, at(50))?)?;
+    show(a, &mut shown, placed(a, 255, 1, 255, at(50))?)?;
+    show(a, &mut shown, placed(a, 3, 9, 255, at(50))?)?;
+    show(
+        a,
+        &mut shown,
+        placed(a, 3, 9, 255, Pos { line: 1, col: 1 })?,
+    )?;
     assert_eq!(rt;
         shown.as_str(),
-        "705 at 2:90\n705 at 2:50\n701 at 1:5\n705 at 1:1\n"
+        "705 at 2:90\n705 at 2:50\n705 at 2:50\n701 at 1:5\n705 at 1:1\n"
     );
     Ok(())
+}
+
+/// A kernel that uses a port on a core, first in an output and behind it in a case, whose place stands before.
+fn used(a: Global, core: u8, own: u8) -> Result<Kernel, Memory> {
+    let case = select(a, input(KRes::Port(0), 15), List::new(a), None)?;
+    let body = two(a, output(KRes::Port(0), 20), par(a, one(a, case)?)?)?;
+    let mut kernel = alone(a, core, body, 0)?;
+    kernel.ports.push(port(own, at(50)))?;
+    Ok(kernel)
 }
 
 /// A port is used on its own core, also where neither place gives one.
@@ -454,11 +463,7 @@ fn ports(rt: HostRuntime) -> Result<(), Fail> {
     let a = rt.alloc();
     let mut shown = String::new(a);
     for (core, own) in [(0, 0), (0, 1), (2, 0), (2, 2), (255, 1), (255, 255)] {
-        let first = output(KRes::Port(0), 20);
-        let second = select(a, input(KRes::Port(0), 15), List::new(a), None)?;
-        let mut kernel = alone(a, core, two(a, first, par(a, one(a, second)?)?)?, 0)?;
-        kernel.ports.push(port(own))?;
-        show(a, &mut shown, kernel)?;
+        show(a, &mut shown, used(a, core, own)?)?;
     }
     assert_eq!(rt;
         shown.as_str(),
@@ -467,28 +472,23 @@ fn ports(rt: HostRuntime) -> Result<(), Fail> {
     Ok(())
 }
 
+/// A kernel that breaks the four rules at main but for the first few.
+fn crowded(a: Global, kept: u32) -> Result<Kernel, Memory> {
+    let mut body = meetings(a, if kept < 2 { 17 } else { 16 })?;
+    body.push(wide(a, if kept < 1 { 9 } else { 8 })?)?;
+    let mut kernel = alone(a, 0, body, 17)?;
+    add_timers(a, &mut kernel, 0, if kept < 3 { 11 } else { 10 })?;
+    kernel.vars.push(variable(a, 0, 20_000, true))?;
+    Ok(kernel)
+}
+
 /// Of rules at one place the least number is named.
 #[test]
 fn least_number(rt: HostRuntime) -> Result<(), Fail> {
     let a = rt.alloc();
     let mut shown = String::new(a);
-    for step in 0..4 {
-        let mut body = List::new(a);
-        if step < 1 {
-            body.push(wide(a, 9)?)?;
-        }
-        let channels = if step < 2 { 17 } else { 16 };
-        for channel in 0..channels {
-            body.push(meeting(a, channel)?)?;
-        }
-        let mut kernel = alone(a, 0, body, 17)?;
-        for _ in 0..11 {
-            kernel
-                .timers
-                .push(timer(a, if step < 3 { 0 } else { 255 }))?;
-        }
-        kernel.vars.push(variable(a, 0, 20_000))?;
-        show(a, &mut shown, kernel)?;
+    for kept in 0..4 {
+        show(a, &mut shown, crowded(a, kept)?)?;
     }
     assert_eq!(rt;
         shown.as_str(),
