@@ -73,8 +73,8 @@ fn types(alloc: Global, text: &str) -> Result<String, AllocError> {
     Ok(shown)
 }
 
-/// Texts that break each rule, in other places of the grammar, and their neighbours that break none.
-const RULES: [(&str, &str); 106] = [
+/// Texts that break the rules on names of words, arrays, lvals and functions, in several places of the grammar, and neighbours that break none.
+const NAMES: [(&str, &str); 20] = [
     ("void main(void) { int a[2]; int x; x = a; }", "401 at 1:40"),
     (
         "port p = XS1_PORT_1A; void f(void) { } void main(void) { chan c; timer t; int x; x = c + t * p - f; }",
@@ -110,6 +110,49 @@ const RULES: [(&str, &str); 106] = [
     ),
     ("void main(void) { int f; f(); }", "404 at 1:26"),
     ("void f(void) { } void main(void) { f(); }", "ok"),
+    (
+        "void f(int x) { } void main(void) { int a[2]; f(a); }",
+        "401 at 1:49",
+    ),
+    (
+        "port p = XS1_PORT_1A; void f(int &x, int a[]) { } void main(void) { chan c; f(c, c); f(p[0], p); par (int i = 0; i < 2; i++) f(i, i); }",
+        "403 at 1:79",
+    ),
+    ("void main(void) { int x; x = 1 + (x[2]); }", "402 at 1:35"),
+    (
+        "void f(int x) { } void main(void) { timer t; f(t[0]); }",
+        "402 at 1:48",
+    ),
+    ("void main(void) { chan c; c(1); }", "404 at 1:27"),
+    (
+        "port p = XS1_PORT_1A; int main(void) { return p(); }",
+        "404 at 1:47",
+    ),
+    (
+        "void main(void) { chan c; int a[2]; int x; select { case a => c :> x: break; } }",
+        "401 at 1:58",
+    ),
+    (
+        "port p = XS1_PORT_1A; void main(void) { int a[2]; p when pinseq(a) :> void; }",
+        "401 at 1:65",
+    ),
+    (
+        "port p = XS1_PORT_1A; void main(void) { int a[2]; p @ a <: 1; }",
+        "401 at 1:55",
+    ),
+];
+
+#[test]
+fn rules_of_names_and_words(rt: HostRuntime) -> Result<(), Fail> {
+    let alloc = rt.alloc();
+    for (text, wanted) in NAMES {
+        assert_eq!(rt; verdict(alloc, text)?.as_str(), wanted, "{text}");
+    }
+    Ok(())
+}
+
+/// Texts that break the rules on calls, their arguments and results, in several places of the grammar, and neighbours that break none.
+const CALLS: [(&str, &str); 25] = [
     (
         "void f(int x) { } void main(void) { f(); f(1, 2); f(3); }",
         "405 at 1:37",
@@ -155,10 +198,6 @@ const RULES: [(&str, &str); 106] = [
         "ok",
     ),
     (
-        "void f(int x) { } void main(void) { int a[2]; f(a); }",
-        "401 at 1:49",
-    ),
-    (
         "void f(void) { } void main(void) { int x = f(); x = f(); }",
         "407 at 1:44",
     ),
@@ -176,6 +215,48 @@ const RULES: [(&str, &str); 106] = [
         "int f(void) { return 1; } void main(void) { return; }",
         "ok",
     ),
+    (
+        "void f(int &x, int &y) { } void main(void) { int v; int a[2]; f(v, v); f(a[0], a[1]); }",
+        "416 at 1:68",
+    ),
+    (
+        "void f(int a[], int &x, int b[]) { } void main(void) { int a[2]; f(a, a[0], a); }",
+        "416 at 1:71",
+    ),
+    (
+        "void f(int &x, int &y, int z) { } void main(void) { int v; int w; int a[2]; f(v, w, v); f(a[0], v, a[1]); }",
+        "ok",
+    ),
+    (
+        "int f(void) { return 1; } void main(void) { int x = f(2); }",
+        "405 at 1:53",
+    ),
+    (
+        "void g(int a, int &b) { } void main(void) { if (1) g(1); }",
+        "405 at 1:52",
+    ),
+    (
+        "void f(int a[], int b[]) { } void g(int a[]) { if (1) f(a, a); } void main(void) { }",
+        "416 at 1:60",
+    ),
+    (
+        "void f(void) { } void main(void) { int x; while (1) x = f(); }",
+        "407 at 1:57",
+    ),
+    ("void main(void) { if (1) return 1; }", "408 at 1:26"),
+];
+
+#[test]
+fn rules_of_calls(rt: HostRuntime) -> Result<(), Fail> {
+    let alloc = rt.alloc();
+    for (text, wanted) in CALLS {
+        assert_eq!(rt; verdict(alloc, text)?.as_str(), wanted, "{text}");
+    }
+    Ok(())
+}
+
+/// Texts that break the rules on lengths, communications and replicators, in several places of the grammar, and neighbours that break none.
+const TRANSFERS: [(&str, &str); 26] = [
     (
         "void f(int a[0]) { } void main(void) { int a[0]; int b[16385], c[16384], d[1]; }",
         "409 at 1:14",
@@ -219,123 +300,6 @@ const RULES: [(&str, &str); 106] = [
     (
         "void main(void) { int k; par (int i = 0; k < 2; k++) { } par (int i = 0; i < 2; k++) { } }",
         "415 at 1:42",
-    ),
-    (
-        "void f(int &x, int &y) { } void main(void) { int v; int a[2]; f(v, v); f(a[0], a[1]); }",
-        "416 at 1:68",
-    ),
-    (
-        "void f(int a[], int &x, int b[]) { } void main(void) { int a[2]; f(a, a[0], a); }",
-        "416 at 1:71",
-    ),
-    (
-        "void f(int &x, int &y, int z) { } void main(void) { int v; int w; int a[2]; f(v, w, v); f(a[0], v, a[1]); }",
-        "ok",
-    ),
-    (
-        "port p = XS1_PORT_1A; void f(int &x, int a[]) { } void main(void) { chan c; f(c, c); f(p[0], p); par (int i = 0; i < 2; i++) f(i, i); }",
-        "403 at 1:79",
-    ),
-    ("void main(void) { break; if (1) continue; }", "501 at 1:19"),
-    (
-        "void main(void) { chan c; while (1) { par { break; continue; } master { break; c <: 1; } } }",
-        "501 at 1:45",
-    ),
-    (
-        "void main(void) { chan c; select { case c :> void: continue; break; } }",
-        "501 at 1:52",
-    ),
-    (
-        "void main(void) { chan c; while (1) { if (1) { break; } do continue; while (0); select { case c :> void: if (1) break; continue; break; } } par { for (;;) break; } }",
-        "ok",
-    ),
-    (
-        "void main(void) { chan c; par { return; } master { c <: 1; return; } }",
-        "502 at 1:33",
-    ),
-    ("void main(void) { while (1) { if (1) return; } }", "ok"),
-    (
-        "void f(void) { par { on tile[0] : ; } } void main(void) { { par { on stdcore[1] : ; } } }",
-        "503 at 1:22",
-    ),
-    (
-        "void main(void) { par { on tile[0] : par { on tile[1] : ; } } }",
-        "503 at 1:44",
-    ),
-    (
-        "void main(void) { int x; par { on tile[0] : ; } }",
-        "504 at 1:6",
-    ),
-    (
-        "void main(void) { par { on tile[0] : ; ; } chan c; }",
-        "504 at 1:6",
-    ),
-    (
-        "void main(void) { par (int i = 3; i < 3; i++) on tile[0] : ; return; ; }",
-        "504 at 1:6",
-    ),
-    (
-        "int main(void) { chan c, d; chan e; par { on tile[0] : ; on stdcore[1] : { int x; } ; } return 0; }",
-        "ok",
-    ),
-    ("void main(void) { int x; par { ; } x = 1; par { } }", "ok"),
-    (
-        "void main(void) { chan c; chan d; int x; master { c <: 1; d <: 2; } slave { } slave { timer t; t :> x; } }",
-        "505 at 1:42",
-    ),
-    (
-        "void main(void) { chan c; master { c <: 1; { chan c; c <: 2; } } }",
-        "505 at 1:27",
-    ),
-    (
-        "port p = XS1_PORT_1A; void main(void) { chan c; int x; master { c <: 1; while (x) { c <: 2; p <: 3; } c :> x; } slave { c :> x; } }",
-        "ok",
-    ),
-    (
-        "void f(chanend e) { } void main(void) { chan c; master { c <: 1; par { } while (0) { select { case c :> void: break; } } slave { c <: 1; } f(c); par (int i = 0; i < 2; i++) { } } }",
-        "506 at 1:66",
-    ),
-    (
-        "void f(int x) { } void main(void) { chan c; master { c <: 1; f(1); } }",
-        "ok",
-    ),
-    (
-        "void main(void) { select { default : break; default : break; default : break; } }",
-        "507 at 1:45",
-    ),
-    (
-        "void main(void) { chan c; select { case c :> void : select { default : break; } break; default : break; } }",
-        "ok",
-    ),
-    (
-        "on tile[1 / 1] : port p = XS1_PORT_1A; on tile[(int) 0] : port q = XS1_PORT_1B; void main(void) { par { on tile[1 ? 2 : 3] : ; on tile[~1] : ; } }",
-        "508 at 1:9",
-    ),
-    (
-        "void main(void) { chan c; par { on tile[(c)] : ; } }",
-        "508 at 1:41",
-    ),
-    (
-        "on tile[2 - (1 * -1)] : port p = XS1_PORT_1A; void main(void) { par (int i = 0; i < 2; i++) on tile[+i * 2 - 1] : ; }",
-        "ok",
-    ),
-    ("void main(void) { int x; x = 1 + (x[2]); }", "402 at 1:35"),
-    (
-        "void f(int x) { } void main(void) { timer t; f(t[0]); }",
-        "402 at 1:48",
-    ),
-    ("void main(void) { chan c; c(1); }", "404 at 1:27"),
-    (
-        "port p = XS1_PORT_1A; int main(void) { return p(); }",
-        "404 at 1:47",
-    ),
-    (
-        "int f(void) { return 1; } void main(void) { int x = f(2); }",
-        "405 at 1:53",
-    ),
-    (
-        "void g(int a, int &b) { } void main(void) { if (1) g(1); }",
-        "405 at 1:52",
     ),
     ("void main(void) { { int a[0]; } }", "409 at 1:27"),
     (
@@ -388,15 +352,74 @@ const RULES: [(&str, &str); 106] = [
         "void main(void) { int k; { par (int i = 0; k < 2; i++) { } } }",
         "415 at 1:44",
     ),
+];
+
+#[test]
+fn rules_of_lengths_and_transfers(rt: HostRuntime) -> Result<(), Fail> {
+    let alloc = rt.alloc();
+    for (text, wanted) in TRANSFERS {
+        assert_eq!(rt; verdict(alloc, text)?.as_str(), wanted, "{text}");
+    }
+    Ok(())
+}
+
+/// Texts that break the rules on jumps, places and the form of main, in several places of the grammar, and neighbours that break none.
+const JUMPS: [(&str, &str); 21] = [
+    ("void main(void) { break; if (1) continue; }", "501 at 1:19"),
     (
-        "void f(int a[], int b[]) { } void g(int a[]) { if (1) f(a, a); } void main(void) { }",
-        "416 at 1:60",
+        "void main(void) { chan c; while (1) { par { break; continue; } master { break; c <: 1; } } }",
+        "501 at 1:45",
     ),
     (
-        "void f(void) { } void main(void) { int x; while (1) x = f(); }",
-        "407 at 1:57",
+        "void main(void) { chan c; select { case c :> void: continue; break; } }",
+        "501 at 1:52",
     ),
-    ("void main(void) { if (1) return 1; }", "408 at 1:26"),
+    (
+        "void main(void) { chan c; while (1) { if (1) { break; } do continue; while (0); select { case c :> void: if (1) break; continue; break; } } par { for (;;) break; } }",
+        "ok",
+    ),
+    (
+        "void main(void) { chan c; par { return; } master { c <: 1; return; } }",
+        "502 at 1:33",
+    ),
+    ("void main(void) { while (1) { if (1) return; } }", "ok"),
+    (
+        "void f(void) { par { on tile[0] : ; } } void main(void) { { par { on stdcore[1] : ; } } }",
+        "503 at 1:22",
+    ),
+    (
+        "void main(void) { par { on tile[0] : par { on tile[1] : ; } } }",
+        "503 at 1:44",
+    ),
+    (
+        "void main(void) { int x; par { on tile[0] : ; } }",
+        "504 at 1:6",
+    ),
+    (
+        "void main(void) { par { on tile[0] : ; ; } chan c; }",
+        "504 at 1:6",
+    ),
+    (
+        "void main(void) { par (int i = 3; i < 3; i++) on tile[0] : ; return; ; }",
+        "504 at 1:6",
+    ),
+    (
+        "int main(void) { chan c, d; chan e; par { on tile[0] : ; on stdcore[1] : { int x; } ; } return 0; }",
+        "ok",
+    ),
+    ("void main(void) { int x; par { ; } x = 1; par { } }", "ok"),
+    (
+        "on tile[1 / 1] : port p = XS1_PORT_1A; on tile[(int) 0] : port q = XS1_PORT_1B; void main(void) { par { on tile[1 ? 2 : 3] : ; on tile[~1] : ; } }",
+        "508 at 1:9",
+    ),
+    (
+        "void main(void) { chan c; par { on tile[(c)] : ; } }",
+        "508 at 1:41",
+    ),
+    (
+        "on tile[2 - (1 * -1)] : port p = XS1_PORT_1A; void main(void) { par (int i = 0; i < 2; i++) on tile[+i * 2 - 1] : ; }",
+        "ok",
+    ),
     (
         "void main(void) { par (int i = 0; i < 2; i++) return; }",
         "502 at 1:47",
@@ -408,6 +431,55 @@ const RULES: [(&str, &str); 106] = [
     (
         "void main(void) { while (1) par (int i = 0; i < 2; i++) on tile[0]: ; }",
         "503 at 1:57",
+    ),
+    (
+        "void main(void) { par { on tile[1 << 1]: ; } }",
+        "508 at 1:33",
+    ),
+    (
+        "void main(void) { chan c; select { case c :> void: if (1) break; break; } }",
+        "ok",
+    ),
+];
+
+#[test]
+fn rules_of_jumps_and_places(rt: HostRuntime) -> Result<(), Fail> {
+    let alloc = rt.alloc();
+    for (text, wanted) in JUMPS {
+        assert_eq!(rt; verdict(alloc, text)?.as_str(), wanted, "{text}");
+    }
+    Ok(())
+}
+
+/// Texts that break the rules on transactions and selects, in several places of the grammar, and neighbours that break none.
+const GROUPS: [(&str, &str); 14] = [
+    (
+        "void main(void) { chan c; chan d; int x; master { c <: 1; d <: 2; } slave { } slave { timer t; t :> x; } }",
+        "505 at 1:42",
+    ),
+    (
+        "void main(void) { chan c; master { c <: 1; { chan c; c <: 2; } } }",
+        "505 at 1:27",
+    ),
+    (
+        "port p = XS1_PORT_1A; void main(void) { chan c; int x; master { c <: 1; while (x) { c <: 2; p <: 3; } c :> x; } slave { c :> x; } }",
+        "ok",
+    ),
+    (
+        "void f(chanend e) { } void main(void) { chan c; master { c <: 1; par { } while (0) { select { case c :> void: break; } } slave { c <: 1; } f(c); par (int i = 0; i < 2; i++) { } } }",
+        "506 at 1:66",
+    ),
+    (
+        "void f(int x) { } void main(void) { chan c; master { c <: 1; f(1); } }",
+        "ok",
+    ),
+    (
+        "void main(void) { select { default : break; default : break; default : break; } }",
+        "507 at 1:45",
+    ),
+    (
+        "void main(void) { chan c; select { case c :> void : select { default : break; } break; default : break; } }",
+        "ok",
     ),
     ("void main(void) { slave { } }", "505 at 1:19"),
     (
@@ -434,32 +506,12 @@ const RULES: [(&str, &str); 106] = [
         "void main(void) { while (1) { chan c; select { case c :> void: break; default: break; default: break; } } }",
         "507 at 1:87",
     ),
-    (
-        "void main(void) { par { on tile[1 << 1]: ; } }",
-        "508 at 1:33",
-    ),
-    (
-        "void main(void) { chan c; select { case c :> void: if (1) break; break; } }",
-        "ok",
-    ),
-    (
-        "void main(void) { chan c; int a[2]; int x; select { case a => c :> x: break; } }",
-        "401 at 1:58",
-    ),
-    (
-        "port p = XS1_PORT_1A; void main(void) { int a[2]; p when pinseq(a) :> void; }",
-        "401 at 1:65",
-    ),
-    (
-        "port p = XS1_PORT_1A; void main(void) { int a[2]; p @ a <: 1; }",
-        "401 at 1:55",
-    ),
 ];
 
 #[test]
-fn names_the_first_broken_rule(rt: HostRuntime) -> Result<(), Fail> {
+fn rules_of_transactions_and_selects(rt: HostRuntime) -> Result<(), Fail> {
     let alloc = rt.alloc();
-    for (text, wanted) in RULES {
+    for (text, wanted) in GROUPS {
         assert_eq!(rt; verdict(alloc, text)?.as_str(), wanted, "{text}");
     }
     Ok(())
