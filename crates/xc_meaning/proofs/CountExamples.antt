@@ -1,12 +1,12 @@
 -- The counts of small programs, and the steps of families.
-use Rattle.std.specs.Prelude.{◌≡◌, ℕ, ◌++◌, Option, Some, option_map, refl}
+use Rattle.std.specs.Prelude.{◌≡◌, ℕ, List, [], ◌∷◌, ◌++◌, Option, Some, None, option_map, refl}
 use Rattle.xc_kernel.specs.Copies.{copy_of}
-use Rattle.xc_meaning.specs.States.Worlds.{World}
+use Rattle.xc_meaning.specs.States.Worlds.{World, Move}
 use Rattle.xc_meaning.specs.Runs.{kernel_start, kernel_run}
 use Rattle.xc_meaning.specs.Counts.Families.{steps_of, child_family}
 use Rattle.xc_meaning.specs.Counts.KernelCounts.{greatest_count, kernel_bound}
 use Rattle.xc_meaning.specs.Counts.TextCounts.{twice_greatest, program_bound}
-use Rattle.xc_meaning.proofs.ExamplePrograms.{timed_output, hand_over, out_of_range, timer_case, divided}
+use Rattle.xc_meaning.proofs.ExamplePrograms.{timed_output, hand_over, out_of_range, timer_case, divided, three_pars}
 use Rattle.xc_meaning.proofs.Running.{no_stimulus, steps}
 
 -- the output counts 2, a time and a value, as does the assignment of the result
@@ -59,3 +59,14 @@ second_child x = child_family x 0 0 1
 second_family : option_map second_child (kernel_run (copy_of hand_over) no_stimulus (steps 4 0)) ≡ Some (Some 2)
 unfolding copy_of
 second_family = refl
+
+-- The `par`s of two and of three branches count, the one between them doesn't: its branch has the number 3.
+abbrev to_last_par : List Move
+to_last_par = steps 3 0 ++ steps 1 1 ++ steps 1 2 ++ steps 2 0 ++ steps 1 3 ++ steps 2 0
+
+abbrev children : World → List (Option ℕ)
+children x = child_family x 0 0 1 ∷ child_family x 0 0 2 ∷ child_family x 0 1 1 ∷ child_family x 0 1 2 ∷ child_family x 0 2 1 ∷ []
+
+child_families : option_map children (kernel_run (copy_of three_pars) no_stimulus to_last_par) ≡ Some (Some 2 ∷ None ∷ Some 5 ∷ Some 6 ∷ None ∷ [])
+unfolding copy_of
+child_families = refl

@@ -414,3 +414,25 @@ sampled =
     ∷ (tree.statement (tree.return_with (Some (tree.value (number 0 false 2 89)))) (at 2 82) (at 2 90) 3)
     ∷ []))) (at 2 16) (at 2 92) 2))
     ∷ []
+
+-- a `par` of two branches, one of one, and one of three
+-- int main(void) { par { ; ; } par { ; } par { ; ; ; } return 0; }
+abbrev pub three_pars : List tree.Item
+three_pars =
+    (tree.function (record { result = Some false; name = id (codes "main") 1 5; params = []; own = 5 })
+    (tree.statement (tree.block (tree.statements (
+    (tree.statement (tree.par (tree.branches (
+    (tree.branch None (tree.statement tree.empty (at 1 24) (at 1 24) 1))
+    ∷ (tree.branch None (tree.statement tree.empty (at 1 26) (at 1 26) 1))
+    ∷ []))) (at 1 18) (at 1 28) 3)
+    ∷ (tree.statement (tree.par (tree.branches (
+    (tree.branch None (tree.statement tree.empty (at 1 36) (at 1 36) 1))
+    ∷ []))) (at 1 30) (at 1 38) 3)
+    ∷ (tree.statement (tree.par (tree.branches (
+    (tree.branch None (tree.statement tree.empty (at 1 46) (at 1 46) 1))
+    ∷ (tree.branch None (tree.statement tree.empty (at 1 48) (at 1 48) 1))
+    ∷ (tree.branch None (tree.statement tree.empty (at 1 50) (at 1 50) 1))
+    ∷ []))) (at 1 40) (at 1 52) 3)
+    ∷ (tree.statement (tree.return_with (Some (tree.value (number 0 false 1 61)))) (at 1 54) (at 1 62) 3)
+    ∷ []))) (at 1 16) (at 1 64) 2))
+    ∷ []

@@ -13,9 +13,7 @@ pub record Begun : Type 0 where
   pub items : List Item
   pub code : kernel.Statements
 
-abbrev pub code_of_begun : Begun → kernel.Statements
-code_of_begun b = b.code
-
+-- the code of each of some branches
 abbrev pub codes_of : List Begun → List kernel.Statements
 codes_of [] = []
 codes_of (b ∷ bs) = b.code ∷ codes_of bs
