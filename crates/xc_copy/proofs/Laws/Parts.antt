@@ -1,0 +1,28 @@
+-- Branches and cases, one behind the other.
+use Rattle.std.proofs.Common.{◌≡◌, List, [], ◌∷◌, ◌++◌, map, Option, Some, None, refl, ap}
+use Rattle.std.specs.Option.{option_map}
+use Rattle.xc_kernel.specs.declared.statement.Kst.{Kst}
+use Rattle.xc_kernel.specs.Kernels.{statement_of}
+use Rattle.xc_kernel.specs.Plain as kernel
+use Rattle.xc_copy.specs.Parts.{branches_before, cases_before, default_before}
+
+pub branches_last : (bs : List kernel.Branch) (b : kernel.Branch) (others : kernel.Branches) → branches_before (bs ++ b ∷ []) others ≡ branches_before bs (kernel.more_branches b others)
+branches_last [] b others = refl
+branches_last (a ∷ bs) b others = ap (kernel.more_branches a) (branches_last bs b others)
+
+-- before none they are all
+pub branches_all : (bs : List kernel.Branch) → branches_before bs kernel.no_branch ≡ kernel.branches bs
+branches_all [] = refl
+branches_all (b ∷ bs) = ap (kernel.more_branches b) (branches_all bs)
+
+pub cases_last : (cs : List kernel.Case) (c : kernel.Case) (others : kernel.Cases) → cases_before (cs ++ c ∷ []) others ≡ cases_before cs (kernel.more_cases c others)
+cases_last [] c others = refl
+cases_last (a ∷ cs) c others = ap (kernel.more_cases a) (cases_last cs c others)
+
+pub cases_all : (cs : List kernel.Case) → cases_before cs kernel.no_case ≡ kernel.cases cs
+cases_all [] = refl
+cases_all (c ∷ cs) = ap (kernel.more_cases c) (cases_all cs)
+
+pub default_all : (body : Option (List Kst)) → default_before body kernel.no_default ≡ kernel.default_by (option_map (map statement_of) body)
+default_all None = refl
+default_all (Some body) = refl

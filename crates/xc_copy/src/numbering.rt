@@ -1,0 +1,82 @@
+ghost use Rattle.std.specs.Prelude.{◌≡◌, IfOk};
+ghost use Rattle.xc_kernel.specs.Numbering as spec;
+ghost use Rattle.xc_kernel.specs.Copy.{Copy, numbering_in};
+ghost use Rattle.xc_kernel.specs.Scopes.{Scope};
+ghost use Rattle.xc_copy.specs.Copied.{copy_of};
+ghost use Rattle.xc_copy.specs.Numbers.{numbering_of};
+
+use crate::copied::Copied;
+use crate::numbers::{Numbers, each_once, place};
+use indexmap::IndexSet;
+use std::alloc::Global;
+use xw_words::Memory;
+
+impl Numbers {
+    /// With no instance.
+    pub fn none(alloc: Global) -> Numbers
+        ensures { numbering_of result ≡ spec.no_numbering }
+    {
+        Numbers {
+            variables: Vec::new(alloc),
+            channels: Vec::new(alloc),
+            timers: Vec::new(alloc),
+            blocks: Vec::new(alloc),
+            variable_paths: IndexSet::new(alloc),
+            channel_paths: IndexSet::new(alloc),
+            timer_paths: IndexSet::new(alloc),
+            block_paths: IndexSet::new(alloc),
+        }
+    }
+
+    /// Those that a copy makes. The one error is want of memory, or of numbers for more than 2^32 instances.
+    pub fn of_copy(alloc: Global, copied: Copied) -> Result<Numbers, Memory>
+        ensures { IfOk result (λ numbers. (scope : Scope) → numbering_of numbers ≡ numbering_in (copy_of copied scope)) }
+    {
+        let variables = each_once(alloc, copied.variables)?;
+        let channels = each_once(alloc, copied.channels)?;
+        let timers = each_once(alloc, copied.timers)?;
+        let blocks = each_once(alloc, copied.blocks)?;
+        Ok(Numbers {
+            variables: variables.items,
+            channels: channels.items,
+            timers: timers.items,
+            blocks: blocks.items,
+            variable_paths: variables.paths,
+            channel_paths: channels.paths,
+            timer_paths: timers.paths,
+            block_paths: blocks.paths,
+        })
+    }
+
+    #[tactic(auto, using(crate::proofs::Walk::PathSets::place_mapped))]
+    /// The number of a variable.
+    pub fn variable(&self, path: &[u32]) -> u32
+        ensures { result ≡ spec.variable_number (numbering_of self.now) path.now }
+    {
+        place(&self.variable_paths, path)
+    }
+
+    #[tactic(auto, using(crate::proofs::Walk::PathSets::place_mapped))]
+    /// The number of a channel.
+    pub fn channel(&self, path: &[u32]) -> u32
+        ensures { result ≡ spec.channel_number (numbering_of self.now) path.now }
+    {
+        place(&self.channel_paths, path)
+    }
+
+    #[tactic(auto, using(crate::proofs::Walk::PathSets::place_mapped))]
+    /// The number of a timer.
+    pub fn timer(&self, path: &[u32]) -> u32
+        ensures { result ≡ spec.timer_number (numbering_of self.now) path.now }
+    {
+        place(&self.timer_paths, path)
+    }
+
+    #[tactic(auto, using(crate::proofs::Walk::PathSets::place_mapped))]
+    /// The number of a block.
+    pub fn block(&self, path: &[u32]) -> u32
+        ensures { result ≡ spec.block_number (numbering_of self.now) path.now }
+    {
+        place(&self.block_paths, path)
+    }
+}

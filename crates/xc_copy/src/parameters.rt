@@ -1,0 +1,222 @@
+#![tactic(auto, using(crate::proofs::Walk::Expressions::words))]
+
+ghost use Rattle.std.specs.Prelude.{◌≡◌, false, IfOk, map, min};
+ghost use Rattle.xc_tree.specs.Trees as tree;
+ghost use Rattle.xc_kernel.specs.Parameters as spec;
+ghost use Rattle.xc_kernel.specs.Context as contexts;
+ghost use Rattle.xc_kernel.specs.Copy as copies;
+ghost use Rattle.xc_kernel.specs.Kernels as kernel;
+ghost use Rattle.xc_kernel.specs.Scopes.{Scope as Names};
+ghost use Rattle.xc_copy.specs.Contexts.{context_of};
+ghost use Rattle.xc_copy.specs.Copied.{copy_of};
+ghost use Rattle.xc_copy.specs.Handed.{IsPassed};
+ghost use Rattle.xc_copy.specs.Scopes.{entity_found, entity_meant, scope_of};
+
+use crate::context::Context;
+use crate::copied::Copied;
+use crate::expressions::{index_test, word};
+use crate::paths::path_at;
+use crate::scope::{Entity, Scope};
+use std::alloc::Global;
+use xc_kernel::Kx;
+use xc_tree::{Arg, Ex, Expr, Param, ParamKind};
+use xw_words::{Memory, Pos};
+
+/// What a call stores for a parameter and the parameter's variable, and what its name then stands for.
+#[derive(Drop)]
+pub struct Handed {
+    pub copied: Copied,
+    pub entity: Entity,
+}
+
+/// What a call stores for all its parameters, and the names that are known in the function.
+#[derive(Drop)]
+pub struct Entered<'a> {
+    pub copied: Copied,
+    pub scope: Scope<'a>,
+}
+
+impl<'p, 'a> Context<'p, 'a> {
+    /// All arguments of a call, from left to right; a function knows the ports and its parameters. The one error is want of
+    /// memory.
+    #[tactic(auto)]
+    pub fn all_passed(
+        &self,
+        alloc: Global,
+        scope: &Scope<'a>,
+        own: &[u32],
+        params: &'a [Param],
+        args: &[Arg],
+    ) -> Result<Entered<'a>, Memory>
+        ensures { IfOk result (λ entered. copy_of entered.copied (scope_of entered.scope) ≡ spec.all_passed (context_of self.now) (scope_of scope.now) own.now params.now (map tree.argument_of args.now)) }
+    {
+        let mut copied = Copied::nothing(alloc);
+        let mut inner = self.scope_of_ports(alloc)?;
+        let mut left = least(params.len(), args.len());
+        'backward: while 0 < left {
+            left -= 1;
+            let param = &params[left];
+            let handed = self.passed(alloc, scope, own, param, &args[left].value)?;
+            copied = handed.copied.followed_by(copied)?;
+            inner.declare(param.name.text.as_slice(), handed.entity)?;
+        }
+        Ok(Entered {
+            copied,
+            scope: inner,
+        })
+    }
+
+    /// An argument for a parameter, in a call of this path. The one error is want of memory.
+    fn passed(
+        &self,
+        alloc: Global,
+        scope: &Scope<'a>,
+        own: &[u32],
+        param: &Param,
+        argument: &Expr,
+    ) -> Result<Handed, Memory>
+        ensures { IfOk result (λ handed. IsPassed (spec.passed (context_of self.now) (scope_of scope.now) own.now param.now.name.pos param.now.kind (tree.expression_of argument.now)) handed) }
+    {
+        match &param.kind {
+            ParamKind::Value(unsigned) => {
+                self.by_value(alloc, scope, own, param.name.pos, *unsigned, argument)
+            }
+            ParamKind::Ref(_) => self.by_reference(alloc, scope, own, param.name.pos, argument),
+            ParamKind::Array(_, _) => by_name(alloc, scope, argument),
+            ParamKind::End(_) => by_name(alloc, scope, argument),
+            ParamKind::Port(_) => by_name(alloc, scope, argument),
+        }
+    }
+
+    /// By value: a variable of its own holds the argument's word. The one error is want of memory.
+    #[tactic(auto)]
+    fn by_value(
+        &self,
+        alloc: Global,
+        scope: &Scope<'a>,
+        own: &[u32],
+        pos: Pos,
+        unsigned: bool,
+        argument: &Expr,
+    ) -> Result<Handed, Memory>
+        ensures { IfOk result (λ handed. IsPassed (spec.by_value (context_of self.now) (scope_of scope.now) own.now pos unsigned (tree.expression_of argument.now)) handed) }
+    {
+        let value = word(alloc, self.numbers, scope, argument)?.value;
+        let path = path_at(alloc, own, pos)?;
+        let copied = self.stored(alloc, path.as_slice(), pos, value)?;
+        Ok(Handed {
+            copied,
+            entity: Entity::Word(path, unsigned),
+        })
+    }
+
+    /// By reference: a name, or an element. The one error is want of memory.
+    fn by_reference(
+        &self,
+        alloc: Global,
+        scope: &Scope<'a>,
+        own: &[u32],
+        pos: Pos,
+        argument: &Expr,
+    ) -> Result<Handed, Memory>
+        ensures { IfOk result (λ handed. IsPassed (spec.by_reference (context_of self.now) (scope_of scope.now) own.now pos (tree.expression_of argument.now)) handed) }
+    {
+        match &argument.kind {
+            Ex::Name(name) => stands_for(alloc, scope.entity(name.as_slice())),
+            Ex::Index(name, index) => match scope.entity(name.as_slice()) {
+                None => stands_for(alloc, None),
+                Some(array) => {
+                    self.by_element(alloc, scope, own, pos, index, argument.pos, array)
+                }
+            },
+            Ex::Num(_, _) => stands_for(alloc, None),
+            Ex::Un(_, _) => stands_for(alloc, None),
+            Ex::Bin(_, _, _) => stands_for(alloc, None),
+            Ex::Cond(_, _, _) => stands_for(alloc, None),
+            Ex::Cast(_, _) => stands_for(alloc, None),
+        }
+    }
+
+    /// An element by reference: a variable of its own holds the index, which is tested at the call. The one error is want of
+    /// memory.
+    #[tactic(auto)]
+    fn by_element(
+        &self,
+        alloc: Global,
+        scope: &Scope<'a>,
+        own: &[u32],
+        pos: Pos,
+        index: &Expr,
+        array_pos: Pos,
+        array: &Entity,
+    ) -> Result<Handed, Memory>
+        ensures { IfOk result (λ handed. IsPassed (spec.by_element (context_of self.now) (scope_of scope.now) own.now pos (tree.expression_of index.now) array_pos (entity_meant array.now)) handed) }
+    {
+        match array {
+            Entity::Array(path, words, unsigned) => {
+                let value = word(alloc, self.numbers, scope, index)?.value;
+                let test = index_test(alloc, value, *words, array_pos)?;
+                let own = path_at(alloc, own, pos)?;
+                let copied = self.stored(alloc, own.as_slice(), pos, test)?;
+                let array = path.copy(alloc)?;
+                Ok(Handed {
+                    copied,
+                    entity: Entity::Element(array, own, *unsigned),
+                })
+            }
+            Entity::Word(_, _) => stands_for(alloc, None),
+            Entity::Element(_, _, _) => stands_for(alloc, None),
+            Entity::Channel(_) => stands_for(alloc, None),
+            Entity::Timer(_) => stands_for(alloc, None),
+            Entity::Port(_) => stands_for(alloc, None),
+            Entity::Constant(_) => stands_for(alloc, None),
+            Entity::Unknown => stands_for(alloc, None),
+        }
+    }
+
+    /// The copy of a parameter's variable of this path, which holds a word. The one error is want of memory.
+    #[tactic(auto)]
+    fn stored(&self, alloc: Global, path: &[u32], pos: Pos, value: Kx) -> Result<Copied, Memory>
+        ensures { IfOk result (λ copied. (behind : Names) → copy_of copied behind ≡ copies.with_variable (copies.one_statement behind (contexts.set_word (context_of self.now) path.now (kernel.expression_of value))) (contexts.word_variable (context_of self.now) false path.now pos)) }
+    {
+        let mut copied = Copied::one_statement(alloc, self.set_word(path, value))?;
+        copied.add_variable(self.word_variable(alloc, false, path, pos)?)?;
+        Ok(copied)
+    }
+}
+
+/// The smaller of two numbers.
+fn least(a: usize, b: usize) -> usize
+    ensures { result ≡ min a b }
+{
+    if a < b { a } else { b }
+}
+
+/// A whole array, a channel or a port: a name. The one error is want of memory.
+fn by_name(alloc: Global, scope: &Scope, argument: &Expr) -> Result<Handed, Memory>
+    ensures { IfOk result (λ handed. IsPassed (spec.by_name (scope_of scope.now) (tree.expression_of argument.now)) handed) }
+{
+    match &argument.kind {
+        Ex::Name(name) => stands_for(alloc, scope.entity(name.as_slice())),
+        Ex::Num(_, _) => stands_for(alloc, None),
+        Ex::Index(_, _) => stands_for(alloc, None),
+        Ex::Un(_, _) => stands_for(alloc, None),
+        Ex::Bin(_, _, _) => stands_for(alloc, None),
+        Ex::Cond(_, _, _) => stands_for(alloc, None),
+        Ex::Cast(_, _) => stands_for(alloc, None),
+    }
+}
+
+/// The parameter stands for what the argument stands for. The one error is want of memory.
+fn stands_for(alloc: Global, entity: Option<&Entity>) -> Result<Handed, Memory>
+    ensures { IfOk result (λ handed. IsPassed (spec.stands_for (entity_found entity.entry)) handed) }
+{
+    let entity = match entity {
+        None => Entity::Unknown,
+        Some(entity) => entity.copy(alloc)?,
+    };
+    Ok(Handed {
+        copied: Copied::nothing(alloc),
+        entity,
+    })
+}

@@ -1,0 +1,45 @@
+ghost use Rattle.std.specs.Prelude.{◌≡◌, ◌++◌, IfOk};
+ghost use Rattle.xc_kernel.specs.Paths as spec;
+
+use std::alloc::{AllocError, Global};
+use xw_words::{List, Memory, Pos};
+
+/// The path from an instance to what is called or declared in it at a place. The one error is want of memory.
+pub fn path_at(alloc: Global, path: &[u32], pos: Pos) -> Result<List<u32>, Memory>
+    ensures { IfOk result (λ longer. longer ≡ spec.path_at path.now pos) }
+{
+    let longer = extended(alloc, path, &[pos.line, pos.col])?;
+    Ok(longer)
+}
+
+/// The path from an instance to a branch of a `par` in it. The one error is want of memory.
+pub fn path_of_branch(alloc: Global, path: &[u32], index: u32) -> Result<List<u32>, Memory>
+    ensures { IfOk result (λ longer. longer ≡ spec.path_of_branch path.now index) }
+{
+    let longer = extended(alloc, path, &[0, index])?;
+    Ok(longer)
+}
+
+/// The path from the block that `break` leaves to the one in it that `continue` leaves. The one error is want of memory.
+pub fn path_of_turn(alloc: Global, path: &[u32]) -> Result<List<u32>, Memory>
+    ensures { IfOk result (λ longer. longer ≡ spec.path_of_turn path.now) }
+{
+    let longer = extended(alloc, path, &[0])?;
+    Ok(longer)
+}
+
+/// A path in memory of its own. The one error is want of memory.
+pub fn same_path(alloc: Global, path: &[u32]) -> Result<List<u32>, Memory>
+    ensures { IfOk result (λ same. same ≡ path.now) }
+{
+    Ok(List::from_vec(Vec::from_slice(alloc, path)?))
+}
+
+/// A path with more numbers behind.
+fn extended(alloc: Global, path: &[u32], more: &[u32]) -> Result<List<u32>, AllocError>
+    ensures { IfOk result (λ longer. longer ≡ path.now ++ more.now) }
+{
+    let mut numbers = Vec::from_slice(alloc, path)?;
+    numbers.extend_from_slice(more)?;
+    Ok(List::from_vec(numbers))
+}

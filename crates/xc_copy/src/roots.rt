@@ -1,0 +1,359 @@
+#![tactic(none)]
+
+ghost use Rattle.std.specs.Prelude.{◌≡◌, ◌≤◌, ◌-◌, [], ◌∷◌, ◌++◌, IfOk, map, option_map};
+ghost use Rattle.xc_tree.specs.Plain as plain;
+ghost use Rattle.xc_tree.specs.Trees as tree;
+ghost use Rattle.xc_tree.specs.declared.tree.Stmt.{size-Stmt, out-Stmt};
+ghost use Rattle.xc_kernel.specs.Copy as copies;
+ghost use Rattle.xc_kernel.specs.Scopes.{Scope as Names};
+ghost use Rattle.std.specs.Option.{IfSome};
+ghost use Rattle.xc_copy.specs.Copied.{copy_of};
+ghost use Rattle.xc_kernel.specs.Ports as ports_spec;
+ghost use Rattle.xc_kernel.specs.Roots as spec;
+ghost use Rattle.xc_kernel.specs.Statements.{calls_copy};
+ghost use Rattle.xc_copy.specs.Contexts.{context_of};
+ghost use Rattle.xc_copy.specs.Functions.{deepest, function_of};
+ghost use Rattle.xc_copy.specs.Roots.{rooted_of};
+ghost use Rattle.xc_copy.specs.Scopes.{scope_of};
+
+use crate::context::Context;
+use crate::copied::Copied;
+use crate::eval::eval;
+use crate::expressions::word;
+use crate::numbers::Numbers;
+use crate::paths::path_of_branch;
+use crate::scope::{Entity, Scope};
+use std::alloc::Global;
+use xc_kernel::Root;
+use xc_tree::{At, Branch, FuncItem, Id, St, Stmt};
+use xw_words::{List, Memory, Pos};
+
+/// The greatest number of a core.
+const LAST_CORE: u32 = 3;
+
+/// What stands for the core of a place that names none.
+const NO_CORE: u8 = 255;
+
+/// Roots, and the copy of what they make, without their statements.
+#[derive(Drop)]
+pub struct Rooted {
+    pub made: Copied,
+    pub roots: List<Root>,
+}
+
+impl Rooted {
+    /// No root.
+    fn none(alloc: Global) -> Rooted
+        ensures { (scope : Names) → rooted_of result scope ≡ spec.no_roots (copies.no_copy scope) }
+    {
+        Rooted {
+            made: Copied::nothing(alloc),
+            roots: List::new(alloc),
+        }
+    }
+
+    /// More instances behind, without a root. The one error is want of memory.
+    fn and_copy(self, alloc: Global, copied: Copied) -> Result<Rooted, Memory>
+        ensures { IfOk result (λ r. (before behind : Names) → rooted_of r behind ≡ spec.and_roots (rooted_of self before) (spec.no_roots (copy_of copied behind))) }
+    {
+        let mut copied = copied;
+        let _code = copied.take_code(alloc);
+        let Rooted { made, roots } = self;
+        Ok(Rooted {
+            made: made.followed_by(copied)?,
+            roots,
+        })
+    }
+
+    /// One more root behind, by the copy of its statement. The one error is want of memory.
+    fn and_root(
+        self,
+        alloc: Global,
+        core: u8,
+        place: Pos,
+        pos: Pos,
+        copied: Copied,
+    ) -> Result<Rooted, Memory>
+        ensures { IfOk result (λ r. (before behind : Names) → rooted_of r behind ≡ spec.and_roots (rooted_of self before) (spec.root_of core place pos (copy_of copied behind))) }
+    {
+        let mut copied = copied;
+        let body = copied.take_code(alloc);
+        let Rooted { made, mut roots } = self;
+        roots.push(Root {
+            core,
+            place,
+            body,
+            pos,
+        })?;
+        Ok(Rooted {
+            made: made.followed_by(copied)?,
+            roots,
+        })
+    }
+}
+
+impl<'p, 'a> Context<'p, 'a> {
+    /// The roots of a program by its main, where that is there. The one error is want of memory, or of numbers for more than
+    /// 2^32 of a kind.
+    pub fn roots(
+        &self,
+        alloc: Global,
+        calls: usize,
+        main: Option<&'a FuncItem>,
+    ) -> Result<Rooted, Memory>
+        requires { IfSome main.entry (λ f. size-Stmt f.now.body ≤ deepest self.now.functions.now.all.items) }
+        ensures { IfOk result (λ r. rooted_of r (spec.roots_of (calls_copy calls) (option_map (λ f. function_of f.now) main.entry) (context_of self.now)).made.scope ≡ spec.roots_of (calls_copy calls) (option_map (λ f. function_of f.now) main.entry) (context_of self.now)) }
+    {
+        match main {
+            None => Ok(Rooted::none(alloc)),
+            Some(main) => {
+                if block_has_placed(in_block(&main.body)) {
+                    self.placed_roots(alloc, calls, main)
+                } else {
+                    self.main_root(alloc, calls, main)
+                }
+            }
+        }
+    }
+
+    /// Main as the one root, by the empty path. The one error is as for `roots`.
+    fn main_root(&self, alloc: Global, calls: usize, main: &'a FuncItem) -> Result<Rooted, Memory> {
+        let scope = self.scope_of_ports(alloc)?;
+        let copied = self.function(alloc, calls, &[], main, &[], &scope)?;
+        Rooted::none(alloc).and_root(alloc, 0, main.name.pos, main.name.pos, copied)
+    }
+
+    /// Where a branch of main's is placed: main's instance and its branches. The one error is as for `roots`.
+    fn placed_roots(
+        &self,
+        alloc: Global,
+        calls: usize,
+        main: &'a FuncItem,
+    ) -> Result<Rooted, Memory> {
+        let mut scope = self.scope_of_ports(alloc)?;
+        let mut rooted = Rooted::none(alloc).and_copy(alloc, self.instance(alloc, main)?)?;
+        for s in in_block(&main.body) {
+            rooted = self.statement_roots(alloc, calls, main.name.pos, s, rooted, &mut scope)?;
+        }
+        Ok(rooted)
+    }
+
+    /// Main's declarations, and the branches of its `par`, behind other roots. The one error is as for `roots`.
+    fn statement_roots(
+        &self,
+        alloc: Global,
+        calls: usize,
+        main: Pos,
+        s: &'a Stmt,
+        rooted: Rooted,
+        scope: &mut Scope<'a>,
+    ) -> Result<Rooted, Memory> {
+        match &s.kind {
+            St::Decl(ds) => {
+                let copied = self.declarations(alloc, calls, ds.as_slice(), scope)?;
+                rooted.and_copy(alloc, copied)
+            }
+            St::Par(bs) => self.branch_roots(alloc, calls, main, bs.as_slice(), rooted, scope),
+            St::Repl {
+                first,
+                from,
+                to,
+                body,
+                ..
+            } => self.numbered_roots(alloc, calls, main, first, *from, *to, body, rooted, scope),
+            St::Empty => Ok(rooted),
+            St::Block(_) => Ok(rooted),
+            St::Assign(_, _, _, _) => Ok(rooted),
+            St::Step(_, _) => Ok(rooted),
+            St::Do(_) => Ok(rooted),
+            St::Output(_) => Ok(rooted),
+            St::Input(_) => Ok(rooted),
+            St::If(_, _, _) => Ok(rooted),
+            St::While(_, _) => Ok(rooted),
+            St::DoWhile(_, _) => Ok(rooted),
+            St::For(_, _, _, _) => Ok(rooted),
+            St::Return(_) => Ok(rooted),
+            St::Break => Ok(rooted),
+            St::Continue => Ok(rooted),
+            St::Select(_) => Ok(rooted),
+            St::Tran(_, _) => Ok(rooted),
+        }
+    }
+
+    /// The branches of a `par`, behind other roots. The one error is as for `roots`.
+    fn branch_roots(
+        &self,
+        alloc: Global,
+        calls: usize,
+        main: Pos,
+        bs: &'a [Branch],
+        rooted: Rooted,
+        scope: &mut Scope<'a>,
+    ) -> Result<Rooted, Memory> {
+        let mut rooted = rooted;
+        for (index, b) in bs.iter().enumerate() {
+            let path = self.branch_path(alloc, index)?;
+            rooted = self
+                .in_branch(path.as_slice())
+                .branch_root(alloc, calls, main, b, rooted, scope)?;
+        }
+        Ok(rooted)
+    }
+
+    /// The copies of a replicated branch, behind other roots. The one error is as for `roots`.
+    fn numbered_roots(
+        &self,
+        alloc: Global,
+        calls: usize,
+        main: Pos,
+        name: &'a Id,
+        from: u32,
+        until: u32,
+        b: &'a Branch,
+        rooted: Rooted,
+        scope: &mut Scope<'a>,
+    ) -> Result<Rooted, Memory> {
+        let mut rooted = rooted;
+        let known = scope.len();
+        for number in from..until {
+            let path = path_of_branch(alloc, self.path, number - from)?;
+            scope.declare(name.text.as_slice(), Entity::Constant(number))?;
+            rooted = self
+                .in_branch(path.as_slice())
+                .branch_root(alloc, calls, main, b, rooted, scope)?;
+            scope.leave(known);
+        }
+        Ok(rooted)
+    }
+
+    /// A branch of main's on its core, behind other roots. The one error is as for `roots`.
+    fn branch_root(
+        &self,
+        alloc: Global,
+        calls: usize,
+        main: Pos,
+        b: &'a Branch,
+        rooted: Rooted,
+        scope: &mut Scope<'a>,
+    ) -> Result<Rooted, Memory> {
+        let core = core_of(alloc, &b.place, scope)?;
+        let copied = self.on_core(core).statement(alloc, calls, &b.body, scope)?;
+        rooted.and_root(
+            alloc,
+            core,
+            pos_of_place(main, &b.place),
+            b.body.pos,
+            copied,
+        )
+    }
+}
+
+/// The core that a place names, or 255 where it names none of 0 to 3; what isn't placed is on core 0. The one error is want of
+/// memory.
+pub fn core_of(alloc: Global, place: &Option<At>, scope: &Scope) -> Result<u8, Memory>
+    ensures { IfOk result (λ core. core ≡ ports_spec.core_of (scope_of scope.now) (option_map tree.place_of place.now)) }
+{
+    match place {
+        None => Ok(0),
+        Some(place) => {
+            let value = word(alloc, &Numbers::none(alloc), scope, &place.value)?.value;
+            match eval(&value) {
+                Some(number) => Ok(if number <= LAST_CORE {
+                    number as u8
+                } else {
+                    NO_CORE
+                }),
+                None => Ok(NO_CORE),
+            }
+        }
+    }
+}
+
+/// The first token of a place's expression, or else another position.
+pub fn pos_of_place(other: Pos, place: &Option<At>) -> Pos
+    ensures { result ≡ ports_spec.pos_of_place other (option_map tree.place_of place.now) }
+{
+    match place {
+        None => other,
+        Some(place) => place.first,
+    }
+}
+
+/// The statements directly in a block.
+fn in_block(s: &Stmt) -> &[Stmt]
+    ensures { plain.statements (map tree.statement_of result.now) ≡ spec.in_block (tree.statement_of s.now) }
+{
+    match &s.kind {
+        St::Block(ss) => ss.as_slice(),
+        St::Empty => &[],
+        St::Decl(_) => &[],
+        St::Assign(_, _, _, _) => &[],
+        St::Step(_, _) => &[],
+        St::Do(_) => &[],
+        St::Output(_) => &[],
+        St::Input(_) => &[],
+        St::If(_, _, _) => &[],
+        St::While(_, _) => &[],
+        St::DoWhile(_, _) => &[],
+        St::For(_, _, _, _) => &[],
+        St::Return(_) => &[],
+        St::Break => &[],
+        St::Continue => &[],
+        St::Par(_) => &[],
+        St::Repl { .. } => &[],
+        St::Select(_) => &[],
+        St::Tran(_, _) => &[],
+    }
+}
+
+/// Whether a `par` directly in a block has a placed branch.
+fn block_has_placed(ss: &[Stmt]) -> bool
+    ensures { result ≡ spec.block_has_placed (plain.statements (map tree.statement_of ss.now)) }
+{
+    for s in ss {
+        if has_placed(s) {
+            return true;
+        }
+    }
+    false
+}
+
+/// Whether a statement is a `par` with a placed branch; one that is replicated has branches where its first number is below its
+/// second.
+fn has_placed(s: &Stmt) -> bool
+    ensures { result ≡ spec.action_has_placed (tree.action_of (out-Stmt s.now).kind) }
+{
+    match &s.kind {
+        St::Par(bs) => some_placed(bs.as_slice()),
+        St::Repl { from, to, body, .. } => body.place.is_some() && *from < *to,
+        St::Empty => false,
+        St::Block(_) => false,
+        St::Decl(_) => false,
+        St::Assign(_, _, _, _) => false,
+        St::Step(_, _) => false,
+        St::Do(_) => false,
+        St::Output(_) => false,
+        St::Input(_) => false,
+        St::If(_, _, _) => false,
+        St::While(_, _) => false,
+        St::DoWhile(_, _) => false,
+        St::For(_, _, _, _) => false,
+        St::Return(_) => false,
+        St::Break => false,
+        St::Continue => false,
+        St::Select(_) => false,
+        St::Tran(_, _) => false,
+    }
+}
+
+/// Whether some branch is placed.
+fn some_placed(bs: &[Branch]) -> bool
+    ensures { result ≡ spec.has_placed (plain.branches (map tree.branch_of bs.now)) }
+{
+    for b in bs {
+        if b.place.is_some() {
+            return true;
+        }
+    }
+    false
+}

@@ -1,0 +1,554 @@
+#![tactic(none)]
+
+ghost use Rattle.std.specs.Prelude.{◌≡◌, ◌≤◌, ◌-◌, IfOk, map, option_map};
+ghost use Rattle.xc_tree.specs.Trees as tree;
+ghost use Rattle.xc_tree.specs.Plain as plain;
+ghost use Rattle.xc_tree.specs.declared.tree.Stmt.{size-Stmt};
+ghost use Rattle.xc_kernel.specs.Calls as calls_spec;
+ghost use Rattle.xc_kernel.specs.Context as contexts;
+ghost use Rattle.xc_kernel.specs.Copy as copies;
+ghost use Rattle.xc_kernel.specs.Declarations as declarations;
+ghost use Rattle.xc_kernel.specs.Flow as flow;
+ghost use Rattle.xc_kernel.specs.Paths as paths;
+ghost use Rattle.xc_kernel.specs.Statements as spec;
+ghost use Rattle.xc_copy.specs.Contexts.{context_of};
+ghost use Rattle.xc_copy.specs.Copied.{copy_of};
+ghost use Rattle.xc_copy.specs.Functions.{function_of, deepest};
+ghost use Rattle.xc_copy.specs.Growth.{Grows};
+ghost use Rattle.xc_copy.specs.Parts.{cased_before};
+ghost use Rattle.xc_copy.specs.Scopes.{scope_of};
+
+use crate::context::Context;
+use crate::copied::Copied;
+use crate::expressions::{Typed, place, updated, word};
+use crate::flow::{LoopPaths, if_copy};
+use crate::parts::{Branched, Cased};
+use crate::paths::{path_at, path_of_branch, same_path};
+use crate::scope::{Entity, Scope};
+use std::alloc::Global;
+use xc_kernel::{Kst, Kx};
+use xc_tree::{Arg, Branch, Case, DeclKind, Declared, Expr, FuncItem, Id, Rhs, St, Stmt};
+use xw_words::{List, Memory, Pos};
+
+/// The place of `=` among the symbols.
+const EQUALS: u8 = 22;
+
+// Calls are copied at most `calls` deep.
+impl<'p, 'a> Context<'p, 'a> {
+    /// The copy of a statement. The one error is want of memory, or of numbers for more than 2^32 of a kind.
+    #[cycle(statement)]
+    pub fn statement(
+        &self,
+        alloc: Global,
+        calls: usize,
+        s: &'a Stmt,
+        scope: &mut Scope<'a>,
+    ) -> Result<Copied, Memory>
+        ensures { IfOk result (λ copied. copy_of copied (scope_of scope.new) ≡ spec.statement_copy (spec.calls_copy calls) (tree.statement_of s.now) (context_of self.now) (scope_of scope.old)) }
+    {
+        match &s.kind {
+            St::Empty => Ok(Copied::nothing(alloc)),
+            St::Block(ss) => self.block(alloc, calls, ss.as_slice(), scope),
+            St::Decl(ds) => self.declarations(alloc, calls, ds.as_slice(), scope),
+            St::Assign(to, symbol, pos, right) => {
+                self.assign(alloc, calls, to, *symbol, *pos, right, scope)
+            }
+            St::Step(to, symbol) => self.step(alloc, to, *symbol, s.pos, scope),
+            St::Do(right) => self.right(alloc, calls, right, scope),
+            St::Output(o) => self.output(alloc, scope, o),
+            St::Input(i) => self.input(alloc, scope, i),
+            St::If(test, first, second) => { self.choice(alloc, calls, test, first, second, scope) }
+            St::While(test, body) => self.while_loop(alloc, calls, s.pos, test, body, scope),
+            St::DoWhile(body, test) => self.do_while(alloc, calls, s.pos, body, test, scope),
+            St::For(first, test, next, body) => {
+                self.for_loop(alloc, calls, s.pos, first, test, next, body, scope)
+            }
+            St::Return(right) => self.return_with(alloc, calls, right, scope),
+            St::Break => Copied::one_statement(alloc, self.leave(self.breaks)),
+            St::Continue => Copied::one_statement(alloc, self.leave(self.continues)),
+            St::Par(bs) => self.par(alloc, calls, bs.as_slice(), scope),
+            St::Repl {
+                first,
+                from,
+                to,
+                body,
+                ..
+            } => self.replicated(alloc, calls, first, *from, *to, body, scope),
+            St::Select(cs) => self.select(alloc, calls, s.pos, cs.as_slice(), scope),
+            St::Tran(master, ss) => {
+                self.transaction(alloc, calls, *master, ss.as_slice(), s.pos, s.close, scope)
+            }
+        }
+    }
+
+    /// The copy of a statement that may be absent.
+    #[cycle(statement)]
+    fn maybe(
+        &self,
+        alloc: Global,
+        calls: usize,
+        s: &'a Option<Box<Stmt>>,
+        scope: &mut Scope<'a>,
+    ) -> Result<Copied, Memory>
+        ensures { IfOk result (λ copied. copy_of copied (scope_of scope.new) ≡ spec.maybe_copy (spec.calls_copy calls) (tree.maybe_of s.now) (context_of self.now) (scope_of scope.old)) }
+    {
+        match s {
+            None => Ok(Copied::nothing(alloc)),
+            Some(s) => self.statement(alloc, calls, s, scope),
+        }
+    }
+
+    /// The copy of statements, one behind the other.
+    #[cycle(statement)]
+    fn statements(
+        &self,
+        alloc: Global,
+        calls: usize,
+        ss: &'a [Stmt],
+        scope: &mut Scope<'a>,
+    ) -> Result<Copied, Memory>
+        ensures { IfOk result (λ copied. copy_of copied (scope_of scope.new) ≡ spec.statements_copy (spec.calls_copy calls) (plain.statements (map tree.statement_of ss.now)) (context_of self.now) (scope_of scope.old)) }
+    {
+        let mut copied = Copied::nothing(alloc);
+        for s in ss {
+            let next = self.statement(alloc, calls, s, scope)?;
+            copied = copied.followed_by(next)?;
+        }
+        Ok(copied)
+    }
+
+    /// The copy of a block, which is a scope.
+    #[cycle(statement)]
+    fn block(
+        &self,
+        alloc: Global,
+        calls: usize,
+        ss: &'a [Stmt],
+        scope: &mut Scope<'a>,
+    ) -> Result<Copied, Memory>
+        ensures { IfOk result (λ copied. copy_of copied (scope_of scope.new) ≡ copies.in_scope_of (scope_of scope.old) (spec.statements_copy (spec.calls_copy calls) (plain.statements (map tree.statement_of ss.now)) (context_of self.now) (scope_of scope.old))) }
+    {
+        let known = scope.len();
+        let copied = self.statements(alloc, calls, ss, scope)?;
+        scope.leave(known);
+        Ok(copied)
+    }
+
+    /// The copy of declared names, one behind the other.
+    #[cycle(statement)]
+    pub fn declarations(
+        &self,
+        alloc: Global,
+        calls: usize,
+        ds: &'a [Declared],
+        scope: &mut Scope<'a>,
+    ) -> Result<Copied, Memory>
+        ensures { IfOk result (λ copied. copy_of copied (scope_of scope.new) ≡ declarations.declarations_copy (spec.calls_copy calls) (context_of self.now) (map tree.declaration_of ds.now) (scope_of scope.old)) }
+    {
+        let mut copied = Copied::nothing(alloc);
+        for d in ds {
+            let next = self.declaration(alloc, calls, d, scope)?;
+            copied = copied.followed_by(next)?;
+        }
+        Ok(copied)
+    }
+
+    /// The copy of one declared name.
+    #[cycle(statement)]
+    fn declaration(
+        &self,
+        alloc: Global,
+        calls: usize,
+        d: &'a Declared,
+        scope: &mut Scope<'a>,
+    ) -> Result<Copied, Memory>
+        ensures { IfOk result (λ copied. copy_of copied (scope_of scope.new) ≡ declarations.declaration_copy (spec.calls_copy calls) (context_of self.now) (scope_of scope.old) (tree.declaration_of d.now)) }
+    {
+        let name = d.name.text.as_slice();
+        let pos = d.name.pos;
+        match &d.kind {
+            DeclKind::Word(unsigned, right) => {
+                let declared = self.declares_word(alloc, scope, name, pos, *unsigned)?;
+                let initial = self.initial(alloc, calls, pos, right, scope)?;
+                declared.followed_by(initial)
+            }
+            DeclKind::Array(unsigned, words, _) => {
+                self.array(alloc, scope, name, pos, *unsigned, *words)
+            }
+            DeclKind::Chan(streaming) => self.channel(alloc, scope, name, pos, *streaming),
+            DeclKind::Timer => self.timer(alloc, scope, name, pos),
+        }
+    }
+
+    /// The variable that a name at a place declares becomes 0, or its initialiser's value is stored.
+    #[cycle(statement)]
+    fn initial(
+        &self,
+        alloc: Global,
+        calls: usize,
+        pos: Pos,
+        right: &'a Option<Rhs>,
+        scope: &Scope<'a>,
+    ) -> Result<Copied, Memory>
+        ensures { IfOk result (λ copied. copy_of copied (scope_of scope.now) ≡ declarations.initial_copy (spec.calls_copy calls) (context_of self.now) (paths.path_at self.now.path.now pos) (option_map tree.right_of right.now) (scope_of scope.now)) }
+    {
+        let path = path_at(alloc, self.path, pos)?;
+        match right {
+            None => Copied::one_statement(alloc, self.set_zero(path.as_slice())),
+            Some(right) => {
+                let called = self.right(alloc, calls, right, scope)?;
+                let value = self.value(alloc, right, scope)?;
+                let stored = self.set_word(path.as_slice(), value);
+                called.followed_by(Copied::one_statement(alloc, stored)?)
+            }
+        }
+    }
+
+    /// The copy of an assignment by `=`, or by an operator.
+    #[cycle(statement)]
+    fn assign(
+        &self,
+        alloc: Global,
+        calls: usize,
+        to: &Expr,
+        symbol: u8,
+        pos: Pos,
+        right: &'a Rhs,
+        scope: &Scope<'a>,
+    ) -> Result<Copied, Memory>
+        ensures { IfOk result (λ copied. copy_of copied (scope_of scope.now) ≡ spec.assign_copy (spec.calls_copy calls) (context_of self.now) (scope_of scope.now) (tree.expression_of to.now) symbol pos (tree.right_of right.now)) }
+    {
+        if symbol != EQUALS {
+            let value = self.typed(alloc, right, scope)?;
+            return self.update(alloc, to, symbol, pos, value, scope);
+        }
+        let called = self.right(alloc, calls, right, scope)?;
+        let value = self.value(alloc, right, scope)?;
+        let stored = Kst::Set(place(alloc, self.numbers, scope, to)?, value);
+        called.followed_by(Copied::one_statement(alloc, stored)?)
+    }
+
+    /// The copy of `return`: the value is stored in the result, and the body is left.
+    #[cycle(statement)]
+    fn return_with(
+        &self,
+        alloc: Global,
+        calls: usize,
+        right: &'a Option<Rhs>,
+        scope: &Scope<'a>,
+    ) -> Result<Copied, Memory>
+        ensures { IfOk result (λ copied. copy_of copied (scope_of scope.now) ≡ spec.return_copy (spec.calls_copy calls) (context_of self.now) (scope_of scope.now) (option_map tree.right_of right.now)) }
+    {
+        let left = Copied::one_statement(alloc, self.leave(self.returns))?;
+        match right {
+            None => Ok(left),
+            Some(right) => {
+                let called = self.right(alloc, calls, right, scope)?;
+                let value = self.value(alloc, right, scope)?;
+                let stored = Copied::one_statement(alloc, self.set_word(self.result, value))?;
+                called.followed_by(stored.followed_by(left)?)
+            }
+        }
+    }
+
+    /// The copy of the call that a right side is, if it is one.
+    #[cycle(statement)]
+    fn right(
+        &self,
+        alloc: Global,
+        calls: usize,
+        right: &'a Rhs,
+        scope: &Scope<'a>,
+    ) -> Result<Copied, Memory>
+        ensures { IfOk result (λ copied. copy_of copied (scope_of scope.now) ≡ calls_spec.right_copy (spec.calls_copy calls) (context_of self.now) (scope_of scope.now) (tree.right_of right.now)) }
+    {
+        match right {
+            Rhs::Value(_) => Ok(Copied::nothing(alloc)),
+            Rhs::Call { name, pos, args } => match self.functions.named(name.as_slice()) {
+                None => Ok(Copied::nothing(alloc)),
+                Some(function) => {
+                    self.call(alloc, calls, function, *pos, args.as_slice(), scope)
+                }
+            },
+        }
+    }
+
+    /// The copy of a call whose function's name stands at a place.
+    #[cycle(statement)]
+    fn call(
+        &self,
+        alloc: Global,
+        calls: usize,
+        function: &'a FuncItem,
+        pos: Pos,
+        args: &'a [Arg],
+        scope: &Scope<'a>,
+    ) -> Result<Copied, Memory>
+        requires { size-Stmt function.now.body ≤ deepest self.now.functions.now.all.items }
+        ensures { IfOk result (λ copied. copy_of copied (scope_of scope.now) ≡ spec.calls_copy calls (context_of self.now) (scope_of scope.now) (function_of function.now) pos (map tree.argument_of args.now)) }
+    {
+        if calls == 0 {
+            return Ok(Copied::nothing(alloc));
+        }
+        let own = path_at(alloc, self.path, pos)?;
+        self.function(alloc, calls - 1, own.as_slice(), function, args, scope)
+    }
+
+    /// The copy of a function's instance of this path: its result, its parameters, and its body.
+    #[cycle(statement)]
+    pub fn function(
+        &self,
+        alloc: Global,
+        calls: usize,
+        own: &[u32],
+        function: &'a FuncItem,
+        args: &'a [Arg],
+        scope: &Scope<'a>,
+    ) -> Result<Copied, Memory>
+        requires { size-Stmt function.now.body ≤ deepest self.now.functions.now.all.items }
+        ensures { IfOk result (λ copied. copy_of copied (scope_of scope.now) ≡ calls_spec.function_copy (spec.statement_copy (spec.calls_copy calls)) (context_of self.now) (scope_of scope.now) own.now (function_of function.now) (map tree.argument_of args.now)) }
+    {
+        let result = path_at(alloc, own, function.name.pos)?;
+        let made = self.instance(alloc, function)?;
+        let zeroed = self.zeroed_result(alloc, result.as_slice(), function)?;
+        let mut entered = self.all_passed(alloc, scope, own, function.params.as_slice(), args)?;
+        let body = self
+            .in_function(own, result.as_slice())
+            .statement(alloc, calls, &function.body, &mut entered.scope)?;
+        let block = self.as_block(alloc, same_path(alloc, own)?, body)?;
+        let inside = entered.copied.followed_by(block)?;
+        let copied = made.followed_by(zeroed.followed_by(inside)?)?;
+        Ok(copied.naming_none(alloc))
+    }
+
+    /// The copy of `if`.
+    #[cycle(statement)]
+    fn choice(
+        &self,
+        alloc: Global,
+        calls: usize,
+        test: &Expr,
+        first: &'a Stmt,
+        second: &'a Option<Box<Stmt>>,
+        scope: &mut Scope<'a>,
+    ) -> Result<Copied, Memory>
+        ensures { IfOk result (λ copied. copy_of copied (scope_of scope.new) ≡ flow.if_parts (contexts.expression (context_of self.now) (scope_of scope.old) (tree.expression_of test.now)) (spec.statement_copy (spec.calls_copy calls) (tree.statement_of first.now) (context_of self.now) (scope_of scope.old)) (spec.maybe_copy (spec.calls_copy calls) (tree.maybe_of second.now) (context_of self.now))) }
+    {
+        let test = word(alloc, self.numbers, scope, test)?;
+        let first = self.statement(alloc, calls, first, scope)?;
+        let second = self.maybe(alloc, calls, second, scope)?;
+        if_copy(alloc, test.value, first, second)
+    }
+
+    /// The copy of `while`, whose word stands at a place.
+    #[cycle(statement)]
+    fn while_loop(
+        &self,
+        alloc: Global,
+        calls: usize,
+        pos: Pos,
+        test: &Expr,
+        body: &'a Stmt,
+        scope: &mut Scope<'a>,
+    ) -> Result<Copied, Memory>
+        ensures { IfOk result (λ copied. copy_of copied (scope_of scope.new) ≡ flow.while_copy (context_of self.now) pos (contexts.expression (context_of self.now) (scope_of scope.old) (tree.expression_of test.now)) (spec.statement_copy (spec.calls_copy calls) (tree.statement_of body.now) (contexts.in_loop (context_of self.now) pos) (scope_of scope.old))) }
+    {
+        let test = word(alloc, self.numbers, scope, test)?;
+        let paths = self.loop_paths(alloc, pos)?;
+        let body = self
+            .in_loop(paths.whole.as_slice(), paths.turn.as_slice())
+            .statement(alloc, calls, body, scope)?;
+        self.loop_at(alloc, paths, test.value, Copied::nothing(alloc), body, None)
+    }
+
+    /// The copy of `do`, whose word stands at a place.
+    #[cycle(statement)]
+    fn do_while(
+        &self,
+        alloc: Global,
+        calls: usize,
+        pos: Pos,
+        body: &'a Stmt,
+        test: &Expr,
+        scope: &mut Scope<'a>,
+    ) -> Result<Copied, Memory>
+        ensures { IfOk result (λ copied. copy_of copied (scope_of scope.new) ≡ flow.do_while_copy (context_of self.now) pos (tree.expression_of test.now) (spec.statement_copy (spec.calls_copy calls) (tree.statement_of body.now) (contexts.in_loop (context_of self.now) pos) (scope_of scope.old))) }
+    {
+        let paths = self.loop_paths(alloc, pos)?;
+        let body = self
+            .in_loop(paths.whole.as_slice(), paths.turn.as_slice())
+            .statement(alloc, calls, body, scope)?;
+        let test = word(alloc, self.numbers, scope, test)?;
+        let last = self.leave_unless(alloc, paths.whole.as_slice(), test.value)?;
+        self.loop_at(
+            alloc,
+            paths,
+            Kx::Num(1),
+            Copied::nothing(alloc),
+            body,
+            Some(last),
+        )
+    }
+
+    /// The copy of `for`, whose word stands at a place, and which is a scope.
+    #[cycle(statement)]
+    fn for_loop(
+        &self,
+        alloc: Global,
+        calls: usize,
+        pos: Pos,
+        first: &'a Option<Box<Stmt>>,
+        test: &Option<Expr>,
+        next: &'a Option<Box<Stmt>>,
+        body: &'a Stmt,
+        scope: &mut Scope<'a>,
+    ) -> Result<Copied, Memory>
+        ensures { IfOk result (λ copied. copy_of copied (scope_of scope.new) ≡ copies.in_scope_of (scope_of scope.old) (copies.followed_by (spec.maybe_copy (spec.calls_copy calls) (tree.maybe_of first.now) (context_of self.now) (scope_of scope.old)) (flow.for_parts (context_of self.now) pos (option_map tree.expression_of test.now) (spec.maybe_copy (spec.calls_copy calls) (tree.maybe_of next.now) (context_of self.now)) (spec.statement_copy (spec.calls_copy calls) (tree.statement_of body.now) (contexts.in_loop (context_of self.now) pos))))) }
+    {
+        let known = scope.len();
+        let first = self.maybe(alloc, calls, first, scope)?;
+        let test = self.test_or_true(alloc, test, scope)?;
+        let inside = scope.len();
+        let next = self.maybe(alloc, calls, next, scope)?;
+        scope.leave(inside);
+        let paths = self.loop_paths(alloc, pos)?;
+        let body = self
+            .in_loop(paths.whole.as_slice(), paths.turn.as_slice())
+            .statement(alloc, calls, body, scope)?;
+        scope.leave(known);
+        let copied = self.loop_at(alloc, paths, test, next, body, None)?;
+        first.followed_by(copied)
+    }
+
+    /// The copy of a `par`.
+    #[cycle(statement)]
+    fn par(
+        &self,
+        alloc: Global,
+        calls: usize,
+        bs: &'a [Branch],
+        scope: &mut Scope<'a>,
+    ) -> Result<Copied, Memory>
+        ensures { IfOk result (λ copied. copy_of copied (scope_of scope.new) ≡ flow.par_copy (spec.branches_copy (spec.calls_copy calls) (plain.branches (map tree.branch_of bs.now)) 0 (context_of self.now) (scope_of scope.old))) }
+    {
+        let mut branches = Branched::none(alloc);
+        for (index, b) in bs.iter().enumerate() {
+            let path = self.branch_path(alloc, index)?;
+            let copied = self
+                .in_branch(path.as_slice())
+                .statement(alloc, calls, &b.body, scope)?;
+            branches = branches.and(alloc, b.body.pos, copied)?;
+        }
+        branches.as_par()
+    }
+
+    /// The copy of a replicated `par`: of its branch for each number, in which a name stands for the number.
+    #[cycle(statement)]
+    fn replicated(
+        &self,
+        alloc: Global,
+        calls: usize,
+        name: &'a Id,
+        from: u32,
+        until: u32,
+        b: &'a Branch,
+        scope: &mut Scope<'a>,
+    ) -> Result<Copied, Memory>
+        ensures { IfOk result (λ copied. copy_of copied (scope_of scope.new) ≡ flow.par_copy (flow.replicated (flow.numbered_copy (spec.branch_copy (spec.calls_copy calls) (tree.branch_of b.now)) (context_of self.now) (scope_of scope.old) name.now.text) (spec.pos_of_branch (tree.branch_of b.now)) (scope_of scope.old) (until - from) 0 from)) }
+    {
+        let known = scope.len();
+        let mut branches = Branched::none(alloc);
+        for number in from..until {
+            let path = path_of_branch(alloc, self.path, number - from)?;
+            scope.declare(name.text.as_slice(), Entity::Constant(number))?;
+            let copied = self
+                .in_branch(path.as_slice())
+                .statement(alloc, calls, &b.body, scope)?;
+            scope.leave(known);
+            branches = branches.and(alloc, b.body.pos, copied)?;
+        }
+        branches.as_par()
+    }
+
+    /// The copy of a `select`, each of whose cases is a scope.
+    #[cycle(statement)]
+    fn select(
+        &self,
+        alloc: Global,
+        calls: usize,
+        pos: Pos,
+        cs: &'a [Case],
+        scope: &mut Scope<'a>,
+    ) -> Result<Copied, Memory>
+        ensures { IfOk result (λ copied. copy_of copied (scope_of scope.new) ≡ flow.select_copy (scope_of scope.old) pos (spec.cases_copy (spec.calls_copy calls) (plain.cases (map tree.case_of cs.now)) (context_of self.now) (scope_of scope.old))) }
+    {
+        let known = scope.len();
+        let mut cases = Cased::none(alloc);
+        for case in cs {
+            cases = self.case(alloc, calls, case, cases, scope)?;
+            scope.leave(known);
+        }
+        cases.as_select(pos)
+    }
+
+    /// One more case, or the `default`, behind others.
+    #[cycle(statement)]
+    fn case(
+        &self,
+        alloc: Global,
+        calls: usize,
+        case: &'a Case,
+        before: Cased,
+        scope: &mut Scope<'a>,
+    ) -> Result<Cased, Memory>
+        ensures cases { IfOk result (λ r. (others : flow.Cased) → cased_before r others ≡ cased_before before (spec.case_copy (spec.calls_copy calls) (tree.case_of case.now) (context_of self.now) (scope_of scope.old) others)) }
+        ensures names { IfOk result (λ r. Grows (scope_of scope.old) (scope_of scope.new)) }
+    {
+        let path = path_at(alloc, self.path, case.pos)?;
+        match &case.head {
+            None => {
+                let body = self
+                    .in_case(path.as_slice())
+                    .statements(alloc, calls, case.body.as_slice(), scope)?;
+                before.and_default(alloc, self.as_block(alloc, path, body)?)
+            }
+            Some(head) => {
+                let guard = self.guard(alloc, &case.guard, scope)?;
+                let received = self.received(alloc, scope, head)?;
+                let body = self
+                    .in_case(path.as_slice())
+                    .statements(alloc, calls, case.body.as_slice(), scope)?;
+                before.and_case(alloc, guard, received, self.as_block(alloc, path, body)?)
+            }
+        }
+    }
+
+    /// The copy of a transaction, on the one channel that its communications name.
+    #[cycle(statement)]
+    fn transaction(
+        &self,
+        alloc: Global,
+        calls: usize,
+        master: bool,
+        ss: &'a [Stmt],
+        start: Pos,
+        close: Pos,
+        scope: &mut Scope<'a>,
+    ) -> Result<Copied, Memory>
+        ensures { IfOk result (λ copied. copy_of copied (scope_of scope.new) ≡ flow.transaction_copy (context_of self.now) (scope_of scope.old) master start close (spec.statements_copy (spec.calls_copy calls) (plain.statements (map tree.statement_of ss.now)) (context_of self.now) (scope_of scope.old))) }
+    {
+        let known = scope.len();
+        let mut copied = self.statements(alloc, calls, ss, scope)?;
+        scope.leave(known);
+        let chan = self.numbers.channel(copied.first_named());
+        let body = copied.take_code(alloc);
+        copied.add_statement(Kst::Tran {
+            chan,
+            master,
+            body,
+            open_at: start,
+            close_at: close,
+        })?;
+        Ok(copied)
+    }
+}

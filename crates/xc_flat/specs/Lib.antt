@@ -1,0 +1,2 @@
+-- What the answers of this crate say.
+pub mod Errors

@@ -1,0 +1,56 @@
+ghost use Rattle.std.specs.Prelude.{IfErr, IfOk};
+ghost use Rattle.xc_flat.specs.Errors.{IfBroken};
+ghost use Rattle.xc_kernel.specs.Copies.{Copies};
+ghost use Rattle.xc_kernel.specs.Kernels.{kernel_of};
+ghost use Rattle.xc_kernel.specs.Size.{Breaks509, IsTooLarge};
+ghost use Rattle.xc_kernel.specs.Sound.{IsTyped};
+ghost use Rattle.xc_tree.specs.Trees.{program_of};
+ghost use Rattle.xc_tree.specs.Types.Named.{named_of};
+
+use xc_copy::copy;
+use xc_size::broken_size;
+use std::alloc::Global;
+use thiserror::Error;
+use xc_kernel::Kernel;
+use xc_tree::Typed;
+use xw_words::{Broken, Memory};
+
+/// Why a program has no kernel.
+#[derive(Debug, Drop, Error)]
+pub enum FlatErr {
+    /// It is too large.
+    #[error("{}:{}: rule {} is broken", .0.pos.line, .0.pos.col, .0.rule)]
+    Broken(Broken),
+    /// Memory could not be had.
+    #[error("out of memory")]
+    Memory,
+}
+
+impl From<Memory> for FlatErr {
+    ghost use Rattle.std.specs.Prelude.{◌≡◌};
+    ghost use Rattle.xc_flat.specs.declared.flattening.FlatErr.TheVariants as err;
+
+    ghost from_gives = { λ _ e. e ≡ err.Memory };
+
+    fn from(_: Memory) -> FlatErr {
+        FlatErr::Memory
+    }
+}
+
+/// The kernel of a program that breaks no rule of names, types and shapes: each call is replaced by the called function's
+/// body over instances of its own.
+///
+/// A program with all its copies that has more than 100,000 statements, more than 1,000,000 nodes of expressions or a depth
+/// above 1,000 breaks rule 509 at main's name. That is seen before anything is copied. The other error is that memory could
+/// not be had.
+pub fn flatten(alloc: Global, typed: &Typed) -> Result<Kernel, FlatErr>
+    requires { IsTyped (program_of typed.now.named.tree) (named_of typed.now.named) typed.now.unsigned_at }
+    ensures copies { IfOk result (λ k. Copies (program_of typed.now.named.tree) (kernel_of k)) }
+    ensures small { IfOk result (λ k. IsTooLarge (program_of typed.now.named.tree) → ⊥) }
+    ensures broken { IfErr result (λ e. IfBroken e (λ b. Breaks509 (program_of typed.now.named.tree) b)) }
+{
+    match broken_size(alloc, &typed.named.tree)? {
+        Some(broken) => Err(FlatErr::Broken(broken)),
+        None => Ok(copy(alloc, &typed.named.tree)?),
+    }
+}

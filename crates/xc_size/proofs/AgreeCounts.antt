@@ -1,0 +1,83 @@
+-- Two ways to count calls that agree at the calls of a part, as far as counts go, agree at the part: its statements.
+use Rattle.std.proofs.Common.{◌≡◌, ℕ, ◌-◌, List, [], ◌∷◌, Option, Some, None, refl}
+use Rattle.std.specs.Prelude.{sum_by}
+use Rattle.std.proofs.lemmas.List.Sums.{sum_by-cons}
+use Rattle.xc_tree.specs.Depth as depth
+use Rattle.xc_tree.specs.Plain as tree
+use Rattle.xc_kernel.specs.Counts as counts
+use Rattle.xc_size.specs.Sizes.{up_to}
+use Rattle.xc_size.specs.Callees as callees
+use Rattle.xc_size.proofs.Same.{Each, each_front, each_back, same_sum, same_copies}
+
+module _ (number : List ℕ → Option ℕ) (l : ℕ) (g h : tree.Call → ℕ) where
+  -- they agree at the calls of the function with this number
+  abbrev pub Agree : Option ℕ → Type 0
+  Agree o = (c : tree.Call) → number c.called.text ≡ o → up_to l (g c) ≡ up_to l (h c)
+
+  right : (r : tree.RightSide) → Each Agree (callees.of_right number r) → up_to l (counts.of_right g r) ≡ up_to l (counts.of_right h r)
+  right (tree.value e) a = refl
+  right (tree.result c) a = a.0 c refl
+
+  right_if_any : (r : Option tree.RightSide) → Each Agree (callees.optional (callees.of_right number) r) → up_to l (depth.if_some (counts.of_right g) r) ≡ up_to l (depth.if_some (counts.of_right h) r)
+  right_if_any None a = refl
+  right_if_any (Some r) a = right r a
+
+  kind : (k : tree.Kind) → Each Agree (callees.of_kind number k) → up_to l (counts.of_kind g k) ≡ up_to l (counts.of_kind h k)
+  kind (tree.word u r) a = right_if_any r a
+  kind (tree.array u n p) a = refl
+  kind (tree.channel s) a = refl
+  kind tree.timer a = refl
+
+  declaration : (d : tree.Declaration) → Each Agree (callees.of_declaration number d) → up_to l (counts.of_declaration g d) ≡ up_to l (counts.of_declaration h d)
+  declaration d a = same_sum l _ _ _ _ (kind d.kind a) refl
+
+  declarations : (ds : List tree.Declaration) → Each Agree (callees.each (callees.of_declaration number) ds) → up_to l (sum_by (counts.of_declaration g) ds) ≡ up_to l (sum_by (counts.of_declaration h) ds)
+  declarations [] a = refl
+  declarations (d ∷ ds) a = rw (sum_by-cons (counts.of_declaration g) d ds, sum_by-cons (counts.of_declaration h) d ds) (same_sum l _ _ _ _ (declaration d (each_front Agree (callees.of_declaration number d) _ a)) (declarations ds (each_back Agree (callees.of_declaration number d) _ a)))
+
+  mutual
+    pub statement : (s : tree.Statement) → Each Agree (callees.of_statement number s) → up_to l (counts.of_statement g s) ≡ up_to l (counts.of_statement h s)
+    statement (tree.statement x p q o) a = action x a
+
+    action : (x : tree.Action) → Each Agree (callees.of_action number x) → up_to l (counts.of_action g x) ≡ up_to l (counts.of_action h x)
+    action tree.empty a = refl
+    action (tree.block ss) a = statements ss a
+    action (tree.declare ds) a = declarations ds a
+    action (tree.assign e o p r) a = same_sum l _ _ _ _ (right r a) refl
+    action (tree.step e o) a = refl
+    action (tree.perform r) a = right r a
+    action (tree.output o) a = refl
+    action (tree.input i) a = refl
+    action (tree.if_then e s1 m) a = same_sum l _ _ _ _ (same_sum l _ _ _ _ (statement s1 (each_front Agree (callees.of_statement number s1) _ a)) (maybe m (each_back Agree (callees.of_statement number s1) _ a))) refl
+    action (tree.while_loop e s) a = same_sum l _ _ _ _ (statement s a) refl
+    action (tree.do_while s e) a = same_sum l _ _ _ _ (statement s a) refl
+    action (tree.for_loop f e n s) a = same_sum l _ _ _ _ (same_sum l _ _ _ _ (same_sum l _ _ _ _ (maybe f (each_front Agree (callees.of_maybe number f) _ a)) (maybe n (each_front Agree (callees.of_maybe number n) _ (each_back Agree (callees.of_maybe number f) _ a)))) (statement s (each_back Agree (callees.of_maybe number n) _ (each_back Agree (callees.of_maybe number f) _ a)))) refl
+    action (tree.return_with r) a = same_sum l _ _ _ _ (right_if_any r a) refl
+    action tree.break_out a = refl
+    action tree.continue_on a = refl
+    action (tree.par bs) a = same_sum l _ _ _ _ (branches bs a) refl
+    action (tree.replicated i j k f u b) a = same_sum l _ _ _ _ (same_copies l (u - f) _ _ (branch b a)) refl
+    action (tree.select cs) a = same_sum l _ _ _ _ (cases cs a) refl
+    action (tree.transaction m ss) a = same_sum l _ _ _ _ (statements ss a) refl
+
+    maybe : (m : tree.Maybe) → Each Agree (callees.of_maybe number m) → up_to l (counts.of_maybe g m) ≡ up_to l (counts.of_maybe h m)
+    maybe tree.absent a = refl
+    maybe (tree.present s) a = statement s a
+
+    statements : (ss : tree.Statements) → Each Agree (callees.of_statements number ss) → up_to l (counts.of_statements g ss) ≡ up_to l (counts.of_statements h ss)
+    statements tree.no_more a = refl
+    statements (tree.more s ss) a = same_sum l _ _ _ _ (statement s (each_front Agree (callees.of_statement number s) _ a)) (statements ss (each_back Agree (callees.of_statement number s) _ a))
+
+    branch : (b : tree.Branch) → Each Agree (callees.of_branch number b) → up_to l (counts.of_branch g b) ≡ up_to l (counts.of_branch h b)
+    branch (tree.branch p s) a = same_sum l _ _ _ _ (statement s a) refl
+
+    branches : (bs : tree.Branches) → Each Agree (callees.of_branches number bs) → up_to l (counts.of_branches g bs) ≡ up_to l (counts.of_branches h bs)
+    branches tree.no_branch a = refl
+    branches (tree.more_branches b bs) a = same_sum l _ _ _ _ (branch b (each_front Agree (callees.of_branch number b) _ a)) (branches bs (each_back Agree (callees.of_branch number b) _ a))
+
+    case : (x : tree.Case) → Each Agree (callees.of_case number x) → up_to l (counts.of_case g x) ≡ up_to l (counts.of_case h x)
+    case (tree.case p e i ss) a = same_sum l _ _ _ _ (statements ss a) refl
+
+    cases : (cs : tree.Cases) → Each Agree (callees.of_cases number cs) → up_to l (counts.of_cases g cs) ≡ up_to l (counts.of_cases h cs)
+    cases tree.no_case a = refl
+    cases (tree.more_cases x cs) a = same_sum l _ _ _ _ (case x (each_front Agree (callees.of_case number x) _ a)) (cases cs (each_back Agree (callees.of_case number x) _ a))

@@ -1,0 +1,14 @@
+pub mod UpTo
+pub mod Gathers
+pub mod Measures
+pub mod Called
+pub mod Numbered
+pub mod Listed
+pub mod Same
+pub mod AgreeCounts
+pub mod AgreeNodes
+pub mod AgreeDepths
+pub mod Places
+pub mod Right
+pub mod Filled
+pub mod TooLarge

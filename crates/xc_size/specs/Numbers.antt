@@ -1,0 +1,9 @@
+-- The numbers of functions by their names.
+use Rattle.std.specs.Prelude.{ℕ, List, Option, nat_eq}
+use Rattle.std.specs.Cmp.Lexicographic.{pointwise}
+use Rattle.indexmap.specs.IndexMap.{get_by}
+use Rattle.xc_size.specs.declared.names.Names.{Names}
+
+-- the number that a name has
+abbrev pub number_of : Names → List ℕ → Option ℕ
+number_of names t = get_by (λ key. pointwise nat_eq t key.now) names.numbers

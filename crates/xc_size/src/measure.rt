@@ -1,0 +1,361 @@
+ghost use Rattle.std.specs.Prelude.{◌≡◌, ◌+◌, Some, map, max, option_map, sum_by};
+ghost use Rattle.xc_size.specs.Functions.{function_of};
+ghost use Rattle.xc_size.specs.Sizes.{depth_called, nodes_called, statements_called, up_to};
+ghost use Rattle.xc_kernel.specs.Counts as counts;
+ghost use Rattle.xc_kernel.specs.Depths as depths;
+ghost use Rattle.xc_kernel.specs.Nodes as nodes;
+ghost use Rattle.xc_kernel.specs.Size.{greatest_depth, most_nodes, most_statements};
+ghost use Rattle.xc_tree.specs.Depth as depth;
+ghost use Rattle.xc_tree.specs.Plain as plain;
+ghost use Rattle.xc_tree.specs.Trees as tree;
+
+use crate::size::Size;
+use crate::sizes::Sizes;
+use xc_tree::{
+    Arg, At, Branch, Case, DeclKind, Declared, Dest, Ex, Expr, FuncItem, Head, Rhs, Send, St, Stmt,
+    Timed, When,
+};
+
+/// The size that a call of a function adds to the part in which it stands.
+#[tactic(auto, using(crate::proofs::Measures::measures))]
+pub fn function<'a>(sizes: &Sizes<'a>, f: &'a FuncItem) -> Size
+    ensures statements { result.statements ≡ up_to most_statements (counts.of_function (statements_called sizes.now) (Some (function_of f.now))) }
+    ensures nodes { result.nodes ≡ up_to most_nodes (nodes.of_function (nodes_called sizes.now) (Some (function_of f.now))) }
+    ensures depth { result.depth ≡ up_to greatest_depth (depths.of_function (depth_called sizes.now) (Some (function_of f.now))) }
+{
+    statement(sizes, &f.body).counted(f.params.len()).counted(1)
+}
+
+/// The size of an expression.
+#[cycle(expression)]
+#[tactic(auto, using(crate::proofs::Measures::measures))]
+fn expression(e: &Expr) -> Size
+    ensures statements { result.statements ≡ up_to most_statements 0 }
+    ensures nodes { result.nodes ≡ up_to most_nodes (nodes.of_expression (tree.expression_of e.now)) }
+    ensures depth { result.depth ≡ up_to greatest_depth (depth.of_expression (tree.expression_of e.now)) }
+{
+    let operands = match &e.kind {
+        Ex::Num(_, _) => Size::none(),
+        Ex::Name(_) => Size::none(),
+        Ex::Index(_, index) => expression(index),
+        Ex::Un(_, operand) => expression(operand),
+        Ex::Bin(_, left, right) => expression(left).beside(expression(right)),
+        Ex::Cond(test, first, second) => {
+            expression(test).beside(expression(first).beside(expression(second)))
+        }
+        Ex::Cast(_, operand) => expression(operand),
+    };
+    operands.node()
+}
+
+#[tactic(auto, using(crate::proofs::Measures::measures))]
+fn expression_if_any(e: &Option<Expr>) -> Size
+    ensures statements { result.statements ≡ up_to most_statements 0 }
+    ensures nodes { result.nodes ≡ up_to most_nodes (depth.if_some nodes.of_expression (option_map tree.expression_of e.now)) }
+    ensures depth { result.depth ≡ up_to greatest_depth (depth.if_some depth.of_expression (option_map tree.expression_of e.now)) }
+{
+    match e {
+        None => Size::none(),
+        Some(e) => expression(e),
+    }
+}
+
+#[tactic(auto, using(crate::proofs::Measures::measures))]
+fn arguments(args: &[Arg]) -> Size
+    ensures statements { result.statements ≡ up_to most_statements 0 }
+    ensures nodes { result.nodes ≡ up_to most_nodes (sum_by nodes.of_argument (map tree.argument_of args.now)) }
+    ensures depth { result.depth ≡ up_to greatest_depth (depth.highest depth.of_argument (map tree.argument_of args.now)) }
+{
+    let mut size = Size::none();
+    for arg in args {
+        size = size.beside(expression(&arg.value));
+    }
+    size
+}
+
+/// The size of what stands at the right of an `=`, with that of the function that it calls.
+#[tactic(auto, using(crate::proofs::Measures::measures))]
+fn right_side<'a>(sizes: &Sizes<'a>, rhs: &'a Rhs) -> Size
+    ensures statements { result.statements ≡ up_to most_statements (counts.of_right (statements_called sizes.now) (tree.right_of rhs.now)) }
+    ensures nodes { result.nodes ≡ up_to most_nodes (nodes.of_right (nodes_called sizes.now) (tree.right_of rhs.now)) }
+    ensures depth { result.depth ≡ up_to greatest_depth (depths.of_right (depth_called sizes.now) (tree.right_of rhs.now)) }
+{
+    match rhs {
+        Rhs::Value(value) => expression(value),
+        Rhs::Call { name, pos: _, args } => arguments(args.as_slice()).beside(sizes.called(name)),
+    }
+}
+
+#[tactic(auto, using(crate::proofs::Measures::measures))]
+fn right_side_if_any<'a>(sizes: &Sizes<'a>, rhs: &'a Option<Rhs>) -> Size
+    ensures statements { result.statements ≡ up_to most_statements (depth.if_some (counts.of_right (statements_called sizes.now)) (option_map tree.right_of rhs.now)) }
+    ensures nodes { result.nodes ≡ up_to most_nodes (depth.if_some (nodes.of_right (nodes_called sizes.now)) (option_map tree.right_of rhs.now)) }
+    ensures depth { result.depth ≡ up_to greatest_depth (depth.if_some (depths.of_right (depth_called sizes.now)) (option_map tree.right_of rhs.now)) }
+{
+    match rhs {
+        None => Size::none(),
+        Some(rhs) => right_side(sizes, rhs),
+    }
+}
+
+#[tactic(auto, using(crate::proofs::Measures::measures))]
+fn timing(time: &Option<Timed>) -> Size
+    ensures statements { result.statements ≡ up_to most_statements 0 }
+    ensures nodes { result.nodes ≡ up_to most_nodes (depth.if_some nodes.of_timing (option_map tree.timing_of time.now)) }
+    ensures depth { result.depth ≡ up_to greatest_depth (depth.if_some depth.of_timing (option_map tree.timing_of time.now)) }
+{
+    match time {
+        None => Size::none(),
+        Some(time) => expression(&time.value),
+    }
+}
+
+#[tactic(auto, using(crate::proofs::Measures::measures))]
+fn condition(cond: &Option<When>) -> Size
+    ensures statements { result.statements ≡ up_to most_statements 0 }
+    ensures nodes { result.nodes ≡ up_to most_nodes (depth.if_some nodes.of_condition (option_map tree.condition_of cond.now)) }
+    ensures depth { result.depth ≡ up_to greatest_depth (depth.if_some depth.of_condition (option_map tree.condition_of cond.now)) }
+{
+    match cond {
+        None => Size::none(),
+        Some(cond) => expression(&cond.value),
+    }
+}
+
+#[tactic(auto, using(crate::proofs::Measures::measures))]
+fn output(send: &Send) -> Size
+    ensures statements { result.statements ≡ up_to most_statements 0 }
+    ensures nodes { result.nodes ≡ up_to most_nodes (nodes.of_output (tree.output_of send.now)) }
+    ensures depth { result.depth ≡ up_to greatest_depth (depth.of_output (tree.output_of send.now)) }
+{
+    let value = expression(&send.value).beside(timing(&send.stamp));
+    timing(&send.time).beside(value)
+}
+
+#[tactic(auto, using(crate::proofs::Measures::measures))]
+fn target(dest: &Dest) -> Size
+    ensures statements { result.statements ≡ up_to most_statements 0 }
+    ensures nodes { result.nodes ≡ up_to most_nodes (nodes.of_target (tree.target_of dest.now)) }
+    ensures depth { result.depth ≡ up_to greatest_depth (depth.of_target (tree.target_of dest.now)) }
+{
+    match dest {
+        Dest::To(e) => expression(e),
+        Dest::Drop => Size::none(),
+        Dest::Fresh(_, _, _) => Size::none(),
+    }
+}
+
+/// The size of what is stored behind an input.
+#[tactic(auto, using(crate::proofs::Measures::measures))]
+fn stored(dest: &Dest, stamp: &Option<Timed>) -> Size
+    ensures statements { result.statements ≡ up_to most_statements 0 }
+    ensures nodes { result.nodes ≡ up_to most_nodes (nodes.of_target (tree.target_of dest.now) + depth.if_some nodes.of_timing (option_map tree.timing_of stamp.now)) }
+    ensures depth { result.depth ≡ up_to greatest_depth (max (depth.of_target (tree.target_of dest.now)) (depth.if_some depth.of_timing (option_map tree.timing_of stamp.now))) }
+{
+    target(dest).beside(timing(stamp))
+}
+
+#[tactic(auto, using(crate::proofs::Measures::measures))]
+fn input(head: &Head) -> Size
+    ensures statements { result.statements ≡ up_to most_statements 0 }
+    ensures nodes { result.nodes ≡ up_to most_nodes (nodes.of_input (tree.input_of head.now)) }
+    ensures depth { result.depth ≡ up_to greatest_depth (depth.of_input (tree.input_of head.now)) }
+{
+    let stored = stored(&head.dest, &head.stamp);
+    timing(&head.time).beside(condition(&head.cond).beside(stored))
+}
+
+#[tactic(auto, using(crate::proofs::Measures::measures))]
+fn input_if_any(head: &Option<Head>) -> Size
+    ensures statements { result.statements ≡ up_to most_statements 0 }
+    ensures nodes { result.nodes ≡ up_to most_nodes (depth.if_some nodes.of_input (option_map tree.input_of head.now)) }
+    ensures depth { result.depth ≡ up_to greatest_depth (depth.if_some depth.of_input (option_map tree.input_of head.now)) }
+{
+    match head {
+        None => Size::none(),
+        Some(head) => input(head),
+    }
+}
+
+#[tactic(auto, using(crate::proofs::Measures::measures))]
+fn place(place: &Option<At>) -> Size
+    ensures statements { result.statements ≡ up_to most_statements 0 }
+    ensures nodes { result.nodes ≡ up_to most_nodes (depth.if_some nodes.of_place (option_map tree.place_of place.now)) }
+    ensures depth { result.depth ≡ up_to greatest_depth (depth.if_some depth.of_place (option_map tree.place_of place.now)) }
+{
+    match place {
+        None => Size::none(),
+        Some(place) => expression(&place.value),
+    }
+}
+
+/// The size of what stands behind the `=` of a declared name.
+#[tactic(auto, using(crate::proofs::Measures::measures))]
+fn initial<'a>(sizes: &Sizes<'a>, kind: &'a DeclKind) -> Size
+    ensures statements { result.statements ≡ up_to most_statements (counts.of_kind (statements_called sizes.now) (tree.kind_of kind.now)) }
+    ensures nodes { result.nodes ≡ up_to most_nodes (nodes.of_kind (nodes_called sizes.now) (tree.kind_of kind.now)) }
+    ensures depth { result.depth ≡ up_to greatest_depth (depths.of_kind (depth_called sizes.now) (tree.kind_of kind.now)) }
+{
+    match kind {
+        DeclKind::Word(_, rhs) => right_side_if_any(sizes, rhs),
+        DeclKind::Array(_, _, _) => Size::none(),
+        DeclKind::Chan(_) => Size::none(),
+        DeclKind::Timer => Size::none(),
+    }
+}
+
+#[tactic(auto, using(crate::proofs::Measures::measures))]
+fn declaration<'a>(sizes: &Sizes<'a>, d: &'a Declared) -> Size
+    ensures statements { result.statements ≡ up_to most_statements (counts.of_declaration (statements_called sizes.now) (tree.declaration_of d.now)) }
+    ensures nodes { result.nodes ≡ up_to most_nodes (nodes.of_declaration (nodes_called sizes.now) (tree.declaration_of d.now)) }
+    ensures depth { result.depth ≡ up_to greatest_depth (depths.of_declaration (depth_called sizes.now) (tree.declaration_of d.now)) }
+{
+    initial(sizes, &d.kind).counted(1)
+}
+
+#[tactic(auto, using(crate::proofs::Measures::measures))]
+fn declarations<'a>(sizes: &Sizes<'a>, declared: &'a [Declared]) -> Size
+    ensures statements { result.statements ≡ up_to most_statements (sum_by (counts.of_declaration (statements_called sizes.now)) (map tree.declaration_of declared.now)) }
+    ensures nodes { result.nodes ≡ up_to most_nodes (sum_by (nodes.of_declaration (nodes_called sizes.now)) (map tree.declaration_of declared.now)) }
+    ensures depth { result.depth ≡ up_to greatest_depth (depth.highest (depths.of_declaration (depth_called sizes.now)) (map tree.declaration_of declared.now)) }
+{
+    let mut size = Size::none();
+    for d in declared {
+        size = size.beside(declaration(sizes, d));
+    }
+    size
+}
+
+/// The size of a statement.
+#[cycle(statement)]
+#[tactic(auto, using(crate::proofs::Measures::measures))]
+pub fn statement<'a>(sizes: &Sizes<'a>, s: &'a Stmt) -> Size
+    ensures statements { result.statements ≡ up_to most_statements (counts.of_statement (statements_called sizes.now) (tree.statement_of s.now)) }
+    ensures nodes { result.nodes ≡ up_to most_nodes (nodes.of_statement (nodes_called sizes.now) (tree.statement_of s.now)) }
+    ensures depth { result.depth ≡ up_to greatest_depth (depths.of_statement (depth_called sizes.now) (tree.statement_of s.now)) }
+{
+    action(sizes, &s.kind).deeper()
+}
+
+#[cycle(statement)]
+#[tactic(auto, using(crate::proofs::Measures::measures))]
+fn action<'a>(sizes: &Sizes<'a>, kind: &'a St) -> Size
+    ensures statements { result.statements ≡ up_to most_statements (counts.of_action (statements_called sizes.now) (tree.action_of kind.now)) }
+    ensures nodes { result.nodes ≡ up_to most_nodes (nodes.of_action (nodes_called sizes.now) (tree.action_of kind.now)) }
+    ensures depth { result.depth ≡ up_to greatest_depth (depths.of_action (depth_called sizes.now) (tree.action_of kind.now)) }
+{
+    match kind {
+        St::Empty => Size::none(),
+        St::Block(ss) => statements(sizes, ss.as_slice()),
+        St::Decl(ds) => declarations(sizes, ds.as_slice()),
+        St::Assign(lval, _, _, rhs) => expression(lval).beside(right_side(sizes, rhs)).counted(1),
+        St::Step(lval, _) => expression(lval).counted(1),
+        St::Do(rhs) => right_side(sizes, rhs),
+        St::Output(send) => output(send).counted(1),
+        St::Input(head) => input(head).counted(1),
+        St::If(test, then, otherwise) => {
+            let bodies = statement(sizes, then).beside(statement_if_any(sizes, otherwise));
+            expression(test).beside(bodies).counted(1)
+        }
+        St::While(test, body) => expression(test).beside(statement(sizes, body)).counted(1),
+        St::DoWhile(body, test) => statement(sizes, body).beside(expression(test)).counted(1),
+        St::For(first, test, step, body) => {
+            let turn = statement_if_any(sizes, step).beside(statement(sizes, body));
+            let turns = expression_if_any(test).beside(turn);
+            statement_if_any(sizes, first).beside(turns).counted(1)
+        }
+        St::Return(rhs) => right_side_if_any(sizes, rhs).counted(1),
+        St::Break => Size::none().counted(1),
+        St::Continue => Size::none().counted(1),
+        St::Par(bs) => branches(sizes, bs.as_slice()).counted(1),
+        St::Repl {
+            first: _,
+            second: _,
+            third: _,
+            from,
+            to,
+            body,
+        } => {
+            let copies = to.saturating_sub(*from);
+            branch(sizes, body).times(copies).counted(1)
+        }
+        St::Select(cs) => cases(sizes, cs.as_slice()).counted(1),
+        St::Tran(_, ss) => statements(sizes, ss.as_slice()).counted(2),
+    }
+}
+
+#[cycle(statement)]
+#[tactic(auto, using(crate::proofs::Measures::measures))]
+fn statement_if_any<'a>(sizes: &Sizes<'a>, s: &'a Option<Box<Stmt>>) -> Size
+    ensures statements { result.statements ≡ up_to most_statements (counts.of_maybe (statements_called sizes.now) (tree.maybe_of s.now)) }
+    ensures nodes { result.nodes ≡ up_to most_nodes (nodes.of_maybe (nodes_called sizes.now) (tree.maybe_of s.now)) }
+    ensures depth { result.depth ≡ up_to greatest_depth (depths.of_maybe (depth_called sizes.now) (tree.maybe_of s.now)) }
+{
+    match s {
+        None => Size::none(),
+        Some(s) => statement(sizes, s),
+    }
+}
+
+#[cycle(statement)]
+#[tactic(auto, using(crate::proofs::Measures::measures))]
+fn statements<'a>(sizes: &Sizes<'a>, ss: &'a [Stmt]) -> Size
+    ensures statements { result.statements ≡ up_to most_statements (counts.of_statements (statements_called sizes.now) (plain.statements (map tree.statement_of ss.now))) }
+    ensures nodes { result.nodes ≡ up_to most_nodes (nodes.of_statements (nodes_called sizes.now) (plain.statements (map tree.statement_of ss.now))) }
+    ensures depth { result.depth ≡ up_to greatest_depth (depths.of_statements (depth_called sizes.now) (plain.statements (map tree.statement_of ss.now))) }
+{
+    let mut size = Size::none();
+    for s in ss {
+        size = size.beside(statement(sizes, s));
+    }
+    size
+}
+
+#[cycle(statement)]
+#[tactic(auto, using(crate::proofs::Measures::measures))]
+fn branch<'a>(sizes: &Sizes<'a>, b: &'a Branch) -> Size
+    ensures statements { result.statements ≡ up_to most_statements (counts.of_branch (statements_called sizes.now) (tree.branch_of b.now)) }
+    ensures nodes { result.nodes ≡ up_to most_nodes (nodes.of_branch (nodes_called sizes.now) (tree.branch_of b.now)) }
+    ensures depth { result.depth ≡ up_to greatest_depth (depths.of_branch (depth_called sizes.now) (tree.branch_of b.now)) }
+{
+    place(&b.place).beside(statement(sizes, &b.body)).counted(1)
+}
+
+#[cycle(statement)]
+#[tactic(auto, using(crate::proofs::Measures::measures))]
+fn branches<'a>(sizes: &Sizes<'a>, bs: &'a [Branch]) -> Size
+    ensures statements { result.statements ≡ up_to most_statements (counts.of_branches (statements_called sizes.now) (plain.branches (map tree.branch_of bs.now))) }
+    ensures nodes { result.nodes ≡ up_to most_nodes (nodes.of_branches (nodes_called sizes.now) (plain.branches (map tree.branch_of bs.now))) }
+    ensures depth { result.depth ≡ up_to greatest_depth (depths.of_branches (depth_called sizes.now) (plain.branches (map tree.branch_of bs.now))) }
+{
+    let mut size = Size::none();
+    for b in bs {
+        size = size.beside(branch(sizes, b));
+    }
+    size
+}
+
+#[cycle(statement)]
+#[tactic(auto, using(crate::proofs::Measures::measures))]
+fn case<'a>(sizes: &Sizes<'a>, c: &'a Case) -> Size
+    ensures statements { result.statements ≡ up_to most_statements (counts.of_case (statements_called sizes.now) (tree.case_of c.now)) }
+    ensures nodes { result.nodes ≡ up_to most_nodes (nodes.of_case (nodes_called sizes.now) (tree.case_of c.now)) }
+    ensures depth { result.depth ≡ up_to greatest_depth (depths.of_case (depth_called sizes.now) (tree.case_of c.now)) }
+{
+    let body = input_if_any(&c.head).beside(statements(sizes, c.body.as_slice()));
+    expression_if_any(&c.guard).beside(body).counted(1)
+}
+
+#[cycle(statement)]
+#[tactic(auto, using(crate::proofs::Measures::measures))]
+fn cases<'a>(sizes: &Sizes<'a>, cs: &'a [Case]) -> Size
+    ensures statements { result.statements ≡ up_to most_statements (counts.of_cases (statements_called sizes.now) (plain.cases (map tree.case_of cs.now))) }
+    ensures nodes { result.nodes ≡ up_to most_nodes (nodes.of_cases (nodes_called sizes.now) (plain.cases (map tree.case_of cs.now))) }
+    ensures depth { result.depth ≡ up_to greatest_depth (depths.of_cases (depth_called sizes.now) (plain.cases (map tree.case_of cs.now))) }
+{
+    let mut size = Size::none();
+    for c in cs {
+        size = size.beside(case(sizes, c));
+    }
+    size
+}

@@ -1,0 +1,52 @@
+ghost use Rattle.std.specs.Prelude.{◌≡◌, ◌<◌, true, false, IfNone, IfOk, IfSome};
+ghost use Rattle.xc_size.specs.Limits.{IsAbove, rule_509};
+ghost use Rattle.xc_kernel.specs.Size.{Breaks509, IsTooLarge};
+ghost use Rattle.xc_tree.specs.Trees.{program_of};
+
+use crate::filling::whole_size;
+use crate::functions::functions_of;
+use crate::order::order_from;
+use crate::size::Size;
+use crate::sizes::Sizes;
+use std::alloc::Global;
+use xc_tree::Tree;
+use xw_words::{Broken, Memory, Pos};
+
+/// Rule 509 at main's name, where the program with all its copies is too large. Nothing is copied to see it. The stack that
+/// it needs grows with the depth of the tree.
+pub fn broken_size(alloc: Global, tree: &Tree) -> Result<Option<Broken>, Memory>
+    ensures broken { IfOk result (λ best. IfSome best (λ b. Breaks509 (program_of tree.now) b)) }
+    ensures small { IfOk result (λ best. IfNone best (IsTooLarge (program_of tree.now) → ⊥)) }
+{
+    let mut sizes = Sizes::new(alloc, functions_of(alloc, tree)?)?;
+    let Some(number) = sizes.names.number(b"main") else {
+        return Ok(None);
+    };
+    let Some(main) = sizes.all.get(number).copied() else {
+        return Ok(None);
+    };
+    let order = order_from(alloc, &sizes, number)?;
+    let size = whole_size(alloc, &mut sizes, order.as_slice(), &main.body)?;
+    Ok(broken_by(size, main.name.pos))
+}
+
+/// Rule 509 at a place, where a size is above the limits.
+fn broken_by(size: Size, pos: Pos) -> Option<Broken>
+    ensures broken { IfSome result (λ b. IsAbove size × (b ≡ rule_509 pos)) }
+    ensures small { IfNone result (IsAbove size → ⊥) }
+{
+    if is_above(size) {
+        Some(Broken { rule: 509, pos })
+    } else {
+        None
+    }
+}
+
+/// Whether a size is above one of the limits: 100,000 statements, 1,000,000 nodes, a depth of 1,000.
+fn is_above(size: Size) -> bool
+    ensures yes { result ≡ true → IsAbove size }
+    ensures no { result ≡ false → IsAbove size → ⊥ }
+{
+    size.statements > 100_000 || size.nodes > 1_000_000 || size.depth > 1_000
+}
+
