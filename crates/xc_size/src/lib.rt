@@ -1,4 +1,4 @@
-//! From a typed program to its kernel.
+//! How large a program is with all the copies that its calls and replicated branches make, seen without making them.
 #![tactic(auto)]
 
 mod callees;
