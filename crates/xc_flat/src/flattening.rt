@@ -7,11 +7,11 @@ ghost use Rattle.xc_kernel.specs.Sound.{IsTyped};
 ghost use Rattle.xc_tree.specs.Trees.{program_of};
 ghost use Rattle.xc_tree.specs.Types.Named.{named_of};
 
-use xc_copy::copy;
-use xc_size::broken_size;
 use std::alloc::Global;
 use thiserror::Error;
+use xc_copy::copy;
 use xc_kernel::Kernel;
+use xc_size::broken_size;
 use xc_tree::Typed;
 use xw_words::{Broken, Memory};
 
@@ -54,3 +54,6 @@ pub fn flatten(alloc: Global, typed: &Typed) -> Result<Kernel, FlatErr>
         None => Ok(copy(alloc, &typed.named.tree)?),
     }
 }
+
+#[cfg(test)]
+mod tests;

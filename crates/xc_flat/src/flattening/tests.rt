@@ -1,0 +1,4 @@
+mod counts;
+mod kernels;
+mod printed;
+mod texts;

@@ -1,0 +1,208 @@
+use super::texts::typed;
+use crate::{FlatErr, flatten};
+use std::alloc::{AllocError, Global};
+use std::test::Fail;
+use xw_words::{Broken, Pos};
+
+/// Where a text breaks rule 509, or how many instances of functions and how many counted words its kernel has.
+fn verdict(alloc: Global, text: &str) -> Result<String, AllocError> {
+    let Some(typed) = typed(alloc, text) else {
+        return "no types".to_string(alloc);
+    };
+    match flatten(alloc, &typed) {
+        Ok(kernel) => {
+            let mut words = 0u64;
+            for v in kernel.vars.as_slice() {
+                if v.counted {
+                    words = words.saturating_add(u64::from(v.words));
+                }
+            }
+            format!(in alloc; "{} instances, {words} words", kernel.insts.len())
+        }
+        Err(FlatErr::Broken(b)) => format!(in alloc; "{} at {}:{}", b.rule, b.pos.line, b.pos.col),
+        Err(FlatErr::Memory) => "out of memory".to_string(alloc),
+    }
+}
+
+/// `f0` on line 1, which stores a sum of so many ones; `f1` to `f5` on lines 2 to 6, each of which calls the one before ten
+/// times; and a main on line 7 that calls one of them.
+fn tens(alloc: Global, ones: usize, called: usize) -> Result<String, AllocError> {
+    let mut text = String::new(alloc);
+    text.push_str("void f0(void) { int x; x = 1")?;
+    for _ in 1..ones {
+        text.push_str(" + 1")?;
+    }
+    text.push_str("; }\n")?;
+    for number in 1..6 {
+        let head = format!(in alloc; "void f{number}(void) {{")?;
+        text.push_str(head.as_str())?;
+        add_ten_calls(alloc, &mut text, number - 1)?;
+        text.push_str(" }\n")?;
+    }
+    let main = format!(in alloc; "int main(void) {{ f{called}(); return 0; }}\n")?;
+    text.push_str(main.as_str())?;
+    Ok(text)
+}
+
+fn add_ten_calls(alloc: Global, text: &mut String, number: usize) -> Result<(), AllocError> {
+    let call = format!(in alloc; " f{number}();")?;
+    for _ in 0..10 {
+        text.push_str(call.as_str())?;
+    }
+    Ok(())
+}
+
+/// An `f0` that does nothing; so many functions behind it, each of which calls the one before; and a main.
+fn chain(alloc: Global, last: usize, main: &str) -> Result<String, AllocError> {
+    let mut text = String::new(alloc);
+    text.push_str("void f0(void) { }\n")?;
+    for number in 0..last {
+        let function = format!(in alloc; "void f{}(void) {{ f{number}(); }}\n", number + 1)?;
+        text.push_str(function.as_str())?;
+    }
+    text.push_str(main)?;
+    Ok(text)
+}
+
+#[test]
+fn statements_count_in_each_copy(rt: HostRuntime) -> Result<(), Fail> {
+    let alloc = rt.alloc();
+    let rows = [
+        (5, "509 at 7:5"),
+        (4, "11112 instances, 10000 words"),
+        (3, "1112 instances, 1000 words"),
+    ];
+    for (called, wanted) in rows {
+        let text = tens(alloc, 1, called)?;
+        assert_eq!(rt; verdict(alloc, text.as_str())?.as_str(), wanted, "f{called}");
+    }
+    Ok(())
+}
+
+#[test]
+fn nodes_count_in_each_copy(rt: HostRuntime) -> Result<(), Fail> {
+    let alloc = rt.alloc();
+    let rows = [(4, "509 at 7:5"), (3, "1112 instances, 1000 words")];
+    for (called, wanted) in rows {
+        let text = tens(alloc, 150, called)?;
+        assert_eq!(rt; verdict(alloc, text.as_str())?.as_str(), wanted, "f{called}");
+    }
+    Ok(())
+}
+
+/// Functions and a main by the number of the last one, and what comes of them.
+const CHAINS: [(usize, &str, &str); 5] = [
+    (
+        499,
+        "int main(void) { f499(); return 0; }",
+        "509 at 501:5",
+    ),
+    (
+        498,
+        "int main(void) { f498(); return 0; }",
+        "500 instances, 0 words",
+    ),
+    (
+        498,
+        "int main(void) { { f498(); } return 0; }",
+        "500 instances, 0 words",
+    ),
+    (
+        498,
+        "int main(void) { { { f498(); } } return 0; }",
+        "509 at 500:5",
+    ),
+    (
+        5_000,
+        "int main(void) { f5000(); return 0; }",
+        "509 at 5002:5",
+    ),
+];
+
+#[test]
+fn depth_counts_along_calls(rt: HostRuntime) -> Result<(), Fail> {
+    let alloc = rt.alloc();
+    for (last, main, wanted) in CHAINS {
+        let text = chain(alloc, last, main)?;
+        assert_eq!(rt; verdict(alloc, text.as_str())?.as_str(), wanted, "{main}");
+    }
+    Ok(())
+}
+
+/// Texts whose counts stand at a limit or one above it.
+const LIMITS: [(&str, &str); 9] = [
+    // 1, and in each copy 1 and its name: 2 * 49999 + 1
+    (
+        "int main(void) { par (int i = 0; i < 49999; i++) { int x; } }",
+        "1 instances, 49999 words",
+    ),
+    // one name more, and then another one
+    (
+        "int main(void) { int y; par (int i = 0; i < 49999; i++) { int x; } }",
+        "1 instances, 50000 words",
+    ),
+    (
+        "int main(void) { int y, z; par (int i = 0; i < 49999; i++) { int x; } }",
+        "509 at 1:5",
+    ),
+    // 40000 * 25 nodes in 80001 statements, and then one more
+    (
+        "int main(void) { par (int i = 0; i < 40000; i++) { int x = i+i+i+i+i+i+i+i+i+i+i+i+i; } }",
+        "1 instances, 40000 words",
+    ),
+    (
+        "int main(void) { int y = 1; par (int i = 0; i < 40000; i++) { int x = i+i+i+i+i+i+i+i+i+i+i+i+i; } }",
+        "509 at 1:5",
+    ),
+    // no copy of a great number, and then one
+    (
+        "int main(void) { par (int i = 1; i < 0; i++) par (int j = 0; j < 4294967295; j++) { int x; } }",
+        "1 instances, 0 words",
+    ),
+    (
+        "int main(void) { par (int i = 0; i < 1; i++) par (int j = 0; j < 4294967295; j++) { int x; } }",
+        "509 at 1:5",
+    ),
+    // in each copy 1, and 5 for a call with 4 parameters: 6 * 16666 + 1, and three names and then four
+    (
+        "void f(int a, int b, int c, int d) { } int main(void) { int w, x, y; par (int i = 0; i < 16666; i++) f(i, i, i, i); }",
+        "16667 instances, 3 words",
+    ),
+    (
+        "void f(int a, int b, int c, int d) { } int main(void) { int w, x, y, z; par (int i = 0; i < 16666; i++) f(i, i, i, i); }",
+        "509 at 1:44",
+    ),
+];
+
+#[test]
+fn limits_are_exact(rt: HostRuntime) -> Result<(), Fail> {
+    let alloc = rt.alloc();
+    for (text, wanted) in LIMITS {
+        assert_eq!(rt; verdict(alloc, text)?.as_str(), wanted, "{text}");
+    }
+    Ok(())
+}
+
+/// What main doesn't call counts nothing.
+#[test]
+fn what_is_not_called_counts_nothing(rt: HostRuntime) -> Result<(), Fail> {
+    let alloc = rt.alloc();
+    let front = "void f(void) { par (int i = 0; i < 4294967295; i++) ; } int main(void) {";
+    for (rest, wanted) in [("}", "1 instances, 0 words"), ("f(); }", "509 at 1:61")] {
+        let text = format!(in alloc; "{front} {rest}")?;
+        assert_eq!(rt; verdict(alloc, text.as_str())?.as_str(), wanted, "{rest}");
+    }
+    Ok(())
+}
+
+#[test]
+fn messages(rt: HostRuntime) -> Result<(), Fail> {
+    let alloc = rt.alloc();
+    let broken = Broken {
+        rule: 509,
+        pos: Pos { line: 7, col: 5 },
+    };
+    let text = format!(in alloc; "{}; {}", FlatErr::Broken(broken), FlatErr::Memory)?;
+    assert_eq!(rt; text.as_str(), "7:5: rule 509 is broken; out of memory");
+    Ok(())
+}

@@ -1,0 +1,48 @@
+ghost use Rattle.std.specs.Prelude.{IfSome};
+ghost use Rattle.xc_kernel.specs.Sound.{IsTyped};
+ghost use Rattle.xc_tree.specs.Programs.{IsParsed};
+ghost use Rattle.xc_tree.specs.Trees.{program_of};
+ghost use Rattle.xc_tree.specs.Types.Named.{named_of};
+
+use std::alloc::Global;
+use xc_lexer::lex;
+use xc_names::resolve;
+use xc_parser::{end_pos, parse};
+use xc_tree::{Tree, Typed};
+use xc_types::check;
+
+/// How many bytes and tokens a text of these tests has at most.
+const MOST: usize = 4_194_304;
+
+/// The program that a text is with the types of its expressions, if it breaks no rule up to 508.
+pub fn typed(alloc: Global, text: &str) -> Option<Typed>
+    ensures { IfSome result (λ typed. IsTyped (program_of typed.named.tree) (named_of typed.named) typed.unsigned_at) }
+{
+    let tree = tree_of(alloc, text.as_bytes())?;
+    let Ok(named) = resolve(alloc, tree) else {
+        return None;
+    };
+    match check(alloc, named) {
+        Ok(typed) => Some(typed),
+        Err(_) => None,
+    }
+}
+
+/// The tree of a text, if it has one.
+fn tree_of(alloc: Global, text: &[u8]) -> Option<Tree>
+    ensures { IfSome result (λ tree. IsParsed (program_of tree)) }
+{
+    if text.len() > MOST {
+        return None;
+    }
+    let Ok(toks) = lex(alloc, text) else {
+        return None;
+    };
+    if toks.len() > MOST {
+        return None;
+    }
+    match parse(alloc, &toks, end_pos(text)) {
+        Ok(tree) => Some(tree),
+        Err(_) => None,
+    }
+}
