@@ -1,13 +1,13 @@
 -- The counts of small programs, and the steps of families.
 use Rattle.std.specs.Prelude.{◌≡◌, ℕ, List, [], ◌∷◌, ◌++◌, Option, Some, None, option_map, refl}
 use Rattle.xc_kernel.specs.Copies.{copy_of}
-use Rattle.xc_meaning.specs.States.Worlds.{World, Move}
+use Rattle.xc_meaning.specs.States.Worlds.{World, Move, take, default}
 use Rattle.xc_meaning.specs.Runs.{kernel_start, kernel_run}
 use Rattle.xc_meaning.specs.Counts.Families.{steps_of, child_family}
 use Rattle.xc_meaning.specs.Counts.KernelCounts.{greatest_count, kernel_bound}
 use Rattle.xc_meaning.specs.Counts.TextCounts.{twice_greatest, program_bound}
-use Rattle.xc_meaning.proofs.ExamplePrograms.{timed_output, hand_over, out_of_range, timer_case, divided, three_pars}
-use Rattle.xc_meaning.proofs.Running.{no_stimulus, steps}
+use Rattle.xc_meaning.proofs.ExamplePrograms.{timed_output, hand_over, out_of_range, timer_case, guard_off, divided, three_pars, four_parameters}
+use Rattle.xc_meaning.proofs.Running.{no_stimulus, steps, wait}
 
 -- the output counts 2, a time and a value, as does the assignment of the result
 timed_count : greatest_count (copy_of timed_output) ≡ 2
@@ -44,6 +44,10 @@ timed_program_bound = refl
 array_twice : twice_greatest out_of_range ≡ 32
 array_twice = refl
 
+-- the head `void f ( int u , int v , int w , int z )` has fifteen tokens, and its call eleven
+head_twice : twice_greatest four_parameters ≡ 30
+head_twice = refl
+
 -- in the kernel main does four steps and its `par`'s first branch one; the second branch, with the number 2, begins a family
 main_steps : steps_of (copy_of hand_over) no_stimulus 0 (Some (kernel_start (copy_of hand_over))) (steps 4 0 ++ steps 1 1 ++ steps 1 2) ≡ 5
 unfolding copy_of
@@ -52,6 +56,15 @@ main_steps = refl
 second_steps : steps_of (copy_of hand_over) no_stimulus 2 (Some (kernel_start (copy_of hand_over))) (steps 4 0 ++ steps 1 1 ++ steps 1 2) ≡ 1
 unfolding copy_of
 second_steps = refl
+
+-- the taking of a case and that of a default count too
+case_steps : steps_of (copy_of timer_case) no_stimulus 2 (Some (kernel_start (copy_of timer_case))) (steps 3 0 ++ steps 1 1 ++ steps 7 2 ++ wait 2001 ++ take 2 1 ∷ steps 2 2) ≡ 10
+unfolding copy_of
+case_steps = refl
+
+default_steps : steps_of (copy_of guard_off) no_stimulus 2 (Some (kernel_start (copy_of guard_off))) (steps 3 0 ++ steps 1 1 ++ steps 3 2 ++ default 2 ∷ []) ≡ 4
+unfolding copy_of
+default_steps = refl
 
 abbrev second_child : World → Option ℕ
 second_child x = child_family x 0 0 1
