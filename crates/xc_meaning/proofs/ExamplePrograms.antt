@@ -534,3 +534,49 @@ child_errs =
     ∷ (tree.statement (tree.return_with (Some (tree.value (number 0 false 1 113)))) (at 1 106) (at 1 114) 3)
     ∷ []))) (at 1 16) (at 1 116) 2))
     ∷ []
+
+-- declared words, one of which has a value
+-- int main(void) { int x = 1, y, z; return 0; }
+abbrev pub three_words : List tree.Item
+three_words =
+    (tree.function (record { result = (Some false); name = (id (codes "main") 1 5); params = ([]); own = 5 })
+    (tree.statement (tree.block (tree.statements (
+    (tree.statement (tree.declare ((record { kind = (tree.word false (Some (tree.value (number 1 false 1 26)))); name = (id (codes "x") 1 22) }) ∷ (record { kind = (tree.word false None); name = (id (codes "y") 1 29) }) ∷ (record { kind = (tree.word false None); name = (id (codes "z") 1 32) }) ∷ [])) (at 1 18) (at 1 33) 9)
+    ∷ (tree.statement (tree.return_with (Some (tree.value (number 0 false 1 42)))) (at 1 35) (at 1 43) 3)
+    ∷ []))) (at 1 16) (at 1 45) 2))
+    ∷ []
+
+-- an array in a case in a branch
+-- int main(void) { par { select { default: int a[9]; break; } ; } return 0; }
+abbrev pub held_array : List tree.Item
+held_array =
+    (tree.function (record { result = (Some false); name = (id (codes "main") 1 5); params = ([]); own = 5 })
+    (tree.statement (tree.block (tree.statements (
+    (tree.statement (tree.par (tree.branches ((tree.branch None (tree.statement (tree.select (tree.cases ((tree.case (at 1 33) None None (tree.statements ((tree.statement (tree.declare ((record { kind = (tree.array false 9 (at 1 48)); name = (id (codes "a") 1 46) }) ∷ [])) (at 1 42) (at 1 50) 6) ∷ []))) ∷ []))) (at 1 24) (at 1 59) 7)) ∷ (tree.branch None (tree.statement tree.empty (at 1 61) (at 1 61) 1)) ∷ []))) (at 1 18) (at 1 63) 3)
+    ∷ (tree.statement (tree.return_with (Some (tree.value (number 0 false 1 72)))) (at 1 65) (at 1 73) 3)
+    ∷ []))) (at 1 16) (at 1 75) 2))
+    ∷ []
+
+-- a loop whose test is its longest part
+-- int main(void) { int x; while (x + 1 < 3 - x) x++; return 0; }
+abbrev pub long_test : List tree.Item
+long_test =
+    (tree.function (record { result = (Some false); name = (id (codes "main") 1 5); params = ([]); own = 5 })
+    (tree.statement (tree.block (tree.statements (
+    (tree.statement (tree.declare ((record { kind = (tree.word false None); name = (id (codes "x") 1 22) }) ∷ [])) (at 1 18) (at 1 23) 3)
+    ∷ (tree.statement (tree.while_loop (binary 20 (binary 15 (name (codes "x") 1 32) (number 1 false 1 36) 1 34) (binary 16 (number 3 false 1 40) (name (codes "x") 1 44) 1 42) 1 38) (tree.statement (tree.step (name (codes "x") 1 47) 35) (at 1 47) (at 1 50) 3)) (at 1 25) (at 1 50) 10)
+    ∷ (tree.statement (tree.return_with (Some (tree.value (number 0 false 1 59)))) (at 1 52) (at 1 60) 3)
+    ∷ []))) (at 1 16) (at 1 62) 2))
+    ∷ []
+
+-- elements at elements
+-- int main(void) { int a[2]; a[a[0]] = a[a[1]]; return 0; }
+abbrev pub inner_elements : List tree.Item
+inner_elements =
+    (tree.function (record { result = (Some false); name = (id (codes "main") 1 5); params = ([]); own = 5 })
+    (tree.statement (tree.block (tree.statements (
+    (tree.statement (tree.declare ((record { kind = (tree.array false 2 (at 1 24)); name = (id (codes "a") 1 22) }) ∷ [])) (at 1 18) (at 1 26) 6)
+    ∷ (tree.statement (tree.assign (index (codes "a") (index (codes "a") (number 0 false 1 32) 1 30) 1 28) 22 (at 1 36) (tree.value (index (codes "a") (index (codes "a") (number 1 false 1 42) 1 40) 1 38))) (at 1 28) (at 1 45) 16)
+    ∷ (tree.statement (tree.return_with (Some (tree.value (number 0 false 1 54)))) (at 1 47) (at 1 55) 3)
+    ∷ []))) (at 1 16) (at 1 57) 2))
+    ∷ []

@@ -42,7 +42,7 @@ looped : plays loops no_stimulus (advance 0 ∷ []) ≡ both (finished (PortOut 
 unfolding copy_of
 looped = refl
 
--- returns out of loops inside one another, of the result of a call, and none
+-- returns out of loops inside one another, of the result of a call, and none behind one
 -- out port o = XS1_PORT_32A;
 -- int first(int n) {
 --   while (1) { for (int i = 0; i < 9; i++) { do { if (i == n) return i * 7; } while (0); o <: i; } }
@@ -54,8 +54,7 @@ looped = refl
 --   int x = second(0);
 --   o <: x;
 --   count(2);
---   x = perhaps(1); o <: x;
---   x = perhaps(0); o <: x;
+--   for (int i = 0; i < 2; i++) { x = perhaps(1 - i); o <: x; }
 --   return 0;
 -- }
 abbrev returns : List tree.Item
@@ -82,12 +81,9 @@ returns =
     (tree.statement (tree.declare ((record { kind = (tree.word false (Some (result (id (codes "second") 9 11) ((record { value = (number 0 false 9 18); first = (at 9 18) }) ∷ [])))); name = (id (codes "x") 9 7) }) ∷ [])) (at 9 3) (at 9 20) 8)
     ∷ (tree.statement (tree.output (record { name = (id (codes "o") 10 3); time = None; value = (name (codes "x") 10 8); stamp = None })) (at 10 3) (at 10 9) 4)
     ∷ (tree.statement (tree.perform (result (id (codes "count") 11 3) ((record { value = (number 2 false 11 9); first = (at 11 9) }) ∷ []))) (at 11 3) (at 11 11) 5)
-    ∷ (tree.statement (tree.assign (name (codes "x") 12 3) 22 (at 12 5) (result (id (codes "perhaps") 12 7) ((record { value = (number 1 false 12 15); first = (at 12 15) }) ∷ []))) (at 12 3) (at 12 17) 7)
-    ∷ (tree.statement (tree.output (record { name = (id (codes "o") 12 19); time = None; value = (name (codes "x") 12 24); stamp = None })) (at 12 19) (at 12 25) 4)
-    ∷ (tree.statement (tree.assign (name (codes "x") 13 3) 22 (at 13 5) (result (id (codes "perhaps") 13 7) ((record { value = (number 0 false 13 15); first = (at 13 15) }) ∷ []))) (at 13 3) (at 13 17) 7)
-    ∷ (tree.statement (tree.output (record { name = (id (codes "o") 13 19); time = None; value = (name (codes "x") 13 24); stamp = None })) (at 13 19) (at 13 25) 4)
-    ∷ (tree.statement (tree.return_with (Some (tree.value (number 0 false 14 10)))) (at 14 3) (at 14 11) 3)
-    ∷ []))) (at 8 16) (at 15 1) 2))
+    ∷ (tree.statement (tree.for_loop (tree.present (tree.statement (tree.declare ((record { kind = (tree.word false (Some (tree.value (number 0 false 12 16)))); name = (id (codes "i") 12 12) }) ∷ [])) (at 12 8) (at 12 16) 4)) (Some (binary 20 (name (codes "i") 12 19) (number 2 false 12 23) 12 21)) (tree.present (tree.statement (tree.step (name (codes "i") 12 26) 35) (at 12 26) (at 12 27) 2)) (tree.statement (tree.block (tree.statements ((tree.statement (tree.assign (name (codes "x") 12 33) 22 (at 12 35) (result (id (codes "perhaps") 12 37) ((record { value = (binary 16 (number 1 false 12 45) (name (codes "i") 12 49) 12 47); first = (at 12 45) }) ∷ []))) (at 12 33) (at 12 51) 9) ∷ (tree.statement (tree.output (record { name = (id (codes "o") 12 53); time = None; value = (name (codes "x") 12 58); stamp = None })) (at 12 53) (at 12 59) 4) ∷ []))) (at 12 31) (at 12 61) 2)) (at 12 3) (at 12 61) 8)
+    ∷ (tree.statement (tree.return_with (Some (tree.value (number 0 false 13 10)))) (at 13 3) (at 13 11) 3)
+    ∷ []))) (at 8 16) (at 14 1) 2))
     ∷ []
 
 returned : plays returns no_stimulus (advance 0 ∷ []) ≡ both (finished (PortOut 0 28 0 0 ∷ PortOut 0 28 0 7 ∷ PortOut 0 28 0 12 ∷ PortOut 0 28 0 11 ∷ PortOut 0 28 0 5 ∷ PortOut 0 28 0 0 ∷ []))
@@ -102,7 +98,7 @@ returned = refl
 --   { if (0) b :> int x; else o <: x; }
 --   { do b :> int x; while (x == 5); o <: x; }
 --   for (int x = 1; x < 3; x++) o <: x;
---   { int x = x + 1; o <: x; }
+--   { int y = 4, x = x + y; o <: x; }
 --   select { case b :> int x: o <: x + 1; break; }
 --   o <: x;
 --   return 0;
@@ -117,14 +113,14 @@ scopes =
     ∷ (tree.statement (tree.block (tree.statements ((tree.statement (tree.if_then (number 0 false 5 9) (tree.statement (tree.input (record { name = (id (codes "b") 5 12); time = None; condition = None; target = (tree.fresh false (id (codes "x") 5 21)); stamp = None })) (at 5 12) (at 5 22) 5) (tree.present (tree.statement (tree.output (record { name = (id (codes "o") 5 29); time = None; value = (name (codes "x") 5 34); stamp = None })) (at 5 29) (at 5 35) 4))) (at 5 5) (at 5 35) 5) ∷ []))) (at 5 3) (at 5 37) 2)
     ∷ (tree.statement (tree.block (tree.statements ((tree.statement (tree.do_while (tree.statement (tree.input (record { name = (id (codes "b") 6 8); time = None; condition = None; target = (tree.fresh false (id (codes "x") 6 17)); stamp = None })) (at 6 8) (at 6 18) 5) (binary 27 (name (codes "x") 6 27) (number 5 false 6 32) 6 29)) (at 6 5) (at 6 34) 8) ∷ (tree.statement (tree.output (record { name = (id (codes "o") 6 36); time = None; value = (name (codes "x") 6 41); stamp = None })) (at 6 36) (at 6 42) 4) ∷ []))) (at 6 3) (at 6 44) 2)
     ∷ (tree.statement (tree.for_loop (tree.present (tree.statement (tree.declare ((record { kind = (tree.word false (Some (tree.value (number 1 false 7 16)))); name = (id (codes "x") 7 12) }) ∷ [])) (at 7 8) (at 7 16) 4)) (Some (binary 20 (name (codes "x") 7 19) (number 3 false 7 23) 7 21)) (tree.present (tree.statement (tree.step (name (codes "x") 7 26) 35) (at 7 26) (at 7 27) 2)) (tree.statement (tree.output (record { name = (id (codes "o") 7 31); time = None; value = (name (codes "x") 7 36); stamp = None })) (at 7 31) (at 7 37) 4)) (at 7 3) (at 7 37) 8)
-    ∷ (tree.statement (tree.block (tree.statements ((tree.statement (tree.declare ((record { kind = (tree.word false (Some (tree.value (binary 15 (name (codes "x") 8 13) (number 1 false 8 17) 8 15)))); name = (id (codes "x") 8 9) }) ∷ [])) (at 8 5) (at 8 18) 7) ∷ (tree.statement (tree.output (record { name = (id (codes "o") 8 20); time = None; value = (name (codes "x") 8 25); stamp = None })) (at 8 20) (at 8 26) 4) ∷ []))) (at 8 3) (at 8 28) 2)
+    ∷ (tree.statement (tree.block (tree.statements ((tree.statement (tree.declare ((record { kind = (tree.word false (Some (tree.value (number 4 false 8 13)))); name = (id (codes "y") 8 9) }) ∷ (record { kind = (tree.word false (Some (tree.value (binary 15 (name (codes "x") 8 20) (name (codes "y") 8 24) 8 22)))); name = (id (codes "x") 8 16) }) ∷ [])) (at 8 5) (at 8 25) 11) ∷ (tree.statement (tree.output (record { name = (id (codes "o") 8 27); time = None; value = (name (codes "x") 8 32); stamp = None })) (at 8 27) (at 8 33) 4) ∷ []))) (at 8 3) (at 8 35) 2)
     ∷ (tree.statement (tree.select (tree.cases ((tree.case (at 9 12) None (Some (record { name = (id (codes "b") 9 17); time = None; condition = None; target = (tree.fresh false (id (codes "x") 9 26)); stamp = None })) (tree.statements ((tree.statement (tree.output (record { name = (id (codes "o") 9 29); time = None; value = (binary 15 (name (codes "x") 9 34) (number 1 false 9 38) 9 36); stamp = None })) (at 9 29) (at 9 39) 6) ∷ []))) ∷ []))) (at 9 3) (at 9 48) 11)
     ∷ (tree.statement (tree.output (record { name = (id (codes "o") 10 3); time = None; value = (name (codes "x") 10 8); stamp = None })) (at 10 3) (at 10 9) 4)
     ∷ (tree.statement (tree.return_with (Some (tree.value (number 0 false 11 10)))) (at 11 3) (at 11 11) 3)
     ∷ []))) (at 3 16) (at 12 1) 2))
     ∷ []
 
-scoped : plays scopes nine (advance 0 ∷ step (take 0 0) ∷ advance 0 ∷ []) ≡ both (finished (PortOut 0 28 0 0 ∷ PortIn 0 22 0 9 ∷ PortOut 0 28 0 9 ∷ PortOut 0 28 0 1 ∷ PortOut 0 28 0 2 ∷ PortOut 0 28 0 1 ∷ PortIn 0 22 0 9 ∷ PortOut 0 28 0 10 ∷ PortOut 0 28 0 5 ∷ []))
+scoped : plays scopes nine (advance 0 ∷ step (take 0 0) ∷ advance 0 ∷ []) ≡ both (finished (PortOut 0 28 0 0 ∷ PortIn 0 22 0 9 ∷ PortOut 0 28 0 9 ∷ PortOut 0 28 0 1 ∷ PortOut 0 28 0 2 ∷ PortOut 0 28 0 4 ∷ PortIn 0 22 0 9 ∷ PortOut 0 28 0 10 ∷ PortOut 0 28 0 5 ∷ []))
 unfolding copy_of
 scoped = refl
 
