@@ -37,11 +37,11 @@ both_wait = record { idle = idle }
     idle (default (suc (suc (suc b)))) h = h
 
 -- the same of the text
-both_wait_in_text : IsQuiet (copy_of both_input) no_stimulus (text_led both_input (steps 7 0))
+both_wait_in_text : IsQuiet (copy_of both_input) no_stimulus (text_led both_input (steps 6 0))
 unfolding copy_of
 both_wait_in_text = record { idle = idle }
   where
-    idle : (m : Move) → IsSome (moves (copy_of both_input) no_stimulus (text_led both_input (steps 7 0)) m) → IsTrue (is_idle (text_led both_input (steps 7 0)) m)
+    idle : (m : Move) → IsSome (moves (copy_of both_input) no_stimulus (text_led both_input (steps 6 0)) m) → IsTrue (is_idle (text_led both_input (steps 6 0)) m)
     idle (clock c) h = refl
     idle (go zero) h = h
     idle (go (suc zero)) h = h

@@ -7,7 +7,7 @@ use Rattle.xc_meaning.specs.States.Items.{Loop, TextItem, statement, name, bound
 use Rattle.xc_meaning.specs.Texts.Items.{maybe_items}
 use Rattle.xc_meaning.specs.Texts.Loops.{turn_context, test_in, turn_item, turn_items}
 use Rattle.xc_kernel.specs.Paths.{path_of_turn}
-use Rattle.xc_meaning.proofs.Simulation.KernelItems.{loop_path, loop_body, loop_of, kernel_items, of_maybe, of_only}
+use Rattle.xc_meaning.proofs.Simulation.KernelItems.{loop_path, loop_body, loop_of, kernel_items, of_maybe, of_statement_body}
 use Rattle.xc_meaning.proofs.Simulation.Alike.{tests_alike}
 use Rattle.xc_meaning.proofs.Simulation.Calls.{AllEnd}
 use Rattle.xc_meaning.proofs.Simulation.Ready.{with_rest, same, loops, repeats, returns_it, nothing, Settles, settled, settled_plain, settles_by, body_meets, settle_name, settle_action}
@@ -15,7 +15,7 @@ use Rattle.xc_meaning.proofs.Simulation.Sound.{SoundItem, SoundItems}
 
 -- a turn of a kernel's loop is what a turn of the text's stands for
 pub of_turn_item : (l : Loop) (rest : List Item) → kernel_items (turn_item l ∷ rest) ≡ todo (turn l.context (loop_path l) (loop_body l).code []) (kernel_items rest)
-of_turn_item l rest = ap (λ code. todo code (kernel_items rest)) (of_only (path_of_turn (loop_path l)) l.body (turn_context l) l.scope)
+of_turn_item l rest = ap (λ code. todo code (kernel_items rest)) (of_statement_body (path_of_turn (loop_path l)) l.body (turn_context l) l.scope)
 
 pub of_turn : (l : Loop) (rest : List Item) → kernel_items (turn_items l rest) ≡ todo (turn l.context (loop_path l) (loop_body l).code []) (todo (Rattle.xc_kernel.specs.Copy.code_of (Rattle.xc_kernel.specs.Statements.maybe_copy (Rattle.xc_meaning.specs.Texts.Copied.calls_in l.context) l.next l.context l.scope)) (does (loop_of l) ∷ kernel_items rest))
 of_turn l rest =
