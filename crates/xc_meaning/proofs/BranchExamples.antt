@@ -135,3 +135,19 @@ other_channel =
 waited : plays other_channel no_stimulus (in_turn 6 (0 ∷ 1 ∷ 2 ∷ 3 ∷ 4 ∷ [])) ≡ both (finished (Com 0 4 ∷ PortOut 0 28 0 1 ∷ Com 0 4 ∷ []))
 unfolding copy_of
 waited = refl
+
+-- a port on another core, with pins of its own
+-- on tile[2] : in port b = XS1_PORT_8A;
+-- int main(void) { par { on tile[2] : b :> int x; ; } }
+abbrev far : List tree.Item
+far =
+    (tree.port (record { place = (Some (record { on = (at 1 1); first = (at 1 9); value = (number 2 false 1 9) })); dir = In; name = (id (codes "b") 1 22); ident = (id (codes "XS1_PORT_8A") 1 26) }))
+    ∷ (tree.function (record { result = (Some false); name = (id (codes "main") 2 5); params = ([]); own = 5 })
+    (tree.statement (tree.block (tree.statements (
+    (tree.statement (tree.par (tree.branches ((tree.branch (Some (record { on = (at 2 24); first = (at 2 32); value = (number 2 false 2 32) })) (tree.statement (tree.input (record { name = (id (codes "b") 2 37); time = None; condition = None; target = (tree.fresh false (id (codes "x") 2 46)); stamp = None })) (at 2 37) (at 2 47) 5)) ∷ (tree.branch None (tree.statement tree.empty (at 2 49) (at 2 49) 1)) ∷ []))) (at 2 18) (at 2 51) 9)
+    ∷ []))) (at 2 16) (at 2 53) 2))
+    ∷ []
+
+own_pins : plays far nine (in_turn 1 (0 ∷ 1 ∷ [])) ≡ both (finished (PortIn 2 22 0 0 ∷ []))
+unfolding copy_of
+own_pins = refl

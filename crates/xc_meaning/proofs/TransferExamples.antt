@@ -205,3 +205,48 @@ guards =
 guard_error : plays guards no_stimulus (advance 0 ∷ []) ≡ both (going (Fault 0 (at 7 12) Arithmetic ∷ []))
 unfolding copy_of
 guard_error = refl
+
+-- a timer gives the whole clock
+-- out port o = XS1_PORT_32A;
+-- int main(void) { timer t; int x; t :> x; o <: x; return 0; }
+abbrev clock_read : List tree.Item
+clock_read =
+    (tree.port (record { place = None; dir = Out; name = (id (codes "o") 1 10); ident = (id (codes "XS1_PORT_32A") 1 14) }))
+    ∷ (tree.function (record { result = (Some false); name = (id (codes "main") 2 5); params = ([]); own = 5 })
+    (tree.statement (tree.block (tree.statements (
+    (tree.statement (tree.declare ((record { kind = tree.timer; name = (id (codes "t") 2 24) }) ∷ [])) (at 2 18) (at 2 25) 3)
+    ∷ (tree.statement (tree.declare ((record { kind = (tree.word false None); name = (id (codes "x") 2 31) }) ∷ [])) (at 2 27) (at 2 32) 3)
+    ∷ (tree.statement (tree.input (record { name = (id (codes "t") 2 34); time = None; condition = None; target = (tree.to (name (codes "x") 2 39)); stamp = None })) (at 2 34) (at 2 40) 4)
+    ∷ (tree.statement (tree.output (record { name = (id (codes "o") 2 42); time = None; value = (name (codes "x") 2 47); stamp = None })) (at 2 42) (at 2 48) 4)
+    ∷ (tree.statement (tree.return_with (Some (tree.value (number 0 false 2 57)))) (at 2 50) (at 2 58) 3)
+    ∷ []))) (at 2 16) (at 2 60) 2))
+    ∷ []
+
+whole_clock : plays clock_read no_stimulus (tick 0 65540 ∷ advance 0 ∷ []) ≡ both (finished (PortOut 0 28 4 65540 ∷ []))
+unfolding copy_of
+whole_clock = refl
+
+-- a `break` inside leaves the case alone, and a `continue` the turn
+-- out port o = XS1_PORT_32A;
+-- in port b = XS1_PORT_8A;
+-- int main(void) {
+--   for (int i = 0; i < 4; i++) {
+--     select { case b :> void: if (i == 1) break; if (i == 2) continue; o <: i; break; }
+--     o <: i + 10;
+--   }
+--   return 0;
+-- }
+abbrev case_in_loop : List tree.Item
+case_in_loop =
+    (tree.port (record { place = None; dir = Out; name = (id (codes "o") 1 10); ident = (id (codes "XS1_PORT_32A") 1 14) }))
+    ∷ (tree.port (record { place = None; dir = In; name = (id (codes "b") 2 9); ident = (id (codes "XS1_PORT_8A") 2 13) }))
+    ∷ (tree.function (record { result = (Some false); name = (id (codes "main") 3 5); params = ([]); own = 5 })
+    (tree.statement (tree.block (tree.statements (
+    (tree.statement (tree.for_loop (tree.present (tree.statement (tree.declare ((record { kind = (tree.word false (Some (tree.value (number 0 false 4 16)))); name = (id (codes "i") 4 12) }) ∷ [])) (at 4 8) (at 4 16) 4)) (Some (binary 20 (name (codes "i") 4 19) (number 4 false 4 23) 4 21)) (tree.present (tree.statement (tree.step (name (codes "i") 4 26) 35) (at 4 26) (at 4 27) 2)) (tree.statement (tree.block (tree.statements ((tree.statement (tree.select (tree.cases ((tree.case (at 5 14) None (Some (record { name = (id (codes "b") 5 19); time = None; condition = None; target = tree.dropped; stamp = None })) (tree.statements ((tree.statement (tree.if_then (binary 27 (name (codes "i") 5 34) (number 1 false 5 39) 5 36) (tree.statement tree.break_out (at 5 42) (at 5 47) 2) tree.absent) (at 5 30) (at 5 47) 6) ∷ (tree.statement (tree.if_then (binary 27 (name (codes "i") 5 53) (number 2 false 5 58) 5 55) (tree.statement tree.continue_on (at 5 61) (at 5 69) 2) tree.absent) (at 5 49) (at 5 69) 6) ∷ (tree.statement (tree.output (record { name = (id (codes "o") 5 71); time = None; value = (name (codes "i") 5 76); stamp = None })) (at 5 71) (at 5 77) 4) ∷ []))) ∷ []))) (at 5 5) (at 5 86) 10) ∷ (tree.statement (tree.output (record { name = (id (codes "o") 6 5); time = None; value = (binary 15 (name (codes "i") 6 10) (number 10 false 6 14) 6 12); stamp = None })) (at 6 5) (at 6 16) 6) ∷ []))) (at 4 31) (at 7 3) 2)) (at 4 3) (at 7 3) 8)
+    ∷ (tree.statement (tree.return_with (Some (tree.value (number 0 false 8 10)))) (at 8 3) (at 8 11) 3)
+    ∷ []))) (at 3 16) (at 9 1) 2))
+    ∷ []
+
+case_left : plays case_in_loop nine (advance 0 ∷ step (take 0 0) ∷ advance 0 ∷ step (take 0 0) ∷ advance 0 ∷ step (take 0 0) ∷ advance 0 ∷ step (take 0 0) ∷ advance 0 ∷ []) ≡ both (finished (PortIn 0 22 0 9 ∷ PortOut 0 28 0 0 ∷ PortOut 0 28 0 10 ∷ PortIn 0 22 0 9 ∷ PortOut 0 28 0 11 ∷ PortIn 0 22 0 9 ∷ PortIn 0 22 0 9 ∷ PortOut 0 28 0 3 ∷ PortOut 0 28 0 13 ∷ []))
+unfolding copy_of
+case_left = refl
