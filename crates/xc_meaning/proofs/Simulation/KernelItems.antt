@@ -14,7 +14,7 @@ use Rattle.xc_kernel.specs.Calls.{body_copy}
 use Rattle.xc_kernel.specs.Declarations.{declaration_copy, declarations_copy}
 use Rattle.xc_kernel.specs.Flow.{turn, leave_unless}
 use Rattle.xc_kernel.specs.Statements.{statement_copy, maybe_copy, statements_copy}
-use Rattle.xc_meaning.specs.States.Items.{Loop, TextItem, statement, name, bound, body, first_test, again, again_do, returned, Body, of_kernel, of_text, Choice, Item, does, says, stores, mark, awaits, closes, chooses, fixed, ends, todo, body_items}
+use Rattle.xc_meaning.specs.States.Items.{Loop, TextItem, statement, name, bound, body, first_test, again, again_do, returned, Body, of_kernel, of_text, Choice, Item, does, says, stores, mark, awaits, transaction_end, chooses, fixed, ends, todo, body_items}
 use Rattle.xc_meaning.specs.Moves.Flow.{from_mark_by, items_from_mark}
 use Rattle.xc_meaning.specs.Texts.Copied.{calls_in, behind, behind_name, code_in}
 use Rattle.xc_meaning.specs.Texts.Items.{name_items, statement_items, maybe_items, statements_items, only, as_body, body_item}
@@ -65,7 +65,7 @@ kernel_items (says i ∷ rest) = todo (code_of_item i) (kernel_items rest)
 kernel_items (stores place v ∷ rest) = stores place v ∷ kernel_items rest
 kernel_items (mark n ∷ rest) = mark n ∷ kernel_items rest
 kernel_items (awaits c pos ∷ rest) = awaits c pos ∷ kernel_items rest
-kernel_items (closes c is_master pos ∷ rest) = closes c is_master pos ∷ kernel_items rest
+kernel_items (transaction_end c is_master pos ∷ rest) = transaction_end c is_master pos ∷ kernel_items rest
 kernel_items (chooses choices otherwise ∷ rest) = chooses (map kernel_choice choices) (option_map kernel_body otherwise) ∷ kernel_items rest
 kernel_items (fixed i v counter ∷ rest) = fixed i v counter ∷ kernel_items rest
 kernel_items (ends ∷ rest) = ends ∷ kernel_items rest
@@ -201,7 +201,7 @@ of_mark n (says i ∷ rest) = no_mark_in n (code_of_item i) (kernel_items rest) 
 of_mark n (stores place v ∷ rest) = of_mark n rest
 of_mark n (mark m ∷ rest) = of_mark_by (nat_eq n m) m rest (items_from_mark n (kernel_items rest)) (items_from_mark n rest) (of_mark n rest)
 of_mark n (awaits c pos ∷ rest) = of_mark n rest
-of_mark n (closes c is_master pos ∷ rest) = of_mark n rest
+of_mark n (transaction_end c is_master pos ∷ rest) = of_mark n rest
 of_mark n (chooses choices otherwise ∷ rest) = of_mark n rest
 of_mark n (fixed i v counter ∷ rest) = of_mark n rest
 of_mark n (ends ∷ rest) = of_mark n rest

@@ -3,7 +3,7 @@ use Rattle.std.proofs.Common.{◌≡◌, List, [], ◌∷◌, refl, ◌∙◌, a
 use Rattle.xc_tree.specs.Plain as tree
 use Rattle.xc_kernel.specs.Programs.{Function}
 use Rattle.xc_kernel.specs.Flow.{turn}
-use Rattle.xc_meaning.specs.States.Items.{Loop, TextItem, statement, name, bound, body, first_test, again, again_do, returned, Item, does, says, stores, mark, awaits, closes, chooses, fixed, ends, todo}
+use Rattle.xc_meaning.specs.States.Items.{Loop, TextItem, statement, name, bound, body, first_test, again, again_do, returned, Item, does, says, stores, mark, awaits, transaction_end, chooses, fixed, ends, todo}
 use Rattle.xc_meaning.specs.Texts.Items.{maybe_items}
 use Rattle.xc_meaning.specs.Texts.Loops.{turn_context, test_in, turn_item, turn_items}
 use Rattle.xc_kernel.specs.Paths.{path_of_turn}
@@ -42,7 +42,7 @@ module _ (fs : List Function) (end : AllEnd fs) where
   settle_items (stores place v ∷ rest) h = settled_plain (stores place v) rest tt
   settle_items (mark n ∷ rest) h = settled_plain (mark n) rest tt
   settle_items (awaits c pos ∷ rest) h = settled_plain (awaits c pos) rest tt
-  settle_items (closes c is_master pos ∷ rest) h = settled_plain (closes c is_master pos) rest tt
+  settle_items (transaction_end c is_master pos ∷ rest) h = settled_plain (transaction_end c is_master pos) rest tt
   settle_items (chooses choices otherwise ∷ rest) h = settled_plain (chooses choices otherwise) rest tt
   settle_items (fixed i v counter ∷ rest) h = settled_plain (fixed i v counter) rest tt
   settle_items (ends ∷ rest) h = settled_plain ends rest tt
