@@ -1,9 +1,11 @@
--- Trees of which the law between text and kernel says less, or nothing.
-use Rattle.std.specs.Prelude.{◌≡◌, true, false, List, [], ◌∷◌, Some, None, codes, refl}
+-- Trees of which the law between text and kernel says less, or nothing, and what it asks of a run of one step.
+use Rattle.std.specs.Prelude.{◌≡◌, true, false, List, [], ◌∷◌, Some, None, codes, refl, ◌++◌}
 use Rattle.xc_tree.specs.Plain as tree
 use Rattle.xc_kernel.proofs.Written.{at, id, number, result}
 use Rattle.xc_meaning.specs.Texts.Called.{CallsEnd}
 use Rattle.xc_meaning.specs.Texts.Returns.{all_stay}
+use Rattle.xc_meaning.specs.States.Worlds.{Move}
+use Rattle.xc_meaning.specs.Follows.{StandAlong}
 use Rattle.xc_meaning.proofs.ExamplePrograms.{three_pars}
 
 -- a function that calls itself
@@ -47,3 +49,14 @@ leaving = refl
 -- a `return` behind a `par` stays
 staying : all_stay three_pars ≡ true
 staying = refl
+
+-- Runs of one step stand so before it and after it, with one piece for it.
+module _ (Stand : List Move → List Move → Type 0) (m : Move) (first piece : List Move) where
+  at_each_step : StandAlong Stand [] first (m ∷ []) (piece ∷ []) ≡ (Stand [] first × Stand (m ∷ []) (first ++ piece))
+  at_each_step = refl
+
+  no_piece_missing : StandAlong Stand [] first (m ∷ []) [] → ⊥
+  no_piece_missing h = h
+
+  no_piece_more : StandAlong Stand [] first [] (piece ∷ []) → ⊥
+  no_piece_more h = h
