@@ -9,3 +9,4 @@ mod RootEnds
 mod Firsts
 mod Whole
 mod NeedsExamples
+pub mod Handed
