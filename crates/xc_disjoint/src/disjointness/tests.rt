@@ -184,19 +184,9 @@ fn add_timers(alloc: Global, kernel: &mut Kernel, core: u8, count: u32) -> Resul
     Ok(())
 }
 
-fn transaction(chan: u32, body: List<Kst>) -> Kst {
-    Kst::Tran {
-        chan,
-        master: true,
-        body,
-        open_at: at(13),
-        close_at: at(14),
-    }
-}
-
 /// Puts the rule that a kernel breaks and its place, or `ok`, behind what is shown so far.
-fn show(alloc: Global, shown: &mut String, kernel: Kernel) -> Result<(), AllocError> {
-    match first_broken(alloc, &kernel) {
+fn show(alloc: Global, shown: &mut String, kernel: &Kernel) -> Result<(), AllocError> {
+    match first_broken(alloc, kernel) {
         Ok(Some(b)) => {
             let error = format!(in alloc; "{} at {}:{}\n", b.rule, b.pos.line, b.pos.col)?;
             shown.push_str(error.as_str())
@@ -206,167 +196,147 @@ fn show(alloc: Global, shown: &mut String, kernel: Kernel) -> Result<(), AllocEr
     }
 }
 
-/// A `par` of nine branches at each place in a statement, and of eight.
-fn wide_at(a: Global, number: u32) -> Result<Kst, Memory> {
-    let nine = one(a, wide(a, 9)?)?;
-    match number {
-        0 => wide(a, 8),
-        1 => Ok(Kst::If(Kx::Num(0), nine, List::new(a))),
-        2 => Ok(Kst::If(Kx::Num(0), List::new(a), nine)),
-        3 => Ok(Kst::Loop(Kx::Num(0), nine, List::new(a))),
-        4 => Ok(Kst::Loop(Kx::Num(0), List::new(a), nine)),
-        5 => Ok(Kst::Block(0, nine)),
-        6 => select(a, input(KRes::Timer(0), 10), nine, None),
-        7 => select(a, input(KRes::Timer(0), 10), List::new(a), Some(nine)),
-        8 => par(a, nine),
-        _ => Ok(transaction(0, nine)),
+/// A line for each of some kernels.
+fn shown(alloc: Global, kernels: &List<Kernel>) -> Result<String, AllocError> {
+    let mut shown = String::new(alloc);
+    for kernel in kernels.as_slice() {
+        show(alloc, &mut shown, kernel)?;
     }
+    Ok(shown)
 }
 
-/// A core has eight threads.
-#[test]
-fn threads(rt: HostRuntime) -> Result<(), Fail> {
-    let a = rt.alloc();
-    let mut shown = String::new(a);
-    for number in 0..10 {
-        show(a, &mut shown, alone(a, 0, one(a, wide_at(a, number)?)?, 0)?)?;
-    }
-    assert_eq!(rt;
-        shown.as_str(),
-        "ok\n701 at 1:5\n701 at 1:5\n701 at 1:5\n701 at 1:5\n701 at 1:5\n701 at 1:5\n701 at 1:5\n701 at 1:5\n701 at 1:5\n"
-    );
-    Ok(())
+/// A kernel with two `par`s of so many branches, one behind the other.
+fn row(a: Global, first: u32, second: u32) -> Result<Kernel, Memory> {
+    let body = two(a, wide(a, first)?, wide(a, second)?)?;
+    alone(a, 3, body, 0)
 }
 
-/// Statements one behind the other need the greatest number, and branches the sum.
-#[test]
-fn threads_together(rt: HostRuntime) -> Result<(), Fail> {
-    let a = rt.alloc();
-    let mut shown = String::new(a);
-    for (first, second) in [(8, 8), (1, 9), (9, 1)] {
-        let row = two(a, wide(a, first)?, wide(a, second)?)?;
-        show(a, &mut shown, alone(a, 3, row, 0)?)?;
-    }
-    for (first, second) in [(4, 4), (4, 5), (0, 7), (0, 8)] {
-        let branches = two(a, wide(a, first)?, wide(a, second)?)?;
-        show(a, &mut shown, alone(a, 0, one(a, par(a, branches)?)?, 0)?)?;
-    }
-    assert_eq!(rt;
-        shown.as_str(),
-        "ok\n701 at 1:5\n701 at 1:5\nok\n701 at 1:5\nok\n701 at 1:5\n"
-    );
-    Ok(())
+/// A kernel with a `par` of two branches, of which each has a `par` of so many.
+fn nested(a: Global, first: u32, second: u32) -> Result<Kernel, Memory> {
+    let branches = two(a, wide(a, first)?, wide(a, second)?)?;
+    alone(a, 0, one(a, par(a, branches)?)?, 0)
 }
 
-/// The threads of all roots on a core count together, and a root that does nothing needs one.
-#[test]
-fn threads_of_several_roots(rt: HostRuntime) -> Result<(), Fail> {
-    let a = rt.alloc();
-    let mut shown = String::new(a);
-    for (core, other, others) in [(2, 1, 1), (2, 2, 1), (0, 0, 3), (0, 0, 4)] {
-        let mut kernel = alone(a, core, one(a, wide(a, 5)?)?, 0)?;
-        for _ in 1..others {
-            kernel.roots.push(root(other, List::new(a)))?;
-        }
-        kernel.roots.push(root(other, one(a, wide(a, if others < 2 { 4 } else { 0 })?)?))?;
-        show(a, &mut shown, kernel)?;
-    }
-    assert_eq!(rt; shown.as_str(), "ok\n701 at 1:5\nok\n701 at 1:5\n");
-    Ok(())
-}
-
-/// What stands behind sixteen channels that have their sides in `par`s of their own: the seventeenth, in different ways.
-fn seventeenth(a: Global, number: u32) -> Result<Kst, Memory> {
-    let put = output(KRes::Chan(16), 12);
-    let take = Kst::In(input(KRes::Chan(16), 13));
-    match number {
-        0 => Ok(Kst::Exit(0)),
-        1 => meeting(a, 16),
-        2 => par(a, two(a, meeting(a, 16)?, Kst::Exit(0))?),
-        3 => par(a, two(a, meeting(a, 16)?, put)?),
-        4 => Ok(Kst::Block(0, two(a, meeting(a, 16)?, put)?)),
-        5 => Ok(Kst::Block(0, two(a, put, take)?)),
-        6 => par(a, two(a, put, Kst::Exit(0))?),
-        7 => Ok(Kst::Block(0, two(a, meeting(a, 16)?, meeting(a, 16)?)?)),
-        8 => {
-            let case = select(a, input(KRes::Chan(16), 12), List::new(a), None)?;
-            par(a, two(a, case, transaction(16, List::new(a)))?)
-        }
-        9 => {
-            let ported = output(KRes::Port(16), 12);
-            par(a, two(a, Kst::In(input(KRes::Timer(16), 12)), ported)?)
-        }
-        _ => {
-            let mut three = two(a, put, take)?;
-            three.push(output(KRes::Chan(16), 14))?;
-            par(a, three)
-        }
-    }
-}
-
-/// A core has 32 channel ends, and a channel that exactly two branches of the innermost `par` around all its uses use needs two
-/// of them.
-#[test]
-fn ends(rt: HostRuntime) -> Result<(), Fail> {
-    let a = rt.alloc();
-    let mut shown = String::new(a);
-    for number in 0..11 {
-        let mut body = meetings(a, 16)?;
-        body.push(seventeenth(a, number)?)?;
-        show(a, &mut shown, alone(a, 3, body, 17)?)?;
-    }
-    assert_eq!(rt;
-        shown.as_str(),
-        "ok\n702 at 1:5\n702 at 1:5\n702 at 1:5\nok\nok\nok\nok\n702 at 1:5\nok\nok\n"
-    );
-    Ok(())
-}
-
-/// A kernel with so many channels inside the first of some roots, and so many in all of them.
-fn across(a: Global, inside: u32, shared: u32, cores: &[u8]) -> Result<Kernel, Memory> {
-    let mut kernel = alone(a, 0, meetings(a, inside)?, 30)?;
-    for core in cores {
-        let mut body = List::new(a);
-        for channel in 0..shared {
-            body.push(output(KRes::Chan(20u32.saturating_add(channel)), 12))?;
-        }
-        kernel.roots.push(root(*core, body))?;
-    }
+/// A kernel with five threads on core 2 and, in a root of their own, four on another.
+fn beside(a: Global, core: u8) -> Result<Kernel, Memory> {
+    let mut kernel = alone(a, 2, one(a, wide(a, 5)?)?, 0)?;
+    kernel.roots.push(root(core, one(a, wide(a, 4)?)?))?;
     Ok(kernel)
 }
 
-/// A channel in two roots needs an end on the core of each, and one in three roots none.
+fn with_threads(a: Global) -> Result<List<Kernel>, Memory> {
+    let mut kernels = List::new(a);
+    kernels.push(row(a, 8, 8)?)?;
+    kernels.push(row(a, 1, 9)?)?;
+    kernels.push(nested(a, 4, 4)?)?;
+    kernels.push(nested(a, 4, 5)?)?;
+    kernels.push(nested(a, 0, 7)?)?;
+    kernels.push(nested(a, 0, 8)?)?;
+    kernels.push(beside(a, 1)?)?;
+    kernels.push(beside(a, 2)?)?;
+    Ok(kernels)
+}
+
+/// A core has eight threads. Statements one behind the other need the greatest number, branches and roots the sum, and what
+/// does nothing needs one.
 #[test]
-fn ends_of_several_roots(rt: HostRuntime) -> Result<(), Fail> {
+fn threads(rt: HostRuntime) -> Result<(), Fail> {
     let a = rt.alloc();
-    let mut shown = String::new(a);
-    for (inside, shared) in [(15, 2), (15, 3), (16, 0), (16, 1)] {
-        show(a, &mut shown, across(a, inside, shared, &[0, 1])?)?;
-    }
-    show(a, &mut shown, across(a, 16, 1, &[1, 2])?)?;
-    show(a, &mut shown, across(a, 16, 1, &[0, 1, 2])?)?;
-    show(a, &mut shown, across(a, 15, 2, &[0, 0])?)?;
-    show(a, &mut shown, across(a, 16, 1, &[0, 255])?)?;
+    let kernels = with_threads(a)?;
     assert_eq!(rt;
-        shown.as_str(),
-        "ok\n702 at 1:5\nok\n702 at 1:5\nok\nok\n702 at 1:5\n702 at 1:5\n"
+        shown(a, &kernels)?.as_str(),
+        "ok\n701 at 1:5\nok\n701 at 1:5\nok\n701 at 1:5\nok\n701 at 1:5\n"
     );
     Ok(())
 }
 
-/// A core has ten timers.
-#[test]
-fn timers(rt: HostRuntime) -> Result<(), Fail> {
-    let a = rt.alloc();
-    let mut shown = String::new(a);
-    for (first, second) in [(10, 0), (11, 0), (0, 11), (10, 10)] {
-        let mut kernel = alone(a, 0, List::new(a), 0)?;
-        add_timers(a, &mut kernel, 0, first)?;
-        add_timers(a, &mut kernel, 3, second)?;
-        show(a, &mut shown, kernel)?;
+/// A kernel with sixteen channels that each have their sides in a `par` of their own, and a statement behind them.
+fn crossed(a: Global, last: Kst) -> Result<Kernel, Memory> {
+    let mut body = meetings(a, 16)?;
+    body.push(last)?;
+    alone(a, 3, body, 17)
+}
+
+/// A `par` of three branches that use the channel 16.
+fn three(a: Global) -> Result<Kst, Memory> {
+    let mut branches = List::new(a);
+    for col in 12..15 {
+        branches.push(output(KRes::Chan(16), col))?;
     }
-    assert_eq!(rt; shown.as_str(), "ok\n703 at 1:5\n703 at 1:5\nok\n");
+    par(a, branches)
+}
+
+fn with_a_channel_more(a: Global) -> Result<List<Kernel>, Memory> {
+    let put = output(KRes::Chan(16), 12);
+    let again = output(KRes::Chan(16), 12);
+    let mut kernels = List::new(a);
+    kernels.push(crossed(a, Kst::Exit(0))?)?;
+    kernels.push(crossed(a, meeting(a, 16)?)?)?;
+    kernels.push(crossed(a, par(a, two(a, meeting(a, 16)?, Kst::Exit(0))?)?)?)?;
+    kernels.push(crossed(a, par(a, two(a, meeting(a, 16)?, put)?)?)?)?;
+    kernels.push(crossed(a, Kst::Block(0, two(a, meeting(a, 16)?, again)?))?)?;
+    kernels.push(crossed(a, three(a)?)?)?;
+    Ok(kernels)
+}
+
+/// A core has 32 channel ends. A channel that exactly two branches of the innermost `par` around all its uses use needs two of
+/// them, and another none.
+#[test]
+fn ends(rt: HostRuntime) -> Result<(), Fail> {
+    let a = rt.alloc();
+    let kernels = with_a_channel_more(a)?;
+    assert_eq!(rt;
+        shown(a, &kernels)?.as_str(),
+        "ok\n702 at 1:5\n702 at 1:5\n702 at 1:5\nok\nok\n"
+    );
     Ok(())
+}
+
+/// Outputs on so many channels from the twentieth on.
+fn outputs(a: Global, count: u32) -> Result<List<Kst>, Memory> {
+    let mut ss = List::new(a);
+    for channel in 0..count {
+        ss.push(output(KRes::Chan(20u32.saturating_add(channel)), 12))?;
+    }
+    Ok(ss)
+}
+
+/// A kernel with so many channels inside a root on core 0, and so many in two roots on these cores.
+fn across(a: Global, inside: u32, shared: u32, first: u8, second: u8) -> Result<Kernel, Memory> {
+    let mut kernel = alone(a, 0, meetings(a, inside)?, 30)?;
+    kernel.roots.push(root(first, outputs(a, shared)?))?;
+    kernel.roots.push(root(second, outputs(a, shared)?))?;
+    Ok(kernel)
+}
+
+fn with_channels_across(a: Global) -> Result<List<Kernel>, Memory> {
+    let mut kernels = List::new(a);
+    kernels.push(across(a, 15, 2, 0, 1)?)?;
+    kernels.push(across(a, 15, 3, 0, 1)?)?;
+    kernels.push(across(a, 16, 1, 1, 2)?)?;
+    kernels.push(across(a, 16, 1, 0, 255)?)?;
+    kernels.push(across(a, 15, 2, 0, 0)?)?;
+    Ok(kernels)
+}
+
+/// A channel in two roots needs an end on the core of each.
+#[test]
+fn ends_of_two_roots(rt: HostRuntime) -> Result<(), Fail> {
+    let a = rt.alloc();
+    let kernels = with_channels_across(a)?;
+    assert_eq!(rt;
+        shown(a, &kernels)?.as_str(),
+        "ok\n702 at 1:5\nok\n702 at 1:5\n702 at 1:5\n"
+    );
+    Ok(())
+}
+
+/// A kernel with so many timers on the first core and on the last.
+fn timed(a: Global, first: u32, last: u32) -> Result<Kernel, Memory> {
+    let mut kernel = alone(a, 0, List::new(a), 0)?;
+    add_timers(a, &mut kernel, 0, first)?;
+    add_timers(a, &mut kernel, 3, last)?;
+    Ok(kernel)
 }
 
 /// A kernel with a variable of so many words, so many parameters of an instance, and so many threads on a core.
@@ -378,45 +348,42 @@ fn of_words(a: Global, core: u8, words: u32, params: u32, threads: u32) -> Resul
     Ok(kernel)
 }
 
-/// A core has 16,384 words: 4 for an instance, 1 for each parameter, those of variables, and 512 for a thread.
-#[test]
-fn words(rt: HostRuntime) -> Result<(), Fail> {
-    let a = rt.alloc();
-    let mut shown = String::new(a);
-    for (core, words, params, threads) in [
-        (0, 15_868, 0, 1),
-        (0, 15_869, 0, 1),
-        (2, 15_867, 1, 1),
-        (2, 15_868, 1, 1),
-        (0, 15_356, 0, 2),
-        (0, 15_357, 0, 2),
-    ] {
-        show(a, &mut shown, of_words(a, core, words, params, threads)?)?;
+/// A kernel with so many instances without parameters, and so many variables.
+fn copies(a: Global, instances: u32, variables: u32) -> Result<Kernel, Memory> {
+    let mut kernel = alone(a, 0, List::new(a), 0)?;
+    for _ in 0..instances {
+        kernel.insts.push(Inst { core: 0, params: 0 })?;
     }
-    assert_eq!(rt;
-        shown.as_str(),
-        "ok\n704 at 1:5\nok\n704 at 1:5\nok\n704 at 1:5\n"
-    );
-    Ok(())
+    for _ in 0..variables {
+        kernel.vars.push(variable(a, 0, 1, true))?;
+    }
+    Ok(kernel)
 }
 
-/// Functions that each call the one before ten times, of which the lowest has one variable: of main and four more levels
-/// there are 11,112 instances and 10,000 variables, with the thread 54,960 words; with a level less 5,960.
+/// The last two are functions that each call the one before ten times, of which the lowest has one variable: of main and four
+/// more levels there are 11,112 instances and 10,000 variables, with the thread 54,960 words; with a level less 5,960.
+fn with_timers_and_words(a: Global) -> Result<List<Kernel>, Memory> {
+    let mut kernels = List::new(a);
+    kernels.push(timed(a, 10, 10)?)?;
+    kernels.push(timed(a, 0, 11)?)?;
+    kernels.push(of_words(a, 2, 15_867, 1, 1)?)?;
+    kernels.push(of_words(a, 2, 15_868, 1, 1)?)?;
+    kernels.push(of_words(a, 0, 15_356, 0, 2)?)?;
+    kernels.push(of_words(a, 0, 15_357, 0, 2)?)?;
+    kernels.push(copies(a, 11_112, 10_000)?)?;
+    kernels.push(copies(a, 1_112, 1_000)?)?;
+    Ok(kernels)
+}
+
+/// A core has ten timers, and 16,384 words: 4 for an instance, 1 for each parameter, those of variables, and 512 for a thread.
 #[test]
-fn words_of_copies(rt: HostRuntime) -> Result<(), Fail> {
+fn timers_and_words(rt: HostRuntime) -> Result<(), Fail> {
     let a = rt.alloc();
-    let mut shown = String::new(a);
-    for (instances, variables) in [(11_112, 10_000), (1_112, 1_000)] {
-        let mut kernel = alone(a, 0, List::new(a), 0)?;
-        for _ in 0..instances {
-            kernel.insts.push(Inst { core: 0, params: 0 })?;
-        }
-        for _ in 0..variables {
-            kernel.vars.push(variable(a, 0, 1, true))?;
-        }
-        show(a, &mut shown, kernel)?;
-    }
-    assert_eq!(rt; shown.as_str(), "704 at 1:5\nok\n");
+    let kernels = with_timers_and_words(a)?;
+    assert_eq!(rt;
+        shown(a, &kernels)?.as_str(),
+        "ok\n703 at 1:5\nok\n704 at 1:5\nok\n704 at 1:5\n704 at 1:5\nok\n"
+    );
     Ok(())
 }
 
@@ -425,27 +392,6 @@ fn placed(a: Global, core: u8, threads: u32, own: u8, place: Pos) -> Result<Kern
     let mut kernel = alone(a, core, one(a, wide(a, threads)?)?, 0)?;
     kernel.ports.push(port(own, place))?;
     Ok(kernel)
-}
-
-/// A place that gives no core stands at its first token, and what is on it needs nothing.
-#[test]
-fn places(rt: HostRuntime) -> Result<(), Fail> {
-    let a = rt.alloc();
-    let mut shown = String::new(a);
-    show(a, &mut shown, placed(a, 255, 9, 0, at(50))?)?;
-    show(a, &mut shown, placed(a, 0, 1, 255, at(50))?)?;
-    show(a, &mut shown, placed(a, 255, 1, 255, at(50))?)?;
-    show(a, &mut shown, placed(a, 3, 9, 255, at(50))?)?;
-    show(
-        a,
-        &mut shown,
-        placed(a, 3, 9, 255, Pos { line: 1, col: 1 })?,
-    )?;
-    assert_eq!(rt;
-        shown.as_str(),
-        "705 at 2:90\n705 at 2:50\n705 at 2:50\n701 at 1:5\n705 at 1:1\n"
-    );
-    Ok(())
 }
 
 /// A kernel that uses a port on a core, first in an output and behind it in a case, whose place stands before.
@@ -457,17 +403,28 @@ fn used(a: Global, core: u8, own: u8) -> Result<Kernel, Memory> {
     Ok(kernel)
 }
 
-/// A port is used on its own core, also where neither place gives one.
+fn with_places(a: Global) -> Result<List<Kernel>, Memory> {
+    let mut kernels = List::new(a);
+    kernels.push(placed(a, 255, 9, 0, at(50))?)?;
+    kernels.push(placed(a, 0, 1, 255, at(50))?)?;
+    kernels.push(placed(a, 3, 9, 255, at(50))?)?;
+    kernels.push(placed(a, 3, 9, 255, Pos { line: 1, col: 1 })?)?;
+    kernels.push(used(a, 2, 2)?)?;
+    kernels.push(used(a, 2, 0)?)?;
+    kernels.push(used(a, 255, 1)?)?;
+    kernels.push(used(a, 255, 255)?)?;
+    Ok(kernels)
+}
+
+/// A place that gives no core stands at its first token, and what is on it needs nothing. A port is used on its own core, also
+/// where neither place gives one.
 #[test]
-fn ports(rt: HostRuntime) -> Result<(), Fail> {
+fn places_and_ports(rt: HostRuntime) -> Result<(), Fail> {
     let a = rt.alloc();
-    let mut shown = String::new(a);
-    for (core, own) in [(0, 0), (0, 1), (2, 0), (2, 2), (255, 1), (255, 255)] {
-        show(a, &mut shown, used(a, core, own)?)?;
-    }
+    let kernels = with_places(a)?;
     assert_eq!(rt;
-        shown.as_str(),
-        "ok\n706 at 2:15\n706 at 2:15\nok\n706 at 2:15\n705 at 2:50\n"
+        shown(a, &kernels)?.as_str(),
+        "705 at 2:90\n705 at 2:50\n701 at 1:5\n705 at 1:1\nok\n706 at 2:15\n706 at 2:15\n705 at 2:50\n"
     );
     Ok(())
 }
@@ -482,16 +439,21 @@ fn crowded(a: Global, kept: u32) -> Result<Kernel, Memory> {
     Ok(kernel)
 }
 
+fn with_several_broken(a: Global) -> Result<List<Kernel>, Memory> {
+    let mut kernels = List::new(a);
+    for kept in 0..4 {
+        kernels.push(crowded(a, kept)?)?;
+    }
+    Ok(kernels)
+}
+
 /// Of rules at one place the least number is named.
 #[test]
 fn least_number(rt: HostRuntime) -> Result<(), Fail> {
     let a = rt.alloc();
-    let mut shown = String::new(a);
-    for kept in 0..4 {
-        show(a, &mut shown, crowded(a, kept)?)?;
-    }
+    let kernels = with_several_broken(a)?;
     assert_eq!(rt;
-        shown.as_str(),
+        shown(a, &kernels)?.as_str(),
         "701 at 1:5\n702 at 1:5\n703 at 1:5\n704 at 1:5\n"
     );
     Ok(())
