@@ -436,3 +436,147 @@ three_pars =
     ∷ (tree.statement (tree.return_with (Some (tree.value (number 0 false 1 61)))) (at 1 54) (at 1 62) 3)
     ∷ []))) (at 1 16) (at 1 64) 2))
     ∷ []
+
+-- a function whose head has more tokens than any statement
+-- void f(int u, int v, int w, int z) { }
+-- int main(void) { f(1, 2, 3, 4); return 0; }
+abbrev pub four_parameters : List tree.Item
+four_parameters =
+    (tree.function (record { result = None; name = (id (codes "f") 1 6); params = ((record { kind = (Value false); name = (id (codes "u") 1 12) }) ∷ (record { kind = (Value false); name = (id (codes "v") 1 19) }) ∷ (record { kind = (Value false); name = (id (codes "w") 1 26) }) ∷ (record { kind = (Value false); name = (id (codes "z") 1 33) }) ∷ []); own = 15 })
+    (tree.statement (tree.block (tree.statements ([]))) (at 1 36) (at 1 38) 2))
+    ∷ (tree.function (record { result = (Some false); name = (id (codes "main") 2 5); params = ([]); own = 5 })
+    (tree.statement (tree.block (tree.statements (
+    (tree.statement (tree.perform (result (id (codes "f") 2 18) ((record { value = (number 1 false 2 20); first = (at 2 20) }) ∷ (record { value = (number 2 false 2 23); first = (at 2 23) }) ∷ (record { value = (number 3 false 2 26); first = (at 2 26) }) ∷ (record { value = (number 4 false 2 29); first = (at 2 29) }) ∷ []))) (at 2 18) (at 2 31) 11)
+    ∷ (tree.statement (tree.return_with (Some (tree.value (number 0 false 2 40)))) (at 2 33) (at 2 41) 3)
+    ∷ []))) (at 2 16) (at 2 43) 2))
+    ∷ []
+
+-- an output whose value is an error, to a branch that errs
+-- int main(void) { chan c; int y; int z; par { c <: 1 / y; { z = 1 / z; c :> z; } } return 0; }
+abbrev pub both_err : List tree.Item
+both_err =
+    (tree.function (record { result = (Some false); name = (id (codes "main") 1 5); params = ([]); own = 5 })
+    (tree.statement (tree.block (tree.statements (
+    (tree.statement (tree.declare ((record { kind = (tree.channel false); name = (id (codes "c") 1 23) }) ∷ [])) (at 1 18) (at 1 24) 3)
+    ∷ (tree.statement (tree.declare ((record { kind = (tree.word false None); name = (id (codes "y") 1 30) }) ∷ [])) (at 1 26) (at 1 31) 3)
+    ∷ (tree.statement (tree.declare ((record { kind = (tree.word false None); name = (id (codes "z") 1 37) }) ∷ [])) (at 1 33) (at 1 38) 3)
+    ∷ (tree.statement (tree.par (tree.branches ((tree.branch None (tree.statement (tree.output (record { name = (id (codes "c") 1 46); time = None; value = (binary 18 (number 1 false 1 51) (name (codes "y") 1 55) 1 53); stamp = None })) (at 1 46) (at 1 56) 6)) ∷ (tree.branch None (tree.statement (tree.block (tree.statements ((tree.statement (tree.assign (name (codes "z") 1 60) 22 (at 1 62) (tree.value (binary 18 (number 1 false 1 64) (name (codes "z") 1 68) 1 66))) (at 1 60) (at 1 69) 6) ∷ (tree.statement (tree.input (record { name = (id (codes "c") 1 71); time = None; condition = None; target = (tree.to (name (codes "z") 1 76)); stamp = None })) (at 1 71) (at 1 77) 4) ∷ []))) (at 1 58) (at 1 79) 2)) ∷ []))) (at 1 40) (at 1 81) 3)
+    ∷ (tree.statement (tree.return_with (Some (tree.value (number 0 false 1 90)))) (at 1 83) (at 1 91) 3)
+    ∷ []))) (at 1 16) (at 1 93) 2))
+    ∷ []
+
+-- an output to a branch that errs
+-- int main(void) { chan c; int x; int z; par { c <: 1; { z = 1 / z; c :> z; } } return 0; }
+abbrev pub partner_errs : List tree.Item
+partner_errs =
+    (tree.function (record { result = (Some false); name = (id (codes "main") 1 5); params = ([]); own = 5 })
+    (tree.statement (tree.block (tree.statements (
+    (tree.statement (tree.declare ((record { kind = (tree.channel false); name = (id (codes "c") 1 23) }) ∷ [])) (at 1 18) (at 1 24) 3)
+    ∷ (tree.statement (tree.declare ((record { kind = (tree.word false None); name = (id (codes "x") 1 30) }) ∷ [])) (at 1 26) (at 1 31) 3)
+    ∷ (tree.statement (tree.declare ((record { kind = (tree.word false None); name = (id (codes "z") 1 37) }) ∷ [])) (at 1 33) (at 1 38) 3)
+    ∷ (tree.statement (tree.par (tree.branches ((tree.branch None (tree.statement (tree.output (record { name = (id (codes "c") 1 46); time = None; value = (number 1 false 1 51); stamp = None })) (at 1 46) (at 1 52) 4)) ∷ (tree.branch None (tree.statement (tree.block (tree.statements ((tree.statement (tree.assign (name (codes "z") 1 56) 22 (at 1 58) (tree.value (binary 18 (number 1 false 1 60) (name (codes "z") 1 64) 1 62))) (at 1 56) (at 1 65) 6) ∷ (tree.statement (tree.input (record { name = (id (codes "c") 1 67); time = None; condition = None; target = (tree.to (name (codes "z") 1 72)); stamp = None })) (at 1 67) (at 1 73) 4) ∷ []))) (at 1 54) (at 1 75) 2)) ∷ []))) (at 1 40) (at 1 77) 3)
+    ∷ (tree.statement (tree.return_with (Some (tree.value (number 0 false 1 86)))) (at 1 79) (at 1 87) 3)
+    ∷ []))) (at 1 16) (at 1 89) 2))
+    ∷ []
+
+-- a master whose slave errs before it begins
+-- int main(void) { chan c; int x; int z; par { master { c <: 1; } { z = 1 / z; slave { c :> z; } } } return 0; }
+abbrev pub slave_errs : List tree.Item
+slave_errs =
+    (tree.function (record { result = (Some false); name = (id (codes "main") 1 5); params = ([]); own = 5 })
+    (tree.statement (tree.block (tree.statements (
+    (tree.statement (tree.declare ((record { kind = (tree.channel false); name = (id (codes "c") 1 23) }) ∷ [])) (at 1 18) (at 1 24) 3)
+    ∷ (tree.statement (tree.declare ((record { kind = (tree.word false None); name = (id (codes "x") 1 30) }) ∷ [])) (at 1 26) (at 1 31) 3)
+    ∷ (tree.statement (tree.declare ((record { kind = (tree.word false None); name = (id (codes "z") 1 37) }) ∷ [])) (at 1 33) (at 1 38) 3)
+    ∷ (tree.statement (tree.par (tree.branches ((tree.branch None (tree.statement (tree.transaction true (tree.statements ((tree.statement (tree.output (record { name = (id (codes "c") 1 55); time = None; value = (number 1 false 1 60); stamp = None })) (at 1 55) (at 1 61) 4) ∷ []))) (at 1 46) (at 1 63) 3)) ∷ (tree.branch None (tree.statement (tree.block (tree.statements ((tree.statement (tree.assign (name (codes "z") 1 67) 22 (at 1 69) (tree.value (binary 18 (number 1 false 1 71) (name (codes "z") 1 75) 1 73))) (at 1 67) (at 1 76) 6) ∷ (tree.statement (tree.transaction false (tree.statements ((tree.statement (tree.input (record { name = (id (codes "c") 1 86); time = None; condition = None; target = (tree.to (name (codes "z") 1 91)); stamp = None })) (at 1 86) (at 1 92) 4) ∷ []))) (at 1 78) (at 1 94) 3) ∷ []))) (at 1 65) (at 1 96) 2)) ∷ []))) (at 1 40) (at 1 98) 3)
+    ∷ (tree.statement (tree.return_with (Some (tree.value (number 0 false 1 107)))) (at 1 100) (at 1 108) 3)
+    ∷ []))) (at 1 16) (at 1 110) 2))
+    ∷ []
+
+-- a slave whose master errs inside
+-- int main(void) { chan c; int x; int z; par { slave { c :> x; c :> x; } master { c <: 1; z = 1 / z; } } return 0; }
+abbrev pub master_errs : List tree.Item
+master_errs =
+    (tree.function (record { result = (Some false); name = (id (codes "main") 1 5); params = ([]); own = 5 })
+    (tree.statement (tree.block (tree.statements (
+    (tree.statement (tree.declare ((record { kind = (tree.channel false); name = (id (codes "c") 1 23) }) ∷ [])) (at 1 18) (at 1 24) 3)
+    ∷ (tree.statement (tree.declare ((record { kind = (tree.word false None); name = (id (codes "x") 1 30) }) ∷ [])) (at 1 26) (at 1 31) 3)
+    ∷ (tree.statement (tree.declare ((record { kind = (tree.word false None); name = (id (codes "z") 1 37) }) ∷ [])) (at 1 33) (at 1 38) 3)
+    ∷ (tree.statement (tree.par (tree.branches ((tree.branch None (tree.statement (tree.transaction false (tree.statements ((tree.statement (tree.input (record { name = (id (codes "c") 1 54); time = None; condition = None; target = (tree.to (name (codes "x") 1 59)); stamp = None })) (at 1 54) (at 1 60) 4) ∷ (tree.statement (tree.input (record { name = (id (codes "c") 1 62); time = None; condition = None; target = (tree.to (name (codes "x") 1 67)); stamp = None })) (at 1 62) (at 1 68) 4) ∷ []))) (at 1 46) (at 1 70) 3)) ∷ (tree.branch None (tree.statement (tree.transaction true (tree.statements ((tree.statement (tree.output (record { name = (id (codes "c") 1 81); time = None; value = (number 1 false 1 86); stamp = None })) (at 1 81) (at 1 87) 4) ∷ (tree.statement (tree.assign (name (codes "z") 1 89) 22 (at 1 91) (tree.value (binary 18 (number 1 false 1 93) (name (codes "z") 1 97) 1 95))) (at 1 89) (at 1 98) 6) ∷ []))) (at 1 72) (at 1 100) 3)) ∷ []))) (at 1 40) (at 1 102) 3)
+    ∷ (tree.statement (tree.return_with (Some (tree.value (number 0 false 1 111)))) (at 1 104) (at 1 112) 3)
+    ∷ []))) (at 1 16) (at 1 114) 2))
+    ∷ []
+
+-- two outputs to each other
+-- int main(void) { chan c; int x; int z; par { c <: 1; c <: 2; } return 0; }
+abbrev pub both_output : List tree.Item
+both_output =
+    (tree.function (record { result = (Some false); name = (id (codes "main") 1 5); params = ([]); own = 5 })
+    (tree.statement (tree.block (tree.statements (
+    (tree.statement (tree.declare ((record { kind = (tree.channel false); name = (id (codes "c") 1 23) }) ∷ [])) (at 1 18) (at 1 24) 3)
+    ∷ (tree.statement (tree.declare ((record { kind = (tree.word false None); name = (id (codes "x") 1 30) }) ∷ [])) (at 1 26) (at 1 31) 3)
+    ∷ (tree.statement (tree.declare ((record { kind = (tree.word false None); name = (id (codes "z") 1 37) }) ∷ [])) (at 1 33) (at 1 38) 3)
+    ∷ (tree.statement (tree.par (tree.branches ((tree.branch None (tree.statement (tree.output (record { name = (id (codes "c") 1 46); time = None; value = (number 1 false 1 51); stamp = None })) (at 1 46) (at 1 52) 4)) ∷ (tree.branch None (tree.statement (tree.output (record { name = (id (codes "c") 1 54); time = None; value = (number 2 false 1 59); stamp = None })) (at 1 54) (at 1 60) 4)) ∷ []))) (at 1 40) (at 1 62) 3)
+    ∷ (tree.statement (tree.return_with (Some (tree.value (number 0 false 1 71)))) (at 1 64) (at 1 72) 3)
+    ∷ []))) (at 1 16) (at 1 74) 2))
+    ∷ []
+
+-- a select, whose other side makes two branches: one offers, and the other errs
+-- int main(void) { chan c; int x; int z; par { select { case c :> x: break; } par { c <: 1; z = 1 / z; } } return 0; }
+abbrev pub child_errs : List tree.Item
+child_errs =
+    (tree.function (record { result = (Some false); name = (id (codes "main") 1 5); params = ([]); own = 5 })
+    (tree.statement (tree.block (tree.statements (
+    (tree.statement (tree.declare ((record { kind = (tree.channel false); name = (id (codes "c") 1 23) }) ∷ [])) (at 1 18) (at 1 24) 3)
+    ∷ (tree.statement (tree.declare ((record { kind = (tree.word false None); name = (id (codes "x") 1 30) }) ∷ [])) (at 1 26) (at 1 31) 3)
+    ∷ (tree.statement (tree.declare ((record { kind = (tree.word false None); name = (id (codes "z") 1 37) }) ∷ [])) (at 1 33) (at 1 38) 3)
+    ∷ (tree.statement (tree.par (tree.branches ((tree.branch None (tree.statement (tree.select (tree.cases ((tree.case (at 1 55) None (Some (record { name = (id (codes "c") 1 60); time = None; condition = None; target = (tree.to (name (codes "x") 1 65)); stamp = None })) (tree.statements ([]))) ∷ []))) (at 1 46) (at 1 75) 10)) ∷ (tree.branch None (tree.statement (tree.par (tree.branches ((tree.branch None (tree.statement (tree.output (record { name = (id (codes "c") 1 83); time = None; value = (number 1 false 1 88); stamp = None })) (at 1 83) (at 1 89) 4)) ∷ (tree.branch None (tree.statement (tree.assign (name (codes "z") 1 91) 22 (at 1 93) (tree.value (binary 18 (number 1 false 1 95) (name (codes "z") 1 99) 1 97))) (at 1 91) (at 1 100) 6)) ∷ []))) (at 1 77) (at 1 102) 3)) ∷ []))) (at 1 40) (at 1 104) 3)
+    ∷ (tree.statement (tree.return_with (Some (tree.value (number 0 false 1 113)))) (at 1 106) (at 1 114) 3)
+    ∷ []))) (at 1 16) (at 1 116) 2))
+    ∷ []
+
+-- declared words, one of which has a value
+-- int main(void) { int x = 1, y, z; return 0; }
+abbrev pub three_words : List tree.Item
+three_words =
+    (tree.function (record { result = (Some false); name = (id (codes "main") 1 5); params = ([]); own = 5 })
+    (tree.statement (tree.block (tree.statements (
+    (tree.statement (tree.declare ((record { kind = (tree.word false (Some (tree.value (number 1 false 1 26)))); name = (id (codes "x") 1 22) }) ∷ (record { kind = (tree.word false None); name = (id (codes "y") 1 29) }) ∷ (record { kind = (tree.word false None); name = (id (codes "z") 1 32) }) ∷ [])) (at 1 18) (at 1 33) 9)
+    ∷ (tree.statement (tree.return_with (Some (tree.value (number 0 false 1 42)))) (at 1 35) (at 1 43) 3)
+    ∷ []))) (at 1 16) (at 1 45) 2))
+    ∷ []
+
+-- an array in a case in a branch
+-- int main(void) { par { select { default: int a[9]; break; } ; } return 0; }
+abbrev pub held_array : List tree.Item
+held_array =
+    (tree.function (record { result = (Some false); name = (id (codes "main") 1 5); params = ([]); own = 5 })
+    (tree.statement (tree.block (tree.statements (
+    (tree.statement (tree.par (tree.branches ((tree.branch None (tree.statement (tree.select (tree.cases ((tree.case (at 1 33) None None (tree.statements ((tree.statement (tree.declare ((record { kind = (tree.array false 9 (at 1 48)); name = (id (codes "a") 1 46) }) ∷ [])) (at 1 42) (at 1 50) 6) ∷ []))) ∷ []))) (at 1 24) (at 1 59) 7)) ∷ (tree.branch None (tree.statement tree.empty (at 1 61) (at 1 61) 1)) ∷ []))) (at 1 18) (at 1 63) 3)
+    ∷ (tree.statement (tree.return_with (Some (tree.value (number 0 false 1 72)))) (at 1 65) (at 1 73) 3)
+    ∷ []))) (at 1 16) (at 1 75) 2))
+    ∷ []
+
+-- a loop whose test is its longest part
+-- int main(void) { int x; while (x + 1 < 3 - x) x++; return 0; }
+abbrev pub long_test : List tree.Item
+long_test =
+    (tree.function (record { result = (Some false); name = (id (codes "main") 1 5); params = ([]); own = 5 })
+    (tree.statement (tree.block (tree.statements (
+    (tree.statement (tree.declare ((record { kind = (tree.word false None); name = (id (codes "x") 1 22) }) ∷ [])) (at 1 18) (at 1 23) 3)
+    ∷ (tree.statement (tree.while_loop (binary 20 (binary 15 (name (codes "x") 1 32) (number 1 false 1 36) 1 34) (binary 16 (number 3 false 1 40) (name (codes "x") 1 44) 1 42) 1 38) (tree.statement (tree.step (name (codes "x") 1 47) 35) (at 1 47) (at 1 50) 3)) (at 1 25) (at 1 50) 10)
+    ∷ (tree.statement (tree.return_with (Some (tree.value (number 0 false 1 59)))) (at 1 52) (at 1 60) 3)
+    ∷ []))) (at 1 16) (at 1 62) 2))
+    ∷ []
+
+-- elements at elements
+-- int main(void) { int a[2]; a[a[0]] = a[a[1]]; return 0; }
+abbrev pub inner_elements : List tree.Item
+inner_elements =
+    (tree.function (record { result = (Some false); name = (id (codes "main") 1 5); params = ([]); own = 5 })
+    (tree.statement (tree.block (tree.statements (
+    (tree.statement (tree.declare ((record { kind = (tree.array false 2 (at 1 24)); name = (id (codes "a") 1 22) }) ∷ [])) (at 1 18) (at 1 26) 6)
+    ∷ (tree.statement (tree.assign (index (codes "a") (index (codes "a") (number 0 false 1 32) 1 30) 1 28) 22 (at 1 36) (tree.value (index (codes "a") (index (codes "a") (number 1 false 1 42) 1 40) 1 38))) (at 1 28) (at 1 45) 16)
+    ∷ (tree.statement (tree.return_with (Some (tree.value (number 0 false 1 54)))) (at 1 47) (at 1 55) 3)
+    ∷ []))) (at 1 16) (at 1 57) 2))
+    ∷ []

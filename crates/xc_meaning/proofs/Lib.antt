@@ -5,5 +5,9 @@ mod TextExamples
 mod CountExamples
 mod QuietExamples
 mod MixedExample
+mod FlowExamples
+mod BranchExamples
+mod TransferExamples
+mod LawExamples
 pub mod Simulation
 pub mod Recursion

@@ -8,38 +8,38 @@ use Rattle.xc_meaning.specs.States.Worlds.{Move, clock, take, default}
 use Rattle.xc_meaning.proofs.ExamplePrograms.{timed_output, hand_over, conditional_input, timer_case, guard_off, divided, out_of_range, word_too_many, two_cores}
 use Rattle.xc_meaning.proofs.Running.{no_stimulus, pulse, steps, wait, program_seen, going, finished}
 
--- the result, the body, its block; then the output, the `return`, the mark and the end
-timed : program_seen timed_output no_stimulus (steps 3 0 ++ wait 100 ++ steps 4 0) ≡ finished (PortOut 0 0 100 1 ∷ [])
+-- the result and the body; then the output, the `return`, the mark and the end
+timed : program_seen timed_output no_stimulus (steps 2 0 ++ wait 100 ++ steps 4 0) ≡ finished (PortOut 0 0 100 1 ∷ [])
 unfolding copy_of
 timed = refl
 
-timed_early : program_seen timed_output no_stimulus (steps 3 0 ++ wait 99 ++ steps 1 0) ≡ None
+timed_early : program_seen timed_output no_stimulus (steps 2 0 ++ wait 99 ++ steps 1 0) ≡ None
 unfolding copy_of
 timed_early = refl
 
 -- the input waits for its pins
-pulsed : program_seen conditional_input pulse (steps 5 0 ++ wait 500 ++ steps 6 0) ≡ finished (PortIn 0 1 500 1 ∷ [])
+pulsed : program_seen conditional_input pulse (steps 4 0 ++ wait 500 ++ steps 6 0) ≡ finished (PortIn 0 1 500 1 ∷ [])
 unfolding copy_of
 pulsed = refl
 
--- the result, the body, its block, two names and the `par`; the hand over; the timed output, the `return`, the mark and the end
+-- the result, the body, two names and the `par`; the hand over; the timed output, the `return`, the mark and the end
 abbrev handed : List Move
-handed = steps 6 0 ++ steps 1 1 ++ steps 1 2 ++ steps 2 1 ++ steps 2 2 ++ steps 1 0
+handed = steps 5 0 ++ steps 1 1 ++ steps 1 2 ++ steps 2 1 ++ steps 2 2 ++ steps 1 0
 
 handed_over : program_seen hand_over no_stimulus (handed ++ wait 30000 ++ steps 4 0) ≡ finished (Com 0 7 ∷ PortOut 0 22 30000 7 ∷ [])
 unfolding copy_of
 handed_over = refl
 
-handed_ahead : program_seen hand_over no_stimulus (steps 6 0 ++ steps 2 1) ≡ None
+handed_ahead : program_seen hand_over no_stimulus (steps 5 0 ++ steps 2 1) ≡ None
 unfolding copy_of
 handed_ahead = refl
 
--- each branch calls a function: the call, its parameter, its body, the block and the names; then the first turn
+-- each branch calls a function: the call, its parameter, its body and the names; then the first turn
 abbrev to_select : List Move
-to_select = steps 5 0 ++ steps 5 1 ++ steps 11 2
+to_select = steps 4 0 ++ steps 4 1 ++ steps 9 2
 
 abbrev by_timer : List Move
-by_timer = wait 2001 ++ take 2 1 ∷ [] ++ steps 2 2 ++ wait 2999 ++ steps 8 2
+by_timer = wait 2001 ++ take 2 1 ∷ [] ++ steps 2 2 ++ wait 2999 ++ steps 7 2
 
 abbrev by_channel : List Move
 by_channel = wait 4001 ++ steps 2 1 ++ take 2 0 ∷ [] ++ steps 10 2 ++ steps 3 1 ++ steps 4 0
@@ -52,29 +52,29 @@ timer_early : program_seen timer_case no_stimulus (to_select ++ wait 2000 ++ tak
 unfolding copy_of
 timer_early = refl
 
--- the result, the body, the block, two names and the assignment
-quotient : program_seen divided no_stimulus (steps 6 0) ≡ going (Fault 0 (at 3 9) Arithmetic ∷ [])
+-- the result, the body, two names and the assignment
+quotient : program_seen divided no_stimulus (steps 5 0) ≡ going (Fault 0 (at 3 9) Arithmetic ∷ [])
 unfolding copy_of
 quotient = refl
 
-quotient_on : program_seen divided no_stimulus (steps 7 0) ≡ None
+quotient_on : program_seen divided no_stimulus (steps 6 0) ≡ None
 unfolding copy_of
 quotient_on = refl
 
 -- the default, though the offer is there
-guarded : program_seen guard_off no_stimulus (steps 5 0 ++ steps 1 1 ++ steps 6 2 ++ default 2 ∷ [] ++ wait 5000 ++ steps 7 2 ++ steps 2 1 ++ steps 4 0)
+guarded : program_seen guard_off no_stimulus (steps 4 0 ++ steps 1 1 ++ steps 5 2 ++ default 2 ∷ [] ++ wait 5000 ++ steps 7 2 ++ steps 2 1 ++ steps 4 0)
     ≡ finished (PortOut 0 0 5000 1 ∷ Com 0 3 ∷ [])
 unfolding copy_of
 guarded = refl
 
 -- an index out of range; the other branch goes on
-index_error : program_seen out_of_range no_stimulus (steps 6 0 ++ steps 1 1 ++ wait 40000 ++ steps 2 2) ≡ going (Fault 0 (at 5 5) Index ∷ PortOut 0 0 40000 1 ∷ [])
+index_error : program_seen out_of_range no_stimulus (steps 5 0 ++ steps 1 1 ++ wait 40000 ++ steps 2 2) ≡ going (Fault 0 (at 5 5) Index ∷ PortOut 0 0 40000 1 ∷ [])
 unfolding copy_of
 index_error = refl
 
 -- both sides begin, and two words are put; a third one isn't put while two are unread
 abbrev two_words : List Move
-two_words = steps 5 0 ++ steps 5 1 ++ steps 6 2 ++ steps 3 1
+two_words = steps 4 0 ++ steps 4 1 ++ steps 5 2 ++ steps 3 1
 
 third_word : program_seen word_too_many no_stimulus (two_words ++ steps 1 1) ≡ None
 unfolding copy_of
@@ -86,6 +86,6 @@ unfolding copy_of
 too_many = refl
 
 -- roots on two cores: each calls a function
-apart : program_seen two_cores no_stimulus (steps 5 0 ++ steps 8 1 ++ replicate 700 (clock 1) ++ steps 3 1 ++ steps 3 0) ≡ finished (Com 1 20 ∷ PortOut 1 16 700 4 ∷ [])
+apart : program_seen two_cores no_stimulus (steps 4 0 ++ steps 7 1 ++ replicate 700 (clock 1) ++ steps 3 1 ++ steps 3 0) ≡ finished (Com 1 20 ∷ PortOut 1 16 700 4 ∷ [])
 unfolding copy_of
 apart = refl

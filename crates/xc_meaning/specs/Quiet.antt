@@ -12,7 +12,7 @@ use Rattle.xc_kernel.specs.Scopes.{Scope}
 use Rattle.xc_kernel.specs.Context.{Context}
 use Rattle.xc_kernel.specs.Transfers.{output_of, input_of}
 use Rattle.xc_meaning.specs.States.Channels.{Side, first, second, other_side}
-use Rattle.xc_meaning.specs.States.Items.{TextItem, statement, Choice, Item, does, says, awaits, closes, chooses}
+use Rattle.xc_meaning.specs.States.Items.{TextItem, statement, Choice, Item, does, says, awaits, transaction_end, chooses}
 use Rattle.xc_meaning.specs.States.Branches.{Mode, runs, has_erred, Branch, side_of}
 use Rattle.xc_meaning.specs.States.Worlds.{World, Move, clock, go, take, default}
 use Rattle.xc_meaning.specs.Texts.Copied.{channel_in}
@@ -53,7 +53,7 @@ abbrev pub channel_of_item : Store → Item → Option ℕ
 channel_of_item store (does s) = channel_of_statement store s
 channel_of_item store (says i) = channel_of_text store i
 channel_of_item store (awaits c pos) = Some c
-channel_of_item store (closes c is_master pos) = Some c
+channel_of_item store (transaction_end c is_master pos) = Some c
 channel_of_item store other = None
 
 abbrev pub channel_of_choice : Choice → Option ℕ

@@ -8,7 +8,7 @@ use Rattle.xc_kernel.specs.declared.kernel.Chan.{Chan}
 use Rattle.xc_kernel.specs.Plain as kernel
 use Rattle.xc_kernel.specs.Copies.{copy_of}
 use Rattle.xc_meaning.specs.States.Channels.{Side, Inboxes, no_parcels}
-use Rattle.xc_meaning.specs.States.Items.{Item, does, says, stores, mark, awaits, closes, chooses, fixed, ends}
+use Rattle.xc_meaning.specs.States.Items.{Item, does, says, stores, mark, awaits, transaction_end, chooses, fixed, ends}
 use Rattle.xc_meaning.specs.States.Branches.{Mode, runs, waits, ended, erred, Branch}
 use Rattle.xc_meaning.specs.States.Worlds.{World, Move, clock, go, take, default}
 use Rattle.xc_meaning.specs.Moves.Step.{Step, becomes, goes_on}
@@ -31,7 +31,7 @@ does_item s (says i) = says_item s i
 does_item s (stores place v) = stored s place v
 does_item s (mark n) = Some (goes_on s)
 does_item s (awaits c pos) = awaits_answer s c pos
-does_item s (closes c is_master pos) = transaction.closes s c is_master pos
+does_item s (transaction_end c is_master pos) = transaction.closes s c is_master pos
 does_item s (chooses choices otherwise) = None
 does_item s (fixed i v counter) = inputs_fixed s i v counter i.resource
 does_item s ends = Some (becomes s (record s.branch { mode = ended; items = [] }))

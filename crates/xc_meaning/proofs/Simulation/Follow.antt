@@ -5,7 +5,7 @@ use Rattle.xs_instr.specs.Machine.{and_then}
 use Rattle.xs_instr.specs.Slot.{last_clock}
 use Rattle.xc_kernel.specs.Plain as kernel
 use Rattle.xc_kernel.specs.Programs.{Function}
-use Rattle.xc_meaning.specs.States.Items.{Body, Choice, TextItem, Item, does, says, stores, mark, awaits, closes, chooses, fixed, ends}
+use Rattle.xc_meaning.specs.States.Items.{Body, Choice, TextItem, Item, does, says, stores, mark, awaits, transaction_end, chooses, fixed, ends}
 use Rattle.xc_meaning.specs.States.Branches.{Mode, runs, waits, ended, erred, Branch}
 use Rattle.xc_meaning.specs.States.Worlds.{World, Move, clock, go, take, default, only_if}
 use Rattle.xc_meaning.specs.Moves.Step.{Step, becomes, goes_to}
@@ -146,7 +146,7 @@ module _ (fs : List Function) (end : AllEnd fs) (K : kernel.Kernel) (stim : Stim
   IsNoChoice (stores place v) = Unit {0}
   IsNoChoice (mark n) = Unit {0}
   IsNoChoice (awaits c pos) = Unit {0}
-  IsNoChoice (closes c is_master pos) = Unit {0}
+  IsNoChoice (transaction_end c is_master pos) = Unit {0}
   IsNoChoice (chooses choices otherwise) = ⊥
   IsNoChoice (fixed i v counter) = Unit {0}
   IsNoChoice ends = Unit {0}
@@ -192,7 +192,7 @@ module _ (fs : List Function) (end : AllEnd fs) (K : kernel.Kernel) (stim : Stim
       by_item (stores place v) rest p em ei ek sound = stuck (stores place v) (kernel_items rest) em ek tt
       by_item (mark k) rest p em ei ek sound = stuck (mark k) (kernel_items rest) em ek tt
       by_item (awaits c pos) rest p em ei ek sound = stuck (awaits c pos) (kernel_items rest) em ek tt
-      by_item (closes c is_master pos) rest p em ei ek sound = stuck (closes c is_master pos) (kernel_items rest) em ek tt
+      by_item (transaction_end c is_master pos) rest p em ei ek sound = stuck (transaction_end c is_master pos) (kernel_items rest) em ek tt
       by_item (chooses cs d) rest p em ei ek sound = chosen cs d rest em ei ek sound
       by_item (fixed i v counter) rest p em ei ek sound = stuck (fixed i v counter) (kernel_items rest) em ek tt
       by_item ends rest p em ei ek sound = stuck ends (kernel_items rest) em ek tt
@@ -255,7 +255,7 @@ module _ (fs : List Function) (end : AllEnd fs) (K : kernel.Kernel) (stim : Stim
   no_case c s (stores place v) nc = refl
   no_case c s (mark n) nc = refl
   no_case c s (awaits d pos) nc = refl
-  no_case c s (closes d is_master pos) nc = refl
+  no_case c s (transaction_end d is_master pos) nc = refl
   no_case c s (chooses choices otherwise) nc = absurd nc
   no_case c s (fixed i v counter) nc = refl
   no_case c s ends nc = refl
@@ -266,7 +266,7 @@ module _ (fs : List Function) (end : AllEnd fs) (K : kernel.Kernel) (stim : Stim
   no_default s (stores place v) nc = refl
   no_default s (mark n) nc = refl
   no_default s (awaits d pos) nc = refl
-  no_default s (closes d is_master pos) nc = refl
+  no_default s (transaction_end d is_master pos) nc = refl
   no_default s (chooses choices otherwise) nc = absurd nc
   no_default s (fixed i v counter) nc = refl
   no_default s ends nc = refl

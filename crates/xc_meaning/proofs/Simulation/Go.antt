@@ -8,7 +8,7 @@ use Rattle.xc_kernel.specs.Programs.{Function}
 use Rattle.xc_kernel.specs.Context.{Context, leave, word_at}
 use Rattle.xc_kernel.specs.Values.{Value, word, error, is_true}
 use Rattle.xc_kernel.specs.Eval.{eval}
-use Rattle.xc_meaning.specs.States.Items.{Loop, TextItem, again_do, Item, does, says, stores, mark, awaits, closes, chooses, fixed, ends}
+use Rattle.xc_meaning.specs.States.Items.{Loop, TextItem, again_do, Item, does, says, stores, mark, awaits, transaction_end, chooses, fixed, ends}
 use Rattle.xc_meaning.specs.States.Branches.{runs, ended, Branch}
 use Rattle.xc_meaning.specs.States.Worlds.{World, Move, go, with_word}
 use Rattle.xc_meaning.specs.Moves.Step.{Step, goes_to, kind_of, with_value}
@@ -69,7 +69,7 @@ module _ (fs : List Function) where
   sound_behind (stores place v) rest h = h
   sound_behind (mark n) rest h = h
   sound_behind (awaits c pos) rest h = h
-  sound_behind (closes c is_master pos) rest h = h
+  sound_behind (transaction_end c is_master pos) rest h = h
   sound_behind (chooses choices otherwise) rest h = h.2
   sound_behind (fixed i v counter) rest h = h
   sound_behind ends rest h = h
@@ -80,7 +80,7 @@ module _ (fs : List Function) where
   keeps_plain s h (stores place v) p = keeps_stored fs s h place v
   keeps_plain s h (mark n) p = keeps_goes fs s s.rest h
   keeps_plain s h (awaits c pos) p = keeps_awaits fs s h c pos
-  keeps_plain s h (closes c is_master pos) p = keeps_closes fs s h c is_master pos
+  keeps_plain s h (transaction_end c is_master pos) p = keeps_closes fs s h c is_master pos
   keeps_plain s h (chooses choices otherwise) p = tt
   keeps_plain s h (fixed input v counter) p = keeps_fixed fs s h input v counter input.resource
   keeps_plain s h ends p = keeps_becomes fs s (record s.branch { mode = ended; items = [] }) tt

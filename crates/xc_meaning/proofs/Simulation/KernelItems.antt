@@ -14,10 +14,10 @@ use Rattle.xc_kernel.specs.Calls.{body_copy}
 use Rattle.xc_kernel.specs.Declarations.{declaration_copy, declarations_copy}
 use Rattle.xc_kernel.specs.Flow.{turn, leave_unless}
 use Rattle.xc_kernel.specs.Statements.{statement_copy, maybe_copy, statements_copy}
-use Rattle.xc_meaning.specs.States.Items.{Loop, TextItem, statement, name, bound, body, first_test, again, again_do, returned, Body, of_kernel, of_text, Choice, Item, does, says, stores, mark, awaits, closes, chooses, fixed, ends, todo, body_items}
+use Rattle.xc_meaning.specs.States.Items.{Loop, TextItem, statement, name, bound, body, first_test, again, again_do, returned, Body, of_kernel, of_text, Choice, Item, does, says, stores, mark, awaits, transaction_end, chooses, fixed, ends, todo, body_items}
 use Rattle.xc_meaning.specs.Moves.Flow.{from_mark_by, items_from_mark}
 use Rattle.xc_meaning.specs.Texts.Copied.{calls_in, behind, behind_name, code_in}
-use Rattle.xc_meaning.specs.Texts.Items.{name_items, statement_items, maybe_items, statements_items, only, body_item}
+use Rattle.xc_meaning.specs.Texts.Items.{name_items, statement_items, maybe_items, statements_items, only, as_body, body_item}
 use Rattle.xc_meaning.specs.Texts.Calls.{passing_items, parameter_items, call_items}
 use Rattle.xc_meaning.specs.Texts.Loops.{turn_context, test_in}
 
@@ -65,7 +65,7 @@ kernel_items (says i ∷ rest) = todo (code_of_item i) (kernel_items rest)
 kernel_items (stores place v ∷ rest) = stores place v ∷ kernel_items rest
 kernel_items (mark n ∷ rest) = mark n ∷ kernel_items rest
 kernel_items (awaits c pos ∷ rest) = awaits c pos ∷ kernel_items rest
-kernel_items (closes c is_master pos ∷ rest) = closes c is_master pos ∷ kernel_items rest
+kernel_items (transaction_end c is_master pos ∷ rest) = transaction_end c is_master pos ∷ kernel_items rest
 kernel_items (chooses choices otherwise ∷ rest) = chooses (map kernel_choice choices) (option_map kernel_body otherwise) ∷ kernel_items rest
 kernel_items (fixed i v counter ∷ rest) = fixed i v counter ∷ kernel_items rest
 kernel_items (ends ∷ rest) = ends ∷ kernel_items rest
@@ -127,9 +127,34 @@ of_statements (tree.more s ss) c scope rest =
     ∙ ap (todo (code_in s c scope)) (of_statements ss c (behind s c scope) rest)
     ∙ sym (todo_all (statement_copy (calls_in c) s c scope).code (statements_copy (calls_in c) ss c (behind s c scope)).code (kernel_items rest))
 
--- a single statement as a body
-pub of_only : (block : Path) (s : tree.Statement) (c : Context) (scope : Scope) → code_of_item (body block (only s) c scope) ≡ kernel.statements (block_at c block (statement_copy (calls_in c) s c scope).code ∷ [])
+-- a statement as a body: alone, or what a block holds
+
+of_only : (block : Path) (s : tree.Statement) (c : Context) (scope : Scope) → code_of_item (body block (only s) c scope) ≡ kernel.statements (block_at c block (statement_copy (calls_in c) s c scope).code ∷ [])
 of_only block s c scope = λ i. kernel.statements (block_at c block (append-nil (statement_copy (calls_in c) s c scope).code i) ∷ [])
+
+of_action_body : (block : Path) (a : tree.Action) (pos close : Pos) (own : ℕ) (c : Context) (scope : Scope) → code_of_item (body block (as_body (tree.statement a pos close own)) c scope) ≡ kernel.statements (block_at c block (statement_copy (calls_in c) (tree.statement a pos close own) c scope).code ∷ [])
+of_action_body block (tree.block ss) pos close own c scope = refl
+of_action_body block tree.empty pos close own c scope = of_only block (tree.statement tree.empty pos close own) c scope
+of_action_body block (tree.declare ds) pos close own c scope = of_only block (tree.statement (tree.declare ds) pos close own) c scope
+of_action_body block (tree.assign to symbol sign r) pos close own c scope = of_only block (tree.statement (tree.assign to symbol sign r) pos close own) c scope
+of_action_body block (tree.step to symbol) pos close own c scope = of_only block (tree.statement (tree.step to symbol) pos close own) c scope
+of_action_body block (tree.perform r) pos close own c scope = of_only block (tree.statement (tree.perform r) pos close own) c scope
+of_action_body block (tree.output o) pos close own c scope = of_only block (tree.statement (tree.output o) pos close own) c scope
+of_action_body block (tree.input i) pos close own c scope = of_only block (tree.statement (tree.input i) pos close own) c scope
+of_action_body block (tree.if_then test a b) pos close own c scope = of_only block (tree.statement (tree.if_then test a b) pos close own) c scope
+of_action_body block (tree.while_loop test a) pos close own c scope = of_only block (tree.statement (tree.while_loop test a) pos close own) c scope
+of_action_body block (tree.do_while a test) pos close own c scope = of_only block (tree.statement (tree.do_while a test) pos close own) c scope
+of_action_body block (tree.for_loop first test next a) pos close own c scope = of_only block (tree.statement (tree.for_loop first test next a) pos close own) c scope
+of_action_body block (tree.return_with r) pos close own c scope = of_only block (tree.statement (tree.return_with r) pos close own) c scope
+of_action_body block tree.break_out pos close own c scope = of_only block (tree.statement tree.break_out pos close own) c scope
+of_action_body block tree.continue_on pos close own c scope = of_only block (tree.statement tree.continue_on pos close own) c scope
+of_action_body block (tree.par bs) pos close own c scope = of_only block (tree.statement (tree.par bs) pos close own) c scope
+of_action_body block (tree.replicated first second third from until b) pos close own c scope = of_only block (tree.statement (tree.replicated first second third from until b) pos close own) c scope
+of_action_body block (tree.select cs) pos close own c scope = of_only block (tree.statement (tree.select cs) pos close own) c scope
+of_action_body block (tree.transaction is_master ss) pos close own c scope = of_only block (tree.statement (tree.transaction is_master ss) pos close own) c scope
+
+pub of_statement_body : (block : Path) (s : tree.Statement) (c : Context) (scope : Scope) → code_of_item (body block (as_body s) c scope) ≡ kernel.statements (block_at c block (statement_copy (calls_in c) s c scope).code ∷ [])
+of_statement_body block (tree.statement a pos close own) c scope = of_action_body block a pos close own c scope
 
 -- Parameters and calls.
 
@@ -156,7 +181,7 @@ pub of_call : (c : Context) (scope : Scope) (own : Path) (f : Function) (args : 
 of_call c scope own f args rest =
     let made : Copy = all_passed c scope own f.head.params args in
     of_parameters c scope own f.head.params args (body_item own f.body (in_function c own f) made.scope ∷ rest)
-    ∙ ap (λ code. todo (code_of made) (todo code (kernel_items rest))) (of_only own f.body (in_function c own f) made.scope)
+    ∙ ap (λ code. todo (code_of made) (todo code (kernel_items rest))) (of_statement_body own f.body (in_function c own f) made.scope)
     ∙ sym (todo_all made.code (body_copy (statement_copy (calls_in c)) c own f made.scope).code (kernel_items rest))
 
 -- Marks.
@@ -176,7 +201,7 @@ of_mark n (says i ∷ rest) = no_mark_in n (code_of_item i) (kernel_items rest) 
 of_mark n (stores place v ∷ rest) = of_mark n rest
 of_mark n (mark m ∷ rest) = of_mark_by (nat_eq n m) m rest (items_from_mark n (kernel_items rest)) (items_from_mark n rest) (of_mark n rest)
 of_mark n (awaits c pos ∷ rest) = of_mark n rest
-of_mark n (closes c is_master pos ∷ rest) = of_mark n rest
+of_mark n (transaction_end c is_master pos ∷ rest) = of_mark n rest
 of_mark n (chooses choices otherwise ∷ rest) = of_mark n rest
 of_mark n (fixed i v counter ∷ rest) = of_mark n rest
 of_mark n (ends ∷ rest) = of_mark n rest

@@ -2,7 +2,7 @@
 use Rattle.std.proofs.Common.{◌≡◌, List, [], ◌∷◌, map, Some, option_map, refl, sym, ◌∙◌, ap, ap₂}
 use Rattle.xc_kernel.specs.Plain as kernel
 use Rattle.xc_kernel.specs.Eval.{Store}
-use Rattle.xc_meaning.specs.States.Items.{of_kernel, Item, does, says, stores, mark, awaits, closes, chooses, fixed, ends, todo}
+use Rattle.xc_meaning.specs.States.Items.{of_kernel, Item, does, says, stores, mark, awaits, transaction_end, chooses, fixed, ends, todo}
 use Rattle.xc_meaning.specs.States.Branches.{ended}
 use Rattle.xc_meaning.specs.Moves.Step.{Step}
 use Rattle.xc_meaning.specs.Moves.Par.{all_begun, makes}
@@ -51,7 +51,7 @@ module _ (os : Ahead) (items : List Item) (s : Step) (fits : Fits os s) where
       ∙ begins_alike os items s (default_of otherwise) (enabled s.world.store cases)
   statement_alike (kernel.par bs) = ap (makes step) (begun_same bs) ∙ makes_alike os items s (all_begun bs) fits
   statement_alike (kernel.transaction c is_master ss start close) =
-      opens_alike os items s c is_master _ (todo ss (closes c is_master close ∷ s.rest)) start (of_todo ss (closes c is_master close ∷ s.rest))
+      opens_alike os items s c is_master _ (todo ss (transaction_end c is_master close ∷ s.rest)) start (of_todo ss (transaction_end c is_master close ∷ s.rest))
 
 -- the kernel's item of one that is no text's
 abbrev pub kernel_item : Item → Item
@@ -60,7 +60,7 @@ kernel_item (says i) = says i
 kernel_item (stores place v) = stores place v
 kernel_item (mark n) = mark n
 kernel_item (awaits c pos) = awaits c pos
-kernel_item (closes c is_master pos) = closes c is_master pos
+kernel_item (transaction_end c is_master pos) = transaction_end c is_master pos
 kernel_item (chooses choices otherwise) = chooses (map kernel_choice choices) (option_map kernel_body otherwise)
 kernel_item (fixed i v counter) = fixed i v counter
 kernel_item ends = ends
@@ -71,7 +71,7 @@ plain_items (says i) rest p = absurd p
 plain_items (stores place v) rest p = refl
 plain_items (mark n) rest p = refl
 plain_items (awaits c pos) rest p = refl
-plain_items (closes c is_master pos) rest p = refl
+plain_items (transaction_end c is_master pos) rest p = refl
 plain_items (chooses choices otherwise) rest p = refl
 plain_items (fixed i v counter) rest p = refl
 plain_items ends rest p = refl
@@ -82,7 +82,7 @@ plain_alike os items s fits (says i) p = absurd p
 plain_alike os items s fits (stores place v) p = stored_alike os items s place v
 plain_alike os items s fits (mark n) p = λ i. Some (goes_on_alike os items s i)
 plain_alike os items s fits (awaits c pos) p = awaits_alike os items s c pos
-plain_alike os items s fits (closes c is_master pos) p = closes_alike os items s c is_master pos
+plain_alike os items s fits (transaction_end c is_master pos) p = closes_alike os items s c is_master pos
 plain_alike os items s fits (chooses choices otherwise) p = refl
 plain_alike os items s fits (fixed input v counter) p = inputs_fixed_alike os items s input v counter input.resource
 plain_alike os items s fits ends p = λ i. Some (becomes_alike os items s (record s.branch { mode = ended; items = [] }) i)

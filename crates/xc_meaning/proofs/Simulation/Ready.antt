@@ -19,7 +19,7 @@ use Rattle.xc_kernel.specs.Calls.{called, call_copy, result_copy, path_of_call, 
 use Rattle.xc_kernel.specs.Transfers.{output_of, input_of}
 use Rattle.xc_kernel.specs.Flow.{numbered_copy, replicated}
 use Rattle.xc_kernel.specs.Statements.{pos_of_branch, assign_by, branch_copy, branches_copy, cases_copy, maybe_copy, statements_copy}
-use Rattle.xc_meaning.specs.States.Items.{Loop, TextItem, statement, name, bound, body, first_test, again_do, returned, Item, does, says, stores, mark, awaits, closes, chooses, fixed, ends, todo}
+use Rattle.xc_meaning.specs.States.Items.{Loop, TextItem, statement, name, bound, body, first_test, again_do, returned, Item, does, says, stores, mark, awaits, transaction_end, chooses, fixed, ends, todo}
 use Rattle.xc_meaning.specs.States.Worlds.{World, with_zeros}
 use Rattle.xc_meaning.specs.Moves.Step.{Step, goes_to}
 use Rattle.xc_meaning.specs.Moves.Par.{makes}
@@ -79,7 +79,7 @@ IsPlain (says i) = ⊥
 IsPlain (stores place v) = Unit {0}
 IsPlain (mark n) = Unit {0}
 IsPlain (awaits c pos) = Unit {0}
-IsPlain (closes c is_master pos) = Unit {0}
+IsPlain (transaction_end c is_master pos) = Unit {0}
 IsPlain (chooses choices otherwise) = Unit {0}
 IsPlain (fixed i v counter) = Unit {0}
 IsPlain ends = Unit {0}
@@ -296,8 +296,8 @@ module _ (fs : List Function) (end : AllEnd fs) where
         settled _ rest (same (kernel.transaction (channel_in ss c scope) is_master (code_of (statements_copy (calls_in c) ss c scope)) pos close) (kernel_items rest) refl
         (record {
           step = λ os items s fits. opens_alike os items (with_rest s rest) (channel_in ss c scope) is_master _
-              (statements_items ss c scope (closes (channel_in ss c scope) is_master close ∷ rest)) pos
-              (of_statements ss c scope (closes (channel_in ss c scope) is_master close ∷ rest));
+              (statements_items ss c scope (transaction_end (channel_in ss c scope) is_master close ∷ rest)) pos
+              (of_statements ss c scope (transaction_end (channel_in ss c scope) is_master close ∷ rest));
         }))
 
     pub settle_statement : (t : tree.Statement) (c : Context) (scope : Scope) (rest : List Item) → c.functions ≡ fs → Settles rest → Settles (statement_items t c scope rest)

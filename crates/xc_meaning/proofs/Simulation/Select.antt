@@ -15,7 +15,7 @@ use Rattle.xc_meaning.specs.States.Items.{Body, Choice, Item, does, chooses, fix
 use Rattle.xc_meaning.specs.States.Worlds.{World}
 use Rattle.xc_meaning.specs.Moves.Step.{Step, goes_to, kind_of}
 use Rattle.xc_meaning.specs.Moves.Time.{Timing, passes, fails, timing, clock_of, counter_of, pins_of}
-use Rattle.xc_meaning.specs.Moves.Select.{Enabled, these, wrong, same_resource, kept, elsewhere, before_others, timed_case, case_by, guarded_case, guard_value, and_case, enabled, default_of, begins_select, is_ready, resource_is_ready, none_ready, input_taken, takes_case, takes, takes_default}
+use Rattle.xc_meaning.specs.Moves.Select.{Enabled, these, wrong, same_resource, unless_same, elsewhere, before_others, timed_case, case_by, guarded_case, guard_value, and_case, enabled, default_of, begins_select, is_ready, resource_is_ready, none_ready, input_taken, takes_case, takes, takes_default}
 use Rattle.xc_meaning.specs.Texts.Copied.{calls_in}
 use Rattle.xc_meaning.specs.Texts.Select.{case_body, text_enabled, text_default}
 use Rattle.xc_meaning.proofs.Simulation.KernelItems.{kernel_body, kernel_choice, kernel_items, of_body}
@@ -28,13 +28,13 @@ abbrev pub kernel_enabled : Enabled → Enabled
 kernel_enabled (these choices) = these (map kernel_choice choices)
 kernel_enabled (wrong kind pos) = wrong kind pos
 
-kept_alike : (b : Bool) (c : Choice) (others : List Choice) {others' : List Choice} → others' ≡ map kernel_choice others → kept b (kernel_choice c) others' ≡ map kernel_choice (kept b c others)
-kept_alike true c others e = e
-kept_alike false c others e = λ i. kernel_choice c ∷ e i
+unless_same_alike : (b : Bool) (c : Choice) (others : List Choice) {others' : List Choice} → others' ≡ map kernel_choice others → unless_same b (kernel_choice c) others' ≡ map kernel_choice (unless_same b c others)
+unless_same_alike true c others e = e
+unless_same_alike false c others e = λ i. kernel_choice c ∷ e i
 
 elsewhere_alike : (r : KRes) (choices : List Choice) → elsewhere r (map kernel_choice choices) ≡ map kernel_choice (elsewhere r choices)
 elsewhere_alike r [] = refl
-elsewhere_alike r (c ∷ cs) = kept_alike (same_resource r c.input.resource) c (elsewhere r cs) (elsewhere_alike r cs)
+elsewhere_alike r (c ∷ cs) = unless_same_alike (same_resource r c.input.resource) c (elsewhere r cs) (elsewhere_alike r cs)
 
 before_alike : (c : Choice) (others : Enabled) → before_others (kernel_choice c) (kernel_enabled others) ≡ kernel_enabled (before_others c others)
 before_alike c (these cs) = λ i. these (kernel_choice c ∷ elsewhere_alike c.input.resource cs i)

@@ -3,11 +3,11 @@ use Rattle.std.proofs.Common.{◌≡◌, List, [], ◌∷◌, refl, ◌∙◌, a
 use Rattle.xc_tree.specs.Plain as tree
 use Rattle.xc_kernel.specs.Programs.{Function}
 use Rattle.xc_kernel.specs.Flow.{turn}
-use Rattle.xc_meaning.specs.States.Items.{Loop, TextItem, statement, name, bound, body, first_test, again, again_do, returned, Item, does, says, stores, mark, awaits, closes, chooses, fixed, ends, todo}
+use Rattle.xc_meaning.specs.States.Items.{Loop, TextItem, statement, name, bound, body, first_test, again, again_do, returned, Item, does, says, stores, mark, awaits, transaction_end, chooses, fixed, ends, todo}
 use Rattle.xc_meaning.specs.Texts.Items.{maybe_items}
 use Rattle.xc_meaning.specs.Texts.Loops.{turn_context, test_in, turn_item, turn_items}
 use Rattle.xc_kernel.specs.Paths.{path_of_turn}
-use Rattle.xc_meaning.proofs.Simulation.KernelItems.{loop_path, loop_body, loop_of, kernel_items, of_maybe, of_only}
+use Rattle.xc_meaning.proofs.Simulation.KernelItems.{loop_path, loop_body, loop_of, kernel_items, of_maybe, of_statement_body}
 use Rattle.xc_meaning.proofs.Simulation.Alike.{tests_alike}
 use Rattle.xc_meaning.proofs.Simulation.Calls.{AllEnd}
 use Rattle.xc_meaning.proofs.Simulation.Ready.{with_rest, same, loops, repeats, returns_it, nothing, Settles, settled, settled_plain, settles_by, body_meets, settle_name, settle_action}
@@ -15,7 +15,7 @@ use Rattle.xc_meaning.proofs.Simulation.Sound.{SoundItem, SoundItems}
 
 -- a turn of a kernel's loop is what a turn of the text's stands for
 pub of_turn_item : (l : Loop) (rest : List Item) → kernel_items (turn_item l ∷ rest) ≡ todo (turn l.context (loop_path l) (loop_body l).code []) (kernel_items rest)
-of_turn_item l rest = ap (λ code. todo code (kernel_items rest)) (of_only (path_of_turn (loop_path l)) l.body (turn_context l) l.scope)
+of_turn_item l rest = ap (λ code. todo code (kernel_items rest)) (of_statement_body (path_of_turn (loop_path l)) l.body (turn_context l) l.scope)
 
 pub of_turn : (l : Loop) (rest : List Item) → kernel_items (turn_items l rest) ≡ todo (turn l.context (loop_path l) (loop_body l).code []) (todo (Rattle.xc_kernel.specs.Copy.code_of (Rattle.xc_kernel.specs.Statements.maybe_copy (Rattle.xc_meaning.specs.Texts.Copied.calls_in l.context) l.next l.context l.scope)) (does (loop_of l) ∷ kernel_items rest))
 of_turn l rest =
@@ -42,7 +42,7 @@ module _ (fs : List Function) (end : AllEnd fs) where
   settle_items (stores place v ∷ rest) h = settled_plain (stores place v) rest tt
   settle_items (mark n ∷ rest) h = settled_plain (mark n) rest tt
   settle_items (awaits c pos ∷ rest) h = settled_plain (awaits c pos) rest tt
-  settle_items (closes c is_master pos ∷ rest) h = settled_plain (closes c is_master pos) rest tt
+  settle_items (transaction_end c is_master pos ∷ rest) h = settled_plain (transaction_end c is_master pos) rest tt
   settle_items (chooses choices otherwise ∷ rest) h = settled_plain (chooses choices otherwise) rest tt
   settle_items (fixed i v counter ∷ rest) h = settled_plain (fixed i v counter) rest tt
   settle_items (ends ∷ rest) h = settled_plain ends rest tt

@@ -23,7 +23,7 @@ use Rattle.xc_kernel.specs.Values.{Value, word, error, is_true, tested}
 use Rattle.xc_kernel.specs.Eval.{Store, eval, words_of}
 use Rattle.xc_meaning.specs.States.Channels.{Parcel, offer, opening, closing, taken, Side}
 use Rattle.xc_meaning.specs.States.Channels as channel
-use Rattle.xc_meaning.specs.States.Items.{Loop, TextItem, statement, name, bound, body, first_test, again, again_do, returned, When, Body, of_kernel, of_text, Choice, Item, does, says, stores, mark, awaits, closes, chooses, fixed, ends, todo, body_items, storing}
+use Rattle.xc_meaning.specs.States.Items.{Loop, TextItem, statement, name, bound, body, first_test, again, again_do, returned, When, Body, of_kernel, of_text, Choice, Item, does, says, stores, mark, awaits, transaction_end, chooses, fixed, ends, todo, body_items, storing}
 use Rattle.xc_meaning.specs.States.Branches.{Branch, waits, side_of}
 use Rattle.xc_meaning.specs.States.Worlds.{World, only_if}
 use Rattle.xc_meaning.specs.Moves.Step.{Step, becomes, goes_to, errs, kind_of, with_value}
@@ -34,7 +34,7 @@ use Rattle.xc_meaning.specs.Moves.Channels.{Manner, plain, inside, manner_of, pa
 use Rattle.xc_meaning.specs.Moves.Transactions as transaction
 use Rattle.xc_meaning.specs.Moves.Time.{Timing, passes, fails, timing, with_timing, port_may_pass, timer_may_pass, counter_of}
 use Rattle.xc_meaning.specs.Moves.Transfers.{outputs_to, inputs_from, inputs_fixed}
-use Rattle.xc_meaning.specs.Moves.Select.{Enabled, these, wrong, kept, elsewhere, same_resource, before_others, timed_case, case_by, guarded_case, guard_value, and_case, enabled, default_of, begins_select, is_ready, none_ready, input_taken, takes_case, takes, takes_default}
+use Rattle.xc_meaning.specs.Moves.Select.{Enabled, these, wrong, unless_same, elsewhere, same_resource, before_others, timed_case, case_by, guarded_case, guard_value, and_case, enabled, default_of, begins_select, is_ready, none_ready, input_taken, takes_case, takes, takes_default}
 use Rattle.xc_meaning.specs.Moves.Kernel.{does_statement}
 use Rattle.xc_meaning.specs.Texts.Copied.{behind, behind_name, behind_branch, block_in}
 use Rattle.xc_meaning.specs.Texts.Items.{name_items, statement_items, maybe_items, statements_items}
@@ -85,7 +85,7 @@ module _ (fs : List Function) where
   SoundItems (stores place v ∷ rest) = SoundItems rest
   SoundItems (mark n ∷ rest) = SoundItems rest
   SoundItems (awaits c pos ∷ rest) = SoundItems rest
-  SoundItems (closes c is_master pos ∷ rest) = SoundItems rest
+  SoundItems (transaction_end c is_master pos ∷ rest) = SoundItems rest
   SoundItems (chooses choices otherwise ∷ rest) = SoundChoices choices × SoundDefault otherwise × SoundItems rest
   SoundItems (fixed i v counter ∷ rest) = SoundItems rest
   SoundItems (ends ∷ rest) = SoundItems rest
@@ -153,7 +153,7 @@ module _ (fs : List Function) where
   sound_from_mark n (stores place v ∷ rest) h = sound_from_mark n rest h
   sound_from_mark n (mark m ∷ rest) h = sound_by (nat_eq n m) (mark m ∷ rest) (items_from_mark n rest) h (sound_from_mark n rest h)
   sound_from_mark n (awaits c pos ∷ rest) h = sound_from_mark n rest h
-  sound_from_mark n (closes c is_master pos ∷ rest) h = sound_from_mark n rest h
+  sound_from_mark n (transaction_end c is_master pos ∷ rest) h = sound_from_mark n rest h
   sound_from_mark n (chooses choices otherwise ∷ rest) h = sound_from_mark n rest h.2
   sound_from_mark n (fixed i v counter ∷ rest) h = sound_from_mark n rest h
   sound_from_mark n (ends ∷ rest) h = sound_from_mark n rest h
@@ -364,13 +364,13 @@ module _ (fs : List Function) where
     keeps_default choices None h = tt
     keeps_default choices (Some b) h = keeps_if s (none_ready s choices) _ (keeps_goes s (body_items b s.rest) (sound_body b s.rest h hr))
 
-  sound_kept : (b : Bool) (c : Choice) (cs : List Choice) → SoundBody c.body → SoundChoices cs → SoundChoices (kept b c cs)
-  sound_kept true c cs h hs = hs
-  sound_kept false c cs h hs = (h, hs)
+  sound_unless_same : (b : Bool) (c : Choice) (cs : List Choice) → SoundBody c.body → SoundChoices cs → SoundChoices (unless_same b c cs)
+  sound_unless_same true c cs h hs = hs
+  sound_unless_same false c cs h hs = (h, hs)
 
   sound_elsewhere : (r : KRes) (cs : List Choice) → SoundChoices cs → SoundChoices (elsewhere r cs)
   sound_elsewhere r [] h = tt
-  sound_elsewhere r (c ∷ cs) h = sound_kept (same_resource r c.input.resource) c (elsewhere r cs) h.0 (sound_elsewhere r cs h.1)
+  sound_elsewhere r (c ∷ cs) h = sound_unless_same (same_resource r c.input.resource) c (elsewhere r cs) h.0 (sound_elsewhere r cs h.1)
 
   sound_before : (c : Choice) (others : Enabled) → SoundBody c.body → SoundEnabled others → SoundEnabled (before_others c others)
   sound_before c (these cs) h hs = (h, sound_elsewhere c.input.resource cs hs)
@@ -442,7 +442,7 @@ module _ (fs : List Function) where
     keeps_statement (kernel.exit n) = keeps_leaves s hr n
     keeps_statement (kernel.select cases otherwise pos) = keeps_begins s hr _ _ (sound_default otherwise) (sound_enabled s.world.store cases)
     keeps_statement (kernel.par bs) = keeps_makes s (all_begun bs) hr (sound_all_begun bs)
-    keeps_statement (kernel.transaction c is_master ss start close) = keeps_opens s hr c is_master _ start (sound_todo ss (closes c is_master close ∷ s.rest) hr)
+    keeps_statement (kernel.transaction c is_master ss start close) = keeps_opens s hr c is_master _ start (sound_todo ss (transaction_end c is_master close ∷ s.rest) hr)
 
     keeps_result : (r : Option Bool) (x : World) (variable : ℕ) → Kept s x → Kept s (with_result r x variable)
     keeps_result None x variable h = h

@@ -24,7 +24,7 @@ use Rattle.xc_meaning.specs.Texts.Copied.{calls_in}
 use Rattle.xc_meaning.specs.Texts.Items.{body_item}
 use Rattle.xc_meaning.specs.Texts.Roots.{Root, branch_root, behind_root, branch_roots, numbered_roots, action_roots, behind_action, block_roots, main_begun, roots_by, roots_of, program_roots}
 use Rattle.xc_meaning.specs.Runs.{codes_of_roots, root_branch, root_branches, no_side, kernel_root, kernel_start, program_start}
-use Rattle.xc_meaning.proofs.Simulation.KernelItems.{kernel_items, todo_all, of_todo, of_only}
+use Rattle.xc_meaning.proofs.Simulation.KernelItems.{kernel_items, todo_all, of_todo, of_statement_body}
 use Rattle.xc_meaning.proofs.Simulation.Mixed.{mixed_branches, even}
 use Rattle.xc_meaning.proofs.Simulation.Par.{even_begun, statement_alike}
 use Rattle.xc_meaning.proofs.Simulation.Sound.{SoundItems, SoundBranches, sound_statement, sound_todo}
@@ -102,7 +102,7 @@ main_alike f c =
     let block : kernel.Statement = block_at c [] (statement_copy (calls_in c) f.body (in_function c [] f) c.ports).code in
     let e : todo (code_of (function_copy (statement_copy (calls_in c)) c c.ports [] f [])) (ends ∷ []) ≡ kernel_items (todo (kernel.statements result) (body_item [] f.body (in_function c [] f) c.ports ∷ ends ∷ [])) =
     ap (λ code. todo code (ends ∷ [])) (main_code f c) ∙ todo_all result (block ∷ []) (ends ∷ [])
-    ∙ ap (λ code. todo (kernel.statements result) (todo code (ends ∷ []))) (sym (of_only [] f.body (in_function c [] f) c.ports))
+    ∙ ap (λ code. todo (kernel.statements result) (todo code (ends ∷ []))) (sym (of_statement_body [] f.body (in_function c [] f) c.ports))
     ∙ sym (of_todo (kernel.statements result) (body_item [] f.body (in_function c [] f) c.ports ∷ ends ∷ [])) in
     λ i. record { items = e i; code = code_of (function_copy (statement_copy (calls_in c)) c c.ports [] f []) }
 

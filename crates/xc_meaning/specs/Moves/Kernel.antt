@@ -1,7 +1,7 @@
 -- The step of a kernel's statement.
 use Rattle.std.specs.Prelude.{◌∷◌, Option, Some}
 use Rattle.xc_kernel.specs.Plain as kernel
-use Rattle.xc_meaning.specs.States.Items.{mark, closes, todo}
+use Rattle.xc_meaning.specs.States.Items.{mark, transaction_end, todo}
 use Rattle.xc_meaning.specs.States.Worlds.{World}
 use Rattle.xc_meaning.specs.Moves.Step.{Step, goes_to}
 use Rattle.xc_meaning.specs.Moves.Stores.{assigned, zeroed}
@@ -23,4 +23,4 @@ does_statement s (kernel.exit n) = leaves s n
 does_statement s (kernel.select cases otherwise pos) = begins_select s (default_of otherwise) (enabled s.world.store cases)
 does_statement s (kernel.par bs) = makes s (all_begun bs)
 does_statement s (kernel.transaction c is_master ss start close) =
-    opens s c is_master (todo ss (closes c is_master close ∷ s.rest)) start
+    opens s c is_master (todo ss (transaction_end c is_master close ∷ s.rest)) start

@@ -27,14 +27,14 @@ same_resource (Chan c) (Chan d) = nat_eq c d
 same_resource a b = false
 
 -- `elsewhere`, by cases
-abbrev pub kept : Bool → Choice → List Choice → List Choice
-kept true c cs = cs
-kept false c cs = c ∷ cs
+abbrev pub unless_same : Bool → Choice → List Choice → List Choice
+unless_same true c cs = cs
+unless_same false c cs = c ∷ cs
 
 -- the cases that name another resource
 abbrev pub elsewhere : KRes → List Choice → List Choice
 elsewhere r [] = []
-elsewhere r (c ∷ cs) = kept (same_resource r c.input.resource) c (elsewhere r cs)
+elsewhere r (c ∷ cs) = unless_same (same_resource r c.input.resource) c (elsewhere r cs)
 
 -- a case before others: a resource has one condition, that of its first enabled case
 abbrev pub before_others : Choice → Enabled → Enabled

@@ -65,7 +65,7 @@ pub data Item : Type 0 where
   -- waits for the answer to an offer, an opening or a closing
   awaits : (channel : ℕ) → Pos → Item
   -- the end of a transaction
-  closes : (channel : ℕ) (is_master : Bool) → Pos → Item
+  transaction_end : (channel : ℕ) (is_master : Bool) → Pos → Item
   -- a select whose enabled cases are known, and its default
   chooses : List Choice → Option Body → Item
   -- the input of a case, with the value and the counter at which the case was taken

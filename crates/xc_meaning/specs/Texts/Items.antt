@@ -24,12 +24,16 @@ abbrev pub statements_items : tree.Statements → Context → Scope → List Ite
 statements_items tree.no_more c scope rest = rest
 statements_items (tree.more s ss) c scope rest = statement_items s c scope (statements_items ss c (behind s c scope) rest)
 
--- a statement as the body of a function or loop
 abbrev pub only : tree.Statement → tree.Statements
 only s = tree.more s tree.no_more
 
+-- a statement as the body of a function or loop: what a block holds, or the statement alone
+abbrev pub as_body : tree.Statement → tree.Statements
+as_body (tree.statement (tree.block ss) pos close own) = ss
+as_body s = only s
+
 abbrev pub body_item : Path → tree.Statement → Context → Scope → Item
-body_item block s c scope = says (body block (only s) c scope)
+body_item block s c scope = says (body block (as_body s) c scope)
 
 -- the statements of a body, and the mark of its block
 abbrev pub entered_items : Path → tree.Statements → Context → Scope → List Item → List Item

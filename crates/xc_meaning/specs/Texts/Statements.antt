@@ -9,7 +9,7 @@ use Rattle.xc_kernel.specs.Expressions.{updated}
 use Rattle.xc_kernel.specs.Context.{Context, expression, place, word_at}
 use Rattle.xc_kernel.specs.Calls.{value_of, right_is_unsigned}
 use Rattle.xc_kernel.specs.Transfers.{output_of, input_of}
-use Rattle.xc_meaning.specs.States.Items.{TextItem, statement, name, bound, body, first_test, again, again_do, returned, says, closes}
+use Rattle.xc_meaning.specs.States.Items.{TextItem, statement, name, bound, body, first_test, again, again_do, returned, says, transaction_end}
 use Rattle.xc_meaning.specs.States.Worlds.{World}
 use Rattle.xc_meaning.specs.Moves.Step.{Step, goes_to, goes_on, with_word_of}
 use Rattle.xc_meaning.specs.Moves.Stores.{stored, assigned}
@@ -55,7 +55,7 @@ returns s c scope (Some (tree.result call)) = calls s c scope call (says (return
 -- a transaction on a channel
 abbrev pub transacts : Step → Context → Scope → (is_master : Bool) → tree.Statements → (start close : Pos) → (channel : ℕ) → Option World
 transacts s c scope is_master ss start close channel =
-    opens s channel is_master (statements_items ss c scope (closes channel is_master close ∷ s.rest)) start
+    opens s channel is_master (statements_items ss c scope (transaction_end channel is_master close ∷ s.rest)) start
 
 abbrev pub does_action : Step → Context → Scope → (pos close : Pos) → tree.Action → Option World
 does_action s c scope pos close tree.empty = Some (goes_on s)

@@ -1,0 +1,8 @@
+use Rattle.xc_kernel.specs.Kernels.{kernel_of}
+use Rattle.xc_disjoint.proofs.Whole.{first_of_all}
+use Rattle.xc_disjoint.proofs.disjointness.first_broken.Goals as goal
+
+pub returns : goal.returns
+returns c =
+    rw (c.first_elsewhere.ensures, c.first_of_ports-places.ensures, c.first_of_roots-roots.ensures, c.as_slice.ensures, c.as_slice-2.ensures, c.as_slice-3.ensures, c.as_slice-4.ensures)
+    (first_of_all (kernel_of c.args.kernel.now) c.in_ok-needs.needs c.in_ok-needs.ensures)

@@ -1,0 +1,15 @@
+pub mod Programs
+pub mod Cores
+pub mod Uses
+pub mod Pars
+pub mod Threads
+pub mod Ends
+pub mod Needs
+pub mod Rules
+pub mod Accepted
+pub mod Sides
+pub mod Tables
+pub mod Leasts
+pub mod Places
+pub mod Sums
+pub mod Errors

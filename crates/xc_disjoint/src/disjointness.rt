@@ -1,0 +1,98 @@
+ghost use Rattle.std.specs.Prelude.{◌≡◌, Some, IfErr, IfOk};
+ghost use Rattle.xw_words.specs.declared.pos.Broken.{Broken as Wrong};
+ghost use Rattle.xc_disjoint.specs.Errors.{IfBroken};
+ghost use Rattle.xc_disjoint.specs.Programs.{IsOfProgram};
+ghost use Rattle.xc_disjoint.specs.Rules.{Breaks, FirstBroken, NeedsMore};
+ghost use Rattle.xc_kernel.specs.Kernels.{kernel_of};
+ghost use Rattle.xc_tree.specs.Least.{IsLeastOf};
+
+use crate::checked::Checked;
+use crate::needs::{too_many_ends, too_many_threads, too_many_timers, too_many_words};
+use crate::places::{first_of_ports, first_of_roots};
+use crate::ports::first_elsewhere;
+use std::alloc::Global;
+use thiserror::Error;
+use xc_kernel::Kernel;
+use xw_words::{Broken, Memory};
+
+/// Why a kernel isn't accepted.
+#[derive(Debug, Drop, Error)]
+pub enum DisErr {
+    /// It breaks a rule, of all that it breaks the first.
+    #[error("{}:{}: rule {} is broken", .0.pos.line, .0.pos.col, .0.rule)]
+    Broken(Broken),
+    /// Memory could not be had.
+    #[error("out of memory")]
+    Memory,
+}
+
+impl From<Memory> for DisErr {
+    ghost use Rattle.std.specs.Prelude.{◌≡◌};
+    ghost use Rattle.xc_disjoint.specs.declared.disjointness.DisErr.TheVariants as err;
+
+    ghost from_gives = { λ _ e. e ≡ err.Memory };
+
+    fn from(_: Memory) -> DisErr {
+        DisErr::Memory
+    }
+}
+
+/// The kernel as one that is checked, where it is that of a program that breaks no rule of the phases before. The stack that
+/// it needs grows with the depth of the kernel.
+///
+/// A kernel that breaks a rule is dropped, and of all rules that it breaks the error is the one of the least place, and there
+/// of the least number: 701 more than 8 threads are needed on a core; 702 more than 32 channel ends; 703 more than 10
+/// timers; 704 more than 16,384 words; 705 a place gives no core; 706 a port is used on a core other than its own. The other
+/// error is that memory could not be had; it drops the kernel too.
+pub fn disjoint(alloc: Global, kernel: Kernel) -> Result<Checked, DisErr>
+    requires { IsOfProgram (kernel_of kernel) }
+    ensures kernel { IfOk result (λ checked. checked ≡ kernel) }
+    ensures unbroken { IfOk result (λ checked. (b : Wrong) → Breaks (kernel_of kernel) b → ⊥) }
+    ensures broken { IfErr result (λ e. IfBroken e (λ b. FirstBroken (kernel_of kernel) b)) }
+{
+    match first_broken(alloc, &kernel)? {
+        Some(broken) => Err(DisErr::Broken(broken)),
+        None => Ok(Checked::new(kernel)),
+    }
+}
+
+/// The first rule that a kernel breaks.
+fn first_broken(alloc: Global, kernel: &Kernel) -> Result<Option<Broken>, Memory>
+    ensures { IfOk result (λ best. IsLeastOf (Breaks (kernel_of kernel.now)) best) }
+{
+    let needs = broken_need(alloc, kernel)?;
+    let roots = first_of_roots(kernel.roots.as_slice(), needs);
+    let places = first_of_ports(kernel.ports.as_slice(), roots);
+    Ok(first_elsewhere(kernel.ports.as_slice(), kernel.roots.as_slice(), places))
+}
+
+/// The least of the rules by which a core needs more than it has, which all stand at main.
+fn broken_need(alloc: Global, kernel: &Kernel) -> Result<Option<Broken>, Memory>
+    ensures { IfOk result (λ best. IsLeastOf (NeedsMore (kernel_of kernel.now)) best) }
+{
+    if too_many_threads(kernel) {
+        return Ok(at_main(kernel, 701));
+    }
+    if too_many_ends(alloc, kernel)? {
+        return Ok(at_main(kernel, 702));
+    }
+    if too_many_timers(kernel) {
+        return Ok(at_main(kernel, 703));
+    }
+    if too_many_words(kernel) {
+        return Ok(at_main(kernel, 704));
+    }
+    Ok(None)
+}
+
+fn at_main(kernel: &Kernel, rule: u16) -> Option<Broken>
+    ensures { result ≡ Some (record { rule = rule; pos = kernel.now.main }) }
+{
+    Some(Broken {
+        rule,
+        pos: kernel.main,
+    })
+}
+
+#[cfg(test)]
+mod tests;
