@@ -74,7 +74,11 @@ fn statements_count_in_each_copy(rt: HostRuntime) -> Result<(), Fail> {
     ];
     for (called, wanted) in rows {
         let text = tens(alloc, 1, called)?;
-        assert_eq!(rt; verdict(alloc, text.as_str())?.as_str(), wanted, "f{called}");
+        assert_eq!(rt;
+            verdict(alloc, text.as_str())?.as_str(),
+            wanted,
+            "f{called}"
+        );
     }
     Ok(())
 }
@@ -85,18 +89,18 @@ fn nodes_count_in_each_copy(rt: HostRuntime) -> Result<(), Fail> {
     let rows = [(4, "509 at 7:5"), (3, "1112 instances, 1000 words")];
     for (called, wanted) in rows {
         let text = tens(alloc, 150, called)?;
-        assert_eq!(rt; verdict(alloc, text.as_str())?.as_str(), wanted, "f{called}");
+        assert_eq!(rt;
+            verdict(alloc, text.as_str())?.as_str(),
+            wanted,
+            "f{called}"
+        );
     }
     Ok(())
 }
 
 /// Functions and a main by the number of the last one, and what comes of them.
 const CHAINS: [(usize, &str, &str); 5] = [
-    (
-        499,
-        "int main(void) { f499(); return 0; }",
-        "509 at 501:5",
-    ),
+    (499, "int main(void) { f499(); return 0; }", "509 at 501:5"),
     (
         498,
         "int main(void) { f498(); return 0; }",
