@@ -103,7 +103,7 @@ impl<'p, 'a> Context<'p, 'a> {
     }
 
     /// The same, and whether it is an `unsigned` word. The one error is want of memory.
-    #[tactic(auto, using(crate::proofs::Walk::Expressions::words))]
+    #[tactic(auto, using(crate::proofs::Laws::Expressions::words))]
     pub fn typed(&self, alloc: Global, right: &Rhs, scope: &Scope<'a>) -> Result<Typed, Memory>
         ensures value { IfOk result (λ t. kernel.expression_of t.value ≡ calls.value_of (context_of self.now) (scope_of scope.now) (tree.right_of right.now)) }
         ensures unsigned { IfOk result (λ t. t.unsigned ≡ calls.right_is_unsigned (scope_of scope.now) (tree.right_of right.now)) }
@@ -213,7 +213,7 @@ impl<'p, 'a> Context<'p, 'a> {
     }
 
     /// The test of a `for`, which holds for ever where there is none. The one error is want of memory.
-    #[tactic(auto, using(crate::proofs::Walk::Expressions::words))]
+    #[tactic(auto, using(crate::proofs::Laws::Expressions::words))]
     pub fn test_or_true(
         &self,
         alloc: Global,
@@ -229,7 +229,7 @@ impl<'p, 'a> Context<'p, 'a> {
     }
 
     /// The guard of a case, if it has one. The one error is want of memory.
-    #[tactic(auto, using(crate::proofs::Walk::Expressions::words))]
+    #[tactic(auto, using(crate::proofs::Laws::Expressions::words))]
     pub fn guard(
         &self,
         alloc: Global,

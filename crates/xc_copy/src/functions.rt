@@ -16,7 +16,7 @@ pub struct Functions<'a> {
 }
 
 impl<'a> Functions<'a> {
-    #[tactic(auto, using(crate::proofs::Walk::Functions::functions_step))]
+    #[tactic(auto, using(crate::proofs::Laws::Functions::functions_step))]
     /// Those of a tree. The one error is want of memory.
     pub fn of_tree(alloc: Global, tree: &'a Tree) -> Result<Functions<'a>, Memory>
         ensures { IfOk result (λ functions. functions_of functions ≡ spec.functions (program_of tree.now)) }
@@ -35,7 +35,7 @@ impl<'a> Functions<'a> {
         self.all.len()
     }
 
-    #[tactic(auto, using(crate::proofs::Walk::Functions::named_step, crate::proofs::Walk::Functions::deepest_step))]
+    #[tactic(auto, using(crate::proofs::Laws::Functions::named_step, crate::proofs::Laws::Functions::deepest_step))]
     /// The first function of a name, if there is one.
     pub fn named(&self, name: &[u8]) -> Option<&'a FuncItem>
         ensures function { option_map (λ f. function_of f.now) result ≡ spec.function_named (functions_of self.now) name.now }
