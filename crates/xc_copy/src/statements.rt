@@ -312,7 +312,7 @@ impl<'p, 'a> Context<'p, 'a> {
         let made = self.instance(alloc, function)?;
         let zeroed = self.zeroed_result(alloc, result.as_slice(), function)?;
         let mut entered = self.all_passed(alloc, scope, own, function.params.as_slice(), args)?;
-        let body = self
+        let body = (&*self)
             .in_function(own, result.as_slice())
             .statement(alloc, calls, &function.body, &mut entered.scope)?;
         let block = self.as_block(alloc, same_path(alloc, own)?, body)?;
@@ -355,7 +355,7 @@ impl<'p, 'a> Context<'p, 'a> {
     {
         let test = word(alloc, self.numbers, scope, test)?;
         let paths = self.loop_paths(alloc, pos)?;
-        let body = self
+        let body = (&*self)
             .in_loop(paths.whole.as_slice(), paths.turn.as_slice())
             .statement(alloc, calls, body, scope)?;
         self.loop_at(alloc, paths, test.value, Copied::nothing(alloc), body, None)
@@ -375,7 +375,7 @@ impl<'p, 'a> Context<'p, 'a> {
         ensures { IfOk result (λ copied. copy_of copied (scope_of scope.new) ≡ flow.do_while_copy (context_of self.now) pos (tree.expression_of test.now) (spec.statement_copy (spec.calls_copy calls) (tree.statement_of body.now) (contexts.in_loop (context_of self.now) pos) (scope_of scope.old))) }
     {
         let paths = self.loop_paths(alloc, pos)?;
-        let body = self
+        let body = (&*self)
             .in_loop(paths.whole.as_slice(), paths.turn.as_slice())
             .statement(alloc, calls, body, scope)?;
         let test = word(alloc, self.numbers, scope, test)?;
@@ -412,7 +412,7 @@ impl<'p, 'a> Context<'p, 'a> {
         let next = self.maybe(alloc, calls, next, scope)?;
         scope.leave(inside);
         let paths = self.loop_paths(alloc, pos)?;
-        let body = self
+        let body = (&*self)
             .in_loop(paths.whole.as_slice(), paths.turn.as_slice())
             .statement(alloc, calls, body, scope)?;
         scope.leave(known);
@@ -434,12 +434,12 @@ impl<'p, 'a> Context<'p, 'a> {
         let mut branches = Branched::none(alloc);
         for (index, b) in bs.iter().enumerate() {
             let path = self.branch_path(alloc, index)?;
-            let copied = self
+            let copied = (&*self)
                 .in_branch(path.as_slice())
                 .statement(alloc, calls, &b.body, scope)?;
             branches = branches.and(alloc, b.body.pos, copied)?;
         }
-        branches.as_par()
+        branches.as_par(alloc)
     }
 
     /// The copy of a replicated `par`: of its branch for each number, in which a name stands for the number.
@@ -461,13 +461,13 @@ impl<'p, 'a> Context<'p, 'a> {
         for number in from..until {
             let path = path_of_branch(alloc, self.path, number - from)?;
             scope.declare(name.text.as_slice(), Entity::Constant(number))?;
-            let copied = self
+            let copied = (&*self)
                 .in_branch(path.as_slice())
                 .statement(alloc, calls, &b.body, scope)?;
             scope.leave(known);
             branches = branches.and(alloc, b.body.pos, copied)?;
         }
-        branches.as_par()
+        branches.as_par(alloc)
     }
 
     /// The copy of a `select`, each of whose cases is a scope.
@@ -488,7 +488,7 @@ impl<'p, 'a> Context<'p, 'a> {
             cases = self.case(alloc, calls, case, cases, scope)?;
             scope.leave(known);
         }
-        cases.as_select(pos)
+        cases.as_select(alloc, pos)
     }
 
     /// One more case, or the `default`, behind others.
@@ -507,7 +507,7 @@ impl<'p, 'a> Context<'p, 'a> {
         let path = path_at(alloc, self.path, case.pos)?;
         match &case.head {
             None => {
-                let body = self
+                let body = (&*self)
                     .in_case(path.as_slice())
                     .statements(alloc, calls, case.body.as_slice(), scope)?;
                 before.and_default(alloc, self.as_block(alloc, path, body)?)
@@ -515,7 +515,7 @@ impl<'p, 'a> Context<'p, 'a> {
             Some(head) => {
                 let guard = self.guard(alloc, &case.guard, scope)?;
                 let received = self.received(alloc, scope, head)?;
-                let body = self
+                let body = (&*self)
                     .in_case(path.as_slice())
                     .statements(alloc, calls, case.body.as_slice(), scope)?;
                 before.and_case(alloc, guard, received, self.as_block(alloc, path, body)?)
