@@ -13,3 +13,4 @@ pub mod Parts
 pub mod Depths
 pub mod Pieces
 pub mod Walks
+pub mod Actions
