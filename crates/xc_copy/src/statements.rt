@@ -1,5 +1,3 @@
-#![tactic(none)]
-
 ghost use Rattle.std.specs.Prelude.{◌≡◌, ◌≤◌, ◌-◌, IfOk, map, option_map};
 ghost use Rattle.xc_tree.specs.Trees as tree;
 ghost use Rattle.xc_tree.specs.Plain as plain;
@@ -100,6 +98,7 @@ impl<'p, 'a> Context<'p, 'a> {
 
     /// The copy of statements, one behind the other.
     #[cycle(statement)]
+    #[tactic(none)]
     fn statements(
         &self,
         alloc: Global,
@@ -136,6 +135,7 @@ impl<'p, 'a> Context<'p, 'a> {
 
     /// The copy of declared names, one behind the other.
     #[cycle(statement)]
+    #[tactic(none)]
     pub fn declarations(
         &self,
         alloc: Global,
@@ -431,6 +431,7 @@ impl<'p, 'a> Context<'p, 'a> {
 
     /// The copy of a `par`.
     #[cycle(statement)]
+    #[tactic(none)]
     fn par(
         &self,
         alloc: Global,
@@ -454,6 +455,7 @@ impl<'p, 'a> Context<'p, 'a> {
 
     /// The copy of a replicated `par`: of its branch for each number, in which a name stands for the number.
     #[cycle(statement)]
+    #[tactic(none)]
     fn replicated(
         &self,
         alloc: Global,
@@ -483,6 +485,7 @@ impl<'p, 'a> Context<'p, 'a> {
 
     /// The copy of a `select`, each of whose cases is a scope.
     #[cycle(statement)]
+    #[tactic(none)]
     fn select(
         &self,
         alloc: Global,
@@ -505,6 +508,7 @@ impl<'p, 'a> Context<'p, 'a> {
 
     /// One more case, or the `default`, behind others.
     #[cycle(statement)]
+    #[tactic(none)]
     fn case(
         &self,
         alloc: Global,

@@ -1,14 +1,19 @@
 -- A statement, a branch and a case, by what they hold.
-use Rattle.std.proofs.Common.{◌≡◌, ℕ, zero, suc, ◌+◌, ◌<◌, ◌≤◌, List, [], ◌∷◌, length, get_or, map, max, arith, refl, ap, sym, subst, ◌∙◌}
-use Rattle.std.specs.Prelude.{Result, Ok, Err, IfOk}
+use Rattle.std.proofs.Common.{◌≡◌, ℕ, zero, suc, ◌+◌, ◌<◌, ◌≤◌, Bool, List, [], ◌∷◌, Option, Result, Ok, Err, IfOk, length, get_or, map, max, arith, refl, ap, sym, ◌∙◌}
+use Rattle.std.specs.Option.{option_map}
+use Rattle.std.specs.declared.boxed.Box.{Box}
+use Rattle.std.specs.declared.alloc.Global.{Global}
 use Rattle.xw_words.specs.declared.memory.Memory.{Memory}
-use Rattle.xc_tree.proofs.Forms.{statement-Stmt, branch-Branch, case-Case}
+use Rattle.xc_tree.proofs.Forms.{statement-Stmt, branch-Branch, case-Case, action-Block, action-Decl, action-If, action-While, action-DoWhile, action-For, action-Par, action-Repl, action-Select, action-Tran}
 use Rattle.xc_tree.specs.declared.tree.Branch.{Branch}
 use Rattle.xc_tree.specs.declared.tree.Case.{Case, out-Case}
-use Rattle.xc_tree.specs.declared.tree.St.{St}
+use Rattle.xc_tree.specs.declared.tree.Declared.{Declared}
+use Rattle.xc_tree.specs.declared.tree.Expr.{Expr}
+use Rattle.xc_tree.specs.declared.tree.Id.{Id}
+use Rattle.xc_tree.specs.declared.tree.St.{St, Block, Decl, If, While, DoWhile, For, Par, Repl, Select, Tran}
 use Rattle.xc_tree.specs.declared.tree.Stmt.{Stmt}
 use Rattle.xc_tree.specs.Plain as tree
-use Rattle.xc_tree.specs.Trees.{action_of, branch_of, case_of, statement_of}
+use Rattle.xc_tree.specs.Trees.{action_of, branch_of, case_of, declaration_of, expression_of, maybe_of, statement_of}
 use Rattle.xc_kernel.specs.Calls.{CopiesCall}
 use Rattle.xc_kernel.specs.Context.{Context}
 use Rattle.xc_kernel.specs.Copy.{Copy}
@@ -68,3 +73,36 @@ in_branch_of copies b c scope = sym (ap (λ x. branch_copy copies x c scope) (br
 
 pub begins_at : (b : Branch) → b.body.pos ≡ pos_of_branch (branch_of b)
 begins_at b = sym (ap pos_of_branch (branch-Branch b) ∙ ap pos_of (statement-Stmt b.body))
+
+-- actions, by their parts
+
+pub action_block : (ss : List Stmt) {xs : List Stmt} → xs ≡ ss → action_of (Block ss) ≡ tree.block (tree.statements (map statement_of xs))
+action_block ss e = action-Block ss ∙ ap (λ ys. tree.block (tree.statements (map statement_of ys))) (sym e)
+
+pub action_declare : (ds : List Declared) {xs : List Declared} → xs ≡ ds → action_of (Decl ds) ≡ tree.declare (map declaration_of xs)
+action_declare ds e = action-Decl ds ∙ ap (λ ys. tree.declare (map declaration_of ys)) (sym e)
+
+pub action_if : (test : Expr) (first : Box Stmt Global) (second : Option (Box Stmt Global)) {s : Stmt} → s ≡ first.value → action_of (If test first second) ≡ tree.if_then (expression_of test) (statement_of s) (maybe_of second)
+action_if test first second e = action-If test first second ∙ ap (λ x. tree.if_then (expression_of test) (statement_of x) (maybe_of second)) (sym e)
+
+pub action_while : (test : Expr) (body : Box Stmt Global) {s : Stmt} → s ≡ body.value → action_of (While test body) ≡ tree.while_loop (expression_of test) (statement_of s)
+action_while test body e = action-While test body ∙ ap (λ x. tree.while_loop (expression_of test) (statement_of x)) (sym e)
+
+pub action_do : (body : Box Stmt Global) (test : Expr) {s : Stmt} → s ≡ body.value → action_of (DoWhile body test) ≡ tree.do_while (statement_of s) (expression_of test)
+action_do body test e = action-DoWhile body test ∙ ap (λ x. tree.do_while (statement_of x) (expression_of test)) (sym e)
+
+pub action_for : (first : Option (Box Stmt Global)) (test : Option Expr) (next : Option (Box Stmt Global)) (body : Box Stmt Global) {s : Stmt} → s ≡ body.value →
+    action_of (For first test next body) ≡ tree.for_loop (maybe_of first) (option_map expression_of test) (maybe_of next) (statement_of s)
+action_for first test next body e = action-For first test next body ∙ ap (λ x. tree.for_loop (maybe_of first) (option_map expression_of test) (maybe_of next) (statement_of x)) (sym e)
+
+pub action_par : (bs : List Branch) {xs : List Branch} → xs ≡ bs → action_of (Par bs) ≡ tree.par (tree.branches (map branch_of xs))
+action_par bs e = action-Par bs ∙ ap (λ ys. tree.par (tree.branches (map branch_of ys))) (sym e)
+
+pub action_replicated : (first second third : Id) (from until : ℕ) (body : Box Branch Global) {b : Branch} → b ≡ body.value → action_of (Repl first second third from until body) ≡ tree.replicated first second third from until (branch_of b)
+action_replicated first second third from until body e = action-Repl first second third from until body ∙ ap (λ x. tree.replicated first second third from until (branch_of x)) (sym e)
+
+pub action_select : (cs : List Case) {xs : List Case} → xs ≡ cs → action_of (Select cs) ≡ tree.select (tree.cases (map case_of xs))
+action_select cs e = action-Select cs ∙ ap (λ ys. tree.select (tree.cases (map case_of ys))) (sym e)
+
+pub action_transaction : (is_master : Bool) (ss : List Stmt) {xs : List Stmt} → xs ≡ ss → action_of (Tran is_master ss) ≡ tree.transaction is_master (tree.statements (map statement_of xs))
+action_transaction is_master ss e = action-Tran is_master ss ∙ ap (λ ys. tree.transaction is_master (tree.statements (map statement_of ys))) (sym e)

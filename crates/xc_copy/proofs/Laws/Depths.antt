@@ -33,3 +33,7 @@ enters n d e h r q same some less =
 -- what is further down, below what the walk has left
 pub down : (n d e h r i q : ℕ) {t : ℕ} → distance n d h r ≡ t → e ≡ d → 16 * i + q < 16 * h + r → distance n e i q < t
 down n d e h r i q {t} left same less = let P : ℕ → Type 0 = λ t. distance n e i q < t in subst P left (nearer n d e h r i q same less)
+
+-- a function that is entered, below what the walk has left
+pub enters_below : (n d e h r q : ℕ) {t : ℕ} → distance n d h r ≡ t → e ≡ d → (n ≡ 0 → ⊥) → q < 16 → distance (n - 1) e d q < t
+enters_below n d e h r q {t} left same some less = let P : ℕ → Type 0 = λ t. distance (n - 1) e d q < t in subst P left (enters n d e h r q same some less)

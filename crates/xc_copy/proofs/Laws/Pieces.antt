@@ -62,3 +62,7 @@ transaction_done c scope master start close {b = b} b' first channel code left s
     let channel = channel ∙ ap (channel_number c.numbering) first in
     let s = s ∙ λ i. kernel.transaction (channel i) master (kernel.statements (code i)) start close in
     r ∙ (λ i. in_scope_of scope (with_code (left i) ((left i).code ++ s i ∷ []))) ∙ λ i. transaction_copy c scope master start close (b' i)
+
+-- a copy, and behind it what knows its names
+pub followed_done : {first a b r : Copy} (next : Scope → Copy) → a ≡ first → b ≡ next a.scope → r ≡ joined a b → r ≡ followed_by first next
+followed_done next a b r = r ∙ λ i. joined (a i) ((b ∙ λ j. next (a j).scope) i)
