@@ -108,68 +108,68 @@ statement-returns-in-Tran t c =
 
 pub statement-block-requires : goal.statement-block-requires
 statement-block-requires t c =
-    let whole : ◌≡◌ {A = ℕ} (heights.height (tree.statement_of c.args.s.now)) (heights.height_of_statements (plain.statements (map tree.statement_of c.as_slice.result.now))) + 1) = height_by_action c.args.s.now c.in-Block.is (action_block c.in-Block.ss c.as_slice.ensures) in
-    down c.args.calls (deepest c.args.self.now.functions.now.all.items) (deepest c.args.self.now.functions.now.all.items) (heights.height (tree.statement_of c.args.s.now)) 0 (heights.height_of_statements (plain.statements (map tree.statement_of c.as_slice.result.now))) 2 c.decreases refl (omega (arith, whole))
+    let whole : ◌≡◌ {A = ℕ} (heights.height (tree.statement_of c.args.s.now)) ((heights.height_of_statements (plain.statements (map tree.statement_of c.as_slice.result.now))) + 1) = height_by_action c.args.s.now c.in-Block.is (action_block c.in-Block.ss c.as_slice.ensures) in
+    (down c.args.calls (deepest c.args.self.now.functions.now.all.items) (deepest c.args.self.now.functions.now.all.items) (heights.height (tree.statement_of c.args.s.now)) 0 (heights.height_of_statements (plain.statements (map tree.statement_of c.as_slice.result.now))) 2 c.decreases refl (omega (arith, whole)), tt)
 
 pub statement-declarations-requires : goal.statement-declarations-requires
 statement-declarations-requires t c =
     let whole : ◌≡◌ {A = ℕ} (heights.height (tree.statement_of c.args.s.now)) (0 + 1) = height_by_action c.args.s.now c.in-Decl.is (action_declare c.in-Decl.ds c.as_slice-in-Decl.ensures) in
-    down c.args.calls (deepest c.args.self.now.functions.now.all.items) (deepest c.args.self.now.functions.now.all.items) (heights.height (tree.statement_of c.args.s.now)) 0 0 6 c.decreases refl (omega (arith, whole))
+    (down c.args.calls (deepest c.args.self.now.functions.now.all.items) (deepest c.args.self.now.functions.now.all.items) (heights.height (tree.statement_of c.args.s.now)) 0 0 6 c.decreases refl (omega (arith, whole)), tt)
 
 pub statement-assign-requires : goal.statement-assign-requires
 statement-assign-requires t c =
     let whole : ◌≡◌ {A = ℕ} (heights.height (tree.statement_of c.args.s.now)) (0 + 1) = height_by_action c.args.s.now c.in-Assign.is (action-Assign c.in-Assign.to c.in-Assign.symbol c.in-Assign.pos c.in-Assign.right) in
-    down c.args.calls (deepest c.args.self.now.functions.now.all.items) (deepest c.args.self.now.functions.now.all.items) (heights.height (tree.statement_of c.args.s.now)) 0 0 4 c.decreases refl (omega (arith, whole))
+    (down c.args.calls (deepest c.args.self.now.functions.now.all.items) (deepest c.args.self.now.functions.now.all.items) (heights.height (tree.statement_of c.args.s.now)) 0 0 4 c.decreases refl (omega (arith, whole)), tt)
 
 pub statement-right-requires : goal.statement-right-requires
 statement-right-requires t c =
     let whole : ◌≡◌ {A = ℕ} (heights.height (tree.statement_of c.args.s.now)) (0 + 1) = height_by_action c.args.s.now c.in-Do.is (action-Do c.in-Do.right) in
-    down c.args.calls (deepest c.args.self.now.functions.now.all.items) (deepest c.args.self.now.functions.now.all.items) (heights.height (tree.statement_of c.args.s.now)) 0 0 3 c.decreases refl (omega (arith, whole))
+    (down c.args.calls (deepest c.args.self.now.functions.now.all.items) (deepest c.args.self.now.functions.now.all.items) (heights.height (tree.statement_of c.args.s.now)) 0 0 3 c.decreases refl (omega (arith, whole)), tt)
 
 pub statement-choice-requires : goal.statement-choice-requires
 statement-choice-requires t c =
     let whole : ◌≡◌ {A = ℕ} (heights.height (tree.statement_of c.args.s.now)) ((max (heights.height (tree.statement_of c.deref.result.now)) (heights.height_of_maybe (tree.maybe_of c.in-If.second))) + 1) = height_by_action c.args.s.now c.in-If.is (action_if c.in-If.test c.in-If.first c.in-If.second c.deref.ensures) in
-    down c.args.calls (deepest c.args.self.now.functions.now.all.items) (deepest c.args.self.now.functions.now.all.items) (heights.height (tree.statement_of c.args.s.now)) 0 (max (heights.height (tree.statement_of c.deref.result.now)) (heights.height_of_maybe (tree.maybe_of c.in-If.second))) 2 c.decreases refl (omega (arith, whole))
+    (down c.args.calls (deepest c.args.self.now.functions.now.all.items) (deepest c.args.self.now.functions.now.all.items) (heights.height (tree.statement_of c.args.s.now)) 0 (max (heights.height (tree.statement_of c.deref.result.now)) (heights.height_of_maybe (tree.maybe_of c.in-If.second))) 2 c.decreases refl (omega (arith, whole)), tt)
 
 pub statement-while_loop-requires : goal.statement-while_loop-requires
 statement-while_loop-requires t c =
-    let whole : ◌≡◌ {A = ℕ} (heights.height (tree.statement_of c.args.s.now)) (heights.height (tree.statement_of c.deref-in-While.result.now)) + 1) = height_by_action c.args.s.now c.in-While.is (action_while c.in-While.test c.in-While.body c.deref-in-While.ensures) in
-    down c.args.calls (deepest c.args.self.now.functions.now.all.items) (deepest c.args.self.now.functions.now.all.items) (heights.height (tree.statement_of c.args.s.now)) 0 (heights.height (tree.statement_of c.deref-in-While.result.now)) 1 c.decreases refl (omega (arith, whole))
+    let whole : ◌≡◌ {A = ℕ} (heights.height (tree.statement_of c.args.s.now)) ((heights.height (tree.statement_of c.deref-in-While.result.now)) + 1) = height_by_action c.args.s.now c.in-While.is (action_while c.in-While.test c.in-While.body c.deref-in-While.ensures) in
+    (down c.args.calls (deepest c.args.self.now.functions.now.all.items) (deepest c.args.self.now.functions.now.all.items) (heights.height (tree.statement_of c.args.s.now)) 0 (heights.height (tree.statement_of c.deref-in-While.result.now)) 1 c.decreases refl (omega (arith, whole)), tt)
 
 pub statement-do_while-requires : goal.statement-do_while-requires
 statement-do_while-requires t c =
-    let whole : ◌≡◌ {A = ℕ} (heights.height (tree.statement_of c.args.s.now)) (heights.height (tree.statement_of c.deref-in-DoWhile.result.now)) + 1) = height_by_action c.args.s.now c.in-DoWhile.is (action_do c.in-DoWhile.body c.in-DoWhile.test c.deref-in-DoWhile.ensures) in
-    down c.args.calls (deepest c.args.self.now.functions.now.all.items) (deepest c.args.self.now.functions.now.all.items) (heights.height (tree.statement_of c.args.s.now)) 0 (heights.height (tree.statement_of c.deref-in-DoWhile.result.now)) 1 c.decreases refl (omega (arith, whole))
+    let whole : ◌≡◌ {A = ℕ} (heights.height (tree.statement_of c.args.s.now)) ((heights.height (tree.statement_of c.deref-in-DoWhile.result.now)) + 1) = height_by_action c.args.s.now c.in-DoWhile.is (action_do c.in-DoWhile.body c.in-DoWhile.test c.deref-in-DoWhile.ensures) in
+    (down c.args.calls (deepest c.args.self.now.functions.now.all.items) (deepest c.args.self.now.functions.now.all.items) (heights.height (tree.statement_of c.args.s.now)) 0 (heights.height (tree.statement_of c.deref-in-DoWhile.result.now)) 1 c.decreases refl (omega (arith, whole)), tt)
 
 pub statement-for_loop-requires : goal.statement-for_loop-requires
 statement-for_loop-requires t c =
     let whole : ◌≡◌ {A = ℕ} (heights.height (tree.statement_of c.args.s.now)) ((max (heights.height_of_maybe (tree.maybe_of c.in-For.first)) (max (heights.height_of_maybe (tree.maybe_of c.in-For.next)) (heights.height (tree.statement_of c.deref-in-For.result.now)))) + 1) = height_by_action c.args.s.now c.in-For.is (action_for c.in-For.first c.in-For.test c.in-For.next c.in-For.body c.deref-in-For.ensures) in
-    down c.args.calls (deepest c.args.self.now.functions.now.all.items) (deepest c.args.self.now.functions.now.all.items) (heights.height (tree.statement_of c.args.s.now)) 0 (max (heights.height_of_maybe (tree.maybe_of c.in-For.first)) (max (heights.height_of_maybe (tree.maybe_of c.in-For.next)) (heights.height (tree.statement_of c.deref-in-For.result.now)))) 2 c.decreases refl (omega (arith, whole))
+    (down c.args.calls (deepest c.args.self.now.functions.now.all.items) (deepest c.args.self.now.functions.now.all.items) (heights.height (tree.statement_of c.args.s.now)) 0 (max (heights.height_of_maybe (tree.maybe_of c.in-For.first)) (max (heights.height_of_maybe (tree.maybe_of c.in-For.next)) (heights.height (tree.statement_of c.deref-in-For.result.now)))) 2 c.decreases refl (omega (arith, whole)), tt)
 
 pub statement-return_with-requires : goal.statement-return_with-requires
 statement-return_with-requires t c =
     let whole : ◌≡◌ {A = ℕ} (heights.height (tree.statement_of c.args.s.now)) (0 + 1) = height_by_action c.args.s.now c.in-Return.is (action-Return c.in-Return.right) in
-    down c.args.calls (deepest c.args.self.now.functions.now.all.items) (deepest c.args.self.now.functions.now.all.items) (heights.height (tree.statement_of c.args.s.now)) 0 0 4 c.decreases refl (omega (arith, whole))
+    (down c.args.calls (deepest c.args.self.now.functions.now.all.items) (deepest c.args.self.now.functions.now.all.items) (heights.height (tree.statement_of c.args.s.now)) 0 0 4 c.decreases refl (omega (arith, whole)), tt)
 
 pub statement-par-requires : goal.statement-par-requires
 statement-par-requires t c =
-    let whole : ◌≡◌ {A = ℕ} (heights.height (tree.statement_of c.args.s.now)) (heights.height_of_branches (plain.branches (map tree.branch_of c.as_slice-in-Par.result.now))) + 1) = height_by_action c.args.s.now c.in-Par.is (action_par c.in-Par.bs c.as_slice-in-Par.ensures) in
-    down c.args.calls (deepest c.args.self.now.functions.now.all.items) (deepest c.args.self.now.functions.now.all.items) (heights.height (tree.statement_of c.args.s.now)) 0 (heights.height_of_branches (plain.branches (map tree.branch_of c.as_slice-in-Par.result.now))) 1 c.decreases refl (omega (arith, whole))
+    let whole : ◌≡◌ {A = ℕ} (heights.height (tree.statement_of c.args.s.now)) ((heights.height_of_branches (plain.branches (map tree.branch_of c.as_slice-in-Par.result.now))) + 1) = height_by_action c.args.s.now c.in-Par.is (action_par c.in-Par.bs c.as_slice-in-Par.ensures) in
+    (down c.args.calls (deepest c.args.self.now.functions.now.all.items) (deepest c.args.self.now.functions.now.all.items) (heights.height (tree.statement_of c.args.s.now)) 0 (heights.height_of_branches (plain.branches (map tree.branch_of c.as_slice-in-Par.result.now))) 1 c.decreases refl (omega (arith, whole)), tt)
 
 pub statement-replicated-requires : goal.statement-replicated-requires
 statement-replicated-requires t c =
-    let whole : ◌≡◌ {A = ℕ} (heights.height (tree.statement_of c.args.s.now)) (heights.height_of_branch (tree.branch_of c.deref-in-Repl.result.now)) + 1) = height_by_action c.args.s.now c.in-Repl.is (action_replicated c.in-Repl.first c.in-Repl.second c.in-Repl.third c.in-Repl.from c.in-Repl.to c.in-Repl.body c.deref-in-Repl.ensures) in
-    down c.args.calls (deepest c.args.self.now.functions.now.all.items) (deepest c.args.self.now.functions.now.all.items) (heights.height (tree.statement_of c.args.s.now)) 0 (heights.height_of_branch (tree.branch_of c.deref-in-Repl.result.now)) 1 c.decreases refl (omega (arith, whole))
+    let whole : ◌≡◌ {A = ℕ} (heights.height (tree.statement_of c.args.s.now)) ((heights.height_of_branch (tree.branch_of c.deref-in-Repl.result.now)) + 1) = height_by_action c.args.s.now c.in-Repl.is (action_replicated c.in-Repl.first c.in-Repl.second c.in-Repl.third c.in-Repl.from c.in-Repl.to c.in-Repl.body c.deref-in-Repl.ensures) in
+    (down c.args.calls (deepest c.args.self.now.functions.now.all.items) (deepest c.args.self.now.functions.now.all.items) (heights.height (tree.statement_of c.args.s.now)) 0 (heights.height_of_branch (tree.branch_of c.deref-in-Repl.result.now)) 1 c.decreases refl (omega (arith, whole)), tt)
 
 pub statement-select-requires : goal.statement-select-requires
 statement-select-requires t c =
-    let whole : ◌≡◌ {A = ℕ} (heights.height (tree.statement_of c.args.s.now)) (heights.height_of_cases (plain.cases (map tree.case_of c.as_slice-in-Select.result.now))) + 1) = height_by_action c.args.s.now c.in-Select.is (action_select c.in-Select.cs c.as_slice-in-Select.ensures) in
-    down c.args.calls (deepest c.args.self.now.functions.now.all.items) (deepest c.args.self.now.functions.now.all.items) (heights.height (tree.statement_of c.args.s.now)) 0 (heights.height_of_cases (plain.cases (map tree.case_of c.as_slice-in-Select.result.now))) 3 c.decreases refl (omega (arith, whole))
+    let whole : ◌≡◌ {A = ℕ} (heights.height (tree.statement_of c.args.s.now)) ((heights.height_of_cases (plain.cases (map tree.case_of c.as_slice-in-Select.result.now))) + 1) = height_by_action c.args.s.now c.in-Select.is (action_select c.in-Select.cs c.as_slice-in-Select.ensures) in
+    (down c.args.calls (deepest c.args.self.now.functions.now.all.items) (deepest c.args.self.now.functions.now.all.items) (heights.height (tree.statement_of c.args.s.now)) 0 (heights.height_of_cases (plain.cases (map tree.case_of c.as_slice-in-Select.result.now))) 3 c.decreases refl (omega (arith, whole)), tt)
 
 pub statement-transaction-requires : goal.statement-transaction-requires
 statement-transaction-requires t c =
-    let whole : ◌≡◌ {A = ℕ} (heights.height (tree.statement_of c.args.s.now)) (heights.height_of_statements (plain.statements (map tree.statement_of c.as_slice-in-Tran.result.now))) + 1) = height_by_action c.args.s.now c.in-Tran.is (action_transaction c.in-Tran.master c.in-Tran.ss c.as_slice-in-Tran.ensures) in
-    down c.args.calls (deepest c.args.self.now.functions.now.all.items) (deepest c.args.self.now.functions.now.all.items) (heights.height (tree.statement_of c.args.s.now)) 0 (heights.height_of_statements (plain.statements (map tree.statement_of c.as_slice-in-Tran.result.now))) 2 c.decreases refl (omega (arith, whole))
+    let whole : ◌≡◌ {A = ℕ} (heights.height (tree.statement_of c.args.s.now)) ((heights.height_of_statements (plain.statements (map tree.statement_of c.as_slice-in-Tran.result.now))) + 1) = height_by_action c.args.s.now c.in-Tran.is (action_transaction c.in-Tran.master c.in-Tran.ss c.as_slice-in-Tran.ensures) in
+    (down c.args.calls (deepest c.args.self.now.functions.now.all.items) (deepest c.args.self.now.functions.now.all.items) (heights.height (tree.statement_of c.args.s.now)) 0 (heights.height_of_statements (plain.statements (map tree.statement_of c.as_slice-in-Tran.result.now))) 2 c.decreases refl (omega (arith, whole)), tt)
 
 pub maybe-returns-in-None : goal.maybe-returns-in-None
 maybe-returns-in-None t c =
@@ -188,7 +188,7 @@ maybe-returns-in-Some t c =
 pub maybe-statement-requires : goal.maybe-statement-requires
 maybe-statement-requires t c =
     let same : ◌≡◌ {A = ℕ} (heights.height (tree.statement_of c.deref.result.now)) (heights.height_of_maybe (tree.maybe_of c.args.s.now)) = ap (λ b. heights.height (tree.statement_of b)) c.deref.ensures ∙ ap (λ m. heights.height_of_maybe (tree.maybe_of m)) (sym c.in-Some.is) in
-    down c.args.calls (deepest c.args.self.now.functions.now.all.items) (deepest c.args.self.now.functions.now.all.items) (heights.height_of_maybe (tree.maybe_of c.args.s.now)) 1 (heights.height (tree.statement_of c.deref.result.now)) 0 c.decreases refl (omega (arith, same))
+    (down c.args.calls (deepest c.args.self.now.functions.now.all.items) (deepest c.args.self.now.functions.now.all.items) (heights.height_of_maybe (tree.maybe_of c.args.s.now)) 1 (heights.height (tree.statement_of c.deref.result.now)) 0 c.decreases refl (omega (arith, same)), tt)
 
 pub block-leave-requires : goal.block-leave-requires
 block-leave-requires t c =
@@ -206,7 +206,7 @@ block-returns t c =
 
 pub block-statements-requires : goal.block-statements-requires
 block-statements-requires t c =
-    down c.args.calls (deepest c.args.self.now.functions.now.all.items) (deepest c.args.self.now.functions.now.all.items) (heights.height_of_statements (plain.statements (map tree.statement_of c.args.ss.now))) 2 (heights.height_of_statements (plain.statements (map tree.statement_of c.args.ss.now))) 1 c.decreases refl (omega arith)
+    (down c.args.calls (deepest c.args.self.now.functions.now.all.items) (deepest c.args.self.now.functions.now.all.items) (heights.height_of_statements (plain.statements (map tree.statement_of c.args.ss.now))) 2 (heights.height_of_statements (plain.statements (map tree.statement_of c.args.ss.now))) 1 c.decreases refl (omega arith), tt)
 
 pub declaration-returns-in_ok-copied-in-Word : goal.declaration-returns-in_ok-copied-in-Word
 declaration-returns-in_ok-copied-in-Word t c =
@@ -255,7 +255,7 @@ declaration-returns-in-Timer t c =
 
 pub declaration-initial-requires : goal.declaration-initial-requires
 declaration-initial-requires t c =
-    down c.args.calls (deepest c.args.self.now.functions.now.all.items) (deepest c.args.self.now.functions.now.all.items) 0 5 0 4 c.decreases refl (omega arith)
+    (down c.args.calls (deepest c.args.self.now.functions.now.all.items) (deepest c.args.self.now.functions.now.all.items) 0 5 0 4 c.decreases refl (omega arith), tt)
 
 pub initial-returns-in-None : goal.initial-returns-in-None
 initial-returns-in-None t c =
@@ -280,7 +280,7 @@ initial-returns t c =
 
 pub initial-right-requires : goal.initial-right-requires
 initial-right-requires t c =
-    down c.args.calls (deepest c.args.self.now.functions.now.all.items) (deepest c.args.self.now.functions.now.all.items) 0 4 0 3 c.decreases refl (omega arith)
+    (down c.args.calls (deepest c.args.self.now.functions.now.all.items) (deepest c.args.self.now.functions.now.all.items) 0 4 0 3 c.decreases refl (omega arith), tt)
 
 pub assign-returns-then-symbol-ne-EQUALS : goal.assign-returns-then-symbol-ne-EQUALS
 assign-returns-then-symbol-ne-EQUALS t c =
@@ -309,7 +309,7 @@ assign-returns t c =
 
 pub assign-right-requires : goal.assign-right-requires
 assign-right-requires t c =
-    down c.args.calls (deepest c.args.self.now.functions.now.all.items) (deepest c.args.self.now.functions.now.all.items) 0 4 0 3 c.decreases refl (omega arith)
+    (down c.args.calls (deepest c.args.self.now.functions.now.all.items) (deepest c.args.self.now.functions.now.all.items) 0 4 0 3 c.decreases refl (omega arith), tt)
 
 pub return_with-returns-in-None : goal.return_with-returns-in-None
 return_with-returns-in-None t c =
@@ -329,7 +329,7 @@ return_with-returns-in_ok-copied-in-Some t c =
 
 pub return_with-right-requires : goal.return_with-right-requires
 return_with-right-requires t c =
-    down c.args.calls (deepest c.args.self.now.functions.now.all.items) (deepest c.args.self.now.functions.now.all.items) 0 4 0 3 c.decreases refl (omega arith)
+    (down c.args.calls (deepest c.args.self.now.functions.now.all.items) (deepest c.args.self.now.functions.now.all.items) 0 4 0 3 c.decreases refl (omega arith), tt)
 
 pub right-returns-in-Value : goal.right-returns-in-Value
 right-returns-in-Value t c =
@@ -412,7 +412,7 @@ function-returns t c =
 
 pub function-statement-requires : goal.function-statement-requires
 function-statement-requires t c =
-    down c.args.calls (deepest c.args.self.now.functions.now.all.items) (deepest c.in_function.result.functions.now.all.items) (deepest c.args.self.now.functions.now.all.items) 1 (heights.height (tree.statement_of c.args.function.now.body)) 0 c.decreases (ap (λ f. deepest f.now.all.items) c.in_function.ensures.functions) (omega (arith, c.requires))
+    (down c.args.calls (deepest c.args.self.now.functions.now.all.items) (deepest c.in_function.result.functions.now.all.items) (deepest c.args.self.now.functions.now.all.items) 1 (heights.height (tree.statement_of c.args.function.now.body)) 0 c.decreases (ap (λ f. deepest f.now.all.items) c.in_function.ensures.functions) (omega (arith, c.requires)), tt)
 
 pub choice-returns : goal.choice-returns
 choice-returns t c =
@@ -423,11 +423,11 @@ choice-returns t c =
 
 pub choice-statement-requires : goal.choice-statement-requires
 choice-statement-requires t c =
-    down c.args.calls (deepest c.args.self.now.functions.now.all.items) (deepest c.args.self.now.functions.now.all.items) (max (heights.height (tree.statement_of c.args.first.now)) (heights.height_of_maybe (tree.maybe_of c.args.second.now))) 2 (heights.height (tree.statement_of c.args.first.now)) 0 c.decreases refl (omega arith)
+    (down c.args.calls (deepest c.args.self.now.functions.now.all.items) (deepest c.args.self.now.functions.now.all.items) (max (heights.height (tree.statement_of c.args.first.now)) (heights.height_of_maybe (tree.maybe_of c.args.second.now))) 2 (heights.height (tree.statement_of c.args.first.now)) 0 c.decreases refl (omega arith), tt)
 
 pub choice-maybe-requires : goal.choice-maybe-requires
 choice-maybe-requires t c =
-    down c.args.calls (deepest c.args.self.now.functions.now.all.items) (deepest c.args.self.now.functions.now.all.items) (max (heights.height (tree.statement_of c.args.first.now)) (heights.height_of_maybe (tree.maybe_of c.args.second.now))) 2 (heights.height_of_maybe (tree.maybe_of c.args.second.now)) 1 c.decreases refl (omega arith)
+    (down c.args.calls (deepest c.args.self.now.functions.now.all.items) (deepest c.args.self.now.functions.now.all.items) (max (heights.height (tree.statement_of c.args.first.now)) (heights.height_of_maybe (tree.maybe_of c.args.second.now))) 2 (heights.height_of_maybe (tree.maybe_of c.args.second.now)) 1 c.decreases refl (omega arith), tt)
 
 pub while_loop-loop_at-requires : goal.while_loop-loop_at-requires
 while_loop-loop_at-requires t c = c.in_ok-paths.ensures.turn ∙ ap paths.path_of_turn (sym c.in_ok-paths.ensures.whole)
@@ -449,7 +449,7 @@ while_loop-returns t c =
 
 pub while_loop-statement-requires : goal.while_loop-statement-requires
 while_loop-statement-requires t c =
-    down c.args.calls (deepest c.args.self.now.functions.now.all.items) (deepest c.in_loop.result.functions.now.all.items) (heights.height (tree.statement_of c.args.body.now)) 1 (heights.height (tree.statement_of c.args.body.now)) 0 c.decreases (ap (λ f. deepest f.now.all.items) c.in_loop.ensures.functions) (omega arith)
+    (down c.args.calls (deepest c.args.self.now.functions.now.all.items) (deepest c.in_loop.result.functions.now.all.items) (heights.height (tree.statement_of c.args.body.now)) 1 (heights.height (tree.statement_of c.args.body.now)) 0 c.decreases (ap (λ f. deepest f.now.all.items) c.in_loop.ensures.functions) (omega arith), tt)
 
 pub do_while-loop_at-requires : goal.do_while-loop_at-requires
 do_while-loop_at-requires t c = c.in_ok-paths.ensures.turn ∙ ap paths.path_of_turn (sym c.in_ok-paths.ensures.whole)
@@ -473,7 +473,7 @@ do_while-returns t c =
 
 pub do_while-statement-requires : goal.do_while-statement-requires
 do_while-statement-requires t c =
-    down c.args.calls (deepest c.args.self.now.functions.now.all.items) (deepest c.in_loop.result.functions.now.all.items) (heights.height (tree.statement_of c.args.body.now)) 1 (heights.height (tree.statement_of c.args.body.now)) 0 c.decreases (ap (λ f. deepest f.now.all.items) c.in_loop.ensures.functions) (omega arith)
+    (down c.args.calls (deepest c.args.self.now.functions.now.all.items) (deepest c.in_loop.result.functions.now.all.items) (heights.height (tree.statement_of c.args.body.now)) 1 (heights.height (tree.statement_of c.args.body.now)) 0 c.decreases (ap (λ f. deepest f.now.all.items) c.in_loop.ensures.functions) (omega arith), tt)
 
 pub for_loop-leave-requires : goal.for_loop-leave-requires
 for_loop-leave-requires t c =
@@ -520,15 +520,15 @@ for_loop-returns t c =
 
 pub for_loop-maybe-requires : goal.for_loop-maybe-requires
 for_loop-maybe-requires t c =
-    down c.args.calls (deepest c.args.self.now.functions.now.all.items) (deepest c.args.self.now.functions.now.all.items) (max (heights.height_of_maybe (tree.maybe_of c.args.first.now)) (max (heights.height_of_maybe (tree.maybe_of c.args.next.now)) (heights.height (tree.statement_of c.args.body.now)))) 2 (heights.height_of_maybe (tree.maybe_of c.args.first.now)) 1 c.decreases refl (omega arith)
+    (down c.args.calls (deepest c.args.self.now.functions.now.all.items) (deepest c.args.self.now.functions.now.all.items) (max (heights.height_of_maybe (tree.maybe_of c.args.first.now)) (max (heights.height_of_maybe (tree.maybe_of c.args.next.now)) (heights.height (tree.statement_of c.args.body.now)))) 2 (heights.height_of_maybe (tree.maybe_of c.args.first.now)) 1 c.decreases refl (omega arith), tt)
 
 pub for_loop-maybe-requires-2 : goal.for_loop-maybe-requires-2
 for_loop-maybe-requires-2 t c =
-    down c.args.calls (deepest c.args.self.now.functions.now.all.items) (deepest c.args.self.now.functions.now.all.items) (max (heights.height_of_maybe (tree.maybe_of c.args.first.now)) (max (heights.height_of_maybe (tree.maybe_of c.args.next.now)) (heights.height (tree.statement_of c.args.body.now)))) 2 (heights.height_of_maybe (tree.maybe_of c.args.next.now)) 1 c.decreases refl (omega arith)
+    (down c.args.calls (deepest c.args.self.now.functions.now.all.items) (deepest c.args.self.now.functions.now.all.items) (max (heights.height_of_maybe (tree.maybe_of c.args.first.now)) (max (heights.height_of_maybe (tree.maybe_of c.args.next.now)) (heights.height (tree.statement_of c.args.body.now)))) 2 (heights.height_of_maybe (tree.maybe_of c.args.next.now)) 1 c.decreases refl (omega arith), tt)
 
 pub for_loop-statement-requires : goal.for_loop-statement-requires
 for_loop-statement-requires t c =
-    down c.args.calls (deepest c.args.self.now.functions.now.all.items) (deepest c.in_loop.result.functions.now.all.items) (max (heights.height_of_maybe (tree.maybe_of c.args.first.now)) (max (heights.height_of_maybe (tree.maybe_of c.args.next.now)) (heights.height (tree.statement_of c.args.body.now)))) 2 (heights.height (tree.statement_of c.args.body.now)) 0 c.decreases (ap (λ f. deepest f.now.all.items) c.in_loop.ensures.functions) (omega arith)
+    (down c.args.calls (deepest c.args.self.now.functions.now.all.items) (deepest c.in_loop.result.functions.now.all.items) (max (heights.height_of_maybe (tree.maybe_of c.args.first.now)) (max (heights.height_of_maybe (tree.maybe_of c.args.next.now)) (heights.height (tree.statement_of c.args.body.now)))) 2 (heights.height (tree.statement_of c.args.body.now)) 0 c.decreases (ap (λ f. deepest f.now.all.items) c.in_loop.ensures.functions) (omega arith), tt)
 
 pub transaction-leave-requires : goal.transaction-leave-requires
 transaction-leave-requires t c =
@@ -552,4 +552,4 @@ transaction-returns t c =
 
 pub transaction-statements-requires : goal.transaction-statements-requires
 transaction-statements-requires t c =
-    down c.args.calls (deepest c.args.self.now.functions.now.all.items) (deepest c.args.self.now.functions.now.all.items) (heights.height_of_statements (plain.statements (map tree.statement_of c.args.ss.now))) 2 (heights.height_of_statements (plain.statements (map tree.statement_of c.args.ss.now))) 1 c.decreases refl (omega arith)
+    (down c.args.calls (deepest c.args.self.now.functions.now.all.items) (deepest c.args.self.now.functions.now.all.items) (heights.height_of_statements (plain.statements (map tree.statement_of c.args.ss.now))) 2 (heights.height_of_statements (plain.statements (map tree.statement_of c.args.ss.now))) 1 c.decreases refl (omega arith), tt)
