@@ -14,3 +14,4 @@ pub mod Depths
 pub mod Pieces
 pub mod Walks
 pub mod Actions
+pub mod Loops

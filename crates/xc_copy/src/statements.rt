@@ -98,7 +98,6 @@ impl<'p, 'a> Context<'p, 'a> {
 
     /// The copy of statements, one behind the other.
     #[cycle(statement)]
-    #[tactic(none)]
     fn statements(
         &self,
         alloc: Global,
@@ -135,7 +134,6 @@ impl<'p, 'a> Context<'p, 'a> {
 
     /// The copy of declared names, one behind the other.
     #[cycle(statement)]
-    #[tactic(none)]
     pub fn declarations(
         &self,
         alloc: Global,
@@ -431,7 +429,6 @@ impl<'p, 'a> Context<'p, 'a> {
 
     /// The copy of a `par`.
     #[cycle(statement)]
-    #[tactic(none)]
     fn par(
         &self,
         alloc: Global,
@@ -455,7 +452,6 @@ impl<'p, 'a> Context<'p, 'a> {
 
     /// The copy of a replicated `par`: of its branch for each number, in which a name stands for the number.
     #[cycle(statement)]
-    #[tactic(none)]
     fn replicated(
         &self,
         alloc: Global,
@@ -485,7 +481,6 @@ impl<'p, 'a> Context<'p, 'a> {
 
     /// The copy of a `select`, each of whose cases is a scope.
     #[cycle(statement)]
-    #[tactic(none)]
     fn select(
         &self,
         alloc: Global,
@@ -508,7 +503,6 @@ impl<'p, 'a> Context<'p, 'a> {
 
     /// One more case, or the `default`, behind others.
     #[cycle(statement)]
-    #[tactic(none)]
     fn case(
         &self,
         alloc: Global,

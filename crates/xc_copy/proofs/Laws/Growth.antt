@@ -84,7 +84,7 @@ module _ (copies : CopiesCall) (keep : KeepsNames copies) where
   declarations_grow c [] scope = as_before scope
   declarations_grow c (d ∷ ds) scope = further (kind_grows c scope d.name.text d.name.pos d.kind) (declarations_grow c ds _)
 
-  target_grows : (c : Context) (scope : Scope) (t : tree.Target) → Grows scope (target_copy c scope t).scope
+  pub target_grows : (c : Context) (scope : Scope) (t : tree.Target) → Grows scope (target_copy c scope t).scope
   target_grows c scope (tree.to e) = as_before scope
   target_grows c scope tree.dropped = as_before scope
   target_grows c scope (tree.fresh u name) = with_one scope name.text _

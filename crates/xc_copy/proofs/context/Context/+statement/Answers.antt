@@ -24,10 +24,14 @@ use Rattle.xc_copy.specs.Functions.{function_of, deepest}
 use Rattle.xc_copy.specs.Growth.{Grows}
 use Rattle.xc_copy.specs.Heights as heights
 use Rattle.xc_copy.specs.Scopes.{scope_of}
-use Rattle.xc_copy.proofs.Laws.Actions.{copied_as, height_by_action, by_action, call_by_action, action_block, action_declare, action_if, action_while, action_do, action_for, action_par, action_replicated, action_select, action_transaction}
-use Rattle.xc_copy.proofs.Laws.Growth.{calls_keep, further, grown_by, grown_fits, left_as, maybe_grows, statement_grows, statements_grow}
+use Rattle.xc_copy.proofs.Laws.Actions.{copied_as, height_by_action, by_action, call_by_action, action_block, action_declare, action_if, action_while, action_do, action_for, action_par, action_replicated, action_select, action_transaction, begins_at, in_branch_of}
+use Rattle.xc_copy.proofs.Laws.Growth.{calls_keep, further, grown_by, grown_fits, left_as, maybe_grows, statement_grows, statements_grow, target_grows}
 use Rattle.xc_copy.proofs.Laws.Pieces.{if_done, while_done, do_done, for_done, set_done, return_done, function_done, transaction_done, followed_done}
 use Rattle.xc_copy.proofs.Laws.Depths.{down, enters_below}
+use Rattle.xc_kernel.specs.Scopes as scopes
+use Rattle.xc_copy.specs.Parts.{branched_before, cased_before}
+use Rattle.xc_copy.proofs.Laws.Loops.{statement_below, branch_below, branches_below, case_below, body_below, grown_from, numbered_grows, default_done, case_done}
+use Rattle.xc_copy.proofs.Laws.Walks.{statements_more, statements_all, declarations_more, declarations_all, branches_more, branches_all, cases_more, cases_all, numbered_begun, numbered_more, numbered_all}
 use Rattle.xc_copy.proofs.context.Context.+statement.Goals as goal
 
 pub statement-returns-in-Empty : goal.statement-returns-in-Empty
@@ -553,3 +557,210 @@ transaction-returns t c =
 pub transaction-statements-requires : goal.transaction-statements-requires
 transaction-statements-requires t c =
     (down c.args.calls (deepest c.args.self.now.functions.now.all.items) (deepest c.args.self.now.functions.now.all.items) (heights.height_of_statements (plain.statements (map tree.statement_of c.args.ss.now))) 2 (heights.height_of_statements (plain.statements (map tree.statement_of c.args.ss.now))) 1 c.decreases refl (omega arith), tt)
+
+pub statements-loop-s-init : goal.statements-loop-s-init
+statements-loop-s-init t c =
+    let here = context_of c.args.self.now in
+    let copies' = spec.calls_copy c.args.calls in
+    let ss = plain.statements (map tree.statement_of c.args.ss.now) in
+    ap (λ x. copies.followed_by x (spec.statements_copy copies' ss here)) (c.nothing-copied.ensures (scope_of c.args.scope.now))
+
+pub statements-loop-s-preserved : goal.statements-loop-s-preserved
+statements-loop-s-preserved t c =
+    statements_more (spec.calls_copy c.args.calls) (context_of c.args.self.now) c.args.ss.now c.loop-s.s-index c.s-item.result c.s-item.is c.loop-s-test.true
+    (copy_of c.loop-s.copied (scope_of c.loop-s.scope)) c.in_ok-next.ensures (c.in_ok-copied.ensures (scope_of c.loop-s.scope) (scope_of c.statement.new.scope)) c.loop-s.invariant
+
+pub statements-returns : goal.statements-returns
+statements-returns t c =
+    statements_all (spec.calls_copy c.args.calls) (context_of c.args.self.now) c.args.ss.now c.loop-s.s-index c.loop-s-test.false (copy_of c.loop-s.copied (scope_of c.loop-s.scope)) c.loop-s.invariant
+
+pub statements-statement-requires : goal.statements-statement-requires
+statements-statement-requires t c =
+    (statement_below c.args.calls (deepest c.args.self.now.functions.now.all.items) c.args.ss.now c.loop-s.s-index c.s-item.result c.decreases c.s-item.is c.loop-s-test.true, tt)
+
+pub declarations-loop-d-init : goal.declarations-loop-d-init
+declarations-loop-d-init t c =
+    let here = context_of c.args.self.now in
+    let copies' = spec.calls_copy c.args.calls in
+    ap (λ x. copies.followed_by x (declarations.declarations_copy copies' here (map tree.declaration_of c.args.ds.now))) (c.nothing-copied.ensures (scope_of c.args.scope.now))
+
+pub declarations-loop-d-preserved : goal.declarations-loop-d-preserved
+declarations-loop-d-preserved t c =
+    declarations_more (spec.calls_copy c.args.calls) (context_of c.args.self.now) c.args.ds.now c.loop-d.d-index c.d-item.result c.d-item.is c.loop-d-test.true
+    (copy_of c.loop-d.copied (scope_of c.loop-d.scope)) c.in_ok-next.ensures (c.in_ok-copied.ensures (scope_of c.loop-d.scope) (scope_of c.declaration.new.scope)) c.loop-d.invariant
+
+pub declarations-returns : goal.declarations-returns
+declarations-returns t c =
+    declarations_all (spec.calls_copy c.args.calls) (context_of c.args.self.now) c.args.ds.now c.loop-d.d-index c.loop-d-test.false (copy_of c.loop-d.copied (scope_of c.loop-d.scope)) c.loop-d.invariant
+
+pub declarations-declaration-requires : goal.declarations-declaration-requires
+declarations-declaration-requires t c =
+    let d = deepest c.args.self.now.functions.now.all.items in
+    (down c.args.calls d d 0 6 0 5 c.decreases refl (omega arith), tt)
+
+pub par-loop-index-init : goal.par-loop-index-init
+par-loop-index-init t c =
+    let bs = plain.branches (map tree.branch_of c.args.bs.now) in
+    c.none-branches.ensures (spec.branches_copy (spec.calls_copy c.args.calls) bs 0 (context_of c.args.self.now) (scope_of c.args.scope.now))
+
+pub par-loop-index-preserved : goal.par-loop-index-preserved
+par-loop-index-preserved t c =
+    let here = context_of c.args.self.now in
+    let copies' = spec.calls_copy c.args.calls in
+    let b = c.index-bs-index.result in
+    let inner = contexts.in_branch here c.loop-index.index in
+    let before = scope_of c.loop-index.scope in
+    let after = scope_of c.statement.new.scope in
+    let made = copy_of c.in_ok-copied.copied after in
+    let path = c.as_slice.ensures ∙ c.in_ok-path.ensures in
+    let context = c.in_branch.ensures.context ∙ ap (λ p. record here { path = p }) path in
+    let copied = c.in_ok-copied.ensures ∙ ap (λ x. spec.statement_copy copies' (tree.statement_of b.body) x before) context ∙ in_branch_of copies' b inner before in
+    branches_more copies' here c.args.bs.now c.loop-index.index b c.index-bs-index.is c.loop-index-test.true before c.loop-index.branches c.in_ok-branches.branches copied
+    (λ others. c.in_ok-branches.ensures after others ∙ ap (λ pos. branched_before c.loop-index.branches (flow.and_branch pos made others)) (begins_at b))
+    c.loop-index.invariant
+
+pub par-returns : goal.par-returns
+par-returns t c =
+    let scope = scope_of c.loop-index.scope in
+    c.in_ok-copied-2.ensures scope
+    ∙ ap flow.par_copy (branches_all (spec.calls_copy c.args.calls) (context_of c.args.self.now) c.args.bs.now c.loop-index.index c.loop-index-test.false scope c.loop-index.branches c.loop-index.invariant)
+
+pub par-statement-requires : goal.par-statement-requires
+par-statement-requires t c =
+    (branches_below c.args.calls (deepest c.args.self.now.functions.now.all.items) (deepest c.in_branch.result.functions.now.all.items) c.args.bs.now c.loop-index.index c.index-bs-index.result
+        c.decreases (ap (λ f. deepest f.now.all.items) c.in_branch.ensures.functions) c.index-bs-index.is c.loop-index-test.true, tt)
+
+pub replicated-loop-number-init : goal.replicated-loop-number-init
+replicated-loop-number-init t c =
+    let scope = scope_of c.args.scope.now in
+    let copy = flow.numbered_copy (spec.branch_copy (spec.calls_copy c.args.calls) (tree.branch_of c.args.b.now)) (context_of c.args.self.now) scope c.args.name.now.text in
+    let pos = spec.pos_of_branch (tree.branch_of c.args.b.now) in
+    record {
+      above = omega arith;
+      scope = refl;
+      branches = c.none-branches.ensures (flow.replicated copy pos scope (c.args.until - c.args.from) (c.args.from - c.args.from) c.args.from) ∙ numbered_begun copy pos scope c.args.from c.args.until;
+    }
+
+pub replicated-leave-requires : goal.replicated-leave-requires
+replicated-leave-requires t c =
+    let inv = c.loop-number.invariant in
+    let name = c.in_ok-declare.ensures ∙ ap (λ n. scopes.with_name (scope_of c.loop-number.scope) n (scopes.a_constant c.loop-number.number)) c.as_slice.ensures in
+    grown_fits (numbered_grows c.args.calls (tree.statement_of c.args.b.now.body) (context_of c.in_branch.result) c.args.name.now.text (scopes.a_constant c.loop-number.number) inv.scope name c.in_ok-copied.ensures) c.len-known.ensures
+
+pub replicated-loop-number-preserved : goal.replicated-loop-number-preserved
+replicated-loop-number-preserved t c =
+    let here = context_of c.args.self.now in
+    let copies' = spec.calls_copy c.args.calls in
+    let scope = scope_of c.args.scope.now in
+    let number = c.loop-number.number in
+    let index = number - c.args.from in
+    let b = c.args.b.now in
+    let inv = c.loop-number.invariant in
+    let inner = contexts.in_branch here index in
+    let within = scopes.with_name scope c.args.name.now.text (scopes.a_constant number) in
+    let copy = flow.numbered_copy (spec.branch_copy copies' (tree.branch_of b)) here scope c.args.name.now.text in
+    let made = copy_of c.in_ok-copied.copied scope in
+    let path = c.as_slice-in-loop-number.ensures ∙ c.in_ok-path.ensures in
+    let context = c.in_branch.ensures.context ∙ ap (λ p. record here { path = p }) path in
+    let name = c.in_ok-declare.ensures ∙ ap (λ n. scopes.with_name (scope_of c.loop-number.scope) n (scopes.a_constant number)) c.as_slice.ensures in
+    let named = name ∙ ap (λ s. scopes.with_name s c.args.name.now.text (scopes.a_constant number)) inv.scope in
+    let copied = c.in_ok-copied.ensures ∙ (λ i. spec.statement_copy copies' (tree.statement_of b.body) (context i) (named i)) ∙ in_branch_of copies' b inner within in
+    record {
+      above = omega (arith, inv.above);
+      scope = left_as (numbered_grows c.args.calls (tree.statement_of b.body) (context_of c.in_branch.result) c.args.name.now.text (scopes.a_constant number) inv.scope name c.in_ok-copied.ensures) c.len-known.ensures c.leave.ensures;
+      branches = numbered_more copy (spec.pos_of_branch (tree.branch_of b)) scope c.args.from c.args.until number inv.above c.loop-number-test.true c.loop-number.branches c.in_ok-branches.branches
+          (ap (copies.in_scope_of scope) copied)
+          (λ others. c.in_ok-branches.ensures scope others ∙ ap (λ pos. branched_before c.loop-number.branches (flow.and_branch pos made others)) (begins_at b))
+          inv.branches;
+    }
+
+pub replicated-returns : goal.replicated-returns
+replicated-returns t c =
+    let here = context_of c.args.self.now in
+    let scope = scope_of c.args.scope.now in
+    let b = c.args.b.now in
+    let inv = c.loop-number.invariant in
+    let copy = flow.numbered_copy (spec.branch_copy (spec.calls_copy c.args.calls) (tree.branch_of b)) here scope c.args.name.now.text in
+    c.in_ok-copied-2.ensures (scope_of c.loop-number.scope)
+    ∙ ap (λ s. flow.par_copy (branched_before c.loop-number.branches (flow.no_branches s))) inv.scope
+    ∙ ap flow.par_copy (numbered_all copy (spec.pos_of_branch (tree.branch_of b)) scope c.args.from c.args.until c.loop-number.number c.loop-number-test.false c.loop-number.branches inv.branches)
+
+pub replicated-statement-requires : goal.replicated-statement-requires
+replicated-statement-requires t c =
+    (branch_below c.args.calls (deepest c.args.self.now.functions.now.all.items) (deepest c.in_branch.result.functions.now.all.items) c.args.b.now c.decreases (ap (λ f. deepest f.now.all.items) c.in_branch.ensures.functions), tt)
+
+pub select-loop-case-init : goal.select-loop-case-init
+select-loop-case-init t c =
+    let cs = plain.cases (map tree.case_of c.args.cs.now) in
+    record {
+      scope = refl;
+      cases = c.none-cases.ensures (spec.cases_copy (spec.calls_copy c.args.calls) cs (context_of c.args.self.now) (scope_of c.args.scope.now));
+    }
+
+pub select-leave-requires : goal.select-leave-requires
+select-leave-requires t c = grown_fits (grown_from c.loop-case.invariant.scope c.in_ok-cases.ensures.names) c.len-known.ensures
+
+pub select-loop-case-preserved : goal.select-loop-case-preserved
+select-loop-case-preserved t c =
+    let here = context_of c.args.self.now in
+    let copies' = spec.calls_copy c.args.calls in
+    let x = c.case-item.result in
+    let inv = c.loop-case.invariant in
+    record {
+      scope = left_as (grown_from inv.scope c.in_ok-cases.ensures.names) c.len-known.ensures c.leave.ensures;
+      cases = cases_more copies' here c.args.cs.now c.loop-case.case-index x c.case-item.is c.loop-case-test.true (scope_of c.args.scope.now) c.loop-case.cases c.in_ok-cases.cases
+          (λ others. c.in_ok-cases.ensures.cases others ∙ ap (λ s. cased_before c.loop-case.cases (spec.case_copy copies' (tree.case_of x) here s others)) inv.scope)
+          inv.cases;
+    }
+
+pub select-returns : goal.select-returns
+select-returns t c =
+    let scope = scope_of c.args.scope.now in
+    let inv = c.loop-case.invariant in
+    c.in_ok-copied.ensures (scope_of c.loop-case.scope)
+    ∙ ap (λ s. flow.select_copy s c.args.pos (cased_before c.loop-case.cases (flow.no_cases s))) inv.scope
+    ∙ ap (flow.select_copy scope c.args.pos) (cases_all (spec.calls_copy c.args.calls) (context_of c.args.self.now) c.args.cs.now c.loop-case.case-index c.loop-case-test.false scope c.loop-case.cases inv.cases)
+
+pub select-case-requires : goal.select-case-requires
+select-case-requires t c =
+    (case_below c.args.calls (deepest c.args.self.now.functions.now.all.items) c.args.cs.now c.loop-case.case-index c.case-item.result c.decreases c.case-item.is c.loop-case-test.true, tt)
+
+pub case-returns-in_ok-cases-in-None-clause-cases : goal.case-returns-in_ok-cases-in-None-clause-cases
+case-returns-in_ok-cases-in-None-clause-cases t c =
+    let after = scope_of c.statements.new.scope in
+    default_done (spec.calls_copy c.args.calls) (context_of c.args.self.now) (scope_of c.args.scope.now) c.args.case.now c.args.before c.in_ok-cases-in-None.cases
+    c.in-None.is c.in_ok-path.ensures c.as_slice.ensures c.in_case.ensures.context c.as_slice-in-None.ensures c.in_ok-body-in-None.ensures (c.in_ok-block-in-None.ensures after) (c.in_ok-cases-in-None.ensures after)
+
+pub case-returns-in_ok-cases-in-None-clause-names : goal.case-returns-in_ok-cases-in-None-clause-names
+case-returns-in_ok-cases-in-None-clause-names t c =
+    let ss = plain.statements (map tree.statement_of c.as_slice-in-None.result.now) in
+    let scope = scope_of c.args.scope.now in
+    grown_by scope c.in_ok-body-in-None.ensures (statements_grow (spec.calls_copy c.args.calls) (calls_keep c.args.calls) ss (context_of c.in_case.result) scope)
+
+pub case-returns-in_ok-cases-in-Some-clause-cases : goal.case-returns-in_ok-cases-in-Some-clause-cases
+case-returns-in_ok-cases-in-Some-clause-cases t c =
+    let after = scope_of c.statements-in-Some.new.scope in
+    case_done (spec.calls_copy c.args.calls) (context_of c.args.self.now) (scope_of c.args.scope.now) c.args.case.now c.in-Some.head c.args.before c.in_ok-cases-in-Some.cases
+    c.in-Some.is c.in_ok-path.ensures c.as_slice-in-Some.ensures c.in_case-in-Some.ensures.context c.as_slice-in-Some-2.ensures c.in_ok-guard-in-Some.ensures c.in_ok-received-in-Some.ensures.head c.in_ok-received-in-Some.ensures.names
+    c.in_ok-body-in-Some.ensures (c.in_ok-block-in-Some.ensures after) (c.in_ok-cases-in-Some.ensures (scope_of c.received.new.scope) after)
+
+pub case-returns-in_ok-cases-in-Some-clause-names : goal.case-returns-in_ok-cases-in-Some-clause-names
+case-returns-in_ok-cases-in-Some-clause-names t c =
+    let here = context_of c.args.self.now in
+    let copies' = spec.calls_copy c.args.calls in
+    let keep = calls_keep c.args.calls in
+    let ss = plain.statements (map tree.statement_of c.as_slice-in-Some-2.result.now) in
+    let scope = scope_of c.args.scope.now in
+    let inner = scope_of c.received.new.scope in
+    further (grown_by scope c.in_ok-received-in-Some.ensures.names (target_grows copies' keep here scope (tree.input_of c.in-Some.head).target))
+    (grown_by inner c.in_ok-body-in-Some.ensures (statements_grow copies' keep ss (context_of c.in_case-in-Some.result) inner))
+
+pub case-statements-requires : goal.case-statements-requires
+case-statements-requires t c =
+    (body_below c.args.calls (deepest c.args.self.now.functions.now.all.items) (deepest c.in_case.result.functions.now.all.items) c.args.case.now c.as_slice-in-None.result.now
+        c.decreases (ap (λ f. deepest f.now.all.items) c.in_case.ensures.functions) c.as_slice-in-None.ensures, tt)
+
+pub case-statements-requires-in-Some : goal.case-statements-requires-in-Some
+case-statements-requires-in-Some t c =
+    (body_below c.args.calls (deepest c.args.self.now.functions.now.all.items) (deepest c.in_case-in-Some.result.functions.now.all.items) c.args.case.now c.as_slice-in-Some-2.result.now
+        c.decreases (ap (λ f. deepest f.now.all.items) c.in_case-in-Some.ensures.functions) c.as_slice-in-Some-2.ensures, tt)

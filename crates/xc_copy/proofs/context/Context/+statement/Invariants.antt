@@ -1,4 +1,4 @@
-use Rattle.std.proofs.Common.{◌≡◌, ◌-◌, drop, map, max}
+use Rattle.std.proofs.Common.{◌≡◌, ◌≤◌, ◌-◌, drop, map, max}
 use Rattle.xc_tree.specs.Trees as tree
 use Rattle.xc_tree.specs.Plain as plain
 use Rattle.xc_kernel.specs.Copy as copies
@@ -105,6 +105,7 @@ invariant-replicated-loop-number l =
     let copy = flow.numbered_copy (spec.branch_copy (spec.calls_copy l.calls) (tree.branch_of l.b)) (context_of l.self) (scope_of l.initial.scope) l.name.text in
     let pos = spec.pos_of_branch (tree.branch_of l.b) in
     record {
+      above : l.from ≤ l.number;
       scope : scope_of l.scope ≡ scope_of l.initial.scope;
       branches : branched_before l.branches (flow.replicated copy pos (scope_of l.initial.scope) (l.until - l.number) (l.number - l.from) l.number)
           ≡ flow.replicated copy pos (scope_of l.initial.scope) (l.until - l.from) 0 l.from;
