@@ -12,3 +12,4 @@ pub mod Growth
 pub mod Parts
 pub mod Depths
 pub mod Pieces
+pub mod Words
