@@ -13,3 +13,5 @@ pub mod Parts
 pub mod Depths
 pub mod Pieces
 pub mod Words
+pub mod Roots
+pub mod Ports

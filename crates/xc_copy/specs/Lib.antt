@@ -11,3 +11,4 @@ pub mod Words
 pub mod Growth
 pub mod Parts
 pub mod Roots
+pub mod Ports

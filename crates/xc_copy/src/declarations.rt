@@ -266,7 +266,8 @@ impl<'p, 'a> Context<'p, 'a> {
 
     /// A branch of a `par` here, by its path.
     pub fn in_branch<'q>(&'q self, path: &'q [u32]) -> Context<'q, 'a>
-        ensures { context_of result ≡ record (context_of self.now) { path = path.now } }
+        ensures context { context_of result ≡ record (context_of self.now) { path = path.now } }
+        ensures functions { result.functions ≡ self.now.functions }
     {
         Context {
             functions: self.functions,
@@ -283,7 +284,8 @@ impl<'p, 'a> Context<'p, 'a> {
 
     /// The body of a loop, by the paths of the blocks that `break` and `continue` leave.
     pub fn in_loop<'q>(&'q self, whole: &'q [u32], turn: &'q [u32]) -> Context<'q, 'a>
-        ensures { context_of result ≡ record (context_of self.now) { breaks = whole.now; continues = turn.now } }
+        ensures context { context_of result ≡ record (context_of self.now) { breaks = whole.now; continues = turn.now } }
+        ensures functions { result.functions ≡ self.now.functions }
     {
         Context {
             functions: self.functions,
@@ -300,7 +302,8 @@ impl<'p, 'a> Context<'p, 'a> {
 
     /// The body of a case, by the path of the block that `break` leaves.
     pub fn in_case<'q>(&'q self, path: &'q [u32]) -> Context<'q, 'a>
-        ensures { context_of result ≡ record (context_of self.now) { breaks = path.now } }
+        ensures context { context_of result ≡ record (context_of self.now) { breaks = path.now } }
+        ensures functions { result.functions ≡ self.now.functions }
     {
         Context {
             functions: self.functions,
@@ -317,7 +320,8 @@ impl<'p, 'a> Context<'p, 'a> {
 
     /// The body of a function, by the paths of its instance and of its result.
     pub fn in_function<'q>(&'q self, own: &'q [u32], result_path: &'q [u32]) -> Context<'q, 'a>
-        ensures { context_of result ≡ record (context_of self.now) { path = own.now; result = result_path.now; returns = own.now } }
+        ensures context { context_of result ≡ record (context_of self.now) { path = own.now; result = result_path.now; returns = own.now } }
+        ensures functions { result.functions ≡ self.now.functions }
     {
         Context {
             functions: self.functions,
@@ -334,7 +338,8 @@ impl<'p, 'a> Context<'p, 'a> {
 
     /// A branch on a core, by its path.
     pub fn on_core<'q>(&'q self, core: u8) -> Context<'q, 'a>
-        ensures { context_of result ≡ record (context_of self.now) { core = core } }
+        ensures context { context_of result ≡ record (context_of self.now) { core = core } }
+        ensures functions { result.functions ≡ self.now.functions }
     {
         Context {
             functions: self.functions,
