@@ -15,3 +15,5 @@ pub mod Pieces
 pub mod Words
 pub mod Roots
 pub mod Ports
+pub mod Walks
+pub mod Actions

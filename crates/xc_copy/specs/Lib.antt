@@ -3,6 +3,7 @@ pub mod Scopes
 pub mod Copied
 pub mod PathSets
 pub mod Numbers
+pub mod Heights
 pub mod Functions
 pub mod Truths
 pub mod Contexts

@@ -166,7 +166,8 @@ impl<'p, 'a> Context<'p, 'a> {
             value: Kx::Num(1),
             unsigned: false,
         };
-        self.update(alloc, to, symbol, pos, one, scope)
+        let copied = self.update(alloc, to, symbol, pos, one, scope)?;
+        Ok(copied)
     }
 
     /// An instance of a function, on the core of the call. The one error is want of memory, or of numbers for 2^32 parameters.

@@ -1,9 +1,9 @@
 ghost use Rattle.std.specs.Prelude.{◌≡◌, ◌≤◌, [], ◌∷◌, ◌++◌, length, IfOk, OnOk, option_map};
 ghost use Rattle.std.specs.Option.{IfSome};
-ghost use Rattle.xc_tree.specs.Trees.{program_of, item_of};
-ghost use Rattle.xc_tree.specs.declared.tree.Stmt.{size-Stmt};
+ghost use Rattle.xc_tree.specs.Trees.{program_of, item_of, statement_of};
 ghost use Rattle.xc_kernel.specs.Programs as spec;
 ghost use Rattle.xc_copy.specs.Functions.{function_of, functions_among, functions_of, deepest};
+ghost use Rattle.xc_copy.specs.Heights.{height};
 
 use std::alloc::Global;
 use xc_tree::{FuncItem, Item, Tree};
@@ -39,7 +39,7 @@ impl<'a> Functions<'a> {
     /// The first function of a name, if there is one.
     pub fn named(&self, name: &[u8]) -> Option<&'a FuncItem>
         ensures function { option_map (λ f. function_of f.now) result ≡ spec.function_named (functions_of self.now) name.now }
-        ensures depth { IfSome result (λ f. size-Stmt f.now.body ≤ deepest self.now.all.items) }
+        ensures depth { IfSome result (λ f. height (statement_of f.now.body) ≤ deepest self.now.all.items) }
     {
         for function in &self.all {
             if function.name.text.as_slice() == name {

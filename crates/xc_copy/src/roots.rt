@@ -1,7 +1,7 @@
 ghost use Rattle.std.specs.Prelude.{◌≡◌, ◌≤◌, ◌-◌, [], IfOk, map, option_map};
 ghost use Rattle.xc_tree.specs.Plain as plain;
 ghost use Rattle.xc_tree.specs.Trees as tree;
-ghost use Rattle.xc_tree.specs.declared.tree.Stmt.{size-Stmt, out-Stmt};
+ghost use Rattle.xc_tree.specs.declared.tree.Stmt.{out-Stmt};
 ghost use Rattle.xc_kernel.specs.Copy as copies;
 ghost use Rattle.xc_kernel.specs.Scopes.{Scope as Names};
 ghost use Rattle.std.specs.Option.{IfSome};
@@ -11,6 +11,7 @@ ghost use Rattle.xc_kernel.specs.Roots as spec;
 ghost use Rattle.xc_kernel.specs.Statements.{calls_copy};
 ghost use Rattle.xc_copy.specs.Contexts.{context_of};
 ghost use Rattle.xc_copy.specs.Functions.{deepest, function_of};
+ghost use Rattle.xc_copy.specs.Heights.{height};
 ghost use Rattle.xc_copy.specs.Roots.{rooted_of};
 ghost use Rattle.xc_copy.specs.Scopes.{scope_of};
 
@@ -99,7 +100,7 @@ impl<'p, 'a> Context<'p, 'a> {
         calls: usize,
         main: Option<&'a FuncItem>,
     ) -> Result<Rooted, Memory>
-        requires { IfSome main (λ f. size-Stmt f.now.body ≤ deepest self.now.functions.now.all.items) }
+        requires { IfSome main (λ f. height (tree.statement_of f.now.body) ≤ deepest self.now.functions.now.all.items) }
         ensures { IfOk result (λ r. rooted_of r (spec.roots_of (calls_copy calls) (option_map (λ f. function_of f.now) main.entry) (context_of self.now)).made.scope ≡ spec.roots_of (calls_copy calls) (option_map (λ f. function_of f.now) main.entry) (context_of self.now)) }
     {
         match main {
@@ -118,7 +119,7 @@ impl<'p, 'a> Context<'p, 'a> {
         calls: usize,
         main: &'a FuncItem,
     ) -> Result<Rooted, Memory>
-        requires { size-Stmt main.now.body ≤ deepest self.now.functions.now.all.items }
+        requires { height (tree.statement_of main.now.body) ≤ deepest self.now.functions.now.all.items }
         ensures { IfOk result (λ r. rooted_of r (spec.roots_of (calls_copy calls) (Some (function_of main.now)) (context_of self.now)).made.scope ≡ spec.roots_of (calls_copy calls) (Some (function_of main.now)) (context_of self.now)) }
     {
         if block_has_placed(in_block(&main.body)) {
@@ -132,7 +133,7 @@ impl<'p, 'a> Context<'p, 'a> {
 
     /// Main as the one root, by the empty path. The one error is as for `roots`.
     fn main_root(&self, alloc: Global, calls: usize, main: &'a FuncItem) -> Result<Rooted, Memory>
-        requires { size-Stmt main.now.body ≤ deepest self.now.functions.now.all.items }
+        requires { height (tree.statement_of main.now.body) ≤ deepest self.now.functions.now.all.items }
         ensures { IfOk result (λ r. rooted_of r (context_of self.now).ports ≡ spec.main_root (calls_copy calls) (function_of main.now) (context_of self.now)) }
     {
         let scope: Scope<'a> = self.scope_of_ports(alloc)?;
