@@ -156,20 +156,8 @@ fn with_second(operator: Operator, unsigned: bool, a: u32, second: Option<u32>) 
     ensures { (pos : Pos) (v : values.Value) → second ≡ word_in v → result ≡ word_in (values.with_second (operator_meant operator) unsigned pos a v) }
 {
     match operator {
-        Operator::Both => {
-            if a != 0 {
-                truth_of(second)
-            } else {
-                Some(0)
-            }
-        }
-        Operator::Either => {
-            if a != 0 {
-                Some(1)
-            } else {
-                truth_of(second)
-            }
-        }
+        Operator::Both => { if a != 0 { truth_of(second) } else { Some(0) } }
+        Operator::Either => { if a != 0 { Some(1) } else { truth_of(second) } }
         _ => of_two(operator, unsigned, a, second?),
     }
 }

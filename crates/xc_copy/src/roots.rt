@@ -184,8 +184,7 @@ impl<'p, 'a> Context<'p, 'a> {
                 Ok(rooted)
             }
             St::Par(bs) => {
-                let rooted =
-                    self.branch_roots(alloc, calls, main, bs.as_slice(), rooted, scope)?;
+                let rooted = self.branch_roots(alloc, calls, main, bs.as_slice(), rooted, scope)?;
                 Ok(rooted)
             }
             St::Repl {
@@ -195,8 +194,9 @@ impl<'p, 'a> Context<'p, 'a> {
                 body,
                 ..
             } => {
-                let rooted = self
-                    .numbered_roots(alloc, calls, main, first, *from, *to, body, rooted, scope)?;
+                let rooted = self.numbered_roots(
+                    alloc, calls, main, first, *from, *to, body, rooted, scope,
+                )?;
                 Ok(rooted)
             }
             St::Empty => Ok(rooted),

@@ -1,28 +1,13 @@
--- The names of ports, and their entries, one behind the other.
-use Rattle.std.proofs.Common.{◌≡◌, ℕ, suc, zero, ◌+◌, ◌<◌, ◌≤◌, Bool, true, false, List, [], ◌∷◌, ◌++◌, length, drop, get_or, map, bytes_eq, arith, refl, ap, sym, ◌∙◌, append_assoc}
-use Rattle.std.proofs.lemmas.List.{map-append}
+-- The names of ports, and the place of a text in a table.
+use Rattle.std.proofs.Common.{◌≡◌, ℕ, ◌+◌, ◌<◌, List, [], ◌∷◌, length, drop, get_or, bytes_eq, refl, ap}
 use Rattle.std.specs.Borrow.{Bor}
 use Rattle.xc_tree.specs.Plain as tree
-use Rattle.xc_tree.specs.Trees.{item_of}
-use Rattle.xc_tree.specs.declared.tree.Item.{Item}
-use Rattle.xc_kernel.specs.declared.kernel.PortUse.{PortUse}
 use Rattle.xc_kernel.specs.Identifiers.{place_among, place_here}
-use Rattle.xc_kernel.specs.Ports.{port_use, scope_of_ports}
-use Rattle.xc_kernel.specs.Programs.{ports}
+use Rattle.xc_kernel.specs.Ports.{scope_of_ports}
 use Rattle.xc_kernel.specs.Scopes.{a_port, with_name}
 use Rattle.xc_copy.proofs.Laws.Lists.{drop_item}
 use Rattle.xc_copy.specs.Contexts.{ports_from}
 use Rattle.xc_copy.specs.Ports.{names_among, names_of_ports}
-
-ports_cons : (i : tree.Item) (items : List tree.Item) → ports (i ∷ items) ≡ ports (i ∷ []) ++ ports items
-ports_cons (tree.function head body) items = refl
-ports_cons (tree.port p) items = refl
-
--- the item at a place gives its port before those of the rest
-pub ports_step : (items : List Item) (i : ℕ) (x : Item) → x ≡ get_or items i x → i < length items → ports (map item_of (drop i items)) ≡ ports (item_of x ∷ []) ++ ports (map item_of (drop (i + 1) items))
-ports_step items i x e h =
-    ap (λ xs. ports (map item_of xs)) (drop_item items i x e h)
-    ∙ ports_cons (item_of x) (map item_of (drop (i + 1) items))
 
 -- ports of these names have these numbers
 pub ports_named : (n : ℕ) (names : List (Bor (List ℕ))) (ps : List tree.Port) → names_among names ≡ names_of_ports ps → ports_from n names ≡ scope_of_ports n ps

@@ -1,5 +1,5 @@
 -- Roots, one behind the other.
-use Rattle.std.proofs.Common.{◌≡◌, ℕ, zero, suc, ◌+◌, ◌-◌, ◌<◌, ◌≤◌, Bool, true, false, ◌||◌, List, [], ◌∷◌, ◌++◌, length, drop, get_or, map, Option, Some, None, arith, refl, ap, sym, subst, ◌∙◌, append_assoc, append-nil}
+use Rattle.std.proofs.Common.{◌≡◌, ℕ, suc, ◌+◌, ◌-◌, ◌<◌, ◌≤◌, Bool, true, false, ◌||◌, List, length, drop, get_or, map, Option, Some, None, refl, ap, sym, subst, ◌∙◌, append_assoc, append-nil}
 use Rattle.xw_words.specs.declared.pos.Pos.{Pos}
 use Rattle.xc_tree.specs.declared.tree.Branch.{Branch}
 use Rattle.xc_tree.specs.declared.tree.St.{St}
@@ -18,7 +18,7 @@ use Rattle.xc_kernel.specs.Roots.{Rooted, no_roots, and_roots, roots_then, actio
 use Rattle.xc_kernel.specs.Scopes.{Scope, a_constant, with_name}
 use Rattle.xc_copy.proofs.Laws.Growth.{joined_assoc, joined_last, calls_keep, further, grown_left, statement_grows, with_one}
 use Rattle.xc_copy.specs.Growth.{Grows}
-use Rattle.xc_copy.proofs.Laws.Lists.{drop_item}
+use Rattle.xc_copy.proofs.Laws.Lists.{drop_item, drop_end}
 
 and_assoc : (a b c : Rooted) → and_roots (and_roots a b) c ≡ and_roots a (and_roots b c)
 and_assoc a b c = λ i. record { made = joined_assoc a.made b.made c.made i; roots = append_assoc a.roots b.roots c.roots i }
@@ -34,12 +34,6 @@ then_next before next rest e = ap (λ a. roots_then a rest) e ∙ and_assoc befo
 -- roots that are these know the names that these know
 pub own_scope : (of : Scope → Rooted) {scope : Scope} {whole : Rooted} → of scope ≡ whole → ((s : Scope) → (of s).made.scope ≡ s) → of whole.made.scope ≡ whole
 own_scope of {scope} e own = sym (ap of (sym (own scope) ∙ ap (λ r. r.made.scope) e)) ∙ e
-
-drop_whole : {X : Type 0} (xs : List X) (n : ℕ) → length xs ≤ n → drop n xs ≡ []
-drop_whole [] zero h = refl
-drop_whole [] (suc n) h = refl
-drop_whole (x ∷ xs) zero h = absurd (omega (arith, h))
-drop_whole (x ∷ xs) (suc n) h = drop_whole xs n (omega (arith, h))
 
 -- whether the statement at a place, or one behind it, has a placed branch
 pub block_placed_step : (ss : List Stmt) (i : ℕ) (s : Stmt) → s ≡ get_or ss i s → i < length ss → block_has_placed (tree.statements (map statement_of (drop i ss))) ≡ (action_has_placed (action_of s.kind) || block_has_placed (tree.statements (map statement_of (drop (i + 1) ss))))
@@ -76,12 +70,12 @@ module _ (copies : CopiesCall) (main : Pos) where
   block_step c ss i s before e h after whole =
       let rest = tree.statements (map statement_of (drop (i + 1) ss)) in
       let here : tree.statements (map statement_of (drop i ss)) ≡ tree.more (tree.statement (action_of s.kind) s.pos s.close s.own) rest =
-          ap (λ xs. tree.statements (map statement_of xs)) (drop_item ss i s e h) ∙ ap (λ x. tree.more x rest) (statement-Stmt s) in
+      ap (λ xs. tree.statements (map statement_of xs)) (drop_item ss i s e h) ∙ ap (λ x. tree.more x rest) (statement-Stmt s) in
       then_next before (action_roots copies main (action_of s.kind) c) (block_roots copies main rest c) after
       ∙ sym (ap (λ xs. roots_then before (block_roots copies main xs c)) here) ∙ whole
 
   pub block_done : (c : Context) (ss : List Stmt) (i : ℕ) (a : Rooted) → length ss ≤ i → roots_then a (block_roots copies main (tree.statements (map statement_of (drop i ss))) c) ≡ a
-  block_done c ss i a h = ap (λ xs. roots_then a (block_roots copies main (tree.statements (map statement_of xs)) c)) (drop_whole ss i h) ∙ and_none a
+  block_done c ss i a h = ap (λ xs. roots_then a (block_roots copies main (tree.statements (map statement_of xs)) c)) (drop_end ss i h) ∙ and_none a
 
   -- the branch at a place, before those behind it
   pub branch_step : (c : Context) (bs : List Branch) (i : ℕ) (b : Branch) (before : Rooted) {after whole : Rooted} → b ≡ get_or bs i b → i < length bs →
@@ -93,7 +87,7 @@ module _ (copies : CopiesCall) (main : Pos) where
       ∙ sym (ap (λ xs. roots_then before (branch_roots copies main (tree.branches (map branch_of xs)) i c)) (drop_item bs i b e h)) ∙ whole
 
   pub branches_done : (c : Context) (bs : List Branch) (i : ℕ) (a : Rooted) → length bs ≤ i → roots_then a (branch_roots copies main (tree.branches (map branch_of (drop i bs))) i c) ≡ a
-  branches_done c bs i a h = ap (λ xs. roots_then a (branch_roots copies main (tree.branches (map branch_of xs)) i c)) (drop_whole bs i h) ∙ and_none a
+  branches_done c bs i a h = ap (λ xs. roots_then a (branch_roots copies main (tree.branches (map branch_of xs)) i c)) (drop_end bs i h) ∙ and_none a
 
   -- the copy for one number, before those for the rest
   pub numbered_step : (b : tree.Branch) (name : List ℕ) (c : Context) (scope : Scope) (left count index number : ℕ) (before : Rooted) {after whole : Rooted} → left ≡ suc count →

@@ -1,5 +1,5 @@
 -- The operators of symbols, and those that need both their words.
-use Rattle.std.proofs.Common.{◌≡◌, ℕ, zero, suc, ◌<◌, ◌≤◌, Bool, List, [], ◌∷◌, length, map, get_or, Option, Some, None, arith, refl, ap}
+use Rattle.std.proofs.Common.{◌≡◌, ℕ, zero, suc, ◌<◌, ◌≤◌, Bool, List, [], ◌∷◌, length, map, get_or, Some, arith, refl, ap}
 use Rattle.xw_words.specs.declared.pos.Pos.{Pos}
 use Rattle.xc_kernel.specs.Operators.{no_operator}
 use Rattle.xc_kernel.specs.Values as values

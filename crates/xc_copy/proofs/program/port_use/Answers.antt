@@ -1,4 +1,4 @@
-use Rattle.std.proofs.Common.{ap, ◌∙◌, []}
+use Rattle.std.proofs.Common.{ap, ◌∙◌}
 use Rattle.std.specs.Option.{option_map}
 use Rattle.xc_tree.specs.Trees.{place_of}
 use Rattle.xc_kernel.specs.Identifiers.{identifiers, place_among}

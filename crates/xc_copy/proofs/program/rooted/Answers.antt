@@ -14,5 +14,5 @@ returns c =
     let functions = functions_of c.args.functions.now in
     let here : Context = record { functions = functions; ports = ports_from 0 c.args.ports.now; numbering = numbering_of c.args.numbers.now; core = 0; path = []; result = []; returns = []; breaks = []; continues = [] } in
     let whole = ap (λ n. spec.roots_of (calls_copy n) (option_map (λ f. function_of f.now) c.named-main.result) here) c.len.ensures
-        ∙ ap (λ main. spec.roots_of (calls_copy (length functions)) main here) c.named-main.ensures.function in
+    ∙ ap (λ main. spec.roots_of (calls_copy (length functions)) main here) c.named-main.ensures.function in
     sym (ap (λ w. rooted_of c.in_ok-rooted.rooted w.made.scope) whole) ∙ c.in_ok-rooted.ensures ∙ whole

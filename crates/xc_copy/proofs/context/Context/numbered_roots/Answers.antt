@@ -1,4 +1,4 @@
-use Rattle.std.proofs.Common.{arith, ap, sym, ◌∙◌, ◌≡◌, ℕ, ◌+◌, ◌-◌, ◌<◌, ◌≤◌, length, suc, refl}
+use Rattle.std.proofs.Common.{arith, ap, sym, ◌∙◌, ◌≡◌, ℕ, ◌+◌, ◌-◌, suc, refl}
 use Rattle.xc_tree.specs.Trees as tree
 use Rattle.xc_kernel.specs.Context.{in_branch}
 use Rattle.xc_kernel.specs.Roots as spec
@@ -48,7 +48,7 @@ loop-number-preserved c =
     let context = c.in_branch.ensures.context ∙ λ i. record here { path = (c.as_slice-in-loop-number.ensures ∙ c.in_ok-path.ensures) i } in
     let grows : Grows scope (scope_of c.branch_root.new.scope) = number_grows c.args.calls main b (context_of c.in_branch.result) (rooted_of c.loop-number.rooted (scope_of c.declare.new.self)) inside c.in_ok-rooted.ensures refl in
     let one : after ≡ spec.and_roots before (spec.root_in_scope_of copies scope (spec.branch_root copies main b (in_branch here (number - from)) (with_name scope name (a_constant number)))) =
-        ap (spec.root_in_scope_of copies scope) (c.in_ok-rooted.ensures ∙ λ i. spec.and_roots before (spec.branch_root copies main b (context i) (inside i))) in
+    ap (spec.root_in_scope_of copies scope) (c.in_ok-rooted.ensures ∙ λ i. spec.and_roots before (spec.branch_root copies main b (context i) (inside i))) in
     let next : ◌≡◌ {A = ℕ} (number + 1 - from) ((number - from) + 1) = omega (arith, c.loop-number.auto.number) in
     let less : ◌≡◌ {A = ℕ} (until - number) (suc (until - (number + 1))) = omega (arith, c.loop-number-test.true) in
     record {

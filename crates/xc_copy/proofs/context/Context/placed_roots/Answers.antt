@@ -1,5 +1,4 @@
 use Rattle.std.proofs.Common.{ap, sym, ◌∙◌, refl, []}
-use Rattle.xc_tree.specs.Trees as tree
 use Rattle.xc_kernel.specs.Calls.{instance_of}
 use Rattle.xc_kernel.specs.Roots as spec
 use Rattle.xc_kernel.specs.Statements.{calls_copy}

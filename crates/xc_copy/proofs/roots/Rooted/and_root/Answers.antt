@@ -12,5 +12,5 @@ returns c = λ before behind.
     let made = c.in_ok-followed_by.ensures before behind ∙ ap (copies.joined (copy_of c.args.self.made before)) (c.take_code-body.ensures.left behind) in
     let root : Root = record { core = c.args.core; place = c.args.place; body = c.take_code-body.result; pos = c.args.pos } in
     let roots = ap (map root_of) c.in_ok-push.ensures.ok ∙ map_push root_of c.args.self.roots root
-        ∙ λ i. map root_of c.args.self.roots ++ record { core = c.args.core; place = c.args.place; body = plain.statements (c.take_code-body.ensures.code behind i); pos = c.args.pos } ∷ [] in
+    ∙ λ i. map root_of c.args.self.roots ++ record { core = c.args.core; place = c.args.place; body = plain.statements (c.take_code-body.ensures.code behind i); pos = c.args.pos } ∷ [] in
     λ i. record { made = made i; roots = roots i }
