@@ -12,3 +12,4 @@ pub mod Words
 pub mod Growth
 pub mod Parts
 pub mod Roots
+pub mod Ports
