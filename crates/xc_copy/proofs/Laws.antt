@@ -12,3 +12,9 @@ pub mod Growth
 pub mod Parts
 pub mod Depths
 pub mod Pieces
+pub mod Words
+pub mod Roots
+pub mod Ports
+pub mod Walks
+pub mod Actions
+pub mod Loops

@@ -3,8 +3,8 @@ use Rattle.std.specs.Prelude.{ℕ, List, [], ◌∷◌, map, max}
 use Rattle.std.specs.Borrow.{Bor}
 use Rattle.xc_tree.specs.Trees.{head_of, statement_of}
 use Rattle.xc_tree.specs.declared.tree.FuncItem.{FuncItem}
-use Rattle.xc_tree.specs.declared.tree.Stmt.{size-Stmt}
 use Rattle.xc_kernel.specs.Programs.{Function}
+use Rattle.xc_copy.specs.Heights.{height}
 use Rattle.xc_copy.specs.declared.functions.Functions.{Functions}
 
 -- the function that an item stands for
@@ -18,7 +18,7 @@ functions_among fs = map (λ f. function_of f.now) fs
 abbrev pub functions_of : Functions → List Function
 functions_of fs = functions_among fs.all.items
 
--- how deep the deepest body is
+-- the height of the highest body
 abbrev pub deepest : List (Bor FuncItem) → ℕ
 deepest [] = 0
-deepest (f ∷ fs) = max (size-Stmt f.now.body) (deepest fs)
+deepest (f ∷ fs) = max (height (statement_of f.now.body)) (deepest fs)

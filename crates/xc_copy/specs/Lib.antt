@@ -3,6 +3,7 @@ pub mod Scopes
 pub mod Copied
 pub mod PathSets
 pub mod Numbers
+pub mod Heights
 pub mod Functions
 pub mod Truths
 pub mod Contexts
@@ -11,3 +12,4 @@ pub mod Words
 pub mod Growth
 pub mod Parts
 pub mod Roots
+pub mod Ports

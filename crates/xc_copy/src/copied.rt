@@ -60,6 +60,16 @@ impl Copied {
         }
     }
 
+    /// The instances of a copy, with one statement in place of its own. The one error is want of memory.
+    pub fn with_statement(self, alloc: Global, statement: Kst) -> Result<Copied, Memory>
+        ensures { IfOk result (λ copied. (scope : Names) → copy_of copied scope ≡ spec.with_code (copy_of self scope) (statement_of statement ∷ [])) }
+    {
+        let mut copied = self;
+        let _replaced = copied.take_code(alloc);
+        copied.add_statement(statement)?;
+        Ok(copied)
+    }
+
     /// The copy followed by another. The one error is want of memory.
     pub fn followed_by(self, other: Copied) -> Result<Copied, Memory>
         ensures { IfOk result (λ both. (before after : Names) → copy_of both after ≡ spec.joined (copy_of self before) (copy_of other after)) }

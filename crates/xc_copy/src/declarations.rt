@@ -103,7 +103,7 @@ impl<'p, 'a> Context<'p, 'a> {
     }
 
     /// The same, and whether it is an `unsigned` word. The one error is want of memory.
-    #[tactic(auto, using(crate::proofs::Walk::Expressions::words))]
+    #[tactic(auto, using(crate::proofs::Laws::Expressions::words))]
     pub fn typed(&self, alloc: Global, right: &Rhs, scope: &Scope<'a>) -> Result<Typed, Memory>
         ensures value { IfOk result (λ t. kernel.expression_of t.value ≡ calls.value_of (context_of self.now) (scope_of scope.now) (tree.right_of right.now)) }
         ensures unsigned { IfOk result (λ t. t.unsigned ≡ calls.right_is_unsigned (scope_of scope.now) (tree.right_of right.now)) }
@@ -166,7 +166,8 @@ impl<'p, 'a> Context<'p, 'a> {
             value: Kx::Num(1),
             unsigned: false,
         };
-        self.update(alloc, to, symbol, pos, one, scope)
+        let copied = self.update(alloc, to, symbol, pos, one, scope)?;
+        Ok(copied)
     }
 
     /// An instance of a function, on the core of the call. The one error is want of memory, or of numbers for 2^32 parameters.
@@ -213,7 +214,7 @@ impl<'p, 'a> Context<'p, 'a> {
     }
 
     /// The test of a `for`, which holds for ever where there is none. The one error is want of memory.
-    #[tactic(auto, using(crate::proofs::Walk::Expressions::words))]
+    #[tactic(auto, using(crate::proofs::Laws::Expressions::words))]
     pub fn test_or_true(
         &self,
         alloc: Global,
@@ -229,7 +230,7 @@ impl<'p, 'a> Context<'p, 'a> {
     }
 
     /// The guard of a case, if it has one. The one error is want of memory.
-    #[tactic(auto, using(crate::proofs::Walk::Expressions::words))]
+    #[tactic(auto, using(crate::proofs::Laws::Expressions::words))]
     pub fn guard(
         &self,
         alloc: Global,
@@ -266,7 +267,8 @@ impl<'p, 'a> Context<'p, 'a> {
 
     /// A branch of a `par` here, by its path.
     pub fn in_branch<'q>(&'q self, path: &'q [u32]) -> Context<'q, 'a>
-        ensures { context_of result ≡ record (context_of self.now) { path = path.now } }
+        ensures context { context_of result ≡ record (context_of self.now) { path = path.now } }
+        ensures functions { result.functions ≡ self.now.functions }
     {
         Context {
             functions: self.functions,
@@ -283,7 +285,8 @@ impl<'p, 'a> Context<'p, 'a> {
 
     /// The body of a loop, by the paths of the blocks that `break` and `continue` leave.
     pub fn in_loop<'q>(&'q self, whole: &'q [u32], turn: &'q [u32]) -> Context<'q, 'a>
-        ensures { context_of result ≡ record (context_of self.now) { breaks = whole.now; continues = turn.now } }
+        ensures context { context_of result ≡ record (context_of self.now) { breaks = whole.now; continues = turn.now } }
+        ensures functions { result.functions ≡ self.now.functions }
     {
         Context {
             functions: self.functions,
@@ -300,7 +303,8 @@ impl<'p, 'a> Context<'p, 'a> {
 
     /// The body of a case, by the path of the block that `break` leaves.
     pub fn in_case<'q>(&'q self, path: &'q [u32]) -> Context<'q, 'a>
-        ensures { context_of result ≡ record (context_of self.now) { breaks = path.now } }
+        ensures context { context_of result ≡ record (context_of self.now) { breaks = path.now } }
+        ensures functions { result.functions ≡ self.now.functions }
     {
         Context {
             functions: self.functions,
@@ -317,7 +321,8 @@ impl<'p, 'a> Context<'p, 'a> {
 
     /// The body of a function, by the paths of its instance and of its result.
     pub fn in_function<'q>(&'q self, own: &'q [u32], result_path: &'q [u32]) -> Context<'q, 'a>
-        ensures { context_of result ≡ record (context_of self.now) { path = own.now; result = result_path.now; returns = own.now } }
+        ensures context { context_of result ≡ record (context_of self.now) { path = own.now; result = result_path.now; returns = own.now } }
+        ensures functions { result.functions ≡ self.now.functions }
     {
         Context {
             functions: self.functions,
@@ -334,7 +339,8 @@ impl<'p, 'a> Context<'p, 'a> {
 
     /// A branch on a core, by its path.
     pub fn on_core<'q>(&'q self, core: u8) -> Context<'q, 'a>
-        ensures { context_of result ≡ record (context_of self.now) { core = core } }
+        ensures context { context_of result ≡ record (context_of self.now) { core = core } }
+        ensures functions { result.functions ≡ self.now.functions }
     {
         Context {
             functions: self.functions,

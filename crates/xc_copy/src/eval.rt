@@ -1,30 +1,104 @@
-#![tactic(none)]
-
-ghost use Rattle.std.specs.Prelude.{◌≡◌, [], IfOk, map};
+ghost use Rattle.std.specs.Prelude.{◌≡◌, [], map};
+ghost use Rattle.xw_words.specs.declared.pos.Pos.{Pos};
+ghost use Rattle.xw_words.specs.Words as words;
 ghost use Rattle.xc_kernel.specs.Kernels as kernel;
 ghost use Rattle.xc_kernel.specs.Eval as spec;
-ghost use Rattle.xc_copy.specs.Words.{word_in};
+ghost use Rattle.xc_kernel.specs.Operators as operators;
+ghost use Rattle.xc_kernel.specs.Plain as plain;
+ghost use Rattle.xc_kernel.specs.Values as values;
+ghost use Rattle.xc_copy.specs.Words.{operator_meant, word_in};
 
 use xc_kernel::{Kx, Place};
 use xw_words::{ashr, div_s, div_u, less_s, rem_s, rem_u, shl, shr};
 
+/// What a symbol does to the words of its operands.
+#[derive(Clone, Copy)]
+enum Operator {
+    /// `[`: the test of an index against a length.
+    BelowLength,
+    /// `? :`
+    Choose,
+    BitAnd,
+    BitOr,
+    BitXor,
+    Flip,
+    NotTrue,
+    Plus,
+    Minus,
+    Times,
+    Divide,
+    Remainder,
+    Less,
+    Greater,
+    Equal,
+    Differs,
+    AtMost,
+    AtLeast,
+    /// `&&`
+    Both,
+    /// `||`
+    Either,
+    ShiftUp,
+    ShiftDown,
+    NoOperator,
+}
+
+/// In the order of the symbols.
+const OPERATORS: [Operator; 35] = [
+    Operator::NoOperator,
+    Operator::NoOperator,
+    Operator::NoOperator,
+    Operator::NoOperator,
+    Operator::BelowLength,
+    Operator::NoOperator,
+    Operator::NoOperator,
+    Operator::NoOperator,
+    Operator::NoOperator,
+    Operator::Choose,
+    Operator::BitAnd,
+    Operator::BitOr,
+    Operator::BitXor,
+    Operator::Flip,
+    Operator::NotTrue,
+    Operator::Plus,
+    Operator::Minus,
+    Operator::Times,
+    Operator::Divide,
+    Operator::Remainder,
+    Operator::Less,
+    Operator::Greater,
+    Operator::NoOperator,
+    Operator::NoOperator,
+    Operator::NoOperator,
+    Operator::NoOperator,
+    Operator::NoOperator,
+    Operator::Equal,
+    Operator::Differs,
+    Operator::AtMost,
+    Operator::AtLeast,
+    Operator::Both,
+    Operator::Either,
+    Operator::ShiftUp,
+    Operator::ShiftDown,
+];
+
 /// The word that an expression has where no variable has words, or `None` for an error.
 #[cycle(eval)]
+#[tactic(auto, using(xc_kernel::proofs::Forms::forms))]
 pub fn eval(e: &Kx) -> Option<u32>
     ensures { result ≡ word_in (spec.eval [] (kernel.expression_of e.now)) }
 {
     match e {
         Kx::Num(value) => Some(*value),
         Kx::Read(place) => eval_place(place),
-        Kx::Op(symbol, unsigned, operands, _) => eval_operation(
-            *symbol,
-            *unsigned,
-            operands.as_slice(),
-        ),
+        Kx::Op(symbol, unsigned, operands, _) => {
+            eval_operation(operator_at(*symbol), *unsigned, operands.as_slice())
+        }
     }
 }
 
 /// What stands at a place: 0 in a word, and there is no element.
+#[tactic(auto, using(xc_kernel::proofs::Forms::forms))]
 fn eval_place(place: &Place) -> Option<u32>
     ensures { result ≡ word_in (spec.eval_place [] (kernel.place_of place.now)) }
 {
@@ -34,86 +108,131 @@ fn eval_place(place: &Place) -> Option<u32>
     }
 }
 
-/// The value of an operation.
+/// The word of an operation; an operand's error counts where its word is needed.
 #[cycle(eval)]
-fn eval_operation(symbol: u8, unsigned: bool, operands: &[Kx]) -> Option<u32> {
-    if operands.is_empty() {
-        return Some(0);
+fn eval_operation(operator: Operator, unsigned: bool, operands: &[Kx]) -> Option<u32>
+    ensures { (pos : Pos) → result ≡ word_in (values.applied (operator_meant operator) unsigned pos (spec.eval_all [] (plain.operands (map kernel.expression_of operands.now)))) }
+{
+    match operands {
+        [] => Some(0),
+        [only] => Some(of_one(operator, eval(only)?)),
+        [first, second] => with_second(operator, unsigned, eval(first)?, eval(second)),
+        [test, second, third, ..] => {
+            if eval(test)? != 0 {
+                eval(second)
+            } else {
+                eval(third)
+            }
+        }
     }
-    let first = eval(&operands[0])?;
-    if operands.len() == 1 {
-        return Some(of_one(symbol, first));
-    }
-    let second = eval(&operands[1]);
-    if operands.len() == 2 {
-        return with_second(symbol, unsigned, first, second);
-    }
-    if first != 0 {
-        second
+}
+
+/// The operator of a symbol.
+fn operator_at(symbol: u8) -> Operator
+    ensures { operator_meant result ≡ operators.operator_at symbol }
+{
+    let place = usize::from(symbol);
+    if place < OPERATORS.len() {
+        OPERATORS[place]
     } else {
-        eval(&operands[2])
+        Operator::NoOperator
     }
 }
 
 /// Of one word; `+` leaves it.
-fn of_one(symbol: u8, a: u32) -> u32 {
-    match symbol {
-        16 => a.wrapping_neg(),
-        13 => !a,
-        14 => truth(a == 0),
+fn of_one(operator: Operator, a: u32) -> u32
+    ensures { values.word result ≡ values.of_one (operator_meant operator) a }
+{
+    match operator {
+        Operator::Minus => a.wrapping_neg(),
+        Operator::Flip => !a,
+        Operator::NotTrue => truth(a == 0),
         _ => a,
     }
 }
 
-/// Of a word and a second value, which counts only where it is needed.
-fn with_second(symbol: u8, unsigned: bool, a: u32, second: Option<u32>) -> Option<u32> {
-    match symbol {
-        31 => {
-            if a != 0 {
-                Some(truth(second? != 0))
-            } else {
-                Some(0)
-            }
-        }
-        32 => {
-            if a != 0 {
-                Some(1)
-            } else {
-                Some(truth(second? != 0))
-            }
-        }
-        _ => of_two(symbol, unsigned, a, second?),
+/// Of a word and a second operand's, which counts only where it is needed.
+fn with_second(operator: Operator, unsigned: bool, a: u32, second: Option<u32>) -> Option<u32>
+    ensures { (pos : Pos) (v : values.Value) → second ≡ word_in v → result ≡ word_in (values.with_second (operator_meant operator) unsigned pos a v) }
+{
+    match operator {
+        Operator::Both => { if a != 0 { truth_of(second) } else { Some(0) } }
+        Operator::Either => { if a != 0 { Some(1) } else { truth_of(second) } }
+        _ => of_two(operator, unsigned, a, second?),
     }
 }
 
 /// Of two words, for operators of `unsigned` words or else of `int` ones.
-fn of_two(symbol: u8, unsigned: bool, a: u32, b: u32) -> Option<u32> {
-    match symbol {
-        4 => { if a < b { Some(a) } else { None } }
-        10 => Some(a & b),
-        11 => Some(a | b),
-        12 => Some(a ^ b),
-        15 => Some(a.wrapping_add(b)),
-        16 => Some(a.wrapping_sub(b)),
-        17 => Some(a.wrapping_mul(b)),
-        18 => { if unsigned { div_u(a, b) } else { div_s(a, b) } }
-        19 => { if unsigned { rem_u(a, b) } else { rem_s(a, b) } }
-        20 => Some(truth(is_less(unsigned, a, b))),
-        21 => Some(truth(is_less(unsigned, b, a))),
-        27 => Some(truth(a == b)),
-        28 => Some(truth(a != b)),
-        29 => Some(truth(!is_less(unsigned, b, a))),
-        30 => Some(truth(!is_less(unsigned, a, b))),
-        33 => Some(shl(a, b)),
-        34 => Some(if unsigned { shr(a, b) } else { ashr(a, b) }),
-        _ => Some(0),
+fn of_two(operator: Operator, unsigned: bool, a: u32, b: u32) -> Option<u32>
+    ensures { (pos : Pos) → result ≡ word_in (values.of_two (operator_meant operator) unsigned pos a b) }
+{
+    match operator {
+        Operator::BelowLength => below(a, b),
+        Operator::BitAnd => Some(a & b),
+        Operator::BitOr => Some(a | b),
+        Operator::BitXor => Some(a ^ b),
+        Operator::Plus => Some(a.wrapping_add(b)),
+        Operator::Minus => Some(a.wrapping_sub(b)),
+        Operator::Times => Some(a.wrapping_mul(b)),
+        Operator::Divide => quotient(unsigned, a, b),
+        Operator::Remainder => remainder(unsigned, a, b),
+        Operator::Less => Some(truth(is_less(unsigned, a, b))),
+        Operator::Greater => Some(truth(is_less(unsigned, b, a))),
+        Operator::Equal => Some(truth(a == b)),
+        Operator::Differs => Some(truth(a != b)),
+        Operator::AtMost => Some(truth(!is_less(unsigned, b, a))),
+        Operator::AtLeast => Some(truth(!is_less(unsigned, a, b))),
+        Operator::ShiftUp => Some(shl(a, b)),
+        Operator::ShiftDown => Some(shifted(unsigned, a, b)),
+        Operator::Choose
+        | Operator::Flip
+        | Operator::NotTrue
+        | Operator::Both
+        | Operator::Either
+        | Operator::NoOperator => Some(0),
     }
 }
 
-fn is_less(unsigned: bool, a: u32, b: u32) -> bool {
+/// An index, where it is below a length.
+fn below(index: u32, length: u32) -> Option<u32>
+    ensures { (pos : Pos) → result ≡ word_in (values.tested index length pos) }
+{
+    if index < length { Some(index) } else { None }
+}
+
+fn quotient(unsigned: bool, a: u32, b: u32) -> Option<u32>
+    ensures { result ≡ values.quotient unsigned a b }
+{
+    if unsigned { div_u(a, b) } else { div_s(a, b) }
+}
+
+fn remainder(unsigned: bool, a: u32, b: u32) -> Option<u32>
+    ensures { result ≡ values.remainder unsigned a b }
+{
+    if unsigned { rem_u(a, b) } else { rem_s(a, b) }
+}
+
+fn shifted(unsigned: bool, a: u32, b: u32) -> u32
+    ensures { result ≡ values.shifted unsigned a b }
+{
+    if unsigned { shr(a, b) } else { ashr(a, b) }
+}
+
+fn is_less(unsigned: bool, a: u32, b: u32) -> bool
+    ensures { result ≡ values.is_less unsigned a b }
+{
     if unsigned { a < b } else { less_s(a, b) }
 }
 
-fn truth(holds: bool) -> u32 {
+/// 1 or 0, as a word is true.
+fn truth_of(word: Option<u32>) -> Option<u32>
+    ensures { (v : values.Value) → word ≡ word_in v → result ≡ word_in (values.truth_of v) }
+{
+    Some(truth(word? != 0))
+}
+
+fn truth(holds: bool) -> u32
+    ensures { result ≡ words.truth holds }
+{
     if holds { 1 } else { 0 }
 }

@@ -1,4 +1,4 @@
-#![tactic(auto, using(crate::proofs::Walk::Expressions::words))]
+#![tactic(auto, using(crate::proofs::Laws::Expressions::words))]
 
 ghost use Rattle.std.specs.Prelude.{◌≡◌, ◌||◌, true, [], ◌∷◌, IfOk};
 ghost use Rattle.xc_tree.specs.Trees as tree;

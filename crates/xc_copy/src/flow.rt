@@ -1,4 +1,4 @@
-#![tactic(auto, using(crate::proofs::Walk::Expressions::words))]
+#![tactic(auto, using(crate::proofs::Laws::Expressions::words))]
 
 ghost use Rattle.std.specs.Prelude.{◌≡◌, ◌++◌, [], ◌∷◌, IfOk, OnOk, map, option_map, option_to_list};
 ghost use Rattle.xc_kernel.specs.Calls as calls;
@@ -11,9 +11,11 @@ ghost use Rattle.xc_kernel.specs.Plain as plain;
 ghost use Rattle.xc_kernel.specs.Scopes.{Scope as Names};
 ghost use Rattle.xc_copy.specs.Contexts.{context_of};
 ghost use Rattle.xc_copy.specs.Copied.{copy_of};
+ghost use Rattle.xc_copy.specs.Scopes.{scope_of};
 
 use crate::context::Context;
 use crate::copied::Copied;
+use crate::scope::Scope;
 use std::alloc::Global;
 use xc_kernel::{Kst, Kx};
 use xw_words::{List, Memory, Pos};
@@ -83,6 +85,14 @@ impl<'p, 'a> Context<'p, 'a> {
             turn.push(last)?;
         }
         Ok(turn)
+    }
+
+    /// The copy of a statement that leaves the block of this path. The one error is want of memory.
+    pub fn leaves(&self, alloc: Global, path: &[u32], scope: &Scope<'a>) -> Result<Copied, Memory>
+        ensures { IfOk result (λ copied. copy_of copied (scope_of scope.now) ≡ copies.one_statement (scope_of scope.now) (contexts.leave (context_of self.now) path.now)) }
+    {
+        let copied = Copied::one_statement(alloc, self.leave(path))?;
+        Ok(copied)
     }
 
     /// The block of this path is left where the test is 0. The one error is want of memory.

@@ -1,9 +1,9 @@
 ghost use Rattle.std.specs.Prelude.{◌≡◌, ◌≤◌, [], ◌∷◌, ◌++◌, length, IfOk, OnOk, option_map};
 ghost use Rattle.std.specs.Option.{IfSome};
-ghost use Rattle.xc_tree.specs.Trees.{program_of, item_of};
-ghost use Rattle.xc_tree.specs.declared.tree.Stmt.{size-Stmt};
+ghost use Rattle.xc_tree.specs.Trees.{program_of, item_of, statement_of};
 ghost use Rattle.xc_kernel.specs.Programs as spec;
 ghost use Rattle.xc_copy.specs.Functions.{function_of, functions_among, functions_of, deepest};
+ghost use Rattle.xc_copy.specs.Heights.{height};
 
 use std::alloc::Global;
 use xc_tree::{FuncItem, Item, Tree};
@@ -16,7 +16,7 @@ pub struct Functions<'a> {
 }
 
 impl<'a> Functions<'a> {
-    #[tactic(auto, using(crate::proofs::Walk::Functions::functions_step))]
+    #[tactic(auto, using(crate::proofs::Laws::Functions::functions_step))]
     /// Those of a tree. The one error is want of memory.
     pub fn of_tree(alloc: Global, tree: &'a Tree) -> Result<Functions<'a>, Memory>
         ensures { IfOk result (λ functions. functions_of functions ≡ spec.functions (program_of tree.now)) }
@@ -35,11 +35,11 @@ impl<'a> Functions<'a> {
         self.all.len()
     }
 
-    #[tactic(auto, using(crate::proofs::Walk::Functions::named_step, crate::proofs::Walk::Functions::deepest_step))]
+    #[tactic(auto, using(crate::proofs::Laws::Functions::named_step, crate::proofs::Laws::Functions::deepest_step))]
     /// The first function of a name, if there is one.
     pub fn named(&self, name: &[u8]) -> Option<&'a FuncItem>
         ensures function { option_map (λ f. function_of f.now) result ≡ spec.function_named (functions_of self.now) name.now }
-        ensures depth { IfSome result (λ f. size-Stmt f.now.body ≤ deepest self.now.all.items) }
+        ensures depth { IfSome result (λ f. height (statement_of f.now.body) ≤ deepest self.now.all.items) }
     {
         for function in &self.all {
             if function.name.text.as_slice() == name {

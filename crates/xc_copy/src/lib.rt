@@ -22,4 +22,3 @@ mod statements;
 mod transfers;
 
 pub use program::copy;
-

@@ -48,7 +48,7 @@ impl Numbers {
         })
     }
 
-    #[tactic(auto, using(crate::proofs::Walk::PathSets::place_mapped))]
+    #[tactic(auto, using(crate::proofs::Laws::PathSets::place_mapped))]
     /// The number of a variable.
     pub fn variable(&self, path: &[u32]) -> u32
         ensures { result ≡ spec.variable_number (numbering_of self.now) path.now }
@@ -56,7 +56,7 @@ impl Numbers {
         place(&self.variable_paths, path)
     }
 
-    #[tactic(auto, using(crate::proofs::Walk::PathSets::place_mapped))]
+    #[tactic(auto, using(crate::proofs::Laws::PathSets::place_mapped))]
     /// The number of a channel.
     pub fn channel(&self, path: &[u32]) -> u32
         ensures { result ≡ spec.channel_number (numbering_of self.now) path.now }
@@ -64,7 +64,7 @@ impl Numbers {
         place(&self.channel_paths, path)
     }
 
-    #[tactic(auto, using(crate::proofs::Walk::PathSets::place_mapped))]
+    #[tactic(auto, using(crate::proofs::Laws::PathSets::place_mapped))]
     /// The number of a timer.
     pub fn timer(&self, path: &[u32]) -> u32
         ensures { result ≡ spec.timer_number (numbering_of self.now) path.now }
@@ -72,7 +72,7 @@ impl Numbers {
         place(&self.timer_paths, path)
     }
 
-    #[tactic(auto, using(crate::proofs::Walk::PathSets::place_mapped))]
+    #[tactic(auto, using(crate::proofs::Laws::PathSets::place_mapped))]
     /// The number of a block.
     pub fn block(&self, path: &[u32]) -> u32
         ensures { result ≡ spec.block_number (numbering_of self.now) path.now }

@@ -78,7 +78,7 @@ pub fn each_once<T: HasPath + Drop>(alloc: Global, mut seen: VecDeque<T>) -> Res
 }
 
 /// Keeps an instance, if its path is new. The one error is want of memory.
-#[tactic(auto, using(crate::proofs::Walk::PathSets::kept_new, crate::proofs::Walk::PathSets::kept_known))]
+#[tactic(auto, using(crate::proofs::Laws::PathSets::kept_new, crate::proofs::Laws::PathSets::kept_known))]
 fn keep<T: HasPath + Drop>(alloc: Global, once: &mut Once<T>, instance: T) -> Result<(), Memory>
     requires { paths_in once.old.paths ≡ map T.path_of once.old.items.items }
     ensures items { OnOk result (once.new.items.items ≡ with_new T.path_of once.old.items.items instance) }
@@ -93,7 +93,7 @@ fn keep<T: HasPath + Drop>(alloc: Global, once: &mut Once<T>, instance: T) -> Re
     }
 }
 
-#[tactic(auto, using(crate::proofs::Walk::PathSets::path_added, crate::proofs::Walk::PathSets::has_is))]
+#[tactic(auto, using(crate::proofs::Laws::PathSets::path_added, crate::proofs::Laws::PathSets::has_is))]
 /// Adds a path, and says whether it is new. The one error is want of memory.
 fn add(alloc: Global, paths: &mut IndexSet<Vec<u32>>, path: &[u32]) -> Result<bool, Memory>
     ensures paths { OnOk result (paths_in paths.new ≡ with_new itself (paths_in paths.old) path.now) }
@@ -107,7 +107,7 @@ fn add(alloc: Global, paths: &mut IndexSet<Vec<u32>>, path: &[u32]) -> Result<bo
     Ok(place.1)
 }
 
-#[tactic(auto, using(crate::proofs::Walk::PathSets::place_found, crate::proofs::Walk::PathSets::place_missing))]
+#[tactic(auto, using(crate::proofs::Laws::PathSets::place_found, crate::proofs::Laws::PathSets::place_missing))]
 /// The place of a path among some, or their number where it isn't there.
 pub fn place(paths: &IndexSet<Vec<u32>>, path: &[u32]) -> u32
     requires few { length (paths_in paths.now) < 2 ^ 32 }

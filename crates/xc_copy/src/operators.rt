@@ -33,7 +33,7 @@ pub fn operation_is_unsigned(symbol: u8, left: bool, right: bool) -> bool
 }
 
 /// Whether what an operation on two words gives is `unsigned`.
-#[tactic(auto, using(crate::proofs::Walk::Operators::truth_is_signed, crate::proofs::Walk::Operators::other_result))]
+#[tactic(auto, using(crate::proofs::Laws::Operators::truth_is_signed, crate::proofs::Laws::Operators::other_result))]
 pub fn result_is_unsigned(symbol: u8, left: bool, right: bool) -> bool
     ensures { result ≡ types.result_is_unsigned (spec.operator_at symbol) left right }
 {

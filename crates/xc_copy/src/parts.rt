@@ -45,12 +45,12 @@ impl Branched {
     }
 
     /// A `par` of the branches. The one error is want of memory.
-    pub fn as_par(self) -> Result<Copied, Memory>
+    pub fn as_par(self, alloc: Global) -> Result<Copied, Memory>
         ensures { IfOk result (λ copied. (behind : Names) → copy_of copied behind ≡ spec.par_copy (branched_before self (spec.no_branches behind))) }
     {
-        let Branched { mut made, branches } = self;
-        made.add_statement(Kst::Par(branches))?;
-        Ok(made)
+        let Branched { made, branches } = self;
+        let copied = made.with_statement(alloc, Kst::Par(branches))?;
+        Ok(copied)
     }
 }
 
@@ -92,8 +92,9 @@ impl Cased {
         let Received { head, names } = received;
         let body = block.take_code(alloc);
         cases.push(KCase { guard, head, body })?;
+        let inside = names.followed_by(block)?;
         Ok(Cased {
-            made: made.followed_by(names.followed_by(block)?)?,
+            made: made.followed_by(inside)?,
             cases,
             otherwise,
         })
@@ -117,20 +118,21 @@ impl Cased {
     }
 
     /// A `select` of the cases, whose word stands at a place. The one error is want of memory.
-    pub fn as_select(self, pos: Pos) -> Result<Copied, Memory>
+    pub fn as_select(self, alloc: Global, pos: Pos) -> Result<Copied, Memory>
         ensures { IfOk result (λ copied. (behind : Names) → copy_of copied behind ≡ spec.select_copy behind pos (cased_before self (spec.no_cases behind))) }
     {
         let Cased {
-            mut made,
+            made,
             cases,
             otherwise,
         } = self;
-        made.add_statement(Kst::Select(KSelect {
+        let select = Kst::Select(KSelect {
             cases,
             otherwise,
             pos,
-        }))?;
-        Ok(made)
+        });
+        let copied = made.with_statement(alloc, select)?;
+        Ok(copied)
     }
 }
 

@@ -1,11 +1,15 @@
-#![tactic(none)]
-
-ghost use Rattle.std.specs.Prelude.{◌≡◌, IfOk, map};
-ghost use Rattle.xc_tree.specs.Trees as tree;
-ghost use Rattle.xc_kernel.specs.Copies as spec;
-ghost use Rattle.xc_kernel.specs.Kernels as kernel;
+ghost use Rattle.std.specs.Prelude.{◌≡◌, ◌<◌, [], ◌∷◌, ◌++◌, length, IfOk, OnOk, map, option_map};
+ghost use Rattle.xc_tree.specs.Trees.{program_of, item_of, port_of};
+ghost use Rattle.xc_kernel.specs.Copies.{Copies};
+ghost use Rattle.xc_kernel.specs.Identifiers.{identifiers, place_among};
+ghost use Rattle.xc_kernel.specs.Kernels.{kernel_of, root_of};
 ghost use Rattle.xc_kernel.specs.Ports as ports_spec;
 ghost use Rattle.xc_kernel.specs.Programs as programs;
+ghost use Rattle.xc_copy.specs.Contexts.{ports_from};
+ghost use Rattle.xc_copy.specs.Functions.{function_of, functions_of};
+ghost use Rattle.xc_copy.specs.Numbers.{numbering_of};
+ghost use Rattle.xc_copy.specs.Ports.{names_among, names_of_ports};
+ghost use Rattle.xc_copy.specs.Roots.{rooted_by, rooted_of};
 
 use crate::context::Context;
 use crate::functions::Functions;
@@ -57,7 +61,7 @@ const IDENTIFIERS: [&[u8]; 29] = [
 /// walked twice, for the instances and then for the statements, which mean instances by their places. The one error is want of
 /// memory, or of numbers for 2^32 instances of a kind.
 pub fn copy(alloc: Global, tree: &Tree) -> Result<Kernel, Memory>
-    ensures { IfOk result (λ k. spec.Copies (tree.program_of tree.now) (kernel.kernel_of k)) }
+    ensures { IfOk result (λ k. Copies (program_of tree.now) (kernel_of k)) }
 {
     let functions = Functions::of_tree(alloc, tree)?;
     let names = port_names(alloc, tree)?;
@@ -66,21 +70,28 @@ pub fn copy(alloc: Global, tree: &Tree) -> Result<Kernel, Memory>
     let second = rooted(alloc, &functions, names.as_slice(), &numbers)?;
     let ports = port_uses(alloc, tree)?;
     let main = main_pos(functions.named(MAIN));
+    Ok(kernel_by(numbers, second, ports, main))
+}
+
+/// The kernel by its numbers, its roots and their instances, its ports, and the place of main's name.
+fn kernel_by(numbers: Numbers, rooted: Rooted, ports: List<PortUse>, main: Pos) -> Kernel
+    ensures { kernel_of result ≡ record { roots = map root_of rooted.roots; variables = numbers.variables.items; channels = numbers.channels.items; timers = numbers.timers.items; ports = ports; instances = rooted.made.instances.items; main = main } }
+{
     let Numbers {
         variables,
         channels,
         timers,
         ..
     } = numbers;
-    Ok(Kernel {
-        roots: second.roots,
+    Kernel {
+        roots: rooted.roots,
         vars: List::from_vec(variables),
         chans: List::from_vec(channels),
         timers: List::from_vec(timers),
         ports,
-        insts: List::from_vec(Vec::from(second.made.instances)),
+        insts: List::from_vec(Vec::from(rooted.made.instances)),
         main,
-    })
+    }
 }
 
 /// The roots of a program with their instances, by a numbering of instances. The one error is as for `copy`.
@@ -89,7 +100,9 @@ fn rooted<'a>(
     functions: &Functions<'a>,
     ports: &[&'a [u8]],
     numbers: &Numbers,
-) -> Result<Rooted, Memory> {
+) -> Result<Rooted, Memory>
+    ensures { IfOk result (λ r. rooted_of r (rooted_by (functions_of functions.now) (ports_from 0 ports.now) (numbering_of numbers.now)).made.scope ≡ rooted_by (functions_of functions.now) (ports_from 0 ports.now) (numbering_of numbers.now)) }
+{
     let context = Context {
         functions,
         ports,
@@ -101,11 +114,15 @@ fn rooted<'a>(
         breaks: &[],
         continues: &[],
     };
-    context.roots(alloc, functions.len(), functions.named(MAIN))
+    let main = functions.named(MAIN);
+    let rooted = context.roots(alloc, functions.len(), main)?;
+    Ok(rooted)
 }
 
 /// The place of main's name.
-fn main_pos(main: Option<&FuncItem>) -> Pos {
+fn main_pos(main: Option<&FuncItem>) -> Pos
+    ensures { result ≡ programs.pos_of_function (option_map (λ f. function_of f.now) main.entry) }
+{
     match main {
         Some(main) => main.name.pos,
         None => Pos { line: 1, col: 1 },
@@ -113,34 +130,57 @@ fn main_pos(main: Option<&FuncItem>) -> Pos {
 }
 
 /// The names of ports, in the order of the text. The one error is want of memory.
-fn port_names<'a>(alloc: Global, tree: &'a Tree) -> Result<Vec<&'a [u8]>, Memory> {
+fn port_names<'a>(alloc: Global, tree: &'a Tree) -> Result<Vec<&'a [u8]>, Memory>
+    ensures { IfOk result (λ names. names_among names.items ≡ names_of_ports (programs.ports (program_of tree.now))) }
+{
     let mut names = Vec::new(alloc);
     for item in tree.items.as_slice() {
-        if let Item::Port(port) = item {
-            if names.push(port.name.text.as_slice()).is_err() {
-                return Err(Memory);
-            }
-        }
+        add_port_name(&mut names, item)?;
     }
     Ok(names)
 }
 
+/// Adds the name of the port that an item is, if it is one. The one error is want of memory.
+fn add_port_name<'a>(names: &mut Vec<&'a [u8]>, item: &'a Item) -> Result<(), Memory>
+    ensures { OnOk result (names_among names.new.items ≡ names_among names.old.items ++ names_of_ports (programs.ports (item_of item.now ∷ []))) }
+{
+    match item {
+        Item::Func(_) => Ok(()),
+        Item::Port(port) => match names.push(port.name.text.as_slice()) {
+            Ok(()) => Ok(()),
+            Err(_) => Err(Memory),
+        },
+    }
+}
+
 /// The kernel's entries for ports, in the order of the text. The one error is want of memory.
 fn port_uses(alloc: Global, tree: &Tree) -> Result<List<PortUse>, Memory>
-    ensures { IfOk result (λ ports. ports ≡ map ports_spec.port_use (programs.ports (tree.program_of tree.now))) }
+    ensures { IfOk result (λ ports. ports ≡ map ports_spec.port_use (programs.ports (program_of tree.now))) }
 {
     let mut ports = List::new(alloc);
     for item in tree.items.as_slice() {
-        if let Item::Port(port) = item {
-            ports.push(port_use(alloc, port)?)?;
-        }
+        add_port_use(alloc, &mut ports, item)?;
     }
     Ok(ports)
 }
 
+/// Adds the kernel's entry for the port that an item is, if it is one. The one error is want of memory.
+fn add_port_use(alloc: Global, ports: &mut List<PortUse>, item: &Item) -> Result<(), Memory>
+    ensures { OnOk result (ports.new ≡ ports.old ++ map ports_spec.port_use (programs.ports (item_of item.now ∷ []))) }
+{
+    match item {
+        Item::Func(_) => Ok(()),
+        Item::Port(port) => {
+            let entry = port_use(alloc, port)?;
+            ports.push(entry)?;
+            Ok(())
+        }
+    }
+}
+
 /// The kernel's entry for a port. The one error is want of memory.
 fn port_use(alloc: Global, port: &PortItem) -> Result<PortUse, Memory>
-    ensures { IfOk result (λ entry. entry ≡ ports_spec.port_use (tree.port_of port.now)) }
+    ensures { IfOk result (λ entry. entry ≡ ports_spec.port_use (port_of port.now)) }
 {
     let core = core_of(alloc, &port.place, &Scope::new(alloc))?;
     Ok(PortUse {
@@ -153,10 +193,21 @@ fn port_use(alloc: Global, port: &PortItem) -> Result<PortUse, Memory>
 }
 
 /// The place of an identifier among those of ports, or their number.
-fn place_of_identifier(text: &[u8]) -> u8 {
+fn place_of_identifier(text: &[u8]) -> u8
+    ensures { result ≡ place_among identifiers text.now }
+{
+    place_in(&IDENTIFIERS, text)
+}
+
+/// The place of a text in a table, or the table's length.
+#[tactic(auto, using(crate::proofs::Laws::Ports::place_step))]
+fn place_in(table: &[&[u8]], text: &[u8]) -> u8
+    requires { length table.now < 256 }
+    ensures { result ≡ place_among (names_among table.now) text.now }
+{
     let mut place = 0;
-    for identifier in &IDENTIFIERS {
-        if *identifier == text {
+    for name in table {
+        if *name == text {
             return place;
         }
         place += 1;

@@ -1,9 +1,7 @@
-#![tactic(none)]
-
-ghost use Rattle.std.specs.Prelude.{◌≡◌, ◌≤◌, ◌-◌, [], ◌∷◌, ◌++◌, IfOk, map, option_map};
+ghost use Rattle.std.specs.Prelude.{◌≡◌, ◌≤◌, ◌-◌, [], IfOk, map, option_map};
 ghost use Rattle.xc_tree.specs.Plain as plain;
 ghost use Rattle.xc_tree.specs.Trees as tree;
-ghost use Rattle.xc_tree.specs.declared.tree.Stmt.{size-Stmt, out-Stmt};
+ghost use Rattle.xc_tree.specs.declared.tree.Stmt.{out-Stmt};
 ghost use Rattle.xc_kernel.specs.Copy as copies;
 ghost use Rattle.xc_kernel.specs.Scopes.{Scope as Names};
 ghost use Rattle.std.specs.Option.{IfSome};
@@ -13,6 +11,7 @@ ghost use Rattle.xc_kernel.specs.Roots as spec;
 ghost use Rattle.xc_kernel.specs.Statements.{calls_copy};
 ghost use Rattle.xc_copy.specs.Contexts.{context_of};
 ghost use Rattle.xc_copy.specs.Functions.{deepest, function_of};
+ghost use Rattle.xc_copy.specs.Heights.{height};
 ghost use Rattle.xc_copy.specs.Roots.{rooted_of};
 ghost use Rattle.xc_copy.specs.Scopes.{scope_of};
 
@@ -25,7 +24,7 @@ use crate::paths::path_of_branch;
 use crate::scope::{Entity, Scope};
 use std::alloc::Global;
 use xc_kernel::Root;
-use xc_tree::{At, Branch, FuncItem, Id, St, Stmt};
+use xc_tree::{Arg, At, Branch, FuncItem, Id, St, Stmt};
 use xw_words::{List, Memory, Pos};
 
 /// The greatest number of a core.
@@ -101,26 +100,49 @@ impl<'p, 'a> Context<'p, 'a> {
         calls: usize,
         main: Option<&'a FuncItem>,
     ) -> Result<Rooted, Memory>
-        requires { IfSome main.entry (λ f. size-Stmt f.now.body ≤ deepest self.now.functions.now.all.items) }
+        requires { IfSome main (λ f. height (tree.statement_of f.now.body) ≤ deepest self.now.functions.now.all.items) }
         ensures { IfOk result (λ r. rooted_of r (spec.roots_of (calls_copy calls) (option_map (λ f. function_of f.now) main.entry) (context_of self.now)).made.scope ≡ spec.roots_of (calls_copy calls) (option_map (λ f. function_of f.now) main.entry) (context_of self.now)) }
     {
         match main {
             None => Ok(Rooted::none(alloc)),
             Some(main) => {
-                if block_has_placed(in_block(&main.body)) {
-                    self.placed_roots(alloc, calls, main)
-                } else {
-                    self.main_root(alloc, calls, main)
-                }
+                let rooted = self.roots_by_main(alloc, calls, main)?;
+                Ok(rooted)
             }
         }
     }
 
+    /// The roots of a program by its main. The one error is as for `roots`.
+    fn roots_by_main(
+        &self,
+        alloc: Global,
+        calls: usize,
+        main: &'a FuncItem,
+    ) -> Result<Rooted, Memory>
+        requires { height (tree.statement_of main.now.body) ≤ deepest self.now.functions.now.all.items }
+        ensures { IfOk result (λ r. rooted_of r (spec.roots_of (calls_copy calls) (Some (function_of main.now)) (context_of self.now)).made.scope ≡ spec.roots_of (calls_copy calls) (Some (function_of main.now)) (context_of self.now)) }
+    {
+        if block_has_placed(in_block(&main.body)) {
+            let rooted = self.placed_roots(alloc, calls, main)?;
+            Ok(rooted)
+        } else {
+            let rooted = self.main_root(alloc, calls, main)?;
+            Ok(rooted)
+        }
+    }
+
     /// Main as the one root, by the empty path. The one error is as for `roots`.
-    fn main_root(&self, alloc: Global, calls: usize, main: &'a FuncItem) -> Result<Rooted, Memory> {
-        let scope = self.scope_of_ports(alloc)?;
-        let copied = self.function(alloc, calls, &[], main, &[], &scope)?;
-        Rooted::none(alloc).and_root(alloc, 0, main.name.pos, main.name.pos, copied)
+    fn main_root(&self, alloc: Global, calls: usize, main: &'a FuncItem) -> Result<Rooted, Memory>
+        requires { height (tree.statement_of main.now.body) ≤ deepest self.now.functions.now.all.items }
+        ensures { IfOk result (λ r. rooted_of r (context_of self.now).ports ≡ spec.main_root (calls_copy calls) (function_of main.now) (context_of self.now)) }
+    {
+        let scope: Scope<'a> = self.scope_of_ports(alloc)?;
+        let own: &[u32] = &[];
+        let arguments: &'a [Arg] = &[];
+        let copied = (&*self).function(alloc, calls, own, main, arguments, &scope)?;
+        let none = Rooted::none(alloc);
+        let rooted = none.and_root(alloc, 0, main.name.pos, main.name.pos, copied)?;
+        Ok(rooted)
     }
 
     /// Where a branch of main's is placed: main's instance and its branches. The one error is as for `roots`.
@@ -129,10 +151,15 @@ impl<'p, 'a> Context<'p, 'a> {
         alloc: Global,
         calls: usize,
         main: &'a FuncItem,
-    ) -> Result<Rooted, Memory> {
+    ) -> Result<Rooted, Memory>
+        ensures { IfOk result (λ r. rooted_of r (spec.placed_roots (calls_copy calls) (function_of main.now) (context_of self.now)).made.scope ≡ spec.placed_roots (calls_copy calls) (function_of main.now) (context_of self.now)) }
+    {
         let mut scope = self.scope_of_ports(alloc)?;
-        let mut rooted = Rooted::none(alloc).and_copy(alloc, self.instance(alloc, main)?)?;
-        for s in in_block(&main.body) {
+        let instance = self.instance(alloc, main)?;
+        let none = Rooted::none(alloc);
+        let mut rooted = none.and_copy(alloc, instance)?;
+        let block = in_block(&main.body);
+        for s in block {
             rooted = self.statement_roots(alloc, calls, main.name.pos, s, rooted, &mut scope)?;
         }
         Ok(rooted)
@@ -147,20 +174,31 @@ impl<'p, 'a> Context<'p, 'a> {
         s: &'a Stmt,
         rooted: Rooted,
         scope: &mut Scope<'a>,
-    ) -> Result<Rooted, Memory> {
+    ) -> Result<Rooted, Memory>
+        ensures { IfOk result (λ r. rooted_of r (scope_of scope.new) ≡ spec.roots_then (rooted_of rooted (scope_of scope.old)) (spec.action_roots (calls_copy calls) main (tree.action_of (out-Stmt s.now).kind) (context_of self.now))) }
+    {
         match &s.kind {
             St::Decl(ds) => {
                 let copied = self.declarations(alloc, calls, ds.as_slice(), scope)?;
-                rooted.and_copy(alloc, copied)
+                let rooted = rooted.and_copy(alloc, copied)?;
+                Ok(rooted)
             }
-            St::Par(bs) => self.branch_roots(alloc, calls, main, bs.as_slice(), rooted, scope),
+            St::Par(bs) => {
+                let rooted = self.branch_roots(alloc, calls, main, bs.as_slice(), rooted, scope)?;
+                Ok(rooted)
+            }
             St::Repl {
                 first,
                 from,
                 to,
                 body,
                 ..
-            } => self.numbered_roots(alloc, calls, main, first, *from, *to, body, rooted, scope),
+            } => {
+                let rooted = self.numbered_roots(
+                    alloc, calls, main, first, *from, *to, body, rooted, scope,
+                )?;
+                Ok(rooted)
+            }
             St::Empty => Ok(rooted),
             St::Block(_) => Ok(rooted),
             St::Assign(_, _, _, _) => Ok(rooted),
@@ -189,11 +227,13 @@ impl<'p, 'a> Context<'p, 'a> {
         bs: &'a [Branch],
         rooted: Rooted,
         scope: &mut Scope<'a>,
-    ) -> Result<Rooted, Memory> {
+    ) -> Result<Rooted, Memory>
+        ensures { IfOk result (λ r. rooted_of r (scope_of scope.new) ≡ spec.roots_then (rooted_of rooted (scope_of scope.old)) (spec.branch_roots (calls_copy calls) main (plain.branches (map tree.branch_of bs.now)) 0 (context_of self.now))) }
+    {
         let mut rooted = rooted;
         for (index, b) in bs.iter().enumerate() {
             let path = self.branch_path(alloc, index)?;
-            rooted = self
+            rooted = (&*self)
                 .in_branch(path.as_slice())
                 .branch_root(alloc, calls, main, b, rooted, scope)?;
         }
@@ -212,13 +252,15 @@ impl<'p, 'a> Context<'p, 'a> {
         b: &'a Branch,
         rooted: Rooted,
         scope: &mut Scope<'a>,
-    ) -> Result<Rooted, Memory> {
+    ) -> Result<Rooted, Memory>
+        ensures { IfOk result (λ r. rooted_of r (scope_of scope.new) ≡ spec.and_roots (rooted_of rooted (scope_of scope.old)) (spec.numbered_roots (calls_copy calls) main (tree.branch_of b.now) name.now.text (context_of self.now) (scope_of scope.old) (until - from) 0 from)) }
+    {
         let mut rooted = rooted;
         let known = scope.len();
         for number in from..until {
             let path = path_of_branch(alloc, self.path, number - from)?;
             scope.declare(name.text.as_slice(), Entity::Constant(number))?;
-            rooted = self
+            rooted = (&*self)
                 .in_branch(path.as_slice())
                 .branch_root(alloc, calls, main, b, rooted, scope)?;
             scope.leave(known);
@@ -235,16 +277,16 @@ impl<'p, 'a> Context<'p, 'a> {
         b: &'a Branch,
         rooted: Rooted,
         scope: &mut Scope<'a>,
-    ) -> Result<Rooted, Memory> {
+    ) -> Result<Rooted, Memory>
+        ensures { IfOk result (λ r. rooted_of r (scope_of scope.new) ≡ spec.roots_then (rooted_of rooted (scope_of scope.old)) (spec.branch_root (calls_copy calls) main (tree.branch_of b.now) (context_of self.now))) }
+    {
         let core = core_of(alloc, &b.place, scope)?;
-        let copied = self.on_core(core).statement(alloc, calls, &b.body, scope)?;
-        rooted.and_root(
-            alloc,
-            core,
-            pos_of_place(main, &b.place),
-            b.body.pos,
-            copied,
-        )
+        let copied = (&*self)
+            .on_core(core)
+            .statement(alloc, calls, &b.body, scope)?;
+        let place = pos_of_place(main, &b.place);
+        let rooted = rooted.and_root(alloc, core, place, b.body.pos, copied)?;
+        Ok(rooted)
     }
 }
 
@@ -280,6 +322,7 @@ pub fn pos_of_place(other: Pos, place: &Option<At>) -> Pos
 }
 
 /// The statements directly in a block.
+#[tactic(auto, using(xc_tree::proofs::Forms::forms))]
 fn in_block(s: &Stmt) -> &[Stmt]
     ensures { plain.statements (map tree.statement_of result.now) ≡ spec.in_block (tree.statement_of s.now) }
 {
@@ -307,6 +350,7 @@ fn in_block(s: &Stmt) -> &[Stmt]
 }
 
 /// Whether a `par` directly in a block has a placed branch.
+#[tactic(auto, using(crate::proofs::Laws::Roots::block_placed_step))]
 fn block_has_placed(ss: &[Stmt]) -> bool
     ensures { result ≡ spec.block_has_placed (plain.statements (map tree.statement_of ss.now)) }
 {
@@ -320,6 +364,7 @@ fn block_has_placed(ss: &[Stmt]) -> bool
 
 /// Whether a statement is a `par` with a placed branch; one that is replicated has branches where its first number is below its
 /// second.
+#[tactic(auto, using(xc_tree::proofs::Forms::forms, crate::proofs::Laws::Roots::is_placed_as))]
 fn has_placed(s: &Stmt) -> bool
     ensures { result ≡ spec.action_has_placed (tree.action_of (out-Stmt s.now).kind) }
 {
@@ -347,6 +392,7 @@ fn has_placed(s: &Stmt) -> bool
 }
 
 /// Whether some branch is placed.
+#[tactic(auto, using(crate::proofs::Laws::Roots::placed_step))]
 fn some_placed(bs: &[Branch]) -> bool
     ensures { result ≡ spec.has_placed (plain.branches (map tree.branch_of bs.now)) }
 {

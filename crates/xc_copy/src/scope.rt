@@ -72,7 +72,7 @@ impl<'a> Scope<'a> {
     }
 
     /// How many names were declared.
-    #[tactic(auto, using(crate::proofs::Walk::Scopes::declared_length))]
+    #[tactic(auto, using(crate::proofs::Laws::Scopes::declared_length))]
     pub fn len(&self) -> usize
         ensures { result ≡ length (scope_of self.now) }
     {
@@ -80,7 +80,7 @@ impl<'a> Scope<'a> {
     }
 
     /// Declares a name, which hides others. The one error is want of memory.
-    #[tactic(auto, using(crate::proofs::Walk::Scopes::declared_last))]
+    #[tactic(auto, using(crate::proofs::Laws::Scopes::declared_last))]
     pub fn declare(&mut self, name: &'a [u8], entity: Entity) -> Result<(), Memory>
         ensures { OnOk result (scope_of self.new ≡ spec.with_name (scope_of self.old) name.now (entity_meant entity)) }
     {
@@ -91,7 +91,7 @@ impl<'a> Scope<'a> {
     }
 
     /// Forgets all names but the first so many.
-    #[tactic(auto, using(crate::proofs::Walk::Scopes::declared_left))]
+    #[tactic(auto, using(crate::proofs::Laws::Scopes::declared_left))]
     pub fn leave(&mut self, len: usize)
         requires { len ≤ length (scope_of self.old) }
         ensures { scope_of self.new ≡ drop (length (scope_of self.old) - len) (scope_of self.old) }
@@ -100,7 +100,7 @@ impl<'a> Scope<'a> {
     }
 
     /// What a name stands for, if it is known.
-    #[tactic(auto, using(crate::proofs::Walk::Scopes::entity_at))]
+    #[tactic(auto, using(crate::proofs::Laws::Scopes::entity_at))]
     pub fn entity(&self, name: &[u8]) -> Option<&Entity>
         ensures { entity_found result ≡ spec.entity_of (scope_of self.now) name.now }
     {

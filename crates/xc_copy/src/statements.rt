@@ -1,9 +1,6 @@
-#![tactic(none)]
-
 ghost use Rattle.std.specs.Prelude.{◌≡◌, ◌≤◌, ◌-◌, IfOk, map, option_map};
 ghost use Rattle.xc_tree.specs.Trees as tree;
 ghost use Rattle.xc_tree.specs.Plain as plain;
-ghost use Rattle.xc_tree.specs.declared.tree.Stmt.{size-Stmt};
 ghost use Rattle.xc_kernel.specs.Calls as calls_spec;
 ghost use Rattle.xc_kernel.specs.Context as contexts;
 ghost use Rattle.xc_kernel.specs.Copy as copies;
@@ -15,6 +12,7 @@ ghost use Rattle.xc_copy.specs.Contexts.{context_of};
 ghost use Rattle.xc_copy.specs.Copied.{copy_of};
 ghost use Rattle.xc_copy.specs.Functions.{function_of, deepest};
 ghost use Rattle.xc_copy.specs.Growth.{Grows};
+ghost use Rattle.xc_copy.specs.Heights.{height};
 ghost use Rattle.xc_copy.specs.Parts.{cased_before};
 ghost use Rattle.xc_copy.specs.Scopes.{scope_of};
 
@@ -64,8 +62,8 @@ impl<'p, 'a> Context<'p, 'a> {
                 self.for_loop(alloc, calls, s.pos, first, test, next, body, scope)
             }
             St::Return(right) => self.return_with(alloc, calls, right, scope),
-            St::Break => Copied::one_statement(alloc, self.leave(self.breaks)),
-            St::Continue => Copied::one_statement(alloc, self.leave(self.continues)),
+            St::Break => self.leaves(alloc, self.breaks, scope),
+            St::Continue => self.leaves(alloc, self.continues, scope),
             St::Par(bs) => self.par(alloc, calls, bs.as_slice(), scope),
             St::Repl {
                 first,
@@ -170,7 +168,8 @@ impl<'p, 'a> Context<'p, 'a> {
             DeclKind::Word(unsigned, right) => {
                 let declared = self.declares_word(alloc, scope, name, pos, *unsigned)?;
                 let initial = self.initial(alloc, calls, pos, right, scope)?;
-                declared.followed_by(initial)
+                let copied = declared.followed_by(initial)?;
+                Ok(copied)
             }
             DeclKind::Array(unsigned, words, _) => {
                 self.array(alloc, scope, name, pos, *unsigned, *words)
@@ -194,12 +193,16 @@ impl<'p, 'a> Context<'p, 'a> {
     {
         let path = path_at(alloc, self.path, pos)?;
         match right {
-            None => Copied::one_statement(alloc, self.set_zero(path.as_slice())),
+            None => {
+                let zeroed = Copied::one_statement(alloc, self.set_zero(path.as_slice()))?;
+                Ok(zeroed)
+            }
             Some(right) => {
                 let called = self.right(alloc, calls, right, scope)?;
                 let value = self.value(alloc, right, scope)?;
-                let stored = self.set_word(path.as_slice(), value);
-                called.followed_by(Copied::one_statement(alloc, stored)?)
+                let stored = Copied::one_statement(alloc, self.set_word(path.as_slice(), value))?;
+                let copied = called.followed_by(stored)?;
+                Ok(copied)
             }
         }
     }
@@ -224,8 +227,10 @@ impl<'p, 'a> Context<'p, 'a> {
         }
         let called = self.right(alloc, calls, right, scope)?;
         let value = self.value(alloc, right, scope)?;
-        let stored = Kst::Set(place(alloc, self.numbers, scope, to)?, value);
-        called.followed_by(Copied::one_statement(alloc, stored)?)
+        let place = place(alloc, self.numbers, scope, to)?;
+        let stored = Copied::one_statement(alloc, Kst::Set(place, value))?;
+        let copied = called.followed_by(stored)?;
+        Ok(copied)
     }
 
     /// The copy of `return`: the value is stored in the result, and the body is left.
@@ -239,14 +244,16 @@ impl<'p, 'a> Context<'p, 'a> {
     ) -> Result<Copied, Memory>
         ensures { IfOk result (λ copied. copy_of copied (scope_of scope.now) ≡ spec.return_copy (spec.calls_copy calls) (context_of self.now) (scope_of scope.now) (option_map tree.right_of right.now)) }
     {
-        let left = Copied::one_statement(alloc, self.leave(self.returns))?;
+        let left = self.leaves(alloc, self.returns, scope)?;
         match right {
             None => Ok(left),
             Some(right) => {
                 let called = self.right(alloc, calls, right, scope)?;
                 let value = self.value(alloc, right, scope)?;
                 let stored = Copied::one_statement(alloc, self.set_word(self.result, value))?;
-                called.followed_by(stored.followed_by(left)?)
+                let behind = stored.followed_by(left)?;
+                let copied = called.followed_by(behind)?;
+                Ok(copied)
             }
         }
     }
@@ -284,7 +291,7 @@ impl<'p, 'a> Context<'p, 'a> {
         args: &'a [Arg],
         scope: &Scope<'a>,
     ) -> Result<Copied, Memory>
-        requires { size-Stmt function.now.body ≤ deepest self.now.functions.now.all.items }
+        requires { height (tree.statement_of function.now.body) ≤ deepest self.now.functions.now.all.items }
         ensures { IfOk result (λ copied. copy_of copied (scope_of scope.now) ≡ spec.calls_copy calls (context_of self.now) (scope_of scope.now) (function_of function.now) pos (map tree.argument_of args.now)) }
     {
         if calls == 0 {
@@ -305,19 +312,20 @@ impl<'p, 'a> Context<'p, 'a> {
         args: &'a [Arg],
         scope: &Scope<'a>,
     ) -> Result<Copied, Memory>
-        requires { size-Stmt function.now.body ≤ deepest self.now.functions.now.all.items }
+        requires { height (tree.statement_of function.now.body) ≤ deepest self.now.functions.now.all.items }
         ensures { IfOk result (λ copied. copy_of copied (scope_of scope.now) ≡ calls_spec.function_copy (spec.statement_copy (spec.calls_copy calls)) (context_of self.now) (scope_of scope.now) own.now (function_of function.now) (map tree.argument_of args.now)) }
     {
         let result = path_at(alloc, own, function.name.pos)?;
         let made = self.instance(alloc, function)?;
         let zeroed = self.zeroed_result(alloc, result.as_slice(), function)?;
         let mut entered = self.all_passed(alloc, scope, own, function.params.as_slice(), args)?;
-        let body = self
+        let body = (&*self)
             .in_function(own, result.as_slice())
             .statement(alloc, calls, &function.body, &mut entered.scope)?;
         let block = self.as_block(alloc, same_path(alloc, own)?, body)?;
         let inside = entered.copied.followed_by(block)?;
-        let copied = made.followed_by(zeroed.followed_by(inside)?)?;
+        let behind = zeroed.followed_by(inside)?;
+        let copied = made.followed_by(behind)?;
         Ok(copied.naming_none(alloc))
     }
 
@@ -337,7 +345,8 @@ impl<'p, 'a> Context<'p, 'a> {
         let test = word(alloc, self.numbers, scope, test)?;
         let first = self.statement(alloc, calls, first, scope)?;
         let second = self.maybe(alloc, calls, second, scope)?;
-        if_copy(alloc, test.value, first, second)
+        let copied = if_copy(alloc, test.value, first, second)?;
+        Ok(copied)
     }
 
     /// The copy of `while`, whose word stands at a place.
@@ -355,10 +364,12 @@ impl<'p, 'a> Context<'p, 'a> {
     {
         let test = word(alloc, self.numbers, scope, test)?;
         let paths = self.loop_paths(alloc, pos)?;
-        let body = self
+        let body = (&*self)
             .in_loop(paths.whole.as_slice(), paths.turn.as_slice())
             .statement(alloc, calls, body, scope)?;
-        self.loop_at(alloc, paths, test.value, Copied::nothing(alloc), body, None)
+        let next = Copied::nothing(alloc);
+        let copied = self.loop_at(alloc, paths, test.value, next, body, None)?;
+        Ok(copied)
     }
 
     /// The copy of `do`, whose word stands at a place.
@@ -375,19 +386,14 @@ impl<'p, 'a> Context<'p, 'a> {
         ensures { IfOk result (λ copied. copy_of copied (scope_of scope.new) ≡ flow.do_while_copy (context_of self.now) pos (tree.expression_of test.now) (spec.statement_copy (spec.calls_copy calls) (tree.statement_of body.now) (contexts.in_loop (context_of self.now) pos) (scope_of scope.old))) }
     {
         let paths = self.loop_paths(alloc, pos)?;
-        let body = self
+        let body = (&*self)
             .in_loop(paths.whole.as_slice(), paths.turn.as_slice())
             .statement(alloc, calls, body, scope)?;
         let test = word(alloc, self.numbers, scope, test)?;
         let last = self.leave_unless(alloc, paths.whole.as_slice(), test.value)?;
-        self.loop_at(
-            alloc,
-            paths,
-            Kx::Num(1),
-            Copied::nothing(alloc),
-            body,
-            Some(last),
-        )
+        let next = Copied::nothing(alloc);
+        let copied = self.loop_at(alloc, paths, Kx::Num(1), next, body, Some(last))?;
+        Ok(copied)
     }
 
     /// The copy of `for`, whose word stands at a place, and which is a scope.
@@ -412,12 +418,13 @@ impl<'p, 'a> Context<'p, 'a> {
         let next = self.maybe(alloc, calls, next, scope)?;
         scope.leave(inside);
         let paths = self.loop_paths(alloc, pos)?;
-        let body = self
+        let body = (&*self)
             .in_loop(paths.whole.as_slice(), paths.turn.as_slice())
             .statement(alloc, calls, body, scope)?;
         scope.leave(known);
-        let copied = self.loop_at(alloc, paths, test, next, body, None)?;
-        first.followed_by(copied)
+        let repeated = self.loop_at(alloc, paths, test, next, body, None)?;
+        let copied = first.followed_by(repeated)?;
+        Ok(copied)
     }
 
     /// The copy of a `par`.
@@ -434,12 +441,13 @@ impl<'p, 'a> Context<'p, 'a> {
         let mut branches = Branched::none(alloc);
         for (index, b) in bs.iter().enumerate() {
             let path = self.branch_path(alloc, index)?;
-            let copied = self
+            let copied = (&*self)
                 .in_branch(path.as_slice())
                 .statement(alloc, calls, &b.body, scope)?;
             branches = branches.and(alloc, b.body.pos, copied)?;
         }
-        branches.as_par()
+        let copied = branches.as_par(alloc)?;
+        Ok(copied)
     }
 
     /// The copy of a replicated `par`: of its branch for each number, in which a name stands for the number.
@@ -461,13 +469,14 @@ impl<'p, 'a> Context<'p, 'a> {
         for number in from..until {
             let path = path_of_branch(alloc, self.path, number - from)?;
             scope.declare(name.text.as_slice(), Entity::Constant(number))?;
-            let copied = self
+            let copied = (&*self)
                 .in_branch(path.as_slice())
                 .statement(alloc, calls, &b.body, scope)?;
             scope.leave(known);
             branches = branches.and(alloc, b.body.pos, copied)?;
         }
-        branches.as_par()
+        let copied = branches.as_par(alloc)?;
+        Ok(copied)
     }
 
     /// The copy of a `select`, each of whose cases is a scope.
@@ -488,7 +497,8 @@ impl<'p, 'a> Context<'p, 'a> {
             cases = self.case(alloc, calls, case, cases, scope)?;
             scope.leave(known);
         }
-        cases.as_select(pos)
+        let copied = cases.as_select(alloc, pos)?;
+        Ok(copied)
     }
 
     /// One more case, or the `default`, behind others.
@@ -507,18 +517,22 @@ impl<'p, 'a> Context<'p, 'a> {
         let path = path_at(alloc, self.path, case.pos)?;
         match &case.head {
             None => {
-                let body = self
+                let body = (&*self)
                     .in_case(path.as_slice())
                     .statements(alloc, calls, case.body.as_slice(), scope)?;
-                before.and_default(alloc, self.as_block(alloc, path, body)?)
+                let block = self.as_block(alloc, path, body)?;
+                let cases = before.and_default(alloc, block)?;
+                Ok(cases)
             }
             Some(head) => {
                 let guard = self.guard(alloc, &case.guard, scope)?;
                 let received = self.received(alloc, scope, head)?;
-                let body = self
+                let body = (&*self)
                     .in_case(path.as_slice())
                     .statements(alloc, calls, case.body.as_slice(), scope)?;
-                before.and_case(alloc, guard, received, self.as_block(alloc, path, body)?)
+                let block = self.as_block(alloc, path, body)?;
+                let cases = before.and_case(alloc, guard, received, block)?;
+                Ok(cases)
             }
         }
     }

@@ -1,4 +1,4 @@
-#![tactic(auto, using(crate::proofs::Walk::Expressions::words))]
+#![tactic(auto, using(crate::proofs::Laws::Expressions::words))]
 
 ghost use Rattle.std.specs.Prelude.{◌≡◌, [], ◌∷◌, IfOk, option_map};
 ghost use Rattle.xc_tree.specs.Trees as tree;
@@ -101,7 +101,7 @@ impl<'p, 'a> Context<'p, 'a> {
     }
 
     /// Where the word of an input goes, and the name that the target declares. The one error is want of memory.
-    #[tactic(auto, using(crate::proofs::Walk::Expressions::words))]
+    #[tactic(auto, using(crate::proofs::Laws::Expressions::words))]
     fn target(
         &self,
         alloc: Global,

@@ -5,7 +5,6 @@ use Rattle.xc_tree.specs.Plain as tree
 use Rattle.xc_tree.specs.Trees.{item_of}
 use Rattle.xc_tree.specs.declared.tree.Item.{Item}
 use Rattle.xc_tree.specs.declared.tree.FuncItem.{FuncItem}
-use Rattle.xc_tree.specs.declared.tree.Stmt.{size-Stmt}
 use Rattle.xc_kernel.specs.Programs.{functions, function_named, function_by}
 use Rattle.xc_copy.proofs.Laws.Lists.{drop_item}
 use Rattle.xc_copy.specs.Functions.{function_of, functions_among, deepest}

@@ -42,6 +42,17 @@ grown_left {a} {b} g =
     let n : ◌≡◌ {A = ℕ} (length (g.more ++ a) - length a) (length g.more) = omega (arith, l) in
     ap (λ x. drop (length x - length a) x) g.is ∙ ap (λ k. drop k (g.more ++ a)) n ∙ drop_front g.more a
 
+pub grown_fits : {a b : Scope} {n : ℕ} → Grows a b → n ≡ length a → n ≤ length b
+grown_fits {a} {b} g e = let l = grown_length g in omega (arith, e, l)
+
+-- a scope is left for the names that were known before it
+pub left_as : {a b after : Scope} {n : ℕ} → Grows a b → n ≡ length a → after ≡ drop (length b - n) b → after ≡ a
+left_as {a} {b} g e left = left ∙ ap (λ n. drop (length b - n) b) e ∙ grown_left g
+
+-- a copy's names are those of its equal
+pub grown_by : (a : Scope) {x y : Copy} → x ≡ y → Grows a y.scope → Grows a x.scope
+grown_by a e g = subst (λ z. Grows a z.scope) (sym e) g
+
 -- a call leaves the names as they are
 pub record KeepsNames (copies : CopiesCall) : Type 0 where
   pub keeps : (c : Context) (scope : Scope) (f : Function) (pos : Pos) (args : List tree.Argument) → (copies c scope f pos args).scope ≡ scope
@@ -73,7 +84,7 @@ module _ (copies : CopiesCall) (keep : KeepsNames copies) where
   declarations_grow c [] scope = as_before scope
   declarations_grow c (d ∷ ds) scope = further (kind_grows c scope d.name.text d.name.pos d.kind) (declarations_grow c ds _)
 
-  target_grows : (c : Context) (scope : Scope) (t : tree.Target) → Grows scope (target_copy c scope t).scope
+  pub target_grows : (c : Context) (scope : Scope) (t : tree.Target) → Grows scope (target_copy c scope t).scope
   target_grows c scope (tree.to e) = as_before scope
   target_grows c scope tree.dropped = as_before scope
   target_grows c scope (tree.fresh u name) = with_one scope name.text _

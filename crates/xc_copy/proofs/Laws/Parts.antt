@@ -1,23 +1,25 @@
 -- Branches and cases, one behind the other.
 use Rattle.std.proofs.Common.{◌≡◌, List, [], ◌∷◌, ◌++◌, map, Option, Some, None, refl, ap}
 use Rattle.std.specs.Option.{option_map}
+use Rattle.xc_kernel.specs.declared.statement.KBranch.{KBranch}
+use Rattle.xc_kernel.specs.declared.statement.KCase.{KCase}
 use Rattle.xc_kernel.specs.declared.statement.Kst.{Kst}
-use Rattle.xc_kernel.specs.Kernels.{statement_of}
+use Rattle.xc_kernel.specs.Kernels.{branch_of, case_of, statement_of}
 use Rattle.xc_kernel.specs.Plain as kernel
 use Rattle.xc_copy.specs.Parts.{branches_before, cases_before, default_before}
 
-pub branches_last : (bs : List kernel.Branch) (b : kernel.Branch) (others : kernel.Branches) → branches_before (bs ++ b ∷ []) others ≡ branches_before bs (kernel.more_branches b others)
-branches_last [] b others = refl
-branches_last (a ∷ bs) b others = ap (kernel.more_branches a) (branches_last bs b others)
+pub branches_push : (bs : List KBranch) (b : KBranch) (others : kernel.Branches) → branches_before (map branch_of (bs ++ b ∷ [])) others ≡ branches_before (map branch_of bs) (kernel.more_branches (branch_of b) others)
+branches_push [] b others = refl
+branches_push (a ∷ bs) b others = ap (kernel.more_branches (branch_of a)) (branches_push bs b others)
 
 -- before none they are all
 pub branches_all : (bs : List kernel.Branch) → branches_before bs kernel.no_branch ≡ kernel.branches bs
 branches_all [] = refl
 branches_all (b ∷ bs) = ap (kernel.more_branches b) (branches_all bs)
 
-pub cases_last : (cs : List kernel.Case) (c : kernel.Case) (others : kernel.Cases) → cases_before (cs ++ c ∷ []) others ≡ cases_before cs (kernel.more_cases c others)
-cases_last [] c others = refl
-cases_last (a ∷ cs) c others = ap (kernel.more_cases a) (cases_last cs c others)
+pub cases_push : (cs : List KCase) (c : KCase) (others : kernel.Cases) → cases_before (map case_of (cs ++ c ∷ [])) others ≡ cases_before (map case_of cs) (kernel.more_cases (case_of c) others)
+cases_push [] c others = refl
+cases_push (a ∷ cs) c others = ap (kernel.more_cases (case_of a)) (cases_push cs c others)
 
 pub cases_all : (cs : List kernel.Case) → cases_before cs kernel.no_case ≡ kernel.cases cs
 cases_all [] = refl

@@ -8,10 +8,10 @@ use Rattle.xc_kernel.specs.Paths.{Path, path_at, path_of_turn}
 use Rattle.xc_kernel.specs.Scopes.{Scope}
 use Rattle.xc_kernel.specs.Programs.{Function}
 use Rattle.xc_kernel.specs.Copy.{Copy, no_copy, one_statement, joined, followed_by, in_scope_of, with_code, code_of}
-use Rattle.xc_kernel.specs.Context.{Context, in_function, expression, place, set_word, leave}
+use Rattle.xc_kernel.specs.Context.{Context, in_function, expression, maybe_expression, place, set_word, leave}
 use Rattle.xc_kernel.specs.Parameters.{all_passed}
 use Rattle.xc_kernel.specs.Calls.{CopiesCall, CopiesStatement, instance_of, result_copy, as_block, body_copy, naming_none, function_copy, right_copy, value_of}
-use Rattle.xc_kernel.specs.Flow.{if_copy, if_parts, loop_at, turn, while_copy, do_while_copy, leave_unless, for_parts, for_copy, first_of, transaction_copy}
+use Rattle.xc_kernel.specs.Flow.{if_copy, if_parts, loop_at, turn, while_copy, do_while_copy, leave_unless, test_or_true, for_parts, first_of, transaction_copy}
 use Rattle.xc_kernel.specs.Statements.{set_copy, return_copy}
 
 -- an `if`
@@ -25,6 +25,15 @@ while_done c pos scope e path b r = r ∙ λ i. loop_at c (path i) (e i) (turn c
 pub do_done : (c : Context) (pos : Pos) (test : tree.Expression) {e : kernel.Expression} {last : kernel.Statement} {path : Path} {body b r : Copy} (scope : Scope) → e ≡ expression c b.scope test → path ≡ path_at c.path pos → b ≡ body → last ≡ leave_unless c path e → r ≡ loop_at c path (kernel.number 1) (turn c path b.code (last ∷ [])) (code_of (no_copy scope)) (joined (no_copy scope) b) → r ≡ do_while_copy c pos test body
 do_done c pos test scope e path b last r =
     r ∙ λ i. loop_at c (path i) (kernel.number 1) (turn c (path i) (b i).code ((last ∙ λ j. leave_unless c (path j) ((e ∙ λ k. expression c (b k).scope test) j)) i ∷ [])) (code_of (no_copy scope)) (joined (no_copy scope) (b i))
+
+-- a `for`, which is a scope
+pub for_done : (c : Context) (pos : Pos) (scope : Scope) (test : Option tree.Expression) (next body : Scope → Copy) {first f n b loop : Copy} {r : Copy} {end : Scope} {e : kernel.Expression} {path : Path} →
+    f ≡ first → e ≡ test_or_true (maybe_expression c f.scope test) → n ≡ next f.scope → path ≡ path_at c.path pos → b ≡ body f.scope →
+    loop ≡ loop_at c path e (turn c path b.code []) (code_of n) (joined n b) → end ≡ scope → r ≡ in_scope_of end (joined f loop) →
+    r ≡ in_scope_of scope (followed_by first (for_parts c pos test next body))
+for_done c pos scope test next body {f = f} f' e n path b loop end r =
+    let loop = loop ∙ λ i. loop_at c (path i) (e i) (turn c (path i) (b i).code []) (code_of (n i)) (joined (n i) (b i)) in
+    r ∙ (λ i. in_scope_of (end i) (joined f (loop i))) ∙ λ i. in_scope_of scope (followed_by (f' i) (for_parts c pos test next body))
 
 -- an assignment by `=`
 pub set_done : (copies : CopiesCall) (c : Context) (scope : Scope) (to : tree.Expression) (right : tree.RightSide) {called one r : Copy} {s : kernel.Statement} → called ≡ right_copy copies c scope right → s ≡ kernel.set (place c scope to) (value_of c scope right) → one ≡ one_statement scope s → r ≡ joined called one → r ≡ set_copy copies c scope to right
@@ -53,3 +62,7 @@ transaction_done c scope master start close {b = b} b' first channel code left s
     let channel = channel ∙ ap (channel_number c.numbering) first in
     let s = s ∙ λ i. kernel.transaction (channel i) master (kernel.statements (code i)) start close in
     r ∙ (λ i. in_scope_of scope (with_code (left i) ((left i).code ++ s i ∷ []))) ∙ λ i. transaction_copy c scope master start close (b' i)
+
+-- a copy, and behind it what knows its names
+pub followed_done : {first a b r : Copy} (next : Scope → Copy) → a ≡ first → b ≡ next a.scope → r ≡ joined a b → r ≡ followed_by first next
+followed_done next a b r = r ∙ λ i. joined (a i) ((b ∙ λ j. next (a j).scope) i)

@@ -1,0 +1,766 @@
+use Rattle.std.proofs.Common.{◌≡◌, ℕ, ◌+◌, ◌-◌, ◌*◌, ◌<◌, ◌≤◌, suc, max, Bool, true, false, List, [], ◌∷◌, ◌++◌, map, drop, length, nat_eq, arith, refl, sym, ap, subst, ◌∙◌}
+use Rattle.std.proofs.lemmas.Bool.{ne_eqb}
+use Rattle.std.specs.Option.{option_map}
+use Rattle.xc_tree.proofs.Forms.{action-Empty, action-Assign, action-Step, action-Do, action-Output, action-Input, action-Return, action-Break, action-Continue}
+use Rattle.xc_tree.specs.Plain as plain
+use Rattle.xc_tree.specs.Trees as tree
+use Rattle.xc_kernel.proofs.Forms.{expression-Num, statement-Set, statement-Tran}
+use Rattle.xc_kernel.specs.declared.statement.Kst.{Tran}
+use Rattle.xc_kernel.specs.Calls as calls_spec
+use Rattle.xc_kernel.specs.Context as contexts
+use Rattle.xc_kernel.specs.Copy as copies
+use Rattle.xc_kernel.specs.Declarations as declarations
+use Rattle.xc_kernel.specs.Flow as flow
+use Rattle.xc_kernel.specs.Kernels as kernel
+use Rattle.xc_kernel.specs.Parameters as parameters
+use Rattle.xc_kernel.specs.Paths as paths
+use Rattle.xc_kernel.specs.Paths.{path_at}
+use Rattle.xc_kernel.specs.Plain as kernel_plain
+use Rattle.xc_kernel.specs.Programs as programs
+use Rattle.xc_kernel.specs.Statements as spec
+use Rattle.xc_copy.specs.Contexts.{context_of}
+use Rattle.xc_copy.specs.Copied.{copy_of}
+use Rattle.xc_copy.specs.Functions.{function_of, deepest}
+use Rattle.xc_copy.specs.Growth.{Grows}
+use Rattle.xc_copy.specs.Heights as heights
+use Rattle.xc_copy.specs.Scopes.{scope_of}
+use Rattle.xc_copy.proofs.Laws.Actions.{copied_as, height_by_action, by_action, call_by_action, action_block, action_declare, action_if, action_while, action_do, action_for, action_par, action_replicated, action_select, action_transaction, begins_at, in_branch_of}
+use Rattle.xc_copy.proofs.Laws.Growth.{calls_keep, further, grown_by, grown_fits, left_as, maybe_grows, statement_grows, statements_grow, target_grows}
+use Rattle.xc_copy.proofs.Laws.Pieces.{if_done, while_done, do_done, for_done, set_done, return_done, function_done, transaction_done, followed_done}
+use Rattle.xc_copy.proofs.Laws.Depths.{down, enters_below}
+use Rattle.xc_kernel.specs.Scopes as scopes
+use Rattle.xc_copy.specs.Parts.{branched_before, cased_before}
+use Rattle.xc_copy.proofs.Laws.Loops.{statement_below, branch_below, branches_below, case_below, body_below, grown_from, numbered_grows, default_done, case_done}
+use Rattle.xc_copy.proofs.Laws.Walks.{statements_more, statements_all, declarations_more, declarations_all, branches_more, branches_all, cases_more, cases_all, numbered_begun, numbered_more, numbered_all}
+use Rattle.xc_copy.proofs.context.Context.+statement.Goals as goal
+
+pub statement-returns-in-Empty : goal.statement-returns-in-Empty
+statement-returns-in-Empty t c =
+    by_action (spec.calls_copy c.args.calls) c.args.s.now (context_of c.args.self.now) (scope_of c.args.scope.now) c.in-Empty.is action-Empty (c.nothing.ensures (scope_of c.args.scope.now))
+
+pub statement-returns-in-Block : goal.statement-returns-in-Block
+statement-returns-in-Block t c =
+    call_by_action (spec.calls_copy c.args.calls) c.args.s.now (context_of c.args.self.now) (scope_of c.args.scope.now) c.in-Block.is (action_block c.in-Block.ss c.as_slice.ensures) (scope_of c.block.new.scope) c.block.result c.block.ensures
+
+pub statement-returns-in-Decl : goal.statement-returns-in-Decl
+statement-returns-in-Decl t c =
+    call_by_action (spec.calls_copy c.args.calls) c.args.s.now (context_of c.args.self.now) (scope_of c.args.scope.now) c.in-Decl.is (action_declare c.in-Decl.ds c.as_slice-in-Decl.ensures) (scope_of c.declarations.new.scope) c.declarations.result c.declarations.ensures
+
+pub statement-returns-in-Assign : goal.statement-returns-in-Assign
+statement-returns-in-Assign t c =
+    call_by_action (spec.calls_copy c.args.calls) c.args.s.now (context_of c.args.self.now) (scope_of c.args.scope.now) c.in-Assign.is (action-Assign c.in-Assign.to c.in-Assign.symbol c.in-Assign.pos c.in-Assign.right) (scope_of c.args.scope.now) c.assign.result c.assign.ensures
+
+pub statement-returns-in-Step : goal.statement-returns-in-Step
+statement-returns-in-Step t c =
+    call_by_action (spec.calls_copy c.args.calls) c.args.s.now (context_of c.args.self.now) (scope_of c.args.scope.now) c.in-Step.is (action-Step c.in-Step.to c.in-Step.symbol) (scope_of c.args.scope.now) c.step.result c.step.ensures
+
+pub statement-returns-in-Do : goal.statement-returns-in-Do
+statement-returns-in-Do t c =
+    call_by_action (spec.calls_copy c.args.calls) c.args.s.now (context_of c.args.self.now) (scope_of c.args.scope.now) c.in-Do.is (action-Do c.in-Do.right) (scope_of c.args.scope.now) c.right.result c.right.ensures
+
+pub statement-returns-in-Output : goal.statement-returns-in-Output
+statement-returns-in-Output t c =
+    call_by_action (spec.calls_copy c.args.calls) c.args.s.now (context_of c.args.self.now) (scope_of c.args.scope.now) c.in-Output.is (action-Output c.in-Output.o) (scope_of c.args.scope.now) c.output.result c.output.ensures
+
+pub statement-returns-in-Input : goal.statement-returns-in-Input
+statement-returns-in-Input t c =
+    call_by_action (spec.calls_copy c.args.calls) c.args.s.now (context_of c.args.self.now) (scope_of c.args.scope.now) c.in-Input.is (action-Input c.in-Input.i) (scope_of c.input.new.scope) c.input.result c.input.ensures
+
+pub statement-returns-in-If : goal.statement-returns-in-If
+statement-returns-in-If t c =
+    call_by_action (spec.calls_copy c.args.calls) c.args.s.now (context_of c.args.self.now) (scope_of c.args.scope.now) c.in-If.is (action_if c.in-If.test c.in-If.first c.in-If.second c.deref.ensures) (scope_of c.choice.new.scope) c.choice.result c.choice.ensures
+
+pub statement-returns-in-While : goal.statement-returns-in-While
+statement-returns-in-While t c =
+    call_by_action (spec.calls_copy c.args.calls) c.args.s.now (context_of c.args.self.now) (scope_of c.args.scope.now) c.in-While.is (action_while c.in-While.test c.in-While.body c.deref-in-While.ensures) (scope_of c.while_loop.new.scope) c.while_loop.result c.while_loop.ensures
+
+pub statement-returns-in-DoWhile : goal.statement-returns-in-DoWhile
+statement-returns-in-DoWhile t c =
+    call_by_action (spec.calls_copy c.args.calls) c.args.s.now (context_of c.args.self.now) (scope_of c.args.scope.now) c.in-DoWhile.is (action_do c.in-DoWhile.body c.in-DoWhile.test c.deref-in-DoWhile.ensures) (scope_of c.do_while.new.scope) c.do_while.result c.do_while.ensures
+
+pub statement-returns-in-For : goal.statement-returns-in-For
+statement-returns-in-For t c =
+    call_by_action (spec.calls_copy c.args.calls) c.args.s.now (context_of c.args.self.now) (scope_of c.args.scope.now) c.in-For.is (action_for c.in-For.first c.in-For.test c.in-For.next c.in-For.body c.deref-in-For.ensures) (scope_of c.for_loop.new.scope) c.for_loop.result c.for_loop.ensures
+
+pub statement-returns-in-Return : goal.statement-returns-in-Return
+statement-returns-in-Return t c =
+    call_by_action (spec.calls_copy c.args.calls) c.args.s.now (context_of c.args.self.now) (scope_of c.args.scope.now) c.in-Return.is (action-Return c.in-Return.right) (scope_of c.args.scope.now) c.return_with.result c.return_with.ensures
+
+pub statement-returns-in-Break : goal.statement-returns-in-Break
+statement-returns-in-Break t c =
+    call_by_action (spec.calls_copy c.args.calls) c.args.s.now (context_of c.args.self.now) (scope_of c.args.scope.now) c.in-Break.is action-Break (scope_of c.args.scope.now) c.leaves.result c.leaves.ensures
+
+pub statement-returns-in-Continue : goal.statement-returns-in-Continue
+statement-returns-in-Continue t c =
+    call_by_action (spec.calls_copy c.args.calls) c.args.s.now (context_of c.args.self.now) (scope_of c.args.scope.now) c.in-Continue.is action-Continue (scope_of c.args.scope.now) c.leaves-in-Continue.result c.leaves-in-Continue.ensures
+
+pub statement-returns-in-Par : goal.statement-returns-in-Par
+statement-returns-in-Par t c =
+    call_by_action (spec.calls_copy c.args.calls) c.args.s.now (context_of c.args.self.now) (scope_of c.args.scope.now) c.in-Par.is (action_par c.in-Par.bs c.as_slice-in-Par.ensures) (scope_of c.par.new.scope) c.par.result c.par.ensures
+
+pub statement-returns-in-Repl : goal.statement-returns-in-Repl
+statement-returns-in-Repl t c =
+    call_by_action (spec.calls_copy c.args.calls) c.args.s.now (context_of c.args.self.now) (scope_of c.args.scope.now) c.in-Repl.is (action_replicated c.in-Repl.first c.in-Repl.second c.in-Repl.third c.in-Repl.from c.in-Repl.to c.in-Repl.body c.deref-in-Repl.ensures) (scope_of c.replicated.new.scope) c.replicated.result c.replicated.ensures
+
+pub statement-returns-in-Select : goal.statement-returns-in-Select
+statement-returns-in-Select t c =
+    call_by_action (spec.calls_copy c.args.calls) c.args.s.now (context_of c.args.self.now) (scope_of c.args.scope.now) c.in-Select.is (action_select c.in-Select.cs c.as_slice-in-Select.ensures) (scope_of c.select.new.scope) c.select.result c.select.ensures
+
+pub statement-returns-in-Tran : goal.statement-returns-in-Tran
+statement-returns-in-Tran t c =
+    call_by_action (spec.calls_copy c.args.calls) c.args.s.now (context_of c.args.self.now) (scope_of c.args.scope.now) c.in-Tran.is (action_transaction c.in-Tran.master c.in-Tran.ss c.as_slice-in-Tran.ensures) (scope_of c.transaction.new.scope) c.transaction.result c.transaction.ensures
+
+pub statement-block-requires : goal.statement-block-requires
+statement-block-requires t c =
+    let whole : ◌≡◌ {A = ℕ} (heights.height (tree.statement_of c.args.s.now)) ((heights.height_of_statements (plain.statements (map tree.statement_of c.as_slice.result.now))) + 1) = height_by_action c.args.s.now c.in-Block.is (action_block c.in-Block.ss c.as_slice.ensures) in
+    (down c.args.calls (deepest c.args.self.now.functions.now.all.items) (deepest c.args.self.now.functions.now.all.items) (heights.height (tree.statement_of c.args.s.now)) 0 (heights.height_of_statements (plain.statements (map tree.statement_of c.as_slice.result.now))) 2 c.decreases refl (omega (arith, whole)), tt)
+
+pub statement-declarations-requires : goal.statement-declarations-requires
+statement-declarations-requires t c =
+    let whole : ◌≡◌ {A = ℕ} (heights.height (tree.statement_of c.args.s.now)) (0 + 1) = height_by_action c.args.s.now c.in-Decl.is (action_declare c.in-Decl.ds c.as_slice-in-Decl.ensures) in
+    (down c.args.calls (deepest c.args.self.now.functions.now.all.items) (deepest c.args.self.now.functions.now.all.items) (heights.height (tree.statement_of c.args.s.now)) 0 0 6 c.decreases refl (omega (arith, whole)), tt)
+
+pub statement-assign-requires : goal.statement-assign-requires
+statement-assign-requires t c =
+    let whole : ◌≡◌ {A = ℕ} (heights.height (tree.statement_of c.args.s.now)) (0 + 1) = height_by_action c.args.s.now c.in-Assign.is (action-Assign c.in-Assign.to c.in-Assign.symbol c.in-Assign.pos c.in-Assign.right) in
+    (down c.args.calls (deepest c.args.self.now.functions.now.all.items) (deepest c.args.self.now.functions.now.all.items) (heights.height (tree.statement_of c.args.s.now)) 0 0 4 c.decreases refl (omega (arith, whole)), tt)
+
+pub statement-right-requires : goal.statement-right-requires
+statement-right-requires t c =
+    let whole : ◌≡◌ {A = ℕ} (heights.height (tree.statement_of c.args.s.now)) (0 + 1) = height_by_action c.args.s.now c.in-Do.is (action-Do c.in-Do.right) in
+    (down c.args.calls (deepest c.args.self.now.functions.now.all.items) (deepest c.args.self.now.functions.now.all.items) (heights.height (tree.statement_of c.args.s.now)) 0 0 3 c.decreases refl (omega (arith, whole)), tt)
+
+pub statement-choice-requires : goal.statement-choice-requires
+statement-choice-requires t c =
+    let whole : ◌≡◌ {A = ℕ} (heights.height (tree.statement_of c.args.s.now)) ((max (heights.height (tree.statement_of c.deref.result.now)) (heights.height_of_maybe (tree.maybe_of c.in-If.second))) + 1) = height_by_action c.args.s.now c.in-If.is (action_if c.in-If.test c.in-If.first c.in-If.second c.deref.ensures) in
+    (down c.args.calls (deepest c.args.self.now.functions.now.all.items) (deepest c.args.self.now.functions.now.all.items) (heights.height (tree.statement_of c.args.s.now)) 0 (max (heights.height (tree.statement_of c.deref.result.now)) (heights.height_of_maybe (tree.maybe_of c.in-If.second))) 2 c.decreases refl (omega (arith, whole)), tt)
+
+pub statement-while_loop-requires : goal.statement-while_loop-requires
+statement-while_loop-requires t c =
+    let whole : ◌≡◌ {A = ℕ} (heights.height (tree.statement_of c.args.s.now)) ((heights.height (tree.statement_of c.deref-in-While.result.now)) + 1) = height_by_action c.args.s.now c.in-While.is (action_while c.in-While.test c.in-While.body c.deref-in-While.ensures) in
+    (down c.args.calls (deepest c.args.self.now.functions.now.all.items) (deepest c.args.self.now.functions.now.all.items) (heights.height (tree.statement_of c.args.s.now)) 0 (heights.height (tree.statement_of c.deref-in-While.result.now)) 1 c.decreases refl (omega (arith, whole)), tt)
+
+pub statement-do_while-requires : goal.statement-do_while-requires
+statement-do_while-requires t c =
+    let whole : ◌≡◌ {A = ℕ} (heights.height (tree.statement_of c.args.s.now)) ((heights.height (tree.statement_of c.deref-in-DoWhile.result.now)) + 1) = height_by_action c.args.s.now c.in-DoWhile.is (action_do c.in-DoWhile.body c.in-DoWhile.test c.deref-in-DoWhile.ensures) in
+    (down c.args.calls (deepest c.args.self.now.functions.now.all.items) (deepest c.args.self.now.functions.now.all.items) (heights.height (tree.statement_of c.args.s.now)) 0 (heights.height (tree.statement_of c.deref-in-DoWhile.result.now)) 1 c.decreases refl (omega (arith, whole)), tt)
+
+pub statement-for_loop-requires : goal.statement-for_loop-requires
+statement-for_loop-requires t c =
+    let whole : ◌≡◌ {A = ℕ} (heights.height (tree.statement_of c.args.s.now)) ((max (heights.height_of_maybe (tree.maybe_of c.in-For.first)) (max (heights.height_of_maybe (tree.maybe_of c.in-For.next)) (heights.height (tree.statement_of c.deref-in-For.result.now)))) + 1) = height_by_action c.args.s.now c.in-For.is (action_for c.in-For.first c.in-For.test c.in-For.next c.in-For.body c.deref-in-For.ensures) in
+    (down c.args.calls (deepest c.args.self.now.functions.now.all.items) (deepest c.args.self.now.functions.now.all.items) (heights.height (tree.statement_of c.args.s.now)) 0 (max (heights.height_of_maybe (tree.maybe_of c.in-For.first)) (max (heights.height_of_maybe (tree.maybe_of c.in-For.next)) (heights.height (tree.statement_of c.deref-in-For.result.now)))) 2 c.decreases refl (omega (arith, whole)), tt)
+
+pub statement-return_with-requires : goal.statement-return_with-requires
+statement-return_with-requires t c =
+    let whole : ◌≡◌ {A = ℕ} (heights.height (tree.statement_of c.args.s.now)) (0 + 1) = height_by_action c.args.s.now c.in-Return.is (action-Return c.in-Return.right) in
+    (down c.args.calls (deepest c.args.self.now.functions.now.all.items) (deepest c.args.self.now.functions.now.all.items) (heights.height (tree.statement_of c.args.s.now)) 0 0 4 c.decreases refl (omega (arith, whole)), tt)
+
+pub statement-par-requires : goal.statement-par-requires
+statement-par-requires t c =
+    let whole : ◌≡◌ {A = ℕ} (heights.height (tree.statement_of c.args.s.now)) ((heights.height_of_branches (plain.branches (map tree.branch_of c.as_slice-in-Par.result.now))) + 1) = height_by_action c.args.s.now c.in-Par.is (action_par c.in-Par.bs c.as_slice-in-Par.ensures) in
+    (down c.args.calls (deepest c.args.self.now.functions.now.all.items) (deepest c.args.self.now.functions.now.all.items) (heights.height (tree.statement_of c.args.s.now)) 0 (heights.height_of_branches (plain.branches (map tree.branch_of c.as_slice-in-Par.result.now))) 1 c.decreases refl (omega (arith, whole)), tt)
+
+pub statement-replicated-requires : goal.statement-replicated-requires
+statement-replicated-requires t c =
+    let whole : ◌≡◌ {A = ℕ} (heights.height (tree.statement_of c.args.s.now)) ((heights.height_of_branch (tree.branch_of c.deref-in-Repl.result.now)) + 1) = height_by_action c.args.s.now c.in-Repl.is (action_replicated c.in-Repl.first c.in-Repl.second c.in-Repl.third c.in-Repl.from c.in-Repl.to c.in-Repl.body c.deref-in-Repl.ensures) in
+    (down c.args.calls (deepest c.args.self.now.functions.now.all.items) (deepest c.args.self.now.functions.now.all.items) (heights.height (tree.statement_of c.args.s.now)) 0 (heights.height_of_branch (tree.branch_of c.deref-in-Repl.result.now)) 1 c.decreases refl (omega (arith, whole)), tt)
+
+pub statement-select-requires : goal.statement-select-requires
+statement-select-requires t c =
+    let whole : ◌≡◌ {A = ℕ} (heights.height (tree.statement_of c.args.s.now)) ((heights.height_of_cases (plain.cases (map tree.case_of c.as_slice-in-Select.result.now))) + 1) = height_by_action c.args.s.now c.in-Select.is (action_select c.in-Select.cs c.as_slice-in-Select.ensures) in
+    (down c.args.calls (deepest c.args.self.now.functions.now.all.items) (deepest c.args.self.now.functions.now.all.items) (heights.height (tree.statement_of c.args.s.now)) 0 (heights.height_of_cases (plain.cases (map tree.case_of c.as_slice-in-Select.result.now))) 3 c.decreases refl (omega (arith, whole)), tt)
+
+pub statement-transaction-requires : goal.statement-transaction-requires
+statement-transaction-requires t c =
+    let whole : ◌≡◌ {A = ℕ} (heights.height (tree.statement_of c.args.s.now)) ((heights.height_of_statements (plain.statements (map tree.statement_of c.as_slice-in-Tran.result.now))) + 1) = height_by_action c.args.s.now c.in-Tran.is (action_transaction c.in-Tran.master c.in-Tran.ss c.as_slice-in-Tran.ensures) in
+    (down c.args.calls (deepest c.args.self.now.functions.now.all.items) (deepest c.args.self.now.functions.now.all.items) (heights.height (tree.statement_of c.args.s.now)) 0 (heights.height_of_statements (plain.statements (map tree.statement_of c.as_slice-in-Tran.result.now))) 2 c.decreases refl (omega (arith, whole)), tt)
+
+pub maybe-returns-in-None : goal.maybe-returns-in-None
+maybe-returns-in-None t c =
+    c.nothing.ensures (scope_of c.args.scope.now)
+    ∙ ap (λ m. spec.maybe_copy (spec.calls_copy c.args.calls) (tree.maybe_of m) (context_of c.args.self.now) (scope_of c.args.scope.now)) (sym c.in-None.is)
+
+pub maybe-returns-in-Some : goal.maybe-returns-in-Some
+maybe-returns-in-Some t c =
+    let here = context_of c.args.self.now in
+    let before = scope_of c.args.scope.now in
+    let copies' = spec.calls_copy c.args.calls in
+    copied_as (scope_of c.statement.new.scope) c.statement.result
+    (ap (λ b. spec.statement_copy copies' (tree.statement_of b) here before) c.deref.ensures ∙ ap (λ m. spec.maybe_copy copies' (tree.maybe_of m) here before) (sym c.in-Some.is))
+    c.statement.ensures
+
+pub maybe-statement-requires : goal.maybe-statement-requires
+maybe-statement-requires t c =
+    let same : ◌≡◌ {A = ℕ} (heights.height (tree.statement_of c.deref.result.now)) (heights.height_of_maybe (tree.maybe_of c.args.s.now)) = ap (λ b. heights.height (tree.statement_of b)) c.deref.ensures ∙ ap (λ m. heights.height_of_maybe (tree.maybe_of m)) (sym c.in-Some.is) in
+    (down c.args.calls (deepest c.args.self.now.functions.now.all.items) (deepest c.args.self.now.functions.now.all.items) (heights.height_of_maybe (tree.maybe_of c.args.s.now)) 1 (heights.height (tree.statement_of c.deref.result.now)) 0 c.decreases refl (omega (arith, same)), tt)
+
+pub block-leave-requires : goal.block-leave-requires
+block-leave-requires t c =
+    let scope = scope_of c.args.scope.now in
+    let ss = plain.statements (map tree.statement_of c.args.ss.now) in
+    grown_fits (grown_by scope c.in_ok-copied.ensures (statements_grow (spec.calls_copy c.args.calls) (calls_keep c.args.calls) ss (context_of c.args.self.now) scope)) c.len-known.ensures
+
+pub block-returns : goal.block-returns
+block-returns t c =
+    let scope = scope_of c.args.scope.now in
+    let ss = plain.statements (map tree.statement_of c.args.ss.now) in
+    let grows = grown_by scope c.in_ok-copied.ensures (statements_grow (spec.calls_copy c.args.calls) (calls_keep c.args.calls) ss (context_of c.args.self.now) scope) in
+    let left = left_as grows c.len-known.ensures c.leave.ensures in
+    λ i. copies.in_scope_of (left i) (c.in_ok-copied.ensures i)
+
+pub block-statements-requires : goal.block-statements-requires
+block-statements-requires t c =
+    (down c.args.calls (deepest c.args.self.now.functions.now.all.items) (deepest c.args.self.now.functions.now.all.items) (heights.height_of_statements (plain.statements (map tree.statement_of c.args.ss.now))) 2 (heights.height_of_statements (plain.statements (map tree.statement_of c.args.ss.now))) 1 c.decreases refl (omega arith), tt)
+
+pub declaration-returns-in_ok-copied-in-Word : goal.declaration-returns-in_ok-copied-in-Word
+declaration-returns-in_ok-copied-in-Word t c =
+    let here = context_of c.args.self.now in
+    let copies' = spec.calls_copy c.args.calls in
+    let before = scope_of c.args.scope.now in
+    let inner = scope_of c.declares_word.new.scope in
+    let d = c.args.d.now in
+    followed_done (declarations.initial_copy copies' here (path_at here.path d.name.pos) (option_map tree.right_of c.in-Word.right))
+    (c.in_ok-declared-in-Word.ensures ∙ ap (λ name. contexts.declares_word here name d.name.pos c.in-Word.unsigned before) c.as_slice-name.ensures)
+    c.in_ok-initial-in-Word.ensures (c.in_ok-copied-in-Word.ensures inner inner)
+    ∙ ap (λ k. declarations.kind_copy copies' here before d.name.text d.name.pos (tree.kind_of k)) (sym c.in-Word.is)
+
+pub declaration-returns-in-Array : goal.declaration-returns-in-Array
+declaration-returns-in-Array t c =
+    let here = context_of c.args.self.now in
+    let copies' = spec.calls_copy c.args.calls in
+    let before = scope_of c.args.scope.now in
+    let d = c.args.d.now in
+    copied_as (scope_of c.array.new.scope) c.array.result
+    (ap (λ name. declarations.array_copy here before name d.name.pos (path_at here.path d.name.pos) c.in-Array.unsigned c.in-Array.words) c.as_slice-name.ensures
+        ∙ ap (λ k. declarations.kind_copy copies' here before d.name.text d.name.pos (tree.kind_of k)) (sym c.in-Array.is))
+    c.array.ensures
+
+pub declaration-returns-in-Chan : goal.declaration-returns-in-Chan
+declaration-returns-in-Chan t c =
+    let here = context_of c.args.self.now in
+    let copies' = spec.calls_copy c.args.calls in
+    let before = scope_of c.args.scope.now in
+    let d = c.args.d.now in
+    copied_as (scope_of c.channel.new.scope) c.channel.result
+    (ap (λ name. declarations.channel_copy before name d.name.pos (path_at here.path d.name.pos) c.in-Chan.streaming) c.as_slice-name.ensures
+        ∙ ap (λ k. declarations.kind_copy copies' here before d.name.text d.name.pos (tree.kind_of k)) (sym c.in-Chan.is))
+    c.channel.ensures
+
+pub declaration-returns-in-Timer : goal.declaration-returns-in-Timer
+declaration-returns-in-Timer t c =
+    let here = context_of c.args.self.now in
+    let copies' = spec.calls_copy c.args.calls in
+    let before = scope_of c.args.scope.now in
+    let d = c.args.d.now in
+    copied_as (scope_of c.timer.new.scope) c.timer.result
+    (ap (λ name. declarations.timer_copy here before name d.name.pos (path_at here.path d.name.pos)) c.as_slice-name.ensures
+        ∙ ap (λ k. declarations.kind_copy copies' here before d.name.text d.name.pos (tree.kind_of k)) (sym c.in-Timer.is))
+    c.timer.ensures
+
+pub declaration-initial-requires : goal.declaration-initial-requires
+declaration-initial-requires t c =
+    (down c.args.calls (deepest c.args.self.now.functions.now.all.items) (deepest c.args.self.now.functions.now.all.items) 0 5 0 4 c.decreases refl (omega arith), tt)
+
+pub initial-returns-in-None : goal.initial-returns-in-None
+initial-returns-in-None t c =
+    let here = context_of c.args.self.now in
+    let scope = scope_of c.args.scope.now in
+    let path = path_at here.path c.args.pos in
+    c.in_ok-zeroed-in-None.ensures scope
+    ∙ ap (copies.one_statement scope) (c.set_zero.ensures ∙ ap (contexts.set_zero here) (c.as_slice.ensures ∙ c.in_ok-path.ensures))
+    ∙ ap (λ r. declarations.initial_copy (spec.calls_copy c.args.calls) here path (option_map tree.right_of r) scope) (sym c.in-None.is)
+
+pub initial-returns : goal.initial-returns
+initial-returns t c =
+    let here = context_of c.args.self.now in
+    let scope = scope_of c.args.scope.now in
+    let path = path_at here.path c.args.pos in
+    let copies' = spec.calls_copy c.args.calls in
+    let right = tree.right_of c.in-Some.right in
+    let stored = c.set_word.ensures ∙ λ i. contexts.set_word here ((c.as_slice-in-Some.ensures ∙ c.in_ok-path.ensures) i) (c.in_ok-value-in-Some.ensures i) in
+    c.in_ok-copied-in-Some.ensures scope scope
+    ∙ (λ i. copies.joined (c.in_ok-called-in-Some.ensures i) ((c.in_ok-stored-in-Some.ensures scope ∙ ap (copies.one_statement scope) stored) i))
+    ∙ ap (λ r. declarations.initial_copy copies' here path (option_map tree.right_of r) scope) (sym c.in-Some.is)
+
+pub initial-right-requires : goal.initial-right-requires
+initial-right-requires t c =
+    (down c.args.calls (deepest c.args.self.now.functions.now.all.items) (deepest c.args.self.now.functions.now.all.items) 0 4 0 3 c.decreases refl (omega arith), tt)
+
+pub assign-returns-then-symbol-ne-EQUALS : goal.assign-returns-then-symbol-ne-EQUALS
+assign-returns-then-symbol-ne-EQUALS t c =
+    let here = context_of c.args.self.now in
+    let scope = scope_of c.args.scope.now in
+    let to = tree.expression_of c.args.to.now in
+    let right = tree.right_of c.args.right.now in
+    let other : nat_eq c.args.symbol 22 ≡ false = ne_eqb c.args.symbol 22 c.if-symbol-ne-EQUALS.true in
+    copied_as scope c.update.result
+    ((λ i. spec.update_copy here scope to c.args.symbol c.args.pos (c.in_ok-value.ensures.unsigned i) (c.in_ok-value.ensures.value i))
+        ∙ ap (spec.assign_by (spec.calls_copy c.args.calls) here scope to c.args.symbol c.args.pos right) (sym other))
+    c.update.ensures
+
+pub assign-returns : goal.assign-returns
+assign-returns t c =
+    let here = context_of c.args.self.now in
+    let scope = scope_of c.args.scope.now in
+    let to = tree.expression_of c.args.to.now in
+    let right = tree.right_of c.args.right.now in
+    let copies' = spec.calls_copy c.args.calls in
+    let same : nat_eq c.args.symbol 22 ≡ true = ap (λ s. nat_eq s 22) c.if-symbol-ne-EQUALS.false in
+    set_done copies' here scope to right c.in_ok-called.ensures
+    (statement-Set c.in_ok-place.place c.in_ok-value-2.value ∙ λ i. kernel_plain.set (c.in_ok-place.ensures i) (c.in_ok-value-2.ensures i))
+    (c.in_ok-stored.ensures scope) (c.in_ok-copied.ensures scope scope)
+    ∙ ap (spec.assign_by copies' here scope to c.args.symbol c.args.pos right) (sym same)
+
+pub assign-right-requires : goal.assign-right-requires
+assign-right-requires t c =
+    (down c.args.calls (deepest c.args.self.now.functions.now.all.items) (deepest c.args.self.now.functions.now.all.items) 0 4 0 3 c.decreases refl (omega arith), tt)
+
+pub return_with-returns-in-None : goal.return_with-returns-in-None
+return_with-returns-in-None t c =
+    let here = context_of c.args.self.now in
+    let scope = scope_of c.args.scope.now in
+    c.in_ok-left.ensures ∙ ap (λ r. spec.return_copy (spec.calls_copy c.args.calls) here scope (option_map tree.right_of r)) (sym c.in-None.is)
+
+pub return_with-returns-in_ok-copied-in-Some : goal.return_with-returns-in_ok-copied-in-Some
+return_with-returns-in_ok-copied-in-Some t c =
+    let here = context_of c.args.self.now in
+    let scope = scope_of c.args.scope.now in
+    let copies' = spec.calls_copy c.args.calls in
+    return_done copies' here scope (tree.right_of c.in-Some.right) c.in_ok-called-in-Some.ensures
+    (c.set_word.ensures ∙ ap (contexts.set_word here here.result) c.in_ok-value-in-Some.ensures) (c.in_ok-stored-in-Some.ensures scope) refl c.in_ok-left.ensures
+    (c.in_ok-behind-in-Some.ensures scope scope) (c.in_ok-copied-in-Some.ensures scope scope)
+    ∙ ap (λ r. spec.return_copy copies' here scope (option_map tree.right_of r)) (sym c.in-Some.is)
+
+pub return_with-right-requires : goal.return_with-right-requires
+return_with-right-requires t c =
+    (down c.args.calls (deepest c.args.self.now.functions.now.all.items) (deepest c.args.self.now.functions.now.all.items) 0 4 0 3 c.decreases refl (omega arith), tt)
+
+pub right-returns-in-Value : goal.right-returns-in-Value
+right-returns-in-Value t c =
+    let scope = scope_of c.args.scope.now in
+    c.nothing.ensures scope
+    ∙ ap (λ r. calls_spec.right_copy (spec.calls_copy c.args.calls) (context_of c.args.self.now) scope (tree.right_of r)) (sym c.in-Value.is)
+
+pub right-returns-in-None : goal.right-returns-in-None
+right-returns-in-None t c =
+    let here = context_of c.args.self.now in
+    let scope = scope_of c.args.scope.now in
+    let copies' = spec.calls_copy c.args.calls in
+    let args = map tree.argument_of c.in-Call.args in
+    let found = c.in-None.ensures.function ∙ ap (programs.function_named here.functions) c.as_slice.ensures in
+    c.nothing-in-None.ensures scope
+    ∙ ap (calls_spec.call_by copies' here scope c.in-Call.pos args) found
+    ∙ ap (λ r. calls_spec.right_copy copies' here scope (tree.right_of r)) (sym c.in-Call.is)
+
+pub right-returns-in-Some : goal.right-returns-in-Some
+right-returns-in-Some t c =
+    let here = context_of c.args.self.now in
+    let scope = scope_of c.args.scope.now in
+    let copies' = spec.calls_copy c.args.calls in
+    let args = map tree.argument_of c.in-Call.args in
+    let found = c.in-Some.ensures.function ∙ ap (programs.function_named here.functions) c.as_slice.ensures in
+    copied_as scope c.call.result
+    (ap (λ xs. copies' here scope (function_of c.in-Some.function.now) c.in-Call.pos (map tree.argument_of xs)) c.as_slice-in-Some.ensures
+        ∙ ap (calls_spec.call_by copies' here scope c.in-Call.pos args) found
+        ∙ ap (λ r. calls_spec.right_copy copies' here scope (tree.right_of r)) (sym c.in-Call.is))
+    c.call.ensures
+
+pub right-call-requires : goal.right-call-requires
+right-call-requires t c =
+    (down c.args.calls (deepest c.args.self.now.functions.now.all.items) (deepest c.args.self.now.functions.now.all.items) 0 3 0 2 c.decreases refl (omega arith), c.in-Some.ensures.depth)
+
+pub call-returns-then-calls-eq0 : goal.call-returns-then-calls-eq0
+call-returns-then-calls-eq0 t c =
+    let here = context_of c.args.self.now in
+    let scope = scope_of c.args.scope.now in
+    let args = map tree.argument_of c.args.args.now in
+    c.nothing.ensures scope
+    ∙ ap (λ n. spec.calls_copy n here scope (function_of c.args.function.now) c.args.pos args) (sym c.if-calls-eq0.true)
+
+pub call-returns : goal.call-returns
+call-returns t c =
+    let here = context_of c.args.self.now in
+    let scope = scope_of c.args.scope.now in
+    let f = function_of c.args.function.now in
+    let args = map tree.argument_of c.args.args.now in
+    let n : ◌≡◌ {A = ℕ} (suc (c.args.calls - 1)) c.args.calls = omega (arith, c.if-calls-eq0.false) in
+    copied_as scope c.function.result
+    (ap (λ own. calls_spec.function_copy (spec.statement_copy (spec.calls_copy (c.args.calls - 1))) here scope own f args) (c.as_slice.ensures ∙ c.in_ok-own.ensures)
+        ∙ ap (λ n. spec.calls_copy n here scope f c.args.pos args) n)
+    c.function.ensures
+
+pub call-function-requires : goal.call-function-requires
+call-function-requires t c =
+    let d = deepest c.args.self.now.functions.now.all.items in
+    (enters_below c.args.calls d d 0 2 1 c.decreases refl c.if-calls-eq0.false (omega arith), c.requires)
+
+pub function-returns : goal.function-returns
+function-returns t c =
+    let here = context_of c.args.self.now in
+    let scope = scope_of c.args.scope.now in
+    let own = c.args.own.now in
+    let f = function_of c.args.function.now in
+    let args = map tree.argument_of c.args.args.now in
+    let copies' = spec.statement_copy (spec.calls_copy c.args.calls) in
+    let entered = scope_of c.in_ok-entered.entered.scope in
+    let inner = scope_of c.statement.new.scope in
+    let result = c.in_ok-result.ensures in
+    let around = c.in_function.ensures.context ∙ λ i. record here { path = own; result = (c.as_slice-3.ensures ∙ result) i; returns = own } in
+    function_done copies' here scope own f args
+    (c.in_ok-made.ensures scope)
+    (c.in_ok-zeroed.ensures scope ∙ ap (λ p. calls_spec.result_copy here p f.head.name.pos scope f.head.result) (c.as_slice.ensures ∙ result))
+    (c.in_ok-entered.ensures ∙ ap (λ ps. parameters.all_passed here scope own ps args) c.as_slice-2.ensures)
+    (c.in_ok-body.ensures ∙ ap (λ x. copies' f.body x entered) around)
+    (c.in_ok-block.ensures inner ∙ ap (λ p. calls_spec.as_block here p (copy_of c.in_ok-body.body inner)) c.in_ok-same_path.ensures)
+    (c.in_ok-inside.ensures entered inner) (c.in_ok-behind.ensures scope inner) (c.in_ok-copied.ensures scope inner) (c.naming_none.ensures scope)
+
+pub function-statement-requires : goal.function-statement-requires
+function-statement-requires t c =
+    (down c.args.calls (deepest c.args.self.now.functions.now.all.items) (deepest c.in_function.result.functions.now.all.items) (deepest c.args.self.now.functions.now.all.items) 1 (heights.height (tree.statement_of c.args.function.now.body)) 0 c.decreases (ap (λ f. deepest f.now.all.items) c.in_function.ensures.functions) (omega (arith, c.requires)), tt)
+
+pub choice-returns : goal.choice-returns
+choice-returns t c =
+    let here = context_of c.args.self.now in
+    let inner = scope_of c.statement.new.scope in
+    if_done (spec.maybe_copy (spec.calls_copy c.args.calls) (tree.maybe_of c.args.second.now) here) c.in_ok-test.ensures.value c.in_ok-first.ensures c.in_ok-second.ensures
+    (c.in_ok-copied.ensures inner (scope_of c.maybe.new.scope))
+
+pub choice-statement-requires : goal.choice-statement-requires
+choice-statement-requires t c =
+    (down c.args.calls (deepest c.args.self.now.functions.now.all.items) (deepest c.args.self.now.functions.now.all.items) (max (heights.height (tree.statement_of c.args.first.now)) (heights.height_of_maybe (tree.maybe_of c.args.second.now))) 2 (heights.height (tree.statement_of c.args.first.now)) 0 c.decreases refl (omega arith), tt)
+
+pub choice-maybe-requires : goal.choice-maybe-requires
+choice-maybe-requires t c =
+    (down c.args.calls (deepest c.args.self.now.functions.now.all.items) (deepest c.args.self.now.functions.now.all.items) (max (heights.height (tree.statement_of c.args.first.now)) (heights.height_of_maybe (tree.maybe_of c.args.second.now))) 2 (heights.height_of_maybe (tree.maybe_of c.args.second.now)) 1 c.decreases refl (omega arith), tt)
+
+pub while_loop-loop_at-requires : goal.while_loop-loop_at-requires
+while_loop-loop_at-requires t c = c.in_ok-paths.ensures.turn ∙ ap paths.path_of_turn (sym c.in_ok-paths.ensures.whole)
+
+pub while_loop-returns : goal.while_loop-returns
+while_loop-returns t c =
+    let here = context_of c.args.self.now in
+    let scope = scope_of c.args.scope.now in
+    let inner = scope_of c.statement.new.scope in
+    let whole = c.in_ok-paths.ensures.whole in
+    let path = c.in_ok-paths.paths.whole in
+    let body = copy_of c.in_ok-body.body inner in
+    let test = kernel.expression_of c.in_ok-test.test.value in
+    let around = c.in_loop.ensures.context ∙ λ i. record here { breaks = (c.as_slice.ensures ∙ whole) i; continues = (c.as_slice-2.ensures ∙ c.in_ok-paths.ensures.turn) i } in
+    while_done here c.args.pos scope c.in_ok-test.ensures.value whole
+    (c.in_ok-body.ensures ∙ ap (λ x. spec.statement_copy (spec.calls_copy c.args.calls) (tree.statement_of c.args.body.now) x scope) around)
+    (c.in_ok-copied.ensures scope inner
+        ∙ ap (λ next. flow.loop_at here path test (flow.turn here path body.code []) (copies.code_of next) (copies.joined next body)) (c.nothing-next.ensures scope))
+
+pub while_loop-statement-requires : goal.while_loop-statement-requires
+while_loop-statement-requires t c =
+    (down c.args.calls (deepest c.args.self.now.functions.now.all.items) (deepest c.in_loop.result.functions.now.all.items) (heights.height (tree.statement_of c.args.body.now)) 1 (heights.height (tree.statement_of c.args.body.now)) 0 c.decreases (ap (λ f. deepest f.now.all.items) c.in_loop.ensures.functions) (omega arith), tt)
+
+pub do_while-loop_at-requires : goal.do_while-loop_at-requires
+do_while-loop_at-requires t c = c.in_ok-paths.ensures.turn ∙ ap paths.path_of_turn (sym c.in_ok-paths.ensures.whole)
+
+pub do_while-returns : goal.do_while-returns
+do_while-returns t c =
+    let here = context_of c.args.self.now in
+    let scope = scope_of c.args.scope.now in
+    let inner = scope_of c.statement.new.scope in
+    let whole = c.in_ok-paths.ensures.whole in
+    let path = c.in_ok-paths.paths.whole in
+    let body = copy_of c.in_ok-body.body inner in
+    let test = kernel.expression_of c.in_ok-test.test.value in
+    let last = kernel.statement_of c.in_ok-last.last in
+    let around = c.in_loop.ensures.context ∙ λ i. record here { breaks = (c.as_slice.ensures ∙ whole) i; continues = (c.as_slice-2.ensures ∙ c.in_ok-paths.ensures.turn) i } in
+    do_done here c.args.pos (tree.expression_of c.args.test.now) scope c.in_ok-test.ensures.value whole
+    (c.in_ok-body.ensures ∙ ap (λ x. spec.statement_copy (spec.calls_copy c.args.calls) (tree.statement_of c.args.body.now) x scope) around)
+    (c.in_ok-last.ensures ∙ ap (λ p. flow.leave_unless here p test) c.as_slice-3.ensures)
+    (c.in_ok-copied.ensures scope inner
+        ∙ λ i. flow.loop_at here path (expression-Num 1 i) (flow.turn here path body.code (last ∷ [])) (copies.code_of (c.nothing-next.ensures scope i)) (copies.joined (c.nothing-next.ensures scope i) body))
+
+pub do_while-statement-requires : goal.do_while-statement-requires
+do_while-statement-requires t c =
+    (down c.args.calls (deepest c.args.self.now.functions.now.all.items) (deepest c.in_loop.result.functions.now.all.items) (heights.height (tree.statement_of c.args.body.now)) 1 (heights.height (tree.statement_of c.args.body.now)) 0 c.decreases (ap (λ f. deepest f.now.all.items) c.in_loop.ensures.functions) (omega arith), tt)
+
+pub for_loop-leave-requires : goal.for_loop-leave-requires
+for_loop-leave-requires t c =
+    let here = context_of c.args.self.now in
+    let begun = scope_of c.maybe.new.scope in
+    grown_fits (grown_by begun c.in_ok-next.ensures (maybe_grows (spec.calls_copy c.args.calls) (calls_keep c.args.calls) (tree.maybe_of c.args.next.now) here begun)) c.len-inside.ensures
+
+pub for_loop-loop_at-requires : goal.for_loop-loop_at-requires
+for_loop-loop_at-requires t c = c.in_ok-paths.ensures.turn ∙ ap paths.path_of_turn (sym c.in_ok-paths.ensures.whole)
+
+pub for_loop-leave-requires-2 : goal.for_loop-leave-requires-2
+for_loop-leave-requires-2 t c =
+    let here = context_of c.args.self.now in
+    let scope = scope_of c.args.scope.now in
+    let begun = scope_of c.maybe.new.scope in
+    let copies' = spec.calls_copy c.args.calls in
+    let keeps = calls_keep c.args.calls in
+    let first = grown_by scope c.in_ok-first.ensures (maybe_grows copies' keeps (tree.maybe_of c.args.first.now) here scope) in
+    let next = grown_by begun c.in_ok-next.ensures (maybe_grows copies' keeps (tree.maybe_of c.args.next.now) here begun) in
+    let left = left_as next c.len-inside.ensures c.leave.ensures in
+    let body = grown_by (scope_of c.leave.new.self) c.in_ok-body.ensures (statement_grows copies' keeps (tree.statement_of c.args.body.now) (context_of c.in_loop.result) (scope_of c.leave.new.self)) in
+    grown_fits (further first (subst (λ s. Grows s (scope_of c.statement.new.scope)) left body)) c.len-known.ensures
+
+pub for_loop-returns : goal.for_loop-returns
+for_loop-returns t c =
+    let here = context_of c.args.self.now in
+    let scope = scope_of c.args.scope.now in
+    let begun = scope_of c.maybe.new.scope in
+    let inner = scope_of c.statement.new.scope in
+    let copies' = spec.calls_copy c.args.calls in
+    let keeps = calls_keep c.args.calls in
+    let statement = tree.statement_of c.args.body.now in
+    let first = grown_by scope c.in_ok-first.ensures (maybe_grows copies' keeps (tree.maybe_of c.args.first.now) here scope) in
+    let next = grown_by begun c.in_ok-next.ensures (maybe_grows copies' keeps (tree.maybe_of c.args.next.now) here begun) in
+    let left = left_as next c.len-inside.ensures c.leave.ensures in
+    let grown = grown_by (scope_of c.leave.new.self) c.in_ok-body.ensures (statement_grows copies' keeps statement (context_of c.in_loop.result) (scope_of c.leave.new.self)) in
+    let end = left_as (further first (subst (λ s. Grows s inner) left grown)) c.len-known.ensures c.leave-2.ensures in
+    let whole = c.in_ok-paths.ensures.whole in
+    let around = c.in_loop.ensures.context ∙ λ i. record here { breaks = (c.as_slice.ensures ∙ whole) i; continues = (c.as_slice-2.ensures ∙ c.in_ok-paths.ensures.turn) i } in
+    for_done here c.args.pos scope (option_map tree.expression_of c.args.test.now) (spec.maybe_copy copies' (tree.maybe_of c.args.next.now) here) (spec.statement_copy copies' statement (contexts.in_loop here c.args.pos))
+    c.in_ok-first.ensures c.in_ok-test.ensures c.in_ok-next.ensures whole
+    (c.in_ok-body.ensures ∙ λ i. spec.statement_copy copies' statement (around i) (left i))
+    (c.in_ok-repeated.ensures (scope_of c.maybe-2.new.scope) inner) end (c.in_ok-copied.ensures begun (scope_of c.leave-2.new.self))
+
+pub for_loop-maybe-requires : goal.for_loop-maybe-requires
+for_loop-maybe-requires t c =
+    (down c.args.calls (deepest c.args.self.now.functions.now.all.items) (deepest c.args.self.now.functions.now.all.items) (max (heights.height_of_maybe (tree.maybe_of c.args.first.now)) (max (heights.height_of_maybe (tree.maybe_of c.args.next.now)) (heights.height (tree.statement_of c.args.body.now)))) 2 (heights.height_of_maybe (tree.maybe_of c.args.first.now)) 1 c.decreases refl (omega arith), tt)
+
+pub for_loop-maybe-requires-2 : goal.for_loop-maybe-requires-2
+for_loop-maybe-requires-2 t c =
+    (down c.args.calls (deepest c.args.self.now.functions.now.all.items) (deepest c.args.self.now.functions.now.all.items) (max (heights.height_of_maybe (tree.maybe_of c.args.first.now)) (max (heights.height_of_maybe (tree.maybe_of c.args.next.now)) (heights.height (tree.statement_of c.args.body.now)))) 2 (heights.height_of_maybe (tree.maybe_of c.args.next.now)) 1 c.decreases refl (omega arith), tt)
+
+pub for_loop-statement-requires : goal.for_loop-statement-requires
+for_loop-statement-requires t c =
+    (down c.args.calls (deepest c.args.self.now.functions.now.all.items) (deepest c.in_loop.result.functions.now.all.items) (max (heights.height_of_maybe (tree.maybe_of c.args.first.now)) (max (heights.height_of_maybe (tree.maybe_of c.args.next.now)) (heights.height (tree.statement_of c.args.body.now)))) 2 (heights.height (tree.statement_of c.args.body.now)) 0 c.decreases (ap (λ f. deepest f.now.all.items) c.in_loop.ensures.functions) (omega arith), tt)
+
+pub transaction-leave-requires : goal.transaction-leave-requires
+transaction-leave-requires t c =
+    let scope = scope_of c.args.scope.now in
+    let ss = plain.statements (map tree.statement_of c.args.ss.now) in
+    grown_fits (grown_by scope c.in_ok-copied.ensures (statements_grow (spec.calls_copy c.args.calls) (calls_keep c.args.calls) ss (context_of c.args.self.now) scope)) c.len-known.ensures
+
+pub transaction-returns : goal.transaction-returns
+transaction-returns t c =
+    let here = context_of c.args.self.now in
+    let scope = scope_of c.args.scope.now in
+    let inner = scope_of c.statements.new.scope in
+    let ss = plain.statements (map tree.statement_of c.args.ss.now) in
+    let grows = grown_by scope c.in_ok-copied.ensures (statements_grow (spec.calls_copy c.args.calls) (calls_keep c.args.calls) ss here scope) in
+    let ends = left_as grows c.len-known.ensures c.leave.ensures in
+    let left = copy_of c.take_code-body.new.self inner in
+    let tran = kernel.statement_of (Tran c.channel-chan.result c.args.master c.take_code-body.result c.args.start c.args.close) in
+    transaction_done here scope c.args.master c.args.start c.args.close c.in_ok-copied.ensures (c.first_named.ensures inner) c.channel-chan.ensures (c.take_code-body.ensures.code inner) (c.take_code-body.ensures.left inner)
+    (statement-Tran c.channel-chan.result c.args.master c.take_code-body.result c.args.start c.args.close)
+    (c.in_ok-add_statement.ensures (scope_of c.leave.new.self) ∙ λ i. copies.in_scope_of (ends i) (copies.with_code left (left.code ++ tran ∷ [])))
+
+pub transaction-statements-requires : goal.transaction-statements-requires
+transaction-statements-requires t c =
+    (down c.args.calls (deepest c.args.self.now.functions.now.all.items) (deepest c.args.self.now.functions.now.all.items) (heights.height_of_statements (plain.statements (map tree.statement_of c.args.ss.now))) 2 (heights.height_of_statements (plain.statements (map tree.statement_of c.args.ss.now))) 1 c.decreases refl (omega arith), tt)
+
+pub statements-loop-s-init : goal.statements-loop-s-init
+statements-loop-s-init t c =
+    let here = context_of c.args.self.now in
+    let copies' = spec.calls_copy c.args.calls in
+    let ss = plain.statements (map tree.statement_of c.args.ss.now) in
+    ap (λ x. copies.followed_by x (spec.statements_copy copies' ss here)) (c.nothing-copied.ensures (scope_of c.args.scope.now))
+
+pub statements-loop-s-preserved : goal.statements-loop-s-preserved
+statements-loop-s-preserved t c =
+    statements_more (spec.calls_copy c.args.calls) (context_of c.args.self.now) c.args.ss.now c.loop-s.s-index c.s-item.result c.s-item.is c.loop-s-test.true
+    (copy_of c.loop-s.copied (scope_of c.loop-s.scope)) c.in_ok-next.ensures (c.in_ok-copied.ensures (scope_of c.loop-s.scope) (scope_of c.statement.new.scope)) c.loop-s.invariant
+
+pub statements-returns : goal.statements-returns
+statements-returns t c =
+    statements_all (spec.calls_copy c.args.calls) (context_of c.args.self.now) c.args.ss.now c.loop-s.s-index c.loop-s-test.false (copy_of c.loop-s.copied (scope_of c.loop-s.scope)) c.loop-s.invariant
+
+pub statements-statement-requires : goal.statements-statement-requires
+statements-statement-requires t c =
+    (statement_below c.args.calls (deepest c.args.self.now.functions.now.all.items) c.args.ss.now c.loop-s.s-index c.s-item.result c.decreases c.s-item.is c.loop-s-test.true, tt)
+
+pub declarations-loop-d-init : goal.declarations-loop-d-init
+declarations-loop-d-init t c =
+    let here = context_of c.args.self.now in
+    let copies' = spec.calls_copy c.args.calls in
+    ap (λ x. copies.followed_by x (declarations.declarations_copy copies' here (map tree.declaration_of c.args.ds.now))) (c.nothing-copied.ensures (scope_of c.args.scope.now))
+
+pub declarations-loop-d-preserved : goal.declarations-loop-d-preserved
+declarations-loop-d-preserved t c =
+    declarations_more (spec.calls_copy c.args.calls) (context_of c.args.self.now) c.args.ds.now c.loop-d.d-index c.d-item.result c.d-item.is c.loop-d-test.true
+    (copy_of c.loop-d.copied (scope_of c.loop-d.scope)) c.in_ok-next.ensures (c.in_ok-copied.ensures (scope_of c.loop-d.scope) (scope_of c.declaration.new.scope)) c.loop-d.invariant
+
+pub declarations-returns : goal.declarations-returns
+declarations-returns t c =
+    declarations_all (spec.calls_copy c.args.calls) (context_of c.args.self.now) c.args.ds.now c.loop-d.d-index c.loop-d-test.false (copy_of c.loop-d.copied (scope_of c.loop-d.scope)) c.loop-d.invariant
+
+pub declarations-declaration-requires : goal.declarations-declaration-requires
+declarations-declaration-requires t c =
+    let d = deepest c.args.self.now.functions.now.all.items in
+    (down c.args.calls d d 0 6 0 5 c.decreases refl (omega arith), tt)
+
+pub par-loop-index-init : goal.par-loop-index-init
+par-loop-index-init t c =
+    let bs = plain.branches (map tree.branch_of c.args.bs.now) in
+    c.none-branches.ensures (spec.branches_copy (spec.calls_copy c.args.calls) bs 0 (context_of c.args.self.now) (scope_of c.args.scope.now))
+
+pub par-loop-index-preserved : goal.par-loop-index-preserved
+par-loop-index-preserved t c =
+    let here = context_of c.args.self.now in
+    let copies' = spec.calls_copy c.args.calls in
+    let b = c.index-bs-index.result in
+    let inner = contexts.in_branch here c.loop-index.index in
+    let before = scope_of c.loop-index.scope in
+    let after = scope_of c.statement.new.scope in
+    let made = copy_of c.in_ok-copied.copied after in
+    let path = c.as_slice.ensures ∙ c.in_ok-path.ensures in
+    let context = c.in_branch.ensures.context ∙ ap (λ p. record here { path = p }) path in
+    let copied = c.in_ok-copied.ensures ∙ ap (λ x. spec.statement_copy copies' (tree.statement_of b.body) x before) context ∙ in_branch_of copies' b inner before in
+    branches_more copies' here c.args.bs.now c.loop-index.index b c.index-bs-index.is c.loop-index-test.true before c.loop-index.branches c.in_ok-branches.branches copied
+    (λ others. c.in_ok-branches.ensures after others ∙ ap (λ pos. branched_before c.loop-index.branches (flow.and_branch pos made others)) (begins_at b))
+    c.loop-index.invariant
+
+pub par-returns : goal.par-returns
+par-returns t c =
+    let scope = scope_of c.loop-index.scope in
+    c.in_ok-copied-2.ensures scope
+    ∙ ap flow.par_copy (branches_all (spec.calls_copy c.args.calls) (context_of c.args.self.now) c.args.bs.now c.loop-index.index c.loop-index-test.false scope c.loop-index.branches c.loop-index.invariant)
+
+pub par-statement-requires : goal.par-statement-requires
+par-statement-requires t c =
+    (branches_below c.args.calls (deepest c.args.self.now.functions.now.all.items) (deepest c.in_branch.result.functions.now.all.items) c.args.bs.now c.loop-index.index c.index-bs-index.result
+        c.decreases (ap (λ f. deepest f.now.all.items) c.in_branch.ensures.functions) c.index-bs-index.is c.loop-index-test.true, tt)
+
+pub replicated-loop-number-init : goal.replicated-loop-number-init
+replicated-loop-number-init t c =
+    let scope = scope_of c.args.scope.now in
+    let copy = flow.numbered_copy (spec.branch_copy (spec.calls_copy c.args.calls) (tree.branch_of c.args.b.now)) (context_of c.args.self.now) scope c.args.name.now.text in
+    let pos = spec.pos_of_branch (tree.branch_of c.args.b.now) in
+    record {
+      above = omega arith;
+      scope = refl;
+      branches = c.none-branches.ensures (flow.replicated copy pos scope (c.args.until - c.args.from) (c.args.from - c.args.from) c.args.from) ∙ numbered_begun copy pos scope c.args.from c.args.until;
+    }
+
+pub replicated-leave-requires : goal.replicated-leave-requires
+replicated-leave-requires t c =
+    let inv = c.loop-number.invariant in
+    let name = c.in_ok-declare.ensures ∙ ap (λ n. scopes.with_name (scope_of c.loop-number.scope) n (scopes.a_constant c.loop-number.number)) c.as_slice.ensures in
+    grown_fits (numbered_grows c.args.calls (tree.statement_of c.args.b.now.body) (context_of c.in_branch.result) c.args.name.now.text (scopes.a_constant c.loop-number.number) inv.scope name c.in_ok-copied.ensures) c.len-known.ensures
+
+pub replicated-loop-number-preserved : goal.replicated-loop-number-preserved
+replicated-loop-number-preserved t c =
+    let here = context_of c.args.self.now in
+    let copies' = spec.calls_copy c.args.calls in
+    let scope = scope_of c.args.scope.now in
+    let number = c.loop-number.number in
+    let index = number - c.args.from in
+    let b = c.args.b.now in
+    let inv = c.loop-number.invariant in
+    let inner = contexts.in_branch here index in
+    let within = scopes.with_name scope c.args.name.now.text (scopes.a_constant number) in
+    let copy = flow.numbered_copy (spec.branch_copy copies' (tree.branch_of b)) here scope c.args.name.now.text in
+    let made = copy_of c.in_ok-copied.copied scope in
+    let path = c.as_slice-in-loop-number.ensures ∙ c.in_ok-path.ensures in
+    let context = c.in_branch.ensures.context ∙ ap (λ p. record here { path = p }) path in
+    let name = c.in_ok-declare.ensures ∙ ap (λ n. scopes.with_name (scope_of c.loop-number.scope) n (scopes.a_constant number)) c.as_slice.ensures in
+    let named = name ∙ ap (λ s. scopes.with_name s c.args.name.now.text (scopes.a_constant number)) inv.scope in
+    let copied = c.in_ok-copied.ensures ∙ (λ i. spec.statement_copy copies' (tree.statement_of b.body) (context i) (named i)) ∙ in_branch_of copies' b inner within in
+    record {
+      above = omega (arith, inv.above);
+      scope = left_as (numbered_grows c.args.calls (tree.statement_of b.body) (context_of c.in_branch.result) c.args.name.now.text (scopes.a_constant number) inv.scope name c.in_ok-copied.ensures) c.len-known.ensures c.leave.ensures;
+      branches = numbered_more copy (spec.pos_of_branch (tree.branch_of b)) scope c.args.from c.args.until number inv.above c.loop-number-test.true c.loop-number.branches c.in_ok-branches.branches
+          (ap (copies.in_scope_of scope) copied)
+          (λ others. c.in_ok-branches.ensures scope others ∙ ap (λ pos. branched_before c.loop-number.branches (flow.and_branch pos made others)) (begins_at b))
+          inv.branches;
+    }
+
+pub replicated-returns : goal.replicated-returns
+replicated-returns t c =
+    let here = context_of c.args.self.now in
+    let scope = scope_of c.args.scope.now in
+    let b = c.args.b.now in
+    let inv = c.loop-number.invariant in
+    let copy = flow.numbered_copy (spec.branch_copy (spec.calls_copy c.args.calls) (tree.branch_of b)) here scope c.args.name.now.text in
+    c.in_ok-copied-2.ensures (scope_of c.loop-number.scope)
+    ∙ ap (λ s. flow.par_copy (branched_before c.loop-number.branches (flow.no_branches s))) inv.scope
+    ∙ ap flow.par_copy (numbered_all copy (spec.pos_of_branch (tree.branch_of b)) scope c.args.from c.args.until c.loop-number.number c.loop-number-test.false c.loop-number.branches inv.branches)
+
+pub replicated-statement-requires : goal.replicated-statement-requires
+replicated-statement-requires t c =
+    (branch_below c.args.calls (deepest c.args.self.now.functions.now.all.items) (deepest c.in_branch.result.functions.now.all.items) c.args.b.now c.decreases (ap (λ f. deepest f.now.all.items) c.in_branch.ensures.functions), tt)
+
+pub select-loop-case-init : goal.select-loop-case-init
+select-loop-case-init t c =
+    let cs = plain.cases (map tree.case_of c.args.cs.now) in
+    record {
+      scope = refl;
+      cases = c.none-cases.ensures (spec.cases_copy (spec.calls_copy c.args.calls) cs (context_of c.args.self.now) (scope_of c.args.scope.now));
+    }
+
+pub select-leave-requires : goal.select-leave-requires
+select-leave-requires t c = grown_fits (grown_from c.loop-case.invariant.scope c.in_ok-cases.ensures.names) c.len-known.ensures
+
+pub select-loop-case-preserved : goal.select-loop-case-preserved
+select-loop-case-preserved t c =
+    let here = context_of c.args.self.now in
+    let copies' = spec.calls_copy c.args.calls in
+    let x = c.case-item.result in
+    let inv = c.loop-case.invariant in
+    record {
+      scope = left_as (grown_from inv.scope c.in_ok-cases.ensures.names) c.len-known.ensures c.leave.ensures;
+      cases = cases_more copies' here c.args.cs.now c.loop-case.case-index x c.case-item.is c.loop-case-test.true (scope_of c.args.scope.now) c.loop-case.cases c.in_ok-cases.cases
+          (λ others. c.in_ok-cases.ensures.cases others ∙ ap (λ s. cased_before c.loop-case.cases (spec.case_copy copies' (tree.case_of x) here s others)) inv.scope)
+          inv.cases;
+    }
+
+pub select-returns : goal.select-returns
+select-returns t c =
+    let scope = scope_of c.args.scope.now in
+    let inv = c.loop-case.invariant in
+    c.in_ok-copied.ensures (scope_of c.loop-case.scope)
+    ∙ ap (λ s. flow.select_copy s c.args.pos (cased_before c.loop-case.cases (flow.no_cases s))) inv.scope
+    ∙ ap (flow.select_copy scope c.args.pos) (cases_all (spec.calls_copy c.args.calls) (context_of c.args.self.now) c.args.cs.now c.loop-case.case-index c.loop-case-test.false scope c.loop-case.cases inv.cases)
+
+pub select-case-requires : goal.select-case-requires
+select-case-requires t c =
+    (case_below c.args.calls (deepest c.args.self.now.functions.now.all.items) c.args.cs.now c.loop-case.case-index c.case-item.result c.decreases c.case-item.is c.loop-case-test.true, tt)
+
+pub case-returns-in_ok-cases-in-None-clause-cases : goal.case-returns-in_ok-cases-in-None-clause-cases
+case-returns-in_ok-cases-in-None-clause-cases t c =
+    let after = scope_of c.statements.new.scope in
+    default_done (spec.calls_copy c.args.calls) (context_of c.args.self.now) (scope_of c.args.scope.now) c.args.case.now c.args.before c.in_ok-cases-in-None.cases
+    c.in-None.is c.in_ok-path.ensures c.as_slice.ensures c.in_case.ensures.context c.as_slice-in-None.ensures c.in_ok-body-in-None.ensures (c.in_ok-block-in-None.ensures after) (c.in_ok-cases-in-None.ensures after)
+
+pub case-returns-in_ok-cases-in-None-clause-names : goal.case-returns-in_ok-cases-in-None-clause-names
+case-returns-in_ok-cases-in-None-clause-names t c =
+    let ss = plain.statements (map tree.statement_of c.as_slice-in-None.result.now) in
+    let scope = scope_of c.args.scope.now in
+    grown_by scope c.in_ok-body-in-None.ensures (statements_grow (spec.calls_copy c.args.calls) (calls_keep c.args.calls) ss (context_of c.in_case.result) scope)
+
+pub case-returns-in_ok-cases-in-Some-clause-cases : goal.case-returns-in_ok-cases-in-Some-clause-cases
+case-returns-in_ok-cases-in-Some-clause-cases t c =
+    let after = scope_of c.statements-in-Some.new.scope in
+    case_done (spec.calls_copy c.args.calls) (context_of c.args.self.now) (scope_of c.args.scope.now) c.args.case.now c.in-Some.head c.args.before c.in_ok-cases-in-Some.cases
+    c.in-Some.is c.in_ok-path.ensures c.as_slice-in-Some.ensures c.in_case-in-Some.ensures.context c.as_slice-in-Some-2.ensures c.in_ok-guard-in-Some.ensures c.in_ok-received-in-Some.ensures.head c.in_ok-received-in-Some.ensures.names
+    c.in_ok-body-in-Some.ensures (c.in_ok-block-in-Some.ensures after) (c.in_ok-cases-in-Some.ensures (scope_of c.received.new.scope) after)
+
+pub case-returns-in_ok-cases-in-Some-clause-names : goal.case-returns-in_ok-cases-in-Some-clause-names
+case-returns-in_ok-cases-in-Some-clause-names t c =
+    let here = context_of c.args.self.now in
+    let copies' = spec.calls_copy c.args.calls in
+    let keep = calls_keep c.args.calls in
+    let ss = plain.statements (map tree.statement_of c.as_slice-in-Some-2.result.now) in
+    let scope = scope_of c.args.scope.now in
+    let inner = scope_of c.received.new.scope in
+    further (grown_by scope c.in_ok-received-in-Some.ensures.names (target_grows copies' keep here scope (tree.input_of c.in-Some.head).target))
+    (grown_by inner c.in_ok-body-in-Some.ensures (statements_grow copies' keep ss (context_of c.in_case-in-Some.result) inner))
+
+pub case-statements-requires : goal.case-statements-requires
+case-statements-requires t c =
+    (body_below c.args.calls (deepest c.args.self.now.functions.now.all.items) (deepest c.in_case.result.functions.now.all.items) c.args.case.now c.as_slice-in-None.result.now
+        c.decreases (ap (λ f. deepest f.now.all.items) c.in_case.ensures.functions) c.as_slice-in-None.ensures, tt)
+
+pub case-statements-requires-in-Some : goal.case-statements-requires-in-Some
+case-statements-requires-in-Some t c =
+    (body_below c.args.calls (deepest c.args.self.now.functions.now.all.items) (deepest c.in_case-in-Some.result.functions.now.all.items) c.args.case.now c.as_slice-in-Some-2.result.now
+        c.decreases (ap (λ f. deepest f.now.all.items) c.in_case-in-Some.ensures.functions) c.as_slice-in-Some-2.ensures, tt)

@@ -1,0 +1,33 @@
+use Rattle.std.proofs.Common.{ap, ◌∙◌, []}
+use Rattle.xc_tree.specs.Trees.{program_of}
+use Rattle.xc_kernel.specs.Copies.{copy_of}
+use Rattle.xc_kernel.specs.Copy.{numbering_in}
+use Rattle.xc_kernel.specs.Programs as programs
+use Rattle.xc_copy.specs.Contexts.{ports_from}
+use Rattle.xc_copy.specs.Roots.{rooted_by}
+use Rattle.xc_copy.proofs.Laws.Ports.{ports_named}
+use Rattle.xc_copy.proofs.program.copy.Goals as goal
+
+pub returns : goal.returns
+unfolding copy_of
+returns c =
+    let items = program_of c.args.tree.now in
+    let functions = c.in_ok-functions.ensures in
+    let ports = ports_named 0 c.in_ok-names.names.items (programs.ports items) c.in_ok-names.ensures in
+    let here = ap (ports_from 0) c.as_slice.ensures.value ∙ ports in
+    let there = ap (ports_from 0) c.as_slice-2.ensures.value ∙ ports in
+    let first = c.in_ok-first.ensures ∙ λ i. rooted_by (functions i) (here i) (c.none.ensures i) in
+    let numbers = c.in_ok-numbers.ensures [] ∙ ap (λ r. numbering_in r.made) first in
+    let second = c.in_ok-second.ensures ∙ λ i. rooted_by (functions i) (there i) (numbers i) in
+    let main = c.main_pos-main.ensures ∙ ap programs.pos_of_function (c.named.ensures.function ∙ ap (λ fs. programs.function_named fs programs.name_of_main) functions) in
+    record {
+      is_copy = c.kernel_by.ensures ∙ λ i. record {
+        roots = (second i).roots;
+        variables = (numbers i).variables;
+        channels = (numbers i).channels;
+        timers = (numbers i).timers;
+        ports = c.in_ok-ports.ensures i;
+        instances = (second i).made.instances;
+        main = main i;
+      };
+    }
