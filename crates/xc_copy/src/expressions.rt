@@ -15,9 +15,7 @@ use crate::entities::{
     array_number, elements_are_unsigned, name_is_unsigned, place_of_name, word_of_name,
 };
 use crate::numbers::Numbers;
-use crate::operators::{
-    operation_is_unsigned, operator_of, result_is_unsigned, sign_is_unsigned,
-};
+use crate::operators::{operation_is_unsigned, operator_of, result_is_unsigned, sign_is_unsigned};
 use crate::scope::Scope;
 use std::alloc::{AllocError, Global};
 use xc_kernel::{Kx, Place};

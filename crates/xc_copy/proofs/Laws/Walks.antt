@@ -53,7 +53,7 @@ module _ (copies : CopiesCall) (c : Context) where
       followed_by after (statements_copy copies (tree.statements (map statement_of (drop (i + 1) ss))) c) ≡ whole
   statements_more ss i s e h before copied after so_far =
       sym (ap (λ xs. followed_by before (statements_copy copies xs c)) (statements_at ss i s e h)
-          ∙ behind before (statements_copy copies (tree.statements (map statement_of (drop (i + 1) ss))) c) copied after)
+      ∙ behind before (statements_copy copies (tree.statements (map statement_of (drop (i + 1) ss))) c) copied after)
       ∙ so_far
 
   pub statements_all : (ss : List Stmt) (i : ℕ) → length ss ≤ i → (all : Copy) {whole : Copy} → followed_by all (statements_copy copies (tree.statements (map statement_of (drop i ss))) c) ≡ whole → all ≡ whole
@@ -68,7 +68,7 @@ module _ (copies : CopiesCall) (c : Context) where
       followed_by after (declarations_copy copies c (map declaration_of (drop (i + 1) ds))) ≡ whole
   declarations_more ds i d e h before copied after so_far =
       sym (ap (λ xs. followed_by before (declarations_copy copies c xs)) (declarations_at ds i d e h)
-          ∙ behind before (declarations_copy copies c (map declaration_of (drop (i + 1) ds))) copied after)
+      ∙ behind before (declarations_copy copies c (map declaration_of (drop (i + 1) ds))) copied after)
       ∙ so_far
 
   pub declarations_all : (ds : List Declared) (i : ℕ) → length ds ≤ i → (all : Copy) {whole : Copy} → followed_by all (declarations_copy copies c (map declaration_of (drop i ds))) ≡ whole → all ≡ whole

@@ -232,7 +232,7 @@ declaration-returns-in-Array t c =
     let d = c.args.d.now in
     copied_as (scope_of c.array.new.scope) c.array.result
     (ap (λ name. declarations.array_copy here before name d.name.pos (path_at here.path d.name.pos) c.in-Array.unsigned c.in-Array.words) c.as_slice-name.ensures
-        ∙ ap (λ k. declarations.kind_copy copies' here before d.name.text d.name.pos (tree.kind_of k)) (sym c.in-Array.is))
+    ∙ ap (λ k. declarations.kind_copy copies' here before d.name.text d.name.pos (tree.kind_of k)) (sym c.in-Array.is))
     c.array.ensures
 
 pub declaration-returns-in-Chan : goal.declaration-returns-in-Chan
@@ -243,7 +243,7 @@ declaration-returns-in-Chan t c =
     let d = c.args.d.now in
     copied_as (scope_of c.channel.new.scope) c.channel.result
     (ap (λ name. declarations.channel_copy before name d.name.pos (path_at here.path d.name.pos) c.in-Chan.streaming) c.as_slice-name.ensures
-        ∙ ap (λ k. declarations.kind_copy copies' here before d.name.text d.name.pos (tree.kind_of k)) (sym c.in-Chan.is))
+    ∙ ap (λ k. declarations.kind_copy copies' here before d.name.text d.name.pos (tree.kind_of k)) (sym c.in-Chan.is))
     c.channel.ensures
 
 pub declaration-returns-in-Timer : goal.declaration-returns-in-Timer
@@ -254,7 +254,7 @@ declaration-returns-in-Timer t c =
     let d = c.args.d.now in
     copied_as (scope_of c.timer.new.scope) c.timer.result
     (ap (λ name. declarations.timer_copy here before name d.name.pos (path_at here.path d.name.pos)) c.as_slice-name.ensures
-        ∙ ap (λ k. declarations.kind_copy copies' here before d.name.text d.name.pos (tree.kind_of k)) (sym c.in-Timer.is))
+    ∙ ap (λ k. declarations.kind_copy copies' here before d.name.text d.name.pos (tree.kind_of k)) (sym c.in-Timer.is))
     c.timer.ensures
 
 pub declaration-initial-requires : goal.declaration-initial-requires
@@ -295,7 +295,7 @@ assign-returns-then-symbol-ne-EQUALS t c =
     let other : nat_eq c.args.symbol 22 ≡ false = ne_eqb c.args.symbol 22 c.if-symbol-ne-EQUALS.true in
     copied_as scope c.update.result
     ((λ i. spec.update_copy here scope to c.args.symbol c.args.pos (c.in_ok-value.ensures.unsigned i) (c.in_ok-value.ensures.value i))
-        ∙ ap (spec.assign_by (spec.calls_copy c.args.calls) here scope to c.args.symbol c.args.pos right) (sym other))
+    ∙ ap (spec.assign_by (spec.calls_copy c.args.calls) here scope to c.args.symbol c.args.pos right) (sym other))
     c.update.ensures
 
 pub assign-returns : goal.assign-returns
@@ -361,8 +361,8 @@ right-returns-in-Some t c =
     let found = c.in-Some.ensures.function ∙ ap (programs.function_named here.functions) c.as_slice.ensures in
     copied_as scope c.call.result
     (ap (λ xs. copies' here scope (function_of c.in-Some.function.now) c.in-Call.pos (map tree.argument_of xs)) c.as_slice-in-Some.ensures
-        ∙ ap (calls_spec.call_by copies' here scope c.in-Call.pos args) found
-        ∙ ap (λ r. calls_spec.right_copy copies' here scope (tree.right_of r)) (sym c.in-Call.is))
+    ∙ ap (calls_spec.call_by copies' here scope c.in-Call.pos args) found
+    ∙ ap (λ r. calls_spec.right_copy copies' here scope (tree.right_of r)) (sym c.in-Call.is))
     c.call.ensures
 
 pub right-call-requires : goal.right-call-requires
@@ -386,7 +386,7 @@ call-returns t c =
     let n : ◌≡◌ {A = ℕ} (suc (c.args.calls - 1)) c.args.calls = omega (arith, c.if-calls-eq0.false) in
     copied_as scope c.function.result
     (ap (λ own. calls_spec.function_copy (spec.statement_copy (spec.calls_copy (c.args.calls - 1))) here scope own f args) (c.as_slice.ensures ∙ c.in_ok-own.ensures)
-        ∙ ap (λ n. spec.calls_copy n here scope f c.args.pos args) n)
+    ∙ ap (λ n. spec.calls_copy n here scope f c.args.pos args) n)
     c.function.ensures
 
 pub call-function-requires : goal.call-function-requires
@@ -449,7 +449,7 @@ while_loop-returns t c =
     while_done here c.args.pos scope c.in_ok-test.ensures.value whole
     (c.in_ok-body.ensures ∙ ap (λ x. spec.statement_copy (spec.calls_copy c.args.calls) (tree.statement_of c.args.body.now) x scope) around)
     (c.in_ok-copied.ensures scope inner
-        ∙ ap (λ next. flow.loop_at here path test (flow.turn here path body.code []) (copies.code_of next) (copies.joined next body)) (c.nothing-next.ensures scope))
+    ∙ ap (λ next. flow.loop_at here path test (flow.turn here path body.code []) (copies.code_of next) (copies.joined next body)) (c.nothing-next.ensures scope))
 
 pub while_loop-statement-requires : goal.while_loop-statement-requires
 while_loop-statement-requires t c =
@@ -473,7 +473,7 @@ do_while-returns t c =
     (c.in_ok-body.ensures ∙ ap (λ x. spec.statement_copy (spec.calls_copy c.args.calls) (tree.statement_of c.args.body.now) x scope) around)
     (c.in_ok-last.ensures ∙ ap (λ p. flow.leave_unless here p test) c.as_slice-3.ensures)
     (c.in_ok-copied.ensures scope inner
-        ∙ λ i. flow.loop_at here path (expression-Num 1 i) (flow.turn here path body.code (last ∷ [])) (copies.code_of (c.nothing-next.ensures scope i)) (copies.joined (c.nothing-next.ensures scope i) body))
+    ∙ λ i. flow.loop_at here path (expression-Num 1 i) (flow.turn here path body.code (last ∷ [])) (copies.code_of (c.nothing-next.ensures scope i)) (copies.joined (c.nothing-next.ensures scope i) body))
 
 pub do_while-statement-requires : goal.do_while-statement-requires
 do_while-statement-requires t c =
@@ -626,9 +626,11 @@ par-returns t c =
     ∙ ap flow.par_copy (branches_all (spec.calls_copy c.args.calls) (context_of c.args.self.now) c.args.bs.now c.loop-index.index c.loop-index-test.false scope c.loop-index.branches c.loop-index.invariant)
 
 pub par-statement-requires : goal.par-statement-requires
-par-statement-requires t c =
-    (branches_below c.args.calls (deepest c.args.self.now.functions.now.all.items) (deepest c.in_branch.result.functions.now.all.items) c.args.bs.now c.loop-index.index c.index-bs-index.result
-        c.decreases (ap (λ f. deepest f.now.all.items) c.in_branch.ensures.functions) c.index-bs-index.is c.loop-index-test.true, tt)
+par-statement-requires t c = (
+  branches_below c.args.calls (deepest c.args.self.now.functions.now.all.items) (deepest c.in_branch.result.functions.now.all.items) c.args.bs.now c.loop-index.index c.index-bs-index.result
+      c.decreases (ap (λ f. deepest f.now.all.items) c.in_branch.ensures.functions) c.index-bs-index.is c.loop-index-test.true,
+  tt,
+)
 
 pub replicated-loop-number-init : goal.replicated-loop-number-init
 replicated-loop-number-init t c =
@@ -756,11 +758,15 @@ case-returns-in_ok-cases-in-Some-clause-names t c =
     (grown_by inner c.in_ok-body-in-Some.ensures (statements_grow copies' keep ss (context_of c.in_case-in-Some.result) inner))
 
 pub case-statements-requires : goal.case-statements-requires
-case-statements-requires t c =
-    (body_below c.args.calls (deepest c.args.self.now.functions.now.all.items) (deepest c.in_case.result.functions.now.all.items) c.args.case.now c.as_slice-in-None.result.now
-        c.decreases (ap (λ f. deepest f.now.all.items) c.in_case.ensures.functions) c.as_slice-in-None.ensures, tt)
+case-statements-requires t c = (
+  body_below c.args.calls (deepest c.args.self.now.functions.now.all.items) (deepest c.in_case.result.functions.now.all.items) c.args.case.now c.as_slice-in-None.result.now
+      c.decreases (ap (λ f. deepest f.now.all.items) c.in_case.ensures.functions) c.as_slice-in-None.ensures,
+  tt,
+)
 
 pub case-statements-requires-in-Some : goal.case-statements-requires-in-Some
-case-statements-requires-in-Some t c =
-    (body_below c.args.calls (deepest c.args.self.now.functions.now.all.items) (deepest c.in_case-in-Some.result.functions.now.all.items) c.args.case.now c.as_slice-in-Some-2.result.now
-        c.decreases (ap (λ f. deepest f.now.all.items) c.in_case-in-Some.ensures.functions) c.as_slice-in-Some-2.ensures, tt)
+case-statements-requires-in-Some t c = (
+  body_below c.args.calls (deepest c.args.self.now.functions.now.all.items) (deepest c.in_case-in-Some.result.functions.now.all.items) c.args.case.now c.as_slice-in-Some-2.result.now
+      c.decreases (ap (λ f. deepest f.now.all.items) c.in_case-in-Some.ensures.functions) c.as_slice-in-Some-2.ensures,
+  tt,
+)

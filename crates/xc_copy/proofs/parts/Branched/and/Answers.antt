@@ -14,8 +14,8 @@ returns c = λ behind others.
     let made = copy_of c.args.self.made [] in
     let before = map kernel.branch_of c.args.self.branches in
     let copied = ap (λ x. copies.joined x others.made) (c.in_ok-followed_by.ensures [] [] ∙ ap (copies.joined made) (c.take_code-body.ensures.left []))
-        ∙ joined_assoc made (copies.with_code (copy_of c.args.copied []) []) others.made in
+    ∙ joined_assoc made (copies.with_code (copy_of c.args.copied []) []) others.made in
     let branches = ap (λ bs. branches_before (map kernel.branch_of bs) others.branches) c.in_ok-push.ensures.ok
-        ∙ branches_push c.args.self.branches _ others.branches
-        ∙ ap (λ b. branches_before before (plain.more_branches b others.branches)) (branch-made c.take_code-body.result c.args.pos ∙ ap (λ ss. plain.branch (plain.statements ss) c.args.pos) (c.take_code-body.ensures.code behind)) in
+    ∙ branches_push c.args.self.branches _ others.branches
+    ∙ ap (λ b. branches_before before (plain.more_branches b others.branches)) (branch-made c.take_code-body.result c.args.pos ∙ ap (λ ss. plain.branch (plain.statements ss) c.args.pos) (c.take_code-body.ensures.code behind)) in
     λ i. record { made = copied i; branches = branches i }

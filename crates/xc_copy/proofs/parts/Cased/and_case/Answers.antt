@@ -19,8 +19,8 @@ returns c = λ between behind others.
     let head = kernel.input_of c.args.received.head in
     let inside = c.in_ok-inside.ensures between [] ∙ ap (copies.joined names) (c.take_code-body.ensures.left []) in
     let copied = ap (λ x. copies.joined x others.made) (c.in_ok-followed_by.ensures [] [] ∙ ap (copies.joined made) inside)
-        ∙ joined_assoc made (copies.joined names (copies.with_code (copy_of c.args.block []) [])) others.made in
+    ∙ joined_assoc made (copies.joined names (copies.with_code (copy_of c.args.block []) [])) others.made in
     let cases = ap (λ cs. cases_before (map kernel.case_of cs) others.cases) c.in_ok-push.ensures.ok
-        ∙ cases_push c.args.self.cases _ others.cases
-        ∙ ap (λ x. cases_before before (plain.more_cases x others.cases)) (case-made c.args.guard c.args.received.head c.take_code-body.result ∙ ap (λ ss. plain.case guard head (plain.statements ss)) (c.take_code-body.ensures.code behind)) in
+    ∙ cases_push c.args.self.cases _ others.cases
+    ∙ ap (λ x. cases_before before (plain.more_cases x others.cases)) (case-made c.args.guard c.args.received.head c.take_code-body.result ∙ ap (λ ss. plain.case guard head (plain.statements ss)) (c.take_code-body.ensures.code behind)) in
     λ i. record { made = copied i; cases = cases i; otherwise = default_before c.args.self.otherwise others.otherwise }

@@ -11,7 +11,7 @@ pub returns : goal.returns
 returns c = λ behind others.
     let made = copy_of c.args.self.made [] in
     let copied = ap (λ x. copies.joined x others.made) (c.in_ok-followed_by.ensures [] [] ∙ ap (copies.joined made) (c.take_code-body.ensures.left []))
-        ∙ joined_assoc made (copies.with_code (copy_of c.args.block []) []) others.made in
+    ∙ joined_assoc made (copies.with_code (copy_of c.args.block []) []) others.made in
     let otherwise = c.first_of.ensures others.otherwise
-        ∙ ap (λ ss. default_before c.args.self.otherwise (plain.default (plain.statements ss))) (c.take_code-body.ensures.code behind) in
+    ∙ ap (λ ss. default_before c.args.self.otherwise (plain.default (plain.statements ss))) (c.take_code-body.ensures.code behind) in
     λ i. record { made = copied i; cases = cases_before (map kernel.case_of c.args.self.cases) others.cases; otherwise = otherwise i }
