@@ -73,7 +73,11 @@ fn judged(alloc: Global, kernel: Kernel) -> Result<String, AllocError>
     match disjoint(alloc, kernel) {
         Ok(checked) => {
             let kernel = checked.kernel();
-            format!(in alloc; "accepted: {} roots, {} instances", kernel.roots.len(), kernel.insts.len())
+            format!(in alloc;
+                "accepted: {} roots, {} instances",
+                kernel.roots.len(),
+                kernel.insts.len()
+            )
         }
         Err(DisErr::Broken(b)) => format!(in alloc; "{} at {}:{}", b.rule, b.pos.line, b.pos.col),
         Err(DisErr::Memory) => "out of memory".to_string(alloc),
@@ -108,13 +112,14 @@ void f5(void) { f4(); f4(); f4(); f4(); f4(); f4(); f4(); f4(); f4(); f4(); }
 #[test]
 fn copies_need_words(rt: HostRuntime) -> Result<(), Fail> {
     let alloc = rt.alloc();
-    let rows = [
-        (4, "704 at 7:5"),
-        (3, "accepted: 1 roots, 1112 instances"),
-    ];
+    let rows = [(4, "704 at 7:5"), (3, "accepted: 1 roots, 1112 instances")];
     for (called, wanted) in rows {
         let text = format!(in alloc; "{TENS}int main(void) {{ f{called}(); return 0; }}\n")?;
-        assert_eq!(rt; verdict(alloc, text.as_str())?.as_str(), wanted, "f{called}");
+        assert_eq!(rt;
+            verdict(alloc, text.as_str())?.as_str(),
+            wanted,
+            "f{called}"
+        );
     }
     Ok(())
 }
