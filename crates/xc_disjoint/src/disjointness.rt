@@ -96,3 +96,5 @@ fn at_main(kernel: &Kernel, rule: u16) -> Option<Broken>
 
 #[cfg(test)]
 mod tests;
+#[cfg(test)]
+mod texts;
