@@ -54,6 +54,3 @@ pub fn flatten(alloc: Global, typed: &Typed) -> Result<Kernel, FlatErr>
         None => Ok(copy(alloc, &typed.named.tree)?),
     }
 }
-
-#[cfg(test)]
-mod tests;

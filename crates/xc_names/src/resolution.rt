@@ -99,6 +99,3 @@ fn first_broken(
     let calls = broken_call(alloc, marks, meant, starts)?;
     Ok(earlier(earlier(names_and_ports, calls), broken_main(tree)))
 }
-
-#[cfg(test)]
-mod tests;

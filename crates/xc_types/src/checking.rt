@@ -65,6 +65,3 @@ fn seen_of(alloc: Global, named: &Named) -> Result<Seen, Memory>
     program(&mut seen, named)?;
     Ok(seen)
 }
-
-#[cfg(test)]
-mod tests;

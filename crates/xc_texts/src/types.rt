@@ -1,36 +1,9 @@
-ghost use Rattle.std.specs.Prelude.{IfSome};
-ghost use Rattle.xc_tree.specs.Programs.{IsParsed};
-ghost use Rattle.xc_tree.specs.Trees.{program_of};
-
-use crate::checking::{TypeErr, check};
+use crate::texts::tree_of;
 use std::alloc::{AllocError, Global};
 use std::test::Fail;
-use xc_lexer::lex;
 use xc_names::resolve;
-use xc_parser::{end_pos, parse};
-use xc_tree::{Named, Tree};
-
-/// How many bytes and tokens a text of these tests has at most.
-const MOST: usize = 4_194_304;
-
-/// The tree of a text, if it has one.
-fn tree_of(alloc: Global, text: &[u8]) -> Option<Tree>
-    ensures { IfSome result (λ tree. IsParsed (program_of tree)) }
-{
-    if text.len() > MOST {
-        return None;
-    }
-    let Ok(toks) = lex(alloc, text) else {
-        return None;
-    };
-    if toks.len() > MOST {
-        return None;
-    }
-    match parse(alloc, &toks, end_pos(text)) {
-        Ok(tree) => Some(tree),
-        Err(_) => None,
-    }
-}
+use xc_tree::Named;
+use xc_types::{TypeErr, check};
 
 /// A text's tree with its names, if it has them.
 fn named(alloc: Global, text: &str) -> Option<Named> {

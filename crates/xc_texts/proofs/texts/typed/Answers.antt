@@ -12,7 +12,7 @@ use Rattle.xc_tree.specs.Trees.{program_of}
 use Rattle.xc_tree.specs.Types.Named.{named_of}
 use Rattle.xc_tree.specs.Types.Sites.{unsigned_at}
 use Rattle.xc_kernel.specs.Sound.{IsTyped}
-use Rattle.xc_disjoint.proofs.disjointness.texts.typed.Goals as goal
+use Rattle.xc_texts.proofs.texts.typed.Goals as goal
 
 -- a parsed program that breaks no rule of names, with what its names mean
 record AreNamed (program : List Item) (named : Named) : Type 0 where
@@ -37,7 +37,7 @@ typed_too tree named same types its_tree is known are sound =
     subst (λ n. IsTyped (program_of n.tree) (named_of n) types) (sym is)
     (typed_by named types (subst (λ t. AreNamed (program_of t) named) (sym its_tree) known) are sound)
 
--- src/disjointness/texts.rt:45:1
+-- src/texts.rt:18:1
 pub returns-in-Ok-check : goal.returns-in-Ok-check
 returns-in-Ok-check c =
     typed_too c.in_ok-tree.tree c.in-Ok.named c.in-Ok-check.typed.named c.in-Ok-check.typed.unsigned_at

@@ -1,7 +1,7 @@
-use super::texts::typed;
-use crate::{FlatErr, flatten};
+use crate::texts::typed;
 use std::alloc::{AllocError, Global};
 use std::test::Fail;
+use xc_flat::{FlatErr, flatten};
 use xw_words::{Broken, Pos};
 
 /// Where a text breaks rule 509, or how many instances of functions and how many counted words its kernel has.
@@ -103,14 +103,14 @@ fn nodes_count_in_each_copy(rt: HostRuntime) -> Result<(), Fail> {
 const CHAINS: [(usize, &str, &str); 5] = [
     (499, "int main(void) { f499(); return 0; }", "509 at 501:5"),
     (
-        299,
-        "int main(void) { f299(); return 0; }",
-        "301 instances, 0 words",
+        498,
+        "int main(void) { f498(); return 0; }",
+        "500 instances, 0 words",
     ),
     (
-        249,
-        "int main(void) { { f249(); } return 0; }",
-        "251 instances, 0 words",
+        498,
+        "int main(void) { { f498(); } return 0; }",
+        "500 instances, 0 words",
     ),
     (
         498,
@@ -134,19 +134,31 @@ fn depth_counts_along_calls(rt: HostRuntime) -> Result<(), Fail> {
     Ok(())
 }
 
-/// Texts of which each has one statement or node more than it may have, and one with copies of nothing.
-const LIMITS: [(&str, &str); 5] = [
-    // in each copy 1 and its name: 2 * 49999 + 3
+/// Texts with as many statements or nodes as they may have, and with one more; and copies of a great number and of nothing.
+const LIMITS: [(&str, &str); 8] = [
+    // in each copy 1 and its name: 2 * 49999 + 2, and with one name more 2 * 49999 + 3
+    (
+        "int main(void) { int y; par (int i = 0; i < 49999; i++) { int x; } }",
+        "1 instances, 50000 words",
+    ),
     (
         "int main(void) { int y, z; par (int i = 0; i < 49999; i++) { int x; } }",
         "509 at 1:5",
     ),
-    // 40000 * 25 + 1 nodes in 80002 statements
+    // 40000 * 25 nodes in 80002 statements, and with an initial value 40000 * 25 + 1
+    (
+        "int main(void) { int y; par (int i = 0; i < 40000; i++) { int x = i+i+i+i+i+i+i+i+i+i+i+i+i; } }",
+        "1 instances, 40001 words",
+    ),
     (
         "int main(void) { int y = 1; par (int i = 0; i < 40000; i++) { int x = i+i+i+i+i+i+i+i+i+i+i+i+i; } }",
         "509 at 1:5",
     ),
-    // in each copy 1, and 5 for a call with 4 parameters: 6 * 16666 + 5
+    // in each copy 1, and 5 for a call with 4 parameters: 6 * 16666 + 4, and with one name more 6 * 16666 + 5
+    (
+        "void f(int a, int b, int c, int d) { } int main(void) { int w, x, y; par (int i = 0; i < 16666; i++) f(i, i, i, i); }",
+        "16667 instances, 3 words",
+    ),
     (
         "void f(int a, int b, int c, int d) { } int main(void) { int w, x, y, z; par (int i = 0; i < 16666; i++) f(i, i, i, i); }",
         "509 at 1:44",
@@ -163,7 +175,7 @@ const LIMITS: [(&str, &str); 5] = [
 ];
 
 #[test]
-fn one_more_is_refused(rt: HostRuntime) -> Result<(), Fail> {
+fn one_more_than_the_most_is_refused(rt: HostRuntime) -> Result<(), Fail> {
     let alloc = rt.alloc();
     for (text, wanted) in LIMITS {
         assert_eq!(rt; verdict(alloc, text)?.as_str(), wanted, "{text}");

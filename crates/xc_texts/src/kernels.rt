@@ -1,4 +1,3 @@
+mod copies;
 mod counts;
-mod kernels;
 mod printed;
-mod texts;

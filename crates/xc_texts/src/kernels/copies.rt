@@ -1,8 +1,8 @@
 use super::printed::printed;
-use super::texts::typed;
-use crate::flatten;
+use crate::texts::typed;
 use std::alloc::Global;
 use std::test::Fail;
+use xc_flat::flatten;
 
 /// A text, and its kernel.
 type Row = (&'static str, &'static str);

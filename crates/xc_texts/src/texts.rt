@@ -29,7 +29,7 @@ pub fn typed(alloc: Global, text: &str) -> Option<Typed>
 }
 
 /// The tree of a text, if it has one.
-fn tree_of(alloc: Global, text: &[u8]) -> Option<Tree>
+pub fn tree_of(alloc: Global, text: &[u8]) -> Option<Tree>
     ensures { IfSome result (λ tree. IsParsed (program_of tree)) }
 {
     if text.len() > MOST {

@@ -1,35 +1,8 @@
-ghost use Rattle.std.specs.Prelude.{IfSome};
-ghost use Rattle.xc_tree.specs.Programs.{IsParsed};
-ghost use Rattle.xc_tree.specs.Trees.{program_of};
-
-use crate::resolution::{NameErr, resolve};
+use crate::texts::tree_of;
 use std::alloc::{AllocError, Global};
 use std::test::Fail;
-use xc_lexer::lex;
-use xc_parser::{end_pos, parse};
-use xc_tree::{Decl, Tree};
-
-/// How many bytes and tokens a text of these tests has at most.
-const MOST: usize = 4_194_304;
-
-/// The tree of a text, if it has one.
-fn tree_of(alloc: Global, text: &[u8]) -> Option<Tree>
-    ensures { IfSome result (λ tree. IsParsed (program_of tree)) }
-{
-    if text.len() > MOST {
-        return None;
-    }
-    let Ok(toks) = lex(alloc, text) else {
-        return None;
-    };
-    if toks.len() > MOST {
-        return None;
-    }
-    match parse(alloc, &toks, end_pos(text)) {
-        Ok(tree) => Some(tree),
-        Err(_) => None,
-    }
-}
+use xc_names::{NameErr, resolve};
+use xc_tree::Decl;
 
 fn put_name(shown: &mut String, name: &[u8]) -> Result<(), AllocError> {
     for b in name {
@@ -77,9 +50,23 @@ fn shown(alloc: Global, text: &str) -> Result<String, AllocError> {
     Ok(shown)
 }
 
+/// A text, and what is shown of it.
+type Row = (&'static str, &'static str);
+
+/// What is shown of the first text of which something else is shown than its row has, and the empty text where there is none.
+fn first_wrong(alloc: Global, rows: &[Row]) -> Result<String, AllocError> {
+    for (text, wanted) in rows {
+        let shown = shown(alloc, text)?;
+        if shown.as_str() != *wanted {
+            return format!(in alloc; "{shown} in place of {wanted}: {text}");
+        }
+    }
+    Ok(String::new(alloc))
+}
+
 /// Each scope around an `x` of its own: alone, with a use of `x` behind it, and with another `x` around it, which the use
 /// behind it means.
-const SCOPES: [(&str, &str); 24] = [
+const SCOPES: [Row; 24] = [
     ("int main(){{int x;x++;}}", "main x : 0 1 1"),
     ("int main(){{int x;x++;}x++;}", "301 at 1:24"),
     ("int main(){int x;{int x;x++;}x++;}", "main x x : 0 1 2 2 1"),
@@ -138,15 +125,12 @@ const SCOPES: [(&str, &str); 24] = [
 
 #[test]
 fn each_scope_ends_and_hides_what_is_around_it(rt: HostRuntime) -> Result<(), Fail> {
-    let alloc = rt.alloc();
-    for (text, wanted) in SCOPES {
-        assert_eq!(rt; shown(alloc, text)?.as_str(), wanted);
-    }
+    assert_eq!(rt; first_wrong(rt.alloc(), &SCOPES)?.as_str(), "");
     Ok(())
 }
 
-/// What breaks a rule, by the least text and its neighbours; of two rules the first place is named.
-const RULES: [(&str, &str); 42] = [
+/// Texts that use a name that isn't known or declare one again, and neighbours that break no rule.
+const DECLARATIONS: [Row; 17] = [
     ("int main(void) { y = 1; return 0; }", "301 at 1:18"),
     ("int main(){return x;}", "301 at 1:19"),
     ("int main(){x++;int x;}", "301 at 1:12"),
@@ -170,6 +154,16 @@ const RULES: [(&str, &str); 42] = [
         "int main(){chan c;select{case c:>int x:int x;break;}}",
         "302 at 1:44",
     ),
+];
+
+#[test]
+fn rules_of_declarations(rt: HostRuntime) -> Result<(), Fail> {
+    assert_eq!(rt; first_wrong(rt.alloc(), &DECLARATIONS)?.as_str(), "");
+    Ok(())
+}
+
+/// Texts with ports that aren't there or are declared twice on one core, and neighbours.
+const PORTS: [Row; 10] = [
     (
         "port p=XS1_PORT_2A;port q=XS1_PORT_1A;int main(){}",
         "303 at 1:8",
@@ -210,6 +204,16 @@ const RULES: [(&str, &str); 42] = [
         "on tile[4/2]:port p=XS1_PORT_1A;on tile[2]:port q=XS1_PORT_1A;int main(){}",
         "p q main : 0 1 2",
     ),
+];
+
+#[test]
+fn rules_of_ports(rt: HostRuntime) -> Result<(), Fail> {
+    assert_eq!(rt; first_wrong(rt.alloc(), &PORTS)?.as_str(), "");
+    Ok(())
+}
+
+/// Texts with functions that call themselves, or without a main, and neighbours; of two rules the first place is named.
+const FUNCTIONS: [Row; 15] = [
     ("void f(){f();}int main(){}", "304 at 1:10"),
     ("void f(){f();int f;}int main(){}", "304 at 1:10"),
     (
@@ -240,11 +244,8 @@ const RULES: [(&str, &str); 42] = [
 ];
 
 #[test]
-fn names_the_first_broken_rule(rt: HostRuntime) -> Result<(), Fail> {
-    let alloc = rt.alloc();
-    for (text, wanted) in RULES {
-        assert_eq!(rt; shown(alloc, text)?.as_str(), wanted);
-    }
+fn rules_of_functions(rt: HostRuntime) -> Result<(), Fail> {
+    assert_eq!(rt; first_wrong(rt.alloc(), &FUNCTIONS)?.as_str(), "");
     Ok(())
 }
 
