@@ -2,7 +2,7 @@ use super::{Row, first_wrong};
 use std::test::Fail;
 
 /// Eight and nine threads.
-const THREADS: [Row; 7] = [
+const THREADS: [Row; 15] = [
     // nine copies of a branch, and eight
     (
         "int main(void) { par (int i = 0; i < 9; i++) { int x; x = i; } return 0; }",
@@ -46,6 +46,50 @@ int main(void) { par { four(); on tile[3] : par (int i = 0; i < 5; i++) ; } retu
 ",
         "accepted: 2 roots, 2 instances",
     ),
+    // 8 and then 8 need 8; 1 and then 9 need 9
+    (
+        "int main(void) { par (int i = 0; i < 8; i++) ; par (int i = 0; i < 8; i++) ; return 0; }",
+        "accepted: 1 roots, 1 instances",
+    ),
+    (
+        "int main(void) { par { on tile[3] : { par { ; } par (int i = 0; i < 9; i++) ; } } return 0; }",
+        "701 at 1:5",
+    ),
+    // 4 + 4, and 4 + 5
+    (
+        "int main(void) { par { par (int i = 0; i < 4; i++) ; par (int i = 0; i < 4; i++) ; } return 0; }",
+        "accepted: 1 roots, 1 instances",
+    ),
+    (
+        "int main(void) { par { par (int i = 0; i < 4; i++) ; par (int i = 0; i < 5; i++) ; } return 0; }",
+        "701 at 1:5",
+    ),
+    // a `par` of nothing needs 1: 1 + 7, and 1 + 8
+    (
+        "int main(void) { par { par { } par (int i = 0; i < 7; i++) ; } return 0; }",
+        "accepted: 1 roots, 1 instances",
+    ),
+    (
+        "int main(void) { par { par { } par (int i = 0; i < 8; i++) ; } return 0; }",
+        "701 at 1:5",
+    ),
+    // 8 in each part of an `if`, a loop and a `select`, and 9 in one of them
+    (
+        "int main(void) { int x; timer t;
+if (x) par (int i = 0; i < 8; i++) ; else par (int i = 0; i < 8; i++) ;
+while (x) par (int i = 0; i < 8; i++) ;
+select { case t :> x : par (int i = 0; i < 8; i++) ; break; default : par (int i = 0; i < 8; i++) ; break; }
+return 0; }
+",
+        "accepted: 1 roots, 1 instances",
+    ),
+    (
+        "int main(void) { int x; timer t;
+select { case t :> x : break; default : par (int i = 0; i < 9; i++) ; break; }
+return 0; }
+",
+        "701 at 1:5",
+    ),
 ];
 
 #[test]
@@ -56,7 +100,7 @@ fn threads(rt: HostRuntime) -> Result<(), Fail> {
 }
 
 /// 32 and more channel ends. `a` has one channel, and both its ends; `b` calls `a` four times.
-const ENDS: [Row; 7] = [
+const ENDS: [Row; 18] = [
     // 16 channels, and main with 4 + 16 instances; with one channel more 34 ends
     (
         "void a(void) { chan c; par { c <: 1; c :> void; } }
@@ -129,6 +173,113 @@ on tile[3] : d :> void;
 ",
         "accepted: 3 roots, 19 instances",
     ),
+    // 16 channels, and one whose sides are branches of an inner `par`: 34
+    (
+        "void a(void) { chan c; par { c <: 1; c :> void; } }
+void b(void) { a(); a(); a(); a(); }
+int main(void) { chan c; b(); b(); b(); b();
+par { par { c <: 1; c :> void; } ; } return 0; }
+",
+        "702 at 3:5",
+    ),
+    // its sides are the inner `par` as one branch, and the other branch: 34
+    (
+        "void a(void) { chan c; par { c <: 1; c :> void; } }
+void b(void) { a(); a(); a(); a(); }
+int main(void) { chan c; b(); b(); b(); b();
+par { par { c <: 1; c :> void; } c <: 2; } return 0; }
+",
+        "702 at 3:5",
+    ),
+    // it is used behind the `par` too, so that one root alone uses it: 32
+    (
+        "void a(void) { chan c; par { c <: 1; c :> void; } }
+void b(void) { a(); a(); a(); a(); }
+int main(void) { chan c; b(); b(); b(); b();
+par { c <: 1; c :> void; } c <: 2; return 0; }
+",
+        "accepted: 1 roots, 21 instances",
+    ),
+    // three branches use it: 32
+    (
+        "void a(void) { chan c; par { c <: 1; c :> void; } }
+void b(void) { a(); a(); a(); a(); }
+int main(void) { chan c; b(); b(); b(); b();
+par { c <: 1; c <: 2; c :> void; } return 0; }
+",
+        "accepted: 1 roots, 21 instances",
+    ),
+    // a transaction uses it, and a case: 34
+    (
+        "void a(void) { chan c; par { c <: 1; c :> void; } }
+void b(void) { a(); a(); a(); a(); }
+int main(void) { chan c; b(); b(); b(); b();
+par { master { c <: 1; } slave { c :> void; } } return 0; }
+",
+        "702 at 3:5",
+    ),
+    (
+        "void a(void) { chan c; par { c <: 1; c :> void; } }
+void b(void) { a(); a(); a(); a(); }
+int main(void) { chan c; b(); b(); b(); b();
+par { c <: 1; select { case c :> void : break; } } return 0; }
+",
+        "702 at 3:5",
+    ),
+    // it is handed on and not used: 32
+    (
+        "void a(void) { chan c; par { c <: 1; c :> void; } }
+void b(void) { a(); a(); a(); a(); }
+void pass(chanend c) { }
+int main(void) { chan c; b(); b(); b(); b();
+par { c <: 1; pass(c); } return 0; }
+",
+        "accepted: 1 roots, 22 instances",
+    ),
+    // core 0 has 16 channels, and two others an end each
+    (
+        "void a(void) { chan c; par { c <: 1; c :> void; } }
+void b(void) { a(); a(); a(); a(); }
+int main(void) { chan c; par {
+on tile[0] : { b(); b(); b(); b(); }
+on tile[1] : c <: 1;
+on tile[2] : c :> void;
+} return 0; }
+",
+        "accepted: 3 roots, 21 instances",
+    ),
+    // core 0 has 15 channels and an end of each of three more: 33
+    (
+        "void a(void) { chan c; par { c <: 1; c :> void; } }
+void b(void) { a(); a(); a(); a(); }
+int main(void) { chan c, d, e; par {
+on tile[0] : { b(); b(); b(); a(); a(); a(); c <: 1; d <: 1; e <: 1; }
+on tile[1] : { c :> void; d :> void; e :> void; }
+} return 0; }
+",
+        "702 at 3:5",
+    ),
+    // the other end is on no core: 33, and 32 with a channel less
+    (
+        "void a(void) { chan c; par { c <: 1; c :> void; } }
+void b(void) { a(); a(); a(); a(); }
+int main(void) { chan c; par {
+on tile[0] : { b(); b(); b(); b(); c <: 1; }
+on tile[4] : c :> void;
+} return 0; }
+",
+        "702 at 3:5",
+    ),
+    (
+        "void a(void) { chan c; par { c <: 1; c :> void; } }
+void b(void) { a(); a(); a(); a(); }
+int main(void) { chan c, d; par {
+on tile[0] : { b(); b(); b(); a(); a(); a(); c <: 1; d <: 1; }
+on tile[4] : { c :> void; d :> void; }
+} return 0; }
+",
+        "705 at 5:9",
+    ),
 ];
 
 #[test]
@@ -139,7 +290,7 @@ fn ends(rt: HostRuntime) -> Result<(), Fail> {
 }
 
 /// Ten and eleven timers. A timer counts where it is declared, used or not.
-const TIMERS: [Row; 5] = [
+const TIMERS: [Row; 6] = [
     // 5 + 5, and with main's own 11
     (
         "void five(void) { timer a, b, c, d, e; }
@@ -174,6 +325,13 @@ int main(void) { par { on tile[3] : five(); on tile[3] : { timer s, t; s :> void
 ",
         "accepted: 3 roots, 2 instances",
     ),
+    // core 0 and core 3 have 10 each
+    (
+        "void five(void) { timer a, b, c, d, e; }
+int main(void) { par { on tile[0] : { five(); five(); } on tile[3] : { five(); five(); } } return 0; }
+",
+        "accepted: 2 roots, 5 instances",
+    ),
 ];
 
 #[test]
@@ -184,7 +342,7 @@ fn timers(rt: HostRuntime) -> Result<(), Fail> {
 }
 
 /// 16,384 words and one more.
-const WORDS: [Row; 9] = [
+const WORDS: [Row; 13] = [
     // main's 4, its array and one thread: 4 + 15,868 + 512
     (
         "int main(void) { int a[15868]; a[0] = 1; return 0; }",
@@ -235,6 +393,28 @@ int main(void) { par { on tile[2] : f(1); on tile[1] : { int b[8356]; b[0] = 1; 
     (
         "int main(void) { par { on tile[0] : { int a[15872]; } } return 0; }",
         "704 at 1:5",
+    ),
+    // main's 4, its array and two threads: 4 + 15,356 + 512 * 2
+    (
+        "int main(void) { int a[15356]; par { ; ; } return 0; }",
+        "accepted: 1 roots, 1 instances",
+    ),
+    (
+        "int main(void) { int a[15357]; par { ; ; } return 0; }",
+        "704 at 1:5",
+    ),
+    // core 2 has f's 4 + 1, its array and one thread: 5 + 15,867 + 512
+    (
+        "void f(int x) { int a[15867]; a[0] = x; }
+int main(void) { par { on tile[2] : f(1); } return 0; }
+",
+        "accepted: 1 roots, 2 instances",
+    ),
+    (
+        "void f(int x) { int a[15868]; a[0] = x; }
+int main(void) { par { on tile[2] : f(1); } return 0; }
+",
+        "704 at 2:5",
     ),
 ];
 

@@ -76,7 +76,7 @@ fn places(rt: HostRuntime) -> Result<(), Fail> {
 }
 
 /// Ports that are used on their own core and on another.
-const PORTS: [Row; 7] = [
+const PORTS: [Row; 10] = [
     (
         "on stdcore[1] : out port p = XS1_PORT_4A;
 void a(chanend c) { c <: 20; }
@@ -132,6 +132,29 @@ case p when pinseq(1) :> void : break;
 ",
         "706 at 3:6",
     ),
+    // a case on the port's own core
+    (
+        "on tile[1] : in port p = XS1_PORT_1A;
+int main(void) { par { on tile[1] : select { case p :> void : break; } } return 0; }
+",
+        "accepted: 1 roots, 1 instances",
+    ),
+    // an output of the root, and a case that stands before it
+    (
+        "port p = XS1_PORT_1A;
+void f(void) { select { case p :> void : break; } }
+int main(void) { par { on tile[2] : { p <: 1; f(); } } return 0; }
+",
+        "706 at 2:30",
+    ),
+    // a port that has a core, in a branch that has none
+    (
+        "on tile[1] : out port p = XS1_PORT_1A;
+void f(void) { p <: 1; }
+int main(void) { par { on tile[5] : f(); } return 0; }
+",
+        "706 at 2:16",
+    ),
 ];
 
 #[test]
@@ -142,7 +165,7 @@ fn ports(rt: HostRuntime) -> Result<(), Fail> {
 }
 
 /// Texts that break more than one rule: the least place is named, and there the least number.
-const SEVERAL: [Row; 8] = [
+const SEVERAL: [Row; 9] = [
     // 9 threads, 11 timers and 4 + 16,384 + 512 * 9 words, all at main
     (
         "int main(void) { timer a, b, c, d, e, f, g, h, i, j, k; int w[16384]; par (int n = 0; n < 9; n++) ; return 0; }",
@@ -161,6 +184,15 @@ int main(void) { timer a, b, c, d, e, f, g, h, i, j, k; int w[16384]; four(); re
 void four(void) { b(); b(); b(); b(); a(); }
 ",
         "702 at 3:5",
+    ),
+    // the same and 9 threads
+    (
+        "void a(void) { chan c; par { c <: 1; c :> void; } }
+void b(void) { a(); a(); a(); a(); }
+int main(void) { timer a, b, c, d, e, f, g, h, i, j, k; int w[16384]; four(); par (int n = 0; n < 9; n++) ; return 0; }
+void four(void) { b(); b(); b(); b(); a(); }
+",
+        "701 at 3:5",
     ),
     // a port's place before main, and behind it
     (
