@@ -24,6 +24,20 @@ fn verdict(alloc: Global, text: &str) -> Result<String, AllocError> {
     }
 }
 
+/// A text, and what comes of it.
+type Row = (&'static str, &'static str);
+
+/// What comes of the first text of which something else comes than its row has, and the empty text where there is none.
+fn first_wrong(alloc: Global, rows: &[Row]) -> Result<String, AllocError> {
+    for (text, wanted) in rows {
+        let verdict = verdict(alloc, text)?;
+        if verdict.as_str() != *wanted {
+            return format!(in alloc; "{verdict} in place of {wanted}: {text}");
+        }
+    }
+    Ok(String::new(alloc))
+}
+
 /// `f0` on line 1, which stores a sum of so many ones; `f1` to `f5` on lines 2 to 6, each of which calls the one before ten
 /// times; and a main on line 7 that calls one of them.
 fn tens(alloc: Global, ones: usize, called: usize) -> Result<String, AllocError> {
@@ -134,9 +148,8 @@ fn depth_counts_along_calls(rt: HostRuntime) -> Result<(), Fail> {
     Ok(())
 }
 
-/// Texts with as many statements or nodes as they may have, and with one more; and copies of a great number and of nothing.
-const LIMITS: [(&str, &str); 8] = [
-    // in each copy 1 and its name: 2 * 49999 + 2, and with one name more 2 * 49999 + 3
+/// As many copies of a name as there may be: in each copy 1 and its name, 2 * 49999 + 2; and with one name more.
+const COPIES_OF_NAMES: [Row; 2] = [
     (
         "int main(void) { int y; par (int i = 0; i < 49999; i++) { int x; } }",
         "1 instances, 50000 words",
@@ -145,7 +158,16 @@ const LIMITS: [(&str, &str); 8] = [
         "int main(void) { int y, z; par (int i = 0; i < 49999; i++) { int x; } }",
         "509 at 1:5",
     ),
-    // 40000 * 25 nodes in 80002 statements, and with an initial value 40000 * 25 + 1
+];
+
+#[test]
+fn statements_are_limited(rt: HostRuntime) -> Result<(), Fail> {
+    assert_eq!(rt; first_wrong(rt.alloc(), &COPIES_OF_NAMES)?.as_str(), "");
+    Ok(())
+}
+
+/// As many nodes as there may be, 40000 * 25 in 80002 statements; and with an initial value 40000 * 25 + 1.
+const COPIES_OF_NODES: [Row; 2] = [
     (
         "int main(void) { int y; par (int i = 0; i < 40000; i++) { int x = i+i+i+i+i+i+i+i+i+i+i+i+i; } }",
         "1 instances, 40001 words",
@@ -154,7 +176,17 @@ const LIMITS: [(&str, &str); 8] = [
         "int main(void) { int y = 1; par (int i = 0; i < 40000; i++) { int x = i+i+i+i+i+i+i+i+i+i+i+i+i; } }",
         "509 at 1:5",
     ),
-    // in each copy 1, and 5 for a call with 4 parameters: 6 * 16666 + 4, and with one name more 6 * 16666 + 5
+];
+
+#[test]
+fn nodes_are_limited(rt: HostRuntime) -> Result<(), Fail> {
+    assert_eq!(rt; first_wrong(rt.alloc(), &COPIES_OF_NODES)?.as_str(), "");
+    Ok(())
+}
+
+/// As many copies of a call with 4 parameters as there may be: in each copy 1, and 5 for the call, 6 * 16666 + 4; and with one
+/// name more.
+const COPIES_OF_CALLS: [Row; 2] = [
     (
         "void f(int a, int b, int c, int d) { } int main(void) { int w, x, y; par (int i = 0; i < 16666; i++) f(i, i, i, i); }",
         "16667 instances, 3 words",
@@ -163,7 +195,16 @@ const LIMITS: [(&str, &str); 8] = [
         "void f(int a, int b, int c, int d) { } int main(void) { int w, x, y, z; par (int i = 0; i < 16666; i++) f(i, i, i, i); }",
         "509 at 1:44",
     ),
-    // one copy of a great number, and none
+];
+
+#[test]
+fn calls_are_limited(rt: HostRuntime) -> Result<(), Fail> {
+    assert_eq!(rt; first_wrong(rt.alloc(), &COPIES_OF_CALLS)?.as_str(), "");
+    Ok(())
+}
+
+/// One copy of a great number, and none; and a great number that main doesn't call, and one that it calls.
+const GREAT_NUMBERS: [Row; 4] = [
     (
         "int main(void) { par (int i = 0; i < 1; i++) par (int j = 0; j < 4294967295; j++) { int x; } }",
         "509 at 1:5",
@@ -172,26 +213,19 @@ const LIMITS: [(&str, &str); 8] = [
         "int main(void) { par (int i = 1; i < 0; i++) par (int j = 0; j < 4294967295; j++) { int x; } }",
         "1 instances, 0 words",
     ),
+    (
+        "void f(void) { par (int i = 0; i < 4294967295; i++) ; } int main(void) { }",
+        "1 instances, 0 words",
+    ),
+    (
+        "void f(void) { par (int i = 0; i < 4294967295; i++) ; } int main(void) { f(); }",
+        "509 at 1:61",
+    ),
 ];
 
 #[test]
-fn one_more_than_the_most_is_refused(rt: HostRuntime) -> Result<(), Fail> {
-    let alloc = rt.alloc();
-    for (text, wanted) in LIMITS {
-        assert_eq!(rt; verdict(alloc, text)?.as_str(), wanted, "{text}");
-    }
-    Ok(())
-}
-
-/// What main doesn't call counts nothing.
-#[test]
-fn what_is_not_called_counts_nothing(rt: HostRuntime) -> Result<(), Fail> {
-    let alloc = rt.alloc();
-    let front = "void f(void) { par (int i = 0; i < 4294967295; i++) ; } int main(void) {";
-    for (rest, wanted) in [("}", "1 instances, 0 words"), ("f(); }", "509 at 1:61")] {
-        let text = format!(in alloc; "{front} {rest}")?;
-        assert_eq!(rt; verdict(alloc, text.as_str())?.as_str(), wanted, "{rest}");
-    }
+fn great_numbers_count_where_they_are_copied(rt: HostRuntime) -> Result<(), Fail> {
+    assert_eq!(rt; first_wrong(rt.alloc(), &GREAT_NUMBERS)?.as_str(), "");
     Ok(())
 }
 
