@@ -166,21 +166,34 @@ fn statements_are_limited(rt: HostRuntime) -> Result<(), Fail> {
     Ok(())
 }
 
-/// As many nodes as there may be, 40000 * 25 in 80002 statements; and with an initial value 40000 * 25 + 1.
-const COPIES_OF_NODES: [Row; 2] = [
-    (
-        "int main(void) { int y; par (int i = 0; i < 40000; i++) { int x = i+i+i+i+i+i+i+i+i+i+i+i+i; } }",
-        "1 instances, 40001 words",
-    ),
-    (
-        "int main(void) { int y = 1; par (int i = 0; i < 40000; i++) { int x = i+i+i+i+i+i+i+i+i+i+i+i+i; } }",
-        "509 at 1:5",
-    ),
-];
+/// A main that declares a name, and 8000 copies of a sum of 63 names.
+fn sums(alloc: Global, declared: &str) -> Result<String, AllocError> {
+    let mut text = format!(in alloc;
+        "int main(void) {{ {declared} par (int i = 0; i < 8000; i++) {{ int x = i"
+    )?;
+    for _ in 1..63 {
+        text.push_str(" + i")?;
+    }
+    text.push_str("; } }\n")?;
+    Ok(text)
+}
 
+/// As many nodes as there may be, 8000 * 125 in 16002 statements; and with an initial value one more.
 #[test]
 fn nodes_are_limited(rt: HostRuntime) -> Result<(), Fail> {
-    assert_eq!(rt; first_wrong(rt.alloc(), &COPIES_OF_NODES)?.as_str(), "");
+    let alloc = rt.alloc();
+    let rows = [
+        ("int y;", "1 instances, 8001 words"),
+        ("int y = 1;", "509 at 1:5"),
+    ];
+    for (declared, wanted) in rows {
+        let text = sums(alloc, declared)?;
+        assert_eq!(rt;
+            verdict(alloc, text.as_str())?.as_str(),
+            wanted,
+            "{declared}"
+        );
+    }
     Ok(())
 }
 
