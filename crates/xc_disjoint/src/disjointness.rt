@@ -93,8 +93,3 @@ fn at_main(kernel: &Kernel, rule: u16) -> Option<Broken>
         pos: kernel.main,
     })
 }
-
-#[cfg(test)]
-mod tests;
-#[cfg(test)]
-mod texts;

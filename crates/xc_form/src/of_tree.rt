@@ -208,6 +208,3 @@ pub fn number(value: &Expr) -> Option<u32>
         _ => None,
     }
 }
-
-#[cfg(test)]
-mod tests;
