@@ -33,7 +33,10 @@ fn a_function_has_200_blocks_one_in_the_other(rt: HostRuntime) -> Result<(), Fai
 /// What begins a statement of depth 200, and the rule that it breaks in the third line: 201 behind a text that has each of its
 /// nodes at that depth.
 const ROOMLESS: [(&str, &str); 26] = [
-    ("f(); p :> void; p :> int x; int x, y[3], z = f(); chan c; par { } select { case p :> void: break; } return; return f(); { }", "201 at 3:124"),
+    (
+        "f(); p :> void; p :> int x; int x, y[3], z = f(); chan c; par { } select { case p :> void: break; } return; return f(); { }",
+        "201 at 3:124",
+    ),
     ("{ ;", "202 at 3:3"),
     ("{ int", "202 at 3:3"),
     ("{ else", "201 at 3:3"),
@@ -175,8 +178,8 @@ const NODES: [(&str, &str, u32, u32); 9] = [
     ("x?", ":x", 200, 400),
     ("v[", "]", 200, 401),
     ("(x+", ")", 200, 600),
-    ("", "+x", 120_000, 400),
-    ("x?x:", "", 60_000, 798),
+    ("", "+x", 99_999, 400),
+    ("x?x:", "", 20_000, 798),
 ];
 
 #[test]
@@ -202,6 +205,12 @@ fn brackets_have_no_depth(rt: HostRuntime) -> Result<(), Fail> {
         shown(alloc, closed.as_str())?.as_str(),
         "on:1:1 7:130001 from 1 port p:3:10 = q:3:14"
     );
+    Ok(())
+}
+
+#[test]
+fn open_brackets_break_201_at_their_end(rt: HostRuntime) -> Result<(), Fail> {
+    let alloc = rt.alloc();
     let opening = repeated(alloc, "(", 262_000)?;
     let open = format!(in alloc; "on tile[\n{}", opening)?;
     assert_eq!(rt; refusal(alloc, open.as_str())?.as_str(), "201 at 2:262001");

@@ -8,12 +8,27 @@ use xc_parser::end_pos;
 const PROGRAMS: [(&str, &str); 8] = [
     ("", ""),
     ("port p = XS1_PORT_1A;", "port p:6 = XS1_PORT_1A:10"),
-    ("on stdcore[0] : out port p = q; on tile[(n) + 1] : in port r = s;", "on:1 0:12 from 12 out port p:26 = q:30; on:33 (+:45 n:42 1:47) from 41 in port r:60 = s:64"),
-    ("in port p = q; void f(void); int main() { }", "in port p:9 = q:13; int main:34/4 [41-43/2 block]"),
+    (
+        "on stdcore[0] : out port p = q; on tile[(n) + 1] : in port r = s;",
+        "on:1 0:12 from 12 out port p:26 = q:30; on:33 (+:45 n:42 1:47) from 41 in port r:60 = s:64",
+    ),
+    (
+        "in port p = q; void f(void); int main() { }",
+        "in port p:9 = q:13; int main:34/4 [41-43/2 block]",
+    ),
     ("void f(int x); unsigned f();", ""),
-    ("unsigned int f(int a, unsigned &b, int c[], unsigned int d[3], chanend e, in port p, port q) { }", "unsigned f:14/33 int a:20 unsigned & b:33 int[] c:40 unsigned[3:60] d:58 chanend e:72 in port p:83 port q:91 [94-96/2 block]"),
-    ("void f(out port p) { }", "void f:6/7 out port p:17 [20-22/2 block]"),
-    ("in port p = q;\nvoid f(void);\nint main(void) {\n  x = 1;\n}", "in port p:9 = q:13; int main:4:5/5 [4:16-6:1/2 block [5:3-5:8/4 x:5:3 =:5:5 1:5:7]]"),
+    (
+        "unsigned int f(int a, unsigned &b, int c[], unsigned int d[3], chanend e, in port p, port q) { }",
+        "unsigned f:14/33 int a:20 unsigned & b:33 int[] c:40 unsigned[3:60] d:58 chanend e:72 in port p:83 port q:91 [94-96/2 block]",
+    ),
+    (
+        "void f(out port p) { }",
+        "void f:6/7 out port p:17 [20-22/2 block]",
+    ),
+    (
+        "in port p = q;\nvoid f(void);\nint main(void) {\n  x = 1;\n}",
+        "in port p:9 = q:13; int main:4:5/5 [4:16-6:1/2 block [5:3-5:8/4 x:5:3 =:5:5 1:5:7]]",
+    ),
 ];
 
 #[test]
