@@ -30,8 +30,8 @@ fn a_function_has_200_blocks_one_in_the_other(rt: HostRuntime) -> Result<(), Fai
     Ok(())
 }
 
-/// What begins a statement of depth 200, and the rule that it breaks in the third line: 201 behind a text that has each of its
-/// nodes at that depth.
+/// What begins statements of depth 200, and the rule that it breaks in the third line: 201 at the end where no node is
+/// deeper.
 const ROOMLESS: [(&str, &str); 26] = [
     (
         "f(); p :> void; p :> int x; int x, y[3], z = f(); chan c; par { } select { case p :> void: break; } return; return f(); { }",
@@ -77,7 +77,7 @@ fn a_statement_of_depth_200_has_no_node_inside(rt: HostRuntime) -> Result<(), Fa
 
 /// How many nodes there is room for one below the other inside a statement, what begins it, and the rule that it breaks in
 /// the third line.
-const NARROW: [(u32, &str, &str); 25] = [
+const PARTS: [(u32, &str, &str); 26] = [
     (0, "if (x", "202 at 3:5"),
     (0, "while (x", "202 at 3:8"),
     (0, "do ;", "202 at 3:4"),
@@ -97,18 +97,19 @@ const NARROW: [(u32, &str, &str); 25] = [
     (0, "select { case x =>", "202 at 3:17"),
     (0, "select { case x +", "202 at 3:17"),
     (0, "select { case x;", "201 at 3:16"),
-    (0, "select { case 1", "202 at 3:15"),
     (0, "select { case (x", "202 at 3:16"),
     (0, "select { case p :> void: ;", "202 at 3:26"),
     (0, "select { case p :> void: break x", "201 at 3:32"),
     (0, "master { ;", "202 at 3:10"),
     (1, "x = y;", "201 at 3:7"),
+    (1, "v[1", "202 at 3:3"),
+    (1, "select { case x + 1", "202 at 3:17"),
 ];
 
 #[test]
 fn the_parts_of_a_statement_are_one_node_deeper(rt: HostRuntime) -> Result<(), Fail> {
     let alloc = rt.alloc();
-    for (room, text, wanted) in NARROW {
+    for (room, text, wanted) in PARTS {
         let whole = nested(alloc, 198u32.saturating_sub(room), text)?;
         let found = refusal(alloc, whole.as_str())?;
         assert_eq!(rt; found.as_str(), wanted, "{text}");
@@ -117,7 +118,7 @@ fn the_parts_of_a_statement_are_one_node_deeper(rt: HostRuntime) -> Result<(), F
 }
 
 /// The same where the test of an `if` is too deep, or is wrong first.
-const DEEP_VALUES: [(u32, &str, &str); 24] = [
+const OPERANDS: [(u32, &str, &str); 24] = [
     (0, "if (7", "202 at 3:5"),
     (0, "if (-x", "202 at 3:5"),
     (0, "if (((x", "202 at 3:7"),
@@ -147,7 +148,7 @@ const DEEP_VALUES: [(u32, &str, &str); 24] = [
 #[test]
 fn the_operands_of_an_operator_are_one_node_deeper(rt: HostRuntime) -> Result<(), Fail> {
     let alloc = rt.alloc();
-    for (room, text, wanted) in DEEP_VALUES {
+    for (room, text, wanted) in OPERANDS {
         let whole = nested(alloc, 198u32.saturating_sub(room), text)?;
         let found = refusal(alloc, whole.as_str())?;
         assert_eq!(rt; found.as_str(), wanted, "{text}");

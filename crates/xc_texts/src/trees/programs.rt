@@ -55,30 +55,35 @@ const CUT: [(&str, &[usize]); 2] = [
     ),
 ];
 
-/// Whether a text is a program; `None` if it is none and doesn't break 201 at its end, in its first line.
-fn is_program(alloc: Global, text: &str) -> Result<Option<bool>, AllocError> {
+/// What the first words of a program are.
+enum Cut {
+    Program,
+    /// What a program begins with, in one line: it breaks 201 at its end.
+    Begun,
+    Wrong,
+}
+
+fn cut(alloc: Global, text: &str) -> Result<Cut, AllocError> {
     let found = refusal(alloc, text)?;
     let begun = format!(in alloc; "201 at 1:{}", text.len().saturating_add(1))?;
     if found.as_str() == "a program" {
-        return Ok(Some(true));
+        return Ok(Cut::Program);
     }
-    Ok(if found.as_str() == begun.as_str() {
-        Some(false)
-    } else {
-        None
-    })
+    if found.as_str() == begun.as_str() {
+        return Ok(Cut::Begun);
+    }
+    Ok(Cut::Wrong)
 }
 
-/// The numbers of a text's first words that are a program. A number of words that are none and don't break 201 at their
-/// end stands there as `usize::MAX`.
+/// How many first words of a text are a program; nothing, not even 0, where some begin none.
 fn programs(alloc: Global, text: &str) -> Result<Vec<usize>, AllocError> {
     let mut counts = Vec::new(alloc);
     let mut begun = String::new(alloc);
     for (count, word) in text.split(' ').enumerate() {
-        match is_program(alloc, begun.as_str())? {
-            Some(true) => counts.push(count)?,
-            Some(false) => {}
-            None => counts.push(usize::MAX)?,
+        match cut(alloc, begun.as_str())? {
+            Cut::Program => counts.push(count)?,
+            Cut::Begun => {}
+            Cut::Wrong => return Ok(Vec::new(alloc)),
         }
         begun.push_str(word)?;
         begun.push_str(" ")?;

@@ -3,7 +3,7 @@ use std::process::Abort;
 use std::test::Fail;
 
 /// What begins no program, and the column of the first token or end with which it begins none.
-const BAD_PROGRAMS: [(&str, u32); 13] = [
+const WRONG_ITEMS: [(&str, u32); 13] = [
     ("void", 5),
     ("int main()", 11),
     ("int main() x", 12),
@@ -22,7 +22,7 @@ const BAD_PROGRAMS: [(&str, u32); 13] = [
 #[test]
 fn refuses_wrong_items(rt: HostRuntime) -> Result<(), Fail> {
     let alloc = rt.alloc();
-    for (text, col) in BAD_PROGRAMS {
+    for (text, col) in WRONG_ITEMS {
         let found = refusal(alloc, text)?;
         let wanted = format!(in alloc; "201 at 1:{}", col)?;
         assert_eq!(rt; found.as_str(), wanted.as_str(), "{text}");
@@ -31,7 +31,7 @@ fn refuses_wrong_items(rt: HostRuntime) -> Result<(), Fail> {
 }
 
 /// What begins no statement, and the column of the first token with which it begins none.
-const REFUSED: [(&str, u32); 26] = [
+const WRONG_STATEMENTS: [(&str, u32); 26] = [
     ("x;", 2),
     ("1;", 1),
     ("x + 1;", 3),
@@ -63,7 +63,7 @@ const REFUSED: [(&str, u32); 26] = [
 #[test]
 fn refuses_wrong_statements(rt: HostRuntime) -> Result<(), Fail> {
     let alloc = rt.alloc();
-    for (text, col) in REFUSED {
+    for (text, col) in WRONG_STATEMENTS {
         let whole = format!(in alloc; "void f() {{\n{}", text)?;
         let found = refusal(alloc, whole.as_str())?;
         let wanted = format!(in alloc; "201 at 2:{}", col)?;
@@ -73,7 +73,7 @@ fn refuses_wrong_statements(rt: HostRuntime) -> Result<(), Fail> {
 }
 
 /// What begins no assignment, and the column of the first token with which it begins none.
-const REFUSED_VALUES: [(&str, u32); 20] = [
+const WRONG_VALUES: [(&str, u32); 20] = [
     ("x = ;", 5),
     ("x = a + ;", 9),
     ("x = a + *b", 9),
@@ -99,7 +99,7 @@ const REFUSED_VALUES: [(&str, u32); 20] = [
 #[test]
 fn refuses_wrong_right_sides(rt: HostRuntime) -> Result<(), Fail> {
     let alloc = rt.alloc();
-    for (text, col) in REFUSED_VALUES {
+    for (text, col) in WRONG_VALUES {
         let whole = format!(in alloc; "void f() {{\n{}", text)?;
         let found = refusal(alloc, whole.as_str())?;
         let wanted = format!(in alloc; "201 at 2:{}", col)?;

@@ -9,7 +9,7 @@ fn shown_inside(alloc: Global, text: &str) -> Result<String, AllocError> {
     shown(alloc, whole.as_str())
 }
 
-/// Statements that hold none but in a block, and their trees.
+/// Statements, most of which hold no other, and their trees.
 const SIMPLE: [(&str, &str); 22] = [
     ("{;}", "[1-3/2 block [2-2/1 empty]]"),
     (
