@@ -75,8 +75,8 @@ fn a_statement_of_depth_200_has_no_node_inside(rt: HostRuntime) -> Result<(), Fa
     Ok(())
 }
 
-/// How many nodes there is room for one below the other inside a statement, what begins it, and the rule that it breaks in
-/// the third line.
+/// How many nodes there is room for one below the other inside a statement, what begins it, and the rule that it breaks
+/// in the third line.
 const PARTS: [(u32, &str, &str); 26] = [
     (0, "if (x", "202 at 3:5"),
     (0, "while (x", "202 at 3:8"),
@@ -169,8 +169,8 @@ fn placed(
     format!(in alloc; "on tile[\n{}{}{}\n] : port p = q;", first, middle, last)
 }
 
-/// What stands in front of an expression and behind it in a node above it, how many such nodes are too deep, and the first
-/// column with which they are.
+/// What stands in front of an expression and behind it in a node above it, how many such nodes are too deep, and the
+/// first column with which they are.
 const NODES: [(&str, &str, u32, u32); 9] = [
     ("", "+x", 200, 400),
     ("- ", "", 200, 401),

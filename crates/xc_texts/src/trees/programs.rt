@@ -42,8 +42,8 @@ fn reads_programs(rt: HostRuntime) -> Result<(), Fail> {
     Ok(())
 }
 
-/// A program of each kind of statement, and a serial transmitter, with a blank behind each token; and the numbers of tokens
-/// at which an item of theirs ends.
+/// A program of each kind of statement, and a serial transmitter, with a blank behind each token; and after how many
+/// tokens an item of theirs ends.
 const CUT: [(&str, &[usize]); 2] = [
     (
         "int f ( int a [ 3 ] , chanend c ) { unsigned x = a [ 1 ] , y [ 2 ] ; for ( int i = 0 ; i < 3 ; i ++ ) if ( i ) x += ( int ) a [ i ] ; else y [ i ] = - 1 ; par { on tile [ 0 ] : g ( x , 1 ) ; par ( int k = 0 ; k < 2 ; k ++ ) ; } select { case x ? 1 : 0 => c @ 5 :> int z @ x : z ++ ; break ; default : do ; while ( x ) ; break ; } master { c <: 4 ; } return f ( y , c ) ; } ",
