@@ -169,32 +169,40 @@ fn placed(
     format!(in alloc; "on tile[\n{}{}{}\n] : port p = q;", first, middle, last)
 }
 
-/// What stands in front of an expression and behind it in a node above it, how many such nodes are too deep, and the
-/// first column with which they are.
-const NODES: [(&str, &str, u32, u32); 9] = [
-    ("", "+x", 200, 400),
-    ("- ", "", 200, 401),
-    ("(int)", "", 200, 1001),
-    ("x?x:", "", 200, 798),
-    ("x?", ":x", 200, 400),
-    ("v[", "]", 200, 401),
-    ("(x+", ")", 200, 600),
-    ("", "+x", 99_999, 400),
-    ("x?x:", "", 20_000, 798),
+/// What stands in front of an expression and behind it in a node above it, and the first column with which 200 such nodes
+/// are too deep.
+const NODES: [(&str, &str, u32); 7] = [
+    ("", "+x", 400),
+    ("- ", "", 401),
+    ("(int)", "", 1001),
+    ("x?x:", "", 798),
+    ("x?", ":x", 400),
+    ("v[", "]", 401),
+    ("(x+", ")", 600),
 ];
 
 #[test]
 fn a_place_has_200_nodes_one_below_the_other(rt: HostRuntime) -> Result<(), Fail> {
     let alloc = rt.alloc();
-    for (first, last, count, col) in NODES {
+    for (first, last, col) in NODES {
         let fits = placed(alloc, first, "x", last, 199)?;
         let fits = shown(alloc, fits.as_str())?;
         assert!(rt; fits.as_str().starts_with("on:1:1 "), "{first} {last}");
-        let deep = placed(alloc, first, "x", last, count)?;
+        let deep = placed(alloc, first, "x", last, 200)?;
         let found = refusal(alloc, deep.as_str())?;
         let wanted = format!(in alloc; "202 at 2:{}", col)?;
         assert_eq!(rt; found.as_str(), wanted.as_str(), "{first} {last}");
     }
+    Ok(())
+}
+
+#[test]
+fn a_long_chain_breaks_202_where_it_is_too_deep(rt: HostRuntime) -> Result<(), Fail> {
+    let alloc = rt.alloc();
+    let sum = placed(alloc, "", "x", "+x", 99_999)?;
+    assert_eq!(rt; refusal(alloc, sum.as_str())?.as_str(), "202 at 2:400");
+    let choice = placed(alloc, "x?x:", "x", "", 20_000)?;
+    assert_eq!(rt; refusal(alloc, choice.as_str())?.as_str(), "202 at 2:798");
     Ok(())
 }
 

@@ -63,7 +63,7 @@ enum Cut {
     Wrong,
 }
 
-fn cut(alloc: Global, text: &str) -> Result<Cut, AllocError> {
+fn cut_of(alloc: Global, text: &str) -> Result<Cut, AllocError> {
     let found = refusal(alloc, text)?;
     let begun = format!(in alloc; "201 at 1:{}", text.len().saturating_add(1))?;
     if found.as_str() == "a program" {
@@ -80,7 +80,7 @@ fn programs(alloc: Global, text: &str) -> Result<Vec<usize>, AllocError> {
     let mut counts = Vec::new(alloc);
     let mut begun = String::new(alloc);
     for (count, word) in text.split(' ').enumerate() {
-        match cut(alloc, begun.as_str())? {
+        match cut_of(alloc, begun.as_str())? {
             Cut::Program => counts.push(count)?,
             Cut::Begun => {}
             Cut::Wrong => return Ok(Vec::new(alloc)),
