@@ -25,8 +25,6 @@ mod selects;
 mod statements;
 mod stop;
 mod terminals;
-#[cfg(test)]
-mod testing;
 mod tokens;
 mod transfers;
 mod values;

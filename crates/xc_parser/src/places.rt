@@ -20,6 +20,3 @@ pub fn end_pos(text: &[u8]) -> Pos
     }
     end
 }
-
-#[cfg(test)]
-mod tests;

@@ -148,6 +148,3 @@ impl<'a> Parser<'a> {
         begins_type(self.toks, at)
     }
 }
-
-#[cfg(test)]
-mod tests;

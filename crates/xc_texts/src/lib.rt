@@ -13,4 +13,6 @@ mod needs;
 #[cfg(test)]
 mod texts;
 #[cfg(test)]
+mod trees;
+#[cfg(test)]
 mod types;

@@ -1,3 +1,5 @@
+//! What the tests make of a text.
+
 ghost use Rattle.std.specs.Prelude.{IfSome};
 ghost use Rattle.xc_kernel.specs.Sound.{IsTyped};
 ghost use Rattle.xc_tree.specs.Programs.{IsParsed};
@@ -12,7 +14,7 @@ use xc_tree::{Tree, Typed};
 use xc_types::check;
 
 /// How many bytes and tokens a text of these tests has at most.
-const MOST: usize = 4_194_304;
+pub const MOST: usize = 4_194_304;
 
 /// The program that a text is with the types of its expressions, if it breaks no rule up to 508.
 pub fn typed(alloc: Global, text: &str) -> Option<Typed>

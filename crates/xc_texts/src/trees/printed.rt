@@ -1,78 +1,15 @@
-//! Tokens and trees as the tests write them.
+//! Trees as the tests write them.
 
 mod items;
 mod statements;
 
 pub use items::put_tree;
 use std::alloc::{AllocError, Global};
-use xc_tree::{Ex, Expr, Kind, Rhs, SYMBOLS, Tok, WORDS};
-use xw_words::{List, Pos};
+use xc_tree::{Ex, Expr, Rhs, SYMBOLS, WORDS};
+use xw_words::Pos;
 
-/// The place of some bytes in a list of spellings.
-fn place_in(spellings: &[&[u8]], bytes: &[u8]) -> Option<u8> {
-    let mut place = 0u8;
-    for spelling in spellings {
-        if *spelling == bytes {
-            return Some(place);
-        }
-        if place < 255 {
-            place += 1;
-        }
-    }
-    None
-}
-
-/// A decimal number, `unsigned` with a letter behind it.
-fn number(word: &[u8]) -> Kind {
-    let mut value = 0u32;
-    let mut is_unsigned = false;
-    for b in word {
-        if *b >= b'0' && *b <= b'9' {
-            value = value.wrapping_mul(10).wrapping_add((*b - b'0') as u32);
-        } else {
-            is_unsigned = true;
-        }
-    }
-    Kind::Num(value, is_unsigned)
-}
-
-/// What a word of a test is as a token: a number, a symbol, a word, and else a name.
-fn kind_of(alloc: Global, word: &[u8]) -> Result<Kind, AllocError> {
-    if word.len() > 0 && word[0] >= b'0' && word[0] <= b'9' {
-        return Ok(number(word));
-    }
-    if let Some(place) = place_in(&SYMBOLS, word) {
-        return Ok(Kind::Sym(place));
-    }
-    if let Some(place) = place_in(&WORDS, word) {
-        return Ok(Kind::Key(place));
-    }
-    let mut name = Vec::new(alloc);
-    for b in word {
-        name.push(*b)?;
-    }
-    Ok(Kind::Name(List::from_vec(name)))
-}
-
-/// The tokens of a text in which blanks part them, each in the column that is its number in its line, from 1 on. A `\n`
-/// between blanks ends a line.
-pub fn tokens(alloc: Global, text: &str) -> Result<List<Tok>, AllocError> {
-    let mut toks = Vec::new(alloc);
-    let mut pos = Pos { line: 1, col: 1 };
-    for word in text.split(' ') {
-        if word == "\n" {
-            pos = Pos {
-                line: pos.line.saturating_add(1),
-                col: 1,
-            };
-        } else if !word.is_empty() {
-            let kind = kind_of(alloc, word.as_bytes())?;
-            toks.push(Tok { kind, pos })?;
-            pos.col = pos.col.saturating_add(1);
-        }
-    }
-    Ok(List::from_vec(toks))
-}
+/// The line that the texts of the tables stand in.
+const OWN_LINE: u32 = 2;
 
 pub fn put(shown: &mut String, bytes: &[u8]) -> Result<(), AllocError> {
     for b in bytes {
@@ -96,10 +33,19 @@ pub fn put_number(alloc: Global, shown: &mut String, n: u32) -> Result<(), Alloc
     shown.push_str(digits.as_str())
 }
 
-/// A column behind a `:`.
+/// A place: its column, and in front of that its line where it isn't the one of the tables' texts.
 pub fn put_pos(alloc: Global, shown: &mut String, pos: Pos) -> Result<(), AllocError> {
-    shown.push_str(":")?;
+    if pos.line != OWN_LINE {
+        put_number(alloc, shown, pos.line)?;
+        shown.push_str(":")?;
+    }
     put_number(alloc, shown, pos.col)
+}
+
+/// A place behind a `:`.
+pub fn put_at(alloc: Global, shown: &mut String, pos: Pos) -> Result<(), AllocError> {
+    shown.push_str(":")?;
+    put_pos(alloc, shown, pos)
 }
 
 pub fn type_word(is_unsigned: bool) -> &'static str {
@@ -115,7 +61,7 @@ fn put_open(
 ) -> Result<(), AllocError> {
     shown.push_str("(")?;
     put(shown, operator)?;
-    put_pos(alloc, shown, pos)
+    put_at(alloc, shown, pos)
 }
 
 #[cycle(put_expr)]
@@ -124,18 +70,18 @@ fn put_operand(alloc: Global, shown: &mut String, e: &Expr) -> Result<(), AllocE
     put_expr(alloc, shown, e)
 }
 
-/// An expression: a name or number as `x:column`, and else `(operator:column operand ..)`.
+/// An expression: a name or number as `x:place`, and else `(operator:place operand ..)`.
 #[cycle(put_expr)]
 pub fn put_expr(alloc: Global, shown: &mut String, e: &Expr) -> Result<(), AllocError> {
     match &e.kind {
         Ex::Num(n, is_unsigned) => {
             put_number(alloc, shown, *n)?;
             shown.push_str(if *is_unsigned { "u" } else { "" })?;
-            return put_pos(alloc, shown, e.pos);
+            return put_at(alloc, shown, e.pos);
         }
         Ex::Name(t) => {
             put(shown, t.as_slice())?;
-            return put_pos(alloc, shown, e.pos);
+            return put_at(alloc, shown, e.pos);
         }
         Ex::Index(t, i) => {
             put_open(alloc, shown, b"[", e.pos)?;
@@ -166,18 +112,18 @@ pub fn put_expr(alloc: Global, shown: &mut String, e: &Expr) -> Result<(), Alloc
     shown.push_str(")")
 }
 
-/// A right side: an expression, or a call as `name:column(arguments)`, each argument with the column of its first token.
+/// A right side: an expression, or a call as `name:place(arguments)`, each argument with the place of its first token.
 pub fn put_rhs(alloc: Global, shown: &mut String, right: &Rhs) -> Result<(), AllocError> {
     match right {
         Rhs::Value(e) => put_expr(alloc, shown, e),
         Rhs::Call { name, pos, args } => {
             put(shown, name.as_slice())?;
-            put_pos(alloc, shown, *pos)?;
+            put_at(alloc, shown, *pos)?;
             shown.push_str("(")?;
             for arg in args.as_slice() {
                 put_expr(alloc, shown, &arg.value)?;
                 shown.push_str(" from ")?;
-                put_number(alloc, shown, arg.first.col)?;
+                put_pos(alloc, shown, arg.first)?;
                 shown.push_str(", ")?;
             }
             shown.push_str(")")

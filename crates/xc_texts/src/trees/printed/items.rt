@@ -1,11 +1,11 @@
 use super::statements::{put_place, put_statement};
-use super::{put, put_number, put_pos, type_word};
+use super::{put, put_at, put_number, type_word};
 use std::alloc::{AllocError, Global};
 use xc_tree::{FuncItem, Id, Item, Param, ParamKind, PortItem, Tree, TreeDir};
 
 pub fn put_id(alloc: Global, shown: &mut String, id: &Id) -> Result<(), AllocError> {
     put(shown, id.text.as_slice())?;
-    put_pos(alloc, shown, id.pos)
+    put_at(alloc, shown, id.pos)
 }
 
 fn put_dir(shown: &mut String, dir: TreeDir) -> Result<(), AllocError> {
@@ -28,7 +28,7 @@ fn put_param(alloc: Global, shown: &mut String, param: &Param) -> Result<(), All
             shown.push_str("[")?;
             if let Some((n, pos)) = length {
                 put_number(alloc, shown, *n)?;
-                put_pos(alloc, shown, *pos)?;
+                put_at(alloc, shown, *pos)?;
             }
             shown.push_str("]")?;
         }
@@ -54,7 +54,7 @@ fn put_port(alloc: Global, shown: &mut String, port: &PortItem) -> Result<(), Al
     put_id(alloc, shown, &port.ident)
 }
 
-/// A function as `result name:column/own parameters block`.
+/// A function as `result name:place/own parameters block`.
 fn put_function(alloc: Global, shown: &mut String, function: &FuncItem) -> Result<(), AllocError> {
     shown.push_str(match function.result {
         None => "void",

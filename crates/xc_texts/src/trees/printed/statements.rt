@@ -1,5 +1,5 @@
 use super::items::put_id;
-use super::{put, put_expr, put_number, put_pos, put_rhs, symbol, type_word, word};
+use super::{put, put_at, put_expr, put_number, put_pos, put_rhs, symbol, type_word, word};
 use std::alloc::{AllocError, Global};
 use xc_tree::{At, Branch, Case, DeclKind, Declared, Dest, Expr, Head, Rhs, Send, St, Stmt, Timed};
 use xw_words::List;
@@ -15,7 +15,7 @@ fn put_timed(
         None => Ok(()),
         Some(t) => {
             shown.push_str(name)?;
-            put_pos(alloc, shown, t.at)?;
+            put_at(alloc, shown, t.at)?;
             shown.push_str(" ")?;
             put_expr(alloc, shown, &t.value)
         }
@@ -25,7 +25,7 @@ fn put_timed(
 fn put_output(alloc: Global, shown: &mut String, output: &Send) -> Result<(), AllocError> {
     shown.push_str("output ")?;
     put(shown, output.name.as_slice())?;
-    put_pos(alloc, shown, output.pos)?;
+    put_at(alloc, shown, output.pos)?;
     put_timed(alloc, shown, " time", &output.time)?;
     shown.push_str(" ")?;
     put_expr(alloc, shown, &output.value)?;
@@ -40,7 +40,7 @@ fn put_dest(alloc: Global, shown: &mut String, dest: &Dest) -> Result<(), AllocE
             shown.push_str(type_word(*is_unsigned))?;
             shown.push_str(" ")?;
             put(shown, name.as_slice())?;
-            put_pos(alloc, shown, *pos)
+            put_at(alloc, shown, *pos)
         }
     }
 }
@@ -48,11 +48,11 @@ fn put_dest(alloc: Global, shown: &mut String, dest: &Dest) -> Result<(), AllocE
 fn put_input(alloc: Global, shown: &mut String, input: &Head) -> Result<(), AllocError> {
     shown.push_str("input ")?;
     put(shown, input.name.as_slice())?;
-    put_pos(alloc, shown, input.pos)?;
+    put_at(alloc, shown, input.pos)?;
     put_timed(alloc, shown, " time", &input.time)?;
     if let Some(when) = &input.cond {
         shown.push_str(" when")?;
-        put_pos(alloc, shown, when.at)?;
+        put_at(alloc, shown, when.at)?;
         shown.push_str(" ")?;
         put(shown, word(when.test))?;
         shown.push_str(" ")?;
@@ -81,24 +81,24 @@ fn put_declared(alloc: Global, shown: &mut String, declared: &Declared) -> Resul
         DeclKind::Array(_, length, pos) => {
             shown.push_str("[")?;
             put_number(alloc, shown, *length)?;
-            put_pos(alloc, shown, *pos)?;
+            put_at(alloc, shown, *pos)?;
             shown.push_str("]")
         }
         DeclKind::Word(_, None) | DeclKind::Chan(_) | DeclKind::Timer => Ok(()),
     }
 }
 
-/// A place, if there is one: the column of its `on`, its expression, and the column of that one's first token.
+/// A place, if there is one: the place of its `on`, its expression, and the place of that one's first token.
 pub fn put_place(alloc: Global, shown: &mut String, place: &Option<At>) -> Result<(), AllocError> {
     match place {
         None => Ok(()),
         Some(p) => {
             shown.push_str("on")?;
-            put_pos(alloc, shown, p.on)?;
+            put_at(alloc, shown, p.on)?;
             shown.push_str(" ")?;
             put_expr(alloc, shown, &p.value)?;
             shown.push_str(" from ")?;
-            put_number(alloc, shown, p.first.col)?;
+            put_pos(alloc, shown, p.first)?;
             shown.push_str(" ")
         }
     }
@@ -114,7 +114,7 @@ fn put_branch(alloc: Global, shown: &mut String, branch: &Branch) -> Result<(), 
 #[cycle(put_statement)]
 fn put_case(alloc: Global, shown: &mut String, case: &Case) -> Result<(), AllocError> {
     shown.push_str(" case")?;
-    put_pos(alloc, shown, case.pos)?;
+    put_at(alloc, shown, case.pos)?;
     if let Some(guard) = &case.guard {
         shown.push_str(" if ")?;
         put_expr(alloc, shown, guard)?;
@@ -130,9 +130,9 @@ fn put_case(alloc: Global, shown: &mut String, case: &Case) -> Result<(), AllocE
 #[cycle(put_statement)]
 pub fn put_statement(alloc: Global, shown: &mut String, s: &Stmt) -> Result<(), AllocError> {
     shown.push_str("[")?;
-    put_number(alloc, shown, s.pos.col)?;
+    put_pos(alloc, shown, s.pos)?;
     shown.push_str("-")?;
-    put_number(alloc, shown, s.close.col)?;
+    put_pos(alloc, shown, s.close)?;
     shown.push_str("/")?;
     put_number(alloc, shown, s.own)?;
     shown.push_str(" ")?;
@@ -253,7 +253,7 @@ fn put_leaf(alloc: Global, shown: &mut String, action: &St) -> Result<(), AllocE
             put_expr(alloc, shown, l)?;
             shown.push_str(" ")?;
             put(shown, symbol(*o))?;
-            put_pos(alloc, shown, *pos)?;
+            put_at(alloc, shown, *pos)?;
             shown.push_str(" ")?;
             put_rhs(alloc, shown, r)
         }
