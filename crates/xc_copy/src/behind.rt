@@ -2,7 +2,7 @@
 //! out of line: a chain of calls holds the frames of all its steps at once, so they are to be small.
 #![tactic(auto)]
 
-ghost use Rattle.std.specs.Prelude.{◌≡◌, IfOk, option_map};
+ghost use Rattle.std.specs.Prelude.{◌≡◌, IfOk, OnOk, option_map};
 ghost use Rattle.xc_tree.specs.Trees as tree;
 ghost use Rattle.xc_kernel.specs.Calls as calls;
 ghost use Rattle.xc_kernel.specs.Context as contexts;
@@ -28,6 +28,7 @@ use crate::paths::same_path;
 use crate::scope::Scope;
 use crate::transfers::Received;
 use std::alloc::Global;
+use std::mem;
 use xc_kernel::{Kst, Kx};
 use xc_tree::{Case, Expr, FuncItem, Rhs};
 use xw_words::{List, Memory};
@@ -146,25 +147,28 @@ impl<'p, 'a> Context<'p, 'a> {
     /// One more case behind others, by what came of it before its body, and by its body, which is a block of this path. The one
     /// error is want of memory.
     #[inline(never)]
-    pub fn case_behind(
+    pub fn add_case(
         &self,
         alloc: Global,
         path: List<u32>,
         opened: Option<Opened>,
         body: Copied,
-        before: Cased,
-    ) -> Result<Cased, Memory>
-        ensures { IfOk result (λ r. (between behind : Names) (others : flow.Cased) → cased_before r others ≡ cased_before before (case_by opened between (calls.as_block (context_of self.now) path (copy_of body behind)) others)) }
+        cases: &mut Cased,
+    ) -> Result<(), Memory>
+        ensures { OnOk result ((between behind : Names) (others : flow.Cased) → cased_before cases.new others ≡ cased_before cases.old (case_by opened between (calls.as_block (context_of self.now) path (copy_of body behind)) others)) }
     {
         let block = self.as_block(alloc, path, body)?;
+        let before = mem::replace(cases, Cased::none(alloc));
         match opened {
             None => {
-                let cases = before.and_default(alloc, block)?;
-                Ok(cases)
+                let more = before.and_default(alloc, block)?;
+                *cases = more;
+                Ok(())
             }
             Some(opened) => {
-                let cases = before.and_case(alloc, opened.guard, opened.received, block)?;
-                Ok(cases)
+                let more = before.and_case(alloc, opened.guard, opened.received, block)?;
+                *cases = more;
+                Ok(())
             }
         }
     }

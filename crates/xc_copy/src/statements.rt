@@ -1,4 +1,4 @@
-ghost use Rattle.std.specs.Prelude.{◌≡◌, ◌≤◌, ◌-◌, IfOk, map, option_map};
+ghost use Rattle.std.specs.Prelude.{◌≡◌, ◌≤◌, ◌-◌, IfOk, OnOk, map, option_map};
 ghost use Rattle.xc_tree.specs.Trees as tree;
 ghost use Rattle.xc_tree.specs.Plain as plain;
 ghost use Rattle.xc_kernel.specs.Calls as calls_spec;
@@ -507,14 +507,14 @@ impl<'p, 'a> Context<'p, 'a> {
         let known = scope.len();
         let mut cases = Cased::none(alloc);
         for case in cs {
-            cases = self.case(alloc, calls, case, cases, scope)?;
+            self.case(alloc, calls, case, &mut cases, scope)?;
             scope.leave(known);
         }
         let copied = cases.as_select(alloc, pos)?;
         Ok(copied)
     }
 
-    /// One more case, or the `default`, behind others.
+    /// One more case, or the `default`, behind others. The one error is want of memory.
     #[inline(never)]
     #[cycle(statement)]
     fn case(
@@ -522,19 +522,19 @@ impl<'p, 'a> Context<'p, 'a> {
         alloc: Global,
         calls: usize,
         case: &'a Case,
-        before: Cased,
+        cases: &mut Cased,
         scope: &mut Scope<'a>,
-    ) -> Result<Cased, Memory>
-        ensures cases { IfOk result (λ r. (others : flow.Cased) → cased_before r others ≡ cased_before before (spec.case_copy (spec.calls_copy calls) (tree.case_of case.now) (context_of self.now) (scope_of scope.old) others)) }
-        ensures names { IfOk result (λ r. Grows (scope_of scope.old) (scope_of scope.new)) }
+    ) -> Result<(), Memory>
+        ensures cases { OnOk result ((others : flow.Cased) → cased_before cases.new others ≡ cased_before cases.old (spec.case_copy (spec.calls_copy calls) (tree.case_of case.now) (context_of self.now) (scope_of scope.old) others)) }
+        ensures names { OnOk result (Grows (scope_of scope.old) (scope_of scope.new)) }
     {
         let path = path_at(alloc, self.path, case.pos)?;
         let opened = self.opened(alloc, case, scope)?;
         let body = (&*self)
             .in_case(path.as_slice())
             .statements(alloc, calls, case.body.as_slice(), scope)?;
-        let cases = self.case_behind(alloc, path, opened, body, before)?;
-        Ok(cases)
+        self.add_case(alloc, path, opened, body, cases)?;
+        Ok(())
     }
 
     /// The copy of a transaction, on the one channel that its communications name.

@@ -694,7 +694,7 @@ select-loop-case-init t c =
     }
 
 pub select-leave-requires : goal.select-leave-requires
-select-leave-requires t c = grown_fits (grown_from c.loop-case.invariant.scope c.in_ok-cases.ensures.names) c.len-known.ensures
+select-leave-requires t c = grown_fits (grown_from c.loop-case.invariant.scope c.in_ok-case.ensures.names) c.len-known.ensures
 
 pub select-loop-case-preserved : goal.select-loop-case-preserved
 select-loop-case-preserved t c =
@@ -703,9 +703,9 @@ select-loop-case-preserved t c =
     let x = c.case-item.result in
     let inv = c.loop-case.invariant in
     record {
-      scope = left_as (grown_from inv.scope c.in_ok-cases.ensures.names) c.len-known.ensures c.leave.ensures;
-      cases = cases_more copies' here c.args.cs.now c.loop-case.case-index x c.case-item.is c.loop-case-test.true (scope_of c.args.scope.now) c.loop-case.cases c.in_ok-cases.cases
-          (λ others. c.in_ok-cases.ensures.cases others ∙ ap (λ s. cased_before c.loop-case.cases (spec.case_copy copies' (tree.case_of x) here s others)) inv.scope)
+      scope = left_as (grown_from inv.scope c.in_ok-case.ensures.names) c.len-known.ensures c.leave.ensures;
+      cases = cases_more copies' here c.args.cs.now c.loop-case.case-index x c.case-item.is c.loop-case-test.true (scope_of c.args.scope.now) c.loop-case.cases c.case.new.cases
+          (λ others. c.in_ok-case.ensures.cases others ∙ ap (λ s. cased_before c.loop-case.cases (spec.case_copy copies' (tree.case_of x) here s others)) inv.scope)
           inv.cases;
     }
 
@@ -723,9 +723,9 @@ select-case-requires t c =
 
 pub case-returns-clause-cases : goal.case-returns-clause-cases
 case-returns-clause-cases t c =
-    case_done (spec.calls_copy c.args.calls) (context_of c.args.self.now) (scope_of c.args.scope.now) c.args.case.now c.in_ok-opened.opened c.args.before c.in_ok-cases.cases
+    case_done (spec.calls_copy c.args.calls) (context_of c.args.self.now) (scope_of c.args.scope.now) c.args.case.now c.in_ok-opened.opened c.args.cases.now c.add_case.new.cases
     c.in_ok-path.ensures c.as_slice.ensures c.in_case.ensures.context c.as_slice-2.ensures c.in_ok-opened.ensures.names c.in_ok-opened.ensures.head
-    c.in_ok-body.ensures (c.in_ok-cases.ensures (scope_of c.opened.new.scope) (scope_of c.statements.new.scope))
+    c.in_ok-body.ensures (c.in_ok-add_case.ensures (scope_of c.opened.new.scope) (scope_of c.statements.new.scope))
 
 pub case-returns-clause-names : goal.case-returns-clause-names
 case-returns-clause-names t c =
