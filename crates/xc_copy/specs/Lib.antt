@@ -11,5 +11,6 @@ pub mod Handed
 pub mod Words
 pub mod Growth
 pub mod Parts
+pub mod Cases
 pub mod Roots
 pub mod Ports

@@ -8,6 +8,7 @@ ghost use Rattle.xc_copy.specs.Copied.{copy_of};
 
 use std::alloc::Global;
 use std::collections::VecDeque;
+use std::mem;
 use xc_kernel::{Chan, Inst, Kst, Timer, Var};
 use xw_words::{List, Memory};
 
@@ -71,6 +72,7 @@ impl Copied {
     }
 
     /// The copy followed by another. The one error is want of memory.
+    #[inline(never)]
     pub fn followed_by(self, other: Copied) -> Result<Copied, Memory>
         ensures { IfOk result (λ both. (before after : Names) → copy_of both after ≡ spec.joined (copy_of self before) (copy_of other after)) }
     {
@@ -135,7 +137,19 @@ impl Copied {
         }
     }
 
+    /// Another copy behind this one, in place. The one error is want of memory.
+    #[inline(never)]
+    pub fn join(&mut self, alloc: Global, other: Copied) -> Result<(), Memory>
+        ensures { OnOk result ((before after : Names) → copy_of self.new after ≡ spec.joined (copy_of self.old before) (copy_of other after)) }
+    {
+        let first = mem::replace(self, Copied::nothing(alloc));
+        let both = first.followed_by(other)?;
+        *self = both;
+        Ok(())
+    }
+
     /// A call's channels aren't named by the caller.
+    #[inline(never)]
     pub fn naming_none(self, alloc: Global) -> Copied
         ensures { (behind : Names) → copy_of result behind ≡ naming_none (copy_of self behind) }
     {
@@ -159,7 +173,7 @@ impl Copied {
         ensures code { (scope : Names) → map statement_of result ≡ (copy_of self.old scope).code }
         ensures left { (scope : Names) → copy_of self.new scope ≡ spec.with_code (copy_of self.old scope) [] }
     {
-        let code = std::mem::replace(&mut self.code, VecDeque::new(alloc));
+        let code = mem::replace(&mut self.code, VecDeque::new(alloc));
         List::from_vec(Vec::from(code))
     }
 }

@@ -31,6 +31,7 @@ use xw_words::{List, Memory, Pos};
 
 impl<'p, 'a> Context<'p, 'a> {
     /// The copy of an array that a name at a place declares. The one error is want of memory.
+    #[inline(never)]
     pub fn array(
         &self,
         alloc: Global,
@@ -50,6 +51,7 @@ impl<'p, 'a> Context<'p, 'a> {
     }
 
     /// The copy of a channel that a name at a place declares. The one error is want of memory.
+    #[inline(never)]
     pub fn channel(
         &self,
         alloc: Global,
@@ -73,6 +75,7 @@ impl<'p, 'a> Context<'p, 'a> {
     }
 
     /// The copy of a timer that a name at a place declares. The one error is want of memory.
+    #[inline(never)]
     pub fn timer(
         &self,
         alloc: Global,
@@ -95,6 +98,7 @@ impl<'p, 'a> Context<'p, 'a> {
     }
 
     /// What a right side stands for once its call, if it is one, is done. The one error is want of memory.
+    #[inline(never)]
     pub fn value(&self, alloc: Global, right: &Rhs, scope: &Scope<'a>) -> Result<Kx, Memory>
         ensures { IfOk result (λ e. kernel.expression_of e ≡ calls.value_of (context_of self.now) (scope_of scope.now) (tree.right_of right.now)) }
     {
@@ -103,6 +107,7 @@ impl<'p, 'a> Context<'p, 'a> {
     }
 
     /// The same, and whether it is an `unsigned` word. The one error is want of memory.
+    #[inline(never)]
     #[tactic(auto, using(crate::proofs::Laws::Expressions::words))]
     pub fn typed(&self, alloc: Global, right: &Rhs, scope: &Scope<'a>) -> Result<Typed, Memory>
         ensures value { IfOk result (λ t. kernel.expression_of t.value ≡ calls.value_of (context_of self.now) (scope_of scope.now) (tree.right_of right.now)) }
@@ -134,6 +139,7 @@ impl<'p, 'a> Context<'p, 'a> {
     }
 
     /// The copy of an assignment by an operator. The one error is want of memory.
+    #[inline(never)]
     pub fn update(
         &self,
         alloc: Global,
@@ -152,6 +158,7 @@ impl<'p, 'a> Context<'p, 'a> {
     }
 
     /// The copy of a step by 1. The one error is want of memory.
+    #[inline(never)]
     pub fn step(
         &self,
         alloc: Global,
@@ -171,6 +178,7 @@ impl<'p, 'a> Context<'p, 'a> {
     }
 
     /// An instance of a function, on the core of the call. The one error is want of memory, or of numbers for 2^32 parameters.
+    #[inline(never)]
     pub fn instance(&self, alloc: Global, function: &FuncItem) -> Result<Copied, Memory>
         ensures { IfOk result (λ copied. (behind : Names) → copy_of copied behind ≡ calls.instance_of (context_of self.now) (function_of function.now) behind) }
     {
@@ -187,6 +195,7 @@ impl<'p, 'a> Context<'p, 'a> {
     }
 
     /// The word of a function's result becomes 0, where it has one. The one error is want of memory.
+    #[inline(never)]
     pub fn zeroed_result(
         &self,
         alloc: Global,
@@ -214,6 +223,7 @@ impl<'p, 'a> Context<'p, 'a> {
     }
 
     /// The test of a `for`, which holds for ever where there is none. The one error is want of memory.
+    #[inline(never)]
     #[tactic(auto, using(crate::proofs::Laws::Expressions::words))]
     pub fn test_or_true(
         &self,
@@ -230,6 +240,7 @@ impl<'p, 'a> Context<'p, 'a> {
     }
 
     /// The guard of a case, if it has one. The one error is want of memory.
+    #[inline(never)]
     #[tactic(auto, using(crate::proofs::Laws::Expressions::words))]
     pub fn guard(
         &self,
@@ -246,6 +257,7 @@ impl<'p, 'a> Context<'p, 'a> {
     }
 
     /// The paths of a loop whose word stands at a place. The one error is want of memory.
+    #[inline(never)]
     pub fn loop_paths(&self, alloc: Global, pos: Pos) -> Result<LoopPaths, Memory>
         ensures whole { IfOk result (λ r. r.whole ≡ paths.path_at self.now.path.now pos) }
         ensures turn { IfOk result (λ r. r.turn ≡ paths.path_of_turn (paths.path_at self.now.path.now pos)) }

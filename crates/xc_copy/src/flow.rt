@@ -22,6 +22,7 @@ use xw_words::{List, Memory, Pos};
 
 impl<'p, 'a> Context<'p, 'a> {
     /// The statements of a copy as the block of this path. The one error is want of memory.
+    #[inline(never)]
     #[tactic(auto)]
     pub fn as_block(
         &self,
@@ -46,6 +47,7 @@ impl<'p, 'a> Context<'p, 'a> {
 
     /// A loop of this path: its body in a block that `continue` leaves, what else is done in each turn, and what follows each.
     /// The one error is want of memory.
+    #[inline(never)]
     #[tactic(auto)]
     pub fn loop_at(
         &self,
@@ -88,6 +90,7 @@ impl<'p, 'a> Context<'p, 'a> {
     }
 
     /// The copy of a statement that leaves the block of this path. The one error is want of memory.
+    #[inline(never)]
     pub fn leaves(&self, alloc: Global, path: &[u32], scope: &Scope<'a>) -> Result<Copied, Memory>
         ensures { IfOk result (λ copied. copy_of copied (scope_of scope.now) ≡ copies.one_statement (scope_of scope.now) (contexts.leave (context_of self.now) path.now)) }
     {
@@ -96,6 +99,7 @@ impl<'p, 'a> Context<'p, 'a> {
     }
 
     /// The block of this path is left where the test is 0. The one error is want of memory.
+    #[inline(never)]
     pub fn leave_unless(&self, alloc: Global, path: &[u32], test: Kx) -> Result<Kst, Memory>
         ensures { IfOk result (λ statement. kernel.statement_of statement ≡ spec.leave_unless (context_of self.now) path.now (kernel.expression_of test)) }
     {
@@ -111,6 +115,7 @@ pub struct LoopPaths {
 }
 
 /// What is done where the test holds, and where not. The one error is want of memory.
+#[inline(never)]
 #[tactic(auto)]
 pub fn if_copy(
     alloc: Global,

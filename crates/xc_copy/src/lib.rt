@@ -1,6 +1,7 @@
 //! From the tree of a program to its kernel: each call is replaced by the called function's body over instances of its own.
 #![tactic(auto)]
 
+mod behind;
 mod context;
 mod copied;
 mod declarations;

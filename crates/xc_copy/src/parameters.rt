@@ -39,6 +39,7 @@ pub struct Entered<'a> {
 impl<'p, 'a> Context<'p, 'a> {
     /// All arguments of a call, from left to right; a function knows the ports and its parameters. The one error is want of
     /// memory.
+    #[inline(never)]
     #[tactic(auto)]
     pub fn all_passed(
         &self,

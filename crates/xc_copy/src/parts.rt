@@ -32,6 +32,7 @@ impl Branched {
     }
 
     /// One more branch behind the others, whose statement begins at a place. The one error is want of memory.
+    #[inline(never)]
     pub fn and(self, alloc: Global, pos: Pos, mut copied: Copied) -> Result<Branched, Memory>
         ensures { IfOk result (λ r. (behind : Names) (others : spec.Branched) → branched_before r others ≡ branched_before self (spec.and_branch pos (copy_of copied behind) others)) }
     {
@@ -45,6 +46,7 @@ impl Branched {
     }
 
     /// A `par` of the branches. The one error is want of memory.
+    #[inline(never)]
     pub fn as_par(self, alloc: Global) -> Result<Copied, Memory>
         ensures { IfOk result (λ copied. (behind : Names) → copy_of copied behind ≡ spec.par_copy (branched_before self (spec.no_branches behind))) }
     {
@@ -75,6 +77,7 @@ impl Cased {
     }
 
     /// One more case behind the others. The one error is want of memory.
+    #[inline(never)]
     pub fn and_case(
         self,
         alloc: Global,
@@ -101,6 +104,7 @@ impl Cased {
     }
 
     /// A `default` behind the others, which counts where none was before. The one error is want of memory.
+    #[inline(never)]
     pub fn and_default(self, alloc: Global, mut block: Copied) -> Result<Cased, Memory>
         ensures { IfOk result (λ r. (behind : Names) (others : spec.Cased) → cased_before r others ≡ cased_before self (record { made = copies.joined (copies.with_code (copy_of block behind) []) others.made; cases = others.cases; otherwise = plain.default (copies.code_of (copy_of block behind)) })) }
     {
@@ -118,6 +122,7 @@ impl Cased {
     }
 
     /// A `select` of the cases, whose word stands at a place. The one error is want of memory.
+    #[inline(never)]
     pub fn as_select(self, alloc: Global, pos: Pos) -> Result<Copied, Memory>
         ensures { IfOk result (λ copied. (behind : Names) → copy_of copied behind ≡ spec.select_copy behind pos (cased_before self (spec.no_cases behind))) }
     {

@@ -1,4 +1,4 @@
-ghost use Rattle.std.specs.Prelude.{◌≡◌, ◌≤◌, ◌-◌, IfOk, map, option_map};
+ghost use Rattle.std.specs.Prelude.{◌≡◌, ◌≤◌, ◌-◌, IfOk, OnOk, map, option_map};
 ghost use Rattle.xc_tree.specs.Trees as tree;
 ghost use Rattle.xc_tree.specs.Plain as plain;
 ghost use Rattle.xc_kernel.specs.Calls as calls_spec;
@@ -18,10 +18,10 @@ ghost use Rattle.xc_copy.specs.Scopes.{scope_of};
 
 use crate::context::Context;
 use crate::copied::Copied;
-use crate::expressions::{Typed, place, updated, word};
+use crate::expressions::word;
 use crate::flow::{LoopPaths, if_copy};
 use crate::parts::{Branched, Cased};
-use crate::paths::{path_at, path_of_branch, same_path};
+use crate::paths::{path_at, path_of_branch};
 use crate::scope::{Entity, Scope};
 use std::alloc::Global;
 use xc_kernel::{Kst, Kx};
@@ -80,6 +80,7 @@ impl<'p, 'a> Context<'p, 'a> {
     }
 
     /// The copy of a statement that may be absent.
+    #[inline(never)]
     #[cycle(statement)]
     fn maybe(
         &self,
@@ -110,12 +111,13 @@ impl<'p, 'a> Context<'p, 'a> {
         let mut copied = Copied::nothing(alloc);
         for s in ss {
             let next = self.statement(alloc, calls, s, scope)?;
-            copied = copied.followed_by(next)?;
+            copied.join(alloc, next)?;
         }
         Ok(copied)
     }
 
     /// The copy of a block, which is a scope.
+    #[inline(never)]
     #[cycle(statement)]
     fn block(
         &self,
@@ -133,6 +135,7 @@ impl<'p, 'a> Context<'p, 'a> {
     }
 
     /// The copy of declared names, one behind the other.
+    #[inline(never)]
     #[cycle(statement)]
     pub fn declarations(
         &self,
@@ -146,12 +149,13 @@ impl<'p, 'a> Context<'p, 'a> {
         let mut copied = Copied::nothing(alloc);
         for d in ds {
             let next = self.declaration(alloc, calls, d, scope)?;
-            copied = copied.followed_by(next)?;
+            copied.join(alloc, next)?;
         }
         Ok(copied)
     }
 
     /// The copy of one declared name.
+    #[inline(never)]
     #[cycle(statement)]
     fn declaration(
         &self,
@@ -180,6 +184,7 @@ impl<'p, 'a> Context<'p, 'a> {
     }
 
     /// The variable that a name at a place declares becomes 0, or its initialiser's value is stored.
+    #[inline(never)]
     #[cycle(statement)]
     fn initial(
         &self,
@@ -199,15 +204,14 @@ impl<'p, 'a> Context<'p, 'a> {
             }
             Some(right) => {
                 let called = self.right(alloc, calls, right, scope)?;
-                let value = self.value(alloc, right, scope)?;
-                let stored = Copied::one_statement(alloc, self.set_word(path.as_slice(), value))?;
-                let copied = called.followed_by(stored)?;
+                let copied = self.stored_behind(alloc, called, path.as_slice(), right, scope)?;
                 Ok(copied)
             }
         }
     }
 
     /// The copy of an assignment by `=`, or by an operator.
+    #[inline(never)]
     #[cycle(statement)]
     fn assign(
         &self,
@@ -226,14 +230,12 @@ impl<'p, 'a> Context<'p, 'a> {
             return self.update(alloc, to, symbol, pos, value, scope);
         }
         let called = self.right(alloc, calls, right, scope)?;
-        let value = self.value(alloc, right, scope)?;
-        let place = place(alloc, self.numbers, scope, to)?;
-        let stored = Copied::one_statement(alloc, Kst::Set(place, value))?;
-        let copied = called.followed_by(stored)?;
+        let copied = self.assigned_behind(alloc, called, to, right, scope)?;
         Ok(copied)
     }
 
     /// The copy of `return`: the value is stored in the result, and the body is left.
+    #[inline(never)]
     #[cycle(statement)]
     fn return_with(
         &self,
@@ -244,21 +246,21 @@ impl<'p, 'a> Context<'p, 'a> {
     ) -> Result<Copied, Memory>
         ensures { IfOk result (λ copied. copy_of copied (scope_of scope.now) ≡ spec.return_copy (spec.calls_copy calls) (context_of self.now) (scope_of scope.now) (option_map tree.right_of right.now)) }
     {
-        let left = self.leaves(alloc, self.returns, scope)?;
         match right {
-            None => Ok(left),
+            None => {
+                let left = self.leaves(alloc, self.returns, scope)?;
+                Ok(left)
+            }
             Some(right) => {
                 let called = self.right(alloc, calls, right, scope)?;
-                let value = self.value(alloc, right, scope)?;
-                let stored = Copied::one_statement(alloc, self.set_word(self.result, value))?;
-                let behind = stored.followed_by(left)?;
-                let copied = called.followed_by(behind)?;
+                let copied = self.returned_behind(alloc, called, right, scope)?;
                 Ok(copied)
             }
         }
     }
 
     /// The copy of the call that a right side is, if it is one.
+    #[inline(never)]
     #[cycle(statement)]
     fn right(
         &self,
@@ -281,6 +283,7 @@ impl<'p, 'a> Context<'p, 'a> {
     }
 
     /// The copy of a call whose function's name stands at a place.
+    #[inline(never)]
     #[cycle(statement)]
     fn call(
         &self,
@@ -302,6 +305,7 @@ impl<'p, 'a> Context<'p, 'a> {
     }
 
     /// The copy of a function's instance of this path: its result, its parameters, and its body.
+    #[inline(never)]
     #[cycle(statement)]
     pub fn function(
         &self,
@@ -316,20 +320,23 @@ impl<'p, 'a> Context<'p, 'a> {
         ensures { IfOk result (λ copied. copy_of copied (scope_of scope.now) ≡ calls_spec.function_copy (spec.statement_copy (spec.calls_copy calls)) (context_of self.now) (scope_of scope.now) own.now (function_of function.now) (map tree.argument_of args.now)) }
     {
         let result = path_at(alloc, own, function.name.pos)?;
-        let made = self.instance(alloc, function)?;
-        let zeroed = self.zeroed_result(alloc, result.as_slice(), function)?;
         let mut entered = self.all_passed(alloc, scope, own, function.params.as_slice(), args)?;
         let body = (&*self)
             .in_function(own, result.as_slice())
             .statement(alloc, calls, &function.body, &mut entered.scope)?;
-        let block = self.as_block(alloc, same_path(alloc, own)?, body)?;
-        let inside = entered.copied.followed_by(block)?;
-        let behind = zeroed.followed_by(inside)?;
-        let copied = made.followed_by(behind)?;
-        Ok(copied.naming_none(alloc))
+        let copied = self.around_body(
+            alloc,
+            own,
+            result.as_slice(),
+            function,
+            entered.copied,
+            body,
+        )?;
+        Ok(copied)
     }
 
     /// The copy of `if`.
+    #[inline(never)]
     #[cycle(statement)]
     fn choice(
         &self,
@@ -350,6 +357,7 @@ impl<'p, 'a> Context<'p, 'a> {
     }
 
     /// The copy of `while`, whose word stands at a place.
+    #[inline(never)]
     #[cycle(statement)]
     fn while_loop(
         &self,
@@ -373,6 +381,7 @@ impl<'p, 'a> Context<'p, 'a> {
     }
 
     /// The copy of `do`, whose word stands at a place.
+    #[inline(never)]
     #[cycle(statement)]
     fn do_while(
         &self,
@@ -397,6 +406,7 @@ impl<'p, 'a> Context<'p, 'a> {
     }
 
     /// The copy of `for`, whose word stands at a place, and which is a scope.
+    #[inline(never)]
     #[cycle(statement)]
     fn for_loop(
         &self,
@@ -428,6 +438,7 @@ impl<'p, 'a> Context<'p, 'a> {
     }
 
     /// The copy of a `par`.
+    #[inline(never)]
     #[cycle(statement)]
     fn par(
         &self,
@@ -451,6 +462,7 @@ impl<'p, 'a> Context<'p, 'a> {
     }
 
     /// The copy of a replicated `par`: of its branch for each number, in which a name stands for the number.
+    #[inline(never)]
     #[cycle(statement)]
     fn replicated(
         &self,
@@ -480,6 +492,7 @@ impl<'p, 'a> Context<'p, 'a> {
     }
 
     /// The copy of a `select`, each of whose cases is a scope.
+    #[inline(never)]
     #[cycle(statement)]
     fn select(
         &self,
@@ -494,50 +507,38 @@ impl<'p, 'a> Context<'p, 'a> {
         let known = scope.len();
         let mut cases = Cased::none(alloc);
         for case in cs {
-            cases = self.case(alloc, calls, case, cases, scope)?;
+            self.case(alloc, calls, case, &mut cases, scope)?;
             scope.leave(known);
         }
         let copied = cases.as_select(alloc, pos)?;
         Ok(copied)
     }
 
-    /// One more case, or the `default`, behind others.
+    /// One more case, or the `default`, behind others. The one error is want of memory.
+    #[inline(never)]
     #[cycle(statement)]
     fn case(
         &self,
         alloc: Global,
         calls: usize,
         case: &'a Case,
-        before: Cased,
+        cases: &mut Cased,
         scope: &mut Scope<'a>,
-    ) -> Result<Cased, Memory>
-        ensures cases { IfOk result (λ r. (others : flow.Cased) → cased_before r others ≡ cased_before before (spec.case_copy (spec.calls_copy calls) (tree.case_of case.now) (context_of self.now) (scope_of scope.old) others)) }
-        ensures names { IfOk result (λ r. Grows (scope_of scope.old) (scope_of scope.new)) }
+    ) -> Result<(), Memory>
+        ensures cases { OnOk result ((others : flow.Cased) → cased_before cases.new others ≡ cased_before cases.old (spec.case_copy (spec.calls_copy calls) (tree.case_of case.now) (context_of self.now) (scope_of scope.old) others)) }
+        ensures names { OnOk result (Grows (scope_of scope.old) (scope_of scope.new)) }
     {
         let path = path_at(alloc, self.path, case.pos)?;
-        match &case.head {
-            None => {
-                let body = (&*self)
-                    .in_case(path.as_slice())
-                    .statements(alloc, calls, case.body.as_slice(), scope)?;
-                let block = self.as_block(alloc, path, body)?;
-                let cases = before.and_default(alloc, block)?;
-                Ok(cases)
-            }
-            Some(head) => {
-                let guard = self.guard(alloc, &case.guard, scope)?;
-                let received = self.received(alloc, scope, head)?;
-                let body = (&*self)
-                    .in_case(path.as_slice())
-                    .statements(alloc, calls, case.body.as_slice(), scope)?;
-                let block = self.as_block(alloc, path, body)?;
-                let cases = before.and_case(alloc, guard, received, block)?;
-                Ok(cases)
-            }
-        }
+        let opened = self.opened(alloc, case, scope)?;
+        let body = (&*self)
+            .in_case(path.as_slice())
+            .statements(alloc, calls, case.body.as_slice(), scope)?;
+        self.add_case(alloc, path, opened, body, cases)?;
+        Ok(())
     }
 
     /// The copy of a transaction, on the one channel that its communications name.
+    #[inline(never)]
     #[cycle(statement)]
     fn transaction(
         &self,

@@ -39,6 +39,7 @@ struct Target {
 
 impl<'p, 'a> Context<'p, 'a> {
     /// The copy of an output, with its channel named. The one error is want of memory.
+    #[inline(never)]
     #[tactic(auto)]
     pub fn output(&self, alloc: Global, scope: &Scope<'a>, o: &Send) -> Result<Copied, Memory>
         ensures { IfOk result (λ copied. copy_of copied (scope_of scope.now) ≡ spec.output_copy (context_of self.now) (scope_of scope.now) (tree.output_of o.now)) }
@@ -61,6 +62,7 @@ impl<'p, 'a> Context<'p, 'a> {
     }
 
     /// The copy of an input, with its channel named and its name declared. The one error is want of memory.
+    #[inline(never)]
     #[tactic(auto)]
     pub fn input(&self, alloc: Global, scope: &mut Scope<'a>, i: &'a Head) -> Result<Copied, Memory>
         ensures { IfOk result (λ copied. copy_of copied (scope_of scope.new) ≡ spec.input_copy (context_of self.now) (scope_of scope.old) (tree.input_of i.now)) }
@@ -72,6 +74,7 @@ impl<'p, 'a> Context<'p, 'a> {
     }
 
     /// The kernel's input, and what it declares and names. The one error is want of memory.
+    #[inline(never)]
     #[tactic(auto)]
     pub fn received(
         &self,

@@ -9,15 +9,15 @@ use Rattle.xc_tree.specs.declared.tree.Stmt.{Stmt}
 use Rattle.xc_tree.specs.Plain as tree
 use Rattle.xc_tree.specs.Trees as trees
 use Rattle.xc_kernel.specs.Calls.{CopiesCall, as_block}
-use Rattle.xc_kernel.specs.Context.{Context, in_case, maybe_expression}
-use Rattle.xc_kernel.specs.Copy.{Copy, joined, with_code, code_of}
+use Rattle.xc_kernel.specs.Context.{Context, in_case}
+use Rattle.xc_kernel.specs.Copy.{Copy}
 use Rattle.xc_kernel.specs.Flow as flow
 use Rattle.xc_kernel.specs.Paths.{Path, path_at}
-use Rattle.xc_kernel.specs.Plain as kernel
 use Rattle.xc_kernel.specs.Scopes.{Scope, Entity, with_name}
 use Rattle.xc_kernel.specs.Statements.{statement_copy, statements_copy, case_copy, calls_copy}
-use Rattle.xc_kernel.specs.Transfers.{input_of, input_names}
+use Rattle.xc_copy.specs.declared.behind.Opened.{Opened}
 use Rattle.xc_copy.specs.declared.parts.Cased.{Cased}
+use Rattle.xc_copy.specs.Cases.{case_by}
 use Rattle.xc_copy.specs.Growth.{Grows}
 use Rattle.xc_copy.specs.Heights.{height, height_of_statements, height_of_branch, height_of_branches, height_of_case, height_of_cases}
 use Rattle.xc_copy.specs.Parts.{cased_before}
@@ -81,31 +81,22 @@ module _ (copies : CopiesCall) (c : Context) (scope : Scope) (x : Case) where
       ap (λ y. case_copy copies y c scope others) (case-Case x)
       ∙ ap (λ h. flow.and_case c scope (out-Case x).pos (option_map trees.expression_of (out-Case x).guard) (option_map trees.input_of h) (statements_copy copies (tree.statements (map trees.statement_of (out-Case x).body)) (in_case c (out-Case x).pos) (flow.case_scope c scope (option_map trees.input_of h))) others) e
 
-  -- a `default`
-  pub default_done : {path slice : Path} {inner : Context} {ss : List Stmt} {body block : Copy} (before after : Cased) →
-      (out-Case x).head ≡ None → path ≡ path_at c.path (out-Case x).pos → slice ≡ path → inner ≡ record c { breaks = slice } → ss ≡ (out-Case x).body →
-      body ≡ statements_copy copies (tree.statements (map trees.statement_of ss)) inner scope → block ≡ as_block c path body →
-      ((others : flow.Cased) → cased_before after others ≡ cased_before before (record { made = joined (with_code block []) others.made; cases = others.cases; otherwise = kernel.default (code_of block) })) →
+  -- a case, or the `default`, by what came of it before its body
+  pub case_done : {path slice : Path} {inner : Context} {mid : Scope} {ss : List Stmt} {body : Copy} (opened : Option Opened) (before after : Cased) →
+      path ≡ path_at c.path (out-Case x).pos → slice ≡ path → inner ≡ record c { breaks = slice } → ss ≡ (out-Case x).body →
+      mid ≡ flow.case_scope c scope (option_map trees.input_of (out-Case x).head) →
+      ((whole : Copy) (others : flow.Cased) → case_by opened mid (as_block c (path_at c.path (out-Case x).pos) whole) others ≡ flow.and_case c scope (out-Case x).pos (option_map trees.expression_of (out-Case x).guard) (option_map trees.input_of (out-Case x).head) whole others) →
+      body ≡ statements_copy copies (tree.statements (map trees.statement_of ss)) inner mid →
+      ((others : flow.Cased) → cased_before after others ≡ cased_before before (case_by opened mid (as_block c path body) others)) →
       (others : flow.Cased) → cased_before after others ≡ cased_before before (case_copy copies (trees.case_of x) c scope others)
-  default_done before after head path slice inner ss body block made others =
+  case_done {mid = mid} {body = body} opened before after path slice inner ss known by body' made others =
+      let pos = (out-Case x).pos in
+      let head = option_map trees.input_of (out-Case x).head in
+      let guard = option_map trees.expression_of (out-Case x).guard in
       let here = inner ∙ ap (λ p. record c { breaks = p }) (slice ∙ path) in
-      let body = body ∙ λ i. statements_copy copies (tree.statements (map trees.statement_of (ss i))) (here i) scope in
-      let block = block ∙ λ i. as_block c (path i) (body i) in
+      let whole = body' ∙ λ i. statements_copy copies (tree.statements (map trees.statement_of (ss i))) (here i) (known i) in
       made others
-      ∙ (λ i. cased_before before (record { made = joined (with_code (block i) []) others.made; cases = others.cases; otherwise = kernel.default (code_of (block i)) }))
-      ∙ sym (ap (cased_before before) (case_as head others))
-
-  -- a case that receives
-  pub case_done : {path slice : Path} {inner : Context} {ss : List Stmt} {names body block : Copy} {guard : Option kernel.Expression} {input : kernel.Input} (head : Head) (before after : Cased) →
-      (out-Case x).head ≡ Some head → path ≡ path_at c.path (out-Case x).pos → slice ≡ path → inner ≡ record c { breaks = slice } → ss ≡ (out-Case x).body →
-      guard ≡ maybe_expression c scope (option_map trees.expression_of (out-Case x).guard) → input ≡ input_of c scope (trees.input_of head) → names ≡ input_names c scope (trees.input_of head) →
-      body ≡ statements_copy copies (tree.statements (map trees.statement_of ss)) inner names.scope → block ≡ as_block c path body →
-      ((others : flow.Cased) → cased_before after others ≡ cased_before before (record { made = joined (joined names (with_code block [])) others.made; cases = kernel.more_cases (kernel.case guard input (code_of block)) others.cases; otherwise = others.otherwise })) →
-      (others : flow.Cased) → cased_before after others ≡ cased_before before (case_copy copies (trees.case_of x) c scope others)
-  case_done head before after is path slice inner ss guard input names body block made others =
-      let here = inner ∙ ap (λ p. record c { breaks = p }) (slice ∙ path) in
-      let body = body ∙ λ i. statements_copy copies (tree.statements (map trees.statement_of (ss i))) (here i) (names i).scope in
-      let block = block ∙ λ i. as_block c (path i) (body i) in
-      made others
-      ∙ (λ i. cased_before before (record { made = joined (joined (names i) (with_code (block i) [])) others.made; cases = kernel.more_cases (kernel.case (guard i) (input i) (code_of (block i))) others.cases; otherwise = others.otherwise }))
-      ∙ sym (ap (cased_before before) (case_as is others))
+      ∙ ap (λ p. cased_before before (case_by opened mid (as_block c p body) others)) path
+      ∙ ap (cased_before before) (by body others)
+      ∙ ap (λ b. cased_before before (flow.and_case c scope pos guard head b others)) whole
+      ∙ sym (ap (cased_before before) (case_as refl others))

@@ -30,7 +30,7 @@ use Rattle.xc_copy.proofs.Laws.Pieces.{if_done, while_done, do_done, for_done, s
 use Rattle.xc_copy.proofs.Laws.Depths.{down, enters_below}
 use Rattle.xc_kernel.specs.Scopes as scopes
 use Rattle.xc_copy.specs.Parts.{branched_before, cased_before}
-use Rattle.xc_copy.proofs.Laws.Loops.{statement_below, branch_below, branches_below, case_below, body_below, grown_from, numbered_grows, default_done, case_done}
+use Rattle.xc_copy.proofs.Laws.Loops.{statement_below, branch_below, branches_below, case_below, body_below, grown_from, numbered_grows, case_done}
 use Rattle.xc_copy.proofs.Laws.Walks.{statements_more, statements_all, declarations_more, declarations_all, branches_more, branches_all, cases_more, cases_all, numbered_begun, numbered_more, numbered_all}
 use Rattle.xc_copy.proofs.context.Context.+statement.Goals as goal
 
@@ -276,10 +276,9 @@ initial-returns t c =
     let scope = scope_of c.args.scope.now in
     let path = path_at here.path c.args.pos in
     let copies' = spec.calls_copy c.args.calls in
-    let right = tree.right_of c.in-Some.right in
-    let stored = c.set_word.ensures ∙ λ i. contexts.set_word here ((c.as_slice-in-Some.ensures ∙ c.in_ok-path.ensures) i) (c.in_ok-value-in-Some.ensures i) in
-    c.in_ok-copied-in-Some.ensures scope scope
-    ∙ (λ i. copies.joined (c.in_ok-called-in-Some.ensures i) ((c.in_ok-stored-in-Some.ensures scope ∙ ap (copies.one_statement scope) stored) i))
+    let value = calls_spec.value_of here scope (tree.right_of c.in-Some.right) in
+    c.in_ok-copied-in-Some.ensures scope
+    ∙ (λ i. copies.joined (c.in_ok-called-in-Some.ensures i) (copies.one_statement scope (contexts.set_word here ((c.as_slice-in-Some.ensures ∙ c.in_ok-path.ensures) i) value)))
     ∙ ap (λ r. declarations.initial_copy copies' here path (option_map tree.right_of r) scope) (sym c.in-Some.is)
 
 pub initial-right-requires : goal.initial-right-requires
@@ -306,29 +305,25 @@ assign-returns t c =
     let right = tree.right_of c.args.right.now in
     let copies' = spec.calls_copy c.args.calls in
     let same : nat_eq c.args.symbol 22 ≡ true = ap (λ s. nat_eq s 22) c.if-symbol-ne-EQUALS.false in
-    set_done copies' here scope to right c.in_ok-called.ensures
-    (statement-Set c.in_ok-place.place c.in_ok-value-2.value ∙ λ i. kernel_plain.set (c.in_ok-place.ensures i) (c.in_ok-value-2.ensures i))
-    (c.in_ok-stored.ensures scope) (c.in_ok-copied.ensures scope scope)
+    set_done copies' here scope to right c.in_ok-called.ensures refl refl (c.in_ok-copied.ensures scope)
     ∙ ap (spec.assign_by copies' here scope to c.args.symbol c.args.pos right) (sym same)
 
 pub assign-right-requires : goal.assign-right-requires
 assign-right-requires t c =
     (down c.args.calls (deepest c.args.self.now.functions.now.all.items) (deepest c.args.self.now.functions.now.all.items) 0 4 0 3 c.decreases refl (omega arith), tt)
 
-pub return_with-returns-in-None : goal.return_with-returns-in-None
-return_with-returns-in-None t c =
+pub return_with-returns-in_ok-left-in-None : goal.return_with-returns-in_ok-left-in-None
+return_with-returns-in_ok-left-in-None t c =
     let here = context_of c.args.self.now in
     let scope = scope_of c.args.scope.now in
-    c.in_ok-left.ensures ∙ ap (λ r. spec.return_copy (spec.calls_copy c.args.calls) here scope (option_map tree.right_of r)) (sym c.in-None.is)
+    c.in_ok-left-in-None.ensures ∙ ap (λ r. spec.return_copy (spec.calls_copy c.args.calls) here scope (option_map tree.right_of r)) (sym c.in-None.is)
 
 pub return_with-returns-in_ok-copied-in-Some : goal.return_with-returns-in_ok-copied-in-Some
 return_with-returns-in_ok-copied-in-Some t c =
     let here = context_of c.args.self.now in
     let scope = scope_of c.args.scope.now in
     let copies' = spec.calls_copy c.args.calls in
-    return_done copies' here scope (tree.right_of c.in-Some.right) c.in_ok-called-in-Some.ensures
-    (c.set_word.ensures ∙ ap (contexts.set_word here here.result) c.in_ok-value-in-Some.ensures) (c.in_ok-stored-in-Some.ensures scope) refl c.in_ok-left.ensures
-    (c.in_ok-behind-in-Some.ensures scope scope) (c.in_ok-copied-in-Some.ensures scope scope)
+    return_done copies' here scope (tree.right_of c.in-Some.right) c.in_ok-called-in-Some.ensures refl refl refl refl refl (c.in_ok-copied-in-Some.ensures scope)
     ∙ ap (λ r. spec.return_copy copies' here scope (option_map tree.right_of r)) (sym c.in-Some.is)
 
 pub return_with-right-requires : goal.return_with-right-requires
@@ -405,14 +400,13 @@ function-returns t c =
     let entered = scope_of c.in_ok-entered.entered.scope in
     let inner = scope_of c.statement.new.scope in
     let result = c.in_ok-result.ensures in
-    let around = c.in_function.ensures.context ∙ λ i. record here { path = own; result = (c.as_slice-3.ensures ∙ result) i; returns = own } in
+    let around = c.in_function.ensures.context ∙ λ i. record here { path = own; result = (c.as_slice-2.ensures ∙ result) i; returns = own } in
     function_done copies' here scope own f args
-    (c.in_ok-made.ensures scope)
-    (c.in_ok-zeroed.ensures scope ∙ ap (λ p. calls_spec.result_copy here p f.head.name.pos scope f.head.result) (c.as_slice.ensures ∙ result))
-    (c.in_ok-entered.ensures ∙ ap (λ ps. parameters.all_passed here scope own ps args) c.as_slice-2.ensures)
+    refl
+    (ap (λ p. calls_spec.result_copy here p f.head.name.pos scope f.head.result) (c.as_slice-3.ensures ∙ result))
+    (c.in_ok-entered.ensures ∙ ap (λ ps. parameters.all_passed here scope own ps args) c.as_slice.ensures)
     (c.in_ok-body.ensures ∙ ap (λ x. copies' f.body x entered) around)
-    (c.in_ok-block.ensures inner ∙ ap (λ p. calls_spec.as_block here p (copy_of c.in_ok-body.body inner)) c.in_ok-same_path.ensures)
-    (c.in_ok-inside.ensures entered inner) (c.in_ok-behind.ensures scope inner) (c.in_ok-copied.ensures scope inner) (c.naming_none.ensures scope)
+    refl refl refl refl (c.in_ok-copied.ensures entered inner scope)
 
 pub function-statement-requires : goal.function-statement-requires
 function-statement-requires t c =
@@ -568,7 +562,7 @@ statements-loop-s-init t c =
 pub statements-loop-s-preserved : goal.statements-loop-s-preserved
 statements-loop-s-preserved t c =
     statements_more (spec.calls_copy c.args.calls) (context_of c.args.self.now) c.args.ss.now c.loop-s.s-index c.s-item.result c.s-item.is c.loop-s-test.true
-    (copy_of c.loop-s.copied (scope_of c.loop-s.scope)) c.in_ok-next.ensures (c.in_ok-copied.ensures (scope_of c.loop-s.scope) (scope_of c.statement.new.scope)) c.loop-s.invariant
+    (copy_of c.loop-s.copied (scope_of c.loop-s.scope)) c.in_ok-next.ensures (c.in_ok-join.ensures (scope_of c.loop-s.scope) (scope_of c.statement.new.scope)) c.loop-s.invariant
 
 pub statements-returns : goal.statements-returns
 statements-returns t c =
@@ -587,7 +581,7 @@ declarations-loop-d-init t c =
 pub declarations-loop-d-preserved : goal.declarations-loop-d-preserved
 declarations-loop-d-preserved t c =
     declarations_more (spec.calls_copy c.args.calls) (context_of c.args.self.now) c.args.ds.now c.loop-d.d-index c.d-item.result c.d-item.is c.loop-d-test.true
-    (copy_of c.loop-d.copied (scope_of c.loop-d.scope)) c.in_ok-next.ensures (c.in_ok-copied.ensures (scope_of c.loop-d.scope) (scope_of c.declaration.new.scope)) c.loop-d.invariant
+    (copy_of c.loop-d.copied (scope_of c.loop-d.scope)) c.in_ok-next.ensures (c.in_ok-join.ensures (scope_of c.loop-d.scope) (scope_of c.declaration.new.scope)) c.loop-d.invariant
 
 pub declarations-returns : goal.declarations-returns
 declarations-returns t c =
@@ -700,7 +694,7 @@ select-loop-case-init t c =
     }
 
 pub select-leave-requires : goal.select-leave-requires
-select-leave-requires t c = grown_fits (grown_from c.loop-case.invariant.scope c.in_ok-cases.ensures.names) c.len-known.ensures
+select-leave-requires t c = grown_fits (grown_from c.loop-case.invariant.scope c.in_ok-case.ensures.names) c.len-known.ensures
 
 pub select-loop-case-preserved : goal.select-loop-case-preserved
 select-loop-case-preserved t c =
@@ -709,9 +703,9 @@ select-loop-case-preserved t c =
     let x = c.case-item.result in
     let inv = c.loop-case.invariant in
     record {
-      scope = left_as (grown_from inv.scope c.in_ok-cases.ensures.names) c.len-known.ensures c.leave.ensures;
-      cases = cases_more copies' here c.args.cs.now c.loop-case.case-index x c.case-item.is c.loop-case-test.true (scope_of c.args.scope.now) c.loop-case.cases c.in_ok-cases.cases
-          (λ others. c.in_ok-cases.ensures.cases others ∙ ap (λ s. cased_before c.loop-case.cases (spec.case_copy copies' (tree.case_of x) here s others)) inv.scope)
+      scope = left_as (grown_from inv.scope c.in_ok-case.ensures.names) c.len-known.ensures c.leave.ensures;
+      cases = cases_more copies' here c.args.cs.now c.loop-case.case-index x c.case-item.is c.loop-case-test.true (scope_of c.args.scope.now) c.loop-case.cases c.case.new.cases
+          (λ others. c.in_ok-case.ensures.cases others ∙ ap (λ s. cased_before c.loop-case.cases (spec.case_copy copies' (tree.case_of x) here s others)) inv.scope)
           inv.cases;
     }
 
@@ -727,46 +721,21 @@ pub select-case-requires : goal.select-case-requires
 select-case-requires t c =
     (case_below c.args.calls (deepest c.args.self.now.functions.now.all.items) c.args.cs.now c.loop-case.case-index c.case-item.result c.decreases c.case-item.is c.loop-case-test.true, tt)
 
-pub case-returns-in_ok-cases-in-None-clause-cases : goal.case-returns-in_ok-cases-in-None-clause-cases
-case-returns-in_ok-cases-in-None-clause-cases t c =
-    let after = scope_of c.statements.new.scope in
-    default_done (spec.calls_copy c.args.calls) (context_of c.args.self.now) (scope_of c.args.scope.now) c.args.case.now c.args.before c.in_ok-cases-in-None.cases
-    c.in-None.is c.in_ok-path.ensures c.as_slice.ensures c.in_case.ensures.context c.as_slice-in-None.ensures c.in_ok-body-in-None.ensures (c.in_ok-block-in-None.ensures after) (c.in_ok-cases-in-None.ensures after)
+pub case-returns-clause-cases : goal.case-returns-clause-cases
+case-returns-clause-cases t c =
+    case_done (spec.calls_copy c.args.calls) (context_of c.args.self.now) (scope_of c.args.scope.now) c.args.case.now c.in_ok-opened.opened c.args.cases.now c.add_case.new.cases
+    c.in_ok-path.ensures c.as_slice.ensures c.in_case.ensures.context c.as_slice-2.ensures c.in_ok-opened.ensures.names c.in_ok-opened.ensures.head
+    c.in_ok-body.ensures (c.in_ok-add_case.ensures (scope_of c.opened.new.scope) (scope_of c.statements.new.scope))
 
-pub case-returns-in_ok-cases-in-None-clause-names : goal.case-returns-in_ok-cases-in-None-clause-names
-case-returns-in_ok-cases-in-None-clause-names t c =
-    let ss = plain.statements (map tree.statement_of c.as_slice-in-None.result.now) in
-    let scope = scope_of c.args.scope.now in
-    grown_by scope c.in_ok-body-in-None.ensures (statements_grow (spec.calls_copy c.args.calls) (calls_keep c.args.calls) ss (context_of c.in_case.result) scope)
-
-pub case-returns-in_ok-cases-in-Some-clause-cases : goal.case-returns-in_ok-cases-in-Some-clause-cases
-case-returns-in_ok-cases-in-Some-clause-cases t c =
-    let after = scope_of c.statements-in-Some.new.scope in
-    case_done (spec.calls_copy c.args.calls) (context_of c.args.self.now) (scope_of c.args.scope.now) c.args.case.now c.in-Some.head c.args.before c.in_ok-cases-in-Some.cases
-    c.in-Some.is c.in_ok-path.ensures c.as_slice-in-Some.ensures c.in_case-in-Some.ensures.context c.as_slice-in-Some-2.ensures c.in_ok-guard-in-Some.ensures c.in_ok-received-in-Some.ensures.head c.in_ok-received-in-Some.ensures.names
-    c.in_ok-body-in-Some.ensures (c.in_ok-block-in-Some.ensures after) (c.in_ok-cases-in-Some.ensures (scope_of c.received.new.scope) after)
-
-pub case-returns-in_ok-cases-in-Some-clause-names : goal.case-returns-in_ok-cases-in-Some-clause-names
-case-returns-in_ok-cases-in-Some-clause-names t c =
-    let here = context_of c.args.self.now in
-    let copies' = spec.calls_copy c.args.calls in
-    let keep = calls_keep c.args.calls in
-    let ss = plain.statements (map tree.statement_of c.as_slice-in-Some-2.result.now) in
-    let scope = scope_of c.args.scope.now in
-    let inner = scope_of c.received.new.scope in
-    further (grown_by scope c.in_ok-received-in-Some.ensures.names (target_grows copies' keep here scope (tree.input_of c.in-Some.head).target))
-    (grown_by inner c.in_ok-body-in-Some.ensures (statements_grow copies' keep ss (context_of c.in_case-in-Some.result) inner))
+pub case-returns-clause-names : goal.case-returns-clause-names
+case-returns-clause-names t c =
+    let ss = plain.statements (map tree.statement_of c.as_slice-2.result.now) in
+    let inner = scope_of c.opened.new.scope in
+    further c.in_ok-opened.ensures.grows (grown_by inner c.in_ok-body.ensures (statements_grow (spec.calls_copy c.args.calls) (calls_keep c.args.calls) ss (context_of c.in_case.result) inner))
 
 pub case-statements-requires : goal.case-statements-requires
 case-statements-requires t c = (
-  body_below c.args.calls (deepest c.args.self.now.functions.now.all.items) (deepest c.in_case.result.functions.now.all.items) c.args.case.now c.as_slice-in-None.result.now
-      c.decreases (ap (λ f. deepest f.now.all.items) c.in_case.ensures.functions) c.as_slice-in-None.ensures,
-  tt,
-)
-
-pub case-statements-requires-in-Some : goal.case-statements-requires-in-Some
-case-statements-requires-in-Some t c = (
-  body_below c.args.calls (deepest c.args.self.now.functions.now.all.items) (deepest c.in_case-in-Some.result.functions.now.all.items) c.args.case.now c.as_slice-in-Some-2.result.now
-      c.decreases (ap (λ f. deepest f.now.all.items) c.in_case-in-Some.ensures.functions) c.as_slice-in-Some-2.ensures,
+  body_below c.args.calls (deepest c.args.self.now.functions.now.all.items) (deepest c.in_case.result.functions.now.all.items) c.args.case.now c.as_slice-2.result.now
+      c.decreases (ap (λ f. deepest f.now.all.items) c.in_case.ensures.functions) c.as_slice-2.ensures,
   tt,
 )

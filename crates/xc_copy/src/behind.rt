@@ -1,0 +1,175 @@
+//! What is put together with a copy once the walk has come back with it. None of this is a step of the walk, and each stands
+//! out of line: a chain of calls holds the frames of all its steps at once, so they are to be small.
+#![tactic(auto)]
+
+ghost use Rattle.std.specs.Prelude.{◌≡◌, IfOk, OnOk, option_map};
+ghost use Rattle.xc_tree.specs.Trees as tree;
+ghost use Rattle.xc_kernel.specs.Calls as calls;
+ghost use Rattle.xc_kernel.specs.Context as contexts;
+ghost use Rattle.xc_kernel.specs.Copy as copies;
+ghost use Rattle.xc_kernel.specs.Flow as flow;
+ghost use Rattle.xc_kernel.specs.Paths as paths;
+ghost use Rattle.xc_kernel.specs.Plain as plain;
+ghost use Rattle.xc_kernel.specs.Scopes.{Scope as Names};
+ghost use Rattle.xc_copy.specs.Contexts.{context_of};
+ghost use Rattle.xc_copy.specs.Copied.{copy_of};
+ghost use Rattle.xc_copy.specs.Functions.{function_of};
+ghost use Rattle.xc_tree.specs.declared.tree.Case.{out-Case};
+ghost use Rattle.xc_copy.specs.Cases.{case_by};
+ghost use Rattle.xc_copy.specs.Growth.{Grows};
+ghost use Rattle.xc_copy.specs.Parts.{cased_before};
+ghost use Rattle.xc_copy.specs.Scopes.{scope_of};
+
+use crate::context::Context;
+use crate::copied::Copied;
+use crate::expressions::place;
+use crate::parts::Cased;
+use crate::paths::same_path;
+use crate::scope::Scope;
+use crate::transfers::Received;
+use std::alloc::Global;
+use std::mem;
+use xc_kernel::{Kst, Kx};
+use xc_tree::{Case, Expr, FuncItem, Rhs};
+use xw_words::{List, Memory};
+
+/// What comes of a case that receives before its body: its guard, if it has one, and its input.
+#[derive(Drop)]
+pub struct Opened {
+    pub guard: Option<Kx>,
+    pub received: Received,
+}
+
+impl<'p, 'a> Context<'p, 'a> {
+    /// A call, by the copies of its arguments and of its function's body: its instance and its result stand before them. The
+    /// one error is want of memory, or of numbers for 2^32 parameters.
+    #[inline(never)]
+    pub fn around_body(
+        &self,
+        alloc: Global,
+        own: &[u32],
+        result_path: &[u32],
+        function: &FuncItem,
+        passed: Copied,
+        body: Copied,
+    ) -> Result<Copied, Memory>
+        ensures { IfOk result (λ copied. (entered inner behind : Names) → copy_of copied behind ≡ copies.in_scope_of behind (calls.naming_none (copies.joined (calls.instance_of (context_of self.now) (function_of function.now) behind) (copies.joined (calls.result_copy (context_of self.now) result_path.now function.now.name.pos behind function.now.result) (copies.joined (copy_of passed entered) (calls.as_block (context_of self.now) own.now (copy_of body inner))))))) }
+    {
+        let made = self.instance(alloc, function)?;
+        let zeroed = self.zeroed_result(alloc, result_path, function)?;
+        let block = self.as_block(alloc, same_path(alloc, own)?, body)?;
+        let inside = passed.followed_by(block)?;
+        let behind = zeroed.followed_by(inside)?;
+        let copied = made.followed_by(behind)?;
+        Ok(copied.naming_none(alloc))
+    }
+
+    /// A right side's copy, and behind it what stores its value in the variable of this path. The one error is want of memory.
+    #[inline(never)]
+    pub fn stored_behind(
+        &self,
+        alloc: Global,
+        called: Copied,
+        path: &[u32],
+        right: &Rhs,
+        scope: &Scope<'a>,
+    ) -> Result<Copied, Memory>
+        ensures { IfOk result (λ copied. (within : Names) → copy_of copied (scope_of scope.now) ≡ copies.joined (copy_of called within) (copies.one_statement (scope_of scope.now) (contexts.set_word (context_of self.now) path.now (calls.value_of (context_of self.now) (scope_of scope.now) (tree.right_of right.now))))) }
+    {
+        let value = self.value(alloc, right, scope)?;
+        let stored = Copied::one_statement(alloc, self.set_word(path, value))?;
+        let copied = called.followed_by(stored)?;
+        Ok(copied)
+    }
+
+    /// A right side's copy, and behind it what assigns its value to a place. The one error is want of memory.
+    #[inline(never)]
+    pub fn assigned_behind(
+        &self,
+        alloc: Global,
+        called: Copied,
+        to: &Expr,
+        right: &Rhs,
+        scope: &Scope<'a>,
+    ) -> Result<Copied, Memory>
+        ensures { IfOk result (λ copied. (within : Names) → copy_of copied (scope_of scope.now) ≡ copies.joined (copy_of called within) (copies.one_statement (scope_of scope.now) (plain.set (contexts.place (context_of self.now) (scope_of scope.now) (tree.expression_of to.now)) (calls.value_of (context_of self.now) (scope_of scope.now) (tree.right_of right.now))))) }
+    {
+        let value = self.value(alloc, right, scope)?;
+        let place = place(alloc, self.numbers, scope, to)?;
+        let stored = Copied::one_statement(alloc, Kst::Set(place, value))?;
+        let copied = called.followed_by(stored)?;
+        Ok(copied)
+    }
+
+    /// A right side's copy, and behind it what stores its value in the function's result and leaves the body. The one error is
+    /// want of memory.
+    #[inline(never)]
+    pub fn returned_behind(
+        &self,
+        alloc: Global,
+        called: Copied,
+        right: &Rhs,
+        scope: &Scope<'a>,
+    ) -> Result<Copied, Memory>
+        ensures { IfOk result (λ copied. (within : Names) → copy_of copied (scope_of scope.now) ≡ copies.joined (copy_of called within) (copies.joined (copies.one_statement (scope_of scope.now) (contexts.set_word (context_of self.now) self.now.result.now (calls.value_of (context_of self.now) (scope_of scope.now) (tree.right_of right.now)))) (copies.one_statement (scope_of scope.now) (contexts.leave (context_of self.now) self.now.returns.now)))) }
+    {
+        let value = self.value(alloc, right, scope)?;
+        let stored = Copied::one_statement(alloc, self.set_word(self.result, value))?;
+        let left = self.leaves(alloc, self.returns, scope)?;
+        let behind = stored.followed_by(left)?;
+        let copied = called.followed_by(behind)?;
+        Ok(copied)
+    }
+
+    /// What comes of a case before its body, whose names then are known: its guard, and what it receives; nothing of a `default`.
+    /// The one error is want of memory.
+    #[inline(never)]
+    pub fn opened(
+        &self,
+        alloc: Global,
+        case: &'a Case,
+        scope: &mut Scope<'a>,
+    ) -> Result<Option<Opened>, Memory>
+        ensures head { IfOk result (λ opened. (body : copies.Copy) (others : flow.Cased) → case_by opened (scope_of scope.new) (calls.as_block (context_of self.now) (paths.path_at self.now.path.now (out-Case case.now).pos) body) others ≡ flow.and_case (context_of self.now) (scope_of scope.old) (out-Case case.now).pos (option_map tree.expression_of (out-Case case.now).guard) (option_map tree.input_of (out-Case case.now).head) body others) }
+        ensures names { IfOk result (λ opened. scope_of scope.new ≡ flow.case_scope (context_of self.now) (scope_of scope.old) (option_map tree.input_of (out-Case case.now).head)) }
+        ensures grows { IfOk result (λ opened. Grows (scope_of scope.old) (scope_of scope.new)) }
+    {
+        match &case.head {
+            None => Ok(None),
+            Some(head) => {
+                let guard = self.guard(alloc, &case.guard, scope)?;
+                let received = self.received(alloc, scope, head)?;
+                Ok(Some(Opened { guard, received }))
+            }
+        }
+    }
+
+    /// One more case behind others, by what came of it before its body, and by its body, which is a block of this path. The one
+    /// error is want of memory.
+    #[inline(never)]
+    pub fn add_case(
+        &self,
+        alloc: Global,
+        path: List<u32>,
+        opened: Option<Opened>,
+        body: Copied,
+        cases: &mut Cased,
+    ) -> Result<(), Memory>
+        ensures { OnOk result ((between behind : Names) (others : flow.Cased) → cased_before cases.new others ≡ cased_before cases.old (case_by opened between (calls.as_block (context_of self.now) path (copy_of body behind)) others)) }
+    {
+        let block = self.as_block(alloc, path, body)?;
+        let before = mem::replace(cases, Cased::none(alloc));
+        match opened {
+            None => {
+                let more = before.and_default(alloc, block)?;
+                *cases = more;
+                Ok(())
+            }
+            Some(opened) => {
+                let more = before.and_case(alloc, opened.guard, opened.received, block)?;
+                *cases = more;
+                Ok(())
+            }
+        }
+    }
+}
