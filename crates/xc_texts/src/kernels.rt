@@ -1,3 +1,4 @@
 mod copies;
 mod counts;
+mod depths;
 mod printed;

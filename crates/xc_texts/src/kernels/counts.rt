@@ -5,7 +5,7 @@ use xc_flat::{FlatErr, flatten};
 use xw_words::{Broken, Pos};
 
 /// Where a text breaks rule 509, or how many instances of functions and how many counted words its kernel has.
-fn verdict(alloc: Global, text: &str) -> Result<String, AllocError> {
+pub fn verdict(alloc: Global, text: &str) -> Result<String, AllocError> {
     let Some(typed) = typed(alloc, text) else {
         return "no types".to_string(alloc);
     };
