@@ -199,9 +199,9 @@ fn a_place_has_200_nodes_one_below_the_other(rt: HostRuntime) -> Result<(), Fail
 #[test]
 fn a_long_chain_breaks_202_where_it_is_too_deep(rt: HostRuntime) -> Result<(), Fail> {
     let alloc = rt.alloc();
-    let sum = placed(alloc, "", "x", "+x", 99_999)?;
+    let sum = placed(alloc, "", "1", "+1", 99_999)?;
     assert_eq!(rt; refusal(alloc, sum.as_str())?.as_str(), "202 at 2:400");
-    let choice = placed(alloc, "x?x:", "x", "", 20_000)?;
+    let choice = placed(alloc, "1?2:", "1", "", 20_000)?;
     assert_eq!(rt; refusal(alloc, choice.as_str())?.as_str(), "202 at 2:798");
     Ok(())
 }
