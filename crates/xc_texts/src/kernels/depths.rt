@@ -43,28 +43,24 @@ const SHAPES: [(&str, &str, usize); 11] = [
     ("do ", " while (1);", 0),
     ("for (;;) ", "", 0),
     ("par { ", " }", 0),
-    (
-        "par (int i = 0; i < 1; i++) ",
-        "",
-        0,
-    ),
+    ("par (int i = 0; i < 1; i++) ", "", 0),
     ("select { default: ", " break; }", 0),
-    (
-        "select { case c :> x: ",
-        " break; }",
-        0,
-    ),
-    (
-        "select { case 1 => c :> int y: ",
-        " break; }",
-        1,
-    ),
+    ("select { case c :> x: ", " break; }", 0),
+    ("select { case 1 => c :> int y: ", " break; }", 1),
 ];
 
 /// What comes of a program of `nested`: main, `f0` and the functions behind it have an instance each, and each of these declares
 /// a word and what its statements declare.
-fn wanted(alloc: Global, words: usize, levels: usize, last: usize) -> Result<String, AllocError> {
-    let words = words.saturating_mul(levels).saturating_add(1).saturating_mul(last);
+fn counts_of(
+    alloc: Global,
+    words: usize,
+    levels: usize,
+    last: usize,
+) -> Result<String, AllocError> {
+    let words = words
+        .saturating_mul(levels)
+        .saturating_add(1)
+        .saturating_mul(last);
     format!(in alloc; "{} instances, {words} words", last.saturating_add(2))
 }
 
@@ -75,8 +71,12 @@ fn deep_programs_are_copied(rt: HostRuntime) -> Result<(), Fail> {
     let alloc = rt.alloc();
     for (open, close, words) in SHAPES {
         let text = nested(alloc, (open, close), 195, 5)?;
-        let wanted = wanted(alloc, words, 195, 5)?;
-        assert_eq!(rt; verdict(alloc, text.as_str())?.as_str(), wanted.as_str(), "{open}");
+        let wanted = counts_of(alloc, words, 195, 5)?;
+        assert_eq!(rt;
+            verdict(alloc, text.as_str())?.as_str(),
+            wanted.as_str(),
+            "{open}"
+        );
     }
     Ok(())
 }
@@ -86,8 +86,12 @@ fn deep_calls_are_copied(rt: HostRuntime) -> Result<(), Fail> {
     let alloc = rt.alloc();
     for (open, close, words) in SHAPES {
         let text = nested(alloc, (open, close), 1, 331)?;
-        let wanted = wanted(alloc, words, 1, 331)?;
-        assert_eq!(rt; verdict(alloc, text.as_str())?.as_str(), wanted.as_str(), "{open}");
+        let wanted = counts_of(alloc, words, 1, 331)?;
+        assert_eq!(rt;
+            verdict(alloc, text.as_str())?.as_str(),
+            wanted.as_str(),
+            "{open}"
+        );
     }
     Ok(())
 }
