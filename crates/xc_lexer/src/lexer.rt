@@ -306,6 +306,3 @@ fn define_line<'a>(
         Ending::Unclosed(pos) => Err(broken(103, pos)),
     }
 }
-
-#[cfg(test)]
-mod tests;

@@ -49,6 +49,3 @@ fn is_above(size: Size) -> bool
 {
     size.statements > 100_000 || size.nodes > 1_000_000 || size.depth > 1_000
 }
-
-#[cfg(test)]
-mod tests;

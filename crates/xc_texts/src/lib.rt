@@ -13,6 +13,8 @@ mod needs;
 #[cfg(test)]
 mod texts;
 #[cfg(test)]
+mod tokens;
+#[cfg(test)]
 mod trees;
 #[cfg(test)]
 mod types;

@@ -1,7 +1,10 @@
-use super::lex;
+//! What the lexer makes of a text: its tokens, or the rule that it breaks and where.
+
+use crate::texts::MOST;
 use std::alloc::{AllocError, Global};
 use std::process::Abort;
 use std::test::Fail;
+use xc_lexer::lex;
 use xc_tree::{Kind, SYMBOLS, Tok, WORDS};
 
 /// Puts bytes at the end of a text, as characters.
@@ -40,7 +43,7 @@ fn put_token(alloc: Global, shown: &mut String, tok: &Tok) -> Result<(), AllocEr
 /// What a text lexes to: its tokens, parted by `, `, or its first broken rule.
 fn shown(alloc: Global, text: &[u8]) -> Result<String, AllocError> {
     let mut shown = String::new(alloc);
-    if text.len() > 4_194_304 {
+    if text.len() > MOST {
         return Ok(shown);
     }
     match lex(alloc, text) {
