@@ -42,7 +42,7 @@ impl From<Memory> for FlatErr {
 ///
 /// A program with all its copies that has more than 100,000 statements, more than 1,000,000 nodes of expressions or a depth
 /// above 1,000 breaks rule 509 at main's name. That is seen before anything is copied. The other error is that memory could
-/// not be had.
+/// not be had. The stack that it needs grows with the depth of the kernel.
 pub fn flatten(alloc: Global, typed: &Typed) -> Result<Kernel, FlatErr>
     requires { IsTyped (program_of typed.now.named.tree) (named_of typed.now.named) typed.now.unsigned_at }
     ensures copies { IfOk result (λ k. Copies (program_of typed.now.named.tree) (kernel_of k)) }

@@ -12,8 +12,9 @@ use std::alloc::Global;
 use xc_tree::Tree;
 use xw_words::{Broken, Memory, Pos};
 
-/// Rule 509 at main's name, where the program with all its copies is too large. Nothing is copied to see it. The stack that
-/// it needs grows with the depth of the tree.
+/// Rule 509 at main's name, where the program with all its copies has more than 100,000 statements, more than 1,000,000
+/// nodes of expressions or a depth above 1,000; else nothing. Nothing is copied to see it. The stack that it needs grows
+/// with the depth of the tree. The one error is want of memory.
 pub fn broken_size(alloc: Global, tree: &Tree) -> Result<Option<Broken>, Memory>
     ensures broken { IfOk result (λ best. IfSome best (λ b. Breaks509 (program_of tree.now) b)) }
     ensures small { IfOk result (λ best. IfNone best (IsTooLarge (program_of tree.now) → ⊥)) }

@@ -14,7 +14,7 @@ use xw_words::{List, Memory, Pos};
 /// A port's identifier on core 0 is its place times this.
 const NAME_STEP: u32 = 256;
 
-/// The image of a program. It implements the program, and it can be loaded.
+/// The image of a well formed program with fewer than 2^28 outputs. It implements the program, and it can be loaded.
 ///
 /// Each output becomes three instructions, or five where it has a time, with the output's place; the end of the
 /// thread follows them. `Memory` is answered only where an allocation failed.

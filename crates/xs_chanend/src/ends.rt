@@ -30,7 +30,8 @@ impl Model for Ends {
 }
 
 impl Ends {
-    /// That many ends, each with no token and 8 credits. It takes all memory that is ever taken for them.
+    /// That many ends, each with no token and 8 credits. It takes all memory that is ever taken for them. The one error is
+    /// want of memory.
     pub fn new(alloc: Global, count: u32) -> Result<Ends, Memory>
         ensures { IfOk result (λ ends. ends ≡ replicate count boot_end) }
     {
@@ -119,7 +120,7 @@ impl Ends {
         it.spend(n)
     }
 
-    /// Gives an end one credit back.
+    /// Gives an end that has fewer than 8 credits one back.
     pub fn credit(&mut self, end: u32)
         requires there { end < length self.old }
         requires room { (end_at self.old end).credits < 8 }

@@ -57,7 +57,8 @@ impl Core {
         turn::can_step(&self.home, &self.state, thread)
     }
 
-    /// The thread takes its turn.
+    /// The thread takes its turn: a step with its record, a wait that changes nothing, or a trap, which halts the thread. One
+    /// that is unused or halted does nothing.
     pub fn slot(&mut self, thread: u8) -> Did
         requires { thread < 8 }
         ensures turn { IsTurn (slot self.old.home self.old.state thread) self.old.home self.old.state thread result self.new.state }

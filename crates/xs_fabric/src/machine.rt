@@ -32,7 +32,8 @@ pub struct Machine {
 impl Machine {
     ghost use Rattle.xs_fabric.specs.Seen.{IsBooted, IsEvent, IsRunOf, homes_of, room_of, state_of};
 
-    /// The machine of an image under a stimulus, as it starts. It has no room for records yet.
+    /// The machine of an image under a stimulus, as it starts. It has no room for records yet. The one error is want of
+    /// memory.
     pub fn boot(alloc: Global, image: &Image, stim: &Stim) -> Result<Machine, Memory>
         requires valid { Valid image.now }
         requires built { IsBuilt image.now }
@@ -46,7 +47,7 @@ impl Machine {
         })
     }
 
-    /// Makes room for `n` records. Refused, nothing changes.
+    /// Makes room for `n` records. The one error is want of memory, and then nothing changes.
     pub fn reserve(&mut self, n: u32) -> Result<(), Memory>
         ensures room { OnOk result (n ≤ room_of self.new) }
         ensures refused { OnErr result (room_of self.new ≡ room_of self.old) }
@@ -57,7 +58,8 @@ impl Machine {
         Ok(())
     }
 
-    /// A step of a thread: one instruction or one event that it takes. Not enabled, nothing changes.
+    /// A step of a thread: one instruction or one event that it takes. Not enabled, nothing changes. It needs room for one
+    /// record.
     pub fn step(&mut self, core: u8, thread: u8) -> Event
         requires room { 1 ≤ room_of self.old }
         ensures event { (L : Image) (s : Stim) → IsRunOf L s self.old →
@@ -80,7 +82,7 @@ impl Machine {
     }
 
     /// A round: for each core a tick, and then a step of each thread that is ready at its turn. Answers how many
-    /// events it had.
+    /// events it had. It needs room for 32 records.
     pub fn round(&mut self) -> u32
         requires room { 32 ≤ room_of self.old }
         ensures state { (L : Image) (s : Stim) → IsRunOf L s self.old → state_of self.new ≡ rounds_at L s (state_of self.old) 4 }

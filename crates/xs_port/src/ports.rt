@@ -30,7 +30,7 @@ impl Model for Ports {
 }
 
 impl Ports {
-    /// The ports as they start, at clock 0. It takes all memory that is ever taken for them.
+    /// The ports as they start, at clock 0. It takes all memory that is ever taken for them. The one error is want of memory.
     pub fn new(
         alloc: Global,
         decls: &List<PortDecl>,
@@ -200,7 +200,7 @@ impl Ports {
         })
     }
 
-    /// The counter of the last transfer.
+    /// The counter of the last transfer, in ticks modulo 2^16.
     pub fn stamp(&self, p: u32) -> u16
         requires { p < length self.now.ports }
         ensures { result ≡ (port_at self.now p).stamp }
