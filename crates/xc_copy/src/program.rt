@@ -58,8 +58,8 @@ const IDENTIFIERS: [&[u8]; 29] = [
 ];
 
 /// The kernel of a program: the program with each call replaced by its function's body over instances of its own. The tree is
-/// walked twice, for the instances and then for the statements, which mean instances by their places. The stack that it needs
-/// grows with the depth of the kernel. The one error is want of memory, or of numbers for 2^32 instances of a kind.
+/// walked twice, for the instances and then for the statements, which mean instances by their places. The one error is want of
+/// memory, or of numbers for 2^32 instances of a kind.
 pub fn copy(alloc: Global, tree: &Tree) -> Result<Kernel, Memory>
     ensures { IfOk result (λ k. Copies (program_of tree.now) (kernel_of k)) }
 {
