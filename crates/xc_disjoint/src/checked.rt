@@ -5,7 +5,7 @@ ghost use Rattle.xc_kernel.specs.Kernels.{kernel_of};
 use std::marker::Model;
 use xc_kernel::Kernel;
 
-/// The kernel of a program that breaks no rule. Contracts see the kernel.
+/// The kernel of a program that breaks no rule and whose tree is no deeper than 200. Contracts see the kernel.
 #[derive(Drop)]
 pub struct Checked {
     kernel: Kernel,
@@ -36,7 +36,7 @@ impl Checked {
         Checked { kernel }
     }
 
-    /// The kernel.
+    /// The kernel, which breaks no rule and is that of a program that breaks none and whose tree is no deeper than 200.
     pub fn kernel(&self) -> &Kernel
         ensures kernel { result.now ≡ self.now }
         ensures accepted { IsAccepted (kernel_of self.now) }

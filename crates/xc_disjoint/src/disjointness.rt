@@ -37,8 +37,8 @@ impl From<Memory> for DisErr {
     }
 }
 
-/// The kernel as one that is checked, where it is that of a program that breaks no rule of the phases before. The stack that
-/// it needs grows with the depth of the kernel.
+/// The kernel as one that is checked, where it is that of a program that breaks no rule of the phases before and whose tree is
+/// no deeper than 200. The stack that it needs grows with the depth of the kernel.
 ///
 /// A kernel that breaks a rule is dropped, and of all rules that it breaks the error is the one of the least place, and there
 /// of the least number: 701 more than 8 threads are needed on a core; 702 more than 32 channel ends; 703 more than 10

@@ -1,4 +1,4 @@
 mod copies;
-mod counts;
+pub(crate) mod counts;
 mod depths;
 mod printed;

@@ -1,6 +1,7 @@
 ghost use Rattle.xc_disjoint.specs.Programs.{IsOfProgram};
 ghost use Rattle.xc_kernel.specs.Kernels.{kernel_of};
 
+use crate::kernels::counts::{chain, tens};
 use crate::texts::typed;
 use std::alloc::{AllocError, Global};
 use std::test::Fail;
@@ -10,7 +11,10 @@ use xc_kernel::Kernel;
 use xw_words::{Broken, Pos};
 
 mod amounts;
+mod cores;
+mod parts;
 mod places;
+mod sums;
 
 /// The rule that a text breaks and its place; or that it is accepted, and how many roots and instances of functions its kernel
 /// has.
@@ -56,29 +60,35 @@ fn first_wrong(alloc: Global, rows: &[Row]) -> Result<String, AllocError> {
     Ok(String::new(alloc))
 }
 
-/// The lowest function has one variable, and each of the others calls the one before ten times.
-const TENS: &str = "void f0(void) { int x; x = 1; }
-void f1(void) { f0(); f0(); f0(); f0(); f0(); f0(); f0(); f0(); f0(); f0(); }
-void f2(void) { f1(); f1(); f1(); f1(); f1(); f1(); f1(); f1(); f1(); f1(); }
-void f3(void) { f2(); f2(); f2(); f2(); f2(); f2(); f2(); f2(); f2(); f2(); }
-void f4(void) { f3(); f3(); f3(); f3(); f3(); f3(); f3(); f3(); f3(); f3(); }
-void f5(void) { f4(); f4(); f4(); f4(); f4(); f4(); f4(); f4(); f4(); f4(); }
-";
-
 /// With `f3` there are 1 + 1 + 10 + 100 + 1,000 instances with main's, so 4,448 words, 1,000 variables and one thread: 5,960
-/// words. With `f4` there are 11,112 instances and 10,000 variables, so 44,448 + 10,000 + 512 = 54,960 words.
+/// words, however long the sum is that `f0` stores. With `f4` there are 11,112 instances and 10,000 variables, so 44,448 +
+/// 10,000 + 512 = 54,960 words.
 #[test]
 fn copies_need_words(rt: HostRuntime) -> Result<(), Fail> {
     let alloc = rt.alloc();
-    let rows = [(4, "704 at 7:5"), (3, "accepted: 1 roots, 1112 instances")];
-    for (called, wanted) in rows {
-        let text = format!(in alloc; "{TENS}int main(void) {{ f{called}(); return 0; }}\n")?;
+    let rows = [
+        (1, 4, "704 at 7:5"),
+        (1, 3, "accepted: 1 roots, 1112 instances"),
+        (150, 3, "accepted: 1 roots, 1112 instances"),
+    ];
+    for (ones, called, wanted) in rows {
+        let text = tens(alloc, ones, called)?;
         assert_eq!(rt;
             verdict(alloc, text.as_str())?.as_str(),
             wanted,
-            "f{called}"
+            "f{called}, {ones} ones"
         );
     }
+    Ok(())
+}
+
+/// A kernel that is 999 deep, with `f0` to `f498`: 4 * 500 + 512 = 2,512 words.
+#[test]
+fn deep_kernels_are_accepted(rt: HostRuntime) -> Result<(), Fail> {
+    let alloc = rt.alloc();
+    let text = chain(alloc, 498, "int main(void) { f498(); return 0; }")?;
+    let verdict = verdict(alloc, text.as_str())?;
+    assert_eq!(rt; verdict.as_str(), "accepted: 1 roots, 500 instances");
     Ok(())
 }
 

@@ -1,7 +1,9 @@
 //! What the tests make of a text.
 
-ghost use Rattle.std.specs.Prelude.{IfSome};
+ghost use Rattle.std.specs.Prelude.{◌≤◌, IfSome};
 ghost use Rattle.xc_kernel.specs.Sound.{IsTyped};
+ghost use Rattle.xc_tree.specs.Depth as depth;
+ghost use Rattle.xc_tree.specs.Derives.{deepest};
 ghost use Rattle.xc_tree.specs.Programs.{IsParsed};
 ghost use Rattle.xc_tree.specs.Trees.{program_of};
 ghost use Rattle.xc_tree.specs.Types.Named.{named_of};
@@ -18,7 +20,8 @@ pub const MOST: usize = 4_194_304;
 
 /// The program that a text is with the types of its expressions, if it breaks no rule up to 508.
 pub fn typed(alloc: Global, text: &str) -> Option<Typed>
-    ensures { IfSome result (λ typed. IsTyped (program_of typed.named.tree) (named_of typed.named) typed.unsigned_at) }
+    ensures typed { IfSome result (λ typed. IsTyped (program_of typed.named.tree) (named_of typed.named) typed.unsigned_at) }
+    ensures shallow { IfSome result (λ typed. depth.of_program (program_of typed.named.tree) ≤ deepest) }
 {
     let tree = tree_of(alloc, text.as_bytes())?;
     let Ok(named) = resolve(alloc, tree) else {
@@ -32,7 +35,8 @@ pub fn typed(alloc: Global, text: &str) -> Option<Typed>
 
 /// The tree of a text, if it has one.
 pub fn tree_of(alloc: Global, text: &[u8]) -> Option<Tree>
-    ensures { IfSome result (λ tree. IsParsed (program_of tree)) }
+    ensures parsed { IfSome result (λ tree. IsParsed (program_of tree)) }
+    ensures shallow { IfSome result (λ tree. depth.of_program (program_of tree) ≤ deepest) }
 {
     if text.len() > MOST {
         return None;

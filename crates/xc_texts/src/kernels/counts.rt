@@ -40,7 +40,7 @@ fn first_wrong(alloc: Global, rows: &[Row]) -> Result<String, AllocError> {
 
 /// `f0` on line 1, which stores a sum of so many ones; `f1` to `f5` on lines 2 to 6, each of which calls the one before ten
 /// times; and a main on line 7 that calls one of them.
-fn tens(alloc: Global, ones: usize, called: usize) -> Result<String, AllocError> {
+pub(crate) fn tens(alloc: Global, ones: usize, called: usize) -> Result<String, AllocError> {
     let mut text = String::new(alloc);
     text.push_str("void f0(void) { int x; x = 1")?;
     for _ in 1..ones {
@@ -67,7 +67,7 @@ fn add_ten_calls(alloc: Global, text: &mut String, number: usize) -> Result<(), 
 }
 
 /// An `f0` that does nothing; so many functions behind it, each of which calls the one before; and a main.
-fn chain(alloc: Global, last: usize, main: &str) -> Result<String, AllocError> {
+pub(crate) fn chain(alloc: Global, last: usize, main: &str) -> Result<String, AllocError> {
     let mut text = String::new(alloc);
     text.push_str("void f0(void) { }\n")?;
     for number in 0..last {

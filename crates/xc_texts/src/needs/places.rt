@@ -2,7 +2,7 @@ use super::{Row, first_wrong};
 use std::test::Fail;
 
 /// Places, of which each stands at its expression's first token.
-const PLACES: [Row; 9] = [
+const PLACES: [Row; 11] = [
     // 3, 2, 1, 0; and then -1
     (
         "int main(void) { par (int i = 0; i < 4; i++)
@@ -66,6 +66,16 @@ int main(void) { return 0; }
 ",
         "705 at 1:9",
     ),
+    // 256 is no core
+    (
+        "int main(void) { par { on tile[256] : ; } return 0; }",
+        "705 at 1:32",
+    ),
+    // a sum that wraps to 0
+    (
+        "int main(void) { par { on tile[4294967295 + 1] : ; } return 0; }",
+        "accepted: 1 roots, 1 instances",
+    ),
 ];
 
 #[test]
@@ -76,7 +86,7 @@ fn places(rt: HostRuntime) -> Result<(), Fail> {
 }
 
 /// Ports that are used on their own core and on another.
-const PORTS: [Row; 10] = [
+const PORTS: [Row; 13] = [
     (
         "on stdcore[1] : out port p = XS1_PORT_4A;
 void a(chanend c) { c <: 20; }
@@ -155,6 +165,29 @@ int main(void) { par { on tile[5] : f(); } return 0; }
 ",
         "706 at 2:16",
     ),
+    // two ports: the first is elsewhere and the second used; and the second is elsewhere and used
+    (
+        "on tile[1] : out port p = XS1_PORT_1A;
+out port q = XS1_PORT_1B;
+int main(void) { q <: 1; return 0; }
+",
+        "accepted: 1 roots, 1 instances",
+    ),
+    (
+        "out port q = XS1_PORT_1B;
+on tile[1] : out port p = XS1_PORT_1A;
+int main(void) { q <: 1; p <: 1; return 0; }
+",
+        "706 at 3:26",
+    ),
+    // a use that is on the own core in one copy, and not in another
+    (
+        "on tile[1] : out port p = XS1_PORT_1A;
+void f(void) { p <: 1; }
+int main(void) { par { on tile[1] : f(); on tile[2] : f(); } return 0; }
+",
+        "706 at 2:16",
+    ),
 ];
 
 #[test]
@@ -165,7 +198,7 @@ fn ports(rt: HostRuntime) -> Result<(), Fail> {
 }
 
 /// Texts that break more than one rule: the least place is named, and there the least number.
-const SEVERAL: [Row; 9] = [
+const SEVERAL: [Row; 12] = [
     // 9 threads, 11 timers and 4 + 16,384 + 512 * 9 words, all at main
     (
         "int main(void) { timer a, b, c, d, e, f, g, h, i, j, k; int w[16384]; par (int n = 0; n < 9; n++) ; return 0; }",
@@ -229,6 +262,27 @@ on tile[4] : out port p = XS1_PORT_1A;
 int main(void) { par { on tile[5] : f(); } return 0; }
 ",
         "705 at 2:9",
+    ),
+    // two uses in one line: the lesser column, though the walk meets the other first
+    (
+        "on tile[1] : out port p = XS1_PORT_1A;
+void f(void) { p <: 2; } int main(void) { p <: 1; f(); return 0; }
+",
+        "706 at 2:16",
+    ),
+    // main before a use
+    (
+        "on tile[1] : out port p = XS1_PORT_1A;
+int main(void) { par (int i = 0; i < 9; i++) ; p <: 1; return 0; }
+",
+        "701 at 2:5",
+    ),
+    // a port's place before its use
+    (
+        "on tile[4] : out port p = XS1_PORT_1A;
+int main(void) { p <: 1; return 0; }
+",
+        "705 at 1:9",
     ),
 ];
 

@@ -37,10 +37,10 @@ typed_too tree named same types its_tree is known are sound =
     subst (λ n. IsTyped (program_of n.tree) (named_of n) types) (sym is)
     (typed_by named types (subst (λ t. AreNamed (program_of t) named) (sym its_tree) known) are sound)
 
--- src/texts.rt:18:1
+-- src/texts.rt:20:1
 pub returns-in-Ok-check : goal.returns-in-Ok-check
 returns-in-Ok-check c =
     typed_too c.in_ok-tree.tree c.in-Ok.named c.in-Ok-check.typed.named c.in-Ok-check.typed.unsigned_at
     c.in-Ok.ensures.program c.in-Ok-check.ensures.named
-    (record { parsed = c.in_ok-tree.ensures; decls = c.in-Ok.ensures.decls; uses = c.in-Ok.ensures.uses; unbroken = c.in-Ok.ensures.unbroken })
+    (record { parsed = c.in_ok-tree.ensures.parsed; decls = c.in-Ok.ensures.decls; uses = c.in-Ok.ensures.uses; unbroken = c.in-Ok.ensures.unbroken })
     c.in-Ok-check.ensures.types c.in-Ok-check.ensures.unbroken
