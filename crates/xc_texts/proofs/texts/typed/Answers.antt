@@ -1,8 +1,10 @@
-use Rattle.std.proofs.Common.{◌≡◌, Bool, List, refl, sym, subst}
+use Rattle.std.proofs.Common.{◌≡◌, ◌≤◌, Bool, List, refl, sym, subst}
 use Rattle.xw_words.specs.declared.pos.Broken.{Broken}
 use Rattle.xc_tree.specs.declared.names.Named.{Named}
 use Rattle.xc_tree.specs.declared.tree.Tree.{Tree}
 use Rattle.xc_tree.specs.Checks as checks
+use Rattle.xc_tree.specs.Depth as depth
+use Rattle.xc_tree.specs.Derives.{deepest}
 use Rattle.xc_tree.specs.Names.Marks.{of_program}
 use Rattle.xc_tree.specs.Names.Rules as names
 use Rattle.xc_tree.specs.Names.Uses.{AreUses, declarations}
@@ -37,10 +39,21 @@ typed_too tree named same types its_tree is known are sound =
     subst (λ n. IsTyped (program_of n.tree) (named_of n) types) (sym is)
     (typed_by named types (subst (λ t. AreNamed (program_of t) named) (sym its_tree) known) are sound)
 
+-- so the depth of a tree is that of names that are equal to its own
+shallow_too : (tree : Tree) (named same : Named) → named.tree ≡ tree → same ≡ named → depth.of_program (program_of tree) ≤ deepest → depth.of_program (program_of same.tree) ≤ deepest
+shallow_too tree named same its_tree is shallow =
+    subst (λ n. depth.of_program (program_of n.tree) ≤ deepest) (sym is)
+    (subst (λ t. depth.of_program (program_of t) ≤ deepest) (sym its_tree) shallow)
+
 -- src/texts.rt:20:1
-pub returns-in-Ok-check : goal.returns-in-Ok-check
-returns-in-Ok-check c =
+pub returns-in-Ok-check-clause-typed : goal.returns-in-Ok-check-clause-typed
+returns-in-Ok-check-clause-typed c =
     typed_too c.in_ok-tree.tree c.in-Ok.named c.in-Ok-check.typed.named c.in-Ok-check.typed.unsigned_at
     c.in-Ok.ensures.program c.in-Ok-check.ensures.named
     (record { parsed = c.in_ok-tree.ensures.parsed; decls = c.in-Ok.ensures.decls; uses = c.in-Ok.ensures.uses; unbroken = c.in-Ok.ensures.unbroken })
     c.in-Ok-check.ensures.types c.in-Ok-check.ensures.unbroken
+
+-- src/texts.rt:20:1
+pub returns-in-Ok-check-clause-shallow : goal.returns-in-Ok-check-clause-shallow
+returns-in-Ok-check-clause-shallow c =
+    shallow_too c.in_ok-tree.tree c.in-Ok.named c.in-Ok-check.typed.named c.in-Ok.ensures.program c.in-Ok-check.ensures.named c.in_ok-tree.ensures.shallow
