@@ -60,9 +60,9 @@ impl<'a> Parser<'a> {
         ensures stopped { IfErr result (λ e. Stopped self.now.toks.now (room + 1) symbol.statement at e) }
     {
         let body = self.statement(at + 1, room)?;
-        let test = self.do_tail(body.end, room)?;
         let held = body.end - at - 1;
         let boxed = self.boxed(body.value)?;
+        let test = self.do_tail(body.end, room)?;
         Ok(self.whole(at, test.end, held, St::DoWhile(boxed, test.value)))
     }
 
