@@ -107,6 +107,3 @@ fn emit(code: &mut Code, instr: Instr, pos: Pos) -> Result<(), Memory>
     code.at.push(pos)?;
     Ok(())
 }
-
-#[cfg(test)]
-mod tests;

@@ -11,6 +11,3 @@ pub use law::same_text_same_image;
 pub use listing::{add_image, write_code};
 pub use numbers::{add_number, add_pos};
 pub use record::{add_record, add_word, write_record};
-
-#[cfg(test)]
-mod tests;

@@ -131,6 +131,3 @@ impl Ends {
         it.credit();
     }
 }
-
-#[cfg(test)]
-mod tests;

@@ -1,4 +1,3 @@
-pub mod AloneCore
 pub mod BuiltCode
 pub mod PlainCore
 pub mod Starting

@@ -89,6 +89,3 @@ impl Core {
         }
     }
 }
-
-#[cfg(test)]
-mod tests;

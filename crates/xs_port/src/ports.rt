@@ -280,6 +280,3 @@ fn booted(alloc: Global, decls: &[PortDecl]) -> Result<List<Port>, Memory>
     }
     Ok(ports)
 }
-
-#[cfg(test)]
-mod tests;

@@ -1,15 +1,15 @@
-// One core, booted from an image made by hand, slot by slot.
+//! One core, booted from an image made by hand, slot by slot.
 
 ghost use Rattle.std.specs.Prelude.{◌≡◌, ◌≤◌, true, length, IfOk};
 ghost use Rattle.xs_core.specs.Built.{IsBuilt, all_built};
 ghost use Rattle.xs_instr.specs.Valid.{AreGoodPorts, AreIndices, Valid};
 
-use super::*;
-use crate::Did;
+use std::alloc::Global;
 use std::process::Abort;
 use std::test::Fail;
-use xs_instr::{Code, CoreImage, Dir, Instr, PortDecl, Record, Reg, Trap};
-use xw_words::{List, Pos};
+use xs_core::{Core, Did};
+use xs_instr::{Code, CoreImage, Dir, Image, Instr, PortDecl, Record, Reg, Sight, Stim, Trap};
+use xw_words::{List, Memory, Pos};
 
 /// Port 4A, by its identifier's place among all ports.
 const PORT_4A: u8 = 16;

@@ -1,6 +1,6 @@
 use Rattle.std.proofs.Common.{◌≡◌, ◌∙◌, ℕ, true, List, length, ap, sym, subst, refl, arith}
-use Rattle.xs_core.proofs.AloneCore.{good_instrs, valid_of, built_of}
-use Rattle.xs_core.proofs.one_core.tests.image_of.Goals as goal
+use Rattle.xr_tests.proofs.AloneCore.{good_instrs, valid_of, built_of}
+use Rattle.xr_tests.proofs.slots.image_of.Goals as goal
 use Rattle.xs_core.specs.Built.{all_built}
 use Rattle.xs_instr.specs.declared.image.CoreImage.{CoreImage}
 use Rattle.xs_instr.specs.declared.instr.Instr.{Instr}

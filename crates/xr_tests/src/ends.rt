@@ -1,10 +1,11 @@
-// One run of calls on two ends, with answers that were worked out by hand.
+//! Runs of calls on two ends, with answers that were worked out by hand.
 
 ghost use Rattle.std.specs.Prelude.{◌≡◌, ◌<◌, length};
 
-use super::*;
 use std::process::Abort;
 use std::test::Fail;
+use xs_chanend::{Checked1, Ends, Taken};
+use xs_instr::Token;
 
 #[derive(Clone, Copy, Debug)]
 enum Call {

@@ -1,12 +1,14 @@
-// One run of calls on three ports, with answers that were worked out by hand.
+//! One run of calls on three ports, with answers that were worked out by hand.
 
 ghost use Rattle.std.specs.Prelude.{◌≡◌, ◌<◌, length, IfOk};
 ghost use Rattle.xs_instr.specs.Valid.{AreGoodPorts, IsGoodStim};
 
-use super::*;
+use std::alloc::{AllocError, Global};
 use std::process::Abort;
 use std::test::Fail;
-use xs_instr::{Dir, StimLine};
+use xs_instr::{Cond, Dir, PortDecl, PortGot, Stim, StimLine};
+use xs_port::Ports;
+use xw_words::List;
 
 #[derive(Clone, Copy, Debug)]
 enum Call {

@@ -1,9 +1,15 @@
+//! Images of programs, instruction by instruction.
+
 ghost use Rattle.std.specs.Prelude.{◌≡◌, ◌<◌, ◌^◌, length, IfOk};
 ghost use Rattle.xc_built.specs.Program.{AreDeclared, AreDistinctPorts, IsWellFormed};
 
-use super::*;
+use std::alloc::{AllocError, Global};
 use std::process::Abort;
 use std::test::Fail;
+use xc_built::{Output, Program};
+use xr_match::compile;
+use xs_instr::{Dir, Image, Instr, PortDecl, Reg};
+use xw_words::{List, Pos};
 
 const PORT_1A: u8 = 0;
 

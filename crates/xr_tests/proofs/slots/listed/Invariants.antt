@@ -1,5 +1,5 @@
 use Rattle.std.proofs.Common.{◌≡◌, take}
-use Rattle.xs_core.proofs.one_core.tests.listed.Given as goal
+use Rattle.xr_tests.proofs.slots.listed.Given as goal
 
 abbrev pub invariant-loop-item : goal.invariant-loop-item
 invariant-loop-item g l = l.list ≡ take l.item-index l.items
