@@ -5,12 +5,35 @@ ghost use Rattle.xs_instr.specs.Valid.{Valid};
 
 use std::alloc::{AllocError, Global};
 use std::test::Fail;
-use xr_text::{add_number, add_pos, add_record, add_word, write_code, write_record};
+use xr_text::{add_instr, add_number, add_pos, add_record, add_word, write_code, write_record};
 use xs_instr::{
     Code, Cond, CoreImage, Dir, EndWord, GetKind, Image, Instr, Pair, PortDecl, Record, Reg, Trap,
 };
 use xw_io::{MemSink, Out, SinkFault};
 use xw_words::{List, Pos};
+
+#[test]
+fn instructions_have_their_texts(rt: HostRuntime) -> Result<(), Fail> {
+    let table = [
+        (Instr::Sub(Reg::R0, Reg::R9, Reg::Lr), "SUB r0, r9, lr"),
+        (Instr::Addi(Reg::R0, Reg::R1, 4), "ADDI r0, r1, 4"),
+        (Instr::Getst(Reg::R11, Reg::R10), "GETST r11, r10"),
+        (Instr::Ldc(Reg::Cp, 4294967295), "LDC cp, 4294967295"),
+        (Instr::Getr(Reg::R2, GetKind::Lock), "GETR r2, LOCK"),
+        (Instr::Setc(Reg::R3, Cond::After), "SETC r3, AFTER"),
+        (Instr::Setdp(Reg::Dp), "SETDP dp"),
+        (Instr::Brfu(17), "BRFU 17"),
+        (Instr::Ssync, "SSYNC"),
+    ];
+    for (instr, text) in table {
+        let mut sink = MemSink::new(rt.alloc(), 64, List::new(rt.alloc()))?;
+        let mut out = Out::new(&mut sink);
+        add_instr(&mut out, instr);
+        out.settle();
+        assert_eq!(rt; sink.bytes(), text.as_bytes());
+    }
+    Ok(())
+}
 
 const RECORDS: [(Record, &str); 4] = [
     (
@@ -91,33 +114,11 @@ fn sample(alloc: Global) -> Result<Image, AllocError>
             dir: Dir::Both
         },
     ]?;
-    let instrs = vec![in alloc;
-        Instr::Ldc(Reg::R0, 70),
-        Instr::Brbu(0),
-        Instr::Sub(Reg::R0, Reg::R9, Reg::Lr),
-        Instr::Addi(Reg::R0, Reg::R1, 4),
-        Instr::Getst(Reg::R11, Reg::R10),
-        Instr::Ldc(Reg::Cp, 4294967295),
-        Instr::Getr(Reg::R2, GetKind::Lock),
-        Instr::Setc(Reg::R3, Cond::After),
-        Instr::Setdp(Reg::Dp),
-        Instr::Brfu(1),
-        Instr::Ssync,
-        Instr::Freet,
-    ]?;
+    let instrs = vec![in alloc; Instr::Ldc(Reg::R0, 70), Instr::Brbu(0), Instr::Freet]?;
     let places = vec![in alloc;
         Pos { line: 2, col: 24 },
         Pos { line: 3, col: 1 },
-        Pos { line: 4, col: 5 },
-        Pos { line: 5, col: 5 },
-        Pos { line: 6, col: 5 },
-        Pos { line: 7, col: 5 },
-        Pos { line: 8, col: 5 },
-        Pos { line: 9, col: 5 },
         Pos { line: 10, col: 5 },
-        Pos { line: 11, col: 5 },
-        Pos { line: 12, col: 5 },
-        Pos { line: 20, col: 5 },
     ]?;
     let first = CoreImage {
         number: 0,
@@ -125,7 +126,7 @@ fn sample(alloc: Global) -> Result<Image, AllocError>
         timers: 10,
         ends: 1,
         ports: List::from_vec(ports),
-        roots: List::from_vec(vec![in alloc; 0, 11]?),
+        roots: List::from_vec(vec![in alloc; 0, 2]?),
         code: Code {
             instrs: List::from_vec(instrs),
             at: List::from_vec(places),
@@ -164,19 +165,10 @@ const LISTING: &str = "\
 .port 8D in
 .port 32A both
 .root 0
-.root 11
+.root 2
 0: LDC r0, 70 @2:24
 1: BRBU 0 @3:1
-2: SUB r0, r9, lr @4:5
-3: ADDI r0, r1, 4 @5:5
-4: GETST r11, r10 @6:5
-5: LDC cp, 4294967295 @7:5
-6: GETR r2, LOCK @8:5
-7: SETC r3, AFTER @9:5
-8: SETDP dp @10:5
-9: BRFU 1 @11:5
-10: SSYNC @12:5
-11: FREET @20:5
+2: FREET @10:5
 .core 3
 .words 0
 .timers 0

@@ -10,7 +10,7 @@ use xw_io::{Out, Sink};
 // What stands between two operands.
 const COMMA: &[u8] = b", ";
 
-// Adds an instruction's name and operands.
+/// Adds an instruction's name and operands, as they stand in a listing, unless the sink has failed before.
 pub fn add_instr<O: Sink>(out: &mut Out<'_, O>, instr: Instr)
     ensures same_sink { out.new.sink.ghost_name ≡ out.old.sink.ghost_name }
     ensures drew { Drew O.bytes O.faults out.old out.new (instr_text instr) }

@@ -7,6 +7,7 @@ mod listing;
 mod numbers;
 mod record;
 
+pub use instruction::add_instr;
 pub use law::same_text_same_image;
 pub use listing::{add_image, write_code};
 pub use numbers::{add_number, add_pos};
