@@ -1,14 +1,19 @@
 -- The statements of main's block, one at a time.
-use Rattle.std.proofs.Common.{◌≡◌, ℕ, ◌+◌, ◌<◌, ◌≤◌, suc, Bool, true, false, ◌&&◌, ◌||◌, if◌then◌else◌, nat_eq, List, [], ◌∷◌, length, drop, get_or, slice_get, map, Some, None, refl, sym, ap, subst, ◌∙◌, arith}
+use Rattle.std.proofs.Common.{◌≡◌, ℕ, ◌+◌, ◌<◌, ◌≤◌, suc, Bool, true, false, ◌&&◌, ◌||◌, if◌then◌else◌, nat_eq, List, [], ◌∷◌, length, drop, get_or, slice_get, map, Option, Some, None, refl, sym, ap, subst, ◌∙◌, arith}
 use Rattle.std.proofs.lemmas.Bool.Decides.{nat_tests}
 use Rattle.std.proofs.lemmas.List.{drop_all}
+use Rattle.std.specs.declared.boxed.Box.{Box}
+use Rattle.std.specs.declared.alloc.Global.{Global}
 use Rattle.xw_words.specs.declared.pos.Pos.{Pos}
 use Rattle.xc_tree.specs.declared.tree.Branch.{Branch}
 use Rattle.xc_tree.specs.declared.tree.Case.{Case}
 use Rattle.xc_tree.specs.declared.tree.Declared.{Declared}
+use Rattle.xc_tree.specs.declared.tree.Id.{Id}
+use Rattle.xc_tree.specs.declared.tree.Rhs.{Rhs}
+use Rattle.xc_tree.specs.declared.tree.St as st
 use Rattle.xc_tree.specs.declared.tree.St.TheOpen as S
 use Rattle.xc_tree.specs.declared.tree.St.{St, Block, out-St, roll-St, roll-out-St, fold-roll-St}
-use Rattle.xc_tree.specs.declared.tree.St.TheVariants.{rolls-Block}
+use Rattle.xc_tree.specs.declared.tree.St.TheVariants.{rolls-Block, rolls-Decl, rolls-Par, rolls-Repl, rolls-Return}
 use Rattle.xc_tree.specs.declared.tree.Stmt.{Stmt}
 use Rattle.xc_tree.specs.Plain as plain
 use Rattle.xc_tree.specs.Shapes.Main.{place_branches, has_placed, is_placed, is_channels_par_return, is_return_at_most, are_channels, is_channel_kind, statements_in}
@@ -16,7 +21,7 @@ use Rattle.xc_tree.specs.Trees.{statement_of, action_of, branch_of, declaration_
 use Rattle.xc_tree.proofs.Forms.{forms, statement-Stmt}
 use Rattle.xc_types.specs.declared.main_function.Part.{Part}
 use Rattle.xc_types.specs.declared.main_function.Part.TheVariants.{Channels, Par, Return, Other}
-use Rattle.xc_types.specs.Mains.{part_of, places, is_return_part}
+use Rattle.xc_types.specs.Mains.{action_part, part_of, places, is_return_part}
 use Rattle.xc_types.proofs.Lists.{drop_item, some_same, none_clash}
 
 place_first : (s : plain.Statement) (ss : plain.Statements) → place_branches (plain.more s ss) ≡ (places (part_of s) || place_branches ss)
@@ -116,6 +121,28 @@ rolled_alone k h = subst IsAlone (sym (fold-roll-St plain.Action plain.Branch pl
 -- what isn't a block stands alone
 pub stands_alone : (s : Stmt) → ((ss : List Stmt) → s.kind ≡ Block ss → ⊥) → plain.more (statement_of s) plain.no_more ≡ statements_in (statement_of s)
 stands_alone s h = rw (statement-Stmt s) (subst (λ (k : St). ((ss : List Stmt) → k ≡ Block ss → ⊥) → IsAlone (action_of k)) (roll-out-St s.kind) (rolled_alone (out-St s.kind)) h s.pos s.close s.own)
+
+-- a statement of this kind is other than the parts of the form
+abbrev IsOther : St → Type 0
+IsOther k =
+    ((ds : List Declared) → k ≡ st.Decl ds → ⊥)
+    → ((bs : List Branch) → k ≡ st.Par bs → ⊥)
+    → ((a b c : Id) (from until : ℕ) (body : Box Branch Global) → k ≡ st.Repl a b c from until body → ⊥)
+    → ((r : Option Rhs) → k ≡ st.Return r → ⊥)
+    → Other ≡ action_part (action_of k)
+
+rolled_other : (k : S.St-F St Branch Case Stmt) → IsOther (roll-St k)
+unfolding action_of
+rolled_other (S.Decl ds) d p r v = absurd (d ds (rolls-Decl ds))
+rolled_other (S.Par bs) d p r v = absurd (p bs (rolls-Par bs))
+rolled_other (S.Repl a b c from until body) d p r v = absurd (r a b c from until body (rolls-Repl a b c from until body))
+rolled_other (S.Return x) d p r v = absurd (v x (rolls-Return x))
+rolled_other k d p r v = subst (λ (a : plain.Action). Other ≡ action_part a) (sym (fold-roll-St plain.Action plain.Branch plain.Case plain.Statement action_step branch_step case_step statement_step k)) refl
+
+pub other_part : (s : Stmt) → ((ds : List Declared) → s.kind ≡ st.Decl ds → ⊥) → ((bs : List Branch) → s.kind ≡ st.Par bs → ⊥)
+    → ((a b c : Id) (from until : ℕ) (body : Box Branch Global) → s.kind ≡ st.Repl a b c from until body → ⊥) → ((r : Option Rhs) → s.kind ≡ st.Return r → ⊥)
+    → Other ≡ part_of (statement_of s)
+other_part s d p r v = rw (statement-Stmt s) (subst IsOther (roll-out-St s.kind) (rolled_other (out-St s.kind)) d p r v)
 
 pub ruleset mains = (forms, next_places, no_place, next_placed, none_placed, next_channels, none_declared)
 

@@ -115,21 +115,7 @@ fn part_of(s: &Stmt) -> Part
         St::Par(bs) => Part::Par(has_placed(bs.as_slice())),
         St::Repl { body, .. } => Part::Par(is_placed(body)),
         St::Return(_) => Part::Return,
-        St::Empty
-        | St::Block(_)
-        | St::Assign(_, _, _, _)
-        | St::Step(_, _)
-        | St::Do(_)
-        | St::Output(_)
-        | St::Input(_)
-        | St::If(_, _, _)
-        | St::While(_, _)
-        | St::DoWhile(_, _)
-        | St::For(_, _, _, _)
-        | St::Break
-        | St::Continue
-        | St::Select(_)
-        | St::Tran(_, _) => Part::Other,
+        _ => Part::Other,
     }
 }
 
