@@ -2,6 +2,7 @@ pub mod Lists
 pub mod Holders
 pub mod Joins
 pub mod Steps
+pub mod Unnamed
 pub mod Talks
 pub mod Firsts
 pub mod Judging

@@ -1,5 +1,5 @@
 -- How what was seen grows by statements.
-use Rattle.std.proofs.Common.{◌≡◌, ℕ, ◌+◌, ◌≤◌, Bool, true, false, not, ◌&&◌, if◌then◌else◌, is_some, List, [], ◌∷◌, ◌++◌, length, drop, map, option_map, Option, Some, None, refl, sym, ap, ◌∙◌, append-nil, length-append, arith}
+use Rattle.std.proofs.Common.{◌≡◌, ℕ, ◌+◌, ◌≤◌, Bool, true, false, not, ◌&&◌, if◌then◌else◌, is_some, List, [], ◌∷◌, ◌++◌, length, drop, map, option_map, Option, Some, None, refl, sym, ap, ◌∙◌, append_assoc, append-nil, length-append, arith}
 use Rattle.std.proofs.Transfers.{drop-appended}
 use Rattle.xw_words.specs.declared.pos.Pos.{Pos}
 use Rattle.xw_words.specs.declared.pos.Broken.{Broken}
@@ -18,12 +18,13 @@ use Rattle.xc_tree.specs.Types.Named.{NamedProgram, Name}
 use Rattle.xc_tree.specs.Types.Rules.{broken_where, broken_unless, first_that_differs}
 use Rattle.xc_tree.specs.Types.Sites.{Site, communications}
 use Rattle.xc_tree.specs.Types.Sites as site
+use Rattle.xc_tree.proofs.Forms.{statement-Stmt, branch-Branch, case-Case, action-Empty, action-Block, action-Decl, action-Assign, action-Step, action-Do, action-Output, action-Input, action-If, action-While, action-DoWhile, action-For, action-Return, action-Break, action-Continue, action-Par, action-Repl, action-Select, action-Tran}
 use Rattle.xc_types.specs.declared.seen.Seen.{Seen}
 use Rattle.xc_types.specs.Seen.{saw, all_broken, first_among, first_with, broken_at, one_more_name, with_broken, with_broken_at, with_replicated}
 use Rattle.xc_types.proofs.Firsts.{first_last}
 use Rattle.xc_types.proofs.Holders.{arounds}
-use Rattle.xc_types.proofs.Joins.{one, past_join, first_join}
-use Rattle.xc_types.proofs.Steps.{steps, first_here}
+use Rattle.xc_types.proofs.Joins.{one, past_join, first_join, saw_join, saw_names, saw_nothing}
+use Rattle.xc_types.proofs.Steps.{steps, first_here, names_more, names_broken}
 
 pub saw_opens : (s : Seen) (ms : List Mark) (ss : List Site) → saw s (Opens ∷ ms) ss ≡ saw s ms ss
 unfolding saw
@@ -106,6 +107,12 @@ saw_transaction s around xs p ms ss =
 
     turned : (a b : Bool) → first_among (first_with b 506 p (first_with a 505 p s.best)) (all_broken ss) ≡ first_with a 505 p (first_among (first_with b 506 p s.best) (all_broken ss))
     turned a b = ap (λ (x : Option Broken). first_among x (all_broken ss)) (swap a b) ∙ late (first_with b 506 p s.best) a 505 p (all_broken ss)
+
+-- what statements stand for
+pub ruleset statements = (statement-Stmt, branch-Branch, case-Case, action-Empty, action-Block, action-Decl, action-Assign, action-Step, action-Do, action-Output, action-Input, action-If, action-While, action-DoWhile, action-For, action-Return, action-Break, action-Continue, action-Par, action-Repl, action-Select, action-Tran)
+
+-- what is needed along a statement alone, whose expressions are checked elsewhere
+pub ruleset statement_steps = (statements, arounds, append_assoc, append-nil, saw_join, saw_names, saw_nothing, names_more, names_broken, saw_opens, saw_closes, saw_break, saw_continue, saw_par, saw_return, saw_select, saw_replicator, names_broken_at, names_replicated, some_right)
 
 pub ruleset shaping = (steps, arounds, saw_opens, saw_closes, saw_break, saw_continue, saw_par, saw_return, saw_select, saw_replicator, names_broken_at, names_replicated, some_right)
 

@@ -11,7 +11,7 @@ use Rattle.xc_tree.specs.Types.Entities.{is_word, is_array, is_index}
 use Rattle.xc_tree.specs.Types.Rules.{broken_where}
 use Rattle.xc_tree.specs.Types.Sites.{Site}
 use Rattle.xc_tree.specs.Types.Sites as site
-use Rattle.xc_tree.proofs.Forms.{forms}
+use Rattle.xc_tree.proofs.Forms.{forms, expression-Expr, form-Num, form-Name, form-Index, form-Un, form-Bin, form-Cond, form-Cast}
 use Rattle.xc_types.specs.declared.seen.Seen.{Seen}
 use Rattle.xc_types.specs.Seen.{saw, all_broken, first_among, first_with, broken_at, one_more_name, with_type, with_type_at, with_broken}
 use Rattle.xc_types.proofs.Joins.{one, saw_join, saw_names, saw_nothing}
@@ -91,5 +91,11 @@ types_grow s u i ms ss e = rw (length-append (s.types ++ u ∷ []) (site.types s
 
 pub types_grow_twice : (s : Seen) (u : Bool) (i : ℕ) (a b : List Mark) (x y : List Site) → i ≡ length s.types → i + 1 ≤ length (saw (saw (with_type u s) a x) b y).types
 types_grow_twice s u i a b x y e = subst (λ (seen : Seen). i + 1 ≤ length seen.types) (saw_join (with_type u s) a b x y) (types_grow s u i (a ++ b) (x ++ y) e)
+
+-- what expressions stand for
+pub ruleset expressions = (expression-Expr, form-Num, form-Name, form-Index, form-Un, form-Bin, form-Cond, form-Cast)
+
+-- what is needed along an expression alone
+pub ruleset expression_steps = (expressions, append_assoc, append-nil, saw_join, saw_names, saw_nothing, saw_use, saw_node, saw_word, saw_indexed, names_more, names_typed, names_set, names_broken, saw_set, saw_set_twice, types_grow, types_grow_twice)
 
 pub ruleset steps = (forms, append_assoc, append-nil, saw_join, saw_names, saw_nothing, saw_use, saw_call, saw_declaration, saw_node, saw_word, saw_lval, saw_length, saw_indexed, names_more, names_typed, names_set, names_broken, saw_set, saw_set_twice, types_grow, types_grow_twice)

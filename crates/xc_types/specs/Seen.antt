@@ -1,12 +1,14 @@
 -- What a walk has seen of a program: how many names, the types of its nodes, the first of the broken rules, and the channels
 -- that communications name.
-use Rattle.std.specs.Prelude.{ℕ, ◌+◌, Bool, true, false, List, [], ◌∷◌, ◌++◌, map, slice_set, Option, Some}
+use Rattle.std.specs.Prelude.{ℕ, ◌+◌, Bool, true, false, List, [], ◌∷◌, ◌++◌, not, map, slice_get, slice_set, Option, Some}
 use Rattle.xw_words.specs.declared.pos.Pos.{Pos}
 use Rattle.xw_words.specs.declared.pos.Broken.{Broken}
 use Rattle.xc_tree.specs.declared.names.Mark.{Mark}
+use Rattle.xc_tree.specs.declared.names.What.{What}
 use Rattle.xc_tree.specs.Checks.{Rule, rules}
 use Rattle.xc_tree.specs.Least.{first_of}
-use Rattle.xc_tree.specs.Types.Named.{past}
+use Rattle.xc_tree.specs.Types.Named.{NamedProgram, past, what_at}
+use Rattle.xc_tree.specs.Types.Entities.{is_word, is_array, word_is_unsigned, elements_are_unsigned}
 use Rattle.xc_tree.specs.Types.Sites.{Site, types, communications}
 use Rattle.xc_tree.specs.declared.tree.Id.{Id}
 use Rattle.xc_tree.specs.Types.Rules.{first_that_differs}
@@ -76,3 +78,15 @@ with_broken_at n ps s = record s { best = first_among s.best (map (broken_at n) 
 -- behind the names at the head of a replicated `par`, where rule 415 is broken at the first that differs
 abbrev pub with_replicated : Id → Id → Id → Seen → Seen
 with_replicated a b c s = one_more_name (one_more_name (one_more_name (with_broken_at 415 (first_that_differs a b c) s)))
+
+-- what the next name is declared as
+abbrev pub next_what : NamedProgram → Seen → Option What
+next_what n s = what_at n (slice_get n.uses s.names)
+
+-- behind a name at this place, alone where a word is needed
+abbrev pub after_word : NamedProgram → Pos → Seen → Seen
+after_word n p s = one_more_name (with_type (word_is_unsigned (next_what n s)) (with_broken (not (is_word (next_what n s))) 401 p s))
+
+-- behind a name at this place, before a `[`
+abbrev pub after_indexed : NamedProgram → Pos → Seen → Seen
+after_indexed n p s = one_more_name (with_type (elements_are_unsigned (next_what n s)) (with_broken (not (is_array (next_what n s))) 402 p s))

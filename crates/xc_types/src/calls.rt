@@ -106,13 +106,12 @@ fn has_channel_inside(around: &Around, judged: &Judged) -> bool
 fn function_of<'a>(named: &'a Named, what: Option<&What>) -> Option<&'a FuncItem>
     ensures { option_map tree.head_of (option_copied result) ≡ function (named_of named.now) (option_copied what.entry) }
 {
-    match what {
-        Some(What::Func(k)) => match named.tree.items.get(*k as usize) {
-            Some(Item::Func(function)) => Some(function),
-            Some(Item::Port(_)) => None,
-            None => None,
-        },
-        _ => None,
+    let What::Func(k) = what? else {
+        return None;
+    };
+    match named.tree.items.get(*k as usize)? {
+        Item::Func(function) => Some(function),
+        Item::Port(_) => None,
     }
 }
 

@@ -24,12 +24,7 @@ pub fn lval(seen: &mut Seen, named: &Named, e: &Expr) -> Result<(), Memory>
             seen.add_type(word_is_unsigned(what))?;
             seen.pass()
         }
-        Ex::Index(_, _) => part(seen, named, e),
-        Ex::Num(_, _) => part(seen, named, e),
-        Ex::Un(_, _) => part(seen, named, e),
-        Ex::Bin(_, _, _) => part(seen, named, e),
-        Ex::Cond(_, _, _) => part(seen, named, e),
-        Ex::Cast(_, _) => part(seen, named, e),
+        _ => part(seen, named, e),
     }
 }
 
@@ -43,12 +38,7 @@ pub fn whole(seen: &mut Seen, named: &Named, e: &Expr) -> Result<(), Memory>
             seen.add_type(word_is_unsigned(what_of(named, seen.names)))?;
             seen.pass()
         }
-        Ex::Index(_, _) => part(seen, named, e),
-        Ex::Num(_, _) => part(seen, named, e),
-        Ex::Un(_, _) => part(seen, named, e),
-        Ex::Bin(_, _, _) => part(seen, named, e),
-        Ex::Cond(_, _, _) => part(seen, named, e),
-        Ex::Cast(_, _) => part(seen, named, e),
+        _ => part(seen, named, e),
     }
 }
 

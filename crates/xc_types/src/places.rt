@@ -67,7 +67,7 @@ fn has_form(named: &Named, e: &Expr, first: usize, last: usize) -> bool
 }
 
 /// Whether an expression is made of numbers, names, `+`, `-`, `*` and brackets alone.
-#[tactic(auto, using(crate::proofs::Steps::steps))]
+#[tactic(auto, using(crate::proofs::Steps::expressions))]
 fn is_made_of_these(e: &Expr) -> bool
     ensures { result ≡ made_of_these (tree.expression_of e.now) }
 {

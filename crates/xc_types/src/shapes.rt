@@ -1,31 +1,62 @@
 ghost use Rattle.std.specs.Prelude.{◌≡◌, ◌&&◌, not, is_some, drop, map, bytes_eq, OnOk};
 ghost use Rattle.xc_tree.specs.Plain as plain;
-ghost use Rattle.xc_tree.specs.Shapes.Around.{in_par_or_transaction as par_or_transaction};
+ghost use Rattle.xc_tree.specs.Shapes.Around as shape;
 ghost use Rattle.xc_tree.specs.Shapes.Rules.{are_all as all, are_one as one, defaults as defaults_of};
 ghost use Rattle.xc_tree.specs.Trees.{case_of};
 ghost use Rattle.xc_tree.specs.Types.Entities.{agree};
 ghost use Rattle.xc_types.specs.Around.{around_of};
 ghost use Rattle.xc_types.specs.Seen.{with_broken, with_broken_at, with_replicated};
 
-use crate::around::{Around, function_around, in_par_or_transaction};
+use crate::around::{
+    Around, function_around, has_next_turn, has_way_out, in_par_or_transaction, in_transaction,
+};
 use crate::seen::Seen;
 use xc_tree::{Case, Id};
 use xw_words::{Memory, Pos};
 
 /// Checks a `return`, whose word stands at this place: rules 408 and 502.
 pub fn returns(seen: &mut Seen, around: &Around, has_value: bool, pos: Pos)
-    ensures { seen.new ≡ with_broken (par_or_transaction (around_of around.now).holders) 502 pos (with_broken (not (agree has_value (is_some (around_of around.now).function.result))) 408 pos seen.old) }
+    ensures { seen.new ≡ with_broken (shape.in_par_or_transaction (around_of around.now).holders) 502 pos (with_broken (not (agree has_value (is_some (around_of around.now).function.result))) 408 pos seen.old) }
 {
     let gives_word = function_around(around).result.is_some();
     seen.breaks_where(has_value != gives_word, 408, pos);
     seen.breaks_where(in_par_or_transaction(around), 502, pos);
 }
 
-/// Checks the names at the head of a replicated `par`: rule 415.
-#[tactic(auto, using(crate::proofs::Shaping::replicating))]
-pub fn begin_replicated(seen: &mut Seen, first: &Id, second: &Id, third: &Id) -> Result<(), Memory>
-    ensures { OnOk result (seen.new ≡ with_replicated first.now second.now third.now seen.old) }
+/// Checks a `break`, whose word stands at this place: rule 501.
+pub fn breaks(seen: &mut Seen, around: &Around, pos: Pos)
+    ensures { seen.new ≡ with_broken (not (shape.has_way_out (around_of around.now).holders)) 501 pos seen.old }
 {
+    seen.breaks_where(!has_way_out(around), 501, pos);
+}
+
+/// Checks a `continue`, whose word stands at this place: rule 501.
+pub fn continues(seen: &mut Seen, around: &Around, pos: Pos)
+    ensures { seen.new ≡ with_broken (not (shape.has_next_turn (around_of around.now).holders)) 501 pos seen.old }
+{
+    seen.breaks_where(!has_next_turn(around), 501, pos);
+}
+
+/// Checks that a `par`, a select or a transaction, whose word stands at this place, isn't in a transaction: rule 506.
+pub fn not_in_transaction(seen: &mut Seen, around: &Around, pos: Pos)
+    ensures { seen.new ≡ with_broken (shape.in_transaction (around_of around.now).holders) 506 pos seen.old }
+{
+    seen.breaks_where(in_transaction(around), 506, pos);
+}
+
+/// Checks what stands before the body of a replicated `par`, whose word stands at this place: rules 415 and 506.
+#[tactic(auto, using(crate::proofs::Shaping::replicating))]
+pub fn begin_replicated(
+    seen: &mut Seen,
+    around: &Around,
+    first: &Id,
+    second: &Id,
+    third: &Id,
+    pos: Pos,
+) -> Result<(), Memory>
+    ensures { OnOk result (seen.new ≡ with_replicated first.now second.now third.now (with_broken (shape.in_transaction (around_of around.now).holders) 506 pos seen.old)) }
+{
+    not_in_transaction(seen, around, pos);
     let second_is_same = is_same(first, second);
     let third_differs = !is_same(first, third);
     seen.breaks_where(!second_is_same, 415, second.pos);
@@ -49,9 +80,17 @@ pub fn both(a: bool, b: bool) -> bool
     a && b
 }
 
+/// Checks what is around a select, whose word stands at this place, and its cases together: rules 506 and 507.
+pub fn begin_select(seen: &mut Seen, around: &Around, cs: &[Case], pos: Pos)
+    ensures { seen.new ≡ with_broken_at 507 (drop 1 (defaults_of (plain.cases (map case_of cs.now)))) (with_broken (shape.in_transaction (around_of around.now).holders) 506 pos seen.old) }
+{
+    not_in_transaction(seen, around, pos);
+    defaults(seen, cs);
+}
+
 /// Checks that a select has at most one `default`: rule 507.
 #[tactic(auto, using(crate::proofs::Defaults::one_by_one))]
-pub fn defaults(seen: &mut Seen, cs: &[Case])
+fn defaults(seen: &mut Seen, cs: &[Case])
     ensures { seen.new ≡ with_broken_at 507 (drop 1 (defaults_of (plain.cases (map case_of cs.now)))) seen.old }
 {
     let mut has_default = false;

@@ -7,20 +7,22 @@ ghost use Rattle.xc_tree.specs.Types.Sites as sites;
 ghost use Rattle.xc_types.specs.Around.{around_of};
 ghost use Rattle.xc_types.specs.Seen.{saw};
 
-use crate::around::{Around, Holder, has_next_turn, has_way_out, in_transaction};
+use crate::around::{Around, Holder, in_transaction};
 use crate::calls::{right_side, right_side_if_any};
 use crate::communications::{input, input_if_any, output};
 use crate::declarations::declarations;
 use crate::lvals::{lval, part, part_if_any};
 use crate::places::branch_place;
 use crate::seen::Seen;
-use crate::shapes::{begin_replicated, defaults, returns};
+use crate::shapes::{
+    begin_replicated, begin_select, breaks, continues, not_in_transaction, returns,
+};
 use xc_tree::{Branch, Case, Named, St, Stmt};
 use xw_words::{Memory, Pos};
 
 /// Checks a statement, with what stands around it.
 #[cycle(statement)]
-#[tactic(auto, using(crate::proofs::Shaping::shaping))]
+#[tactic(auto, using(crate::proofs::Shaping::statement_steps))]
 pub fn statement(seen: &mut Seen, named: &Named, s: &Stmt, around: &Around) -> Result<(), Memory>
     ensures { OnOk result (seen.new ≡ saw seen.old (marks.of_statement (tree.statement_of s.now)) (sites.of_statement (named_of named.now) (around_of around.now) seen.old.names (tree.statement_of s.now))) }
 {
@@ -68,15 +70,15 @@ pub fn statement(seen: &mut Seen, named: &Named, s: &Stmt, around: &Around) -> R
             right_side_if_any(seen, named, around, rhs)
         }
         St::Break => {
-            seen.breaks_where(!has_way_out(around), 501, s.pos);
+            breaks(seen, around, s.pos);
             Ok(())
         }
         St::Continue => {
-            seen.breaks_where(!has_next_turn(around), 501, s.pos);
+            continues(seen, around, s.pos);
             Ok(())
         }
         St::Par(bs) => {
-            seen.breaks_where(in_transaction(around), 506, s.pos);
+            not_in_transaction(seen, around, s.pos);
             branches(seen, named, bs.as_slice(), around)
         }
         St::Repl {
@@ -87,13 +89,11 @@ pub fn statement(seen: &mut Seen, named: &Named, s: &Stmt, around: &Around) -> R
             to: _,
             body,
         } => {
-            seen.breaks_where(in_transaction(around), 506, s.pos);
-            begin_replicated(seen, first, second, third)?;
+            begin_replicated(seen, around, first, second, third, s.pos)?;
             branch(seen, named, body, around)
         }
         St::Select(cs) => {
-            seen.breaks_where(in_transaction(around), 506, s.pos);
-            defaults(seen, cs.as_slice());
+            begin_select(seen, around, cs.as_slice(), s.pos);
             cases(seen, named, cs.as_slice(), around)
         }
         St::Tran(_, ss) => transaction(seen, named, ss.as_slice(), around, s.pos),
@@ -101,7 +101,7 @@ pub fn statement(seen: &mut Seen, named: &Named, s: &Stmt, around: &Around) -> R
 }
 
 #[cycle(statement)]
-#[tactic(auto, using(crate::proofs::Shaping::shaping))]
+#[tactic(auto, using(crate::proofs::Shaping::statement_steps))]
 fn statement_if_any(
     seen: &mut Seen,
     named: &Named,
@@ -135,7 +135,7 @@ pub fn statements(
 
 /// Checks a transaction, whose word stands at this place: rules 505 and 506.
 #[cycle(statement)]
-#[tactic(auto, using(crate::proofs::Shaping::shaping))]
+#[tactic(auto, using(crate::proofs::Shaping::statement_steps))]
 fn transaction(
     seen: &mut Seen,
     named: &Named,
@@ -162,7 +162,7 @@ fn transaction(
 
 /// Checks a branch of a `par`, with what stands around that.
 #[cycle(statement)]
-#[tactic(auto, using(crate::proofs::Shaping::shaping))]
+#[tactic(auto, using(crate::proofs::Shaping::statement_steps))]
 fn branch(seen: &mut Seen, named: &Named, b: &Branch, around: &Around) -> Result<(), Memory>
     ensures { OnOk result (seen.new ≡ saw seen.old (marks.of_branch (tree.branch_of b.now)) (sites.of_branch (named_of named.now) (around_of around.now) seen.old.names (tree.branch_of b.now))) }
 {
@@ -188,7 +188,7 @@ fn branches(seen: &mut Seen, named: &Named, bs: &[Branch], around: &Around) -> R
 
 /// Checks a case of a select, with what stands around that.
 #[cycle(statement)]
-#[tactic(auto, using(crate::proofs::Shaping::shaping))]
+#[tactic(auto, using(crate::proofs::Shaping::statement_steps))]
 fn case(seen: &mut Seen, named: &Named, c: &Case, around: &Around) -> Result<(), Memory>
     ensures { OnOk result (seen.new ≡ saw seen.old (marks.of_case (tree.case_of c.now)) (sites.of_case (named_of named.now) (around_of around.now) seen.old.names (tree.case_of c.now))) }
 {
