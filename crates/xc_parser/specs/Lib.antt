@@ -11,4 +11,6 @@ pub mod RightSides
 pub mod Begun
 pub mod RowReading
 pub mod CaseParts
+pub mod Tails
+pub mod Counting
 pub mod Rounds

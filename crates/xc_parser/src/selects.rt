@@ -175,10 +175,10 @@ impl<'a> Parser<'a> {
         ensures stopped { IfErr result (λ e. StoppedRow self.now.toks.now room awaited at e) }
     {
         let input = self.input(at, room)?;
-        let colon = self.symbol(input.end, COLON)?;
+        let closed = self.closed(input, COLON)?;
         Ok(Read {
-            value: input.value,
-            end: colon.end,
+            value: closed.value,
+            end: closed.end,
         })
     }
 

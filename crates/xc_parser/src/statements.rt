@@ -216,8 +216,8 @@ impl<'a> Parser<'a> {
             return Err(Stop::Deep(behind));
         }
         let assign = self.assign(at, room)?;
-        let semicolon = self.symbol(assign.end, SEMICOLON)?;
-        Ok(self.whole(at, semicolon.end, 0, assign.value))
+        let closed = self.closed(assign, SEMICOLON)?;
+        Ok(self.whole(at, closed.end, 0, closed.value))
     }
 
     /// A call as a statement, with room for so many nodes inside it.
@@ -284,17 +284,17 @@ impl<'a> Parser<'a> {
     {
         let open = self.symbol(at + 1, PAREN)?;
         let test = self.expr(open.end, room)?;
-        let close = self.symbol(test.end, END_PAREN)?;
+        let close = self.closed(test, END_PAREN)?;
         let first = self.statement(close.end, room)?;
         let held = first.end - close.end;
         let then = self.boxed(first.value)?;
         if !is_word(self.toks, first.end, ELSE_WORD) {
-            return Ok(self.whole(at, first.end, held, St::If(test.value, then, None)));
+            return Ok(self.whole(at, first.end, held, St::If(close.value, then, None)));
         }
         let second = self.statement(first.end + 1, room)?;
         let both = held + (second.end - first.end - 1);
         let other = self.boxed(second.value)?;
-        Ok(self.whole(at, second.end, both, St::If(test.value, then, Some(other))))
+        Ok(self.whole(at, second.end, both, St::If(close.value, then, Some(other))))
     }
 }
 

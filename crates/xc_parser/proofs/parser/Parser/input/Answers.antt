@@ -12,24 +12,24 @@ returns-in_err-waits-clause-stopped c =
     let name = read (begin refl tt) (c.in_ok-name.ensures.read _) refl in
     handed_on _ c.from_residual-in_err-waits.result c.from_residual-in_err-waits.ensures.1 (stops _ name c.in_err-waits.ensures.stopped refl)
 
-pub returns-in_err-receives-clause-stopped : goal.returns-in_err-receives-clause-stopped
-returns-in_err-receives-clause-stopped c =
+pub returns-in_err-closed-clause-stopped : goal.returns-in_err-closed-clause-stopped
+returns-in_err-closed-clause-stopped c =
     let name = read (begin refl tt) (c.in_ok-name.ensures.read _) refl in
     let waits = read name c.in_ok-waits.ensures.read refl in
-    handed_on _ c.from_residual-in_err-receives.result c.from_residual-in_err-receives.ensures.1 (stops _ waits (c.in_err-receives.ensures.stopped _) refl)
+    handed_on _ c.from_residual-in_err-closed.result c.from_residual-in_err-closed.ensures.1 (stops _ waits (c.in_err-closed.ensures.stopped _) refl)
 
 pub returns-in_err-dest-clause-stopped : goal.returns-in_err-dest-clause-stopped
 returns-in_err-dest-clause-stopped c =
     let name = read (begin refl tt) (c.in_ok-name.ensures.read _) refl in
     let waits = read name c.in_ok-waits.ensures.read refl in
-    let receives = read waits (c.in_ok-receives.ensures.read _) refl in
+    let receives = read waits (c.in_ok-closed.ensures.read.1 _) refl in
     handed_on _ c.from_residual-in_err-dest.result c.from_residual-in_err-dest.ensures.1 (stops _ receives c.in_err-dest.ensures.stopped refl)
 
 pub returns-in_err-stamp-clause-stopped : goal.returns-in_err-stamp-clause-stopped
 returns-in_err-stamp-clause-stopped c =
     let name = read (begin refl tt) (c.in_ok-name.ensures.read _) refl in
     let waits = read name c.in_ok-waits.ensures.read refl in
-    let receives = read waits (c.in_ok-receives.ensures.read _) refl in
+    let receives = read waits (c.in_ok-closed.ensures.read.1 _) refl in
     let dest = read receives c.in_ok-dest.ensures.read refl in
     handed_on _ c.from_residual-in_err-stamp.result c.from_residual-in_err-stamp.ensures.1 (stops _ dest c.in_err-stamp.ensures.stopped refl)
 
@@ -37,6 +37,6 @@ pub returns-clause-read : goal.returns-clause-read
 returns-clause-read c =
     let name = read (begin refl tt) (c.in_ok-name.ensures.read _) refl in
     let waits = read name c.in_ok-waits.ensures.read refl in
-    let receives = read waits (c.in_ok-receives.ensures.read _) refl in
+    let receives = read waits (c.in_ok-closed.ensures.read.1 _) refl in
     let dest = read receives c.in_ok-dest.ensures.read refl in
-    rw c.input_of.ensures (finish (read dest c.in_ok-stamp.ensures.read refl) refl)
+    rw (c.input_of.ensures, c.in_ok-closed.ensures.value) (finish (read dest c.in_ok-stamp.ensures.read refl) refl)
