@@ -44,6 +44,7 @@ mod DeclaredRows
 mod Cores
 mod ItemHeads
 mod Transferring
+mod PortParts
 mod Tails
 mod Counting
 pub mod Insides

@@ -15,7 +15,7 @@ use xc_tree::{Kind, Rhs, St};
 use xw_words::Pos;
 
 /// An operator that assigns, by its place in `SYMBOLS`, and where it stands.
-#[derive(Clone, Copy, Debug)]
+#[derive(Clone, Copy)]
 pub struct Mark {
     pub symbol: u8,
     pub pos: Pos,

@@ -14,7 +14,7 @@ use xc_tree::{Id, Kind};
 use xw_words::Pos;
 
 /// A number, whether it is `unsigned`, and where it stands.
-#[derive(Clone, Copy, Debug)]
+#[derive(Clone, Copy)]
 pub struct Numeral {
     pub value: u32,
     pub is_unsigned: bool,

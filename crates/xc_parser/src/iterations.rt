@@ -44,10 +44,9 @@ impl<'a> Parser<'a> {
         let open = self.symbol(at + 1, PAREN)?;
         let test = self.expr(open.end, room)?;
         let close = self.closed(test, END_PAREN)?;
-        let body = self.statement(close.end, room)?;
+        let body = self.boxed_statement(close.end, room)?;
         let held = body.end - close.end;
-        let boxed = self.boxed(body.value)?;
-        Ok(self.whole(at, body.end, held, St::While(close.value, boxed)))
+        Ok(self.whole(at, body.end, held, St::While(close.value, body.value)))
     }
 
     /// A `do`, with room for so many nodes inside it.
@@ -59,11 +58,10 @@ impl<'a> Parser<'a> {
         ensures read { IfOk result (λ r. Reads self.now.toks.now (room + 1) symbol.statement at r.end (trees.statement_of r.value)) }
         ensures stopped { IfErr result (λ e. Stopped self.now.toks.now (room + 1) symbol.statement at e) }
     {
-        let body = self.statement(at + 1, room)?;
+        let body = self.boxed_statement(at + 1, room)?;
         let held = body.end - at - 1;
-        let boxed = self.boxed(body.value)?;
         let test = self.do_tail(body.end, room)?;
-        Ok(self.whole(at, test.end, held, St::DoWhile(boxed, test.value)))
+        Ok(self.whole(at, test.end, held, St::DoWhile(body.value, test.value)))
     }
 
     /// What ends a `do`: its `while`, the test between brackets, and the `;`.
@@ -93,7 +91,7 @@ impl<'a> Parser<'a> {
         ensures stopped { IfErr result (λ e. Stopped self.now.toks.now (room + 1) symbol.statement at e) }
     {
         let parts = self.for_parts(at, room)?;
-        let body = self.statement(parts.end, room)?;
+        let body = self.boxed_statement(parts.end, room)?;
         let Parts {
             start,
             test,
@@ -101,8 +99,8 @@ impl<'a> Parser<'a> {
             held,
         } = parts.value;
         let all = held + (body.end - parts.end);
-        let boxed = self.boxed(body.value)?;
-        Ok(self.whole(at, body.end, all, St::For(start, test, step, boxed)))
+        let kind = St::For(start, test, step, body.value);
+        Ok(self.whole(at, body.end, all, kind))
     }
 
     /// What stands between the word of a `for` and its body, from the word on.

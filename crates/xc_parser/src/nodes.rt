@@ -77,16 +77,13 @@ pub fn binary(alloc: Global, symbol: u8, left: Expr, right: Expr, pos: Pos) -> R
     ensures made { IfOk result (λ e. expression_of e ≡ plain.expression (plain.binary symbol (expression_of left) (expression_of right)) pos) }
     ensures memory { IfErr result (λ e. e ≡ stop.Memory) }
 {
-    let Ok(left) = Box::new(alloc, left) else {
-        return Err(Stop::Memory);
-    };
-    let Ok(right) = Box::new(alloc, right) else {
-        return Err(Stop::Memory);
-    };
-    Ok(Expr {
-        kind: Ex::Bin(symbol, left, right),
-        pos,
-    })
+    match boxed_pair(alloc, left, right) {
+        Ok(pair) => Ok(Expr {
+            kind: Ex::Bin(symbol, pair.0, pair.1),
+            pos,
+        }),
+        Err(e) => Err(e),
+    }
 }
 
 /// `test ? first : second`
@@ -94,17 +91,30 @@ pub fn choice(alloc: Global, test: Expr, first: Expr, second: Expr, pos: Pos) ->
     ensures made { IfOk result (λ e. expression_of e ≡ plain.expression (plain.choice (expression_of test) (expression_of first) (expression_of second)) pos) }
     ensures memory { IfErr result (λ e. e ≡ stop.Memory) }
 {
-    let Ok(test) = Box::new(alloc, test) else {
-        return Err(Stop::Memory);
+    let pair = match boxed_pair(alloc, first, second) {
+        Ok(pair) => pair,
+        Err(e) => return Err(e),
     };
+    match Box::new(alloc, test) {
+        Ok(test) => Ok(Expr {
+            kind: Ex::Cond(test, pair.0, pair.1),
+            pos,
+        }),
+        Err(_) => Err(Stop::Memory),
+    }
+}
+
+/// Two expressions, each in memory of its own.
+fn boxed_pair(alloc: Global, first: Expr, second: Expr) -> Result<(Box<Expr>, Box<Expr>), Stop>
+    ensures first { IfOk result (λ pair. pair.0.value ≡ first) }
+    ensures second { IfOk result (λ pair. pair.1.value ≡ second) }
+    ensures memory { IfErr result (λ e. e ≡ stop.Memory) }
+{
     let Ok(first) = Box::new(alloc, first) else {
         return Err(Stop::Memory);
     };
-    let Ok(second) = Box::new(alloc, second) else {
-        return Err(Stop::Memory);
-    };
-    Ok(Expr {
-        kind: Ex::Cond(test, first, second),
-        pos,
-    })
+    match Box::new(alloc, second) {
+        Ok(second) => Ok((first, second)),
+        Err(_) => Err(Stop::Memory),
+    }
 }

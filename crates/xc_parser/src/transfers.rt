@@ -11,6 +11,7 @@ ghost use Rattle.xc_parser.specs.Reading.{Reads};
 ghost use Rattle.xc_parser.specs.RowReading.{ReadsRow, StoppedRow};
 ghost use Rattle.xc_parser.specs.Stops.{Stopped};
 ghost use Rattle.xc_parser.specs.Parts.{waits_of, received, sent};
+ghost use Rattle.xc_parser.specs.Goals.{ReadsGoal, StopsGoal};
 ghost use Rattle.xc_parser.specs.Tails.{output_row, input_row};
 
 use crate::parser::{Parser, Read};
@@ -38,9 +39,9 @@ struct OutputTail {
     stamp: Option<Timed>,
 }
 
-/// What stands behind the `:>` of an input.
+/// What stands behind the `:>` of an input: where its value goes, and where its time is stored.
 #[derive(Drop)]
-struct InputTail {
+struct Goal {
     dest: Dest,
     stamp: Option<Timed>,
 }
@@ -56,11 +57,11 @@ impl<'a> Parser<'a> {
         let name = self.id(at)?;
         let waits = self.waits(name.end, room)?;
         let closed = self.closed(waits, RECEIVES)?;
-        let dest = self.dest(closed.end, room)?;
-        let stamp = self.maybe_stamp(dest.end, room)?;
+        let goal = self.goal(closed.end, room)?;
+        let Goal { dest, stamp } = goal.value;
         Ok(Read {
-            value: input_of(name.value, closed.value, dest.value, stamp.value),
-            end: stamp.end,
+            value: input_of(name.value, closed.value, dest, stamp),
+            end: goal.end,
         })
     }
 
@@ -116,7 +117,7 @@ impl<'a> Parser<'a> {
             return Ok(self.whole(at, sends.end, 0, St::Output(output)));
         }
         let receives = self.input_tail(time.end, room)?;
-        let InputTail { dest, stamp } = receives.value;
+        let Goal { dest, stamp } = receives.value;
         let input = input_of(name.value, Waits::Time(time.value), dest, stamp);
         Ok(self.whole(at, receives.end, 0, St::Input(input)))
     }
@@ -141,21 +142,35 @@ impl<'a> Parser<'a> {
     }
 
     /// An input from its `:>` on, with the `;` behind it.
-    fn input_tail(&self, at: usize, room: u32) -> Result<Read<InputTail>, Stop>
+    fn input_tail(&self, at: usize, room: u32) -> Result<Read<Goal>, Stop>
         ensures bounds { IfOk result (λ r. (at < r.end) × (r.end ≤ length self.now.toks.now)) }
         ensures read { IfOk result (λ r. (p : Pos) × (q : Pos) × ReadsRow self.now.toks.now room input_row at r.end (p, (trees.target_of r.value.dest, (option_map trees.timing_of r.value.stamp, (q, tt))))) }
         ensures stopped { IfErr result (λ e. StoppedRow self.now.toks.now room input_row at e) }
     {
         let receives = self.symbol(at, RECEIVES)?;
-        let dest = self.dest(receives.end, room)?;
-        let stamp = self.maybe_stamp(dest.end, room)?;
-        let closed = self.closed(stamp, SEMICOLON)?;
+        let goal = self.goal(receives.end, room)?;
+        let closed = self.closed(goal, SEMICOLON)?;
         Ok(Read {
-            value: InputTail {
-                dest: dest.value,
-                stamp: closed.value,
-            },
+            value: closed.value,
             end: closed.end,
+        })
+    }
+
+    /// Where the value of an input goes, and where its time is stored.
+    fn goal(&self, at: usize, room: u32) -> Result<Read<Goal>, Stop>
+        requires at { at ≤ length self.now.toks.now }
+        ensures bounds { IfOk result (λ r. (at < r.end) × (r.end ≤ length self.now.toks.now)) }
+        ensures read { IfOk result (λ r. ReadsGoal self.now.toks.now room at r.end (trees.target_of r.value.dest) (option_map trees.timing_of r.value.stamp)) }
+        ensures stopped { IfErr result (λ e. StopsGoal self.now.toks.now room at e) }
+    {
+        let dest = self.dest(at, room)?;
+        let stamp = self.maybe_stamp(dest.end, room)?;
+        Ok(Read {
+            value: Goal {
+                dest: dest.value,
+                stamp: stamp.value,
+            },
+            end: stamp.end,
         })
     }
 
@@ -203,12 +218,12 @@ impl<'a> Parser<'a> {
         let test = self.test(at + 1)?;
         let open = self.symbol(test.end, PAREN)?;
         let value = self.expr(open.end, room)?;
-        let close = self.symbol(value.end, END_PAREN)?;
+        let close = self.closed(value, END_PAREN)?;
         Ok(Read {
             value: Waits::Condition(When {
                 at: pos,
                 test: test.value,
-                value: value.value,
+                value: close.value,
             }),
             end: close.end,
         })

@@ -311,11 +311,11 @@ while_loop-returns-in_err-body-clause-stopped t c =
     (while_body_stops c.args.room c.requires.word.1 (c.in_ok-open.ensures.read _) c.in_ok-test.ensures.read (c.in_ok-close.ensures.read.1 _) _ c.in_err-body.ensures.stopped)
 
 pub while_loop-whole-requires-clause-held : goal.while_loop-whole-requires-clause-held
-while_loop-whole-requires-clause-held t c = rw (action-While, c.in_ok-boxed.ensures.value) (held_while (expression_of c.in_ok-close.close.value) c.in_ok-body.ensures.read.derives)
+while_loop-whole-requires-clause-held t c = rw action-While (held_while (expression_of c.in_ok-close.close.value) c.in_ok-body.ensures.read.derives)
 
 pub while_loop-returns-clause-read : goal.while_loop-returns-clause-read
 while_loop-returns-clause-read t c =
-    rw (c.whole.ensures.end, c.whole.ensures.value, action-While, c.in_ok-boxed.ensures.value, c.in_ok-close.ensures.value)
+    rw (c.whole.ensures.end, c.whole.ensures.value, action-While, c.in_ok-close.ensures.value)
     (while_reads c.args.room c.requires.word.1 (c.in_ok-open.ensures.read _) c.in_ok-test.ensures.read (c.in_ok-close.ensures.read.1 _) c.in_ok-body.ensures.read)
 
 pub do_loop-returns-in_err-body-clause-stopped : goal.do_loop-returns-in_err-body-clause-stopped
@@ -329,11 +329,11 @@ do_loop-returns-in_err-test-clause-stopped t c =
     (do_tail_stops c.args.room c.requires.word.1 c.in_ok-body.ensures.read _ c.in_err-test.ensures.stopped)
 
 pub do_loop-whole-requires-clause-held : goal.do_loop-whole-requires-clause-held
-do_loop-whole-requires-clause-held t c = rw (action-DoWhile, c.in_ok-boxed.ensures.value) (held_do c.args.at (expression_of c.in_ok-test.test.value) c.in_ok-body.ensures.read.derives)
+do_loop-whole-requires-clause-held t c = rw action-DoWhile (held_do c.args.at (expression_of c.in_ok-test.test.value) c.in_ok-body.ensures.read.derives)
 
 pub do_loop-returns-clause-read : goal.do_loop-returns-clause-read
 do_loop-returns-clause-read t c =
-    rw (c.whole.ensures.end, c.whole.ensures.value, action-DoWhile, c.in_ok-boxed.ensures.value)
+    rw (c.whole.ensures.end, c.whole.ensures.value, action-DoWhile)
     (do_reads c.args.room c.requires.word.1 c.in_ok-body.ensures.read c.in_ok-test.ensures.read.4)
 
 pub for_loop-returns-in_err-parts-clause-stopped : goal.for_loop-returns-in_err-parts-clause-stopped
@@ -349,13 +349,13 @@ for_loop-returns-in_err-body-clause-stopped t c =
 pub for_loop-whole-requires-clause-held : goal.for_loop-whole-requires-clause-held
 for_loop-whole-requires-clause-held t c =
     let r = c.in_ok-parts.ensures.read in
-    rw (for_made _ _ r.has_start r.has_step, r.held, c.in_ok-boxed.ensures.value)
+    rw (for_made _ _ r.has_start r.has_step, r.held)
     (held_for (option_map expression_of c.in_ok-parts.parts.value.test) r.starts.derives r.steps.derives c.in_ok-body.ensures.read.derives)
 
 pub for_loop-returns-clause-read : goal.for_loop-returns-clause-read
 for_loop-returns-clause-read t c =
     let r = c.in_ok-parts.ensures.read in
-    rw (c.whole.ensures.end, c.whole.ensures.value, for_made _ _ r.has_start r.has_step, c.in_ok-boxed.ensures.value)
+    rw (c.whole.ensures.end, c.whole.ensures.value, for_made _ _ r.has_start r.has_step)
     (for_reads c.args.room c.requires.word.1 (r.opens _) r.starts (r.ends_start _) r.tests (r.ends_test _) r.steps (r.closes _) c.in_ok-body.ensures.read)
 
 pub begun-whole-requires-clause-held : goal.begun-whole-requires-clause-held
@@ -441,6 +441,13 @@ pub statement-returns-clause-stopped : goal.statement-returns-clause-stopped
 statement-returns-clause-stopped t c =
     let e : c.args.room - 1 + 1 ≡ c.args.room = omega arith in
     err_room c.args.self.now.toks.now symbol.statement c.args.at e c.begun.result c.begun.ensures.stopped
+
+pub boxed_statement-returns-in_err-read-clause-stopped : goal.boxed_statement-returns-in_err-read-clause-stopped
+boxed_statement-returns-in_err-read-clause-stopped t c =
+    handed_on _ c.from_residual.result c.from_residual.ensures.1 c.in_err-read.ensures.stopped
+
+pub boxed_statement-returns-clause-read : goal.boxed_statement-returns-clause-read
+boxed_statement-returns-clause-read t c = rw c.in_ok-boxed.ensures.value c.in_ok-read.ensures.read
 
 pub braced-returns-in_err-block-clause-stopped : goal.braced-returns-in_err-block-clause-stopped
 braced-returns-in_err-block-clause-stopped t c =
@@ -558,7 +565,7 @@ conditional-returns-in_err-first-clause-stopped t c =
     (then_stops c.args.room w o q l _ (stopped_from c.args.self.now.toks.now c.args.room symbol.statement _ c.in_ok-close.ensures.bounds.0 c.in_err-first.ensures.stopped))
 
 pub conditional-whole-requires-clause-held : goal.conditional-whole-requires-clause-held
-conditional-whole-requires-clause-held t c = rw (action-If, c.in_ok-then.ensures.value) (held_if (expression_of c.in_ok-close.close.value) c.in_ok-first.ensures.read.derives)
+conditional-whole-requires-clause-held t c = rw action-If (held_if (expression_of c.in_ok-close.close.value) c.in_ok-first.ensures.read.derives)
 
 pub conditional-returns-then-not-is_word-clause-read : goal.conditional-returns-then-not-is_word-clause-read
 conditional-returns-then-not-is_word-clause-read t c =
@@ -567,7 +574,7 @@ conditional-returns-then-not-is_word-clause-read t c =
     let q = from_place c.in_ok-open.ensures.bounds.0 c.in_ok-test.ensures.read in
     let l = symbol_there (c.in_ok-close.ensures.read.1 0) in
     let s = from_place c.in_ok-close.ensures.bounds.0 c.in_ok-first.ensures.read in
-    rw (c.whole.ensures.end, c.whole.ensures.value, action-If, c.in_ok-then.ensures.value, c.in_ok-close.ensures.value)
+    rw (c.whole.ensures.end, c.whole.ensures.value, action-If, c.in_ok-close.ensures.value)
     (then_reads c.args.room w o q l s (c.is_word.ensures.no c.if-not-is_word.true))
 
 pub conditional-returns-in_err-second-clause-stopped : goal.conditional-returns-in_err-second-clause-stopped
@@ -582,7 +589,7 @@ conditional-returns-in_err-second-clause-stopped t c =
     (else_stops c.args.room w o q l s els _ c.in_err-second.ensures.stopped)
 
 pub conditional-whole-requires-2-clause-held : goal.conditional-whole-requires-2-clause-held
-conditional-whole-requires-2-clause-held t c = rw (action-If, c.in_ok-then.ensures.value, c.in_ok-other.ensures.value) (held_if_else (expression_of c.in_ok-close.close.value) c.in_ok-first.ensures.read.derives c.in_ok-second.ensures.read.derives)
+conditional-whole-requires-2-clause-held t c = rw action-If (held_if_else (expression_of c.in_ok-close.close.value) c.in_ok-first.ensures.read.derives c.in_ok-second.ensures.read.derives)
 
 pub conditional-returns-clause-read : goal.conditional-returns-clause-read
 conditional-returns-clause-read t c =
@@ -592,5 +599,5 @@ conditional-returns-clause-read t c =
     let l = symbol_there (c.in_ok-close.ensures.read.1 0) in
     let s = from_place c.in_ok-close.ensures.bounds.0 c.in_ok-first.ensures.read in
     let els = (c.is_word.ensures.yes c.if-not-is_word.false).1.1 in
-    rw (c.whole-2.ensures.end, c.whole-2.ensures.value, action-If, c.in_ok-then.ensures.value, c.in_ok-other.ensures.value, c.in_ok-close.ensures.value)
+    rw (c.whole-2.ensures.end, c.whole-2.ensures.value, action-If, c.in_ok-close.ensures.value)
     (else_reads c.args.room w o q l s els c.in_ok-second.ensures.read)

@@ -1,4 +1,4 @@
-use Rattle.std.proofs.Common.{refl}
+use Rattle.std.proofs.Common.{refl, inl, inr}
 use Rattle.xc_parser.proofs.Exits.{handed_on}
 use Rattle.xc_parser.proofs.Paths.{begin, read, stops, finish}
 use Rattle.xc_parser.proofs.parser.Parser.input.Goals as goal
@@ -18,25 +18,18 @@ returns-in_err-closed-clause-stopped c =
     let waits = read name c.in_ok-waits.ensures.read refl in
     handed_on _ c.from_residual-in_err-closed.result c.from_residual-in_err-closed.ensures.1 (stops _ waits (c.in_err-closed.ensures.stopped _) refl)
 
-pub returns-in_err-dest-clause-stopped : goal.returns-in_err-dest-clause-stopped
-returns-in_err-dest-clause-stopped c =
+pub returns-in_err-goal-clause-stopped : goal.returns-in_err-goal-clause-stopped
+returns-in_err-goal-clause-stopped c =
     let name = read (begin refl tt) (c.in_ok-name.ensures.read _) refl in
     let waits = read name c.in_ok-waits.ensures.read refl in
     let receives = read waits (c.in_ok-closed.ensures.read.1 _) refl in
-    handed_on _ c.from_residual-in_err-dest.result c.from_residual-in_err-dest.ensures.1 (stops _ receives c.in_err-dest.ensures.stopped refl)
-
-pub returns-in_err-stamp-clause-stopped : goal.returns-in_err-stamp-clause-stopped
-returns-in_err-stamp-clause-stopped c =
-    let name = read (begin refl tt) (c.in_ok-name.ensures.read _) refl in
-    let waits = read name c.in_ok-waits.ensures.read refl in
-    let receives = read waits (c.in_ok-closed.ensures.read.1 _) refl in
-    let dest = read receives c.in_ok-dest.ensures.read refl in
-    handed_on _ c.from_residual-in_err-stamp.result c.from_residual-in_err-stamp.ensures.1 (stops _ dest c.in_err-stamp.ensures.stopped refl)
+    handed_on _ c.from_residual-in_err-goal.result c.from_residual-in_err-goal.ensures.1
+    (elim c.in_err-goal.ensures.stopped.stops [ inl x ↦ stops _ receives x refl | inr y ↦ stops _ (read receives y.2 refl) y.3 refl ])
 
 pub returns-clause-read : goal.returns-clause-read
 returns-clause-read c =
     let name = read (begin refl tt) (c.in_ok-name.ensures.read _) refl in
     let waits = read name c.in_ok-waits.ensures.read refl in
     let receives = read waits (c.in_ok-closed.ensures.read.1 _) refl in
-    let dest = read receives c.in_ok-dest.ensures.read refl in
-    rw (c.input_of.ensures, c.in_ok-closed.ensures.value) (finish (read dest c.in_ok-stamp.ensures.read refl) refl)
+    let r = c.in_ok-goal.ensures.read in
+    rw (c.input_of.ensures, c.in_ok-closed.ensures.value) (finish (read (read receives r.target refl) r.stored refl) refl)
