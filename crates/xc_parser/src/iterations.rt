@@ -14,6 +14,7 @@ ghost use Rattle.xc_parser.specs.Stops.{Stopped};
 ghost use Rattle.xc_parser.specs.Tails.{do_row};
 
 use crate::declarations::variable;
+use crate::memory::{beside, boxed};
 use crate::parser::{Parser, Read};
 use crate::stop::Stop;
 use crate::terminals::{END_PAREN, EQUALS, PAREN, SEMICOLON, WHILE_WORD};
@@ -44,9 +45,9 @@ impl<'a> Parser<'a> {
         let open = self.symbol(at + 1, PAREN)?;
         let test = self.expr(open.end, room)?;
         let close = self.closed(test, END_PAREN)?;
-        let body = self.boxed_statement(close.end, room)?;
+        let (test, body) = beside(close.value, self.boxed_statement(close.end, room))?;
         let held = body.end - close.end;
-        Ok(self.whole(at, body.end, held, St::While(close.value, body.value)))
+        Ok(self.whole(at, body.end, held, St::While(test, body.value)))
     }
 
     /// A `do`, with room for so many nodes inside it.
@@ -262,7 +263,7 @@ impl<'a> Parser<'a> {
     {
         match statement {
             None => Ok(None),
-            Some(statement) => Ok(Some(self.boxed(statement)?)),
+            Some(statement) => Ok(Some(boxed(self.alloc, statement)?)),
         }
     }
 }

@@ -5,6 +5,7 @@ ghost use Rattle.xc_tree.specs.Trees.{expression_of};
 ghost use Rattle.xc_tree.specs.Plain as plain;
 ghost use Rattle.xc_parser.specs.declared.stop.Stop.TheVariants as stop;
 
+use crate::memory::{boxed, boxed_pair, boxed_three};
 use crate::stop::Stop;
 use std::alloc::Global;
 use xc_tree::{Ex, Expr, Text};
@@ -35,12 +36,12 @@ pub fn index(alloc: Global, text: Text, place: Expr, pos: Pos) -> Result<Expr, S
     ensures made { IfOk result (λ e. expression_of e ≡ plain.expression (plain.index text (expression_of place)) pos) }
     ensures memory { IfErr result (λ e. e ≡ stop.Memory) }
 {
-    match Box::new(alloc, place) {
+    match boxed(alloc, place) {
         Ok(place) => Ok(Expr {
             kind: Ex::Index(text, place),
             pos,
         }),
-        Err(_) => Err(Stop::Memory),
+        Err(e) => Err(e),
     }
 }
 
@@ -49,12 +50,12 @@ pub fn unary(alloc: Global, symbol: u8, operand: Expr, pos: Pos) -> Result<Expr,
     ensures made { IfOk result (λ e. expression_of e ≡ plain.expression (plain.unary symbol (expression_of operand)) pos) }
     ensures memory { IfErr result (λ e. e ≡ stop.Memory) }
 {
-    match Box::new(alloc, operand) {
+    match boxed(alloc, operand) {
         Ok(operand) => Ok(Expr {
             kind: Ex::Un(symbol, operand),
             pos,
         }),
-        Err(_) => Err(Stop::Memory),
+        Err(e) => Err(e),
     }
 }
 
@@ -63,12 +64,12 @@ pub fn cast(alloc: Global, is_unsigned: bool, operand: Expr, pos: Pos) -> Result
     ensures made { IfOk result (λ e. expression_of e ≡ plain.expression (plain.cast is_unsigned (expression_of operand)) pos) }
     ensures memory { IfErr result (λ e. e ≡ stop.Memory) }
 {
-    match Box::new(alloc, operand) {
+    match boxed(alloc, operand) {
         Ok(operand) => Ok(Expr {
             kind: Ex::Cast(is_unsigned, operand),
             pos,
         }),
-        Err(_) => Err(Stop::Memory),
+        Err(e) => Err(e),
     }
 }
 
@@ -78,8 +79,8 @@ pub fn binary(alloc: Global, symbol: u8, left: Expr, right: Expr, pos: Pos) -> R
     ensures memory { IfErr result (λ e. e ≡ stop.Memory) }
 {
     match boxed_pair(alloc, left, right) {
-        Ok(pair) => Ok(Expr {
-            kind: Ex::Bin(symbol, pair.0, pair.1),
+        Ok(boxes) => Ok(Expr {
+            kind: Ex::Bin(symbol, boxes.0, boxes.1),
             pos,
         }),
         Err(e) => Err(e),
@@ -91,30 +92,11 @@ pub fn choice(alloc: Global, test: Expr, first: Expr, second: Expr, pos: Pos) ->
     ensures made { IfOk result (λ e. expression_of e ≡ plain.expression (plain.choice (expression_of test) (expression_of first) (expression_of second)) pos) }
     ensures memory { IfErr result (λ e. e ≡ stop.Memory) }
 {
-    let pair = match boxed_pair(alloc, first, second) {
-        Ok(pair) => pair,
-        Err(e) => return Err(e),
-    };
-    match Box::new(alloc, test) {
-        Ok(test) => Ok(Expr {
-            kind: Ex::Cond(test, pair.0, pair.1),
+    match boxed_three(alloc, test, first, second) {
+        Ok(boxes) => Ok(Expr {
+            kind: Ex::Cond(boxes.0, boxes.1, boxes.2),
             pos,
         }),
-        Err(_) => Err(Stop::Memory),
-    }
-}
-
-/// Two expressions, each in memory of its own.
-fn boxed_pair(alloc: Global, first: Expr, second: Expr) -> Result<(Box<Expr>, Box<Expr>), Stop>
-    ensures first { IfOk result (λ pair. pair.0.value ≡ first) }
-    ensures second { IfOk result (λ pair. pair.1.value ≡ second) }
-    ensures memory { IfErr result (λ e. e ≡ stop.Memory) }
-{
-    let Ok(first) = Box::new(alloc, first) else {
-        return Err(Stop::Memory);
-    };
-    match Box::new(alloc, second) {
-        Ok(second) => Ok((first, second)),
-        Err(_) => Err(Stop::Memory),
+        Err(e) => Err(e),
     }
 }

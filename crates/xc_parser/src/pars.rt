@@ -14,6 +14,7 @@ ghost use Rattle.xc_parser.specs.Stops.{Stopped};
 ghost use Rattle.xc_parser.specs.Values.{numeral_of};
 
 use crate::expected::Numeral;
+use crate::memory::boxed;
 use crate::parser::{Parser, Read};
 use crate::stop::Stop;
 use crate::terminals::{
@@ -108,7 +109,7 @@ impl<'a> Parser<'a> {
             third: third.value,
             from: first.value.number.value,
             to: second.value.number.value,
-            body: self.boxed(branch.value)?,
+            body: boxed(self.alloc, branch.value)?,
         };
         Ok(self.whole(at, branch.end, branch.held, kind))
     }

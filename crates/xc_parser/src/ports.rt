@@ -13,6 +13,7 @@ ghost use Rattle.xc_parser.specs.RowReading.{ReadsRow, StoppedRow};
 ghost use Rattle.xc_parser.specs.declared.stop.Stop.TheVariants as stop;
 ghost use Rattle.xc_parser.specs.Stops.{Stopped};
 
+use crate::memory::beside;
 use crate::parser::{Parser, Read};
 use crate::stop::Stop;
 use crate::terminals::{
@@ -38,11 +39,11 @@ impl<'a> Parser<'a> {
         ensures stopped { IfErr result (λ e. Stopped self.now.toks.now room symbol.portdecl at e) }
     {
         let place = self.maybe_place(at, room)?;
-        let port = self.port(place.end)?;
+        let (place, port) = beside(place.value, self.port(place.end))?;
         let Port { dir, name, ident } = port.value;
         Ok(Read {
             value: PortItem {
-                place: place.value,
+                place,
                 dir,
                 name,
                 ident,

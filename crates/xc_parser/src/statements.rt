@@ -12,6 +12,7 @@ ghost use Rattle.xc_parser.specs.Follows.{OneOf, StandsAt, has, begins_statement
 ghost use Rattle.xc_parser.specs.Reading.{Reads};
 ghost use Rattle.xc_parser.specs.Stops.{Stopped};
 
+use crate::memory::{beside, boxed};
 use crate::parser::{Parser, Read};
 use crate::stop::Stop;
 use crate::terminals::{
@@ -72,7 +73,7 @@ impl<'a> Parser<'a> {
         ensures stopped { IfErr result (λ e. Stopped self.now.toks.now room symbol.statement at e) }
     {
         let read = self.statement(at, room)?;
-        let boxed = self.boxed(read.value)?;
+        let boxed = boxed(self.alloc, read.value)?;
         Ok(Read {
             value: boxed,
             end: read.end,
@@ -302,15 +303,16 @@ impl<'a> Parser<'a> {
         let open = self.symbol(at + 1, PAREN)?;
         let test = self.expr(open.end, room)?;
         let close = self.closed(test, END_PAREN)?;
-        let first = self.boxed_statement(close.end, room)?;
+        let (test, first) = beside(close.value, self.boxed_statement(close.end, room))?;
         let held = first.end - close.end;
         if !is_word(self.toks, first.end, ELSE_WORD) {
-            let kind = St::If(close.value, first.value, None);
+            let kind = St::If(test, first.value, None);
             return Ok(self.whole(at, first.end, held, kind));
         }
-        let second = self.boxed_statement(first.end + 1, room)?;
+        let kept = (test, first.value);
+        let (kept, second) = beside(kept, self.boxed_statement(first.end + 1, room))?;
         let both = held + (second.end - first.end - 1);
-        let kind = St::If(close.value, first.value, Some(second.value));
+        let kind = St::If(kept.0, kept.1, Some(second.value));
         Ok(self.whole(at, second.end, both, kind))
     }
 }

@@ -14,6 +14,7 @@ ghost use Rattle.xc_parser.specs.Parts.{waits_of, received, sent};
 ghost use Rattle.xc_parser.specs.Goals.{ReadsGoal, StopsGoal};
 ghost use Rattle.xc_parser.specs.Tails.{output_row, input_row};
 
+use crate::memory::beside;
 use crate::parser::{Parser, Read};
 use crate::stop::Stop;
 use crate::terminals::{
@@ -55,12 +56,13 @@ impl<'a> Parser<'a> {
         ensures stopped { IfErr result (λ e. Stopped self.now.toks.now room symbol.input at e) }
     {
         let name = self.id(at)?;
-        let waits = self.waits(name.end, room)?;
-        let closed = self.closed(waits, RECEIVES)?;
-        let goal = self.goal(closed.end, room)?;
+        let (name, waits) = beside(name.value, self.waits(name.end, room))?;
+        let (name, closed) = beside(name, self.closed(waits, RECEIVES))?;
+        let before = (name, closed.value);
+        let (before, goal) = beside(before, self.goal(closed.end, room))?;
         let Goal { dest, stamp } = goal.value;
         Ok(Read {
-            value: input_of(name.value, closed.value, dest, stamp),
+            value: input_of(before.0, before.1, dest, stamp),
             end: goal.end,
         })
     }
@@ -109,16 +111,18 @@ impl<'a> Parser<'a> {
         ensures stopped { IfErr result (λ e. Stopped self.now.toks.now (room + 1) symbol.statement at e) }
     {
         let name = self.id(at)?;
-        let time = self.time(name.end, room)?;
-        if is_symbol(self.toks, time.end, SENDS) {
-            let sends = self.output_tail(time.end, room)?;
+        let (name, time) = beside(name.value, self.time(name.end, room))?;
+        let end = time.end;
+        let before = (name, time.value);
+        if is_symbol(self.toks, end, SENDS) {
+            let (before, sends) = beside(before, self.output_tail(end, room))?;
             let OutputTail { value, stamp } = sends.value;
-            let output = output_of(name.value, Some(time.value), value, stamp);
+            let output = output_of(before.0, Some(before.1), value, stamp);
             return Ok(self.whole(at, sends.end, 0, St::Output(output)));
         }
-        let receives = self.input_tail(time.end, room)?;
+        let (before, receives) = beside(before, self.input_tail(end, room))?;
         let Goal { dest, stamp } = receives.value;
-        let input = input_of(name.value, Waits::Time(time.value), dest, stamp);
+        let input = input_of(before.0, Waits::Time(before.1), dest, stamp);
         Ok(self.whole(at, receives.end, 0, St::Input(input)))
     }
 
@@ -130,11 +134,11 @@ impl<'a> Parser<'a> {
     {
         let sends = self.symbol(at, SENDS)?;
         let value = self.expr(sends.end, room)?;
-        let stamp = self.maybe_stamp(value.end, room)?;
-        let closed = self.closed(stamp, SEMICOLON)?;
+        let (value, stamp) = beside(value.value, self.maybe_stamp(value.end, room))?;
+        let (value, closed) = beside(value, self.closed(stamp, SEMICOLON))?;
         Ok(Read {
             value: OutputTail {
-                value: value.value,
+                value,
                 stamp: closed.value,
             },
             end: closed.end,
@@ -164,10 +168,10 @@ impl<'a> Parser<'a> {
         ensures stopped { IfErr result (λ e. StopsGoal self.now.toks.now room at e) }
     {
         let dest = self.dest(at, room)?;
-        let stamp = self.maybe_stamp(dest.end, room)?;
+        let (dest, stamp) = beside(dest.value, self.maybe_stamp(dest.end, room))?;
         Ok(Read {
             value: Goal {
-                dest: dest.value,
+                dest,
                 stamp: stamp.value,
             },
             end: stamp.end,

@@ -273,22 +273,24 @@ case-returns-in_err-event-clause-stopped t c =
     handed_on _ c.from_residual-in_err-event.result c.from_residual-in_err-event.ensures.1
     (case_event_stops c.args.self.now.toks.now c.args.room c.args.at (c.is_word.ensures.no c.if-is_word.false) (c.in_ok-word.ensures.read _) _ c.in_err-event.ensures.stopped)
 
-pub case-returns-in_err-body-clause-stopped : goal.case-returns-in_err-body-clause-stopped
-case-returns-in_err-body-clause-stopped t c =
-    handed_on _ c.from_residual-in_err-body.result c.from_residual-in_err-body.ensures.1
-    (case_body_stops c.args.self.now.toks.now c.args.room c.args.at (c.is_word.ensures.no c.if-is_word.false) (c.in_ok-word.ensures.read _) c.in_ok-event.ensures.read.1 _ c.in_err-body.ensures.stopped)
+pub case-returns-in_err-event-2-clause-stopped : goal.case-returns-in_err-event-2-clause-stopped
+case-returns-in_err-event-2-clause-stopped t c =
+    let body = rw c.in_err-event-2.ensures.stopped at c.case_body.ensures.stopped in
+    handed_on _ c.from_residual-in_err-event-2.result c.from_residual-in_err-event-2.ensures.1
+    (case_body_stops c.args.self.now.toks.now c.args.room c.args.at (c.is_word.ensures.no c.if-is_word.false) (c.in_ok-word.ensures.read _) c.in_ok-event.ensures.read.1 _ body)
 
 pub case-returns-clause-holds : goal.case-returns-clause-holds
 case-returns-clause-holds t c =
     let word = c.in_ok-word.ensures.bounds.0 in
     let event = c.in_ok-event.ensures.bounds.0 in
-    let body = c.in_ok-body.ensures.holds in
+    let body = rw c.in_ok-event-2.ensures.next at c.case_body.ensures.holds in
     (rw (case-made _) body.0, omega arith)
 
 pub case-returns-clause-read : goal.case-returns-clause-read
 case-returns-clause-read t c =
-    rw (case-made _)
-    (reads_case c.args.self.now.toks.now c.args.room c.args.at (c.is_word.ensures.no c.if-is_word.false) (c.in_ok-word.ensures.read _) c.in_ok-event.ensures.read.1 c.in_ok-body.ensures.read.2)
+    let body = rw c.in_ok-event-2.ensures.next at c.case_body.ensures.read in
+    rw (case-made _, c.in_ok-event-2.ensures.value)
+    (reads_case c.args.self.now.toks.now c.args.room c.args.at (c.is_word.ensures.no c.if-is_word.false) (c.in_ok-word.ensures.read _) c.in_ok-event.ensures.read.1 body.2)
 
 pub while_loop-returns-in_err-open-clause-stopped : goal.while_loop-returns-in_err-open-clause-stopped
 while_loop-returns-in_err-open-clause-stopped t c =
@@ -305,18 +307,22 @@ while_loop-returns-in_err-close-clause-stopped t c =
     handed_on _ c.from_residual-in_err-close.result c.from_residual-in_err-close.ensures.1
     (while_close_stops c.args.room c.requires.word.1 (c.in_ok-open.ensures.read _) c.in_ok-test.ensures.read _ (c.in_err-close.ensures.stopped _))
 
-pub while_loop-returns-in_err-body-clause-stopped : goal.while_loop-returns-in_err-body-clause-stopped
-while_loop-returns-in_err-body-clause-stopped t c =
-    handed_on _ c.from_residual-in_err-body.result c.from_residual-in_err-body.ensures.1
-    (while_body_stops c.args.room c.requires.word.1 (c.in_ok-open.ensures.read _) c.in_ok-test.ensures.read (c.in_ok-close.ensures.read.1 _) _ c.in_err-body.ensures.stopped)
+pub while_loop-returns-in_err-test-2-clause-stopped : goal.while_loop-returns-in_err-test-2-clause-stopped
+while_loop-returns-in_err-test-2-clause-stopped t c =
+    let body = rw c.in_err-test-2.ensures.stopped at c.boxed_statement.ensures.stopped in
+    handed_on _ c.from_residual-in_err-test-2.result c.from_residual-in_err-test-2.ensures.1
+    (while_body_stops c.args.room c.requires.word.1 (c.in_ok-open.ensures.read _) c.in_ok-test.ensures.read (c.in_ok-close.ensures.read.1 _) _ body)
 
 pub while_loop-whole-requires-clause-held : goal.while_loop-whole-requires-clause-held
-while_loop-whole-requires-clause-held t c = rw action-While (held_while (expression_of c.in_ok-close.close.value) c.in_ok-body.ensures.read.derives)
+while_loop-whole-requires-clause-held t c =
+    let body = rw c.in_ok-test-2.ensures.next at c.boxed_statement.ensures.read in
+    rw action-While (held_while (expression_of c.in_ok-close.close.value) body.derives)
 
 pub while_loop-returns-clause-read : goal.while_loop-returns-clause-read
 while_loop-returns-clause-read t c =
-    rw (c.whole.ensures.end, c.whole.ensures.value, action-While, c.in_ok-close.ensures.value)
-    (while_reads c.args.room c.requires.word.1 (c.in_ok-open.ensures.read _) c.in_ok-test.ensures.read (c.in_ok-close.ensures.read.1 _) c.in_ok-body.ensures.read)
+    let body = rw c.in_ok-test-2.ensures.next at c.boxed_statement.ensures.read in
+    rw (c.whole.ensures.end, c.whole.ensures.value, action-While, c.in_ok-test-2.ensures.value, c.in_ok-close.ensures.value)
+    (while_reads c.args.room c.requires.word.1 (c.in_ok-open.ensures.read _) c.in_ok-test.ensures.read (c.in_ok-close.ensures.read.1 _) body)
 
 pub do_loop-returns-in_err-body-clause-stopped : goal.do_loop-returns-in_err-body-clause-stopped
 do_loop-returns-in_err-body-clause-stopped t c =
@@ -555,17 +561,20 @@ conditional-returns-in_err-close-clause-stopped t c =
     handed_on _ c.from_residual-in_err-close.result c.from_residual-in_err-close.ensures.1
     (close_stops c.args.room w o q _ (c.in_err-close.ensures.stopped _))
 
-pub conditional-returns-in_err-first-clause-stopped : goal.conditional-returns-in_err-first-clause-stopped
-conditional-returns-in_err-first-clause-stopped t c =
+pub conditional-returns-in_err-test-2-clause-stopped : goal.conditional-returns-in_err-test-2-clause-stopped
+conditional-returns-in_err-test-2-clause-stopped t c =
     let w = c.requires.word.1 in
     let o = symbol_there (c.in_ok-open.ensures.read 0) in
     let q = from_place c.in_ok-open.ensures.bounds.0 c.in_ok-test.ensures.read in
     let l = symbol_there (c.in_ok-close.ensures.read.1 0) in
-    handed_on _ c.from_residual-in_err-first.result c.from_residual-in_err-first.ensures.1
-    (then_stops c.args.room w o q l _ (stopped_from c.args.self.now.toks.now c.args.room symbol.statement _ c.in_ok-close.ensures.bounds.0 c.in_err-first.ensures.stopped))
+    let first = rw c.in_err-test-2.ensures.stopped at c.boxed_statement.ensures.stopped in
+    handed_on _ c.from_residual-in_err-test-2.result c.from_residual-in_err-test-2.ensures.1
+    (then_stops c.args.room w o q l _ (stopped_from c.args.self.now.toks.now c.args.room symbol.statement _ c.in_ok-close.ensures.bounds.0 first))
 
 pub conditional-whole-requires-clause-held : goal.conditional-whole-requires-clause-held
-conditional-whole-requires-clause-held t c = rw action-If (held_if (expression_of c.in_ok-close.close.value) c.in_ok-first.ensures.read.derives)
+conditional-whole-requires-clause-held t c =
+    let first = rw c.in_ok-test-2.ensures.next at c.boxed_statement.ensures.read in
+    rw action-If (held_if (expression_of c.in_ok-close.close.value) first.derives)
 
 pub conditional-returns-then-not-is_word-clause-read : goal.conditional-returns-then-not-is_word-clause-read
 conditional-returns-then-not-is_word-clause-read t c =
@@ -573,23 +582,29 @@ conditional-returns-then-not-is_word-clause-read t c =
     let o = symbol_there (c.in_ok-open.ensures.read 0) in
     let q = from_place c.in_ok-open.ensures.bounds.0 c.in_ok-test.ensures.read in
     let l = symbol_there (c.in_ok-close.ensures.read.1 0) in
-    let s = from_place c.in_ok-close.ensures.bounds.0 c.in_ok-first.ensures.read in
-    rw (c.whole.ensures.end, c.whole.ensures.value, action-If, c.in_ok-close.ensures.value)
+    let first = rw c.in_ok-test-2.ensures.next at c.boxed_statement.ensures.read in
+    let s = from_place c.in_ok-close.ensures.bounds.0 first in
+    rw (c.whole.ensures.end, c.whole.ensures.value, action-If, c.in_ok-test-2.ensures.value, c.in_ok-close.ensures.value)
     (then_reads c.args.room w o q l s (c.is_word.ensures.no c.if-not-is_word.true))
 
-pub conditional-returns-in_err-second-clause-stopped : goal.conditional-returns-in_err-second-clause-stopped
-conditional-returns-in_err-second-clause-stopped t c =
+pub conditional-returns-in_err-kept-clause-stopped : goal.conditional-returns-in_err-kept-clause-stopped
+conditional-returns-in_err-kept-clause-stopped t c =
     let w = c.requires.word.1 in
     let o = symbol_there (c.in_ok-open.ensures.read 0) in
     let q = from_place c.in_ok-open.ensures.bounds.0 c.in_ok-test.ensures.read in
     let l = symbol_there (c.in_ok-close.ensures.read.1 0) in
-    let s = from_place c.in_ok-close.ensures.bounds.0 c.in_ok-first.ensures.read in
+    let first = rw c.in_ok-test-2.ensures.next at c.boxed_statement.ensures.read in
+    let s = from_place c.in_ok-close.ensures.bounds.0 first in
     let els = (c.is_word.ensures.yes c.if-not-is_word.false).1.1 in
-    handed_on _ c.from_residual-in_err-second.result c.from_residual-in_err-second.ensures.1
-    (else_stops c.args.room w o q l s els _ c.in_err-second.ensures.stopped)
+    let second = rw c.in_err-kept.ensures.stopped at c.boxed_statement-2.ensures.stopped in
+    handed_on _ c.from_residual-in_err-kept.result c.from_residual-in_err-kept.ensures.1
+    (else_stops c.args.room w o q l s els _ second)
 
 pub conditional-whole-requires-2-clause-held : goal.conditional-whole-requires-2-clause-held
-conditional-whole-requires-2-clause-held t c = rw action-If (held_if_else (expression_of c.in_ok-close.close.value) c.in_ok-first.ensures.read.derives c.in_ok-second.ensures.read.derives)
+conditional-whole-requires-2-clause-held t c =
+    let first = rw c.in_ok-test-2.ensures.next at c.boxed_statement.ensures.read in
+    let second = rw c.in_ok-kept.ensures.next at c.boxed_statement-2.ensures.read in
+    rw (action-If, c.in_ok-kept.ensures.value) (held_if_else (expression_of c.in_ok-close.close.value) first.derives second.derives)
 
 pub conditional-returns-clause-read : goal.conditional-returns-clause-read
 conditional-returns-clause-read t c =
@@ -597,7 +612,9 @@ conditional-returns-clause-read t c =
     let o = symbol_there (c.in_ok-open.ensures.read 0) in
     let q = from_place c.in_ok-open.ensures.bounds.0 c.in_ok-test.ensures.read in
     let l = symbol_there (c.in_ok-close.ensures.read.1 0) in
-    let s = from_place c.in_ok-close.ensures.bounds.0 c.in_ok-first.ensures.read in
+    let first = rw c.in_ok-test-2.ensures.next at c.boxed_statement.ensures.read in
+    let s = from_place c.in_ok-close.ensures.bounds.0 first in
     let els = (c.is_word.ensures.yes c.if-not-is_word.false).1.1 in
-    rw (c.whole-2.ensures.end, c.whole-2.ensures.value, action-If, c.in_ok-close.ensures.value)
-    (else_reads c.args.room w o q l s els c.in_ok-second.ensures.read)
+    let second = rw c.in_ok-kept.ensures.next at c.boxed_statement-2.ensures.read in
+    rw (c.whole-2.ensures.end, c.whole-2.ensures.value, action-If, c.in_ok-kept.ensures.value, c.in_ok-test-2.ensures.value, c.in_ok-close.ensures.value)
+    (else_reads c.args.room w o q l s els second)
