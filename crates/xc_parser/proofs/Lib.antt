@@ -44,7 +44,11 @@ mod DeclaredRows
 mod Cores
 mod ItemHeads
 mod Transferring
+mod PortParts
+mod Tails
+mod Counting
 pub mod Insides
+pub mod InsideRows
 pub mod Branches
 pub mod CaseLists
 pub mod RowReads

@@ -8,7 +8,7 @@ use Rattle.xc_tree.specs.declared.tree.Rhs.{Rhs}
 use Rattle.xc_tree.specs.declared.token.Tok.{Tok}
 use Rattle.xc_tree.specs.declared.token.Kind.TheVariants.{Name, Sym}
 use Rattle.xc_tree.specs.Plain as plain
-use Rattle.xc_tree.specs.Symbol.{Symbol, sym, a_name, a_number, expr, level, lval, place_value, atom, argument, arguments, call, rhs, initial, time, stamp, guard}
+use Rattle.xc_tree.specs.Symbol.{Symbol, sym, a_name, a_number, expr, level, lval, place_value, atom, argument, arguments, call, rhs, initial, time, stamp}
 use Rattle.xc_tree.specs.Depth.{of_expression}
 use Rattle.xc_tree.specs.Derives.{On, Room, unlimited, at_most, HasRoom, Derives, named, by_rule, Prefix, nothing, whole, begins, position}
 use Rattle.xc_tree.specs.Trees.{argument_of}
@@ -71,13 +71,6 @@ module _ {toks : List Tok} {room at : ℕ} where
   pub reads_place_value : {j : ℕ} {v : plain.Expression} {p : Pos} → position (slice_get toks at) ≡ p → Reads toks room expr at j v → Reads toks room place_value at j (valued v p)
   reads_place_value {j} {v} e r = subst (λ x. Reads toks room place_value at j (valued v x)) e (finish (read (begin refl tt) r refl) refl)
 
-  -- a guard
-  pub reads_guard : {j : ℕ} {v : plain.Expression} {p : Pos} → Reads toks room expr at j v → On toks j (Sym 26) p → Reads toks room guard at (j + 1) v
-  reads_guard r on = finish (over_symbol (read (begin refl tt) r refl) on refl) refl
-
-  pub open_guard : {j : ℕ} {v : plain.Expression} → Reads toks room expr at j v → ((p : Pos) → On toks j (Sym 26) p → ⊥) → Refuses toks room guard at j
-  open_guard r none = none_left (lacks_symbol 26 (read (begin refl tt) r refl) none)
-
   -- times and stamps
   module _ {p : Pos} (on : On toks at (Sym 23) p) where
     pub reads_time : {j : ℕ} {v : plain.Expression} → Reads toks room expr (at + 1) j v → Reads toks room time at j (record { at = p; value = v })
@@ -93,9 +86,6 @@ module _ (toks : List Tok) (room at : ℕ) where
 
   pub stops_place_value : (e : Stop) → Stopped toks room expr at e → Stopped toks room place_value at e
   stops_place_value e r = stops e (begin refl tt) r refl
-
-  pub stops_guard : (e : Stop) → Stopped toks room expr at e → Stopped toks room guard at e
-  stops_guard e r = stops e (begin refl tt) r refl
 
   pub no_time : ((p : Pos) → On toks at (Sym 23) p → ⊥) → Refuses toks room time at at
   no_time none = none_left (lacks_symbol 23 (begin refl tt) none)

@@ -1,5 +1,5 @@
 -- The paths through loops.
-use Rattle.std.proofs.Common.{◌≡◌, ℕ, ◌+◌, ◌<◌, ◌≤◌, inl, inr, Bool, List, [], ◌∷◌, Option, Some, None, option_map, refl, sym as sym', ap, subst, ◌∙◌, lit<, arith}
+use Rattle.std.proofs.Common.{◌≡◌, ℕ, ◌+◌, ◌<◌, ◌≤◌, inl, inr, Bool, true, List, [], ◌∷◌, Option, Some, None, option_map, refl, sym as sym', ap, subst, ◌∙◌, lit<, arith}
 use Rattle.std.specs.declared.boxed.Box.{Box}
 use Rattle.std.specs.declared.alloc.Global.{Global}
 use Rattle.xw_words.specs.declared.pos.Pos.{Pos}
@@ -20,18 +20,22 @@ use Rattle.xc_parser.specs.declared.stop.Stop.{Stop}
 use Rattle.xc_parser.specs.declared.stop.Stop.TheVariants.{Wrong, Deep, Memory}
 use Rattle.xc_parser.specs.Follows.{OneOf, StandsAt, first}
 use Rattle.xc_parser.specs.Reading.{Reads, Refuses, TooDeep, Unfit}
+use Rattle.xc_parser.specs.RowReading.{ReadsRow, StoppedRow}
 use Rattle.xc_parser.specs.Rounds.{Lacks, NoType, StopsMaybe, StopsStart, IsEnded}
 use Rattle.xc_parser.specs.Stops.{Stopped}
+use Rattle.xc_parser.specs.Tails.{do_row}
 use Rattle.xc_parser.proofs.Rests.{Rest, left}
 use Rattle.xc_parser.proofs.Alternatives.{by_rules}
 use Rattle.xc_parser.proofs.Firsts.{derived_first}
 use Rattle.xc_parser.proofs.TokenSets.{one_within}
-use Rattle.xc_parser.proofs.Opening.{fronts, beginnings, over, Heads, no_head, one_head, popped}
+use Rattle.xc_parser.proofs.Opening.{fronts, beginnings, over, put, Heads, no_head, one_head, popped}
 use Rattle.xc_parser.proofs.Choices.{all_open, no_one, dead, stuck, spread_out}
 use Rattle.xc_parser.proofs.Paths.{Roomy, begin, at_symbol, over_word, lacks, lacks_symbol, taken, read, stops, read_all, stops_all, unfit, unfit_last, finish}
 use Rattle.xc_parser.proofs.Unfinished.{unfinished}
 use Rattle.xc_parser.proofs.Lasts.{read_last, stops_last}
 use Rattle.xc_parser.proofs.Insides.{inner_reads, inner_stopped, inner_unfit}
+use Rattle.xc_parser.proofs.InsideRows.{inner_row, inner_row_stopped}
+use Rattle.xc_parser.proofs.RowSteps.{read_row, stops_row}
 use Rattle.xc_parser.proofs.Marks.{first_of, none_of, at_a_type}
 
 -- an assignment holds no statement
@@ -148,32 +152,27 @@ module _ {toks : List Tok} (room : ℕ) {at : ℕ} {p : Pos} (w : On toks at (Ke
         while_reads x = read_last (read (read (read (over_word (begin refl (omega arith)) w refl) paren refl) (inner_reads room test) refl) close refl) (inner_reads room x) refl refl (λ e x h. h)
 
 -- a `do`
+abbrev behind_do : plain.Statement → Rest plain.Statement
+behind_do s = record {
+  need = 1;
+  parts = put 1 do_row [];
+  fits = λ x. true;
+  make = λ e (p, (q, (c, (r, (t, u))))). statement_of e (plain.do_while s c);
+}
+
 module _ {toks : List Tok} (room : ℕ) {at : ℕ} {p : Pos} (w : On toks at (Key 6) p) where
   pub do_body_stops : (e : Stop) → Stopped toks room statement (at + 1) e → Stopped toks (room + 1) statement at e
   do_body_stops e x = stops e (over_word (begin refl (omega arith)) w refl) (inner_stopped toks room statement (at + 1) e x) refl
 
   module _ {j : ℕ} {s : plain.Statement} (body : Reads toks room statement (at + 1) j s) where
-    pub do_word_stops : (e : Stop) → Stopped toks (left (room + 1) 1) (key 29) j e → Stopped toks (room + 1) statement at e
-    do_word_stops e x = stops e (read (over_word (begin refl (omega arith)) w refl) (inner_reads room body) refl) x refl
+    at_body : Roomy toks (room + 1) statement at j (behind_do s ∷ [])
+    at_body = read (over_word (begin refl (omega arith)) w refl) (inner_reads room body) refl
 
-    module _ {k : ℕ} {u : Pos} (word : Reads toks (left (room + 1) 1) (key 29) j k u) where
-      pub do_open_stops : (e : Stop) → Stopped toks (left (room + 1) 1) (sym 0) k e → Stopped toks (room + 1) statement at e
-      do_open_stops e x = stops e (read (read (over_word (begin refl (omega arith)) w refl) (inner_reads room body) refl) word refl) x refl
+    pub do_tail_stops : (e : Stop) → StoppedRow toks room do_row j e → Stopped toks (room + 1) statement at e
+    do_tail_stops e x = stops_row 1 do_row [] e at_body (inner_row_stopped toks room do_row j e x) refl
 
-      module _ {l : ℕ} {q : Pos} (paren : Reads toks (left (room + 1) 1) (sym 0) k l q) where
-        pub do_test_stops : (e : Stop) → Stopped toks room expr l e → Stopped toks (room + 1) statement at e
-        do_test_stops e x = stops e (read (read (read (over_word (begin refl (omega arith)) w refl) (inner_reads room body) refl) word refl) paren refl) (inner_stopped toks room expr l e x) refl
-
-        module _ {m : ℕ} {c : plain.Expression} (test : Reads toks room expr l m c) where
-          pub do_close_stops : (e : Stop) → Stopped toks (left (room + 1) 1) (sym 1) m e → Stopped toks (room + 1) statement at e
-          do_close_stops e x = stops e (read (read (read (read (over_word (begin refl (omega arith)) w refl) (inner_reads room body) refl) word refl) paren refl) (inner_reads room test) refl) x refl
-
-          module _ {n : ℕ} {r : Pos} (close : Reads toks (left (room + 1) 1) (sym 1) m n r) where
-            pub do_end_stops : (e : Stop) → Stopped toks (left (room + 1) 1) (sym 6) n e → Stopped toks (room + 1) statement at e
-            do_end_stops e x = stops e (read (read (read (read (read (over_word (begin refl (omega arith)) w refl) (inner_reads room body) refl) word refl) paren refl) (inner_reads room test) refl) close refl) x refl
-
-            pub do_reads : {o : ℕ} {t : Pos} → Reads toks (left (room + 1) 1) (sym 6) n o t → Reads toks (room + 1) statement at o (statement_of (extent toks at o) (plain.do_while s c))
-            do_reads x = finish (read (read (read (read (read (read (over_word (begin refl (omega arith)) w refl) (inner_reads room body) refl) word refl) paren refl) (inner_reads room test) refl) close refl) x refl) refl
+    pub do_reads : {k : ℕ} {c : plain.Expression} {q r t u : Pos} → ReadsRow toks room do_row j k (q, (r, (c, (t, (u, tt))))) → Reads toks (room + 1) statement at k (statement_of (extent toks at k) (plain.do_while s c))
+    do_reads x = finish (read_row 1 do_row [] at_body (inner_row room x) refl refl) refl
 
 -- what is open of a `for` behind its word, and behind each part between its brackets
 abbrev behind_for : Pos → List (Rest plain.Statement)

@@ -11,4 +11,8 @@ pub mod RightSides
 pub mod Begun
 pub mod RowReading
 pub mod CaseParts
+pub mod PortParts
+pub mod Goals
+pub mod Tails
+pub mod Counting
 pub mod Rounds

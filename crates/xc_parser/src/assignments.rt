@@ -7,6 +7,7 @@ ghost use Rattle.xc_parser.specs.Reading.{Reads};
 ghost use Rattle.xc_parser.specs.Stops.{Stopped};
 ghost use Rattle.xc_parser.specs.Parts.{mark_of};
 
+use crate::memory::beside;
 use crate::parser::{Parser, Read};
 use crate::stop::Stop;
 use crate::terminals::{EQUALS, MINUS_MINUS, PLUS_PLUS};
@@ -15,7 +16,7 @@ use xc_tree::{Kind, Rhs, St};
 use xw_words::Pos;
 
 /// An operator that assigns, by its place in `SYMBOLS`, and where it stands.
-#[derive(Clone, Copy, Debug)]
+#[derive(Clone, Copy)]
 pub struct Mark {
     pub symbol: u8,
     pub pos: Pos,
@@ -39,10 +40,11 @@ impl<'a> Parser<'a> {
         let end = target.end;
         if is_symbol(self.toks, end, EQUALS) {
             let pos = self.toks[end].pos;
-            let Read { value, end } = self.rhs(end + 1, room)?;
-            let Some(right) = value else { unreachable!() };
+            let (target, right) = beside(target.value, self.rhs(end + 1, room))?;
+            let Read { value, end } = right;
+            let Some(value) = value else { unreachable!() };
             return Ok(Read {
-                value: St::Assign(target.value, EQUALS, pos, right),
+                value: St::Assign(target, EQUALS, pos, value),
                 end,
             });
         }
@@ -58,11 +60,11 @@ impl<'a> Parser<'a> {
                 end: end + 1,
             });
         }
-        let mark = self.assign_op(end)?;
-        let value = self.expr(mark.end, room)?;
+        let (target, mark) = beside(target.value, self.assign_op(end))?;
+        let (target, value) = beside(target, self.expr(mark.end, room))?;
         let Mark { symbol, pos } = mark.value;
         Ok(Read {
-            value: St::Assign(target.value, symbol, pos, Rhs::Value(value.value)),
+            value: St::Assign(target, symbol, pos, Rhs::Value(value.value)),
             end: value.end,
         })
     }

@@ -1,6 +1,7 @@
 //! Single tokens that must stand at a place.
 
 ghost use Rattle.std.specs.Prelude.{◌≡◌, ℕ, ◌+◌, ◌≤◌, length, IfOk, IfErr};
+ghost use Rattle.xw_words.specs.declared.pos.Pos as pos;
 ghost use Rattle.xc_tree.specs.Symbol.{sym, key, a_name, a_number};
 ghost use Rattle.xc_parser.specs.Reading.{Reads};
 ghost use Rattle.xc_parser.specs.Stops.{Stopped};
@@ -13,7 +14,7 @@ use xc_tree::{Id, Kind};
 use xw_words::Pos;
 
 /// A number, whether it is `unsigned`, and where it stands.
-#[derive(Clone, Copy, Debug)]
+#[derive(Clone, Copy)]
 pub struct Numeral {
     pub value: u32,
     pub is_unsigned: bool,
@@ -33,6 +34,20 @@ impl<'a> Parser<'a> {
         Ok(Read {
             value: self.toks[at].pos,
             end: at + 1,
+        })
+    }
+
+    /// What was read, with the symbol behind it, by its place in `SYMBOLS`.
+    pub fn closed<T: Drop>(&self, read: Read<T>, wanted: u8) -> Result<Read<T>, Stop>
+        ensures value { IfOk result (λ r. r.value ≡ read.value) }
+        ensures bounds { IfOk result (λ r. (r.end ≡ read.end + 1) × (r.end ≤ length self.now.toks.now)) }
+        ensures read { IfOk result (λ r. (p : pos.Pos) × ((room : ℕ) → Reads self.now.toks.now room (sym wanted) read.end r.end p)) }
+        ensures stopped { IfErr result (λ e. (room : ℕ) → Stopped self.now.toks.now room (sym wanted) read.end e) }
+    {
+        let behind = self.symbol(read.end, wanted)?;
+        Ok(Read {
+            value: read.value,
+            end: behind.end,
         })
     }
 

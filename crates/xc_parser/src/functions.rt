@@ -37,14 +37,14 @@ impl<'a> Parser<'a> {
     {
         let result = self.result_type(at)?;
         let name = self.id(result.end)?;
-        let open = self.symbol(name.end, PAREN)?;
+        let open = self.closed(name, PAREN)?;
         let params = self.params(open.end)?;
-        let close = self.symbol(params.end, END_PAREN)?;
+        let close = self.closed(params, END_PAREN)?;
         Ok(Read {
             value: FunctionHead {
                 result: result.value,
-                name: name.value,
-                params: params.value,
+                name: open.value,
+                params: close.value,
                 own: (close.end - at) as u32,
             },
             end: close.end,

@@ -1,16 +1,20 @@
 //! Loops.
 
 ghost use Rattle.std.specs.Prelude.{◌≡◌, ◌+◌, ◌^◌, ◌<◌, ◌≤◌, length, option_map, IfOk, IfErr};
+ghost use Rattle.xw_words.specs.declared.pos.Pos.{Pos};
 ghost use Rattle.xc_tree.specs.Symbol as symbol;
 ghost use Rattle.xc_tree.specs.Symbol.{maybe};
 ghost use Rattle.xc_tree.specs.Trees as trees;
 ghost use Rattle.xc_parser.specs.declared.stop.Stop.TheVariants as stop;
 ghost use Rattle.xc_parser.specs.Follows.{StandsAt};
 ghost use Rattle.xc_parser.specs.Reading.{Reads};
+ghost use Rattle.xc_parser.specs.RowReading.{ReadsRow, StoppedRow};
 ghost use Rattle.xc_parser.specs.Rounds.{StopsMaybe, StopsStart, ReadsStart, ReadsParts, NoType};
 ghost use Rattle.xc_parser.specs.Stops.{Stopped};
+ghost use Rattle.xc_parser.specs.Tails.{do_row};
 
 use crate::declarations::variable;
+use crate::memory::{beside, boxed};
 use crate::parser::{Parser, Read};
 use crate::stop::Stop;
 use crate::terminals::{END_PAREN, EQUALS, PAREN, SEMICOLON, WHILE_WORD};
@@ -40,11 +44,10 @@ impl<'a> Parser<'a> {
     {
         let open = self.symbol(at + 1, PAREN)?;
         let test = self.expr(open.end, room)?;
-        let close = self.symbol(test.end, END_PAREN)?;
-        let body = self.statement(close.end, room)?;
+        let close = self.closed(test, END_PAREN)?;
+        let (test, body) = beside(close.value, self.boxed_statement(close.end, room))?;
         let held = body.end - close.end;
-        let boxed = self.boxed(body.value)?;
-        Ok(self.whole(at, body.end, held, St::While(test.value, boxed)))
+        Ok(self.whole(at, body.end, held, St::While(test, body.value)))
     }
 
     /// A `do`, with room for so many nodes inside it.
@@ -56,15 +59,27 @@ impl<'a> Parser<'a> {
         ensures read { IfOk result (λ r. Reads self.now.toks.now (room + 1) symbol.statement at r.end (trees.statement_of r.value)) }
         ensures stopped { IfErr result (λ e. Stopped self.now.toks.now (room + 1) symbol.statement at e) }
     {
-        let body = self.statement(at + 1, room)?;
-        let word = self.word(body.end, WHILE_WORD)?;
+        let body = self.boxed_statement(at + 1, room)?;
+        let held = body.end - at - 1;
+        let test = self.do_tail(body.end, room)?;
+        Ok(self.whole(at, test.end, held, St::DoWhile(body.value, test.value)))
+    }
+
+    /// What ends a `do`: its `while`, the test between brackets, and the `;`.
+    fn do_tail(&self, at: usize, room: u32) -> Result<Read<Expr>, Stop>
+        ensures bounds { IfOk result (λ r. (at < r.end) × (r.end ≤ length self.now.toks.now)) }
+        ensures read { IfOk result (λ r. (p : Pos) × (q : Pos) × (s : Pos) × (t : Pos) × ReadsRow self.now.toks.now room do_row at r.end (p, (q, (trees.expression_of r.value, (s, (t, tt)))))) }
+        ensures stopped { IfErr result (λ e. StoppedRow self.now.toks.now room do_row at e) }
+    {
+        let word = self.word(at, WHILE_WORD)?;
         let open = self.symbol(word.end, PAREN)?;
         let test = self.expr(open.end, room)?;
-        let close = self.symbol(test.end, END_PAREN)?;
-        let semicolon = self.symbol(close.end, SEMICOLON)?;
-        let held = body.end - at - 1;
-        let boxed = self.boxed(body.value)?;
-        Ok(self.whole(at, semicolon.end, held, St::DoWhile(boxed, test.value)))
+        let close = self.closed(test, END_PAREN)?;
+        let closed = self.closed(close, SEMICOLON)?;
+        Ok(Read {
+            value: closed.value,
+            end: closed.end,
+        })
     }
 
     /// A `for`, with room for so many nodes inside it.
@@ -77,7 +92,7 @@ impl<'a> Parser<'a> {
         ensures stopped { IfErr result (λ e. Stopped self.now.toks.now (room + 1) symbol.statement at e) }
     {
         let parts = self.for_parts(at, room)?;
-        let body = self.statement(parts.end, room)?;
+        let body = self.boxed_statement(parts.end, room)?;
         let Parts {
             start,
             test,
@@ -85,8 +100,8 @@ impl<'a> Parser<'a> {
             held,
         } = parts.value;
         let all = held + (body.end - parts.end);
-        let boxed = self.boxed(body.value)?;
-        Ok(self.whole(at, body.end, all, St::For(start, test, step, boxed)))
+        let kind = St::For(start, test, step, body.value);
+        Ok(self.whole(at, body.end, all, kind))
     }
 
     /// What stands between the word of a `for` and its body, from the word on.
@@ -100,18 +115,18 @@ impl<'a> Parser<'a> {
     {
         let open = self.symbol(at + 1, PAREN)?;
         let start = self.maybe_start(open.end, room)?;
-        let first = self.symbol(start.end, SEMICOLON)?;
+        let first = self.closed(start, SEMICOLON)?;
         let test = self.maybe_expr(first.end, room)?;
-        let second = self.symbol(test.end, SEMICOLON)?;
+        let second = self.closed(test, SEMICOLON)?;
         let step = self.maybe_step(second.end, room)?;
-        let close = self.symbol(step.end, END_PAREN)?;
-        let held = (start.end - open.end) + (step.end - second.end);
-        let begun = self.maybe_boxed(start.value)?;
-        let stepped = self.maybe_boxed(step.value)?;
+        let close = self.closed(step, END_PAREN)?;
+        let held = (first.end - open.end - 1) + (close.end - second.end - 1);
+        let begun = self.maybe_boxed(first.value)?;
+        let stepped = self.maybe_boxed(close.value)?;
         Ok(Read {
             value: Parts {
                 start: begun,
-                test: test.value,
+                test: second.value,
                 step: stepped,
                 held,
             },
@@ -248,7 +263,7 @@ impl<'a> Parser<'a> {
     {
         match statement {
             None => Ok(None),
-            Some(statement) => Ok(Some(self.boxed(statement)?)),
+            Some(statement) => Ok(Some(boxed(self.alloc, statement)?)),
         }
     }
 }

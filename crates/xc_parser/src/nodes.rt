@@ -5,6 +5,7 @@ ghost use Rattle.xc_tree.specs.Trees.{expression_of};
 ghost use Rattle.xc_tree.specs.Plain as plain;
 ghost use Rattle.xc_parser.specs.declared.stop.Stop.TheVariants as stop;
 
+use crate::memory::{boxed, boxed_pair, boxed_three};
 use crate::stop::Stop;
 use std::alloc::Global;
 use xc_tree::{Ex, Expr, Text};
@@ -35,12 +36,12 @@ pub fn index(alloc: Global, text: Text, place: Expr, pos: Pos) -> Result<Expr, S
     ensures made { IfOk result (λ e. expression_of e ≡ plain.expression (plain.index text (expression_of place)) pos) }
     ensures memory { IfErr result (λ e. e ≡ stop.Memory) }
 {
-    match Box::new(alloc, place) {
+    match boxed(alloc, place) {
         Ok(place) => Ok(Expr {
             kind: Ex::Index(text, place),
             pos,
         }),
-        Err(_) => Err(Stop::Memory),
+        Err(e) => Err(e),
     }
 }
 
@@ -49,12 +50,12 @@ pub fn unary(alloc: Global, symbol: u8, operand: Expr, pos: Pos) -> Result<Expr,
     ensures made { IfOk result (λ e. expression_of e ≡ plain.expression (plain.unary symbol (expression_of operand)) pos) }
     ensures memory { IfErr result (λ e. e ≡ stop.Memory) }
 {
-    match Box::new(alloc, operand) {
+    match boxed(alloc, operand) {
         Ok(operand) => Ok(Expr {
             kind: Ex::Un(symbol, operand),
             pos,
         }),
-        Err(_) => Err(Stop::Memory),
+        Err(e) => Err(e),
     }
 }
 
@@ -63,12 +64,12 @@ pub fn cast(alloc: Global, is_unsigned: bool, operand: Expr, pos: Pos) -> Result
     ensures made { IfOk result (λ e. expression_of e ≡ plain.expression (plain.cast is_unsigned (expression_of operand)) pos) }
     ensures memory { IfErr result (λ e. e ≡ stop.Memory) }
 {
-    match Box::new(alloc, operand) {
+    match boxed(alloc, operand) {
         Ok(operand) => Ok(Expr {
             kind: Ex::Cast(is_unsigned, operand),
             pos,
         }),
-        Err(_) => Err(Stop::Memory),
+        Err(e) => Err(e),
     }
 }
 
@@ -77,16 +78,13 @@ pub fn binary(alloc: Global, symbol: u8, left: Expr, right: Expr, pos: Pos) -> R
     ensures made { IfOk result (λ e. expression_of e ≡ plain.expression (plain.binary symbol (expression_of left) (expression_of right)) pos) }
     ensures memory { IfErr result (λ e. e ≡ stop.Memory) }
 {
-    let Ok(left) = Box::new(alloc, left) else {
-        return Err(Stop::Memory);
-    };
-    let Ok(right) = Box::new(alloc, right) else {
-        return Err(Stop::Memory);
-    };
-    Ok(Expr {
-        kind: Ex::Bin(symbol, left, right),
-        pos,
-    })
+    match boxed_pair(alloc, left, right) {
+        Ok(boxes) => Ok(Expr {
+            kind: Ex::Bin(symbol, boxes.0, boxes.1),
+            pos,
+        }),
+        Err(e) => Err(e),
+    }
 }
 
 /// `test ? first : second`
@@ -94,17 +92,11 @@ pub fn choice(alloc: Global, test: Expr, first: Expr, second: Expr, pos: Pos) ->
     ensures made { IfOk result (λ e. expression_of e ≡ plain.expression (plain.choice (expression_of test) (expression_of first) (expression_of second)) pos) }
     ensures memory { IfErr result (λ e. e ≡ stop.Memory) }
 {
-    let Ok(test) = Box::new(alloc, test) else {
-        return Err(Stop::Memory);
-    };
-    let Ok(first) = Box::new(alloc, first) else {
-        return Err(Stop::Memory);
-    };
-    let Ok(second) = Box::new(alloc, second) else {
-        return Err(Stop::Memory);
-    };
-    Ok(Expr {
-        kind: Ex::Cond(test, first, second),
-        pos,
-    })
+    match boxed_three(alloc, test, first, second) {
+        Ok(boxes) => Ok(Expr {
+            kind: Ex::Cond(boxes.0, boxes.1, boxes.2),
+            pos,
+        }),
+        Err(e) => Err(e),
+    }
 }

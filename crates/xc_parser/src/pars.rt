@@ -1,21 +1,27 @@
 //! Branches that run side by side.
 
 ghost use Rattle.std.specs.Prelude.{◌≡◌, ℕ, ◌+◌, ◌^◌, ◌<◌, ◌≤◌, length, IfOk, IfErr};
+ghost use Rattle.xw_words.specs.declared.pos.Pos.{Pos};
 ghost use Rattle.xc_tree.specs.Plain as plain;
 ghost use Rattle.xc_tree.specs.Symbol as symbol;
 ghost use Rattle.xc_tree.specs.Symbol.{key};
 ghost use Rattle.xc_tree.specs.Trees as trees;
+ghost use Rattle.xc_parser.specs.Counting.{bound_row, step_row};
 ghost use Rattle.xc_parser.specs.Follows.{StandsAt};
 ghost use Rattle.xc_parser.specs.Reading.{Reads};
+ghost use Rattle.xc_parser.specs.RowReading.{ReadsRow, StoppedRow};
 ghost use Rattle.xc_parser.specs.Stops.{Stopped};
+ghost use Rattle.xc_parser.specs.Values.{numeral_of};
 
+use crate::expected::Numeral;
+use crate::memory::boxed;
 use crate::parser::{Parser, Read};
 use crate::stop::Stop;
 use crate::terminals::{
     BELOW, BRACE, END_BRACE, END_PAREN, EQUALS, INT_WORD, PAREN, PLUS_PLUS, SEMICOLON,
 };
 use crate::tokens::is_symbol;
-use xc_tree::{Branch, St, Stmt};
+use xc_tree::{Branch, Id, St, Stmt};
 use xw_words::List;
 
 /// What was read, how many of its tokens are in statements that it holds, and the place of the token behind it.
@@ -24,6 +30,13 @@ pub struct Holder<T> {
     pub value: T,
     pub held: usize,
     pub end: usize,
+}
+
+/// A name of a replicated `par`, and the number that it is compared with.
+#[derive(Drop)]
+struct Bound {
+    name: Id,
+    number: Numeral,
 }
 
 impl<'a> Parser<'a> {
@@ -86,26 +99,52 @@ impl<'a> Parser<'a> {
     {
         let open = self.symbol(at + 1, PAREN)?;
         let int = self.word(open.end, INT_WORD)?;
-        let first = self.id(int.end)?;
-        let equals = self.symbol(first.end, EQUALS)?;
-        let from = self.numeral(equals.end)?;
-        let start = self.symbol(from.end, SEMICOLON)?;
-        let second = self.id(start.end)?;
-        let below = self.symbol(second.end, BELOW)?;
-        let to = self.numeral(below.end)?;
-        let test = self.symbol(to.end, SEMICOLON)?;
-        let third = self.id(test.end)?;
-        let step = self.symbol(third.end, PLUS_PLUS)?;
-        let close = self.symbol(step.end, END_PAREN)?;
-        let branch = self.branch(close.end, room)?;
+        let first = self.bound(int.end, EQUALS)?;
+        let second = self.bound(first.end, BELOW)?;
+        let third = self.step(second.end)?;
+        let branch = self.branch(third.end, room)?;
         let kind = St::Repl {
-            first: first.value,
-            second: second.value,
+            first: first.value.name,
+            second: second.value.name,
             third: third.value,
-            from: from.value.value,
-            to: to.value.value,
-            body: self.boxed(branch.value)?,
+            from: first.value.number.value,
+            to: second.value.number.value,
+            body: boxed(self.alloc, branch.value)?,
         };
         Ok(self.whole(at, branch.end, branch.held, kind))
+    }
+
+    /// A name, a symbol by its place in `SYMBOLS`, a number and a `;`.
+    fn bound(&self, at: usize, wanted: u8) -> Result<Read<Bound>, Stop>
+        ensures bounds { IfOk result (λ r. (at < r.end) × (r.end ≤ length self.now.toks.now)) }
+        ensures read { IfOk result (λ r. (p : Pos) × (q : Pos) × ((room : ℕ) → ReadsRow self.now.toks.now room (bound_row wanted) at r.end (r.value.name, (p, (numeral_of r.value.number, (q, tt)))))) }
+        ensures stopped { IfErr result (λ e. (room : ℕ) → StoppedRow self.now.toks.now room (bound_row wanted) at e) }
+    {
+        let name = self.id(at)?;
+        let closed = self.closed(name, wanted)?;
+        let number = self.numeral(closed.end)?;
+        let semicolon = self.symbol(number.end, SEMICOLON)?;
+        Ok(Read {
+            value: Bound {
+                name: closed.value,
+                number: number.value,
+            },
+            end: semicolon.end,
+        })
+    }
+
+    /// A name, with the `++` and the `)` behind it.
+    fn step(&self, at: usize) -> Result<Read<Id>, Stop>
+        ensures bounds { IfOk result (λ r. (at < r.end) × (r.end ≤ length self.now.toks.now)) }
+        ensures read { IfOk result (λ r. (p : Pos) × (q : Pos) × ((room : ℕ) → ReadsRow self.now.toks.now room step_row at r.end (r.value, (p, (q, tt))))) }
+        ensures stopped { IfErr result (λ e. (room : ℕ) → StoppedRow self.now.toks.now room step_row at e) }
+    {
+        let name = self.id(at)?;
+        let stepped = self.closed(name, PLUS_PLUS)?;
+        let closed = self.closed(stepped, END_PAREN)?;
+        Ok(Read {
+            value: closed.value,
+            end: closed.end,
+        })
     }
 }

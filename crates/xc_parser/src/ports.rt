@@ -1,23 +1,34 @@
 //! Places on cores, and the ports that are declared there.
 
-ghost use Rattle.std.specs.Prelude.{◌≡◌, [], ◌∷◌, ◌+◌, ◌⊎◌, ◌<◌, ◌≤◌, length, IfOk, IfErr, option_map};
+ghost use Rattle.std.specs.Prelude.{◌≡◌, ℕ, [], ◌∷◌, ◌+◌, ◌⊎◌, ◌<◌, ◌≤◌, length, IfOk, IfErr, option_map};
 ghost use Rattle.xw_words.specs.declared.pos.Pos.{Pos};
 ghost use Rattle.xc_tree.specs.declared.token.Kind.TheVariants.{Key};
 ghost use Rattle.xc_tree.specs.Derives.{On};
 ghost use Rattle.xc_tree.specs.Symbol as symbol;
 ghost use Rattle.xc_tree.specs.Trees.{place_of, port_of};
 ghost use Rattle.xc_parser.specs.Follows.{OneOf};
+ghost use Rattle.xc_parser.specs.PortParts.{port_row};
 ghost use Rattle.xc_parser.specs.Reading.{Reads};
+ghost use Rattle.xc_parser.specs.RowReading.{ReadsRow, StoppedRow};
 ghost use Rattle.xc_parser.specs.declared.stop.Stop.TheVariants as stop;
 ghost use Rattle.xc_parser.specs.Stops.{Stopped};
 
+use crate::memory::beside;
 use crate::parser::{Parser, Read};
 use crate::stop::Stop;
 use crate::terminals::{
     BRACKET, COLON, END_BRACKET, EQUALS, ON_WORD, SEMICOLON, STDCORE_WORD, TILE_WORD,
 };
 use crate::tokens::is_word;
-use xc_tree::{At, PortItem};
+use xc_tree::{At, Id, PortItem, TreeDir};
+
+/// A port without its place: its direction, its name, and what it stands for.
+#[derive(Drop)]
+struct Port {
+    dir: TreeDir,
+    name: Id,
+    ident: Id,
+}
 
 impl<'a> Parser<'a> {
     /// The declaration of a port.
@@ -28,19 +39,38 @@ impl<'a> Parser<'a> {
         ensures stopped { IfErr result (λ e. Stopped self.now.toks.now room symbol.portdecl at e) }
     {
         let place = self.maybe_place(at, room)?;
-        let dir = self.dir(place.end)?;
-        let name = self.id(dir.end)?;
-        let equals = self.symbol(name.end, EQUALS)?;
-        let ident = self.id(equals.end)?;
-        let semicolon = self.symbol(ident.end, SEMICOLON)?;
+        let (place, port) = beside(place.value, self.port(place.end))?;
+        let Port { dir, name, ident } = port.value;
         Ok(Read {
             value: PortItem {
-                place: place.value,
+                place,
+                dir,
+                name,
+                ident,
+            },
+            end: port.end,
+        })
+    }
+
+    /// A port with its names, and the `;` behind it.
+    fn port(&self, at: usize) -> Result<Read<Port>, Stop>
+        requires at { at ≤ length self.now.toks.now }
+        ensures bounds { IfOk result (λ r. (at < r.end) × (r.end ≤ length self.now.toks.now)) }
+        ensures read { IfOk result (λ r. (p : Pos) × (q : Pos) × ((room : ℕ) → ReadsRow self.now.toks.now room port_row at r.end (r.value.dir, (r.value.name, (p, (r.value.ident, (q, tt))))))) }
+        ensures stopped { IfErr result (λ e. (room : ℕ) → StoppedRow self.now.toks.now room port_row at e) }
+    {
+        let dir = self.dir(at)?;
+        let first = self.id(dir.end)?;
+        let name = self.closed(first, EQUALS)?;
+        let second = self.id(name.end)?;
+        let ident = self.closed(second, SEMICOLON)?;
+        Ok(Read {
+            value: Port {
                 dir: dir.value,
                 name: name.value,
                 ident: ident.value,
             },
-            end: semicolon.end,
+            end: ident.end,
         })
     }
 
@@ -75,13 +105,13 @@ impl<'a> Parser<'a> {
         let core = self.core_word(on.end)?;
         let open = self.symbol(core.end, BRACKET)?;
         let value = self.place_value(open.end, room)?;
-        let close = self.symbol(value.end, END_BRACKET)?;
-        let colon = self.symbol(close.end, COLON)?;
+        let close = self.closed(value, END_BRACKET)?;
+        let colon = self.closed(close, COLON)?;
         Ok(Read {
             value: At {
                 on: on.value,
-                first: value.value.first,
-                value: value.value.value,
+                first: colon.value.first,
+                value: colon.value.value,
             },
             end: colon.end,
         })

@@ -12,6 +12,7 @@ ghost use Rattle.xc_parser.specs.RowReading.{ReadsRow, StoppedRow};
 ghost use Rattle.xc_parser.specs.CaseParts.{transfers, awaited, event_row, body_row};
 ghost use Rattle.xc_parser.specs.Stops.{Stopped};
 
+use crate::memory::beside;
 use crate::pars::Holder;
 use crate::parser::{Parser, Read};
 use crate::stop::Stop;
@@ -70,8 +71,8 @@ impl<'a> Parser<'a> {
         }
         let word = self.word(at, CASE_WORD)?;
         let event = self.event(word.end, room)?;
-        let body = self.case_body(event.end, room)?;
-        let Event { guard, input } = event.value;
+        let (event, body) = beside(event.value, self.case_body(event.end, room))?;
+        let Event { guard, input } = event;
         Ok(Holder {
             value: Case {
                 pos: word.value,
@@ -175,10 +176,10 @@ impl<'a> Parser<'a> {
         ensures stopped { IfErr result (λ e. StoppedRow self.now.toks.now room awaited at e) }
     {
         let input = self.input(at, room)?;
-        let colon = self.symbol(input.end, COLON)?;
+        let closed = self.closed(input, COLON)?;
         Ok(Read {
-            value: input.value,
-            end: colon.end,
+            value: closed.value,
+            end: closed.end,
         })
     }
 

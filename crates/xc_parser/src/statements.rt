@@ -12,6 +12,7 @@ ghost use Rattle.xc_parser.specs.Follows.{OneOf, StandsAt, has, begins_statement
 ghost use Rattle.xc_parser.specs.Reading.{Reads};
 ghost use Rattle.xc_parser.specs.Stops.{Stopped};
 
+use crate::memory::{beside, boxed};
 use crate::parser::{Parser, Read};
 use crate::stop::Stop;
 use crate::terminals::{
@@ -25,7 +26,7 @@ use xc_tree::{Kind, St, Stmt, Tok};
 use xw_words::List;
 
 /// How a statement begins.
-#[derive(Clone, Copy, Debug)]
+#[derive(Clone, Copy)]
 enum First {
     Semicolon,
     Brace,
@@ -60,6 +61,23 @@ impl<'a> Parser<'a> {
             return Err(Stop::Deep(at));
         }
         self.begun(at, first, room - 1)
+    }
+
+    /// A statement in memory of its own.
+    #[cycle(statement)]
+    pub fn boxed_statement(&self, at: usize, room: u32) -> Result<Read<Box<Stmt>>, Stop>
+        requires short { length self.now.toks.now < 2 ^ 32 }
+        requires at { at ≤ length self.now.toks.now }
+        ensures bounds { IfOk result (λ r. (at < r.end) × (r.end ≤ length self.now.toks.now)) }
+        ensures read { IfOk result (λ r. Reads self.now.toks.now room symbol.statement at r.end (trees.statement_of r.value.value)) }
+        ensures stopped { IfErr result (λ e. Stopped self.now.toks.now room symbol.statement at e) }
+    {
+        let read = self.statement(at, room)?;
+        let boxed = boxed(self.alloc, read.value)?;
+        Ok(Read {
+            value: boxed,
+            end: read.end,
+        })
     }
 
     /// The statement that begins so at a place, with room for so many nodes inside it.
@@ -216,8 +234,8 @@ impl<'a> Parser<'a> {
             return Err(Stop::Deep(behind));
         }
         let assign = self.assign(at, room)?;
-        let semicolon = self.symbol(assign.end, SEMICOLON)?;
-        Ok(self.whole(at, semicolon.end, 0, assign.value))
+        let closed = self.closed(assign, SEMICOLON)?;
+        Ok(self.whole(at, closed.end, 0, closed.value))
     }
 
     /// A call as a statement, with room for so many nodes inside it.
@@ -230,8 +248,8 @@ impl<'a> Parser<'a> {
         ensures stopped { IfErr result (λ e. Stopped self.now.toks.now (room + 1) symbol.statement at e) }
     {
         let call = self.call(at, room)?;
-        let semicolon = self.symbol(call.end, SEMICOLON)?;
-        Ok(self.whole(at, semicolon.end, 0, St::Do(right_side(call.value))))
+        let closed = self.closed(call, SEMICOLON)?;
+        Ok(self.whole(at, closed.end, 0, St::Do(right_side(closed.value))))
     }
 
     /// `break ;`, or else `continue ;`, from the word on.
@@ -269,8 +287,8 @@ impl<'a> Parser<'a> {
             }
             return Err(Stop::Wrong(end));
         };
-        let semicolon = self.symbol(end, SEMICOLON)?;
-        Ok(self.whole(at, semicolon.end, 0, St::Return(Some(right))))
+        let closed = self.closed(Read { value: right, end }, SEMICOLON)?;
+        Ok(self.whole(at, closed.end, 0, St::Return(Some(closed.value))))
     }
 
     /// An `if`, with room for so many nodes inside it. An `else` belongs to the nearest `if`.
@@ -284,17 +302,18 @@ impl<'a> Parser<'a> {
     {
         let open = self.symbol(at + 1, PAREN)?;
         let test = self.expr(open.end, room)?;
-        let close = self.symbol(test.end, END_PAREN)?;
-        let first = self.statement(close.end, room)?;
+        let close = self.closed(test, END_PAREN)?;
+        let (test, first) = beside(close.value, self.boxed_statement(close.end, room))?;
         let held = first.end - close.end;
-        let then = self.boxed(first.value)?;
         if !is_word(self.toks, first.end, ELSE_WORD) {
-            return Ok(self.whole(at, first.end, held, St::If(test.value, then, None)));
+            let kind = St::If(test, first.value, None);
+            return Ok(self.whole(at, first.end, held, kind));
         }
-        let second = self.statement(first.end + 1, room)?;
+        let kept = (test, first.value);
+        let (kept, second) = beside(kept, self.boxed_statement(first.end + 1, room))?;
         let both = held + (second.end - first.end - 1);
-        let other = self.boxed(second.value)?;
-        Ok(self.whole(at, second.end, both, St::If(test.value, then, Some(other))))
+        let kind = St::If(kept.0, kept.1, Some(second.value));
+        Ok(self.whole(at, second.end, both, kind))
     }
 }
 

@@ -2,7 +2,7 @@ use std::alloc::AllocError;
 use xw_words::Memory as WantOfMemory;
 
 /// Why reading a symbol stopped, and at which token.
-#[derive(Clone, Copy, Debug, Drop)]
+#[derive(Clone, Copy, Drop)]
 pub enum Stop {
     /// No reading goes on with this token, or with the end of the tokens.
     Wrong(usize),

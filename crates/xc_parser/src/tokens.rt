@@ -102,7 +102,7 @@ pub fn is_sign(symbol: u8) -> bool
 
 /// An operator between operands, by its place in `SYMBOLS`: its level, from 1 on for those that bind most strongly, and
 /// where it stands.
-#[derive(Clone, Copy, Debug)]
+#[derive(Clone, Copy)]
 pub struct Operator {
     pub symbol: u8,
     pub level: u8,

@@ -1,15 +1,20 @@
 //! Transfers over ports, channels and timers: outputs and inputs.
 
 ghost use Rattle.std.specs.Prelude.{◌≡◌, ℕ, ◌+◌, ◌^◌, ◌<◌, ◌≤◌, length, option_map, Some, [], ◌∷◌, IfOk, IfErr};
+ghost use Rattle.xw_words.specs.declared.pos.Pos.{Pos};
 ghost use Rattle.xc_tree.specs.Symbol as symbol;
 ghost use Rattle.xc_tree.specs.Symbol.{sym, key, a_name};
 ghost use Rattle.xc_tree.specs.Plain as plain;
 ghost use Rattle.xc_tree.specs.Trees as trees;
 ghost use Rattle.xc_parser.specs.Follows.{OneOf, StandsAt};
 ghost use Rattle.xc_parser.specs.Reading.{Reads};
+ghost use Rattle.xc_parser.specs.RowReading.{ReadsRow, StoppedRow};
 ghost use Rattle.xc_parser.specs.Stops.{Stopped};
 ghost use Rattle.xc_parser.specs.Parts.{waits_of, received, sent};
+ghost use Rattle.xc_parser.specs.Goals.{ReadsGoal, StopsGoal};
+ghost use Rattle.xc_parser.specs.Tails.{output_row, input_row};
 
+use crate::memory::beside;
 use crate::parser::{Parser, Read};
 use crate::stop::Stop;
 use crate::terminals::{
@@ -28,6 +33,20 @@ pub enum Waits {
     Condition(When),
 }
 
+/// What stands behind the `<:` of an output.
+#[derive(Drop)]
+struct OutputTail {
+    value: Expr,
+    stamp: Option<Timed>,
+}
+
+/// What stands behind the `:>` of an input: where its value goes, and where its time is stored.
+#[derive(Drop)]
+struct Goal {
+    dest: Dest,
+    stamp: Option<Timed>,
+}
+
 impl<'a> Parser<'a> {
     /// An input.
     pub fn input(&self, at: usize, room: u32) -> Result<Read<Head>, Stop>
@@ -37,13 +56,14 @@ impl<'a> Parser<'a> {
         ensures stopped { IfErr result (λ e. Stopped self.now.toks.now room symbol.input at e) }
     {
         let name = self.id(at)?;
-        let waits = self.waits(name.end, room)?;
-        let receives = self.symbol(waits.end, RECEIVES)?;
-        let dest = self.dest(receives.end, room)?;
-        let stamp = self.maybe_stamp(dest.end, room)?;
+        let (name, waits) = beside(name.value, self.waits(name.end, room))?;
+        let (name, closed) = beside(name, self.closed(waits, RECEIVES))?;
+        let before = (name, closed.value);
+        let (before, goal) = beside(before, self.goal(closed.end, room))?;
+        let Goal { dest, stamp } = goal.value;
         Ok(Read {
-            value: input_of(name.value, waits.value, dest.value, stamp.value),
-            end: stamp.end,
+            value: input_of(before.0, before.1, dest, stamp),
+            end: goal.end,
         })
     }
 
@@ -56,14 +76,9 @@ impl<'a> Parser<'a> {
         ensures read { IfOk result (λ r. Reads self.now.toks.now (room + 1) symbol.statement at r.end (trees.statement_of r.value)) }
         ensures stopped { IfErr result (λ e. Stopped self.now.toks.now (room + 1) symbol.statement at e) }
     {
-        let name = self.id(at)?;
-        let waits = self.waits(name.end, room)?;
-        let receives = self.symbol(waits.end, RECEIVES)?;
-        let dest = self.dest(receives.end, room)?;
-        let stamp = self.maybe_stamp(dest.end, room)?;
-        let semicolon = self.symbol(stamp.end, SEMICOLON)?;
-        let input = input_of(name.value, waits.value, dest.value, stamp.value);
-        Ok(self.whole(at, semicolon.end, 0, St::Input(input)))
+        let input = self.input(at, room)?;
+        let closed = self.closed(input, SEMICOLON)?;
+        Ok(self.whole(at, closed.end, 0, St::Input(closed.value)))
     }
 
     /// A statement that is an output, or an input with a time: `<:` or `@` stands behind its name. There is room for so
@@ -76,15 +91,14 @@ impl<'a> Parser<'a> {
         ensures read { IfOk result (λ r. Reads self.now.toks.now (room + 1) symbol.statement at r.end (trees.statement_of r.value)) }
         ensures stopped { IfErr result (λ e. Stopped self.now.toks.now (room + 1) symbol.statement at e) }
     {
-        let name = self.id(at)?;
-        if is_symbol(self.toks, name.end, SENDS) {
-            let value = self.expr(name.end + 1, room)?;
-            let stamp = self.maybe_stamp(value.end, room)?;
-            let semicolon = self.symbol(stamp.end, SEMICOLON)?;
-            let output = output_of(name.value, None, value.value, stamp.value);
-            return Ok(self.whole(at, semicolon.end, 0, St::Output(output)));
+        if !is_symbol(self.toks, at + 1, SENDS) {
+            return self.timed_transfer(at, room);
         }
-        self.timed_transfer(at, room)
+        let name = self.id(at)?;
+        let tail = self.output_tail(name.end, room)?;
+        let OutputTail { value, stamp } = tail.value;
+        let output = output_of(name.value, None, value, stamp);
+        Ok(self.whole(at, tail.end, 0, St::Output(output)))
     }
 
     /// A statement that is an output or an input with a time, and has room for so many nodes inside it.
@@ -97,21 +111,71 @@ impl<'a> Parser<'a> {
         ensures stopped { IfErr result (λ e. Stopped self.now.toks.now (room + 1) symbol.statement at e) }
     {
         let name = self.id(at)?;
-        let time = self.time(name.end, room)?;
-        if is_symbol(self.toks, time.end, SENDS) {
-            let value = self.expr(time.end + 1, room)?;
-            let stamp = self.maybe_stamp(value.end, room)?;
-            let semicolon = self.symbol(stamp.end, SEMICOLON)?;
-            let output = output_of(name.value, Some(time.value), value.value, stamp.value);
-            return Ok(self.whole(at, semicolon.end, 0, St::Output(output)));
+        let (name, time) = beside(name.value, self.time(name.end, room))?;
+        let end = time.end;
+        let before = (name, time.value);
+        if is_symbol(self.toks, end, SENDS) {
+            let (before, sends) = beside(before, self.output_tail(end, room))?;
+            let OutputTail { value, stamp } = sends.value;
+            let output = output_of(before.0, Some(before.1), value, stamp);
+            return Ok(self.whole(at, sends.end, 0, St::Output(output)));
         }
-        let receives = self.symbol(time.end, RECEIVES)?;
-        let dest = self.dest(receives.end, room)?;
-        let stamp = self.maybe_stamp(dest.end, room)?;
-        let semicolon = self.symbol(stamp.end, SEMICOLON)?;
-        let waits = Waits::Time(time.value);
-        let input = input_of(name.value, waits, dest.value, stamp.value);
-        Ok(self.whole(at, semicolon.end, 0, St::Input(input)))
+        let (before, receives) = beside(before, self.input_tail(end, room))?;
+        let Goal { dest, stamp } = receives.value;
+        let input = input_of(before.0, Waits::Time(before.1), dest, stamp);
+        Ok(self.whole(at, receives.end, 0, St::Input(input)))
+    }
+
+    /// An output from its `<:` on, with the `;` behind it.
+    fn output_tail(&self, at: usize, room: u32) -> Result<Read<OutputTail>, Stop>
+        ensures bounds { IfOk result (λ r. (at < r.end) × (r.end ≤ length self.now.toks.now)) }
+        ensures read { IfOk result (λ r. (p : Pos) × (q : Pos) × ReadsRow self.now.toks.now room output_row at r.end (p, (trees.expression_of r.value.value, (option_map trees.timing_of r.value.stamp, (q, tt))))) }
+        ensures stopped { IfErr result (λ e. StoppedRow self.now.toks.now room output_row at e) }
+    {
+        let sends = self.symbol(at, SENDS)?;
+        let value = self.expr(sends.end, room)?;
+        let (value, stamp) = beside(value.value, self.maybe_stamp(value.end, room))?;
+        let (value, closed) = beside(value, self.closed(stamp, SEMICOLON))?;
+        Ok(Read {
+            value: OutputTail {
+                value,
+                stamp: closed.value,
+            },
+            end: closed.end,
+        })
+    }
+
+    /// An input from its `:>` on, with the `;` behind it.
+    fn input_tail(&self, at: usize, room: u32) -> Result<Read<Goal>, Stop>
+        ensures bounds { IfOk result (λ r. (at < r.end) × (r.end ≤ length self.now.toks.now)) }
+        ensures read { IfOk result (λ r. (p : Pos) × (q : Pos) × ReadsRow self.now.toks.now room input_row at r.end (p, (trees.target_of r.value.dest, (option_map trees.timing_of r.value.stamp, (q, tt))))) }
+        ensures stopped { IfErr result (λ e. StoppedRow self.now.toks.now room input_row at e) }
+    {
+        let receives = self.symbol(at, RECEIVES)?;
+        let goal = self.goal(receives.end, room)?;
+        let closed = self.closed(goal, SEMICOLON)?;
+        Ok(Read {
+            value: closed.value,
+            end: closed.end,
+        })
+    }
+
+    /// Where the value of an input goes, and where its time is stored.
+    fn goal(&self, at: usize, room: u32) -> Result<Read<Goal>, Stop>
+        requires at { at ≤ length self.now.toks.now }
+        ensures bounds { IfOk result (λ r. (at < r.end) × (r.end ≤ length self.now.toks.now)) }
+        ensures read { IfOk result (λ r. ReadsGoal self.now.toks.now room at r.end (trees.target_of r.value.dest) (option_map trees.timing_of r.value.stamp)) }
+        ensures stopped { IfErr result (λ e. StopsGoal self.now.toks.now room at e) }
+    {
+        let dest = self.dest(at, room)?;
+        let (dest, stamp) = beside(dest.value, self.maybe_stamp(dest.end, room))?;
+        Ok(Read {
+            value: Goal {
+                dest,
+                stamp: stamp.value,
+            },
+            end: stamp.end,
+        })
     }
 
     /// Where the time of a transfer is stored, or nowhere.
@@ -158,12 +222,12 @@ impl<'a> Parser<'a> {
         let test = self.test(at + 1)?;
         let open = self.symbol(test.end, PAREN)?;
         let value = self.expr(open.end, room)?;
-        let close = self.symbol(value.end, END_PAREN)?;
+        let close = self.closed(value, END_PAREN)?;
         Ok(Read {
             value: Waits::Condition(When {
                 at: pos,
                 test: test.value,
-                value: value.value,
+                value: close.value,
             }),
             end: close.end,
         })

@@ -318,16 +318,11 @@ impl<'a> Parser<'a> {
         ensures read { IfOk result (λ r. Reads self.now.toks.now room symbol.guard at r.end (expression_of r.value)) }
         ensures stopped { IfErr result (λ e. Stopped self.now.toks.now room symbol.guard at e) }
     {
-        let read = match self.expr(at, room) {
-            Ok(read) => read,
-            Err(e) => return Err(e),
-        };
-        if !is_symbol(self.toks, read.end, ARROW) {
-            return Err(Stop::Wrong(read.end));
-        }
+        let test = self.expr(at, room)?;
+        let closed = self.closed(test, ARROW)?;
         Ok(Read {
-            value: read.value,
-            end: read.end + 1,
+            value: closed.value,
+            end: closed.end,
         })
     }
 }

@@ -1,6 +1,6 @@
-use Rattle.std.proofs.Common.{rules, ◌≡◌, refl}
+use Rattle.std.proofs.Common.{refl}
 use Rattle.xc_tree.proofs.Forms.{expression-made, form-Cast}
 use Rattle.xc_parser.proofs.nodes.cast.Goals as goal
 
 pub returns-in-Ok-clause-made : goal.returns-in-Ok-clause-made
-returns-in-Ok-clause-made c = let e : c.in-Ok.operand.value ≡ c.args.operand = search rules in rw (expression-made, form-Cast, e) refl
+returns-in-Ok-clause-made c = rw (expression-made, form-Cast, c.in-Ok.ensures.value) refl

@@ -10,10 +10,12 @@ use Rattle.xc_parser.proofs.Exits.{handed_on}
 use Rattle.xc_parser.proofs.Insides.{inner_reads, inner_stopped}
 use Rattle.xc_parser.proofs.Lasts.{read_last, stops_last}
 use Rattle.xc_parser.proofs.Paths.{at_symbol, begin, over_word, read, stops}
-use Rattle.xc_parser.proofs.Rounds.{while_open_stops, while_test_stops, while_close_stops, while_body_stops, while_reads, do_body_stops, do_word_stops, do_open_stops, do_test_stops, do_close_stops, do_end_stops, do_reads, for_body_stops, for_reads, for_made}
+use Rattle.xc_parser.proofs.RowSteps.{read_row, stops_row}
+use Rattle.xc_parser.proofs.Rounds.{while_open_stops, while_test_stops, while_close_stops, while_body_stops, while_reads, do_body_stops, do_tail_stops, do_reads, for_body_stops, for_reads, for_made}
 use Rattle.xc_parser.proofs.Simples.{deep_begins, none_begins, semicolon_reads}
 use Rattle.xc_parser.proofs.Stated.{begins_all, err_room, err_with, from_place, ok_room, ok_with, stopped_from, symbol_there}
 use Rattle.xc_parser.specs.Begun.{token_of}
+use Rattle.xc_parser.specs.Counting.{bound_row, step_row}
 use Rattle.xc_tree.proofs.Forms.{action-Par, action-Repl, action-Select, branch-made, case-made, action-While, action-DoWhile, action-Block, action-Empty, action-If, action-Tran}
 use Rattle.xc_tree.specs.Trees.{place_of, expression_of}
 use Rattle.xc_tree.specs.Symbol as symbol
@@ -55,151 +57,35 @@ replicated-returns-in_err-first-clause-stopped t c =
     let s0 = at_symbol (over_word (begin refl (omega arith)) c.requires.word.1 refl) c.requires.bracket.1 in
     let s1 = read s0 (c.in_ok-open.ensures.read _) refl in
     let s2 = read s1 (c.in_ok-int.ensures.read _) refl in
-    handed_on _ c.from_residual-in_err-first.result c.from_residual-in_err-first.ensures.1 (stops _ s2 (c.in_err-first.ensures.stopped _) refl)
-
-pub replicated-returns-in_err-equals-clause-stopped : goal.replicated-returns-in_err-equals-clause-stopped
-replicated-returns-in_err-equals-clause-stopped t c =
-    let s0 = at_symbol (over_word (begin refl (omega arith)) c.requires.word.1 refl) c.requires.bracket.1 in
-    let s1 = read s0 (c.in_ok-open.ensures.read _) refl in
-    let s2 = read s1 (c.in_ok-int.ensures.read _) refl in
-    let s3 = read s2 (c.in_ok-first.ensures.read _) refl in
-    handed_on _ c.from_residual-in_err-equals.result c.from_residual-in_err-equals.ensures.1 (stops _ s3 (c.in_err-equals.ensures.stopped _) refl)
-
-pub replicated-returns-in_err-from-clause-stopped : goal.replicated-returns-in_err-from-clause-stopped
-replicated-returns-in_err-from-clause-stopped t c =
-    let s0 = at_symbol (over_word (begin refl (omega arith)) c.requires.word.1 refl) c.requires.bracket.1 in
-    let s1 = read s0 (c.in_ok-open.ensures.read _) refl in
-    let s2 = read s1 (c.in_ok-int.ensures.read _) refl in
-    let s3 = read s2 (c.in_ok-first.ensures.read _) refl in
-    let s4 = read s3 (c.in_ok-equals.ensures.read _) refl in
-    handed_on _ c.from_residual-in_err-from.result c.from_residual-in_err-from.ensures.1 (stops _ s4 (c.in_err-from.ensures.stopped _) refl)
-
-pub replicated-returns-in_err-start-clause-stopped : goal.replicated-returns-in_err-start-clause-stopped
-replicated-returns-in_err-start-clause-stopped t c =
-    let s0 = at_symbol (over_word (begin refl (omega arith)) c.requires.word.1 refl) c.requires.bracket.1 in
-    let s1 = read s0 (c.in_ok-open.ensures.read _) refl in
-    let s2 = read s1 (c.in_ok-int.ensures.read _) refl in
-    let s3 = read s2 (c.in_ok-first.ensures.read _) refl in
-    let s4 = read s3 (c.in_ok-equals.ensures.read _) refl in
-    let s5 = read s4 (c.in_ok-from.ensures.read _) refl in
-    handed_on _ c.from_residual-in_err-start.result c.from_residual-in_err-start.ensures.1 (stops _ s5 (c.in_err-start.ensures.stopped _) refl)
+    handed_on _ c.from_residual-in_err-first.result c.from_residual-in_err-first.ensures.1 (stops_row 1 (bound_row 22) _ _ s2 (c.in_err-first.ensures.stopped _) refl)
 
 pub replicated-returns-in_err-second-clause-stopped : goal.replicated-returns-in_err-second-clause-stopped
 replicated-returns-in_err-second-clause-stopped t c =
     let s0 = at_symbol (over_word (begin refl (omega arith)) c.requires.word.1 refl) c.requires.bracket.1 in
     let s1 = read s0 (c.in_ok-open.ensures.read _) refl in
     let s2 = read s1 (c.in_ok-int.ensures.read _) refl in
-    let s3 = read s2 (c.in_ok-first.ensures.read _) refl in
-    let s4 = read s3 (c.in_ok-equals.ensures.read _) refl in
-    let s5 = read s4 (c.in_ok-from.ensures.read _) refl in
-    let s6 = read s5 (c.in_ok-start.ensures.read _) refl in
-    handed_on _ c.from_residual-in_err-second.result c.from_residual-in_err-second.ensures.1 (stops _ s6 (c.in_err-second.ensures.stopped _) refl)
-
-pub replicated-returns-in_err-below-clause-stopped : goal.replicated-returns-in_err-below-clause-stopped
-replicated-returns-in_err-below-clause-stopped t c =
-    let s0 = at_symbol (over_word (begin refl (omega arith)) c.requires.word.1 refl) c.requires.bracket.1 in
-    let s1 = read s0 (c.in_ok-open.ensures.read _) refl in
-    let s2 = read s1 (c.in_ok-int.ensures.read _) refl in
-    let s3 = read s2 (c.in_ok-first.ensures.read _) refl in
-    let s4 = read s3 (c.in_ok-equals.ensures.read _) refl in
-    let s5 = read s4 (c.in_ok-from.ensures.read _) refl in
-    let s6 = read s5 (c.in_ok-start.ensures.read _) refl in
-    let s7 = read s6 (c.in_ok-second.ensures.read _) refl in
-    handed_on _ c.from_residual-in_err-below.result c.from_residual-in_err-below.ensures.1 (stops _ s7 (c.in_err-below.ensures.stopped _) refl)
-
-pub replicated-returns-in_err-to-clause-stopped : goal.replicated-returns-in_err-to-clause-stopped
-replicated-returns-in_err-to-clause-stopped t c =
-    let s0 = at_symbol (over_word (begin refl (omega arith)) c.requires.word.1 refl) c.requires.bracket.1 in
-    let s1 = read s0 (c.in_ok-open.ensures.read _) refl in
-    let s2 = read s1 (c.in_ok-int.ensures.read _) refl in
-    let s3 = read s2 (c.in_ok-first.ensures.read _) refl in
-    let s4 = read s3 (c.in_ok-equals.ensures.read _) refl in
-    let s5 = read s4 (c.in_ok-from.ensures.read _) refl in
-    let s6 = read s5 (c.in_ok-start.ensures.read _) refl in
-    let s7 = read s6 (c.in_ok-second.ensures.read _) refl in
-    let s8 = read s7 (c.in_ok-below.ensures.read _) refl in
-    handed_on _ c.from_residual-in_err-to.result c.from_residual-in_err-to.ensures.1 (stops _ s8 (c.in_err-to.ensures.stopped _) refl)
-
-pub replicated-returns-in_err-test-clause-stopped : goal.replicated-returns-in_err-test-clause-stopped
-replicated-returns-in_err-test-clause-stopped t c =
-    let s0 = at_symbol (over_word (begin refl (omega arith)) c.requires.word.1 refl) c.requires.bracket.1 in
-    let s1 = read s0 (c.in_ok-open.ensures.read _) refl in
-    let s2 = read s1 (c.in_ok-int.ensures.read _) refl in
-    let s3 = read s2 (c.in_ok-first.ensures.read _) refl in
-    let s4 = read s3 (c.in_ok-equals.ensures.read _) refl in
-    let s5 = read s4 (c.in_ok-from.ensures.read _) refl in
-    let s6 = read s5 (c.in_ok-start.ensures.read _) refl in
-    let s7 = read s6 (c.in_ok-second.ensures.read _) refl in
-    let s8 = read s7 (c.in_ok-below.ensures.read _) refl in
-    let s9 = read s8 (c.in_ok-to.ensures.read _) refl in
-    handed_on _ c.from_residual-in_err-test.result c.from_residual-in_err-test.ensures.1 (stops _ s9 (c.in_err-test.ensures.stopped _) refl)
+    let s3 = read_row 1 (bound_row 22) _ s2 (c.in_ok-first.ensures.read.2 _) refl refl in
+    handed_on _ c.from_residual-in_err-second.result c.from_residual-in_err-second.ensures.1 (stops_row 1 (bound_row 20) _ _ s3 (c.in_err-second.ensures.stopped _) refl)
 
 pub replicated-returns-in_err-third-clause-stopped : goal.replicated-returns-in_err-third-clause-stopped
 replicated-returns-in_err-third-clause-stopped t c =
     let s0 = at_symbol (over_word (begin refl (omega arith)) c.requires.word.1 refl) c.requires.bracket.1 in
     let s1 = read s0 (c.in_ok-open.ensures.read _) refl in
     let s2 = read s1 (c.in_ok-int.ensures.read _) refl in
-    let s3 = read s2 (c.in_ok-first.ensures.read _) refl in
-    let s4 = read s3 (c.in_ok-equals.ensures.read _) refl in
-    let s5 = read s4 (c.in_ok-from.ensures.read _) refl in
-    let s6 = read s5 (c.in_ok-start.ensures.read _) refl in
-    let s7 = read s6 (c.in_ok-second.ensures.read _) refl in
-    let s8 = read s7 (c.in_ok-below.ensures.read _) refl in
-    let s9 = read s8 (c.in_ok-to.ensures.read _) refl in
-    let s10 = read s9 (c.in_ok-test.ensures.read _) refl in
-    handed_on _ c.from_residual-in_err-third.result c.from_residual-in_err-third.ensures.1 (stops _ s10 (c.in_err-third.ensures.stopped _) refl)
-
-pub replicated-returns-in_err-step-clause-stopped : goal.replicated-returns-in_err-step-clause-stopped
-replicated-returns-in_err-step-clause-stopped t c =
-    let s0 = at_symbol (over_word (begin refl (omega arith)) c.requires.word.1 refl) c.requires.bracket.1 in
-    let s1 = read s0 (c.in_ok-open.ensures.read _) refl in
-    let s2 = read s1 (c.in_ok-int.ensures.read _) refl in
-    let s3 = read s2 (c.in_ok-first.ensures.read _) refl in
-    let s4 = read s3 (c.in_ok-equals.ensures.read _) refl in
-    let s5 = read s4 (c.in_ok-from.ensures.read _) refl in
-    let s6 = read s5 (c.in_ok-start.ensures.read _) refl in
-    let s7 = read s6 (c.in_ok-second.ensures.read _) refl in
-    let s8 = read s7 (c.in_ok-below.ensures.read _) refl in
-    let s9 = read s8 (c.in_ok-to.ensures.read _) refl in
-    let s10 = read s9 (c.in_ok-test.ensures.read _) refl in
-    let s11 = read s10 (c.in_ok-third.ensures.read _) refl in
-    handed_on _ c.from_residual-in_err-step.result c.from_residual-in_err-step.ensures.1 (stops _ s11 (c.in_err-step.ensures.stopped _) refl)
-
-pub replicated-returns-in_err-close-clause-stopped : goal.replicated-returns-in_err-close-clause-stopped
-replicated-returns-in_err-close-clause-stopped t c =
-    let s0 = at_symbol (over_word (begin refl (omega arith)) c.requires.word.1 refl) c.requires.bracket.1 in
-    let s1 = read s0 (c.in_ok-open.ensures.read _) refl in
-    let s2 = read s1 (c.in_ok-int.ensures.read _) refl in
-    let s3 = read s2 (c.in_ok-first.ensures.read _) refl in
-    let s4 = read s3 (c.in_ok-equals.ensures.read _) refl in
-    let s5 = read s4 (c.in_ok-from.ensures.read _) refl in
-    let s6 = read s5 (c.in_ok-start.ensures.read _) refl in
-    let s7 = read s6 (c.in_ok-second.ensures.read _) refl in
-    let s8 = read s7 (c.in_ok-below.ensures.read _) refl in
-    let s9 = read s8 (c.in_ok-to.ensures.read _) refl in
-    let s10 = read s9 (c.in_ok-test.ensures.read _) refl in
-    let s11 = read s10 (c.in_ok-third.ensures.read _) refl in
-    let s12 = read s11 (c.in_ok-step.ensures.read _) refl in
-    handed_on _ c.from_residual-in_err-close.result c.from_residual-in_err-close.ensures.1 (stops _ s12 (c.in_err-close.ensures.stopped _) refl)
+    let s3 = read_row 1 (bound_row 22) _ s2 (c.in_ok-first.ensures.read.2 _) refl refl in
+    let s4 = read_row 1 (bound_row 20) _ s3 (c.in_ok-second.ensures.read.2 _) refl refl in
+    handed_on _ c.from_residual-in_err-third.result c.from_residual-in_err-third.ensures.1 (stops_row 1 step_row _ _ s4 (c.in_err-third.ensures.stopped _) refl)
 
 pub replicated-returns-in_err-branch-clause-stopped : goal.replicated-returns-in_err-branch-clause-stopped
 replicated-returns-in_err-branch-clause-stopped t c =
     let s0 = at_symbol (over_word (begin refl (omega arith)) c.requires.word.1 refl) c.requires.bracket.1 in
     let s1 = read s0 (c.in_ok-open.ensures.read _) refl in
     let s2 = read s1 (c.in_ok-int.ensures.read _) refl in
-    let s3 = read s2 (c.in_ok-first.ensures.read _) refl in
-    let s4 = read s3 (c.in_ok-equals.ensures.read _) refl in
-    let s5 = read s4 (c.in_ok-from.ensures.read _) refl in
-    let s6 = read s5 (c.in_ok-start.ensures.read _) refl in
-    let s7 = read s6 (c.in_ok-second.ensures.read _) refl in
-    let s8 = read s7 (c.in_ok-below.ensures.read _) refl in
-    let s9 = read s8 (c.in_ok-to.ensures.read _) refl in
-    let s10 = read s9 (c.in_ok-test.ensures.read _) refl in
-    let s11 = read s10 (c.in_ok-third.ensures.read _) refl in
-    let s12 = read s11 (c.in_ok-step.ensures.read _) refl in
-    let s13 = read s12 (c.in_ok-close.ensures.read _) refl in
+    let s3 = read_row 1 (bound_row 22) _ s2 (c.in_ok-first.ensures.read.2 _) refl refl in
+    let s4 = read_row 1 (bound_row 20) _ s3 (c.in_ok-second.ensures.read.2 _) refl refl in
+    let s5 = read_row 1 step_row _ s4 (c.in_ok-third.ensures.read.2 _) refl refl in
     handed_on _ c.from_residual-in_err-branch.result c.from_residual-in_err-branch.ensures.1
-    (stops_last _ s13 (inner_stopped c.args.self.now.toks.now c.args.room symbol.branch _ _ c.in_err-branch.ensures.stopped) refl (λ e x h. h))
+    (stops_last _ s5 (inner_stopped c.args.self.now.toks.now c.args.room symbol.branch _ _ c.in_err-branch.ensures.stopped) refl (λ e x h. h))
 
 pub replicated-whole-requires-clause-held : goal.replicated-whole-requires-clause-held
 replicated-whole-requires-clause-held t c = rw (action-Repl, c.in_ok-boxed.ensures.value) c.in_ok-branch.ensures.holds.0
@@ -209,19 +95,11 @@ replicated-returns-clause-read t c =
     let s0 = at_symbol (over_word (begin refl (omega arith)) c.requires.word.1 refl) c.requires.bracket.1 in
     let s1 = read s0 (c.in_ok-open.ensures.read _) refl in
     let s2 = read s1 (c.in_ok-int.ensures.read _) refl in
-    let s3 = read s2 (c.in_ok-first.ensures.read _) refl in
-    let s4 = read s3 (c.in_ok-equals.ensures.read _) refl in
-    let s5 = read s4 (c.in_ok-from.ensures.read _) refl in
-    let s6 = read s5 (c.in_ok-start.ensures.read _) refl in
-    let s7 = read s6 (c.in_ok-second.ensures.read _) refl in
-    let s8 = read s7 (c.in_ok-below.ensures.read _) refl in
-    let s9 = read s8 (c.in_ok-to.ensures.read _) refl in
-    let s10 = read s9 (c.in_ok-test.ensures.read _) refl in
-    let s11 = read s10 (c.in_ok-third.ensures.read _) refl in
-    let s12 = read s11 (c.in_ok-step.ensures.read _) refl in
-    let s13 = read s12 (c.in_ok-close.ensures.read _) refl in
+    let s3 = read_row 1 (bound_row 22) _ s2 (c.in_ok-first.ensures.read.2 _) refl refl in
+    let s4 = read_row 1 (bound_row 20) _ s3 (c.in_ok-second.ensures.read.2 _) refl refl in
+    let s5 = read_row 1 step_row _ s4 (c.in_ok-third.ensures.read.2 _) refl refl in
     rw (c.whole.ensures.end, c.whole.ensures.value, action-Repl, c.in_ok-boxed.ensures.value)
-    (read_last s13 (inner_reads c.args.room c.in_ok-branch.ensures.read) refl refl (λ e x h. h))
+    (read_last s5 (inner_reads c.args.room c.in_ok-branch.ensures.read) refl refl (λ e x h. h))
 
 pub par-returns-in_err-open-clause-stopped : goal.par-returns-in_err-open-clause-stopped
 par-returns-in_err-open-clause-stopped t c =
@@ -395,22 +273,24 @@ case-returns-in_err-event-clause-stopped t c =
     handed_on _ c.from_residual-in_err-event.result c.from_residual-in_err-event.ensures.1
     (case_event_stops c.args.self.now.toks.now c.args.room c.args.at (c.is_word.ensures.no c.if-is_word.false) (c.in_ok-word.ensures.read _) _ c.in_err-event.ensures.stopped)
 
-pub case-returns-in_err-body-clause-stopped : goal.case-returns-in_err-body-clause-stopped
-case-returns-in_err-body-clause-stopped t c =
-    handed_on _ c.from_residual-in_err-body.result c.from_residual-in_err-body.ensures.1
-    (case_body_stops c.args.self.now.toks.now c.args.room c.args.at (c.is_word.ensures.no c.if-is_word.false) (c.in_ok-word.ensures.read _) c.in_ok-event.ensures.read.1 _ c.in_err-body.ensures.stopped)
+pub case-returns-in_err-event-2-clause-stopped : goal.case-returns-in_err-event-2-clause-stopped
+case-returns-in_err-event-2-clause-stopped t c =
+    let body = rw c.in_err-event-2.ensures.stopped at c.case_body.ensures.stopped in
+    handed_on _ c.from_residual-in_err-event-2.result c.from_residual-in_err-event-2.ensures.1
+    (case_body_stops c.args.self.now.toks.now c.args.room c.args.at (c.is_word.ensures.no c.if-is_word.false) (c.in_ok-word.ensures.read _) c.in_ok-event.ensures.read.1 _ body)
 
 pub case-returns-clause-holds : goal.case-returns-clause-holds
 case-returns-clause-holds t c =
     let word = c.in_ok-word.ensures.bounds.0 in
     let event = c.in_ok-event.ensures.bounds.0 in
-    let body = c.in_ok-body.ensures.holds in
+    let body = rw c.in_ok-event-2.ensures.next at c.case_body.ensures.holds in
     (rw (case-made _) body.0, omega arith)
 
 pub case-returns-clause-read : goal.case-returns-clause-read
 case-returns-clause-read t c =
-    rw (case-made _)
-    (reads_case c.args.self.now.toks.now c.args.room c.args.at (c.is_word.ensures.no c.if-is_word.false) (c.in_ok-word.ensures.read _) c.in_ok-event.ensures.read.1 c.in_ok-body.ensures.read.2)
+    let body = rw c.in_ok-event-2.ensures.next at c.case_body.ensures.read in
+    rw (case-made _, c.in_ok-event-2.ensures.value)
+    (reads_case c.args.self.now.toks.now c.args.room c.args.at (c.is_word.ensures.no c.if-is_word.false) (c.in_ok-word.ensures.read _) c.in_ok-event.ensures.read.1 body.2)
 
 pub while_loop-returns-in_err-open-clause-stopped : goal.while_loop-returns-in_err-open-clause-stopped
 while_loop-returns-in_err-open-clause-stopped t c =
@@ -427,56 +307,40 @@ while_loop-returns-in_err-close-clause-stopped t c =
     handed_on _ c.from_residual-in_err-close.result c.from_residual-in_err-close.ensures.1
     (while_close_stops c.args.room c.requires.word.1 (c.in_ok-open.ensures.read _) c.in_ok-test.ensures.read _ (c.in_err-close.ensures.stopped _))
 
-pub while_loop-returns-in_err-body-clause-stopped : goal.while_loop-returns-in_err-body-clause-stopped
-while_loop-returns-in_err-body-clause-stopped t c =
-    handed_on _ c.from_residual-in_err-body.result c.from_residual-in_err-body.ensures.1
-    (while_body_stops c.args.room c.requires.word.1 (c.in_ok-open.ensures.read _) c.in_ok-test.ensures.read (c.in_ok-close.ensures.read _) _ c.in_err-body.ensures.stopped)
+pub while_loop-returns-in_err-test-2-clause-stopped : goal.while_loop-returns-in_err-test-2-clause-stopped
+while_loop-returns-in_err-test-2-clause-stopped t c =
+    let body = rw c.in_err-test-2.ensures.stopped at c.boxed_statement.ensures.stopped in
+    handed_on _ c.from_residual-in_err-test-2.result c.from_residual-in_err-test-2.ensures.1
+    (while_body_stops c.args.room c.requires.word.1 (c.in_ok-open.ensures.read _) c.in_ok-test.ensures.read (c.in_ok-close.ensures.read.1 _) _ body)
 
 pub while_loop-whole-requires-clause-held : goal.while_loop-whole-requires-clause-held
-while_loop-whole-requires-clause-held t c = rw (action-While, c.in_ok-boxed.ensures.value) (held_while (expression_of c.in_ok-test.test.value) c.in_ok-body.ensures.read.derives)
+while_loop-whole-requires-clause-held t c =
+    let body = rw c.in_ok-test-2.ensures.next at c.boxed_statement.ensures.read in
+    rw action-While (held_while (expression_of c.in_ok-close.close.value) body.derives)
 
 pub while_loop-returns-clause-read : goal.while_loop-returns-clause-read
 while_loop-returns-clause-read t c =
-    rw (c.whole.ensures.end, c.whole.ensures.value, action-While, c.in_ok-boxed.ensures.value)
-    (while_reads c.args.room c.requires.word.1 (c.in_ok-open.ensures.read _) c.in_ok-test.ensures.read (c.in_ok-close.ensures.read _) c.in_ok-body.ensures.read)
+    let body = rw c.in_ok-test-2.ensures.next at c.boxed_statement.ensures.read in
+    rw (c.whole.ensures.end, c.whole.ensures.value, action-While, c.in_ok-test-2.ensures.value, c.in_ok-close.ensures.value)
+    (while_reads c.args.room c.requires.word.1 (c.in_ok-open.ensures.read _) c.in_ok-test.ensures.read (c.in_ok-close.ensures.read.1 _) body)
 
 pub do_loop-returns-in_err-body-clause-stopped : goal.do_loop-returns-in_err-body-clause-stopped
 do_loop-returns-in_err-body-clause-stopped t c =
     handed_on _ c.from_residual.result c.from_residual.ensures.1
     (do_body_stops c.args.room c.requires.word.1 _ c.in_err-body.ensures.stopped)
 
-pub do_loop-returns-in_err-word-clause-stopped : goal.do_loop-returns-in_err-word-clause-stopped
-do_loop-returns-in_err-word-clause-stopped t c =
-    handed_on _ c.from_residual-in_err-word.result c.from_residual-in_err-word.ensures.1
-    (do_word_stops c.args.room c.requires.word.1 c.in_ok-body.ensures.read _ (c.in_err-word.ensures.stopped _))
-
-pub do_loop-returns-in_err-open-clause-stopped : goal.do_loop-returns-in_err-open-clause-stopped
-do_loop-returns-in_err-open-clause-stopped t c =
-    handed_on _ c.from_residual-in_err-open.result c.from_residual-in_err-open.ensures.1
-    (do_open_stops c.args.room c.requires.word.1 c.in_ok-body.ensures.read (c.in_ok-word.ensures.read _) _ (c.in_err-open.ensures.stopped _))
-
 pub do_loop-returns-in_err-test-clause-stopped : goal.do_loop-returns-in_err-test-clause-stopped
 do_loop-returns-in_err-test-clause-stopped t c =
     handed_on _ c.from_residual-in_err-test.result c.from_residual-in_err-test.ensures.1
-    (do_test_stops c.args.room c.requires.word.1 c.in_ok-body.ensures.read (c.in_ok-word.ensures.read _) (c.in_ok-open.ensures.read _) _ c.in_err-test.ensures.stopped)
-
-pub do_loop-returns-in_err-close-clause-stopped : goal.do_loop-returns-in_err-close-clause-stopped
-do_loop-returns-in_err-close-clause-stopped t c =
-    handed_on _ c.from_residual-in_err-close.result c.from_residual-in_err-close.ensures.1
-    (do_close_stops c.args.room c.requires.word.1 c.in_ok-body.ensures.read (c.in_ok-word.ensures.read _) (c.in_ok-open.ensures.read _) c.in_ok-test.ensures.read _ (c.in_err-close.ensures.stopped _))
-
-pub do_loop-returns-in_err-semicolon-clause-stopped : goal.do_loop-returns-in_err-semicolon-clause-stopped
-do_loop-returns-in_err-semicolon-clause-stopped t c =
-    handed_on _ c.from_residual-in_err-semicolon.result c.from_residual-in_err-semicolon.ensures.1
-    (do_end_stops c.args.room c.requires.word.1 c.in_ok-body.ensures.read (c.in_ok-word.ensures.read _) (c.in_ok-open.ensures.read _) c.in_ok-test.ensures.read (c.in_ok-close.ensures.read _) _ (c.in_err-semicolon.ensures.stopped _))
+    (do_tail_stops c.args.room c.requires.word.1 c.in_ok-body.ensures.read _ c.in_err-test.ensures.stopped)
 
 pub do_loop-whole-requires-clause-held : goal.do_loop-whole-requires-clause-held
-do_loop-whole-requires-clause-held t c = rw (action-DoWhile, c.in_ok-boxed.ensures.value) (held_do c.args.at (expression_of c.in_ok-test.test.value) c.in_ok-body.ensures.read.derives)
+do_loop-whole-requires-clause-held t c = rw action-DoWhile (held_do c.args.at (expression_of c.in_ok-test.test.value) c.in_ok-body.ensures.read.derives)
 
 pub do_loop-returns-clause-read : goal.do_loop-returns-clause-read
 do_loop-returns-clause-read t c =
-    rw (c.whole.ensures.end, c.whole.ensures.value, action-DoWhile, c.in_ok-boxed.ensures.value)
-    (do_reads c.args.room c.requires.word.1 c.in_ok-body.ensures.read (c.in_ok-word.ensures.read _) (c.in_ok-open.ensures.read _) c.in_ok-test.ensures.read (c.in_ok-close.ensures.read _) (c.in_ok-semicolon.ensures.read _))
+    rw (c.whole.ensures.end, c.whole.ensures.value, action-DoWhile)
+    (do_reads c.args.room c.requires.word.1 c.in_ok-body.ensures.read c.in_ok-test.ensures.read.4)
 
 pub for_loop-returns-in_err-parts-clause-stopped : goal.for_loop-returns-in_err-parts-clause-stopped
 for_loop-returns-in_err-parts-clause-stopped t c =
@@ -491,13 +355,13 @@ for_loop-returns-in_err-body-clause-stopped t c =
 pub for_loop-whole-requires-clause-held : goal.for_loop-whole-requires-clause-held
 for_loop-whole-requires-clause-held t c =
     let r = c.in_ok-parts.ensures.read in
-    rw (for_made _ _ r.has_start r.has_step, r.held, c.in_ok-boxed.ensures.value)
+    rw (for_made _ _ r.has_start r.has_step, r.held)
     (held_for (option_map expression_of c.in_ok-parts.parts.value.test) r.starts.derives r.steps.derives c.in_ok-body.ensures.read.derives)
 
 pub for_loop-returns-clause-read : goal.for_loop-returns-clause-read
 for_loop-returns-clause-read t c =
     let r = c.in_ok-parts.ensures.read in
-    rw (c.whole.ensures.end, c.whole.ensures.value, for_made _ _ r.has_start r.has_step, c.in_ok-boxed.ensures.value)
+    rw (c.whole.ensures.end, c.whole.ensures.value, for_made _ _ r.has_start r.has_step)
     (for_reads c.args.room c.requires.word.1 (r.opens _) r.starts (r.ends_start _) r.tests (r.ends_test _) r.steps (r.closes _) c.in_ok-body.ensures.read)
 
 pub begun-whole-requires-clause-held : goal.begun-whole-requires-clause-held
@@ -583,6 +447,13 @@ pub statement-returns-clause-stopped : goal.statement-returns-clause-stopped
 statement-returns-clause-stopped t c =
     let e : c.args.room - 1 + 1 ≡ c.args.room = omega arith in
     err_room c.args.self.now.toks.now symbol.statement c.args.at e c.begun.result c.begun.ensures.stopped
+
+pub boxed_statement-returns-in_err-read-clause-stopped : goal.boxed_statement-returns-in_err-read-clause-stopped
+boxed_statement-returns-in_err-read-clause-stopped t c =
+    handed_on _ c.from_residual.result c.from_residual.ensures.1 c.in_err-read.ensures.stopped
+
+pub boxed_statement-returns-clause-read : goal.boxed_statement-returns-clause-read
+boxed_statement-returns-clause-read t c = rw c.in_ok-boxed.ensures.value c.in_ok-read.ensures.read
 
 pub braced-returns-in_err-block-clause-stopped : goal.braced-returns-in_err-block-clause-stopped
 braced-returns-in_err-block-clause-stopped t c =
@@ -690,49 +561,60 @@ conditional-returns-in_err-close-clause-stopped t c =
     handed_on _ c.from_residual-in_err-close.result c.from_residual-in_err-close.ensures.1
     (close_stops c.args.room w o q _ (c.in_err-close.ensures.stopped _))
 
-pub conditional-returns-in_err-first-clause-stopped : goal.conditional-returns-in_err-first-clause-stopped
-conditional-returns-in_err-first-clause-stopped t c =
+pub conditional-returns-in_err-test-2-clause-stopped : goal.conditional-returns-in_err-test-2-clause-stopped
+conditional-returns-in_err-test-2-clause-stopped t c =
     let w = c.requires.word.1 in
     let o = symbol_there (c.in_ok-open.ensures.read 0) in
     let q = from_place c.in_ok-open.ensures.bounds.0 c.in_ok-test.ensures.read in
-    let l = symbol_there (c.in_ok-close.ensures.read 0) in
-    handed_on _ c.from_residual-in_err-first.result c.from_residual-in_err-first.ensures.1
-    (then_stops c.args.room w o q l _ (stopped_from c.args.self.now.toks.now c.args.room symbol.statement _ c.in_ok-close.ensures.bounds.0 c.in_err-first.ensures.stopped))
+    let l = symbol_there (c.in_ok-close.ensures.read.1 0) in
+    let first = rw c.in_err-test-2.ensures.stopped at c.boxed_statement.ensures.stopped in
+    handed_on _ c.from_residual-in_err-test-2.result c.from_residual-in_err-test-2.ensures.1
+    (then_stops c.args.room w o q l _ (stopped_from c.args.self.now.toks.now c.args.room symbol.statement _ c.in_ok-close.ensures.bounds.0 first))
 
 pub conditional-whole-requires-clause-held : goal.conditional-whole-requires-clause-held
-conditional-whole-requires-clause-held t c = rw (action-If, c.in_ok-then.ensures.value) (held_if (expression_of c.in_ok-test.test.value) c.in_ok-first.ensures.read.derives)
+conditional-whole-requires-clause-held t c =
+    let first = rw c.in_ok-test-2.ensures.next at c.boxed_statement.ensures.read in
+    rw action-If (held_if (expression_of c.in_ok-close.close.value) first.derives)
 
 pub conditional-returns-then-not-is_word-clause-read : goal.conditional-returns-then-not-is_word-clause-read
 conditional-returns-then-not-is_word-clause-read t c =
     let w = c.requires.word.1 in
     let o = symbol_there (c.in_ok-open.ensures.read 0) in
     let q = from_place c.in_ok-open.ensures.bounds.0 c.in_ok-test.ensures.read in
-    let l = symbol_there (c.in_ok-close.ensures.read 0) in
-    let s = from_place c.in_ok-close.ensures.bounds.0 c.in_ok-first.ensures.read in
-    rw (c.whole.ensures.end, c.whole.ensures.value, action-If, c.in_ok-then.ensures.value)
+    let l = symbol_there (c.in_ok-close.ensures.read.1 0) in
+    let first = rw c.in_ok-test-2.ensures.next at c.boxed_statement.ensures.read in
+    let s = from_place c.in_ok-close.ensures.bounds.0 first in
+    rw (c.whole.ensures.end, c.whole.ensures.value, action-If, c.in_ok-test-2.ensures.value, c.in_ok-close.ensures.value)
     (then_reads c.args.room w o q l s (c.is_word.ensures.no c.if-not-is_word.true))
 
-pub conditional-returns-in_err-second-clause-stopped : goal.conditional-returns-in_err-second-clause-stopped
-conditional-returns-in_err-second-clause-stopped t c =
+pub conditional-returns-in_err-kept-clause-stopped : goal.conditional-returns-in_err-kept-clause-stopped
+conditional-returns-in_err-kept-clause-stopped t c =
     let w = c.requires.word.1 in
     let o = symbol_there (c.in_ok-open.ensures.read 0) in
     let q = from_place c.in_ok-open.ensures.bounds.0 c.in_ok-test.ensures.read in
-    let l = symbol_there (c.in_ok-close.ensures.read 0) in
-    let s = from_place c.in_ok-close.ensures.bounds.0 c.in_ok-first.ensures.read in
+    let l = symbol_there (c.in_ok-close.ensures.read.1 0) in
+    let first = rw c.in_ok-test-2.ensures.next at c.boxed_statement.ensures.read in
+    let s = from_place c.in_ok-close.ensures.bounds.0 first in
     let els = (c.is_word.ensures.yes c.if-not-is_word.false).1.1 in
-    handed_on _ c.from_residual-in_err-second.result c.from_residual-in_err-second.ensures.1
-    (else_stops c.args.room w o q l s els _ c.in_err-second.ensures.stopped)
+    let second = rw c.in_err-kept.ensures.stopped at c.boxed_statement-2.ensures.stopped in
+    handed_on _ c.from_residual-in_err-kept.result c.from_residual-in_err-kept.ensures.1
+    (else_stops c.args.room w o q l s els _ second)
 
 pub conditional-whole-requires-2-clause-held : goal.conditional-whole-requires-2-clause-held
-conditional-whole-requires-2-clause-held t c = rw (action-If, c.in_ok-then.ensures.value, c.in_ok-other.ensures.value) (held_if_else (expression_of c.in_ok-test.test.value) c.in_ok-first.ensures.read.derives c.in_ok-second.ensures.read.derives)
+conditional-whole-requires-2-clause-held t c =
+    let first = rw c.in_ok-test-2.ensures.next at c.boxed_statement.ensures.read in
+    let second = rw c.in_ok-kept.ensures.next at c.boxed_statement-2.ensures.read in
+    rw (action-If, c.in_ok-kept.ensures.value) (held_if_else (expression_of c.in_ok-close.close.value) first.derives second.derives)
 
 pub conditional-returns-clause-read : goal.conditional-returns-clause-read
 conditional-returns-clause-read t c =
     let w = c.requires.word.1 in
     let o = symbol_there (c.in_ok-open.ensures.read 0) in
     let q = from_place c.in_ok-open.ensures.bounds.0 c.in_ok-test.ensures.read in
-    let l = symbol_there (c.in_ok-close.ensures.read 0) in
-    let s = from_place c.in_ok-close.ensures.bounds.0 c.in_ok-first.ensures.read in
+    let l = symbol_there (c.in_ok-close.ensures.read.1 0) in
+    let first = rw c.in_ok-test-2.ensures.next at c.boxed_statement.ensures.read in
+    let s = from_place c.in_ok-close.ensures.bounds.0 first in
     let els = (c.is_word.ensures.yes c.if-not-is_word.false).1.1 in
-    rw (c.whole-2.ensures.end, c.whole-2.ensures.value, action-If, c.in_ok-then.ensures.value, c.in_ok-other.ensures.value)
-    (else_reads c.args.room w o q l s els c.in_ok-second.ensures.read)
+    let second = rw c.in_ok-kept.ensures.next at c.boxed_statement-2.ensures.read in
+    rw (c.whole-2.ensures.end, c.whole-2.ensures.value, action-If, c.in_ok-kept.ensures.value, c.in_ok-test-2.ensures.value, c.in_ok-close.ensures.value)
+    (else_reads c.args.room w o q l s els second)

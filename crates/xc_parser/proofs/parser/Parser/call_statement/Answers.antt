@@ -10,12 +10,12 @@ returns-in_err-call-clause-stopped c =
     handed_on _ c.from_residual.result c.from_residual.ensures.1
     (call_stops c.args.self.now.toks.now c.args.room c.args.at c.requires.name.2 _ c.requires.open.1 c.in_err-call.ensures.stopped)
 
-pub returns-in_err-semicolon-clause-stopped : goal.returns-in_err-semicolon-clause-stopped
-returns-in_err-semicolon-clause-stopped c =
+pub returns-in_err-closed-clause-stopped : goal.returns-in_err-closed-clause-stopped
+returns-in_err-closed-clause-stopped c =
     let l = c.in_ok-call.ensures.bounds.0 in
     let m : c.args.at + 1 ≤ c.in_ok-call.call.end = omega (arith, l) in
-    handed_on _ c.from_residual-in_err-semicolon.result c.from_residual-in_err-semicolon.ensures.1
-    (call_ends c.args.self.now.toks.now c.args.room c.args.at c.requires.name.2 _ c.requires.open.1 c.in_ok-call.ensures.read m (c.in_err-semicolon.ensures.stopped _))
+    handed_on _ c.from_residual-in_err-closed.result c.from_residual-in_err-closed.ensures.1
+    (call_ends c.args.self.now.toks.now c.args.room c.args.at c.requires.name.2 _ c.requires.open.1 c.in_ok-call.ensures.read m (c.in_err-closed.ensures.stopped _))
 
 pub whole-requires-clause-held : goal.whole-requires-clause-held
 whole-requires-clause-held c = rw action-Do refl
@@ -24,5 +24,5 @@ pub returns-clause-read : goal.returns-clause-read
 returns-clause-read c =
     let l = c.in_ok-call.ensures.bounds.0 in
     let m : c.args.at + 1 ≤ c.in_ok-call.call.end = omega (arith, l) in
-    rw (c.whole.ensures.end, c.whole.ensures.value, action-Do, c.right_side.ensures, c.in_ok-semicolon.ensures.bounds.0)
-    (call_reads c.args.self.now.toks.now c.args.room c.args.at c.requires.name.2 c.requires.open.1 c.in_ok-call.ensures.read m (symbol_there (c.in_ok-semicolon.ensures.read 0)))
+    rw (c.whole.ensures.end, c.whole.ensures.value, action-Do, c.right_side.ensures, c.in_ok-closed.ensures.value, c.in_ok-closed.ensures.bounds.0)
+    (call_reads c.args.self.now.toks.now c.args.room c.args.at c.requires.name.2 c.requires.open.1 c.in_ok-call.ensures.read m (symbol_there (c.in_ok-closed.ensures.read.1 0)))

@@ -1,11 +1,20 @@
-use Rattle.xc_parser.proofs.RightSides.{reads_guard, open_guard, stops_guard}
+use Rattle.std.proofs.Common.{refl}
+use Rattle.xc_parser.proofs.Exits.{handed_on}
+use Rattle.xc_parser.proofs.Paths.{begin, read, stops, finish}
 use Rattle.xc_parser.proofs.parser.Parser.guard.Goals as goal
 
-pub returns-in-Err-clause-stopped : goal.returns-in-Err-clause-stopped
-returns-in-Err-clause-stopped c = stops_guard c.args.self.now.toks.now c.args.room c.args.at c.in-Err.e c.in-Err.ensures.stopped
+pub returns-in_err-test-clause-stopped : goal.returns-in_err-test-clause-stopped
+returns-in_err-test-clause-stopped c =
+    handed_on _ c.from_residual.result c.from_residual.ensures.1
+    (stops _ (begin refl tt) c.in_err-test.ensures.stopped refl)
 
-pub returns-then-not-is_symbol-clause-stopped : goal.returns-then-not-is_symbol-clause-stopped
-returns-then-not-is_symbol-clause-stopped c = open_guard c.in-Ok.ensures.read (c.is_symbol.ensures.no c.if-not-is_symbol.true)
+pub returns-in_err-closed-clause-stopped : goal.returns-in_err-closed-clause-stopped
+returns-in_err-closed-clause-stopped c =
+    let test = read (begin refl tt) c.in_ok-test.ensures.read refl in
+    handed_on _ c.from_residual-in_err-closed.result c.from_residual-in_err-closed.ensures.1
+    (stops _ test (c.in_err-closed.ensures.stopped _) refl)
 
 pub returns-clause-read : goal.returns-clause-read
-returns-clause-read c = let y = c.is_symbol.ensures.yes c.if-not-is_symbol.false in reads_guard c.in-Ok.ensures.read y.1.1
+returns-clause-read c =
+    let test = read (begin refl tt) c.in_ok-test.ensures.read refl in
+    rw c.in_ok-closed.ensures.value (finish (read test (c.in_ok-closed.ensures.read.1 _) refl) refl)

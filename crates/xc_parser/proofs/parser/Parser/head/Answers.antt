@@ -21,13 +21,14 @@ returns-in_err-open-clause-stopped c =
 pub returns-in_err-params-clause-stopped : goal.returns-in_err-params-clause-stopped
 returns-in_err-params-clause-stopped c =
     handed_on _ c.from_residual-in_err-params.result c.from_residual-in_err-params.ensures.1
-    (λ room. stops _ (read (read (read (begin refl tt) (c.in_ok-result.ensures.read room) refl) (c.in_ok-name.ensures.read room) refl) (c.in_ok-open.ensures.read room) refl) (c.in_err-params.ensures.stopped room) refl)
+    (λ room. stops _ (read (read (read (begin refl tt) (c.in_ok-result.ensures.read room) refl) (c.in_ok-name.ensures.read room) refl) (c.in_ok-open.ensures.read.1 room) refl) (c.in_err-params.ensures.stopped room) refl)
 
 pub returns-in_err-close-clause-stopped : goal.returns-in_err-close-clause-stopped
 returns-in_err-close-clause-stopped c =
     handed_on _ c.from_residual-in_err-close.result c.from_residual-in_err-close.ensures.1
-    (λ room. stops _ (read (read (read (read (begin refl tt) (c.in_ok-result.ensures.read room) refl) (c.in_ok-name.ensures.read room) refl) (c.in_ok-open.ensures.read room) refl) (c.in_ok-params.ensures.read room) refl) (c.in_err-close.ensures.stopped room) refl)
+    (λ room. stops _ (read (read (read (read (begin refl tt) (c.in_ok-result.ensures.read room) refl) (c.in_ok-name.ensures.read room) refl) (c.in_ok-open.ensures.read.1 room) refl) (c.in_ok-params.ensures.read room) refl) (c.in_err-close.ensures.stopped room) refl)
 
 pub returns-clause-read : goal.returns-clause-read
 returns-clause-read c =
-    λ room. finish (read (read (read (read (read (begin refl tt) (c.in_ok-result.ensures.read room) refl) (c.in_ok-name.ensures.read room) refl) (c.in_ok-open.ensures.read room) refl) (c.in_ok-params.ensures.read room) refl) (c.in_ok-close.ensures.read room) refl) refl
+    rw (c.in_ok-close.ensures.value, c.in_ok-open.ensures.value)
+    (λ room. finish (read (read (read (read (read (begin refl tt) (c.in_ok-result.ensures.read room) refl) (c.in_ok-name.ensures.read room) refl) (c.in_ok-open.ensures.read.1 room) refl) (c.in_ok-params.ensures.read room) refl) (c.in_ok-close.ensures.read.1 room) refl) refl)

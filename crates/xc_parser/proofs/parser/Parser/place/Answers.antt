@@ -35,8 +35,9 @@ returns-in_err-close-clause-stopped c =
 pub returns-in_err-colon-clause-stopped : goal.returns-in_err-colon-clause-stopped
 returns-in_err-colon-clause-stopped c =
     handed_on _ c.from_residual-in_err-colon.result c.from_residual-in_err-colon.ensures.1
-    (stops _ (read (read (read (at_core (at_on (c.in_ok-on.ensures.read c.args.room)) c.in_ok-core.ensures.read.0 c.in_ok-core.ensures.read.1.1 c.in_ok-core.ensures.bounds.0) (c.in_ok-open.ensures.read c.args.room) refl) c.in_ok-value.ensures.read refl) (c.in_ok-close.ensures.read c.args.room) refl) (c.in_err-colon.ensures.stopped c.args.room) refl)
+    (stops _ (read (read (read (at_core (at_on (c.in_ok-on.ensures.read c.args.room)) c.in_ok-core.ensures.read.0 c.in_ok-core.ensures.read.1.1 c.in_ok-core.ensures.bounds.0) (c.in_ok-open.ensures.read c.args.room) refl) c.in_ok-value.ensures.read refl) (c.in_ok-close.ensures.read.1 c.args.room) refl) (c.in_err-colon.ensures.stopped c.args.room) refl)
 
 pub returns-clause-read : goal.returns-clause-read
 returns-clause-read c =
-    finish (read (read (read (read (at_core (at_on (c.in_ok-on.ensures.read c.args.room)) c.in_ok-core.ensures.read.0 c.in_ok-core.ensures.read.1.1 c.in_ok-core.ensures.bounds.0) (c.in_ok-open.ensures.read c.args.room) refl) c.in_ok-value.ensures.read refl) (c.in_ok-close.ensures.read c.args.room) refl) (c.in_ok-colon.ensures.read c.args.room) refl) refl
+    rw (c.in_ok-colon.ensures.value, c.in_ok-close.ensures.value)
+    (finish (read (read (read (read (at_core (at_on (c.in_ok-on.ensures.read c.args.room)) c.in_ok-core.ensures.read.0 c.in_ok-core.ensures.read.1.1 c.in_ok-core.ensures.bounds.0) (c.in_ok-open.ensures.read c.args.room) refl) c.in_ok-value.ensures.read refl) (c.in_ok-close.ensures.read.1 c.args.room) refl) (c.in_ok-colon.ensures.read.1 c.args.room) refl) refl)

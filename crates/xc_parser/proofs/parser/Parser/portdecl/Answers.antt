@@ -1,6 +1,8 @@
-use Rattle.std.proofs.Common.{refl}
+use Rattle.std.proofs.Common.{[], refl}
+use Rattle.xc_parser.specs.PortParts.{port_row}
 use Rattle.xc_parser.proofs.Exits.{handed_on}
 use Rattle.xc_parser.proofs.Paths.{begin, read, stops, finish}
+use Rattle.xc_parser.proofs.RowSteps.{read_row, stops_row}
 use Rattle.xc_parser.proofs.parser.Parser.portdecl.Goals as goal
 
 pub returns-in_err-place-clause-stopped : goal.returns-in_err-place-clause-stopped
@@ -8,31 +10,15 @@ returns-in_err-place-clause-stopped c =
     handed_on _ c.from_residual.result c.from_residual.ensures.1
     (stops _ (begin refl tt) c.in_err-place.ensures.stopped refl)
 
-pub returns-in_err-dir-clause-stopped : goal.returns-in_err-dir-clause-stopped
-returns-in_err-dir-clause-stopped c =
-    handed_on _ c.from_residual-in_err-dir.result c.from_residual-in_err-dir.ensures.1
-    (stops _ (read (begin refl tt) c.in_ok-place.ensures.read refl) (c.in_err-dir.ensures.stopped _) refl)
-
-pub returns-in_err-name-clause-stopped : goal.returns-in_err-name-clause-stopped
-returns-in_err-name-clause-stopped c =
-    handed_on _ c.from_residual-in_err-name.result c.from_residual-in_err-name.ensures.1
-    (stops _ (read (read (begin refl tt) c.in_ok-place.ensures.read refl) (c.in_ok-dir.ensures.read _) refl) (c.in_err-name.ensures.stopped _) refl)
-
-pub returns-in_err-equals-clause-stopped : goal.returns-in_err-equals-clause-stopped
-returns-in_err-equals-clause-stopped c =
-    handed_on _ c.from_residual-in_err-equals.result c.from_residual-in_err-equals.ensures.1
-    (stops _ (read (read (read (begin refl tt) c.in_ok-place.ensures.read refl) (c.in_ok-dir.ensures.read _) refl) (c.in_ok-name.ensures.read _) refl) (c.in_err-equals.ensures.stopped _) refl)
-
-pub returns-in_err-ident-clause-stopped : goal.returns-in_err-ident-clause-stopped
-returns-in_err-ident-clause-stopped c =
-    handed_on _ c.from_residual-in_err-ident.result c.from_residual-in_err-ident.ensures.1
-    (stops _ (read (read (read (read (begin refl tt) c.in_ok-place.ensures.read refl) (c.in_ok-dir.ensures.read _) refl) (c.in_ok-name.ensures.read _) refl) (c.in_ok-equals.ensures.read _) refl) (c.in_err-ident.ensures.stopped _) refl)
-
-pub returns-in_err-semicolon-clause-stopped : goal.returns-in_err-semicolon-clause-stopped
-returns-in_err-semicolon-clause-stopped c =
-    handed_on _ c.from_residual-in_err-semicolon.result c.from_residual-in_err-semicolon.ensures.1
-    (stops _ (read (read (read (read (read (begin refl tt) c.in_ok-place.ensures.read refl) (c.in_ok-dir.ensures.read _) refl) (c.in_ok-name.ensures.read _) refl) (c.in_ok-equals.ensures.read _) refl) (c.in_ok-ident.ensures.read _) refl) (c.in_err-semicolon.ensures.stopped _) refl)
+pub returns-in_err-place-2-clause-stopped : goal.returns-in_err-place-2-clause-stopped
+returns-in_err-place-2-clause-stopped c =
+    let place = read (begin refl tt) c.in_ok-place.ensures.read refl in
+    let port = rw c.in_err-place-2.ensures.stopped at c.port.ensures.stopped in
+    handed_on _ c.from_residual-in_err-place-2.result c.from_residual-in_err-place-2.ensures.1
+    (stops_row 0 port_row [] _ place (port _) refl)
 
 pub returns-clause-read : goal.returns-clause-read
 returns-clause-read c =
-    finish (read (read (read (read (read (read (begin refl tt) c.in_ok-place.ensures.read refl) (c.in_ok-dir.ensures.read _) refl) (c.in_ok-name.ensures.read _) refl) (c.in_ok-equals.ensures.read _) refl) (c.in_ok-ident.ensures.read _) refl) (c.in_ok-semicolon.ensures.read _) refl) refl
+    let place = read (begin refl tt) c.in_ok-place.ensures.read refl in
+    let port = rw c.in_ok-place-2.ensures.next at c.port.ensures.read in
+    rw c.in_ok-place-2.ensures.value (finish (read_row 0 port_row [] place (port.2 _) refl refl) refl)

@@ -32,11 +32,11 @@ returns-in_default-clause-stopped c =
     let u = rw c.in_default.is at c.in_ok-value.ensures.read in
     return_wrong c.args.self.now.toks.now c.args.room c.args.at c.requires.word.1 (c.is_symbol.ensures.no c.if-is_symbol.false) u (c.is_symbol-in_default.ensures.no c.if-is_symbol-2.false)
 
-pub returns-in_err-semicolon-clause-stopped : goal.returns-in_err-semicolon-clause-stopped
-returns-in_err-semicolon-clause-stopped c =
+pub returns-in_err-closed-clause-stopped : goal.returns-in_err-closed-clause-stopped
+returns-in_err-closed-clause-stopped c =
     let r = rw c.in-Some.is at c.in_ok-value.ensures.read in
-    handed_on _ c.from_residual-in_err-semicolon.result c.from_residual-in_err-semicolon.ensures.1
-    (value_ends c.args.self.now.toks.now c.args.room c.args.at c.requires.word.1 (c.is_symbol.ensures.no c.if-is_symbol.false) r _ (c.in_err-semicolon.ensures.stopped _))
+    handed_on _ c.from_residual-in_err-closed.result c.from_residual-in_err-closed.ensures.1
+    (value_ends c.args.self.now.toks.now c.args.room c.args.at c.requires.word.1 (c.is_symbol.ensures.no c.if-is_symbol.false) r _ (c.in_err-closed.ensures.stopped _))
 
 pub whole-requires-2-clause-held : goal.whole-requires-2-clause-held
 whole-requires-2-clause-held c = rw action-Return refl
@@ -44,5 +44,5 @@ whole-requires-2-clause-held c = rw action-Return refl
 pub returns-clause-read : goal.returns-clause-read
 returns-clause-read c =
     let r = rw c.in-Some.is at c.in_ok-value.ensures.read in
-    rw (c.whole-2.ensures.end, c.whole-2.ensures.value, action-Return, c.in_ok-semicolon.ensures.bounds.0)
-    (return_reads c.args.self.now.toks.now c.args.room c.args.at c.requires.word.1 (c.is_symbol.ensures.no c.if-is_symbol.false) r (symbol_there (c.in_ok-semicolon.ensures.read 0)))
+    rw (c.whole-2.ensures.end, c.whole-2.ensures.value, action-Return, c.in_ok-closed.ensures.value, c.in_ok-closed.ensures.bounds.0)
+    (return_reads c.args.self.now.toks.now c.args.room c.args.at c.requires.word.1 (c.is_symbol.ensures.no c.if-is_symbol.false) r (symbol_there (c.in_ok-closed.ensures.read.1 0)))

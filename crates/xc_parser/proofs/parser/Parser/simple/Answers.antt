@@ -23,21 +23,21 @@ returns-in_err-assign-clause-stopped c =
     handed_on _ c.from_residual.result c.from_residual.ensures.1
     (assign_stops c.args.self.now.toks.now c.args.room c.args.at c.requires.name.2 none _ (omega arith) c.in_err-assign.ensures.stopped)
 
-pub returns-in_err-semicolon-clause-stopped : goal.returns-in_err-semicolon-clause-stopped
-returns-in_err-semicolon-clause-stopped c =
+pub returns-in_err-closed-clause-stopped : goal.returns-in_err-closed-clause-stopped
+returns-in_err-closed-clause-stopped c =
     let none = no_others (c.is_symbol.ensures.no c.if-is_symbol.false) (c.sends.ensures.no c.if-sends.false) (c.receives.ensures.no c.if-receives.false) in
     let l = c.in_ok-assign.ensures.bounds.0 in
     let m : c.args.at + 1 ≤ c.in_ok-assign.assign.end = omega (arith, l) in
-    handed_on _ c.from_residual-in_err-semicolon.result c.from_residual-in_err-semicolon.ensures.1
-    (assign_ends c.args.self.now.toks.now c.args.room c.args.at c.requires.name.2 none c.in_ok-assign.ensures.read m _ (c.in_err-semicolon.ensures.stopped _))
+    handed_on _ c.from_residual-in_err-closed.result c.from_residual-in_err-closed.ensures.1
+    (assign_ends c.args.self.now.toks.now c.args.room c.args.at c.requires.name.2 none c.in_ok-assign.ensures.read m _ (c.in_err-closed.ensures.stopped _))
 
 pub whole-requires-clause-held : goal.whole-requires-clause-held
-whole-requires-clause-held c = assign_holds_none c.in_ok-assign.ensures.read.derives
+whole-requires-clause-held c = rw c.in_ok-closed.ensures.value (assign_holds_none c.in_ok-assign.ensures.read.derives)
 
 pub returns-clause-read : goal.returns-clause-read
 returns-clause-read c =
     let none = no_others (c.is_symbol.ensures.no c.if-is_symbol.false) (c.sends.ensures.no c.if-sends.false) (c.receives.ensures.no c.if-receives.false) in
     let l = c.in_ok-assign.ensures.bounds.0 in
     let m : c.args.at + 1 ≤ c.in_ok-assign.assign.end = omega (arith, l) in
-    rw (c.whole.ensures.end, c.whole.ensures.value, c.in_ok-semicolon.ensures.bounds.0)
-    (assign_reads c.args.self.now.toks.now c.args.room c.args.at c.requires.name.2 none c.in_ok-assign.ensures.read m (symbol_there (c.in_ok-semicolon.ensures.read 0)))
+    rw (c.whole.ensures.end, c.whole.ensures.value, c.in_ok-closed.ensures.value, c.in_ok-closed.ensures.bounds.0)
+    (assign_reads c.args.self.now.toks.now c.args.room c.args.at c.requires.name.2 none c.in_ok-assign.ensures.read m (symbol_there (c.in_ok-closed.ensures.read.1 0)))

@@ -57,4 +57,4 @@ returns-clause-read c =
     let test = read (over_word (begin refl tt) on refl) (c.in_ok-test.ensures.read _) refl in
     let bracket = read test (c.in_ok-open.ensures.read _) refl in
     let value = read bracket c.in_ok-value.ensures.read refl in
-    finish (read value (c.in_ok-close.ensures.read _) refl) refl
+    rw c.in_ok-close.ensures.value (finish (read value (c.in_ok-close.ensures.read.1 _) refl) refl)
