@@ -15,7 +15,7 @@
 
 use itoa::Buffer;
 use std::alloc::{AllocError, AllocFailed, Global};
-use thiserror::Error;
+use std::fmt;
 use xw_io::LoadErr;
 
 /// A text, and what must come of it.
@@ -37,17 +37,27 @@ enum Last {
 }
 
 /// Why a file has no cases.
-#[derive(Debug, Drop, Error)]
+#[derive(Drop)]
 pub enum Trouble {
     /// It could not be loaded.
-    #[error("not loaded: {0:?}")]
     File(LoadErr),
-    #[error("not in UTF-8")]
+    /// It isn't in UTF-8.
     Encoding,
-    #[error("line {0} {1}")]
+    /// The line of this number can't stand where it stands.
     Line(usize, Flaw),
-    #[error("out of memory")]
+    /// Memory could not be had.
     Memory,
+}
+
+impl fmt::Display for Trouble {
+    fn fmt<W: fmt::Write>(&self, f: &mut fmt::Formatter<W>) -> fmt::Result {
+        match self {
+            Trouble::File(reason) => write!(f, "not loaded: {reason:?}"),
+            Trouble::Encoding => f.write_str("not in UTF-8"),
+            Trouble::Line(number, flaw) => write!(f, "line {number} {}", flaw.message()),
+            Trouble::Memory => f.write_str("out of memory"),
+        }
+    }
 }
 
 impl From<AllocError> for Trouble {
@@ -56,21 +66,29 @@ impl From<AllocError> for Trouble {
     }
 }
 
-/// Why a line cannot stand where it stands.
-#[derive(Clone, Copy, Debug, Error)]
+/// Why a line can't stand where it stands.
+#[derive(Clone, Copy)]
 pub enum Flaw {
-    #[error("begins with none of the marks")]
     Mark,
-    #[error("has the name of a case before it")]
     Name,
-    #[error("stands where no such line can")]
     Place,
-    #[error("has no count")]
     Count,
-    #[error("has an escape that is none")]
     Escape,
-    #[error("asks for more memory than there is")]
     Memory,
+}
+
+impl Flaw {
+    /// What is said of the line.
+    fn message(self) -> &'static str {
+        match self {
+            Flaw::Mark => "begins with none of the marks",
+            Flaw::Name => "has the name of a case before it",
+            Flaw::Place => "stands where no such line can",
+            Flaw::Count => "has no count",
+            Flaw::Escape => "has an escape that is none",
+            Flaw::Memory => "asks for more memory than there is",
+        }
+    }
 }
 
 impl From<AllocError> for Flaw {
