@@ -11,6 +11,8 @@ mod names;
 mod needs;
 mod phases;
 mod report;
+#[cfg(test)]
+mod rows;
 mod spelled;
 mod texts;
 mod tokens;
