@@ -29,15 +29,15 @@ returns-in_ok-second-in-Bin-clause-seen t c =
     let inside = c.add_type-in-Bin.new.self in
     let names = names_inside seen behind inside ms (sites.of_expression n seen.names left) c.in_ok-first-in-Bin.ensures.seen c.in_ok-node-in-Bin.ensures.seen in
     let binary : expression_of c.args.e.now ≡ plain.expression (plain.binary c.in-Bin.symbol left right) c.args.e.now.pos =
-        expression-Expr c.args.e.now
-        ∙ ap (λ (f : plain.Form). plain.expression f c.args.e.now.pos)
-        (ap form_of c.in-Bin.is ∙ form-Bin c.in-Bin.symbol c.in-Bin.left c.in-Bin.right
-        ∙ ap (λ (x : Expr). plain.binary c.in-Bin.symbol (expression_of x) (expression_of c.in-Bin.right.value)) (sym c.deref-in-Bin.ensures)
-        ∙ ap (λ (x : Expr). plain.binary c.in-Bin.symbol left (expression_of x)) (sym c.deref-in-Bin-2.ensures)) in
+    expression-Expr c.args.e.now
+    ∙ ap (λ (f : plain.Form). plain.expression f c.args.e.now.pos)
+    (ap form_of c.in-Bin.is ∙ form-Bin c.in-Bin.symbol c.in-Bin.left c.in-Bin.right
+    ∙ ap (λ (x : Expr). plain.binary c.in-Bin.symbol (expression_of x) (expression_of c.in-Bin.right.value)) (sym c.deref-in-Bin.ensures)
+    ∙ ap (λ (x : Expr). plain.binary c.in-Bin.symbol left (expression_of x)) (sym c.deref-in-Bin-2.ensures)) in
     let gives : c.gives_unsigned-is_unsigned-in-Bin.result ≡ gives_unsigned c.in-Bin.symbol (is_unsigned n seen.names left) (is_unsigned n (past seen.names ms) right) =
-        c.gives_unsigned-is_unsigned-in-Bin.ensures
-        ∙ ap (λ (u : Bool). gives_unsigned c.in-Bin.symbol u c.in_ok-second-in-Bin.second) c.in_ok-first-in-Bin.ensures.is_unsigned
-        ∙ ap (gives_unsigned c.in-Bin.symbol (is_unsigned n seen.names left)) (c.in_ok-second-in-Bin.ensures.is_unsigned ∙ ap (λ (k : ℕ). is_unsigned n k right) names) in
+    c.gives_unsigned-is_unsigned-in-Bin.ensures
+    ∙ ap (λ (u : Bool). gives_unsigned c.in-Bin.symbol u c.in_ok-second-in-Bin.second) c.in_ok-first-in-Bin.ensures.is_unsigned
+    ∙ ap (gives_unsigned c.in-Bin.symbol (is_unsigned n seen.names left)) (c.in_ok-second-in-Bin.ensures.is_unsigned ∙ ap (λ (k : ℕ). is_unsigned n k right) names) in
     c.set_type-in-Bin.ensures
     ∙ node_seen seen behind inside c.expression-in-Bin-2.new.seen ms (marks.of_expression right) (sites.of_expression n seen.names left) (λ (k : ℕ). sites.of_expression n k right) c.in_ok-node-in-Bin.node c.gives_unsigned-is_unsigned-in-Bin.result
     c.in_ok-first-in-Bin.ensures.seen c.in_ok-node-in-Bin.ensures.seen c.in_ok-second-in-Bin.ensures.seen c.in_ok-node-in-Bin.ensures.place
@@ -67,16 +67,16 @@ returns-in_ok-second-in-Cond-clause-seen t c =
     let names_between = ap (λ (z : Seen). z.names) c.in_ok-first-in-Cond.ensures.seen ∙ saw_names inside (marks.of_expression first) (sites.of_expression n inside.names first) ∙ ap (λ (k : ℕ). past k (marks.of_expression first)) names in
     let both = both_seen inside between c.expression-in-Cond-3.new.seen (marks.of_expression first) (marks.of_expression second) (sites.of_expression n inside.names first) (λ (k : ℕ). sites.of_expression n k second) c.in_ok-first-in-Cond.ensures.seen c.in_ok-second-in-Cond.ensures.seen in
     let choice : expression_of c.args.e.now ≡ plain.expression (plain.choice test first second) c.args.e.now.pos =
-        expression-Expr c.args.e.now
-        ∙ ap (λ (f : plain.Form). plain.expression f c.args.e.now.pos)
-        (ap form_of c.in-Cond.is ∙ form-Cond c.in-Cond.test c.in-Cond.first c.in-Cond.second
-        ∙ ap (λ (x : Expr). plain.choice (expression_of x) (expression_of c.in-Cond.first.value) (expression_of c.in-Cond.second.value)) (sym c.deref-in-Cond.ensures)
-        ∙ ap (λ (x : Expr). plain.choice test (expression_of x) (expression_of c.in-Cond.second.value)) (sym c.deref-in-Cond-2.ensures)
-        ∙ ap (λ (x : Expr). plain.choice test first (expression_of x)) (sym c.deref-in-Cond-3.ensures)) in
+    expression-Expr c.args.e.now
+    ∙ ap (λ (f : plain.Form). plain.expression f c.args.e.now.pos)
+    (ap form_of c.in-Cond.is ∙ form-Cond c.in-Cond.test c.in-Cond.first c.in-Cond.second
+    ∙ ap (λ (x : Expr). plain.choice (expression_of x) (expression_of c.in-Cond.first.value) (expression_of c.in-Cond.second.value)) (sym c.deref-in-Cond.ensures)
+    ∙ ap (λ (x : Expr). plain.choice test (expression_of x) (expression_of c.in-Cond.second.value)) (sym c.deref-in-Cond-2.ensures)
+    ∙ ap (λ (x : Expr). plain.choice test first (expression_of x)) (sym c.deref-in-Cond-3.ensures)) in
     let gives : c.either-is_unsigned.result ≡ (is_unsigned n (past seen.names ms) first || is_unsigned n (past (past seen.names ms) (marks.of_expression first)) second) =
-        c.either-is_unsigned.ensures
-        ∙ ap (λ (u : Bool). u || c.in_ok-second-in-Cond.second) (c.in_ok-first-in-Cond.ensures.is_unsigned ∙ ap (λ (k : ℕ). is_unsigned n k first) names)
-        ∙ ap (λ (u : Bool). is_unsigned n (past seen.names ms) first || u) (c.in_ok-second-in-Cond.ensures.is_unsigned ∙ ap (λ (k : ℕ). is_unsigned n k second) names_between) in
+    c.either-is_unsigned.ensures
+    ∙ ap (λ (u : Bool). u || c.in_ok-second-in-Cond.second) (c.in_ok-first-in-Cond.ensures.is_unsigned ∙ ap (λ (k : ℕ). is_unsigned n k first) names)
+    ∙ ap (λ (u : Bool). is_unsigned n (past seen.names ms) first || u) (c.in_ok-second-in-Cond.ensures.is_unsigned ∙ ap (λ (k : ℕ). is_unsigned n k second) names_between) in
     let there = λ (k : ℕ). sites.of_expression n k first ++ sites.of_expression n (past k (marks.of_expression first)) second in
     c.set_type-in-Cond.ensures
     ∙ node_seen seen behind inside c.expression-in-Cond-3.new.seen ms (marks.of_expression first ++ marks.of_expression second) (sites.of_expression n seen.names test) there c.in_ok-node-in-Cond.node c.either-is_unsigned.result
