@@ -108,3 +108,11 @@ not_inside around p s = with_broken (in_transaction around.holders) 506 p s
 -- with the second and further `default`s of these cases
 abbrev pub with_defaults : Cases → Seen → Seen
 with_defaults cs s = with_broken_at 507 (drop 1 (defaults cs)) s
+
+-- behind the head of a replicated `par`, whose word stands at this place
+abbrev pub after_replicator : Around → Id → Id → Id → Pos → Seen → Seen
+after_replicator around a b c p s = with_replicated a b c (not_inside around p s)
+
+-- behind the word of a select that has these cases
+abbrev pub after_select : Around → Cases → Pos → Seen → Seen
+after_select around cs p s = with_defaults cs (not_inside around p s)

@@ -1,11 +1,11 @@
-ghost use Rattle.std.specs.Prelude.{◌≡◌, ◌&&◌, not, is_some, drop, map, bytes_eq, OnOk};
+ghost use Rattle.std.specs.Prelude.{◌≡◌, ◌&&◌, not, is_some, map, bytes_eq, OnOk};
 ghost use Rattle.xc_tree.specs.Plain as plain;
 ghost use Rattle.xc_tree.specs.Shapes.Around.{in_par_or_transaction as par_or_transaction};
 ghost use Rattle.xc_tree.specs.Shapes.Rules.{are_all as all, are_one as one};
 ghost use Rattle.xc_tree.specs.Trees.{case_of};
 ghost use Rattle.xc_tree.specs.Types.Entities.{agree};
 ghost use Rattle.xc_types.specs.Around.{around_of};
-ghost use Rattle.xc_types.specs.Seen.{after_break, after_continue, not_inside, with_broken, with_defaults, with_replicated};
+ghost use Rattle.xc_types.specs.Seen.{after_break, after_continue, after_replicator, after_select, not_inside, with_broken, with_defaults};
 
 use crate::around::{
     Around, function_around, has_next_turn, has_way_out, in_par_or_transaction, in_transaction,
@@ -54,7 +54,7 @@ pub fn begin_replicated(
     third: &Id,
     pos: Pos,
 ) -> Result<(), Memory>
-    ensures { OnOk result (seen.new ≡ with_replicated first.now second.now third.now (not_inside (around_of around.now) pos seen.old)) }
+    ensures { OnOk result (seen.new ≡ after_replicator (around_of around.now) first.now second.now third.now pos seen.old) }
 {
     not_in_transaction(seen, around, pos);
     let second_is_same = is_same(first, second);
@@ -82,7 +82,7 @@ pub fn both(a: bool, b: bool) -> bool
 
 /// Checks what is around a select, whose word stands at this place, and its cases together: rules 506 and 507.
 pub fn begin_select(seen: &mut Seen, around: &Around, cs: &[Case], pos: Pos)
-    ensures { seen.new ≡ with_defaults (plain.cases (map case_of cs.now)) (not_inside (around_of around.now) pos seen.old) }
+    ensures { seen.new ≡ after_select (around_of around.now) (plain.cases (map case_of cs.now)) pos seen.old }
 {
     not_in_transaction(seen, around, pos);
     defaults(seen, cs);
