@@ -1,9 +1,9 @@
 use Rattle.std.proofs.Common.{◌≡◌, ◌++◌}
 use Rattle.std.specs.VecDeque.{deque_len}
-use Rattle.xc_copy.proofs.copied.with_front.Given as goal
+use Rattle.xc_copy.proofs.memory.put_behind.Given as goal
 
 abbrev pub invariant-moved : goal.invariant-moved
-invariant-moved g l = l.first.items ++ l.second.items ≡ l.fn.first.items ++ l.fn.second.items
+invariant-moved g l = l.items.items ++ l.short.items ≡ l.fn.items.items ++ l.fn.short.items
 
 abbrev pub decreases-moved : goal.decreases-moved
-decreases-moved g l = deque_len l.first
+decreases-moved g l = deque_len l.short

@@ -5,12 +5,12 @@ use Rattle.xc_kernel.specs.Copy as copies
 use Rattle.xc_kernel.specs.Kernels.{root_of}
 use Rattle.xc_kernel.specs.Plain as plain
 use Rattle.xc_copy.specs.Copied.{copy_of}
-use Rattle.xc_copy.proofs.roots.Rooted.and_root.Goals as goal
+use Rattle.xc_copy.proofs.roots.Rooted.add_root.Goals as goal
 
 pub returns : goal.returns
 returns c = λ before behind.
-    let made = c.in_ok-followed_by.ensures before behind ∙ ap (copies.joined (copy_of c.args.self.made before)) (c.take_code-body.ensures.left behind) in
+    let made = c.in_ok-join.ensures before behind ∙ ap (copies.joined (copy_of c.args.self.now.made before)) (c.take_code-body.ensures.left behind) in
     let root : Root = record { core = c.args.core; place = c.args.place; body = c.take_code-body.result; pos = c.args.pos } in
-    let roots = ap (map root_of) c.in_ok-push.ensures.ok ∙ map_push root_of c.args.self.roots root
-    ∙ λ i. map root_of c.args.self.roots ++ record { core = c.args.core; place = c.args.place; body = plain.statements (c.take_code-body.ensures.code behind i); pos = c.args.pos } ∷ [] in
+    let roots = ap (map root_of) c.in_ok-push.ensures.ok ∙ map_push root_of c.args.self.now.roots root
+    ∙ λ i. map root_of c.args.self.now.roots ++ record { core = c.args.core; place = c.args.place; body = plain.statements (c.take_code-body.ensures.code behind i); pos = c.args.pos } ∷ [] in
     λ i. record { made = made i; roots = roots i }
