@@ -23,12 +23,11 @@ ghost use Rattle.xc_copy.specs.Scopes.{scope_of};
 use crate::context::Context;
 use crate::copied::Copied;
 use crate::expressions::place;
+use crate::memory::{beside, both};
 use crate::parts::Cased;
-use crate::paths::same_path;
 use crate::scope::Scope;
 use crate::transfers::Received;
 use std::alloc::Global;
-use std::mem;
 use xc_kernel::{Kst, Kx};
 use xc_tree::{Case, Expr, FuncItem, Rhs};
 use xw_words::{List, Memory};
@@ -55,11 +54,14 @@ impl<'p, 'a> Context<'p, 'a> {
     ) -> Result<Copied, Memory>
         ensures { IfOk result (λ copied. (entered inner behind : Names) → copy_of copied behind ≡ copies.in_scope_of behind (calls.naming_none (copies.joined (calls.instance_of (context_of self.now) (function_of function.now) behind) (copies.joined (calls.result_copy (context_of self.now) result_path.now function.now.name.pos behind function.now.result) (copies.joined (copy_of passed entered) (calls.as_block (context_of self.now) own.now (copy_of body inner))))))) }
     {
-        let made = self.instance(alloc, function)?;
-        let zeroed = self.zeroed_result(alloc, result_path, function)?;
-        let block = self.as_block(alloc, same_path(alloc, own)?, body)?;
-        let inside = passed.followed_by(block)?;
-        let behind = zeroed.followed_by(inside)?;
+        let block = self.as_block(alloc, own, body);
+        let (passed, block) = beside(passed, block)?;
+        let inside = passed.followed_by(block);
+        let zeroed = self.zeroed_result(alloc, result_path, function);
+        let (zeroed, inside) = both(zeroed, inside)?;
+        let behind = zeroed.followed_by(inside);
+        let made = self.instance(alloc, function);
+        let (made, behind) = both(made, behind)?;
         let copied = made.followed_by(behind)?;
         Ok(copied.naming_none(alloc))
     }
@@ -76,8 +78,8 @@ impl<'p, 'a> Context<'p, 'a> {
     ) -> Result<Copied, Memory>
         ensures { IfOk result (λ copied. (within : Names) → copy_of copied (scope_of scope.now) ≡ copies.joined (copy_of called within) (copies.one_statement (scope_of scope.now) (contexts.set_word (context_of self.now) path.now (calls.value_of (context_of self.now) (scope_of scope.now) (tree.right_of right.now))))) }
     {
-        let value = self.value(alloc, right, scope)?;
-        let stored = Copied::one_statement(alloc, self.set_word(path, value))?;
+        let stored = self.value_stored(alloc, path, right, scope);
+        let (called, stored) = beside(called, stored)?;
         let copied = called.followed_by(stored)?;
         Ok(copied)
     }
@@ -94,9 +96,8 @@ impl<'p, 'a> Context<'p, 'a> {
     ) -> Result<Copied, Memory>
         ensures { IfOk result (λ copied. (within : Names) → copy_of copied (scope_of scope.now) ≡ copies.joined (copy_of called within) (copies.one_statement (scope_of scope.now) (plain.set (contexts.place (context_of self.now) (scope_of scope.now) (tree.expression_of to.now)) (calls.value_of (context_of self.now) (scope_of scope.now) (tree.right_of right.now))))) }
     {
-        let value = self.value(alloc, right, scope)?;
-        let place = place(alloc, self.numbers, scope, to)?;
-        let stored = Copied::one_statement(alloc, Kst::Set(place, value))?;
+        let stored = self.value_assigned(alloc, to, right, scope);
+        let (called, stored) = beside(called, stored)?;
         let copied = called.followed_by(stored)?;
         Ok(copied)
     }
@@ -113,12 +114,58 @@ impl<'p, 'a> Context<'p, 'a> {
     ) -> Result<Copied, Memory>
         ensures { IfOk result (λ copied. (within : Names) → copy_of copied (scope_of scope.now) ≡ copies.joined (copy_of called within) (copies.joined (copies.one_statement (scope_of scope.now) (contexts.set_word (context_of self.now) self.now.result.now (calls.value_of (context_of self.now) (scope_of scope.now) (tree.right_of right.now)))) (copies.one_statement (scope_of scope.now) (contexts.leave (context_of self.now) self.now.returns.now)))) }
     {
-        let value = self.value(alloc, right, scope)?;
-        let stored = Copied::one_statement(alloc, self.set_word(self.result, value))?;
-        let left = self.leaves(alloc, self.returns, scope)?;
-        let behind = stored.followed_by(left)?;
-        let copied = called.followed_by(behind)?;
+        let returned = self.value_returned(alloc, right, scope);
+        let (called, returned) = beside(called, returned)?;
+        let copied = called.followed_by(returned)?;
         Ok(copied)
+    }
+
+    /// What stores a right side's value in the variable of this path. The one error is want of memory.
+    fn value_stored(
+        &self,
+        alloc: Global,
+        path: &[u32],
+        right: &Rhs,
+        scope: &Scope<'a>,
+    ) -> Result<Copied, Memory>
+        ensures { IfOk result (λ stored. copy_of stored (scope_of scope.now) ≡ copies.one_statement (scope_of scope.now) (contexts.set_word (context_of self.now) path.now (calls.value_of (context_of self.now) (scope_of scope.now) (tree.right_of right.now)))) }
+    {
+        let value = self.value(alloc, right, scope)?;
+        let stored = Copied::one_statement(alloc, self.set_word(path, value))?;
+        Ok(stored)
+    }
+
+    /// What assigns a right side's value to a place. The one error is want of memory.
+    fn value_assigned(
+        &self,
+        alloc: Global,
+        to: &Expr,
+        right: &Rhs,
+        scope: &Scope<'a>,
+    ) -> Result<Copied, Memory>
+        ensures { IfOk result (λ stored. copy_of stored (scope_of scope.now) ≡ copies.one_statement (scope_of scope.now) (plain.set (contexts.place (context_of self.now) (scope_of scope.now) (tree.expression_of to.now)) (calls.value_of (context_of self.now) (scope_of scope.now) (tree.right_of right.now)))) }
+    {
+        let value = self.value(alloc, right, scope);
+        let place = place(alloc, self.numbers, scope, to);
+        let (place, value) = both(place, value)?;
+        let stored = Copied::one_statement(alloc, Kst::Set(place, value))?;
+        Ok(stored)
+    }
+
+    /// What stores a right side's value in the function's result and leaves the body. The one error is want of memory.
+    fn value_returned(
+        &self,
+        alloc: Global,
+        right: &Rhs,
+        scope: &Scope<'a>,
+    ) -> Result<Copied, Memory>
+        ensures { IfOk result (λ returned. copy_of returned (scope_of scope.now) ≡ copies.joined (copies.one_statement (scope_of scope.now) (contexts.set_word (context_of self.now) self.now.result.now (calls.value_of (context_of self.now) (scope_of scope.now) (tree.right_of right.now)))) (copies.one_statement (scope_of scope.now) (contexts.leave (context_of self.now) self.now.returns.now))) }
+    {
+        let stored = self.value_stored(alloc, self.result, right, scope);
+        let left = self.leaves(alloc, self.returns, scope);
+        let (stored, left) = both(stored, left)?;
+        let returned = stored.followed_by(left)?;
+        Ok(returned)
     }
 
     /// What comes of a case before its body, whose names then are known: its guard, and what it receives; nothing of a `default`.
@@ -137,8 +184,9 @@ impl<'p, 'a> Context<'p, 'a> {
         match &case.head {
             None => Ok(None),
             Some(head) => {
-                let guard = self.guard(alloc, &case.guard, scope)?;
-                let received = self.received(alloc, scope, head)?;
+                let guard = self.guard(alloc, &case.guard, scope);
+                let received = self.received(alloc, scope, head);
+                let (guard, received) = both(guard, received)?;
                 Ok(Some(Opened { guard, received }))
             }
         }
@@ -157,17 +205,15 @@ impl<'p, 'a> Context<'p, 'a> {
     ) -> Result<(), Memory>
         ensures { OnOk result ((between behind : Names) (others : flow.Cased) → cased_before cases.new others ≡ cased_before cases.old (case_by opened between (calls.as_block (context_of self.now) path (copy_of body behind)) others)) }
     {
-        let block = self.as_block(alloc, path, body)?;
-        let before = mem::replace(cases, Cased::none(alloc));
+        let block = self.as_block(alloc, path.as_slice(), body);
+        let (opened, block) = beside(opened, block)?;
         match opened {
             None => {
-                let more = before.and_default(alloc, block)?;
-                *cases = more;
+                cases.add_default(alloc, block)?;
                 Ok(())
             }
             Some(opened) => {
-                let more = before.and_case(alloc, opened.guard, opened.received, block)?;
-                *cases = more;
+                cases.add_case(alloc, opened.guard, opened.received, block)?;
                 Ok(())
             }
         }

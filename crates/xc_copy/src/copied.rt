@@ -6,6 +6,7 @@ ghost use Rattle.xc_kernel.specs.Flow.{first_of};
 ghost use Rattle.xc_kernel.specs.Kernels.{statement_of};
 ghost use Rattle.xc_copy.specs.Copied.{copy_of};
 
+use crate::memory::{after, append, push_back, push_front};
 use std::alloc::Global;
 use std::collections::VecDeque;
 use std::mem;
@@ -46,28 +47,28 @@ impl Copied {
     pub fn one_statement(alloc: Global, statement: Kst) -> Result<Copied, Memory>
         ensures { IfOk result (λ copied. (scope : Names) → copy_of copied scope ≡ spec.one_statement scope (statement_of statement)) }
     {
-        let mut copied = Copied::nothing(alloc);
-        copied.add_statement(statement)?;
+        let nothing = Copied::nothing(alloc);
+        let copied = nothing.and_statement(statement)?;
         Ok(copied)
     }
 
     /// One more statement, behind the others. The one error is want of memory.
-    pub fn add_statement(&mut self, statement: Kst) -> Result<(), Memory>
-        ensures { OnOk result (((scope : Names) → copy_of self.new scope ≡ spec.with_code (copy_of self.old scope) ((copy_of self.old scope).code ++ statement_of statement ∷ []))) }
+    pub fn and_statement(self, statement: Kst) -> Result<Copied, Memory>
+        ensures { IfOk result (λ copied. (scope : Names) → copy_of copied scope ≡ spec.with_code (copy_of self scope) ((copy_of self scope).code ++ statement_of statement ∷ [])) }
     {
-        match self.code.push_back(statement) {
-            Ok(()) => Ok(()),
-            Err(_) => Err(Memory),
-        }
+        let mut copied = self;
+        let added = push_back(&mut copied.code, statement);
+        let copied = after(added, copied)?;
+        Ok(copied)
     }
 
     /// The instances of a copy, with one statement in place of its own. The one error is want of memory.
     pub fn with_statement(self, alloc: Global, statement: Kst) -> Result<Copied, Memory>
         ensures { IfOk result (λ copied. (scope : Names) → copy_of copied scope ≡ spec.with_code (copy_of self scope) (statement_of statement ∷ [])) }
     {
-        let mut copied = self;
-        let _replaced = copied.take_code(alloc);
-        copied.add_statement(statement)?;
+        let mut made = self;
+        let _replaced = made.take_code(alloc);
+        let copied = made.and_statement(statement)?;
         Ok(copied)
     }
 
@@ -76,75 +77,82 @@ impl Copied {
     pub fn followed_by(self, other: Copied) -> Result<Copied, Memory>
         ensures { IfOk result (λ both. (before after : Names) → copy_of both after ≡ spec.joined (copy_of self before) (copy_of other after)) }
     {
-        Ok(Copied {
-            code: joined(self.code, other.code)?,
-            variables: joined(self.variables, other.variables)?,
-            channels: joined(self.channels, other.channels)?,
-            timers: joined(self.timers, other.timers)?,
-            blocks: joined(self.blocks, other.blocks)?,
-            instances: joined(self.instances, other.instances)?,
-            named: joined(self.named, other.named)?,
-        })
+        let mut copied = self;
+        let joined = copied.join(other);
+        let copied = after(joined, copied)?;
+        Ok(copied)
     }
 
     /// One more variable, seen before the others. The one error is want of memory.
-    pub fn add_variable(&mut self, variable: Var) -> Result<(), Memory>
-        ensures { OnOk result ((scope : Names) → copy_of self.new scope ≡ spec.with_variable (copy_of self.old scope) variable) }
+    pub fn and_variable(self, variable: Var) -> Result<Copied, Memory>
+        ensures { IfOk result (λ copied. (scope : Names) → copy_of copied scope ≡ spec.with_variable (copy_of self scope) variable) }
     {
-        match self.variables.push_front(variable) {
-            Ok(()) => Ok(()),
-            Err(_) => Err(Memory),
-        }
+        let mut copied = self;
+        let added = push_front(&mut copied.variables, variable);
+        let copied = after(added, copied)?;
+        Ok(copied)
     }
 
     /// One more block, seen before the others. The one error is want of memory.
-    pub fn add_block(&mut self, path: List<u32>) -> Result<(), Memory>
-        ensures { OnOk result ((scope : Names) → copy_of self.new scope ≡ spec.with_block (copy_of self.old scope) path) }
+    pub fn and_block(self, path: List<u32>) -> Result<Copied, Memory>
+        ensures { IfOk result (λ copied. (scope : Names) → copy_of copied scope ≡ spec.with_block (copy_of self scope) path) }
     {
-        match self.blocks.push_front(path) {
-            Ok(()) => Ok(()),
-            Err(_) => Err(Memory),
-        }
+        let mut copied = self;
+        let added = push_front(&mut copied.blocks, path);
+        let copied = after(added, copied)?;
+        Ok(copied)
     }
 
     /// One more channel, behind the others. The one error is want of memory.
-    pub fn add_channel(&mut self, channel: Chan) -> Result<(), Memory>
-        ensures { OnOk result ((scope : Names) → copy_of self.new scope ≡ record (copy_of self.old scope) { channels = (copy_of self.old scope).channels ++ channel ∷ [] }) }
+    pub fn and_channel(self, channel: Chan) -> Result<Copied, Memory>
+        ensures { IfOk result (λ copied. (scope : Names) → copy_of copied scope ≡ record (copy_of self scope) { channels = (copy_of self scope).channels ++ channel ∷ [] }) }
     {
-        match self.channels.push_back(channel) {
-            Ok(()) => Ok(()),
-            Err(_) => Err(Memory),
-        }
+        let mut copied = self;
+        let added = push_back(&mut copied.channels, channel);
+        let copied = after(added, copied)?;
+        Ok(copied)
     }
 
     /// One more timer, behind the others. The one error is want of memory.
-    pub fn add_timer(&mut self, timer: Timer) -> Result<(), Memory>
-        ensures { OnOk result ((scope : Names) → copy_of self.new scope ≡ record (copy_of self.old scope) { timers = (copy_of self.old scope).timers ++ timer ∷ [] }) }
+    pub fn and_timer(self, timer: Timer) -> Result<Copied, Memory>
+        ensures { IfOk result (λ copied. (scope : Names) → copy_of copied scope ≡ record (copy_of self scope) { timers = (copy_of self scope).timers ++ timer ∷ [] }) }
     {
-        match self.timers.push_back(timer) {
-            Ok(()) => Ok(()),
-            Err(_) => Err(Memory),
-        }
+        let mut copied = self;
+        let added = push_back(&mut copied.timers, timer);
+        let copied = after(added, copied)?;
+        Ok(copied)
     }
 
     /// One more instance of a function, behind the others. The one error is want of memory.
-    pub fn add_instance(&mut self, instance: Inst) -> Result<(), Memory>
-        ensures { OnOk result ((scope : Names) → copy_of self.new scope ≡ record (copy_of self.old scope) { instances = (copy_of self.old scope).instances ++ instance ∷ [] }) }
+    pub fn and_instance(self, instance: Inst) -> Result<Copied, Memory>
+        ensures { IfOk result (λ copied. (scope : Names) → copy_of copied scope ≡ record (copy_of self scope) { instances = (copy_of self scope).instances ++ instance ∷ [] }) }
     {
-        match self.instances.push_back(instance) {
-            Ok(()) => Ok(()),
-            Err(_) => Err(Memory),
-        }
+        let mut copied = self;
+        let added = push_back(&mut copied.instances, instance);
+        let copied = after(added, copied)?;
+        Ok(copied)
     }
 
     /// Another copy behind this one, in place. The one error is want of memory.
     #[inline(never)]
-    pub fn join(&mut self, alloc: Global, other: Copied) -> Result<(), Memory>
+    pub fn join(&mut self, other: Copied) -> Result<(), Memory>
         ensures { OnOk result ((before after : Names) → copy_of self.new after ≡ spec.joined (copy_of self.old before) (copy_of other after)) }
     {
-        let first = mem::replace(self, Copied::nothing(alloc));
-        let both = first.followed_by(other)?;
-        *self = both;
+        let mut other = other;
+        self.append(&mut other)
+    }
+
+    /// All that another copy holds behind what this one does. The one error is want of memory.
+    fn append(&mut self, other: &mut Copied) -> Result<(), Memory>
+        ensures { OnOk result ((before after : Names) → copy_of self.new after ≡ spec.joined (copy_of self.old before) (copy_of other.old after)) }
+    {
+        append(&mut self.code, &mut other.code)?;
+        append(&mut self.variables, &mut other.variables)?;
+        append(&mut self.channels, &mut other.channels)?;
+        append(&mut self.timers, &mut other.timers)?;
+        append(&mut self.blocks, &mut other.blocks)?;
+        append(&mut self.instances, &mut other.instances)?;
+        append(&mut self.named, &mut other.named)?;
         Ok(())
     }
 
@@ -176,45 +184,4 @@ impl Copied {
         let code = mem::replace(&mut self.code, VecDeque::new(alloc));
         List::from_vec(Vec::from(code))
     }
-}
-
-/// The items of two queues, one behind the other. The one error is want of memory.
-fn joined<T: Drop>(first: VecDeque<T>, second: VecDeque<T>) -> Result<VecDeque<T>, Memory>
-    ensures { IfOk result (λ both. both.items ≡ first.items ++ second.items) }
-{
-    if first.len() < second.len() {
-        with_front(first, second)
-    } else {
-        with_back(first, second)
-    }
-}
-
-/// The items of a short queue before those of another.
-fn with_front<T: Drop>(
-    mut first: VecDeque<T>,
-    mut second: VecDeque<T>,
-) -> Result<VecDeque<T>, Memory>
-    ensures { IfOk result (λ both. both.items ≡ first.items ++ second.items) }
-{
-    'moved: while let Some(item) = first.pop_back() {
-        if second.push_front(item).is_err() {
-            return Err(Memory);
-        }
-    }
-    Ok(second)
-}
-
-/// The items of a short queue behind those of another.
-fn with_back<T: Drop>(
-    mut first: VecDeque<T>,
-    mut second: VecDeque<T>,
-) -> Result<VecDeque<T>, Memory>
-    ensures { IfOk result (λ both. both.items ≡ first.items ++ second.items) }
-{
-    'moved: while let Some(item) = second.pop_front() {
-        if first.push_back(item).is_err() {
-            return Err(Memory);
-        }
-    }
-    Ok(first)
 }

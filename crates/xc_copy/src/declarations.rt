@@ -22,6 +22,7 @@ use crate::context::Context;
 use crate::copied::Copied;
 use crate::expressions::{Typed, place, updated, word};
 use crate::flow::LoopPaths;
+use crate::memory::{after, both};
 use crate::paths::{path_at, path_of_branch, path_of_turn, same_path};
 use crate::scope::{Entity, Scope};
 use std::alloc::Global;
@@ -44,9 +45,11 @@ impl<'p, 'a> Context<'p, 'a> {
         ensures { IfOk result (λ copied. copy_of copied (scope_of scope.new) ≡ declarations.array_copy (context_of self.now) (scope_of scope.old) name.now pos (paths.path_at self.now.path.now pos) unsigned words) }
     {
         let path = path_at(alloc, self.path, pos)?;
-        let mut copied = Copied::one_statement(alloc, self.set_zero(path.as_slice()))?;
-        copied.add_variable(self.array_variable(alloc, words, path.as_slice(), pos)?)?;
-        scope.declare(name, Entity::Array(path, words, unsigned))?;
+        let variable = self.array_variable(alloc, words, path.as_slice(), pos)?;
+        let zeroed = Copied::one_statement(alloc, self.set_zero(path.as_slice()))?;
+        let made = zeroed.and_variable(variable)?;
+        let declared = scope.declare(name, Entity::Array(path, words, unsigned));
+        let copied = after(declared, made)?;
         Ok(copied)
     }
 
@@ -64,13 +67,12 @@ impl<'p, 'a> Context<'p, 'a> {
     {
         let path = path_at(alloc, self.path, pos)?;
         let own = same_path(alloc, path.as_slice())?;
-        let mut copied = Copied::nothing(alloc);
-        copied.add_channel(Chan {
+        scope.declare(name, Entity::Channel(path))?;
+        let copied = Copied::nothing(alloc).and_channel(Chan {
             streaming,
             path: own,
             pos,
         })?;
-        scope.declare(name, Entity::Channel(path))?;
         Ok(copied)
     }
 
@@ -87,13 +89,12 @@ impl<'p, 'a> Context<'p, 'a> {
     {
         let path = path_at(alloc, self.path, pos)?;
         let own = same_path(alloc, path.as_slice())?;
-        let mut copied = Copied::nothing(alloc);
-        copied.add_timer(Timer {
+        scope.declare(name, Entity::Timer(path))?;
+        let copied = Copied::nothing(alloc).and_timer(Timer {
             core: self.core,
             path: own,
             pos,
         })?;
-        scope.declare(name, Entity::Timer(path))?;
         Ok(copied)
     }
 
@@ -151,8 +152,9 @@ impl<'p, 'a> Context<'p, 'a> {
     ) -> Result<Copied, Memory>
         ensures { IfOk result (λ copied. copy_of copied (scope_of scope.now) ≡ spec.update_copy (context_of self.now) (scope_of scope.now) (tree.expression_of to.now) symbol pos right.unsigned (kernel.expression_of right.value)) }
     {
-        let stored = updated(alloc, self.numbers, scope, to, symbol, pos, right)?;
-        let place = place(alloc, self.numbers, scope, to)?;
+        let stored = updated(alloc, self.numbers, scope, to, symbol, pos, right);
+        let place = place(alloc, self.numbers, scope, to);
+        let (place, stored) = both(place, stored)?;
         let copied = Copied::one_statement(alloc, Kst::Set(place, stored))?;
         Ok(copied)
     }
@@ -186,8 +188,7 @@ impl<'p, 'a> Context<'p, 'a> {
             Ok(params) => params,
             Err(_) => return Err(Memory),
         };
-        let mut copied = Copied::nothing(alloc);
-        copied.add_instance(Inst {
+        let copied = Copied::nothing(alloc).and_instance(Inst {
             core: self.core,
             params,
         })?;
@@ -217,8 +218,9 @@ impl<'p, 'a> Context<'p, 'a> {
     fn zeroed_word(&self, alloc: Global, path: &[u32], pos: Pos) -> Result<Copied, Memory>
         ensures { IfOk result (λ copied. (behind : Names) → copy_of copied behind ≡ copies.with_variable (copies.one_statement behind (contexts.set_zero (context_of self.now) path.now)) (contexts.word_variable (context_of self.now) false path.now pos)) }
     {
-        let mut copied = Copied::one_statement(alloc, self.set_zero(path))?;
-        copied.add_variable(self.word_variable(alloc, false, path, pos)?)?;
+        let variable = self.word_variable(alloc, false, path, pos)?;
+        let zeroed = Copied::one_statement(alloc, self.set_zero(path))?;
+        let copied = zeroed.and_variable(variable)?;
         Ok(copied)
     }
 

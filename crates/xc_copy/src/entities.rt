@@ -8,6 +8,7 @@ ghost use Rattle.xc_kernel.specs.Types as types;
 ghost use Rattle.xc_copy.specs.Numbers.{numbering_of};
 ghost use Rattle.xc_copy.specs.Scopes.{entity_found, entity_meant};
 
+use crate::memory::boxed;
 use crate::numbers::Numbers;
 use crate::scope::Entity;
 use std::alloc::Global;
@@ -57,10 +58,8 @@ fn place_of_entity(
         Entity::Word(path, _) => Ok(Place::Word(numbers.variable(path.as_slice()))),
         Entity::Element(array, index, _) => {
             let index = Kx::Read(Place::Word(numbers.variable(index.as_slice())));
-            match Box::new(alloc, index) {
-                Ok(index) => Ok(Place::Elem(numbers.variable(array.as_slice()), index, pos)),
-                Err(_) => Err(Memory),
-            }
+            let index = boxed(alloc, index)?;
+            Ok(Place::Elem(numbers.variable(array.as_slice()), index, pos))
         }
         Entity::Array(_, _, _) => Ok(Place::Word(0)),
         Entity::Channel(_) => Ok(Place::Word(0)),

@@ -14,13 +14,14 @@ ghost use Rattle.xc_copy.specs.Scopes.{entity_found, scope_of};
 use crate::entities::{
     array_number, elements_are_unsigned, name_is_unsigned, place_of_name, word_of_name,
 };
+use crate::memory::{beside, both, boxed, one, three, two};
 use crate::numbers::Numbers;
 use crate::operators::{operation_is_unsigned, operator_of, result_is_unsigned, sign_is_unsigned};
-use crate::scope::Scope;
-use std::alloc::{AllocError, Global};
+use crate::scope::{Entity, Scope};
+use std::alloc::Global;
 use xc_kernel::{Kx, Place};
 use xc_tree::{Ex, Expr};
-use xw_words::{List, Memory, Pos};
+use xw_words::{Memory, Pos};
 
 /// The place of `?` among the symbols.
 const QUESTION: u8 = 9;
@@ -46,43 +47,79 @@ pub fn word(alloc: Global, numbers: &Numbers, scope: &Scope, e: &Expr) -> Result
             value: Kx::Num(*value),
             unsigned: *unsigned,
         }),
-        Ex::Name(name) => {
-            let entity = scope.entity(name.as_slice());
-            Ok(Typed {
-                value: word_of_name(alloc, numbers, entity, e.pos)?,
-                unsigned: name_is_unsigned(entity),
-            })
-        }
+        Ex::Name(name) => named(alloc, numbers, scope.entity(name.as_slice()), e.pos),
         Ex::Index(name, index) => {
-            let entity = scope.entity(name.as_slice());
             let index = word(alloc, numbers, scope, index)?;
-            Ok(Typed {
-                value: Kx::Read(element(alloc, array_number(numbers, entity), index.value, e.pos)?),
-                unsigned: elements_are_unsigned(entity),
-            })
+            read_element(alloc, numbers, scope.entity(name.as_slice()), index, e.pos)
         }
         Ex::Un(symbol, operand) => {
             let operand = word(alloc, numbers, scope, operand)?;
             unary(alloc, *symbol, operand, e.pos)
         }
         Ex::Bin(symbol, left, right) => {
-            let left = word(alloc, numbers, scope, left)?;
-            let right = word(alloc, numbers, scope, right)?;
+            let left = word(alloc, numbers, scope, left);
+            let right = word(alloc, numbers, scope, right);
+            let (left, right) = both(left, right)?;
             binary(alloc, *symbol, left, right, e.pos)
         }
         Ex::Cond(test, first, second) => {
-            let test = word(alloc, numbers, scope, test)?;
-            let first = word(alloc, numbers, scope, first)?;
-            let second = word(alloc, numbers, scope, second)?;
-            choice(alloc, test.value, first, second, e.pos)
+            let test = word(alloc, numbers, scope, test);
+            let first = word(alloc, numbers, scope, first);
+            let second = word(alloc, numbers, scope, second);
+            let choices = both(first, second);
+            let (test, (first, second)) = both(test, choices)?;
+            choice(alloc, test, first, second, e.pos)
         }
         Ex::Cast(unsigned, operand) => {
             let operand = word(alloc, numbers, scope, operand)?;
-            Ok(Typed {
-                value: operand.value,
-                unsigned: *unsigned,
-            })
+            Ok(cast(*unsigned, operand))
         }
+    }
+}
+
+/// A name alone. The one error is want of memory.
+fn named(
+    alloc: Global,
+    numbers: &Numbers,
+    entity: Option<&Entity>,
+    pos: Pos,
+) -> Result<Typed, Memory>
+    ensures value { IfOk result (λ w. kernel.expression_of w.value ≡ spec.word_of_entity (numbering_of numbers.now) pos (entity_found entity.entry)) }
+    ensures unsigned { IfOk result (λ w. w.unsigned ≡ types.word_is_unsigned (scopes.type_of_entity (entity_found entity.entry))) }
+{
+    let value = word_of_name(alloc, numbers, entity, pos)?;
+    Ok(Typed {
+        value,
+        unsigned: name_is_unsigned(entity),
+    })
+}
+
+/// An element of the array that a name stands for. The one error is want of memory.
+fn read_element(
+    alloc: Global,
+    numbers: &Numbers,
+    entity: Option<&Entity>,
+    index: Typed,
+    pos: Pos,
+) -> Result<Typed, Memory>
+    ensures value { IfOk result (λ w. kernel.expression_of w.value ≡ plain.read (plain.element (spec.array_number (numbering_of numbers.now) (entity_found entity.entry)) (kernel.expression_of index.value) pos)) }
+    ensures unsigned { IfOk result (λ w. w.unsigned ≡ types.elements_are_unsigned (scopes.type_of_entity (entity_found entity.entry))) }
+{
+    let place = element(alloc, array_number(numbers, entity), index.value, pos)?;
+    Ok(Typed {
+        value: Kx::Read(place),
+        unsigned: elements_are_unsigned(entity),
+    })
+}
+
+/// A word as one that is `unsigned`, or isn't.
+fn cast(unsigned: bool, operand: Typed) -> Typed
+    ensures value { result.value ≡ operand.value }
+    ensures unsigned { result.unsigned ≡ unsigned }
+{
+    Typed {
+        value: operand.value,
+        unsigned,
     }
 }
 
@@ -120,12 +157,18 @@ pub fn binary(
 }
 
 /// `? :`. The one error is want of memory.
-fn choice(alloc: Global, test: Kx, first: Typed, second: Typed, pos: Pos) -> Result<Typed, Memory>
-    ensures value { IfOk result (λ w. kernel.expression_of w.value ≡ plain.operation operators.question (first.unsigned || second.unsigned) (plain.more_operands (kernel.expression_of test) (spec.two_operands (kernel.expression_of first.value) (kernel.expression_of second.value))) pos) }
+fn choice(
+    alloc: Global,
+    test: Typed,
+    first: Typed,
+    second: Typed,
+    pos: Pos,
+) -> Result<Typed, Memory>
+    ensures value { IfOk result (λ w. kernel.expression_of w.value ≡ plain.operation operators.question (first.unsigned || second.unsigned) (plain.more_operands (kernel.expression_of test.value) (spec.two_operands (kernel.expression_of first.value) (kernel.expression_of second.value))) pos) }
     ensures unsigned { IfOk result (λ w. w.unsigned ≡ (first.unsigned || second.unsigned)) }
 {
     let unsigned = first.unsigned || second.unsigned;
-    let operands = three(alloc, test, first.value, second.value)?;
+    let operands = three(alloc, test.value, first.value, second.value)?;
     Ok(Typed {
         value: Kx::Op(QUESTION, unsigned, operands, pos),
         unsigned,
@@ -163,7 +206,8 @@ pub fn updated(
 ) -> Result<Kx, Memory>
     ensures { IfOk result (λ e. kernel.expression_of e ≡ spec.updated (numbering_of numbers.now) (scope_of scope.now) (tree.expression_of to.now) symbol pos right.unsigned (kernel.expression_of right.value)) }
 {
-    let left = word(alloc, numbers, scope, to)?;
+    let left = word(alloc, numbers, scope, to);
+    let (right, left) = beside(right, left)?;
     let stored = binary(alloc, operator_of(symbol), left, right, pos)?;
     Ok(stored.value)
 }
@@ -181,35 +225,6 @@ pub fn index_test(alloc: Global, index: Kx, words: u32, pos: Pos) -> Result<Kx, 
 pub fn element(alloc: Global, array: u32, index: Kx, pos: Pos) -> Result<Place, Memory>
     ensures { IfOk result (λ p. kernel.place_of p ≡ plain.element array (kernel.expression_of index) pos) }
 {
-    match Box::new(alloc, index) {
-        Ok(index) => Ok(Place::Elem(array, index, pos)),
-        Err(_) => Err(Memory),
-    }
-}
-
-fn one(alloc: Global, first: Kx) -> Result<List<Kx>, Memory>
-    ensures { IfOk result (λ es. es ≡ first ∷ []) }
-{
-    let mut operands = List::new(alloc);
-    operands.push(first)?;
-    Ok(operands)
-}
-
-fn two(alloc: Global, first: Kx, second: Kx) -> Result<List<Kx>, Memory>
-    ensures { IfOk result (λ es. es ≡ first ∷ second ∷ []) }
-{
-    let mut operands = List::new(alloc);
-    operands.push(first)?;
-    operands.push(second)?;
-    Ok(operands)
-}
-
-fn three(alloc: Global, first: Kx, second: Kx, third: Kx) -> Result<List<Kx>, Memory>
-    ensures { IfOk result (λ es. es ≡ first ∷ second ∷ third ∷ []) }
-{
-    let mut operands = List::new(alloc);
-    operands.push(first)?;
-    operands.push(second)?;
-    operands.push(third)?;
-    Ok(operands)
+    let index = boxed(alloc, index)?;
+    Ok(Place::Elem(array, index, pos))
 }

@@ -15,6 +15,8 @@ ghost use Rattle.xc_copy.specs.Scopes.{scope_of};
 
 use crate::context::Context;
 use crate::copied::Copied;
+use crate::memory::{beside, both, one, two};
+use crate::paths::same_path;
 use crate::scope::Scope;
 use std::alloc::Global;
 use xc_kernel::{Kst, Kx};
@@ -27,15 +29,17 @@ impl<'p, 'a> Context<'p, 'a> {
     pub fn as_block(
         &self,
         alloc: Global,
-        path: List<u32>,
+        path: &[u32],
         mut copied: Copied,
     ) -> Result<Copied, Memory>
-        ensures { IfOk result (λ block. (behind : Names) → copy_of block behind ≡ calls.as_block (context_of self.now) path (copy_of copied behind)) }
+        ensures { IfOk result (λ block. (behind : Names) → copy_of block behind ≡ calls.as_block (context_of self.now) path.now (copy_of copied behind)) }
     {
         let code = copied.take_code(alloc);
-        copied.add_statement(self.block_at(path.as_slice(), code))?;
-        copied.add_block(path)?;
-        Ok(copied)
+        let whole = copied.and_statement(self.block_at(path, code));
+        let own = same_path(alloc, path);
+        let (whole, own) = both(whole, own)?;
+        let block = whole.and_block(own)?;
+        Ok(block)
     }
 
     /// The block of this path.
@@ -62,14 +66,33 @@ impl<'p, 'a> Context<'p, 'a> {
         ensures { IfOk result (λ copied. (between behind : Names) → copy_of copied behind ≡ spec.loop_at (context_of self.now) paths.whole (kernel.expression_of test) (spec.turn (context_of self.now) paths.whole (copy_of body behind).code (option_to_list (option_map kernel.statement_of last))) (copies.code_of (copy_of next between)) (copies.joined (copy_of next between) (copy_of body behind))) }
     {
         let followed = next.take_code(alloc);
-        let turn = self.turn(alloc, paths.turn.as_slice(), body.take_code(alloc), last)?;
-        let round = single(alloc, Kst::Loop(test, turn, followed))?;
-        let whole = self.block_at(paths.whole.as_slice(), round);
-        let mut copied = next.followed_by(body)?;
-        copied.add_statement(whole)?;
-        copied.add_block(paths.turn)?;
-        copied.add_block(paths.whole)?;
-        Ok(copied)
+        let done = body.take_code(alloc);
+        let round = self.round(alloc, paths.turn.as_slice(), test, done, last, followed);
+        let made = next.followed_by(body);
+        let (round, made) = both(round, made)?;
+        let looped = made.and_statement(self.block_at(paths.whole.as_slice(), round))?;
+        let inner = looped.and_block(paths.turn)?;
+        let outer = inner.and_block(paths.whole)?;
+        Ok(outer)
+    }
+
+    /// The loop alone: its test, the body in a block of this path with what else is done in each turn, and what follows each. The
+    /// one error is want of memory.
+    fn round(
+        &self,
+        alloc: Global,
+        path: &[u32],
+        test: Kx,
+        body: List<Kst>,
+        last: Option<Kst>,
+        followed: List<Kst>,
+    ) -> Result<List<Kst>, Memory>
+        ensures { IfOk result (λ round. map kernel.statement_of round ≡ plain.loop (kernel.expression_of test) (plain.statements (contexts.block_at (context_of self.now) path.now (map kernel.statement_of body) ∷ option_to_list (option_map kernel.statement_of last))) (plain.statements (map kernel.statement_of followed)) ∷ []) }
+    {
+        let turn = self.turn(alloc, path, body, last);
+        let (test, turn) = beside(test, turn)?;
+        let round = one(alloc, Kst::Loop(test, turn, followed))?;
+        Ok(round)
     }
 
     /// The statements of a loop's turn: the body in a block of this path, and what else is done. The one error is want of memory.
@@ -82,11 +105,17 @@ impl<'p, 'a> Context<'p, 'a> {
     ) -> Result<List<Kst>, Memory>
         ensures { IfOk result (λ turn. map kernel.statement_of turn ≡ contexts.block_at (context_of self.now) path.now (map kernel.statement_of body) ∷ option_to_list (option_map kernel.statement_of last)) }
     {
-        let mut turn = single(alloc, self.block_at(path, body))?;
-        if let Some(last) = last {
-            turn.push(last)?;
+        let block = self.block_at(path, body);
+        match last {
+            None => {
+                let turn = one(alloc, block)?;
+                Ok(turn)
+            }
+            Some(last) => {
+                let turn = two(alloc, block, last)?;
+                Ok(turn)
+            }
         }
-        Ok(turn)
     }
 
     /// The copy of a statement that leaves the block of this path. The one error is want of memory.
@@ -103,7 +132,9 @@ impl<'p, 'a> Context<'p, 'a> {
     pub fn leave_unless(&self, alloc: Global, path: &[u32], test: Kx) -> Result<Kst, Memory>
         ensures { IfOk result (λ statement. kernel.statement_of statement ≡ spec.leave_unless (context_of self.now) path.now (kernel.expression_of test)) }
     {
-        Ok(Kst::If(test, List::new(alloc), single(alloc, self.leave(path))?))
+        let left = one(alloc, self.leave(path));
+        let (test, left) = beside(test, left)?;
+        Ok(Kst::If(test, List::new(alloc), left))
     }
 }
 
@@ -127,16 +158,8 @@ pub fn if_copy(
 {
     let then = first.take_code(alloc);
     let otherwise = second.take_code(alloc);
-    let mut copied = first.followed_by(second)?;
-    copied.add_statement(Kst::If(test, then, otherwise))?;
+    let made = first.followed_by(second);
+    let (test, made) = beside(test, made)?;
+    let copied = made.and_statement(Kst::If(test, then, otherwise))?;
     Ok(copied)
-}
-
-/// The list of one statement. The one error is want of memory.
-pub fn single(alloc: Global, statement: Kst) -> Result<List<Kst>, Memory>
-    ensures { IfOk result (λ list. list ≡ statement ∷ []) }
-{
-    let mut list = List::new(alloc);
-    list.push(statement)?;
-    Ok(list)
 }

@@ -10,6 +10,7 @@ mod eval;
 mod expressions;
 mod flow;
 mod functions;
+mod memory;
 mod numbering;
 mod numbers;
 mod operators;

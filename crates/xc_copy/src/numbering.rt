@@ -6,6 +6,7 @@ ghost use Rattle.xc_copy.specs.Copied.{copy_of};
 ghost use Rattle.xc_copy.specs.Numbers.{numbering_of};
 
 use crate::copied::Copied;
+use crate::memory::both;
 use crate::numbers::{Numbers, each_once, place};
 use indexmap::IndexSet;
 use std::alloc::Global;
@@ -32,10 +33,13 @@ impl Numbers {
     pub fn of_copy(alloc: Global, copied: Copied) -> Result<Numbers, Memory>
         ensures { IfOk result (λ numbers. (scope : Scope) → numbering_of numbers ≡ numbering_in (copy_of copied scope)) }
     {
-        let variables = each_once(alloc, copied.variables)?;
-        let channels = each_once(alloc, copied.channels)?;
-        let timers = each_once(alloc, copied.timers)?;
-        let blocks = each_once(alloc, copied.blocks)?;
+        let variables = each_once(alloc, copied.variables);
+        let channels = each_once(alloc, copied.channels);
+        let timers = each_once(alloc, copied.timers);
+        let blocks = each_once(alloc, copied.blocks);
+        let seen = both(variables, channels);
+        let others = both(timers, blocks);
+        let ((variables, channels), (timers, blocks)) = both(seen, others)?;
         Ok(Numbers {
             variables: variables.items,
             channels: channels.items,

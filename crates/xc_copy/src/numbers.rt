@@ -4,6 +4,7 @@ ghost use Rattle.xc_kernel.specs.Paths as spec_paths;
 ghost use Rattle.xc_kernel.specs.Paths.{Path, place_of_path, has_path, with_new};
 ghost use Rattle.xc_copy.specs.PathSets.{itself, paths_in};
 
+use crate::memory::after;
 use indexmap::IndexSet;
 use std::alloc::Global;
 use std::collections::VecDeque;
@@ -59,7 +60,7 @@ pub struct Once<T> {
 }
 
 /// Each path of some instances once. The one error is want of memory, or of numbers for 2^32 instances and more.
-pub fn each_once<T: HasPath + Drop>(alloc: Global, mut seen: VecDeque<T>) -> Result<Once<T>, Memory>
+pub fn each_once<T: HasPath + Drop>(alloc: Global, seen: VecDeque<T>) -> Result<Once<T>, Memory>
     ensures items { IfOk result (λ once. once.items.items ≡ spec_paths.each_once T.path_of seen.items) }
     ensures paths { IfOk result (λ once. paths_in once.paths ≡ map T.path_of once.items.items) }
     ensures few { IfOk result (λ once. length (paths_in once.paths) < 2 ^ 32) }
@@ -68,13 +69,29 @@ pub fn each_once<T: HasPath + Drop>(alloc: Global, mut seen: VecDeque<T>) -> Res
         items: Vec::new(alloc),
         paths: IndexSet::new(alloc),
     };
-    'sights: while let Some(instance) = seen.pop_front() {
-        keep(alloc, &mut once, instance)?;
-    }
-    if u32::try_from(once.paths.len()).is_err() {
-        return Err(Memory);
-    }
+    let kept = keep_all(alloc, &mut once, seen);
+    let once = after(kept, once)?;
     Ok(once)
+}
+
+/// Keeps each instance whose path is new. The one error is want of memory, or of numbers for 2^32 instances and more.
+fn keep_all<T: HasPath + Drop>(
+    alloc: Global,
+    once: &mut Once<T>,
+    mut seen: VecDeque<T>,
+) -> Result<(), Memory>
+    requires { paths_in once.old.paths ≡ map T.path_of once.old.items.items }
+    ensures items { OnOk result (once.new.items.items ≡ spec_paths.with_all T.path_of once.old.items.items seen.items) }
+    ensures paths { OnOk result (paths_in once.new.paths ≡ map T.path_of once.new.items.items) }
+    ensures few { OnOk result (length (paths_in once.new.paths) < 2 ^ 32) }
+{
+    'sights: while let Some(instance) = seen.pop_front() {
+        keep(alloc, once, instance)?;
+    }
+    match u32::try_from(once.paths.len()) {
+        Ok(_) => Ok(()),
+        Err(_) => Err(Memory),
+    }
 }
 
 /// Keeps an instance, if its path is new. The one error is want of memory.

@@ -15,6 +15,7 @@ ghost use Rattle.xc_copy.specs.Scopes.{entity_found, entity_meant, scope_of};
 use crate::context::Context;
 use crate::copied::Copied;
 use crate::expressions::{index_test, word};
+use crate::memory::both;
 use crate::paths::path_at;
 use crate::scope::{Entity, Scope};
 use std::alloc::Global;
@@ -102,8 +103,8 @@ impl<'p, 'a> Context<'p, 'a> {
     ) -> Result<Handed, Memory>
         ensures { IfOk result (λ handed. IsPassed (spec.by_value (context_of self.now) (scope_of scope.now) own.now pos unsigned (tree.expression_of argument.now)) handed) }
     {
-        let value = word(alloc, self.numbers, scope, argument)?.value;
         let path = path_at(alloc, own, pos)?;
+        let value = word(alloc, self.numbers, scope, argument)?.value;
         let copied = self.stored(alloc, path.as_slice(), pos, value)?;
         Ok(Handed {
             copied,
@@ -155,11 +156,11 @@ impl<'p, 'a> Context<'p, 'a> {
     {
         match array {
             Entity::Array(path, words, unsigned) => {
+                let array = path.copy(alloc)?;
+                let own = path_at(alloc, own, pos)?;
                 let value = word(alloc, self.numbers, scope, index)?.value;
                 let test = index_test(alloc, value, *words, array_pos)?;
-                let own = path_at(alloc, own, pos)?;
                 let copied = self.stored(alloc, own.as_slice(), pos, test)?;
-                let array = path.copy(alloc)?;
                 Ok(Handed {
                     copied,
                     entity: Entity::Element(array, own, *unsigned),
@@ -180,8 +181,10 @@ impl<'p, 'a> Context<'p, 'a> {
     fn stored(&self, alloc: Global, path: &[u32], pos: Pos, value: Kx) -> Result<Copied, Memory>
         ensures { IfOk result (λ copied. (behind : Names) → copy_of copied behind ≡ copies.with_variable (copies.one_statement behind (contexts.set_word (context_of self.now) path.now (kernel.expression_of value))) (contexts.word_variable (context_of self.now) false path.now pos)) }
     {
-        let mut copied = Copied::one_statement(alloc, self.set_word(path, value))?;
-        copied.add_variable(self.word_variable(alloc, false, path, pos)?)?;
+        let stored = Copied::one_statement(alloc, self.set_word(path, value));
+        let variable = self.word_variable(alloc, false, path, pos);
+        let (stored, variable) = both(stored, variable)?;
+        let copied = stored.and_variable(variable)?;
         Ok(copied)
     }
 }

@@ -1,4 +1,4 @@
-ghost use Rattle.std.specs.Prelude.{◌≡◌, [], IfOk, map, option_map};
+ghost use Rattle.std.specs.Prelude.{◌≡◌, [], IfOk, OnOk, map, option_map};
 ghost use Rattle.xc_kernel.specs.Scopes.{Scope as Names};
 ghost use Rattle.xc_kernel.specs.Copy as copies;
 ghost use Rattle.xc_kernel.specs.Flow as spec;
@@ -8,8 +8,10 @@ ghost use Rattle.xc_copy.specs.Copied.{copy_of};
 ghost use Rattle.xc_copy.specs.Parts.{branched_before, cased_before, default_before};
 
 use crate::copied::Copied;
+use crate::memory::both;
 use crate::transfers::Received;
 use std::alloc::Global;
+use std::mem;
 use xc_kernel::{KBranch, KCase, KSelect, Kst, Kx};
 use xw_words::{List, Memory, Pos};
 
@@ -38,11 +40,10 @@ impl Branched {
     {
         let Branched { made, mut branches } = self;
         let body = copied.take_code(alloc);
-        branches.push(KBranch { body, pos })?;
-        Ok(Branched {
-            made: made.followed_by(copied)?,
-            branches,
-        })
+        let pushed = branches.push(KBranch { body, pos });
+        let joined = made.followed_by(copied);
+        let (_, made) = both(pushed, joined)?;
+        Ok(Branched { made, branches })
     }
 
     /// A `par` of the branches. The one error is want of memory.
@@ -78,47 +79,36 @@ impl Cased {
 
     /// One more case behind the others. The one error is want of memory.
     #[inline(never)]
-    pub fn and_case(
-        self,
+    pub fn add_case(
+        &mut self,
         alloc: Global,
         guard: Option<Kx>,
         received: Received,
-        mut block: Copied,
-    ) -> Result<Cased, Memory>
-        ensures { IfOk result (λ r. (between behind : Names) (others : spec.Cased) → cased_before r others ≡ cased_before self (record { made = copies.joined (copies.joined (copy_of received.names between) (copies.with_code (copy_of block behind) [])) others.made; cases = plain.more_cases (plain.case (option_map kernel.expression_of guard) (kernel.input_of received.head) (copies.code_of (copy_of block behind))) others.cases; otherwise = others.otherwise })) }
+        block: Copied,
+    ) -> Result<(), Memory>
+        ensures { OnOk result ((between behind : Names) (others : spec.Cased) → cased_before self.new others ≡ cased_before self.old (record { made = copies.joined (copies.joined (copy_of received.names between) (copies.with_code (copy_of block behind) [])) others.made; cases = plain.more_cases (plain.case (option_map kernel.expression_of guard) (kernel.input_of received.head) (copies.code_of (copy_of block behind))) others.cases; otherwise = others.otherwise })) }
     {
-        let Cased {
-            made,
-            mut cases,
-            otherwise,
-        } = self;
-        let Received { head, names } = received;
+        let mut block = block;
         let body = block.take_code(alloc);
-        cases.push(KCase { guard, head, body })?;
-        let inside = names.followed_by(block)?;
-        Ok(Cased {
-            made: made.followed_by(inside)?,
-            cases,
-            otherwise,
-        })
+        let Received { head, names } = received;
+        let pushed = self.cases.push(KCase { guard, head, body });
+        let inside = names.followed_by(block);
+        let (_, inside) = both(pushed, inside)?;
+        self.made.join(inside)?;
+        Ok(())
     }
 
     /// A `default` behind the others, which counts where none was before. The one error is want of memory.
     #[inline(never)]
-    pub fn and_default(self, alloc: Global, mut block: Copied) -> Result<Cased, Memory>
-        ensures { IfOk result (λ r. (behind : Names) (others : spec.Cased) → cased_before r others ≡ cased_before self (record { made = copies.joined (copies.with_code (copy_of block behind) []) others.made; cases = others.cases; otherwise = plain.default (copies.code_of (copy_of block behind)) })) }
+    pub fn add_default(&mut self, alloc: Global, block: Copied) -> Result<(), Memory>
+        ensures { OnOk result ((behind : Names) (others : spec.Cased) → cased_before self.new others ≡ cased_before self.old (record { made = copies.joined (copies.with_code (copy_of block behind) []) others.made; cases = others.cases; otherwise = plain.default (copies.code_of (copy_of block behind)) })) }
     {
-        let Cased {
-            made,
-            cases,
-            otherwise,
-        } = self;
+        let mut block = block;
         let body = block.take_code(alloc);
-        Ok(Cased {
-            made: made.followed_by(block)?,
-            cases,
-            otherwise: first_of(otherwise, body),
-        })
+        let before = mem::replace(&mut self.otherwise, None);
+        self.otherwise = first_of(before, body);
+        self.made.join(block)?;
+        Ok(())
     }
 
     /// A `select` of the cases, whose word stands at a place. The one error is want of memory.

@@ -13,6 +13,7 @@ ghost use Rattle.xc_copy.specs.Roots.{rooted_by, rooted_of};
 
 use crate::context::Context;
 use crate::functions::Functions;
+use crate::memory::beside;
 use crate::numbers::Numbers;
 use crate::roots::{Rooted, core_of, pos_of_place};
 use crate::scope::Scope;
@@ -65,10 +66,12 @@ pub fn copy(alloc: Global, tree: &Tree) -> Result<Kernel, Memory>
 {
     let functions = Functions::of_tree(alloc, tree)?;
     let names = port_names(alloc, tree)?;
-    let first = rooted(alloc, &functions, names.as_slice(), &Numbers::none(alloc))?;
-    let numbers = Numbers::of_copy(alloc, first.made)?;
-    let second = rooted(alloc, &functions, names.as_slice(), &numbers)?;
     let ports = port_uses(alloc, tree)?;
+    let walked = rooted(alloc, &functions, names.as_slice(), &Numbers::none(alloc));
+    let first = walked?;
+    let numbers = Numbers::of_copy(alloc, first.made)?;
+    let second = rooted(alloc, &functions, names.as_slice(), &numbers);
+    let (numbers, second) = beside(numbers, second)?;
     let main = main_pos(functions.named(MAIN));
     Ok(kernel_by(numbers, second, ports, main))
 }

@@ -1,4 +1,4 @@
-ghost use Rattle.std.specs.Prelude.{◌≡◌, ◌≤◌, ◌-◌, [], IfOk, map, option_map};
+ghost use Rattle.std.specs.Prelude.{◌≡◌, ◌≤◌, ◌-◌, [], IfOk, OnOk, map, option_map};
 ghost use Rattle.xc_tree.specs.Plain as plain;
 ghost use Rattle.xc_tree.specs.Trees as tree;
 ghost use Rattle.xc_tree.specs.declared.tree.Stmt.{out-Stmt};
@@ -19,6 +19,7 @@ use crate::context::Context;
 use crate::copied::Copied;
 use crate::eval::eval;
 use crate::expressions::word;
+use crate::memory::after;
 use crate::numbers::Numbers;
 use crate::paths::path_of_branch;
 use crate::scope::{Entity, Scope};
@@ -52,42 +53,36 @@ impl Rooted {
     }
 
     /// More instances behind, without a root. The one error is want of memory.
-    fn and_copy(self, alloc: Global, copied: Copied) -> Result<Rooted, Memory>
-        ensures { IfOk result (λ r. (before behind : Names) → rooted_of r behind ≡ spec.and_roots (rooted_of self before) (spec.no_roots (copy_of copied behind))) }
+    fn add_copy(&mut self, alloc: Global, copied: Copied) -> Result<(), Memory>
+        ensures { OnOk result ((before behind : Names) → rooted_of self.new behind ≡ spec.and_roots (rooted_of self.old before) (spec.no_roots (copy_of copied behind))) }
     {
         let mut copied = copied;
         let _code = copied.take_code(alloc);
-        let Rooted { made, roots } = self;
-        Ok(Rooted {
-            made: made.followed_by(copied)?,
-            roots,
-        })
+        self.made.join(copied)?;
+        Ok(())
     }
 
     /// One more root behind, by the copy of its statement. The one error is want of memory.
-    fn and_root(
-        self,
+    fn add_root(
+        &mut self,
         alloc: Global,
         core: u8,
         place: Pos,
         pos: Pos,
         copied: Copied,
-    ) -> Result<Rooted, Memory>
-        ensures { IfOk result (λ r. (before behind : Names) → rooted_of r behind ≡ spec.and_roots (rooted_of self before) (spec.root_of core place pos (copy_of copied behind))) }
+    ) -> Result<(), Memory>
+        ensures { OnOk result ((before behind : Names) → rooted_of self.new behind ≡ spec.and_roots (rooted_of self.old before) (spec.root_of core place pos (copy_of copied behind))) }
     {
         let mut copied = copied;
         let body = copied.take_code(alloc);
-        let Rooted { made, mut roots } = self;
-        roots.push(Root {
+        self.made.join(copied)?;
+        self.roots.push(Root {
             core,
             place,
             body,
             pos,
         })?;
-        Ok(Rooted {
-            made: made.followed_by(copied)?,
-            roots,
-        })
+        Ok(())
     }
 }
 
@@ -140,8 +135,9 @@ impl<'p, 'a> Context<'p, 'a> {
         let own: &[u32] = &[];
         let arguments: &'a [Arg] = &[];
         let copied = (&*self).function(alloc, calls, own, main, arguments, &scope)?;
-        let none = Rooted::none(alloc);
-        let rooted = none.and_root(alloc, 0, main.name.pos, main.name.pos, copied)?;
+        let mut root = Rooted::none(alloc);
+        let added = root.add_root(alloc, 0, main.name.pos, main.name.pos, copied);
+        let rooted = after(added, root)?;
         Ok(rooted)
     }
 
@@ -156,11 +152,11 @@ impl<'p, 'a> Context<'p, 'a> {
     {
         let mut scope = self.scope_of_ports(alloc)?;
         let instance = self.instance(alloc, main)?;
-        let none = Rooted::none(alloc);
-        let mut rooted = none.and_copy(alloc, instance)?;
+        let mut rooted = Rooted::none(alloc);
+        rooted.add_copy(alloc, instance)?;
         let block = in_block(&main.body);
         for s in block {
-            rooted = self.statement_roots(alloc, calls, main.name.pos, s, rooted, &mut scope)?;
+            self.statement_roots(alloc, calls, main.name.pos, s, &mut rooted, &mut scope)?;
         }
         Ok(rooted)
     }
@@ -172,20 +168,20 @@ impl<'p, 'a> Context<'p, 'a> {
         calls: usize,
         main: Pos,
         s: &'a Stmt,
-        rooted: Rooted,
+        rooted: &mut Rooted,
         scope: &mut Scope<'a>,
-    ) -> Result<Rooted, Memory>
-        ensures { IfOk result (λ r. rooted_of r (scope_of scope.new) ≡ spec.roots_then (rooted_of rooted (scope_of scope.old)) (spec.action_roots (calls_copy calls) main (tree.action_of (out-Stmt s.now).kind) (context_of self.now))) }
+    ) -> Result<(), Memory>
+        ensures { OnOk result (rooted_of rooted.new (scope_of scope.new) ≡ spec.roots_then (rooted_of rooted.old (scope_of scope.old)) (spec.action_roots (calls_copy calls) main (tree.action_of (out-Stmt s.now).kind) (context_of self.now))) }
     {
         match &s.kind {
             St::Decl(ds) => {
                 let copied = self.declarations(alloc, calls, ds.as_slice(), scope)?;
-                let rooted = rooted.and_copy(alloc, copied)?;
-                Ok(rooted)
+                rooted.add_copy(alloc, copied)?;
+                Ok(())
             }
             St::Par(bs) => {
-                let rooted = self.branch_roots(alloc, calls, main, bs.as_slice(), rooted, scope)?;
-                Ok(rooted)
+                self.branch_roots(alloc, calls, main, bs.as_slice(), rooted, scope)?;
+                Ok(())
             }
             St::Repl {
                 first,
@@ -194,27 +190,25 @@ impl<'p, 'a> Context<'p, 'a> {
                 body,
                 ..
             } => {
-                let rooted = self.numbered_roots(
-                    alloc, calls, main, first, *from, *to, body, rooted, scope,
-                )?;
-                Ok(rooted)
+                self.numbered_roots(alloc, calls, main, first, *from, *to, body, rooted, scope)?;
+                Ok(())
             }
-            St::Empty => Ok(rooted),
-            St::Block(_) => Ok(rooted),
-            St::Assign(_, _, _, _) => Ok(rooted),
-            St::Step(_, _) => Ok(rooted),
-            St::Do(_) => Ok(rooted),
-            St::Output(_) => Ok(rooted),
-            St::Input(_) => Ok(rooted),
-            St::If(_, _, _) => Ok(rooted),
-            St::While(_, _) => Ok(rooted),
-            St::DoWhile(_, _) => Ok(rooted),
-            St::For(_, _, _, _) => Ok(rooted),
-            St::Return(_) => Ok(rooted),
-            St::Break => Ok(rooted),
-            St::Continue => Ok(rooted),
-            St::Select(_) => Ok(rooted),
-            St::Tran(_, _) => Ok(rooted),
+            St::Empty => Ok(()),
+            St::Block(_) => Ok(()),
+            St::Assign(_, _, _, _) => Ok(()),
+            St::Step(_, _) => Ok(()),
+            St::Do(_) => Ok(()),
+            St::Output(_) => Ok(()),
+            St::Input(_) => Ok(()),
+            St::If(_, _, _) => Ok(()),
+            St::While(_, _) => Ok(()),
+            St::DoWhile(_, _) => Ok(()),
+            St::For(_, _, _, _) => Ok(()),
+            St::Return(_) => Ok(()),
+            St::Break => Ok(()),
+            St::Continue => Ok(()),
+            St::Select(_) => Ok(()),
+            St::Tran(_, _) => Ok(()),
         }
     }
 
@@ -225,19 +219,18 @@ impl<'p, 'a> Context<'p, 'a> {
         calls: usize,
         main: Pos,
         bs: &'a [Branch],
-        rooted: Rooted,
+        rooted: &mut Rooted,
         scope: &mut Scope<'a>,
-    ) -> Result<Rooted, Memory>
-        ensures { IfOk result (λ r. rooted_of r (scope_of scope.new) ≡ spec.roots_then (rooted_of rooted (scope_of scope.old)) (spec.branch_roots (calls_copy calls) main (plain.branches (map tree.branch_of bs.now)) 0 (context_of self.now))) }
+    ) -> Result<(), Memory>
+        ensures { OnOk result (rooted_of rooted.new (scope_of scope.new) ≡ spec.roots_then (rooted_of rooted.old (scope_of scope.old)) (spec.branch_roots (calls_copy calls) main (plain.branches (map tree.branch_of bs.now)) 0 (context_of self.now))) }
     {
-        let mut rooted = rooted;
         for (index, b) in bs.iter().enumerate() {
             let path = self.branch_path(alloc, index)?;
-            rooted = (&*self)
+            (&*self)
                 .in_branch(path.as_slice())
                 .branch_root(alloc, calls, main, b, rooted, scope)?;
         }
-        Ok(rooted)
+        Ok(())
     }
 
     /// The copies of a replicated branch, behind other roots. The one error is as for `roots`.
@@ -250,22 +243,21 @@ impl<'p, 'a> Context<'p, 'a> {
         from: u32,
         until: u32,
         b: &'a Branch,
-        rooted: Rooted,
+        rooted: &mut Rooted,
         scope: &mut Scope<'a>,
-    ) -> Result<Rooted, Memory>
-        ensures { IfOk result (λ r. rooted_of r (scope_of scope.new) ≡ spec.and_roots (rooted_of rooted (scope_of scope.old)) (spec.numbered_roots (calls_copy calls) main (tree.branch_of b.now) name.now.text (context_of self.now) (scope_of scope.old) (until - from) 0 from)) }
+    ) -> Result<(), Memory>
+        ensures { OnOk result (rooted_of rooted.new (scope_of scope.new) ≡ spec.and_roots (rooted_of rooted.old (scope_of scope.old)) (spec.numbered_roots (calls_copy calls) main (tree.branch_of b.now) name.now.text (context_of self.now) (scope_of scope.old) (until - from) 0 from)) }
     {
-        let mut rooted = rooted;
         let known = scope.len();
         for number in from..until {
             let path = path_of_branch(alloc, self.path, number - from)?;
             scope.declare(name.text.as_slice(), Entity::Constant(number))?;
-            rooted = (&*self)
+            (&*self)
                 .in_branch(path.as_slice())
                 .branch_root(alloc, calls, main, b, rooted, scope)?;
             scope.leave(known);
         }
-        Ok(rooted)
+        Ok(())
     }
 
     /// A branch of main's on its core, behind other roots. The one error is as for `roots`.
@@ -275,18 +267,18 @@ impl<'p, 'a> Context<'p, 'a> {
         calls: usize,
         main: Pos,
         b: &'a Branch,
-        rooted: Rooted,
+        rooted: &mut Rooted,
         scope: &mut Scope<'a>,
-    ) -> Result<Rooted, Memory>
-        ensures { IfOk result (λ r. rooted_of r (scope_of scope.new) ≡ spec.roots_then (rooted_of rooted (scope_of scope.old)) (spec.branch_root (calls_copy calls) main (tree.branch_of b.now) (context_of self.now))) }
+    ) -> Result<(), Memory>
+        ensures { OnOk result (rooted_of rooted.new (scope_of scope.new) ≡ spec.roots_then (rooted_of rooted.old (scope_of scope.old)) (spec.branch_root (calls_copy calls) main (tree.branch_of b.now) (context_of self.now))) }
     {
         let core = core_of(alloc, &b.place, scope)?;
         let copied = (&*self)
             .on_core(core)
             .statement(alloc, calls, &b.body, scope)?;
         let place = pos_of_place(main, &b.place);
-        let rooted = rooted.and_root(alloc, core, place, b.body.pos, copied)?;
-        Ok(rooted)
+        rooted.add_root(alloc, core, place, b.body.pos, copied)?;
+        Ok(())
     }
 }
 
@@ -298,8 +290,10 @@ pub fn core_of(alloc: Global, place: &Option<At>, scope: &Scope) -> Result<u8, M
     match place {
         None => Ok(0),
         Some(place) => {
-            let value = word(alloc, &Numbers::none(alloc), scope, &place.value)?.value;
-            match eval(&value) {
+            let read = word(alloc, &Numbers::none(alloc), scope, &place.value);
+            let value = read?.value;
+            let number = eval(&value);
+            match number {
                 Some(number) => Ok(if number <= LAST_CORE {
                     number as u8
                 } else {

@@ -2,7 +2,7 @@ ghost use Rattle.std.specs.Prelude.{◌≡◌, ◌<◌, ◌≤◌, ◌-◌, [], 
 ghost use Rattle.xc_kernel.specs.Scopes as spec;
 ghost use Rattle.xc_copy.specs.Scopes.{entity_meant, entity_found, scope_of};
 
-use crate::paths::same_path;
+use crate::memory::push;
 use std::alloc::Global;
 use xw_words::{List, Memory};
 
@@ -84,10 +84,7 @@ impl<'a> Scope<'a> {
     pub fn declare(&mut self, name: &'a [u8], entity: Entity) -> Result<(), Memory>
         ensures { OnOk result (scope_of self.new ≡ spec.with_name (scope_of self.old) name.now (entity_meant entity)) }
     {
-        match self.names.push(Binding { name, entity }) {
-            Ok(()) => Ok(()),
-            Err(_) => Err(Memory),
-        }
+        push(&mut self.names, Binding { name, entity })
     }
 
     /// Forgets all names but the first so many.

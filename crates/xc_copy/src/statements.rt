@@ -111,7 +111,7 @@ impl<'p, 'a> Context<'p, 'a> {
         let mut copied = Copied::nothing(alloc);
         for s in ss {
             let next = self.statement(alloc, calls, s, scope)?;
-            copied.join(alloc, next)?;
+            copied.join(next)?;
         }
         Ok(copied)
     }
@@ -149,7 +149,7 @@ impl<'p, 'a> Context<'p, 'a> {
         let mut copied = Copied::nothing(alloc);
         for d in ds {
             let next = self.declaration(alloc, calls, d, scope)?;
-            copied.join(alloc, next)?;
+            copied.join(next)?;
         }
         Ok(copied)
     }
@@ -370,8 +370,8 @@ impl<'p, 'a> Context<'p, 'a> {
     ) -> Result<Copied, Memory>
         ensures { IfOk result (λ copied. copy_of copied (scope_of scope.new) ≡ flow.while_copy (context_of self.now) pos (contexts.expression (context_of self.now) (scope_of scope.old) (tree.expression_of test.now)) (spec.statement_copy (spec.calls_copy calls) (tree.statement_of body.now) (contexts.in_loop (context_of self.now) pos) (scope_of scope.old))) }
     {
-        let test = word(alloc, self.numbers, scope, test)?;
         let paths = self.loop_paths(alloc, pos)?;
+        let test = word(alloc, self.numbers, scope, test)?;
         let body = (&*self)
             .in_loop(paths.whole.as_slice(), paths.turn.as_slice())
             .statement(alloc, calls, body, scope)?;
@@ -553,11 +553,11 @@ impl<'p, 'a> Context<'p, 'a> {
         ensures { IfOk result (λ copied. copy_of copied (scope_of scope.new) ≡ flow.transaction_copy (context_of self.now) (scope_of scope.old) master start close (spec.statements_copy (spec.calls_copy calls) (plain.statements (map tree.statement_of ss.now)) (context_of self.now) (scope_of scope.old))) }
     {
         let known = scope.len();
-        let mut copied = self.statements(alloc, calls, ss, scope)?;
+        let mut inside = self.statements(alloc, calls, ss, scope)?;
         scope.leave(known);
-        let chan = self.numbers.channel(copied.first_named());
-        let body = copied.take_code(alloc);
-        copied.add_statement(Kst::Tran {
+        let chan = self.numbers.channel(inside.first_named());
+        let body = inside.take_code(alloc);
+        let copied = inside.and_statement(Kst::Tran {
             chan,
             master,
             body,

@@ -15,6 +15,7 @@ use crate::context::Context;
 use crate::copied::Copied;
 use crate::entities::resource;
 use crate::expressions::{place, word};
+use crate::memory::{beside, both, push_back};
 use crate::paths::path_at;
 use crate::scope::{Entity, Scope};
 use std::alloc::Global;
@@ -44,21 +45,32 @@ impl<'p, 'a> Context<'p, 'a> {
     pub fn output(&self, alloc: Global, scope: &Scope<'a>, o: &Send) -> Result<Copied, Memory>
         ensures { IfOk result (λ copied. copy_of copied (scope_of scope.now) ≡ spec.output_copy (context_of self.now) (scope_of scope.now) (tree.output_of o.now)) }
     {
+        let output = self.sent(alloc, scope, o)?;
+        let one = Copied::one_statement(alloc, Kst::Out(output));
+        let named = channel_named(alloc, scope, o.name.as_slice());
+        let (named, one) = both(named, one)?;
+        let copied = named.followed_by(one)?;
+        Ok(copied)
+    }
+
+    /// The kernel's output. The one error is want of memory.
+    #[tactic(auto)]
+    fn sent(&self, alloc: Global, scope: &Scope<'a>, o: &Send) -> Result<KOut, Memory>
+        ensures { IfOk result (λ r. kernel.output_of r ≡ spec.output_of (context_of self.now) (scope_of scope.now) (tree.output_of o.now)) }
+    {
         let res = resource(self.numbers, scope.entity(o.name.as_slice()));
-        let named = channel_named(alloc, scope, o.name.as_slice())?;
-        let time = self.time(alloc, scope, &o.time)?;
-        let value = word(alloc, self.numbers, scope, &o.value)?;
-        let stamp = self.stamp(alloc, scope, &o.stamp)?;
-        let output = KOut {
+        let time = self.time(alloc, scope, &o.time);
+        let value = word(alloc, self.numbers, scope, &o.value);
+        let stamp = self.stamp(alloc, scope, &o.stamp);
+        let stamped = both(value, stamp);
+        let (time, (value, stamp)) = both(time, stamped)?;
+        Ok(KOut {
             res,
             time,
             value: value.value,
             stamp,
             pos: o.pos,
-        };
-        let one = Copied::one_statement(alloc, Kst::Out(output))?;
-        let copied = named.followed_by(one)?;
-        Ok(copied)
+        })
     }
 
     /// The copy of an input, with its channel named and its name declared. The one error is want of memory.
@@ -68,9 +80,8 @@ impl<'p, 'a> Context<'p, 'a> {
         ensures { IfOk result (λ copied. copy_of copied (scope_of scope.new) ≡ spec.input_copy (context_of self.now) (scope_of scope.old) (tree.input_of i.now)) }
     {
         let received = self.received(alloc, scope, i)?;
-        let mut names = received.names;
-        names.add_statement(Kst::In(received.head))?;
-        Ok(names)
+        let copied = received.names.and_statement(Kst::In(received.head))?;
+        Ok(copied)
     }
 
     /// The kernel's input, and what it declares and names. The one error is want of memory.
@@ -86,11 +97,15 @@ impl<'p, 'a> Context<'p, 'a> {
         ensures names { IfOk result (λ r. copy_of r.names (scope_of scope.new) ≡ spec.input_names (context_of self.now) (scope_of scope.old) (tree.input_of i.now)) }
     {
         let res = resource(self.numbers, scope.entity(i.name.as_slice()));
-        let named = channel_named(alloc, scope, i.name.as_slice())?;
-        let time = self.time(alloc, scope, &i.time)?;
-        let cond = self.condition(alloc, scope, &i.cond)?;
-        let target = self.target(alloc, scope, &i.dest)?;
-        let stamp = self.stamp(alloc, scope, &i.stamp)?;
+        let named = channel_named(alloc, scope, i.name.as_slice());
+        let time = self.time(alloc, scope, &i.time);
+        let cond = self.condition(alloc, scope, &i.cond);
+        let target = self.target(alloc, scope, &i.dest);
+        let stamp = self.stamp(alloc, scope, &i.stamp);
+        let waits = both(time, cond);
+        let ends = both(target, stamp);
+        let parts = both(waits, ends);
+        let (named, ((time, cond), (target, stamp))) = both(named, parts)?;
         let head = KHead {
             res,
             time,
@@ -99,7 +114,8 @@ impl<'p, 'a> Context<'p, 'a> {
             stamp,
             pos: i.pos,
         };
-        let names = named.followed_by(target.names)?;
+        let names = named.followed_by(target.names);
+        let (head, names) = beside(head, names)?;
         Ok(Received { head, names })
     }
 
@@ -198,8 +214,7 @@ impl<'p, 'a> Context<'p, 'a> {
         let path = path_at(alloc, self.path, pos)?;
         let variable = self.word_variable(alloc, true, path.as_slice(), pos)?;
         scope.declare(name, Entity::Word(path, unsigned))?;
-        let mut copied = Copied::nothing(alloc);
-        copied.add_variable(variable)?;
+        let copied = Copied::nothing(alloc).and_variable(variable)?;
         Ok(copied)
     }
 }
@@ -242,9 +257,8 @@ fn channels_in(alloc: Global, entity: Option<&Entity>) -> Result<VecDeque<List<u
 fn one_path(alloc: Global, path: &List<u32>) -> Result<VecDeque<List<u32>>, Memory>
     ensures { IfOk result (λ paths. paths.items ≡ path.now ∷ []) }
 {
+    let own = path.copy(alloc)?;
     let mut paths = VecDeque::new(alloc);
-    match paths.push_back(path.copy(alloc)?) {
-        Ok(()) => Ok(paths),
-        Err(_) => Err(Memory),
-    }
+    push_back(&mut paths, own)?;
+    Ok(paths)
 }

@@ -12,6 +12,7 @@ ghost use Rattle.xc_parser.specs.Stops.{Stopped};
 ghost use Rattle.xc_parser.specs.Levels.{NoOperator};
 ghost use Rattle.xc_parser.specs.Operands.{IsSymbol, IsBracket, IsSized, ReadsLevel, ReadsExpression};
 
+use crate::memory::beside;
 use crate::nodes;
 use crate::parser::{Parser, Read};
 use crate::stop::Stop;
@@ -133,18 +134,22 @@ impl<'a> Parser<'a> {
         ensures read { IfOk result (λ o. (at : ℕ) → ReadsLevel self.now.toks.now room 10 at test → ReadsExpression self.now.toks.now room at o) }
         ensures stopped { IfErr result (λ e. (at : ℕ) → ReadsLevel self.now.toks.now room 10 at test → Stopped self.now.toks.now room symbol.expr at e) }
     {
-        let pos = self.toks[test.end].pos;
-        let first = match self.expression(test.end + 1, room - 1) {
-            Ok(first) => first,
+        let question = test.end;
+        let pos = self.toks[question].pos;
+        let (test, first) = match beside(test, self.expression(question + 1, room - 1)) {
+            Ok(both) => both,
             Err(e) => return Err(e),
         };
-        if !is_symbol(self.toks, first.end, COLON) {
-            return Err(Stop::Wrong(first.end));
+        let colon = first.end;
+        if !is_symbol(self.toks, colon, COLON) {
+            return Err(Stop::Wrong(colon));
         }
-        let second = match self.expression(first.end + 1, room - 1) {
-            Ok(second) => second,
+        let both = (test, first);
+        let (both, second) = match beside(both, self.expression(colon + 1, room - 1)) {
+            Ok(all) => all,
             Err(e) => return Err(e),
         };
+        let (test, first) = both;
         let depth = test.depth.max(first.depth).max(second.depth) + 1;
         let end = second.end;
         match nodes::choice(self.alloc, test.tree, first.tree, second.tree, pos) {

@@ -91,16 +91,11 @@ impl<'a> Parser<'a> {
         ensures read { IfOk result (λ r. Reads self.now.toks.now (room + 1) symbol.statement at r.end (trees.statement_of r.value)) }
         ensures stopped { IfErr result (λ e. Stopped self.now.toks.now (room + 1) symbol.statement at e) }
     {
-        let parts = self.for_parts(at, room)?;
-        let body = self.boxed_statement(parts.end, room)?;
-        let Parts {
-            start,
-            test,
-            step,
-            held,
-        } = parts.value;
-        let all = held + (body.end - parts.end);
-        let kind = St::For(start, test, step, body.value);
+        let read = self.for_parts(at, room)?;
+        let held = read.value.held;
+        let (parts, body) = beside(read.value, self.boxed_statement(read.end, room))?;
+        let all = held + (body.end - read.end);
+        let kind = St::For(parts.start, parts.test, parts.step, body.value);
         Ok(self.whole(at, body.end, all, kind))
     }
 

@@ -1,6 +1,6 @@
-//! What the tests make of a text.
+//! What comes of a text before it is shown.
 
-ghost use Rattle.std.specs.Prelude.{◌≤◌, IfSome};
+ghost use Rattle.std.specs.Prelude.{◌≤◌, length, IfSome};
 ghost use Rattle.xc_kernel.specs.Sound.{IsTyped};
 ghost use Rattle.xc_tree.specs.Depth as depth;
 ghost use Rattle.xc_tree.specs.Derives.{deepest};
@@ -8,22 +8,24 @@ ghost use Rattle.xc_tree.specs.Programs.{IsParsed};
 ghost use Rattle.xc_tree.specs.Trees.{program_of};
 ghost use Rattle.xc_tree.specs.Types.Named.{named_of};
 
-use std::alloc::Global;
+use std::alloc::{AllocError, Global};
 use xc_lexer::lex;
 use xc_names::resolve;
 use xc_parser::{end_pos, parse};
 use xc_tree::{Tree, Typed};
 use xc_types::check;
+use xw_words::Broken;
 
-/// How many bytes and tokens a text of these tests has at most.
+/// How many bytes and tokens a text has at most.
 pub const MOST: usize = 4_194_304;
 
 /// The program that a text is with the types of its expressions, if it breaks no rule up to 508.
-pub fn typed(alloc: Global, text: &str) -> Option<Typed>
+pub fn typed(alloc: Global, text: &[u8]) -> Option<Typed>
+    requires { length text.now ≤ 4194304 }
     ensures typed { IfSome result (λ typed. IsTyped (program_of typed.named.tree) (named_of typed.named) typed.unsigned_at) }
     ensures shallow { IfSome result (λ typed. depth.of_program (program_of typed.named.tree) ≤ deepest) }
 {
-    let tree = tree_of(alloc, text.as_bytes())?;
+    let tree = tree_of(alloc, text)?;
     let Ok(named) = resolve(alloc, tree) else {
         return None;
     };
@@ -35,12 +37,10 @@ pub fn typed(alloc: Global, text: &str) -> Option<Typed>
 
 /// The tree of a text, if it has one.
 pub fn tree_of(alloc: Global, text: &[u8]) -> Option<Tree>
+    requires { length text.now ≤ 4194304 }
     ensures parsed { IfSome result (λ tree. IsParsed (program_of tree)) }
     ensures shallow { IfSome result (λ tree. depth.of_program (program_of tree) ≤ deepest) }
 {
-    if text.len() > MOST {
-        return None;
-    }
     let Ok(toks) = lex(alloc, text) else {
         return None;
     };
@@ -51,4 +51,9 @@ pub fn tree_of(alloc: Global, text: &[u8]) -> Option<Tree>
         Ok(tree) => Some(tree),
         Err(_) => None,
     }
+}
+
+/// A broken rule as `rule at line:column`.
+pub fn broken(alloc: Global, broken: Broken) -> Result<String, AllocError> {
+    format!(in alloc; "{} at {}:{}", broken.rule, broken.pos.line, broken.pos.col)
 }

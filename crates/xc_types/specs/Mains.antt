@@ -1,9 +1,14 @@
--- A statement of main's block.
-use Rattle.std.specs.Prelude.{Bool, true, false, if◌then◌else◌}
+-- The statements of main's block.
+use Rattle.std.specs.Prelude.{Bool, true, false, List, map, if◌then◌else◌}
 use Rattle.xc_tree.specs.Plain as plain
 use Rattle.xc_tree.specs.Shapes.Main.{has_placed, is_placed, are_channels}
+use Rattle.xc_tree.specs.declared.tree.Stmt.{Stmt}
+use Rattle.xc_tree.specs.Trees.{statement_of}
 use Rattle.xc_types.specs.declared.main_function.Part.{Part}
 use Rattle.xc_types.specs.declared.main_function.Part.TheVariants.{Channels, Par, Return, Other}
+
+abbrev pub statements_of : List Stmt → plain.Statements
+statements_of ss = plain.statements (map statement_of ss)
 
 abbrev pub action_part : plain.Action → Part
 action_part (plain.declare ds) = if are_channels ds then Channels else Other

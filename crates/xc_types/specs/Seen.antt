@@ -1,6 +1,6 @@
 -- What a walk has seen of a program: how many names, the types of its nodes, the first of the broken rules, and the channels
 -- that communications name.
-use Rattle.std.specs.Prelude.{ℕ, ◌+◌, Bool, true, false, List, [], ◌∷◌, ◌++◌, not, map, slice_get, slice_set, Option, Some}
+use Rattle.std.specs.Prelude.{ℕ, ◌+◌, Bool, true, false, List, [], ◌∷◌, ◌++◌, not, drop, map, slice_get, slice_set, Option, Some}
 use Rattle.xw_words.specs.declared.pos.Pos.{Pos}
 use Rattle.xw_words.specs.declared.pos.Broken.{Broken}
 use Rattle.xc_tree.specs.declared.names.Mark.{Mark}
@@ -12,7 +12,9 @@ use Rattle.xc_tree.specs.Types.Entities.{is_word, is_array, word_is_unsigned, el
 use Rattle.xc_tree.specs.Types.Sites.{Site, types, communications}
 use Rattle.xc_tree.specs.declared.tree.Id.{Id}
 use Rattle.xc_tree.specs.Types.Rules.{first_that_differs}
-use Rattle.xc_tree.specs.Shapes.Rules.{channels, declared_as_channel}
+use Rattle.xc_tree.specs.Shapes.Rules.{channels, declared_as_channel, defaults}
+use Rattle.xc_tree.specs.Shapes.Around.{Around, has_way_out, has_next_turn, in_transaction}
+use Rattle.xc_tree.specs.Plain.{Cases}
 use Rattle.xc_types.specs.declared.seen.Seen.{Seen}
 
 abbrev pub broken_at : ℕ → Pos → Broken
@@ -90,3 +92,27 @@ after_word n p s = one_more_name (with_type (word_is_unsigned (next_what n s)) (
 -- behind a name at this place, before a `[`
 abbrev pub after_indexed : NamedProgram → Pos → Seen → Seen
 after_indexed n p s = one_more_name (with_type (elements_are_unsigned (next_what n s)) (with_broken (not (is_array (next_what n s))) 402 p s))
+
+-- behind a `break` at this place, with what is around it
+abbrev pub after_break : Around → Pos → Seen → Seen
+after_break around p s = with_broken (not (has_way_out around.holders)) 501 p s
+
+-- behind a `continue`
+abbrev pub after_continue : Around → Pos → Seen → Seen
+after_continue around p s = with_broken (not (has_next_turn around.holders)) 501 p s
+
+-- behind the word of what may not stand inside a transaction
+abbrev pub not_inside : Around → Pos → Seen → Seen
+not_inside around p s = with_broken (in_transaction around.holders) 506 p s
+
+-- with the second and further `default`s of these cases
+abbrev pub with_defaults : Cases → Seen → Seen
+with_defaults cs s = with_broken_at 507 (drop 1 (defaults cs)) s
+
+-- behind the head of a replicated `par`, whose word stands at this place
+abbrev pub after_replicator : Around → Id → Id → Id → Pos → Seen → Seen
+after_replicator around a b c p s = with_replicated a b c (not_inside around p s)
+
+-- behind the word of a select that has these cases
+abbrev pub after_select : Around → Cases → Pos → Seen → Seen
+after_select around cs p s = with_defaults cs (not_inside around p s)

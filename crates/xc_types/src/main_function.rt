@@ -4,7 +4,7 @@ ghost use Rattle.xc_tree.specs.Plain as plain;
 ghost use Rattle.xc_tree.specs.Shapes.Around.{is_main as is_main_head};
 ghost use Rattle.xc_tree.specs.Shapes.Main as main;
 ghost use Rattle.xc_tree.specs.Trees as tree;
-ghost use Rattle.xc_types.specs.Mains.{is_return_part, part_of, places};
+ghost use Rattle.xc_types.specs.Mains.{is_return_part, part_of, places, statements_of};
 
 use crate::around::is_main;
 use crate::shapes::both;
@@ -22,7 +22,7 @@ pub fn breaks_form(function: &FuncItem) -> bool
 /// The statements of a block. A body that isn't a block is its one statement.
 #[tactic(auto, using(crate::proofs::Mains::mains))]
 fn statements_in(body: &Stmt) -> &[Stmt]
-    ensures { plain.statements (map tree.statement_of result.now) ≡ main.statements_in (tree.statement_of body.now) }
+    ensures { statements_of result.now ≡ main.statements_in (tree.statement_of body.now) }
 {
     match &body.kind {
         St::Block(ss) => ss.as_slice(),
@@ -33,7 +33,7 @@ fn statements_in(body: &Stmt) -> &[Stmt]
 /// Whether a `par` among these statements has a placed branch.
 #[tactic(auto, using(crate::proofs::Mains::mains))]
 fn place_branches(ss: &[Stmt]) -> bool
-    ensures { result ≡ main.place_branches (plain.statements (map tree.statement_of ss.now)) }
+    ensures { result ≡ main.place_branches (statements_of ss.now) }
 {
     for s in ss {
         if places_branch(s) {
@@ -56,7 +56,7 @@ fn places_branch(s: &Stmt) -> bool
 /// Whether these are declarations of channels, one `par`, and at most one `return`.
 #[tactic(auto, using(crate::proofs::Mains::parts))]
 fn is_channels_par_return(ss: &[Stmt]) -> bool
-    ensures { result ≡ main.is_channels_par_return (plain.statements (map tree.statement_of ss.now)) }
+    ensures { result ≡ main.is_channels_par_return (statements_of ss.now) }
 {
     for (i, s) in ss.iter().enumerate() {
         match part_of(s) {
@@ -71,7 +71,7 @@ fn is_channels_par_return(ss: &[Stmt]) -> bool
 /// Whether this is nothing, or one `return`.
 #[tactic(auto, using(crate::proofs::Mains::parts))]
 fn is_return_at_most(ss: &[Stmt]) -> bool
-    ensures { result ≡ main.is_return_at_most (plain.statements (map tree.statement_of ss.now)) }
+    ensures { result ≡ main.is_return_at_most (statements_of ss.now) }
 {
     match ss.first() {
         None => true,

@@ -1,11 +1,11 @@
-ghost use Rattle.std.specs.Prelude.{◌≡◌, ◌&&◌, not, is_some, drop, map, bytes_eq, OnOk};
+ghost use Rattle.std.specs.Prelude.{◌≡◌, ◌&&◌, not, is_some, map, bytes_eq, OnOk};
 ghost use Rattle.xc_tree.specs.Plain as plain;
-ghost use Rattle.xc_tree.specs.Shapes.Around as shape;
-ghost use Rattle.xc_tree.specs.Shapes.Rules.{are_all as all, are_one as one, defaults as defaults_of};
+ghost use Rattle.xc_tree.specs.Shapes.Around.{in_par_or_transaction as par_or_transaction};
+ghost use Rattle.xc_tree.specs.Shapes.Rules.{are_all as all, are_one as one};
 ghost use Rattle.xc_tree.specs.Trees.{case_of};
 ghost use Rattle.xc_tree.specs.Types.Entities.{agree};
 ghost use Rattle.xc_types.specs.Around.{around_of};
-ghost use Rattle.xc_types.specs.Seen.{with_broken, with_broken_at, with_replicated};
+ghost use Rattle.xc_types.specs.Seen.{after_break, after_continue, after_replicator, after_select, not_inside, with_broken, with_defaults};
 
 use crate::around::{
     Around, function_around, has_next_turn, has_way_out, in_par_or_transaction, in_transaction,
@@ -16,7 +16,7 @@ use xw_words::{Memory, Pos};
 
 /// Checks a `return`, whose word stands at this place: rules 408 and 502.
 pub fn returns(seen: &mut Seen, around: &Around, has_value: bool, pos: Pos)
-    ensures { seen.new ≡ with_broken (shape.in_par_or_transaction (around_of around.now).holders) 502 pos (with_broken (not (agree has_value (is_some (around_of around.now).function.result))) 408 pos seen.old) }
+    ensures { seen.new ≡ with_broken (par_or_transaction (around_of around.now).holders) 502 pos (with_broken (not (agree has_value (is_some (around_of around.now).function.result))) 408 pos seen.old) }
 {
     let gives_word = function_around(around).result.is_some();
     seen.breaks_where(has_value != gives_word, 408, pos);
@@ -25,21 +25,21 @@ pub fn returns(seen: &mut Seen, around: &Around, has_value: bool, pos: Pos)
 
 /// Checks a `break`, whose word stands at this place: rule 501.
 pub fn breaks(seen: &mut Seen, around: &Around, pos: Pos)
-    ensures { seen.new ≡ with_broken (not (shape.has_way_out (around_of around.now).holders)) 501 pos seen.old }
+    ensures { seen.new ≡ after_break (around_of around.now) pos seen.old }
 {
     seen.breaks_where(!has_way_out(around), 501, pos);
 }
 
 /// Checks a `continue`, whose word stands at this place: rule 501.
 pub fn continues(seen: &mut Seen, around: &Around, pos: Pos)
-    ensures { seen.new ≡ with_broken (not (shape.has_next_turn (around_of around.now).holders)) 501 pos seen.old }
+    ensures { seen.new ≡ after_continue (around_of around.now) pos seen.old }
 {
     seen.breaks_where(!has_next_turn(around), 501, pos);
 }
 
 /// Checks that a `par`, a select or a transaction, whose word stands at this place, isn't in a transaction: rule 506.
 pub fn not_in_transaction(seen: &mut Seen, around: &Around, pos: Pos)
-    ensures { seen.new ≡ with_broken (shape.in_transaction (around_of around.now).holders) 506 pos seen.old }
+    ensures { seen.new ≡ not_inside (around_of around.now) pos seen.old }
 {
     seen.breaks_where(in_transaction(around), 506, pos);
 }
@@ -54,7 +54,7 @@ pub fn begin_replicated(
     third: &Id,
     pos: Pos,
 ) -> Result<(), Memory>
-    ensures { OnOk result (seen.new ≡ with_replicated first.now second.now third.now (with_broken (shape.in_transaction (around_of around.now).holders) 506 pos seen.old)) }
+    ensures { OnOk result (seen.new ≡ after_replicator (around_of around.now) first.now second.now third.now pos seen.old) }
 {
     not_in_transaction(seen, around, pos);
     let second_is_same = is_same(first, second);
@@ -82,7 +82,7 @@ pub fn both(a: bool, b: bool) -> bool
 
 /// Checks what is around a select, whose word stands at this place, and its cases together: rules 506 and 507.
 pub fn begin_select(seen: &mut Seen, around: &Around, cs: &[Case], pos: Pos)
-    ensures { seen.new ≡ with_broken_at 507 (drop 1 (defaults_of (plain.cases (map case_of cs.now)))) (with_broken (shape.in_transaction (around_of around.now).holders) 506 pos seen.old) }
+    ensures { seen.new ≡ after_select (around_of around.now) (plain.cases (map case_of cs.now)) pos seen.old }
 {
     not_in_transaction(seen, around, pos);
     defaults(seen, cs);
@@ -91,7 +91,7 @@ pub fn begin_select(seen: &mut Seen, around: &Around, cs: &[Case], pos: Pos)
 /// Checks that a select has at most one `default`: rule 507.
 #[tactic(auto, using(crate::proofs::Defaults::one_by_one))]
 fn defaults(seen: &mut Seen, cs: &[Case])
-    ensures { seen.new ≡ with_broken_at 507 (drop 1 (defaults_of (plain.cases (map case_of cs.now)))) seen.old }
+    ensures { seen.new ≡ with_defaults (plain.cases (map case_of cs.now)) seen.old }
 {
     let mut has_default = false;
     for c in cs {

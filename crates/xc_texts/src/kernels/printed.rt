@@ -3,77 +3,64 @@
 //! A place of the text is `@LINE:COL`, and a path the numbers that it is made of. `v3` is the word of variable 3, and
 //! `a3@LINE:COL[i]` an element of it; an operator stands before its operands, with a `u` where it is that of `unsigned` words.
 
+use crate::spelled::{put, symbol, word};
 use std::alloc::{AllocError, Global};
+use std::fmt::Write;
 use xc_kernel::{KBranch, KCase, KHead, KOut, KRes, KSelect, Kernel, Kst, Kx, Place, Root};
-use xc_tree::{SYMBOLS, TreeDir, WORDS};
+use xc_tree::TreeDir;
 use xw_words::Pos;
 
 /// A kernel as text.
-pub fn printed(alloc: Global, kernel: &Kernel) -> Result<String, AllocError> {
+pub fn page_of(alloc: Global, kernel: &Kernel) -> Result<String, AllocError> {
     let mut page = Page {
-        alloc,
         text: String::new(alloc),
     };
-    for root in kernel.roots.as_slice() {
-        page.root(root)?;
-    }
-    page.variables(kernel)?;
-    page.channels(kernel)?;
-    page.timers(kernel)?;
-    page.ports(kernel)?;
-    page.instances(kernel)?;
-    page.put("main ")?;
-    page.pos(kernel.main)?;
+    page.kernel(kernel)?;
     Ok(page.text)
 }
 
 /// The text so far.
 #[derive(Drop)]
 struct Page {
-    alloc: Global,
     text: String,
 }
 
 impl Page {
-    fn put(&mut self, text: &str) -> Result<(), AllocError> {
-        self.text.push_str(text)?;
-        Ok(())
+    fn kernel(&mut self, kernel: &Kernel) -> Result<(), AllocError> {
+        self.roots(kernel)?;
+        self.variables(kernel)?;
+        self.channels(kernel)?;
+        self.timers(kernel)?;
+        self.ports(kernel)?;
+        self.instances(kernel)?;
+        self.put("main ")?;
+        self.pos(kernel.main)
     }
 
-    fn number(&mut self, n: u32) -> Result<(), AllocError> {
-        let text = format!(in self.alloc; "{n}")?;
-        self.text.push_str(text.as_str())?;
-        Ok(())
+    fn put(&mut self, text: &str) -> Result<(), AllocError> {
+        self.text.push_str(text)
     }
 
     fn pos(&mut self, pos: Pos) -> Result<(), AllocError> {
-        let text = format!(in self.alloc; "@{}:{}", pos.line, pos.col)?;
-        self.text.push_str(text.as_str())?;
-        Ok(())
+        write!(self.text, "@{}:{}", pos.line, pos.col)
     }
 
     fn path(&mut self, path: &[u32]) -> Result<(), AllocError> {
         for n in path {
-            self.put("/")?;
-            self.number(*n)?;
+            write!(self.text, "/{n}")?;
         }
         Ok(())
     }
 
-    /// The spelling at a place of a table.
-    fn spelling(&mut self, spellings: &[&[u8]], place: u8) -> Result<(), AllocError> {
-        let Some(spelling) = spellings.get(usize::from(place)) else {
-            return self.put("none");
-        };
-        for byte in *spelling {
-            self.text.push(char::from(*byte))?;
+    fn roots(&mut self, kernel: &Kernel) -> Result<(), AllocError> {
+        for root in kernel.roots.as_slice() {
+            self.root(root)?;
         }
         Ok(())
     }
 
     fn root(&mut self, root: &Root) -> Result<(), AllocError> {
-        self.put("root ")?;
-        self.number(u32::from(root.core))?;
+        write!(self.text, "root {}", root.core)?;
         self.pos(root.place)?;
         self.put(" ")?;
         self.code(root.body.as_slice())?;
@@ -83,11 +70,9 @@ impl Page {
 
     fn variables(&mut self, kernel: &Kernel) -> Result<(), AllocError> {
         for v in kernel.vars.as_slice() {
-            self.put(if v.array { "array " } else { "word " })?;
-            self.number(v.words)?;
-            self.put(if v.counted { " " } else { " uncounted " })?;
-            self.number(u32::from(v.core))?;
-            self.put(" ")?;
+            let kind = if v.array { "array" } else { "word" };
+            let counted = if v.counted { "" } else { "uncounted " };
+            write!(self.text, "{kind} {} {counted}{} ", v.words, v.core)?;
             self.path(v.path.as_slice())?;
             self.pos(v.pos)?;
             self.put("\n")?;
@@ -107,9 +92,7 @@ impl Page {
 
     fn timers(&mut self, kernel: &Kernel) -> Result<(), AllocError> {
         for t in kernel.timers.as_slice() {
-            self.put("timer ")?;
-            self.number(u32::from(t.core))?;
-            self.put(" ")?;
+            write!(self.text, "timer {} ", t.core)?;
             self.path(t.path.as_slice())?;
             self.pos(t.pos)?;
             self.put("\n")?;
@@ -119,14 +102,12 @@ impl Page {
 
     fn ports(&mut self, kernel: &Kernel) -> Result<(), AllocError> {
         for p in kernel.ports.as_slice() {
-            self.put("port ")?;
-            self.number(u32::from(p.id))?;
-            self.put(match p.dir {
-                TreeDir::In => " in ",
-                TreeDir::Out => " out ",
-                TreeDir::Both => " both ",
-            })?;
-            self.number(u32::from(p.core))?;
+            let dir = match p.dir {
+                TreeDir::In => "in",
+                TreeDir::Out => "out",
+                TreeDir::Both => "both",
+            };
+            write!(self.text, "port {} {dir} {}", p.id, p.core)?;
             self.pos(p.place)?;
             self.pos(p.pos)?;
             self.put("\n")?;
@@ -138,10 +119,7 @@ impl Page {
     fn instances(&mut self, kernel: &Kernel) -> Result<(), AllocError> {
         self.put("instances")?;
         for i in kernel.insts.as_slice() {
-            self.put(" ")?;
-            self.number(u32::from(i.core))?;
-            self.put(":")?;
-            self.number(i.params)?;
+            write!(self.text, " {}:{}", i.core, i.params)?;
         }
         self.put("\n")
     }
@@ -149,11 +127,11 @@ impl Page {
     #[cycle(printed_word)]
     fn word(&mut self, e: &Kx) -> Result<(), AllocError> {
         match e {
-            Kx::Num(n) => self.number(*n),
+            Kx::Num(n) => write!(self.text, "{n}"),
             Kx::Read(place) => self.place(place),
-            Kx::Op(symbol, unsigned, operands, pos) => {
+            Kx::Op(place, unsigned, operands, pos) => {
                 self.put("(")?;
-                self.spelling(&SYMBOLS, *symbol)?;
+                put(&mut self.text, symbol(*place))?;
                 self.put(if *unsigned { "u" } else { "" })?;
                 self.pos(*pos)?;
                 for operand in operands.as_slice() {
@@ -168,13 +146,9 @@ impl Page {
     #[cycle(printed_word)]
     fn place(&mut self, place: &Place) -> Result<(), AllocError> {
         match place {
-            Place::Word(n) => {
-                self.put("v")?;
-                self.number(*n)
-            }
+            Place::Word(n) => write!(self.text, "v{n}"),
             Place::Elem(n, index, pos) => {
-                self.put("a")?;
-                self.number(*n)?;
+                write!(self.text, "a{n}")?;
                 self.pos(*pos)?;
                 self.put("[")?;
                 self.word(index)?;
@@ -185,18 +159,9 @@ impl Page {
 
     fn resource(&mut self, resource: KRes, pos: Pos) -> Result<(), AllocError> {
         match resource {
-            KRes::Port(n) => {
-                self.put("port")?;
-                self.number(n)?;
-            }
-            KRes::Timer(n) => {
-                self.put("timer")?;
-                self.number(n)?;
-            }
-            KRes::Chan(n) => {
-                self.put("chan")?;
-                self.number(n)?;
-            }
+            KRes::Port(n) => write!(self.text, "port{n}")?,
+            KRes::Timer(n) => write!(self.text, "timer{n}")?,
+            KRes::Chan(n) => write!(self.text, "chan{n}")?,
         }
         self.pos(pos)
     }
@@ -236,7 +201,7 @@ impl Page {
         self.time(&h.time)?;
         if let Some(cond) = &h.cond {
             self.put(" when ")?;
-            self.spelling(&WORDS, cond.0)?;
+            put(&mut self.text, word(cond.0))?;
             self.put(" ")?;
             self.word(&cond.1)?;
         }
@@ -262,10 +227,7 @@ impl Page {
     #[cycle(printed_statement)]
     fn statement(&mut self, s: &Kst) -> Result<(), AllocError> {
         match s {
-            Kst::Zero(n) => {
-                self.put("zero v")?;
-                self.number(*n)
-            }
+            Kst::Zero(n) => write!(self.text, "zero v{n}"),
             Kst::Set(place, e) => {
                 self.place(place)?;
                 self.put(" = ")?;
@@ -290,15 +252,10 @@ impl Page {
                 self.code(next.as_slice())
             }
             Kst::Block(n, body) => {
-                self.put("block ")?;
-                self.number(*n)?;
-                self.put(" ")?;
+                write!(self.text, "block {n} ")?;
                 self.code(body.as_slice())
             }
-            Kst::Exit(n) => {
-                self.put("exit ")?;
-                self.number(*n)
-            }
+            Kst::Exit(n) => write!(self.text, "exit {n}"),
             Kst::Select(select) => self.select(select),
             Kst::Par(branches) => {
                 self.put("par")?;
@@ -314,8 +271,8 @@ impl Page {
                 open_at,
                 close_at,
             } => {
-                self.put(if *master { "master chan" } else { "slave chan" })?;
-                self.number(*chan)?;
+                let side = if *master { "master" } else { "slave" };
+                write!(self.text, "{side} chan{chan}")?;
                 self.pos(*open_at)?;
                 self.put(" ")?;
                 self.code(body.as_slice())?;

@@ -1,8 +1,14 @@
+use Rattle.std.proofs.Common.{ap, ◌∙◌}
 use Rattle.xc_kernel.proofs.Forms.{statement-If}
+use Rattle.xc_kernel.specs.Kernels.{expression_of}
+use Rattle.xc_kernel.specs.Flow as spec
+use Rattle.xc_copy.specs.Copied.{copy_of}
 use Rattle.xc_copy.proofs.Laws.Flow.{if_made}
 use Rattle.xc_copy.proofs.flow.if_copy.Goals as goal
 
 pub returns : goal.returns
 returns c = λ between behind.
+    let made = rw c.in_ok-test.ensures.made at c.followed_by-made.ensures in
     if_made (c.take_code-then.ensures.code between) (c.take_code-otherwise.ensures.code behind) (c.take_code-then.ensures.left between) (c.take_code-otherwise.ensures.left behind)
-    (c.in_ok-copied.ensures between behind) (statement-If c.args.test c.take_code-then.result c.take_code-otherwise.result) (c.in_ok-add_statement.ensures behind)
+    (made between behind) (statement-If _ c.take_code-then.result c.take_code-otherwise.result) (c.in_ok-copied.ensures behind)
+    ∙ ap (λ test. spec.if_copy (expression_of test) (copy_of c.args.first between) (copy_of c.args.second behind)) c.in_ok-test.ensures.value

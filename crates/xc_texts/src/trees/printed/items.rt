@@ -1,11 +1,13 @@
 use super::statements::{put_place, put_statement};
-use super::{put, put_at, put_number, type_word};
-use std::alloc::{AllocError, Global};
+use super::{put_at, type_word};
+use crate::spelled::put;
+use std::alloc::AllocError;
+use std::fmt::Write;
 use xc_tree::{FuncItem, Id, Item, Param, ParamKind, PortItem, Tree, TreeDir};
 
-pub fn put_id(alloc: Global, shown: &mut String, id: &Id) -> Result<(), AllocError> {
+pub fn put_id(shown: &mut String, id: &Id) -> Result<(), AllocError> {
     put(shown, id.text.as_slice())?;
-    put_at(alloc, shown, id.pos)
+    put_at(shown, id.pos)
 }
 
 fn put_dir(shown: &mut String, dir: TreeDir) -> Result<(), AllocError> {
@@ -16,7 +18,7 @@ fn put_dir(shown: &mut String, dir: TreeDir) -> Result<(), AllocError> {
     }
 }
 
-fn put_param(alloc: Global, shown: &mut String, param: &Param) -> Result<(), AllocError> {
+fn put_param(shown: &mut String, param: &Param) -> Result<(), AllocError> {
     match &param.kind {
         ParamKind::Value(is_unsigned) => shown.push_str(type_word(*is_unsigned))?,
         ParamKind::Ref(is_unsigned) => {
@@ -27,8 +29,8 @@ fn put_param(alloc: Global, shown: &mut String, param: &Param) -> Result<(), All
             shown.push_str(type_word(*is_unsigned))?;
             shown.push_str("[")?;
             if let Some((n, pos)) = length {
-                put_number(alloc, shown, *n)?;
-                put_at(alloc, shown, *pos)?;
+                write!(shown, "{}", *n)?;
+                put_at(shown, *pos)?;
             }
             shown.push_str("]")?;
         }
@@ -42,45 +44,45 @@ fn put_param(alloc: Global, shown: &mut String, param: &Param) -> Result<(), All
         ParamKind::Port(dir) => put_dir(shown, *dir)?,
     }
     shown.push_str(" ")?;
-    put_id(alloc, shown, &param.name)
+    put_id(shown, &param.name)
 }
 
-fn put_port(alloc: Global, shown: &mut String, port: &PortItem) -> Result<(), AllocError> {
-    put_place(alloc, shown, &port.place)?;
+fn put_port(shown: &mut String, port: &PortItem) -> Result<(), AllocError> {
+    put_place(shown, &port.place)?;
     put_dir(shown, port.dir)?;
     shown.push_str(" ")?;
-    put_id(alloc, shown, &port.name)?;
+    put_id(shown, &port.name)?;
     shown.push_str(" = ")?;
-    put_id(alloc, shown, &port.ident)
+    put_id(shown, &port.ident)
 }
 
 /// A function as `result name:place/own parameters block`.
-fn put_function(alloc: Global, shown: &mut String, function: &FuncItem) -> Result<(), AllocError> {
+fn put_function(shown: &mut String, function: &FuncItem) -> Result<(), AllocError> {
     shown.push_str(match function.result {
         None => "void",
         Some(is_unsigned) => type_word(is_unsigned),
     })?;
     shown.push_str(" ")?;
-    put_id(alloc, shown, &function.name)?;
+    put_id(shown, &function.name)?;
     shown.push_str("/")?;
-    put_number(alloc, shown, function.own)?;
+    write!(shown, "{}", function.own)?;
     for param in function.params.as_slice() {
         shown.push_str(" ")?;
-        put_param(alloc, shown, param)?;
+        put_param(shown, param)?;
     }
     shown.push_str(" ")?;
-    put_statement(alloc, shown, &function.body)
+    put_statement(shown, &function.body)
 }
 
 /// The items, parted by `; `.
-pub fn put_tree(alloc: Global, shown: &mut String, tree: &Tree) -> Result<(), AllocError> {
+pub fn put_tree(shown: &mut String, tree: &Tree) -> Result<(), AllocError> {
     for item in tree.items.as_slice() {
         if !shown.is_empty() {
             shown.push_str("; ")?;
         }
         match item {
-            Item::Port(port) => put_port(alloc, shown, port)?,
-            Item::Func(function) => put_function(alloc, shown, function)?,
+            Item::Port(port) => put_port(shown, port)?,
+            Item::Func(function) => put_function(shown, function)?,
         }
     }
     Ok(())

@@ -532,7 +532,7 @@ pub transaction-leave-requires : goal.transaction-leave-requires
 transaction-leave-requires t c =
     let scope = scope_of c.args.scope.now in
     let ss = plain.statements (map tree.statement_of c.args.ss.now) in
-    grown_fits (grown_by scope c.in_ok-copied.ensures (statements_grow (spec.calls_copy c.args.calls) (calls_keep c.args.calls) ss (context_of c.args.self.now) scope)) c.len-known.ensures
+    grown_fits (grown_by scope c.in_ok-inside.ensures (statements_grow (spec.calls_copy c.args.calls) (calls_keep c.args.calls) ss (context_of c.args.self.now) scope)) c.len-known.ensures
 
 pub transaction-returns : goal.transaction-returns
 transaction-returns t c =
@@ -540,13 +540,13 @@ transaction-returns t c =
     let scope = scope_of c.args.scope.now in
     let inner = scope_of c.statements.new.scope in
     let ss = plain.statements (map tree.statement_of c.args.ss.now) in
-    let grows = grown_by scope c.in_ok-copied.ensures (statements_grow (spec.calls_copy c.args.calls) (calls_keep c.args.calls) ss here scope) in
+    let grows = grown_by scope c.in_ok-inside.ensures (statements_grow (spec.calls_copy c.args.calls) (calls_keep c.args.calls) ss here scope) in
     let ends = left_as grows c.len-known.ensures c.leave.ensures in
     let left = copy_of c.take_code-body.new.self inner in
     let tran = kernel.statement_of (Tran c.channel-chan.result c.args.master c.take_code-body.result c.args.start c.args.close) in
-    transaction_done here scope c.args.master c.args.start c.args.close c.in_ok-copied.ensures (c.first_named.ensures inner) c.channel-chan.ensures (c.take_code-body.ensures.code inner) (c.take_code-body.ensures.left inner)
+    transaction_done here scope c.args.master c.args.start c.args.close c.in_ok-inside.ensures (c.first_named.ensures inner) c.channel-chan.ensures (c.take_code-body.ensures.code inner) (c.take_code-body.ensures.left inner)
     (statement-Tran c.channel-chan.result c.args.master c.take_code-body.result c.args.start c.args.close)
-    (c.in_ok-add_statement.ensures (scope_of c.leave.new.self) ∙ λ i. copies.in_scope_of (ends i) (copies.with_code left (left.code ++ tran ∷ [])))
+    (c.in_ok-copied.ensures (scope_of c.leave.new.self) ∙ λ i. copies.in_scope_of (ends i) (copies.with_code left (left.code ++ tran ∷ [])))
 
 pub transaction-statements-requires : goal.transaction-statements-requires
 transaction-statements-requires t c =

@@ -6,16 +6,22 @@ use Rattle.xc_copy.specs.Copied.{copy_of}
 use Rattle.xc_copy.specs.Parts.{cased_before}
 use Rattle.xc_copy.proofs.context.Context.add_case.Goals as goal
 
-pub returns-in_ok-more-in-None : goal.returns-in_ok-more-in-None
-returns-in_ok-more-in-None c = λ between behind others.
-    let block = as_block (context_of c.args.self.now) c.args.path (copy_of c.args.body behind) in
-    c.in_ok-more-in-None.ensures behind others
-    ∙ (λ i. cased_before (c.replace-before.ensures.value i) (case_by None between (c.in_ok-block.ensures behind i) others))
-    ∙ ap (λ o. cased_before c.args.cases.now (case_by o between block others)) (sym c.in-None.is)
+pub returns-in-None : goal.returns-in-None
+returns-in-None c = λ between behind others.
+    let here = context_of c.args.self.now in
+    let body = copy_of c.args.body behind in
+    let made = rw c.in_ok-opened.ensures.made at c.as_block-block.ensures in
+    let block = made behind ∙ ap (λ p. as_block here p body) c.as_slice.ensures in
+    c.in_ok-add_default-in-None.ensures behind others
+    ∙ (λ i. cased_before c.args.cases.now (case_by None between (block i) others))
+    ∙ ap (λ o. cased_before c.args.cases.now (case_by o between (as_block here c.args.path body) others)) (sym c.in-None.is ∙ c.in_ok-opened.ensures.value)
 
-pub returns-in_ok-more-in-Some : goal.returns-in_ok-more-in-Some
-returns-in_ok-more-in-Some c = λ between behind others.
-    let block = as_block (context_of c.args.self.now) c.args.path (copy_of c.args.body behind) in
-    c.in_ok-more-in-Some.ensures between behind others
-    ∙ (λ i. cased_before (c.replace-before.ensures.value i) (case_by (Some c.in-Some.opened) between (c.in_ok-block.ensures behind i) others))
-    ∙ ap (λ o. cased_before c.args.cases.now (case_by o between block others)) (sym c.in-Some.is)
+pub returns : goal.returns
+returns c = λ between behind others.
+    let here = context_of c.args.self.now in
+    let body = copy_of c.args.body behind in
+    let made = rw c.in_ok-opened.ensures.made at c.as_block-block.ensures in
+    let block = made behind ∙ ap (λ p. as_block here p body) c.as_slice.ensures in
+    c.in_ok-add_case-in-Some.ensures between behind others
+    ∙ (λ i. cased_before c.args.cases.now (case_by (Some c.in-Some.opened) between (block i) others))
+    ∙ ap (λ o. cased_before c.args.cases.now (case_by o between (as_block here c.args.path body) others)) (sym c.in-Some.is ∙ c.in_ok-opened.ensures.value)

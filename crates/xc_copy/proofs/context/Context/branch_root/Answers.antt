@@ -10,6 +10,6 @@ use Rattle.xc_copy.proofs.context.Context.branch_root.Goals as goal
 pub returns : goal.returns
 returns c =
     let scope = scope_of c.args.scope.now in
-    c.in_ok-rooted.ensures scope (scope_of c.statement.new.scope)
-    ∙ ap (spec.and_roots (rooted_of c.args.rooted scope))
+    c.in_ok-add_root.ensures scope (scope_of c.statement.new.scope)
+    ∙ ap (spec.and_roots (rooted_of c.args.rooted.now scope))
     (branch_done (calls_copy c.args.calls) c.args.main (context_of c.args.self.now) scope c.args.b.now c.in_ok-core.ensures c.pos_of_place-place.ensures c.on_core.ensures.context c.in_ok-copied.ensures)

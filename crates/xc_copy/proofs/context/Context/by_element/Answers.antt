@@ -13,8 +13,8 @@ use Rattle.xc_copy.specs.Handed.{IsPassed}
 use Rattle.xc_copy.specs.Scopes.{entity_meant, scope_of}
 use Rattle.xc_copy.proofs.context.Context.by_element.Goals as goal
 
-pub returns-in_ok-array-in-Array : goal.returns-in_ok-array-in-Array
-returns-in_ok-array-in-Array c =
+pub returns-in_ok-copied-in-Array : goal.returns-in_ok-copied-in-Array
+returns-in_ok-copied-in-Array c =
     let here = context_of c.args.self.now in
     let path = c.in_ok-own-in-Array.ensures in
     let slice = c.as_slice.ensures ∙ path in

@@ -10,6 +10,6 @@ returns c =
     let own = c.in_ok-own.ensures ∙ c.as_slice.ensures ∙ path in
     let behind = scope_of c.declare.new.self in
     let scope = c.in_ok-declare.ensures ∙ (λ i. scopes.with_name (scope_of c.args.scope.now) c.args.name.now (scopes.a_channel (path i))) in
-    c.in_ok-add_channel.ensures behind
-    ∙ (λ i. record (c.nothing-copied.ensures behind i) { channels = (c.nothing-copied.ensures behind i).channels ++ record { streaming = c.args.streaming; path = own i; pos = c.args.pos } ∷ [] })
+    c.in_ok-copied.ensures behind
+    ∙ (λ i. record (c.nothing.ensures behind i) { channels = (c.nothing.ensures behind i).channels ++ record { streaming = c.args.streaming; path = own i; pos = c.args.pos } ∷ [] })
     ∙ λ i. record (copies.no_copy (scope i)) { channels = record { streaming = c.args.streaming; path = own 1; pos = c.args.pos } ∷ [] }

@@ -14,4 +14,4 @@ returns c =
     let scope = scope_of c.args.scope.now in
     let i = tree.input_of c.args.i.now in
     coded (spec.input_names here scope i) (target_code here scope i.target) c.in_ok-received.ensures.names
-    (statement-In c.in_ok-received.received.head ∙ ap plain.input c.in_ok-received.ensures.head) (c.in_ok-add_statement.ensures (scope_of c.received.new.scope))
+    (statement-In c.in_ok-received.received.head ∙ ap plain.input c.in_ok-received.ensures.head) (c.in_ok-copied.ensures (scope_of c.received.new.scope))

@@ -5,6 +5,7 @@ use Rattle.xc_kernel.specs.Statements.{calls_copy, statement_copy}
 use Rattle.xc_copy.specs.Contexts.{context_of}
 use Rattle.xc_copy.specs.Copied.{copy_of}
 use Rattle.xc_copy.specs.Functions.{function_of}
+use Rattle.xc_copy.specs.Roots.{rooted_of}
 use Rattle.xc_copy.proofs.context.Context.main_root.Goals as goal
 
 pub returns : goal.returns
@@ -13,4 +14,5 @@ returns c =
     let pos = c.args.main.now.name.pos in
     let scope = c.in_ok-scope.ensures in
     let copy = sym (ap (copy_of c.in_ok-copied.copied) scope) ∙ c.in_ok-copied.ensures ∙ ap (λ s. function_copy (statement_copy (calls_copy c.args.calls)) here s [] (function_of c.args.main.now) []) scope in
-    c.in_ok-rooted.ensures [] here.ports ∙ λ i. spec.and_roots (c.none-none.ensures [] i) (spec.root_of 0 pos pos (copy i))
+    let added = rw c.in_ok-rooted.ensures.done at c.add_root-added.ensures in
+    ap (λ r. rooted_of r here.ports) c.in_ok-rooted.ensures.value ∙ added [] here.ports ∙ λ i. spec.and_roots (c.none-root.ensures [] i) (spec.root_of 0 pos pos (copy i))

@@ -19,7 +19,7 @@ loop-number-init c =
     record {
       known = c.len-known.ensures;
       scope = refl;
-      roots = ap (λ k. spec.and_roots (rooted_of c.args.rooted scope) (spec.numbered_roots (calls_copy c.args.calls) c.args.main (tree.branch_of c.args.b.now) c.args.name.now.text (context_of c.args.self.now) scope (c.args.until - c.args.from) k c.args.from)) e;
+      roots = ap (λ k. spec.and_roots (rooted_of c.args.rooted.now scope) (spec.numbered_roots (calls_copy c.args.calls) c.args.main (tree.branch_of c.args.b.now) c.args.name.now.text (context_of c.args.self.now) scope (c.args.until - c.args.from) k c.args.from)) e;
     }
 
 pub leave-requires : goal.leave-requires
@@ -27,7 +27,7 @@ leave-requires c =
     let scope = scope_of c.args.scope.now in
     let inv = c.loop-number.invariant in
     let inside = c.in_ok-declare.ensures ∙ λ i. with_name (inv.scope i) (c.as_slice.ensures i) (a_constant c.loop-number.number) in
-    let grows : Grows scope (scope_of c.branch_root.new.scope) = number_grows c.args.calls c.args.main (tree.branch_of c.args.b.now) (context_of c.in_branch.result) (rooted_of c.loop-number.rooted (scope_of c.declare.new.self)) inside c.in_ok-rooted.ensures refl in
+    let grows : Grows scope (scope_of c.branch_root.new.scope) = number_grows c.args.calls c.args.main (tree.branch_of c.args.b.now) (context_of c.in_branch.result) (rooted_of c.loop-number.rooted (scope_of c.declare.new.self)) inside c.in_ok-branch_root.ensures refl in
     omega (arith, inv.known, grown_length grows)
 
 pub loop-number-preserved : goal.loop-number-preserved
@@ -43,12 +43,12 @@ loop-number-preserved c =
     let number = c.loop-number.number in
     let inv = c.loop-number.invariant in
     let before = rooted_of c.loop-number.rooted scope in
-    let after = rooted_of c.in_ok-rooted.rooted scope in
+    let after = rooted_of c.branch_root.new.rooted scope in
     let inside = c.in_ok-declare.ensures ∙ λ i. with_name (inv.scope i) (c.as_slice.ensures i) (a_constant number) in
     let context = c.in_branch.ensures.context ∙ λ i. record here { path = (c.as_slice-in-loop-number.ensures ∙ c.in_ok-path.ensures) i } in
-    let grows : Grows scope (scope_of c.branch_root.new.scope) = number_grows c.args.calls main b (context_of c.in_branch.result) (rooted_of c.loop-number.rooted (scope_of c.declare.new.self)) inside c.in_ok-rooted.ensures refl in
+    let grows : Grows scope (scope_of c.branch_root.new.scope) = number_grows c.args.calls main b (context_of c.in_branch.result) (rooted_of c.loop-number.rooted (scope_of c.declare.new.self)) inside c.in_ok-branch_root.ensures refl in
     let one : after ≡ spec.and_roots before (spec.root_in_scope_of copies scope (spec.branch_root copies main b (in_branch here (number - from)) (with_name scope name (a_constant number)))) =
-    ap (spec.root_in_scope_of copies scope) (c.in_ok-rooted.ensures ∙ λ i. spec.and_roots before (spec.branch_root copies main b (context i) (inside i))) in
+    ap (spec.root_in_scope_of copies scope) (c.in_ok-branch_root.ensures ∙ λ i. spec.and_roots before (spec.branch_root copies main b (context i) (inside i))) in
     let next : ◌≡◌ {A = ℕ} (number + 1 - from) ((number - from) + 1) = omega (arith, c.loop-number.auto.number) in
     let less : ◌≡◌ {A = ℕ} (until - number) (suc (until - (number + 1))) = omega (arith, c.loop-number-test.true) in
     record {

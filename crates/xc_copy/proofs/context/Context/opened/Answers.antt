@@ -28,23 +28,27 @@ returns-in-None-clause-names c =
 pub returns-in-None-clause-grows : goal.returns-in-None-clause-grows
 returns-in-None-clause-grows c = as_before (scope_of c.args.scope.now)
 
-pub returns-in_ok-received-in-Some-clause-head : goal.returns-in_ok-received-in-Some-clause-head
-returns-in_ok-received-in-Some-clause-head c = λ body others.
+pub returns-in_ok-guard-in-Some-clause-head : goal.returns-in_ok-guard-in-Some-clause-head
+returns-in_ok-guard-in-Some-clause-head c = λ body others.
     let here = context_of c.args.self.now in
     let scope = scope_of c.args.scope.now in
     let pos = (out-Case c.args.case.now).pos in
-    let guard = option_map tree.expression_of (out-Case c.args.case.now).guard in
+    let wanted = option_map tree.expression_of (out-Case c.args.case.now).guard in
     let block = as_block here (path_at here.path pos) body in
-    let names = c.in_ok-received-in-Some.ensures.names in
-    (λ i. record { made = joined (joined (names i) (with_code block [])) others.made; cases = kernel.more_cases (kernel.case (c.in_ok-guard-in-Some.ensures i) (c.in_ok-received-in-Some.ensures.head i) (code_of block)) others.cases; otherwise = others.otherwise })
-    ∙ ap (λ h. flow.and_case here scope pos guard (option_map tree.input_of h) body others) (sym c.in-Some.is)
+    let guard = rw c.in_ok-guard-in-Some.ensures.first at c.guard-guard.ensures in
+    let head = rw c.in_ok-guard-in-Some.ensures.second at c.received-received.ensures.head in
+    let names = rw c.in_ok-guard-in-Some.ensures.second at c.received-received.ensures.names in
+    (λ i. record { made = joined (joined (names i) (with_code block [])) others.made; cases = kernel.more_cases (kernel.case (guard i) (head i) (code_of block)) others.cases; otherwise = others.otherwise })
+    ∙ ap (λ h. flow.and_case here scope pos wanted (option_map tree.input_of h) body others) (sym c.in-Some.is)
 
-pub returns-in_ok-received-in-Some-clause-names : goal.returns-in_ok-received-in-Some-clause-names
-returns-in_ok-received-in-Some-clause-names c =
-    ap (λ copy. copy.scope) c.in_ok-received-in-Some.ensures.names
+pub returns-in_ok-guard-in-Some-clause-names : goal.returns-in_ok-guard-in-Some-clause-names
+returns-in_ok-guard-in-Some-clause-names c =
+    let names = rw c.in_ok-guard-in-Some.ensures.second at c.received-received.ensures.names in
+    ap (λ copy. copy.scope) names
     ∙ ap (λ h. flow.case_scope (context_of c.args.self.now) (scope_of c.args.scope.now) (option_map tree.input_of h)) (sym c.in-Some.is)
 
-pub returns-in_ok-received-in-Some-clause-grows : goal.returns-in_ok-received-in-Some-clause-grows
-returns-in_ok-received-in-Some-clause-grows c =
-    grown_by (scope_of c.args.scope.now) c.in_ok-received-in-Some.ensures.names
+pub returns-in_ok-guard-in-Some-clause-grows : goal.returns-in_ok-guard-in-Some-clause-grows
+returns-in_ok-guard-in-Some-clause-grows c =
+    let names = rw c.in_ok-guard-in-Some.ensures.second at c.received-received.ensures.names in
+    grown_by (scope_of c.args.scope.now) names
     (target_grows (spec.calls_copy 0) (calls_keep 0) (context_of c.args.self.now) (scope_of c.args.scope.now) (tree.input_of c.in-Some.head).target)

@@ -15,13 +15,13 @@ loop-s-init c =
     let f = function_of c.args.main.now in
     let scope = scope_of c.in_ok-scope.scope in
     let instance = c.in_ok-instance.ensures scope ∙ ap (instance_of here f) c.in_ok-scope.ensures in
-    let made = c.in_ok-rooted.ensures [] scope ∙ λ i. spec.and_roots (c.none-none.ensures [] i) (spec.no_roots (instance i)) in
+    let made = c.in_ok-add_copy.ensures [] scope ∙ λ i. spec.and_roots (c.none-rooted.ensures [] i) (spec.no_roots (instance i)) in
     λ i. spec.roots_then (made i) (spec.block_roots (calls_copy c.args.calls) f.head.name.pos (c.in_block-block.ensures i) here)
 
 pub loop-s-preserved : goal.loop-s-preserved
 loop-s-preserved c =
     block_step (calls_copy c.args.calls) c.args.main.now.name.pos (context_of c.args.self.now) c.in_block-block.result.now c.loop-s.s-index c.s-item.result (rooted_of c.loop-s.rooted (scope_of c.loop-s.scope)) c.s-item.is c.loop-s-test.true
-    c.in_ok-rooted-2.ensures c.loop-s.invariant
+    c.in_ok-statement_roots.ensures c.loop-s.invariant
 
 pub returns : goal.returns
 returns c =

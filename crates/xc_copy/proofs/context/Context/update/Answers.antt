@@ -8,5 +8,7 @@ use Rattle.xc_copy.proofs.context.Context.update.Goals as goal
 pub returns : goal.returns
 returns c =
     let scope = scope_of c.args.scope.now in
+    let place = rw c.in_ok-place.ensures.first at c.place-place.ensures in
+    let stored = rw c.in_ok-place.ensures.second at c.updated-stored.ensures in
     c.in_ok-copied.ensures scope
-    ∙ ap (copies.one_statement scope) (statement-Set c.in_ok-place.place c.in_ok-stored.stored ∙ λ i. plain.set (c.in_ok-place.ensures i) (c.in_ok-stored.ensures i))
+    ∙ ap (copies.one_statement scope) (statement-Set _ _ ∙ λ i. plain.set (place i) (stored i))

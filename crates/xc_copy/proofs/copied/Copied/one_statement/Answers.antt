@@ -4,4 +4,4 @@ use Rattle.xc_kernel.specs.Kernels.{statement_of}
 use Rattle.xc_copy.proofs.copied.Copied.one_statement.Goals as goal
 
 pub returns : goal.returns
-returns c = λ scope. c.in_ok-add_statement.ensures scope ∙ ap (λ x. spec.with_code x (x.code ++ statement_of c.args.statement ∷ [])) (c.nothing-copied.ensures scope)
+returns c = λ scope. c.in_ok-copied.ensures scope ∙ ap (λ x. spec.with_code x (x.code ++ statement_of c.args.statement ∷ [])) (c.nothing-nothing.ensures scope)

@@ -11,11 +11,13 @@ use Rattle.xc_copy.proofs.parts.Branched.and.Goals as goal
 
 pub returns : goal.returns
 returns c = λ behind others.
+    let pushed = rw c.in_ok-made.ensures.first at c.push-pushed.ensures.ok in
+    let joined = rw c.in_ok-made.ensures.second at c.followed_by-joined.ensures in
     let made = copy_of c.args.self.made [] in
     let before = map kernel.branch_of c.args.self.branches in
-    let copied = ap (λ x. copies.joined x others.made) (c.in_ok-followed_by.ensures [] [] ∙ ap (copies.joined made) (c.take_code-body.ensures.left []))
+    let copied = ap (λ x. copies.joined x others.made) (joined [] [] ∙ ap (copies.joined made) (c.take_code-body.ensures.left []))
     ∙ joined_assoc made (copies.with_code (copy_of c.args.copied []) []) others.made in
-    let branches = ap (λ bs. branches_before (map kernel.branch_of bs) others.branches) c.in_ok-push.ensures.ok
+    let branches = ap (λ bs. branches_before (map kernel.branch_of bs) others.branches) pushed
     ∙ branches_push c.args.self.branches _ others.branches
     ∙ ap (λ b. branches_before before (plain.more_branches b others.branches)) (branch-made c.take_code-body.result c.args.pos ∙ ap (λ ss. plain.branch (plain.statements ss) c.args.pos) (c.take_code-body.ensures.code behind)) in
     λ i. record { made = copied i; branches = branches i }

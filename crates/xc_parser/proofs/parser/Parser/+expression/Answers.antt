@@ -94,32 +94,39 @@ cast-returns-in-Ok-cast-clause-read t c =
 pub choice-returns-in-Err-clause-stopped : goal.choice-returns-in-Err-clause-stopped
 choice-returns-in-Err-clause-stopped t c =
     let q = c.requires.question in
-    let on = stands_here c.index-self-test.result q.0 q.1.1 in
+    let on = stands_here c.index-self-question.result q.0 q.1.1 in
     let h : of_expression (expression_of c.args.test.tree) + 1 ≤ c.args.room = let d = c.requires.test.depth in let f = c.requires.fits in omega arith in
-    λ at r. stops_first c.args.self.now.toks.now r on h c.in-Err.e c.in-Err.ensures.stopped
+    let stopped = rw c.in-Err.ensures.stopped at c.expression.ensures.stopped in
+    λ at r. stops_first c.args.self.now.toks.now r on h c.in-Err.e stopped
 
 pub choice-returns-then-not-is_symbol-clause-stopped : goal.choice-returns-then-not-is_symbol-clause-stopped
 choice-returns-then-not-is_symbol-clause-stopped t c =
     let q = c.requires.question in
-    let on = stands_here c.index-self-test.result q.0 q.1.1 in
+    let on = stands_here c.index-self-question.result q.0 q.1.1 in
     let h : of_expression (expression_of c.args.test.tree) + 1 ≤ c.args.room = let d = c.requires.test.depth in let f = c.requires.fits in omega arith in
-    λ at r. no_colon c.args.self.now.toks.now r on h c.in-Ok.ensures.read (c.is_symbol.ensures.no c.if-not-is_symbol.true)
+    let first = rw c.in-Ok.ensures.next at c.expression.ensures.read in
+    λ at r. no_colon c.args.self.now.toks.now r on h first (c.is_symbol.ensures.no c.if-not-is_symbol.true)
 
-pub choice-returns-in-Err-expression-clause-stopped : goal.choice-returns-in-Err-expression-clause-stopped
-choice-returns-in-Err-expression-clause-stopped t c =
+pub choice-returns-in-Err-beside-clause-stopped : goal.choice-returns-in-Err-beside-clause-stopped
+choice-returns-in-Err-beside-clause-stopped t c =
     let q = c.requires.question in
-    let on = stands_here c.index-self-test.result q.0 q.1.1 in
+    let on = stands_here c.index-self-question.result q.0 q.1.1 in
     let h : of_expression (expression_of c.args.test.tree) + 1 ≤ c.args.room = let d = c.requires.test.depth in let f = c.requires.fits in omega arith in
     let colon = c.is_symbol.ensures.yes c.if-not-is_symbol.false in
-    λ at r. stops_second c.args.self.now.toks.now r on h c.in-Ok.ensures.read colon.1.1 c.in-Err-expression.e c.in-Err-expression.ensures.stopped
+    let first = rw c.in-Ok.ensures.next at c.expression.ensures.read in
+    let stopped = rw c.in-Err-beside.ensures.stopped at c.expression-2.ensures.stopped in
+    λ at r. stops_second c.args.self.now.toks.now r on h first colon.1.1 c.in-Err-beside.e stopped
 
 pub choice-returns-in-Ok-choice-clause-read : goal.choice-returns-in-Ok-choice-clause-read
 choice-returns-in-Ok-choice-clause-read t c =
     let q = c.requires.question in
-    let on = stands_here c.index-self-test.result q.0 q.1.1 in
+    let on = stands_here c.index-self-question.result q.0 q.1.1 in
     let h : of_expression (expression_of c.args.test.tree) + 1 ≤ c.args.room = let d = c.requires.test.depth in let f = c.requires.fits in omega arith in
     let colon = c.is_symbol.ensures.yes c.if-not-is_symbol.false in
-    λ at r. subst (Reads c.args.self.now.toks.now c.args.room expr at c.in-Ok-expression.second.end) (sym c.in-Ok-choice.ensures.made) (reads_choice c.args.self.now.toks.now r on h c.in-Ok.ensures.read colon.1.1 c.in-Ok-expression.ensures.read)
+    let first = rw c.in-Ok.ensures.next at c.expression.ensures.read in
+    let second = rw c.in-Ok-beside.ensures.next at c.expression-2.ensures.read in
+    rw (c.in-Ok-choice.ensures.made, c.in-Ok-beside.ensures.value, c.in-Ok.ensures.value)
+    (λ at r. reads_choice c.args.self.now.toks.now r on h first colon.1.1 second)
 
 pub climb-operators-init : goal.climb-operators-init
 climb-operators-init t c = climb_from c.args.level c.args.first c.requires.first

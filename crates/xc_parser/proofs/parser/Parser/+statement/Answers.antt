@@ -342,27 +342,30 @@ do_loop-returns-clause-read t c =
     rw (c.whole.ensures.end, c.whole.ensures.value, action-DoWhile)
     (do_reads c.args.room c.requires.word.1 c.in_ok-body.ensures.read c.in_ok-test.ensures.read.4)
 
+pub for_loop-returns-in_err-read-clause-stopped : goal.for_loop-returns-in_err-read-clause-stopped
+for_loop-returns-in_err-read-clause-stopped t c =
+    handed_on _ c.from_residual.result c.from_residual.ensures.1 c.in_err-read.ensures.stopped
+
 pub for_loop-returns-in_err-parts-clause-stopped : goal.for_loop-returns-in_err-parts-clause-stopped
 for_loop-returns-in_err-parts-clause-stopped t c =
-    handed_on _ c.from_residual.result c.from_residual.ensures.1 c.in_err-parts.ensures.stopped
-
-pub for_loop-returns-in_err-body-clause-stopped : goal.for_loop-returns-in_err-body-clause-stopped
-for_loop-returns-in_err-body-clause-stopped t c =
-    let r = c.in_ok-parts.ensures.read in
-    handed_on _ c.from_residual-in_err-body.result c.from_residual-in_err-body.ensures.1
-    (for_body_stops c.args.room c.requires.word.1 (r.opens _) r.starts (r.ends_start _) r.tests (r.ends_test _) r.steps (r.closes _) _ c.in_err-body.ensures.stopped)
+    let r = c.in_ok-read.ensures.read in
+    let body = rw c.in_err-parts.ensures.stopped at c.boxed_statement.ensures.stopped in
+    handed_on _ c.from_residual-in_err-parts.result c.from_residual-in_err-parts.ensures.1
+    (for_body_stops c.args.room c.requires.word.1 (r.opens _) r.starts (r.ends_start _) r.tests (r.ends_test _) r.steps (r.closes _) _ body)
 
 pub for_loop-whole-requires-clause-held : goal.for_loop-whole-requires-clause-held
 for_loop-whole-requires-clause-held t c =
-    let r = c.in_ok-parts.ensures.read in
-    rw (for_made _ _ r.has_start r.has_step, r.held)
-    (held_for (option_map expression_of c.in_ok-parts.parts.value.test) r.starts.derives r.steps.derives c.in_ok-body.ensures.read.derives)
+    let r = c.in_ok-read.ensures.read in
+    let body = rw c.in_ok-parts.ensures.next at c.boxed_statement.ensures.read in
+    rw (c.in_ok-parts.ensures.value, for_made _ _ r.has_start r.has_step, r.held)
+    (held_for (option_map expression_of c.in_ok-read.read.value.test) r.starts.derives r.steps.derives body.derives)
 
 pub for_loop-returns-clause-read : goal.for_loop-returns-clause-read
 for_loop-returns-clause-read t c =
-    let r = c.in_ok-parts.ensures.read in
-    rw (c.whole.ensures.end, c.whole.ensures.value, for_made _ _ r.has_start r.has_step)
-    (for_reads c.args.room c.requires.word.1 (r.opens _) r.starts (r.ends_start _) r.tests (r.ends_test _) r.steps (r.closes _) c.in_ok-body.ensures.read)
+    let r = c.in_ok-read.ensures.read in
+    let body = rw c.in_ok-parts.ensures.next at c.boxed_statement.ensures.read in
+    rw (c.whole.ensures.end, c.whole.ensures.value, c.in_ok-parts.ensures.value, for_made _ _ r.has_start r.has_step)
+    (for_reads c.args.room c.requires.word.1 (r.opens _) r.starts (r.ends_start _) r.tests (r.ends_test _) r.steps (r.closes _) body)
 
 pub begun-whole-requires-clause-held : goal.begun-whole-requires-clause-held
 begun-whole-requires-clause-held t c = rw action-Empty refl
