@@ -25,6 +25,7 @@ pub struct Case {
     pub text: Vec<u8>,
     pub wanted: Vec<u8>,
     last: Last,
+    /// Whether what comes has only to begin with what is wanted.
     is_begun: bool,
 }
 
