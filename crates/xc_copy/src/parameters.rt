@@ -59,8 +59,10 @@ impl<'p, 'a> Context<'p, 'a> {
             left -= 1;
             let param = &params[left];
             let handed = self.passed(alloc, scope, own, param, &args[left].value)?;
-            copied = handed.copied.followed_by(copied)?;
-            inner.declare(param.name.text.as_slice(), handed.entity)?;
+            let all = handed.copied.followed_by(copied);
+            let declared = inner.declare(param.name.text.as_slice(), handed.entity);
+            let (all, _) = both(all, declared)?;
+            copied = all;
         }
         Ok(Entered {
             copied,

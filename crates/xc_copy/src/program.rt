@@ -67,7 +67,9 @@ pub fn copy(alloc: Global, tree: &Tree) -> Result<Kernel, Memory>
     let functions = Functions::of_tree(alloc, tree)?;
     let names = port_names(alloc, tree)?;
     let ports = port_uses(alloc, tree)?;
-    let walked = rooted(alloc, &functions, names.as_slice(), &Numbers::none(alloc));
+    let none = Numbers::none(alloc);
+    let walked = rooted(alloc, &functions, names.as_slice(), &none);
+    drop(none);
     let first = walked?;
     let numbers = Numbers::of_copy(alloc, first.made)?;
     let second = rooted(alloc, &functions, names.as_slice(), &numbers);

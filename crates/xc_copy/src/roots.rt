@@ -290,7 +290,9 @@ pub fn core_of(alloc: Global, place: &Option<At>, scope: &Scope) -> Result<u8, M
     match place {
         None => Ok(0),
         Some(place) => {
-            let read = word(alloc, &Numbers::none(alloc), scope, &place.value);
+            let none = Numbers::none(alloc);
+            let read = word(alloc, &none, scope, &place.value);
+            drop(none);
             let value = read?.value;
             let number = eval(&value);
             match number {

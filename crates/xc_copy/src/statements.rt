@@ -421,13 +421,13 @@ impl<'p, 'a> Context<'p, 'a> {
     ) -> Result<Copied, Memory>
         ensures { IfOk result (λ copied. copy_of copied (scope_of scope.new) ≡ copies.in_scope_of (scope_of scope.old) (copies.followed_by (spec.maybe_copy (spec.calls_copy calls) (tree.maybe_of first.now) (context_of self.now) (scope_of scope.old)) (flow.for_parts (context_of self.now) pos (option_map tree.expression_of test.now) (spec.maybe_copy (spec.calls_copy calls) (tree.maybe_of next.now) (context_of self.now)) (spec.statement_copy (spec.calls_copy calls) (tree.statement_of body.now) (contexts.in_loop (context_of self.now) pos))))) }
     {
+        let paths = self.loop_paths(alloc, pos)?;
         let known = scope.len();
         let first = self.maybe(alloc, calls, first, scope)?;
         let test = self.test_or_true(alloc, test, scope)?;
         let inside = scope.len();
         let next = self.maybe(alloc, calls, next, scope)?;
         scope.leave(inside);
-        let paths = self.loop_paths(alloc, pos)?;
         let body = (&*self)
             .in_loop(paths.whole.as_slice(), paths.turn.as_slice())
             .statement(alloc, calls, body, scope)?;
