@@ -4,6 +4,8 @@
 #![tactic(auto)]
 
 mod cases;
+#[cfg(test)]
+mod deepest;
 mod forms;
 mod kernels;
 mod messages;

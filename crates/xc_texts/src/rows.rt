@@ -71,7 +71,7 @@ case eight branches
 ";
 
 /// How many cases there are, each of which comes out as is wanted; 0 where a line can't be read.
-fn count_of_held(
+pub fn count_of_held(
     rt: &impl Abort,
     alloc: Global,
     phase: Phase,
