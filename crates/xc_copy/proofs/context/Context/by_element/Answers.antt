@@ -3,7 +3,7 @@ use Rattle.xc_tree.specs.Trees as tree
 use Rattle.xc_kernel.specs.Context as contexts
 use Rattle.xc_kernel.specs.Copy as copies
 use Rattle.xc_kernel.specs.Expressions.{two_operands}
-use Rattle.xc_kernel.specs.Operators.{bracket}
+use Rattle.xc_tree.specs.Symbols.{bracket}
 use Rattle.xc_kernel.specs.Parameters as spec
 use Rattle.xc_kernel.specs.Plain as plain
 use Rattle.xc_kernel.specs.Scopes as scopes
