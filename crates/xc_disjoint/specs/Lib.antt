@@ -6,7 +6,7 @@ pub mod Threads
 pub mod Ends
 pub mod Needs
 pub mod Rules
-pub mod Accepted
+pub mod Checked
 pub mod Sides
 pub mod Tables
 pub mod Leasts

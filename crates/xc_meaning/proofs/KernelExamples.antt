@@ -4,7 +4,7 @@ use Rattle.xs_instr.specs.declared.trace.Trap.TheVariants.{Arithmetic, Index, Mi
 use Rattle.xs_instr.specs.declared.trace.Record.TheVariants.{Com, PortOut, PortIn, Fault}
 use Rattle.xc_kernel.specs.Copies.{copy_of}
 use Rattle.xc_kernel.proofs.Written.{at}
-use Rattle.xc_meaning.specs.States.Worlds.{Move, clock, take, default}
+use Rattle.xc_meaning.specs.States.Worlds.{Action, clock, take, default}
 use Rattle.xc_meaning.proofs.ExamplePrograms.{timed_output, hand_over, conditional_input, timer_case, guard_off, divided, out_of_range, word_too_many, agreed, two_cores, sampled}
 use Rattle.xc_meaning.proofs.Running.{no_stimulus, pulse, short_pulse, steps, wait, kernel_seen, going, finished}
 
@@ -23,7 +23,7 @@ unfolding copy_of
 timed_late = refl
 
 -- a word is handed over: the offer, its taking with the answer, the rest of both branches, and the join
-abbrev handed : List Move
+abbrev handed : List Action
 handed = steps 4 0 ++ steps 1 1 ++ steps 1 2 ++ steps 2 1 ++ steps 2 2 ++ steps 1 0
 
 handed_over : kernel_seen hand_over no_stimulus (handed ++ wait 30000 ++ steps 5 0) ≡ finished (Com 0 7 ∷ PortOut 0 22 30000 7 ∷ [])
@@ -53,13 +53,13 @@ unfolding copy_of
 pulsed_early = refl
 
 -- a timer's case, the next turn's select, and then the channel's case
-abbrev to_select : List Move
+abbrev to_select : List Action
 to_select = steps 3 0 ++ steps 1 1 ++ steps 7 2
 
-abbrev by_timer : List Move
+abbrev by_timer : List Action
 by_timer = wait 2001 ++ take 2 1 ∷ [] ++ steps 2 2 ++ wait 2999 ++ steps 7 2
 
-abbrev by_channel : List Move
+abbrev by_channel : List Action
 by_channel = wait 4001 ++ steps 2 1 ++ take 2 0 ∷ [] ++ steps 10 2 ++ steps 3 1 ++ steps 5 0
 
 timer_then_channel : kernel_seen timer_case no_stimulus (to_select ++ by_timer ++ by_channel) ≡ finished (PortOut 0 0 5000 1 ∷ Com 0 4 ∷ [])
@@ -81,7 +81,7 @@ unfolding copy_of
 timer_again = refl
 
 -- a case whose guard is off isn't taken, though its offer is there: the default is
-abbrev offered : List Move
+abbrev offered : List Action
 offered = steps 3 0 ++ steps 1 1 ++ steps 3 2
 
 guarded : kernel_seen guard_off no_stimulus (offered ++ default 2 ∷ [] ++ wait 5000 ++ steps 6 2 ++ steps 2 1) ≡ going (PortOut 0 0 5000 1 ∷ Com 0 3 ∷ [])
@@ -106,7 +106,7 @@ unfolding copy_of
 quotient_on = refl
 
 -- an index out of range; the other branch goes on, and the `par` waits for ever
-abbrev erred : List Move
+abbrev erred : List Action
 erred = steps 5 0 ++ steps 1 1
 
 index_error : kernel_seen out_of_range no_stimulus (erred ++ wait 40000 ++ steps 2 2) ≡ going (Fault 0 (at 5 5) Index ∷ PortOut 0 0 40000 1 ∷ [])
@@ -118,7 +118,7 @@ unfolding copy_of
 index_join = refl
 
 -- Both sides begin, and two words are put. A third one isn't put while two are unread.
-abbrev two_words : List Move
+abbrev two_words : List Action
 two_words = steps 3 0 ++ steps 2 1 ++ steps 3 2 ++ steps 3 1
 
 third_word : kernel_seen word_too_many no_stimulus (two_words ++ steps 1 1) ≡ None

@@ -7,15 +7,15 @@ use Rattle.xc_kernel.specs.Plain as kernel
 use Rattle.xc_kernel.specs.Eval.{Store}
 use Rattle.xc_kernel.specs.Copies.{copy_of}
 use Rattle.xc_meaning.specs.States.Branches.{all_ended}
-use Rattle.xc_meaning.specs.States.Worlds.{World, Move, go, default}
-use Rattle.xc_meaning.specs.Runs.{moves, kernel_start, program_start}
+use Rattle.xc_meaning.specs.States.Worlds.{World, Action, go, default}
+use Rattle.xc_meaning.specs.Runs.{acts, kernel_start, program_start}
 use Rattle.xc_meaning.proofs.ExamplePrograms.{mixed}
 use Rattle.xc_meaning.proofs.Running.{no_stimulus}
 
 -- these steps in order, without those that aren't possible
-abbrev possible : kernel.Kernel → List Move → World → World
+abbrev possible : kernel.Kernel → List Action → World → World
 possible K [] x = x
-possible K (m ∷ ms) x = possible K ms (unwrap_or (moves K no_stimulus x m) x)
+possible K (m ∷ ms) x = possible K ms (unwrap_or (acts K no_stimulus x m) x)
 
 abbrev rounds : kernel.Kernel → ℕ → World → World
 rounds K zero x = x

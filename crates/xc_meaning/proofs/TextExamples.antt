@@ -4,7 +4,7 @@ use Rattle.xs_instr.specs.declared.trace.Trap.TheVariants.{Arithmetic, Index, Mi
 use Rattle.xs_instr.specs.declared.trace.Record.TheVariants.{Com, PortOut, PortIn, Fault}
 use Rattle.xc_kernel.specs.Copies.{copy_of}
 use Rattle.xc_kernel.proofs.Written.{at}
-use Rattle.xc_meaning.specs.States.Worlds.{Move, clock, take, default}
+use Rattle.xc_meaning.specs.States.Worlds.{Action, clock, take, default}
 use Rattle.xc_meaning.proofs.ExamplePrograms.{timed_output, hand_over, conditional_input, timer_case, guard_off, divided, out_of_range, word_too_many, two_cores}
 use Rattle.xc_meaning.proofs.Running.{no_stimulus, pulse, steps, wait, program_seen, going, finished}
 
@@ -23,7 +23,7 @@ unfolding copy_of
 pulsed = refl
 
 -- the result, the body, two names and the `par`; the hand over; the timed output, the `return`, the mark and the end
-abbrev handed : List Move
+abbrev handed : List Action
 handed = steps 5 0 ++ steps 1 1 ++ steps 1 2 ++ steps 2 1 ++ steps 2 2 ++ steps 1 0
 
 handed_over : program_seen hand_over no_stimulus (handed ++ wait 30000 ++ steps 4 0) ≡ finished (Com 0 7 ∷ PortOut 0 22 30000 7 ∷ [])
@@ -35,13 +35,13 @@ unfolding copy_of
 handed_ahead = refl
 
 -- each branch calls a function: the call, its parameter, its body and the names; then the first turn
-abbrev to_select : List Move
+abbrev to_select : List Action
 to_select = steps 4 0 ++ steps 4 1 ++ steps 9 2
 
-abbrev by_timer : List Move
+abbrev by_timer : List Action
 by_timer = wait 2001 ++ take 2 1 ∷ [] ++ steps 2 2 ++ wait 2999 ++ steps 7 2
 
-abbrev by_channel : List Move
+abbrev by_channel : List Action
 by_channel = wait 4001 ++ steps 2 1 ++ take 2 0 ∷ [] ++ steps 10 2 ++ steps 3 1 ++ steps 4 0
 
 timer_then_channel : program_seen timer_case no_stimulus (to_select ++ by_timer ++ by_channel) ≡ finished (PortOut 0 0 5000 1 ∷ Com 0 4 ∷ [])
@@ -73,7 +73,7 @@ unfolding copy_of
 index_error = refl
 
 -- both sides begin, and two words are put; a third one isn't put while two are unread
-abbrev two_words : List Move
+abbrev two_words : List Action
 two_words = steps 4 0 ++ steps 4 1 ++ steps 5 2 ++ steps 3 1
 
 third_word : program_seen word_too_many no_stimulus (two_words ++ steps 1 1) ≡ None

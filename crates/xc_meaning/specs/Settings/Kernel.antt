@@ -3,15 +3,15 @@ use Rattle.std.specs.Prelude.{◌∷◌, Option, Some}
 use Rattle.xc_kernel.specs.Plain as kernel
 use Rattle.xc_meaning.specs.States.Items.{mark, transaction_end, todo}
 use Rattle.xc_meaning.specs.States.Worlds.{World}
-use Rattle.xc_meaning.specs.Moves.Step.{Step, goes_to}
-use Rattle.xc_meaning.specs.Moves.Stores.{assigned, zeroed}
-use Rattle.xc_meaning.specs.Moves.Flow.{tests, turn_items, leaves}
-use Rattle.xc_meaning.specs.Moves.Par.{all_begun, makes}
-use Rattle.xc_meaning.specs.Moves.Transactions.{opens}
-use Rattle.xc_meaning.specs.Moves.Transfers.{outputs_to, inputs_from}
-use Rattle.xc_meaning.specs.Moves.Select.{enabled, default_of, begins_select}
+use Rattle.xc_meaning.specs.Settings.Setting.{Setting, goes_to}
+use Rattle.xc_meaning.specs.Settings.Stores.{assigned, zeroed}
+use Rattle.xc_meaning.specs.Settings.Flow.{tests, turn_items, leaves}
+use Rattle.xc_meaning.specs.Settings.Par.{all_begun, makes}
+use Rattle.xc_meaning.specs.Settings.Transactions.{opens}
+use Rattle.xc_meaning.specs.Settings.Transfers.{outputs_to, inputs_from}
+use Rattle.xc_meaning.specs.Settings.Select.{enabled, default_of, begins_select}
 
-abbrev pub does_statement : Step → kernel.Statement → Option World
+abbrev pub does_statement : Setting → kernel.Statement → Option World
 does_statement s (kernel.set_zero variable) = zeroed s variable
 does_statement s (kernel.set place e) = assigned s place e
 does_statement s (kernel.output o) = outputs_to s o o.resource

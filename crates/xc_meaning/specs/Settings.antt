@@ -1,5 +1,5 @@
 -- The steps of branches, by the kinds of what they have to do first.
-pub mod Step
+pub mod Setting
 pub mod Stores
 pub mod Flow
 pub mod Sides

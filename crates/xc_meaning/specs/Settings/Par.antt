@@ -5,8 +5,8 @@ use Rattle.xc_meaning.specs.States.Channels.{Side}
 use Rattle.xc_meaning.specs.States.Items.{Item, ends, todo}
 use Rattle.xc_meaning.specs.States.Branches.{runs, waits, has_ended, Branch}
 use Rattle.xc_meaning.specs.States.Worlds.{World, only_if}
-use Rattle.xc_meaning.specs.Moves.Step.{Step, becomes, goes_on}
-use Rattle.xc_meaning.specs.Moves.Sides.{sides_in}
+use Rattle.xc_meaning.specs.Settings.Setting.{Setting, becomes, goes_on}
+use Rattle.xc_meaning.specs.Settings.Sides.{sides_in}
 
 -- what a new branch has to do, and its code, which tells the channels that it uses
 pub record Begun : Type 0 where
@@ -33,7 +33,7 @@ family_of makers number zero = makers
 family_of makers number (suc index) = number
 
 -- a branch of a `par` by its index, among so many
-abbrev pub child : Step → (among index : ℕ) → List (Option Side) → List Item → Branch
+abbrev pub child : Setting → (among index : ℕ) → List (Option Side) → List Item → Branch
 child s among index sides items = record {
   core = s.branch.core;
   mode = runs;
@@ -45,7 +45,7 @@ child s among index sides items = record {
 }
 
 -- the branches from an index on, behind those with this code
-abbrev pub children : Step → (among index : ℕ) → (before : List kernel.Statements) → List Begun → List Branch
+abbrev pub children : Setting → (among index : ℕ) → (before : List kernel.Statements) → List Begun → List Branch
 children s among index before [] = []
 children s among index before (b ∷ bs) =
     child s among index (sides_in 0 before b.code (codes_of bs) s.branch.sides) b.items
@@ -56,11 +56,11 @@ abbrev pub with_branches : World → List Branch → World
 with_branches x more = record x { branches = x.branches ++ more }
 
 -- the branch waits for so many new ones
-abbrev pub waits_for : Step → (count : ℕ) → World
+abbrev pub waits_for : Setting → (count : ℕ) → World
 waits_for s count = becomes s (record s.branch { mode = waits (length s.world.branches) count; items = s.rest })
 
 -- the branches are made, and waited for; without branches it goes on at once
-abbrev pub makes : Step → List Begun → Option World
+abbrev pub makes : Setting → List Begun → Option World
 makes s [] = Some (goes_on s)
 makes s bs = Some (with_branches (waits_for s (length bs)) (children s (length bs) 0 [] bs))
 
@@ -75,5 +75,5 @@ all_done x from zero = true
 all_done x from (suc count) = is_done (slice_get x.branches (from + count)) && all_done x from count
 
 -- the branch goes on behind its `par` once all branches of that have ended
-abbrev pub joins : Step → (from count : ℕ) → Option World
+abbrev pub joins : Setting → (from count : ℕ) → Option World
 joins s from count = only_if (all_done s.world from count) (becomes s (record s.branch { mode = runs }))

@@ -5,6 +5,6 @@ use Rattle.xc_disjoint.specs.Programs.{IsOfProgram}
 use Rattle.xc_disjoint.specs.Rules.{Breaks}
 
 -- a kernel is that of a program that passes the phases before, and breaks no rule itself
-pub record IsAccepted (k : kernel.Kernel) : Type 0 where
+pub record IsChecked (k : kernel.Kernel) : Type 0 where
   pub of_program : IsOfProgram k
   pub unbroken : (b : Broken) → Breaks k b → ⊥

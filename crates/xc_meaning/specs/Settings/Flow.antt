@@ -4,7 +4,7 @@ use Rattle.xc_kernel.specs.Plain as kernel
 use Rattle.xc_kernel.specs.Values.{is_true}
 use Rattle.xc_meaning.specs.States.Items.{Item, does, mark, todo}
 use Rattle.xc_meaning.specs.States.Worlds.{World}
-use Rattle.xc_meaning.specs.Moves.Step.{Step, goes_to, with_word_of}
+use Rattle.xc_meaning.specs.Settings.Setting.{Setting, goes_to, with_word_of}
 
 -- by whether a test holds
 abbrev pub items_by : Bool → (held other : List Item) → List Item
@@ -12,7 +12,7 @@ items_by true held other = held
 items_by false held other = other
 
 -- the items of the side that a test chooses are left
-abbrev pub tests : Step → kernel.Expression → (held other : List Item) → Option World
+abbrev pub tests : Setting → kernel.Expression → (held other : List Item) → Option World
 tests s test held other = with_word_of s test (λ v. Some (goes_to s (items_by (is_true v) held other)))
 
 -- one turn of a kernel's loop, and the loop again
@@ -31,5 +31,5 @@ items_from_mark n (mark m ∷ rest) = from_mark_by (nat_eq n m) (mark m ∷ rest
 items_from_mark n (item ∷ rest) = items_from_mark n rest
 
 -- a block is left
-abbrev pub leaves : Step → (block : ℕ) → Option World
+abbrev pub leaves : Setting → (block : ℕ) → Option World
 leaves s n = Some (goes_to s (items_from_mark n s.rest))

@@ -11,9 +11,9 @@ use Rattle.xc_meaning.specs.States.Channels.{Side}
 use Rattle.xc_meaning.specs.States.Items.{Body, of_kernel, Choice, Item, does, chooses, fixed, body_items}
 use Rattle.xc_meaning.specs.States.Branches.{side_of}
 use Rattle.xc_meaning.specs.States.Worlds.{World, only_if}
-use Rattle.xc_meaning.specs.Moves.Step.{Step, goes_to, errs, kind_of}
-use Rattle.xc_meaning.specs.Moves.Channels.{parcel_at}
-use Rattle.xc_meaning.specs.Moves.Time.{clock_of, counter_of, pins_of, Timing, passes, fails, timing, port_may_pass, timer_may_pass}
+use Rattle.xc_meaning.specs.Settings.Setting.{Setting, goes_to, errs, kind_of}
+use Rattle.xc_meaning.specs.Settings.Channels.{parcel_at}
+use Rattle.xc_meaning.specs.Settings.Time.{clock_of, counter_of, pins_of, Timing, passes, fails, timing, port_may_pass, timer_may_pass}
 
 -- the enabled cases in text order, or the first error of a guard, time or condition
 pub data Enabled : Type 0 where
@@ -79,49 +79,49 @@ default_of kernel.no_default = None
 default_of (kernel.default ss) = Some (of_kernel ss)
 
 -- the first step of a select leaves its enabled cases
-abbrev pub begins_select : Step → Option Body → Enabled → Option World
+abbrev pub begins_select : Setting → Option Body → Enabled → Option World
 begins_select s otherwise (these choices) = Some (goes_to s (chooses choices otherwise ∷ s.rest))
 begins_select s otherwise (wrong kind pos) = errs s (kind_of kind) pos
 
 -- whether something has arrived at the side that the branch is of a channel
-abbrev pub has_arrived : Step → (channel : ℕ) → Option Side → Bool
+abbrev pub has_arrived : Setting → (channel : ℕ) → Option Side → Bool
 has_arrived s c None = false
 has_arrived s c (Some side) = is_some (parcel_at s c side)
 
-abbrev pub resource_is_ready : Step → Choice → KRes → Bool
+abbrev pub resource_is_ready : Setting → Choice → KRes → Bool
 resource_is_ready s c (Port p) = port_may_pass s p c.when
 resource_is_ready s c (Timer t) = timer_may_pass s c.when
 resource_is_ready s c (Chan d) = has_arrived s d (side_of s.branch d)
 
 -- a case is ready where something has arrived at its channel, or its port's or timer's input would pass now
-abbrev pub is_ready : Step → Choice → Bool
+abbrev pub is_ready : Setting → Choice → Bool
 is_ready s c = resource_is_ready s c c.input.resource
 
-abbrev pub none_ready : Step → List Choice → Bool
+abbrev pub none_ready : Setting → List Choice → Bool
 none_ready s [] = true
 none_ready s (c ∷ cs) = not (is_ready s c) && none_ready s cs
 
 -- the input of a case, with the value and the counter of this moment where it is a port's or a timer's
-abbrev pub input_taken : Step → kernel.Input → KRes → Item
+abbrev pub input_taken : Setting → kernel.Input → KRes → Item
 input_taken s i (Port p) = fixed i (pins_of s p) (counter_of s)
 input_taken s i (Timer t) = fixed i (clock_of s) (counter_of s)
 input_taken s i (Chan c) = does (kernel.input i)
 
 -- an enabled case is taken where it is ready: its input and its body come next
-abbrev pub takes_case : Step → Choice → Option World
+abbrev pub takes_case : Setting → Choice → Option World
 takes_case s c =
     only_if (is_ready s c) (goes_to s (input_taken s c.input c.input.resource ∷ body_items c.body s.rest))
 
 -- the case at a place among the enabled ones
-abbrev pub takes : Step → (choice : ℕ) → Item → Option World
+abbrev pub takes : Setting → (choice : ℕ) → Item → Option World
 takes s n (chooses choices otherwise) = and_then (slice_get choices n) (takes_case s)
 takes s n item = None
 
-abbrev pub default_body : Step → List Choice → Option Body → Option World
+abbrev pub default_body : Setting → List Choice → Option Body → Option World
 default_body s choices None = None
 default_body s choices (Some body) = only_if (none_ready s choices) (goes_to s (body_items body s.rest))
 
 -- the default, where no enabled case is ready
-abbrev pub takes_default : Step → Item → Option World
+abbrev pub takes_default : Setting → Item → Option World
 takes_default s (chooses choices otherwise) = default_body s choices otherwise
 takes_default s item = None

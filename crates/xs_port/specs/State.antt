@@ -10,7 +10,7 @@ pub record Outside : Type 0 where
   pub clock : ℕ
 
 -- the ports and the clock, and what never changes: the stimulus and the core
-pub record Seen : Type 0 where
+pub record PortsState : Type 0 where
   pub ports : List Port
   pub clock : ℕ
   pub stim : List StimLine
