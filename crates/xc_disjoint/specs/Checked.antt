@@ -1,7 +1,7 @@
 -- The kernels that are accepted.
 use Rattle.xw_words.specs.declared.pos.Broken.{Broken}
 use Rattle.xc_kernel.specs.Plain as kernel
-use Rattle.xc_disjoint.specs.Programs.{IsOfProgram}
+use Rattle.xc_kernel.specs.Sound.{IsOfProgram}
 use Rattle.xc_disjoint.specs.Rules.{Breaks}
 
 -- a kernel is that of a program that passes the phases before, and breaks no rule itself

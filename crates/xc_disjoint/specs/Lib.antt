@@ -1,4 +1,3 @@
-pub mod Programs
 pub mod Cores
 pub mod Uses
 pub mod Pars

@@ -1,4 +1,4 @@
--- The kernels of typed programs that are neither too large nor too deep may be looked at.
+-- The kernels of typed programs that are neither too large nor too deep are handed on.
 use Rattle.std.specs.Prelude.{◌≤◌, Bool, List}
 use Rattle.xc_tree.specs.Depth as depth
 use Rattle.xc_tree.specs.Derives.{deepest}
@@ -7,8 +7,7 @@ use Rattle.xc_tree.specs.Types.Named.{NamedProgram}
 use Rattle.xc_kernel.specs.Plain as kernel
 use Rattle.xc_kernel.specs.Copies.{Copies}
 use Rattle.xc_kernel.specs.Size.{IsTooLarge}
-use Rattle.xc_kernel.specs.Sound.{IsTyped}
-use Rattle.xc_disjoint.specs.Programs.{IsOfProgram}
+use Rattle.xc_kernel.specs.Sound.{IsOfProgram, IsTyped}
 
 pub handed_on : {program : List tree.Item} {named : NamedProgram} {types : List Bool} {k : kernel.Kernel} →
     IsTyped program named types → depth.of_program program ≤ deepest → (IsTooLarge program → ⊥) → Copies program k → IsOfProgram k
