@@ -1,29 +1,11 @@
-//! Cases of the compiler's front: source texts, and what must come of each by the public calls of the crates below. The
-//! cases stand in the files of data/, one for each phase. The program prints how many cases each file has, and each case
-//! of which something else comes than is wanted.
+//! The program that tries the cases: they stand in the files of data/, one for each phase. It prints how many cases each file
+//! has, and each case of which something else comes than is wanted.
 #![tactic(auto)]
 
-mod cases;
-#[cfg(test)]
-mod deepest;
-mod forms;
-mod kernels;
-mod messages;
-mod names;
-mod needs;
-mod phases;
-mod report;
-#[cfg(test)]
-mod rows;
-mod spelled;
-mod texts;
-mod tokens;
-mod trees;
-mod types;
-
-use report::report_all;
+use std::alloc::Global;
 use std::process::ExitCode;
-use xw_io::{FsShelf, Out, StdSink};
+use xc_cases::{Phase, report_of};
+use xw_io::{FsShelf, Out, Shelf, Sink, StdSink};
 
 /// Ends with 1 where a case differs, a file can't be read or the output fails.
 fn main(rt: HostRuntime) -> ExitCode {
@@ -32,4 +14,42 @@ fn main(rt: HostRuntime) -> ExitCode {
     let all_hold = report_all(rt.alloc(), &mut FsShelf::new(&rt), &mut out);
     out.settle();
     ExitCode::from(u8::from(!all_hold || out.outcome().is_err()))
+}
+
+/// Reports on the cases of all phases. Whether of each case comes what is wanted.
+fn report_all<S: Shelf, O: Sink>(alloc: Global, shelf: &mut S, out: &mut Out<'_, O>) -> bool {
+    let mut all_hold = true;
+    for phase in Phase::ALL {
+        let holds = report(alloc, shelf, out, phase);
+        all_hold = all_hold && holds;
+    }
+    all_hold
+}
+
+/// Reports on the cases of a phase. Whether of each comes what is wanted.
+fn report<S: Shelf, O: Sink>(
+    alloc: Global,
+    shelf: &mut S,
+    out: &mut Out<'_, O>,
+    phase: Phase,
+) -> bool {
+    let Ok(file) = shelf.load(alloc, phase.file()) else {
+        add_trouble(out, phase, b": not loaded\n");
+        return false;
+    };
+    match report_of(alloc, phase, file.as_slice()) {
+        Ok(report) => {
+            out.add(report.text.as_bytes());
+            report.all_hold
+        }
+        Err(_) => {
+            add_trouble(out, phase, b": out of memory\n");
+            false
+        }
+    }
+}
+
+fn add_trouble<O: Sink>(out: &mut Out<'_, O>, phase: Phase, trouble: &[u8]) {
+    out.add(phase.file().as_bytes());
+    out.add(trouble);
 }
