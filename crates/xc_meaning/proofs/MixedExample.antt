@@ -25,10 +25,8 @@ rounds K (suc n) x = rounds K n (possible K (go 0 ∷ default 0 ∷ go 1 ∷ go 
 
 pub record Left : Type 0 where
   pub trace : List Record
-  unfolding identifiers place_from
   pub store : Store
   pub ended : Bool
-  unfolding identifiers place_from
 
 abbrev left : World → Left
 left x = record { trace = x.trace; store = x.store; ended = all_ended x.branches }
@@ -45,9 +43,9 @@ unfolding copy_of identifiers place_from
 same = refl
 
 trace : (program_left mixed).trace ≡ PortOut 0 26 0 1 ∷ PortIn 0 1 0 0 ∷ []
-unfolding copy_of
+unfolding copy_of identifiers place_from
 trace = refl
 
 ended : (program_left mixed).ended ≡ true
-unfolding copy_of
+unfolding copy_of identifiers place_from
 ended = refl

@@ -65,9 +65,8 @@ quotient_on = refl
 
 -- the default, though the offer is there
 guarded : program_seen guard_off no_stimulus (steps 4 0 ++ steps 1 1 ++ steps 5 2 ++ default 2 ∷ [] ++ wait 5000 ++ steps 7 2 ++ steps 2 1 ++ steps 4 0)
-unfolding identifiers place_from
     ≡ finished (PortOut 0 0 5000 1 ∷ Com 0 3 ∷ [])
-unfolding copy_of
+unfolding copy_of identifiers place_from
 guarded = refl
 
 -- an index out of range; the other branch goes on
