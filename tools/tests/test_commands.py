@@ -56,11 +56,11 @@ class Commands(unittest.TestCase):
         text = listing + "".join(f"out 0 1A @{tick} 1\n" for tick in range(1, 5002)) + "end stopped\n"
         answer = called("trace-svg", text=text)
         self.assertEqual((answer.returncode, answer.stdout), (1, ""))
-        self.assertEqual(answer.stderr, "trace-svg: more than 5000 records: choose some with --from TICK and --to TICK\n")
-        self.assertEqual(called("trace-svg", "--to", "5000", text=text).returncode, 0)
+        self.assertEqual(answer.stderr, "more than 5000 records: choose some with --from TICK and --to TICK\n")
+        self.assertEqual(called("trace-svg", "--to", "20", text=text).returncode, 0)
 
     def test_reader_that_stops(self):
-        text = listing_of((0, 0, ["1A out"])) + "".join(f"out 0 1A @{tick} 1\n" for tick in range(1, 60000)) + "end stopped\n"
+        text = listing_of((0, 0, ["1A out"])) + "".join(f"out 0 1A @{tick} 1\n" for tick in range(1, 20000)) + "end stopped\n"
         command = [sys.executable, os.path.join(TOP, "tools", "trace-vcd")]
         with subprocess.Popen(command, stdin=subprocess.PIPE, stdout=subprocess.PIPE, stderr=subprocess.PIPE) as process:
             process.stdin.write(text.encode())

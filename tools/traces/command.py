@@ -4,12 +4,16 @@ from __future__ import annotations
 
 import argparse
 import contextlib
+import heapq
 import os
 import sys
-from typing import BinaryIO, Callable, Iterator
+from operator import itemgetter
+from typing import BinaryIO, Callable, Iterator, NamedTuple
 
-from .diagram import TooMany
 from .lines import Refused
+from .output import Output, Record
+from .stimulus import read_pins
+from .times import timed
 
 REFUSED = 1
 
@@ -37,6 +41,23 @@ def opened(name: str | None) -> Iterator[tuple[BinaryIO, str]]:
             yield file, name
 
 
+class Shown(NamedTuple):
+    """What is shown: the output, the ports whose pins are shown, and records and pins with their ticks, in the order of these."""
+
+    output: Output
+    pins: set[tuple[int, str]]
+    events: Iterator[tuple[int, Record]]
+
+
+def read(words: argparse.Namespace) -> Shown:
+    """Reads the whole output, and the stimulus where one is named."""
+    with opened(words.file) as (file, name):
+        output = Output(file, name)
+        events = timed(output.records(), words.lockstep)
+    stimulus, pins = read_pins(words.stimulus, output.listing)
+    return Shown(output, pins, heapq.merge(stimulus, events, key=itemgetter(0)))
+
+
 def run(name: str, action: Callable[[], None]) -> int:
     """Makes what a command does, and gives its status. What goes wrong is told on standard error."""
     try:
@@ -47,8 +68,6 @@ def run(name: str, action: Callable[[], None]) -> int:
         os.dup2(os.open(os.devnull, os.O_WRONLY), sys.stdout.fileno())  # so that the last flush has where to go
     except Refused as refused:
         print(refused, file=sys.stderr)
-    except TooMany as error:
-        print(f"{name}: {error}", file=sys.stderr)
     except OSError as error:
         print(f"{name}: {error.filename or 'output'}: {error.strerror}", file=sys.stderr)
     return REFUSED

@@ -2,22 +2,15 @@
 
 from __future__ import annotations
 
-import statistics
 from bisect import bisect_left
 from dataclasses import dataclass, field
 from typing import Iterable, Iterator, NamedTuple, Optional
 
+from .lines import Refused
 from .listing import WIDTHS, Listing
 from .output import TURN, Record
 
 MOST_RECORDS = 5_000
-
-
-class TooMany(Exception):
-    """More records than a diagram can show."""
-
-    def __init__(self) -> None:
-        super().__init__(f"more than {MOST_RECORDS} records: choose some with --from TICK and --to TICK")
 
 
 class Mark(NamedTuple):
@@ -106,14 +99,16 @@ def draw_up(listing: Listing, pins: set[tuple[int, str]], events: Iterable[tuple
     count = 0
     for tick, record in events:
         row = rows.get((record.kind, record.core, record.port))
-        if row is None or tick > last:
+        if tick > last:
+            break
+        if row is None:
             continue
         if tick < first:
             row.before = record.value if row.is_level else None
             continue
         count += 1
         if count > MOST_RECORDS:
-            raise TooMany
+            raise Refused(f"more than {MOST_RECORDS} records: choose some with --from TICK and --to TICK")
         row.marks.setdefault(tick, []).append(mark_of(tick, record, senders.get(record.core, set())))
     return Diagram([row for row in rows.values() if row.kind != "err" or row.marks])
 
@@ -160,8 +155,8 @@ class Measure:
 def bands(diagram: Diagram, measure: Measure) -> list[Band]:
     """Gives each instant its place: as far behind the one before as its time is, but so that labels fit and long gaps are cut."""
     ticks = diagram.ticks()
-    gaps = [after - before for before, after in zip(ticks, ticks[1:])]
-    usual = statistics.median(gaps) if gaps else 1
+    gaps = sorted(after - before for before, after in zip(ticks, ticks[1:]))
+    usual = gaps[(len(gaps) - 1) // 2] if gaps else 1  # the median
     needs = label_needs(diagram, measure)
     found: list[Band] = []
     before = None

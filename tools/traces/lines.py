@@ -1,4 +1,4 @@
-"""A file's lines, counted, and the refusal of a line that isn't as it should be."""
+"""A file's lines, counted, and the refusal of one that isn't as it should be."""
 
 from __future__ import annotations
 
@@ -10,10 +10,7 @@ NUMBER = "(0|[1-9][0-9]{0,9})"
 
 
 class Refused(Exception):
-    """A line that isn't as it should be: the file's name, the line's number, and what was expected there."""
-
-    def __init__(self, name: str, number: int, expected: str):
-        super().__init__(f"{name}:{number}: expected {expected}")
+    """What is given can't be shown; the text says why, in one line."""
 
 
 class Lines:
@@ -35,7 +32,7 @@ class Lines:
 
     def refusal(self, expected: str) -> Refused:
         """The refusal of the line at hand."""
-        return Refused(self.name, self.number, expected)
+        return Refused(f"{self.name}:{self.number}: expected {expected}")
 
     def begins(self, word: str) -> bool:
         """Whether the line at hand has this first word."""

@@ -2,8 +2,8 @@
 
 from __future__ import annotations
 
+from html import escape
 from typing import Iterator
-from xml.sax.saxutils import escape
 
 from .columns import signs_of
 from .diagram import Band, Diagram, Mark, Measure, Piece, Row, bands, joined, pieces
@@ -24,6 +24,7 @@ text { font: 12px ui-monospace, monospace; fill: #1f2328; }
 .bus { stroke: #0550ae; stroke-width: 1.4; fill: none; }
 .busground { stroke: none; fill: #ddf4ff; }
 .none { stroke: #818b98; stroke-dasharray: 2 3; }
+.cut { stroke: #59636e; }
 .read { stroke: none; fill: #1a7f37; }
 .word { stroke: #8250df; stroke-width: 1.4; fill: none; }
 .head { stroke: none; fill: #8250df; }
@@ -40,6 +41,7 @@ text { fill: #e6edf3; }
 .bus { stroke: #79c0ff; }
 .busground { fill: #10294a; }
 .none { stroke: #7d8590; }
+.cut { stroke: #9198a1; }
 .read { fill: #56d364; }
 .word { stroke: #d2a8ff; }
 .head { fill: #d2a8ff; }
@@ -62,9 +64,9 @@ SAMPLE = Mark(100, 85, "85")  # of the legend
 
 def tag(name: str, kind: str, text: str = "", **attributes: object) -> str:
     """An element, with its class."""
-    given = "".join(f' {key.replace("_", "-")}="{value}"' for key, value in attributes.items())
-    front = f'<{name}{f" class={chr(34)}{kind}{chr(34)}" if kind else ""}{given}'
-    return f"{front}>{escape(text)}</{name}>" if text else f"{front}/>"
+    given = {"class": kind, **attributes} if kind else attributes
+    front = name + "".join(f' {key.replace("_", "-")}="{value}"' for key, value in given.items())
+    return f"<{front}>{escape(text)}</{name}>" if text else f"<{front}/>"
 
 
 def words(x: float, y: float, text: str, kind: str = "") -> str:
@@ -137,8 +139,8 @@ def draw_axis(band: Band, height: int) -> Iterator[str]:
 
 def cut(x: float, y: float) -> Iterator[str]:
     """The sign for time that is drawn shorter."""
-    yield stroke("none", (x - 4, y + 4), (x, y - 4))
-    yield stroke("none", (x, y + 4), (x + 4, y - 4))
+    yield stroke("cut", (x - 4, y + 4), (x, y - 4))
+    yield stroke("cut", (x, y + 4), (x + 4, y - 4))
 
 
 def draw_row(row: Row, band: Band, y: float) -> Iterator[str]:
