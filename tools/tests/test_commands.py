@@ -36,7 +36,8 @@ class Commands(unittest.TestCase):
             self.assertEqual(answer.stderr.count("\n"), 1)
 
     def test_refused(self):
-        self.check_refused('standard input:13: expected a record (out, in, com, err or show) or "end WORD"', text=PULSE.replace("\nend", "\nEND"))
+        expected = 'standard input:13: expected a record (out, in, com, err or show) or "end WORD"'
+        self.check_refused(expected, text=PULSE.replace("\nend", "\nEND"))
         source = os.path.join(TOP, "examples", "pulse.xc")
         self.check_refused(f'{source}:1: expected "code"', source)
         self.check_refused(f'{source}:1: expected "TICK CORE PORT VALUE"', data("pulse.out"), "--stimulus", source)

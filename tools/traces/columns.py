@@ -13,8 +13,9 @@ LEGEND = {
     "level": "__/‾‾ \\__  a port of one bit: low, high; | an output without an edge",
     "bus": "|85---     a wider port: the value from there on",
     "read": "v9         an input that read this value",
-    "com": "0>7        the word 7 from core 0 (?>7: the listing doesn't tell); its tick isn't recorded",
-    "err": "!3:9 index an error: line, column and kind; its tick isn't recorded",
+    "com": "0>7        the word 7, taken from core 0; ?>7: the listing doesn't tell",
+    "err": "!3:9 index an error: line, column and kind",
+    "unstamped": "           words and errors have no stamp: their ticks are only near",
     "none": "....       nothing was transferred yet",
     "cut": "~          before this instant time is drawn shorter",
 }
@@ -123,7 +124,7 @@ def signs_of(diagram: Diagram, found: list[Band]) -> set[str]:
     names = set()
     for row in diagram.rows:
         if row.kind in ("com", "err"):
-            names |= {row.kind} if row.marks else set()
+            names |= {row.kind, "unstamped"} if row.marks else set()
         elif row.marks:
             names.add("read" if row.kind == "in" else "level" if row.has_levels else "bus")
             names |= {"none"} if row.before is None and row.is_level else set()

@@ -13,6 +13,7 @@ SIZES = Measure(lead=30, room=1060, sign=7, space=18, usual=70, most=150)
 AXIS, CORE, ROW, GAP, LINE = 26, 20, 40, 26, 28  # the heights of a band's head, a core's head, a row, what parts bands, a legend's line
 TOP, WAVE = 15, 18  # in a row: where the wave begins, and its height
 SLANT = 4
+LEAST, WIDEST = 300, 8  # the width of a picture at least, and of a sign at most
 
 STYLE = """
 text { font: 12px ui-monospace, monospace; fill: #1f2328; }
@@ -54,8 +55,9 @@ LEGEND = {
     "bus": "a wider port: the value from there on",
     "stamp": "the port's counter at a transfer",
     "read": "an input: the value that was read",
-    "com": "a word that core takes, from another (short: from itself; broken: the listing doesn't tell); its tick isn't recorded",
-    "err": "an error: line, column and kind; its tick isn't recorded",
+    "com": "a word that is taken; short: from the core itself; broken: the listing doesn't tell",
+    "err": "an error: line, column and kind",
+    "unstamped": "words and errors have no stamp: their ticks are only near",
     "none": "nothing was transferred yet, or not known in between",
     "cut": "before this instant time is drawn shorter",
 }
@@ -87,8 +89,8 @@ def draw(diagram: Diagram) -> Iterator[str]:
     found = bands(diagram, SIZES)
     names = legend_names(diagram, found)
     height = band_height(diagram)
-    right = max((band.end for band in found), default=300)
-    size = 2 * EDGE + LEFT + max(right, 640), 2 * EDGE + len(found) * (height + GAP) + (len(names) + 1) * LINE
+    right = max([LEAST, *(band.end for band in found), *(len(LEGEND[name]) * WIDEST for name in names)])
+    size = 2 * EDGE + LEFT + right, 2 * EDGE + len(found) * (height + GAP) + (len(names) + 1) * LINE
     yield f'<svg xmlns="http://www.w3.org/2000/svg" width="{size[0]}" height="{size[1]}" viewBox="0 0 {size[0]} {size[1]}">'
     yield f"<title>Timing diagram, end {diagram.end}</title>"
     yield f"<style>{STYLE}@media (prefers-color-scheme: dark) {{{DARK_STYLE}}}\n</style>"
@@ -277,6 +279,8 @@ def draw_sign(name: str, y: float) -> Iterator[str]:
     elif name == "err":
         yield stroke("fault", (18, y + TOP + 5), (26, y + TOP + 13))
         yield stroke("fault", (18, y + TOP + 13), (26, y + TOP + 5))
+    elif name == "unstamped":
+        yield words(14, y + TOP + 13, "no @", "small")
     elif name == "none":
         yield from draw_bus(piece._replace(value=None), y)
     elif name == "cut":
