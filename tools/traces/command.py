@@ -41,7 +41,7 @@ def opened(name: str | None) -> Iterator[tuple[BinaryIO, str]]:
             yield file, name
 
 
-class Shown(NamedTuple):
+class Timeline(NamedTuple):
     """What is shown: the output, the ports whose pins are shown, and records and pins with their ticks, in the order of these."""
 
     output: Output
@@ -49,13 +49,13 @@ class Shown(NamedTuple):
     events: Iterator[tuple[int, Record]]
 
 
-def read(words: argparse.Namespace) -> Shown:
+def read(words: argparse.Namespace) -> Timeline:
     """Reads the whole output, and the stimulus where one is named."""
     with opened(words.file) as (file, name):
         output = Output(file, name)
         events = timed(output.records(), words.lockstep)
     stimulus, pins = read_pins(words.stimulus, output.listing)
-    return Shown(output, pins, heapq.merge(stimulus, events, key=itemgetter(0)))
+    return Timeline(output, pins, heapq.merge(stimulus, events, key=itemgetter(0)))
 
 
 def run(name: str, action: Callable[[], None]) -> int:

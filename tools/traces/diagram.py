@@ -148,7 +148,7 @@ class Measure:
     usual: int
     most: int
 
-    def label(self, signs: int) -> int:
+    def width(self, signs: int) -> int:
         return signs * self.sign + self.space
 
 
@@ -161,7 +161,7 @@ def bands(diagram: Diagram, measure: Measure) -> list[Band]:
     found: list[Band] = []
     before = None
     for tick in ticks:
-        own = max(measure.label(len(str(tick))), *(need for need, _ in needs[tick]))
+        own = max(measure.width(len(str(tick))), *(need for need, _ in needs[tick]))
         gap = round(measure.usual * (tick - before) / usual) if before is not None else 0
         at = next_place(found, needs, tick, min(gap, measure.most), measure)
         if at is None or at + own > measure.room:
@@ -179,7 +179,7 @@ def label_needs(diagram: Diagram, measure: Measure) -> dict[int, list[tuple[int,
     needs: dict[int, list[tuple[int, int]]] = {}
     for number, row in enumerate(diagram.rows):
         for tick, marks in row.marks.items():
-            needs.setdefault(tick, []).append((measure.label(row.longest(marks)), number))
+            needs.setdefault(tick, []).append((measure.width(row.longest(marks)), number))
     return needs
 
 
@@ -189,7 +189,7 @@ def next_place(found: list[Band], needs: dict[int, list[tuple[int, int]]], tick:
         return None
     rows = {number for _, number in needs[tick]}
     last = found[-1].places[-1]
-    at = last.at + max(gap, measure.label(len(str(last.tick))))
+    at = last.at + max(gap, measure.width(len(str(last.tick))))
     for place in found[-1].places:
         at = max([at, *(place.at + need for need, number in needs[place.tick] if number in rows)])
     return at

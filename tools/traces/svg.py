@@ -71,7 +71,7 @@ def tag(name: str, kind: str, text: str = "", **attributes: object) -> str:
     return f"<{front}>{escape(text)}</{name}>" if text else f"<{front}/>"
 
 
-def words(x: float, y: float, text: str, kind: str = "") -> str:
+def label(x: float, y: float, text: str, kind: str = "") -> str:
     return tag("text", kind, text, x=x, y=y)
 
 
@@ -115,10 +115,10 @@ def draw_band(diagram: Diagram, band: Band) -> Iterator[str]:
     for row in diagram.rows:
         if row.core != core:
             core = row.core
-            yield words(-LEFT, y + 14, f"core {core}", "core")
+            yield label(-LEFT, y + 14, f"core {core}", "core")
             yield stroke("grid", (-LEFT + 50, y + 10), (band.end, y + 10))
             y += CORE
-        yield words(-LEFT + 8, y + TOP + 13, row.name)
+        yield label(-LEFT + 8, y + TOP + 13, row.name)
         if row.kind == "com":
             lanes[core] = y
         else:
@@ -131,9 +131,9 @@ def draw_band(diagram: Diagram, band: Band) -> Iterator[str]:
 
 def draw_axis(band: Band, height: int) -> Iterator[str]:
     """The ticks of a band, and a thin line down from each."""
-    yield words(-LEFT, 12, "tick", "small")
+    yield label(-LEFT, 12, "tick", "small")
     for place in band.places:
-        yield words(place.at, 12, str(place.tick))
+        yield label(place.at, 12, str(place.tick))
         yield stroke("grid", (place.at, 17), (place.at, height))
         if place.is_cut:
             yield from cut(place.at - 8, 9)
@@ -158,7 +158,7 @@ def draw_row(row: Row, band: Band, y: float) -> Iterator[str]:
         else:
             yield from draw_bus(piece, y)
         if piece.marks and row.kind in ("out", "in"):
-            yield words(piece.start + 2, y + TOP - 4, piece.marks[-1].stamp, "small")
+            yield label(piece.start + 2, y + TOP - 4, piece.marks[-1].stamp, "small")
         before = piece.value
 
 
@@ -177,7 +177,7 @@ def draw_level(piece: Piece, before: int | None, y: float) -> Iterator[str]:
     if piece.marks and before == piece.value:
         yield tag("circle", "level", cx=piece.start, cy=at, r=2.5)
     if len(piece.marks) > 1:
-        yield words(piece.start + 6, y + TOP + 13, joined(piece.marks))
+        yield label(piece.start + 6, y + TOP + 13, joined(piece.marks))
 
 
 def draw_bus(piece: Piece, y: float) -> Iterator[str]:
@@ -193,9 +193,9 @@ def draw_bus(piece: Piece, y: float) -> Iterator[str]:
     yield stroke("bus", *upper)
     yield stroke("bus", *lower)
     if piece.marks:
-        yield words(start + 7, middle + 4, joined(piece.marks))
-    elif SIZES.label(len(str(piece.value))) <= end - start:
-        yield words(start + 7, middle + 4, str(piece.value))
+        yield label(start + 7, middle + 4, joined(piece.marks))
+    elif SIZES.width(len(str(piece.value))) <= end - start:
+        yield label(start + 7, middle + 4, str(piece.value))
 
 
 def draw_read(piece: Piece, y: float) -> Iterator[str]:
@@ -203,10 +203,10 @@ def draw_read(piece: Piece, y: float) -> Iterator[str]:
     if not piece.marks:
         yield stroke("none", (piece.start, middle), (piece.end, middle))
         return
-    label = joined(piece.marks)
+    value = joined(piece.marks)
     yield tag("path", "read", d=f"M{piece.start - 4} {middle - 5}h8l-4 9z")
-    yield words(piece.start + 7, middle + 4, label)
-    from_here = piece.start + 12 + len(label) * SIZES.sign
+    yield label(piece.start + 7, middle + 4, value)
+    from_here = piece.start + 12 + len(value) * SIZES.sign
     if from_here < piece.end:
         yield stroke("none", (from_here, middle), (piece.end, middle))
 
@@ -217,7 +217,7 @@ def draw_fault(piece: Piece, y: float) -> Iterator[str]:
     x, middle = piece.start, y + TOP + WAVE / 2
     yield stroke("fault", (x - 4, middle - 4), (x + 4, middle + 4))
     yield stroke("fault", (x - 4, middle + 4), (x + 4, middle - 4))
-    yield words(x + 8, middle + 4, joined(piece.marks), "faulttext")
+    yield label(x + 8, middle + 4, joined(piece.marks), "faulttext")
 
 
 def draw_words(row: Row, band: Band, lanes: dict[int, float]) -> Iterator[str]:
@@ -227,7 +227,7 @@ def draw_words(row: Row, band: Band, lanes: dict[int, float]) -> Iterator[str]:
     for piece in pieces(row, band):
         if piece.marks:
             yield from draw_arrow(piece.start, lanes, row.core, piece.marks[0].sender)
-            yield words(piece.start + 7, middle - 4, joined(piece.marks), "wordtext")
+            yield label(piece.start + 7, middle - 4, joined(piece.marks), "wordtext")
 
 
 def draw_arrow(x: float, lanes: dict[int, float], core: int, sender: int | None) -> Iterator[str]:
@@ -256,8 +256,8 @@ def draw_legend(names: list[str], diagram: Diagram) -> Iterator[str]:
     for number, name in enumerate(names):
         y = number * LINE
         yield from draw_sign(name, y - TOP)
-        yield words(LEFT, y + 13, LEGEND[name])
-    yield words(0, len(names) * LINE + 13, f"end {diagram.end}" if names else f"no records, end {diagram.end}", "core")
+        yield label(LEFT, y + 13, LEGEND[name])
+    yield label(0, len(names) * LINE + 13, f"end {diagram.end}" if names else f"no records, end {diagram.end}", "core")
 
 
 def draw_sign(name: str, y: float) -> Iterator[str]:
@@ -269,18 +269,18 @@ def draw_sign(name: str, y: float) -> Iterator[str]:
     elif name == "bus":
         yield from draw_bus(piece, y)
     elif name == "stamp":
-        yield words(14, y + TOP + 13, "@100", "small")
+        yield label(14, y + TOP + 13, "@100", "small")
     elif name == "read":
         yield tag("path", "read", d=f"M18 {y + TOP + 4}h8l-4 9z")
-        yield words(30, y + TOP + 13, "9")
+        yield label(30, y + TOP + 13, "9")
     elif name == "com":
         yield from draw_arrow(22, {0: y + 8}, 0, 0)
-        yield words(30, y + TOP + 13, "7", "wordtext")
+        yield label(30, y + TOP + 13, "7", "wordtext")
     elif name == "err":
         yield stroke("fault", (18, y + TOP + 5), (26, y + TOP + 13))
         yield stroke("fault", (18, y + TOP + 13), (26, y + TOP + 5))
     elif name == "unstamped":
-        yield words(14, y + TOP + 13, "no @", "small")
+        yield label(14, y + TOP + 13, "no @", "small")
     elif name == "none":
         yield from draw_bus(piece._replace(value=None), y)
     elif name == "cut":
