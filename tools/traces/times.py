@@ -54,33 +54,40 @@ class Clock:
     def __init__(self, start: int):
         self._start = self._latest = start
         self._kept = Store()
+        self._limits = Store()  # the tick of each stamp that follows a record without one
+        self._has_open = False  # whether the last record has none
 
     def add(self, record: Record) -> None:
         """Takes the next record. Where it has a stamp its tick is the first with that stamp that doesn't lie before the last one."""
         if record.stamp is None:
+            self._has_open = True
             self._kept.append((None, tuple(record)))
-        else:
-            self._latest += (record.stamp - self._latest) % TURN
-            self._kept.append((self._latest, tuple(record)))
+            return
+        self._latest += (record.stamp - self._latest) % TURN
+        if self._has_open:
+            self._limits.append(self._latest)
+            self._has_open = False
+        self._kept.append((self._latest, tuple(record)))
 
     def placed(self) -> Iterator[tuple[int, Record]]:
-        """The records with their ticks."""
-        stamped = (tick for tick, _ in self._kept if tick is not None)
-        for tick, fields in place(self._kept, stamped, self._start):
+        """The records with their ticks. It is asked for once."""
+        for tick, fields in place(self._kept, iter(self._limits), self._start):
             yield tick, Record._make(fields)
         self._kept.close()
+        self._limits.close()
 
 
-def place(entries: Iterable[tuple[Optional[int], tuple]], stamped: Iterator[int], start: int) -> Iterator[tuple[int, tuple]]:
-    """Gives a tick to those that have none: the one behind that of the entry before it, but never one behind the next stamp.
-
-    `stamped` are the ticks of the entries that have one, once more."""
-    now, latest = start, next(stamped, None)
+def place(entries: Iterable[tuple[Optional[int], tuple]], limits: Iterator[int], start: int) -> Iterator[tuple[int, tuple]]:
+    """Gives a tick to those that have none: the one behind that of the entry before it, but never one behind the next tick that is
+    known. `limits` are these next ticks, one for each row of entries without one; the last row may have none."""
+    now, limit, is_open = start, None, False
     for tick, fields in entries:
         if tick is not None:
-            now, latest = tick, next(stamped, None)
+            now, is_open = tick, False
         else:
-            now = now + 1 if latest is None else min(now + 1, latest)
+            if not is_open:
+                limit, is_open = next(limits, None), True
+            now = now + 1 if limit is None else min(now + 1, limit)
         yield now, fields
 
 
