@@ -1,5 +1,7 @@
 -- Runs of the texts of small programs, and lists of steps that are none.
 use Rattle.std.specs.Prelude.{◌≡◌, replicate, List, [], ◌∷◌, ◌++◌, None, refl}
+use Rattle.xw_words.specs.Tables.{place_from}
+use Rattle.xw_words.specs.Ports.{identifiers}
 use Rattle.xs_instr.specs.declared.trace.Trap.TheVariants.{Arithmetic, Index, Mismatch}
 use Rattle.xs_instr.specs.declared.trace.Record.TheVariants.{Com, PortOut, PortIn, Fault}
 use Rattle.xc_kernel.specs.Copies.{copy_of}
@@ -10,7 +12,7 @@ use Rattle.xc_meaning.proofs.Running.{no_stimulus, pulse, steps, wait, program_s
 
 -- the result and the body; then the output, the `return`, the mark and the end
 timed : program_seen timed_output no_stimulus (steps 2 0 ++ wait 100 ++ steps 4 0) ≡ finished (PortOut 0 0 100 1 ∷ [])
-unfolding copy_of
+unfolding copy_of identifiers place_from
 timed = refl
 
 timed_early : program_seen timed_output no_stimulus (steps 2 0 ++ wait 99 ++ steps 1 0) ≡ None
@@ -19,7 +21,7 @@ timed_early = refl
 
 -- the input waits for its pins
 pulsed : program_seen conditional_input pulse (steps 4 0 ++ wait 500 ++ steps 6 0) ≡ finished (PortIn 0 1 500 1 ∷ [])
-unfolding copy_of
+unfolding copy_of identifiers place_from
 pulsed = refl
 
 -- the result, the body, two names and the `par`; the hand over; the timed output, the `return`, the mark and the end
@@ -27,7 +29,7 @@ abbrev handed : List Action
 handed = steps 5 0 ++ steps 1 1 ++ steps 1 2 ++ steps 2 1 ++ steps 2 2 ++ steps 1 0
 
 handed_over : program_seen hand_over no_stimulus (handed ++ wait 30000 ++ steps 4 0) ≡ finished (Com 0 7 ∷ PortOut 0 22 30000 7 ∷ [])
-unfolding copy_of
+unfolding copy_of identifiers place_from
 handed_over = refl
 
 handed_ahead : program_seen hand_over no_stimulus (steps 5 0 ++ steps 2 1) ≡ None
@@ -45,7 +47,7 @@ abbrev by_channel : List Action
 by_channel = wait 4001 ++ steps 2 1 ++ take 2 0 ∷ [] ++ steps 10 2 ++ steps 3 1 ++ steps 4 0
 
 timer_then_channel : program_seen timer_case no_stimulus (to_select ++ by_timer ++ by_channel) ≡ finished (PortOut 0 0 5000 1 ∷ Com 0 4 ∷ [])
-unfolding copy_of
+unfolding copy_of identifiers place_from
 timer_then_channel = refl
 
 timer_early : program_seen timer_case no_stimulus (to_select ++ wait 2000 ++ take 2 1 ∷ []) ≡ None
@@ -64,12 +66,12 @@ quotient_on = refl
 -- the default, though the offer is there
 guarded : program_seen guard_off no_stimulus (steps 4 0 ++ steps 1 1 ++ steps 5 2 ++ default 2 ∷ [] ++ wait 5000 ++ steps 7 2 ++ steps 2 1 ++ steps 4 0)
     ≡ finished (PortOut 0 0 5000 1 ∷ Com 0 3 ∷ [])
-unfolding copy_of
+unfolding copy_of identifiers place_from
 guarded = refl
 
 -- an index out of range; the other branch goes on
 index_error : program_seen out_of_range no_stimulus (steps 5 0 ++ steps 1 1 ++ wait 40000 ++ steps 2 2) ≡ going (Fault 0 (at 5 5) Index ∷ PortOut 0 0 40000 1 ∷ [])
-unfolding copy_of
+unfolding copy_of identifiers place_from
 index_error = refl
 
 -- both sides begin, and two words are put; a third one isn't put while two are unread
@@ -87,5 +89,5 @@ too_many = refl
 
 -- roots on two cores: each calls a function
 apart : program_seen two_cores no_stimulus (steps 4 0 ++ steps 7 1 ++ replicate 700 (clock 1) ++ steps 3 1 ++ steps 3 0) ≡ finished (Com 1 20 ∷ PortOut 1 16 700 4 ∷ [])
-unfolding copy_of
+unfolding copy_of identifiers place_from
 apart = refl
