@@ -14,14 +14,14 @@ use Rattle.xc_form.specs.Form.{HasForm}
 use Rattle.xc_form.specs.OfTree.{IsOfTree}
 use Rattle.xc_form.proofs.FormPrograms.{program_of_form}
 use Rattle.xc_lexer.proofs.Rows.{tokens_one, tokens_unbroken}
-use Rattle.xcsim.specs.Rules.{Breaks, of_bytes, of_form, of_names, of_tokens, of_types, First, IsAccepted, IsNamed, IsTree, end_of, not_built}
+use Rattle.xcsim.specs.Rules.{Breaks, of_bytes, of_form, of_names, of_tokens, of_types, First, IsAccepted, IsEarlier, IsNamed, IsTree, Phase, Form, Bytes, Tokens, Names, Types, end_of, not_built}
 use Rattle.xcsim.proofs.Meanings.{named_by_uses, named_one}
 use Rattle.xcsim.proofs.Order.{tokens_in_order}
 
 pub first_in_bytes : (text : List ℕ) (b : Broken) → FirstInBytes text b → First text b
-first_in_bytes text b f = record { phase = 1; breaks = of_bytes b f.breaks; least = least }
+first_in_bytes text b f = record { phase = Bytes; breaks = of_bytes b f.breaks; least = least }
   where
-    least : (later : ℕ) (other : Broken) → Breaks text later other → (1 < later) ⊎ ((1 ≡ later) × IsNotAfter b other)
+    least : (later : Phase) (other : Broken) → Breaks text later other → IsEarlier Bytes later ⊎ ((Bytes ≡ later) × IsNotAfter b other)
     least later other (of_form items tree not) = absurd (tokens_unbroken text tree.toks b tree.lexes f.breaks)
     least later other (of_bytes c breaks) = inr (refl, f.least c breaks)
     least later other (of_tokens toks rule i lexes breaks) = inl (omega arith)
@@ -38,7 +38,7 @@ module _ (text : List ℕ) (toks : List Tok) (lexes : Lexes text toks) where
   same others l = tokens_one text others toks l lexes
 
   pub first_in_tokens : (b : Broken) → FirstInTokens toks (end_of text) b → First text b
-  first_in_tokens b f = record { phase = 2; breaks = subst (Breaks text 2) (sym is) (of_tokens toks b.rule f.«at» lexes f.breaks); least = least }
+  first_in_tokens b f = record { phase = Tokens; breaks = subst (Breaks text Tokens) (sym is) (of_tokens toks b.rule f.«at» lexes f.breaks); least = least }
     where
       is : b ≡ record { rule = b.rule; pos = place_at toks (end_of text) f.«at» }
       is = ap (λ p. let c : Broken = record { rule = b.rule; pos = p } in c) f.place
@@ -47,7 +47,7 @@ module _ (text : List ℕ) (toks : List Tok) (lexes : Lexes text toks) where
       by rule i few (inl before) = inl (subst (λ p. IsBefore p (place_at toks (end_of text) i)) (sym f.place) (tokens_in_order text toks lexes f.«at» i before few))
       by rule i few (inr here) = inr (f.place ∙ ap (place_at toks (end_of text)) here.0, here.1)
 
-      least : (later : ℕ) (other : Broken) → Breaks text later other → (2 < later) ⊎ ((2 ≡ later) × IsNotAfter b other)
+      least : (later : Phase) (other : Broken) → Breaks text later other → IsEarlier Tokens later ⊎ ((Tokens ≡ later) × IsNotAfter b other)
       least later other (of_form items tree not) = absurd (tree.unbroken b.rule f.«at» (subst (λ ts. BreaksRule ts b.rule f.«at») (sym (same tree.toks tree.lexes)) f.breaks))
       least later other (of_bytes c breaks) = absurd (tokens_unbroken text toks c lexes breaks)
       least later other (of_tokens others rule i l breaks) =
@@ -62,9 +62,9 @@ module _ (text : List ℕ) (toks : List Tok) (lexes : Lexes text toks) where
     tree = record { toks = toks; lexes = lexes; derives = derives; unbroken = unbroken }
 
     pub first_of_form : (HasForm items → ⊥) → First text not_built
-    first_of_form not = record { phase = 0; breaks = of_form items tree not; least = least }
+    first_of_form not = record { phase = Form; breaks = of_form items tree not; least = least }
       where
-        least : (later : ℕ) (other : Broken) → Breaks text later other → (0 < later) ⊎ ((0 ≡ later) × IsNotAfter not_built other)
+        least : (later : Phase) (other : Broken) → Breaks text later other → IsEarlier Form later ⊎ ((Form ≡ later) × IsNotAfter not_built other)
         least later other (of_form others t n) = inr (refl, inr (refl, omega arith))
         least later other (of_bytes c breaks) = inl (omega arith)
         least later other (of_tokens others rule i l breaks) = inl (omega arith)
@@ -85,9 +85,9 @@ module _ (text : List ℕ) (toks : List Tok) (lexes : Lexes text toks) where
       no_other_form others t not = not (subst HasForm (sym (one_tree others t)) form)
 
       pub first_in_names : (b : Broken) → FirstInNames items b → First text b
-      first_in_names b f = record { phase = 3; breaks = of_names items b tree f.breaks; least = least }
+      first_in_names b f = record { phase = Names; breaks = of_names items b tree f.breaks; least = least }
         where
-          least : (later : ℕ) (other : Broken) → Breaks text later other → (3 < later) ⊎ ((3 ≡ later) × IsNotAfter b other)
+          least : (later : Phase) (other : Broken) → Breaks text later other → IsEarlier Names later ⊎ ((Names ≡ later) × IsNotAfter b other)
           least later other (of_form others t not) = absurd (no_other_form others t not)
           least later other (of_bytes c breaks) = absurd (no_bytes c breaks)
           least later other (of_tokens others rule i l breaks) = absurd (no_tokens others rule i l breaks)
@@ -103,9 +103,9 @@ module _ (text : List ℕ) (toks : List Tok) (lexes : Lexes text toks) where
             subst (λ x. BreaksInTypes x c) (named_one items m n (subst (λ v. IsNamed v m) (one_tree others t) other_named) named) breaks
 
         pub first_in_types : (b : Broken) → FirstInTypes n b → First text b
-        first_in_types b f = record { phase = 4; breaks = of_types items n b tree named f.breaks; least = least }
+        first_in_types b f = record { phase = Types; breaks = of_types items n b tree named f.breaks; least = least }
           where
-            least : (later : ℕ) (other : Broken) → Breaks text later other → (4 < later) ⊎ ((4 ≡ later) × IsNotAfter b other)
+            least : (later : Phase) (other : Broken) → Breaks text later other → IsEarlier Types later ⊎ ((Types ≡ later) × IsNotAfter b other)
             least later other (of_form others t not) = absurd (no_other_form others t not)
             least later other (of_bytes c breaks) = absurd (no_bytes c breaks)
             least later other (of_tokens others rule i l breaks) = absurd (no_tokens others rule i l breaks)
@@ -116,7 +116,7 @@ module _ (text : List ℕ) (toks : List Tok) (lexes : Lexes text toks) where
           pub accepts : (P : Program) → IsOfTree items P → IsAccepted text P
           accepts P is = record { items = items; tree = tree; form = is; unbroken = none }
             where
-              none : (phase : ℕ) (b : Broken) → Breaks text phase b → ⊥
+              none : (phase : Phase) (b : Broken) → Breaks text phase b → ⊥
               none phase b (of_form others t not) = no_other_form others t not
               none phase b (of_bytes c breaks) = no_bytes c breaks
               none phase b (of_tokens others rule i l breaks) = no_tokens others rule i l breaks

@@ -1,10 +1,13 @@
 mod BuiltImage
 mod Completes
 mod Decides
+mod Dues
 mod Firsts
 mod Given
 mod ImageWords
 mod Meanings
+mod OneAnswer
+mod OneProgram
 mod OnlyCauses
 mod Order
 mod Rounds

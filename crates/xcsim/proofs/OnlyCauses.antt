@@ -52,30 +52,30 @@ module _ (words : List (List ℕ)) (shelf : Loads) (out err : Span) where
     write_fault = λ e. absurd (omega (arith, e));
     no_memory = λ e. g;
   }
-  by_decided o (missing c m rose none) g = record {
+  by_decided o (missing c name m due rose none) g = record {
     refused = λ e. absurd (omega (arith, e));
     usage = λ e. absurd (omega (arith, e));
-    missing = λ e. (rose, (c, m, none));
+    missing = λ e. (rose, (c, m, (name, due, none)));
     too_long = λ e. absurd (omega (arith, e));
     read_fault = λ e. absurd (omega (arith, e));
     write_fault = λ e. absurd (omega (arith, e));
     no_memory = λ e. g;
   }
-  by_decided o (too_long c m rose long) g = record {
+  by_decided o (too_long c name m due rose long) g = record {
     refused = λ e. absurd (omega (arith, e));
     usage = λ e. absurd (omega (arith, e));
     missing = λ e. absurd (omega (arith, e));
-    too_long = λ e. (rose, (c, m, long));
+    too_long = λ e. (rose, (c, m, (name, due, long)));
     read_fault = λ e. absurd (omega (arith, e));
     write_fault = λ e. absurd (omega (arith, e));
     no_memory = λ e. g;
   }
-  by_decided o (read_fault c m rose) g = record {
+  by_decided o (read_fault c name m due rose) g = record {
     refused = λ e. absurd (omega (arith, e));
     usage = λ e. absurd (omega (arith, e));
     missing = λ e. absurd (omega (arith, e));
     too_long = λ e. absurd (omega (arith, e));
-    read_fault = λ e. (rose, (c, m));
+    read_fault = λ e. (rose, (c, m, (name, due, tt)));
     write_fault = λ e. absurd (omega (arith, e));
     no_memory = λ e. g;
   }
@@ -90,7 +90,7 @@ module _ (words : List (List ℕ)) (shelf : Loads) (out err : Span) where
   }
   by_decided o (checked file text P m told accepted) g = printed 0 (omega arith, inl refl)
   by_decided o (assembled file text L m told compiled) g = printed 0 (omega arith, inl refl)
-  by_decided o (ran file text L lines word trapped m told compiled lockstep) g = printed (status_of_run trapped word) (run_status trapped word)
+  by_decided o (ran file ticks stim text s L lines word trapped m told compiled named lockstep) g = printed (status_of_run trapped word) (run_status trapped word)
   by_decided o no_memory g = record {
     refused = λ e. absurd (omega (arith, e));
     usage = λ e. absurd (omega (arith, e));

@@ -1,17 +1,19 @@
 -- What the program answers: what is decided, and how it is delivered.
-use Rattle.std.specs.Prelude.{◌≡◌, ◌≢◌, ℕ, Bool, true, false, List, [], Some, None}
+use Rattle.std.specs.Prelude.{◌≡◌, ◌≢◌, ℕ, Bool, true, false, List, [], Option, Some, None}
 use Rattle.xw_io.specs.Outside.{Rose, IsFileOf, IsMissing, IsTooLong}
 use Rattle.xw_words.specs.declared.pos.Broken.{Broken}
 use Rattle.xs_instr.specs.declared.image.Image.{Image}
+use Rattle.xs_instr.specs.declared.image.Stim.{Stim}
 use Rattle.xs_instr.specs.declared.trace.EndWord.{EndWord}
 use Rattle.xs_instr.specs.declared.trace.EndWord.TheVariants.{Finished, Trapped, Stuck, Stopped}
 use Rattle.xs_instr.specs.declared.trace.Record.{Record}
 use Rattle.xc_built.specs.declared.program.Program.{Program}
 use Rattle.xcsim.specs.Command.{Run, Asm, Check, Command, file_of, means}
+use Rattle.xcsim.specs.Due.{IsDue}
 use Rattle.xcsim.specs.Lines.{accepted_line, code_section, run_output, usage_line, no_file_line, too_long_line, read_fault_line, broken_line, no_memory_line}
 use Rattle.xcsim.specs.Outside.{Loads, Span, Gained, GainedFront}
 use Rattle.xcsim.specs.Rules.{First, IsAccepted}
-use Rattle.xcsim.specs.Runs.{IsCompiled, IsLockstep}
+use Rattle.xcsim.specs.Runs.{IsCompiled, IsLockstep, IsStimOf}
 
 -- what is decided: the status, what is due on `out`, and the line that is due on `err`
 pub record Outcome : Type 0 where
@@ -42,15 +44,15 @@ status_of_run false word = status_of_word word
 -- Each outcome with its cause: one row for each that there is.
 pub data Decided (words : List (List ℕ)) (shelf : Loads) : Outcome → Type 0 where
   no_command : means words ≡ None → Decided words shelf (says 2 usage_line)
-  missing : (c : Command) → means words ≡ Some c →
-      Rose shelf.misses shelf.misses' → IsMissing shelf.files (file_of c) →
-      Decided words shelf (says 6 (no_file_line (file_of c)))
-  too_long : (c : Command) → means words ≡ Some c →
-      Rose shelf.longs shelf.longs' → IsTooLong shelf.files (file_of c) →
-      Decided words shelf (says 7 (too_long_line (file_of c)))
-  read_fault : (c : Command) → means words ≡ Some c →
+  missing : (c : Command) (name : List ℕ) → means words ≡ Some c → IsDue shelf.files c name →
+      Rose shelf.misses shelf.misses' → IsMissing shelf.files name →
+      Decided words shelf (says 6 (no_file_line name))
+  too_long : (c : Command) (name : List ℕ) → means words ≡ Some c → IsDue shelf.files c name →
+      Rose shelf.longs shelf.longs' → IsTooLong shelf.files name →
+      Decided words shelf (says 7 (too_long_line name))
+  read_fault : (c : Command) (name : List ℕ) → means words ≡ Some c → IsDue shelf.files c name →
       Rose shelf.faults shelf.faults' →
-      Decided words shelf (says 8 (read_fault_line (file_of c)))
+      Decided words shelf (says 8 (read_fault_line name))
   refused : (c : Command) (text : List ℕ) (b : Broken) → means words ≡ Some c →
       IsFileOf shelf.files (file_of c) text → First text b →
       Decided words shelf (says 1 (broken_line (file_of c) b))
@@ -60,8 +62,10 @@ pub data Decided (words : List (List ℕ)) (shelf : Loads) : Outcome → Type 0 
   assembled : (file text : List ℕ) (L : Image) → means words ≡ Some (Asm file) →
       IsFileOf shelf.files file text → IsCompiled text L →
       Decided words shelf (prints 0 (code_section L))
-  ran : (file text : List ℕ) (L : Image) (lines : List Record) (word : EndWord) (trapped : Bool) → means words ≡ Some (Run file) →
-      IsFileOf shelf.files file text → IsCompiled text L → IsLockstep L lines word trapped →
+  ran : (file : List ℕ) (ticks : ℕ) (stim : Option (List ℕ)) (text : List ℕ) (s : Stim) (L : Image) (lines : List Record)
+      (word : EndWord) (trapped : Bool) → means words ≡ Some (Run file ticks stim) →
+      IsFileOf shelf.files file text → IsCompiled text L → IsStimOf shelf.files stim s →
+      IsLockstep L s ticks lines word trapped →
       Decided words shelf (prints (status_of_run trapped word) (run_output L lines word))
   no_memory : Decided words shelf (says 12 no_memory_line)
 

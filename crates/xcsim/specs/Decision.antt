@@ -1,5 +1,5 @@
 -- What is due, of the values that the program holds.
-use Rattle.std.specs.Prelude.{ℕ, List, []}
+use Rattle.std.specs.Prelude.{ℕ, List, [], None}
 use Rattle.xs_instr.specs.Valid.{Valid}
 use Rattle.xs_fabric.specs.Seen.{state_of}
 use Rattle.xcsim.specs.declared.decide.Decision.{Decision}
@@ -15,7 +15,7 @@ use Rattle.xcsim.specs.Answers.{Outcome}
 
 -- the meaning of a command
 abbrev pub command_of : Command → Meant
-command_of (Run file) = MeansRun file.now
+command_of (Run file ticks) = MeansRun file.now ticks None
 command_of (Asm file) = MeansAsm file.now
 command_of (Check file) = MeansCheck file.now
 

@@ -2,6 +2,7 @@ pub mod Command
 pub mod Lines
 pub mod Rules
 pub mod Refusals
+pub mod Due
 pub mod Runs
 pub mod Outside
 pub mod Answers

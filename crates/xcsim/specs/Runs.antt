@@ -1,10 +1,10 @@
 -- What a text compiles to, and the run that is written.
-use Rattle.std.specs.Prelude.{◌≡◌, ℕ, Bool, List, []}
+use Rattle.std.specs.Prelude.{◌≡◌, ℕ, Bool, List, [], Option, None}
+use Rattle.xw_io.specs.declared.file.File.{File}
 use Rattle.xs_instr.specs.declared.image.Image.{Image}
 use Rattle.xs_instr.specs.declared.image.Stim.{Stim}
 use Rattle.xs_instr.specs.declared.trace.EndWord.{EndWord}
 use Rattle.xs_instr.specs.declared.trace.Record.{Record}
-use Rattle.xs_instr.specs.Machine.{Machine}
 use Rattle.xs_instr.specs.Valid.{Valid}
 use Rattle.xs_fabric.specs.EndWord.{end_of, has_trap}
 use Rattle.xs_fabric.specs.Lockstep.{lockstep}
@@ -26,16 +26,12 @@ pub record IsCompiled (text : List ℕ) (L : Image) : Type 0 where
 abbrev pub no_stim : Stim
 no_stim = record { lines = [] }
 
--- how many rounds a run has
-abbrev pub rounds : ℕ
-rounds = 100000
+-- the stimulus of a run, by the file that is named for it: none is named, and there are no lines
+pub data IsStimOf (files : Option (List File)) : Option (List ℕ) → Stim → Type 0 where
+  unnamed : IsStimOf files None no_stim
 
--- the machine after all rounds
-abbrev pub last_state : Image → Machine
-last_state L = lockstep L no_stim rounds
-
--- what the run in lockstep recorded, how it ended, and whether a thread trapped
-pub record IsLockstep (L : Image) (lines : List Record) (word : EndWord) (trapped : Bool) : Type 0 where
-  pub lines_are : lines ≡ (last_state L).trace
-  pub word_is : word ≡ end_of L no_stim (last_state L)
-  pub trapped_is : trapped ≡ has_trap L no_stim (last_state L)
+-- what the run in lockstep recorded in so many rounds from the start, how it ended, and whether a thread trapped
+pub record IsLockstep (L : Image) (s : Stim) (rounds : ℕ) (lines : List Record) (word : EndWord) (trapped : Bool) : Type 0 where
+  pub lines_are : lines ≡ (lockstep L s rounds).trace
+  pub word_is : word ≡ end_of L s (lockstep L s rounds)
+  pub trapped_is : trapped ≡ has_trap L s (lockstep L s rounds)

@@ -9,7 +9,7 @@ ghost use Rattle.xr_match.specs.Implements.{Implements};
 ghost use Rattle.xcsim.specs.Answers.{Decided, status_of_run};
 ghost use Rattle.xcsim.specs.Decision.{outcome_of, IsPrintable};
 ghost use Rattle.xcsim.specs.Outside.{loads};
-ghost use Rattle.xcsim.specs.Runs.{IsLockstep};
+ghost use Rattle.xcsim.specs.Runs.{IsLockstep, no_stim};
 
 use crate::front::{Refusal, read_text};
 use crate::run::{Run, run_lockstep};
@@ -17,9 +17,9 @@ use crate::words::{Command, meaning};
 use std::alloc::Global;
 use xc_built::Program;
 use xr_match::compile;
-use xs_instr::{EndWord, Image};
+use xs_instr::{EndWord, Image, Stim};
 use xw_io::{LoadErr, Shelf};
-use xw_words::{Broken, Memory};
+use xw_words::{Broken, List, Memory};
 
 /// What is due on `out`.
 #[derive(Drop)]
@@ -80,7 +80,7 @@ pub fn decide<'w, S: Shelf>(alloc: Global, words: &'w [String], shelf: &mut S) -
             Ok(image) => printing(0, Printed::Code(image)),
             Err(Memory) => saying(12, Line::NoMemory),
         },
-        Command::Run(_) => match compile_and_run(alloc, &program) {
+        Command::Run { ticks, .. } => match compile_and_run(alloc, &program, ticks) {
             Ok((image, run)) => {
                 let status = status(run.trapped, run.end);
                 printing(status, Printed::Whole(image, run))
@@ -90,22 +90,26 @@ pub fn decide<'w, S: Shelf>(alloc: Global, words: &'w [String], shelf: &mut S) -
     }
 }
 
-/// The image of a program, and its run.
-fn compile_and_run(alloc: Global, program: &Program) -> Result<(Image, Run), Memory>
+/// The image of a program, and its run for so many ticks without a stimulus.
+fn compile_and_run(alloc: Global, program: &Program, ticks: u32) -> Result<(Image, Run), Memory>
     requires well_formed { IsWellFormed program.now }
     requires few { length program.now.outputs < 2 ^ 28 }
     ensures implements { IfOk result (λ r. Implements r.0 program.now) }
     ensures valid { IfOk result (λ r. Valid r.0) }
     ensures code { IfOk result (λ r. IsCodeOf program.now r.0) }
-    ensures lockstep { IfOk result (λ r. IsLockstep r.0 (state_of r.1.machine).trace r.1.end r.1.trapped) }
+    ensures lockstep { IfOk result (λ r.
+        IsLockstep r.0 no_stim ticks (state_of r.1.machine).trace r.1.end r.1.trapped) }
 {
     let image = compile(alloc, program)?;
-    let run = run_lockstep(alloc, &image)?;
+    let stim = Stim {
+        lines: List::new(alloc),
+    };
+    let run = run_lockstep(alloc, &image, &stim, ticks)?;
     Ok((image, run))
 }
 
 /// A status with a line and no output.
-pub fn saying(status: u8, line: Line<'_>) -> Decision<'_>
+fn saying(status: u8, line: Line<'_>) -> Decision<'_>
     ensures { result ≡ record { status = status; printed = Printed.Nothing; line = line.entry } }
 {
     Decision {

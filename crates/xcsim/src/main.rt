@@ -4,13 +4,12 @@
 mod decide;
 mod deliver;
 mod front;
+mod law;
 mod run;
 mod still;
 mod top;
 mod words;
 
-use decide::{Line, saying};
-use deliver::deliver;
 use std::alloc::Global;
 use std::io::ErrorKind;
 use std::process::ExitCode;
@@ -28,20 +27,23 @@ fn command_words(rt: &(impl Env + Alloc<A = Global>)) -> io::Result<Vec<String>>
     Ok(words)
 }
 
+/// The status where the program can't have its words. Nothing is written then.
+fn status_without_words(kind: ErrorKind) -> u8 {
+    if kind == ErrorKind::OutOfMemory {
+        12
+    } else {
+        15
+    }
+}
+
 fn main(rt: HostRuntime) -> ExitCode {
-    let mut out = StdSink::new(rt.stdout());
-    let mut err = StdSink::new(rt.stderr());
     let words = match command_words(&rt) {
         Ok(words) => words,
-        Err(e) => {
-            if e.kind() == ErrorKind::OutOfMemory {
-                let decision = saying(12, Line::NoMemory);
-                return ExitCode::from(deliver(&decision, &mut out, &mut err));
-            }
-            return ExitCode::from(15);
-        }
+        Err(e) => return ExitCode::from(status_without_words(e.kind())),
     };
     let mut shelf = FsShelf::new(&rt);
+    let mut out = StdSink::new(rt.stdout());
+    let mut err = StdSink::new(rt.stderr());
     ExitCode::from(xcsim(
         &rt,
         rt.alloc(),

@@ -1,16 +1,13 @@
 ghost use Rattle.std.specs.Prelude.{◌≡◌, IfOk};
 ghost use Rattle.xs_core.specs.Built.{IsBuilt};
-ghost use Rattle.xs_instr.specs.Valid.{Valid};
+ghost use Rattle.xs_instr.specs.Valid.{IsGoodStim, Valid};
 ghost use Rattle.xcsim.specs.Runs.{IsLockstep};
 ghost use Rattle.xs_fabric.specs.Seen.{state_of};
 
 use std::alloc::Global;
 use xs_fabric::Machine;
 use xs_instr::{EndWord, Image, Stim};
-use xw_words::{List, Memory};
-
-/// How many rounds a run has.
-const ROUNDS: u32 = 100_000;
+use xw_words::Memory;
 
 /// The most records that one round makes: one for each thread of the four cores.
 const RECORDS_A_ROUND: u32 = 32;
@@ -23,17 +20,16 @@ pub struct Run {
     pub trapped: bool,
 }
 
-/// Runs an image in lockstep, without a stimulus.
-pub fn run_lockstep(alloc: Global, image: &Image) -> Result<Run, Memory>
+/// Runs an image in lockstep under a stimulus, for so many rounds from the start.
+pub fn run_lockstep(alloc: Global, image: &Image, stim: &Stim, rounds: u32) -> Result<Run, Memory>
     requires valid { Valid image.now }
     requires built { IsBuilt image.now }
-    ensures { IfOk result (λ run. IsLockstep image.now (state_of run.machine).trace run.end run.trapped) }
+    requires stim { IsGoodStim stim.now }
+    ensures { IfOk result (λ run.
+        IsLockstep image.now stim.now rounds (state_of run.machine).trace run.end run.trapped) }
 {
-    let stim = Stim {
-        lines: List::new(alloc),
-    };
-    let mut machine = Machine::boot(alloc, image, &stim)?;
-    for _round in 0..ROUNDS {
+    let mut machine = Machine::boot(alloc, image, stim)?;
+    for _round in 0..rounds {
         machine.reserve(RECORDS_A_ROUND)?;
         machine.round();
     }

@@ -2,11 +2,14 @@ ghost use Rattle.std.specs.Prelude.{◌≡◌, None, Some, map, MatchOption, str
 ghost use Rattle.xcsim.specs.Command.{file_of, is_operand, means};
 ghost use Rattle.xcsim.specs.Decision.{command_of};
 
+/// How many ticks a run has where the words don't say it.
+const DEFAULT_TICKS: u32 = 100_000;
+
 /// What the words of the command line ask for.
 #[derive(Clone, Copy)]
 pub enum Command<'w> {
-    /// Compile a file, and run it.
-    Run(&'w str),
+    /// Compile a file, and run it for so many ticks.
+    Run { file: &'w str, ticks: u32 },
     /// Compile a file, and write its listing.
     Asm(&'w str),
     /// Say whether a file is accepted.
@@ -14,12 +17,12 @@ pub enum Command<'w> {
 }
 
 impl<'w> Command<'w> {
-    /// The file that the command is about.
+    /// The file with the text that the command is about.
     pub fn file(self) -> &'w str
         ensures { result.now ≡ file_of (command_of self.entry) }
     {
         match self {
-            Command::Run(file) => file,
+            Command::Run { file, .. } => file,
             Command::Asm(file) => file,
             Command::Check(file) => file,
         }
@@ -50,7 +53,10 @@ pub fn meaning(words: &[String]) -> Option<Command<'_>>
         return None;
     }
     if words[0].as_str() == "run" {
-        return Some(Command::Run(file));
+        return Some(Command::Run {
+            file,
+            ticks: DEFAULT_TICKS,
+        });
     }
     if words[0].as_str() == "asm" {
         return Some(Command::Asm(file));
