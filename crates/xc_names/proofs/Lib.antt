@@ -19,3 +19,4 @@ pub mod Cycles
 pub mod Together
 pub mod Declared
 pub mod Bounds
+pub mod OneNaming

@@ -13,3 +13,4 @@ pub mod Searches
 pub mod Graphs
 pub mod Cycles
 pub mod Errors
+pub mod Named

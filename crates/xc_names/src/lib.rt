@@ -5,6 +5,7 @@ mod calls;
 mod components;
 mod graph;
 mod latest;
+mod laws;
 mod main_function;
 mod marks;
 mod meanings;
@@ -16,4 +17,5 @@ mod scopes;
 mod taken;
 mod uses;
 
+pub use laws::at_most_one_naming;
 pub use resolution::{NameErr, resolve};
