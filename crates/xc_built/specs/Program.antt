@@ -1,11 +1,8 @@
 -- Which programs there are.
 use Rattle.std.specs.Prelude.{ℕ, ◌<◌, ◌≢◌, List, [], ◌∷◌, length}
+use Rattle.xw_words.specs.Ports.{port_count}
 use Rattle.xc_built.specs.declared.program.Output.{Output}
 use Rattle.xc_built.specs.declared.program.Program.{Program}
-
--- how many identifiers of ports there are
-abbrev pub port_count : ℕ
-port_count = 29
 
 -- no port of the list has this identifier
 abbrev pub IsNew : ℕ → List ℕ → Type 0

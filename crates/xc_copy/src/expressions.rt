@@ -20,14 +20,9 @@ use crate::operators::{operation_is_unsigned, operator_of, result_is_unsigned, s
 use crate::scope::{Entity, Scope};
 use std::alloc::Global;
 use xc_kernel::{Kx, Place};
+use xc_tree::symbols::{BRACKET, QUESTION};
 use xc_tree::{Ex, Expr};
 use xw_words::{Memory, Pos};
-
-/// The place of `?` among the symbols.
-const QUESTION: u8 = 9;
-
-/// The place of `[` among the symbols.
-const BRACKET: u8 = 4;
 
 /// An expression of the kernel, and whether it is an `unsigned` word.
 #[derive(Drop)]

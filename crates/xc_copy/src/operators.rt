@@ -3,21 +3,27 @@ ghost use Rattle.xc_kernel.specs.Operators as spec;
 ghost use Rattle.xc_kernel.specs.Types as types;
 ghost use Rattle.xc_copy.specs.Truths.{is_truth};
 
-/// The places of these operators among the symbols.
-const NOT: u8 = 14;
+use xc_tree::symbols::{
+    ABOVE, ABOVE_EQUALS, AMPERSAND, AND_AND, BANG, BANG_EQUALS, BAR, BELOW, BELOW_EQUALS, CARET,
+    EQUALS_EQUALS, MINUS, OR_OR, PERCENT, PLUS, PLUS_PLUS, SHIFT_DOWN, SHIFT_UP, SLASH, STAR,
+};
 
-const SHIFT_UP: u8 = 33;
+/// The operators whose result is 0 or 1.
+const TRUTHS: [u8; 8] = [
+    BELOW,
+    ABOVE,
+    EQUALS_EQUALS,
+    BANG_EQUALS,
+    BELOW_EQUALS,
+    ABOVE_EQUALS,
+    AND_AND,
+    OR_OR,
+];
 
-const SHIFT_DOWN: u8 = 34;
-
-/// The places of `< > == != <= >= && ||`.
-const TRUTHS: [u8; 8] = [20, 21, 27, 28, 29, 30, 31, 32];
-
-/// The place of `++`, the first symbol by which an operator assigns.
-const FIRST_ASSIGNING: u8 = 35;
-
-/// For the symbols from `++` on by which an operator assigns, the places of their operators.
-const ASSIGNING: [u8; 12] = [15, 16, 15, 16, 17, 18, 19, 10, 11, 12, 33, 34];
+/// For the symbols from `++` on by which an operator assigns, their operators.
+const ASSIGNING: [u8; 12] = [
+    PLUS, MINUS, PLUS, MINUS, STAR, SLASH, PERCENT, AMPERSAND, BAR, CARET, SHIFT_UP, SHIFT_DOWN,
+];
 
 /// Whether an operation on two words is that of `unsigned` words: where one of them is, and a shift where its left one is.
 pub fn operation_is_unsigned(symbol: u8, left: bool, right: bool) -> bool
@@ -54,7 +60,7 @@ fn gives_truth(symbol: u8) -> bool
 pub fn sign_is_unsigned(symbol: u8, operand: bool) -> bool
     ensures { result ≡ types.sign_is_unsigned (spec.operator_at symbol) operand }
 {
-    if symbol == NOT {
+    if symbol == BANG {
         return false;
     }
     operand
@@ -64,7 +70,7 @@ pub fn sign_is_unsigned(symbol: u8, operand: bool) -> bool
 pub fn operator_of(symbol: u8) -> u8
     ensures { result ≡ spec.operator_of symbol }
 {
-    let place = usize::from(symbol.saturating_sub(FIRST_ASSIGNING));
+    let place = usize::from(symbol.saturating_sub(PLUS_PLUS));
     if place < ASSIGNING.len() {
         ASSIGNING[place]
     } else {

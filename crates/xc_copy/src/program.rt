@@ -1,7 +1,8 @@
 ghost use Rattle.std.specs.Prelude.{◌≡◌, ◌<◌, [], ◌∷◌, ◌++◌, length, IfOk, OnOk, map, option_map};
 ghost use Rattle.xc_tree.specs.Trees.{program_of, item_of, port_of};
 ghost use Rattle.xc_kernel.specs.Copies.{Copies};
-ghost use Rattle.xc_kernel.specs.Identifiers.{identifiers, place_among};
+ghost use Rattle.xw_words.specs.Tables.{place_in};
+ghost use Rattle.xw_words.specs.Ports.{identifiers};
 ghost use Rattle.xc_kernel.specs.Kernels.{kernel_of, root_of};
 ghost use Rattle.xc_kernel.specs.Ports as ports_spec;
 ghost use Rattle.xc_kernel.specs.Programs as programs;
@@ -20,43 +21,10 @@ use crate::scope::Scope;
 use std::alloc::Global;
 use xc_kernel::{Kernel, PortUse};
 use xc_tree::{FuncItem, Item, PortItem, Tree};
-use xw_words::{List, Memory, Pos};
+use xw_words::{List, Memory, PORT_COUNT, Pos, identifier_place};
 
 /// The name of the function that is run.
 const MAIN: &[u8] = b"main";
-
-/// The identifiers of ports, in the order of their places.
-const IDENTIFIERS: [&[u8]; 29] = [
-    b"XS1_PORT_1A",
-    b"XS1_PORT_1B",
-    b"XS1_PORT_1C",
-    b"XS1_PORT_1D",
-    b"XS1_PORT_1E",
-    b"XS1_PORT_1F",
-    b"XS1_PORT_1G",
-    b"XS1_PORT_1H",
-    b"XS1_PORT_1I",
-    b"XS1_PORT_1J",
-    b"XS1_PORT_1K",
-    b"XS1_PORT_1L",
-    b"XS1_PORT_1M",
-    b"XS1_PORT_1N",
-    b"XS1_PORT_1O",
-    b"XS1_PORT_1P",
-    b"XS1_PORT_4A",
-    b"XS1_PORT_4B",
-    b"XS1_PORT_4C",
-    b"XS1_PORT_4D",
-    b"XS1_PORT_4E",
-    b"XS1_PORT_4F",
-    b"XS1_PORT_8A",
-    b"XS1_PORT_8B",
-    b"XS1_PORT_8C",
-    b"XS1_PORT_8D",
-    b"XS1_PORT_16A",
-    b"XS1_PORT_16B",
-    b"XS1_PORT_32A",
-];
 
 /// The kernel of a program: the program with each call replaced by its function's body over instances of its own. The tree is
 /// walked twice, for the instances and then for the statements, which mean instances by their places. The one error is want of
@@ -213,7 +181,7 @@ fn port_use(alloc: Global, port: &PortItem) -> Result<PortUse, Memory>
 {
     let core = core_of(alloc, &port.place, &Scope::new(alloc))?;
     Ok(PortUse {
-        id: place_of_identifier(port.ident.text.as_slice()),
+        id: port_of(port.ident.text.as_slice()),
         dir: port.dir,
         core,
         place: pos_of_place(port.name.pos, &port.place),
@@ -221,25 +189,12 @@ fn port_use(alloc: Global, port: &PortItem) -> Result<PortUse, Memory>
     })
 }
 
-/// The place of an identifier among those of ports, or their number.
-fn place_of_identifier(text: &[u8]) -> u8
-    ensures { result ≡ place_among identifiers text.now }
+/// The port of an identifier, or the number of ports.
+fn port_of(identifier: &[u8]) -> u8
+    ensures { result ≡ ports_spec.port_at (place_in identifiers identifier.now) }
 {
-    place_in(&IDENTIFIERS, text)
-}
-
-/// The place of a text in a table, or the table's length.
-#[tactic(auto, using(crate::proofs::Laws::Ports::place_step))]
-fn place_in(table: &[&[u8]], text: &[u8]) -> u8
-    requires { length table.now < 256 }
-    ensures { result ≡ place_among (names_among table.now) text.now }
-{
-    let mut place = 0;
-    for name in table {
-        if *name == text {
-            return place;
-        }
-        place += 1;
+    match identifier_place(identifier) {
+        Some(port) => port,
+        None => PORT_COUNT,
     }
-    place
 }

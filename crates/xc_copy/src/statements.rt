@@ -26,11 +26,9 @@ use crate::paths::path_at;
 use crate::scope::{Entity, Scope};
 use std::alloc::Global;
 use xc_kernel::Kst;
+use xc_tree::symbols::EQUALS;
 use xc_tree::{Arg, Branch, Case, DeclKind, Declared, Expr, FuncItem, Id, Rhs, St, Stmt};
 use xw_words::{List, Memory, Pos};
-
-/// The place of `=` among the symbols.
-const EQUALS: u8 = 22;
 
 // Calls are copied at most `calls` deep.
 impl<'p, 'a> Context<'p, 'a> {

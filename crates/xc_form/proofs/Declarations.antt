@@ -7,8 +7,8 @@ use Rattle.xc_tree.specs.Trees.{item_of}
 use Rattle.xc_form.specs.declared.ports.Ports.{Ports}
 use Rattle.xc_form.specs.OfTree.{IsDeclaration, AreDeclarations, no_declaration, further_declaration, AreDistinctNames}
 use Rattle.xc_form.specs.Steps.{CanDeclare, Declared, CanBeDeclared, AreAllDeclared}
-use Rattle.xc_tree.specs.Names.Ports.{identifiers}
-use Rattle.xc_form.specs.Words.{place_in}
+use Rattle.xw_words.specs.Ports.{identifiers}
+use Rattle.xw_words.specs.Tables.{place_in}
 use Rattle.xc_form.proofs.Items.{rest_on, rest_none}
 use Rattle.xc_form.proofs.Names.{new_before, name_before, names_behind, no_place, is_new_name, few_ports}
 use Rattle.xc_form.proofs.Identifiers.{distinct_behind, identifier_within}

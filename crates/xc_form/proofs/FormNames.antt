@@ -10,12 +10,13 @@ use Rattle.xc_built.specs.Program.{AreDistinctPorts, IsNew}
 use Rattle.xc_tree.specs.declared.names.Mark.{Mark}
 use Rattle.xc_tree.specs.declared.names.What.TheVariants as what
 use Rattle.xc_tree.specs.Plain as plain
-use Rattle.xc_tree.specs.Names.Ports.{core_at, core_of, identifiers, ports}
+use Rattle.xc_tree.specs.Names.Ports.{core_at, core_of, ports}
+use Rattle.xw_words.specs.Ports.{identifiers}
 use Rattle.xc_tree.specs.Names.Rules.{Breaks, Breaks302, IsUsedAgain, declared_again, wrong_port}
 use Rattle.xc_tree.specs.Names.Scopes.{DeclaresAt, end_of}
 use Rattle.xc_form.proofs.Formed.{AreFreePorts, Formed, IsFreePort}
 use Rattle.xc_form.specs.OfTree.{AreDeclarations, AreDistinctNames, IsNewName, further_declaration, no_declaration}
-use Rattle.xc_form.specs.Words.{place_from, place_in}
+use Rattle.xw_words.specs.Tables.{place_from, place_in}
 use Rattle.xc_form.proofs.FormMarks.{all_marks, end_at, main_there, of_form, port_there}
 use Rattle.xc_form.proofs.Identifiers.{identifier_within}
 use Rattle.xc_form.proofs.Names.{is_new_name}

@@ -22,7 +22,7 @@ use Rattle.xc_tree.specs.Types.Sites as site
 use Rattle.xc_form.proofs.Formed.{AreFreePorts, AreAllSent, Formed, Sends, formed, further_sent, none_sent}
 use Rattle.xc_form.specs.Form.{HasForm}
 use Rattle.xc_form.specs.OfTree.{AreOutputs, IsMain, IsOfTree, further_output, no_output}
-use Rattle.xc_form.specs.Words.{place_in}
+use Rattle.xw_words.specs.Tables.{place_in}
 use Rattle.xc_form.proofs.FormMarks.{all_marks, of_form, of_sent, port_mark, port_marks, sent_marks}
 use Rattle.xc_form.proofs.FormNames.{names_distinct, names_of, placed, ports_of}
 use Rattle.xc_form.proofs.FormUses.{declaration_there, meant_behind, past_append}

@@ -2,9 +2,9 @@
 use Rattle.std.proofs.Common.{◌≡◌, ◌≢◌, ℕ, ◌+◌, ◌<◌, ◌≤◌, Bool, true, false, if◌then◌else◌, List, [], ◌∷◌, ◌++◌, length, drop, get_or, Some, sym, subst, arith}
 use Rattle.std.proofs.lemmas.List.{at_drop_more, at_drop_all}
 use Rattle.std.specs.Prelude.{bytes_eq}
-use Rattle.xc_built.specs.Program.{IsNew, AreDistinctPorts, port_count}
-use Rattle.xc_tree.specs.Names.Ports.{identifiers}
-use Rattle.xc_form.specs.Words.{place_from, place_in}
+use Rattle.xc_built.specs.Program.{IsNew, AreDistinctPorts}
+use Rattle.xw_words.specs.Ports.{port_count, identifiers}
+use Rattle.xw_words.specs.Tables.{place_from, place_in}
 
 module _ (id : ℕ) (ids : List ℕ) (i : ℕ) (h : i < length ids) where
   split_ids : drop i ids ≡ get_or ids i 0 ∷ drop (i + 1) ids

@@ -6,9 +6,10 @@ use Rattle.std.proofs.lemmas.Map.Steps.{length-le_from_distinct_below}
 use Rattle.std.proofs.lemmas.Slice.Eq.{bytes_eq-Decides}
 use Rattle.std.specs.List.{AllByRecursion, IsDistinct, list_any}
 use Rattle.std.specs.Prelude.{bytes_eq}
-use Rattle.xc_built.specs.Program.{AreDistinctPorts, IsNew, port_count}
+use Rattle.xc_built.specs.Program.{AreDistinctPorts, IsNew}
+use Rattle.xw_words.specs.Ports.{port_count}
 use Rattle.xc_form.specs.OfTree.{IsNewName, AreDistinctNames}
-use Rattle.xc_form.specs.Words.{place_from, place_in}
+use Rattle.xw_words.specs.Tables.{place_from, place_in}
 
 new_in : (a id : ℕ) (ids rest : List ℕ) → IsNew a (ids ++ id ∷ rest) → a ≢ id
 new_in a id [] rest n = n.0

@@ -18,7 +18,7 @@ use Rattle.xc_tree.specs.Trees.{expression_of, right_of, timing_of, output_of, s
 use Rattle.xc_tree.proofs.Forms.{statement-Stmt, action-Block, action-Output, action-Return}
 use Rattle.xc_form.specs.OfTree.{IsNumber, IsTime, at_once, at_number, IsOutput, IsZero, ReturnsZero, IsMain, IsMainHead}
 use Rattle.xc_form.specs.Steps.{IsOnly}
-use Rattle.xc_form.specs.Words.{place_in}
+use Rattle.xw_words.specs.Tables.{place_in}
 use Rattle.xc_form.proofs.Shapes.{does, no_block, no_return, no_output_is}
 
 -- an expression is 0 where its number is

@@ -1,4 +1,3 @@
-pub mod Words
 pub mod OfTree
 pub mod ReadErr
 pub mod Steps

@@ -6,8 +6,8 @@ use Rattle.xc_built.specs.Program.{AreDistinctPorts}
 use Rattle.xw_words.specs.declared.pos.Pos.{Pos}
 use Rattle.xc_tree.specs.declared.tree.TreeDir.TheVariants.{Out}
 use Rattle.xc_tree.specs.Plain as plain
-use Rattle.xc_tree.specs.Names.Ports.{identifiers}
-use Rattle.xc_form.specs.Words.{place_in}
+use Rattle.xw_words.specs.Ports.{identifiers}
+use Rattle.xw_words.specs.Tables.{place_in}
 
 -- a number as it stands in the text; neither its spelling nor its type counts
 pub record IsNumber (e : plain.Expression) (n : ℕ) : Type 0 where

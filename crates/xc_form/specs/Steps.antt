@@ -2,8 +2,8 @@
 use Rattle.std.specs.Prelude.{◌≡◌, ℕ, ◌≤◌, List, [], ◌∷◌, ◌++◌, length, Some, None}
 use Rattle.xc_built.specs.Program.{IsNew, AreDistinctPorts}
 use Rattle.xc_form.specs.declared.ports.Ports.{Ports}
-use Rattle.xc_tree.specs.Names.Ports.{identifiers}
-use Rattle.xc_form.specs.Words.{place_in}
+use Rattle.xw_words.specs.Ports.{identifiers}
+use Rattle.xw_words.specs.Tables.{place_in}
 use Rattle.xc_form.specs.OfTree.{AreDeclarations, AreDistinctNames}
 use Rattle.xc_tree.specs.Plain.{Item}
 

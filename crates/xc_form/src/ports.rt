@@ -4,9 +4,9 @@ ghost use Rattle.xc_form.specs.ReadErr.{IfOther};
 ghost use Rattle.xc_form.specs.Steps.{CanDeclare, Declared};
 
 use crate::error::ReadErr;
-use crate::table::{identifier_place, name_place};
+use crate::table::name_place;
 use std::alloc::{AllocError, Global};
-use xw_words::List;
+use xw_words::{List, identifier_place};
 
 /// The names of the declared ports, and their identifiers.
 #[derive(Drop)]

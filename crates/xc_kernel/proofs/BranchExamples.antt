@@ -1,5 +1,7 @@
 -- Texts whose kernels were worked out by hand: placed and replicated branches.
 use Rattle.std.specs.Prelude.{◌≡◌, ℕ, true, false, List, [], ◌∷◌, ◌++◌, Some, None, refl, codes}
+use Rattle.xw_words.specs.Tables.{place_from}
+use Rattle.xw_words.specs.Ports.{identifiers}
 use Rattle.xc_tree.specs.declared.tree.TreeDir.TheVariants.{Out}
 use Rattle.xc_tree.specs.declared.tree.ParamKind.TheVariants.{Value, End}
 use Rattle.xc_tree.specs.Plain as tree
@@ -51,7 +53,7 @@ placed_kernel = record {
 }
 
 placed_copied : copy_of placed ≡ placed_kernel
-unfolding copy_of
+unfolding copy_of identifiers place_from
 placed_copied = refl
 
 -- int main(void) { par (int i = 1; i < 3; i++) on tile[i] : { unsigned x = i * 2u; } }

@@ -1,5 +1,7 @@
 -- Texts whose kernels were worked out by hand: calls, their parameters and their results.
 use Rattle.std.specs.Prelude.{◌≡◌, ℕ, true, false, List, [], ◌∷◌, ◌++◌, ◌+◌, Some, None, refl, codes}
+use Rattle.xw_words.specs.Tables.{place_from}
+use Rattle.xw_words.specs.Ports.{identifiers}
 use Rattle.xc_tree.specs.declared.tree.TreeDir.TheVariants.{Out}
 use Rattle.xc_tree.specs.declared.tree.ParamKind.TheVariants.{Value, Ref, Array, End, Port as PortParam}
 use Rattle.xc_tree.specs.Plain as tree
@@ -90,7 +92,7 @@ parameters_kernel = record {
 }
 
 parameters_copied : copy_of parameters ≡ parameters_kernel
-unfolding copy_of
+unfolding copy_of identifiers place_from
 parameters_copied = refl
 
 -- int half(int n) { return n / 2; }

@@ -1,5 +1,7 @@
 -- Texts whose kernels were worked out by hand: cases, loops and transactions.
 use Rattle.std.specs.Prelude.{◌≡◌, ℕ, true, false, List, [], ◌∷◌, ◌++◌, Some, None, refl, codes}
+use Rattle.xw_words.specs.Tables.{place_from}
+use Rattle.xw_words.specs.Ports.{identifiers}
 use Rattle.xc_tree.specs.declared.tree.TreeDir.TheVariants.{In}
 use Rattle.xc_tree.specs.declared.tree.ParamKind.TheVariants.{End}
 use Rattle.xc_tree.specs.Plain as tree
@@ -129,7 +131,7 @@ cases_kernel = record {
 }
 
 cases_copied : copy_of cases ≡ cases_kernel
-unfolding copy_of
+unfolding copy_of identifiers place_from
 cases_copied = refl
 
 -- void wait(void) { chan d; timer t; par { d <: 1; d :> void; } t :> void; }

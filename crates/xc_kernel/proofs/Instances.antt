@@ -6,7 +6,7 @@ use Rattle.xc_tree.specs.declared.tree.ParamKind.{ParamKind}
 use Rattle.xc_tree.specs.declared.tree.ParamKind.TheVariants.{Value, Ref, Array, End, Port}
 use Rattle.xc_tree.specs.Plain as tree
 use Rattle.xc_kernel.specs.Plain as kernel
-use Rattle.xc_kernel.specs.Operators.{equals}
+use Rattle.xc_tree.specs.Symbols.{equals}
 use Rattle.xc_kernel.specs.Paths.{Path, path_at, path_of_turn}
 use Rattle.xc_kernel.specs.Numbering.{Numbering}
 use Rattle.xc_kernel.specs.Scopes.{Scope, Entity, a_word, an_array, an_element, a_channel, a_timer, a_port, a_constant, nothing_known, a_constant, entity_of, with_name}

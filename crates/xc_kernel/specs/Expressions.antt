@@ -5,7 +5,8 @@ use Rattle.xc_tree.specs.Plain as tree
 use Rattle.xc_kernel.specs.declared.statement.KRes.{KRes}
 use Rattle.xc_kernel.specs.declared.statement.KRes.TheVariants.{Port, Timer, Chan}
 use Rattle.xc_kernel.specs.Plain as kernel
-use Rattle.xc_kernel.specs.Operators.{operator_at, operator_of, question}
+use Rattle.xc_kernel.specs.Operators.{operator_at, operator_of}
+use Rattle.xc_tree.specs.Symbols.{question}
 use Rattle.xc_kernel.specs.Types.{operation_is_unsigned}
 use Rattle.xc_kernel.specs.Values.{Value}
 use Rattle.xc_kernel.specs.Eval.{Store, eval}

@@ -17,7 +17,6 @@ pub mod Declarations
 pub mod Transfers
 pub mod Flow
 pub mod Statements
-pub mod Identifiers
 pub mod Ports
 pub mod Roots
 pub mod Copies

@@ -1,5 +1,6 @@
 -- The operators of expressions, by the places of their symbols in `SYMBOLS`.
 use Rattle.std.specs.Prelude.{ℕ, ◌-◌, List, [], ◌∷◌, slice_index, slice_index_or}
+use Rattle.xc_tree.specs.Symbols as symbols
 
 -- what a symbol does to the words of its operands
 pub data Operator : Type 0 where
@@ -42,20 +43,12 @@ operators =
 abbrev pub operator_at : ℕ → Operator
 operator_at symbol = slice_index_or operators symbol no_operator
 
--- the places of `[`, `?` and `=`
-abbrev pub bracket : ℕ
-bracket = 4
-
-abbrev pub question : ℕ
-question = 9
-
-abbrev pub equals : ℕ
-equals = 22
-
--- for `++ -- += -= *= /= %= &= |= ^= <<= >>=`, which have the places from 35 on, the places of `+ - + - * / % & | ^ << >>`
+-- for `++ -- += -= *= /= %= &= |= ^= <<= >>=`, which follow one another in `SYMBOLS`, the places of `+ - + - * / % & | ^ << >>`
 abbrev pub assigning : List ℕ
-assigning = 15 ∷ 16 ∷ 15 ∷ 16 ∷ 17 ∷ 18 ∷ 19 ∷ 10 ∷ 11 ∷ 12 ∷ 33 ∷ 34 ∷ []
+assigning =
+    symbols.plus ∷ symbols.minus ∷ symbols.plus ∷ symbols.minus ∷ symbols.star ∷ symbols.slash ∷ symbols.percent
+    ∷ symbols.ampersand ∷ symbols.bar ∷ symbols.caret ∷ symbols.shift_up ∷ symbols.shift_down ∷ []
 
 -- the symbol of the operator by which another symbol assigns
 abbrev pub operator_of : ℕ → ℕ
-operator_of symbol = slice_index assigning (symbol - 35)
+operator_of symbol = slice_index assigning (symbol - symbols.plus_plus)

@@ -7,7 +7,7 @@ use Rattle.xc_tree.specs.declared.tree.ParamKind.TheVariants.{Value, Ref, Array,
 use Rattle.xc_tree.specs.Plain as tree
 use Rattle.xc_kernel.specs.declared.kernel.Var.{Var}
 use Rattle.xc_kernel.specs.Plain as kernel
-use Rattle.xc_kernel.specs.Operators.{bracket}
+use Rattle.xc_tree.specs.Symbols.{bracket}
 use Rattle.xc_kernel.specs.Paths.{Path, path_at}
 use Rattle.xc_kernel.specs.Scopes.{Scope, Entity, a_word, an_array, an_element, nothing_known, entity_of, with_name}
 use Rattle.xc_kernel.specs.Expressions.{two_operands}

@@ -1,10 +1,11 @@
 -- The ports of a program, and the cores of places.
 use Rattle.std.specs.Prelude.{ℕ, ◌+◌, Bool, true, false, List, [], ◌∷◌, Option, Some, None, nat_le}
+use Rattle.xw_words.specs.Ports.{identifiers, port_count}
+use Rattle.xw_words.specs.Tables.{place_in}
 use Rattle.xw_words.specs.declared.pos.Pos.{Pos}
 use Rattle.xc_tree.specs.Plain as tree
 use Rattle.xc_kernel.specs.declared.kernel.PortUse.{PortUse}
 use Rattle.xc_kernel.specs.Values.{Value, word, error}
-use Rattle.xc_kernel.specs.Identifiers.{identifiers, place_among}
 use Rattle.xc_kernel.specs.Numbering.{no_numbering}
 use Rattle.xc_kernel.specs.Scopes.{Scope, a_port, with_name}
 use Rattle.xc_kernel.specs.Expressions.{eval_in}
@@ -29,10 +30,15 @@ abbrev pub pos_of_place : Pos → Option tree.Place → Pos
 pos_of_place other None = other
 pos_of_place other (Some p) = p.first
 
+-- the port of a place among all, or else the number of ports
+abbrev pub port_at : Option ℕ → ℕ
+port_at None = port_count
+port_at (Some port) = port
+
 -- the kernel's entry for a port
 abbrev pub port_use : tree.Port → PortUse
 port_use p = record {
-  id = place_among identifiers p.ident.text;
+  id = port_at (place_in identifiers p.ident.text);
   dir = p.dir;
   core = core_of [] p.place;
   place = pos_of_place p.name.pos p.place;

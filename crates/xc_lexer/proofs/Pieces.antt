@@ -11,7 +11,8 @@ use Rattle.xc_tree.specs.declared.lexing.Reading.{Reading}
 use Rattle.xc_tree.specs.declared.lexing.Reading.TheVariants.{Formless, TooLarge, Fine}
 use Rattle.xc_tree.specs.Numbers.{reading}
 use Rattle.xc_tree.specs.Bytes.{byte, start_at, start_of, part, is_of_word, is_in_line, is_letter, is_digit, is_blank}
-use Rattle.xc_tree.specs.Tables.{place_in, symbols, Longest}
+use Rattle.xc_tree.specs.Tables.{symbols, Longest}
+use Rattle.xw_words.specs.Tables.{place_in}
 use Rattle.xc_tree.specs.HashLines.{Ending, ends, unclosed, TailStep, TailStop, Tail, stop, step, Include, Define}
 use Rattle.xc_tree.specs.Pieces.{Stand, go_on, Fault, token, number_token, number_faults, kind_of_word, ending_faults, again_faults, define, IncludeLine, DefineLine, HashLine, HashAt, PieceOf, Piece}
 use Rattle.xc_lexer.specs.Steps.{Each}

@@ -1,14 +1,12 @@
--- Rows of bytes in tables.
+-- Symbols in a text.
 use Rattle.std.proofs.lemmas.Bool.{leb-true, le-leb, cases_lt, cases_eq}
 use Rattle.std.proofs.Common.{◌≡◌, ℕ, ◌+◌, ◌-◌, ◌<◌, ◌≤◌, Bool, true, false, inl, inr, List, [], ◌∷◌, length, take, Option, Some, None, nat_eq, nat_le, if◌then◌else◌, refl, sym, ap, subst, ◌∙◌, arith, length-take, length-drop}
 use Rattle.std.specs.Prelude.{bytes_eq}
 use lib.Pointwise.{pointwise_long}
-use Rattle.std.specs.Borrow.{Bor}
-use Rattle.std.proofs.lemmas.List.{at_drop_more, at_drop_all}
-use Rattle.std.proofs.Common.{drop, get_or}
 use Rattle.xc_tree.specs.Bytes.{part}
-use Rattle.xc_tree.specs.Tables.{place_from, place_in, symbols, Longest, NoSymbol}
-use Rattle.xc_lexer.specs.Tables.{texts, symbol_to}
+use Rattle.xc_tree.specs.Tables.{symbols, Longest, NoSymbol}
+use Rattle.xw_words.specs.Tables.{place_from, place_in}
+use Rattle.xc_lexer.specs.Tables.{symbol_to}
 
 pub same_length : (a b : List ℕ) → bytes_eq a b ≡ true → length a ≡ length b
 same_length a b e = pointwise_long nat_eq a b e
@@ -38,22 +36,6 @@ too_long k (x ∷ xs) w s h =
     let e = short_head (nat_le (length x) 3) xs s in
     let d = differs (bytes_eq x w) x w e.0 h refl in
     ap (λ t. if t then Some k else place_from (k + 1) xs w) d ∙ too_long (k + 1) xs w e.1 h
-
--- a table read on
-module _ (table : List (Bor (List ℕ))) (w : List ℕ) (k : ℕ) (d : Bor (List ℕ)) (h : k < length table) where
-  next_place : place_from k (texts (drop k table)) w ≡ (if bytes_eq (get_or table k d).now w then Some k else place_from (k + 1) (texts (drop (k + 1) table)) w)
-  unfolding place_from
-  next_place = at_drop_more (λ t. place_from k (texts t) w) table k d h
-
-  pub found_at : bytes_eq (get_or table k d).now w ≡ true → Some k ≡ place_from k (texts (drop k table)) w
-  found_at e = ap (λ t. if t then Some k else place_from (k + 1) (texts (drop (k + 1) table)) w) (sym e) ∙ sym next_place
-
-  pub passed_at : bytes_eq (get_or table k d).now w ≡ false → place_from (k + 1) (texts (drop (k + 1) table)) w ≡ place_from k (texts (drop k table)) w
-  passed_at e = ap (λ t. if t then Some k else place_from (k + 1) (texts (drop (k + 1) table)) w) (sym e) ∙ sym next_place
-
-pub not_in : (table : List (Bor (List ℕ))) (w : List ℕ) (k : ℕ) → length table ≤ k → None ≡ place_from k (texts (drop k table)) w
-unfolding place_from
-not_in table w k h = sym (at_drop_all (λ t. place_from k (texts t) w) table k h)
 
 -- the longest symbol
 module _ (text : List ℕ) (at : ℕ) where

@@ -1,13 +1,8 @@
--- Rows of bytes in tables.
-use Rattle.std.specs.Prelude.{ℕ, if◌then◌else◌, List, [], ◌∷◌, length, Option, None, nat_le}
-use Rattle.std.specs.Borrow.{Bor}
+-- Symbols in a text.
+use Rattle.std.specs.Prelude.{ℕ, if◌then◌else◌, List, length, Option, None, nat_le}
 use Rattle.xc_tree.specs.Bytes.{part}
-use Rattle.xc_tree.specs.Tables.{place_in, symbols}
-
--- the rows of bytes of a table
-abbrev pub texts : List (Bor (List ℕ)) → List (List ℕ)
-texts [] = []
-texts (w ∷ ws) = w.now ∷ texts ws
+use Rattle.xc_tree.specs.Tables.{symbols}
+use Rattle.xw_words.specs.Tables.{place_in}
 
 -- the symbol that the bytes from i up to j are, if they stand in the text
 abbrev pub symbol_to : List ℕ → ℕ → ℕ → Option ℕ

@@ -1,33 +1,21 @@
 ghost use Rattle.std.specs.Prelude.{◌≡◌, ◌+◌, ◌<◌, ◌≤◌, length, IfOk, IfSome, IfNone, Some, None};
-ghost use Rattle.xc_tree.specs.Tables.{place_in, words, symbols, Longest, NoSymbol};
+ghost use Rattle.xc_tree.specs.Tables.{words, symbols, Longest, NoSymbol};
+ghost use Rattle.xw_words.specs.Tables.{place_in};
 ghost use Rattle.xc_tree.specs.Pieces.{kind_of_word as kind_of};
-ghost use Rattle.xc_lexer.specs.Tables.{texts, symbol_to};
+ghost use Rattle.xc_lexer.specs.Tables.{symbol_to};
 ghost use Rattle.xc_lexer.specs.Names.{numbers_of};
 
 use crate::names::Names;
 use std::alloc::{AllocError, Global};
 use xc_tree::{Kind, SYMBOLS, Text, WORDS};
-use xw_words::{List, Memory};
-
-/// The first place of a row of bytes in a table.
-fn place(table: &[&[u8]], spelled: &[u8]) -> Option<u8>
-    requires { length table.now ≤ 255 }
-    ensures { result ≡ place_in (texts table.now) spelled.now }
-{
-    for (k, w) in table.iter().enumerate() {
-        if *w == spelled {
-            return Some(k as u8);
-        }
-    }
-    None
-}
+use xw_words::{List, Memory, place_in as row_place};
 
 #[tactic(auto, unfolding(xc_tree::specs::Tables::words))]
 /// The place of a word in `WORDS`.
 pub fn word_place(spelled: &[u8]) -> Option<u8>
     ensures { result ≡ place_in words spelled.now }
 {
-    place(&WORDS, spelled)
+    row_place(&WORDS, spelled)
 }
 
 #[tactic(auto, unfolding(xc_tree::specs::Tables::symbols))]
@@ -40,7 +28,7 @@ fn symbol_of(text: &[u8], at: usize, count: usize) -> Option<u8>
     if text.len() - at < count {
         return None;
     }
-    place(&SYMBOLS, &text[at..at + count])
+    row_place(&SYMBOLS, &text[at..at + count])
 }
 
 /// The longest symbol at a place, and where it ends.

@@ -6,7 +6,8 @@ use Rattle.std.proofs.lemmas.Option.{slice_get_read, slice_get_within, get_or_fr
 use Rattle.std.proofs.lemmas.List.{length-take-le, get_or-take, take_all, take-append-le}
 use Rattle.xw_words.specs.declared.pos.Broken.{Broken}
 use Rattle.xc_tree.specs.Plain as plain
-use Rattle.xc_tree.specs.Names.Ports.{identifiers, core_of, ports}
+use Rattle.xc_tree.specs.Names.Ports.{core_of, ports}
+use Rattle.xw_words.specs.Ports.{identifiers}
 use Rattle.xc_tree.specs.Names.Rules.{IsUsedAgain}
 use Rattle.xc_tree.specs.Least.{IsLeastOf, first_of}
 use Rattle.xc_names.specs.PortRules.{HasWrongPort, wrong_port, IsOnCore, IsWrong, unnamed, doubled, AreTaken, Takes, TakesItem, by_port, by_function, is_taken_on, rule_of, rule_of_item}

@@ -2,7 +2,8 @@
 use Rattle.std.specs.Prelude.{◌≡◌, ℕ, Bool, true, false, not, ◌&&◌, if◌then◌else◌, List, slice_get, Contains, Option, Some, None}
 use Rattle.xw_words.specs.declared.pos.Broken.{Broken}
 use Rattle.xc_tree.specs.Plain as plain
-use Rattle.xc_tree.specs.Names.Ports.{identifiers, core_of}
+use Rattle.xc_tree.specs.Names.Ports.{core_of}
+use Rattle.xw_words.specs.Ports.{identifiers}
 use Rattle.xc_tree.specs.Names.Rules.{Breaks303}
 use Rattle.xc_names.specs.Taken.{is_among}
 

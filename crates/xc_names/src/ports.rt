@@ -1,6 +1,6 @@
 ghost use Rattle.std.specs.Prelude.{◌≡◌, IfOk, OnOk};
 ghost use Rattle.xc_tree.specs.Names.Ports as spec;
-ghost use Rattle.xc_tree.specs.Names.Ports.{identifiers};
+ghost use Rattle.xw_words.specs.Ports.{identifiers};
 ghost use Rattle.xc_tree.specs.Trees as tree;
 ghost use Rattle.xc_tree.specs.Trees.{item_of, program_of};
 ghost use Rattle.xc_tree.specs.Least.{IsLeastOf};
@@ -9,48 +9,9 @@ ghost use Rattle.xc_names.specs.Taken.{is_among as among, is_taken, texts};
 
 use crate::taken::Taken;
 use std::alloc::Global;
+use xc_tree::symbols::{MINUS, PLUS, STAR};
 use xc_tree::{Ex, Expr, Item, PortItem, Tree, earlier};
-use xw_words::{Broken, Memory};
-
-/// The identifiers of ports.
-const IDENTIFIERS: [&[u8]; 29] = [
-    b"XS1_PORT_1A",
-    b"XS1_PORT_1B",
-    b"XS1_PORT_1C",
-    b"XS1_PORT_1D",
-    b"XS1_PORT_1E",
-    b"XS1_PORT_1F",
-    b"XS1_PORT_1G",
-    b"XS1_PORT_1H",
-    b"XS1_PORT_1I",
-    b"XS1_PORT_1J",
-    b"XS1_PORT_1K",
-    b"XS1_PORT_1L",
-    b"XS1_PORT_1M",
-    b"XS1_PORT_1N",
-    b"XS1_PORT_1O",
-    b"XS1_PORT_1P",
-    b"XS1_PORT_4A",
-    b"XS1_PORT_4B",
-    b"XS1_PORT_4C",
-    b"XS1_PORT_4D",
-    b"XS1_PORT_4E",
-    b"XS1_PORT_4F",
-    b"XS1_PORT_8A",
-    b"XS1_PORT_8B",
-    b"XS1_PORT_8C",
-    b"XS1_PORT_8D",
-    b"XS1_PORT_16A",
-    b"XS1_PORT_16B",
-    b"XS1_PORT_32A",
-];
-
-/// The places of `+`, `-` and `*` among the symbols.
-const PLUS: u8 = 15;
-
-const MINUS: u8 = 16;
-
-const TIMES: u8 = 17;
+use xw_words::{Broken, IDENTIFIERS, Memory};
 
 /// The first port that breaks rule 303.
 pub fn broken_port(alloc: Global, tree: &Tree) -> Result<Option<Broken>, Memory>
@@ -98,7 +59,7 @@ fn look_at_port<'a>(taken: &mut Taken<'a>, port: &'a PortItem) -> Result<Option<
 }
 
 /// Whether this is the identifier of a port.
-#[tactic(auto, unfolding(xc_tree::specs::Names::Ports::identifiers))]
+#[tactic(auto, unfolding(xw_words::specs::Ports::identifiers))]
 fn is_identifier(text: &[u8]) -> bool
     ensures { result ≡ among identifiers text.now }
 {
@@ -170,9 +131,9 @@ fn by_operator(symbol: u8, left: Option<u32>, right: Option<u32>) -> Option<u32>
         return Some(a.wrapping_add(b));
     }
     if symbol == MINUS {
-        return Some(a.wrapping_add(b.wrapping_neg()));
+        return Some(a.wrapping_sub(b));
     }
-    if symbol == TIMES {
+    if symbol == STAR {
         return Some(a.wrapping_mul(b));
     }
     None

@@ -5,6 +5,7 @@ use Rattle.xc_tree.specs.declared.token.Tok.{Tok}
 use Rattle.xc_tree.specs.declared.token.Kind.TheVariants.{Name, Num, Key, Sym}
 use Rattle.xc_tree.specs.Derives.{On}
 use Rattle.xc_tree.specs.Symbol.{Symbol, sym, key, a_name, a_number, many, maybe, commas, program, item, portdecl, dir, place, place_value, head, result, word, params, param, body, block, block_item, decl, dv, initial, statement, closed, case_item, for_start, for_step, branch, case, guard, assign, assign_op, rhs, call, arguments, argument, lval, output, input, time, stamp, waits, test, dest, expr, level, operator, sign, atom}
+use Rattle.xc_tree.specs.Terminals.{above, above_equals, ampersand, ampersand_equals, and_and, at_sign, bang, bang_equals, bar, bar_equals, below, below_equals, brace, bracket, break_word, caret, caret_equals, case_word, chan_word, chanend_word, comma, continue_word, default_word, do_word, else_word, equals, equals_equals, for_word, if_word, in_word, int_word, master_word, minus, minus_equals, on_word, or_or, out_word, par_word, paren, percent, percent_equals, pinseq_word, pinsneq_word, plus, plus_equals, port_word, question, return_word, select_word, semicolon, shift_down, shift_down_equals, shift_up, shift_up_equals, slash, slash_equals, slave_word, star, star_equals, tilde, timer_word, timerafter_word, unsigned_word, void_word, when_word, while_word}
 use Rattle.xc_tree.specs.Grammar.{operators}
 
 -- a token of this kind stands at a place
@@ -35,13 +36,13 @@ pub record OneOf (toks : List Tok) (i : ℕ) (ts : List Symbol) : Type 0 where
 
 -- a number, a name, a bracket, or an operator before an operand
 abbrev pub begins_operand : List Symbol
-begins_operand = a_number ∷ a_name ∷ sym 0 ∷ sym 16 ∷ sym 15 ∷ sym 13 ∷ sym 14 ∷ []
+begins_operand = a_number ∷ a_name ∷ paren ∷ minus ∷ plus ∷ tilde ∷ bang ∷ []
 
 abbrev pub begins_statement : List Symbol
-begins_statement = sym 6 ∷ sym 2 ∷ a_name ∷ key 9 ∷ key 29 ∷ key 6 ∷ key 8 ∷ key 19 ∷ key 0 ∷ key 4 ∷ key 15 ∷ key 20 ∷ key 12 ∷ key 21 ∷ []
+begins_statement = semicolon ∷ brace ∷ a_name ∷ if_word ∷ while_word ∷ do_word ∷ for_word ∷ return_word ∷ break_word ∷ continue_word ∷ par_word ∷ select_word ∷ master_word ∷ slave_word ∷ []
 
 abbrev pub begins_declaration : List Symbol
-begins_declaration = key 11 ∷ key 26 ∷ key 2 ∷ key 24 ∷ []
+begins_declaration = int_word ∷ unsigned_word ∷ chan_word ∷ timer_word ∷ []
 
 -- whether a symbol derives no token
 abbrev pub nullable : Symbol → Bool
@@ -62,35 +63,35 @@ first a_name = a_name ∷ []
 first a_number = a_number ∷ []
 first (many s) = first s
 first (maybe s) = first s
-first (commas s) = first s ++ (if nullable s then sym 7 ∷ [] else [])
+first (commas s) = first s ++ (if nullable s then comma ∷ [] else [])
 first (operator m) = map sym (operators m)
-first program = key 13 ∷ key 10 ∷ key 14 ∷ key 16 ∷ key 27 ∷ key 11 ∷ key 26 ∷ []
-first item = key 13 ∷ key 10 ∷ key 14 ∷ key 16 ∷ key 27 ∷ key 11 ∷ key 26 ∷ []
-first portdecl = key 13 ∷ key 10 ∷ key 14 ∷ key 16 ∷ []
-first dir = key 10 ∷ key 14 ∷ key 16 ∷ []
-first place = key 13 ∷ []
+first program = on_word ∷ in_word ∷ out_word ∷ port_word ∷ void_word ∷ int_word ∷ unsigned_word ∷ []
+first item = on_word ∷ in_word ∷ out_word ∷ port_word ∷ void_word ∷ int_word ∷ unsigned_word ∷ []
+first portdecl = on_word ∷ in_word ∷ out_word ∷ port_word ∷ []
+first dir = in_word ∷ out_word ∷ port_word ∷ []
+first place = on_word ∷ []
 first place_value = begins_operand
-first head = key 27 ∷ key 11 ∷ key 26 ∷ []
-first result = key 27 ∷ key 11 ∷ key 26 ∷ []
-first word = key 11 ∷ key 26 ∷ []
-first params = key 27 ∷ key 11 ∷ key 26 ∷ key 3 ∷ key 10 ∷ key 14 ∷ key 16 ∷ []
-first param = key 11 ∷ key 26 ∷ key 3 ∷ key 10 ∷ key 14 ∷ key 16 ∷ []
-first body = sym 2 ∷ []
-first block = sym 2 ∷ []
+first head = void_word ∷ int_word ∷ unsigned_word ∷ []
+first result = void_word ∷ int_word ∷ unsigned_word ∷ []
+first word = int_word ∷ unsigned_word ∷ []
+first params = void_word ∷ int_word ∷ unsigned_word ∷ chanend_word ∷ in_word ∷ out_word ∷ port_word ∷ []
+first param = int_word ∷ unsigned_word ∷ chanend_word ∷ in_word ∷ out_word ∷ port_word ∷ []
+first body = brace ∷ []
+first block = brace ∷ []
 first block_item = begins_declaration ++ begins_statement
 first decl = begins_declaration
 first dv = a_name ∷ []
-first initial = sym 22 ∷ []
+first initial = equals ∷ []
 first statement = begins_statement
 first closed = begins_statement
 first case_item = begins_declaration ++ begins_statement
-first for_start = a_name ∷ key 11 ∷ key 26 ∷ []
+first for_start = a_name ∷ int_word ∷ unsigned_word ∷ []
 first for_step = a_name ∷ []
-first branch = key 13 ∷ begins_statement
-first case = key 1 ∷ key 5 ∷ []
+first branch = on_word ∷ begins_statement
+first case = case_word ∷ default_word ∷ []
 first guard = begins_operand
 first assign = a_name ∷ []
-first assign_op = sym 37 ∷ sym 38 ∷ sym 39 ∷ sym 40 ∷ sym 41 ∷ sym 42 ∷ sym 43 ∷ sym 44 ∷ sym 45 ∷ sym 46 ∷ []
+first assign_op = plus_equals ∷ minus_equals ∷ star_equals ∷ slash_equals ∷ percent_equals ∷ ampersand_equals ∷ bar_equals ∷ caret_equals ∷ shift_up_equals ∷ shift_down_equals ∷ []
 first rhs = begins_operand
 first call = a_name ∷ []
 first arguments = begins_operand
@@ -98,23 +99,23 @@ first argument = begins_operand
 first lval = a_name ∷ []
 first output = a_name ∷ []
 first input = a_name ∷ []
-first time = sym 23 ∷ []
-first stamp = sym 23 ∷ []
-first waits = sym 23 ∷ key 28 ∷ []
-first test = key 17 ∷ key 18 ∷ key 25 ∷ []
-first dest = a_name ∷ key 27 ∷ key 11 ∷ key 26 ∷ []
+first time = at_sign ∷ []
+first stamp = at_sign ∷ []
+first waits = at_sign ∷ when_word ∷ []
+first test = pinseq_word ∷ pinsneq_word ∷ timerafter_word ∷ []
+first dest = a_name ∷ void_word ∷ int_word ∷ unsigned_word ∷ []
 first expr = begins_operand
 first (level m) = begins_operand
-first sign = sym 16 ∷ sym 15 ∷ sym 13 ∷ sym 14 ∷ []
-first atom = a_number ∷ a_name ∷ sym 0 ∷ []
+first sign = minus ∷ plus ∷ tilde ∷ bang ∷ []
+first atom = a_number ∷ a_name ∷ paren ∷ []
 
 -- the operators between two operands
 abbrev pub binary_operators : List Symbol
-binary_operators = sym 17 ∷ sym 18 ∷ sym 19 ∷ sym 15 ∷ sym 16 ∷ sym 33 ∷ sym 34 ∷ sym 20 ∷ sym 29 ∷ sym 21 ∷ sym 30 ∷ sym 27 ∷ sym 28 ∷ sym 10 ∷ sym 12 ∷ sym 11 ∷ sym 31 ∷ sym 32 ∷ []
+binary_operators = star ∷ slash ∷ percent ∷ plus ∷ minus ∷ shift_up ∷ shift_down ∷ below ∷ below_equals ∷ above ∷ above_equals ∷ equals_equals ∷ bang_equals ∷ ampersand ∷ caret ∷ bar ∷ and_and ∷ or_or ∷ []
 
 -- what an operand, or a row of operands, can go on with: an index and the operators
 abbrev pub after_operand : List Symbol
-after_operand = sym 4 ∷ binary_operators
+after_operand = bracket ∷ binary_operators
 
 -- the operators of the levels from 1 up to this one
 abbrev pub operators_to : ℕ → List Symbol
@@ -122,42 +123,42 @@ operators_to zero = []
 operators_to (suc m) = operators_to m ++ map sym (operators (suc m))
 
 abbrev pub after_expression : List Symbol
-after_expression = sym 9 ∷ after_operand
+after_expression = question ∷ after_operand
 
 abbrev pub after_right_side : List Symbol
-after_right_side = sym 0 ∷ after_expression
+after_right_side = paren ∷ after_expression
 
 -- the tokens that may stand behind a reading of a symbol and make a longer one of it
 abbrev pub follows : Symbol → List Symbol
 follows (many s) = first s ++ follows s
 follows (maybe s) = first s ++ follows s
-follows (commas s) = sym 7 ∷ follows s
-follows program = key 13 ∷ key 10 ∷ key 14 ∷ key 16 ∷ key 27 ∷ key 11 ∷ key 26 ∷ []
-follows result = key 11 ∷ []
-follows word = key 11 ∷ []
-follows params = first params ++ sym 7 ∷ sym 4 ∷ []
-follows param = sym 4 ∷ []
-follows dv = sym 22 ∷ sym 4 ∷ after_right_side
+follows (commas s) = comma ∷ follows s
+follows program = on_word ∷ in_word ∷ out_word ∷ port_word ∷ void_word ∷ int_word ∷ unsigned_word ∷ []
+follows result = int_word ∷ []
+follows word = int_word ∷ []
+follows params = first params ++ comma ∷ bracket ∷ []
+follows param = bracket ∷ []
+follows dv = equals ∷ bracket ∷ after_right_side
 follows initial = after_right_side
-follows block_item = key 7 ∷ []
-follows statement = key 7 ∷ []
-follows case_item = key 7 ∷ []
+follows block_item = else_word ∷ []
+follows statement = else_word ∷ []
+follows case_item = else_word ∷ []
 follows for_start = after_right_side
 follows for_step = after_right_side
-follows branch = key 7 ∷ []
+follows branch = else_word ∷ []
 follows assign = after_right_side
 follows rhs = after_right_side
-follows arguments = begins_operand ++ sym 7 ∷ after_expression
+follows arguments = begins_operand ++ comma ∷ after_expression
 follows argument = after_expression
 follows place_value = after_expression
-follows lval = sym 4 ∷ []
-follows output = sym 23 ∷ after_expression
-follows input = sym 23 ∷ sym 4 ∷ []
+follows lval = bracket ∷ []
+follows output = at_sign ∷ after_expression
+follows input = at_sign ∷ bracket ∷ []
 follows time = after_expression
-follows stamp = sym 4 ∷ []
-follows waits = sym 23 ∷ key 28 ∷ after_expression
-follows dest = sym 4 ∷ []
+follows stamp = bracket ∷ []
+follows waits = at_sign ∷ when_word ∷ after_expression
+follows dest = bracket ∷ []
 follows expr = after_expression
-follows (level m) = sym 4 ∷ operators_to m
-follows atom = sym 4 ∷ []
+follows (level m) = bracket ∷ operators_to m
+follows atom = bracket ∷ []
 follows _ = []

@@ -5,7 +5,8 @@ use Rattle.xc_tree.specs.declared.token.Tok.{Tok}
 use Rattle.xc_tree.specs.declared.token.Kind.TheVariants.{Sym}
 use Rattle.xc_tree.specs.declared.tree.Stmt.{Stmt}
 use Rattle.xc_tree.specs.Plain as plain
-use Rattle.xc_tree.specs.Symbol.{Symbol, sym, key, maybe, expr, for_start, for_step}
+use Rattle.xc_tree.specs.Symbol.{Symbol, sym, maybe, expr, for_start, for_step}
+use Rattle.xc_tree.specs.Terminals.{int_word, unsigned_word}
 use Rattle.xc_tree.specs.Derives.{On}
 use Rattle.xc_tree.specs.Trees.{statement_of, expression_of}
 use Rattle.xc_parser.specs.declared.iterations.Parts.{Parts}
@@ -21,7 +22,7 @@ Lacks toks i o = (p : Pos) → On toks i (Sym o) p → ⊥
 
 -- no type stands at a place
 abbrev pub NoType : List Tok → ℕ → Type 0
-NoType toks i = OneOf toks i (key 11 ∷ key 26 ∷ []) → ⊥
+NoType toks i = OneOf toks i (int_word ∷ unsigned_word ∷ []) → ⊥
 
 -- what may be absent before this symbol isn't, and reading it stopped
 pub record StopsMaybe (toks : List Tok) (room : ℕ) (s : Symbol) (o i : ℕ) (e : Stop) : Type 0 where

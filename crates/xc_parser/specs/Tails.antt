@@ -1,13 +1,14 @@
 -- The rows of symbols that statements end with: a transfer from its sign on, and a `do` behind its statement, each with its
 -- semicolon.
 use Rattle.std.specs.Prelude.{List, [], ◌∷◌}
-use Rattle.xc_tree.specs.Symbol.{Symbol, sym, key, maybe, expr, dest, stamp}
+use Rattle.xc_tree.specs.Symbol.{Symbol, maybe, expr, dest, stamp}
+use Rattle.xc_tree.specs.Terminals.{end_paren, paren, receives, semicolon, sends, while_word}
 
 abbrev pub output_row : List Symbol
-output_row = sym 24 ∷ expr ∷ maybe stamp ∷ sym 6 ∷ []
+output_row = sends ∷ expr ∷ maybe stamp ∷ semicolon ∷ []
 
 abbrev pub input_row : List Symbol
-input_row = sym 25 ∷ dest ∷ maybe stamp ∷ sym 6 ∷ []
+input_row = receives ∷ dest ∷ maybe stamp ∷ semicolon ∷ []
 
 abbrev pub do_row : List Symbol
-do_row = key 29 ∷ sym 0 ∷ expr ∷ sym 1 ∷ sym 6 ∷ []
+do_row = while_word ∷ paren ∷ expr ∷ end_paren ∷ semicolon ∷ []

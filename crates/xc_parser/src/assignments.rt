@@ -10,8 +10,8 @@ ghost use Rattle.xc_parser.specs.Parts.{mark_of};
 use crate::memory::beside;
 use crate::parser::{Parser, Read};
 use crate::stop::Stop;
-use crate::terminals::{EQUALS, MINUS_MINUS, PLUS_PLUS};
 use crate::tokens::is_symbol;
+use xc_tree::symbols::{EQUALS, MINUS_MINUS, PLUS_PLUS};
 use xc_tree::{Kind, Rhs, St};
 use xw_words::Pos;
 

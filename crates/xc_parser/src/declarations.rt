@@ -14,8 +14,9 @@ ghost use Rattle.xc_parser.specs.Parts.{Adds, Declares, Names, NoName, resource_
 use crate::expected::Numeral;
 use crate::parser::{Parser, Read};
 use crate::stop::Stop;
-use crate::terminals::{BRACKET, CHAN_WORD, COMMA, END_BRACKET, EQUALS, SEMICOLON, TIMER_WORD};
 use crate::tokens::{begins_type, is_symbol, is_word};
+use xc_tree::symbols::{BRACKET, COMMA, END_BRACKET, EQUALS, SEMICOLON};
+use xc_tree::words::{CHAN_WORD, TIMER_WORD};
 use xc_tree::{DeclKind, Declared, Id, Rhs, St, Stmt};
 use xw_words::List;
 

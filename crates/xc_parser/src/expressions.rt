@@ -16,9 +16,9 @@ use crate::memory::beside;
 use crate::nodes;
 use crate::parser::{Parser, Read};
 use crate::stop::Stop;
-use crate::terminals::{COLON, END_PAREN, QUESTION};
 use crate::tokens::{is_bracket, is_symbol, operator_at};
 use xc_tree::Expr;
+use xc_tree::symbols::{COLON, END_PAREN, QUESTION};
 
 /// An expression, how many of its nodes stand one below the other, and the place of the token behind it.
 #[derive(Drop)]

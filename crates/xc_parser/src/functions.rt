@@ -9,11 +9,11 @@ ghost use Rattle.xc_parser.specs.Values.{head_of};
 
 use crate::parser::{Parser, Read};
 use crate::stop::Stop;
-use crate::terminals::{
-    AMPERSAND, BRACKET, CHANEND_WORD, COMMA, END_BRACKET, END_PAREN, IN_WORD, INT_WORD, OUT_WORD,
-    PAREN, PORT_WORD, UNSIGNED_WORD, VOID_WORD,
-};
 use crate::tokens::{begins_type, is_symbol, is_word};
+use xc_tree::symbols::{AMPERSAND, BRACKET, COMMA, END_BRACKET, END_PAREN, PAREN};
+use xc_tree::words::{
+    CHANEND_WORD, IN_WORD, INT_WORD, OUT_WORD, PORT_WORD, UNSIGNED_WORD, VOID_WORD,
+};
 use xc_tree::{Id, Param, ParamKind, TreeDir};
 use xw_words::List;
 

@@ -17,8 +17,9 @@ use crate::declarations::variable;
 use crate::memory::{beside, boxed};
 use crate::parser::{Parser, Read};
 use crate::stop::Stop;
-use crate::terminals::{END_PAREN, EQUALS, PAREN, SEMICOLON, WHILE_WORD};
 use crate::tokens::{begins_type, is_name, is_symbol};
+use xc_tree::symbols::{END_PAREN, EQUALS, PAREN, SEMICOLON};
+use xc_tree::words::WHILE_WORD;
 use xc_tree::{Expr, St, Stmt};
 use xw_words::List;
 

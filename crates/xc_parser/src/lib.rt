@@ -24,7 +24,6 @@ mod program;
 mod selects;
 mod statements;
 mod stop;
-mod terminals;
 mod tokens;
 mod transfers;
 mod values;

@@ -13,8 +13,9 @@ use crate::expressions::Operand;
 use crate::nodes;
 use crate::parser::Parser;
 use crate::stop::Stop;
-use crate::terminals::{BRACKET, END_BRACKET, END_PAREN, INT_WORD, UNSIGNED_WORD};
 use crate::tokens::{is_cast, is_sign, is_symbol, is_word};
+use xc_tree::symbols::{BRACKET, END_BRACKET, END_PAREN};
+use xc_tree::words::{INT_WORD, UNSIGNED_WORD};
 use xc_tree::{Kind, Text};
 use xw_words::Pos;
 

@@ -17,10 +17,9 @@ use crate::expected::Numeral;
 use crate::memory::boxed;
 use crate::parser::{Parser, Read};
 use crate::stop::Stop;
-use crate::terminals::{
-    BELOW, BRACE, END_BRACE, END_PAREN, EQUALS, INT_WORD, PAREN, PLUS_PLUS, SEMICOLON,
-};
 use crate::tokens::is_symbol;
+use xc_tree::symbols::{BELOW, BRACE, END_BRACE, END_PAREN, EQUALS, PAREN, PLUS_PLUS, SEMICOLON};
+use xc_tree::words::INT_WORD;
 use xc_tree::{Branch, Id, St, Stmt};
 use xw_words::List;
 

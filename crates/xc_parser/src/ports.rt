@@ -16,10 +16,9 @@ ghost use Rattle.xc_parser.specs.Stops.{Stopped};
 use crate::memory::beside;
 use crate::parser::{Parser, Read};
 use crate::stop::Stop;
-use crate::terminals::{
-    BRACKET, COLON, END_BRACKET, EQUALS, ON_WORD, SEMICOLON, STDCORE_WORD, TILE_WORD,
-};
 use crate::tokens::is_word;
+use xc_tree::symbols::{BRACKET, COLON, END_BRACKET, EQUALS, SEMICOLON};
+use xc_tree::words::{ON_WORD, STDCORE_WORD, TILE_WORD};
 use xc_tree::{At, Id, PortItem, TreeDir};
 
 /// A port without its place: its direction, its name, and what it stands for.

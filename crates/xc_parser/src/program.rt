@@ -17,10 +17,11 @@ ghost use Rattle.xc_parser.specs.Stops.{Stopped};
 use crate::functions::FunctionHead;
 use crate::parser::{Parser, Read};
 use crate::stop::Stop;
-use crate::terminals::{SEMICOLON, VOID_WORD};
 use crate::tokens::{begins_type, is_symbol, is_word};
 use std::alloc::Global;
 use thiserror::Error;
+use xc_tree::symbols::SEMICOLON;
+use xc_tree::words::VOID_WORD;
 use xc_tree::{FuncItem, Item, Tok, Tree};
 use xw_words::{Broken, List, Pos};
 

@@ -16,11 +16,9 @@ use crate::memory::beside;
 use crate::pars::Holder;
 use crate::parser::{Parser, Read};
 use crate::stop::Stop;
-use crate::terminals::{
-    ARROW, AT_SIGN, BRACE, BREAK_WORD, CASE_WORD, COLON, DEFAULT_WORD, END_BRACE, RECEIVES,
-    SEMICOLON, WHEN_WORD,
-};
 use crate::tokens::{goes_on, is_name, is_symbol, is_word};
+use xc_tree::symbols::{ARROW, AT_SIGN, BRACE, COLON, END_BRACE, RECEIVES, SEMICOLON};
+use xc_tree::words::{BREAK_WORD, CASE_WORD, DEFAULT_WORD, WHEN_WORD};
 use xc_tree::{Case, Expr, Head, St, Stmt};
 use xw_words::List;
 

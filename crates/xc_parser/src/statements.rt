@@ -15,13 +15,16 @@ ghost use Rattle.xc_parser.specs.Stops.{Stopped};
 use crate::memory::{beside, boxed};
 use crate::parser::{Parser, Read};
 use crate::stop::Stop;
-use crate::terminals::{
-    AT_SIGN, BRACE, BRACKET, BREAK_WORD, CONTINUE_WORD, DO_WORD, ELSE_WORD, END_BRACE, END_PAREN,
-    EQUALS, FOR_WORD, IF_WORD, MASTER_WORD, MINUS_MINUS, PAR_WORD, PAREN, PLUS_PLUS, RECEIVES,
-    RETURN_WORD, SELECT_WORD, SEMICOLON, SENDS, SLAVE_WORD, WHEN_WORD, WHILE_WORD,
-};
 use crate::tokens::{is_symbol, is_word};
 use crate::values::right_side;
+use xc_tree::symbols::{
+    AT_SIGN, BRACE, BRACKET, END_BRACE, END_PAREN, EQUALS, MINUS_MINUS, PAREN, PLUS_PLUS, RECEIVES,
+    SEMICOLON, SENDS,
+};
+use xc_tree::words::{
+    BREAK_WORD, CONTINUE_WORD, DO_WORD, ELSE_WORD, FOR_WORD, IF_WORD, MASTER_WORD, PAR_WORD,
+    RETURN_WORD, SELECT_WORD, SLAVE_WORD, WHEN_WORD, WHILE_WORD,
+};
 use xc_tree::{Kind, St, Stmt, Tok};
 use xw_words::List;
 

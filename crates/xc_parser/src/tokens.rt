@@ -15,7 +15,8 @@ ghost use Rattle.xc_parser.specs.Levels as levels;
 ghost use Rattle.xc_parser.specs.Operands.{IsType, IsCast, IsBracket};
 ghost use Rattle.xc_tree.specs.Symbol.{Marked};
 
-use crate::terminals::{BRACKET, INT_WORD, PAREN, QUESTION, UNSIGNED_WORD};
+use xc_tree::symbols::{BRACKET, PAREN, QUESTION};
+use xc_tree::words::{INT_WORD, UNSIGNED_WORD};
 use xc_tree::{Kind, Tok};
 use xw_words::Pos;
 

@@ -17,11 +17,9 @@ ghost use Rattle.xc_parser.specs.Tails.{output_row, input_row};
 use crate::memory::beside;
 use crate::parser::{Parser, Read};
 use crate::stop::Stop;
-use crate::terminals::{
-    AT_SIGN, END_PAREN, PAREN, PINSEQ_WORD, PINSNEQ_WORD, RECEIVES, SEMICOLON, SENDS,
-    TIMERAFTER_WORD, VOID_WORD, WHEN_WORD,
-};
 use crate::tokens::{begins_type, is_symbol, is_word};
+use xc_tree::symbols::{AT_SIGN, END_PAREN, PAREN, RECEIVES, SEMICOLON, SENDS};
+use xc_tree::words::{PINSEQ_WORD, PINSNEQ_WORD, TIMERAFTER_WORD, VOID_WORD, WHEN_WORD};
 use xc_tree::{Dest, Expr, Head, Id, Send, St, Stmt, Timed, When};
 
 /// What stands between the name of an input and its `:>`.

@@ -15,8 +15,8 @@ ghost use Rattle.xc_parser.specs.RightSides.{call_of, IsMissing, IsValued, Reads
 
 use crate::parser::{Parser, Read};
 use crate::stop::Stop;
-use crate::terminals::{ARROW, AT_SIGN, COMMA, END_PAREN, EQUALS, PAREN};
 use crate::tokens::{begins_operand, goes_on, is_name, is_symbol};
+use xc_tree::symbols::{ARROW, AT_SIGN, COMMA, END_PAREN, EQUALS, PAREN};
 use xc_tree::{Arg, Expr, Id, Kind, Rhs, Timed};
 use xw_words::List;
 

@@ -6,6 +6,8 @@ use Rattle.xc_tree.specs.declared.tree.ParamKind.TheVariants as kind
 use Rattle.xc_tree.specs.declared.tree.TreeDir.TheVariants.{In, Out, Both}
 use Rattle.xc_tree.specs.Plain as plain
 use Rattle.xc_tree.specs.Symbol.{Symbol, sym, key, a_name, a_number, many, maybe, commas, program, item, portdecl, dir, place, place_value, head, result, word, params, param, body, block, block_item, decl, dv, initial, statement, closed, case_item, for_start, for_step, branch, case, guard, assign, assign_op, rhs, call, arguments, argument, lval, output, input, time, stamp, waits, test, dest, expr, level, operator, sign, atom, Value, Values, Marked, Waits, at_once, at_time, when_true, Declarator, a_word, an_array}
+use Rattle.xc_tree.specs.Symbols as symbols
+use Rattle.xc_tree.specs.Words as words
 use Rattle.xc_tree.specs.Terminals.{paren, end_paren, brace, end_brace, bracket, end_bracket, semicolon, comma, colon, question, ampersand, below, equals, at_sign, sends, receives, arrow, plus_plus, minus_minus, break_word, case_word, chan_word, chanend_word, continue_word, default_word, do_word, else_word, for_word, if_word, in_word, int_word, master_word, on_word, out_word, par_word, port_word, pinseq_word, pinsneq_word, return_word, select_word, slave_word, stdcore_word, tile_word, timer_word, timerafter_word, unsigned_word, void_word, when_word, while_word}
 
 -- the tokens that a symbol is derived from: the first and the last of them, and how many they are
@@ -77,8 +79,11 @@ one_of (o ∷ os) = gives (sym o ∷ []) (λ (p, u). record { mark = o; pos = p 
 -- The operators by level: none at 0; `* / %`, `+ -`, `<< >>`, `< <= > >=`, `== !=`, `&`, `^`, `|`, `&&` and `||`.
 abbrev pub by_level : List (List ℕ)
 by_level =
-    [] ∷ (17 ∷ 18 ∷ 19 ∷ []) ∷ (15 ∷ 16 ∷ []) ∷ (33 ∷ 34 ∷ []) ∷ (20 ∷ 29 ∷ 21 ∷ 30 ∷ []) ∷ (27 ∷ 28 ∷ []) ∷
-    (10 ∷ []) ∷ (12 ∷ []) ∷ (11 ∷ []) ∷ (31 ∷ []) ∷ (32 ∷ []) ∷ []
+    [] ∷ (symbols.star ∷ symbols.slash ∷ symbols.percent ∷ []) ∷ (symbols.plus ∷ symbols.minus ∷ [])
+    ∷ (symbols.shift_up ∷ symbols.shift_down ∷ [])
+    ∷ (symbols.below ∷ symbols.below_equals ∷ symbols.above ∷ symbols.above_equals ∷ [])
+    ∷ (symbols.equals_equals ∷ symbols.bang_equals ∷ []) ∷ (symbols.ampersand ∷ []) ∷ (symbols.caret ∷ []) ∷ (symbols.bar ∷ [])
+    ∷ (symbols.and_and ∷ []) ∷ (symbols.or_or ∷ []) ∷ []
 
 abbrev pub or_none : Option (List ℕ) → List ℕ
 or_none None = []
@@ -214,11 +219,13 @@ rules case =
 rules guard =
     gives (expr ∷ arrow ∷ []) (λ (e, u). e) ∷ []
 rules assign =
-    gives (lval ∷ equals ∷ rhs ∷ []) (λ (l, (p, (r, u))). plain.assign l 22 p r) ∷
+    gives (lval ∷ equals ∷ rhs ∷ []) (λ (l, (p, (r, u))). plain.assign l symbols.equals p r) ∷
     gives (lval ∷ assign_op ∷ expr ∷ []) (λ (l, (o, (e, u))). plain.assign l o.mark o.pos (plain.value e)) ∷
-    gives (lval ∷ plus_plus ∷ []) (λ (l, u). plain.step l 35) ∷
-    gives (lval ∷ minus_minus ∷ []) (λ (l, u). plain.step l 36) ∷ []
-rules assign_op = one_of (37 ∷ 38 ∷ 39 ∷ 40 ∷ 41 ∷ 42 ∷ 43 ∷ 44 ∷ 45 ∷ 46 ∷ [])
+    gives (lval ∷ plus_plus ∷ []) (λ (l, u). plain.step l symbols.plus_plus) ∷
+    gives (lval ∷ minus_minus ∷ []) (λ (l, u). plain.step l symbols.minus_minus) ∷ []
+rules assign_op = one_of
+    (symbols.plus_equals ∷ symbols.minus_equals ∷ symbols.star_equals ∷ symbols.slash_equals ∷ symbols.percent_equals
+    ∷ symbols.ampersand_equals ∷ symbols.bar_equals ∷ symbols.caret_equals ∷ symbols.shift_up_equals ∷ symbols.shift_down_equals ∷ [])
 rules rhs =
     gives (expr ∷ []) (λ (e, u). plain.value e) ∷
     gives (call ∷ []) (λ (c, u). plain.result c) ∷ []
@@ -248,9 +255,9 @@ rules waits =
     gives (when_word ∷ test ∷ paren ∷ expr ∷ end_paren ∷ [])
     (λ (p, (t, (q, (e, u)))). when_true (record { at = p; test = t; value = e })) ∷ []
 rules test =
-    gives (pinseq_word ∷ []) (λ x. 17) ∷
-    gives (pinsneq_word ∷ []) (λ x. 18) ∷
-    gives (timerafter_word ∷ []) (λ x. 25) ∷ []
+    gives (pinseq_word ∷ []) (λ x. words.pinseq_word) ∷
+    gives (pinsneq_word ∷ []) (λ x. words.pinsneq_word) ∷
+    gives (timerafter_word ∷ []) (λ x. words.timerafter_word) ∷ []
 rules dest =
     gives (lval ∷ []) (λ (e, u). plain.to e) ∷
     gives (void_word ∷ []) (λ x. plain.dropped) ∷
@@ -268,7 +275,7 @@ rules (level (suc m)) =
     makes (level (suc m) ∷ operator (suc m) ∷ level m ∷ [])
     (λ (a, (o, (b, u))). at o.pos (plain.binary o.mark a b)) ∷ []
 rules (operator m) = one_of (operators m)
-rules sign = one_of (16 ∷ 15 ∷ 13 ∷ 14 ∷ [])
+rules sign = one_of (symbols.minus ∷ symbols.plus ∷ symbols.tilde ∷ symbols.bang ∷ [])
 rules atom =
     makes (a_number ∷ []) (λ (n, u). at n.pos (plain.number n.value n.is_unsigned)) ∷
     makes (a_name ∷ []) (λ (n, u). at n.pos (plain.name n.text)) ∷

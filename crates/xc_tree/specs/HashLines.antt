@@ -4,7 +4,8 @@ use Rattle.xc_tree.specs.declared.lexing.Start.{Start}
 use Rattle.xc_tree.specs.declared.lexing.Start.TheVariants.{End, Blank, LineEnd, LineComment, BlockComment}
 use Rattle.xc_tree.specs.Bytes.{byte, start_at, part, Span, ClosedAt, Unclosed, Stands, is_of_word, is_blank, is_in_line, is_letter, is_digit}
 use Rattle.xc_tree.specs.Places.{pos_at}
-use Rattle.xc_tree.specs.Tables.{place_in, words}
+use Rattle.xc_tree.specs.Tables.{words}
+use Rattle.xw_words.specs.Tables.{place_in}
 
 -- these bytes stand from i up to k
 abbrev pub StandsTo : List ℕ → List ℕ → ℕ → ℕ → Type 0

@@ -10,6 +10,8 @@ pub mod Extents
 pub mod Plain
 pub mod Trees
 pub mod Symbol
+pub mod Symbols
+pub mod Words
 pub mod Terminals
 pub mod Grammar
 pub mod Derives

@@ -13,7 +13,8 @@ use Rattle.xc_tree.specs.declared.lexing.Start.TheVariants.{End, Blank, LineEnd,
 use Rattle.xc_tree.specs.Bytes.{start_at, part, Span, ClosedAt, Unclosed, is_of_word, is_in_line}
 use Rattle.xc_tree.specs.Places.{pos_at}
 use Rattle.xc_tree.specs.Numbers.{reading}
-use Rattle.xc_tree.specs.Tables.{place_in, words, Longest, NoSymbol}
+use Rattle.xc_tree.specs.Tables.{words, Longest, NoSymbol}
+use Rattle.xw_words.specs.Tables.{place_in}
 use Rattle.xc_tree.specs.HashLines.{Ending, ends, unclosed, Include, Define, Tail, NoForm}
 
 -- the number that each name stands for, if it is defined

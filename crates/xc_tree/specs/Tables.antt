@@ -1,16 +1,8 @@
 -- The tables of words and symbols, and what of them stands in a text.
-use Rattle.std.specs.Prelude.{◌≡◌, ℕ, ◌+◌, ◌<◌, ◌≤◌, if◌then◌else◌, List, [], ◌∷◌, map, length, Option, Some, None, bytes_eq}
+use Rattle.std.specs.Prelude.{◌≡◌, ℕ, ◌<◌, ◌≤◌, List, map, length, Some, None}
+use Rattle.xw_words.specs.Tables.{place_in}
 use Rattle.xc_tree.specs.declared.token.TheConstants.{WORDS, SYMBOLS}
 use Rattle.xc_tree.specs.Bytes.{part}
-
--- the first place of a row of bytes in a table whose first place is k
-unfoldable pub place_from : ℕ → List (List ℕ) → List ℕ → Option ℕ
-place_from k [] w = None
-place_from k (x ∷ xs) w = if bytes_eq x w then Some k else place_from (k + 1) xs w
-
--- the first place of a row of bytes in a table
-abbrev pub place_in : List (List ℕ) → List ℕ → Option ℕ
-place_in table w = place_from 0 table w
 
 -- the words, by their bytes
 unfoldable pub words : List (List ℕ)

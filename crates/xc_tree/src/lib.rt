@@ -5,9 +5,11 @@
 mod least;
 mod lexing;
 mod names;
+pub mod symbols;
 mod token;
 mod tree;
 mod types;
+pub mod words;
 
 pub use least::{comes_before, earlier};
 pub use lexing::{Number, Reading, Start};

@@ -6,7 +6,7 @@ use Rattle.xc_tree.specs.Plain as plain
 use Rattle.xc_tree.specs.Names.Marks as marks
 use Rattle.xc_tree.specs.Types.Named.{NamedProgram, what_at}
 use Rattle.xc_tree.specs.Types.Entities.{is_channel, is_port, is_timer, gives_input}
-use Rattle.xc_tree.specs.Types.Rules.{timerafter}
+use Rattle.xc_tree.specs.Words.{timerafter_word}
 use Rattle.xc_tree.specs.Types.Sites.{of_expression, of_lval, of_target}
 use Rattle.xc_types.specs.declared.seen.Seen.{Seen}
 use Rattle.xc_types.specs.Seen.{saw, one_more_name, with_broken, with_channel}
@@ -36,7 +36,7 @@ with_stamp n is_port (Some t) s = saw_lval n t.value (with_broken (not is_port) 
 
 -- whether a condition's test can be asked of something
 abbrev pub can_ask : Option What → ℕ → Bool
-can_ask what test = if nat_eq test timerafter then is_timer what else is_port what
+can_ask what test = if nat_eq test timerafter_word then is_timer what else is_port what
 
 -- behind a condition, which breaks rule 414 where it can't be asked
 abbrev pub with_condition : NamedProgram → Option What → Option plain.Condition → Seen → Seen

@@ -12,11 +12,9 @@ use crate::entities::{
 };
 use crate::lvals::{lval, part};
 use crate::seen::Seen;
+use xc_tree::words::TIMERAFTER_WORD;
 use xc_tree::{Dest, Head, Named, Send, Timed, What, When};
 use xw_words::{Memory, Pos};
-
-/// The place of `timerafter` in `WORDS`.
-const TIMERAFTER: u8 = 25;
 
 /// Checks an output.
 #[tactic(auto, using(crate::proofs::Talks::talks))]
@@ -127,7 +125,7 @@ fn condition(
 fn can_be_asked(what: Option<&What>, test: u8) -> bool
     ensures { result ≡ can_ask (option_copied what.entry) test }
 {
-    if test == TIMERAFTER {
+    if test == TIMERAFTER_WORD {
         is_timer(what)
     } else {
         is_port(what)

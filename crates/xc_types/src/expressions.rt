@@ -9,6 +9,7 @@ ghost use Rattle.xc_types.specs.Seen.{after_indexed, after_word, next_what, saw}
 
 use crate::entities::{elements_are_unsigned, is_array, is_word, what_of, word_is_unsigned};
 use crate::seen::Seen;
+use xc_tree::symbols::{ABOVE, BANG, BELOW, EQUALS_EQUALS, OR_OR, SHIFT_DOWN, SHIFT_UP};
 use xc_tree::{Ex, Expr, Named};
 use xw_words::{Memory, Pos};
 
@@ -17,10 +18,8 @@ pub fn gives_unsigned(symbol: u8, first: bool, second: bool) -> bool
     ensures { result ≡ gives symbol first second }
 {
     match symbol {
-        // The tests: `!`, `<`, `>`, and from `==` to `||`.
-        14 | 20 | 21 | 27..=32 => false,
-        // `<<` and `>>`.
-        33 | 34 => first,
+        BANG | BELOW | ABOVE | EQUALS_EQUALS..=OR_OR => false,
+        SHIFT_UP | SHIFT_DOWN => first,
         _ => first || second,
     }
 }

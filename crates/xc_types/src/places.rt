@@ -14,6 +14,7 @@ use crate::around::{Around, directly_in_main};
 use crate::entities::{is_index, what_of};
 use crate::lvals::part;
 use crate::seen::Seen;
+use xc_tree::symbols::{MINUS, PLUS, STAR};
 use xc_tree::{At, Ex, Expr, Named};
 use xw_words::Memory;
 
@@ -88,14 +89,14 @@ fn is_made_of_these(e: &Expr) -> bool
 fn is_sign(symbol: u8) -> bool
     ensures { result ≡ is_among signs symbol }
 {
-    symbol == 15 || symbol == 16
+    symbol == PLUS || symbol == MINUS
 }
 
 /// Whether a symbol is `+`, `-` or `*`.
 fn is_operator(symbol: u8) -> bool
     ensures { result ≡ is_among operators symbol }
 {
-    symbol == 15 || symbol == 16 || symbol == 17
+    symbol == PLUS || symbol == MINUS || symbol == STAR
 }
 
 /// Whether the names from the first up to the last are indices of replicated `par`s.

@@ -8,11 +8,12 @@ use Rattle.xs_instr.specs.declared.instr.Instr.TheVariants.{Ldc, Out}
 use Rattle.xs_instr.specs.declared.instr.Reg.TheVariants.{R0, R1}
 use Rattle.xc_built.specs.declared.program.Output.{Output}
 use Rattle.xc_built.specs.declared.program.Program.{Program}
-use Rattle.xc_built.specs.Program.{AreDeclared, IsWellFormed, port_count}
+use Rattle.xc_built.specs.Program.{AreDeclared, IsWellFormed}
+use Rattle.xw_words.specs.Ports.{port_count}
 use Rattle.xc_built.specs.World.{items_of}
 use Rattle.xr_match.specs.Code.{IsCodeOf, first_place, items_code, items_places, port_name, time_code}
 use Rattle.xr_match.proofs.Ports.{declared_below, few_ports}
-use Rattle.xr_text.specs.Ranges.{AreWordCores, AreWordInstrs, AreWordPlaces, HasWords}
+use Rattle.xs_instr.specs.Words.{AreWordCores, AreWordInstrs, AreWordPlaces, HasWords}
 use Rattle.xc_form.specs.Ranges.{AreWordOutputs, IsWordPlace, IsWordTime}
 
 output_instrs : (n v : ℕ) (time : Option ℕ) (rest : List Instr) → n < 2 ^ 32 → v < 2 ^ 32 → IsWordTime time → AreWordInstrs rest → AreWordInstrs ((Ldc R1 n ∷ time_code time ++ Ldc R0 v ∷ Out R1 R0 ∷ []) ++ rest)

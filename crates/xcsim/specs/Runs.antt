@@ -10,7 +10,7 @@ use Rattle.xs_fabric.specs.EndWord.{end_of, has_trap}
 use Rattle.xs_fabric.specs.Lockstep.{lockstep}
 use Rattle.xc_built.specs.declared.program.Program.{Program}
 use Rattle.xr_match.specs.Implements.{Implements}
-use Rattle.xr_text.specs.Ranges.{HasWords}
+use Rattle.xs_instr.specs.Words.{HasWords}
 use Rattle.xcsim.specs.Rules.{IsAccepted}
 
 -- a valid image that implements the program that the text means. Its numbers are words, so no other such image has its

@@ -9,7 +9,8 @@ use Rattle.std.specs.Prelude.{slice_get, slice_index, ◌||◌}
 use Rattle.xs_instr.specs.Machine.{boot_port, boot_ports}
 use Rattle.xs_instr.specs.Valid.{AreGoodPorts, IsNewPort}
 use Rattle.xc_built.specs.declared.program.Output.{Output}
-use Rattle.xc_built.specs.Program.{AreDeclared, AreDistinctPorts, IsNew, port_count}
+use Rattle.xc_built.specs.Program.{AreDeclared, AreDistinctPorts, IsNew}
+use Rattle.xw_words.specs.Ports.{port_count}
 use Rattle.xr_match.specs.Code.{out_port}
 
 new_differs : (id : ℕ) (ids : List ℕ) → IsNew id ids → AllByRecursion (λ other. eqb id other ≡ false) ids

@@ -1,6 +1,7 @@
 ghost use Rattle.std.specs.Prelude.{◌≡◌, ◌<◌, ◌^◌, [], ◌∷◌, ◌++◌, map, length, IfOk, OnOk};
 ghost use Rattle.std.specs.List.{All};
-ghost use Rattle.xc_built.specs.Program.{IsWellFormed, port_count};
+ghost use Rattle.xc_built.specs.Program.{IsWellFormed};
+ghost use Rattle.xw_words.specs.Ports.{port_count};
 ghost use Rattle.xc_built.specs.World.{items_of};
 ghost use Rattle.xr_match.specs.Code.{IsCodeOf, IsCoreOf, first_place, items_code, items_places, out_port, output_code, output_places};
 ghost use Rattle.xr_match.specs.Implements.{Implements};

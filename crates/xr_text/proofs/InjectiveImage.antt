@@ -4,7 +4,7 @@ use Rattle.std.proofs.lemmas.Bool.{eqb-true}
 use Rattle.std.proofs.lemmas.List.{append_assoc}
 use Rattle.std.specs.Prelude.{codes}
 use Rattle.xr_text.proofs.InjectiveLines.{Each, IsPort, IsSmallPair, all_cut, chan_line_cut, chan_mark, chan_marked, code_lines_cut, code_marked, core_mark, mark, nothing_marked, number_line_cut, port_line_cut, port_mark, port_marked, root_mark, root_marked}
-use Rattle.xr_text.specs.Ranges.{AreWordCores, AreWordInstrs, AreWordPlaces, HasWords}
+use Rattle.xs_instr.specs.Words.{AreWordCores, AreWordInstrs, AreWordPlaces, HasWords}
 use Rattle.xs_instr.specs.declared.image.CoreImage.{CoreImage}
 use Rattle.xs_instr.specs.declared.image.Image.{Image}
 use Rattle.xs_instr.specs.declared.image.Pair.{Pair}

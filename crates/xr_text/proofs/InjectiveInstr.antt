@@ -3,7 +3,7 @@ use Rattle.std.proofs.Common.{◌≡◌, ℕ, true, List, [], ◌∷◌, ◌++�
 use Rattle.std.proofs.lemmas.List.{append_assoc}
 use Rattle.std.specs.Prelude.{codes, decimal}
 use Rattle.xr_text.proofs.InjectiveTokens.{Apart, all_inside, is_inside, at_apart, comma_apart, space_apart, cond_inside, cond_of, cond_of-text, cut, decimal_inside, head_is, kind_inside, kind_of, kind_of-text, number_of, number_of-decimal, reg_inside, reg_of, reg_of-text, tail_is, word_wide}
-use Rattle.xr_text.specs.Ranges.{IsWordInstr}
+use Rattle.xs_instr.specs.Words.{IsWordInstr}
 use Rattle.xs_instr.specs.declared.instr.Instr.{Instr}
 use Rattle.xs_instr.specs.declared.instr.Instr.TheVariants.{Add, Sub, Mul, And, Or, Xor, Addi, Neg, Not, Eq, Lss, Lsu, Shl, Shr, Ashr, Divs, Rems, Divu, Remu, Ecallf, Ecallt, Ldc, Ldwdp, Stwdp, Ldawdp, Ldwsp, Stwsp, Ldawsp, Ldw, Stw, Setdp, Setsp, Brft, Brff, Brfu, Brbt, Brbf, Brbu, Blrf, Blrb, Entsp, Retsp, Getr, Freer, Getst, Tinitpc, Tinitdp, Tinitsp, Msync, Ssync, Mjoin, Freet, Out, Outt, Outct, In, Int, Chkct, Setc, Setd, Setpt, Getts, Setv, Eeu, Edu, Clre, Waiteu, Setsr, Clrsr}
 use Rattle.xs_instr.specs.Texts.{cond_text, get_text, instr_text, one_operand, reg_text, three_operands, two_operands}

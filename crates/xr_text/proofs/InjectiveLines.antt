@@ -5,12 +5,13 @@ use Rattle.std.proofs.lemmas.List.{append_assoc, append_cancel_left}
 use Rattle.std.specs.Prelude.{codes, decimal}
 use Rattle.xr_text.proofs.InjectiveInstr.{instr_cut}
 use Rattle.xr_text.proofs.InjectiveTokens.{all_inside, and_first, is_inside, colon_apart, dot_apart, feed_apart, space_apart, cut, decimal_inside, decimal_same, decimal_some, dir_inside, dir_same, port_inside, port_same, tail_is, word_wide}
-use Rattle.xr_text.specs.Ranges.{AreWordInstrs, AreWordPlaces, IsWordInstr}
+use Rattle.xs_instr.specs.Words.{AreWordInstrs, AreWordPlaces, IsWordInstr}
 use Rattle.xs_instr.specs.declared.image.Dir.{Dir}
 use Rattle.xs_instr.specs.declared.image.Pair.{Pair}
 use Rattle.xs_instr.specs.declared.image.PortDecl.{PortDecl}
 use Rattle.xs_instr.specs.declared.instr.Instr.{Instr}
-use Rattle.xs_instr.specs.Texts.{all_texts, chan_line, code_line, code_lines, dir_text, instr_text, number_line, port_line, port_text, root_line}
+use Rattle.xs_instr.specs.Texts.{all_texts, chan_line, code_line, code_lines, dir_text, instr_text, number_line, port_line, root_line}
+use Rattle.xw_words.specs.Ports.{port_text}
 use Rattle.xw_words.specs.declared.pos.Pos.{Pos}
 
 -- what a line begins with: the two letters behind a dot, as one number; 1 for a byte that is no dot; 0 for nothing

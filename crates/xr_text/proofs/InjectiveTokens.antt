@@ -13,7 +13,8 @@ use Rattle.xs_instr.specs.declared.instr.GetKind.{GetKind}
 use Rattle.xs_instr.specs.declared.instr.GetKind.TheVariants.{Sync as GetSync, Lock as GetLock}
 use Rattle.xs_instr.specs.declared.instr.Reg.{Reg}
 use Rattle.xs_instr.specs.declared.instr.Reg.TheVariants.{R0, R1, R2, R3, R4, R5, R6, R7, R8, R9, R10, R11, Cp, Dp, Sp, Lr}
-use Rattle.xs_instr.specs.Texts.{cond_text, dir_text, get_text, port_text, reg_text}
+use Rattle.xs_instr.specs.Texts.{cond_text, dir_text, get_text, reg_text}
+use Rattle.xw_words.specs.Ports.{port_text}
 
 -- a digit or a letter, and no separator
 unfoldable pub is_inside : ℕ → Bool

@@ -1,6 +1,6 @@
 // What a listing tells of its image.
 ghost use Rattle.std.specs.Prelude.{◌≡◌};
-ghost use Rattle.xr_text.specs.Ranges.{HasWords};
+ghost use Rattle.xs_instr.specs.Words.{HasWords};
 ghost use Rattle.xs_instr.specs.declared.image.Image.{Image};
 ghost use Rattle.xs_instr.specs.Texts.{image_text};
 ghost use Rattle.xs_instr.specs.Valid.{Valid};

@@ -1,6 +1,7 @@
 // Numbers, places and ports.
 ghost use Rattle.std.specs.Prelude.{◌≡◌, ◌++◌, ◌∷◌, [], codes, decimal};
-ghost use Rattle.xs_instr.specs.Texts.{port_text, pos_text};
+ghost use Rattle.xs_instr.specs.Texts.{pos_text};
+ghost use Rattle.xw_words.specs.Ports.{port_text};
 ghost use Rattle.xw_io.specs.Gathering.{Drew};
 
 use itoa::Buffer;

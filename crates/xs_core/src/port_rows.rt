@@ -4,7 +4,7 @@ ghost use Rattle.std.specs.Prelude.{◌≡◌, ℕ, not, slice_get};
 ghost use Rattle.xs_core.specs.Plain.{IsPlain, MayGo};
 ghost use Rattle.xs_core.specs.Turn.{IsRow};
 ghost use Rattle.xs_instr.specs.Did.{is_step};
-ghost use Rattle.xs_instr.specs.Ports.{can_send, counter, low_bits, time_meets, width_of};
+ghost use Rattle.xs_instr.specs.Ports.{can_send, counter, low_bits, time_meets};
 ghost use Rattle.xs_instr.specs.Resources.{APort};
 ghost use Rattle.xs_instr.specs.Rows.{out_row, row};
 
@@ -12,6 +12,7 @@ use crate::did::Outcome;
 use crate::names::{Resource, look_up};
 use crate::{regs, threads};
 use xs_instr::{CoreState, Dir, Home, Instr, Port, Record, Reg, Thread, Trap};
+use xw_words::port_width;
 
 /// SETPT: the port's time is set to the low 16 bits of the register.
 pub fn set_time(
@@ -120,24 +121,11 @@ fn meets_time(time: Option<u16>, now: u16) -> bool
 fn bits_of(value: u32, id: u8) -> u32
     ensures { result ≡ low_bits value id }
 {
-    match width(id) {
+    match port_width(id) {
         1 => value % 2,
         4 => value % 16,
         8 => value % 256,
         16 => value % 65536,
         _ => value,
-    }
-}
-
-/// The port's width in bits: 16 ports of 1 bit, then 6 of 4, 4 of 8, 2 of 16, and one of 32.
-fn width(id: u8) -> u32
-    ensures { result ≡ width_of id }
-{
-    match id {
-        0..16 => 1,
-        16..22 => 4,
-        22..26 => 8,
-        26..28 => 16,
-        _ => 32,
     }
 }

@@ -4,25 +4,13 @@ ghost use Rattle.std.specs.Prelude.{◌≡◌, ◌≤◌, ◌<◌};
 ghost use Rattle.xs_instr.specs.Ports as ports;
 
 use xs_instr::Cond;
-
-/// The port's width in bits, by its identifier.
-fn width_of(id: u8) -> u32
-    ensures { result ≡ ports.width_of id }
-{
-    match id {
-        0..=15 => 1,
-        16..=21 => 4,
-        22..=25 => 8,
-        26..=27 => 16,
-        _ => 32,
-    }
-}
+use xw_words::port_width;
 
 /// The bits of a value that the port has.
 pub fn low_bits(v: u32, id: u8) -> u32
     ensures { result ≡ ports.low_bits v id }
 {
-    (v as u64 % (1u64 << width_of(id))) as u32
+    (v as u64 % (1u64 << port_width(id))) as u32
 }
 
 /// A port's counter at that clock.

@@ -2,13 +2,13 @@
 use Rattle.std.proofs.Common.{◌≡◌, ℕ, zero, suc, ◌+◌, ◌-◌, ◌≤◌, Bool, true, false, List, [], ◌∷◌, ◌++◌, length, drop, Option, Some, None, nat_eq, arith, refl, ap, sym, subst, ◌∙◌, append_assoc, append-nil}
 use Rattle.xw_words.specs.declared.pos.Pos.{Pos}
 use Rattle.xc_tree.specs.Plain as tree
-use Rattle.xc_kernel.specs.Operators.{equals}
+use Rattle.xc_tree.specs.Symbols.{equals}
 use Rattle.xc_kernel.specs.Paths.{Path, path_at}
-use Rattle.xc_kernel.specs.Scopes.{Scope, Binding, Entity, with_name}
+use Rattle.xc_kernel.specs.Scopes.{Scope, Entity, with_name}
 use Rattle.xc_kernel.specs.Programs.{Function}
 use Rattle.xc_copy.specs.Growth.{Grows}
 use Rattle.xc_kernel.specs.Copy.{Copy, no_copy, joined, followed_by}
-use Rattle.xc_kernel.specs.Context.{Context, in_branch, in_loop, in_case}
+use Rattle.xc_kernel.specs.Context.{Context, in_branch, in_loop}
 use Rattle.xc_kernel.specs.Calls.{CopiesCall, called, call_by, right_copy}
 use Rattle.xc_kernel.specs.Declarations.{initial_copy, kind_copy, declarations_copy}
 use Rattle.xc_kernel.specs.Transfers.{target_copy}

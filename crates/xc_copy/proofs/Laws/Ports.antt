@@ -1,11 +1,9 @@
--- The names of ports, and the place of a text in a table.
-use Rattle.std.proofs.Common.{◌≡◌, ℕ, ◌+◌, ◌<◌, List, [], ◌∷◌, length, drop, get_or, bytes_eq, refl, ap}
+-- The names of ports.
+use Rattle.std.proofs.Common.{◌≡◌, ℕ, ◌+◌, List, [], ◌∷◌, refl}
 use Rattle.std.specs.Borrow.{Bor}
 use Rattle.xc_tree.specs.Plain as tree
-use Rattle.xc_kernel.specs.Identifiers.{place_among, place_here}
 use Rattle.xc_kernel.specs.Ports.{scope_of_ports}
 use Rattle.xc_kernel.specs.Scopes.{a_port, with_name}
-use Rattle.xc_copy.proofs.Laws.Lists.{drop_item}
 use Rattle.xc_copy.specs.Contexts.{ports_from}
 use Rattle.xc_copy.specs.Ports.{names_among, names_of_ports}
 
@@ -18,7 +16,3 @@ ports_named n (x ∷ xs) (p ∷ ps) e =
     let first : x.now ≡ p.name.text = cc in
     let rest : names_among xs ≡ names_of_ports ps = cc in
     λ i. with_name (ports_named (n + 1) xs ps rest i) (first i) (a_port n)
-
--- the text at a place of a table, or those behind it
-pub place_step : (table : List (Bor (List ℕ))) (i : ℕ) (x : Bor (List ℕ)) (text : List ℕ) → x ≡ get_or table i x → i < length table → place_among (names_among (drop i table)) text ≡ place_here (bytes_eq x.now text) (place_among (names_among (drop (i + 1) table)) text)
-place_step table i x text e h = ap (λ xs. place_among (names_among xs) text) (drop_item table i x e h)

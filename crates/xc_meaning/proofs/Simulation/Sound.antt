@@ -10,7 +10,7 @@ use Rattle.xc_kernel.specs.declared.statement.KRes.TheVariants.{Port, Timer, Cha
 use Rattle.xc_tree.specs.declared.tree.Param.{Param}
 use Rattle.xc_tree.specs.Plain as tree
 use Rattle.xc_kernel.specs.Plain as kernel
-use Rattle.xc_kernel.specs.Operators.{equals}
+use Rattle.xc_tree.specs.Symbols.{equals}
 use Rattle.xc_kernel.specs.Paths.{Path, path_at}
 use Rattle.xc_kernel.specs.Scopes.{Scope, a_constant, with_name}
 use Rattle.xc_kernel.specs.Programs.{Function}
@@ -39,7 +39,6 @@ use Rattle.xc_meaning.specs.Moves.Kernel.{does_statement}
 use Rattle.xc_meaning.specs.Texts.Copied.{behind, behind_name, behind_branch, block_in}
 use Rattle.xc_meaning.specs.Texts.Items.{name_items, statement_items, maybe_items, statements_items}
 use Rattle.xc_meaning.specs.Texts.Calls.{passing_items, parameter_items, call_items, with_result, begins_call, calls, stores_right}
-use Rattle.xc_meaning.specs.Texts.Declarations.{declares}
 use Rattle.xc_meaning.specs.Texts.Loops.{turn_context, test_in, loop_mark, turn_item, turn_items, tests_first, while_loop}
 use Rattle.xc_meaning.specs.Texts.Par.{branches_begun, copies_begun, branch_begun}
 use Rattle.xc_meaning.specs.Texts.Select.{case_body, text_enabled, text_default}

@@ -4,6 +4,7 @@ use Rattle.xw_words.specs.declared.pos.Pos.{Pos}
 use Rattle.xw_words.specs.Words.{is_after}
 use Rattle.xs_instr.specs.Ports.{counter, low_bits, pins_from}
 use Rattle.xs_instr.specs.Slot.{last_clock}
+use Rattle.xc_tree.specs.Words.{pinseq_word, pinsneq_word}
 use Rattle.xc_kernel.specs.declared.kernel.PortUse.{PortUse}
 use Rattle.xc_kernel.specs.Plain as kernel
 use Rattle.xc_kernel.specs.Values.{Value, word, error, ErrorKind}
@@ -45,16 +46,9 @@ abbrev pub timing_by : Value → (ℕ → When) → Timing
 timing_by (word v) make = passes (make v)
 timing_by (error kind pos) make = fails kind pos
 
--- the places of two tests among the words; the third test is `timerafter`
-abbrev pub pinseq : ℕ
-pinseq = 17
-
-abbrev pub pinsneq : ℕ
-pinsneq = 18
-
--- what a test of a word waits for
+-- what a test of a word waits for; the third test is `timerafter`
 abbrev pub when_tested : (test : ℕ) → ℕ → When
-when_tested test v = if nat_eq test pinseq then pins_equal v else if nat_eq test pinsneq then pins_differ v else after_time v
+when_tested test v = if nat_eq test pinseq_word then pins_equal v else if nat_eq test pinsneq_word then pins_differ v else after_time v
 
 -- by a transfer's time or condition; without either it may pass at once
 abbrev pub timing : Store → Option kernel.Expression → Option kernel.Condition → Timing

@@ -1,15 +1,8 @@
--- The ports of a program, their identifiers and their cores.
-use Rattle.std.specs.Prelude.{ℕ, ◌+◌, ◌-◌, ◌*◌, ◌%◌, ◌^◌, nat_eq, if◌then◌else◌, List, [], ◌∷◌, Option, Some, None, codes}
+-- The ports of a program, and their cores.
+use Rattle.std.specs.Prelude.{ℕ, nat_eq, if◌then◌else◌, List, [], ◌∷◌, Option, Some, None}
+use Rattle.xw_words.specs.Words.{word_difference, word_negative, word_product, word_sum}
+use Rattle.xc_tree.specs.Symbols.{minus, plus, star}
 use Rattle.xc_tree.specs.Plain as plain
-
--- the identifiers of ports: `XS1_PORT_` and the port's width and letter
-unfoldable pub identifiers : List (List ℕ)
-identifiers =
-    codes "XS1_PORT_1A" ∷ codes "XS1_PORT_1B" ∷ codes "XS1_PORT_1C" ∷ codes "XS1_PORT_1D" ∷ codes "XS1_PORT_1E" ∷ codes "XS1_PORT_1F"
-    ∷ codes "XS1_PORT_1G" ∷ codes "XS1_PORT_1H" ∷ codes "XS1_PORT_1I" ∷ codes "XS1_PORT_1J" ∷ codes "XS1_PORT_1K" ∷ codes "XS1_PORT_1L"
-    ∷ codes "XS1_PORT_1M" ∷ codes "XS1_PORT_1N" ∷ codes "XS1_PORT_1O" ∷ codes "XS1_PORT_1P" ∷ codes "XS1_PORT_4A" ∷ codes "XS1_PORT_4B"
-    ∷ codes "XS1_PORT_4C" ∷ codes "XS1_PORT_4D" ∷ codes "XS1_PORT_4E" ∷ codes "XS1_PORT_4F" ∷ codes "XS1_PORT_8A" ∷ codes "XS1_PORT_8B"
-    ∷ codes "XS1_PORT_8C" ∷ codes "XS1_PORT_8D" ∷ codes "XS1_PORT_16A" ∷ codes "XS1_PORT_16B" ∷ codes "XS1_PORT_32A" ∷ []
 
 -- the ports that items declare, in the order of the text
 abbrev pub ports : List plain.Item → List plain.Port
@@ -17,14 +10,12 @@ ports [] = []
 ports (plain.port p ∷ is) = p ∷ ports is
 ports (plain.function h b ∷ is) = ports is
 
--- a word for a number, and for the negative of one
-abbrev pub negative : ℕ → ℕ
-negative n = (2 ^ 32 - n) % 2 ^ 32
-
+-- what is made of a number, where there is one
 abbrev pub once : (ℕ → ℕ) → Option ℕ → Option ℕ
 once f None = None
 once f (Some a) = Some (f a)
 
+-- what is made of two numbers, where there are both
 abbrev pub both : (ℕ → ℕ → ℕ) → Option ℕ → Option ℕ → Option ℕ
 both f None y = None
 both f (Some a) None = None
@@ -32,14 +23,14 @@ both f (Some a) (Some b) = Some (f a b)
 
 -- `+` and `-` before an operand
 abbrev pub by_sign : ℕ → Option ℕ → Option ℕ
-by_sign o a = if nat_eq o 15 then a else (if nat_eq o 16 then once negative a else None)
+by_sign symbol a = if nat_eq symbol plus then a else (if nat_eq symbol minus then once word_negative a else None)
 
 -- `+`, `-` and `*`, whose results wrap
 abbrev pub by_operator : ℕ → Option ℕ → Option ℕ → Option ℕ
-by_operator o a b =
-    if nat_eq o 15 then both (λ x y. (x + y) % 2 ^ 32) a b
-    else (if nat_eq o 16 then both (λ x y. (x + negative y) % 2 ^ 32) a b
-    else (if nat_eq o 17 then both (λ x y. (x * y) % 2 ^ 32) a b else None))
+by_operator symbol a b =
+    if nat_eq symbol plus then both word_sum a b
+    else (if nat_eq symbol minus then both word_difference a b
+    else (if nat_eq symbol star then both word_product a b else None))
 
 -- the number of a place, as a word, where it is made of numbers, `+`, `-`, `*` and brackets alone
 abbrev mutual

@@ -11,7 +11,8 @@ use Rattle.xc_tree.specs.Lexes.{IsNotAfter}
 use Rattle.xc_tree.specs.Names.Marks.{of_program}
 use Rattle.xc_tree.specs.Names.Scopes.{end_of, DeclaresAt, IsKnown}
 use Rattle.xc_tree.specs.Names.Uses.{IsUse}
-use Rattle.xc_tree.specs.Names.Ports.{identifiers, ports, core_of}
+use Rattle.xc_tree.specs.Names.Ports.{ports, core_of}
+use Rattle.xw_words.specs.Ports.{identifiers}
 use Rattle.xc_tree.specs.Names.Calls.{IsOnCycle}
 
 -- Rule 301: a name is used where none with its spelling is known.

@@ -1,17 +1,18 @@
 -- The form of a place's expression.
 use Rattle.std.specs.Prelude.{ℕ, Bool, true, false, ◌&&◌, List, [], ◌∷◌}
 use Rattle.xc_tree.specs.Plain as plain
+use Rattle.xc_tree.specs.Symbols.{minus, plus, star}
 use Rattle.xc_tree.specs.Types.Named.{Name}
 use Rattle.xc_tree.specs.Types.Entities.{is_index}
 use Rattle.xc_tree.specs.Types.Words.{is_among}
 
--- the places among the symbols of `+` and `-`, which may stand before one operand
+-- `+` and `-`, which may stand before one operand
 abbrev pub signs : List ℕ
-signs = 15 ∷ 16 ∷ []
+signs = plus ∷ minus ∷ []
 
--- and of `+`, `-` and `*`, which may stand between two
+-- `+`, `-` and `*`, which may stand between two
 abbrev pub operators : List ℕ
-operators = 15 ∷ 16 ∷ 17 ∷ []
+operators = plus ∷ minus ∷ star ∷ []
 
 abbrev mutual
   -- an expression is made of numbers, names, `+`, `-`, `*` and brackets alone

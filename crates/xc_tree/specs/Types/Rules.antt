@@ -3,10 +3,11 @@ use Rattle.std.specs.Prelude.{ℕ, Bool, true, false, not, nat_eq, nat_le, ◌&&
 use Rattle.xw_words.specs.declared.pos.Pos.{Pos}
 use Rattle.xc_tree.specs.declared.tree.Id.{Id}
 use Rattle.xc_tree.specs.Plain as plain
+use Rattle.xc_tree.specs.Words.{timerafter_word}
 use Rattle.xc_tree.specs.Types.Entities.{is_word, is_array, is_index, agree, is_port, is_timer, takes_output, gives_input}
 use Rattle.xc_tree.specs.Types.Calls.{Argument, fits, referred}
 use Rattle.xc_tree.specs.Types.Words.{is_among}
-use Rattle.xc_tree.specs.Types.Sites.{Site, params_of}
+use Rattle.xc_tree.specs.Types.Sites.{Site}
 use Rattle.xc_tree.specs.Types.Sites as site
 
 -- a rule is broken at a place where this holds, and unless it does
@@ -101,14 +102,10 @@ abbrev pub rule_413 : Site → List Pos
 rule_413 (site.time x p) = broken_unless (is_port x.what) p
 rule_413 other = []
 
--- the place of `timerafter` among the words
-abbrev pub timerafter : ℕ
-timerafter = 25
-
 -- Rule 414: `pinseq` or `pinsneq` is asked of something that isn't a port, or `timerafter` of something that isn't a timer. At
 -- the `when`.
 abbrev pub rule_414 : Site → List Pos
-rule_414 (site.condition x p t) = broken_unless (if nat_eq t timerafter then is_timer x.what else is_port x.what) p
+rule_414 (site.condition x p t) = broken_unless (if nat_eq t timerafter_word then is_timer x.what else is_port x.what) p
 rule_414 other = []
 
 -- of the second and the third name the first that isn't spelled as the first name

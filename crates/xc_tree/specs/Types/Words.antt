@@ -1,6 +1,7 @@
 -- Which expressions are `unsigned`; the others that are words are `int`.
 use Rattle.std.specs.Prelude.{ℕ, Bool, false, ◌||◌, nat_eq, if◌then◌else◌, List, [], ◌∷◌, slice_get}
 use Rattle.xc_tree.specs.Plain as plain
+use Rattle.xc_tree.specs.Symbols as symbols
 use Rattle.xc_tree.specs.Names.Marks as marks
 use Rattle.xc_tree.specs.Types.Named.{NamedProgram, what_at, past}
 use Rattle.xc_tree.specs.Types.Entities.{word_is_unsigned, elements_are_unsigned}
@@ -10,13 +11,15 @@ abbrev pub is_among : List ℕ → ℕ → Bool
 is_among [] o = false
 is_among (x ∷ xs) o = nat_eq x o || is_among xs o
 
--- the places of `<<` and `>>` among the symbols
+-- the shifts
 abbrev pub shifts : List ℕ
-shifts = 33 ∷ 34 ∷ []
+shifts = symbols.shift_up ∷ symbols.shift_down ∷ []
 
--- those of `! < > == != <= >= && ||`, which give the `int` 1 or 0
+-- `! < > == != <= >= && ||`, which give the `int` 1 or 0
 abbrev pub tests : List ℕ
-tests = 14 ∷ 20 ∷ 21 ∷ 27 ∷ 28 ∷ 29 ∷ 30 ∷ 31 ∷ 32 ∷ []
+tests =
+    symbols.bang ∷ symbols.below ∷ symbols.above ∷ symbols.equals_equals ∷ symbols.bang_equals ∷ symbols.below_equals
+    ∷ symbols.above_equals ∷ symbols.and_and ∷ symbols.or_or ∷ []
 
 -- what an operator gives is `unsigned` where one of its operands is, but a test gives an `int`, and a shift what its left
 -- operand is

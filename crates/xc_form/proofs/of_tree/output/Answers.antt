@@ -1,5 +1,5 @@
 use Rattle.std.proofs.Common.{ap, ◌∙◌}
-use Rattle.xc_form.specs.Words.{place_in}
+use Rattle.xw_words.specs.Tables.{place_in}
 use Rattle.xc_form.proofs.Sends.{sends_none, stamped_never, unknown_never, timeless_never, worthless_never, the_output}
 use Rattle.xc_form.proofs.of_tree.output.Goals as goal
 

@@ -1,5 +1,5 @@
 use Rattle.std.proofs.Common.{◌≡◌, drop}
-use Rattle.xc_form.specs.Words.{place_from}
+use Rattle.xw_words.specs.Tables.{place_from}
 use Rattle.xc_form.proofs.table.name_place.Given as goal
 
 abbrev pub invariant-loop-k : goal.invariant-loop-k

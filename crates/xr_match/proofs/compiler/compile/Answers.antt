@@ -1,7 +1,7 @@
 use Rattle.std.proofs.Common.{◌<◌, length, subst, rules}
 use Rattle.std.specs.List.{All}
 use Rattle.xs_instr.specs.declared.image.Image.{Image}
-use Rattle.xc_built.specs.Program.{port_count}
+use Rattle.xw_words.specs.Ports.{port_count}
 use Rattle.xr_match.proofs.Compiled.{code_implements}
 use Rattle.xr_match.proofs.Ports.{all_declared, few_ports}
 use Rattle.xr_match.proofs.Validity.{code_is_valid}

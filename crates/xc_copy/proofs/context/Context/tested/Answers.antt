@@ -1,6 +1,6 @@
 use Rattle.std.proofs.Common.{ap, ◌∙◌, true}
 use Rattle.xc_kernel.specs.Expressions.{two_operands}
-use Rattle.xc_kernel.specs.Operators.{bracket}
+use Rattle.xc_tree.specs.Symbols.{bracket}
 use Rattle.xc_kernel.specs.Plain as plain
 use Rattle.xc_copy.proofs.context.Context.tested.Goals as goal
 

@@ -1,4 +1,4 @@
--- Tables of names, and the identifiers of ports.
+-- Rows of bytes in a table, by their places.
 use Rattle.std.specs.Prelude.{ℕ, ◌+◌, if◌then◌else◌, List, [], ◌∷◌, Option, Some, None, bytes_eq}
 use Rattle.std.specs.Borrow.{Bor}
 
