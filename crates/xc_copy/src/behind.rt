@@ -154,7 +154,7 @@ impl<'p, 'a> Context<'p, 'a> {
         scope: &Scope<'a>,
     ) -> Result<Copied, Memory>
         requires { paths.turn ≡ turn_of paths.whole }
-        ensures { IfOk result (λ copied. (behind : Names) (done : copies.Copy) → IfOk body (λ b. copy_of b behind ≡ done) → copy_of copied behind ≡ flow.loop_at (context_of self.now) paths.whole (plain.number 1) (flow.turn (context_of self.now) paths.whole done.code (flow.leave_unless (context_of self.now) paths.whole (contexts.expression (context_of self.now) (scope_of scope.now) (tree.expression_of test.now)) ∷ [])) plain.no_more done) }
+        ensures { IfOk result (λ copied. (done : copies.Copy) → IfOk body (λ b. copy_of b (scope_of scope.now) ≡ done) → copy_of copied (scope_of scope.now) ≡ flow.loop_at (context_of self.now) paths.whole (plain.number 1) (flow.turn (context_of self.now) paths.whole done.code (flow.leave_unless (context_of self.now) paths.whole (contexts.expression (context_of self.now) done.scope (tree.expression_of test.now)) ∷ [])) plain.no_more done) }
     {
         let test = word(alloc, self.numbers, scope, test);
         let ends = both(body, test);

@@ -1,4 +1,4 @@
-#![tactic(auto, using(crate::proofs::Laws::Expressions::words))]
+#![tactic(auto, using(crate::proofs::Laws::Expressions::steps))]
 
 ghost use Rattle.std.specs.Prelude.{◌≡◌, ◌++◌, [], ◌∷◌, IfOk, OnOk, map, option_map, option_to_list};
 ghost use Rattle.xc_kernel.specs.Calls as calls;

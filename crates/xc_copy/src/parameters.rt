@@ -41,7 +41,7 @@ impl<'a> Entered<'a> {
     /// With the ports alone.
     #[tactic(auto)]
     fn with(alloc: Global, ports: Scope<'a>) -> Entered<'a>
-        ensures { copy_of result.copied (scope_of result.scope) ≡ copies.no_copy (scope_of ports) }
+        ensures { copy_of result.copied (scope_of result.scope) ≡ copies.no_copy (scope_of ports.entry) }
     {
         Entered {
             copied: Copied::nothing(alloc),
@@ -52,7 +52,7 @@ impl<'a> Entered<'a> {
     /// What is handed to a parameter of this name, before what is to the others. The one error is want of memory.
     #[tactic(auto)]
     fn behind(self, name: &'a [u8], handed: Handed) -> Result<Entered<'a>, Memory>
-        ensures { IfOk result (λ entered. (p : spec.Passed) → IsPassed p handed → copy_of entered.copied (scope_of entered.scope) ≡ spec.and_passed name.now p (copy_of self.copied (scope_of self.scope))) }
+        ensures { IfOk result (λ entered. (p : spec.Passed) → IsPassed p handed → copy_of entered.copied (scope_of entered.scope) ≡ spec.and_passed name.now p (copy_of self.entry.copied (scope_of self.entry.scope))) }
     {
         let Entered { copied, mut scope } = self;
         let Handed {

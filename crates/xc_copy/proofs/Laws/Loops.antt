@@ -82,9 +82,9 @@ for_grows n c pos scope test next first s f copied =
     (further (maybe_grows (calls_copy n) (calls_keep n) first c scope) (statement_grows (calls_copy n) (calls_keep n) s (in_loop c pos) _))
 
 -- the names behind what was made
-pub grown_where : (r : Result Copied Memory) (before after : Scope) {whole : Copy} → is_ok r ≡ true → IfOk r (λ x. copy_of x after ≡ whole) → Grows before whole.scope → Grows before after
-grown_where (Ok x) before after made is grows = grown_by before is grows
-grown_where (Err e) before after made is grows = let never : ⊥ = cc in absurd never
+pub grown_where : (r : Result Copied Memory) (before after : Scope) (whole : Copy) → is_ok r ≡ true → IfOk r (λ x. copy_of x after ≡ whole) → Grows before whole.scope → Grows before after
+grown_where (Ok x) before after whole made is grows = grown_by before is grows
+grown_where (Err e) before after whole made is grows = let never : ⊥ = cc in absurd never
 
 -- Cases.
 

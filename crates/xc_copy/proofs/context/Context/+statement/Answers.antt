@@ -24,14 +24,14 @@ use Rattle.xc_copy.specs.Functions.{function_of, deepest}
 use Rattle.xc_copy.specs.Growth.{Grows}
 use Rattle.xc_copy.specs.Heights as heights
 use Rattle.xc_copy.specs.Scopes.{scope_of}
-use Rattle.xc_copy.proofs.Laws.Actions.{copied_as, height_by_action, by_action, call_by_action, action_block, action_declare, action_if, action_while, action_do, action_for, action_par, action_replicated, action_select, action_transaction, begins_at, in_branch_of}
+use Rattle.xc_copy.proofs.Laws.Actions.{copied_as, copied_in, height_by_action, by_action, call_by_action, action_block, action_declare, action_if, action_while, action_do, action_for, action_par, action_replicated, action_select, action_transaction, begins_at, in_branch_of}
 use Rattle.xc_copy.proofs.Laws.Growth.{calls_keep, further, grown_by, grown_fits, left_as, maybe_grows, statement_grows, statements_grow, target_grows}
-use Rattle.xc_copy.proofs.Laws.Pieces.{if_done, while_done, do_done, for_done, set_done, return_done, function_done, transaction_done, followed_done}
+use Rattle.xc_copy.proofs.Laws.Pieces.{if_done, while_done, do_done, set_done, return_done, function_done, transaction_done, followed_done}
 use Rattle.xc_copy.proofs.Laws.Depths.{down, enters_below}
 use Rattle.xc_kernel.specs.Scopes as scopes
 use Rattle.xc_copy.specs.Parts.{branched_before, cased_before}
 use Rattle.xc_copy.proofs.Laws.Loops.{statement_below, branch_below, branches_below, case_below, body_below, for_grows, grown_from, grown_where, numbered_grows, case_done}
-use Rattle.xc_copy.proofs.Laws.Walks.{statements_more, statements_all, declarations_more, declarations_all, branches_more, branches_all, cases_more, cases_all, numbered_begun, numbered_more, numbered_all}
+use Rattle.xc_copy.proofs.Laws.Walks.{statements_more, statements_all, declarations_more, declarations_all, branches_more, branches_all, and_made, cases_more, cases_all, numbered_begun, numbered_more, numbered_all}
 use Rattle.xc_copy.proofs.context.Context.+statement.Goals as goal
 
 pub statement-returns-in-Empty : goal.statement-returns-in-Empty
@@ -406,7 +406,7 @@ function-returns t c =
     (ap (λ p. calls_spec.result_copy here p f.head.name.pos scope f.head.result) (c.as_slice-3.ensures ∙ result))
     (passed ∙ ap (λ ps. parameters.all_passed here scope own ps args) c.as_slice.ensures)
     refl
-    refl refl refl refl (c.in_ok-copied.ensures _ inner scope _ (copied_as inner c.statement-body.result (ap (λ x. copies' f.body x _) around) c.statement-body.ensures))
+    refl refl refl refl (c.in_ok-copied.ensures _ inner scope _ (copied_in _ (copies' f.body) inner c.statement-body.result around c.statement-body.ensures))
 
 pub function-statement-requires : goal.function-statement-requires
 function-statement-requires t c =
@@ -441,12 +441,10 @@ while_loop-returns t c =
     let whole = rw c.in_ok-paths.ensures.first at c.loop_paths-paths.ensures.whole in
     let turn = rw c.in_ok-paths.ensures.first at c.loop_paths-paths.ensures.turn in
     let test = rw c.in_ok-paths.ensures.second at c.word-test.ensures.value in
-    let copy = λ x. spec.statement_copy (spec.calls_copy c.args.calls) (tree.statement_of c.args.body.now) x scope in
+    let copy = spec.statement_copy (spec.calls_copy c.args.calls) (tree.statement_of c.args.body.now) in
     let around = c.in_loop.ensures.context ∙ λ i. record here { breaks = (c.as_slice.ensures ∙ whole) i; continues = (c.as_slice-2.ensures ∙ turn) i } in
-    let body = copy (contexts.in_loop here c.args.pos) in
-    while_done here c.args.pos scope test whole refl
-    (c.in_ok-copied.ensures scope inner body (copied_as inner c.statement-body.result (ap copy around) c.statement-body.ensures)
-    ∙ ap (λ next. flow.loop_at here _ _ (flow.turn here _ body.code []) (copies.code_of next) (copies.joined next body)) (c.nothing-next.ensures scope))
+    while_done here c.args.pos scope (copy (contexts.in_loop here c.args.pos) scope) test whole (c.nothing-next.ensures scope)
+    (c.in_ok-copied.ensures scope inner (copy (contexts.in_loop here c.args.pos) scope) (copied_in scope copy inner c.statement-body.result around c.statement-body.ensures))
 
 pub while_loop-statement-requires : goal.while_loop-statement-requires
 while_loop-statement-requires t c =
@@ -461,12 +459,12 @@ do_while-returns t c =
     let scope = scope_of c.args.scope.now in
     let inner = scope_of c.statement-body.new.scope in
     let whole = c.in_ok-paths.ensures.whole in
-    let copy = λ x. spec.statement_copy (spec.calls_copy c.args.calls) (tree.statement_of c.args.body.now) x scope in
+    let copy = spec.statement_copy (spec.calls_copy c.args.calls) (tree.statement_of c.args.body.now) in
     let around = c.in_loop.ensures.context ∙ λ i. record here { breaks = (c.as_slice.ensures ∙ whole) i; continues = (c.as_slice-2.ensures ∙ c.in_ok-paths.ensures.turn) i } in
-    let body = copy (contexts.in_loop here c.args.pos) in
-    let known = copied_as inner c.statement-body.result (ap copy around) c.statement-body.ensures in
+    let body = copy (contexts.in_loop here c.args.pos) scope in
+    let known = copied_in scope copy inner c.statement-body.result around c.statement-body.ensures in
     do_done here c.args.pos (tree.expression_of c.args.test.now) scope refl whole refl refl
-    (c.in_ok-copied.ensures inner body known)
+    (c.in_ok-copied.ensures body known)
 
 pub do_while-statement-requires : goal.do_while-statement-requires
 do_while-statement-requires t c =
@@ -616,7 +614,7 @@ par-loop-index-preserved t c =
     let after = scope_of c.branch-copied.new.scope in
     let copied = rw c.in_ok-before.ensures.made at c.branch-copied.ensures in
     branches_more (spec.calls_copy c.args.calls) (context_of c.args.self.now) c.args.bs.now c.loop-index.index b c.index-bs-index.is c.loop-index-test.true (scope_of c.loop-index.scope) c.loop-index.branches _ copied
-    (λ others. c.in_ok-branches.ensures after others ∙ λ i. branched_before (c.in_ok-before.ensures.value i) (flow.and_branch (begins_at b i) _ others))
+    (and_made c.in_ok-before.ensures.value (begins_at b) (c.in_ok-branches.ensures after))
     c.loop-index.invariant
 
 pub par-returns : goal.par-returns
@@ -669,7 +667,7 @@ replicated-loop-number-preserved t c =
       scope = ap (λ x. x.scope) copied;
       branches = numbered_more copy (spec.pos_of_branch (tree.branch_of b)) scope c.args.from c.args.until c.loop-number.number inv.above c.loop-number-test.true c.loop-number.branches _
           copied
-          (λ others. c.in_ok-branches.ensures (scope_of c.numbered-copied.new.scope) others ∙ λ i. branched_before (c.in_ok-before.ensures.value i) (flow.and_branch (begins_at b i) _ others))
+          (and_made c.in_ok-before.ensures.value (begins_at b) (c.in_ok-branches.ensures (scope_of c.numbered-copied.new.scope)))
           inv.branches;
     }
 
@@ -761,7 +759,7 @@ case-returns-clause-names t c =
     let ss = plain.statements (map tree.statement_of c.as_slice-2.result.now) in
     let inner = scope_of c.opened-opened.new.scope in
     let grows = rw c.in_ok-path.ensures.second at c.opened-opened.ensures.grows in
-    further grows (grown_where c.statements-body.result inner (scope_of c.statements-body.new.scope) c.in_ok-add_case.ensures.made c.statements-body.ensures (statements_grow (spec.calls_copy c.args.calls) (calls_keep c.args.calls) ss (context_of c.in_case.result) inner))
+    further grows (grown_where c.statements-body.result inner (scope_of c.statements-body.new.scope) _ c.in_ok-add_case.ensures.made c.statements-body.ensures (statements_grow (spec.calls_copy c.args.calls) (calls_keep c.args.calls) ss (context_of c.in_case.result) inner))
 
 pub case-statements-requires : goal.case-statements-requires
 case-statements-requires t c = (

@@ -5,22 +5,16 @@ use Rattle.xc_copy.specs.Contexts.{context_of}
 use Rattle.xc_copy.specs.Parts.{cased_before}
 use Rattle.xc_copy.proofs.context.Context.add_case.Goals as goal
 
-pub returns-in-None-clause-made : goal.returns-in-None-clause-made
-returns-in-None-clause-made c = rw c.in_ok-opened.ensures.made at c.block_of-block.ensures.made
-
-pub returns-in-None-clause-cases : goal.returns-in-None-clause-cases
-returns-in-None-clause-cases c = λ between behind whole is others.
+pub returns-in_ok-add_default-in-None-clause-cases : goal.returns-in_ok-add_default-in-None-clause-cases
+returns-in_ok-add_default-in-None-clause-cases c = λ between behind whole is others.
     let made = rw c.in_ok-opened.ensures.made at c.block_of-block.ensures.block in
     let block = made behind whole is in
     c.in_ok-add_default-in-None.ensures behind others
     ∙ (λ i. cased_before c.args.cases.now (case_by None between (block i) others))
     ∙ ap (λ o. cased_before c.args.cases.now (case_by o between (as_block (context_of c.args.self.now) c.args.path whole) others)) (sym c.in-None.is ∙ c.in_ok-opened.ensures.value)
 
-pub returns-clause-made : goal.returns-clause-made
-returns-clause-made c = rw c.in_ok-opened.ensures.made at c.block_of-block.ensures.made
-
-pub returns-clause-cases : goal.returns-clause-cases
-returns-clause-cases c = λ between behind whole is others.
+pub returns-in_ok-add_case-in-Some-clause-cases : goal.returns-in_ok-add_case-in-Some-clause-cases
+returns-in_ok-add_case-in-Some-clause-cases c = λ between behind whole is others.
     let made = rw c.in_ok-opened.ensures.made at c.block_of-block.ensures.block in
     let block = made behind whole is in
     c.in_ok-add_case-in-Some.ensures between behind others

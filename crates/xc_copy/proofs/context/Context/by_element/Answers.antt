@@ -1,11 +1,11 @@
-use Rattle.std.proofs.Common.{ap, sym, subst, ◌∙◌, false, true}
+use Rattle.std.proofs.Common.{ap, sym, ◌∙◌, false}
 use Rattle.xc_tree.specs.Trees as tree
 use Rattle.xc_kernel.specs.Context as contexts
 use Rattle.xc_kernel.specs.Copy as copies
 use Rattle.xc_kernel.specs.Parameters as spec
 use Rattle.xc_kernel.specs.Scopes as scopes
 use Rattle.xc_copy.specs.Contexts.{context_of}
-use Rattle.xc_copy.specs.Handed.{IsPassed}
+use Rattle.xc_copy.proofs.Laws.Parameters.{handed_as}
 use Rattle.xc_copy.specs.Scopes.{entity_meant, scope_of}
 use Rattle.xc_copy.proofs.context.Context.by_element.Goals as goal
 
@@ -19,7 +19,7 @@ returns-in_ok-copied-in-Array c =
     let kept = c.in_ok-array-in-Array-2.ensures.value in
     let stored = rw c.in_ok-array-in-Array-2.ensures.made at c.stored-copied.ensures in
     let slice = c.as_slice.ensures ∙ own in
-    subst (λ e. IsPassed (spec.by_element here (scope_of c.args.scope.now) c.args.own.now c.args.pos (tree.expression_of c.args.index.now) c.args.array_pos (entity_meant e)) _) (sym c.in-Array.is)
+    handed_as (ap (λ e. spec.by_element here (scope_of c.args.scope.now) c.args.own.now c.args.pos (tree.expression_of c.args.index.now) c.args.array_pos (entity_meant e)) (sym c.in-Array.is))
     (record {
       copy = λ behind. stored behind ∙ λ i. copies.with_variable (copies.one_statement behind (contexts.set_word here (slice i) (test i))) (contexts.word_variable here false (slice i) c.args.pos);
       entity = λ i. scopes.an_element ((ap (λ p. p.0) kept ∙ array) i) ((ap (λ p. p.1) kept ∙ own) i) c.in-Array.unsigned;
