@@ -257,8 +257,8 @@ declaration-returns-in-Timer t c =
     ∙ ap (λ k. declarations.kind_copy copies' here before d.name.text d.name.pos (tree.kind_of k)) (sym c.in-Timer.is))
     c.timer.ensures
 
-pub declaration-initial-requires : goal.declaration-initial-requires
-declaration-initial-requires t c =
+pub declaration-initial-initial-requires : goal.declaration-initial-initial-requires
+declaration-initial-initial-requires t c =
     (down c.args.calls (deepest c.args.self.now.functions.now.all.items) (deepest c.args.self.now.functions.now.all.items) 0 5 0 4 c.decreases refl (omega arith), tt)
 
 pub initial-returns-in-None : goal.initial-returns-in-None
@@ -281,8 +281,8 @@ initial-returns t c =
     ∙ (λ i. copies.joined (calls_spec.right_copy copies' here scope (tree.right_of c.in-Some.right)) (copies.one_statement scope (contexts.set_word here ((c.as_slice-in-Some.ensures ∙ c.in_ok-path.ensures) i) value)))
     ∙ ap (λ r. declarations.initial_copy copies' here path (option_map tree.right_of r) scope) (sym c.in-Some.is)
 
-pub initial-right-requires : goal.initial-right-requires
-initial-right-requires t c =
+pub initial-right-called-requires : goal.initial-right-called-requires
+initial-right-called-requires t c =
     (down c.args.calls (deepest c.args.self.now.functions.now.all.items) (deepest c.args.self.now.functions.now.all.items) 0 4 0 3 c.decreases refl (omega arith), tt)
 
 pub assign-returns-then-symbol-ne-EQUALS : goal.assign-returns-then-symbol-ne-EQUALS
@@ -308,8 +308,8 @@ assign-returns t c =
     set_done copies' here scope to right refl refl refl (c.in_ok-copied.ensures scope _ c.right-called.ensures)
     ∙ ap (spec.assign_by copies' here scope to c.args.symbol c.args.pos right) (sym same)
 
-pub assign-right-requires : goal.assign-right-requires
-assign-right-requires t c =
+pub assign-right-called-requires : goal.assign-right-called-requires
+assign-right-called-requires t c =
     (down c.args.calls (deepest c.args.self.now.functions.now.all.items) (deepest c.args.self.now.functions.now.all.items) 0 4 0 3 c.decreases refl (omega arith), tt)
 
 pub return_with-returns-in_ok-left-in-None : goal.return_with-returns-in_ok-left-in-None
@@ -326,8 +326,8 @@ return_with-returns-in_ok-copied-in-Some t c =
     return_done copies' here scope (tree.right_of c.in-Some.right) refl refl refl refl refl refl (c.in_ok-copied-in-Some.ensures scope _ c.right-called.ensures)
     ∙ ap (λ r. spec.return_copy copies' here scope (option_map tree.right_of r)) (sym c.in-Some.is)
 
-pub return_with-right-requires : goal.return_with-right-requires
-return_with-right-requires t c =
+pub return_with-right-called-requires : goal.return_with-right-called-requires
+return_with-right-called-requires t c =
     (down c.args.calls (deepest c.args.self.now.functions.now.all.items) (deepest c.args.self.now.functions.now.all.items) 0 4 0 3 c.decreases refl (omega arith), tt)
 
 pub right-returns-in-Value : goal.right-returns-in-Value
@@ -408,8 +408,8 @@ function-returns t c =
     refl
     refl refl refl refl (c.in_ok-copied.ensures _ inner scope _ (copied_in _ (copies' f.body) inner c.statement-body.result around c.statement-body.ensures))
 
-pub function-statement-requires : goal.function-statement-requires
-function-statement-requires t c =
+pub function-statement-body-requires : goal.function-statement-body-requires
+function-statement-body-requires t c =
     (down c.args.calls (deepest c.args.self.now.functions.now.all.items) (deepest c.in_function.result.functions.now.all.items) (deepest c.args.self.now.functions.now.all.items) 1 (heights.height (tree.statement_of c.args.function.now.body)) 0 c.decreases (ap (λ f. deepest f.now.all.items) c.in_function.ensures.functions) (omega (arith, c.requires)), tt)
 
 pub choice-returns : goal.choice-returns
@@ -420,12 +420,12 @@ choice-returns t c =
     if_done (spec.maybe_copy (spec.calls_copy c.args.calls) (tree.maybe_of c.args.second.now) here) test first refl
     (c.in_ok-copied.ensures (scope_of c.statement-first.new.scope) (scope_of c.maybe-second.new.scope) _ c.maybe-second.ensures)
 
-pub choice-statement-requires : goal.choice-statement-requires
-choice-statement-requires t c =
+pub choice-statement-first-requires : goal.choice-statement-first-requires
+choice-statement-first-requires t c =
     (down c.args.calls (deepest c.args.self.now.functions.now.all.items) (deepest c.args.self.now.functions.now.all.items) (max (heights.height (tree.statement_of c.args.first.now)) (heights.height_of_maybe (tree.maybe_of c.args.second.now))) 2 (heights.height (tree.statement_of c.args.first.now)) 0 c.decreases refl (omega arith), tt)
 
-pub choice-maybe-requires : goal.choice-maybe-requires
-choice-maybe-requires t c =
+pub choice-maybe-second-requires : goal.choice-maybe-second-requires
+choice-maybe-second-requires t c =
     (down c.args.calls (deepest c.args.self.now.functions.now.all.items) (deepest c.args.self.now.functions.now.all.items) (max (heights.height (tree.statement_of c.args.first.now)) (heights.height_of_maybe (tree.maybe_of c.args.second.now))) 2 (heights.height_of_maybe (tree.maybe_of c.args.second.now)) 1 c.decreases refl (omega arith), tt)
 
 pub while_loop-looped-requires : goal.while_loop-looped-requires
@@ -446,8 +446,8 @@ while_loop-returns t c =
     while_done here c.args.pos scope (copy (contexts.in_loop here c.args.pos) scope) test whole (c.nothing-next.ensures scope)
     (c.in_ok-copied.ensures scope inner (copy (contexts.in_loop here c.args.pos) scope) (copied_in scope copy inner c.statement-body.result around c.statement-body.ensures))
 
-pub while_loop-statement-requires : goal.while_loop-statement-requires
-while_loop-statement-requires t c =
+pub while_loop-statement-body-requires : goal.while_loop-statement-body-requires
+while_loop-statement-body-requires t c =
     (down c.args.calls (deepest c.args.self.now.functions.now.all.items) (deepest c.in_loop.result.functions.now.all.items) (heights.height (tree.statement_of c.args.body.now)) 1 (heights.height (tree.statement_of c.args.body.now)) 0 c.decreases (ap (λ f. deepest f.now.all.items) c.in_loop.ensures.functions) (omega arith), tt)
 
 pub do_while-looped_until-requires : goal.do_while-looped_until-requires
@@ -466,8 +466,8 @@ do_while-returns t c =
     do_done here c.args.pos (tree.expression_of c.args.test.now) scope refl whole refl refl
     (c.in_ok-copied.ensures body known)
 
-pub do_while-statement-requires : goal.do_while-statement-requires
-do_while-statement-requires t c =
+pub do_while-statement-body-requires : goal.do_while-statement-body-requires
+do_while-statement-body-requires t c =
     (down c.args.calls (deepest c.args.self.now.functions.now.all.items) (deepest c.in_loop.result.functions.now.all.items) (heights.height (tree.statement_of c.args.body.now)) 1 (heights.height (tree.statement_of c.args.body.now)) 0 c.decreases (ap (λ f. deepest f.now.all.items) c.in_loop.ensures.functions) (omega arith), tt)
 
 pub for_loop-leave-requires : goal.for_loop-leave-requires
@@ -494,8 +494,8 @@ for_loop-maybe-requires t c =
     let next = max (heights.height_of_maybe (tree.maybe_of c.args.next.now)) (heights.height (tree.statement_of c.args.body.now)) in
     (down c.args.calls (deepest c.args.self.now.functions.now.all.items) (deepest c.args.self.now.functions.now.all.items) (max (heights.height_of_maybe (tree.maybe_of c.args.first.now)) next) 3 (heights.height_of_maybe (tree.maybe_of c.args.first.now)) 1 c.decreases refl (omega arith), tt)
 
-pub for_loop-for_turns-requires : goal.for_loop-for_turns-requires
-for_loop-for_turns-requires t c =
+pub for_loop-for_turns-turns-requires : goal.for_loop-for_turns-turns-requires
+for_loop-for_turns-turns-requires t c =
     let next = max (heights.height_of_maybe (tree.maybe_of c.args.next.now)) (heights.height (tree.statement_of c.args.body.now)) in
     (down c.args.calls (deepest c.args.self.now.functions.now.all.items) (deepest c.args.self.now.functions.now.all.items) (max (heights.height_of_maybe (tree.maybe_of c.args.first.now)) next) 3 next 2 c.decreases refl (omega arith), tt)
 
@@ -531,12 +531,12 @@ for_turns-returns t c =
     c.in_ok-copied.ensures (scope_of c.maybe-next.new.scope) inner body (copied_as inner c.statement-body.result (λ i. copy (around i) (left i)) c.statement-body.ensures)
     ∙ λ i. flow.loop_at here (whole i) (test i) (flow.turn here (whole i) body.code []) (copies.code_of (next i)) (copies.joined (next i) body)
 
-pub for_turns-maybe-requires : goal.for_turns-maybe-requires
-for_turns-maybe-requires t c =
+pub for_turns-maybe-next-requires : goal.for_turns-maybe-next-requires
+for_turns-maybe-next-requires t c =
     (down c.args.calls (deepest c.args.self.now.functions.now.all.items) (deepest c.args.self.now.functions.now.all.items) (max (heights.height_of_maybe (tree.maybe_of c.args.next.now)) (heights.height (tree.statement_of c.args.body.now))) 2 (heights.height_of_maybe (tree.maybe_of c.args.next.now)) 1 c.decreases refl (omega arith), tt)
 
-pub for_turns-statement-requires : goal.for_turns-statement-requires
-for_turns-statement-requires t c =
+pub for_turns-statement-body-requires : goal.for_turns-statement-body-requires
+for_turns-statement-body-requires t c =
     (down c.args.calls (deepest c.args.self.now.functions.now.all.items) (deepest c.in_loop.result.functions.now.all.items) (max (heights.height_of_maybe (tree.maybe_of c.args.next.now)) (heights.height (tree.statement_of c.args.body.now))) 2 (heights.height (tree.statement_of c.args.body.now)) 0 c.decreases (ap (λ f. deepest f.now.all.items) c.in_loop.ensures.functions) (omega arith), tt)
 
 pub transaction-leave-requires : goal.transaction-leave-requires
@@ -579,8 +579,8 @@ pub statements-returns : goal.statements-returns
 statements-returns t c =
     statements_all (spec.calls_copy c.args.calls) (context_of c.args.self.now) c.args.ss.now c.loop-s.s-index c.loop-s-test.false (copy_of c.loop-s.copied (scope_of c.loop-s.scope)) c.loop-s.invariant
 
-pub statements-statement-requires : goal.statements-statement-requires
-statements-statement-requires t c =
+pub statements-statement-next-requires : goal.statements-statement-next-requires
+statements-statement-next-requires t c =
     (statement_below c.args.calls (deepest c.args.self.now.functions.now.all.items) c.args.ss.now c.loop-s.s-index c.s-item.result c.decreases c.s-item.is c.loop-s-test.true, tt)
 
 pub declarations-loop-d-init : goal.declarations-loop-d-init
@@ -598,8 +598,8 @@ pub declarations-returns : goal.declarations-returns
 declarations-returns t c =
     declarations_all (spec.calls_copy c.args.calls) (context_of c.args.self.now) c.args.ds.now c.loop-d.d-index c.loop-d-test.false (copy_of c.loop-d.copied (scope_of c.loop-d.scope)) c.loop-d.invariant
 
-pub declarations-declaration-requires : goal.declarations-declaration-requires
-declarations-declaration-requires t c =
+pub declarations-declaration-next-requires : goal.declarations-declaration-next-requires
+declarations-declaration-next-requires t c =
     let d = deepest c.args.self.now.functions.now.all.items in
     (down c.args.calls d d 0 6 0 5 c.decreases refl (omega arith), tt)
 
@@ -620,11 +620,11 @@ par-loop-index-preserved t c =
 pub par-returns : goal.par-returns
 par-returns t c =
     let scope = scope_of c.loop-index.scope in
-    c.in_ok-copied-2.ensures scope
+    c.in_ok-copied.ensures scope
     ∙ ap flow.par_copy (branches_all (spec.calls_copy c.args.calls) (context_of c.args.self.now) c.args.bs.now c.loop-index.index c.loop-index-test.false scope c.loop-index.branches c.loop-index.invariant)
 
-pub par-branch-requires : goal.par-branch-requires
-par-branch-requires t c = (
+pub par-branch-copied-requires : goal.par-branch-copied-requires
+par-branch-copied-requires t c = (
   branches_below c.args.calls (deepest c.args.self.now.functions.now.all.items) c.args.bs.now c.loop-index.index c.index-bs-index.result c.decreases c.index-bs-index.is c.loop-index-test.true,
   tt,
 )
@@ -678,12 +678,12 @@ replicated-returns t c =
     let b = c.args.b.now in
     let inv = c.loop-number.invariant in
     let copy = flow.numbered_copy (spec.branch_copy (spec.calls_copy c.args.calls) (tree.branch_of b)) here scope c.args.name.now.text in
-    c.in_ok-copied-2.ensures (scope_of c.loop-number.scope)
+    c.in_ok-copied.ensures (scope_of c.loop-number.scope)
     ∙ ap (λ s. flow.par_copy (branched_before c.loop-number.branches (flow.no_branches s))) inv.scope
     ∙ ap flow.par_copy (numbered_all copy (spec.pos_of_branch (tree.branch_of b)) scope c.args.from c.args.until c.loop-number.number c.loop-number-test.false c.loop-number.branches inv.branches)
 
-pub replicated-numbered-requires : goal.replicated-numbered-requires
-replicated-numbered-requires t c =
+pub replicated-numbered-copied-requires : goal.replicated-numbered-copied-requires
+replicated-numbered-copied-requires t c =
     let height = heights.height_of_branch (tree.branch_of c.args.b.now) in
     (down c.args.calls (deepest c.args.self.now.functions.now.all.items) (deepest c.args.self.now.functions.now.all.items) height 3 height 2 c.decreases refl (omega arith), tt)
 
@@ -700,8 +700,8 @@ numbered-returns t c =
     let left = left_as (numbered_grows c.args.calls b inner c.args.name.now.text (scopes.a_constant c.args.number) name c.in_ok-copied.ensures) c.len-known.ensures c.leave.ensures in
     λ i. copies.in_scope_of (left i) ((c.in_ok-copied.ensures ∙ ap (spec.branch_copy (spec.calls_copy c.args.calls) (tree.branch_of b) inner) name) i)
 
-pub numbered-branch-requires : goal.numbered-branch-requires
-numbered-branch-requires t c =
+pub numbered-branch-self-requires : goal.numbered-branch-self-requires
+numbered-branch-self-requires t c =
     let height = heights.height_of_branch (tree.branch_of c.args.b.now) in
     (down c.args.calls (deepest c.args.self.now.functions.now.all.items) (deepest c.args.self.now.functions.now.all.items) height 2 height 1 c.decreases refl (omega arith), tt)
 
@@ -741,8 +741,8 @@ select-returns t c =
     ∙ ap (λ s. flow.select_copy s c.args.pos (cased_before c.loop-case.cases (flow.no_cases s))) inv.scope
     ∙ ap (flow.select_copy scope c.args.pos) (cases_all (spec.calls_copy c.args.calls) (context_of c.args.self.now) c.args.cs.now c.loop-case.case-index c.loop-case-test.false scope c.loop-case.cases inv.cases)
 
-pub select-case-requires : goal.select-case-requires
-select-case-requires t c =
+pub select-case-added-requires : goal.select-case-added-requires
+select-case-added-requires t c =
     (case_below c.args.calls (deepest c.args.self.now.functions.now.all.items) c.args.cs.now c.loop-case.case-index c.case-item.result c.decreases c.case-item.is c.loop-case-test.true, tt)
 
 pub case-returns-clause-cases : goal.case-returns-clause-cases
@@ -761,8 +761,8 @@ case-returns-clause-names t c =
     let grows = rw c.in_ok-path.ensures.second at c.opened-opened.ensures.grows in
     further grows (grown_where c.statements-body.result inner (scope_of c.statements-body.new.scope) _ c.in_ok-add_case.ensures.made c.statements-body.ensures (statements_grow (spec.calls_copy c.args.calls) (calls_keep c.args.calls) ss (context_of c.in_case.result) inner))
 
-pub case-statements-requires : goal.case-statements-requires
-case-statements-requires t c = (
+pub case-statements-body-requires : goal.case-statements-body-requires
+case-statements-body-requires t c = (
   body_below c.args.calls (deepest c.args.self.now.functions.now.all.items) (deepest c.in_case.result.functions.now.all.items) c.args.case.now c.as_slice-2.result.now
       c.decreases (ap (λ f. deepest f.now.all.items) c.in_case.ensures.functions) c.as_slice-2.ensures,
   tt,

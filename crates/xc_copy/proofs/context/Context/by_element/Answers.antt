@@ -9,8 +9,8 @@ use Rattle.xc_copy.proofs.Laws.Parameters.{handed_as}
 use Rattle.xc_copy.specs.Scopes.{entity_meant, scope_of}
 use Rattle.xc_copy.proofs.context.Context.by_element.Goals as goal
 
-pub returns-in_ok-copied-in-Array : goal.returns-in_ok-copied-in-Array
-returns-in_ok-copied-in-Array c =
+pub returns-in_ok-array-in-Array-2 : goal.returns-in_ok-array-in-Array-2
+returns-in_ok-array-in-Array-2 c =
     let here = context_of c.args.self.now in
     let both = rw c.in_ok-array-in-Array.ensures.first at c.both-paths.ensures in
     let array = rw both.first at c.copy-array.ensures in
