@@ -10,10 +10,10 @@ use Rattle.xc_built.specs.declared.program.Output.{Output}
 use Rattle.xc_built.specs.declared.program.Program.{Program}
 use Rattle.xc_built.specs.World.{Item, Outputs, Ends, Life, Running, Ended, Branch, World}
 
--- a step, by whose it is: a core's clock goes up, or a branch does its first item
-pub data Move : Type 0 where
-  Clock : (core : ℕ) → Move
-  Go : (branch : ℕ) → Move
+-- an action: a step of the program, by whose it is: a core's clock goes up, or a branch does its first item
+pub data Action : Type 0 where
+  Clock : (core : ℕ) → Action
+  Go : (branch : ℕ) → Action
 
 -- there is no time, or its low 16 bits are the counter
 abbrev pub is_time : Option ℕ → ℕ → Bool
@@ -64,12 +64,12 @@ ticks_by x core clock false = None
 abbrev pub ticks : World → ℕ → ℕ → Option World
 ticks x core clock = ticks_by x core clock (nat_lt clock last_clock)
 
--- what a step leaves, where it is possible under a stimulus
-abbrev pub moves : Program → Stim → World → Move → Option World
-moves P s x (Clock core) = and_then (slice_get x.clocks core) (ticks x core)
-moves P s x (Go b) = and_then (slice_get x.branches b) (λ branch. goes P x b branch branch.life)
+-- what an action leaves, where it is possible under a stimulus
+abbrev pub acts : Program → Stim → World → Action → Option World
+acts P s x (Clock core) = and_then (slice_get x.clocks core) (ticks x core)
+acts P s x (Go b) = and_then (slice_get x.branches b) (λ branch. goes P x b branch branch.life)
 
--- where a list of steps leads, each possible where it stands
-abbrev pub allowed : Program → Stim → World → List Move → Option World
+-- where a list of actions leads, each possible where it stands
+abbrev pub allowed : Program → Stim → World → List Action → Option World
 allowed P s x [] = Some x
-allowed P s x (m ∷ ms) = and_then (moves P s x m) (λ y. allowed P s y ms)
+allowed P s x (m ∷ ms) = and_then (acts P s x m) (λ y. allowed P s y ms)

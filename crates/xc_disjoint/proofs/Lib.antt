@@ -9,4 +9,3 @@ mod RootEnds
 mod Firsts
 mod Whole
 mod NeedsExamples
-pub mod Handed

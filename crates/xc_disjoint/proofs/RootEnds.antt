@@ -15,7 +15,7 @@ use Rattle.xc_disjoint.specs.Ends as ends
 use Rattle.xc_disjoint.specs.Ends.{users, some_has_sides, branches_of, uses_in}
 use Rattle.xc_disjoint.specs.Needs.{ends_on, ends_on_of_root}
 use Rattle.xc_disjoint.specs.Sides as sides
-use Rattle.xc_disjoint.specs.Sides.{Sides, Shares, all_with, no_shares, with_roots, with_branches, Seen, seen_of, ends_at}
+use Rattle.xc_disjoint.specs.Sides.{Sides, Shares, all_with, no_shares, with_roots, with_branches, RootUse, seen_of, ends_at}
 use Rattle.xc_disjoint.specs.Sums.{capped}
 use Rattle.xc_disjoint.proofs.Settled.{Fits, Shared, Within, side_by, share_by, count_append, none_above, no_branch_yet, of_statements, of_branches, from_start}
 
@@ -223,6 +223,6 @@ pub same_needs : (k : kernel.Kernel) (core : ℕ) → sum_by (ends_at (with_root
 same_needs k core = sums k core k.roots (λ r i. i)
 
 -- the same of a number that was computed by tables
-pub needs_by : (k : kernel.Kernel) (core : ℕ) (shares : Shares) (seen : List Seen) (count n : ℕ) → n ≡ capped (sum_by (ends_at shares count core) seen) → shares ≡ with_roots no_shares k.roots → seen ≡ map seen_of k.roots → count ≡ length k.channels → n ≡ capped (ends_on k core)
+pub needs_by : (k : kernel.Kernel) (core : ℕ) (shares : Shares) (seen : List RootUse) (count n : ℕ) → n ≡ capped (sum_by (ends_at shares count core) seen) → shares ≡ with_roots no_shares k.roots → seen ≡ map seen_of k.roots → count ≡ length k.channels → n ≡ capped (ends_on k core)
 needs_by k core shares seen count n e p q l =
     e ∙ (λ j. capped (sum_by (ends_at (p j) (l j) core) (q j))) ∙ ap capped (same_needs k core)

@@ -6,7 +6,7 @@ use Rattle.xc_kernel.specs.declared.statement.KCase.{KCase}
 use Rattle.xc_kernel.specs.Kernels.{statement_of, branch_of, case_of}
 use Rattle.xc_kernel.specs.Plain.{statements, branches, cases}
 use Rattle.xc_kernel.proofs.Forms.{forms}
-use Rattle.xc_disjoint.specs.Sides.{Sides, Shares, no_sides, all_after, all_with, of_statement, of_statements, of_branch, Seen, with_branches, of_case, of_cases}
+use Rattle.xc_disjoint.specs.Sides.{Sides, Shares, no_sides, all_after, all_with, of_statement, of_statements, of_branch, RootUse, with_branches, of_case, of_cases}
 use Rattle.xc_disjoint.specs.declared.ends.RootSides.{RootSides}
 use Rattle.xc_disjoint.specs.Tables.{seen_in}
 use Rattle.xc_disjoint.proofs.Entries.{same_sides, after_unused, after_assoc}
@@ -34,7 +34,7 @@ pub branches_step : (shares : Shares) (xs : List KBranch) (i : ℕ) (x : KBranch
 branches_step shares xs i x e h = ap (λ ys. with_branches shares (branches (map branch_of ys))) (drop_item xs i x e h)
 
 -- a root's table more behind some, and a root less before others
-pub pushed_root : (ts : List RootSides) (t : RootSides) (r : Seen) (rs : List Seen) → seen_in t ≡ r → map seen_in ts ++ r ∷ rs ≡ map seen_in (ts ++ t ∷ []) ++ rs
+pub pushed_root : (ts : List RootSides) (t : RootSides) (r : RootUse) (rs : List RootUse) → seen_in t ≡ r → map seen_in ts ++ r ∷ rs ≡ map seen_in (ts ++ t ∷ []) ++ rs
 pushed_root [] t r rs e = ap (λ s. s ∷ rs) (sym e)
 pushed_root (x ∷ ts) t r rs e = ap (λ ss. seen_in x ∷ ss) (pushed_root ts t r rs e)
 

@@ -1,4 +1,3 @@
-pub mod Programs
 pub mod Cores
 pub mod Uses
 pub mod Pars
@@ -6,7 +5,7 @@ pub mod Threads
 pub mod Ends
 pub mod Needs
 pub mod Rules
-pub mod Accepted
+pub mod Checked
 pub mod Sides
 pub mod Tables
 pub mod Leasts

@@ -112,11 +112,11 @@ with_roots shares [] = shares
 with_roots shares (r ∷ rs) = with_roots (all_with shares (of_statements r.body)) rs
 
 -- a root's core, and the sides of channels in the root
-pub record Seen : Type 0 where
+pub record RootUse : Type 0 where
   pub core : ℕ
   pub sides : Sides
 
-abbrev pub seen_of : kernel.Root → Seen
+abbrev pub seen_of : kernel.Root → RootUse
 seen_of r = record { core = r.core; sides = of_statements r.body }
 
 -- the ends that a root needs for a channel, by the roots that use it and by its sides in this root
@@ -132,5 +132,5 @@ ends_below shares sides zero = 0
 ends_below shares sides (suc n) = ends_below shares sides n + ends_by (shares n) (sides n)
 
 -- the ends that a root needs on a core
-abbrev pub ends_at : Shares → (channels core : ℕ) → Seen → ℕ
+abbrev pub ends_at : Shares → (channels core : ℕ) → RootUse → ℕ
 ends_at shares channels core root = on_core core root.core (ends_below shares root.sides channels)

@@ -9,7 +9,7 @@ use Rattle.xc_disjoint.specs.declared.tables.SideTable.{SideTable}
 use Rattle.xc_disjoint.specs.declared.tables.ShareTable.{ShareTable}
 use Rattle.xc_disjoint.specs.declared.tables.ParTable.{ParTable}
 use Rattle.xc_disjoint.specs.declared.ends.RootSides.{RootSides}
-use Rattle.xc_disjoint.specs.Sides.{Sides, Shares, Seen, only, all_after, all_with, side_of, with_branch}
+use Rattle.xc_disjoint.specs.Sides.{Sides, Shares, RootUse, only, all_after, all_with, side_of, with_branch}
 
 -- a channel that isn't in the table isn't used
 abbrev pub side_or : Option Side → Side
@@ -34,7 +34,7 @@ abbrev pub shares_in : ShareTable → Shares
 shares_in table = shares_at table.entries.entries
 
 -- what is seen of a root
-abbrev pub seen_in : RootSides → Seen
+abbrev pub seen_in : RootSides → RootUse
 seen_in root = record { core = root.core; sides = sides_in root.sides }
 
 -- the largest table of a branch stands beside what the others share

@@ -1,5 +1,5 @@
 ghost use Rattle.std.specs.Prelude.{◌≡◌};
-ghost use Rattle.xc_disjoint.specs.Accepted.{IsAccepted};
+ghost use Rattle.xc_disjoint.specs.Checked.{IsChecked};
 ghost use Rattle.xc_kernel.specs.Kernels.{kernel_of};
 
 use std::marker::Model;
@@ -12,7 +12,7 @@ pub struct Checked {
 }
 
 impl Model for Checked {
-    ghost use Rattle.xc_disjoint.specs.Accepted.{IsAccepted};
+    ghost use Rattle.xc_disjoint.specs.Checked.{IsChecked};
     ghost use Rattle.xc_kernel.specs.Kernels.{kernel_of};
     ghost use Rattle.xc_kernel.specs.declared.kernel.Kernel.{Kernel as K};
     ghost use Rattle.xc_kernel.specs.contracts.statement.Kst as e;
@@ -24,13 +24,13 @@ impl Model for Checked {
 
     ghost view = { λ c. c.kernel };
 
-    ghost invariant = { λ c. IsAccepted (kernel_of c.kernel) };
+    ghost invariant = { λ c. IsChecked (kernel_of c.kernel) };
 }
 
 impl Checked {
     /// A kernel that was checked.
     pub(crate) fn new(kernel: Kernel) -> Checked
-        requires { IsAccepted (kernel_of kernel) }
+        requires { IsChecked (kernel_of kernel) }
         ensures { result ≡ kernel }
     {
         Checked { kernel }
@@ -39,7 +39,7 @@ impl Checked {
     /// The kernel, which breaks no rule and is that of a program that breaks none and whose tree is no deeper than 200.
     pub fn kernel(&self) -> &Kernel
         ensures kernel { result.now ≡ self.now }
-        ensures accepted { IsAccepted (kernel_of self.now) }
+        ensures accepted { IsChecked (kernel_of self.now) }
     {
         &self.kernel
     }

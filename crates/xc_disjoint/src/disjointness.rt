@@ -1,7 +1,7 @@
 ghost use Rattle.std.specs.Prelude.{◌≡◌, Some, IfErr, IfOk};
 ghost use Rattle.xw_words.specs.declared.pos.Broken.{Broken as Wrong};
 ghost use Rattle.xc_disjoint.specs.Errors.{IfBroken};
-ghost use Rattle.xc_disjoint.specs.Programs.{IsOfProgram};
+ghost use Rattle.xc_kernel.specs.Sound.{IsOfProgram};
 ghost use Rattle.xc_disjoint.specs.Rules.{Breaks, FirstBroken, NeedsMore};
 ghost use Rattle.xc_kernel.specs.Kernels.{kernel_of};
 ghost use Rattle.xc_tree.specs.Least.{IsLeastOf};

@@ -1,9 +1,11 @@
-ghost use Rattle.std.specs.Prelude.{IfErr, IfOk};
+ghost use Rattle.std.specs.Prelude.{◌≤◌, IfErr, IfOk};
 ghost use Rattle.xc_flat.specs.Errors.{IfBroken};
 ghost use Rattle.xc_kernel.specs.Copies.{Copies};
 ghost use Rattle.xc_kernel.specs.Kernels.{kernel_of};
 ghost use Rattle.xc_kernel.specs.Size.{Breaks509, IsTooLarge};
-ghost use Rattle.xc_kernel.specs.Sound.{IsTyped};
+ghost use Rattle.xc_kernel.specs.Sound.{IsOfProgram, IsTyped};
+ghost use Rattle.xc_tree.specs.Depth as depth;
+ghost use Rattle.xc_tree.specs.Derives.{deepest};
 ghost use Rattle.xc_tree.specs.Trees.{program_of};
 ghost use Rattle.xc_tree.specs.Types.Named.{named_of};
 
@@ -37,14 +39,17 @@ impl From<Memory> for FlatErr {
     }
 }
 
-/// The kernel of a program that breaks no rule of names, types and shapes: each call is replaced by the called function's
-/// body over instances of its own.
+/// The kernel of a program that breaks no rule of names, types and shapes, and whose tree no node is too deep in: each call is
+/// replaced by the called function's body over instances of its own. Such a kernel may be handed to the rules of needs.
 ///
 /// A program with all its copies that has more than 100,000 statements, more than 1,000,000 nodes of expressions or a depth
 /// above 1,000 breaks rule 509 at main's name. That is seen before anything is copied. The other error is that memory could
 /// not be had. The stack that it needs grows with the depth of the kernel.
+#[tactic(auto, using(crate::proofs::Handed::handed_on))]
 pub fn flatten(alloc: Global, typed: &Typed) -> Result<Kernel, FlatErr>
-    requires { IsTyped (program_of typed.now.named.tree) (named_of typed.now.named) typed.now.unsigned_at }
+    requires typed { IsTyped (program_of typed.now.named.tree) (named_of typed.now.named) typed.now.unsigned_at }
+    requires shallow { depth.of_program (program_of typed.now.named.tree) ≤ deepest }
+    ensures of_program { IfOk result (λ k. IsOfProgram (kernel_of k)) }
     ensures copies { IfOk result (λ k. Copies (program_of typed.now.named.tree) (kernel_of k)) }
     ensures small { IfOk result (λ k. IsTooLarge (program_of typed.now.named.tree) → ⊥) }
     ensures broken { IfErr result (λ e. IfBroken e (λ b. Breaks509 (program_of typed.now.named.tree) b)) }

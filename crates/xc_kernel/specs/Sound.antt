@@ -1,6 +1,8 @@
 -- The programs that are flattened, and those whose kernels are looked at further: they break no rule of an earlier phase.
-use Rattle.std.specs.Prelude.{◌≡◌, Bool, List}
+use Rattle.std.specs.Prelude.{◌≡◌, ◌≤◌, Bool, List}
 use Rattle.xw_words.specs.declared.pos.Broken.{Broken}
+use Rattle.xc_tree.specs.Depth as depth
+use Rattle.xc_tree.specs.Derives.{deepest}
 use Rattle.xc_tree.specs.Plain as tree
 use Rattle.xc_tree.specs.Programs.{IsParsed}
 use Rattle.xc_tree.specs.Names.Marks.{of_program as marks_of}
@@ -9,6 +11,8 @@ use Rattle.xc_tree.specs.Names.Uses.{AreUses, declarations}
 use Rattle.xc_tree.specs.Types.Named.{NamedProgram}
 use Rattle.xc_tree.specs.Types.Sites.{unsigned_at}
 use Rattle.xc_tree.specs.Checks as checks
+use Rattle.xc_kernel.specs.Plain as kernel
+use Rattle.xc_kernel.specs.Copies.{Copies}
 use Rattle.xc_kernel.specs.Size.{IsTooLarge}
 
 -- this is the program with its declarations, and with the declaration of each of its names
@@ -31,3 +35,10 @@ pub record IsSound (program : List tree.Item) : Type 0 where
   pub types : List Bool
   pub typed : IsTyped program named types
   pub small : IsTooLarge program → ⊥
+
+-- A kernel is that of such a program, whose tree has no node that is too deep.
+pub record IsOfProgram (k : kernel.Kernel) : Type 0 where
+  pub program : List tree.Item
+  pub sound : IsSound program
+  pub shallow : depth.of_program program ≤ deepest
+  pub copies : Copies program k

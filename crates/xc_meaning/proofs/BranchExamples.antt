@@ -1,5 +1,7 @@
 -- Branches and channels of small programs, as their texts and as their kernels: each program is written in the comment above its tree.
 use Rattle.std.specs.Prelude.{◌≡◌, List, [], ◌∷◌, true, false, Some, None, codes, refl}
+use Rattle.xw_words.specs.Tables.{place_from}
+use Rattle.xw_words.specs.Ports.{identifiers}
 use Rattle.xs_instr.specs.declared.trace.Trap.TheVariants.{Arithmetic}
 use Rattle.xs_instr.specs.declared.trace.Record.TheVariants.{Com, PortOut, PortIn, Fault}
 use Rattle.xc_tree.specs.declared.tree.TreeDir.TheVariants.{In, Out}
@@ -56,7 +58,7 @@ declared =
     ∷ []
 
 known : plays declared nine (in_turn 2 (0 ∷ 1 ∷ 2 ∷ [])) ≡ both (finished (PortIn 0 22 0 9 ∷ PortOut 0 28 0 9 ∷ PortOut 0 28 0 1 ∷ []))
-unfolding copy_of
+unfolding copy_of identifiers place_from
 known = refl
 
 -- a side of a channel makes branches, one of which uses it
@@ -76,7 +78,7 @@ inner =
     ∷ []
 
 inner_side : plays inner no_stimulus (in_turn 4 (0 ∷ 1 ∷ 2 ∷ 3 ∷ 4 ∷ [])) ≡ both (finished (Com 0 1 ∷ PortOut 0 28 0 1 ∷ []))
-unfolding copy_of
+unfolding copy_of identifiers place_from
 inner_side = refl
 
 -- two transactions on one channel, and then a plain word: its output waits
@@ -102,7 +104,7 @@ transactions =
     ∷ []
 
 transacted : plays transactions no_stimulus (in_turn 8 (0 ∷ 1 ∷ 2 ∷ [])) ≡ both (finished (Com 0 1 ∷ Com 0 2 ∷ Com 0 3 ∷ PortOut 0 28 0 4 ∷ []))
-unfolding copy_of
+unfolding copy_of identifiers place_from
 transacted = refl
 
 -- inside a transaction another channel is plain: its output waits
@@ -133,7 +135,7 @@ other_channel =
     ∷ []
 
 waited : plays other_channel no_stimulus (in_turn 6 (0 ∷ 1 ∷ 2 ∷ 3 ∷ 4 ∷ [])) ≡ both (finished (Com 0 4 ∷ PortOut 0 28 0 1 ∷ Com 0 4 ∷ []))
-unfolding copy_of
+unfolding copy_of identifiers place_from
 waited = refl
 
 -- a port on another core, with pins of its own
@@ -149,5 +151,5 @@ far =
     ∷ []
 
 own_pins : plays far nine (in_turn 1 (0 ∷ 1 ∷ [])) ≡ both (finished (PortIn 2 22 0 0 ∷ []))
-unfolding copy_of
+unfolding copy_of identifiers place_from
 own_pins = refl

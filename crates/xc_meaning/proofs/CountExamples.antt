@@ -1,7 +1,7 @@
 -- The counts of small programs, and the steps of families.
 use Rattle.std.specs.Prelude.{◌≡◌, ℕ, List, [], ◌∷◌, ◌++◌, Option, Some, None, option_map, refl}
 use Rattle.xc_kernel.specs.Copies.{copy_of}
-use Rattle.xc_meaning.specs.States.Worlds.{World, Move, take, default}
+use Rattle.xc_meaning.specs.States.Worlds.{World, Action, take, default}
 use Rattle.xc_meaning.specs.Runs.{kernel_start, kernel_run}
 use Rattle.xc_meaning.specs.Counts.Families.{steps_of, child_family}
 use Rattle.xc_meaning.specs.Counts.KernelCounts.{greatest_count, kernel_bound}
@@ -106,7 +106,7 @@ unfolding copy_of
 second_family = refl
 
 -- The `par`s of two and of three branches count, the one between them doesn't: its branch has the number 3.
-abbrev to_last_par : List Move
+abbrev to_last_par : List Action
 to_last_par = steps 3 0 ++ steps 1 1 ++ steps 1 2 ++ steps 2 0 ++ steps 1 3 ++ steps 2 0
 
 abbrev children : World → List (Option ℕ)

@@ -1,5 +1,7 @@
 -- Flow and calls of small programs, as their texts and as their kernels: each program is written in the comment above its tree.
 use Rattle.std.specs.Prelude.{◌≡◌, List, [], ◌∷◌, false, Some, None, codes, refl}
+use Rattle.xw_words.specs.Tables.{place_from}
+use Rattle.xw_words.specs.Ports.{identifiers}
 use Rattle.xs_instr.specs.declared.trace.Trap.TheVariants.{Arithmetic, Index}
 use Rattle.xs_instr.specs.declared.trace.Record.TheVariants.{PortOut, PortIn, Fault}
 use Rattle.xc_tree.specs.declared.tree.TreeDir.TheVariants.{In, Out}
@@ -39,7 +41,7 @@ loops =
     ∷ []
 
 looped : plays loops no_stimulus (advance 0 ∷ []) ≡ both (finished (PortOut 0 28 0 0 ∷ PortOut 0 28 0 2 ∷ PortOut 0 28 0 6 ∷ PortOut 0 28 0 8 ∷ PortOut 0 28 0 4 ∷ PortOut 0 28 0 9 ∷ PortOut 0 28 0 8 ∷ []))
-unfolding copy_of
+unfolding copy_of identifiers place_from
 looped = refl
 
 -- returns out of loops inside one another, of the result of a call, and none behind one
@@ -87,7 +89,7 @@ returns =
     ∷ []
 
 returned : plays returns no_stimulus (advance 0 ∷ []) ≡ both (finished (PortOut 0 28 0 0 ∷ PortOut 0 28 0 7 ∷ PortOut 0 28 0 12 ∷ PortOut 0 28 0 11 ∷ PortOut 0 28 0 5 ∷ PortOut 0 28 0 0 ∷ []))
-unfolding copy_of
+unfolding copy_of identifiers place_from
 returned = refl
 
 -- names that hide others, each in its scope
@@ -121,7 +123,7 @@ scopes =
     ∷ []
 
 scoped : plays scopes nine (advance 0 ∷ step (take 0 0) ∷ advance 0 ∷ []) ≡ both (finished (PortOut 0 28 0 0 ∷ PortIn 0 22 0 9 ∷ PortOut 0 28 0 9 ∷ PortOut 0 28 0 1 ∷ PortOut 0 28 0 2 ∷ PortOut 0 28 0 4 ∷ PortIn 0 22 0 9 ∷ PortOut 0 28 0 10 ∷ PortOut 0 28 0 5 ∷ []))
-unfolding copy_of
+unfolding copy_of identifiers place_from
 scoped = refl
 
 -- what is declared becomes 0 in each turn
@@ -141,7 +143,7 @@ zeros =
     ∷ []
 
 zeroed : plays zeros no_stimulus (advance 0 ∷ []) ≡ both (finished (PortOut 0 28 0 0 ∷ PortOut 0 28 0 0 ∷ []))
-unfolding copy_of
+unfolding copy_of identifiers place_from
 zeroed = refl
 
 -- each call has variables of its own, and one call has the same ones in each turn
@@ -168,7 +170,7 @@ instances =
     ∷ []
 
 apart : plays instances nine (advance 0 ∷ []) ≡ both (finished (PortIn 0 22 0 9 ∷ PortOut 0 28 0 9 ∷ PortOut 0 28 0 0 ∷ PortIn 0 22 0 9 ∷ PortOut 0 28 0 9 ∷ PortOut 0 28 0 9 ∷ []))
-unfolding copy_of
+unfolding copy_of identifiers place_from
 apart = refl
 
 -- an element by reference is that of the call, and the index at the left comes after the call at the right
@@ -211,7 +213,7 @@ references =
     ∷ []
 
 referred : plays references no_stimulus (advance 0 ∷ []) ≡ both (finished (PortOut 0 28 0 5 ∷ PortOut 0 28 0 0 ∷ PortOut 0 28 0 0 ∷ PortOut 0 28 0 8 ∷ []))
-unfolding copy_of
+unfolding copy_of identifiers place_from
 referred = refl
 
 -- the first of two errors among arguments

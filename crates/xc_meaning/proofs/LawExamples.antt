@@ -4,7 +4,7 @@ use Rattle.xc_tree.specs.Plain as tree
 use Rattle.xc_kernel.proofs.Written.{at, id, number, result}
 use Rattle.xc_meaning.specs.Texts.Called.{CallsEnd}
 use Rattle.xc_meaning.specs.Texts.Returns.{all_stay}
-use Rattle.xc_meaning.specs.States.Worlds.{Move}
+use Rattle.xc_meaning.specs.States.Worlds.{Action}
 use Rattle.xc_meaning.specs.Follows.{StandAlong}
 use Rattle.xc_meaning.proofs.ExamplePrograms.{three_pars}
 
@@ -51,7 +51,7 @@ staying : all_stay three_pars ≡ true
 staying = refl
 
 -- Runs of one step stand so before it and after it, with one piece for it.
-module _ (Stand : List Move → List Move → Type 0) (m : Move) (first piece : List Move) where
+module _ (Stand : List Action → List Action → Type 0) (m : Action) (first piece : List Action) where
   at_each_step : StandAlong Stand [] first (m ∷ []) (piece ∷ []) ≡ (Stand [] first × Stand (m ∷ []) (first ++ piece))
   at_each_step = refl
 

@@ -3,17 +3,17 @@ use Rattle.std.specs.Prelude.{◌≡◌, zero, suc, Bool, true, false, List, [],
 use Rattle.xc_tree.specs.Plain as tree
 use Rattle.xc_kernel.specs.Plain as kernel
 use Rattle.xc_kernel.specs.Copies.{copy_of}
-use Rattle.xc_meaning.specs.States.Worlds.{World, Move, clock, go, take, default}
-use Rattle.xc_meaning.specs.Runs.{moves, kernel_start, program_start, kernel_run, program_run}
+use Rattle.xc_meaning.specs.States.Worlds.{World, Action, clock, go, take, default}
+use Rattle.xc_meaning.specs.Runs.{acts, kernel_start, program_start, kernel_run, program_run}
 use Rattle.xc_meaning.specs.Quiet.{is_idle, IsQuiet}
 use Rattle.xc_meaning.proofs.ExamplePrograms.{word_too_many, both_input, both_err, partner_errs, slave_errs, master_errs, both_output, child_errs}
 use Rattle.xc_meaning.proofs.Running.{no_stimulus, steps, Part, advance, step, parts_done}
 
 -- where a run of a program's kernel leads, and one of its text
-abbrev led : List tree.Item → List Move → World
+abbrev led : List tree.Item → List Action → World
 led P ms = unwrap_or (kernel_run (copy_of P) no_stimulus ms) (kernel_start (copy_of P))
 
-abbrev text_led : List tree.Item → List Move → World
+abbrev text_led : List tree.Item → List Action → World
 text_led P ms = unwrap_or (program_run P no_stimulus ms) (program_start P)
 
 -- main waits for its branches, and each of these for the other
@@ -21,7 +21,7 @@ both_wait : IsQuiet (copy_of both_input) no_stimulus (led both_input (steps 5 0)
 unfolding copy_of
 both_wait = record { idle = idle }
   where
-    idle : (m : Move) → IsSome (moves (copy_of both_input) no_stimulus (led both_input (steps 5 0)) m) → IsTrue (is_idle (led both_input (steps 5 0)) m)
+    idle : (m : Action) → IsSome (acts (copy_of both_input) no_stimulus (led both_input (steps 5 0)) m) → IsTrue (is_idle (led both_input (steps 5 0)) m)
     idle (clock c) h = refl
     idle (go zero) h = h
     idle (go (suc zero)) h = h
@@ -41,7 +41,7 @@ both_wait_in_text : IsQuiet (copy_of both_input) no_stimulus (text_led both_inpu
 unfolding copy_of
 both_wait_in_text = record { idle = idle }
   where
-    idle : (m : Move) → IsSome (moves (copy_of both_input) no_stimulus (text_led both_input (steps 6 0)) m) → IsTrue (is_idle (text_led both_input (steps 6 0)) m)
+    idle : (m : Action) → IsSome (acts (copy_of both_input) no_stimulus (text_led both_input (steps 6 0)) m) → IsTrue (is_idle (text_led both_input (steps 6 0)) m)
     idle (clock c) h = refl
     idle (go zero) h = h
     idle (go (suc zero)) h = h
@@ -58,14 +58,14 @@ both_wait_in_text = record { idle = idle }
 
 -- The slave has erred, and the master stands before the end of its transaction: it could put its closing, and no one would
 -- answer it.
-abbrev after_mismatch : List Move
+abbrev after_mismatch : List Action
 after_mismatch = steps 3 0 ++ steps 2 1 ++ steps 3 2 ++ steps 3 1 ++ steps 2 2 ++ steps 1 1 ++ steps 3 2
 
 slave_lost : IsQuiet (copy_of word_too_many) no_stimulus (led word_too_many after_mismatch)
 unfolding copy_of
 slave_lost = record { idle = idle }
   where
-    idle : (m : Move) → IsSome (moves (copy_of word_too_many) no_stimulus (led word_too_many after_mismatch) m) → IsTrue (is_idle (led word_too_many after_mismatch) m)
+    idle : (m : Action) → IsSome (acts (copy_of word_too_many) no_stimulus (led word_too_many after_mismatch) m) → IsTrue (is_idle (led word_too_many after_mismatch) m)
     idle (clock c) h = refl
     idle (go zero) h = h
     idle (go (suc zero)) h = refl
@@ -80,7 +80,7 @@ slave_lost = record { idle = idle }
     idle (default (suc (suc zero))) h = h
     idle (default (suc (suc (suc b)))) h = h
 
-closing_possible : IsSome (moves (copy_of word_too_many) no_stimulus (led word_too_many after_mismatch) (go 1))
+closing_possible : IsSome (acts (copy_of word_too_many) no_stimulus (led word_too_many after_mismatch) (go 1))
 unfolding copy_of
 closing_possible = refl
 
@@ -100,16 +100,16 @@ sort_by false leaves_quiet = impossible_now
 sort_by true false = busy
 sort_by true true = idle
 
-abbrev sort_of : kernel.Kernel → Move → Option World → Sort
+abbrev sort_of : kernel.Kernel → Action → Option World → Sort
 sort_of K m None = impossible_now
-sort_of K m (Some x) = sort_by (is_some (moves K no_stimulus x m)) (is_idle x m)
+sort_of K m (Some x) = sort_by (is_some (acts K no_stimulus x m)) (is_idle x m)
 
 -- the same behind these parts of a run, of a program's text and of its kernel
 record Sorts : Type 0 where
   of_text : Sort
   of_kernel : Sort
 
-abbrev sorts_of : List tree.Item → List Part → Move → Sorts
+abbrev sorts_of : List tree.Item → List Part → Action → Sorts
 sorts_of P parts m = record {
   of_text = sort_of (copy_of P) m (parts_done (copy_of P) no_stimulus (Some (program_start P)) parts);
   of_kernel = sort_of (copy_of P) m (parts_done (copy_of P) no_stimulus (Some (kernel_start (copy_of P))) parts);

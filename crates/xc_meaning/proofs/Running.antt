@@ -6,8 +6,8 @@ use Rattle.xc_tree.specs.Plain as tree
 use Rattle.xc_kernel.specs.Plain as kernel
 use Rattle.xc_kernel.specs.Copies.{copy_of}
 use Rattle.xc_meaning.specs.States.Branches.{all_ended}
-use Rattle.xc_meaning.specs.States.Worlds.{World, Move, clock, go}
-use Rattle.xc_meaning.specs.Runs.{moves, moves_all, kernel_start, program_start, kernel_run, program_run}
+use Rattle.xc_meaning.specs.States.Worlds.{World, Action, clock, go}
+use Rattle.xc_meaning.specs.Runs.{acts, acts_all, kernel_start, program_start, kernel_run, program_run}
 
 abbrev pub no_stimulus : Stim
 no_stimulus = record { lines = [] }
@@ -21,10 +21,10 @@ abbrev pub short_pulse : Stim
 short_pulse = record { lines = record { tick = 500; core = 0; port = 1; value = 1 } ∷ record { tick = 501; core = 0; port = 1; value = 0 } ∷ [] }
 
 -- so many steps of a branch, and so many ticks of core 0
-abbrev pub steps : ℕ → (branch : ℕ) → List Move
+abbrev pub steps : ℕ → (branch : ℕ) → List Action
 steps n b = replicate n (go b)
 
-abbrev pub wait : ℕ → List Move
+abbrev pub wait : ℕ → List Action
 wait n = replicate n (clock 0)
 
 -- what is seen of a state: its trace, and whether each branch has ended
@@ -36,10 +36,10 @@ abbrev pub seen : World → Seen
 seen x = record { trace = x.trace; ended = all_ended x.branches }
 
 -- where a run leads, if it is one: of a program's kernel, and of the program's text
-abbrev pub kernel_seen : List tree.Item → Stim → List Move → Option Seen
+abbrev pub kernel_seen : List tree.Item → Stim → List Action → Option Seen
 kernel_seen P s ms = option_map seen (kernel_run (copy_of P) s ms)
 
-abbrev pub program_seen : List tree.Item → Stim → List Move → Option Seen
+abbrev pub program_seen : List tree.Item → Stim → List Action → Option Seen
 program_seen P s ms = option_map seen (program_run P s ms)
 
 -- it leads there, and more is to be done; or all has ended
@@ -62,8 +62,8 @@ rising = record { lines = record { tick = 3; core = 0; port = 17; value = 1 } �
 pub data Part : Type 0 where
   advance : (branch : ℕ) → Part
   tick : (core count : ℕ) → Part
-  step : Move → Part
-  impossible : Move → Part
+  step : Action → Part
+  impossible : Action → Part
 
 -- so many rounds in which each of some branches goes on
 abbrev pub in_turn : (rounds : ℕ) → List ℕ → List Part
@@ -78,7 +78,7 @@ continued further x (Some y) = further y
 -- a branch goes on by at most so many steps
 abbrev pub advanced : kernel.Kernel → Stim → (most branch : ℕ) → World → World
 advanced K s zero b x = x
-advanced K s (suc n) b x = continued (advanced K s n b) x (moves K s x (go b))
+advanced K s (suc n) b x = continued (advanced K s n b) x (acts K s x (go b))
 
 abbrev pub where_impossible : World → Option World → Option World
 where_impossible x None = Some x
@@ -86,9 +86,9 @@ where_impossible x (Some y) = None
 
 abbrev pub part_done : kernel.Kernel → Stim → World → Part → Option World
 part_done K s x (advance b) = Some (advanced K s 400 b x)
-part_done K s x (tick core count) = moves_all K s (Some x) (replicate count (clock core))
-part_done K s x (step m) = moves K s x m
-part_done K s x (impossible m) = where_impossible x (moves K s x m)
+part_done K s x (tick core count) = acts_all K s (Some x) (replicate count (clock core))
+part_done K s x (step m) = acts K s x m
+part_done K s x (impossible m) = where_impossible x (acts K s x m)
 
 abbrev pub parts_done : kernel.Kernel → Stim → Option World → List Part → Option World
 parts_done K s None parts = None

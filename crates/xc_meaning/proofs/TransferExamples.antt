@@ -1,6 +1,8 @@
 -- Transfers of ports and timers, and selects, of small programs, as their texts and as their kernels: each program is written in the
 -- comment above its tree.
 use Rattle.std.specs.Prelude.{◌≡◌, List, [], ◌∷◌, false, Some, None, codes, refl}
+use Rattle.xw_words.specs.Tables.{place_from}
+use Rattle.xw_words.specs.Ports.{identifiers}
 use Rattle.xs_instr.specs.declared.trace.Trap.TheVariants.{Arithmetic}
 use Rattle.xs_instr.specs.declared.trace.Record.TheVariants.{Com, PortOut, PortIn, Fault}
 use Rattle.xc_tree.specs.declared.tree.TreeDir.TheVariants.{In, Out}
@@ -26,11 +28,11 @@ timed =
     ∷ []
 
 late : plays timed no_stimulus (advance 0 ∷ tick 0 65540 ∷ impossible (go 0) ∷ tick 0 1 ∷ advance 0 ∷ []) ≡ both (finished (PortOut 0 28 5 1 ∷ PortOut 0 28 5 5 ∷ []))
-unfolding copy_of
+unfolding copy_of identifiers place_from
 late = refl
 
 early : plays timed no_stimulus (advance 0 ∷ tick 0 4 ∷ impossible (go 0) ∷ tick 0 1 ∷ advance 0 ∷ []) ≡ both (finished (PortOut 0 28 5 1 ∷ PortOut 0 28 5 5 ∷ []))
-unfolding copy_of
+unfolding copy_of identifiers place_from
 early = refl
 
 -- the stamp is stored after the destination
@@ -54,7 +56,7 @@ stamped =
     ∷ []
 
 stamp_last : plays stamped nine (tick 0 3 ∷ advance 0 ∷ []) ≡ both (finished (PortIn 0 22 3 9 ∷ PortOut 0 28 3 3 ∷ PortIn 0 22 3 9 ∷ PortOut 0 28 3 3 ∷ []))
-unfolding copy_of
+unfolding copy_of identifiers place_from
 stamp_last = refl
 
 -- of a word for the pins the low bits count
@@ -76,7 +78,7 @@ narrow =
     ∷ []
 
 low_pins : plays narrow rising (advance 0 ∷ tick 0 2 ∷ impossible (go 0) ∷ tick 0 1 ∷ advance 0 ∷ tick 0 2 ∷ impossible (go 0) ∷ tick 0 1 ∷ advance 0 ∷ []) ≡ both (finished (PortIn 0 17 3 1 ∷ PortIn 0 17 6 2 ∷ PortOut 0 28 6 2 ∷ []))
-unfolding copy_of
+unfolding copy_of identifiers place_from
 low_pins = refl
 
 -- the time comes before the value
@@ -119,12 +121,12 @@ offered =
 
 -- nothing has arrived
 by_default : plays offered no_stimulus (advance 0 ∷ advance 2 ∷ impossible (take 2 0) ∷ step (default 2) ∷ in_turn 2 (2 ∷ 1 ∷ 0 ∷ [])) ≡ both (finished (PortOut 0 28 0 2 ∷ Com 0 3 ∷ []))
-unfolding copy_of
+unfolding copy_of identifiers place_from
 by_default = refl
 
 -- something has arrived, so the default isn't taken
 by_channel : plays offered no_stimulus (advance 0 ∷ advance 1 ∷ advance 2 ∷ impossible (default 2) ∷ step (take 2 0) ∷ advance 2 ∷ []) ≡ both (going (Com 0 3 ∷ PortOut 0 28 0 1 ∷ []))
-unfolding copy_of
+unfolding copy_of identifiers place_from
 by_channel = refl
 
 -- of the cases on one port the first counts whose guard holds
@@ -152,11 +154,11 @@ one_condition =
     ∷ []
 
 first_condition : plays one_condition no_stimulus (advance 0 ∷ impossible (take 0 0) ∷ impossible (take 0 1) ∷ []) ≡ both (going ([]))
-unfolding copy_of
+unfolding copy_of identifiers place_from
 first_condition = refl
 
 second_condition : plays one_condition nine (advance 0 ∷ step (take 0 0) ∷ advance 0 ∷ []) ≡ both (finished (PortIn 0 22 0 9 ∷ PortOut 0 28 0 1 ∷ []))
-unfolding copy_of
+unfolding copy_of identifiers place_from
 second_condition = refl
 
 -- a timer gives its case the time at which the case was taken
@@ -175,7 +177,7 @@ case_time =
     ∷ []
 
 taken_then : plays case_time no_stimulus (advance 0 ∷ tick 0 4 ∷ step (take 0 0) ∷ tick 0 3 ∷ advance 0 ∷ []) ≡ both (finished (PortOut 0 28 7 4 ∷ []))
-unfolding copy_of
+unfolding copy_of identifiers place_from
 taken_then = refl
 
 -- guards and conditions go in the order of the text, and a condition counts where its guard holds
@@ -223,7 +225,7 @@ clock_read =
     ∷ []
 
 whole_clock : plays clock_read no_stimulus (tick 0 65540 ∷ advance 0 ∷ []) ≡ both (finished (PortOut 0 28 4 65540 ∷ []))
-unfolding copy_of
+unfolding copy_of identifiers place_from
 whole_clock = refl
 
 -- a `break` inside leaves the case alone, and a `continue` the turn
@@ -248,5 +250,5 @@ case_in_loop =
     ∷ []
 
 case_left : plays case_in_loop nine (advance 0 ∷ step (take 0 0) ∷ advance 0 ∷ step (take 0 0) ∷ advance 0 ∷ step (take 0 0) ∷ advance 0 ∷ step (take 0 0) ∷ advance 0 ∷ []) ≡ both (finished (PortIn 0 22 0 9 ∷ PortOut 0 28 0 0 ∷ PortOut 0 28 0 10 ∷ PortIn 0 22 0 9 ∷ PortOut 0 28 0 11 ∷ PortIn 0 22 0 9 ∷ PortIn 0 22 0 9 ∷ PortOut 0 28 0 3 ∷ PortOut 0 28 0 13 ∷ []))
-unfolding copy_of
+unfolding copy_of identifiers place_from
 case_left = refl

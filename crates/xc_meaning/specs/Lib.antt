@@ -1,5 +1,5 @@
 pub mod States
-pub mod Moves
+pub mod Settings
 pub mod Texts
 pub mod Runs
 pub mod Counts

@@ -14,9 +14,9 @@ use Rattle.xc_kernel.specs.Transfers.{output_of, input_of}
 use Rattle.xc_meaning.specs.States.Channels.{Side, first, second, other_side}
 use Rattle.xc_meaning.specs.States.Items.{TextItem, statement, Choice, Item, does, says, awaits, transaction_end, chooses}
 use Rattle.xc_meaning.specs.States.Branches.{Mode, runs, has_erred, Branch, side_of}
-use Rattle.xc_meaning.specs.States.Worlds.{World, Move, clock, go, take, default}
+use Rattle.xc_meaning.specs.States.Worlds.{World, Action, clock, go, take, default}
 use Rattle.xc_meaning.specs.Texts.Copied.{channel_in}
-use Rattle.xc_meaning.specs.Runs.{moves}
+use Rattle.xc_meaning.specs.Runs.{acts}
 
 -- The channel on which a step is, if it is on one.
 
@@ -100,7 +100,7 @@ branch_is_lost x channel None = false
 branch_is_lost x channel (Some b) = is_lost_by x channel b b.mode
 
 -- a step of a clock, or a branch's step on a channel whose other side has erred
-abbrev pub is_idle : World → Move → Bool
+abbrev pub is_idle : World → Action → Bool
 is_idle x (clock core) = true
 is_idle x (go b) = branch_is_lost x (channel_of_item x.store) (slice_get x.branches b)
 is_idle x (take b n) = branch_is_lost x (channel_of_case n) (slice_get x.branches b)
@@ -108,4 +108,4 @@ is_idle x (default b) = false
 
 -- a state is quiet where each step that is possible is one of these
 pub record IsQuiet (K : kernel.Kernel) (s : Stim) (x : World) : Type 0 where
-  pub idle : (m : Move) → IsSome (moves K s x m) → IsTrue (is_idle x m)
+  pub idle : (m : Action) → IsSome (acts K s x m) → IsTrue (is_idle x m)

@@ -10,22 +10,22 @@ use Rattle.xc_kernel.specs.Copies.{copy_of}
 use Rattle.xc_meaning.specs.States.Channels.{Side, Inboxes, no_parcels}
 use Rattle.xc_meaning.specs.States.Items.{Item, does, says, stores, mark, awaits, transaction_end, chooses, fixed, ends}
 use Rattle.xc_meaning.specs.States.Branches.{Mode, runs, waits, ended, erred, Branch}
-use Rattle.xc_meaning.specs.States.Worlds.{World, Move, clock, go, take, default}
-use Rattle.xc_meaning.specs.Moves.Step.{Step, becomes, goes_on}
-use Rattle.xc_meaning.specs.Moves.Stores.{stored}
-use Rattle.xc_meaning.specs.Moves.Sides.{sides_in}
-use Rattle.xc_meaning.specs.Moves.Par.{begun, joins}
-use Rattle.xc_meaning.specs.Moves.Channels.{awaits_answer}
-use Rattle.xc_meaning.specs.Moves.Transactions as transaction
-use Rattle.xc_meaning.specs.Moves.Time.{ticks}
-use Rattle.xc_meaning.specs.Moves.Transfers.{inputs_fixed}
-use Rattle.xc_meaning.specs.Moves.Select.{takes, takes_default}
-use Rattle.xc_meaning.specs.Moves.Kernel.{does_statement}
+use Rattle.xc_meaning.specs.States.Worlds.{World, Action, clock, go, take, default}
+use Rattle.xc_meaning.specs.Settings.Setting.{Setting, becomes, goes_on}
+use Rattle.xc_meaning.specs.Settings.Stores.{stored}
+use Rattle.xc_meaning.specs.Settings.Sides.{sides_in}
+use Rattle.xc_meaning.specs.Settings.Par.{begun, joins}
+use Rattle.xc_meaning.specs.Settings.Channels.{awaits_answer}
+use Rattle.xc_meaning.specs.Settings.Transactions as transaction
+use Rattle.xc_meaning.specs.Settings.Time.{ticks}
+use Rattle.xc_meaning.specs.Settings.Transfers.{inputs_fixed}
+use Rattle.xc_meaning.specs.Settings.Select.{takes, takes_default}
+use Rattle.xc_meaning.specs.Settings.Kernel.{does_statement}
 use Rattle.xc_meaning.specs.Texts.Statements.{says_item}
 use Rattle.xc_meaning.specs.Texts.Roots.{Root, program_roots}
 
 -- the step of an item; a select whose cases are known goes on by a case or the default alone
-abbrev pub does_item : Step → Item → Option World
+abbrev pub does_item : Setting → Item → Option World
 does_item s (does t) = does_statement s t
 does_item s (says i) = says_item s i
 does_item s (stores place v) = stored s place v
@@ -36,12 +36,12 @@ does_item s (chooses choices otherwise) = None
 does_item s (fixed i v counter) = inputs_fixed s i v counter i.resource
 does_item s ends = Some (becomes s (record s.branch { mode = ended; items = [] }))
 
--- what a branch's step depends on, with these items behind the first
-abbrev pub step_of : kernel.Kernel → Stim → World → (number : ℕ) → Branch → List Item → Step
+-- the setting of a branch's step, with these items behind the first
+abbrev pub step_of : kernel.Kernel → Stim → World → (number : ℕ) → Branch → List Item → Setting
 step_of K s x b branch rest = record { program = K; stimulus = s; world = x; number = b; branch = branch; rest = rest }
 
 -- the step of a branch's first item
-abbrev pub does_first : kernel.Kernel → Stim → World → (number : ℕ) → Branch → (Step → Item → Option World) → List Item → Option World
+abbrev pub does_first : kernel.Kernel → Stim → World → (number : ℕ) → Branch → (Setting → Item → Option World) → List Item → Option World
 does_first K s x b branch step [] = None
 does_first K s x b branch step (item ∷ rest) = step (step_of K s x b branch rest) item
 
@@ -56,25 +56,25 @@ abbrev pub goes : kernel.Kernel → Stim → World → (number : ℕ) → Branch
 goes K s x b branch = goes_by K s x b branch branch.mode
 
 -- a branch that runs goes on behind its select
-abbrev pub selects_by : kernel.Kernel → Stim → World → (number : ℕ) → (Step → Item → Option World) → Branch → Mode → Option World
+abbrev pub selects_by : kernel.Kernel → Stim → World → (number : ℕ) → (Setting → Item → Option World) → Branch → Mode → Option World
 selects_by K s x b step branch runs = does_first K s x b branch step branch.items
 selects_by K s x b step branch mode = None
 
-abbrev pub selects : kernel.Kernel → Stim → World → (number : ℕ) → (Step → Item → Option World) → Branch → Option World
+abbrev pub selects : kernel.Kernel → Stim → World → (number : ℕ) → (Setting → Item → Option World) → Branch → Option World
 selects K s x b step branch = selects_by K s x b step branch branch.mode
 
--- What a step leaves, where it is possible under a stimulus. Of the kernel its ports alone count.
-abbrev pub moves : kernel.Kernel → Stim → World → Move → Option World
-moves K s x (clock core) = and_then (slice_get x.clocks core) (ticks x core)
-moves K s x (go b) = and_then (slice_get x.branches b) (goes K s x b)
-moves K s x (take b n) = and_then (slice_get x.branches b) (selects K s x b (λ step. takes step n))
-moves K s x (default b) = and_then (slice_get x.branches b) (selects K s x b takes_default)
+-- What an action leaves, where it is possible under a stimulus. Of the kernel its ports alone count.
+abbrev pub acts : kernel.Kernel → Stim → World → Action → Option World
+acts K s x (clock core) = and_then (slice_get x.clocks core) (ticks x core)
+acts K s x (go b) = and_then (slice_get x.branches b) (goes K s x b)
+acts K s x (take b n) = and_then (slice_get x.branches b) (selects K s x b (λ step. takes step n))
+acts K s x (default b) = and_then (slice_get x.branches b) (selects K s x b takes_default)
 
--- where a list of steps leads, each possible where it stands
-abbrev pub moves_all : kernel.Kernel → Stim → Option World → List Move → Option World
-moves_all K s None ms = None
-moves_all K s (Some x) [] = Some x
-moves_all K s (Some x) (m ∷ ms) = moves_all K s (moves K s x m) ms
+-- where a list of actions leads, each possible where it stands
+abbrev pub acts_all : kernel.Kernel → Stim → Option World → List Action → Option World
+acts_all K s None ms = None
+acts_all K s (Some x) [] = Some x
+acts_all K s (Some x) (m ∷ ms) = acts_all K s (acts K s x m) ms
 
 -- Starts.
 
@@ -129,17 +129,17 @@ kernel_start K = start_with K (map kernel_root K.roots)
 abbrev pub program_start : List tree.Item → World
 program_start P = start_with (copy_of P) (program_roots P)
 
--- where a list of steps leads from the start
+-- where a list of actions leads from the start
 
-abbrev pub kernel_run : kernel.Kernel → Stim → List Move → Option World
-kernel_run K s ms = moves_all K s (Some (kernel_start K)) ms
+abbrev pub kernel_run : kernel.Kernel → Stim → List Action → Option World
+kernel_run K s ms = acts_all K s (Some (kernel_start K)) ms
 
-abbrev pub program_run : List tree.Item → Stim → List Move → Option World
-program_run P s ms = moves_all (copy_of P) s (Some (program_start P)) ms
+abbrev pub program_run : List tree.Item → Stim → List Action → Option World
+program_run P s ms = acts_all (copy_of P) s (Some (program_start P)) ms
 
--- a list of steps is a run of a kernel, or of a program's text
-pub record AllowedKernel (K : kernel.Kernel) (s : Stim) (ms : List Move) : Type 0 where
+-- a list of actions is a run of a kernel, or of a program's text
+pub record AllowedKernel (K : kernel.Kernel) (s : Stim) (ms : List Action) : Type 0 where
   pub leads : IsSome (kernel_run K s ms)
 
-pub record Allowed (P : List tree.Item) (s : Stim) (ms : List Move) : Type 0 where
+pub record Allowed (P : List tree.Item) (s : Stim) (ms : List Action) : Type 0 where
   pub leads : IsSome (program_run P s ms)

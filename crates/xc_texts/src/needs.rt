@@ -1,7 +1,7 @@
 //! What the kernel of a text needs.
 
 ghost use Rattle.std.specs.Prelude.{◌≤◌, length};
-ghost use Rattle.xc_disjoint.specs.Programs.{IsOfProgram};
+ghost use Rattle.xc_kernel.specs.Sound.{IsOfProgram};
 ghost use Rattle.xc_kernel.specs.Kernels.{kernel_of};
 
 use crate::texts::{broken, typed};

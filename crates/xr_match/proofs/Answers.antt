@@ -20,7 +20,7 @@ use Rattle.xs_instr.specs.Slot.{slot}
 use Rattle.xc_built.specs.declared.program.Output.{Output}
 use Rattle.xc_built.specs.declared.program.Program.{Program}
 use Rattle.xc_built.specs.World.{Item, Outputs, Ends, Life, Running, Ended, Branch, World}
-use Rattle.xc_built.specs.Steps.{Go, is_time, output_record, outputs, outputs_by, first_item, goes, moves}
+use Rattle.xc_built.specs.Steps.{Go, is_time, output_record, outputs, outputs_by, first_item, goes, acts}
 use Rattle.xr_match.proofs.Lists.{get_set_same, get_set_other}
 use Rattle.xr_match.proofs.Leads.{running, Touched, Leads}
 use Rattle.xr_match.proofs.Names.{port_named}
@@ -66,13 +66,13 @@ module _ (P : Program) (s : Stim) (home : Home) (own : ℕ → Bool) (t : ℕ) w
     pub made_is : slot home a t ≡ Made left made []
     pub touched : Touched own t a left
     pub next : Branch
-    pub moved : moves P s x (Go b) ≡ Some (record { clocks = x.clocks; branches = slice_set x.branches b next; trace = noted x.trace made })
+    pub moved : acts P s x (Go b) ≡ Some (record { clocks = x.clocks; branches = slice_set x.branches b next; trace = noted x.trace made })
     pub roots : left.roots + counts home.number branch.core branch.life ≡ a.roots + counts home.number next.core next.life
     pub stands : StandsAs left next
 
   module _ (x : World) (b : ℕ) (branch : Branch) (a : CoreState) (known : slice_get x.branches b ≡ Some branch) (core : branch.core ≡ home.number) (runs : branch.life ≡ Running) (clock : slice_get x.clocks home.number ≡ Some a.clock) where
     -- what the branch's step is, by its first item
-    item_moves : (items : List Item) → branch.items ≡ items → moves P s x (Go b) ≡ first_item P x b branch items
+    item_moves : (items : List Item) → branch.items ≡ items → acts P s x (Go b) ≡ first_item P x b branch items
     item_moves items items_are =
         ap (λ o. and_then o (λ (br : Branch). goes P x b br br.life)) known
         ∙ ap (goes P x b branch) runs
@@ -97,7 +97,7 @@ module _ (P : Program) (s : Stim) (home : Home) (own : ℕ → Bool) (t : ℕ) w
       same_record = rw (h.timed.id, h.value, core)
 
       -- the program's step
-      output_moves : is_time output.time (counter a.clock) ≡ true → moves P s x (Go b) ≡ Some (record { clocks = x.clocks; branches = slice_set x.branches b (record branch { items = rest }); trace = x.trace ++ output_record P branch output (counter a.clock) ∷ [] })
+      output_moves : is_time output.time (counter a.clock) ≡ true → acts P s x (Go b) ≡ Some (record { clocks = x.clocks; branches = slice_set x.branches b (record branch { items = rest }); trace = x.trace ++ output_record P branch output (counter a.clock) ∷ [] })
       output_moves e =
           item_moves (Outputs output ∷ rest) items_are
           ∙ ap (λ o. and_then o (λ (now : ℕ). outputs P x b branch output rest (counter now))) (ap (slice_get x.clocks) core ∙ clock)

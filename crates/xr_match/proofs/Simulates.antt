@@ -6,12 +6,12 @@ use Rattle.xs_instr.specs.Machine.{Machine, Event, does, runs, boot, and_then}
 use Rattle.xs_instr.specs.Valid.{IsGoodStim}
 use Rattle.xc_built.specs.declared.program.Program.{Program}
 use Rattle.xc_built.specs.World.{World, start}
-use Rattle.xc_built.specs.Steps.{Move, allowed}
+use Rattle.xc_built.specs.Steps.{Action, allowed}
 use Rattle.xr_match.specs.Implements.{Agree, IsThere, Together, Implements}
 
 -- a piece of the program's run leads to where S holds again
 abbrev pub Follows : Program → Stim → (Machine → World → Type 0) → World → Machine → Type 0
-Follows P s S x m = (piece : List Move) × (x' : World) × (allowed P s x piece ≡ Some x') × S m x'
+Follows P s S x m = (piece : List Action) × (x' : World) × (allowed P s x piece ≡ Some x') × S m x'
 
 -- S holds at the start, each event keeps it, and where it holds the two sides agree
 pub record Simulates (L : Image) (P : Program) (s : Stim) (S : Machine → World → Type 0) : Type 0 where
@@ -21,11 +21,11 @@ pub record Simulates (L : Image) (P : Program) (s : Stim) (S : Machine → World
 
 module _ (L : Image) (P : Program) (s : Stim) (S : Machine → World → Type 0) (sim : Simulates L P s S) where
   -- every run from where S holds has its pieces
-  together : (es : List Event) (m : Machine) (x : World) → S m x → IsThere (runs L s m es) (λ m'. Unit {0}) → (pieces : List (List Move)) × Together L P s m x es pieces
+  together : (es : List Event) (m : Machine) (x : World) → S m x → IsThere (runs L s m es) (λ m'. Unit {0}) → (pieces : List (List Action)) × Together L P s m x es pieces
   together [] m x stands r = ([], sim.agree m x stands)
   together (e ∷ es) m x stands r = go (together es) (does L s m e) refl r
     where
-      go : ((m' : Machine) (x' : World) → S m' x' → IsThere (runs L s m' es) (λ m''. Unit {0}) → (pieces : List (List Move)) × Together L P s m' x' es pieces) → (o : Option Machine) → does L s m e ≡ o → IsThere (and_then o (λ m'. runs L s m' es)) (λ m'. Unit {0}) → (pieces : List (List Move)) × Together L P s m x (e ∷ es) pieces
+      go : ((m' : Machine) (x' : World) → S m' x' → IsThere (runs L s m' es) (λ m''. Unit {0}) → (pieces : List (List Action)) × Together L P s m' x' es pieces) → (o : Option Machine) → does L s m e ≡ o → IsThere (and_then o (λ m'. runs L s m' es)) (λ m'. Unit {0}) → (pieces : List (List Action)) × Together L P s m x (e ∷ es) pieces
       go next None eq r = absurd r
       go next (Some m') eq r =
           let p = sim.event m m' x e stands eq in
@@ -35,7 +35,7 @@ module _ (L : Image) (P : Program) (s : Stim) (S : Machine → World → Type 0)
           (p.0 ∷ q.0, (sim.agree m x stands, b))
 
   -- every run from the start has its pieces, and a first one
-  pub together_from_start : (es : List Event) → IsThere (runs L s (boot L) es) (λ m. Unit {0}) → (first : List Move) × (pieces : List (List Move)) × IsThere (allowed P s (start P) first) (λ x. Together L P s (boot L) x es pieces)
+  pub together_from_start : (es : List Event) → IsThere (runs L s (boot L) es) (λ m. Unit {0}) → (first : List Action) × (pieces : List (List Action)) × IsThere (allowed P s (start P) first) (λ x. Together L P s (boot L) x es pieces)
   together_from_start es r =
       let b = sim.begins in
       let q = together es (boot L) b.1 b.3 r in

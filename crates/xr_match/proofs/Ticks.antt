@@ -10,7 +10,7 @@ use Rattle.xs_instr.specs.Machine.{Machine, and_then, tick_at, tick_by}
 use Rattle.xs_instr.specs.Slot.{last_clock, ticked}
 use Rattle.xc_built.specs.declared.program.Program.{Program}
 use Rattle.xc_built.specs.World.{World}
-use Rattle.xc_built.specs.Steps.{Clock, moves, ticks, ticks_by}
+use Rattle.xc_built.specs.Steps.{Clock, acts, ticks, ticks_by}
 use Rattle.xr_match.proofs.Simulates.{Follows}
 use Rattle.xr_match.proofs.Standing.{clock_of, there_then, Runs, Stands, Standing, runs_still, clock_at, stands_next}
 
@@ -24,7 +24,7 @@ module _ (L : Image) (P : Program) (s : Stim) (who : ℕ → ℕ → Option ℕ)
   after_tick : nat_lt a.clock last_clock ≡ true → Follows P s (Standing L P s who own) x (record m { cores = slice_set m.cores c (ticked a) })
   after_tick e =
       let x' : World = record x { clocks = slice_set x.clocks c (a.clock + 1) } in
-      let moved : moves P s x (Clock c) ≡ Some x' = ap (λ o. and_then o (ticks x c)) (clock_at L P s who own m x c a st at_c) ∙ ap (ticks_by x c a.clock) e in (
+      let moved : acts P s x (Clock c) ≡ Some x' = ap (λ o. and_then o (ticks x c)) (clock_at L P s who own m x c a st at_c) ∙ ap (ticks_by x c a.clock) e in (
         Clock c ∷ [],
         x',
         rw moved,

@@ -7,7 +7,7 @@ use Rattle.xs_instr.specs.Machine.{Machine, Event, does, runs, boot}
 use Rattle.xs_instr.specs.Valid.{IsGoodStim}
 use Rattle.xc_built.specs.declared.program.Program.{Program}
 use Rattle.xc_built.specs.World.{World, Branch, Life, Running, Ended, start}
-use Rattle.xc_built.specs.Steps.{Move, allowed}
+use Rattle.xc_built.specs.Steps.{Action, allowed}
 
 -- there is something, and it is so
 abbrev pub IsThere : {A : Type 0} → Option A → (A → Type 0) → Type 0
@@ -36,7 +36,7 @@ pub record Agree (m : Machine) (x : World) : Type 0 where
   pub ended : AllRootsEnded m.cores ↔ AllBranchesEnded x.branches
 
 -- the two agree now, and again after each event of the machine with its piece of the program's run
-abbrev pub Together : Image → Program → Stim → Machine → World → List Event → List (List Move) → Type 0
+abbrev pub Together : Image → Program → Stim → Machine → World → List Event → List (List Action) → Type 0
 Together L P s m x [] [] = Agree m x
 Together L P s m x (e ∷ es) (piece ∷ pieces) =
     Agree m x × IsThere (does L s m e) (λ m'. IsThere (allowed P s x piece) (λ x'. Together L P s m' x' es pieces))
@@ -47,4 +47,4 @@ Together L P s m x (e ∷ es) [] = ⊥
 -- is cut into a first piece and one piece for each event
 pub record Implements (L : Image) (P : Program) : Type 0 where
   pub by : (s : Stim) (es : List Event) → IsGoodStim s → IsThere (runs L s (boot L) es) (λ m. Unit {0}) →
-      (first : List Move) × (pieces : List (List Move)) × IsThere (allowed P s (start P) first) (λ x. Together L P s (boot L) x es pieces)
+      (first : List Action) × (pieces : List (List Action)) × IsThere (allowed P s (start P) first) (λ x. Together L P s (boot L) x es pieces)

@@ -1,4 +1,4 @@
 pub mod Lines
 pub mod Pins
 pub mod Ports
-pub mod Seen
+pub mod State

@@ -3,7 +3,7 @@ use Rattle.std.specs.Prelude.{◌≡◌, ℕ, ◌+◌, ◌<◌, ◌≤◌, drop,
 use Rattle.xs_instr.specs.Ports.{pins_from}
 use Rattle.xs_instr.specs.Valid.{AreGoodLines}
 use Rattle.xs_port.specs.declared.pins.Pins.TheInside.{Inside}
-use Rattle.xs_port.specs.Seen.{Outside}
+use Rattle.xs_port.specs.State.{Outside}
 
 -- without the pins that are kept
 abbrev pub outside_of : Inside → Outside

@@ -21,7 +21,7 @@ pub struct Pins {
 }
 
 impl Model for Pins {
-    ghost use Rattle.xs_port.specs.Seen.{Outside};
+    ghost use Rattle.xs_port.specs.State.{Outside};
 
     ghost Value = { Outside };
 

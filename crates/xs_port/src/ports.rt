@@ -22,9 +22,9 @@ pub struct Ports {
 }
 
 impl Model for Ports {
-    ghost use Rattle.xs_port.specs.Seen.{Seen};
+    ghost use Rattle.xs_port.specs.State.{PortsState};
 
-    ghost Value = { Seen };
+    ghost Value = { PortsState };
 
     ghost view = { λ p. record { ports = p.ports; clock = p.pins.clock; stim = p.pins.stim; core = p.pins.core } };
 }

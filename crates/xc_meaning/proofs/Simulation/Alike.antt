@@ -14,13 +14,13 @@ use Rattle.xc_meaning.specs.States.Channels as channel
 use Rattle.xc_meaning.specs.States.Items.{When, Body, Choice, Item, does, awaits, chooses, fixed, storing, body_items}
 use Rattle.xc_meaning.specs.States.Branches.{Branch, erred, side_of}
 use Rattle.xc_meaning.specs.States.Worlds.{World, only_if, put, without_parcel, with_record, with_word, with_zeros}
-use Rattle.xc_meaning.specs.Moves.Step.{Step, becomes, goes_to, goes_on, errs, kind_of, with_value, with_word_of}
-use Rattle.xc_meaning.specs.Moves.Stores.{stored_in, stored, assigned, zeroed}
-use Rattle.xc_meaning.specs.Moves.Flow.{items_by, tests, items_from_mark, leaves}
-use Rattle.xc_meaning.specs.Moves.Channels.{Manner, plain, inside, manner_of, on_side, parcel_at, has_room, outputs, outputs_word, receives, inputs_parcel, inputs_word, awaits_parcel, awaits_answer}
-use Rattle.xc_meaning.specs.Moves.Transactions.{enters, exits, is_opened, opens_by, opens, is_closed, closes_by, closes}
-use Rattle.xc_meaning.specs.Moves.Time.{clock_of, counter_of, pins_of, Timing, passes, fails, timing, with_timing, port_may_pass, timer_may_pass}
-use Rattle.xc_meaning.specs.Moves.Transfers.{drives, output_record, samples, reads_clock, outputs_to, inputs_from, inputs_fixed}
+use Rattle.xc_meaning.specs.Settings.Setting.{Setting, becomes, goes_to, goes_on, errs, kind_of, with_value, with_word_of}
+use Rattle.xc_meaning.specs.Settings.Stores.{stored_in, stored, assigned, zeroed}
+use Rattle.xc_meaning.specs.Settings.Flow.{items_by, tests, items_from_mark, leaves}
+use Rattle.xc_meaning.specs.Settings.Channels.{Manner, plain, inside, manner_of, on_side, parcel_at, has_room, outputs, outputs_word, receives, inputs_parcel, inputs_word, awaits_parcel, awaits_answer}
+use Rattle.xc_meaning.specs.Settings.Transactions.{enters, exits, is_opened, opens_by, opens, is_closed, closes_by, closes}
+use Rattle.xc_meaning.specs.Settings.Time.{clock_of, counter_of, pins_of, Timing, passes, fails, timing, with_timing, port_may_pass, timer_may_pass}
+use Rattle.xc_meaning.specs.Settings.Transfers.{drives, output_record, samples, reads_clock, outputs_to, inputs_from, inputs_fixed}
 use Rattle.xc_meaning.proofs.Simulation.KernelItems.{kernel_items, of_mark}
 use Rattle.xc_meaning.proofs.Simulation.Mixed.{Ahead, even, mixed, with_ahead, mixed_step, mixed_set}
 
@@ -29,11 +29,11 @@ of_storing None v rest = refl
 of_storing (Some place) v rest = refl
 
 -- Of a branch that has these items in the kernel before the step; after it it isn't ahead.
-module _ (os : Ahead) (items : List Item) (s : Step) where
+module _ (os : Ahead) (items : List Item) (s : Setting) where
   abbrev after : World → World
   after = mixed (with_ahead os s.number None)
 
-  abbrev step : Step
+  abbrev step : Setting
   step = mixed_step os items s
 
   pub becomes_alike : (b : Branch) → becomes step (even b) ≡ after (becomes s b)
@@ -153,7 +153,7 @@ module _ (os : Ahead) (items : List Item) (s : Step) where
   enters_alike c left = becomes_alike (record s.branch { items = left; inside = c ∷ s.branch.inside })
 
   exits_alike : (left : List Item) → exits step (kernel_items left) ≡ after (exits s left)
-  exits_alike left = becomes_alike (record s.branch { items = left; inside = Rattle.xc_meaning.specs.Moves.Transactions.without_innermost s.branch.inside })
+  exits_alike left = becomes_alike (record s.branch { items = left; inside = Rattle.xc_meaning.specs.Settings.Transactions.without_innermost s.branch.inside })
 
   is_opened_alike : (c : ℕ) (left : List Item) (pos : Pos) (side : Side) (parcel : Option Parcel) → is_opened step c (kernel_items left) pos side parcel ≡ option_map after (is_opened s c left pos side parcel)
   is_opened_alike c left pos side None = refl
@@ -220,7 +220,7 @@ module _ (os : Ahead) (items : List Item) (s : Step) where
   samples_alike input p v counter =
       λ i. with_record (goes_to_by (storing input.target v (storing input.stamp counter s.rest))
       (of_storing input.target v (storing input.stamp counter s.rest) ∙ ap (storing input.target v) (of_storing input.stamp counter s.rest)) i)
-      (Rattle.xs_instr.specs.declared.trace.Record.TheVariants.PortIn s.branch.core (Rattle.xc_meaning.specs.Moves.Time.identifier_of s p) counter v)
+      (Rattle.xs_instr.specs.declared.trace.Record.TheVariants.PortIn s.branch.core (Rattle.xc_meaning.specs.Settings.Time.identifier_of s p) counter v)
 
   reads_alike : (i : kernel.Input) (clock : ℕ) → reads_clock step i clock ≡ after (reads_clock s i clock)
   reads_alike input clock = goes_to_by (storing input.target clock s.rest) (of_storing input.target clock s.rest)

@@ -5,8 +5,8 @@ use Rattle.xc_kernel.specs.Programs.{Function}
 use Rattle.xc_meaning.specs.States.Items.{Loop, TextItem, again_do, Item, does, says}
 use Rattle.xc_meaning.specs.States.Branches.{Branch, runs}
 use Rattle.xc_meaning.specs.States.Worlds.{World}
-use Rattle.xc_meaning.specs.Moves.Step.{Step}
-use Rattle.xc_meaning.specs.Moves.Flow.{items_from_mark}
+use Rattle.xc_meaning.specs.Settings.Setting.{Setting}
+use Rattle.xc_meaning.specs.Settings.Flow.{items_from_mark}
 use Rattle.xc_meaning.specs.Texts.Loops.{loop_mark, turn_item, tests_first, begins_do}
 use Rattle.xc_meaning.specs.Texts.Statements.{says_item}
 use Rattle.xc_meaning.proofs.Simulation.KernelItems.{kernel_items, loop_of, do_loop_of}
@@ -17,8 +17,8 @@ use Rattle.xc_meaning.proofs.Simulation.Sound.{SoundWorld, SoundBranches, Change
 
 -- the items of a kernel's branch that is ahead of the text's with those items
 pub data Leads (k t : List Item) : Type 0 where
-  in_loop : (i : TextItem) (rest : List Item) (l : Loop) → t ≡ says i ∷ rest → k ≡ does (loop_of l) ∷ loop_mark l ∷ kernel_items rest → ((s : Step) → says_item (with_rest s rest) i ≡ tests_first (with_rest s rest) l) → Leads k t
-  in_do : (i : TextItem) (rest : List Item) (l : Loop) → t ≡ says i ∷ rest → k ≡ does (do_loop_of l) ∷ loop_mark l ∷ kernel_items rest → ((s : Step) → says_item (with_rest s rest) i ≡ begins_do (with_rest s rest) l) → Leads k t
+  in_loop : (i : TextItem) (rest : List Item) (l : Loop) → t ≡ says i ∷ rest → k ≡ does (loop_of l) ∷ loop_mark l ∷ kernel_items rest → ((s : Setting) → says_item (with_rest s rest) i ≡ tests_first (with_rest s rest) l) → Leads k t
+  in_do : (i : TextItem) (rest : List Item) (l : Loop) → t ≡ says i ∷ rest → k ≡ does (do_loop_of l) ∷ loop_mark l ∷ kernel_items rest → ((s : Setting) → says_item (with_rest s rest) i ≡ begins_do (with_rest s rest) l) → Leads k t
   in_turn : (rest : List Item) (l : Loop) → t ≡ turn_item l ∷ says (again_do l) ∷ rest → k ≡ does (do_loop_of l) ∷ kernel_items rest → Leads k t
   leaving : (n : ℕ) (more : List Item) → t ≡ items_from_mark n more → k ≡ does (kernel.exit n) ∷ kernel_items more → Leads k t
 

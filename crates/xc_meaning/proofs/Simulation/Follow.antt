@@ -7,12 +7,12 @@ use Rattle.xc_kernel.specs.Plain as kernel
 use Rattle.xc_kernel.specs.Programs.{Function}
 use Rattle.xc_meaning.specs.States.Items.{Body, Choice, TextItem, Item, does, says, stores, mark, awaits, transaction_end, chooses, fixed, ends}
 use Rattle.xc_meaning.specs.States.Branches.{Mode, runs, waits, ended, erred, Branch}
-use Rattle.xc_meaning.specs.States.Worlds.{World, Move, clock, go, take, default, only_if}
-use Rattle.xc_meaning.specs.Moves.Step.{Step, becomes, goes_to}
-use Rattle.xc_meaning.specs.Moves.Par.{joins, all_done}
-use Rattle.xc_meaning.specs.Moves.Select.{takes, takes_default}
-use Rattle.xc_meaning.specs.Moves.Time.{ticks}
-use Rattle.xc_meaning.specs.Runs.{step_of, does_first, goes_by, goes, selects_by, selects, moves}
+use Rattle.xc_meaning.specs.States.Worlds.{World, Action, clock, go, take, default, only_if}
+use Rattle.xc_meaning.specs.Settings.Setting.{Setting, becomes, goes_to}
+use Rattle.xc_meaning.specs.Settings.Par.{joins, all_done}
+use Rattle.xc_meaning.specs.Settings.Select.{takes, takes_default}
+use Rattle.xc_meaning.specs.Settings.Time.{ticks}
+use Rattle.xc_meaning.specs.Runs.{step_of, does_first, goes_by, goes, selects_by, selects, acts}
 use Rattle.xc_meaning.proofs.Simulation.KernelItems.{kernel_body, kernel_choice, kernel_items, loop_of, do_test, do_loop_of}
 use Rattle.xc_kernel.specs.Context.{leave}
 use Rattle.xc_meaning.specs.Texts.Loops.{loop_mark}
@@ -37,7 +37,7 @@ module _ (fs : List Function) (end : AllEnd fs) (K : kernel.Kernel) (stim : Stim
     abbrev branch_later : Branch
     branch_later = record b { items = left }
 
-    silent_goes : moves K stim y (go n) ≡ Some later
+    silent_goes : acts K stim y (go n) ≡ Some later
     silent_goes = text_goes fs end K stim h n b e (says i) rest em ei ∙ sil.step (step_of K stim y n b rest)
 
     silent_changed : Changed fs n y.branches later.branches
@@ -72,26 +72,26 @@ module _ (fs : List Function) (end : AllEnd fs) (K : kernel.Kernel) (stim : Stim
 
   -- Steps by `go`.
 
-  follow_reaches : {x y x' : World} (h : Beside fs x y) (n : ℕ) (b : Branch) (e : slice_get y.branches n ≡ Some b) (em : b.mode ≡ runs) (none : ahead_at h.ahead n ≡ None) → moves K stim x (go n) ≡ Some x' → (items final : List Item) → b.items ≡ items → SoundItems fs items → Reaches items final → Ready final → Followed fs end K stim x' y
+  follow_reaches : {x y x' : World} (h : Beside fs x y) (n : ℕ) (b : Branch) (e : slice_get y.branches n ≡ Some b) (em : b.mode ≡ runs) (none : ahead_at h.ahead n ≡ None) → acts K stim x (go n) ≡ Some x' → (items final : List Item) → b.items ≡ items → SoundItems fs items → Reaches items final → Ready final → Followed fs end K stim x' y
   follow_reaches {x} {y} {x'} h n b e em none hk items final ei sound (here all) ready =
-      follow_ready fs end K stim h n b e em (subst (λ w. moves K stim w (go n) ≡ Some x') h.is_mixed hk) items ei (ap (λ o. mixed_items o b.items) none ∙ ap kernel_items ei) sound ready
+      follow_ready fs end K stim h n b e em (subst (λ w. acts K stim w (go n) ≡ Some x') h.is_mixed hk) items ei (ap (λ o. mixed_items o b.items) none ∙ ap kernel_items ei) sound ready
   follow_reaches h n b e em none hk items final ei sound (silently i rest left others sil more) ready =
       silent_follow h n b e em none i rest left ei sound sil
       (follow_reaches (silent_beside h n b e em none i rest left ei sound sil) n (record b { items = left })
       (silent_there h n b e em none i rest left ei sound sil) em (silent_none h n b e em none i rest left ei sound sil) hk left others refl
       (sound_at fs _ n (record b { items = left }) (silent_beside h n b e em none i rest left ei sound sil).sound (silent_there h n b e em none i rest left ei sound sil)) more ready)
 
-  follow_runs : {x y x' : World} (h : Beside fs x y) (n : ℕ) (b : Branch) (e : slice_get y.branches n ≡ Some b) → b.mode ≡ runs → moves K stim x (go n) ≡ Some x' → (o : Option (List Item)) → ahead_at h.ahead n ≡ o → Followed fs end K stim x' y
+  follow_runs : {x y x' : World} (h : Beside fs x y) (n : ℕ) (b : Branch) (e : slice_get y.branches n ≡ Some b) → b.mode ≡ runs → acts K stim x (go n) ≡ Some x' → (o : Option (List Item)) → ahead_at h.ahead n ≡ o → Followed fs end K stim x' y
   follow_runs {x} {y} h n b e em hk None eo =
       let sound : SoundItems fs b.items = sound_at fs y.branches n b h.sound e in
       let it : Settles b.items = settle_items fs end b.items sound in
       follow_reaches h n b e em eo hk b.items it.final refl sound it.reaches it.ready
   follow_runs {x} {y} {x'} h n b e em hk (Some k) eo =
-      follow_leads fs end K stim h n b e em (subst (λ w. moves K stim w (go n) ≡ Some x') h.is_mixed hk) k (ap (λ o. mixed_items o b.items) eo) (sound_at fs y.branches n b h.sound e)
+      follow_leads fs end K stim h n b e em (subst (λ w. acts K stim w (go n) ≡ Some x') h.is_mixed hk) k (ap (λ o. mixed_items o b.items) eo) (sound_at fs y.branches n b h.sound e)
       (subst (λ o. Stands o b) eo (stand_at h.ahead y.branches n b h.stand e)).leads
 
   -- behind a `par`
-  follow_waits : {x y x' : World} (h : Beside fs x y) (n : ℕ) (b : Branch) (e : slice_get y.branches n ≡ Some b) (from count : ℕ) → b.mode ≡ waits from count → moves K stim x (go n) ≡ Some x' → (o : Option (List Item)) → ahead_at h.ahead n ≡ o → Followed fs end K stim x' y
+  follow_waits : {x y x' : World} (h : Beside fs x y) (n : ℕ) (b : Branch) (e : slice_get y.branches n ≡ Some b) (from count : ℕ) → b.mode ≡ waits from count → acts K stim x (go n) ≡ Some x' → (o : Option (List Item)) → ahead_at h.ahead n ≡ o → Followed fs end K stim x' y
   follow_waits {x} {y} {x'} h n b e from count em hk None eo =
       both fs end K stim h n b e b.items (joins (step_of K stim y n b b.items) from count)
       (joins (step_of K stim (mixed h.ahead y) n (mixed_branch (ahead_at h.ahead n) b) (mixed_items (ahead_at h.ahead n) b.items)) from count)
@@ -101,7 +101,7 @@ module _ (fs : List Function) (end : AllEnd fs) (K : kernel.Kernel) (stim : Stim
       (ap (λ o. becomes (step_of K stim (mixed h.ahead y) n b b.items) (record b { mode = runs; items = mixed_items o b.items })) eo
       ∙ becomes_alike h.ahead (mixed_items (ahead_at h.ahead n) b.items) (step_of K stim y n b b.items) (record b { mode = runs })))
       (sym (kernel_goes_by fs end K stim h n b e ∙ ap (goes_by K stim (mixed h.ahead y) n (mixed_branch (ahead_at h.ahead n) b)) em)
-      ∙ subst (λ w. moves K stim w (go n) ≡ Some x') h.is_mixed hk)
+      ∙ subst (λ w. acts K stim w (go n) ≡ Some x') h.is_mixed hk)
       (keeps_if fs (step_of K stim y n b b.items) (all_done y from count) (becomes (step_of K stim y n b b.items) (record b { mode = runs }))
       (keeps_becomes fs (step_of K stim y n b b.items) (record b { mode = runs }) (sound_at fs y.branches n b h.sound e)))
   follow_waits {x} {y} h n b e from count em hk (Some k) eo =
@@ -110,29 +110,29 @@ module _ (fs : List Function) (end : AllEnd fs) (K : kernel.Kernel) (stim : Stim
       not_both : {from count : ℕ} → waits from count ≡ runs → ⊥
       not_both e = cc
 
-  follow_mode : {x y x' : World} (h : Beside fs x y) (n : ℕ) (b : Branch) (e : slice_get y.branches n ≡ Some b) (m : Mode) → b.mode ≡ m → moves K stim x (go n) ≡ Some x' → Followed fs end K stim x' y
+  follow_mode : {x y x' : World} (h : Beside fs x y) (n : ℕ) (b : Branch) (e : slice_get y.branches n ≡ Some b) (m : Mode) → b.mode ≡ m → acts K stim x (go n) ≡ Some x' → Followed fs end K stim x' y
   follow_mode h n b e runs em hk = follow_runs h n b e em hk (ahead_at h.ahead n) refl
   follow_mode h n b e (waits from count) em hk = follow_waits h n b e from count em hk (ahead_at h.ahead n) refl
   follow_mode {x} {y} {x'} h n b e ended em hk =
       absurd (true≢false (sym (ap is_some (sym (kernel_goes_by fs end K stim h n b e ∙ ap (goes_by K stim (mixed h.ahead y) n (mixed_branch (ahead_at h.ahead n) b)) em)
-      ∙ subst (λ w. moves K stim w (go n) ≡ Some x') h.is_mixed hk))))
+      ∙ subst (λ w. acts K stim w (go n) ≡ Some x') h.is_mixed hk))))
   follow_mode {x} {y} {x'} h n b e erred em hk =
       absurd (true≢false (sym (ap is_some (sym (kernel_goes_by fs end K stim h n b e ∙ ap (goes_by K stim (mixed h.ahead y) n (mixed_branch (ahead_at h.ahead n) b)) em)
-      ∙ subst (λ w. moves K stim w (go n) ≡ Some x') h.is_mixed hk))))
+      ∙ subst (λ w. acts K stim w (go n) ≡ Some x') h.is_mixed hk))))
 
-  follow_branch : {x y x' : World} (h : Beside fs x y) (n : ℕ) (ob : Option Branch) → slice_get y.branches n ≡ ob → moves K stim x (go n) ≡ Some x' → Followed fs end K stim x' y
+  follow_branch : {x y x' : World} (h : Beside fs x y) (n : ℕ) (ob : Option Branch) → slice_get y.branches n ≡ ob → acts K stim x (go n) ≡ Some x' → Followed fs end K stim x' y
   follow_branch {x} {y} {x'} h n None e hk =
       absurd (true≢false (sym (ap is_some (sym (ap (λ o. and_then o (goes K stim (mixed h.ahead y) n)) (mixed_get h.ahead y.branches n ∙ ap (option_map (mixed_branch (ahead_at h.ahead n))) e))
-      ∙ subst (λ w. moves K stim w (go n) ≡ Some x') h.is_mixed hk))))
+      ∙ subst (λ w. acts K stim w (go n) ≡ Some x') h.is_mixed hk))))
   follow_branch h n (Some b) e hk = follow_mode h n b e b.mode refl hk
 
   -- Clocks.
 
-  follow_tick : {x y x' : World} (h : Beside fs x y) (core : ℕ) (now : Option ℕ) → and_then now (ticks (mixed h.ahead y) core) ≡ Some x' → moves K stim y (clock core) ≡ and_then now (ticks y core) → Followed fs end K stim x' y
+  follow_tick : {x y x' : World} (h : Beside fs x y) (core : ℕ) (now : Option ℕ) → and_then now (ticks (mixed h.ahead y) core) ≡ Some x' → acts K stim y (clock core) ≡ and_then now (ticks y core) → Followed fs end K stim x' y
   follow_tick h core None hk et = absurd (true≢false (sym (ap is_some hk)))
   follow_tick {x} {y} {x'} h core (Some now) hk et = by_room (nat_lt now last_clock) hk et
     where
-      by_room : (room : Bool) → only_if room (record (mixed h.ahead y) { clocks = slice_set y.clocks core (Rattle.std.specs.Prelude.◌+◌ now 1) }) ≡ Some x' → moves K stim y (clock core) ≡ only_if room (record y { clocks = slice_set y.clocks core (Rattle.std.specs.Prelude.◌+◌ now 1) }) → Followed fs end K stim x' y
+      by_room : (room : Bool) → only_if room (record (mixed h.ahead y) { clocks = slice_set y.clocks core (Rattle.std.specs.Prelude.◌+◌ now 1) }) ≡ Some x' → acts K stim y (clock core) ≡ only_if room (record y { clocks = slice_set y.clocks core (Rattle.std.specs.Prelude.◌+◌ now 1) }) → Followed fs end K stim x' y
       by_room false hk et = absurd (true≢false (sym (ap is_some hk)))
       by_room true hk et =
           by_one fs end K stim (clock core) (record y { clocks = slice_set y.clocks core (Rattle.std.specs.Prelude.◌+◌ now 1) }) et
@@ -151,15 +151,15 @@ module _ (fs : List Function) (end : AllEnd fs) (K : kernel.Kernel) (stim : Stim
   IsNoChoice (fixed i v counter) = Unit {0}
   IsNoChoice ends = Unit {0}
 
-  pub record Selecting (f : Step → Item → Option World) (m : ℕ → Move) : Type 0 where
-    pub moved : (w : World) (n : ℕ) → moves K stim w (m n) ≡ and_then (slice_get w.branches n) (selects K stim w n f)
-    pub others : (s : Step) (item : Item) → IsNoChoice item → f s item ≡ None
-    pub alike : (os : Ahead) (items : List Item) (s : Step) (cs : List Choice) (d : Option Body) → f (mixed_step os items s) (chooses (map kernel_choice cs) (option_map kernel_body d)) ≡ option_map (mixed (with_ahead os s.number None)) (f s (chooses cs d))
-    pub keeps : (s : Step) → SoundItems fs s.rest → (cs : List Choice) (d : Option Body) → SoundChoices fs cs → SoundDefault fs d → Keeps fs s (f s (chooses cs d))
+  pub record Selecting (f : Setting → Item → Option World) (m : ℕ → Action) : Type 0 where
+    pub moved : (w : World) (n : ℕ) → acts K stim w (m n) ≡ and_then (slice_get w.branches n) (selects K stim w n f)
+    pub others : (s : Setting) (item : Item) → IsNoChoice item → f s item ≡ None
+    pub alike : (os : Ahead) (items : List Item) (s : Setting) (cs : List Choice) (d : Option Body) → f (mixed_step os items s) (chooses (map kernel_choice cs) (option_map kernel_body d)) ≡ option_map (mixed (with_ahead os s.number None)) (f s (chooses cs d))
+    pub keeps : (s : Setting) → SoundItems fs s.rest → (cs : List Choice) (d : Option Body) → SoundChoices fs cs → SoundDefault fs d → Keeps fs s (f s (chooses cs d))
 
-  module _ (f : Step → Item → Option World) (m : ℕ → Move) (sel : Selecting f m) where
-    module _ {x y x' : World} (h : Beside fs x y) (n : ℕ) (b : Branch) (e : slice_get y.branches n ≡ Some b) (hk : moves K stim (mixed h.ahead y) (m n) ≡ Some x') where
-      kernel_selects : moves K stim (mixed h.ahead y) (m n) ≡ selects_by K stim (mixed h.ahead y) n f (mixed_branch (ahead_at h.ahead n) b) b.mode
+  module _ (f : Setting → Item → Option World) (m : ℕ → Action) (sel : Selecting f m) where
+    module _ {x y x' : World} (h : Beside fs x y) (n : ℕ) (b : Branch) (e : slice_get y.branches n ≡ Some b) (hk : acts K stim (mixed h.ahead y) (m n) ≡ Some x') where
+      kernel_selects : acts K stim (mixed h.ahead y) (m n) ≡ selects_by K stim (mixed h.ahead y) n f (mixed_branch (ahead_at h.ahead n) b) b.mode
       kernel_selects =
           sel.moved (mixed h.ahead y) n
           ∙ ap (λ o. and_then o (selects K stim (mixed h.ahead y) n f)) (mixed_get h.ahead y.branches n ∙ ap (option_map (mixed_branch (ahead_at h.ahead n))) e)
@@ -178,7 +178,7 @@ module _ (fs : List Function) (end : AllEnd fs) (K : kernel.Kernel) (stim : Stim
 
       chosen : (cs : List Choice) (d : Option Body) (rest : List Item) → b.mode ≡ runs → b.items ≡ chooses cs d ∷ rest → mixed_items (ahead_at h.ahead n) b.items ≡ kernel_items (chooses cs d ∷ rest) → SoundItems fs (chooses cs d ∷ rest) → Followed fs end K stim x' y
       chosen cs d rest em ei ek sound =
-          let s : Step = step_of K stim y n b rest in
+          let s : Setting = step_of K stim y n b rest in
           let g : Given (f s (chooses cs d)) (mixed (with_ahead h.ahead n None)) x' =
           given (f s (chooses cs d)) (mixed (with_ahead h.ahead n None)) x'
           (sym (sel.alike h.ahead (mixed_items (ahead_at h.ahead n) b.items) s cs d) ∙ sym (kernel_selects ∙ first_is (kernel_items (chooses cs d ∷ rest)) em ek) ∙ hk) in
@@ -215,41 +215,41 @@ module _ (fs : List Function) (end : AllEnd fs) (K : kernel.Kernel) (stim : Stim
       by_leads k em ek (in_turn rest l et eq) = stuck (does (do_loop_of l)) (kernel_items rest) em (ek ∙ eq) tt
       by_leads k em ek (leaving q more et eq) = stuck (does (kernel.exit q)) (kernel_items more) em (ek ∙ eq) tt
 
-    select_reaches : {x y x' : World} (h : Beside fs x y) (n : ℕ) (b : Branch) (e : slice_get y.branches n ≡ Some b) (em : b.mode ≡ runs) (none : ahead_at h.ahead n ≡ None) → moves K stim x (m n) ≡ Some x' → (items final : List Item) → b.items ≡ items → SoundItems fs items → Reaches items final → Ready final → Followed fs end K stim x' y
+    select_reaches : {x y x' : World} (h : Beside fs x y) (n : ℕ) (b : Branch) (e : slice_get y.branches n ≡ Some b) (em : b.mode ≡ runs) (none : ahead_at h.ahead n ≡ None) → acts K stim x (m n) ≡ Some x' → (items final : List Item) → b.items ≡ items → SoundItems fs items → Reaches items final → Ready final → Followed fs end K stim x' y
     select_reaches {x} {y} {x'} h n b e em none hk items final ei sound (here all) ready =
-        by_ready h n b e (subst (λ w. moves K stim w (m n) ≡ Some x') h.is_mixed hk) items em ei (ap (λ o. mixed_items o b.items) none ∙ ap kernel_items ei) sound ready
+        by_ready h n b e (subst (λ w. acts K stim w (m n) ≡ Some x') h.is_mixed hk) items em ei (ap (λ o. mixed_items o b.items) none ∙ ap kernel_items ei) sound ready
     select_reaches h n b e em none hk items final ei sound (silently i rest left others sil more) ready =
         silent_follow h n b e em none i rest left ei sound sil
         (select_reaches (silent_beside h n b e em none i rest left ei sound sil) n (record b { items = left })
         (silent_there h n b e em none i rest left ei sound sil) em (silent_none h n b e em none i rest left ei sound sil) hk left others refl
         (sound_at fs _ n (record b { items = left }) (silent_beside h n b e em none i rest left ei sound sil).sound (silent_there h n b e em none i rest left ei sound sil)) more ready)
 
-    select_runs : {x y x' : World} (h : Beside fs x y) (n : ℕ) (b : Branch) (e : slice_get y.branches n ≡ Some b) → b.mode ≡ runs → moves K stim x (m n) ≡ Some x' → (o : Option (List Item)) → ahead_at h.ahead n ≡ o → Followed fs end K stim x' y
+    select_runs : {x y x' : World} (h : Beside fs x y) (n : ℕ) (b : Branch) (e : slice_get y.branches n ≡ Some b) → b.mode ≡ runs → acts K stim x (m n) ≡ Some x' → (o : Option (List Item)) → ahead_at h.ahead n ≡ o → Followed fs end K stim x' y
     select_runs {x} {y} h n b e em hk None eo =
         let sound : SoundItems fs b.items = sound_at fs y.branches n b h.sound e in
         let it : Settles b.items = settle_items fs end b.items sound in
         select_reaches h n b e em eo hk b.items it.final refl sound it.reaches it.ready
     select_runs {x} {y} {x'} h n b e em hk (Some k) eo =
-        by_leads h n b e (subst (λ w. moves K stim w (m n) ≡ Some x') h.is_mixed hk) k em (ap (λ o. mixed_items o b.items) eo)
+        by_leads h n b e (subst (λ w. acts K stim w (m n) ≡ Some x') h.is_mixed hk) k em (ap (λ o. mixed_items o b.items) eo)
         (subst (λ o. Stands o b) eo (stand_at h.ahead y.branches n b h.stand e)).leads
 
-    select_mode : {x y x' : World} (h : Beside fs x y) (n : ℕ) (b : Branch) (e : slice_get y.branches n ≡ Some b) (mode : Mode) → b.mode ≡ mode → moves K stim x (m n) ≡ Some x' → Followed fs end K stim x' y
+    select_mode : {x y x' : World} (h : Beside fs x y) (n : ℕ) (b : Branch) (e : slice_get y.branches n ≡ Some b) (mode : Mode) → b.mode ≡ mode → acts K stim x (m n) ≡ Some x' → Followed fs end K stim x' y
     select_mode h n b e runs em hk = select_runs h n b e em hk (ahead_at h.ahead n) refl
     select_mode {x} {y} {x'} h n b e (waits from count) em hk =
-        stuck_mode h n b e (subst (λ w. moves K stim w (m n) ≡ Some x') h.is_mixed hk) (ap (selects_by K stim (mixed h.ahead y) n f (mixed_branch (ahead_at h.ahead n) b)) em)
+        stuck_mode h n b e (subst (λ w. acts K stim w (m n) ≡ Some x') h.is_mixed hk) (ap (selects_by K stim (mixed h.ahead y) n f (mixed_branch (ahead_at h.ahead n) b)) em)
     select_mode {x} {y} {x'} h n b e ended em hk =
-        stuck_mode h n b e (subst (λ w. moves K stim w (m n) ≡ Some x') h.is_mixed hk) (ap (selects_by K stim (mixed h.ahead y) n f (mixed_branch (ahead_at h.ahead n) b)) em)
+        stuck_mode h n b e (subst (λ w. acts K stim w (m n) ≡ Some x') h.is_mixed hk) (ap (selects_by K stim (mixed h.ahead y) n f (mixed_branch (ahead_at h.ahead n) b)) em)
     select_mode {x} {y} {x'} h n b e erred em hk =
-        stuck_mode h n b e (subst (λ w. moves K stim w (m n) ≡ Some x') h.is_mixed hk) (ap (selects_by K stim (mixed h.ahead y) n f (mixed_branch (ahead_at h.ahead n) b)) em)
+        stuck_mode h n b e (subst (λ w. acts K stim w (m n) ≡ Some x') h.is_mixed hk) (ap (selects_by K stim (mixed h.ahead y) n f (mixed_branch (ahead_at h.ahead n) b)) em)
 
-    select_branch : {x y x' : World} (h : Beside fs x y) (n : ℕ) (ob : Option Branch) → slice_get y.branches n ≡ ob → moves K stim x (m n) ≡ Some x' → Followed fs end K stim x' y
+    select_branch : {x y x' : World} (h : Beside fs x y) (n : ℕ) (ob : Option Branch) → slice_get y.branches n ≡ ob → acts K stim x (m n) ≡ Some x' → Followed fs end K stim x' y
     select_branch {x} {y} {x'} h n None e hk =
         absurd (true≢false (sym (ap is_some (sym (sel.moved (mixed h.ahead y) n
         ∙ ap (λ o. and_then o (selects K stim (mixed h.ahead y) n f)) (mixed_get h.ahead y.branches n ∙ ap (option_map (mixed_branch (ahead_at h.ahead n))) e))
-        ∙ subst (λ w. moves K stim w (m n) ≡ Some x') h.is_mixed hk))))
+        ∙ subst (λ w. acts K stim w (m n) ≡ Some x') h.is_mixed hk))))
     select_branch h n (Some b) e hk = select_mode h n b e b.mode refl hk
 
-  no_case : (c : ℕ) (s : Step) (item : Item) → IsNoChoice item → takes s c item ≡ None
+  no_case : (c : ℕ) (s : Setting) (item : Item) → IsNoChoice item → takes s c item ≡ None
   no_case c s (does t) nc = refl
   no_case c s (says i) nc = refl
   no_case c s (stores place v) nc = refl
@@ -260,7 +260,7 @@ module _ (fs : List Function) (end : AllEnd fs) (K : kernel.Kernel) (stim : Stim
   no_case c s (fixed i v counter) nc = refl
   no_case c s ends nc = refl
 
-  no_default : (s : Step) (item : Item) → IsNoChoice item → takes_default s item ≡ None
+  no_default : (s : Setting) (item : Item) → IsNoChoice item → takes_default s item ≡ None
   no_default s (does t) nc = refl
   no_default s (says i) nc = refl
   no_default s (stores place v) nc = refl
@@ -289,9 +289,9 @@ module _ (fs : List Function) (end : AllEnd fs) (K : kernel.Kernel) (stim : Stim
 
   -- All steps.
 
-  pub follow_move : {x y x' : World} → Beside fs x y → (m : Move) → moves K stim x m ≡ Some x' → Followed fs end K stim x' y
+  pub follow_move : {x y x' : World} → Beside fs x y → (m : Action) → acts K stim x m ≡ Some x' → Followed fs end K stim x' y
   follow_move {x} {y} {x'} h (clock core) hk =
-      follow_tick h core (slice_get y.clocks core) (subst (λ w. moves K stim w (clock core) ≡ Some x') h.is_mixed hk) refl
+      follow_tick h core (slice_get y.clocks core) (subst (λ w. acts K stim w (clock core) ≡ Some x') h.is_mixed hk) refl
   follow_move {x} {y} {x'} h (go n) hk = follow_branch h n (slice_get y.branches n) refl hk
   follow_move {x} {y} {x'} h (take n c) hk = select_branch (λ s. takes s c) (λ n. take n c) (selecting_case c) h n (slice_get y.branches n) refl hk
   follow_move {x} {y} {x'} h (default n) hk = select_branch takes_default default selecting_default h n (slice_get y.branches n) refl hk

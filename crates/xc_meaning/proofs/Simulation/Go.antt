@@ -10,14 +10,14 @@ use Rattle.xc_kernel.specs.Values.{Value, word, error, is_true}
 use Rattle.xc_kernel.specs.Eval.{eval}
 use Rattle.xc_meaning.specs.States.Items.{Loop, TextItem, again_do, Item, does, says, stores, mark, awaits, transaction_end, chooses, fixed, ends}
 use Rattle.xc_meaning.specs.States.Branches.{runs, ended, Branch}
-use Rattle.xc_meaning.specs.States.Worlds.{World, Move, go, with_word}
-use Rattle.xc_meaning.specs.Moves.Step.{Step, goes_to, kind_of, with_value}
-use Rattle.xc_meaning.specs.Moves.Stores.{stored}
-use Rattle.xc_meaning.specs.Moves.Flow.{items_by, from_mark_by, items_from_mark}
+use Rattle.xc_meaning.specs.States.Worlds.{World, Action, go, with_word}
+use Rattle.xc_meaning.specs.Settings.Setting.{Setting, goes_to, kind_of, with_value}
+use Rattle.xc_meaning.specs.Settings.Stores.{stored}
+use Rattle.xc_meaning.specs.Settings.Flow.{items_by, from_mark_by, items_from_mark}
 use Rattle.xc_meaning.specs.Texts.Copied.{behind, block_in}
 use Rattle.xc_meaning.specs.Texts.Loops.{turn_context, test_in, loop_mark, turn_item, turn_items}
 use Rattle.xc_meaning.specs.Texts.Statements.{returns_word, says_item}
-use Rattle.xc_meaning.specs.Runs.{does_item, step_of, does_first, goes_by, goes, moves, moves_all}
+use Rattle.xc_meaning.specs.Runs.{does_item, step_of, does_first, goes_by, goes, acts, acts_all}
 use Rattle.xc_kernel.specs.Paths.{path_at}
 use Rattle.xc_meaning.proofs.Simulation.KernelItems.{kernel_items, loop_of, do_test, do_loop_of, of_mark}
 use Rattle.xc_meaning.proofs.Simulation.Mixed.{Ahead, mixed_items, mixed_branch, mixed_branches, mixed, ahead_at, with_ahead, mixed_set, mixed_get}
@@ -74,7 +74,7 @@ module _ (fs : List Function) where
   sound_behind (fixed i v counter) rest h = h
   sound_behind ends rest h = h
 
-  pub keeps_plain : (s : Step) → SoundItems fs s.rest → (item : Item) → IsPlain item → Keeps fs s (does_item s item)
+  pub keeps_plain : (s : Setting) → SoundItems fs s.rest → (item : Item) → IsPlain item → Keeps fs s (does_item s item)
   keeps_plain s h (does t) p = keeps_statement fs s h t
   keeps_plain s h (says i) p = absurd p
   keeps_plain s h (stores place v) p = keeps_stored fs s h place v
@@ -88,39 +88,39 @@ module _ (fs : List Function) where
 module _ (fs : List Function) (end : AllEnd fs) (K : kernel.Kernel) (stim : Stim) where
   -- steps of a text from a state to one that stands beside the kernel's
   pub record Followed (x y : World) : Type 0 where
-    pub steps : List Move
+    pub steps : List Action
     pub leads : World
-    pub led : moves_all K stim (Some y) steps ≡ Some leads
+    pub led : acts_all K stim (Some y) steps ≡ Some leads
     pub beside : Beside fs x leads
 
   pub stay : {x y : World} → Beside fs x y → Followed x y
   stay {x} {y} h = record { steps = []; leads = y; led = refl; beside = h }
 
-  pub by_one : {x y : World} (m : Move) (y' : World) → moves K stim y m ≡ Some y' → Beside fs x y' → Followed x y
-  by_one {x} {y} m y' e h = record { steps = m ∷ []; leads = y'; led = ap (λ o. moves_all K stim o []) e; beside = h }
+  pub by_one : {x y : World} (m : Action) (y' : World) → acts K stim y m ≡ Some y' → Beside fs x y' → Followed x y
+  by_one {x} {y} m y' e h = record { steps = m ∷ []; leads = y'; led = ap (λ o. acts_all K stim o []) e; beside = h }
 
-  pub by_more : {x y : World} (m : Move) (y' : World) → moves K stim y m ≡ Some y' → Followed x y' → Followed x y
-  by_more {x} {y} m y' e f = record { steps = m ∷ f.steps; leads = f.leads; led = ap (λ o. moves_all K stim o f.steps) e ∙ f.led; beside = f.beside }
+  pub by_more : {x y : World} (m : Action) (y' : World) → acts K stim y m ≡ Some y' → Followed x y' → Followed x y
+  by_more {x} {y} m y' e f = record { steps = m ∷ f.steps; leads = f.leads; led = ap (λ o. acts_all K stim o f.steps) e ∙ f.led; beside = f.beside }
 
   -- a branch that runs, in the text and in the kernel
   module _ {x y : World} (h : Beside fs x y) (n : ℕ) (b : Branch) (e : slice_get y.branches n ≡ Some b) where
-    abbrev kernel_step : List Item → Step
+    abbrev kernel_step : List Item → Setting
     kernel_step behind = step_of K stim (mixed h.ahead y) n (mixed_branch (ahead_at h.ahead n) b) behind
 
-    pub text_goes : (item : Item) (rest : List Item) → b.mode ≡ runs → b.items ≡ item ∷ rest → moves K stim y (go n) ≡ does_item (step_of K stim y n b rest) item
+    pub text_goes : (item : Item) (rest : List Item) → b.mode ≡ runs → b.items ≡ item ∷ rest → acts K stim y (go n) ≡ does_item (step_of K stim y n b rest) item
     text_goes item rest em ei =
         ap (λ o. and_then o (goes K stim y n)) e ∙ ap (goes_by K stim y n b) em ∙ ap (does_first K stim y n b does_item) ei
 
-    pub kernel_goes_by : moves K stim (mixed h.ahead y) (go n) ≡ goes_by K stim (mixed h.ahead y) n (mixed_branch (ahead_at h.ahead n) b) b.mode
+    pub kernel_goes_by : acts K stim (mixed h.ahead y) (go n) ≡ goes_by K stim (mixed h.ahead y) n (mixed_branch (ahead_at h.ahead n) b) b.mode
     kernel_goes_by =
         ap (λ o. and_then o (goes K stim (mixed h.ahead y) n)) (mixed_get h.ahead y.branches n ∙ ap (option_map (mixed_branch (ahead_at h.ahead n))) e)
 
-    pub kernel_goes : (item : Item) (behind : List Item) → b.mode ≡ runs → mixed_items (ahead_at h.ahead n) b.items ≡ item ∷ behind → moves K stim (mixed h.ahead y) (go n) ≡ does_item (kernel_step behind) item
+    pub kernel_goes : (item : Item) (behind : List Item) → b.mode ≡ runs → mixed_items (ahead_at h.ahead n) b.items ≡ item ∷ behind → acts K stim (mixed h.ahead y) (go n) ≡ does_item (kernel_step behind) item
     kernel_goes item behind em ei =
         kernel_goes_by ∙ ap (goes_by K stim (mixed h.ahead y) n (mixed_branch (ahead_at h.ahead n) b)) em
         ∙ ap (does_first K stim (mixed h.ahead y) n (mixed_branch (ahead_at h.ahead n) b) does_item) ei
 
-    pub kernel_stops : b.mode ≡ runs → mixed_items (ahead_at h.ahead n) b.items ≡ [] → moves K stim (mixed h.ahead y) (go n) ≡ None
+    pub kernel_stops : b.mode ≡ runs → mixed_items (ahead_at h.ahead n) b.items ≡ [] → acts K stim (mixed h.ahead y) (go n) ≡ None
     kernel_stops em ei =
         kernel_goes_by ∙ ap (goes_by K stim (mixed h.ahead y) n (mixed_branch (ahead_at h.ahead n) b)) em
         ∙ ap (does_first K stim (mixed h.ahead y) n (mixed_branch (ahead_at h.ahead n) b) does_item) ei
@@ -129,13 +129,13 @@ module _ (fs : List Function) (end : AllEnd fs) (K : kernel.Kernel) (stim : Stim
     its_fits = with_ahead_length h.ahead n None (length y.branches) h.fits (Rattle.xc_meaning.proofs.Simulation.Beside.in_range y.branches n b e)
 
     -- both do the same, and the kernel's branch isn't ahead
-    pub both : {x' : World} (rest : List Item) (made theirs : Option World) → moves K stim y (go n) ≡ made → theirs ≡ option_map (mixed (with_ahead h.ahead n None)) made → theirs ≡ Some x' → Keeps fs (step_of K stim y n b rest) made → Followed x' y
+    pub both : {x' : World} (rest : List Item) (made theirs : Option World) → acts K stim y (go n) ≡ made → theirs ≡ option_map (mixed (with_ahead h.ahead n None)) made → theirs ≡ Some x' → Keeps fs (step_of K stim y n b rest) made → Followed x' y
     both {x'} rest made theirs et ea ek keeps =
         let g : Given made (mixed (with_ahead h.ahead n None)) x' = given made (mixed (with_ahead h.ahead n None)) x' (sym ea ∙ ek) in
         by_one (go n) g.result (et ∙ g.is) (beside_after fs h n b e None g.result g.from (subst (Keeps fs (step_of K stim y n b rest)) g.is keeps) tt)
 
     -- the text goes on to other items, and the kernel's branch is ahead of them
-    both_ahead : {x' : World} (left k : List Item) (y' : World) → b.mode ≡ runs → moves K stim y (go n) ≡ Some y' → y'.branches ≡ slice_set y.branches n (record b { items = left }) → SoundItems fs left → Leads k left → x' ≡ record y' { branches = slice_set (mixed_branches h.ahead y.branches) n (record b { items = k }) } → Followed x' y
+    both_ahead : {x' : World} (left k : List Item) (y' : World) → b.mode ≡ runs → acts K stim y (go n) ≡ Some y' → y'.branches ≡ slice_set y.branches n (record b { items = left }) → SoundItems fs left → Leads k left → x' ≡ record y' { branches = slice_set (mixed_branches h.ahead y.branches) n (record b { items = k }) } → Followed x' y
     both_ahead {x'} left k y' em et changed sound leads ex =
         by_one (go n) y' et
         (beside_after fs h n b e (Some k) y'
@@ -165,20 +165,20 @@ module _ (fs : List Function) (end : AllEnd fs) (K : kernel.Kernel) (stim : Stim
           ∙ sym (ap (λ b. from_mark_by b (mark loop_block ∷ fine.1.behind) (items_from_mark loop_block fine.1.behind)) (same_number loop_block))
           ∙ sym (ap (items_from_mark loop_block) fine.1.is)
 
-      by_truth : {x' : World} (t : Bool) → Some (goes_to (kernel_step do_behind) (items_by t do_behind (does (kernel.exit loop_block) ∷ do_behind))) ≡ Some x' → moves K stim y (go n) ≡ Some (goes_to (step_of K stim y n b rest) (items_by t do_left rest)) → Followed x' y
+      by_truth : {x' : World} (t : Bool) → Some (goes_to (kernel_step do_behind) (items_by t do_behind (does (kernel.exit loop_block) ∷ do_behind))) ≡ Some x' → acts K stim y (go n) ≡ Some (goes_to (step_of K stim y n b rest) (items_by t do_left rest)) → Followed x' y
       by_truth true ek et =
           both_ahead do_left do_behind (goes_to (step_of K stim y n b rest) do_left) em et refl (fine.0, tt, fine) (in_turn rest l refl refl) (sym (some_given ek))
       by_truth false ek et =
           both_ahead rest (does (kernel.exit loop_block) ∷ do_behind) (goes_to (step_of K stim y n b rest) rest) em et refl fine.2
           (leaving loop_block (does (do_loop_of l) ∷ rest) mark_kept refl) (sym (some_given ek))
 
-      by_value : {x' : World} (v : Value) → with_value (kernel_step do_behind) v (λ v. Some (goes_to (kernel_step do_behind) (items_by (is_true v) do_behind (does (kernel.exit loop_block) ∷ do_behind)))) ≡ Some x' → moves K stim y (go n) ≡ with_value (step_of K stim y n b rest) v (λ v. Some (goes_to (step_of K stim y n b rest) (items_by (is_true v) do_left rest))) → Followed x' y
+      by_value : {x' : World} (v : Value) → with_value (kernel_step do_behind) v (λ v. Some (goes_to (kernel_step do_behind) (items_by (is_true v) do_behind (does (kernel.exit loop_block) ∷ do_behind)))) ≡ Some x' → acts K stim y (go n) ≡ with_value (step_of K stim y n b rest) v (λ v. Some (goes_to (step_of K stim y n b rest) (items_by (is_true v) do_left rest))) → Followed x' y
       by_value (word w) ek et = by_truth (is_true w) ek et
       by_value (error kind pos) ek et =
           both rest _ _ et (errs_alike h.ahead (mixed_items (ahead_at h.ahead n) b.items) (step_of K stim y n b rest) (kind_of kind) pos) ek (keeps_errs fs (step_of K stim y n b rest) (kind_of kind) pos)
 
     -- a `return` with a value
-    returned_by : {x' : World} (c : Context) (rest : List Item) (v : Value) → b.mode ≡ runs → SoundItems fs rest → with_value (kernel_step (does (leave c c.returns) ∷ kernel_items rest)) v (stored (kernel_step (does (leave c c.returns) ∷ kernel_items rest)) (word_at c c.result)) ≡ Some x' → moves K stim y (go n) ≡ with_value (step_of K stim y n b rest) v (returns_word (step_of K stim y n b rest) c) → Followed x' y
+    returned_by : {x' : World} (c : Context) (rest : List Item) (v : Value) → b.mode ≡ runs → SoundItems fs rest → with_value (kernel_step (does (leave c c.returns) ∷ kernel_items rest)) v (stored (kernel_step (does (leave c c.returns) ∷ kernel_items rest)) (word_at c c.result)) ≡ Some x' → acts K stim y (go n) ≡ with_value (step_of K stim y n b rest) v (returns_word (step_of K stim y n b rest) c) → Followed x' y
     returned_by c rest (word w) em sound ek et =
         both_ahead (items_from_mark (block_in c c.returns) rest) (does (leave c c.returns) ∷ kernel_items rest)
         (with_word (goes_to (step_of K stim y n b rest) (items_from_mark (block_in c c.returns) rest)) (variable_number c.numbering c.result) 0 w) em et refl
@@ -187,11 +187,11 @@ module _ (fs : List Function) (end : AllEnd fs) (K : kernel.Kernel) (stim : Stim
         both rest _ _ et (errs_alike h.ahead (mixed_items (ahead_at h.ahead n) b.items) (step_of K stim y n b rest) (kind_of kind) pos) ek (keeps_errs fs (step_of K stim y n b rest) (kind_of kind) pos)
 
     -- by how the kernel's first item meets the text's
-    module _ (em : b.mode ≡ runs) {x' : World} (hk : moves K stim (mixed h.ahead y) (go n) ≡ Some x') where
+    module _ (em : b.mode ≡ runs) {x' : World} (hk : acts K stim (mixed h.ahead y) (go n) ≡ Some x') where
       abbrev before : List Item
       before = mixed_items (ahead_at h.ahead n) b.items
 
-      abbrev step_before : List Item → Step
+      abbrev step_before : List Item → Setting
       step_before rest = step_of K stim y n b rest
 
       follow_meets : (i : TextItem) (rest : List Item) → b.items ≡ says i ∷ rest → mixed_items (ahead_at h.ahead n) b.items ≡ kernel_items (says i ∷ rest) → SoundItems fs (says i ∷ rest) → Meets i rest → Followed x' y

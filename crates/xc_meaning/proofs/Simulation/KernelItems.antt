@@ -15,7 +15,7 @@ use Rattle.xc_kernel.specs.Declarations.{declaration_copy, declarations_copy}
 use Rattle.xc_kernel.specs.Flow.{turn, leave_unless}
 use Rattle.xc_kernel.specs.Statements.{statement_copy, maybe_copy, statements_copy}
 use Rattle.xc_meaning.specs.States.Items.{Loop, TextItem, statement, name, bound, body, first_test, again, again_do, returned, Body, of_kernel, of_text, Choice, Item, does, says, stores, mark, awaits, transaction_end, chooses, fixed, ends, todo, body_items}
-use Rattle.xc_meaning.specs.Moves.Flow.{from_mark_by, items_from_mark}
+use Rattle.xc_meaning.specs.Settings.Flow.{from_mark_by, items_from_mark}
 use Rattle.xc_meaning.specs.Texts.Copied.{calls_in, behind, behind_name, code_in}
 use Rattle.xc_meaning.specs.Texts.Items.{name_items, statement_items, maybe_items, statements_items, only, as_body, body_item}
 use Rattle.xc_meaning.specs.Texts.Calls.{passing_items, parameter_items, call_items}

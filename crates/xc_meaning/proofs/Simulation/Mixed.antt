@@ -4,7 +4,7 @@ use Rattle.std.proofs.Common.{◌≡◌, ℕ, zero, suc, ◌≤◌, List, [], �
 use Rattle.xc_meaning.specs.States.Items.{Item}
 use Rattle.xc_meaning.specs.States.Branches.{Branch}
 use Rattle.xc_meaning.specs.States.Worlds.{World}
-use Rattle.xc_meaning.specs.Moves.Step.{Step}
+use Rattle.xc_meaning.specs.Settings.Setting.{Setting}
 use Rattle.xc_meaning.proofs.Simulation.KernelItems.{kernel_items}
 
 -- for each branch its items in the kernel where it is ahead
@@ -42,7 +42,7 @@ with_ahead (p ∷ os) zero o = o ∷ os
 with_ahead (p ∷ os) (suc n) o = p ∷ with_ahead os n o
 
 -- the step of a branch in the kernel, with these items before
-abbrev pub mixed_step : Ahead → List Item → Step → Step
+abbrev pub mixed_step : Ahead → List Item → Setting → Setting
 mixed_step os items s = record {
   program = s.program;
   stimulus = s.stimulus;

@@ -10,9 +10,9 @@ use Rattle.xc_meaning.specs.States.Channels.{Side}
 use Rattle.xc_meaning.specs.States.Items.{Item, ends}
 use Rattle.xc_meaning.specs.States.Branches.{Branch, runs, waits}
 use Rattle.xc_meaning.specs.States.Worlds.{World}
-use Rattle.xc_meaning.specs.Moves.Step.{Step, becomes}
-use Rattle.xc_meaning.specs.Moves.Sides.{sides_in}
-use Rattle.xc_meaning.specs.Moves.Par.{Begun, codes_of, begun, all_begun, family_of, child, children, with_branches, waits_for, makes, is_done, all_done}
+use Rattle.xc_meaning.specs.Settings.Setting.{Setting, becomes}
+use Rattle.xc_meaning.specs.Settings.Sides.{sides_in}
+use Rattle.xc_meaning.specs.Settings.Par.{Begun, codes_of, begun, all_begun, family_of, child, children, with_branches, waits_for, makes, is_done, all_done}
 use Rattle.xc_meaning.specs.Texts.Copied.{calls_in, behind_branch, code_in}
 use Rattle.xc_meaning.specs.Texts.Par.{statement_begun, branch_begun, branches_begun, copies_begun}
 use Rattle.xc_meaning.proofs.Simulation.KernelItems.{kernel_items, of_statement}
@@ -63,11 +63,11 @@ with_ahead_length (p ∷ os) zero o m le lt = le
 with_ahead_length (p ∷ os) (suc n) o zero le lt = absurd (omega arith)
 with_ahead_length (p ∷ os) (suc n) o (suc m) le lt = let shorter = with_ahead_length os n o m (omega arith) (omega arith) in omega arith
 
-module _ (os : Ahead) (items : List Item) (s : Step) where
+module _ (os : Ahead) (items : List Item) (s : Setting) where
   abbrev after : World → World
   after = mixed (with_ahead os s.number None)
 
-  abbrev step : Step
+  abbrev step : Setting
   step = mixed_step os items s
 
   child_alike : (among index : ℕ) (sides : List (Option Side)) (left : List Item) → child step among index sides (kernel_items left) ≡ even (child s among index sides left)

@@ -4,11 +4,11 @@ use Rattle.xc_kernel.specs.Plain as kernel
 use Rattle.xc_kernel.specs.Eval.{Store}
 use Rattle.xc_meaning.specs.States.Items.{of_kernel, Item, does, says, stores, mark, awaits, transaction_end, chooses, fixed, ends, todo}
 use Rattle.xc_meaning.specs.States.Branches.{ended}
-use Rattle.xc_meaning.specs.Moves.Step.{Step}
-use Rattle.xc_meaning.specs.Moves.Par.{all_begun, makes}
-use Rattle.xc_meaning.specs.Moves.Flow.{turn_items}
-use Rattle.xc_meaning.specs.Moves.Select.{enabled, and_case, default_of, begins_select}
-use Rattle.xc_meaning.specs.Moves.Kernel.{does_statement}
+use Rattle.xc_meaning.specs.Settings.Setting.{Setting}
+use Rattle.xc_meaning.specs.Settings.Par.{all_begun, makes}
+use Rattle.xc_meaning.specs.Settings.Flow.{turn_items}
+use Rattle.xc_meaning.specs.Settings.Select.{enabled, and_case, default_of, begins_select}
+use Rattle.xc_meaning.specs.Settings.Kernel.{does_statement}
 use Rattle.xc_meaning.specs.Runs.{does_item}
 use Rattle.xc_meaning.proofs.Simulation.KernelItems.{kernel_body, kernel_choice, kernel_items, of_todo}
 use Rattle.xc_meaning.proofs.Simulation.Mixed.{Ahead, mixed_step}
@@ -31,8 +31,8 @@ begun_same kernel.no_branch = refl
 begun_same (kernel.more_branches (kernel.branch code pos) bs) =
     λ i. record { items = sym (of_todo code (ends ∷ [])) i; code = code } ∷ begun_same bs i
 
-module _ (os : Ahead) (items : List Item) (s : Step) (fits : Fits os s) where
-  abbrev step : Step
+module _ (os : Ahead) (items : List Item) (s : Setting) (fits : Fits os s) where
+  abbrev step : Setting
   step = mixed_step os items s
 
   pub statement_alike : (t : kernel.Statement) → does_statement step t ≡ option_map (after os s) (does_statement s t)
@@ -76,7 +76,7 @@ plain_items (chooses choices otherwise) rest p = refl
 plain_items (fixed i v counter) rest p = refl
 plain_items ends rest p = refl
 
-pub plain_alike : (os : Ahead) (items : List Item) (s : Step) → Fits os s → (item : Item) → IsPlain item → does_item (mixed_step os items s) (kernel_item item) ≡ option_map (after os s) (does_item s item)
+pub plain_alike : (os : Ahead) (items : List Item) (s : Setting) → Fits os s → (item : Item) → IsPlain item → does_item (mixed_step os items s) (kernel_item item) ≡ option_map (after os s) (does_item s item)
 plain_alike os items s fits (does t) p = statement_alike os items s fits t
 plain_alike os items s fits (says i) p = absurd p
 plain_alike os items s fits (stores place v) p = stored_alike os items s place v

@@ -21,10 +21,10 @@ use Rattle.xc_kernel.specs.Flow.{numbered_copy, replicated}
 use Rattle.xc_kernel.specs.Statements.{pos_of_branch, assign_by, branch_copy, branches_copy, cases_copy, maybe_copy, statements_copy}
 use Rattle.xc_meaning.specs.States.Items.{Loop, TextItem, statement, name, bound, body, first_test, again_do, returned, Item, does, says, stores, mark, awaits, transaction_end, chooses, fixed, ends, todo}
 use Rattle.xc_meaning.specs.States.Worlds.{World, with_zeros}
-use Rattle.xc_meaning.specs.Moves.Step.{Step, goes_to}
-use Rattle.xc_meaning.specs.Moves.Par.{makes}
-use Rattle.xc_meaning.specs.Moves.Select.{begins_select}
-use Rattle.xc_meaning.specs.Moves.Kernel.{does_statement}
+use Rattle.xc_meaning.specs.Settings.Setting.{Setting, goes_to}
+use Rattle.xc_meaning.specs.Settings.Par.{makes}
+use Rattle.xc_meaning.specs.Settings.Select.{begins_select}
+use Rattle.xc_meaning.specs.Settings.Kernel.{does_statement}
 use Rattle.xc_meaning.specs.Texts.Copied.{calls_in, behind, behind_maybe, behind_name, channel_in, block_in}
 use Rattle.xc_meaning.specs.Texts.Items.{name_items, statement_items, maybe_items, statements_items, entered_items}
 use Rattle.xc_meaning.specs.Texts.Calls.{passing_items, parameter_items, call_items, with_result, begins_call, calls}
@@ -39,35 +39,35 @@ use Rattle.xc_meaning.proofs.Simulation.Select.{enabled_alike, default_alike, be
 use Rattle.xc_meaning.proofs.Simulation.Par.{branches_alike, copies_alike, makes_alike}
 use Rattle.xc_meaning.proofs.Simulation.Calls.{AllEnd, call_code_is, no_call_code}
 
-abbrev pub with_rest : Step → List Item → Step
+abbrev pub with_rest : Setting → List Item → Setting
 with_rest s rest = record s { rest = rest }
 
 -- the kernel's step beside, with these items behind the first
-abbrev pub kernel_at : Ahead → List Item → Step → List Item → Step
+abbrev pub kernel_at : Ahead → List Item → Setting → List Item → Setting
 kernel_at os items s behind = record (mixed_step os items s) { rest = behind }
 
-abbrev pub after : Ahead → Step → World → World
+abbrev pub after : Ahead → Setting → World → World
 after os s = mixed (with_ahead os s.number None)
 
-abbrev pub Fits : Ahead → Step → Type 0
+abbrev pub Fits : Ahead → Setting → Type 0
 Fits os s = length (with_ahead os s.number None) ≤ length s.world.branches
 
 -- a statement of the kernel does what an item of the text does
 pub record IsSame (i : TextItem) (rest : List Item) (k : kernel.Statement) (behind : List Item) : Type 0 where
-  pub step : (os : Ahead) (items : List Item) (s : Step) → Fits os s → does_statement (kernel_at os items s behind) k ≡ option_map (after os s) (says_item (with_rest s rest) i)
+  pub step : (os : Ahead) (items : List Item) (s : Setting) → Fits os s → does_statement (kernel_at os items s behind) k ≡ option_map (after os s) (says_item (with_rest s rest) i)
 
 -- how the kernel's first item meets that of a text: it does the same, or it is ahead after the one or the other
 pub data Meets (i : TextItem) (rest : List Item) : Type 0 where
   same : (k : kernel.Statement) (behind : List Item) → kernel_items (says i ∷ rest) ≡ does k ∷ behind → IsSame i rest k behind → Meets i rest
-  loops : (l : Loop) → kernel_items (says i ∷ rest) ≡ does (block_at l.context (loop_path l) (loop_of l ∷ [])) ∷ kernel_items rest → ((s : Step) → says_item (with_rest s rest) i ≡ tests_first (with_rest s rest) l) → Meets i rest
-  does_loop : (l : Loop) → kernel_items (says i ∷ rest) ≡ does (block_at l.context (loop_path l) (do_loop_of l ∷ [])) ∷ kernel_items rest → ((s : Step) → says_item (with_rest s rest) i ≡ begins_do (with_rest s rest) l) → Meets i rest
+  loops : (l : Loop) → kernel_items (says i ∷ rest) ≡ does (block_at l.context (loop_path l) (loop_of l ∷ [])) ∷ kernel_items rest → ((s : Setting) → says_item (with_rest s rest) i ≡ tests_first (with_rest s rest) l) → Meets i rest
+  does_loop : (l : Loop) → kernel_items (says i ∷ rest) ≡ does (block_at l.context (loop_path l) (do_loop_of l ∷ [])) ∷ kernel_items rest → ((s : Setting) → says_item (with_rest s rest) i ≡ begins_do (with_rest s rest) l) → Meets i rest
   repeats : (l : Loop) → i ≡ again_do l → Meets i rest
-  returns_it : (c : Context) (e : kernel.Expression) → kernel_items (says i ∷ rest) ≡ does (set_word c c.result e) ∷ does (leave c c.returns) ∷ kernel_items rest → ((s : Step) → says_item (with_rest s rest) i ≡ returns_value (with_rest s rest) c e) → Meets i rest
+  returns_it : (c : Context) (e : kernel.Expression) → kernel_items (says i ∷ rest) ≡ does (set_word c c.result e) ∷ does (leave c c.returns) ∷ kernel_items rest → ((s : Setting) → says_item (with_rest s rest) i ≡ returns_value (with_rest s rest) c e) → Meets i rest
 
 -- an item whose step leaves these, which are the same in the kernel
 pub record IsSilent (i : TextItem) (rest left : List Item) : Type 0 where
   pub same_items : kernel_items (says i ∷ rest) ≡ kernel_items left
-  pub step : (s : Step) → says_item (with_rest s rest) i ≡ Some (goes_to s left)
+  pub step : (s : Setting) → says_item (with_rest s rest) i ≡ Some (goes_to s left)
 
 pub data Reaches : List Item → List Item → Type 0 where
   here : (items : List Item) → Reaches items items
@@ -122,7 +122,7 @@ body_meets block ss c scope rest =
 
 module _ (fs : List Function) (end : AllEnd fs) (i : TextItem) (rest more : List Item) (c : Context) (scope : Scope) (call : tree.Call) (fine : c.functions ≡ fs)
     (coded : kernel_items (says i ∷ rest) ≡ todo (kernel.statements (call_copy (calls_in c) c scope call).code) (kernel_items more))
-    (stepped : (s : Step) → says_item (with_rest s rest) i ≡ calls s c scope call more) (h : Settles more) where
+    (stepped : (s : Setting) → says_item (with_rest s rest) i ≡ calls s c scope call more) (h : Settles more) where
   own_path : Path
   own_path = path_of_call c call.called.pos
 
@@ -139,7 +139,7 @@ module _ (fs : List Function) (end : AllEnd fs) (i : TextItem) (rest more : List
       ∙ ap (λ q. todo (kernel.statements ((result_copy c (path_at (path_of_call c call.called.pos) f.head.name.pos) f.head.name.pos scope q).code ++ call_code c scope (path_of_call c call.called.pos) f call.arguments)) (kernel_items more)) er
 
   -- what the text does
-  stepped_by : (f : Function) (r : Option Bool) → called c call ≡ Some f → f.head.result ≡ r → (s : Step) → says_item (with_rest s rest) i ≡ Some (with_result r (goes_to s (call_items c scope (path_of_call c call.called.pos) f call.arguments more)) (variable_number c.numbering (path_of_result c call.called.pos (Some f))))
+  stepped_by : (f : Function) (r : Option Bool) → called c call ≡ Some f → f.head.result ≡ r → (s : Setting) → says_item (with_rest s rest) i ≡ Some (with_result r (goes_to s (call_items c scope (path_of_call c call.called.pos) f call.arguments more)) (variable_number c.numbering (path_of_result c call.called.pos (Some f))))
   stepped_by f r e er s =
       stepped s ∙ ap (begins_call s c scope call.called.pos call.arguments more) e
       ∙ ap (λ q. Some (with_result q (goes_to s (call_items c scope (path_of_call c call.called.pos) f call.arguments more)) (variable_number c.numbering (path_of_result c call.called.pos (Some f))))) er

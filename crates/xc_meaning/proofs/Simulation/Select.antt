@@ -13,9 +13,9 @@ use Rattle.xc_kernel.specs.Eval.{Store}
 use Rattle.xc_kernel.specs.Statements.{cases_copy}
 use Rattle.xc_meaning.specs.States.Items.{Body, Choice, Item, does, chooses, fixed, body_items}
 use Rattle.xc_meaning.specs.States.Worlds.{World}
-use Rattle.xc_meaning.specs.Moves.Step.{Step, goes_to, kind_of}
-use Rattle.xc_meaning.specs.Moves.Time.{Timing, passes, fails, timing, clock_of, counter_of, pins_of}
-use Rattle.xc_meaning.specs.Moves.Select.{Enabled, these, wrong, same_resource, unless_same, elsewhere, before_others, timed_case, case_by, guarded_case, guard_value, and_case, enabled, default_of, begins_select, is_ready, resource_is_ready, none_ready, input_taken, takes_case, takes, takes_default}
+use Rattle.xc_meaning.specs.Settings.Setting.{Setting, goes_to, kind_of}
+use Rattle.xc_meaning.specs.Settings.Time.{Timing, passes, fails, timing, clock_of, counter_of, pins_of}
+use Rattle.xc_meaning.specs.Settings.Select.{Enabled, these, wrong, same_resource, unless_same, elsewhere, before_others, timed_case, case_by, guarded_case, guard_value, and_case, enabled, default_of, begins_select, is_ready, resource_is_ready, none_ready, input_taken, takes_case, takes, takes_default}
 use Rattle.xc_meaning.specs.Texts.Copied.{calls_in}
 use Rattle.xc_meaning.specs.Texts.Select.{case_body, text_enabled, text_default}
 use Rattle.xc_meaning.proofs.Simulation.KernelItems.{kernel_body, kernel_choice, kernel_items, of_body}
@@ -76,11 +76,11 @@ choice_at [] n = refl
 choice_at (c ∷ cs) zero = refl
 choice_at (c ∷ cs) (suc n) = choice_at cs n
 
-module _ (os : Ahead) (items : List Item) (s : Step) where
+module _ (os : Ahead) (items : List Item) (s : Setting) where
   abbrev after : World → World
   after = mixed (with_ahead os s.number None)
 
-  abbrev step : Step
+  abbrev step : Setting
   step = mixed_step os items s
 
   pub begins_alike : (otherwise : Option Body) (e : Enabled) → begins_select step (option_map kernel_body otherwise) (kernel_enabled e) ≡ option_map after (begins_select s otherwise e)

@@ -26,16 +26,16 @@ use Rattle.xc_meaning.specs.States.Channels as channel
 use Rattle.xc_meaning.specs.States.Items.{Loop, TextItem, statement, name, bound, body, first_test, again, again_do, returned, When, Body, of_kernel, of_text, Choice, Item, does, says, stores, mark, awaits, transaction_end, chooses, fixed, ends, todo, body_items, storing}
 use Rattle.xc_meaning.specs.States.Branches.{Branch, waits, side_of}
 use Rattle.xc_meaning.specs.States.Worlds.{World, only_if}
-use Rattle.xc_meaning.specs.Moves.Step.{Step, becomes, goes_to, errs, kind_of, with_value}
-use Rattle.xc_meaning.specs.Moves.Stores.{stored, assigned}
-use Rattle.xc_meaning.specs.Moves.Flow.{items_by, tests, from_mark_by, items_from_mark, leaves}
-use Rattle.xc_meaning.specs.Moves.Par.{Begun, all_begun, children, makes}
-use Rattle.xc_meaning.specs.Moves.Channels.{Manner, plain, inside, manner_of, parcel_at, has_room, outputs, inputs_parcel, awaits_parcel, awaits_answer}
-use Rattle.xc_meaning.specs.Moves.Transactions as transaction
-use Rattle.xc_meaning.specs.Moves.Time.{Timing, passes, fails, timing, with_timing, port_may_pass, timer_may_pass, counter_of}
-use Rattle.xc_meaning.specs.Moves.Transfers.{outputs_to, inputs_from, inputs_fixed}
-use Rattle.xc_meaning.specs.Moves.Select.{Enabled, these, wrong, unless_same, elsewhere, same_resource, before_others, timed_case, case_by, guarded_case, guard_value, and_case, enabled, default_of, begins_select, is_ready, none_ready, input_taken, takes_case, takes, takes_default}
-use Rattle.xc_meaning.specs.Moves.Kernel.{does_statement}
+use Rattle.xc_meaning.specs.Settings.Setting.{Setting, becomes, goes_to, errs, kind_of, with_value}
+use Rattle.xc_meaning.specs.Settings.Stores.{stored, assigned}
+use Rattle.xc_meaning.specs.Settings.Flow.{items_by, tests, from_mark_by, items_from_mark, leaves}
+use Rattle.xc_meaning.specs.Settings.Par.{Begun, all_begun, children, makes}
+use Rattle.xc_meaning.specs.Settings.Channels.{Manner, plain, inside, manner_of, parcel_at, has_room, outputs, inputs_parcel, awaits_parcel, awaits_answer}
+use Rattle.xc_meaning.specs.Settings.Transactions as transaction
+use Rattle.xc_meaning.specs.Settings.Time.{Timing, passes, fails, timing, with_timing, port_may_pass, timer_may_pass, counter_of}
+use Rattle.xc_meaning.specs.Settings.Transfers.{outputs_to, inputs_from, inputs_fixed}
+use Rattle.xc_meaning.specs.Settings.Select.{Enabled, these, wrong, unless_same, elsewhere, same_resource, before_others, timed_case, case_by, guarded_case, guard_value, and_case, enabled, default_of, begins_select, is_ready, none_ready, input_taken, takes_case, takes, takes_default}
+use Rattle.xc_meaning.specs.Settings.Kernel.{does_statement}
 use Rattle.xc_meaning.specs.Texts.Copied.{behind, behind_name, behind_branch, block_in}
 use Rattle.xc_meaning.specs.Texts.Items.{name_items, statement_items, maybe_items, statements_items}
 use Rattle.xc_meaning.specs.Texts.Calls.{passing_items, parameter_items, call_items, with_result, begins_call, calls, stores_right}
@@ -104,11 +104,11 @@ module _ (fs : List Function) where
     pub sound_now : SoundItems now.items
     pub sound_more : SoundBranches more
 
-  abbrev pub Kept : Step → World → Type 0
+  abbrev pub Kept : Setting → World → Type 0
   Kept s x = Changed s.number s.world.branches x.branches
 
   -- what a step leaves
-  abbrev pub Keeps : Step → Option World → Type 0
+  abbrev pub Keeps : Setting → Option World → Type 0
   Keeps s None = Unit {0}
   Keeps s (Some x) = Kept s x
 
@@ -200,7 +200,7 @@ module _ (fs : List Function) where
 
   -- Steps.
 
-  module _ (s : Step) where
+  module _ (s : Setting) where
     pub keeps_becomes : (b : Branch) → SoundItems b.items → Kept s (becomes s b)
     keeps_becomes b h = record { now = b; more = []; is = sym (append-nil (slice_set s.world.branches s.number b)); sound_now = h; sound_more = tt }
 
@@ -241,7 +241,7 @@ module _ (fs : List Function) where
         born among index before (b ∷ bs) h = (h.0, born among (index + 1) (b.code ∷ before) bs h.1)
 
   -- a step with sound items behind it
-  module _ (s : Step) (hr : SoundItems s.rest) where
+  module _ (s : Setting) (hr : SoundItems s.rest) where
     pub keeps_stored : (place : kernel.Place) (v : ℕ) → Keeps s (stored s place v)
     keeps_stored (kernel.word variable) v = keeps_goes s s.rest hr
     keeps_stored (kernel.element variable index pos) v =
@@ -429,7 +429,7 @@ module _ (fs : List Function) where
 
   -- Statements.
 
-  module _ (s : Step) (hr : SoundItems s.rest) where
+  module _ (s : Setting) (hr : SoundItems s.rest) where
     pub keeps_statement : (t : kernel.Statement) → Keeps s (does_statement s t)
     keeps_statement (kernel.set_zero variable) = keeps_goes s s.rest hr
     keeps_statement (kernel.set place e) = keeps_assigned s hr place e

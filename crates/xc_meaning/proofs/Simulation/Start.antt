@@ -18,8 +18,8 @@ use Rattle.xc_kernel.specs.Roots.{context_of, block_has_placed, in_block}
 use Rattle.xc_kernel.specs.Copies.{numbering, copy_of}
 use Rattle.xc_meaning.specs.States.Channels.{Side}
 use Rattle.xc_meaning.specs.States.Items.{ends, todo}
-use Rattle.xc_meaning.specs.Moves.Sides.{sides_in}
-use Rattle.xc_meaning.specs.Moves.Par.{begun}
+use Rattle.xc_meaning.specs.Settings.Sides.{sides_in}
+use Rattle.xc_meaning.specs.Settings.Par.{begun}
 use Rattle.xc_meaning.specs.Texts.Copied.{calls_in}
 use Rattle.xc_meaning.specs.Texts.Items.{body_item}
 use Rattle.xc_meaning.specs.Texts.Roots.{Root, branch_root, behind_root, branch_roots, numbered_roots, action_roots, behind_action, block_roots, main_begun, roots_by, roots_of, program_roots}

@@ -3,8 +3,8 @@ use Rattle.std.specs.Prelude.{ℕ, zero, suc, ◌+◌, ◌-◌, Bool, true, fals
 use Rattle.xs_instr.specs.declared.image.Stim.{Stim}
 use Rattle.xc_kernel.specs.Plain as kernel
 use Rattle.xc_meaning.specs.States.Branches.{Birth, Branch}
-use Rattle.xc_meaning.specs.States.Worlds.{World, Move, clock, go, take, default}
-use Rattle.xc_meaning.specs.Runs.{moves}
+use Rattle.xc_meaning.specs.States.Worlds.{World, Action, clock, go, take, default}
+use Rattle.xc_meaning.specs.Runs.{acts}
 
 abbrev pub family_of_branch : Branch → ℕ
 family_of_branch b = b.family
@@ -14,7 +14,7 @@ abbrev pub family_at : World → (branch : ℕ) → Option ℕ
 family_at x b = option_map family_of_branch (slice_get x.branches b)
 
 -- the family whose step this is; a clock's step is none's
-abbrev pub mover : World → Move → Option ℕ
+abbrev pub mover : World → Action → Option ℕ
 mover x (clock core) = None
 mover x (go b) = family_at x b
 mover x (take b n) = family_at x b
@@ -30,10 +30,10 @@ counted_for family None = 0
 counted_for family (Some other) = one_if (nat_eq family other)
 
 -- the steps of a family in a list of steps from a state on
-abbrev pub steps_of : kernel.Kernel → Stim → (family : ℕ) → Option World → List Move → ℕ
+abbrev pub steps_of : kernel.Kernel → Stim → (family : ℕ) → Option World → List Action → ℕ
 steps_of K s family None ms = 0
 steps_of K s family (Some x) [] = 0
-steps_of K s family (Some x) (m ∷ ms) = counted_for family (mover x m) + steps_of K s family (moves K s x m) ms
+steps_of K s family (Some x) (m ∷ ms) = counted_for family (mover x m) + steps_of K s family (acts K s x m) ms
 
 -- whether a branch is the second one of a `par` that the family made; each `par` of two or more branches has one
 abbrev pub is_second : (family : ℕ) → Option Birth → Bool

@@ -15,15 +15,15 @@ pub record World : Type 0 where
   pub inboxes : List Inboxes
   pub trace : List Record
 
--- a step, by whose it is and what it chooses
-pub data Move : Type 0 where
+-- an action: a step of the program, by whose it is and what it chooses
+pub data Action : Type 0 where
   -- a core's clock goes up
-  clock : (core : ℕ) → Move
+  clock : (core : ℕ) → Action
   -- a branch does its first item, or goes on behind a `par`
-  go : (branch : ℕ) → Move
+  go : (branch : ℕ) → Action
   -- a branch takes one of the enabled cases of its select, by its place among them, or the default
-  take : (branch choice : ℕ) → Move
-  default : (branch : ℕ) → Move
+  take : (branch choice : ℕ) → Action
+  default : (branch : ℕ) → Action
 
 -- the state, where that is so
 abbrev pub only_if : Bool → World → Option World

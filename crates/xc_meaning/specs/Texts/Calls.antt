@@ -13,8 +13,8 @@ use Rattle.xc_kernel.specs.Parameters.{passed, all_passed}
 use Rattle.xc_kernel.specs.Calls.{path_of_call, path_of_result, called, value_of}
 use Rattle.xc_meaning.specs.States.Items.{bound, Item, does, says, todo}
 use Rattle.xc_meaning.specs.States.Worlds.{World, with_zeros}
-use Rattle.xc_meaning.specs.Moves.Step.{Step, goes_to}
-use Rattle.xc_meaning.specs.Moves.Stores.{assigned}
+use Rattle.xc_meaning.specs.Settings.Setting.{Setting, goes_to}
+use Rattle.xc_meaning.specs.Settings.Stores.{assigned}
 use Rattle.xc_meaning.specs.Texts.Items.{body_item}
 
 -- a parameter: what is stored for it, or it stands for its argument
@@ -41,18 +41,18 @@ with_result None x variable = x
 with_result (Some is_unsigned) x variable = with_zeros x variable
 
 -- a call by the function that it calls; where there is none, nothing is done
-abbrev pub begins_call : Step → Context → Scope → Pos → List tree.Argument → List Item → Option Function → Option World
+abbrev pub begins_call : Setting → Context → Scope → Pos → List tree.Argument → List Item → Option Function → Option World
 begins_call s c scope pos args rest None = Some (goes_to s rest)
 begins_call s c scope pos args rest (Some f) =
     Some (with_result f.head.result (goes_to s (call_items c scope (path_of_call c pos) f args rest))
     (variable_number c.numbering (path_of_result c pos (Some f))))
 
 -- a call, and what is done behind it
-abbrev pub calls : Step → Context → Scope → tree.Call → List Item → Option World
+abbrev pub calls : Setting → Context → Scope → tree.Call → List Item → Option World
 calls s c scope call rest = begins_call s c scope call.called.pos call.arguments rest (called c call)
 
 -- the right side's value is stored at a place, or the result of its call once that is done
-abbrev pub stores_right : Step → Context → Scope → kernel.Place → tree.RightSide → Option World
+abbrev pub stores_right : Setting → Context → Scope → kernel.Place → tree.RightSide → Option World
 stores_right s c scope place (tree.value e) = assigned s place (expression c scope e)
 stores_right s c scope place (tree.result call) =
     calls s c scope call (does (kernel.set place (value_of c scope (tree.result call))) ∷ s.rest)

@@ -6,22 +6,22 @@ use Rattle.xc_kernel.specs.Numbering.{variable_number}
 use Rattle.xc_kernel.specs.Scopes.{Scope}
 use Rattle.xc_kernel.specs.Context.{Context, word_at, declares_word}
 use Rattle.xc_meaning.specs.States.Worlds.{World}
-use Rattle.xc_meaning.specs.Moves.Step.{Step, goes_on}
-use Rattle.xc_meaning.specs.Moves.Stores.{zeroed}
+use Rattle.xc_meaning.specs.Settings.Setting.{Setting, goes_on}
+use Rattle.xc_meaning.specs.Settings.Stores.{zeroed}
 use Rattle.xc_meaning.specs.Texts.Calls.{stores_right}
 
 -- a variable of this path begins
-abbrev pub begins_word : Step → Context → Scope → Path → Option tree.RightSide → Option World
+abbrev pub begins_word : Setting → Context → Scope → Path → Option tree.RightSide → Option World
 begins_word s c scope path None = zeroed s (variable_number c.numbering path)
 begins_word s c scope path (Some r) = stores_right s c scope (word_at c path) r
 
 -- by what is declared; a word's initialiser knows the word itself, and a channel or timer has no words
-abbrev pub declares_kind : Step → Context → Scope → tree.Declaration → tree.Kind → Option World
+abbrev pub declares_kind : Setting → Context → Scope → tree.Declaration → tree.Kind → Option World
 declares_kind s c scope d (tree.word u r) =
     begins_word s c (declares_word c d.name.text d.name.pos u scope).scope (path_at c.path d.name.pos) r
 declares_kind s c scope d (tree.array u length pos) = zeroed s (variable_number c.numbering (path_at c.path d.name.pos))
 declares_kind s c scope d (tree.channel is_streaming) = Some (goes_on s)
 declares_kind s c scope d tree.timer = Some (goes_on s)
 
-abbrev pub declares : Step → Context → Scope → tree.Declaration → Option World
+abbrev pub declares : Setting → Context → Scope → tree.Declaration → Option World
 declares s c scope d = declares_kind s c scope d d.kind

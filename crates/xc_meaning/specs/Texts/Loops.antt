@@ -9,8 +9,8 @@ use Rattle.xc_kernel.specs.Context.{Context, in_loop, maybe_expression}
 use Rattle.xc_kernel.specs.Flow.{test_or_true}
 use Rattle.xc_meaning.specs.States.Items.{Loop, first_test, again, again_do, Item, says, mark}
 use Rattle.xc_meaning.specs.States.Worlds.{World}
-use Rattle.xc_meaning.specs.Moves.Step.{Step, goes_to}
-use Rattle.xc_meaning.specs.Moves.Flow.{tests}
+use Rattle.xc_meaning.specs.Settings.Setting.{Setting, goes_to}
+use Rattle.xc_meaning.specs.Settings.Flow.{tests}
 use Rattle.xc_meaning.specs.Texts.Copied.{behind, block_in}
 use Rattle.xc_meaning.specs.Texts.Items.{maybe_items, body_item}
 
@@ -34,24 +34,24 @@ abbrev pub test_in : Context → Scope → Option tree.Expression → kernel.Exp
 test_in c scope test = test_or_true (maybe_expression c scope test)
 
 -- the test of a `while` or `for`, with these items behind the loop
-abbrev pub tests_loop : Step → Loop → List Item → Option World
+abbrev pub tests_loop : Setting → Loop → List Item → Option World
 tests_loop s l rest = tests s (test_in l.context l.scope l.test) (turn_items l rest) rest
 
 -- the test of a `do`, which knows the names behind the body
-abbrev pub tests_do : Step → Loop → Option World
+abbrev pub tests_do : Setting → Loop → Option World
 tests_do s l =
     tests s (test_in l.context (behind l.body (turn_context l) l.scope) l.test) (turn_item l ∷ says (again_do l) ∷ s.rest) s.rest
 
 -- the first test of a `while` or `for`
-abbrev pub tests_first : Step → Loop → Option World
+abbrev pub tests_first : Setting → Loop → Option World
 tests_first s l = tests_loop s l (loop_mark l ∷ s.rest)
 
 -- a `do` begins with its body, and then comes its test
-abbrev pub begins_do : Step → Loop → Option World
+abbrev pub begins_do : Setting → Loop → Option World
 begins_do s l = Some (goes_to s (turn_item l ∷ says (again_do l) ∷ loop_mark l ∷ s.rest))
 
 -- a `for` begins with its initialiser, and then comes its test
-abbrev pub begins_for : Step → tree.Maybe → Scope → Loop → Option World
+abbrev pub begins_for : Setting → tree.Maybe → Scope → Loop → Option World
 begins_for s first scope l = Some (goes_to s (maybe_items first l.context scope (says (first_test l) ∷ s.rest)))
 
 -- the loops of a text, by the place of their word

@@ -4,7 +4,7 @@ use Rattle.xc_tree.specs.Plain as tree
 use Rattle.xc_kernel.specs.Scopes.{Scope, a_constant, with_name}
 use Rattle.xc_kernel.specs.Context.{Context, in_branch}
 use Rattle.xc_meaning.specs.States.Items.{ends}
-use Rattle.xc_meaning.specs.Moves.Par.{Begun}
+use Rattle.xc_meaning.specs.Settings.Par.{Begun}
 use Rattle.xc_meaning.specs.Texts.Copied.{behind_branch, code_in}
 use Rattle.xc_meaning.specs.Texts.Items.{statement_items}
 

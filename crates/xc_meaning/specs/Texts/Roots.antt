@@ -14,7 +14,7 @@ use Rattle.xc_kernel.specs.Roots.{context_of, block_has_placed, in_block}
 use Rattle.xc_kernel.specs.Paths.{path_at}
 use Rattle.xc_kernel.specs.Copies.{numbering}
 use Rattle.xc_meaning.specs.States.Items.{ends, todo}
-use Rattle.xc_meaning.specs.Moves.Par.{Begun}
+use Rattle.xc_meaning.specs.Settings.Par.{Begun}
 use Rattle.xc_meaning.specs.Texts.Copied.{calls_in}
 use Rattle.xc_meaning.specs.Texts.Items.{body_item}
 use Rattle.xc_meaning.specs.Texts.Par.{statement_begun}

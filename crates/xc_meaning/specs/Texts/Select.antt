@@ -9,7 +9,7 @@ use Rattle.xc_kernel.specs.Context.{Context, in_case, maybe_expression}
 use Rattle.xc_kernel.specs.Transfers.{input_of}
 use Rattle.xc_kernel.specs.Flow.{case_scope}
 use Rattle.xc_meaning.specs.States.Items.{body, Body, of_text}
-use Rattle.xc_meaning.specs.Moves.Select.{Enabled, these, and_case}
+use Rattle.xc_meaning.specs.Settings.Select.{Enabled, these, and_case}
 use Rattle.std.specs.Prelude.{[]}
 
 -- the body of a case that begins at a place, in the block that its `break` leaves

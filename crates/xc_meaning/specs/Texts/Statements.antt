@@ -11,13 +11,13 @@ use Rattle.xc_kernel.specs.Calls.{value_of, right_is_unsigned}
 use Rattle.xc_kernel.specs.Transfers.{output_of, input_of}
 use Rattle.xc_meaning.specs.States.Items.{TextItem, statement, name, bound, body, first_test, again, again_do, returned, says, transaction_end}
 use Rattle.xc_meaning.specs.States.Worlds.{World}
-use Rattle.xc_meaning.specs.Moves.Step.{Step, goes_to, goes_on, with_word_of}
-use Rattle.xc_meaning.specs.Moves.Stores.{stored, assigned}
-use Rattle.xc_meaning.specs.Moves.Flow.{tests, items_from_mark, leaves}
-use Rattle.xc_meaning.specs.Moves.Par.{makes}
-use Rattle.xc_meaning.specs.Moves.Transactions.{opens}
-use Rattle.xc_meaning.specs.Moves.Transfers.{outputs_to, inputs_from}
-use Rattle.xc_meaning.specs.Moves.Select.{begins_select}
+use Rattle.xc_meaning.specs.Settings.Setting.{Setting, goes_to, goes_on, with_word_of}
+use Rattle.xc_meaning.specs.Settings.Stores.{stored, assigned}
+use Rattle.xc_meaning.specs.Settings.Flow.{tests, items_from_mark, leaves}
+use Rattle.xc_meaning.specs.Settings.Par.{makes}
+use Rattle.xc_meaning.specs.Settings.Transactions.{opens}
+use Rattle.xc_meaning.specs.Settings.Transfers.{outputs_to, inputs_from}
+use Rattle.xc_meaning.specs.Settings.Select.{begins_select}
 use Rattle.xc_meaning.specs.Texts.Copied.{behind, behind_maybe, channel_in, block_in}
 use Rattle.xc_meaning.specs.Texts.Items.{name_items, statement_items, maybe_items, statements_items, entered_items}
 use Rattle.xc_meaning.specs.Texts.Calls.{calls, stores_right}
@@ -27,37 +27,37 @@ use Rattle.xc_meaning.specs.Texts.Par.{branches_begun, copies_begun}
 use Rattle.xc_meaning.specs.Texts.Select.{text_enabled, text_default}
 
 -- `place op= e`, or a step by 1
-abbrev pub updates : Step → Context → Scope → tree.Expression → (symbol : ℕ) → Pos → Bool → kernel.Expression → Option World
+abbrev pub updates : Setting → Context → Scope → tree.Expression → (symbol : ℕ) → Pos → Bool → kernel.Expression → Option World
 updates s c scope to symbol pos u e = assigned s (place c scope to) (updated c.numbering scope to symbol pos u e)
 
 -- by `=`, or by an operator
-abbrev pub assigns_by : Bool → Step → Context → Scope → tree.Expression → (symbol : ℕ) → Pos → tree.RightSide → Option World
+abbrev pub assigns_by : Bool → Setting → Context → Scope → tree.Expression → (symbol : ℕ) → Pos → tree.RightSide → Option World
 assigns_by true s c scope to symbol pos r = stores_right s c scope (place c scope to) r
 assigns_by false s c scope to symbol pos r = updates s c scope to symbol pos (right_is_unsigned scope r) (value_of c scope r)
 
 -- a value that stands alone is nothing to do
-abbrev pub performs : Step → Context → Scope → tree.RightSide → Option World
+abbrev pub performs : Setting → Context → Scope → tree.RightSide → Option World
 performs s c scope (tree.value e) = Some (goes_on s)
 performs s c scope (tree.result call) = calls s c scope call s.rest
 
 -- the value is stored in the function's result, and all up to the mark of its body is dropped
-abbrev pub returns_word : Step → Context → ℕ → Option World
+abbrev pub returns_word : Setting → Context → ℕ → Option World
 returns_word s c v = stored (record s { rest = items_from_mark (block_in c c.returns) s.rest }) (word_at c c.result) v
 
-abbrev pub returns_value : Step → Context → kernel.Expression → Option World
+abbrev pub returns_value : Setting → Context → kernel.Expression → Option World
 returns_value s c e = with_word_of s e (returns_word s c)
 
-abbrev pub returns : Step → Context → Scope → Option tree.RightSide → Option World
+abbrev pub returns : Setting → Context → Scope → Option tree.RightSide → Option World
 returns s c scope None = leaves s (block_in c c.returns)
 returns s c scope (Some (tree.value e)) = returns_value s c (expression c scope e)
 returns s c scope (Some (tree.result call)) = calls s c scope call (says (returned (value_of c scope (tree.result call)) c) ∷ s.rest)
 
 -- a transaction on a channel
-abbrev pub transacts : Step → Context → Scope → (is_master : Bool) → tree.Statements → (start close : Pos) → (channel : ℕ) → Option World
+abbrev pub transacts : Setting → Context → Scope → (is_master : Bool) → tree.Statements → (start close : Pos) → (channel : ℕ) → Option World
 transacts s c scope is_master ss start close channel =
     opens s channel is_master (statements_items ss c scope (transaction_end channel is_master close ∷ s.rest)) start
 
-abbrev pub does_action : Step → Context → Scope → (pos close : Pos) → tree.Action → Option World
+abbrev pub does_action : Setting → Context → Scope → (pos close : Pos) → tree.Action → Option World
 does_action s c scope pos close tree.empty = Some (goes_on s)
 does_action s c scope pos close (tree.block ss) = Some (goes_to s (statements_items ss c scope s.rest))
 does_action s c scope pos close (tree.declare ds) = Some (goes_to s (name_items ds c scope s.rest))
@@ -81,10 +81,10 @@ does_action s c scope pos close (tree.replicated first second third from until b
 does_action s c scope pos close (tree.select cs) = begins_select s (text_default c scope cs) (text_enabled s.world.store c scope cs)
 does_action s c scope pos close (tree.transaction is_master ss) = transacts s c scope is_master ss pos close (channel_in ss c scope)
 
-abbrev pub does_text : Step → Context → Scope → tree.Statement → Option World
+abbrev pub does_text : Setting → Context → Scope → tree.Statement → Option World
 does_text s c scope (tree.statement action pos close own) = does_action s c scope pos close action
 
-abbrev pub says_item : Step → TextItem → Option World
+abbrev pub says_item : Setting → TextItem → Option World
 says_item s (statement t c scope) = does_text s c scope t
 says_item s (name d c scope) = declares s c scope d
 says_item s bound = Some (goes_on s)

@@ -4,9 +4,9 @@ use Rattle.xc_tree.specs.declared.token.Kind.TheVariants.{Sym}
 use Rattle.xc_tree.specs.Derives.{On}
 use Rattle.xc_parser.specs.Begun.{assigning}
 use Rattle.xc_parser.specs.Follows.{has}
-use Rattle.xc_parser.proofs.Single.{one_symbol, other_kind}
-use Rattle.xc_parser.proofs.Stated.{among_assigning, only_symbols}
-use Rattle.xc_parser.proofs.Tests.{stands_there}
+use Rattle.xc_parser.proofs.Derivations.Single.{one_symbol, other_kind}
+use Rattle.xc_parser.proofs.Reading.Stated.{among_assigning, only_symbols}
+use Rattle.xc_parser.proofs.Reading.Tests.{stands_there}
 use Rattle.xc_parser.proofs.statements.assigns.Goals as goal
 
 pub returns-in-Sym-clause-yes : goal.returns-in-Sym-clause-yes

@@ -1,6 +1,6 @@
 use Rattle.std.proofs.Common.{[], ◌∷◌, refl}
 use Rattle.xc_tree.specs.Symbol.{sym, key}
-use Rattle.xc_parser.proofs.Single.{one_symbol, one_word}
+use Rattle.xc_parser.proofs.Derivations.Single.{one_symbol, one_word}
 use Rattle.xc_parser.proofs.statements.receives.Goals as goal
 
 pub returns-then-is_symbol-clause-yes : goal.returns-then-is_symbol-clause-yes

@@ -1,7 +1,7 @@
 use Rattle.std.proofs.Common.{arith}
 use Rattle.xc_tree.specs.declared.token.Kind.TheVariants.{Name, Num, Key, Sym}
 use Rattle.xc_tree.specs.Derives.{On}
-use Rattle.xc_parser.proofs.Tests.{stands_there, name_begins, number_begins, symbol_begins, begins_as}
+use Rattle.xc_parser.proofs.Reading.Tests.{stands_there, name_begins, number_begins, symbol_begins, begins_as}
 use Rattle.xc_parser.proofs.tokens.begins_operand.Goals as goal
 
 pub returns-in-Name-clause-yes : goal.returns-in-Name-clause-yes

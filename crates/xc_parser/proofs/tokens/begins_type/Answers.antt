@@ -1,6 +1,6 @@
 use Rattle.std.proofs.Common.{[], ◌∷◌, refl}
 use Rattle.xc_tree.specs.Symbol.{key}
-use Rattle.xc_parser.proofs.Single.{one_word}
+use Rattle.xc_parser.proofs.Derivations.Single.{one_word}
 use Rattle.xc_parser.proofs.tokens.begins_type.Goals as goal
 
 pub returns-then-is_word-clause-yes : goal.returns-then-is_word-clause-yes

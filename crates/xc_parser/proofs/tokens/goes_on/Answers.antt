@@ -1,6 +1,6 @@
 use Rattle.std.proofs.Common.{◌-◌, inl, inr, arith}
-use Rattle.xc_parser.proofs.Operators.{index, operates}
-use Rattle.xc_parser.proofs.Tests.{lower, operator_after, bracket_after, question_after, after_is}
+use Rattle.xc_parser.proofs.Valued.Operators.{index, operates}
+use Rattle.xc_parser.proofs.Reading.Tests.{lower, operator_after, bracket_after, question_after, after_is}
 use Rattle.xc_parser.proofs.tokens.goes_on.Goals as goal
 
 pub returns-in-Some-clause-yes : goal.returns-in-Some-clause-yes

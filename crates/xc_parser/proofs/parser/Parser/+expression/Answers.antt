@@ -9,10 +9,10 @@ use Rattle.xc_tree.specs.Trees.{expression_of}
 use Rattle.xc_parser.specs.Reading.{Reads, Refuses, TooDeep}
 use Rattle.xc_parser.specs.Stops.{Stopped}
 use Rattle.xc_parser.specs.Operands.{IsSymbol}
-use Rattle.xc_parser.proofs.Tests.{is_symbol, stands_there, stands_here, begins_as, none_past, lower}
-use Rattle.xc_parser.proofs.Atoms.{reads_number, deep_number, no_operand, reads_name, deep_name, reads_element, open_element, stops_element, reads_variable, deep_variable, reads_place, open_place, stops_place, reads_signed, stops_signed, deep_sign, open_int, open_unsigned, stops_int, stops_unsigned, deep_int, deep_unsigned, cast_reads}
-use Rattle.xc_parser.proofs.Runs.{Run, out_of_all, stops_inside, not_closed, closed, no_first, no_operand_of, climb_from, climbs, right_stops, too_deep, climbed}
-use Rattle.xc_parser.proofs.Choosing.{no_test, no_question, deep_question, stops_first, no_colon, stops_second, reads_choice}
+use Rattle.xc_parser.proofs.Reading.Tests.{is_symbol, stands_there, stands_here, begins_as, none_past, lower}
+use Rattle.xc_parser.proofs.Valued.Atoms.{reads_number, deep_number, no_operand, reads_name, deep_name, reads_element, open_element, stops_element, reads_variable, deep_variable, reads_place, open_place, stops_place, reads_signed, stops_signed, deep_sign, open_int, open_unsigned, stops_int, stops_unsigned, deep_int, deep_unsigned, cast_reads}
+use Rattle.xc_parser.proofs.Reading.Runs.{Run, out_of_all, stops_inside, not_closed, closed, no_first, no_operand_of, climb_from, climbs, right_stops, too_deep, climbed}
+use Rattle.xc_parser.proofs.Valued.Choosing.{no_test, no_question, deep_question, stops_first, no_colon, stops_second, reads_choice}
 use Rattle.xc_parser.proofs.parser.Parser.+expression.Goals as goal
 
 pub bare-returns-then-at-self-clause-stopped : goal.bare-returns-then-at-self-clause-stopped

@@ -1,5 +1,5 @@
 use Rattle.std.proofs.Common.{◌+◌, ◌-◌, ◌*◌, length}
-use Rattle.xc_parser.proofs.Runs.{Inside, Climbs}
+use Rattle.xc_parser.proofs.Reading.Runs.{Inside, Climbs}
 use Rattle.xc_parser.proofs.parser.Parser.+expression.Given as goal
 
 abbrev pub decreases-bare : goal.decreases-bare

@@ -1,25 +1,25 @@
 use Rattle.std.proofs.Common.{arith, option_map, refl, ◌-◌, ◌∙◌, ◌+◌, ◌≡◌, rules}
 use Rattle.std.proofs.lemmas.List.{map_push}
-use Rattle.xc_parser.proofs.Braces.{brace_missing, closed_block, declared_item, declared_stops, item_added, item_stops, opened, stated_item, stated_stops, transaction_reads, transaction_stops}
-use Rattle.xc_parser.proofs.Branches.{body_stops, branch_added, branch_reads, branch_stops, par_closed, par_opened, par_unopened, place_stops}
-use Rattle.xc_parser.proofs.CaseLists.{case_added, case_missing, case_stops, first_case, select_closed, select_unopened}
-use Rattle.xc_parser.proofs.CaseSteps.{case_body_stops, case_body_tokens, default_colon_stops, default_reads, default_stops, default_word_stops, case_event_stops, leads_end, leads_more, leads_none, leads_open, leads_stop, reads_case, case_word_stops}
-use Rattle.xc_parser.proofs.Conditionals.{close_stops, else_reads, else_stops, open_stops, test_stops, then_reads, then_stops}
-use Rattle.xc_parser.proofs.Counts.{branches_tokens_push, cases_tokens_push, held_branch, held_while, held_do, held_for, held_block, held_if, held_if_else, held_transaction}
-use Rattle.xc_parser.proofs.Exits.{handed_on}
-use Rattle.xc_parser.proofs.Insides.{inner_reads, inner_stopped}
-use Rattle.xc_parser.proofs.Lasts.{read_last, stops_last}
-use Rattle.xc_parser.proofs.Paths.{at_symbol, begin, over_word, read, stops}
-use Rattle.xc_parser.proofs.RowSteps.{read_row, stops_row}
-use Rattle.xc_parser.proofs.Rounds.{while_open_stops, while_test_stops, while_close_stops, while_body_stops, while_reads, do_body_stops, do_tail_stops, do_reads, for_body_stops, for_reads, for_made}
-use Rattle.xc_parser.proofs.Simples.{deep_begins, none_begins, semicolon_reads}
-use Rattle.xc_parser.proofs.Stated.{begins_all, err_room, err_with, from_place, ok_room, ok_with, stopped_from, symbol_there}
+use Rattle.xc_parser.proofs.Stating.Braces.{brace_missing, closed_block, declared_item, declared_stops, item_added, item_stops, opened, stated_item, stated_stops, transaction_reads, transaction_stops}
+use Rattle.xc_parser.proofs.Stating.Branches.{body_stops, branch_added, branch_reads, branch_stops, par_closed, par_opened, par_unopened, place_stops}
+use Rattle.xc_parser.proofs.Stating.CaseLists.{case_added, case_missing, case_stops, first_case, select_closed, select_unopened}
+use Rattle.xc_parser.proofs.Stating.CaseSteps.{case_body_stops, case_body_tokens, default_colon_stops, default_reads, default_stops, default_word_stops, case_event_stops, leads_end, leads_more, leads_none, leads_open, leads_stop, reads_case, case_word_stops}
+use Rattle.xc_parser.proofs.Stating.Conditionals.{close_stops, else_reads, else_stops, open_stops, test_stops, then_reads, then_stops}
+use Rattle.xc_parser.proofs.Derivations.Counts.{branches_tokens_push, cases_tokens_push, held_branch, held_while, held_do, held_for, held_block, held_if, held_if_else, held_transaction}
+use Rattle.xc_parser.proofs.Reading.Exits.{handed_on}
+use Rattle.xc_parser.proofs.Reading.Insides.{inner_reads, inner_stopped}
+use Rattle.xc_parser.proofs.Reading.Lasts.{read_last, stops_last}
+use Rattle.xc_parser.proofs.Reading.Paths.{at_symbol, begin, over_word, read, stops}
+use Rattle.xc_parser.proofs.Reading.RowSteps.{read_row, stops_row}
+use Rattle.xc_parser.proofs.Reading.Rounds.{while_open_stops, while_test_stops, while_close_stops, while_body_stops, while_reads, do_body_stops, do_tail_stops, do_reads, for_body_stops, for_reads, for_made}
+use Rattle.xc_parser.proofs.Stating.Simples.{deep_begins, none_begins, semicolon_reads}
+use Rattle.xc_parser.proofs.Reading.Stated.{begins_all, err_room, err_with, from_place, ok_room, ok_with, stopped_from, symbol_there}
 use Rattle.xc_parser.specs.Begun.{token_of}
 use Rattle.xc_parser.specs.Counting.{bound_row, step_row}
 use Rattle.xc_tree.proofs.Forms.{action-Par, action-Repl, action-Select, branch-made, case-made, action-While, action-DoWhile, action-Block, action-Empty, action-If, action-Tran}
 use Rattle.xc_tree.specs.Trees.{place_of, expression_of}
 use Rattle.xc_tree.specs.Symbol as symbol
-use Rattle.xc_parser.proofs.Simples as simples
+use Rattle.xc_parser.proofs.Stating.Simples as simples
 use Rattle.xc_parser.proofs.parser.Parser.+statement.Goals as goal
 
 pub branch-returns-in_err-place-clause-stopped : goal.branch-returns-in_err-place-clause-stopped

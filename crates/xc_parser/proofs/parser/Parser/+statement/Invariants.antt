@@ -1,8 +1,8 @@
 use Rattle.std.proofs.Common.{length, map, ◌*◌, ◌+◌, ◌-◌, ◌<◌, ◌≡◌, ◌≤◌}
-use Rattle.xc_parser.proofs.Braces.{Holds}
-use Rattle.xc_parser.proofs.Branches.{Runs}
-use Rattle.xc_parser.proofs.CaseLists.{Cases}
-use Rattle.xc_parser.proofs.CaseSteps.{Leads}
+use Rattle.xc_parser.proofs.Stating.Braces.{Holds}
+use Rattle.xc_parser.proofs.Stating.Branches.{Runs}
+use Rattle.xc_parser.proofs.Stating.CaseLists.{Cases}
+use Rattle.xc_parser.proofs.Stating.CaseSteps.{Leads}
 use Rattle.xc_tree.specs.Plain as plain
 use Rattle.xc_tree.specs.Trees as trees
 use Rattle.xc_parser.proofs.parser.Parser.+statement.Given as goal

@@ -1,4 +1,4 @@
-use Rattle.xc_parser.proofs.RightSides.{if_ok, if_err, reads_argument, stops_argument}
+use Rattle.xc_parser.proofs.Valued.RightSides.{if_ok, if_err, reads_argument, stops_argument}
 use Rattle.xc_parser.proofs.parser.Parser.argument.Goals as goal
 
 pub returns-clause-read : goal.returns-clause-read

@@ -2,7 +2,7 @@ use Rattle.std.proofs.Common.{◌++◌, ◌∷◌, [], map, sym, ap, subst, ◌�
 use Rattle.xc_tree.specs.Symbol as symbol
 use Rattle.xc_tree.specs.Trees.{argument_of}
 use Rattle.xc_parser.specs.Reading.{Reads}
-use Rattle.xc_parser.proofs.RightSides.{Listed, mapped, no_arguments, first_listed, first_stops, one_more_listed, more_stops, all_listed}
+use Rattle.xc_parser.proofs.Valued.RightSides.{Listed, mapped, no_arguments, first_listed, first_stops, one_more_listed, more_stops, all_listed}
 use Rattle.xc_parser.proofs.parser.Parser.arguments.Goals as goal
 
 pub returns-then-not-begins_operand-clause-read : goal.returns-then-not-begins_operand-clause-read

@@ -1,6 +1,6 @@
 use Rattle.std.proofs.Common.{◌-◌, length, map}
 use Rattle.xc_tree.specs.Trees.{argument_of}
-use Rattle.xc_parser.proofs.RightSides.{Listing}
+use Rattle.xc_parser.proofs.Valued.RightSides.{Listing}
 use Rattle.xc_parser.proofs.parser.Parser.arguments.Given as goal
 
 abbrev pub invariant-arguments : goal.invariant-arguments

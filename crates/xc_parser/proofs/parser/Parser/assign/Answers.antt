@@ -1,8 +1,8 @@
 use Rattle.std.proofs.Common.{arith}
 use Rattle.xc_tree.proofs.Forms.{action-Assign, action-Step}
-use Rattle.xc_parser.proofs.Exits.{handed_on}
-use Rattle.xc_parser.proofs.Marks.{on_it}
-use Rattle.xc_parser.proofs.Targets.{lval_roomy, target_stops, right_stops, right_read, up_read, down_read, mark_stops, value_stops, value_read}
+use Rattle.xc_parser.proofs.Reading.Exits.{handed_on}
+use Rattle.xc_parser.proofs.Stating.Marks.{on_it}
+use Rattle.xc_parser.proofs.Stating.Targets.{lval_roomy, target_stops, right_stops, right_read, up_read, down_read, mark_stops, value_stops, value_read}
 use Rattle.xc_parser.proofs.parser.Parser.assign.Goals as goal
 
 pub returns-in_err-target-clause-stopped : goal.returns-in_err-target-clause-stopped

@@ -1,6 +1,6 @@
 use Rattle.std.proofs.Common.{arith}
-use Rattle.xc_parser.proofs.Single.{on_kind, other_kind, past_all}
-use Rattle.xc_parser.proofs.Marks.{mark_reads, mark_refuses, other_mark}
+use Rattle.xc_parser.proofs.Derivations.Single.{on_kind, other_kind, past_all}
+use Rattle.xc_parser.proofs.Stating.Marks.{mark_reads, mark_refuses, other_mark}
 use Rattle.xc_parser.proofs.parser.Parser.assign_op.Goals as goal
 use Rattle.xc_parser.proofs.parser.Parser.assign_op.Goals.{then-symbol-lt-PLUS_EQUALS-via-then-symbol-lt-PLUS_EQUALS, then-symbol-lt-PLUS_EQUALS-via-else-symbol-lt-PLUS_EQUALS+then-symbol-gt-SHIFT_EQUALS}
 

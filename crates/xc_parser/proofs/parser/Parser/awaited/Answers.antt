@@ -1,5 +1,5 @@
-use Rattle.xc_parser.proofs.Exits.{handed_on}
-use Rattle.xc_parser.proofs.CaseSteps.{input_stops, colon_stops, input_reads}
+use Rattle.xc_parser.proofs.Reading.Exits.{handed_on}
+use Rattle.xc_parser.proofs.Stating.CaseSteps.{input_stops, colon_stops, input_reads}
 use Rattle.xc_parser.proofs.parser.Parser.awaited.Goals as goal
 
 pub returns-in_err-input-clause-stopped : goal.returns-in_err-input-clause-stopped

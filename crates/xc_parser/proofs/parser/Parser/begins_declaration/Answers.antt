@@ -1,7 +1,7 @@
 use Rattle.std.proofs.Common.{IsTrue, refl, subst}
 use Rattle.xc_tree.specs.Symbol.{key}
 use Rattle.xc_parser.specs.Follows.{begins_declaration}
-use Rattle.xc_parser.proofs.TokenSets.{one_within}
+use Rattle.xc_parser.proofs.Derivations.TokenSets.{one_within}
 use Rattle.xc_parser.proofs.parser.Parser.begins_declaration.Goals as goal
 use Rattle.xc_parser.proofs.parser.Parser.begins_declaration.Goals.{then-begins_type, else-begins_type}
 

@@ -1,7 +1,7 @@
 use Rattle.std.proofs.Common.{refl}
 use Rattle.xc_tree.specs.Symbol.{param}
 use Rattle.xc_parser.specs.Follows.{first}
-use Rattle.xc_parser.proofs.Single.{one_word}
+use Rattle.xc_parser.proofs.Derivations.Single.{one_word}
 use Rattle.xc_parser.proofs.parser.Parser.begins_param.Goals as goal
 
 pub returns-then-is_word-clause-yes : goal.returns-then-is_word-clause-yes

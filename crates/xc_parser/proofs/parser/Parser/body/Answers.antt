@@ -1,7 +1,7 @@
 use Rattle.std.proofs.Common.{◌≡◌, ◌+◌, ◌-◌, arith}
 use Rattle.xc_tree.specs.Symbol as symbol
-use Rattle.xc_parser.proofs.Simples.{body_deep, body_wrong}
-use Rattle.xc_parser.proofs.Stated.{ok_room, err_room}
+use Rattle.xc_parser.proofs.Stating.Simples.{body_deep, body_wrong}
+use Rattle.xc_parser.proofs.Reading.Stated.{ok_room, err_room}
 use Rattle.xc_parser.proofs.parser.Parser.body.Goals as goal
 
 pub returns-then-room-gt0-clause-read : goal.returns-then-room-gt0-clause-read

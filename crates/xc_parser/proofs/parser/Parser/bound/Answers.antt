@@ -1,5 +1,5 @@
-use Rattle.xc_parser.proofs.Exits.{handed_on}
-use Rattle.xc_parser.proofs.Counting.{bound_name_stops, bound_symbol_stops, bound_number_stops, bound_end_stops, bound_read}
+use Rattle.xc_parser.proofs.Reading.Exits.{handed_on}
+use Rattle.xc_parser.proofs.Stating.Counting.{bound_name_stops, bound_symbol_stops, bound_number_stops, bound_end_stops, bound_read}
 use Rattle.xc_parser.proofs.parser.Parser.bound.Goals as goal
 
 pub returns-in_err-name-clause-stopped : goal.returns-in_err-name-clause-stopped

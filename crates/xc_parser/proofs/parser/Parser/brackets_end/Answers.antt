@@ -1,4 +1,4 @@
-use Rattle.xc_parser.proofs.Runs.{one_more}
+use Rattle.xc_parser.proofs.Reading.Runs.{one_more}
 use Rattle.xc_parser.proofs.parser.Parser.brackets_end.Goals as goal
 
 pub brackets-preserved : goal.brackets-preserved

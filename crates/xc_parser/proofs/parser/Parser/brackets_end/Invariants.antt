@@ -1,5 +1,5 @@
 use Rattle.std.proofs.Common.{◌-◌, length}
-use Rattle.xc_parser.proofs.Runs.{Run}
+use Rattle.xc_parser.proofs.Reading.Runs.{Run}
 use Rattle.xc_parser.proofs.parser.Parser.brackets_end.Given as goal
 
 abbrev pub invariant-brackets : goal.invariant-brackets

@@ -3,7 +3,7 @@ use Rattle.xc_tree.specs.Symbol as symbol
 use Rattle.xc_tree.specs.Trees.{argument_of}
 use Rattle.xc_parser.specs.Reading.{Reads}
 use Rattle.xc_parser.specs.Stops.{Stopped}
-use Rattle.xc_parser.proofs.RightSides.{missing_call, unopened_call, stops_call, open_call, reads_call}
+use Rattle.xc_parser.proofs.Valued.RightSides.{missing_call, unopened_call, stops_call, open_call, reads_call}
 use Rattle.xc_parser.proofs.parser.Parser.call.Goals as goal
 
 pub returns-in-Err-clause-stopped : goal.returns-in-Err-clause-stopped

@@ -1,8 +1,8 @@
 use Rattle.std.proofs.Common.{◌+◌, ◌≤◌, refl, arith}
 use Rattle.xc_tree.proofs.Forms.{action-Do}
-use Rattle.xc_parser.proofs.Exits.{handed_on}
-use Rattle.xc_parser.proofs.Simples.{call_reads, call_stops, call_ends}
-use Rattle.xc_parser.proofs.Stated.{symbol_there}
+use Rattle.xc_parser.proofs.Reading.Exits.{handed_on}
+use Rattle.xc_parser.proofs.Stating.Simples.{call_reads, call_stops, call_ends}
+use Rattle.xc_parser.proofs.Reading.Stated.{symbol_there}
 use Rattle.xc_parser.proofs.parser.Parser.call_statement.Goals as goal
 
 pub returns-in_err-call-clause-stopped : goal.returns-in_err-call-clause-stopped

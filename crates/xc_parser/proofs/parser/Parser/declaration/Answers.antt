@@ -1,4 +1,4 @@
-use Rattle.xc_parser.proofs.DeclaredRows.{decl_refuses, decl_deep}
+use Rattle.xc_parser.proofs.Declaring.DeclaredRows.{decl_refuses, decl_deep}
 use Rattle.xc_parser.proofs.parser.Parser.declaration.Goals as goal
 
 pub returns-then-not-begins_declaration-clause-stopped : goal.returns-then-not-begins_declaration-clause-stopped

@@ -1,8 +1,8 @@
 use Rattle.std.proofs.Common.{refl, [], ◌∷◌}
 use Rattle.xc_tree.specs.Symbol.{key}
-use Rattle.xc_parser.proofs.Exits.{handed_on}
-use Rattle.xc_parser.proofs.Paths.{begin, over_word, lacks, lacks_word, read, stops, finish}
-use Rattle.xc_parser.proofs.Marks.{at_a_type}
+use Rattle.xc_parser.proofs.Reading.Exits.{handed_on}
+use Rattle.xc_parser.proofs.Reading.Paths.{begin, over_word, lacks, lacks_word, read, stops, finish}
+use Rattle.xc_parser.proofs.Stating.Marks.{at_a_type}
 use Rattle.xc_parser.proofs.parser.Parser.dest.Goals as goal
 
 pub returns-then-is_word-clause-read : goal.returns-then-is_word-clause-read

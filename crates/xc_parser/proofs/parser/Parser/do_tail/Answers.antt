@@ -1,5 +1,5 @@
-use Rattle.xc_parser.proofs.Exits.{handed_on}
-use Rattle.xc_parser.proofs.Tails.{do_word_stops, do_open_stops, do_test_stops, do_close_stops, do_end_stops, do_row_read}
+use Rattle.xc_parser.proofs.Reading.Exits.{handed_on}
+use Rattle.xc_parser.proofs.Stating.Tails.{do_word_stops, do_open_stops, do_test_stops, do_close_stops, do_end_stops, do_row_read}
 use Rattle.xc_parser.proofs.parser.Parser.do_tail.Goals as goal
 
 pub returns-in_err-word-clause-stopped : goal.returns-in_err-word-clause-stopped

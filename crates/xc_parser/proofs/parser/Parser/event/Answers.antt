@@ -1,7 +1,7 @@
 use Rattle.std.proofs.Common.{arith}
-use Rattle.xc_parser.proofs.Exits.{handed_on}
-use Rattle.xc_parser.proofs.Guards.{no_guarded, no_name, no_transfer}
-use Rattle.xc_parser.proofs.CaseSteps.{alone_reads, alone_stops, guarded_reads, guarded_stops, guard_stops, named_guard, any_guard}
+use Rattle.xc_parser.proofs.Reading.Exits.{handed_on}
+use Rattle.xc_parser.proofs.Stating.Guards.{no_guarded, no_name, no_transfer}
+use Rattle.xc_parser.proofs.Stating.CaseSteps.{alone_reads, alone_stops, guarded_reads, guarded_stops, guard_stops, named_guard, any_guard}
 use Rattle.xc_parser.proofs.parser.Parser.event.Goals.{then-is_name+else-is_transfer+else-room-eq0, else-is_name}
 use Rattle.xc_parser.proofs.parser.Parser.event.Goals as goal
 

@@ -1,6 +1,6 @@
 use Rattle.std.proofs.Common.{◌∙◌, arith}
-use Rattle.xc_parser.proofs.Exits.{handed_on}
-use Rattle.xc_parser.proofs.Rounds.{for_open_stops, for_start_stops, for_first_stops, for_test_stops, for_second_stops, for_step_stops, for_close_stops, boxed_is}
+use Rattle.xc_parser.proofs.Reading.Exits.{handed_on}
+use Rattle.xc_parser.proofs.Reading.Rounds.{for_open_stops, for_start_stops, for_first_stops, for_test_stops, for_second_stops, for_step_stops, for_close_stops, boxed_is}
 use Rattle.xc_parser.proofs.parser.Parser.for_parts.Goals as goal
 
 pub returns-in_err-open-clause-stopped : goal.returns-in_err-open-clause-stopped

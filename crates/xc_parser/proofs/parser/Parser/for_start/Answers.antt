@@ -1,7 +1,7 @@
 use Rattle.std.proofs.Common.{refl, arith}
 use Rattle.xc_tree.proofs.Forms.{action-Decl}
-use Rattle.xc_parser.proofs.Exits.{handed_on}
-use Rattle.xc_parser.proofs.Rounds.{declared_deep, type_stops, name_stops, equals_stops, value_stops, value_unfit, value_reads}
+use Rattle.xc_parser.proofs.Reading.Exits.{handed_on}
+use Rattle.xc_parser.proofs.Reading.Rounds.{declared_deep, type_stops, name_stops, equals_stops, value_stops, value_unfit, value_reads}
 use Rattle.xc_parser.proofs.parser.Parser.for_start.Goals as goal
 
 pub returns-in_err-step-clause-stopped : goal.returns-in_err-step-clause-stopped

@@ -1,6 +1,6 @@
 use Rattle.std.proofs.Common.{arith}
-use Rattle.xc_parser.proofs.Exits.{handed_on}
-use Rattle.xc_parser.proofs.Rounds.{assign_holds, step_stops, step_reads, step_deep, step_wrong, start_stops, start_reads, start_deep, start_wrong}
+use Rattle.xc_parser.proofs.Reading.Exits.{handed_on}
+use Rattle.xc_parser.proofs.Reading.Rounds.{assign_holds, step_stops, step_reads, step_deep, step_wrong, start_stops, start_reads, start_deep, start_wrong}
 use Rattle.xc_parser.proofs.parser.Parser.for_step.Goals as goal
 
 pub returns-in_err-assign-clause-stopped : goal.returns-in_err-assign-clause-stopped

@@ -1,5 +1,5 @@
 use Rattle.std.proofs.Common.{inl, inr}
-use Rattle.xc_parser.proofs.Exits.{handed_on}
+use Rattle.xc_parser.proofs.Reading.Exits.{handed_on}
 use Rattle.xc_parser.proofs.parser.Parser.goal.Goals as goal
 
 pub returns-in_err-dest-clause-stopped : goal.returns-in_err-dest-clause-stopped

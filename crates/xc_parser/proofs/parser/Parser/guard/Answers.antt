@@ -1,6 +1,6 @@
 use Rattle.std.proofs.Common.{refl}
-use Rattle.xc_parser.proofs.Exits.{handed_on}
-use Rattle.xc_parser.proofs.Paths.{begin, read, stops, finish}
+use Rattle.xc_parser.proofs.Reading.Exits.{handed_on}
+use Rattle.xc_parser.proofs.Reading.Paths.{begin, read, stops, finish}
 use Rattle.xc_parser.proofs.parser.Parser.guard.Goals as goal
 
 pub returns-in_err-test-clause-stopped : goal.returns-in_err-test-clause-stopped

@@ -1,6 +1,6 @@
 use Rattle.std.proofs.Common.{refl}
-use Rattle.xc_parser.proofs.Exits.{handed_on}
-use Rattle.xc_parser.proofs.Paths.{begin, read, stops, finish}
+use Rattle.xc_parser.proofs.Reading.Exits.{handed_on}
+use Rattle.xc_parser.proofs.Reading.Paths.{begin, read, stops, finish}
 use Rattle.xc_parser.proofs.parser.Parser.head.Goals as goal
 
 pub returns-in_err-result-clause-stopped : goal.returns-in_err-result-clause-stopped

@@ -1,5 +1,5 @@
 use Rattle.std.proofs.Common.{arith}
-use Rattle.xc_parser.proofs.Single.{name_reads, name_refuses, on_kind, other_kind, past_all}
+use Rattle.xc_parser.proofs.Derivations.Single.{name_reads, name_refuses, on_kind, other_kind, past_all}
 use Rattle.xc_parser.proofs.parser.Parser.id.Goals as goal
 
 pub returns-then-at-self-clause-stopped : goal.returns-then-at-self-clause-stopped

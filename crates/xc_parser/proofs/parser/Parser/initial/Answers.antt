@@ -1,4 +1,4 @@
-use Rattle.xc_parser.proofs.RightSides.{if_ok, if_err, no_initial, reads_initial, stops_initial}
+use Rattle.xc_parser.proofs.Valued.RightSides.{if_ok, if_err, no_initial, reads_initial, stops_initial}
 use Rattle.xc_parser.proofs.parser.Parser.initial.Goals as goal
 
 pub returns-then-not-is_symbol-clause-stopped : goal.returns-then-not-is_symbol-clause-stopped

@@ -1,7 +1,7 @@
 use Rattle.std.proofs.Common.{refl, ◌+◌, ◌≤◌, arith}
 use Rattle.xc_tree.proofs.Forms.{action-Input}
-use Rattle.xc_parser.proofs.Exits.{handed_on}
-use Rattle.xc_parser.proofs.Transferring.{input_stops, input_ends, input_reads}
+use Rattle.xc_parser.proofs.Reading.Exits.{handed_on}
+use Rattle.xc_parser.proofs.Stating.Transferring.{input_stops, input_ends, input_reads}
 use Rattle.xc_parser.proofs.parser.Parser.input_statement.Goals as goal
 
 pub returns-in_err-input-clause-stopped : goal.returns-in_err-input-clause-stopped

@@ -1,6 +1,6 @@
 use Rattle.std.proofs.Common.{inl, inr}
-use Rattle.xc_parser.proofs.Exits.{handed_on}
-use Rattle.xc_parser.proofs.Tails.{input_sign_stops, target_stops, input_stamp_stops, input_close_stops, input_row_read}
+use Rattle.xc_parser.proofs.Reading.Exits.{handed_on}
+use Rattle.xc_parser.proofs.Stating.Tails.{input_sign_stops, target_stops, input_stamp_stops, input_close_stops, input_row_read}
 use Rattle.xc_parser.proofs.parser.Parser.input_tail.Goals as goal
 
 pub returns-in_err-receives-clause-stopped : goal.returns-in_err-receives-clause-stopped

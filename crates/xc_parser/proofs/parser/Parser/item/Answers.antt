@@ -2,9 +2,9 @@ use Rattle.std.proofs.Common.{refl}
 use Rattle.xc_tree.specs.Symbol as symbol
 use Rattle.xc_tree.specs.Derives.{deepest}
 use Rattle.xc_parser.specs.Follows.{first}
-use Rattle.xc_parser.proofs.Exits.{handed_on}
-use Rattle.xc_parser.proofs.ItemHeads.{head_stops, at_head}
-use Rattle.xc_parser.proofs.Paths.{begin, over_symbol, lacks, lacks_symbol, read, stops, finish}
+use Rattle.xc_parser.proofs.Reading.Exits.{handed_on}
+use Rattle.xc_parser.proofs.Declaring.ItemHeads.{head_stops, at_head}
+use Rattle.xc_parser.proofs.Reading.Paths.{begin, over_symbol, lacks, lacks_symbol, read, stops, finish}
 use Rattle.xc_parser.proofs.parser.Parser.item.Goals as goal
 
 pub returns-in_err-port-clause-stopped : goal.returns-in_err-port-clause-stopped

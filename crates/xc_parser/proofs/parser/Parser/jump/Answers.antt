@@ -1,8 +1,8 @@
 use Rattle.std.proofs.Common.{refl}
 use Rattle.xc_tree.proofs.Forms.{action-Break, action-Continue}
-use Rattle.xc_parser.proofs.Exits.{handed_on}
-use Rattle.xc_parser.proofs.Simples.{break_reads, continue_reads}
-use Rattle.xc_parser.proofs.Stated.{symbol_there, break_word, continue_word, jump_stops}
+use Rattle.xc_parser.proofs.Reading.Exits.{handed_on}
+use Rattle.xc_parser.proofs.Stating.Simples.{break_reads, continue_reads}
+use Rattle.xc_parser.proofs.Reading.Stated.{symbol_there, break_word, continue_word, jump_stops}
 use Rattle.xc_parser.proofs.parser.Parser.jump.Goals as goal
 
 pub returns-in_err-semicolon-clause-stopped : goal.returns-in_err-semicolon-clause-stopped

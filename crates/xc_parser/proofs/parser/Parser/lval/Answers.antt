@@ -1,9 +1,9 @@
 use Rattle.std.proofs.Common.{arith}
 use Rattle.xc_tree.specs.declared.token.Kind.TheVariants.{Name, Num, Key, Sym}
 use Rattle.xc_tree.specs.Derives.{On}
-use Rattle.xc_parser.proofs.Inverse.{same_kind}
-use Rattle.xc_parser.proofs.Tests.{stands_there, name_within}
-use Rattle.xc_parser.proofs.RightSides.{no_lval}
+use Rattle.xc_parser.proofs.Derivations.Inverse.{same_kind}
+use Rattle.xc_parser.proofs.Reading.Tests.{stands_there, name_within}
+use Rattle.xc_parser.proofs.Valued.RightSides.{no_lval}
 use Rattle.xc_parser.proofs.parser.Parser.lval.Goals as goal
 
 pub returns-then-at-self-clause-stopped : goal.returns-then-at-self-clause-stopped

@@ -1,4 +1,4 @@
-use Rattle.xc_parser.proofs.Rounds.{no_test, some_test}
+use Rattle.xc_parser.proofs.Reading.Rounds.{no_test, some_test}
 use Rattle.xc_parser.proofs.parser.Parser.maybe_expr.Goals as goal
 
 pub returns-then-is_symbol-clause-read : goal.returns-then-is_symbol-clause-read

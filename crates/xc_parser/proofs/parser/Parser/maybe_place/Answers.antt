@@ -1,10 +1,10 @@
 use Rattle.std.proofs.Common.{refl}
 use Rattle.xc_tree.specs.Symbol as symbol
-use Rattle.xc_parser.proofs.Exits.{handed_on}
-use Rattle.xc_parser.proofs.Single.{one_word}
-use Rattle.xc_parser.proofs.Paths.{begin, lacks_word, read, stops, finish}
-use Rattle.xc_parser.proofs.Opening.{fronts}
-use Rattle.xc_parser.proofs.Unfinished.{unfinished}
+use Rattle.xc_parser.proofs.Reading.Exits.{handed_on}
+use Rattle.xc_parser.proofs.Derivations.Single.{one_word}
+use Rattle.xc_parser.proofs.Reading.Paths.{begin, lacks_word, read, stops, finish}
+use Rattle.xc_parser.proofs.Rests.Opening.{fronts}
+use Rattle.xc_parser.proofs.Rests.Unfinished.{unfinished}
 use Rattle.xc_parser.proofs.parser.Parser.maybe_place.Goals as goal
 
 pub returns-then-not-is_word-clause-read : goal.returns-then-not-is_word-clause-read

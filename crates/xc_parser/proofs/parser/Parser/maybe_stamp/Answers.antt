@@ -1,8 +1,8 @@
 use Rattle.std.proofs.Common.{refl}
 use Rattle.xc_tree.specs.Symbol.{sym}
-use Rattle.xc_parser.proofs.Exits.{handed_on}
-use Rattle.xc_parser.proofs.Paths.{begin, lacks_symbol, read, stops, finish}
-use Rattle.xc_parser.proofs.Unfinished.{unfinished}
+use Rattle.xc_parser.proofs.Reading.Exits.{handed_on}
+use Rattle.xc_parser.proofs.Reading.Paths.{begin, lacks_symbol, read, stops, finish}
+use Rattle.xc_parser.proofs.Rests.Unfinished.{unfinished}
 use Rattle.xc_parser.proofs.parser.Parser.maybe_stamp.Goals as goal
 
 pub returns-then-not-is_symbol-clause-read : goal.returns-then-not-is_symbol-clause-read

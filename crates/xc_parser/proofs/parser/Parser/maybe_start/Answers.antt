@@ -1,6 +1,6 @@
 use Rattle.std.proofs.Common.{inl, inr, refl}
-use Rattle.xc_parser.proofs.Exits.{handed_on}
-use Rattle.xc_parser.proofs.Rounds.{no_start, some_start}
+use Rattle.xc_parser.proofs.Reading.Exits.{handed_on}
+use Rattle.xc_parser.proofs.Reading.Rounds.{no_start, some_start}
 use Rattle.xc_parser.proofs.parser.Parser.maybe_start.Goals as goal
 
 pub returns-then-is_symbol-clause-read : goal.returns-then-is_symbol-clause-read

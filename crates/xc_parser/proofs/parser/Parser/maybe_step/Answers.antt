@@ -1,4 +1,4 @@
-use Rattle.xc_parser.proofs.Rounds.{no_step, some_step}
+use Rattle.xc_parser.proofs.Reading.Rounds.{no_step, some_step}
 use Rattle.xc_parser.proofs.parser.Parser.maybe_step.Goals as goal
 
 pub returns-then-is_symbol-clause-read : goal.returns-then-is_symbol-clause-read

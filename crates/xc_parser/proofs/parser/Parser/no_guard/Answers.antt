@@ -1,4 +1,4 @@
-use Rattle.xc_parser.proofs.Guards.{deep_arrow, deep_further, wrong_further}
+use Rattle.xc_parser.proofs.Stating.Guards.{deep_arrow, deep_further, wrong_further}
 use Rattle.xc_parser.proofs.parser.Parser.no_guard.Goals as goal
 
 pub returns-then-is_symbol : goal.returns-then-is_symbol

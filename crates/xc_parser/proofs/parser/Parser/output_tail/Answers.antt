@@ -1,5 +1,5 @@
-use Rattle.xc_parser.proofs.Exits.{handed_on}
-use Rattle.xc_parser.proofs.Tails.{output_sign_stops, value_stops, output_stamp_stops, output_close_stops, output_row_read}
+use Rattle.xc_parser.proofs.Reading.Exits.{handed_on}
+use Rattle.xc_parser.proofs.Stating.Tails.{output_sign_stops, value_stops, output_stamp_stops, output_close_stops, output_row_read}
 use Rattle.xc_parser.proofs.parser.Parser.output_tail.Goals as goal
 
 pub returns-in_err-sends-clause-stopped : goal.returns-in_err-sends-clause-stopped

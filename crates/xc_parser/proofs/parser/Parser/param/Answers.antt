@@ -1,7 +1,7 @@
 use Rattle.std.proofs.Common.{[], ◌∷◌, refl}
 use Rattle.xc_tree.specs.Symbol.{key}
-use Rattle.xc_parser.proofs.Exits.{handed_on}
-use Rattle.xc_parser.proofs.Paths.{begin, over_word, lacks, lacks_word, read, stops, finish}
+use Rattle.xc_parser.proofs.Reading.Exits.{handed_on}
+use Rattle.xc_parser.proofs.Reading.Paths.{begin, over_word, lacks, lacks_word, read, stops, finish}
 use Rattle.xc_parser.proofs.parser.Parser.param.Goals as goal
 
 pub returns-in_err-name-clause-stopped : goal.returns-in_err-name-clause-stopped

@@ -1,14 +1,14 @@
 use Rattle.std.proofs.Common.{[], refl, sym, arith}
 use Rattle.xc_tree.specs.Symbol as symbol
 use Rattle.xc_parser.specs.Follows.{first}
-use Rattle.xc_parser.proofs.Exits.{handed_on}
-use Rattle.xc_parser.proofs.TokenSets.{one_within}
-use Rattle.xc_parser.proofs.Paths.{begin, over_word, lacks, lacks_word, finish}
-use Rattle.xc_parser.proofs.Opening.{fronts}
-use Rattle.xc_parser.proofs.Unfinished.{unfinished}
-use Rattle.xc_parser.proofs.Rows.{row_stops}
-use Rattle.xc_parser.proofs.Listed.{first_listed, next_listed, next_stops, end_listed}
-use Rattle.xc_parser.proofs.ParamRows.{row_of_params}
+use Rattle.xc_parser.proofs.Reading.Exits.{handed_on}
+use Rattle.xc_parser.proofs.Derivations.TokenSets.{one_within}
+use Rattle.xc_parser.proofs.Reading.Paths.{begin, over_word, lacks, lacks_word, finish}
+use Rattle.xc_parser.proofs.Rests.Opening.{fronts}
+use Rattle.xc_parser.proofs.Rests.Unfinished.{unfinished}
+use Rattle.xc_parser.proofs.Reading.Rows.{row_stops}
+use Rattle.xc_parser.proofs.Reading.Listed.{first_listed, next_listed, next_stops, end_listed}
+use Rattle.xc_parser.proofs.Declaring.ParamRows.{row_of_params}
 use Rattle.xc_parser.proofs.parser.Parser.params.Goals as goal
 
 pub returns-then-is_word-clause-read : goal.returns-then-is_word-clause-read

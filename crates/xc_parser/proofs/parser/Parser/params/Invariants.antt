@@ -1,7 +1,7 @@
 use Rattle.std.proofs.Common.{◌≤◌, ◌<◌, ◌-◌, ℕ, length}
 use Rattle.xc_tree.specs.Symbol as symbol
-use Rattle.xc_parser.proofs.Listed.{Listed}
-use Rattle.xc_parser.proofs.ParamRows.{row_of_params}
+use Rattle.xc_parser.proofs.Reading.Listed.{Listed}
+use Rattle.xc_parser.proofs.Declaring.ParamRows.{row_of_params}
 use Rattle.xc_parser.proofs.parser.Parser.params.Given as goal
 
 abbrev pub invariant-params : goal.invariant-params

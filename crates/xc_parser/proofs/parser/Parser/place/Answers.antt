@@ -1,9 +1,9 @@
 use Rattle.std.proofs.Common.{refl, sym, subst}
 use Rattle.xc_tree.specs.Symbol as symbol
 use Rattle.xc_parser.specs.Stops.{Stopped}
-use Rattle.xc_parser.proofs.Exits.{handed_on}
-use Rattle.xc_parser.proofs.Cores.{on_stops, at_on, at_core, no_core}
-use Rattle.xc_parser.proofs.Paths.{read, stops, finish}
+use Rattle.xc_parser.proofs.Reading.Exits.{handed_on}
+use Rattle.xc_parser.proofs.Declaring.Cores.{on_stops, at_on, at_core, no_core}
+use Rattle.xc_parser.proofs.Reading.Paths.{read, stops, finish}
 use Rattle.xc_parser.proofs.parser.Parser.place.Goals as goal
 
 pub returns-in_err-on-clause-stopped : goal.returns-in_err-on-clause-stopped

@@ -1,4 +1,4 @@
-use Rattle.xc_parser.proofs.RightSides.{if_ok, if_err, reads_place_value, stops_place_value}
+use Rattle.xc_parser.proofs.Valued.RightSides.{if_ok, if_err, reads_place_value, stops_place_value}
 use Rattle.xc_parser.proofs.parser.Parser.place_value.Goals as goal
 
 pub returns-clause-read : goal.returns-clause-read

@@ -1,5 +1,5 @@
-use Rattle.xc_parser.proofs.Exits.{handed_on}
-use Rattle.xc_parser.proofs.PortParts.{port_dir_stops, port_name_stops, port_equals_stops, port_ident_stops, port_end_stops, port_read}
+use Rattle.xc_parser.proofs.Reading.Exits.{handed_on}
+use Rattle.xc_parser.proofs.Declaring.PortParts.{port_dir_stops, port_name_stops, port_equals_stops, port_ident_stops, port_end_stops, port_read}
 use Rattle.xc_parser.proofs.parser.Parser.port.Goals as goal
 
 pub returns-in_err-dir-clause-stopped : goal.returns-in_err-dir-clause-stopped

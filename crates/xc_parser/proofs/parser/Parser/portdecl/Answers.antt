@@ -1,8 +1,8 @@
 use Rattle.std.proofs.Common.{[], refl}
 use Rattle.xc_parser.specs.PortParts.{port_row}
-use Rattle.xc_parser.proofs.Exits.{handed_on}
-use Rattle.xc_parser.proofs.Paths.{begin, read, stops, finish}
-use Rattle.xc_parser.proofs.RowSteps.{read_row, stops_row}
+use Rattle.xc_parser.proofs.Reading.Exits.{handed_on}
+use Rattle.xc_parser.proofs.Reading.Paths.{begin, read, stops, finish}
+use Rattle.xc_parser.proofs.Reading.RowSteps.{read_row, stops_row}
 use Rattle.xc_parser.proofs.parser.Parser.portdecl.Goals as goal
 
 pub returns-in_err-place-clause-stopped : goal.returns-in_err-place-clause-stopped

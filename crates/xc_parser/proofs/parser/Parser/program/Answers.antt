@@ -4,9 +4,9 @@ use Rattle.xc_tree.specs.Derives.{deepest}
 use Rattle.xc_tree.specs.Symbol as symbol
 use Rattle.xc_tree.specs.Trees.{item_of}
 use Rattle.xc_parser.specs.Reading.{Reads}
-use Rattle.xc_parser.proofs.Exits.{handed_on}
-use Rattle.xc_parser.proofs.Cuts.{one_of_within}
-use Rattle.xc_parser.proofs.Items.{gathers_none, one_item, one_prototype, no_item, item_stops}
+use Rattle.xc_parser.proofs.Reading.Exits.{handed_on}
+use Rattle.xc_parser.proofs.Derivations.Cuts.{one_of_within}
+use Rattle.xc_parser.proofs.Reading.Items.{gathers_none, one_item, one_prototype, no_item, item_stops}
 use Rattle.xc_parser.proofs.parser.Parser.program.Goals as goal
 
 pub items-init : goal.items-init

@@ -1,6 +1,6 @@
 use Rattle.std.proofs.Common.{◌≤◌, ◌-◌, length, map}
 use Rattle.xc_tree.specs.Trees.{item_of}
-use Rattle.xc_parser.proofs.Items.{Gathers}
+use Rattle.xc_parser.proofs.Reading.Items.{Gathers}
 use Rattle.xc_parser.proofs.parser.Parser.program.Given as goal
 
 abbrev pub invariant-items : goal.invariant-items

@@ -1,7 +1,7 @@
 use Rattle.std.proofs.Common.{refl, arith}
 use Rattle.xc_tree.proofs.Forms.{action-Decl}
-use Rattle.xc_parser.proofs.Exits.{handed_on}
-use Rattle.xc_parser.proofs.DeclaredRows.{word_of_resource, resource_begins, resources_first_stops, resources_first, resources_next, resources_next_stops, resources_close_stops, resources_read}
+use Rattle.xc_parser.proofs.Reading.Exits.{handed_on}
+use Rattle.xc_parser.proofs.Declaring.DeclaredRows.{word_of_resource, resource_begins, resources_first_stops, resources_first, resources_next, resources_next_stops, resources_close_stops, resources_read}
 use Rattle.xc_parser.proofs.parser.Parser.resource_declaration.Goals as goal
 
 pub returns-in_err-end-clause-stopped : goal.returns-in_err-end-clause-stopped

@@ -1,5 +1,5 @@
 use Rattle.std.proofs.Common.{ℕ, ◌≤◌, ◌<◌, ◌-◌, length}
-use Rattle.xc_parser.proofs.DeclaredRows.{Resources}
+use Rattle.xc_parser.proofs.Declaring.DeclaredRows.{Resources}
 use Rattle.xc_parser.proofs.parser.Parser.resource_declaration.Given as goal
 
 abbrev pub invariant-names : goal.invariant-names

@@ -1,7 +1,7 @@
 use Rattle.std.proofs.Common.{sym, subst, arith}
 use Rattle.xc_tree.specs.Symbol as symbol
 use Rattle.xc_parser.specs.Reading.{Reads}
-use Rattle.xc_parser.proofs.RightSides.{reads_result, stops_result}
+use Rattle.xc_parser.proofs.Valued.RightSides.{reads_result, stops_result}
 use Rattle.xc_parser.proofs.parser.Parser.result.Goals as goal
 
 pub returns-in-Ok-clause-read : goal.returns-in-Ok-clause-read

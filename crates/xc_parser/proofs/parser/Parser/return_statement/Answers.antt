@@ -1,9 +1,9 @@
 use Rattle.std.proofs.Common.{refl, arith}
 use Rattle.xc_tree.proofs.Forms.{action-Return}
-use Rattle.xc_parser.proofs.Cuts.{on_within}
-use Rattle.xc_parser.proofs.Exits.{handed_on}
-use Rattle.xc_parser.proofs.Simples.{return_none, value_stops, value_ends, return_reads, return_deep, return_wrong}
-use Rattle.xc_parser.proofs.Stated.{symbol_there}
+use Rattle.xc_parser.proofs.Derivations.Cuts.{on_within}
+use Rattle.xc_parser.proofs.Reading.Exits.{handed_on}
+use Rattle.xc_parser.proofs.Stating.Simples.{return_none, value_stops, value_ends, return_reads, return_deep, return_wrong}
+use Rattle.xc_parser.proofs.Reading.Stated.{symbol_there}
 use Rattle.xc_parser.proofs.parser.Parser.return_statement.Goals as goal
 
 pub whole-requires-clause-held : goal.whole-requires-clause-held

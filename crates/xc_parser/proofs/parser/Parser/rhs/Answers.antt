@@ -1,7 +1,7 @@
 use Rattle.std.proofs.Common.{◌≡◌, ◌+◌, subst, arith}
 use Rattle.xc_tree.specs.Symbol as symbol
 use Rattle.xc_parser.specs.Reading.{TooDeep, Unfit}
-use Rattle.xc_parser.proofs.RightSides.{deep_name_goes_on, unfit_name}
+use Rattle.xc_parser.proofs.Valued.RightSides.{deep_name_goes_on, unfit_name}
 use Rattle.xc_parser.proofs.parser.Parser.rhs.Goals as goal
 
 pub returns-then-goes_on-clause-stopped : goal.returns-then-goes_on-clause-stopped

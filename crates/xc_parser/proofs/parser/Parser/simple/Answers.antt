@@ -1,8 +1,8 @@
 use Rattle.std.proofs.Common.{◌+◌, ◌≤◌, arith}
-use Rattle.xc_parser.proofs.Exits.{handed_on}
-use Rattle.xc_parser.proofs.Simples.{assign_stops, assign_ends, assign_reads, name_wrong, name_deep}
-use Rattle.xc_parser.proofs.Stated.{symbol_there, no_others, assign_holds_none}
-use Rattle.xc_parser.proofs.Tests.{name_within}
+use Rattle.xc_parser.proofs.Reading.Exits.{handed_on}
+use Rattle.xc_parser.proofs.Stating.Simples.{assign_stops, assign_ends, assign_reads, name_wrong, name_deep}
+use Rattle.xc_parser.proofs.Reading.Stated.{symbol_there, no_others, assign_holds_none}
+use Rattle.xc_parser.proofs.Reading.Tests.{name_within}
 use Rattle.xc_parser.proofs.parser.Parser.simple.Goals as goal
 
 pub returns-then-not-assigns-clause-stopped : goal.returns-then-not-assigns-clause-stopped

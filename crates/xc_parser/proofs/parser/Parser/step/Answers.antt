@@ -1,5 +1,5 @@
-use Rattle.xc_parser.proofs.Exits.{handed_on}
-use Rattle.xc_parser.proofs.Counting.{step_name_stops, step_symbol_stops, step_end_stops, step_read}
+use Rattle.xc_parser.proofs.Reading.Exits.{handed_on}
+use Rattle.xc_parser.proofs.Stating.Counting.{step_name_stops, step_symbol_stops, step_end_stops, step_read}
 use Rattle.xc_parser.proofs.parser.Parser.step.Goals as goal
 
 pub returns-in_err-name-clause-stopped : goal.returns-in_err-name-clause-stopped

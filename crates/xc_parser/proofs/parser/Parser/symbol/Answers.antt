@@ -1,7 +1,7 @@
 use Rattle.std.proofs.Common.{◌+◌, subst}
 use Rattle.xc_tree.specs.Symbol.{sym}
 use Rattle.xc_parser.specs.Reading.{Reads}
-use Rattle.xc_parser.proofs.Single.{sym_reads, sym_refuses, on_pos}
+use Rattle.xc_parser.proofs.Derivations.Single.{sym_reads, sym_refuses, on_pos}
 use Rattle.xc_parser.proofs.parser.Parser.symbol.Goals as goal
 
 pub returns-then-not-is_symbol-clause-stopped : goal.returns-then-not-is_symbol-clause-stopped

@@ -1,5 +1,5 @@
-use Rattle.xc_parser.proofs.Tests.{stands_here}
-use Rattle.xc_parser.proofs.RightSides.{no_time, reads_time, stops_time}
+use Rattle.xc_parser.proofs.Reading.Tests.{stands_here}
+use Rattle.xc_parser.proofs.Valued.RightSides.{no_time, reads_time, stops_time}
 use Rattle.xc_parser.proofs.parser.Parser.time.Goals as goal
 
 pub returns-then-not-is_symbol-clause-stopped : goal.returns-then-not-is_symbol-clause-stopped

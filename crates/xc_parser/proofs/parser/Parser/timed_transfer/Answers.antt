@@ -1,9 +1,9 @@
 use Rattle.std.proofs.Common.{refl, ◌+◌}
 use Rattle.xc_tree.specs.Symbol.{statement}
 use Rattle.xc_tree.proofs.Forms.{action-Input, action-Output}
-use Rattle.xc_parser.proofs.Exits.{handed_on}
-use Rattle.xc_parser.proofs.Marks.{name_stops}
-use Rattle.xc_parser.proofs.Transferring.{time_stops, timed_sent_stops, timed_output_read, timed_received_stops, timed_input_read}
+use Rattle.xc_parser.proofs.Reading.Exits.{handed_on}
+use Rattle.xc_parser.proofs.Stating.Marks.{name_stops}
+use Rattle.xc_parser.proofs.Stating.Transferring.{time_stops, timed_sent_stops, timed_output_read, timed_received_stops, timed_input_read}
 use Rattle.xc_parser.proofs.parser.Parser.timed_transfer.Goals as goal
 
 pub returns-in_err-name-clause-stopped : goal.returns-in_err-name-clause-stopped

@@ -1,9 +1,9 @@
 use Rattle.std.proofs.Common.{refl, ◌+◌}
 use Rattle.xc_tree.specs.Symbol.{statement}
 use Rattle.xc_tree.proofs.Forms.{action-Output}
-use Rattle.xc_parser.proofs.Exits.{handed_on}
-use Rattle.xc_parser.proofs.Marks.{name_stops}
-use Rattle.xc_parser.proofs.Transferring.{sent_stops, output_read}
+use Rattle.xc_parser.proofs.Reading.Exits.{handed_on}
+use Rattle.xc_parser.proofs.Stating.Marks.{name_stops}
+use Rattle.xc_parser.proofs.Stating.Transferring.{sent_stops, output_read}
 use Rattle.xc_parser.proofs.parser.Parser.transfer.Goals as goal
 
 pub returns-in_err-name-clause-stopped : goal.returns-in_err-name-clause-stopped

@@ -1,4 +1,4 @@
-use Rattle.xc_parser.proofs.RightSides.{reads_value, stops_value}
+use Rattle.xc_parser.proofs.Valued.RightSides.{reads_value, stops_value}
 use Rattle.xc_parser.proofs.parser.Parser.value.Goals as goal
 
 pub returns-in-Ok-clause-read : goal.returns-in-Ok-clause-read

@@ -1,5 +1,5 @@
 use Rattle.std.proofs.Common.{arith}
-use Rattle.xc_parser.proofs.RightSides.{place_is}
+use Rattle.xc_parser.proofs.Valued.RightSides.{place_is}
 use Rattle.xc_parser.proofs.parser.Parser.valued.Goals as goal
 
 pub returns-clause-read : goal.returns-clause-read

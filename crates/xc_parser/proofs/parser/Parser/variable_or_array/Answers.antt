@@ -1,5 +1,5 @@
-use Rattle.xc_parser.proofs.Exits.{handed_on}
-use Rattle.xc_parser.proofs.Declarators.{name_stops, length_stops, close_stops, array_read, bare_read, value_stops, word_read, word_unfit}
+use Rattle.xc_parser.proofs.Reading.Exits.{handed_on}
+use Rattle.xc_parser.proofs.Declaring.Declarators.{name_stops, length_stops, close_stops, array_read, bare_read, value_stops, word_read, word_unfit}
 use Rattle.xc_parser.proofs.parser.Parser.variable_or_array.Goals as goal
 
 pub returns-in_err-name-clause-stopped : goal.returns-in_err-name-clause-stopped

@@ -1,9 +1,9 @@
 use Rattle.std.proofs.Common.{refl}
 use Rattle.xc_tree.specs.Symbol.{sym}
-use Rattle.xc_parser.proofs.Exits.{handed_on}
-use Rattle.xc_parser.proofs.Paths.{begin, over_word, at_symbol, lacks_symbol, lacks_word, read, stops, finish}
-use Rattle.xc_parser.proofs.Unfinished.{unfinished}
-use Rattle.xc_parser.proofs.Marks.{on_it}
+use Rattle.xc_parser.proofs.Reading.Exits.{handed_on}
+use Rattle.xc_parser.proofs.Reading.Paths.{begin, over_word, at_symbol, lacks_symbol, lacks_word, read, stops, finish}
+use Rattle.xc_parser.proofs.Rests.Unfinished.{unfinished}
+use Rattle.xc_parser.proofs.Stating.Marks.{on_it}
 use Rattle.xc_parser.proofs.parser.Parser.waits.Goals as goal
 
 pub returns-in_err-time-clause-stopped : goal.returns-in_err-time-clause-stopped

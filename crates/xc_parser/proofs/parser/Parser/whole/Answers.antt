@@ -1,6 +1,6 @@
 use Rattle.xc_tree.specs.Trees.{action_of}
 use Rattle.xc_tree.proofs.Forms.{statement-made}
-use Rattle.xc_parser.proofs.Counts.{whole_is}
+use Rattle.xc_parser.proofs.Derivations.Counts.{whole_is}
 use Rattle.xc_parser.proofs.parser.Parser.whole.Goals as goal
 
 pub returns-clause-value : goal.returns-clause-value

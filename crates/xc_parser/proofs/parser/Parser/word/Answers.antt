@@ -1,7 +1,7 @@
 use Rattle.std.proofs.Common.{◌+◌, subst}
 use Rattle.xc_tree.specs.Symbol.{key}
 use Rattle.xc_parser.specs.Reading.{Reads}
-use Rattle.xc_parser.proofs.Single.{key_reads, key_refuses, on_pos}
+use Rattle.xc_parser.proofs.Derivations.Single.{key_reads, key_refuses, on_pos}
 use Rattle.xc_parser.proofs.parser.Parser.word.Goals as goal
 
 pub returns-then-not-is_word-clause-stopped : goal.returns-then-not-is_word-clause-stopped

@@ -1,7 +1,7 @@
 use Rattle.std.proofs.Common.{refl, [], arith}
 use Rattle.xc_tree.proofs.Forms.{action-Decl}
-use Rattle.xc_parser.proofs.Exits.{handed_on}
-use Rattle.xc_parser.proofs.DeclaredRows.{word_stops, word_begins, declared_stops, words_first, words_next, words_next_stops, words_close_stops, words_read}
+use Rattle.xc_parser.proofs.Reading.Exits.{handed_on}
+use Rattle.xc_parser.proofs.Declaring.DeclaredRows.{word_stops, word_begins, declared_stops, words_first, words_next, words_next_stops, words_close_stops, words_read}
 use Rattle.xc_parser.proofs.parser.Parser.word_declaration.Goals as goal
 
 pub returns-in_err-word-clause-stopped : goal.returns-in_err-word-clause-stopped

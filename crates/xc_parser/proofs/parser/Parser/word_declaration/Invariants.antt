@@ -1,5 +1,5 @@
 use Rattle.std.proofs.Common.{◌≤◌, ◌<◌, ◌-◌, length}
-use Rattle.xc_parser.proofs.DeclaredRows.{Words}
+use Rattle.xc_parser.proofs.Declaring.DeclaredRows.{Words}
 use Rattle.xc_parser.proofs.parser.Parser.word_declaration.Given as goal
 
 abbrev pub invariant-declared : goal.invariant-declared

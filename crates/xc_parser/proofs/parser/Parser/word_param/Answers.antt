@@ -1,7 +1,7 @@
 use Rattle.std.proofs.Common.{refl}
-use Rattle.xc_parser.proofs.Exits.{handed_on}
-use Rattle.xc_parser.proofs.Params.{type_stops, at_type, name_stops, at_name, at_bracket}
-use Rattle.xc_parser.proofs.Paths.{over_symbol, lacks_symbol, read, stops, finish}
+use Rattle.xc_parser.proofs.Reading.Exits.{handed_on}
+use Rattle.xc_parser.proofs.Declaring.Params.{type_stops, at_type, name_stops, at_name, at_bracket}
+use Rattle.xc_parser.proofs.Reading.Paths.{over_symbol, lacks_symbol, read, stops, finish}
 use Rattle.xc_parser.proofs.parser.Parser.word_param.Goals as goal
 
 pub returns-in_err-word-clause-stopped : goal.returns-in_err-word-clause-stopped

@@ -1,6 +1,6 @@
 use Rattle.std.proofs.Common.{refl, arith}
-use Rattle.xc_parser.proofs.Exits.{handed_on, ends_at}
-use Rattle.xc_parser.proofs.Paths.{begin, over_word, lacks_word, read, stops, finish}
+use Rattle.xc_parser.proofs.Reading.Exits.{handed_on, ends_at}
+use Rattle.xc_parser.proofs.Reading.Paths.{begin, over_word, lacks_word, read, stops, finish}
 use Rattle.xc_parser.proofs.parser.Parser.word_type.Goals as goal
 
 pub returns-in_err-int-clause-stopped : goal.returns-in_err-int-clause-stopped

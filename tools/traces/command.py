@@ -1,0 +1,73 @@
+"""What the commands of both programs have in common."""
+
+from __future__ import annotations
+
+import argparse
+import contextlib
+import heapq
+import os
+import sys
+from operator import itemgetter
+from typing import BinaryIO, Callable, Iterator, NamedTuple
+
+from .lines import Refused
+from .output import Output, Record
+from .stimulus import read_pins
+from .times import timed
+
+REFUSED = 1
+
+
+def parser(name: str, about: str, example: str) -> argparse.ArgumentParser:
+    """The reader of a command's words, with those that both programs have."""
+    made = argparse.ArgumentParser(
+        prog=name, description=about, epilog=example, formatter_class=argparse.RawDescriptionHelpFormatter, allow_abbrev=False
+    )
+    made.add_argument("file", nargs="?", metavar="FILE", help="what xcsim wrote; standard input where it isn't named")
+    made.add_argument("--stimulus", metavar="FILE", help="the run's stimulus: the pins are shown too")
+    made.add_argument(
+        "--lockstep", action="store_true", help="all cores go by one clock, as in a run: a record isn't before the one above it"
+    )
+    return made
+
+
+@contextlib.contextmanager
+def opened(name: str | None) -> Iterator[tuple[BinaryIO, str]]:
+    """A file that is read and the name it is told by; standard input where there is no name."""
+    if name is None:
+        yield sys.stdin.buffer, "standard input"
+    else:
+        with open(name, "rb") as file:
+            yield file, name
+
+
+class Timeline(NamedTuple):
+    """What is shown: the output, the ports whose pins are shown, and records and pins with their ticks, in the order of these."""
+
+    output: Output
+    pins: set[tuple[int, str]]
+    events: Iterator[tuple[int, Record]]
+
+
+def read(words: argparse.Namespace) -> Timeline:
+    """Reads the whole output, and the stimulus where one is named."""
+    with opened(words.file) as (file, name):
+        output = Output(file, name)
+        events = timed(output.records(), words.lockstep)
+    stimulus, pins = read_pins(words.stimulus, output.listing)
+    return Timeline(output, pins, heapq.merge(stimulus, events, key=itemgetter(0)))
+
+
+def run(name: str, action: Callable[[], None]) -> int:
+    """Makes what a command does, and gives its status. What goes wrong is told on standard error."""
+    try:
+        action()
+        sys.stdout.flush()
+        return 0
+    except BrokenPipeError:
+        os.dup2(os.open(os.devnull, os.O_WRONLY), sys.stdout.fileno())  # so that the last flush has where to go
+    except Refused as refused:
+        print(refused, file=sys.stderr)
+    except OSError as error:
+        print(f"{name}: {error.filename or 'output'}: {error.strerror}", file=sys.stderr)
+    return REFUSED
