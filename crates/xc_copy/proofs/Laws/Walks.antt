@@ -111,10 +111,10 @@ module _ (copies : CopiesCall) (c : Context) where
       sym (ap (λ xs. cased_before all (cases_copy copies xs c scope)) (cases_end cs i h)) ∙ so_far
 
 -- one more branch behind those that were held
-pub and_made : {after held before : Branched} {pos start : Pos} {copy : Copy} → held ≡ before → pos ≡ start →
+pub and_made : (after : Branched) (copy : Copy) {held before : Branched} {pos start : Pos} → held ≡ before → pos ≡ start →
     ((others : flow.Branched) → branched_before after others ≡ branched_before held (flow.and_branch pos copy others)) →
     (others : flow.Branched) → branched_before after others ≡ branched_before before (flow.and_branch start copy others)
-and_made {copy = copy} held pos made others = made others ∙ λ i. branched_before (held i) (flow.and_branch (pos i) copy others)
+and_made after copy held pos made others = made others ∙ λ i. branched_before (held i) (flow.and_branch (pos i) copy others)
 
 -- numbered copies of a branch
 

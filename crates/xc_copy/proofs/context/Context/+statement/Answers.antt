@@ -406,7 +406,7 @@ function-returns t c =
     (ap (λ p. calls_spec.result_copy here p f.head.name.pos scope f.head.result) (c.as_slice-3.ensures ∙ result))
     (passed ∙ ap (λ ps. parameters.all_passed here scope own ps args) c.as_slice.ensures)
     refl
-    refl refl refl refl (c.in_ok-copied.ensures _ inner scope _ (copied_in _ (copies' f.body) inner c.statement-body.result around c.statement-body.ensures))
+    refl refl refl refl (c.in_ok-copied.ensures (scope_of c.in_ok-result.entered.scope) inner scope _ (copied_in (scope_of c.in_ok-result.entered.scope) (copies' f.body) inner c.statement-body.result around c.statement-body.ensures))
 
 pub function-statement-body-requires : goal.function-statement-body-requires
 function-statement-body-requires t c =
@@ -613,8 +613,8 @@ par-loop-index-preserved t c =
     let b = c.index-bs-index.result in
     let after = scope_of c.branch-copied.new.scope in
     let copied = rw c.in_ok-before.ensures.made at c.branch-copied.ensures in
-    branches_more (spec.calls_copy c.args.calls) (context_of c.args.self.now) c.args.bs.now c.loop-index.index b c.index-bs-index.is c.loop-index-test.true (scope_of c.loop-index.scope) c.loop-index.branches _ copied
-    (and_made c.in_ok-before.ensures.value (begins_at b) (c.in_ok-branches.ensures after))
+    branches_more (spec.calls_copy c.args.calls) (context_of c.args.self.now) c.args.bs.now c.loop-index.index b c.index-bs-index.is c.loop-index-test.true (scope_of c.loop-index.scope) c.loop-index.branches c.in_ok-branches.branches copied
+    (and_made c.in_ok-branches.branches (copy_of c.in_ok-before.copied after) c.in_ok-before.ensures.value (begins_at b) (c.in_ok-branches.ensures after))
     c.loop-index.invariant
 
 pub par-returns : goal.par-returns
@@ -665,9 +665,9 @@ replicated-loop-number-preserved t c =
     record {
       above = omega (arith, inv.above);
       scope = ap (λ x. x.scope) copied;
-      branches = numbered_more copy (spec.pos_of_branch (tree.branch_of b)) scope c.args.from c.args.until c.loop-number.number inv.above c.loop-number-test.true c.loop-number.branches _
+      branches = numbered_more copy (spec.pos_of_branch (tree.branch_of b)) scope c.args.from c.args.until c.loop-number.number inv.above c.loop-number-test.true c.loop-number.branches c.in_ok-branches.branches
           copied
-          (and_made c.in_ok-before.ensures.value (begins_at b) (c.in_ok-branches.ensures (scope_of c.numbered-copied.new.scope)))
+          (and_made c.in_ok-branches.branches (copy_of c.in_ok-before.copied (scope_of c.numbered-copied.new.scope)) c.in_ok-before.ensures.value (begins_at b) (c.in_ok-branches.ensures (scope_of c.numbered-copied.new.scope)))
           inv.branches;
     }
 
@@ -728,7 +728,7 @@ select-loop-case-preserved t c =
     let added = rw c.in_ok-cases.ensures.done at c.case-added.ensures.cases in
     record {
       scope = left_as (grown_from inv.scope names) c.len-known.ensures c.leave.ensures;
-      cases = cases_more copies' here c.args.cs.now c.loop-case.case-index x c.case-item.is c.loop-case-test.true (scope_of c.args.scope.now) c.loop-case.cases _
+      cases = cases_more copies' here c.args.cs.now c.loop-case.case-index x c.case-item.is c.loop-case-test.true (scope_of c.args.scope.now) c.loop-case.cases c.in_ok-cases.cases
           (λ others. ap (λ y. cased_before y others) c.in_ok-cases.ensures.value ∙ added others ∙ ap (λ s. cased_before c.loop-case.cases (spec.case_copy copies' (tree.case_of x) here s others)) inv.scope)
           inv.cases;
     }
