@@ -1,7 +1,8 @@
 -- The roots that the walk has made.
 use Rattle.std.specs.Prelude.{List, [], map, length}
 use Rattle.xc_kernel.specs.Kernels.{root_of}
-use Rattle.xc_kernel.specs.Numbering.{Numbering}
+use Rattle.xc_kernel.specs.Copy.{numbering_in}
+use Rattle.xc_kernel.specs.Numbering.{Numbering, no_numbering}
 use Rattle.xc_kernel.specs.Programs.{Function, function_named, name_of_main}
 use Rattle.xc_kernel.specs.Roots as spec
 use Rattle.xc_kernel.specs.Scopes.{Scope}
@@ -18,3 +19,7 @@ abbrev pub rooted_by : List Function → Scope → Numbering → spec.Rooted
 rooted_by functions ports numbering =
     spec.roots_of (calls_copy (length functions)) (function_named functions name_of_main)
     (record { functions = functions; ports = ports; numbering = numbering; core = 0; path = []; result = []; returns = []; breaks = []; continues = [] })
+
+-- the numbering of a program's instances, which its roots make whatever the numbering
+abbrev pub numbering_by : List Function → Scope → Numbering
+numbering_by functions ports = numbering_in (rooted_by functions ports no_numbering).made

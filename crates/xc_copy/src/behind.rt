@@ -2,13 +2,15 @@
 //! out of line: a chain of calls holds the frames of all its steps at once, so they are to be small.
 #![tactic(auto)]
 
-ghost use Rattle.std.specs.Prelude.{◌≡◌, IfOk, OnOk, option_map};
+ghost use Rattle.std.specs.Prelude.{◌≡◌, [], ◌∷◌, IfOk, IsOk, OnOk, option_map};
 ghost use Rattle.xc_tree.specs.Trees as tree;
 ghost use Rattle.xc_kernel.specs.Calls as calls;
 ghost use Rattle.xc_kernel.specs.Context as contexts;
 ghost use Rattle.xc_kernel.specs.Copy as copies;
 ghost use Rattle.xc_kernel.specs.Flow as flow;
+ghost use Rattle.xc_kernel.specs.Kernels as kernel;
 ghost use Rattle.xc_kernel.specs.Paths as paths;
+ghost use Rattle.xc_kernel.specs.Paths.{path_of_turn as turn_of};
 ghost use Rattle.xc_kernel.specs.Plain as plain;
 ghost use Rattle.xc_kernel.specs.Scopes.{Scope as Names};
 ghost use Rattle.xc_copy.specs.Contexts.{context_of};
@@ -22,7 +24,8 @@ ghost use Rattle.xc_copy.specs.Scopes.{scope_of};
 
 use crate::context::Context;
 use crate::copied::Copied;
-use crate::expressions::place;
+use crate::expressions::{place, word};
+use crate::flow::LoopPaths;
 use crate::memory::{beside, both};
 use crate::parts::Cased;
 use crate::scope::Scope;
@@ -50,10 +53,11 @@ impl<'p, 'a> Context<'p, 'a> {
         result_path: &[u32],
         function: &FuncItem,
         passed: Copied,
-        body: Copied,
+        body: Result<Copied, Memory>,
     ) -> Result<Copied, Memory>
-        ensures { IfOk result (λ copied. (entered inner behind : Names) → copy_of copied behind ≡ copies.in_scope_of behind (calls.naming_none (copies.joined (calls.instance_of (context_of self.now) (function_of function.now) behind) (copies.joined (calls.result_copy (context_of self.now) result_path.now function.now.name.pos behind function.now.result) (copies.joined (copy_of passed entered) (calls.as_block (context_of self.now) own.now (copy_of body inner))))))) }
+        ensures { IfOk result (λ copied. (entered inner behind : Names) (whole : copies.Copy) → IfOk body (λ b. copy_of b inner ≡ whole) → copy_of copied behind ≡ copies.in_scope_of behind (calls.naming_none (copies.joined (calls.instance_of (context_of self.now) (function_of function.now) behind) (copies.joined (calls.result_copy (context_of self.now) result_path.now function.now.name.pos behind function.now.result) (copies.joined (copy_of passed entered) (calls.as_block (context_of self.now) own.now whole)))))) }
     {
+        let (passed, body) = beside(passed, body)?;
         let block = self.as_block(alloc, own, body);
         let (passed, block) = beside(passed, block)?;
         let inside = passed.followed_by(block);
@@ -71,15 +75,15 @@ impl<'p, 'a> Context<'p, 'a> {
     pub fn stored_behind(
         &self,
         alloc: Global,
-        called: Copied,
+        called: Result<Copied, Memory>,
         path: &[u32],
         right: &Rhs,
         scope: &Scope<'a>,
     ) -> Result<Copied, Memory>
-        ensures { IfOk result (λ copied. (within : Names) → copy_of copied (scope_of scope.now) ≡ copies.joined (copy_of called within) (copies.one_statement (scope_of scope.now) (contexts.set_word (context_of self.now) path.now (calls.value_of (context_of self.now) (scope_of scope.now) (tree.right_of right.now))))) }
+        ensures { IfOk result (λ copied. (within : Names) (call : copies.Copy) → IfOk called (λ c. copy_of c within ≡ call) → copy_of copied (scope_of scope.now) ≡ copies.joined call (copies.one_statement (scope_of scope.now) (contexts.set_word (context_of self.now) path.now (calls.value_of (context_of self.now) (scope_of scope.now) (tree.right_of right.now))))) }
     {
         let stored = self.value_stored(alloc, path, right, scope);
-        let (called, stored) = beside(called, stored)?;
+        let (called, stored) = both(called, stored)?;
         let copied = called.followed_by(stored)?;
         Ok(copied)
     }
@@ -89,15 +93,15 @@ impl<'p, 'a> Context<'p, 'a> {
     pub fn assigned_behind(
         &self,
         alloc: Global,
-        called: Copied,
+        called: Result<Copied, Memory>,
         to: &Expr,
         right: &Rhs,
         scope: &Scope<'a>,
     ) -> Result<Copied, Memory>
-        ensures { IfOk result (λ copied. (within : Names) → copy_of copied (scope_of scope.now) ≡ copies.joined (copy_of called within) (copies.one_statement (scope_of scope.now) (plain.set (contexts.place (context_of self.now) (scope_of scope.now) (tree.expression_of to.now)) (calls.value_of (context_of self.now) (scope_of scope.now) (tree.right_of right.now))))) }
+        ensures { IfOk result (λ copied. (within : Names) (call : copies.Copy) → IfOk called (λ c. copy_of c within ≡ call) → copy_of copied (scope_of scope.now) ≡ copies.joined call (copies.one_statement (scope_of scope.now) (plain.set (contexts.place (context_of self.now) (scope_of scope.now) (tree.expression_of to.now)) (calls.value_of (context_of self.now) (scope_of scope.now) (tree.right_of right.now))))) }
     {
         let stored = self.value_assigned(alloc, to, right, scope);
-        let (called, stored) = beside(called, stored)?;
+        let (called, stored) = both(called, stored)?;
         let copied = called.followed_by(stored)?;
         Ok(copied)
     }
@@ -108,15 +112,57 @@ impl<'p, 'a> Context<'p, 'a> {
     pub fn returned_behind(
         &self,
         alloc: Global,
-        called: Copied,
+        called: Result<Copied, Memory>,
         right: &Rhs,
         scope: &Scope<'a>,
     ) -> Result<Copied, Memory>
-        ensures { IfOk result (λ copied. (within : Names) → copy_of copied (scope_of scope.now) ≡ copies.joined (copy_of called within) (copies.joined (copies.one_statement (scope_of scope.now) (contexts.set_word (context_of self.now) self.now.result.now (calls.value_of (context_of self.now) (scope_of scope.now) (tree.right_of right.now)))) (copies.one_statement (scope_of scope.now) (contexts.leave (context_of self.now) self.now.returns.now)))) }
+        ensures { IfOk result (λ copied. (within : Names) (call : copies.Copy) → IfOk called (λ c. copy_of c within ≡ call) → copy_of copied (scope_of scope.now) ≡ copies.joined call (copies.joined (copies.one_statement (scope_of scope.now) (contexts.set_word (context_of self.now) self.now.result.now (calls.value_of (context_of self.now) (scope_of scope.now) (tree.right_of right.now)))) (copies.one_statement (scope_of scope.now) (contexts.leave (context_of self.now) self.now.returns.now)))) }
     {
         let returned = self.value_returned(alloc, right, scope);
-        let (called, returned) = beside(called, returned)?;
+        let (called, returned) = both(called, returned)?;
         let copied = called.followed_by(returned)?;
+        Ok(copied)
+    }
+
+    /// A loop of these paths by its test, what follows each turn, and its body, if that could be made. The one error is want of
+    /// memory.
+    #[inline(never)]
+    pub fn looped(
+        &self,
+        alloc: Global,
+        paths: LoopPaths,
+        test: Kx,
+        next: Copied,
+        body: Result<Copied, Memory>,
+    ) -> Result<Copied, Memory>
+        requires { paths.turn ≡ turn_of paths.whole }
+        ensures { IfOk result (λ copied. (between behind : Names) (done : copies.Copy) → IfOk body (λ b. copy_of b behind ≡ done) → copy_of copied behind ≡ flow.loop_at (context_of self.now) paths.whole (kernel.expression_of test) (flow.turn (context_of self.now) paths.whole done.code []) (copies.code_of (copy_of next between)) (copies.joined (copy_of next between) done)) }
+    {
+        let (((paths, test), next), body) = beside(((paths, test), next), body)?;
+        let copied = self.loop_at(alloc, paths, test, next, body, None)?;
+        Ok(copied)
+    }
+
+    /// A loop of these paths by its body, if that could be made, and the test behind each turn. The one error is want of memory.
+    #[inline(never)]
+    pub fn looped_until(
+        &self,
+        alloc: Global,
+        paths: LoopPaths,
+        body: Result<Copied, Memory>,
+        test: &Expr,
+        scope: &Scope<'a>,
+    ) -> Result<Copied, Memory>
+        requires { paths.turn ≡ turn_of paths.whole }
+        ensures { IfOk result (λ copied. (done : copies.Copy) → IfOk body (λ b. copy_of b (scope_of scope.now) ≡ done) → copy_of copied (scope_of scope.now) ≡ flow.loop_at (context_of self.now) paths.whole (plain.number 1) (flow.turn (context_of self.now) paths.whole done.code (flow.leave_unless (context_of self.now) paths.whole (contexts.expression (context_of self.now) done.scope (tree.expression_of test.now)) ∷ [])) plain.no_more done) }
+    {
+        let test = word(alloc, self.numbers, scope, test);
+        let ends = both(body, test);
+        let (paths, (body, test)) = beside(paths, ends)?;
+        let last = self.leave_unless(alloc, paths.whole.as_slice(), test.value);
+        let ((paths, body), last) = beside((paths, body), last)?;
+        let next = Copied::nothing(alloc);
+        let copied = self.loop_at(alloc, paths, Kx::Num(1), next, body, Some(last))?;
         Ok(copied)
     }
 
@@ -192,6 +238,21 @@ impl<'p, 'a> Context<'p, 'a> {
         }
     }
 
+    /// A case's body as the block of this path, if it could be made. The one error is want of memory.
+    fn block_of(
+        &self,
+        alloc: Global,
+        path: List<u32>,
+        body: Result<Copied, Memory>,
+    ) -> Result<Copied, Memory>
+        ensures made { OnOk result (IsOk body) }
+        ensures block { IfOk result (λ block. (behind : Names) (whole : copies.Copy) → IfOk body (λ b. copy_of b behind ≡ whole) → copy_of block behind ≡ calls.as_block (context_of self.now) path whole) }
+    {
+        let (path, body) = beside(path, body)?;
+        let block = self.as_block(alloc, path.as_slice(), body)?;
+        Ok(block)
+    }
+
     /// One more case behind others, by what came of it before its body, and by its body, which is a block of this path. The one
     /// error is want of memory.
     #[inline(never)]
@@ -200,12 +261,13 @@ impl<'p, 'a> Context<'p, 'a> {
         alloc: Global,
         path: List<u32>,
         opened: Option<Opened>,
-        body: Copied,
+        body: Result<Copied, Memory>,
         cases: &mut Cased,
     ) -> Result<(), Memory>
-        ensures { OnOk result ((between behind : Names) (others : flow.Cased) → cased_before cases.new others ≡ cased_before cases.old (case_by opened between (calls.as_block (context_of self.now) path (copy_of body behind)) others)) }
+        ensures made { OnOk result (IsOk body) }
+        ensures cases { OnOk result ((between behind : Names) (whole : copies.Copy) → IfOk body (λ b. copy_of b behind ≡ whole) → (others : flow.Cased) → cased_before cases.new others ≡ cased_before cases.old (case_by opened between (calls.as_block (context_of self.now) path whole) others)) }
     {
-        let block = self.as_block(alloc, path.as_slice(), body);
+        let block = self.block_of(alloc, path, body);
         let (opened, block) = beside(opened, block)?;
         match opened {
             None => {

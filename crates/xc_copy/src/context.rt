@@ -1,4 +1,4 @@
-#![tactic(auto, using(crate::proofs::Laws::Expressions::words))]
+#![tactic(auto, using(crate::proofs::Laws::Expressions::steps))]
 
 ghost use Rattle.std.specs.Prelude.{◌≡◌, [], ◌∷◌, IfOk};
 ghost use Rattle.xc_kernel.specs.Context as spec;

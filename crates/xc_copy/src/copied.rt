@@ -6,7 +6,7 @@ ghost use Rattle.xc_kernel.specs.Flow.{first_of};
 ghost use Rattle.xc_kernel.specs.Kernels.{statement_of};
 ghost use Rattle.xc_copy.specs.Copied.{copy_of};
 
-use crate::memory::{after, append, push_back, push_front};
+use crate::memory::{after, append, beside, push_back, push_front};
 use std::alloc::Global;
 use std::collections::VecDeque;
 use std::mem;
@@ -81,6 +81,16 @@ impl Copied {
         let joined = copied.join(other);
         let copied = after(joined, copied)?;
         Ok(copied)
+    }
+
+    /// The copy followed by another, where that could be made. The one error is want of memory.
+    #[inline(never)]
+    pub fn with_next(self, next: Result<Copied, Memory>) -> Result<Copied, Memory>
+        ensures { IfOk result (λ both. (before after : Names) (other : spec.Copy) → IfOk next (λ n. copy_of n after ≡ other) → copy_of both after ≡ spec.joined (copy_of self before) other) }
+    {
+        let (first, next) = beside(self, next)?;
+        let both = first.followed_by(next)?;
+        Ok(both)
     }
 
     /// One more variable, seen before the others. The one error is want of memory.
@@ -174,6 +184,14 @@ impl Copied {
             None => &[],
             Some(path) => path.as_slice(),
         }
+    }
+
+    /// The instances of functions alone.
+    pub fn into_instances(self) -> List<Inst>
+        ensures { result ≡ self.instances.items }
+    {
+        let Copied { instances, .. } = self;
+        List::from_vec(Vec::from(instances))
     }
 
     /// Takes the statements, and leaves the instances.

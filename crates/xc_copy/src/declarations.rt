@@ -22,7 +22,7 @@ use crate::context::Context;
 use crate::copied::Copied;
 use crate::expressions::{Typed, place, updated, word};
 use crate::flow::LoopPaths;
-use crate::memory::{after, both};
+use crate::memory::both;
 use crate::paths::{path_at, path_of_branch, path_of_turn, same_path};
 use crate::scope::{Entity, Scope};
 use std::alloc::Global;
@@ -45,11 +45,12 @@ impl<'p, 'a> Context<'p, 'a> {
         ensures { IfOk result (λ copied. copy_of copied (scope_of scope.new) ≡ declarations.array_copy (context_of self.now) (scope_of scope.old) name.now pos (paths.path_at self.now.path.now pos) unsigned words) }
     {
         let path = path_at(alloc, self.path, pos)?;
-        let variable = self.array_variable(alloc, words, path.as_slice(), pos)?;
-        let zeroed = Copied::one_statement(alloc, self.set_zero(path.as_slice()))?;
-        let made = zeroed.and_variable(variable)?;
+        let variable = self.array_variable(alloc, words, path.as_slice(), pos);
+        let zeroed = Copied::one_statement(alloc, self.set_zero(path.as_slice()));
         let declared = scope.declare(name, Entity::Array(path, words, unsigned));
-        let copied = after(declared, made)?;
+        let made = both(zeroed, variable);
+        let (_, (zeroed, variable)) = both(declared, made)?;
+        let copied = zeroed.and_variable(variable)?;
         Ok(copied)
     }
 
@@ -66,8 +67,9 @@ impl<'p, 'a> Context<'p, 'a> {
         ensures { IfOk result (λ copied. copy_of copied (scope_of scope.new) ≡ declarations.channel_copy (scope_of scope.old) name.now pos (paths.path_at self.now.path.now pos) streaming) }
     {
         let path = path_at(alloc, self.path, pos)?;
-        let own = same_path(alloc, path.as_slice())?;
-        scope.declare(name, Entity::Channel(path))?;
+        let own = same_path(alloc, path.as_slice());
+        let declared = scope.declare(name, Entity::Channel(path));
+        let (_, own) = both(declared, own)?;
         let copied = Copied::nothing(alloc).and_channel(Chan {
             streaming,
             path: own,
@@ -88,8 +90,9 @@ impl<'p, 'a> Context<'p, 'a> {
         ensures { IfOk result (λ copied. copy_of copied (scope_of scope.new) ≡ declarations.timer_copy (context_of self.now) (scope_of scope.old) name.now pos (paths.path_at self.now.path.now pos)) }
     {
         let path = path_at(alloc, self.path, pos)?;
-        let own = same_path(alloc, path.as_slice())?;
-        scope.declare(name, Entity::Timer(path))?;
+        let own = same_path(alloc, path.as_slice());
+        let declared = scope.declare(name, Entity::Timer(path));
+        let (_, own) = both(declared, own)?;
         let copied = Copied::nothing(alloc).and_timer(Timer {
             core: self.core,
             path: own,

@@ -84,7 +84,7 @@ const OPERATORS: [Operator; 35] = [
 
 /// The word that an expression has where no variable has words, or `None` for an error.
 #[cycle(eval)]
-#[tactic(auto, using(xc_kernel::proofs::Forms::forms))]
+#[tactic(auto, using(crate::proofs::Laws::Expressions::values))]
 pub fn eval(e: &Kx) -> Option<u32>
     ensures { result ≡ word_in (spec.eval [] (kernel.expression_of e.now)) }
 {
@@ -98,7 +98,7 @@ pub fn eval(e: &Kx) -> Option<u32>
 }
 
 /// What stands at a place: 0 in a word, and there is no element.
-#[tactic(auto, using(xc_kernel::proofs::Forms::forms))]
+#[tactic(auto, using(crate::proofs::Laws::Expressions::values))]
 fn eval_place(place: &Place) -> Option<u32>
     ensures { result ≡ word_in (spec.eval_place [] (kernel.place_of place.now)) }
 {

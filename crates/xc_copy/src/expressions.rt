@@ -1,6 +1,7 @@
 #![tactic(auto, using(crate::proofs::Laws::Expressions::words))]
 
 ghost use Rattle.std.specs.Prelude.{◌≡◌, ◌||◌, true, [], ◌∷◌, IfOk};
+ghost use Rattle.xc_tree.specs.Symbols as symbols;
 ghost use Rattle.xc_tree.specs.Trees as tree;
 ghost use Rattle.xc_kernel.specs.Expressions as spec;
 ghost use Rattle.xc_kernel.specs.Kernels as kernel;
@@ -159,7 +160,7 @@ fn choice(
     second: Typed,
     pos: Pos,
 ) -> Result<Typed, Memory>
-    ensures value { IfOk result (λ w. kernel.expression_of w.value ≡ plain.operation operators.question (first.unsigned || second.unsigned) (plain.more_operands (kernel.expression_of test.value) (spec.two_operands (kernel.expression_of first.value) (kernel.expression_of second.value))) pos) }
+    ensures value { IfOk result (λ w. kernel.expression_of w.value ≡ plain.operation symbols.question (first.unsigned || second.unsigned) (plain.more_operands (kernel.expression_of test.value) (spec.two_operands (kernel.expression_of first.value) (kernel.expression_of second.value))) pos) }
     ensures unsigned { IfOk result (λ w. w.unsigned ≡ (first.unsigned || second.unsigned)) }
 {
     let unsigned = first.unsigned || second.unsigned;
@@ -210,7 +211,7 @@ pub fn updated(
 /// The test of an index that stands alone: it gives the index, where that is below the array's length. The one error is want
 /// of memory.
 pub fn index_test(alloc: Global, index: Kx, words: u32, pos: Pos) -> Result<Kx, Memory>
-    ensures { IfOk result (λ e. kernel.expression_of e ≡ plain.operation operators.bracket true (spec.two_operands (kernel.expression_of index) (plain.number words)) pos) }
+    ensures { IfOk result (λ e. kernel.expression_of e ≡ plain.operation symbols.bracket true (spec.two_operands (kernel.expression_of index) (plain.number words)) pos) }
 {
     let operands = two(alloc, index, Kx::Num(words))?;
     Ok(Kx::Op(BRACKET, true, operands, pos))

@@ -1,4 +1,4 @@
-#![tactic(auto, using(crate::proofs::Laws::Expressions::words))]
+#![tactic(auto, using(crate::proofs::Laws::Expressions::steps))]
 
 ghost use Rattle.std.specs.Prelude.{◌≡◌, ◌++◌, [], ◌∷◌, IfOk, OnOk, map, option_map, option_to_list};
 ghost use Rattle.xc_kernel.specs.Calls as calls;
@@ -145,17 +145,20 @@ pub struct LoopPaths {
     pub turn: List<u32>,
 }
 
-/// What is done where the test holds, and where not. The one error is want of memory.
+/// What is done where the test holds, and where not, if that could be made. The one error is want of memory.
 #[inline(never)]
 #[tactic(auto)]
 pub fn if_copy(
     alloc: Global,
     test: Kx,
-    mut first: Copied,
-    mut second: Copied,
+    first: Copied,
+    second: Result<Copied, Memory>,
 ) -> Result<Copied, Memory>
-    ensures { IfOk result (λ copied. (between behind : Names) → copy_of copied behind ≡ spec.if_copy (kernel.expression_of test) (copy_of first between) (copy_of second behind)) }
+    ensures { IfOk result (λ copied. (between behind : Names) (other : copies.Copy) → IfOk second (λ s. copy_of s behind ≡ other) → copy_of copied behind ≡ spec.if_copy (kernel.expression_of test) (copy_of first between) other) }
 {
+    let ((test, first), second) = beside((test, first), second)?;
+    let mut first = first;
+    let mut second = second;
     let then = first.take_code(alloc);
     let otherwise = second.take_code(alloc);
     let made = first.followed_by(second);

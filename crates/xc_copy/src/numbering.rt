@@ -10,7 +10,8 @@ use crate::memory::both;
 use crate::numbers::{Numbers, each_once, place};
 use indexmap::IndexSet;
 use std::alloc::Global;
-use xw_words::Memory;
+use xc_kernel::{Chan, Timer, Var};
+use xw_words::{List, Memory};
 
 impl Numbers {
     /// With no instance.
@@ -50,6 +51,25 @@ impl Numbers {
             timer_paths: timers.paths,
             block_paths: blocks.paths,
         })
+    }
+
+    /// The variables, the channels and the timers alone.
+    pub fn into_lists(self) -> (List<Var>, List<Chan>, List<Timer>)
+        ensures variables { result.0 ≡ self.variables.items }
+        ensures channels { result.1 ≡ self.channels.items }
+        ensures timers { result.2 ≡ self.timers.items }
+    {
+        let Numbers {
+            variables,
+            channels,
+            timers,
+            ..
+        } = self;
+        (
+            List::from_vec(variables),
+            List::from_vec(channels),
+            List::from_vec(timers),
+        )
     }
 
     #[tactic(auto, using(crate::proofs::Laws::PathSets::place_mapped))]

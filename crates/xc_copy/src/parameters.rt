@@ -15,7 +15,7 @@ ghost use Rattle.xc_copy.specs.Scopes.{entity_found, entity_meant, scope_of};
 use crate::context::Context;
 use crate::copied::Copied;
 use crate::expressions::{index_test, word};
-use crate::memory::both;
+use crate::memory::{after, beside, both};
 use crate::paths::path_at;
 use crate::scope::{Entity, Scope};
 use std::alloc::Global;
@@ -37,6 +37,36 @@ pub struct Entered<'a> {
     pub scope: Scope<'a>,
 }
 
+impl<'a> Entered<'a> {
+    /// With the ports alone.
+    #[tactic(auto)]
+    fn with(alloc: Global, ports: Scope<'a>) -> Entered<'a>
+        ensures { copy_of result.copied (scope_of result.scope) ≡ copies.no_copy (scope_of ports.entry) }
+    {
+        Entered {
+            copied: Copied::nothing(alloc),
+            scope: ports,
+        }
+    }
+
+    /// What is handed to a parameter of this name, before what is to the others. The one error is want of memory.
+    #[tactic(auto)]
+    fn behind(self, name: &'a [u8], handed: Handed) -> Result<Entered<'a>, Memory>
+        ensures { IfOk result (λ entered. (p : spec.Passed) → IsPassed p handed → copy_of entered.copied (scope_of entered.scope) ≡ spec.and_passed name.now p (copy_of self.entry.copied (scope_of self.entry.scope))) }
+    {
+        let Entered { copied, mut scope } = self;
+        let Handed {
+            copied: first,
+            entity,
+        } = handed;
+        let declared = scope.declare(name, entity);
+        let copied = first.followed_by(copied);
+        let scope = after(declared, scope);
+        let (copied, scope) = both(copied, scope)?;
+        Ok(Entered { copied, scope })
+    }
+}
+
 impl<'p, 'a> Context<'p, 'a> {
     /// All arguments of a call, from left to right; a function knows the ports and its parameters. The one error is want of
     /// memory.
@@ -52,22 +82,17 @@ impl<'p, 'a> Context<'p, 'a> {
     ) -> Result<Entered<'a>, Memory>
         ensures { IfOk result (λ entered. copy_of entered.copied (scope_of entered.scope) ≡ spec.all_passed (context_of self.now) (scope_of scope.now) own.now params.now (map tree.argument_of args.now)) }
     {
-        let mut copied = Copied::nothing(alloc);
-        let mut inner = self.scope_of_ports(alloc)?;
+        let ports = self.scope_of_ports(alloc)?;
+        let mut entered = Entered::with(alloc, ports);
         let mut left = least(params.len(), args.len());
         'backward: while 0 < left {
             left -= 1;
             let param = &params[left];
-            let handed = self.passed(alloc, scope, own, param, &args[left].value)?;
-            let all = handed.copied.followed_by(copied);
-            let declared = inner.declare(param.name.text.as_slice(), handed.entity);
-            let (all, _) = both(all, declared)?;
-            copied = all;
+            let handed = self.passed(alloc, scope, own, param, &args[left].value);
+            let (others, handed) = beside(entered, handed)?;
+            entered = others.behind(param.name.text.as_slice(), handed)?;
         }
-        Ok(Entered {
-            copied,
-            scope: inner,
-        })
+        Ok(entered)
     }
 
     /// An argument for a parameter, in a call of this path. The one error is want of memory.
@@ -105,9 +130,11 @@ impl<'p, 'a> Context<'p, 'a> {
     ) -> Result<Handed, Memory>
         ensures { IfOk result (λ handed. IsPassed (spec.by_value (context_of self.now) (scope_of scope.now) own.now pos unsigned (tree.expression_of argument.now)) handed) }
     {
-        let path = path_at(alloc, own, pos)?;
-        let value = word(alloc, self.numbers, scope, argument)?.value;
-        let copied = self.stored(alloc, path.as_slice(), pos, value)?;
+        let path = path_at(alloc, own, pos);
+        let value = word(alloc, self.numbers, scope, argument);
+        let (path, value) = both(path, value)?;
+        let copied = self.stored(alloc, path.as_slice(), pos, value.value);
+        let (path, copied) = beside(path, copied)?;
         Ok(Handed {
             copied,
             entity: Entity::Word(path, unsigned),
@@ -158,11 +185,13 @@ impl<'p, 'a> Context<'p, 'a> {
     {
         match array {
             Entity::Array(path, words, unsigned) => {
-                let array = path.copy(alloc)?;
-                let own = path_at(alloc, own, pos)?;
-                let value = word(alloc, self.numbers, scope, index)?.value;
-                let test = index_test(alloc, value, *words, array_pos)?;
-                let copied = self.stored(alloc, own.as_slice(), pos, test)?;
+                let array = path.copy(alloc);
+                let own = path_at(alloc, own, pos);
+                let paths = both(array, own);
+                let test = self.tested(alloc, scope, index, *words, array_pos);
+                let ((array, own), test) = both(paths, test)?;
+                let copied = self.stored(alloc, own.as_slice(), pos, test);
+                let ((array, own), copied) = beside((array, own), copied)?;
                 Ok(Handed {
                     copied,
                     entity: Entity::Element(array, own, *unsigned),
@@ -176,6 +205,23 @@ impl<'p, 'a> Context<'p, 'a> {
             Entity::Constant(_) => stands_for(alloc, None),
             Entity::Unknown => stands_for(alloc, None),
         }
+    }
+
+    /// An index that is tested by the length of an array. The one error is want of memory.
+    #[tactic(auto)]
+    fn tested(
+        &self,
+        alloc: Global,
+        scope: &Scope<'a>,
+        index: &Expr,
+        words: u32,
+        pos: Pos,
+    ) -> Result<Kx, Memory>
+        ensures { IfOk result (λ test. kernel.expression_of test ≡ spec.index_test (context_of self.now) (scope_of scope.now) (tree.expression_of index.now) words pos) }
+    {
+        let index = word(alloc, self.numbers, scope, index)?;
+        let test = index_test(alloc, index.value, words, pos)?;
+        Ok(test)
     }
 
     /// The copy of a parameter's variable of this path, which holds a word. The one error is want of memory.

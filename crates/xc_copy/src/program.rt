@@ -10,11 +10,11 @@ ghost use Rattle.xc_copy.specs.Contexts.{ports_from};
 ghost use Rattle.xc_copy.specs.Functions.{function_of, functions_of};
 ghost use Rattle.xc_copy.specs.Numbers.{numbering_of};
 ghost use Rattle.xc_copy.specs.Ports.{names_among, names_of_ports};
-ghost use Rattle.xc_copy.specs.Roots.{rooted_by, rooted_of};
+ghost use Rattle.xc_copy.specs.Roots.{numbering_by, rooted_by, rooted_of};
 
 use crate::context::Context;
 use crate::functions::Functions;
-use crate::memory::beside;
+use crate::memory::{beside, both};
 use crate::numbers::Numbers;
 use crate::roots::{Rooted, core_of, pos_of_place};
 use crate::scope::Scope;
@@ -32,37 +32,61 @@ const MAIN: &[u8] = b"main";
 pub fn copy(alloc: Global, tree: &Tree) -> Result<Kernel, Memory>
     ensures { IfOk result (λ k. Copies (program_of tree.now) (kernel_of k)) }
 {
-    let functions = Functions::of_tree(alloc, tree)?;
-    let names = port_names(alloc, tree)?;
-    let ports = port_uses(alloc, tree)?;
+    let functions = Functions::of_tree(alloc, tree);
+    let names = port_names(alloc, tree);
+    let (functions, names) = both(functions, names)?;
+    let walked = walked(alloc, &functions, names.as_slice());
+    let ports = port_uses(alloc, tree);
+    let ((numbers, rooted), ports) = both(walked, ports)?;
+    let main = main_pos(functions.named(MAIN));
+    Ok(kernel_by(numbers, rooted, ports, main))
+}
+
+/// The numbering of a program's instances, and its roots by this numbering. The one error is as for `copy`.
+fn walked<'a>(
+    alloc: Global,
+    functions: &Functions<'a>,
+    ports: &[&'a [u8]],
+) -> Result<(Numbers, Rooted), Memory>
+    ensures numbers { IfOk result (λ r. numbering_of r.0 ≡ numbering_by (functions_of functions.now) (ports_from 0 ports.now)) }
+    ensures roots { IfOk result (λ r. rooted_of r.1 (rooted_by (functions_of functions.now) (ports_from 0 ports.now) (numbering_by (functions_of functions.now) (ports_from 0 ports.now))).made.scope ≡ rooted_by (functions_of functions.now) (ports_from 0 ports.now) (numbering_by (functions_of functions.now) (ports_from 0 ports.now))) }
+{
+    let numbers = numbered(alloc, functions, ports)?;
+    let rooted = rooted(alloc, functions, ports, &numbers);
+    let (numbers, rooted) = beside(numbers, rooted)?;
+    Ok((numbers, rooted))
+}
+
+/// The numbering of a program's instances, which a walk without one finds. The one error is as for `copy`.
+fn numbered<'a>(
+    alloc: Global,
+    functions: &Functions<'a>,
+    ports: &[&'a [u8]],
+) -> Result<Numbers, Memory>
+    ensures { IfOk result (λ numbers. numbering_of numbers ≡ numbering_by (functions_of functions.now) (ports_from 0 ports.now)) }
+{
     let none = Numbers::none(alloc);
-    let walked = rooted(alloc, &functions, names.as_slice(), &none);
+    let walked = rooted(alloc, functions, ports, &none);
     drop(none);
     let first = walked?;
     let numbers = Numbers::of_copy(alloc, first.made)?;
-    let second = rooted(alloc, &functions, names.as_slice(), &numbers);
-    let (numbers, second) = beside(numbers, second)?;
-    let main = main_pos(functions.named(MAIN));
-    Ok(kernel_by(numbers, second, ports, main))
+    Ok(numbers)
 }
 
 /// The kernel by its numbers, its roots and their instances, its ports, and the place of main's name.
 fn kernel_by(numbers: Numbers, rooted: Rooted, ports: List<PortUse>, main: Pos) -> Kernel
     ensures { kernel_of result ≡ record { roots = map root_of rooted.roots; variables = numbers.variables.items; channels = numbers.channels.items; timers = numbers.timers.items; ports = ports; instances = rooted.made.instances.items; main = main } }
 {
-    let Numbers {
-        variables,
-        channels,
-        timers,
-        ..
-    } = numbers;
+    let (vars, chans, timers) = numbers.into_lists();
+    let Rooted { made, roots } = rooted;
+    let insts = made.into_instances();
     Kernel {
-        roots: rooted.roots,
-        vars: List::from_vec(variables),
-        chans: List::from_vec(channels),
-        timers: List::from_vec(timers),
+        roots,
+        vars,
+        chans,
+        timers,
         ports,
-        insts: List::from_vec(Vec::from(rooted.made.instances)),
+        insts,
         main,
     }
 }

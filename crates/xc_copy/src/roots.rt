@@ -318,7 +318,7 @@ pub fn pos_of_place(other: Pos, place: &Option<At>) -> Pos
 }
 
 /// The statements directly in a block.
-#[tactic(auto, using(xc_tree::proofs::Forms::forms))]
+#[tactic(auto, using(crate::proofs::Laws::Expressions::actions))]
 fn in_block(s: &Stmt) -> &[Stmt]
     ensures { plain.statements (map tree.statement_of result.now) ≡ spec.in_block (tree.statement_of s.now) }
 {
@@ -360,7 +360,7 @@ fn block_has_placed(ss: &[Stmt]) -> bool
 
 /// Whether a statement is a `par` with a placed branch; one that is replicated has branches where its first number is below its
 /// second.
-#[tactic(auto, using(xc_tree::proofs::Forms::forms, crate::proofs::Laws::Roots::is_placed_as))]
+#[tactic(auto, using(crate::proofs::Laws::Expressions::actions, crate::proofs::Laws::Roots::is_placed_as))]
 fn has_placed(s: &Stmt) -> bool
     ensures { result ≡ spec.action_has_placed (tree.action_of (out-Stmt s.now).kind) }
 {

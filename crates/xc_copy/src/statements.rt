@@ -19,12 +19,13 @@ ghost use Rattle.xc_copy.specs.Scopes.{scope_of};
 use crate::context::Context;
 use crate::copied::Copied;
 use crate::expressions::word;
-use crate::flow::{LoopPaths, if_copy};
+use crate::flow::if_copy;
+use crate::memory::{after, beside, both};
 use crate::parts::{Branched, Cased};
-use crate::paths::{path_at, path_of_branch};
+use crate::paths::path_at;
 use crate::scope::{Entity, Scope};
 use std::alloc::Global;
-use xc_kernel::{Kst, Kx};
+use xc_kernel::Kst;
 use xc_tree::symbols::EQUALS;
 use xc_tree::{Arg, Branch, Case, DeclKind, Declared, Expr, FuncItem, Id, Rhs, St, Stmt};
 use xw_words::{List, Memory, Pos};
@@ -108,8 +109,8 @@ impl<'p, 'a> Context<'p, 'a> {
     {
         let mut copied = Copied::nothing(alloc);
         for s in ss {
-            let next = self.statement(alloc, calls, s, scope)?;
-            copied.join(next)?;
+            let next = self.statement(alloc, calls, s, scope);
+            copied = copied.with_next(next)?;
         }
         Ok(copied)
     }
@@ -146,8 +147,8 @@ impl<'p, 'a> Context<'p, 'a> {
     {
         let mut copied = Copied::nothing(alloc);
         for d in ds {
-            let next = self.declaration(alloc, calls, d, scope)?;
-            copied.join(next)?;
+            let next = self.declaration(alloc, calls, d, scope);
+            copied = copied.with_next(next)?;
         }
         Ok(copied)
     }
@@ -169,8 +170,8 @@ impl<'p, 'a> Context<'p, 'a> {
         match &d.kind {
             DeclKind::Word(unsigned, right) => {
                 let declared = self.declares_word(alloc, scope, name, pos, *unsigned)?;
-                let initial = self.initial(alloc, calls, pos, right, scope)?;
-                let copied = declared.followed_by(initial)?;
+                let initial = self.initial(alloc, calls, pos, right, scope);
+                let copied = declared.with_next(initial)?;
                 Ok(copied)
             }
             DeclKind::Array(unsigned, words, _) => {
@@ -201,7 +202,7 @@ impl<'p, 'a> Context<'p, 'a> {
                 Ok(zeroed)
             }
             Some(right) => {
-                let called = self.right(alloc, calls, right, scope)?;
+                let called = self.right(alloc, calls, right, scope);
                 let copied = self.stored_behind(alloc, called, path.as_slice(), right, scope)?;
                 Ok(copied)
             }
@@ -227,7 +228,7 @@ impl<'p, 'a> Context<'p, 'a> {
             let value = self.typed(alloc, right, scope)?;
             return self.update(alloc, to, symbol, pos, value, scope);
         }
-        let called = self.right(alloc, calls, right, scope)?;
+        let called = self.right(alloc, calls, right, scope);
         let copied = self.assigned_behind(alloc, called, to, right, scope)?;
         Ok(copied)
     }
@@ -250,7 +251,7 @@ impl<'p, 'a> Context<'p, 'a> {
                 Ok(left)
             }
             Some(right) => {
-                let called = self.right(alloc, calls, right, scope)?;
+                let called = self.right(alloc, calls, right, scope);
                 let copied = self.returned_behind(alloc, called, right, scope)?;
                 Ok(copied)
             }
@@ -317,11 +318,12 @@ impl<'p, 'a> Context<'p, 'a> {
         requires { height (tree.statement_of function.now.body) ≤ deepest self.now.functions.now.all.items }
         ensures { IfOk result (λ copied. copy_of copied (scope_of scope.now) ≡ calls_spec.function_copy (spec.statement_copy (spec.calls_copy calls)) (context_of self.now) (scope_of scope.now) own.now (function_of function.now) (map tree.argument_of args.now)) }
     {
-        let result = path_at(alloc, own, function.name.pos)?;
-        let mut entered = self.all_passed(alloc, scope, own, function.params.as_slice(), args)?;
+        let result = path_at(alloc, own, function.name.pos);
+        let entered = self.all_passed(alloc, scope, own, function.params.as_slice(), args);
+        let (result, mut entered) = both(result, entered)?;
         let body = (&*self)
             .in_function(own, result.as_slice())
-            .statement(alloc, calls, &function.body, &mut entered.scope)?;
+            .statement(alloc, calls, &function.body, &mut entered.scope);
         let copied = self.around_body(
             alloc,
             own,
@@ -348,8 +350,9 @@ impl<'p, 'a> Context<'p, 'a> {
         ensures { IfOk result (λ copied. copy_of copied (scope_of scope.new) ≡ flow.if_parts (contexts.expression (context_of self.now) (scope_of scope.old) (tree.expression_of test.now)) (spec.statement_copy (spec.calls_copy calls) (tree.statement_of first.now) (context_of self.now) (scope_of scope.old)) (spec.maybe_copy (spec.calls_copy calls) (tree.maybe_of second.now) (context_of self.now))) }
     {
         let test = word(alloc, self.numbers, scope, test)?;
-        let first = self.statement(alloc, calls, first, scope)?;
-        let second = self.maybe(alloc, calls, second, scope)?;
+        let first = self.statement(alloc, calls, first, scope);
+        let (test, first) = beside(test, first)?;
+        let second = self.maybe(alloc, calls, second, scope);
         let copied = if_copy(alloc, test.value, first, second)?;
         Ok(copied)
     }
@@ -368,13 +371,14 @@ impl<'p, 'a> Context<'p, 'a> {
     ) -> Result<Copied, Memory>
         ensures { IfOk result (λ copied. copy_of copied (scope_of scope.new) ≡ flow.while_copy (context_of self.now) pos (contexts.expression (context_of self.now) (scope_of scope.old) (tree.expression_of test.now)) (spec.statement_copy (spec.calls_copy calls) (tree.statement_of body.now) (contexts.in_loop (context_of self.now) pos) (scope_of scope.old))) }
     {
-        let paths = self.loop_paths(alloc, pos)?;
-        let test = word(alloc, self.numbers, scope, test)?;
+        let paths = self.loop_paths(alloc, pos);
+        let test = word(alloc, self.numbers, scope, test);
+        let (paths, test) = both(paths, test)?;
         let body = (&*self)
             .in_loop(paths.whole.as_slice(), paths.turn.as_slice())
-            .statement(alloc, calls, body, scope)?;
+            .statement(alloc, calls, body, scope);
         let next = Copied::nothing(alloc);
-        let copied = self.loop_at(alloc, paths, test.value, next, body, None)?;
+        let copied = self.looped(alloc, paths, test.value, next, body)?;
         Ok(copied)
     }
 
@@ -395,11 +399,8 @@ impl<'p, 'a> Context<'p, 'a> {
         let paths = self.loop_paths(alloc, pos)?;
         let body = (&*self)
             .in_loop(paths.whole.as_slice(), paths.turn.as_slice())
-            .statement(alloc, calls, body, scope)?;
-        let test = word(alloc, self.numbers, scope, test)?;
-        let last = self.leave_unless(alloc, paths.whole.as_slice(), test.value)?;
-        let next = Copied::nothing(alloc);
-        let copied = self.loop_at(alloc, paths, Kx::Num(1), next, body, Some(last))?;
+            .statement(alloc, calls, body, scope);
+        let copied = self.looped_until(alloc, paths, body, test, scope)?;
         Ok(copied)
     }
 
@@ -419,19 +420,40 @@ impl<'p, 'a> Context<'p, 'a> {
     ) -> Result<Copied, Memory>
         ensures { IfOk result (λ copied. copy_of copied (scope_of scope.new) ≡ copies.in_scope_of (scope_of scope.old) (copies.followed_by (spec.maybe_copy (spec.calls_copy calls) (tree.maybe_of first.now) (context_of self.now) (scope_of scope.old)) (flow.for_parts (context_of self.now) pos (option_map tree.expression_of test.now) (spec.maybe_copy (spec.calls_copy calls) (tree.maybe_of next.now) (context_of self.now)) (spec.statement_copy (spec.calls_copy calls) (tree.statement_of body.now) (contexts.in_loop (context_of self.now) pos))))) }
     {
-        let paths = self.loop_paths(alloc, pos)?;
         let known = scope.len();
         let first = self.maybe(alloc, calls, first, scope)?;
-        let test = self.test_or_true(alloc, test, scope)?;
-        let inside = scope.len();
-        let next = self.maybe(alloc, calls, next, scope)?;
-        scope.leave(inside);
+        let turns = self.for_turns(alloc, calls, pos, test, next, body, scope);
+        let copied = first.with_next(turns)?;
+        scope.leave(known);
+        Ok(copied)
+    }
+
+    /// The copy of the turns of a `for`, whose word stands at a place.
+    #[inline(never)]
+    #[cycle(statement)]
+    fn for_turns(
+        &self,
+        alloc: Global,
+        calls: usize,
+        pos: Pos,
+        test: &Option<Expr>,
+        next: &'a Option<Box<Stmt>>,
+        body: &'a Stmt,
+        scope: &mut Scope<'a>,
+    ) -> Result<Copied, Memory>
+        ensures { IfOk result (λ copied. copy_of copied (scope_of scope.new) ≡ flow.for_parts (context_of self.now) pos (option_map tree.expression_of test.now) (spec.maybe_copy (spec.calls_copy calls) (tree.maybe_of next.now) (context_of self.now)) (spec.statement_copy (spec.calls_copy calls) (tree.statement_of body.now) (contexts.in_loop (context_of self.now) pos)) (scope_of scope.old)) }
+    {
+        let known = scope.len();
+        let paths = self.loop_paths(alloc, pos);
+        let test = self.test_or_true(alloc, test, scope);
+        let (paths, test) = both(paths, test)?;
+        let next = self.maybe(alloc, calls, next, scope);
+        let ((paths, test), next) = beside((paths, test), next)?;
+        scope.leave(known);
         let body = (&*self)
             .in_loop(paths.whole.as_slice(), paths.turn.as_slice())
-            .statement(alloc, calls, body, scope)?;
-        scope.leave(known);
-        let repeated = self.loop_at(alloc, paths, test, next, body, None)?;
-        let copied = first.followed_by(repeated)?;
+            .statement(alloc, calls, body, scope);
+        let copied = self.looped(alloc, paths, test, next, body)?;
         Ok(copied)
     }
 
@@ -449,13 +471,31 @@ impl<'p, 'a> Context<'p, 'a> {
     {
         let mut branches = Branched::none(alloc);
         for (index, b) in bs.iter().enumerate() {
-            let path = self.branch_path(alloc, index)?;
-            let copied = (&*self)
-                .in_branch(path.as_slice())
-                .statement(alloc, calls, &b.body, scope)?;
-            branches = branches.and(alloc, b.body.pos, copied)?;
+            let copied = self.branch(alloc, calls, index, b, scope);
+            let (before, copied) = beside(branches, copied)?;
+            branches = before.and(alloc, b.body.pos, copied)?;
         }
         let copied = branches.as_par(alloc)?;
+        Ok(copied)
+    }
+
+    /// The copy of the branch of a `par` with this index.
+    #[inline(never)]
+    #[cycle(statement)]
+    fn branch(
+        &self,
+        alloc: Global,
+        calls: usize,
+        index: usize,
+        b: &'a Branch,
+        scope: &mut Scope<'a>,
+    ) -> Result<Copied, Memory>
+        ensures { IfOk result (λ copied. copy_of copied (scope_of scope.new) ≡ spec.branch_copy (spec.calls_copy calls) (tree.branch_of b.now) (contexts.in_branch (context_of self.now) index) (scope_of scope.old)) }
+    {
+        let path = self.branch_path(alloc, index)?;
+        let copied = (&*self)
+            .in_branch(path.as_slice())
+            .statement(alloc, calls, &b.body, scope)?;
         Ok(copied)
     }
 
@@ -474,18 +514,35 @@ impl<'p, 'a> Context<'p, 'a> {
     ) -> Result<Copied, Memory>
         ensures { IfOk result (λ copied. copy_of copied (scope_of scope.new) ≡ flow.par_copy (flow.replicated (flow.numbered_copy (spec.branch_copy (spec.calls_copy calls) (tree.branch_of b.now)) (context_of self.now) (scope_of scope.old) name.now.text) (spec.pos_of_branch (tree.branch_of b.now)) (scope_of scope.old) (until - from) 0 from)) }
     {
-        let known = scope.len();
         let mut branches = Branched::none(alloc);
         for number in from..until {
-            let path = path_of_branch(alloc, self.path, number - from)?;
-            scope.declare(name.text.as_slice(), Entity::Constant(number))?;
-            let copied = (&*self)
-                .in_branch(path.as_slice())
-                .statement(alloc, calls, &b.body, scope)?;
-            scope.leave(known);
-            branches = branches.and(alloc, b.body.pos, copied)?;
+            let copied = self.numbered(alloc, calls, name, number - from, number, b, scope);
+            let (before, copied) = beside(branches, copied)?;
+            branches = before.and(alloc, b.body.pos, copied)?;
         }
         let copied = branches.as_par(alloc)?;
+        Ok(copied)
+    }
+
+    /// The copy of a replicated branch with this index, in which a name stands for a number.
+    #[inline(never)]
+    #[cycle(statement)]
+    fn numbered(
+        &self,
+        alloc: Global,
+        calls: usize,
+        name: &'a Id,
+        index: u32,
+        number: u32,
+        b: &'a Branch,
+        scope: &mut Scope<'a>,
+    ) -> Result<Copied, Memory>
+        ensures { IfOk result (λ copied. copy_of copied (scope_of scope.new) ≡ flow.numbered_copy (spec.branch_copy (spec.calls_copy calls) (tree.branch_of b.now)) (context_of self.now) (scope_of scope.old) name.now.text index number) }
+    {
+        let known = scope.len();
+        scope.declare(name.text.as_slice(), Entity::Constant(number))?;
+        let copied = self.branch(alloc, calls, index as usize, b, scope)?;
+        scope.leave(known);
         Ok(copied)
     }
 
@@ -505,7 +562,8 @@ impl<'p, 'a> Context<'p, 'a> {
         let known = scope.len();
         let mut cases = Cased::none(alloc);
         for case in cs {
-            self.case(alloc, calls, case, &mut cases, scope)?;
+            let added = self.case(alloc, calls, case, &mut cases, scope);
+            cases = after(added, cases)?;
             scope.leave(known);
         }
         let copied = cases.as_select(alloc, pos)?;
@@ -526,11 +584,12 @@ impl<'p, 'a> Context<'p, 'a> {
         ensures cases { OnOk result ((others : flow.Cased) → cased_before cases.new others ≡ cased_before cases.old (spec.case_copy (spec.calls_copy calls) (tree.case_of case.now) (context_of self.now) (scope_of scope.old) others)) }
         ensures names { OnOk result (Grows (scope_of scope.old) (scope_of scope.new)) }
     {
-        let path = path_at(alloc, self.path, case.pos)?;
-        let opened = self.opened(alloc, case, scope)?;
+        let path = path_at(alloc, self.path, case.pos);
+        let opened = self.opened(alloc, case, scope);
+        let (path, opened) = both(path, opened)?;
         let body = (&*self)
             .in_case(path.as_slice())
-            .statements(alloc, calls, case.body.as_slice(), scope)?;
+            .statements(alloc, calls, case.body.as_slice(), scope);
         self.add_case(alloc, path, opened, body, cases)?;
         Ok(())
     }

@@ -212,8 +212,9 @@ impl<'p, 'a> Context<'p, 'a> {
         ensures { IfOk result (λ copied. copy_of copied (scope_of scope.new) ≡ contexts.declares_word (context_of self.now) name.now pos unsigned (scope_of scope.old)) }
     {
         let path = path_at(alloc, self.path, pos)?;
-        let variable = self.word_variable(alloc, true, path.as_slice(), pos)?;
-        scope.declare(name, Entity::Word(path, unsigned))?;
+        let variable = self.word_variable(alloc, true, path.as_slice(), pos);
+        let declared = scope.declare(name, Entity::Word(path, unsigned));
+        let (_, variable) = both(declared, variable)?;
         let copied = Copied::nothing(alloc).and_variable(variable)?;
         Ok(copied)
     }

@@ -28,6 +28,9 @@ pub copied_as : {actual expected : Copy} (scope : Scope) (r : Result Copied Memo
 copied_as scope (Ok copied) e h = h ∙ e
 copied_as scope (Err why) e h = h
 
+pub copied_in : {x y : Context} (scope : Scope) (copy : Context → Scope → Copy) (after : Scope) (r : Result Copied Memory) → x ≡ y → IfOk r (λ copied. copy_of copied after ≡ copy x scope) → IfOk r (λ copied. copy_of copied after ≡ copy y scope)
+copied_in scope copy after r e h = copied_as after r (ap (λ x. copy x scope) e) h
+
 module _ (copies : CopiesCall) (s : Stmt) (c : Context) (before : Scope) where
   action_copied : {k : St} {a : tree.Action} → s.kind ≡ k → action_of k ≡ a → action_copy copies a s.pos s.close c before ≡ statement_copy copies (statement_of s) c before
   action_copied e f =

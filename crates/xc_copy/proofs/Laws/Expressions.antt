@@ -1,5 +1,15 @@
--- By what the walk over expressions meets plain data.
-use Rattle.xc_tree.proofs.Forms.{forms as tree_forms}
-use Rattle.xc_kernel.proofs.Forms.{made}
+-- By what the walk meets plain data.
+use Rattle.xc_tree.proofs.Forms.{expression-Expr, form-Num, form-Name, form-Index, form-Un, form-Bin, form-Cond, form-Cast, statement-Stmt, action-Empty, action-Block, action-Decl, action-Assign, action-Step, action-Do, action-Output, action-Input, action-If, action-While, action-DoWhile, action-For, action-Return, action-Break, action-Continue, action-Par, action-Repl, action-Select, action-Tran}
+use Rattle.xc_kernel.proofs.Forms.{expression-Num, expression-Read, expression-Op, place-Word, place-Elem, statement-Zero, statement-Set, statement-Exit, statement-Block, statement-Loop, statement-If}
 
-pub ruleset words = (tree_forms, made)
+-- in an expression of the kernel
+pub ruleset values = (expression-Num, expression-Read, expression-Op, place-Word, place-Elem)
+
+-- in an expression
+pub ruleset words = (expression-Expr, form-Num, form-Name, form-Index, form-Un, form-Bin, form-Cond, form-Cast, values)
+
+-- in a statement
+pub ruleset actions = (statement-Stmt, action-Empty, action-Block, action-Decl, action-Assign, action-Step, action-Do, action-Output, action-Input, action-If, action-While, action-DoWhile, action-For, action-Return, action-Break, action-Continue, action-Par, action-Repl, action-Select, action-Tran)
+
+-- in a statement of the kernel
+pub ruleset steps = (statement-Zero, statement-Set, statement-Exit, statement-Block, statement-Loop, statement-If, place-Word)

@@ -1,5 +1,5 @@
 -- What the walk meets in a loop is nearer the end, and leaves the names that were known before it; and cases, by their parts.
-use Rattle.std.proofs.Common.{◌≡◌, ℕ, ◌+◌, ◌*◌, ◌<◌, List, [], length, get_or, map, Option, Some, None, arith, refl, ap, sym, subst, ◌∙◌}
+use Rattle.std.proofs.Common.{◌≡◌, ℕ, ◌+◌, ◌*◌, ◌<◌, List, [], length, get_or, map, Option, Some, None, Bool, true, Result, Ok, Err, is_ok, IfOk, arith, refl, ap, sym, subst, ◌∙◌}
 use Rattle.std.specs.Option.{option_map}
 use Rattle.xc_tree.proofs.Forms.{case-Case}
 use Rattle.xc_tree.specs.declared.tree.Branch.{Branch}
@@ -9,21 +9,25 @@ use Rattle.xc_tree.specs.declared.tree.Stmt.{Stmt}
 use Rattle.xc_tree.specs.Plain as tree
 use Rattle.xc_tree.specs.Trees as trees
 use Rattle.xc_kernel.specs.Calls.{CopiesCall, as_block}
-use Rattle.xc_kernel.specs.Context.{Context, in_case}
-use Rattle.xc_kernel.specs.Copy.{Copy}
+use Rattle.xc_kernel.specs.Context.{Context, in_case, in_loop}
+use Rattle.xc_kernel.specs.Copy.{Copy, joined, followed_by}
 use Rattle.xc_kernel.specs.Flow as flow
 use Rattle.xc_kernel.specs.Paths.{Path, path_at}
 use Rattle.xc_kernel.specs.Scopes.{Scope, Entity, with_name}
-use Rattle.xc_kernel.specs.Statements.{statement_copy, statements_copy, case_copy, calls_copy}
+use Rattle.xc_kernel.specs.Statements.{statement_copy, statements_copy, maybe_copy, branch_copy, case_copy, calls_copy}
+use Rattle.xw_words.specs.declared.memory.Memory.{Memory}
+use Rattle.xw_words.specs.declared.pos.Pos.{Pos}
+use Rattle.xc_copy.specs.Copied.{copy_of}
 use Rattle.xc_copy.specs.declared.behind.Opened.{Opened}
+use Rattle.xc_copy.specs.declared.copied.Copied.{Copied}
 use Rattle.xc_copy.specs.declared.parts.Cased.{Cased}
 use Rattle.xc_copy.specs.Cases.{case_by}
 use Rattle.xc_copy.specs.Growth.{Grows}
 use Rattle.xc_copy.specs.Heights.{height, height_of_statements, height_of_branch, height_of_branches, height_of_case, height_of_cases}
 use Rattle.xc_copy.specs.Parts.{cased_before}
-use Rattle.xc_copy.proofs.Laws.Actions.{height_in_statements, height_in_branches, height_in_branch, height_in_cases, height_in_case}
+use Rattle.xc_copy.proofs.Laws.Actions.{in_branch_of, height_in_statements, height_in_branches, height_in_branch, height_in_cases, height_in_case}
 use Rattle.xc_copy.proofs.Laws.Depths.{distance, down}
-use Rattle.xc_copy.proofs.Laws.Growth.{calls_keep, further, grown_by, statement_grows, with_one}
+use Rattle.xc_copy.proofs.Laws.Growth.{calls_keep, further, grown_by, maybe_grows, statement_grows, with_one}
 
 -- Further down.
 
@@ -38,12 +42,11 @@ branch_below n d e b left same =
     let high = height_in_branch b in
     down n d e (height_of_branch (trees.branch_of b)) 1 (height (trees.statement_of b.body)) 0 left same (omega (arith, high))
 
--- the statement of one of some branches
-pub branches_below : (n d e : ℕ) (bs : List Branch) (i : ℕ) (b : Branch) {t : ℕ} → distance n d (height_of_branches (tree.branches (map trees.branch_of bs))) 1 ≡ t → e ≡ d → b ≡ get_or bs i b → i < length bs → distance n e (height (trees.statement_of b.body)) 0 < t
-branches_below n d e bs i b left same is h =
+-- one of some branches
+pub branches_below : (n d : ℕ) (bs : List Branch) (i : ℕ) (b : Branch) {t : ℕ} → distance n d (height_of_branches (tree.branches (map trees.branch_of bs))) 2 ≡ t → b ≡ get_or bs i b → i < length bs → distance n d (height_of_branch (trees.branch_of b)) 1 < t
+branches_below n d bs i b left is h =
     let high = height_in_branches bs i b is h in
-    let body = height_in_branch b in
-    down n d e (height_of_branches (tree.branches (map trees.branch_of bs))) 1 (height (trees.statement_of b.body)) 0 left same (omega (arith, high, body))
+    down n d d (height_of_branches (tree.branches (map trees.branch_of bs))) 2 (height_of_branch (trees.branch_of b)) 1 left refl (omega (arith, high))
 
 pub case_below : (n d : ℕ) (cs : List Case) (i : ℕ) (x : Case) {t : ℕ} → distance n d (height_of_cases (tree.cases (map trees.case_of cs))) 3 ≡ t → x ≡ get_or cs i x → i < length cs → distance n d (height_of_case (trees.case_of x)) 2 < t
 case_below n d cs i x left is h =
@@ -63,13 +66,25 @@ body_below n d e x ss left same is =
 pub grown_from : {first now after : Scope} → now ≡ first → Grows now after → Grows first after
 grown_from {after = after} e g = subst (λ s. Grows s after) e g
 
--- a statement in which a name stands for a number
-pub numbered_grows : (n : ℕ) (s : tree.Statement) (c : Context) (name : List ℕ) (e : Entity) {first now named : Scope} {copy : Copy} → now ≡ first → named ≡ with_name now name e → copy ≡ statement_copy (calls_copy n) s c named → Grows first copy.scope
-numbered_grows n s c name e {first} same named copied =
-    grown_by first copied
+-- a branch in which a name stands for a number
+pub numbered_grows : (n : ℕ) (b : Branch) (c : Context) (name : List ℕ) (e : Entity) {first named : Scope} {copy : Copy} → named ≡ with_name first name e → copy ≡ branch_copy (calls_copy n) (trees.branch_of b) c named → Grows first copy.scope
+numbered_grows n b c name e {first} {named} is copied =
+    grown_by first (copied ∙ sym (in_branch_of (calls_copy n) b c named))
     (further
-    (subst (λ x. Grows first x) (sym (named ∙ ap (λ x. with_name x name e) same)) (with_one first name e))
-    (statement_grows (calls_copy n) (calls_keep n) s c _))
+    (subst (λ x. Grows first x) (sym is) (with_one first name e))
+    (statement_grows (calls_copy n) (calls_keep n) (trees.statement_of b.body) c named))
+
+-- a `for`, within its scope
+pub for_grows : (n : ℕ) (c : Context) (pos : Pos) (scope : Scope) (test : Option tree.Expression) (next : Scope → Copy) (first : tree.Maybe) (s : tree.Statement) {f copy : Copy} →
+    f ≡ maybe_copy (calls_copy n) first c scope → copy ≡ joined f (flow.for_parts c pos test next (statement_copy (calls_copy n) s (in_loop c pos)) f.scope) → Grows scope copy.scope
+for_grows n c pos scope test next first s f copied =
+    grown_by scope (copied ∙ λ i. followed_by (f i) (flow.for_parts c pos test next (statement_copy (calls_copy n) s (in_loop c pos))))
+    (further (maybe_grows (calls_copy n) (calls_keep n) first c scope) (statement_grows (calls_copy n) (calls_keep n) s (in_loop c pos) _))
+
+-- the names behind what was made
+pub grown_where : (r : Result Copied Memory) (before after : Scope) (whole : Copy) → is_ok r ≡ true → IfOk r (λ x. copy_of x after ≡ whole) → Grows before whole.scope → Grows before after
+grown_where (Ok x) before after whole made is grows = grown_by before is grows
+grown_where (Err e) before after whole made is grows = let never : ⊥ = cc in absurd never
 
 -- Cases.
 

@@ -1,5 +1,5 @@
 -- What is handed to the parameters of a function.
-use Rattle.std.proofs.Common.{◌≡◌, ℕ, zero, suc, ◌+◌, ◌-◌, ◌<◌, ◌≤◌, List, [], ◌∷◌, ◌++◌, length, drop, get_or, map, min, Option, Some, None, arith, refl, ap, sym, ◌∙◌}
+use Rattle.std.proofs.Common.{◌≡◌, ℕ, zero, suc, ◌+◌, ◌-◌, ◌<◌, ◌≤◌, List, [], ◌∷◌, ◌++◌, length, drop, get_or, map, min, Option, Some, None, arith, refl, ap, subst, sym, ◌∙◌}
 use Rattle.std.specs.Borrow.{Bor}
 use Rattle.xc_tree.specs.declared.tree.Param.{Param}
 use Rattle.xc_tree.specs.declared.tree.Arg.{Arg}
@@ -11,7 +11,8 @@ use Rattle.xc_kernel.specs.Copy.{Copy, no_copy, joined}
 use Rattle.xc_kernel.specs.Context.{Context}
 use Rattle.xc_kernel.specs.Parameters.{Passed, passed, and_passed, all_passed}
 use Rattle.xc_copy.specs.Contexts.{ports_from}
-use Rattle.xc_copy.specs.Handed.{passed_copy}
+use Rattle.xc_copy.specs.Handed.{IsPassed, passed_copy}
+use Rattle.xc_copy.specs.declared.parameters.Handed.{Handed}
 use Rattle.xc_copy.proofs.Laws.Lists.{drop_item}
 
 drop_whole : {X : Type 0} (xs : List X) → drop (length xs) xs ≡ []
@@ -49,6 +50,10 @@ passed_end c scope own (p ∷ ps) (a ∷ args) (suc n) h = passed_end c scope ow
 -- a parameter before the others
 pub passed_before : (name : List ℕ) (p : Passed) (others : Copy) {handed both : Copy} {scope : Scope} {entity : Entity} → handed ≡ passed_copy p scope → entity ≡ p.entity → both ≡ joined handed (record others { scope = with_name others.scope name entity }) → both ≡ and_passed name p others
 passed_before name p others handed entity both = both ∙ λ i. joined (handed i) (record others { scope = with_name others.scope name (entity i) })
+
+-- what is handed for what is passed, by another name of it
+pub handed_as : {p q : Passed} {h : Handed} → p ≡ q → IsPassed p h → IsPassed q h
+handed_as {h = h} e is = subst (λ x. IsPassed x h) e is
 
 -- the parameter and the argument at a place before those behind them
 pub passed_step : (c : Context) (scope : Scope) (own : Path) (ps : List Param) (args : List Arg) (n m : ℕ) (p : Param) (a : Arg) → n ≡ m + 1 → p ≡ get_or ps m p → a ≡ get_or args m a → m < length ps → m < length args →

@@ -19,22 +19,14 @@ pub if_done : {test e : kernel.Expression} {first a b r : Copy} (second : Scope 
 if_done second e a b r = r ∙ λ i. if_copy (e i) (a i) ((b ∙ λ j. second (a j).scope) i)
 
 -- loops, with their word at a place
-pub while_done : (c : Context) (pos : Pos) {test e : kernel.Expression} {path : Path} {body b r : Copy} (scope : Scope) → e ≡ test → path ≡ path_at c.path pos → b ≡ body → r ≡ loop_at c path e (turn c path b.code []) (code_of (no_copy scope)) (joined (no_copy scope) b) → r ≡ while_copy c pos test body
-while_done c pos scope e path b r = r ∙ λ i. loop_at c (path i) (e i) (turn c (path i) (b i).code []) (code_of (no_copy scope)) (joined (no_copy scope) (b i))
+pub while_done : (c : Context) (pos : Pos) {test e : kernel.Expression} {path : Path} {n r : Copy} (scope : Scope) (body : Copy) → e ≡ test → path ≡ path_at c.path pos → n ≡ no_copy scope → r ≡ loop_at c path e (turn c path body.code []) (code_of n) (joined n body) → r ≡ while_copy c pos test body
+while_done c pos scope body e path n r = r ∙ λ i. loop_at c (path i) (e i) (turn c (path i) body.code []) (code_of (n i)) (joined (n i) body)
 
 pub do_done : (c : Context) (pos : Pos) (test : tree.Expression) {e : kernel.Expression} {last : kernel.Statement} {path : Path} {body b r : Copy} (scope : Scope) → e ≡ expression c b.scope test → path ≡ path_at c.path pos → b ≡ body → last ≡ leave_unless c path e → r ≡ loop_at c path (kernel.number 1) (turn c path b.code (last ∷ [])) (code_of (no_copy scope)) (joined (no_copy scope) b) → r ≡ do_while_copy c pos test body
 do_done c pos test scope e path b last r =
     r ∙ λ i. loop_at c (path i) (kernel.number 1) (turn c (path i) (b i).code ((last ∙ λ j. leave_unless c (path j) ((e ∙ λ k. expression c (b k).scope test) j)) i ∷ [])) (code_of (no_copy scope)) (joined (no_copy scope) (b i))
 
 -- a `for`, which is a scope
-pub for_done : (c : Context) (pos : Pos) (scope : Scope) (test : Option tree.Expression) (next body : Scope → Copy) {first f n b loop : Copy} {r : Copy} {end : Scope} {e : kernel.Expression} {path : Path} →
-    f ≡ first → e ≡ test_or_true (maybe_expression c f.scope test) → n ≡ next f.scope → path ≡ path_at c.path pos → b ≡ body f.scope →
-    loop ≡ loop_at c path e (turn c path b.code []) (code_of n) (joined n b) → end ≡ scope → r ≡ in_scope_of end (joined f loop) →
-    r ≡ in_scope_of scope (followed_by first (for_parts c pos test next body))
-for_done c pos scope test next body {f = f} f' e n path b loop end r =
-    let loop = loop ∙ λ i. loop_at c (path i) (e i) (turn c (path i) (b i).code []) (code_of (n i)) (joined (n i) (b i)) in
-    r ∙ (λ i. in_scope_of (end i) (joined f (loop i))) ∙ λ i. in_scope_of scope (followed_by (f' i) (for_parts c pos test next body))
-
 -- an assignment by `=`
 pub set_done : (copies : CopiesCall) (c : Context) (scope : Scope) (to : tree.Expression) (right : tree.RightSide) {called one r : Copy} {s : kernel.Statement} → called ≡ right_copy copies c scope right → s ≡ kernel.set (place c scope to) (value_of c scope right) → one ≡ one_statement scope s → r ≡ joined called one → r ≡ set_copy copies c scope to right
 set_done copies c scope to right called s one r = r ∙ λ i. joined (called i) ((one ∙ ap (one_statement scope) s) i)

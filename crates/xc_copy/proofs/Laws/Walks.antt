@@ -110,6 +110,12 @@ module _ (copies : CopiesCall) (c : Context) where
   cases_all cs i h scope all so_far =
       sym (ap (λ xs. cased_before all (cases_copy copies xs c scope)) (cases_end cs i h)) ∙ so_far
 
+-- one more branch behind those that were held
+pub and_made : (after : Branched) (copy : Copy) {held before : Branched} {pos start : Pos} → held ≡ before → pos ≡ start →
+    ((others : flow.Branched) → branched_before after others ≡ branched_before held (flow.and_branch pos copy others)) →
+    (others : flow.Branched) → branched_before after others ≡ branched_before before (flow.and_branch start copy others)
+and_made after copy held pos made others = made others ∙ λ i. branched_before (held i) (flow.and_branch (pos i) copy others)
+
 -- numbered copies of a branch
 
 module _ (copy : ℕ → ℕ → Copy) (pos : Pos) (scope : Scope) (from until : ℕ) where

@@ -24,14 +24,14 @@ use Rattle.xc_copy.specs.Functions.{function_of, deepest}
 use Rattle.xc_copy.specs.Growth.{Grows}
 use Rattle.xc_copy.specs.Heights as heights
 use Rattle.xc_copy.specs.Scopes.{scope_of}
-use Rattle.xc_copy.proofs.Laws.Actions.{copied_as, height_by_action, by_action, call_by_action, action_block, action_declare, action_if, action_while, action_do, action_for, action_par, action_replicated, action_select, action_transaction, begins_at, in_branch_of}
+use Rattle.xc_copy.proofs.Laws.Actions.{copied_as, copied_in, height_by_action, by_action, call_by_action, action_block, action_declare, action_if, action_while, action_do, action_for, action_par, action_replicated, action_select, action_transaction, begins_at, in_branch_of}
 use Rattle.xc_copy.proofs.Laws.Growth.{calls_keep, further, grown_by, grown_fits, left_as, maybe_grows, statement_grows, statements_grow, target_grows}
-use Rattle.xc_copy.proofs.Laws.Pieces.{if_done, while_done, do_done, for_done, set_done, return_done, function_done, transaction_done, followed_done}
+use Rattle.xc_copy.proofs.Laws.Pieces.{if_done, while_done, do_done, set_done, return_done, function_done, transaction_done, followed_done}
 use Rattle.xc_copy.proofs.Laws.Depths.{down, enters_below}
 use Rattle.xc_kernel.specs.Scopes as scopes
 use Rattle.xc_copy.specs.Parts.{branched_before, cased_before}
-use Rattle.xc_copy.proofs.Laws.Loops.{statement_below, branch_below, branches_below, case_below, body_below, grown_from, numbered_grows, case_done}
-use Rattle.xc_copy.proofs.Laws.Walks.{statements_more, statements_all, declarations_more, declarations_all, branches_more, branches_all, cases_more, cases_all, numbered_begun, numbered_more, numbered_all}
+use Rattle.xc_copy.proofs.Laws.Loops.{statement_below, branch_below, branches_below, case_below, body_below, for_grows, grown_from, grown_where, numbered_grows, case_done}
+use Rattle.xc_copy.proofs.Laws.Walks.{statements_more, statements_all, declarations_more, declarations_all, branches_more, branches_all, and_made, cases_more, cases_all, numbered_begun, numbered_more, numbered_all}
 use Rattle.xc_copy.proofs.context.Context.+statement.Goals as goal
 
 pub statement-returns-in-Empty : goal.statement-returns-in-Empty
@@ -148,7 +148,7 @@ statement-do_while-requires t c =
 pub statement-for_loop-requires : goal.statement-for_loop-requires
 statement-for_loop-requires t c =
     let whole : ◌≡◌ {A = ℕ} (heights.height (tree.statement_of c.args.s.now)) ((max (heights.height_of_maybe (tree.maybe_of c.in-For.first)) (max (heights.height_of_maybe (tree.maybe_of c.in-For.next)) (heights.height (tree.statement_of c.deref-in-For.result.now)))) + 1) = height_by_action c.args.s.now c.in-For.is (action_for c.in-For.first c.in-For.test c.in-For.next c.in-For.body c.deref-in-For.ensures) in
-    (down c.args.calls (deepest c.args.self.now.functions.now.all.items) (deepest c.args.self.now.functions.now.all.items) (heights.height (tree.statement_of c.args.s.now)) 0 (max (heights.height_of_maybe (tree.maybe_of c.in-For.first)) (max (heights.height_of_maybe (tree.maybe_of c.in-For.next)) (heights.height (tree.statement_of c.deref-in-For.result.now)))) 2 c.decreases refl (omega (arith, whole)), tt)
+    (down c.args.calls (deepest c.args.self.now.functions.now.all.items) (deepest c.args.self.now.functions.now.all.items) (heights.height (tree.statement_of c.args.s.now)) 0 (max (heights.height_of_maybe (tree.maybe_of c.in-For.first)) (max (heights.height_of_maybe (tree.maybe_of c.in-For.next)) (heights.height (tree.statement_of c.deref-in-For.result.now)))) 3 c.decreases refl (omega (arith, whole)), tt)
 
 pub statement-return_with-requires : goal.statement-return_with-requires
 statement-return_with-requires t c =
@@ -158,12 +158,12 @@ statement-return_with-requires t c =
 pub statement-par-requires : goal.statement-par-requires
 statement-par-requires t c =
     let whole : ◌≡◌ {A = ℕ} (heights.height (tree.statement_of c.args.s.now)) ((heights.height_of_branches (plain.branches (map tree.branch_of c.as_slice-in-Par.result.now))) + 1) = height_by_action c.args.s.now c.in-Par.is (action_par c.in-Par.bs c.as_slice-in-Par.ensures) in
-    (down c.args.calls (deepest c.args.self.now.functions.now.all.items) (deepest c.args.self.now.functions.now.all.items) (heights.height (tree.statement_of c.args.s.now)) 0 (heights.height_of_branches (plain.branches (map tree.branch_of c.as_slice-in-Par.result.now))) 1 c.decreases refl (omega (arith, whole)), tt)
+    (down c.args.calls (deepest c.args.self.now.functions.now.all.items) (deepest c.args.self.now.functions.now.all.items) (heights.height (tree.statement_of c.args.s.now)) 0 (heights.height_of_branches (plain.branches (map tree.branch_of c.as_slice-in-Par.result.now))) 2 c.decreases refl (omega (arith, whole)), tt)
 
 pub statement-replicated-requires : goal.statement-replicated-requires
 statement-replicated-requires t c =
     let whole : ◌≡◌ {A = ℕ} (heights.height (tree.statement_of c.args.s.now)) ((heights.height_of_branch (tree.branch_of c.deref-in-Repl.result.now)) + 1) = height_by_action c.args.s.now c.in-Repl.is (action_replicated c.in-Repl.first c.in-Repl.second c.in-Repl.third c.in-Repl.from c.in-Repl.to c.in-Repl.body c.deref-in-Repl.ensures) in
-    (down c.args.calls (deepest c.args.self.now.functions.now.all.items) (deepest c.args.self.now.functions.now.all.items) (heights.height (tree.statement_of c.args.s.now)) 0 (heights.height_of_branch (tree.branch_of c.deref-in-Repl.result.now)) 1 c.decreases refl (omega (arith, whole)), tt)
+    (down c.args.calls (deepest c.args.self.now.functions.now.all.items) (deepest c.args.self.now.functions.now.all.items) (heights.height (tree.statement_of c.args.s.now)) 0 (heights.height_of_branch (tree.branch_of c.deref-in-Repl.result.now)) 3 c.decreases refl (omega (arith, whole)), tt)
 
 pub statement-select-requires : goal.statement-select-requires
 statement-select-requires t c =
@@ -221,7 +221,7 @@ declaration-returns-in_ok-copied-in-Word t c =
     let d = c.args.d.now in
     followed_done (declarations.initial_copy copies' here (path_at here.path d.name.pos) (option_map tree.right_of c.in-Word.right))
     (c.in_ok-declared-in-Word.ensures ∙ ap (λ name. contexts.declares_word here name d.name.pos c.in-Word.unsigned before) c.as_slice-name.ensures)
-    c.in_ok-initial-in-Word.ensures (c.in_ok-copied-in-Word.ensures inner inner)
+    refl (c.in_ok-copied-in-Word.ensures inner inner _ c.initial-initial.ensures)
     ∙ ap (λ k. declarations.kind_copy copies' here before d.name.text d.name.pos (tree.kind_of k)) (sym c.in-Word.is)
 
 pub declaration-returns-in-Array : goal.declaration-returns-in-Array
@@ -257,8 +257,8 @@ declaration-returns-in-Timer t c =
     ∙ ap (λ k. declarations.kind_copy copies' here before d.name.text d.name.pos (tree.kind_of k)) (sym c.in-Timer.is))
     c.timer.ensures
 
-pub declaration-initial-requires : goal.declaration-initial-requires
-declaration-initial-requires t c =
+pub declaration-initial-initial-requires : goal.declaration-initial-initial-requires
+declaration-initial-initial-requires t c =
     (down c.args.calls (deepest c.args.self.now.functions.now.all.items) (deepest c.args.self.now.functions.now.all.items) 0 5 0 4 c.decreases refl (omega arith), tt)
 
 pub initial-returns-in-None : goal.initial-returns-in-None
@@ -277,12 +277,12 @@ initial-returns t c =
     let path = path_at here.path c.args.pos in
     let copies' = spec.calls_copy c.args.calls in
     let value = calls_spec.value_of here scope (tree.right_of c.in-Some.right) in
-    c.in_ok-copied-in-Some.ensures scope
-    ∙ (λ i. copies.joined (c.in_ok-called-in-Some.ensures i) (copies.one_statement scope (contexts.set_word here ((c.as_slice-in-Some.ensures ∙ c.in_ok-path.ensures) i) value)))
+    c.in_ok-copied-in-Some.ensures scope _ c.right-called.ensures
+    ∙ (λ i. copies.joined (calls_spec.right_copy copies' here scope (tree.right_of c.in-Some.right)) (copies.one_statement scope (contexts.set_word here ((c.as_slice-in-Some.ensures ∙ c.in_ok-path.ensures) i) value)))
     ∙ ap (λ r. declarations.initial_copy copies' here path (option_map tree.right_of r) scope) (sym c.in-Some.is)
 
-pub initial-right-requires : goal.initial-right-requires
-initial-right-requires t c =
+pub initial-right-called-requires : goal.initial-right-called-requires
+initial-right-called-requires t c =
     (down c.args.calls (deepest c.args.self.now.functions.now.all.items) (deepest c.args.self.now.functions.now.all.items) 0 4 0 3 c.decreases refl (omega arith), tt)
 
 pub assign-returns-then-symbol-ne-EQUALS : goal.assign-returns-then-symbol-ne-EQUALS
@@ -305,11 +305,11 @@ assign-returns t c =
     let right = tree.right_of c.args.right.now in
     let copies' = spec.calls_copy c.args.calls in
     let same : nat_eq c.args.symbol 22 ≡ true = ap (λ s. nat_eq s 22) c.if-symbol-ne-EQUALS.false in
-    set_done copies' here scope to right c.in_ok-called.ensures refl refl (c.in_ok-copied.ensures scope)
+    set_done copies' here scope to right refl refl refl (c.in_ok-copied.ensures scope _ c.right-called.ensures)
     ∙ ap (spec.assign_by copies' here scope to c.args.symbol c.args.pos right) (sym same)
 
-pub assign-right-requires : goal.assign-right-requires
-assign-right-requires t c =
+pub assign-right-called-requires : goal.assign-right-called-requires
+assign-right-called-requires t c =
     (down c.args.calls (deepest c.args.self.now.functions.now.all.items) (deepest c.args.self.now.functions.now.all.items) 0 4 0 3 c.decreases refl (omega arith), tt)
 
 pub return_with-returns-in_ok-left-in-None : goal.return_with-returns-in_ok-left-in-None
@@ -323,11 +323,11 @@ return_with-returns-in_ok-copied-in-Some t c =
     let here = context_of c.args.self.now in
     let scope = scope_of c.args.scope.now in
     let copies' = spec.calls_copy c.args.calls in
-    return_done copies' here scope (tree.right_of c.in-Some.right) c.in_ok-called-in-Some.ensures refl refl refl refl refl (c.in_ok-copied-in-Some.ensures scope)
+    return_done copies' here scope (tree.right_of c.in-Some.right) refl refl refl refl refl refl (c.in_ok-copied-in-Some.ensures scope _ c.right-called.ensures)
     ∙ ap (λ r. spec.return_copy copies' here scope (option_map tree.right_of r)) (sym c.in-Some.is)
 
-pub return_with-right-requires : goal.return_with-right-requires
-return_with-right-requires t c =
+pub return_with-right-called-requires : goal.return_with-right-called-requires
+return_with-right-called-requires t c =
     (down c.args.calls (deepest c.args.self.now.functions.now.all.items) (deepest c.args.self.now.functions.now.all.items) 0 4 0 3 c.decreases refl (omega arith), tt)
 
 pub right-returns-in-Value : goal.right-returns-in-Value
@@ -397,136 +397,147 @@ function-returns t c =
     let f = function_of c.args.function.now in
     let args = map tree.argument_of c.args.args.now in
     let copies' = spec.statement_copy (spec.calls_copy c.args.calls) in
-    let entered = scope_of c.in_ok-entered.entered.scope in
-    let inner = scope_of c.statement.new.scope in
-    let result = c.in_ok-result.ensures in
+    let inner = scope_of c.statement-body.new.scope in
+    let result = rw c.in_ok-result.ensures.first at c.path_at-result.ensures in
+    let passed = rw c.in_ok-result.ensures.second at c.all_passed-entered.ensures in
     let around = c.in_function.ensures.context ∙ λ i. record here { path = own; result = (c.as_slice-2.ensures ∙ result) i; returns = own } in
     function_done copies' here scope own f args
     refl
     (ap (λ p. calls_spec.result_copy here p f.head.name.pos scope f.head.result) (c.as_slice-3.ensures ∙ result))
-    (c.in_ok-entered.ensures ∙ ap (λ ps. parameters.all_passed here scope own ps args) c.as_slice.ensures)
-    (c.in_ok-body.ensures ∙ ap (λ x. copies' f.body x entered) around)
-    refl refl refl refl (c.in_ok-copied.ensures entered inner scope)
+    (passed ∙ ap (λ ps. parameters.all_passed here scope own ps args) c.as_slice.ensures)
+    refl
+    refl refl refl refl (c.in_ok-copied.ensures (scope_of c.in_ok-result.entered.scope) inner scope _ (copied_in (scope_of c.in_ok-result.entered.scope) (copies' f.body) inner c.statement-body.result around c.statement-body.ensures))
 
-pub function-statement-requires : goal.function-statement-requires
-function-statement-requires t c =
+pub function-statement-body-requires : goal.function-statement-body-requires
+function-statement-body-requires t c =
     (down c.args.calls (deepest c.args.self.now.functions.now.all.items) (deepest c.in_function.result.functions.now.all.items) (deepest c.args.self.now.functions.now.all.items) 1 (heights.height (tree.statement_of c.args.function.now.body)) 0 c.decreases (ap (λ f. deepest f.now.all.items) c.in_function.ensures.functions) (omega (arith, c.requires)), tt)
 
 pub choice-returns : goal.choice-returns
 choice-returns t c =
     let here = context_of c.args.self.now in
-    let inner = scope_of c.statement.new.scope in
-    if_done (spec.maybe_copy (spec.calls_copy c.args.calls) (tree.maybe_of c.args.second.now) here) c.in_ok-test.ensures.value c.in_ok-first.ensures c.in_ok-second.ensures
-    (c.in_ok-copied.ensures inner (scope_of c.maybe.new.scope))
+    let test = ap (λ w. kernel.expression_of w.value) c.in_ok-test-2.ensures.value ∙ c.in_ok-test.ensures.value in
+    let first = rw c.in_ok-test-2.ensures.made at c.statement-first.ensures in
+    if_done (spec.maybe_copy (spec.calls_copy c.args.calls) (tree.maybe_of c.args.second.now) here) test first refl
+    (c.in_ok-copied.ensures (scope_of c.statement-first.new.scope) (scope_of c.maybe-second.new.scope) _ c.maybe-second.ensures)
 
-pub choice-statement-requires : goal.choice-statement-requires
-choice-statement-requires t c =
+pub choice-statement-first-requires : goal.choice-statement-first-requires
+choice-statement-first-requires t c =
     (down c.args.calls (deepest c.args.self.now.functions.now.all.items) (deepest c.args.self.now.functions.now.all.items) (max (heights.height (tree.statement_of c.args.first.now)) (heights.height_of_maybe (tree.maybe_of c.args.second.now))) 2 (heights.height (tree.statement_of c.args.first.now)) 0 c.decreases refl (omega arith), tt)
 
-pub choice-maybe-requires : goal.choice-maybe-requires
-choice-maybe-requires t c =
+pub choice-maybe-second-requires : goal.choice-maybe-second-requires
+choice-maybe-second-requires t c =
     (down c.args.calls (deepest c.args.self.now.functions.now.all.items) (deepest c.args.self.now.functions.now.all.items) (max (heights.height (tree.statement_of c.args.first.now)) (heights.height_of_maybe (tree.maybe_of c.args.second.now))) 2 (heights.height_of_maybe (tree.maybe_of c.args.second.now)) 1 c.decreases refl (omega arith), tt)
 
-pub while_loop-loop_at-requires : goal.while_loop-loop_at-requires
-while_loop-loop_at-requires t c = c.in_ok-paths.ensures.turn ∙ ap paths.path_of_turn (sym c.in_ok-paths.ensures.whole)
+pub while_loop-looped-requires : goal.while_loop-looped-requires
+while_loop-looped-requires t c =
+    let whole = rw c.in_ok-paths.ensures.first at c.loop_paths-paths.ensures.whole in
+    (rw c.in_ok-paths.ensures.first at c.loop_paths-paths.ensures.turn) ∙ ap paths.path_of_turn (sym whole)
 
 pub while_loop-returns : goal.while_loop-returns
 while_loop-returns t c =
     let here = context_of c.args.self.now in
     let scope = scope_of c.args.scope.now in
-    let inner = scope_of c.statement.new.scope in
-    let whole = c.in_ok-paths.ensures.whole in
-    let path = c.in_ok-paths.paths.whole in
-    let body = copy_of c.in_ok-body.body inner in
-    let test = kernel.expression_of c.in_ok-test.test.value in
-    let around = c.in_loop.ensures.context ∙ λ i. record here { breaks = (c.as_slice.ensures ∙ whole) i; continues = (c.as_slice-2.ensures ∙ c.in_ok-paths.ensures.turn) i } in
-    while_done here c.args.pos scope c.in_ok-test.ensures.value whole
-    (c.in_ok-body.ensures ∙ ap (λ x. spec.statement_copy (spec.calls_copy c.args.calls) (tree.statement_of c.args.body.now) x scope) around)
-    (c.in_ok-copied.ensures scope inner
-    ∙ ap (λ next. flow.loop_at here path test (flow.turn here path body.code []) (copies.code_of next) (copies.joined next body)) (c.nothing-next.ensures scope))
+    let inner = scope_of c.statement-body.new.scope in
+    let whole = rw c.in_ok-paths.ensures.first at c.loop_paths-paths.ensures.whole in
+    let turn = rw c.in_ok-paths.ensures.first at c.loop_paths-paths.ensures.turn in
+    let test = rw c.in_ok-paths.ensures.second at c.word-test.ensures.value in
+    let copy = spec.statement_copy (spec.calls_copy c.args.calls) (tree.statement_of c.args.body.now) in
+    let around = c.in_loop.ensures.context ∙ λ i. record here { breaks = (c.as_slice.ensures ∙ whole) i; continues = (c.as_slice-2.ensures ∙ turn) i } in
+    while_done here c.args.pos scope (copy (contexts.in_loop here c.args.pos) scope) test whole (c.nothing-next.ensures scope)
+    (c.in_ok-copied.ensures scope inner (copy (contexts.in_loop here c.args.pos) scope) (copied_in scope copy inner c.statement-body.result around c.statement-body.ensures))
 
-pub while_loop-statement-requires : goal.while_loop-statement-requires
-while_loop-statement-requires t c =
+pub while_loop-statement-body-requires : goal.while_loop-statement-body-requires
+while_loop-statement-body-requires t c =
     (down c.args.calls (deepest c.args.self.now.functions.now.all.items) (deepest c.in_loop.result.functions.now.all.items) (heights.height (tree.statement_of c.args.body.now)) 1 (heights.height (tree.statement_of c.args.body.now)) 0 c.decreases (ap (λ f. deepest f.now.all.items) c.in_loop.ensures.functions) (omega arith), tt)
 
-pub do_while-loop_at-requires : goal.do_while-loop_at-requires
-do_while-loop_at-requires t c = c.in_ok-paths.ensures.turn ∙ ap paths.path_of_turn (sym c.in_ok-paths.ensures.whole)
+pub do_while-looped_until-requires : goal.do_while-looped_until-requires
+do_while-looped_until-requires t c = c.in_ok-paths.ensures.turn ∙ ap paths.path_of_turn (sym c.in_ok-paths.ensures.whole)
 
 pub do_while-returns : goal.do_while-returns
 do_while-returns t c =
     let here = context_of c.args.self.now in
     let scope = scope_of c.args.scope.now in
-    let inner = scope_of c.statement.new.scope in
+    let inner = scope_of c.statement-body.new.scope in
     let whole = c.in_ok-paths.ensures.whole in
-    let path = c.in_ok-paths.paths.whole in
-    let body = copy_of c.in_ok-body.body inner in
-    let test = kernel.expression_of c.in_ok-test.test.value in
-    let last = kernel.statement_of c.in_ok-last.last in
+    let copy = spec.statement_copy (spec.calls_copy c.args.calls) (tree.statement_of c.args.body.now) in
     let around = c.in_loop.ensures.context ∙ λ i. record here { breaks = (c.as_slice.ensures ∙ whole) i; continues = (c.as_slice-2.ensures ∙ c.in_ok-paths.ensures.turn) i } in
-    do_done here c.args.pos (tree.expression_of c.args.test.now) scope c.in_ok-test.ensures.value whole
-    (c.in_ok-body.ensures ∙ ap (λ x. spec.statement_copy (spec.calls_copy c.args.calls) (tree.statement_of c.args.body.now) x scope) around)
-    (c.in_ok-last.ensures ∙ ap (λ p. flow.leave_unless here p test) c.as_slice-3.ensures)
-    (c.in_ok-copied.ensures scope inner
-    ∙ λ i. flow.loop_at here path (expression-Num 1 i) (flow.turn here path body.code (last ∷ [])) (copies.code_of (c.nothing-next.ensures scope i)) (copies.joined (c.nothing-next.ensures scope i) body))
+    let body = copy (contexts.in_loop here c.args.pos) scope in
+    let known = copied_in scope copy inner c.statement-body.result around c.statement-body.ensures in
+    do_done here c.args.pos (tree.expression_of c.args.test.now) scope refl whole refl refl
+    (c.in_ok-copied.ensures body known)
 
-pub do_while-statement-requires : goal.do_while-statement-requires
-do_while-statement-requires t c =
+pub do_while-statement-body-requires : goal.do_while-statement-body-requires
+do_while-statement-body-requires t c =
     (down c.args.calls (deepest c.args.self.now.functions.now.all.items) (deepest c.in_loop.result.functions.now.all.items) (heights.height (tree.statement_of c.args.body.now)) 1 (heights.height (tree.statement_of c.args.body.now)) 0 c.decreases (ap (λ f. deepest f.now.all.items) c.in_loop.ensures.functions) (omega arith), tt)
 
 pub for_loop-leave-requires : goal.for_loop-leave-requires
 for_loop-leave-requires t c =
     let here = context_of c.args.self.now in
-    let begun = scope_of c.maybe.new.scope in
-    grown_fits (grown_by begun c.in_ok-next.ensures (maybe_grows (spec.calls_copy c.args.calls) (calls_keep c.args.calls) (tree.maybe_of c.args.next.now) here begun)) c.len-inside.ensures
-
-pub for_loop-loop_at-requires : goal.for_loop-loop_at-requires
-for_loop-loop_at-requires t c = c.in_ok-paths.ensures.turn ∙ ap paths.path_of_turn (sym c.in_ok-paths.ensures.whole)
-
-pub for_loop-leave-requires-2 : goal.for_loop-leave-requires-2
-for_loop-leave-requires-2 t c =
-    let here = context_of c.args.self.now in
-    let scope = scope_of c.args.scope.now in
-    let begun = scope_of c.maybe.new.scope in
     let copies' = spec.calls_copy c.args.calls in
-    let keeps = calls_keep c.args.calls in
-    let first = grown_by scope c.in_ok-first.ensures (maybe_grows copies' keeps (tree.maybe_of c.args.first.now) here scope) in
-    let next = grown_by begun c.in_ok-next.ensures (maybe_grows copies' keeps (tree.maybe_of c.args.next.now) here begun) in
-    let left = left_as next c.len-inside.ensures c.leave.ensures in
-    let body = grown_by (scope_of c.leave.new.self) c.in_ok-body.ensures (statement_grows copies' keeps (tree.statement_of c.args.body.now) (context_of c.in_loop.result) (scope_of c.leave.new.self)) in
-    grown_fits (further first (subst (λ s. Grows s (scope_of c.statement.new.scope)) left body)) c.len-known.ensures
+    let copied = c.in_ok-copied.ensures (scope_of c.maybe.new.scope) (scope_of c.for_turns-turns.new.scope) _ c.for_turns-turns.ensures in
+    grown_fits (for_grows c.args.calls here c.args.pos (scope_of c.args.scope.now) (option_map tree.expression_of c.args.test.now) (spec.maybe_copy copies' (tree.maybe_of c.args.next.now) here) (tree.maybe_of c.args.first.now) (tree.statement_of c.args.body.now) c.in_ok-first.ensures copied) c.len-known.ensures
 
 pub for_loop-returns : goal.for_loop-returns
 for_loop-returns t c =
     let here = context_of c.args.self.now in
     let scope = scope_of c.args.scope.now in
-    let begun = scope_of c.maybe.new.scope in
-    let inner = scope_of c.statement.new.scope in
     let copies' = spec.calls_copy c.args.calls in
-    let keeps = calls_keep c.args.calls in
-    let statement = tree.statement_of c.args.body.now in
-    let first = grown_by scope c.in_ok-first.ensures (maybe_grows copies' keeps (tree.maybe_of c.args.first.now) here scope) in
-    let next = grown_by begun c.in_ok-next.ensures (maybe_grows copies' keeps (tree.maybe_of c.args.next.now) here begun) in
-    let left = left_as next c.len-inside.ensures c.leave.ensures in
-    let grown = grown_by (scope_of c.leave.new.self) c.in_ok-body.ensures (statement_grows copies' keeps statement (context_of c.in_loop.result) (scope_of c.leave.new.self)) in
-    let end = left_as (further first (subst (λ s. Grows s inner) left grown)) c.len-known.ensures c.leave-2.ensures in
-    let whole = c.in_ok-paths.ensures.whole in
-    let around = c.in_loop.ensures.context ∙ λ i. record here { breaks = (c.as_slice.ensures ∙ whole) i; continues = (c.as_slice-2.ensures ∙ c.in_ok-paths.ensures.turn) i } in
-    for_done here c.args.pos scope (option_map tree.expression_of c.args.test.now) (spec.maybe_copy copies' (tree.maybe_of c.args.next.now) here) (spec.statement_copy copies' statement (contexts.in_loop here c.args.pos))
-    c.in_ok-first.ensures c.in_ok-test.ensures c.in_ok-next.ensures whole
-    (c.in_ok-body.ensures ∙ λ i. spec.statement_copy copies' statement (around i) (left i))
-    (c.in_ok-repeated.ensures (scope_of c.maybe-2.new.scope) inner) end (c.in_ok-copied.ensures begun (scope_of c.leave-2.new.self))
+    let test = option_map tree.expression_of c.args.test.now in
+    let next = spec.maybe_copy copies' (tree.maybe_of c.args.next.now) here in
+    let body = spec.statement_copy copies' (tree.statement_of c.args.body.now) (contexts.in_loop here c.args.pos) in
+    let copied = c.in_ok-copied.ensures (scope_of c.maybe.new.scope) (scope_of c.for_turns-turns.new.scope) _ c.for_turns-turns.ensures in
+    let left = left_as (for_grows c.args.calls here c.args.pos scope test next (tree.maybe_of c.args.first.now) (tree.statement_of c.args.body.now) c.in_ok-first.ensures copied) c.len-known.ensures c.leave.ensures in
+    λ i. copies.in_scope_of (left i) (followed_done (flow.for_parts here c.args.pos test next body) c.in_ok-first.ensures refl copied i)
 
 pub for_loop-maybe-requires : goal.for_loop-maybe-requires
 for_loop-maybe-requires t c =
-    (down c.args.calls (deepest c.args.self.now.functions.now.all.items) (deepest c.args.self.now.functions.now.all.items) (max (heights.height_of_maybe (tree.maybe_of c.args.first.now)) (max (heights.height_of_maybe (tree.maybe_of c.args.next.now)) (heights.height (tree.statement_of c.args.body.now)))) 2 (heights.height_of_maybe (tree.maybe_of c.args.first.now)) 1 c.decreases refl (omega arith), tt)
+    let next = max (heights.height_of_maybe (tree.maybe_of c.args.next.now)) (heights.height (tree.statement_of c.args.body.now)) in
+    (down c.args.calls (deepest c.args.self.now.functions.now.all.items) (deepest c.args.self.now.functions.now.all.items) (max (heights.height_of_maybe (tree.maybe_of c.args.first.now)) next) 3 (heights.height_of_maybe (tree.maybe_of c.args.first.now)) 1 c.decreases refl (omega arith), tt)
 
-pub for_loop-maybe-requires-2 : goal.for_loop-maybe-requires-2
-for_loop-maybe-requires-2 t c =
-    (down c.args.calls (deepest c.args.self.now.functions.now.all.items) (deepest c.args.self.now.functions.now.all.items) (max (heights.height_of_maybe (tree.maybe_of c.args.first.now)) (max (heights.height_of_maybe (tree.maybe_of c.args.next.now)) (heights.height (tree.statement_of c.args.body.now)))) 2 (heights.height_of_maybe (tree.maybe_of c.args.next.now)) 1 c.decreases refl (omega arith), tt)
+pub for_loop-for_turns-turns-requires : goal.for_loop-for_turns-turns-requires
+for_loop-for_turns-turns-requires t c =
+    let next = max (heights.height_of_maybe (tree.maybe_of c.args.next.now)) (heights.height (tree.statement_of c.args.body.now)) in
+    (down c.args.calls (deepest c.args.self.now.functions.now.all.items) (deepest c.args.self.now.functions.now.all.items) (max (heights.height_of_maybe (tree.maybe_of c.args.first.now)) next) 3 next 2 c.decreases refl (omega arith), tt)
 
-pub for_loop-statement-requires : goal.for_loop-statement-requires
-for_loop-statement-requires t c =
-    (down c.args.calls (deepest c.args.self.now.functions.now.all.items) (deepest c.in_loop.result.functions.now.all.items) (max (heights.height_of_maybe (tree.maybe_of c.args.first.now)) (max (heights.height_of_maybe (tree.maybe_of c.args.next.now)) (heights.height (tree.statement_of c.args.body.now)))) 2 (heights.height (tree.statement_of c.args.body.now)) 0 c.decreases (ap (λ f. deepest f.now.all.items) c.in_loop.ensures.functions) (omega arith), tt)
+pub for_turns-leave-requires : goal.for_turns-leave-requires
+for_turns-leave-requires t c =
+    let here = context_of c.args.self.now in
+    let scope = scope_of c.args.scope.now in
+    let next = rw c.in_ok-paths-2.ensures.made at c.maybe-next.ensures in
+    grown_fits (grown_by scope next (maybe_grows (spec.calls_copy c.args.calls) (calls_keep c.args.calls) (tree.maybe_of c.args.next.now) here scope)) c.len-known.ensures
+
+pub for_turns-looped-requires : goal.for_turns-looped-requires
+for_turns-looped-requires t c =
+    let paths' = c.in_ok-paths-2.ensures.value in
+    let whole = rw c.in_ok-paths.ensures.first at c.loop_paths-paths.ensures.whole in
+    let turn = rw c.in_ok-paths.ensures.first at c.loop_paths-paths.ensures.turn in
+    ap (λ p. p.0.turn) paths' ∙ turn ∙ ap paths.path_of_turn (sym (ap (λ p. p.0.whole) paths' ∙ whole))
+
+pub for_turns-returns : goal.for_turns-returns
+for_turns-returns t c =
+    let here = context_of c.args.self.now in
+    let scope = scope_of c.args.scope.now in
+    let inner = scope_of c.statement-body.new.scope in
+    let copies' = spec.calls_copy c.args.calls in
+    let paths' = c.in_ok-paths-2.ensures.value in
+    let whole = ap (λ p. p.0.whole) paths' ∙ (rw c.in_ok-paths.ensures.first at c.loop_paths-paths.ensures.whole) in
+    let turn = ap (λ p. p.0.turn) paths' ∙ (rw c.in_ok-paths.ensures.first at c.loop_paths-paths.ensures.turn) in
+    let test = ap (λ p. kernel.expression_of p.1) paths' ∙ (rw c.in_ok-paths.ensures.second at c.test_or_true-test.ensures) in
+    let next = rw c.in_ok-paths-2.ensures.made at c.maybe-next.ensures in
+    let left = left_as (grown_by scope next (maybe_grows copies' (calls_keep c.args.calls) (tree.maybe_of c.args.next.now) here scope)) c.len-known.ensures c.leave.ensures in
+    let around = c.in_loop.ensures.context ∙ λ i. record here { breaks = (c.as_slice.ensures ∙ whole) i; continues = (c.as_slice-2.ensures ∙ turn) i } in
+    let copy = spec.statement_copy copies' (tree.statement_of c.args.body.now) in
+    let body = copy (contexts.in_loop here c.args.pos) scope in
+    c.in_ok-copied.ensures (scope_of c.maybe-next.new.scope) inner body (copied_as inner c.statement-body.result (λ i. copy (around i) (left i)) c.statement-body.ensures)
+    ∙ λ i. flow.loop_at here (whole i) (test i) (flow.turn here (whole i) body.code []) (copies.code_of (next i)) (copies.joined (next i) body)
+
+pub for_turns-maybe-next-requires : goal.for_turns-maybe-next-requires
+for_turns-maybe-next-requires t c =
+    (down c.args.calls (deepest c.args.self.now.functions.now.all.items) (deepest c.args.self.now.functions.now.all.items) (max (heights.height_of_maybe (tree.maybe_of c.args.next.now)) (heights.height (tree.statement_of c.args.body.now))) 2 (heights.height_of_maybe (tree.maybe_of c.args.next.now)) 1 c.decreases refl (omega arith), tt)
+
+pub for_turns-statement-body-requires : goal.for_turns-statement-body-requires
+for_turns-statement-body-requires t c =
+    (down c.args.calls (deepest c.args.self.now.functions.now.all.items) (deepest c.in_loop.result.functions.now.all.items) (max (heights.height_of_maybe (tree.maybe_of c.args.next.now)) (heights.height (tree.statement_of c.args.body.now))) 2 (heights.height (tree.statement_of c.args.body.now)) 0 c.decreases (ap (λ f. deepest f.now.all.items) c.in_loop.ensures.functions) (omega arith), tt)
 
 pub transaction-leave-requires : goal.transaction-leave-requires
 transaction-leave-requires t c =
@@ -562,14 +573,14 @@ statements-loop-s-init t c =
 pub statements-loop-s-preserved : goal.statements-loop-s-preserved
 statements-loop-s-preserved t c =
     statements_more (spec.calls_copy c.args.calls) (context_of c.args.self.now) c.args.ss.now c.loop-s.s-index c.s-item.result c.s-item.is c.loop-s-test.true
-    (copy_of c.loop-s.copied (scope_of c.loop-s.scope)) c.in_ok-next.ensures (c.in_ok-join.ensures (scope_of c.loop-s.scope) (scope_of c.statement.new.scope)) c.loop-s.invariant
+    (copy_of c.loop-s.copied (scope_of c.loop-s.scope)) refl (c.in_ok-copied.ensures (scope_of c.loop-s.scope) (scope_of c.statement-next.new.scope) _ c.statement-next.ensures) c.loop-s.invariant
 
 pub statements-returns : goal.statements-returns
 statements-returns t c =
     statements_all (spec.calls_copy c.args.calls) (context_of c.args.self.now) c.args.ss.now c.loop-s.s-index c.loop-s-test.false (copy_of c.loop-s.copied (scope_of c.loop-s.scope)) c.loop-s.invariant
 
-pub statements-statement-requires : goal.statements-statement-requires
-statements-statement-requires t c =
+pub statements-statement-next-requires : goal.statements-statement-next-requires
+statements-statement-next-requires t c =
     (statement_below c.args.calls (deepest c.args.self.now.functions.now.all.items) c.args.ss.now c.loop-s.s-index c.s-item.result c.decreases c.s-item.is c.loop-s-test.true, tt)
 
 pub declarations-loop-d-init : goal.declarations-loop-d-init
@@ -581,14 +592,14 @@ declarations-loop-d-init t c =
 pub declarations-loop-d-preserved : goal.declarations-loop-d-preserved
 declarations-loop-d-preserved t c =
     declarations_more (spec.calls_copy c.args.calls) (context_of c.args.self.now) c.args.ds.now c.loop-d.d-index c.d-item.result c.d-item.is c.loop-d-test.true
-    (copy_of c.loop-d.copied (scope_of c.loop-d.scope)) c.in_ok-next.ensures (c.in_ok-join.ensures (scope_of c.loop-d.scope) (scope_of c.declaration.new.scope)) c.loop-d.invariant
+    (copy_of c.loop-d.copied (scope_of c.loop-d.scope)) refl (c.in_ok-copied.ensures (scope_of c.loop-d.scope) (scope_of c.declaration-next.new.scope) _ c.declaration-next.ensures) c.loop-d.invariant
 
 pub declarations-returns : goal.declarations-returns
 declarations-returns t c =
     declarations_all (spec.calls_copy c.args.calls) (context_of c.args.self.now) c.args.ds.now c.loop-d.d-index c.loop-d-test.false (copy_of c.loop-d.copied (scope_of c.loop-d.scope)) c.loop-d.invariant
 
-pub declarations-declaration-requires : goal.declarations-declaration-requires
-declarations-declaration-requires t c =
+pub declarations-declaration-next-requires : goal.declarations-declaration-next-requires
+declarations-declaration-next-requires t c =
     let d = deepest c.args.self.now.functions.now.all.items in
     (down c.args.calls d d 0 6 0 5 c.decreases refl (omega arith), tt)
 
@@ -599,32 +610,37 @@ par-loop-index-init t c =
 
 pub par-loop-index-preserved : goal.par-loop-index-preserved
 par-loop-index-preserved t c =
-    let here = context_of c.args.self.now in
-    let copies' = spec.calls_copy c.args.calls in
     let b = c.index-bs-index.result in
-    let inner = contexts.in_branch here c.loop-index.index in
-    let before = scope_of c.loop-index.scope in
-    let after = scope_of c.statement.new.scope in
-    let made = copy_of c.in_ok-copied.copied after in
-    let path = c.as_slice.ensures ∙ c.in_ok-path.ensures in
-    let context = c.in_branch.ensures.context ∙ ap (λ p. record here { path = p }) path in
-    let copied = c.in_ok-copied.ensures ∙ ap (λ x. spec.statement_copy copies' (tree.statement_of b.body) x before) context ∙ in_branch_of copies' b inner before in
-    branches_more copies' here c.args.bs.now c.loop-index.index b c.index-bs-index.is c.loop-index-test.true before c.loop-index.branches c.in_ok-branches.branches copied
-    (λ others. c.in_ok-branches.ensures after others ∙ ap (λ pos. branched_before c.loop-index.branches (flow.and_branch pos made others)) (begins_at b))
+    let after = scope_of c.branch-copied.new.scope in
+    let copied = rw c.in_ok-before.ensures.made at c.branch-copied.ensures in
+    branches_more (spec.calls_copy c.args.calls) (context_of c.args.self.now) c.args.bs.now c.loop-index.index b c.index-bs-index.is c.loop-index-test.true (scope_of c.loop-index.scope) c.loop-index.branches c.in_ok-branches.branches copied
+    (and_made c.in_ok-branches.branches (copy_of c.in_ok-before.copied after) c.in_ok-before.ensures.value (begins_at b) (c.in_ok-branches.ensures after))
     c.loop-index.invariant
 
 pub par-returns : goal.par-returns
 par-returns t c =
     let scope = scope_of c.loop-index.scope in
-    c.in_ok-copied-2.ensures scope
+    c.in_ok-copied.ensures scope
     ∙ ap flow.par_copy (branches_all (spec.calls_copy c.args.calls) (context_of c.args.self.now) c.args.bs.now c.loop-index.index c.loop-index-test.false scope c.loop-index.branches c.loop-index.invariant)
 
-pub par-statement-requires : goal.par-statement-requires
-par-statement-requires t c = (
-  branches_below c.args.calls (deepest c.args.self.now.functions.now.all.items) (deepest c.in_branch.result.functions.now.all.items) c.args.bs.now c.loop-index.index c.index-bs-index.result
-      c.decreases (ap (λ f. deepest f.now.all.items) c.in_branch.ensures.functions) c.index-bs-index.is c.loop-index-test.true,
+pub par-branch-copied-requires : goal.par-branch-copied-requires
+par-branch-copied-requires t c = (
+  branches_below c.args.calls (deepest c.args.self.now.functions.now.all.items) c.args.bs.now c.loop-index.index c.index-bs-index.result c.decreases c.index-bs-index.is c.loop-index-test.true,
   tt,
 )
+
+pub branch-returns : goal.branch-returns
+branch-returns t c =
+    let here = context_of c.args.self.now in
+    let copies' = spec.calls_copy c.args.calls in
+    let scope = scope_of c.args.scope.now in
+    let b = c.args.b.now in
+    let context = c.in_branch.ensures.context ∙ ap (λ p. record here { path = p }) (c.as_slice.ensures ∙ c.in_ok-path.ensures) in
+    c.in_ok-copied.ensures ∙ ap (λ x. spec.statement_copy copies' (tree.statement_of b.body) x scope) context ∙ in_branch_of copies' b (contexts.in_branch here c.args.index) scope
+
+pub branch-statement-requires : goal.branch-statement-requires
+branch-statement-requires t c =
+    (branch_below c.args.calls (deepest c.args.self.now.functions.now.all.items) (deepest c.in_branch.result.functions.now.all.items) c.args.b.now c.decreases (ap (λ f. deepest f.now.all.items) c.in_branch.ensures.functions), tt)
 
 pub replicated-loop-number-init : goal.replicated-loop-number-init
 replicated-loop-number-init t c =
@@ -637,36 +653,21 @@ replicated-loop-number-init t c =
       branches = c.none-branches.ensures (flow.replicated copy pos scope (c.args.until - c.args.from) (c.args.from - c.args.from) c.args.from) ∙ numbered_begun copy pos scope c.args.from c.args.until;
     }
 
-pub replicated-leave-requires : goal.replicated-leave-requires
-replicated-leave-requires t c =
-    let inv = c.loop-number.invariant in
-    let name = c.in_ok-declare.ensures ∙ ap (λ n. scopes.with_name (scope_of c.loop-number.scope) n (scopes.a_constant c.loop-number.number)) c.as_slice.ensures in
-    grown_fits (numbered_grows c.args.calls (tree.statement_of c.args.b.now.body) (context_of c.in_branch.result) c.args.name.now.text (scopes.a_constant c.loop-number.number) inv.scope name c.in_ok-copied.ensures) c.len-known.ensures
-
 pub replicated-loop-number-preserved : goal.replicated-loop-number-preserved
 replicated-loop-number-preserved t c =
-    let here = context_of c.args.self.now in
     let copies' = spec.calls_copy c.args.calls in
     let scope = scope_of c.args.scope.now in
-    let number = c.loop-number.number in
-    let index = number - c.args.from in
     let b = c.args.b.now in
     let inv = c.loop-number.invariant in
-    let inner = contexts.in_branch here index in
-    let within = scopes.with_name scope c.args.name.now.text (scopes.a_constant number) in
-    let copy = flow.numbered_copy (spec.branch_copy copies' (tree.branch_of b)) here scope c.args.name.now.text in
-    let made = copy_of c.in_ok-copied.copied scope in
-    let path = c.as_slice-in-loop-number.ensures ∙ c.in_ok-path.ensures in
-    let context = c.in_branch.ensures.context ∙ ap (λ p. record here { path = p }) path in
-    let name = c.in_ok-declare.ensures ∙ ap (λ n. scopes.with_name (scope_of c.loop-number.scope) n (scopes.a_constant number)) c.as_slice.ensures in
-    let named = name ∙ ap (λ s. scopes.with_name s c.args.name.now.text (scopes.a_constant number)) inv.scope in
-    let copied = c.in_ok-copied.ensures ∙ (λ i. spec.statement_copy copies' (tree.statement_of b.body) (context i) (named i)) ∙ in_branch_of copies' b inner within in
+    let copy = flow.numbered_copy (spec.branch_copy copies' (tree.branch_of b)) (context_of c.args.self.now) scope c.args.name.now.text in
+    let numbered = flow.numbered_copy (spec.branch_copy copies' (tree.branch_of b)) (context_of c.args.self.now) in
+    let copied = (rw c.in_ok-before.ensures.made at c.numbered-copied.ensures) ∙ ap (λ s. numbered s c.args.name.now.text (c.loop-number.number - c.args.from) c.loop-number.number) inv.scope in
     record {
       above = omega (arith, inv.above);
-      scope = left_as (numbered_grows c.args.calls (tree.statement_of b.body) (context_of c.in_branch.result) c.args.name.now.text (scopes.a_constant number) inv.scope name c.in_ok-copied.ensures) c.len-known.ensures c.leave.ensures;
-      branches = numbered_more copy (spec.pos_of_branch (tree.branch_of b)) scope c.args.from c.args.until number inv.above c.loop-number-test.true c.loop-number.branches c.in_ok-branches.branches
-          (ap (copies.in_scope_of scope) copied)
-          (λ others. c.in_ok-branches.ensures scope others ∙ ap (λ pos. branched_before c.loop-number.branches (flow.and_branch pos made others)) (begins_at b))
+      scope = ap (λ x. x.scope) copied;
+      branches = numbered_more copy (spec.pos_of_branch (tree.branch_of b)) scope c.args.from c.args.until c.loop-number.number inv.above c.loop-number-test.true c.loop-number.branches c.in_ok-branches.branches
+          copied
+          (and_made c.in_ok-branches.branches (copy_of c.in_ok-before.copied (scope_of c.numbered-copied.new.scope)) c.in_ok-before.ensures.value (begins_at b) (c.in_ok-branches.ensures (scope_of c.numbered-copied.new.scope)))
           inv.branches;
     }
 
@@ -677,13 +678,32 @@ replicated-returns t c =
     let b = c.args.b.now in
     let inv = c.loop-number.invariant in
     let copy = flow.numbered_copy (spec.branch_copy (spec.calls_copy c.args.calls) (tree.branch_of b)) here scope c.args.name.now.text in
-    c.in_ok-copied-2.ensures (scope_of c.loop-number.scope)
+    c.in_ok-copied.ensures (scope_of c.loop-number.scope)
     ∙ ap (λ s. flow.par_copy (branched_before c.loop-number.branches (flow.no_branches s))) inv.scope
     ∙ ap flow.par_copy (numbered_all copy (spec.pos_of_branch (tree.branch_of b)) scope c.args.from c.args.until c.loop-number.number c.loop-number-test.false c.loop-number.branches inv.branches)
 
-pub replicated-statement-requires : goal.replicated-statement-requires
-replicated-statement-requires t c =
-    (branch_below c.args.calls (deepest c.args.self.now.functions.now.all.items) (deepest c.in_branch.result.functions.now.all.items) c.args.b.now c.decreases (ap (λ f. deepest f.now.all.items) c.in_branch.ensures.functions), tt)
+pub replicated-numbered-copied-requires : goal.replicated-numbered-copied-requires
+replicated-numbered-copied-requires t c =
+    let height = heights.height_of_branch (tree.branch_of c.args.b.now) in
+    (down c.args.calls (deepest c.args.self.now.functions.now.all.items) (deepest c.args.self.now.functions.now.all.items) height 3 height 2 c.decreases refl (omega arith), tt)
+
+pub numbered-leave-requires : goal.numbered-leave-requires
+numbered-leave-requires t c =
+    let name = c.in_ok-declare.ensures ∙ ap (λ n. scopes.with_name (scope_of c.args.scope.now) n (scopes.a_constant c.args.number)) c.as_slice.ensures in
+    grown_fits (numbered_grows c.args.calls c.args.b.now (contexts.in_branch (context_of c.args.self.now) c.args.index) c.args.name.now.text (scopes.a_constant c.args.number) name c.in_ok-copied.ensures) c.len-known.ensures
+
+pub numbered-returns : goal.numbered-returns
+numbered-returns t c =
+    let inner = contexts.in_branch (context_of c.args.self.now) c.args.index in
+    let b = c.args.b.now in
+    let name = c.in_ok-declare.ensures ∙ ap (λ n. scopes.with_name (scope_of c.args.scope.now) n (scopes.a_constant c.args.number)) c.as_slice.ensures in
+    let left = left_as (numbered_grows c.args.calls b inner c.args.name.now.text (scopes.a_constant c.args.number) name c.in_ok-copied.ensures) c.len-known.ensures c.leave.ensures in
+    λ i. copies.in_scope_of (left i) ((c.in_ok-copied.ensures ∙ ap (spec.branch_copy (spec.calls_copy c.args.calls) (tree.branch_of b) inner) name) i)
+
+pub numbered-branch-self-requires : goal.numbered-branch-self-requires
+numbered-branch-self-requires t c =
+    let height = heights.height_of_branch (tree.branch_of c.args.b.now) in
+    (down c.args.calls (deepest c.args.self.now.functions.now.all.items) (deepest c.args.self.now.functions.now.all.items) height 2 height 1 c.decreases refl (omega arith), tt)
 
 pub select-loop-case-init : goal.select-loop-case-init
 select-loop-case-init t c =
@@ -694,7 +714,9 @@ select-loop-case-init t c =
     }
 
 pub select-leave-requires : goal.select-leave-requires
-select-leave-requires t c = grown_fits (grown_from c.loop-case.invariant.scope c.in_ok-case.ensures.names) c.len-known.ensures
+select-leave-requires t c =
+    let names = rw c.in_ok-cases.ensures.done at c.case-added.ensures.names in
+    grown_fits (grown_from c.loop-case.invariant.scope names) c.len-known.ensures
 
 pub select-loop-case-preserved : goal.select-loop-case-preserved
 select-loop-case-preserved t c =
@@ -702,10 +724,12 @@ select-loop-case-preserved t c =
     let copies' = spec.calls_copy c.args.calls in
     let x = c.case-item.result in
     let inv = c.loop-case.invariant in
+    let names = rw c.in_ok-cases.ensures.done at c.case-added.ensures.names in
+    let added = rw c.in_ok-cases.ensures.done at c.case-added.ensures.cases in
     record {
-      scope = left_as (grown_from inv.scope c.in_ok-case.ensures.names) c.len-known.ensures c.leave.ensures;
-      cases = cases_more copies' here c.args.cs.now c.loop-case.case-index x c.case-item.is c.loop-case-test.true (scope_of c.args.scope.now) c.loop-case.cases c.case.new.cases
-          (λ others. c.in_ok-case.ensures.cases others ∙ ap (λ s. cased_before c.loop-case.cases (spec.case_copy copies' (tree.case_of x) here s others)) inv.scope)
+      scope = left_as (grown_from inv.scope names) c.len-known.ensures c.leave.ensures;
+      cases = cases_more copies' here c.args.cs.now c.loop-case.case-index x c.case-item.is c.loop-case-test.true (scope_of c.args.scope.now) c.loop-case.cases c.in_ok-cases.cases
+          (λ others. ap (λ y. cased_before y others) c.in_ok-cases.ensures.value ∙ added others ∙ ap (λ s. cased_before c.loop-case.cases (spec.case_copy copies' (tree.case_of x) here s others)) inv.scope)
           inv.cases;
     }
 
@@ -717,24 +741,28 @@ select-returns t c =
     ∙ ap (λ s. flow.select_copy s c.args.pos (cased_before c.loop-case.cases (flow.no_cases s))) inv.scope
     ∙ ap (flow.select_copy scope c.args.pos) (cases_all (spec.calls_copy c.args.calls) (context_of c.args.self.now) c.args.cs.now c.loop-case.case-index c.loop-case-test.false scope c.loop-case.cases inv.cases)
 
-pub select-case-requires : goal.select-case-requires
-select-case-requires t c =
+pub select-case-added-requires : goal.select-case-added-requires
+select-case-added-requires t c =
     (case_below c.args.calls (deepest c.args.self.now.functions.now.all.items) c.args.cs.now c.loop-case.case-index c.case-item.result c.decreases c.case-item.is c.loop-case-test.true, tt)
 
 pub case-returns-clause-cases : goal.case-returns-clause-cases
 case-returns-clause-cases t c =
-    case_done (spec.calls_copy c.args.calls) (context_of c.args.self.now) (scope_of c.args.scope.now) c.args.case.now c.in_ok-opened.opened c.args.cases.now c.add_case.new.cases
-    c.in_ok-path.ensures c.as_slice.ensures c.in_case.ensures.context c.as_slice-2.ensures c.in_ok-opened.ensures.names c.in_ok-opened.ensures.head
-    c.in_ok-body.ensures (c.in_ok-add_case.ensures (scope_of c.opened.new.scope) (scope_of c.statements.new.scope))
+    let path = rw c.in_ok-path.ensures.first at c.path_at-path.ensures in
+    let names = rw c.in_ok-path.ensures.second at c.opened-opened.ensures.names in
+    let head = rw c.in_ok-path.ensures.second at c.opened-opened.ensures.head in
+    case_done (spec.calls_copy c.args.calls) (context_of c.args.self.now) (scope_of c.args.scope.now) c.args.case.now _ c.args.cases.now c.add_case.new.cases
+    path c.as_slice.ensures c.in_case.ensures.context c.as_slice-2.ensures names head
+    refl (c.in_ok-add_case.ensures.cases (scope_of c.opened-opened.new.scope) (scope_of c.statements-body.new.scope) _ c.statements-body.ensures)
 
 pub case-returns-clause-names : goal.case-returns-clause-names
 case-returns-clause-names t c =
     let ss = plain.statements (map tree.statement_of c.as_slice-2.result.now) in
-    let inner = scope_of c.opened.new.scope in
-    further c.in_ok-opened.ensures.grows (grown_by inner c.in_ok-body.ensures (statements_grow (spec.calls_copy c.args.calls) (calls_keep c.args.calls) ss (context_of c.in_case.result) inner))
+    let inner = scope_of c.opened-opened.new.scope in
+    let grows = rw c.in_ok-path.ensures.second at c.opened-opened.ensures.grows in
+    further grows (grown_where c.statements-body.result inner (scope_of c.statements-body.new.scope) _ c.in_ok-add_case.ensures.made c.statements-body.ensures (statements_grow (spec.calls_copy c.args.calls) (calls_keep c.args.calls) ss (context_of c.in_case.result) inner))
 
-pub case-statements-requires : goal.case-statements-requires
-case-statements-requires t c = (
+pub case-statements-body-requires : goal.case-statements-body-requires
+case-statements-body-requires t c = (
   body_below c.args.calls (deepest c.args.self.now.functions.now.all.items) (deepest c.in_case.result.functions.now.all.items) c.args.case.now c.as_slice-2.result.now
       c.decreases (ap (λ f. deepest f.now.all.items) c.in_case.ensures.functions) c.as_slice-2.ensures,
   tt,

@@ -38,10 +38,16 @@ abbrev pub decreases-select : goal.decreases-select
 decreases-select l = distance l.calls (deepest l.self.now.functions.now.all.items) (heights.height_of_cases (plain.cases (map tree.case_of l.cs.now))) 3
 
 abbrev pub decreases-par : goal.decreases-par
-decreases-par l = distance l.calls (deepest l.self.now.functions.now.all.items) (heights.height_of_branches (plain.branches (map tree.branch_of l.bs.now))) 1
+decreases-par l = distance l.calls (deepest l.self.now.functions.now.all.items) (heights.height_of_branches (plain.branches (map tree.branch_of l.bs.now))) 2
 
 abbrev pub decreases-replicated : goal.decreases-replicated
-decreases-replicated l = distance l.calls (deepest l.self.now.functions.now.all.items) (heights.height_of_branch (tree.branch_of l.b.now)) 1
+decreases-replicated l = distance l.calls (deepest l.self.now.functions.now.all.items) (heights.height_of_branch (tree.branch_of l.b.now)) 3
+
+abbrev pub decreases-numbered : goal.decreases-numbered
+decreases-numbered l = distance l.calls (deepest l.self.now.functions.now.all.items) (heights.height_of_branch (tree.branch_of l.b.now)) 2
+
+abbrev pub decreases-branch : goal.decreases-branch
+decreases-branch l = distance l.calls (deepest l.self.now.functions.now.all.items) (heights.height_of_branch (tree.branch_of l.b.now)) 1
 
 abbrev pub decreases-choice : goal.decreases-choice
 decreases-choice l = distance l.calls (deepest l.self.now.functions.now.all.items) (max (heights.height (tree.statement_of l.first.now)) (heights.height_of_maybe (tree.maybe_of l.second.now))) 2
@@ -53,7 +59,10 @@ abbrev pub decreases-do_while : goal.decreases-do_while
 decreases-do_while l = distance l.calls (deepest l.self.now.functions.now.all.items) (heights.height (tree.statement_of l.body.now)) 1
 
 abbrev pub decreases-for_loop : goal.decreases-for_loop
-decreases-for_loop l = distance l.calls (deepest l.self.now.functions.now.all.items) (max (heights.height_of_maybe (tree.maybe_of l.first.now)) (max (heights.height_of_maybe (tree.maybe_of l.next.now)) (heights.height (tree.statement_of l.body.now)))) 2
+decreases-for_loop l = distance l.calls (deepest l.self.now.functions.now.all.items) (max (heights.height_of_maybe (tree.maybe_of l.first.now)) (max (heights.height_of_maybe (tree.maybe_of l.next.now)) (heights.height (tree.statement_of l.body.now)))) 3
+
+abbrev pub decreases-for_turns : goal.decreases-for_turns
+decreases-for_turns l = distance l.calls (deepest l.self.now.functions.now.all.items) (max (heights.height_of_maybe (tree.maybe_of l.next.now)) (heights.height (tree.statement_of l.body.now))) 2
 
 -- What holds no statement.
 

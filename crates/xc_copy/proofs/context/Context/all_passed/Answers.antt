@@ -2,12 +2,11 @@ use Rattle.std.proofs.Common.{arith, ap, sym, ◌∙◌, ◌-◌, ◌<◌, ◌�
 use Rattle.xc_tree.specs.Trees as tree
 use Rattle.xc_kernel.specs.Copy as copies
 use Rattle.xc_kernel.specs.Parameters as spec
-use Rattle.xc_kernel.specs.Scopes as scopes
 use Rattle.xc_copy.specs.Contexts.{context_of}
 use Rattle.xc_copy.specs.Copied.{copy_of}
-use Rattle.xc_copy.specs.Handed.{passed_copy}
-use Rattle.xc_copy.specs.Scopes.{entity_meant, scope_of}
-use Rattle.xc_copy.proofs.Laws.Parameters.{passed_before, passed_end, passed_step}
+use Rattle.xc_copy.specs.Handed.{IsPassed}
+use Rattle.xc_copy.specs.Scopes.{scope_of}
+use Rattle.xc_copy.proofs.Laws.Parameters.{handed_as, passed_end, passed_step}
 use Rattle.xc_copy.proofs.context.Context.all_passed.Goals as goal
 
 pub backward-init : goal.backward-init
@@ -16,7 +15,7 @@ backward-init c =
     record {
       params = omega (arith, n);
       args = omega (arith, n);
-      copied = c.nothing-copied.ensures (scope_of c.in_ok-inner.inner) ∙ ap copies.no_copy c.in_ok-inner.ensures
+      copied = c.with-entered.ensures ∙ ap copies.no_copy c.in_ok-ports.ensures
           ∙ sym (passed_end (context_of c.args.self.now) (scope_of c.args.scope.now) c.args.own.now c.args.params.now c.args.args.now c.least-left.result n);
     }
 
@@ -29,19 +28,13 @@ backward-preserved c =
     let a = c.index-args-left.result in
     let p' = spec.passed here scope own p.name.pos p.kind (tree.argument_of a).value in
     let inv = c.backward.invariant in
-    let joined = rw c.in_ok-all.ensures.first at c.followed_by-all.ensures in
-    let declared = rw c.in_ok-all.ensures.second at c.declare-declared.ensures in
-    let both = joined scope (scope_of c.declare-declared.new.self) in
-    let handed = c.in_ok-handed.ensures in
-    let name = declared ∙ (λ j. scopes.with_name (scope_of c.backward.inner) (c.as_slice.ensures j) (entity_meant c.in_ok-handed.handed.entity)) in
+    let handed = rw c.in_ok-others.ensures.made at c.passed-handed.ensures in
     let same = sym c.index-args-left.is in
-    let copy = handed.copy scope ∙ ap (λ x. passed_copy (spec.passed here scope own p.name.pos p.kind (tree.argument_of x).value) scope) same in
-    let entity = handed.entity ∙ ap (λ x. (spec.passed here scope own p.name.pos p.kind (tree.argument_of x).value).entity) same in
-    let before = passed_before p.name.text p' (copy_of c.backward.copied (scope_of c.backward.inner)) copy entity (both ∙ λ i. copies.joined (copy_of c.in_ok-handed.handed.copied scope) (record (copy_of c.backward.copied (scope_of c.backward.inner)) { scope = name i })) in
+    let others = ap (λ e. copy_of e.copied (scope_of e.scope)) c.in_ok-others.ensures.value in
     record {
       params = omega (arith, inv.params);
       args = omega (arith, inv.args);
-      copied = before
-          ∙ ap (spec.and_passed p.name.text p') inv.copied
+      copied = c.in_ok-entered.ensures p' (handed_as (ap (λ x. spec.passed here scope own p.name.pos p.kind (tree.argument_of x).value) same) handed)
+          ∙ (λ i. spec.and_passed (c.as_slice.ensures i) p' ((others ∙ inv.copied) i))
           ∙ passed_step here scope own c.args.params.now c.args.args.now c.backward.left (c.backward.left - 1) p a (omega (arith, c.backward-test.true)) c.index-params-left.is c.index-args-left.is (omega (arith, inv.params, c.backward-test.true)) (omega (arith, inv.args, c.backward-test.true));
     }

@@ -10,7 +10,7 @@ abbrev pub invariant-backward : goal.invariant-backward
 invariant-backward l = record {
   params : l.left ≤ length l.params;
   args : l.left ≤ length l.args;
-  copied : copy_of l.copied (scope_of l.inner) ≡ spec.all_passed (context_of l.self) (scope_of l.scope) l.own (drop l.left l.params) (map tree.argument_of (drop l.left l.args));
+  copied : copy_of l.entered.copied (scope_of l.entered.scope) ≡ spec.all_passed (context_of l.self) (scope_of l.scope) l.own (drop l.left l.params) (map tree.argument_of (drop l.left l.args));
 }
 
 abbrev pub decreases-backward : goal.decreases-backward

@@ -1,11 +1,10 @@
 use Rattle.std.proofs.Common.{◌∙◌}
 use Rattle.xc_kernel.specs.Copy.{joined}
-use Rattle.xc_copy.specs.Copied.{copy_of}
 use Rattle.xc_copy.specs.Scopes.{scope_of}
 use Rattle.xc_copy.proofs.context.Context.assigned_behind.Goals as goal
 
 pub returns : goal.returns
-returns c = λ within.
-    let called = c.in_ok-called.ensures.value in
-    let behind = rw c.in_ok-called.ensures.made at c.value_assigned-stored.ensures in
-    c.in_ok-copied.ensures within (scope_of c.args.scope.now) ∙ λ i. joined (copy_of (called i) within) (behind i)
+returns c = λ within call is.
+    let called = rw c.in_ok-called.ensures.first at is in
+    let behind = rw c.in_ok-called.ensures.second at c.value_assigned-stored.ensures in
+    c.in_ok-copied.ensures within (scope_of c.args.scope.now) ∙ λ i. joined (called i) (behind i)

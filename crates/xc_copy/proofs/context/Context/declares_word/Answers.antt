@@ -11,7 +11,9 @@ pub returns : goal.returns
 returns c =
     let here = context_of c.args.self.now in
     let path = c.in_ok-path.ensures in
-    let behind = scope_of c.declare.new.self in
+    let behind = scope_of c.declare-declared.new.self in
+    let variable = rw c.in_ok-variable.ensures.second at c.word_variable-variable.ensures in
+    let declared = rw c.in_ok-variable.ensures.first at c.declare-declared.ensures in
     c.in_ok-copied.ensures behind
-    ∙ (λ i. copies.with_variable (c.nothing.ensures behind i) ((c.in_ok-variable.ensures ∙ λ j. contexts.word_variable here true ((c.as_slice.ensures ∙ path) j) c.args.pos) i))
-    ∙ λ i. copies.with_variable (copies.no_copy ((c.in_ok-declare.ensures ∙ λ j. scopes.with_name (scope_of c.args.scope.now) c.args.name.now (scopes.a_word (path j) c.args.unsigned)) i)) (contexts.word_variable here true (path_at here.path c.args.pos) c.args.pos)
+    ∙ (λ i. copies.with_variable (c.nothing.ensures behind i) ((variable ∙ λ j. contexts.word_variable here true ((c.as_slice.ensures ∙ path) j) c.args.pos) i))
+    ∙ λ i. copies.with_variable (copies.no_copy ((declared ∙ λ j. scopes.with_name (scope_of c.args.scope.now) c.args.name.now (scopes.a_word (path j) c.args.unsigned)) i)) (contexts.word_variable here true (path_at here.path c.args.pos) c.args.pos)
