@@ -1,1 +1,1 @@
-"""The tests of trace-vcd and trace-svg. What is expected was worked out by hand."""
+"""The tests of trace-vcd, trace-svg and the examples. What is expected was worked out by hand."""

@@ -7,7 +7,8 @@ from traces.output import Output
 
 TOP = os.path.dirname(os.path.dirname(os.path.dirname(os.path.abspath(__file__))))
 DATA = os.path.join(TOP, "tools", "tests", "data")
-KEPT = ["pulse.out", "bus.out", "two_cores.out", "script.out"]
+EXAMPLES = os.path.join(TOP, "examples")
+PROGRAMS = sorted(name[:-3] for name in os.listdir(EXAMPLES) if name.endswith(".xc"))
 
 PULSE = """\
 code
@@ -29,6 +30,20 @@ end finished
 def data(name: str) -> str:
     """The path of a file of data/."""
     return os.path.join(DATA, name)
+
+
+def example(name: str) -> str:
+    """The path of a file of examples/."""
+    return os.path.join(EXAMPLES, name)
+
+
+def written(path: str) -> str:
+    """What a file has."""
+    with open(path, encoding="utf-8") as file:
+        return file.read()
+
+
+KEPT = [example(f"{name}.out") for name in PROGRAMS] + [data("two_cores.out"), data("script.out")]
 
 
 def output_of(text: str, name: str = "a.out") -> Output:

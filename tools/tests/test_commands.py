@@ -5,7 +5,7 @@ import subprocess
 import sys
 import unittest
 
-from .samples import PULSE, TOP, data, listing_of
+from .samples import PULSE, TOP, data, example, listing_of, written
 
 TOOLS = ["trace-vcd", "trace-svg"]
 
@@ -23,10 +23,9 @@ class Commands(unittest.TestCase):
             self.assertIn(f"example:\n  ./xcsim run examples/pulse.xc > pulse.out\n  tools/{tool} pulse.out > pulse.", told.stdout)
 
     def test_file_or_standard_input(self):
-        with open(data("pulse.out"), encoding="ascii") as file:
-            text = file.read()
+        path = example("pulse.out")
         for tool in TOOLS:
-            self.assertEqual(called(tool, data("pulse.out")).stdout, called(tool, text=text).stdout)
+            self.assertEqual(called(tool, path).stdout, called(tool, text=written(path)).stdout)
 
     def check_refused(self, expected, *words, text=""):
         for tool in TOOLS:
@@ -38,13 +37,13 @@ class Commands(unittest.TestCase):
     def test_refused(self):
         expected = 'standard input:13: expected a record (out, in, com, err or show) or "end WORD"'
         self.check_refused(expected, text=PULSE.replace("\nend", "\nEND"))
-        source = os.path.join(TOP, "examples", "pulse.xc")
+        source = example("pulse.xc")
         self.check_refused(f'{source}:1: expected "code"', source)
-        self.check_refused(f'{source}:1: expected "TICK CORE PORT VALUE"', data("pulse.out"), "--stimulus", source)
+        self.check_refused(f'{source}:1: expected "TICK CORE PORT VALUE"', example("pulse.out"), "--stimulus", source)
 
     def test_no_file(self):
         self.check_refused("{tool}: nowhere.out: No such file or directory", "nowhere.out")
-        self.check_refused("{tool}: nowhere.stim: No such file or directory", data("pulse.out"), "--stimulus", "nowhere.stim")
+        self.check_refused("{tool}: nowhere.stim: No such file or directory", example("pulse.out"), "--stimulus", "nowhere.stim")
 
     def test_wrong_words(self):
         for tool in TOOLS:

@@ -8,7 +8,7 @@ import sys
 import unittest
 import xml.etree.ElementTree as tree
 
-from .samples import KEPT, PULSE, TOP, data, listing_of
+from .samples import KEPT, PULSE, TOP, data, example, listing_of
 
 SVG = "{http://www.w3.org/2000/svg}"
 SIGN = 7.3  # how wide a sign of 12 px is in a usual font, rounded up
@@ -87,8 +87,8 @@ class Columns(unittest.TestCase):
 
 class Pictures(unittest.TestCase):
     def test_well_formed_and_by_itself(self):
-        for name in KEPT:
-            text = drawn("--lockstep", data(name))
+        for path in KEPT:
+            text = drawn("--lockstep", path)
             names = {element.tag for element in tree.fromstring(text).iter()}
             known = {"svg", "title", "style", "rect", "g", "text", "polyline", "polygon", "path", "circle"}
             self.assertLessEqual(names, {SVG + it for it in known})
@@ -96,7 +96,7 @@ class Pictures(unittest.TestCase):
             self.assertIn("@media (prefers-color-scheme: dark)", text)
 
     def test_edges_have_stamps(self):
-        texts = self.texts(drawn(data("bus.out")))
+        texts = self.texts(drawn(example("bus.out")))
         for label in ("@3", "@1000", "@1500", "@65535", "@2000", "67536", "85", "44", "1A out", "8B out", "end finished"):
             self.assertIn(label, texts)
 

@@ -8,10 +8,8 @@ import sys
 import tempfile
 import unittest
 
-from .samples import KEPT, TOP, data, listing_of
+from .samples import KEPT, PROGRAMS, TOP, data, example, listing_of, written
 
-PROGRAM = os.path.join(TOP, "crates", "xcsim", "out", "xcsim")
-EXAMPLES = os.path.join(TOP, "examples")
 READERS = shutil.which("vcd2fst") and shutil.which("fst2vcd")
 
 TWO_CORES = """\
@@ -155,32 +153,23 @@ class ReadBack(unittest.TestCase):
             return subprocess.run(["fst2vcd", packed], capture_output=True, text=True, check=True).stdout
 
     def test_kept_outputs(self):
-        for name in KEPT:
-            text = dump_of(data(name))
+        for path in KEPT:
+            text = dump_of(path)
             before, after = read_dump(text), read_dump(self.read_back(text))
             self.assertEqual(before.keys(), after.keys())
             for signal, changes in before.items():
                 for tick in [0, *(at + step for at, _ in changes for step in (0, 1))]:
-                    self.assertEqual(value_at(changes, tick), value_at(after[signal], tick), (name, signal, tick))
+                    self.assertEqual(value_at(changes, tick), value_at(after[signal], tick), (path, signal, tick))
 
-    def check_output(self, text):
+    def check_output(self, name, text):
         """Compares what is read back at ten instants with the trace."""
         changes = read_dump(self.read_back(dump_of(text=text)))
         found, last = outputs_of_trace(text)
         for port, outputs in found.items():
             for tick in [last * number // 9 for number in range(10)]:
-                so_far = [value for at, value in outputs if at <= tick]
-                self.assertEqual(value_at(changes[f"core0.port_{port}"], tick), so_far[-1] if so_far else None, (port, tick))
+                so_far = [None, *(value for at, value in outputs if at <= tick)]
+                self.assertEqual(value_at(changes[f"core0.port_{port}"], tick), so_far[-1], (name, port, tick))
 
-    def test_ten_instants(self):
-        for name in ("pulse.out", "bus.out"):
-            with open(data(name), encoding="ascii") as file:
-                self.check_output(file.read())
-
-    @unittest.skipUnless(os.access(PROGRAM, os.X_OK), "the program isn't built")
     def test_ten_instants_of_each_example(self):
-        for name in sorted(os.listdir(EXAMPLES)):
-            if name.endswith(".xc"):
-                run = subprocess.run([PROGRAM, "run", os.path.join(EXAMPLES, name)], capture_output=True, text=True, check=False)
-                self.assertTrue(run.stdout, name)
-                self.check_output(run.stdout)
+        for name in PROGRAMS:
+            self.check_output(name, written(example(f"{name}.out")))
