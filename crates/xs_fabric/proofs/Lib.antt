@@ -3,10 +3,8 @@ mod Clocks
 mod Ends
 mod Idles
 mod Links
-mod Lists
 mod LockstepLeads
 mod Others
-mod Peers
 mod Quiet
 mod Rounds
 mod Rows
@@ -17,4 +15,3 @@ mod Taken
 mod Together
 mod Turns
 mod Ways
-mod Weights

@@ -16,7 +16,7 @@ use Rattle.xs_fabric.specs.declared.machine.Event.TheVariants.{Done, NotEnabled}
 use Rattle.xs_fabric.specs.Lockstep.{Part, after, turn}
 use Rattle.xs_fabric.specs.Parts.{part}
 use Rattle.xs_fabric.specs.Seen.{IsEvent}
-use Rattle.xs_fabric.proofs.Lists.{set_same}
+use Rattle.xs_core.proofs.Lists.{set_same}
 use Rattle.xs_fabric.proofs.Rounds.{still}
 
 -- the trace after an answer of core c

@@ -2,6 +2,5 @@ pub mod Changes
 pub mod EndWord
 pub mod Lockstep
 pub mod Parts
-pub mod Room
 pub mod Seen
 pub mod Totals
