@@ -14,7 +14,7 @@ use Rattle.xs_instr.specs.Machine.{Machine, home_of, no_links, noted}
 use Rattle.xs_instr.specs.Slot.{turn_at, turn_of}
 use Rattle.xc_built.specs.declared.program.Program.{Program}
 use Rattle.xc_built.specs.World.{World, Branch, Item, Life, Running, Ended}
-use Rattle.xr_match.specs.Implements.{IsThere}
+use Rattle.xr_match.specs.Systems.{IsThere}
 use Rattle.xr_match.proofs.Lists.{get_set_cases}
 use Rattle.xr_match.proofs.Leads.{Kept, leads_in_stable}
 use Rattle.xr_match.proofs.Items.{AtItems, at_items_stable}

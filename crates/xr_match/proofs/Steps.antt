@@ -11,7 +11,8 @@ use Rattle.xs_instr.specs.Machine.{Machine, home_of, noted}
 use Rattle.xc_built.specs.declared.program.Program.{Program}
 use Rattle.xc_built.specs.World.{World, Branch, Running}
 use Rattle.xc_built.specs.Steps.{Go}
-use Rattle.xr_match.specs.Implements.{IsThere}
+use Rattle.xr_match.specs.Systems.{IsThere}
+use Rattle.xr_match.specs.Meanings.{of_built}
 use Rattle.xr_match.proofs.Lists.{get_set_same, get_set_other, get_set_cases}
 use Rattle.xr_match.proofs.Simulates.{Follows}
 use Rattle.xr_match.proofs.Leads.{Kept, Touched, LeadsIn}
@@ -49,7 +50,7 @@ module _ (L : Image) (P : Program) (s : Stim) (who : ℕ → ℕ → Option ℕ)
 
   module _ (branch : Branch) (known : slice_get x.branches b ≡ Some branch) (core : branch.core ≡ c) where
     -- a silent step: the program does nothing
-    pub silent_followed : (n : ℕ) (a' : CoreState) → branch.life ≡ Running → a'.roots ≡ a.roots → Touched (own b) t a a' → LeadsIn (home_of L s c) (own b) t (AtItems P (home_of L s c) (own b) t branch.items) n a' → Follows P s (Standing L P s who own) x (record m { cores = slice_set m.cores c a' })
+    pub silent_followed : (n : ℕ) (a' : CoreState) → branch.life ≡ Running → a'.roots ≡ a.roots → Touched (own b) t a a' → LeadsIn (home_of L s c) (own b) t (AtItems P (home_of L s c) (own b) t branch.items) n a' → Follows (of_built P) s (Standing L P s who own) x (record m { cores = slice_set m.cores c a' })
     silent_followed n a' runs roots touched on =
         let by = subst (StandsBy P s (home_of L s c) (own b) t a' branch.items) (sym runs) (n, on) in
         let own_stands = subst (λ o. IsThere o (Runs L P s who own c t b a')) (sym known) (record { core = core; by = by }) in (
@@ -68,7 +69,7 @@ module _ (L : Image) (P : Program) (s : Stim) (who : ℕ → ℕ → Option ℕ)
         )
 
     -- a step that is seen: the branch's step answers it
-    pub seen_followed : (ans : Answers P s (home_of L s c) (own b) t x b branch a) → Follows P s (Standing L P s who own) x (record { cores = slice_set m.cores c ans.left; links = m.links; trace = noted m.trace ans.made })
+    pub seen_followed : (ans : Answers P s (home_of L s c) (own b) t x b branch a) → Follows (of_built P) s (Standing L P s who own) x (record { cores = slice_set m.cores c ans.left; links = m.links; trace = noted m.trace ans.made })
     seen_followed ans =
         let bs = slice_set x.branches b ans.next in
         let x' : World = record { clocks = x.clocks; branches = bs; trace = noted x.trace ans.made } in
