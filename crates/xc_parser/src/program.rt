@@ -5,10 +5,10 @@ ghost use Rattle.xc_tree.specs.Depth.{of_program};
 ghost use Rattle.xc_tree.specs.Derives.{IsProgram, deepest};
 ghost use Rattle.xc_tree.specs.Parses.{BreaksRule, FirstBroken, place_at};
 ghost use Rattle.xc_tree.specs.Plain as plain;
+ghost use Rattle.xc_tree.specs.Refusals.{IfBroken};
 ghost use Rattle.xc_tree.specs.Symbol as symbol;
 ghost use Rattle.xc_tree.specs.Trees.{item_of, program_of};
 ghost use Rattle.xw_words.specs.declared.pos.Broken.{Broken};
-ghost use Rattle.xc_parser.specs.Errors.{IfBroken};
 ghost use Rattle.xc_parser.specs.Follows.{OneOf, first};
 ghost use Rattle.xc_parser.specs.Programs.{Halted};
 ghost use Rattle.xc_parser.specs.Reading.{Reads};
@@ -19,22 +19,13 @@ use crate::parser::{Parser, Read};
 use crate::stop::Stop;
 use crate::tokens::{begins_type, is_symbol, is_word};
 use std::alloc::Global;
-use thiserror::Error;
 use xc_tree::symbols::SEMICOLON;
 use xc_tree::words::VOID_WORD;
-use xc_tree::{FuncItem, Item, Tok, Tree};
+use xc_tree::{FuncItem, Item, Refusal, Tok, Tree};
 use xw_words::{Broken, List, Pos};
 
 /// Why tokens have no tree.
-#[derive(Debug, Drop, Error)]
-pub enum ParseErr {
-    /// They break a rule, and of both that they break this one first.
-    #[error("{}:{}: rule {} is broken", .0.pos.line, .0.pos.col, .0.rule)]
-    Broken(Broken),
-    /// Memory could not be had.
-    #[error("out of memory")]
-    Memory,
-}
+pub type ParseErr = Refusal;
 
 /// How many nodes of a tree may stand one below the other.
 const DEEPEST: u32 = 200;
@@ -68,7 +59,7 @@ pub fn parse(alloc: Global, toks: &List<Tok>, end: Pos) -> Result<Tree, ParseErr
 impl<'a> Parser<'a> {
     /// A rule that is broken at a token, or at the end of the text.
     fn broken(&self, rule: u16, at: usize, end: Pos) -> ParseErr
-        ensures { result ≡ ParseErr.Broken (record { rule = rule; pos = place_at self.now.toks.now end at }) }
+        ensures { result ≡ Refusal.Broken (record { rule = rule; pos = place_at self.now.toks.now end at }) }
     {
         let pos = if at < self.toks.len() {
             self.toks[at].pos
