@@ -155,7 +155,7 @@ fn follow(
     requires within { at < length marks.now }
     requires meant { AreMeanings marks.now meant.now }
     ensures adds { OnOk result (Adds marks.now meant.now at (at + 1) reached.old.keys reached.new.keys) }
-    ensures back { IfOk result (λ b. IsLeastOf (IsBackBefore marks.now meant.now at (at + 1) goal) b) }
+    ensures back { IfOk result (IsLeastOf (IsBackBefore marks.now meant.now at (at + 1) goal)) }
 {
     match call_at(marks, meant, at) {
         None => Ok(None),

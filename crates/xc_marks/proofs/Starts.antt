@@ -8,8 +8,8 @@ use Rattle.xc_tree.specs.Plain.{Item}
 use Rattle.xc_tree.specs.Trees.{item_of}
 use Rattle.xc_tree.specs.Names.Marks.{of_item, of_items, of_program}
 use Rattle.xc_tree.specs.Names.Calls.{first_of}
-use Rattle.xc_names.specs.Starts.{AreStarts}
-use Rattle.xc_names.proofs.Lists.{below_or_at, push_before, push_at, length_push, take_push}
+use Rattle.xc_marks.specs.Starts.{AreStarts}
+use Rattle.xc_marks.proofs.Lists.{below_or_at, push_before, push_at, length_push, take_push}
 
 pub items_push : (n : ℕ) (xs : List Item) (x : Item) → of_items n (xs ++ x ∷ []) ≡ of_items n xs ++ of_item (n + length xs) x
 items_push n [] x = append-nil (of_item n x) ∙ ap (λ k. of_item k x) (sym (add-zero n))

@@ -1,7 +1,6 @@
 ghost use Rattle.std.specs.Prelude.{◌<◌};
 
 use crate::graph::Graph;
-use crate::scopes::zeros;
 use std::alloc::Global;
 use xw_words::{List, Memory};
 
@@ -14,6 +13,16 @@ struct Visit {
     /// The next of its calls, and where they end.
     next: usize,
     end: usize,
+}
+
+/// The functions by their calls.
+#[derive(Drop)]
+pub struct Components {
+    /// By their places numbers: one for those that call each other around a cycle, and a lesser one for what they call
+    /// besides.
+    pub numbers: List<usize>,
+    /// Their places, in the order of these numbers: each behind what it calls, where no call stands on a cycle.
+    pub order: List<usize>,
 }
 
 /// What a walk along the calls has found.
@@ -29,13 +38,15 @@ struct Walk {
     low: List<usize>,
     /// The numbers, and 0 where there is none yet.
     numbers: List<usize>,
+    /// The items that have a number, in the order in which they got it.
+    order: List<usize>,
 }
 
-/// Numbers for items: one for those that call each other around a cycle, and a lesser one for what they call besides.
+/// The strongly connected components of a graph of calls, found by one walk in depth first order that keeps its own stack. The
+/// one error is want of memory.
 ///
-/// These are the strongly connected components of the graph, found by one walk in depth first order that keeps its own
-/// stack. Nothing is promised of the numbers: they are checked where they are used.
-pub fn components(alloc: Global, graph: &Graph) -> Result<List<usize>, Memory> {
+/// Nothing is promised of the numbers and of the order: they are checked where they are used.
+pub fn components_of(alloc: Global, graph: &Graph) -> Result<Components, Memory> {
     let items = graph.firsts.len();
     let mut walk = Walk {
         root: 0,
@@ -43,6 +54,7 @@ pub fn components(alloc: Global, graph: &Graph) -> Result<List<usize>, Memory> {
         open: Vec::new(alloc),
         low: zeros(alloc, items)?,
         numbers: zeros(alloc, items)?,
+        order: List::new(alloc),
     };
     // Each item is begun at once, each call is followed once, and each item is left once.
     let turns = items
@@ -51,7 +63,17 @@ pub fn components(alloc: Global, graph: &Graph) -> Result<List<usize>, Memory> {
     for turn in 0..turns {
         advance(&mut walk, graph, turn + 1)?;
     }
-    Ok(walk.numbers)
+    Ok(Components {
+        numbers: walk.numbers,
+        order: walk.order,
+    })
+}
+
+fn zeros(alloc: Global, count: usize) -> Result<List<usize>, Memory> {
+    match vec![in alloc; 0; count] {
+        Ok(zeros) => Ok(List::from_vec(zeros)),
+        Err(_) => Err(Memory),
+    }
 }
 
 /// Takes one turn: it begins at an item, follows a call or leaves an item.
@@ -62,8 +84,7 @@ fn advance(walk: &mut Walk, graph: &Graph, turn: usize) -> Result<(), Memory> {
     if visit.next < visit.end {
         follow(walk, graph, visit, turn)
     } else {
-        leave(walk, visit, turn);
-        Ok(())
+        leave(walk, visit, turn)
     }
 }
 
@@ -121,24 +142,27 @@ fn follow(walk: &mut Walk, graph: &Graph, visit: Visit, turn: usize) -> Result<(
 }
 
 /// Leaves an item. All open ones entered since it was get one number, where none of them leads to an earlier one.
-fn leave(walk: &mut Walk, visit: Visit, turn: usize) {
+fn leave(walk: &mut Walk, visit: Visit, turn: usize) -> Result<(), Memory> {
     let low = at(&walk.low, visit.item);
     if low == visit.entered {
-        close(walk, visit.item, turn);
+        close(walk, visit.item, turn)?;
     }
     if let Some(caller) = walk.path.last() {
         lower(&mut walk.low, caller.item, low);
     }
+    Ok(())
 }
 
 /// Numbers the open items down to this one.
-fn close(walk: &mut Walk, item: usize, number: usize) {
+fn close(walk: &mut Walk, item: usize, number: usize) -> Result<(), Memory> {
     'close: while let Some(open) = walk.open.pop() {
         put(&mut walk.numbers, open, number);
+        walk.order.push(open)?;
         if open == item {
             break;
         }
     }
+    Ok(())
 }
 
 fn at(numbers: &List<usize>, place: usize) -> usize {

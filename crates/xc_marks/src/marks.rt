@@ -1,8 +1,7 @@
-ghost use Rattle.std.specs.Prelude.{◌≡◌, ◌<◌, ◌^◌, ◌++◌, ◌∷◌, [], length, map, option_map, OnOk, IfOk};
-ghost use Rattle.xc_names.specs.Starts.{AreStarts};
-ghost use Rattle.xc_tree.specs.declared.names.Mark.TheVariants as mark;
+ghost use Rattle.std.specs.Prelude.{◌≡◌, ◌<◌, ◌^◌, ◌++◌, ◌∷◌, [], length, OnOk, IfOk};
+ghost use Rattle.xc_marks.specs.Listed as listed;
+ghost use Rattle.xc_marks.specs.Starts.{AreStarts};
 ghost use Rattle.xc_tree.specs.Names.Marks as names;
-ghost use Rattle.xc_tree.specs.Plain as plain;
 ghost use Rattle.xc_tree.specs.Trees as tree;
 ghost use Rattle.xc_tree.specs.Trees.{program_of};
 
@@ -20,7 +19,8 @@ pub struct Marks {
     pub starts: List<usize>,
 }
 
-/// What a program has of names and scopes.
+/// What a program has of names and scopes, where it has fewer than 2^32 items. The stack that it needs grows with the depth
+/// of the tree. The one error is want of memory.
 pub fn marks_of(alloc: Global, tree: &Tree) -> Result<Marks, Memory>
     requires { length tree.now.items < 2 ^ 32 }
     ensures all { IfOk result (λ m. m.all ≡ names.of_program (program_of tree.now)) }
@@ -36,6 +36,16 @@ pub fn marks_of(alloc: Global, tree: &Tree) -> Result<Marks, Memory>
     Ok(Marks { all, starts })
 }
 
+/// What a statement has of names and scopes, the names that it calls among them. The stack that it needs grows with the depth
+/// of the statement. The one error is want of memory.
+pub fn marks_of_statement(alloc: Global, s: &Stmt) -> Result<List<Mark>, Memory>
+    ensures { IfOk result (λ all. all ≡ names.of_statement (tree.statement_of s.now)) }
+{
+    let mut all = List::new(alloc);
+    statement(alloc, &mut all, s)?;
+    Ok(all)
+}
+
 #[tactic(auto, using(crate::proofs::Steps::steps))]
 fn add_item(alloc: Global, out: &mut List<Mark>, k: u32, item: &Item) -> Result<(), Memory>
     ensures { OnOk result (out.new ≡ out.old ++ names.of_item k (tree.item_of item.now)) }
@@ -48,7 +58,7 @@ fn add_item(alloc: Global, out: &mut List<Mark>, k: u32, item: &Item) -> Result<
 
 #[tactic(auto, using(crate::proofs::Steps::steps))]
 fn add_port(alloc: Global, out: &mut List<Mark>, port: &PortItem) -> Result<(), Memory>
-    ensures { OnOk result (out.new ≡ out.old ++ names.of_item 0 (plain.port (tree.port_of port.now))) }
+    ensures { OnOk result (out.new ≡ out.old ++ listed.of_port port.now) }
 {
     place(alloc, out, &port.place)?;
     add_declaration(
@@ -67,7 +77,7 @@ fn add_function(
     k: u32,
     function: &FuncItem,
 ) -> Result<(), Memory>
-    ensures { OnOk result (out.new ≡ out.old ++ names.of_item k (plain.function (tree.head_of function.now) (tree.statement_of function.now.body))) }
+    ensures { OnOk result (out.new ≡ out.old ++ listed.of_function k function.now) }
 {
     add_declaration(
         alloc,
@@ -157,7 +167,7 @@ fn add_use(alloc: Global, out: &mut List<Mark>, text: &Text, pos: Pos) -> Result
 
 /// Adds a name that is called.
 fn add_call(alloc: Global, out: &mut List<Mark>, text: &Text, pos: Pos) -> Result<(), Memory>
-    ensures { OnOk result (out.new ≡ out.old ++ mark.Calls (record { text = text.now; pos = pos }) ∷ []) }
+    ensures { OnOk result (out.new ≡ out.old ++ listed.called text.now pos ∷ []) }
 {
     let text = text.copy(alloc)?;
     out.push(Mark::Calls(Id { text, pos }))?;
@@ -172,7 +182,7 @@ fn add_declaration(
     pos: Pos,
     what: What,
 ) -> Result<(), Memory>
-    ensures { OnOk result (out.new ≡ out.old ++ names.declares (record { text = text.now; pos = pos }) what ∷ []) }
+    ensures { OnOk result (out.new ≡ out.old ++ listed.declared text.now pos what ∷ []) }
 {
     let text = text.copy(alloc)?;
     out.push(Mark::Declares(Decl {
@@ -191,7 +201,7 @@ fn call(
     pos: Pos,
     args: &List<Arg>,
 ) -> Result<(), Memory>
-    ensures { OnOk result (out.new ≡ out.old ++ names.of_call (record { called = record { text = name.now; pos = pos }; arguments = map tree.argument_of args.now })) }
+    ensures { OnOk result (out.new ≡ out.old ++ listed.of_call name.now pos args.now) }
 {
     add_call(alloc, out, name, pos)?;
     arguments(alloc, out, args.as_slice())
@@ -199,7 +209,7 @@ fn call(
 
 #[tactic(auto, using(crate::proofs::Steps::steps))]
 fn arguments(alloc: Global, out: &mut List<Mark>, args: &[Arg]) -> Result<(), Memory>
-    ensures { OnOk result (out.new ≡ out.old ++ names.each names.of_argument (map tree.argument_of args.now)) }
+    ensures { OnOk result (out.new ≡ out.old ++ listed.of_arguments args.now) }
 {
     for arg in args {
         expression(alloc, out, &arg.value)?;
@@ -220,7 +230,7 @@ fn right_side(alloc: Global, out: &mut List<Mark>, rhs: &Rhs) -> Result<(), Memo
 
 #[tactic(auto, using(crate::proofs::Steps::steps))]
 fn right_side_if_any(alloc: Global, out: &mut List<Mark>, rhs: &Option<Rhs>) -> Result<(), Memory>
-    ensures { OnOk result (out.new ≡ out.old ++ names.optional names.of_right (option_map tree.right_of rhs.now)) }
+    ensures { OnOk result (out.new ≡ out.old ++ listed.of_right_if_any rhs.now) }
 {
     match rhs {
         None => Ok(()),
@@ -230,7 +240,7 @@ fn right_side_if_any(alloc: Global, out: &mut List<Mark>, rhs: &Option<Rhs>) -> 
 
 #[tactic(auto, using(crate::proofs::Steps::steps))]
 fn expression_if_any(alloc: Global, out: &mut List<Mark>, e: &Option<Expr>) -> Result<(), Memory>
-    ensures { OnOk result (out.new ≡ out.old ++ names.optional names.of_expression (option_map tree.expression_of e.now)) }
+    ensures { OnOk result (out.new ≡ out.old ++ listed.of_expression_if_any e.now) }
 {
     match e {
         None => Ok(()),
@@ -241,7 +251,7 @@ fn expression_if_any(alloc: Global, out: &mut List<Mark>, e: &Option<Expr>) -> R
 /// Adds the names of a time or a stamp.
 #[tactic(auto, using(crate::proofs::Steps::steps))]
 fn timing(alloc: Global, out: &mut List<Mark>, time: &Option<Timed>) -> Result<(), Memory>
-    ensures { OnOk result (out.new ≡ out.old ++ names.optional names.of_timing (option_map tree.timing_of time.now)) }
+    ensures { OnOk result (out.new ≡ out.old ++ listed.of_timing time.now) }
 {
     match time {
         None => Ok(()),
@@ -251,7 +261,7 @@ fn timing(alloc: Global, out: &mut List<Mark>, time: &Option<Timed>) -> Result<(
 
 #[tactic(auto, using(crate::proofs::Steps::steps))]
 fn condition(alloc: Global, out: &mut List<Mark>, cond: &Option<When>) -> Result<(), Memory>
-    ensures { OnOk result (out.new ≡ out.old ++ names.optional names.of_condition (option_map tree.condition_of cond.now)) }
+    ensures { OnOk result (out.new ≡ out.old ++ listed.of_condition cond.now) }
 {
     match cond {
         None => Ok(()),
@@ -296,7 +306,7 @@ fn input(alloc: Global, out: &mut List<Mark>, head: &Head) -> Result<(), Memory>
 
 #[tactic(auto, using(crate::proofs::Steps::steps))]
 fn input_if_any(alloc: Global, out: &mut List<Mark>, head: &Option<Head>) -> Result<(), Memory>
-    ensures { OnOk result (out.new ≡ out.old ++ names.optional names.of_input (option_map tree.input_of head.now)) }
+    ensures { OnOk result (out.new ≡ out.old ++ listed.of_input_if_any head.now) }
 {
     match head {
         None => Ok(()),
@@ -331,7 +341,7 @@ fn initial(alloc: Global, out: &mut List<Mark>, kind: &DeclKind) -> Result<(), M
 
 #[tactic(auto, using(crate::proofs::Steps::steps))]
 fn declarations(alloc: Global, out: &mut List<Mark>, declared: &[Declared]) -> Result<(), Memory>
-    ensures { OnOk result (out.new ≡ out.old ++ names.each names.of_declaration (map tree.declaration_of declared.now)) }
+    ensures { OnOk result (out.new ≡ out.old ++ listed.of_declarations declared.now) }
 {
     for d in declared {
         add_declaration(alloc, out, &d.name.text, d.name.pos, what_of(&d.kind))?;
@@ -342,7 +352,7 @@ fn declarations(alloc: Global, out: &mut List<Mark>, declared: &[Declared]) -> R
 
 #[tactic(auto, using(crate::proofs::Steps::steps))]
 fn place(alloc: Global, out: &mut List<Mark>, place: &Option<At>) -> Result<(), Memory>
-    ensures { OnOk result (out.new ≡ out.old ++ names.optional names.of_place (option_map tree.place_of place.now)) }
+    ensures { OnOk result (out.new ≡ out.old ++ listed.of_place place.now) }
 {
     match place {
         None => Ok(()),
@@ -432,7 +442,7 @@ fn statement_if_any(
 #[cycle(statement)]
 #[tactic(auto, using(crate::proofs::Steps::steps))]
 fn scope(alloc: Global, out: &mut List<Mark>, ss: &[Stmt]) -> Result<(), Memory>
-    ensures { OnOk result (out.new ≡ out.old ++ names.in_scope (names.of_statements (plain.statements (map tree.statement_of ss.now)))) }
+    ensures { OnOk result (out.new ≡ out.old ++ names.in_scope (listed.of_statements ss.now)) }
 {
     out.push(Mark::Opens)?;
     statements(alloc, out, ss)?;
@@ -442,7 +452,7 @@ fn scope(alloc: Global, out: &mut List<Mark>, ss: &[Stmt]) -> Result<(), Memory>
 #[cycle(statement)]
 #[tactic(auto, using(crate::proofs::Steps::steps))]
 fn statements(alloc: Global, out: &mut List<Mark>, ss: &[Stmt]) -> Result<(), Memory>
-    ensures { OnOk result (out.new ≡ out.old ++ names.of_statements (plain.statements (map tree.statement_of ss.now))) }
+    ensures { OnOk result (out.new ≡ out.old ++ listed.of_statements ss.now) }
 {
     for s in ss {
         statement(alloc, out, s)?;
@@ -462,7 +472,7 @@ fn branch(alloc: Global, out: &mut List<Mark>, b: &Branch) -> Result<(), Memory>
 #[cycle(statement)]
 #[tactic(auto, using(crate::proofs::Steps::steps))]
 fn branches(alloc: Global, out: &mut List<Mark>, bs: &[Branch]) -> Result<(), Memory>
-    ensures { OnOk result (out.new ≡ out.old ++ names.of_branches (plain.branches (map tree.branch_of bs.now))) }
+    ensures { OnOk result (out.new ≡ out.old ++ listed.of_branches bs.now) }
 {
     for b in bs {
         branch(alloc, out, b)?;
@@ -485,7 +495,7 @@ fn case(alloc: Global, out: &mut List<Mark>, c: &Case) -> Result<(), Memory>
 #[cycle(statement)]
 #[tactic(auto, using(crate::proofs::Steps::steps))]
 fn cases(alloc: Global, out: &mut List<Mark>, cs: &[Case]) -> Result<(), Memory>
-    ensures { OnOk result (out.new ≡ out.old ++ names.of_cases (plain.cases (map tree.case_of cs.now))) }
+    ensures { OnOk result (out.new ≡ out.old ++ listed.of_cases cs.now) }
 {
     for c in cs {
         case(alloc, out, c)?;

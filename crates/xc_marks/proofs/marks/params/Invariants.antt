@@ -1,6 +1,6 @@
 use Rattle.std.proofs.Common.{◌≡◌, ◌++◌, drop}
 use Rattle.xc_tree.specs.Names.Marks.{each, of_param}
-use Rattle.xc_names.proofs.marks.params.Given as goal
+use Rattle.xc_marks.proofs.marks.params.Given as goal
 
 abbrev pub invariant-loop-p : goal.invariant-loop-p
 invariant-loop-p l =

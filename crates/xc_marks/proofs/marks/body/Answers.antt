@@ -1,7 +1,7 @@
 use Rattle.std.proofs.Common.{◌≡◌, ◌++◌, List, OnOk, subst}
 use Rattle.xc_tree.specs.declared.names.Mark.{Mark}
-use Rattle.xc_names.proofs.Bodies.{body_of_other}
-use Rattle.xc_names.proofs.marks.body.Goals as goal
+use Rattle.xc_marks.proofs.Bodies.{body_of_other}
+use Rattle.xc_marks.proofs.marks.body.Goals as goal
 
 pub returns-in_default : goal.returns-in_default
 returns-in_default c =

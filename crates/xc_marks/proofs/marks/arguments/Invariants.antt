@@ -1,7 +1,7 @@
 use Rattle.std.proofs.Common.{◌≡◌, ◌++◌, drop, map}
 use Rattle.xc_tree.specs.Names.Marks.{each, of_argument}
 use Rattle.xc_tree.specs.Trees.{argument_of}
-use Rattle.xc_names.proofs.marks.arguments.Given as goal
+use Rattle.xc_marks.proofs.marks.arguments.Given as goal
 
 abbrev pub invariant-loop-arg : goal.invariant-loop-arg
 invariant-loop-arg l =

@@ -2,7 +2,7 @@ use Rattle.std.proofs.Common.{◌≡◌, ◌++◌, drop, map}
 use Rattle.xc_tree.specs.Names.Marks.{of_statements, of_branches, of_cases}
 use Rattle.xc_tree.specs.Plain as plain
 use Rattle.xc_tree.specs.Trees.{statement_of, branch_of, case_of}
-use Rattle.xc_names.proofs.marks.+statement.Given as goal
+use Rattle.xc_marks.proofs.marks.+statement.Given as goal
 
 abbrev pub invariant-statements-loop-s : goal.invariant-statements-loop-s
 invariant-statements-loop-s l =

@@ -1,7 +1,7 @@
 use Rattle.std.proofs.Common.{◌≡◌, ◌++◌, drop, map}
 use Rattle.xc_tree.specs.Names.Marks.{each, of_declaration}
 use Rattle.xc_tree.specs.Trees.{declaration_of}
-use Rattle.xc_names.proofs.marks.declarations.Given as goal
+use Rattle.xc_marks.proofs.marks.declarations.Given as goal
 
 abbrev pub invariant-loop-d : goal.invariant-loop-d
 invariant-loop-d l =

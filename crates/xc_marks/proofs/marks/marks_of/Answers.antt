@@ -2,8 +2,8 @@ use Rattle.std.proofs.Common.{◌≡◌, ℕ, ◌≤◌, List, length, map, sym,
 use Rattle.std.proofs.lemmas.List.{length-map}
 use Rattle.xc_tree.specs.declared.tree.Item.{Item}
 use Rattle.xc_tree.specs.Trees.{item_of}
-use Rattle.xc_names.proofs.Starts.{begin, onward, at_end}
-use Rattle.xc_names.proofs.marks.marks_of.Goals as goal
+use Rattle.xc_marks.proofs.Starts.{begin, onward, at_end}
+use Rattle.xc_marks.proofs.marks.marks_of.Goals as goal
 
 pub loop-k-init : goal.loop-k-init
 loop-k-init c = rw (c.new-all.ensures, c.new-starts.ensures) (begin _)
