@@ -60,7 +60,7 @@ module _ (c : ℕ) where
   some_of_two zero b = ap (nat_lt 0) (let e : 0 + b ≡ b = omega arith in e)
   some_of_two (suc a) b = let e : nat_lt 0 (suc a + b) ≡ true = grind arith in let f : nat_lt 0 (suc a) ≡ true = grind arith in e ∙ ap (λ x. x || nat_lt 0 b) (sym f)
 
-  one_use : (b : Bool) → nat_lt 0 (once b + 0) ≡ b
+  pub one_use : (b : Bool) → nat_lt 0 (once b + 0) ≡ b
   one_use true = grind arith
   one_use false = grind arith
 
@@ -75,7 +75,7 @@ module _ (c : ℕ) where
   behind x y e = sym (ap (λ z. z || y) e)
 
   mutual
-    statement_use : (s : kernel.Statement) → nat_lt 0 (count_of c (uses.of_statement s)) ≡ by_statement (channel c) s
+    pub statement_use : (s : kernel.Statement) → nat_lt 0 (count_of c (uses.of_statement s)) ≡ by_statement (channel c) s
     statement_use (kernel.set_zero v) = grind arith
     statement_use (kernel.set p e) = (let f : nat_lt 0 0 ≡ false = grind arith in f) ∙ sym (ap₂ ◌||◌ (no_target p) (no_expression e))
     statement_use (kernel.output o) = one_use (by_resource (channel c) o.resource) ∙ sym (by_its_resource o)
