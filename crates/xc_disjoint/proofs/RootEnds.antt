@@ -11,11 +11,10 @@ use Rattle.xc_disjoint.specs.Cores.{if_so, on_core}
 use Rattle.xc_kernel.specs.Uses as uses
 use Rattle.xc_kernel.specs.Uses.{once, count_of}
 use Rattle.xc_kernel.specs.Things.{channel, by_statements}
-use Rattle.xc_kernel.specs.Branches.{branches_of, users}
+use Rattle.xc_kernel.specs.Branches.{branches_of, users, some_has_sides}
 use Rattle.xc_kernel.proofs.Used.{count_append, statements_use}
 use Rattle.xc_kernel.specs.Pars as pars
 use Rattle.xc_disjoint.specs.Ends as ends
-use Rattle.xc_disjoint.specs.Ends.{some_has_sides}
 use Rattle.xc_disjoint.specs.Needs.{ends_on, ends_on_of_root}
 use Rattle.xc_disjoint.specs.Sides as sides
 use Rattle.xc_disjoint.specs.Sides.{Sides, Shares, all_with, no_shares, with_roots, with_branches, RootUse, seen_of, ends_at}

@@ -13,10 +13,9 @@ use Rattle.xc_kernel.specs.Uses as uses
 use Rattle.xc_kernel.specs.Uses.{Use, once, count_of}
 use Rattle.xc_kernel.specs.Things as things
 use Rattle.xc_kernel.specs.Things.{by_resource, by_branch}
-use Rattle.xc_kernel.specs.Branches.{users}
+use Rattle.xc_kernel.specs.Branches.{users, has_sides, some_has_sides}
 use Rattle.xc_kernel.proofs.Used.{count_append, branch_use}
 use Rattle.xc_kernel.specs.Pars as pars
-use Rattle.xc_disjoint.specs.Ends.{has_sides, some_has_sides}
 use Rattle.xc_disjoint.specs.Sides as sides
 use Rattle.xc_disjoint.specs.Sides.{Sides, Shares, after, with_branch, side_of, side_if, no_sides, no_shares, all_after, all_with, sides_of, only, of_resource}
 use Rattle.xc_disjoint.proofs.Entries.{after_unused, with_unused}

@@ -5,18 +5,8 @@ use Rattle.xc_disjoint.specs.Cores.{if_so}
 use Rattle.xc_kernel.specs.Things as things
 use Rattle.xc_kernel.specs.Things.{by_statements}
 use Rattle.xc_kernel.specs.Uses.{once}
-use Rattle.xc_kernel.specs.Branches.{branches_of, users, uses_in}
+use Rattle.xc_kernel.specs.Branches.{branches_of, users, uses_in, some_has_sides}
 use Rattle.xc_kernel.specs.Pars as pars
-
--- The sides of a channel that is used so often are two branches of this `par`: it holds all uses, and exactly two of its
--- branches have some. So it is the innermost that holds them all.
-abbrev pub has_sides : (channel count : ℕ) → kernel.Branches → Bool
-has_sides channel count bs = nat_eq (users channel bs) 2 && nat_eq (uses_in channel bs) count
-
--- they are so of some `par`
-abbrev pub some_has_sides : (channel count : ℕ) → List kernel.Branches → Bool
-some_has_sides channel count [] = false
-some_has_sides channel count (bs ∷ ps) = has_sides channel count bs || some_has_sides channel count ps
 
 -- `ends_of`, by whether exactly two roots use the channel
 abbrev pub ends_by : kernel.Kernel → kernel.Root → ℕ → Bool → ℕ
