@@ -74,11 +74,11 @@ module _ (P : List tree.Item) (K : kernel.Kernel) (s : Stim) where
       let rest = along further pieces (ms ++ m ∷ []) (ns ++ piece) x' told.0 next.kernel_leads (next.text_leads ∙ ap Some (sym told.2)) h.1 in (
         alike ms ns x.state y.state e f h.0,
         there_put
-        (λ x'. IsThere (leads (told_of (of_text P) s) y piece) (λ y'. Along (told_of (of_kernel K) s) (told_of (of_text P) s) Alike x' y' further pieces))
-        (and_then (acts K s x.state m) (λ z. Some (told_after (of_kernel K) x m z)))
-        x'
-        (ap (λ o. and_then o (λ z. Some (told_after (of_kernel K) x m z))) acted)
-        (there_put (λ y'. Along (told_of (of_kernel K) s) (told_of (of_text P) s) Alike x' y' further pieces) (leads (told_of (of_text P) s) y piece) told.0 told.1 rest),
+            (λ x'. IsThere (leads (told_of (of_text P) s) y piece) (λ y'. Along (told_of (of_kernel K) s) (told_of (of_text P) s) Alike x' y' further pieces))
+            (and_then (acts K s x.state m) (λ z. Some (told_after (of_kernel K) x m z)))
+            x'
+            (ap (λ o. and_then o (λ z. Some (told_after (of_kernel K) x m z))) acted)
+            (there_put (λ y'. Along (told_of (of_kernel K) s) (told_of (of_text P) s) Alike x' y' further pieces) (leads (told_of (of_text P) s) y piece) told.0 told.1 rest),
       )
 
   beside : (ms : List Action) → HasBeside (StandAlike P K s) ms → Beside (told_of (of_kernel K) s) (told_of (of_text P) s) Alike ms
