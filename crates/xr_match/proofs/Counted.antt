@@ -1,10 +1,10 @@
 -- A program goes on as it does, whatever its families have done so far.
-use Rattle.std.proofs.Common.{◌≡◌, ℕ, ◌+◌, List, [], ◌∷◌, Option, Some, None, refl, sym, subst, ap, ◌∙◌}
+use Rattle.std.proofs.Common.{◌≡◌, List, [], ◌∷◌, Option, Some, None, refl, ap, ◌∙◌}
 use Rattle.std.proofs.lemmas.Option.{same_Some}
 use Rattle.xs_instr.specs.declared.image.Stim.{Stim}
 use Rattle.xs_instr.specs.Machine.{and_then}
 use Rattle.xr_match.specs.Sources.{Source, Told, allowed, told_after, told_of}
-use Rattle.xr_match.specs.Systems.{IsThere, leads}
+use Rattle.xr_match.specs.Systems.{leads}
 
 module _ (P : Source) (s : Stim) where
   -- with its families' actions

@@ -10,7 +10,7 @@ use Rattle.xs_instr.specs.Machine.{Machine, Event, Step, Tick, Move, does, home_
 use Rattle.xs_instr.specs.Slot.{slot}
 use Rattle.xc_built.specs.declared.program.Program.{Program}
 use Rattle.xc_built.specs.World.{World, Branch, Item, Outputs, Ends, Life, Running, Ended}
-use Rattle.xr_match.specs.Systems.{IsThere}
+use Rattle.xr_match.specs.Systems.{SomeIs}
 use Rattle.xr_match.specs.Meanings.{of_built}
 use Rattle.xr_match.proofs.Links.{link_empty}
 use Rattle.xr_match.proofs.Simulates.{Follows}
@@ -59,7 +59,7 @@ module _ (L : Image) (P : Program) (s : Stim) (who : ℕ → ℕ → Option ℕ)
           let some : 1 ≤ a.roots = omega (arith, running_some c x.branches b branch known, st.roots c a at_c) in
           at_item (end_answers P s (home_of L s c) (own b) t x b branch a known core runs (clock_at L P s who own m x c a st at_c) rest items_are some h) e
 
-    at_branch : (b : ℕ) → who c t ≡ Some b → (o : Option Branch) → slice_get x.branches b ≡ o → IsThere o (Runs L P s who own c t b a) → Turns (slot (home_of L s c) a t) → Follows (of_built P) s (Standing L P s who own) x m'
+    at_branch : (b : ℕ) → who c t ≡ Some b → (o : Option Branch) → slice_get x.branches b ≡ o → SomeIs o (Runs L P s who own c t b a) → Turns (slot (home_of L s c) a t) → Follows (of_built P) s (Standing L P s who own) x m'
     at_branch b runs_b None known h e = absurd h
     at_branch b runs_b (Some branch) known h e =
         branch_followed b runs_b branch known h.core branch.items branch.life refl refl h.by e

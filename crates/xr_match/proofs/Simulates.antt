@@ -1,5 +1,5 @@
 -- A relation between the machine's states and the program's that each event keeps: so the image implements the program.
-use Rattle.std.proofs.Common.{◌≡◌, ℕ, List, [], ◌∷◌, Option, Some, None, refl, sym, subst, ap, ◌∙◌}
+use Rattle.std.proofs.Common.{◌≡◌, List, Option, Some, None, refl, sym, subst, ap, ◌∙◌}
 use Rattle.std.proofs.lemmas.Option.{same_Some}
 use Rattle.xs_instr.specs.declared.image.Image.{Image}
 use Rattle.xs_instr.specs.declared.image.Stim.{Stim}
@@ -8,7 +8,6 @@ use Rattle.xs_instr.specs.Valid.{IsGoodStim}
 use Rattle.xr_match.specs.Implements.{Agree, AgreeNow, Implements}
 use Rattle.xr_match.specs.Lives.{Watched, machine_of, watched_after, watched_start}
 use Rattle.xr_match.specs.Sources.{Source, Told, allowed, told_of, told_start}
-use Rattle.xr_match.specs.Systems.{System}
 use Rattle.xr_match.proofs.Counted.{counted}
 use Rattle.xr_match.proofs.Frame as frame
 

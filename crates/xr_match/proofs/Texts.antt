@@ -1,8 +1,7 @@
 -- An image that implements a program's kernel implements the program's text.
-use Rattle.std.proofs.Common.{◌≡◌, ℕ, Bool, true, List, [], ◌∷◌, ◌++◌, Option, Some, None, refl, sym, subst, ap, ◌∙◌}
+use Rattle.std.proofs.Common.{◌≡◌, ℕ, List, [], ◌∷◌, ◌++◌, Option, Some, None, refl, sym, subst, ap, ◌∙◌}
 use Rattle.std.specs.Prelude.{IsSome}
 use Rattle.std.proofs.lemmas.Option.{same_Some}
-use Rattle.xs_instr.specs.declared.image.Image.{Image}
 use Rattle.xs_instr.specs.declared.image.Stim.{Stim}
 use Rattle.xs_instr.specs.Machine.{and_then}
 use Rattle.xc_tree.specs.Plain as tree
@@ -10,14 +9,13 @@ use Rattle.xc_kernel.specs.Copies.{copy_of}
 use Rattle.xc_kernel.specs.Plain as kernel
 use Rattle.xc_meaning.specs.Follows.{AreAlike, StandAlike, StandAlong, HasBeside}
 use Rattle.xc_meaning.specs.Runs.{acts, acts_all, kernel_run, kernel_start, program_run, program_start}
-use Rattle.xc_meaning.specs.States.Branches.{all_ended}
 use Rattle.xc_meaning.specs.States.Worlds.{World, Action}
 use Rattle.xc_meaning.proofs.Recursion.Typed.{typed_text_follows}
-use Rattle.xr_match.specs.Implements.{AgreeNow, AllRootsEnded, Implements}
+use Rattle.xr_match.specs.Implements.{AgreeNow}
 use Rattle.xr_match.specs.Lives.{Watched, machine_of}
 use Rattle.xr_match.specs.Meanings.{of_kernel, of_text, of_worlds, KernelsCarry}
 use Rattle.xr_match.specs.Sources.{Told, allowed, told_after, told_of, told_start}
-use Rattle.xr_match.specs.Systems.{IsThere, IsRun, leads, Along, Beside, Refines}
+use Rattle.xr_match.specs.Systems.{SomeIs, IsRun, leads, Along, Beside}
 use Rattle.xr_match.proofs.Counted.{counted, uncounted}
 use Rattle.xr_match.proofs.Through.{refines_through, there_get, there_put}
 
@@ -74,7 +72,7 @@ module _ (P : List tree.Item) (K : kernel.Kernel) (s : Stim) where
       let rest = along further pieces (ms ++ m ∷ []) (ns ++ piece) x' told.0 next.kernel_leads (next.text_leads ∙ ap Some (sym told.2)) h.1 in (
         alike ms ns x.state y.state e f h.0,
         there_put
-            (λ x'. IsThere (leads (told_of (of_text P) s) y piece) (λ y'. Along (told_of (of_kernel K) s) (told_of (of_text P) s) Alike x' y' further pieces))
+            (λ x'. SomeIs (leads (told_of (of_text P) s) y piece) (λ y'. Along (told_of (of_kernel K) s) (told_of (of_text P) s) Alike x' y' further pieces))
             (and_then (acts K s x.state m) (λ z. Some (told_after (of_kernel K) x m z)))
             x'
             (ap (λ o. and_then o (λ z. Some (told_after (of_kernel K) x m z))) acted)

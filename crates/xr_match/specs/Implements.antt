@@ -1,17 +1,17 @@
 -- When an image implements a program.
-use Rattle.std.specs.Prelude.{◌≡◌, ◌≤◌, ◌+◌, ◌*◌, ℕ, Bool, true, false, List, [], ◌∷◌, map, Option, Some, None, slice_get, ◌↔◌}
+use Rattle.std.specs.Prelude.{◌≡◌, ◌≤◌, ◌+◌, ◌*◌, ℕ, true, false, List, [], ◌∷◌, map, Some, None, slice_get, ◌↔◌}
 use Rattle.xs_instr.specs.declared.image.Image.{Image}
 use Rattle.xs_instr.specs.declared.image.Pair.{Pair}
 use Rattle.xs_instr.specs.declared.image.Stim.{Stim}
 use Rattle.xs_instr.specs.declared.state.ChanEnd.{ChanEnd}
 use Rattle.xs_instr.specs.declared.state.CoreState.{CoreState}
 use Rattle.xs_instr.specs.declared.state.Token.{Token}
-use Rattle.xs_instr.specs.Machine.{Machine, Step, Move, and_then, does}
+use Rattle.xs_instr.specs.Machine.{Machine, Step, Move, does}
 use Rattle.xs_instr.specs.Valid.{IsGoodStim}
 use Rattle.xc_meaning.specs.States.Channels.{Side, first, second}
-use Rattle.xr_match.specs.Lives.{Life, Watched, machine_of}
+use Rattle.xr_match.specs.Lives.{Watched, machine_of}
 use Rattle.xr_match.specs.Sources.{Source, Told, actions_of, told_of}
-use Rattle.xr_match.specs.Systems.{IsThere, Refines}
+use Rattle.xr_match.specs.Systems.{Refines}
 
 -- every root has ended
 abbrev pub AllRootsEnded : List CoreState → Type 0

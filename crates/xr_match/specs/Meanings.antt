@@ -1,5 +1,5 @@
 -- The meanings of a kernel, of a text, and of a program of the form that is built today.
-use Rattle.std.specs.Prelude.{◌≡◌, ◌+◌, ◌*◌, ℕ, zero, suc, Bool, true, false, List, [], ◌∷◌, Option, Some, None, IsSome, nat_eq, slice_get}
+use Rattle.std.specs.Prelude.{◌≡◌, ◌+◌, ◌*◌, ℕ, zero, Bool, true, List, [], ◌∷◌, Option, Some, None, IsSome, nat_eq, slice_get}
 use Rattle.xs_instr.specs.declared.image.Image.{Image}
 use Rattle.xs_instr.specs.Machine.{and_then}
 use Rattle.xc_built.specs.declared.program.Program.{Program}
@@ -23,7 +23,8 @@ use Rattle.xr_match.specs.Lives.{Family, of_root, of_child}
 use Rattle.xr_match.specs.Sides.{two_sided}
 use Rattle.xr_match.specs.Sources.{Source}
 
--- the number of the root with a place among those of a core
+-- The number of the root with a place among those of a core: the roots of a core in an image are the kernel's roots on that core, in the
+-- kernel's order.
 abbrev pub root_among : (core number : ℕ) → List kernel.Root → (place : ℕ) → Option ℕ
 root_among core number [] place = None
 root_among core number (root ∷ roots) place =
@@ -97,7 +98,7 @@ abbrev pub built_family : Family → Option ℕ
 built_family (of_root zero zero) = Some 0
 built_family other = None
 
--- an output counts its value and its time
+-- An output counts its value and its time. This is less than what the program's text allows.
 abbrev pub built_bound : ℕ
 built_bound = 8 * (2 + 16)
 

@@ -1,5 +1,5 @@
 -- What a program means, as far as an image has to do with it: its states and actions, and what can be seen of a state.
-use Rattle.std.specs.Prelude.{ℕ, zero, ◌+◌, List, Option, Some, None}
+use Rattle.std.specs.Prelude.{ℕ, ◌+◌, List, Option, Some, None}
 use Rattle.xs_instr.specs.declared.image.Stim.{Stim}
 use Rattle.xs_instr.specs.declared.trace.Record.{Record}
 use Rattle.xs_instr.specs.Machine.{and_then}
@@ -57,10 +57,10 @@ told_of P s = record {
   next = λ x action. and_then (P.acts s x.state action) (λ y. Some (told_after P x action y));
 }
 
--- the actions that the family with a name has done; one that isn't there yet has done none
+-- the actions that a family has done; one that has no name, or isn't there yet, has done none
 abbrev pub actions_by : (P : Source) → Told P → Option ℕ → ℕ
 actions_by P x None = 0
 actions_by P x (Some family) = x.actions family
 
-abbrev pub actions_of : (P : Source) → Told P → Family → ℕ
-actions_of P x family = actions_by P x (P.family_number x.state family)
+abbrev pub actions_of : (P : Source) → Told P → Option Family → ℕ
+actions_of P x family = actions_by P x (and_then family (P.family_number x.state))
