@@ -13,7 +13,7 @@ use Rattle.xc_kernel.specs.Plain as kernel
 use Rattle.xc_kernel.specs.Values.{word}
 use Rattle.xc_kernel.specs.Eval.{Store}
 use Rattle.xs_instr.specs.Lines.{Line, instr_of, pos_of}
-use Rattle.xs_instr.specs.OwnSteps.{Within}
+use Rattle.xs_instr.specs.OwnSteps.{IsApart, Within}
 use Rattle.xl_expr.specs.declared.plan.VarAt.TheVariants.{Near}
 use Rattle.xl_expr.specs.declared.plan.VarPlan.{VarPlan}
 use Rattle.xl_expr.specs.Code.{code_to}
@@ -53,7 +53,7 @@ all w = true
 abbrev store : Store
 store = (7 ∷ []) ∷ []
 
-example : Within home all 1 0 (Outcome home all 1 0 thread words R3 6 (word 9)) 24 core
+example : Within home all (IsApart 1) 0 (Outcome home all 1 0 thread words R3 6 (word 9)) 24 core
 example =
     (code_evaluates vars x_and_two R3 0 there (omega arith)).by home all 1 0 thread store core
     (refl, refl, (refl, refl, (refl, refl, (refl, refl, (refl, refl, (refl, refl, tt))))))

@@ -19,7 +19,7 @@ use Rattle.xc_kernel.specs.Values.{Value, word, error, tested}
 use Rattle.xc_kernel.specs.Values.{tested_by as tested_by'}
 use Rattle.xc_kernel.specs.Eval.{Store, element_by, element_at}
 use Rattle.xs_instr.specs.Lines.{Line}
-use Rattle.xs_instr.specs.OwnSteps.{IsWord, StandAt, temporary}
+use Rattle.xs_instr.specs.OwnSteps.{IsApart, IsWord, StandAt, temporary}
 use Rattle.xl_expr.specs.declared.plan.VarAt.{VarAt}
 use Rattle.xl_expr.specs.declared.plan.VarAt.TheVariants.{Near, Far, Through}
 use Rattle.xl_expr.specs.declared.plan.VarPlan.{VarPlan}
@@ -53,13 +53,13 @@ module _ (code : Code) (relied : ℕ → Bool) (s : ℕ) (small : s + temporary 
   Is_ready = Ready code relied s dp first
 
   -- a word of dp's is loaded
-  pub by_near : (d : Reg) (regs : Regs) (words : List ℕ) (pc n x : ℕ) → slice_get code.instrs pc ≡ Some (Ldwdp d n) → Is_ready regs words → IsWord relied s first (address_at dp n) x → Sure code relied s (own pc regs words) (own (pc + 1) (reg_set regs d x) words)
+  pub by_near : (d : Reg) (regs : Regs) (words : List ℕ) (pc n x : ℕ) → slice_get code.instrs pc ≡ Some (Ldwdp d n) → Is_ready regs words → IsWord relied s first (address_at dp n) x → Sure code relied (IsApart s) (own pc regs words) (own (pc + 1) (reg_set regs d x) words)
   by_near d regs words pc n x stands ready h =
       by_quiet code relied s (Ldwdp d n) regs (reg_set regs d x) words pc (pc + 1) stands (plain_ldwdp d n) (λ ws g.
       ap (λ p. loads (own pc regs ws) d (word_at ws (address_at p n))) ready.dp_is ∙ ap (loads (own pc regs ws) d) (word_there code relied s dp first regs words (address_at dp n) x ready h ws g))
 
   -- the word at r11 + 4 r0 is loaded into r0
-  by_element : (regs : Regs) (words : List ℕ) (pc base i x : ℕ) → slice_get code.instrs pc ≡ Some (Ldw R0 R11 R0) → Is_ready regs words → regs.r11 ≡ base → regs.r0 ≡ i → IsWord relied s first (address_at base i) x → Sure code relied s (own pc regs words) (own (pc + 1) (reg_set regs R0 x) words)
+  by_element : (regs : Regs) (words : List ℕ) (pc base i x : ℕ) → slice_get code.instrs pc ≡ Some (Ldw R0 R11 R0) → Is_ready regs words → regs.r11 ≡ base → regs.r0 ≡ i → IsWord relied s first (address_at base i) x → Sure code relied (IsApart s) (own pc regs words) (own (pc + 1) (reg_set regs R0 x) words)
   by_element regs words pc base i x stands ready base_is i_is h =
       by_quiet code relied s (Ldw R0 R11 R0) regs (reg_set regs R0 x) words pc (pc + 1) stands (plain_ldw R0 R11 R0) (λ ws g.
       ap (λ p. loads (own pc regs ws) R0 (word_at ws (address_at p regs.r0))) base_is
@@ -126,7 +126,7 @@ module _ (code : Code) (relied : ℕ → Bool) (s : ℕ) (small : s + temporary 
           (done code relied s regs2 words (pc + 1 + 1 + 1) (pc + 3) k 0 i (omega arith) i_is))
 
   -- an element, whose base comes to r11 by one instruction
-  module _ (bi : Instr) (base : ℕ) (sets_base : (regs : Regs) (words : List ℕ) (pc : ℕ) → slice_get code.instrs pc ≡ Some bi → Is_ready regs words → Sure code relied s (own pc regs words) (own (pc + 1) (reg_set regs R11 base) words)) (xs : List ℕ) (pos : Pos) (pi : ℕ → ℕ → Pos → List Line) (vi : Value) (di ni : ℕ) (mi : Piece_means pi vi di ni) (stand : StandFrom vars relied s dp first store base xs) where
+  module _ (bi : Instr) (base : ℕ) (sets_base : (regs : Regs) (words : List ℕ) (pc : ℕ) → slice_get code.instrs pc ≡ Some bi → Is_ready regs words → Sure code relied (IsApart s) (own pc regs words) (own (pc + 1) (reg_set regs R11 base) words)) (xs : List ℕ) (pos : Pos) (pi : ℕ → ℕ → Pos → List Line) (vi : Value) (di ni : ℕ) (mi : Piece_means pi vi di ni) (stand : StandFrom vars relied s dp first store base xs) where
     abbrev tested_code : List Instr
     tested_code = Ldc R11 (length xs) ∷ Lsu R11 R0 R11 ∷ Ecallf R11 ∷ bi ∷ Ldw R0 R11 R0 ∷ []
 

@@ -87,7 +87,7 @@ keeps_less s j k r1 w1 r2 w2 le h = record { others = h.others; size = h.size; s
 
 module _ (code : Code) (relied : ℕ → Bool) (s : ℕ) where
   abbrev MyWay : ℕ → Own → Own → Type 0
-  MyWay = Way code relied s
+  MyWay = Way code relied (IsApart s)
 
   -- code leads from one index to another with a word in r0, within so many steps, or to where the next step traps
   pub record Ends (regs : Regs) (words : List ℕ) (pc pc' k most v : ℕ) : Type 0 where
@@ -104,7 +104,7 @@ module _ (code : Code) (relied : ℕ → Bool) (s : ℕ) where
     pub few : count ≤ most
     pub there : Own
     pub way : MyWay count (own pc regs words) there
-    pub fails : Fails code relied s kind pos there
+    pub fails : Fails code relied (IsApart s) kind pos there
 
   abbrev pub Runs : Regs → List ℕ → ℕ → ℕ → ℕ → ℕ → Value → Type 0
   Runs regs words pc pc' k most (word v) = Ends regs words pc pc' k most v
@@ -127,13 +127,13 @@ module _ (code : Code) (relied : ℕ → Bool) (s : ℕ) where
   pub and_on : (n : ℕ) (regs : Regs) (words : List ℕ) (regs1 : Regs) (words1 : List ℕ) (pc pc1 pc2 k m : ℕ) (v : Value) → MyWay n (own pc regs words) (own pc1 regs1 words1) → Keeps s k regs words regs1 words1 → Runs regs1 words1 pc1 pc2 k m v → Runs regs words pc pc2 k (n + m) v
   and_on n regs words regs1 words1 pc pc1 pc2 k m (word v) w h r =
       let f = r.few in
-      record { count = n + r.count; few = omega arith; regs' = r.regs'; words' = r.words'; way = way_on code relied s n r.count (own pc regs words) (own pc1 regs1 words1) (own pc2 r.regs' r.words') w r.way; value = r.value; keeps = keeps_twice s k regs words regs1 words1 r.regs' r.words' h r.keeps }
+      record { count = n + r.count; few = omega arith; regs' = r.regs'; words' = r.words'; way = way_on code relied (IsApart s) n r.count (own pc regs words) (own pc1 regs1 words1) (own pc2 r.regs' r.words') w r.way; value = r.value; keeps = keeps_twice s k regs words regs1 words1 r.regs' r.words' h r.keeps }
   and_on n regs words regs1 words1 pc pc1 pc2 k m (error kind pos) w h r =
       let f = r.few in
-      record { count = n + r.count; few = omega arith; there = r.there; way = way_on code relied s n r.count (own pc regs words) (own pc1 regs1 words1) r.there w r.way; fails = r.fails }
+      record { count = n + r.count; few = omega arith; there = r.there; way = way_on code relied (IsApart s) n r.count (own pc regs words) (own pc1 regs1 words1) r.there w r.way; fails = r.fails }
 
   -- one step, and then a run
-  pub one_on : (regs : Regs) (words : List ℕ) (regs1 : Regs) (words1 : List ℕ) (pc pc1 pc2 k m : ℕ) (v : Value) → Sure code relied s (own pc regs words) (own pc1 regs1 words1) → Keeps s k regs words regs1 words1 → Runs regs1 words1 pc1 pc2 k m v → Runs regs words pc pc2 k (1 + m) v
+  pub one_on : (regs : Regs) (words : List ℕ) (regs1 : Regs) (words1 : List ℕ) (pc pc1 pc2 k m : ℕ) (v : Value) → Sure code relied (IsApart s) (own pc regs words) (own pc1 regs1 words1) → Keeps s k regs words regs1 words1 → Runs regs1 words1 pc1 pc2 k m v → Runs regs words pc pc2 k (1 + m) v
   one_on regs words regs1 words1 pc pc1 pc2 k m v sure h r = and_on 1 regs words regs1 words1 pc pc1 pc2 k m v (own pc1 regs1 words1, sure, refl) h r
 
   -- a run that gives a word, and then a run
@@ -143,7 +143,7 @@ module _ (code : Code) (relied : ℕ → Bool) (s : ℕ) where
       looser regs words pc pc2 pc2 k k (h.count + n) (m + n) v refl (omega arith) (omega arith) (and_on h.count regs words h.regs' h.words' pc pc1 pc2 k n v h.way h.keeps (next h.regs' h.words' h.keeps h.value))
 
   -- a step that changes no word
-  pub by_quiet : (i : Instr) (regs regs' : Regs) (words : List ℕ) (pc pc' : ℕ) → slice_get code.instrs pc ≡ Some i → IsPlain i → ((ws : List ℕ) → Agree code relied s words ws → own_row (own pc regs ws) i ≡ makes (own pc' regs' ws)) → Sure code relied s (own pc regs words) (own pc' regs' words)
+  pub by_quiet : (i : Instr) (regs regs' : Regs) (words : List ℕ) (pc pc' : ℕ) → slice_get code.instrs pc ≡ Some i → IsPlain i → ((ws : List ℕ) → Agree code relied (IsApart s) words ws → own_row (own pc regs ws) i ≡ makes (own pc' regs' ws)) → Sure code relied (IsApart s) (own pc regs words) (own pc' regs' words)
   by_quiet i regs regs' words pc pc' stands plain turn = record { instr = i; stands = stands; plain = plain; goes = λ ws h. record { words = ws; made = turn ws h; agree = h; apart = λ w e. refl } }
 
   -- what the thread stands on: its own words from word s on, dp, and the words that no piece of code changes
@@ -169,7 +169,7 @@ module _ (code : Code) (relied : ℕ → Bool) (s : ℕ) where
       apart_saved s k w (inr h) = inr h
 
   -- a word of the layout is there
-  pub word_there : (dp : ℕ) (first : List ℕ) (regs : Regs) (words : List ℕ) (address x : ℕ) → Ready dp first regs words → IsWord relied s first address x → (ws : List ℕ) → Agree code relied s words ws → word_at ws address ≡ Some x
+  pub word_there : (dp : ℕ) (first : List ℕ) (regs : Regs) (words : List ℕ) (address x : ℕ) → Ready dp first regs words → IsWord relied s first address x → (ws : List ℕ) → Agree code relied (IsApart s) words ws → word_at ws address ≡ Some x
   word_there dp first regs words address x r h ws g =
       word_by_same first ws address (nat_eq (address % 4) 0) (g.by (address / 4) h.relied_on ∙ r.same (address / 4) h.apart) ∙ h.there
 
@@ -186,7 +186,7 @@ module _ (code : Code) (relied : ℕ → Bool) (s : ℕ) where
         ap (λ n. word_by ws (address_at (4 * s) k) (nat_eq n 0)) t.0 ∙ ap (slice_get ws) t.1
 
     -- the k-th temporary word is set to a register's
-    pub by_save : (from : Reg) (dp : ℕ) (first : List ℕ) (regs : Regs) (words : List ℕ) (pc k : ℕ) → slice_get code.instrs pc ≡ Some (Stwsp from k) → k < temporary → Ready dp first regs words → Sure code relied s (own pc regs words) (own (pc + 1) regs (slice_set words (s + k) (reg_get regs from)))
+    pub by_save : (from : Reg) (dp : ℕ) (first : List ℕ) (regs : Regs) (words : List ℕ) (pc k : ℕ) → slice_get code.instrs pc ≡ Some (Stwsp from k) → k < temporary → Ready dp first regs words → Sure code relied (IsApart s) (own pc regs words) (own (pc + 1) regs (slice_set words (s + k) (reg_get regs from)))
     by_save from dp first regs words pc k stands lt r =
         let v = reg_get regs from in
         let n = r.within in
@@ -215,7 +215,7 @@ module _ (code : Code) (relied : ℕ → Bool) (s : ℕ) where
         apart_far w (inr h) f = absurd (omega arith)
 
     -- and read again into a register
-    pub by_restore : (to : Reg) (dp : ℕ) (first : List ℕ) (regs : Regs) (words : List ℕ) (pc k x : ℕ) → slice_get code.instrs pc ≡ Some (Ldwsp to k) → k < temporary → Ready dp first regs words → slice_get words (s + k) ≡ Some x → Sure code relied s (own pc regs words) (own (pc + 1) (reg_set regs to x) words)
+    pub by_restore : (to : Reg) (dp : ℕ) (first : List ℕ) (regs : Regs) (words : List ℕ) (pc k x : ℕ) → slice_get code.instrs pc ≡ Some (Ldwsp to k) → k < temporary → Ready dp first regs words → slice_get words (s + k) ≡ Some x → Sure code relied (IsApart s) (own pc regs words) (own (pc + 1) (reg_set regs to x) words)
     by_restore to dp first regs words pc k x stands lt r there =
         by_quiet (Ldwsp to k) regs (reg_set regs to x) words pc (pc + 1) stands (record { row_is = λ h c t th. refl; no_event = refl }) (λ ws g.
         ap (λ p. loads (own pc regs ws) to (word_at ws (address_at p k))) r.sp_is

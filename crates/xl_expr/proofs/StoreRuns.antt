@@ -83,11 +83,11 @@ module _ (code : Code) (relied : ℕ → Bool) (s : ℕ) (small : s + temporary 
     pub index : ℕ
     pub regs' : Regs
     pub words' : List ℕ
-    pub way : Way code relied s count (own pc regs words) (own index regs' words')
+    pub way : Way code relied (IsApart s) count (own pc regs words) (own index regs' words')
     pub instr : Instr
     pub stands : slice_get code.instrs index ≡ Some instr
     pub plain : IsPlain instr
-    pub turn : (ws : List ℕ) → Agree code relied s words' ws → own_row (own index regs' ws) instr ≡ makes (own pc' regs' (word_put ws address v))
+    pub turn : (ws : List ℕ) → Agree code relied (IsApart s) words' ws → own_row (own index regs' ws) instr ≡ makes (own pc' regs' (word_put ws address v))
     pub leaves : Leaves regs words regs' words'
 
   abbrev pub WriteRuns : (ℕ → ℕ → Type 0) → Regs → List ℕ → ℕ → ℕ → ℕ → ℕ → Value → Type 0
@@ -100,7 +100,7 @@ module _ (code : Code) (relied : ℕ → Bool) (s : ℕ) (small : s + temporary 
       record { count = w.count; few = omega arith; index = w.index; regs' = w.regs'; words' = w.words'; way = w.way; instr = w.instr; stands = w.stands; plain = w.plain; turn = w.turn; leaves = w.leaves }
 
   -- a way first
-  write_on : (n : ℕ) (regs : Regs) (words : List ℕ) (regs1 : Regs) (words1 : List ℕ) (pc pc1 pc2 most v address : ℕ) → Way code relied s n (own pc regs words) (own pc1 regs1 words1) → Leaves regs words regs1 words1 → Writing regs1 words1 pc1 pc2 most v address → Writing regs words pc pc2 (n + most) v address
+  write_on : (n : ℕ) (regs : Regs) (words : List ℕ) (regs1 : Regs) (words1 : List ℕ) (pc pc1 pc2 most v address : ℕ) → Way code relied (IsApart s) n (own pc regs words) (own pc1 regs1 words1) → Leaves regs words regs1 words1 → Writing regs1 words1 pc1 pc2 most v address → Writing regs words pc pc2 (n + most) v address
   write_on n regs words regs1 words1 pc pc1 pc2 most v address w l r =
       let f = r.few in
       record {
@@ -109,7 +109,7 @@ module _ (code : Code) (relied : ℕ → Bool) (s : ℕ) (small : s + temporary 
         index = r.index;
         regs' = r.regs';
         words' = r.words';
-        way = way_on code relied s n r.count (own pc regs words) (own pc1 regs1 words1) (own r.index r.regs' r.words') w r.way;
+        way = way_on code relied (IsApart s) n r.count (own pc regs words) (own pc1 regs1 words1) (own r.index r.regs' r.words') w r.way;
         instr = r.instr;
         stands = r.stands;
         plain = r.plain;
@@ -118,15 +118,15 @@ module _ (code : Code) (relied : ℕ → Bool) (s : ℕ) (small : s + temporary 
       }
 
   -- a step first
-  write_after : (regs : Regs) (words : List ℕ) (regs1 : Regs) (words1 : List ℕ) (pc pc1 pc2 most v address : ℕ) → Sure code relied s (own pc regs words) (own pc1 regs1 words1) → Leaves regs words regs1 words1 → Writing regs1 words1 pc1 pc2 most v address → Writing regs words pc pc2 (1 + most) v address
+  write_after : (regs : Regs) (words : List ℕ) (regs1 : Regs) (words1 : List ℕ) (pc pc1 pc2 most v address : ℕ) → Sure code relied (IsApart s) (own pc regs words) (own pc1 regs1 words1) → Leaves regs words regs1 words1 → Writing regs1 words1 pc1 pc2 most v address → Writing regs words pc pc2 (1 + most) v address
   write_after regs words regs1 words1 pc pc1 pc2 most v address sure l r = write_on 1 regs words regs1 words1 pc pc1 pc2 most v address (own pc1 regs1 words1, sure, refl) l r
 
   -- an error or a write after a way
-  runs_after : (P : ℕ → ℕ → Type 0) (n : ℕ) (regs : Regs) (words : List ℕ) (regs1 : Regs) (words1 : List ℕ) (pc pc1 pc2 most v : ℕ) (val : Value) → Way code relied s n (own pc regs words) (own pc1 regs1 words1) → Leaves regs words regs1 words1 → WriteRuns P regs1 words1 pc1 pc2 most v val → WriteRuns P regs words pc pc2 (n + most) v val
+  runs_after : (P : ℕ → ℕ → Type 0) (n : ℕ) (regs : Regs) (words : List ℕ) (regs1 : Regs) (words1 : List ℕ) (pc pc1 pc2 most v : ℕ) (val : Value) → Way code relied (IsApart s) n (own pc regs words) (own pc1 regs1 words1) → Leaves regs words regs1 words1 → WriteRuns P regs1 words1 pc1 pc2 most v val → WriteRuns P regs words pc pc2 (n + most) v val
   runs_after P n regs words regs1 words1 pc pc1 pc2 most v (word i) w l r = (r.0, r.1, write_on n regs words regs1 words1 pc pc1 pc2 most v r.0 w l r.2)
   runs_after P n regs words regs1 words1 pc pc1 pc2 most v (error kind pos) w l r =
       let f = r.few in
-      record { count = n + r.count; few = omega arith; there = r.there; way = way_on code relied s n r.count (own pc regs words) (own pc1 regs1 words1) r.there w r.way; fails = r.fails }
+      record { count = n + r.count; few = omega arith; there = r.there; way = way_on code relied (IsApart s) n r.count (own pc regs words) (own pc1 regs1 words1) r.there w r.way; fails = r.fails }
 
   -- after an index comes the write at it
   index_on : (P : ℕ → ℕ → Type 0) (regs : Regs) (words : List ℕ) (pc pc1 pc2 k m n v : ℕ) (val : Value) → Run regs words pc pc1 k m val → ((i : ℕ) (regs1 : Regs) (words1 : List ℕ) → val ≡ word i → Keeps s k regs words regs1 words1 → regs1.r0 ≡ i → (address : ℕ) × P i address × Writing regs1 words1 pc1 pc2 n v address) → WriteRuns P regs words pc pc2 (m + n) v val
@@ -225,7 +225,7 @@ module _ (code : Code) (relied : ℕ → Bool) (s : ℕ) (small : s + temporary 
       at_place (Through n) g st' = (address_at g.0 0, (g.0, g.1, refl), held_write from last n g.0 (slice_index xs 0) pc regs words st' ready g.1 g.2)
 
   -- to an element, whose base comes to r11 by one instruction
-  module _ (bi : Instr) (base : ℕ) (sets_base : (regs : Regs) (words : List ℕ) (pc : ℕ) → slice_get code.instrs pc ≡ Some bi → Is_ready regs words → Sure code relied s (own pc regs words) (own (pc + 1) (reg_set regs R11 base) words)) (len : ℕ) (xs : List ℕ) (len_is : len ≡ length xs) (from : Reg) (pos : Pos) (pi : ℕ → ℕ → Pos → List Line) (vi : Value) (di ni : ℕ) (mi : Means code relied s small mine dp first pi vi di ni) (stand : StandFrom vars relied s dp first store base xs) (P : ℕ → ℕ → Type 0) (is_address : (i : ℕ) → P i (address_at base i)) where
+  module _ (bi : Instr) (base : ℕ) (sets_base : (regs : Regs) (words : List ℕ) (pc : ℕ) → slice_get code.instrs pc ≡ Some bi → Is_ready regs words → Sure code relied (IsApart s) (own pc regs words) (own (pc + 1) (reg_set regs R11 base) words)) (len : ℕ) (xs : List ℕ) (len_is : len ≡ length xs) (from : Reg) (pos : Pos) (pi : ℕ → ℕ → Pos → List Line) (vi : Value) (di ni : ℕ) (mi : Means code relied s small mine dp first pi vi di ni) (stand : StandFrom vars relied s dp first store base xs) (P : ℕ → ℕ → Type 0) (is_address : (i : ℕ) → P i (address_at base i)) where
     abbrev all_lines : ℕ → List Line
     all_lines here = line (Stwsp from 0) pos ∷ (pi 1 (here + 1) pos ++ at_pos pos (element_write bi len))
 

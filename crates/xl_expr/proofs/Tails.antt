@@ -17,7 +17,7 @@ use Rattle.xs_instr.specs.Did.{makes, told, Traps}
 use Rattle.xs_instr.specs.Registers.{reg_get, reg_set}
 use Rattle.xs_instr.specs.Rows.{own_of, own_row, put_own, row, sets_where}
 use Rattle.xs_instr.specs.Slot.{is_waiteu}
-use Rattle.xs_instr.specs.OwnSteps.{StandAt}
+use Rattle.xs_instr.specs.OwnSteps.{IsApart, StandAt}
 use Rattle.xc_kernel.specs.Values.{Value, word, error, ErrorKind, arithmetic, index, of_one, of_two, divided, tested_by}
 use Rattle.xc_kernel.specs.Operators as operator
 use Rattle.xc_kernel.specs.Operators.{Operator}
@@ -37,7 +37,7 @@ module _ (code : Code) (relied : ℕ → Bool) (s : ℕ) (pos : Pos) where
   pub tail_runs : (is : List Instr) (regs : Regs) (val : Value) → Tail pos is regs val → (words : List ℕ) (pc k : ℕ) → StandAt code pc (at_pos pos is) → Runs code relied s regs words pc (pc + length is) k (length is) val
   tail_runs all first given (ends regs v h) words pc k st = done code relied s regs words pc (pc + 0) k 0 v (omega arith) h
   tail_runs all first given (goes i is regs regs' val p turn others more) words pc k st =
-      let sure = by_quiet code relied s i regs regs' words pc (pc + 1) st.0 p (λ (ws : List ℕ) (g : Agree code relied s words ws). turn pc ws) in
+      let sure = by_quiet code relied s i regs regs' words pc (pc + 1) st.0 p (λ (ws : List ℕ) (g : Agree code relied (IsApart s) words ws). turn pc ws) in
       let keeps : Keeps s k regs words regs' words = record { others = others; size = refl; same = λ w h. refl } in
       looser code relied s regs words pc (pc + 1 + length is) (pc + length (i ∷ is)) k k (1 + length is) (length (i ∷ is)) val (omega arith) (omega arith) (omega arith)
       (one_on code relied s regs words regs' words pc (pc + 1) (pc + 1 + length is) k (length is) val sure keeps (tail_runs is regs' val more words (pc + 1) k st.2))

@@ -13,7 +13,7 @@ use Rattle.xs_instr.specs.declared.trace.Record.TheVariants.{Fault}
 use Rattle.xs_instr.specs.Did.{makes, told, Traps}
 use Rattle.xs_instr.specs.Rows.{Own, own_of, own_row, put_own, row}
 use Rattle.xs_instr.specs.Slot.{slot, turn_at, turn_of, runs_on, event_or_row, pick_where, is_waiteu, pos_at, pos_where}
-use Rattle.xs_instr.specs.OwnSteps.{IsApart, Kept, Within}
+use Rattle.xs_instr.specs.OwnSteps.{Kept, Within}
 use Rattle.xc_kernel.specs.Values.{ErrorKind}
 use Rattle.xl_expr.specs.Works.{Errs, trap_of}
 use Rattle.xl_expr.proofs.Lists.{get_set_same}
@@ -33,7 +33,7 @@ at_pc thread pc regs = record thread { pc = pc; regs = regs }
 pub kept_twice : {relied : ℕ → Bool} {t : ℕ} {a b c : CoreState} → Kept relied t a b → Kept relied t b c → Kept relied t a c
 kept_twice h k = record { thread = k.thread ∙ h.thread; words = λ w r. k.words w r ∙ h.words w r }
 
-module _ (code : Code) (relied : ℕ → Bool) (s : ℕ) where
+module _ (code : Code) (relied : ℕ → Bool) (leaves : ℕ → Type 0) where
   -- the same words, as far as the thread relies on them
   pub record Agree (xs ys : List ℕ) : Type 0 where
     pub by : (w : ℕ) → relied w ≡ true → slice_get ys w ≡ slice_get xs w
@@ -43,7 +43,7 @@ module _ (code : Code) (relied : ℕ → Bool) (s : ℕ) where
     pub words : List ℕ
     pub made : own_row (own o.pc o.regs ws) i ≡ makes (own o'.pc o'.regs words)
     pub agree : Agree o'.words words
-    pub apart : (w : ℕ) → IsApart s w → slice_get words w ≡ slice_get ws w
+    pub apart : (w : ℕ) → leaves w → slice_get words w ≡ slice_get ws w
 
   pub record Sure (o o' : Own) : Type 0 where
     pub instr : Instr
@@ -92,7 +92,7 @@ module _ (code : Code) (relied : ℕ → Bool) (s : ℕ) where
         ∙ ap (λ (e : Bool). event_or_row home b t th (Some i) (pick_where home b t e)) plain.no_event
         ∙ plain.row_is home b t th
 
-    pub way_leads : (Q : CoreState → Type 0) (n most : ℕ) (o o' : Own) → n ≤ most → Way n o o' → ((b : CoreState) → Fits t thread o' b → Q b) → (a : CoreState) → Fits t thread o a → Within home relied s t Q most a
+    pub way_leads : (Q : CoreState → Type 0) (n most : ℕ) (o o' : Own) → n ≤ most → Way n o o' → ((b : CoreState) → Fits t thread o' b → Q b) → (a : CoreState) → Fits t thread o a → Within home relied leaves t Q most a
     way_leads Q zero zero o o' le h q a f = q a (subst (λ x. Fits t thread x a) h f)
     way_leads Q zero (suc most) o o' le h q a f = inl (q a (subst (λ x. Fits t thread x a) h f))
     way_leads Q (suc n) zero o o' le h q a f = absurd (omega arith)

@@ -125,4 +125,4 @@ Outcome home relied s t thread old to pc (error kind pos) b = (c : CoreState) �
 -- thread stands after at most 8 own steps for each node at the index behind them with `eval`'s word, or its next step traps
 -- with `eval`'s error.
 pub record Evaluates (vars : List (Option VarPlan)) (x : kernel.Expression) (to : Reg) (pc : ℕ) (lines : List Line) : Type 0 where
-  pub by : (home : Home) (relied : ℕ → Bool) (s t : ℕ) (thread : Thread) (store : Store) (a : CoreState) → StandAt home.parts.code pc lines → RunsAt t pc thread a → HasRoom relied s thread.regs a.words → IsLaid vars relied s thread.regs.dp a.words store x → Within home relied s t (Outcome home relied s t thread a.words to (pc + length lines) (eval store x)) (8 * nodes x) a
+  pub by : (home : Home) (relied : ℕ → Bool) (s t : ℕ) (thread : Thread) (store : Store) (a : CoreState) → StandAt home.parts.code pc lines → RunsAt t pc thread a → HasRoom relied s thread.regs a.words → IsLaid vars relied s thread.regs.dp a.words store x → Within home relied (IsApart s) t (Outcome home relied s t thread a.words to (pc + length lines) (eval store x)) (8 * nodes x) a

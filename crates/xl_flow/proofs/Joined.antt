@@ -15,7 +15,7 @@ use Rattle.xc_kernel.specs.Plain as kernel
 use Rattle.xc_kernel.specs.Values.{Value, word, error}
 use Rattle.xc_kernel.specs.Eval.{Store, eval}
 use Rattle.xs_instr.specs.Lines.{Line, line}
-use Rattle.xs_instr.specs.OwnSteps.{HasRoom, Kept, RunsAt, StandAt, Within}
+use Rattle.xs_instr.specs.OwnSteps.{IsApart, HasRoom, Kept, RunsAt, StandAt, Within}
 use Rattle.xl_expr.specs.declared.plan.VarPlan.{VarPlan}
 use Rattle.xl_expr.specs.Measures.{nodes, nodes_at}
 use Rattle.xl_expr.specs.Stores.{StoreOutcome, Stores, Writes, IsAddress, index_in, is_working}
@@ -37,14 +37,14 @@ working_scratch R11 h = cc
 working_scratch other h = refl
 
 -- where it holds now it holds within any number of steps
-pub within_now : (home : Home) (relied : ℕ → Bool) (s t : ℕ) (Q : CoreState → Type 0) (n : ℕ) (a : CoreState) → Q a → Within home relied s t Q n a
-within_now home relied s t Q n a h = within_more home relied s t Q 0 n (omega arith) a h
+pub within_now : (home : Home) (relied : ℕ → Bool) (leaves : ℕ → Type 0) (t : ℕ) (Q : CoreState → Type 0) (n : ℕ) (a : CoreState) → Q a → Within home relied leaves t Q n a
+within_now home relied leaves t Q n a h = within_more home relied leaves t Q 0 n (omega arith) a h
 
 -- another way to say it
-pub within_map : (home : Home) (relied : ℕ → Bool) (s t : ℕ) (P Q : CoreState → Type 0) → ((b : CoreState) → P b → Q b) → (n : ℕ) (a : CoreState) → Within home relied s t P n a → Within home relied s t Q n a
-within_map home relied s t P Q f zero a h = f a h
-within_map home relied s t P Q f (suc n) a (inl h) = inl (f a h)
-within_map home relied s t P Q f (suc n) a (inr h) = inr (λ b k. let x = h b k in (x.0, x.1, within_map home relied s t P Q f n x.0 x.2))
+pub within_map : (home : Home) (relied : ℕ → Bool) (leaves : ℕ → Type 0) (t : ℕ) (P Q : CoreState → Type 0) → ((b : CoreState) → P b → Q b) → (n : ℕ) (a : CoreState) → Within home relied leaves t P n a → Within home relied leaves t Q n a
+within_map home relied leaves t P Q f zero a h = f a h
+within_map home relied leaves t P Q f (suc n) a (inl h) = inl (f a h)
+within_map home relied leaves t P Q f (suc n) a (inr h) = inr (λ b k. let x = h b k in (x.0, x.1, within_map home relied leaves t P Q f n x.0 x.2))
 
 -- after an expression the thread is at work again
 module _ (relied : ℕ → Bool) (s t : ℕ) (pc pc1 v : ℕ) (thread : Thread) (a b : CoreState) (at_work : RunsAt t pc thread a) (room : HasRoom relied s thread.regs a.words) (g : Gives relied s t thread a.words R0 pc1 v b) where
@@ -84,21 +84,21 @@ module _ (vars : List (Option VarPlan)) (place : kernel.Place) (x : kernel.Expre
         } in
         (address, is_address, subst (λ n. (d : CoreState) → Kept relied t c d → Writes home relied s t thread a.words address n (pc + length (ls ++ ms)) d) g.value (subst (λ p. (d : CoreState) → Kept relied t c d → Writes home relied s t thread a.words address (reg_get g.regs R0) p d) end_is all))
 
-    on : (val : Value) (b : CoreState) → Outcome home relied s t thread a.words R0 (pc + length ls) val b → Within home relied s t (SetOutcome vars home relied s t thread a.words place (pc + length (ls ++ ms)) val (index_in store place)) (8 * nodes_at place - 1) b
-    on (error kind pos) b h = within_now home relied s t (SetOutcome vars home relied s t thread a.words place (pc + length (ls ++ ms)) (error kind pos) (index_in store place)) (8 * nodes_at place - 1) b h
+    on : (val : Value) (b : CoreState) → Outcome home relied s t thread a.words R0 (pc + length ls) val b → Within home relied (IsApart s) t (SetOutcome vars home relied s t thread a.words place (pc + length (ls ++ ms)) val (index_in store place)) (8 * nodes_at place - 1) b
+    on (error kind pos) b h = within_now home relied (IsApart s) t (SetOutcome vars home relied s t thread a.words place (pc + length (ls ++ ms)) (error kind pos) (index_in store place)) (8 * nodes_at place - 1) b h
     on (word v) b g =
         let thread' = after relied s t pc (pc + length ls) v thread a b at_work room g in
         let laid' = place_lasts vars relied s thread.regs.dp a.words b.words store g.words place place_laid in
         let laid'' = subst (λ d. PlaceIsLaid vars relied s d b.words store place) (sym (dp_is relied s t pc (pc + length ls) v thread a b at_work room g)) laid' in
-        within_map home relied s t
+        within_map home relied (IsApart s) t
         (StoreOutcome vars home relied s t thread' b.words place (reg_get g.regs R0) (pc + length ls + length ms) (index_in store place))
         (StoreOutcome vars home relied s t thread a.words place v (pc + length (ls ++ ms)) (index_in store place))
         (told_before v b g (index_in store place)) (8 * nodes_at place - 1) b
         (st.by home relied s t thread' store b (stand_back home.parts.code pc ls ms stand) (works_on relied s t pc (pc + length ls) v thread a b at_work room g) (has_room relied s t pc (pc + length ls) v thread a b at_work room g) laid'')
 
-    sets_by : Within home relied s t (SetOutcome vars home relied s t thread a.words place (pc + length (ls ++ ms)) (eval store x) (index_in store place)) (8 * nodes x + (8 * nodes_at place - 1)) a
+    sets_by : Within home relied (IsApart s) t (SetOutcome vars home relied s t thread a.words place (pc + length (ls ++ ms)) (eval store x) (index_in store place)) (8 * nodes x + (8 * nodes_at place - 1)) a
     sets_by =
-        then_within home relied s t (Outcome home relied s t thread a.words R0 (pc + length ls) (eval store x)) (SetOutcome vars home relied s t thread a.words place (pc + length (ls ++ ms)) (eval store x) (index_in store place)) (8 * nodes x) (8 * nodes_at place - 1) a
+        then_within home relied (IsApart s) t (Outcome home relied s t thread a.words R0 (pc + length ls) (eval store x)) (SetOutcome vars home relied s t thread a.words place (pc + length (ls ++ ms)) (eval store x) (index_in store place)) (8 * nodes x) (8 * nodes_at place - 1) a
         (ev.by home relied s t thread store a (stand_front home.parts.code pc ls ms stand) at_work room laid)
         (on (eval store x))
 
@@ -112,7 +112,7 @@ module _ (vars : List (Option VarPlan)) (x : kernel.Expression) (pc : ℕ) (plac
     jumps_so v b g c k =
         let here = k.thread ∙ g.here in
         let o = own (pc + length ls) g.regs c.words in
-        let fits : Fits home.parts.code relied s t thread o c = record { here = here; words = record { by = λ w r. refl } } in
+        let fits : Fits home.parts.code relied (IsApart s) t thread o c = record { here = here; words = record { by = λ w r. refl } } in
         let plain : IsPlain (Brff R0 target) = record { row_is = λ h d u th. refl; no_event = refl } in
         let behind = stand_back home.parts.code pc ls (line (Brff R0 target) place ∷ []) stand in
         let th : Thread = record thread { pc = pc + length ls; regs = g.regs } in
@@ -123,7 +123,7 @@ module _ (vars : List (Option VarPlan)) (x : kernel.Expression) (pc : ℕ) (plac
           others = λ r e. g.others r e (scratch_r0 r e);
           words = λ w r e. k.words w r ∙ g.words w r e;
           made =
-              turn_is home.parts.code relied s home t thread at_work.runs at_work.no_events refl c o (Brff R0 target) fits behind.0 plain
+              turn_is home.parts.code relied (IsApart s) home t thread at_work.runs at_work.no_events refl c o (Brff R0 target) fits behind.0 plain
               ∙ ap (λ n. told (put_own c t th) (jumps_by o target (nat_eq n 0))) g.value
               ∙ by_test (nat_eq v 0);
         }
@@ -136,9 +136,9 @@ module _ (vars : List (Option VarPlan)) (x : kernel.Expression) (pc : ℕ) (plac
     outcome (word v) b g = jumps_so v b g
     outcome (error kind pos) b h = h
 
-    tests_by : Within home relied s t (TestOutcome home relied s t thread a.words target (pc + length ls + 1) (eval store x)) (8 * nodes x) a
+    tests_by : Within home relied (IsApart s) t (TestOutcome home relied s t thread a.words target (pc + length ls + 1) (eval store x)) (8 * nodes x) a
     tests_by =
-        within_map home relied s t (Outcome home relied s t thread a.words R0 (pc + length ls) (eval store x)) (TestOutcome home relied s t thread a.words target (pc + length ls + 1) (eval store x)) (outcome (eval store x)) (8 * nodes x) a
+        within_map home relied (IsApart s) t (Outcome home relied s t thread a.words R0 (pc + length ls) (eval store x)) (TestOutcome home relied s t thread a.words target (pc + length ls + 1) (eval store x)) (outcome (eval store x)) (8 * nodes x) a
         (ev.by home relied s t thread store a (stand_front home.parts.code pc ls (line (Brff R0 target) place ∷ []) stand) at_work room laid)
 
   pub tested : Tests vars x pc place ls

@@ -30,7 +30,7 @@ SetOutcome vars home relied s t thread old place pc (error kind pos) i b = (c : 
 -- The lines assign: in fewer than 8 own steps for each node the thread stands where its next step writes the word of the right
 -- side at the place's address, or where its next step traps with the first error.
 pub record Sets (vars : List (Option VarPlan)) (place : kernel.Place) (x : kernel.Expression) (pc : ℕ) (lines : List Line) : Type 0 where
-  pub by : (home : Home) (relied : ℕ → Bool) (s t : ℕ) (thread : Thread) (store : Store) (a : CoreState) → StandAt home.parts.code pc lines → RunsAt t pc thread a → HasRoom relied s thread.regs a.words → IsLaid vars relied s thread.regs.dp a.words store x → PlaceIsLaid vars relied s thread.regs.dp a.words store place → Within home relied s t (SetOutcome vars home relied s t thread a.words place (pc + length lines) (eval store x) (index_in store place)) (8 * nodes x + (8 * nodes_at place - 1)) a
+  pub by : (home : Home) (relied : ℕ → Bool) (s t : ℕ) (thread : Thread) (store : Store) (a : CoreState) → StandAt home.parts.code pc lines → RunsAt t pc thread a → HasRoom relied s thread.regs a.words → IsLaid vars relied s thread.regs.dp a.words store x → PlaceIsLaid vars relied s thread.regs.dp a.words store place → Within home relied (IsApart s) t (SetOutcome vars home relied s t thread a.words place (pc + length lines) (eval store x) (index_in store place)) (8 * nodes x + (8 * nodes_at place - 1)) a
 
 -- thread t's next step goes to an index and changes nothing else; until here only r0, r11 and its temporary words were changed
 pub record Branches (home : Home) (relied : ℕ → Bool) (s t : ℕ) (thread : Thread) (old : List ℕ) (pc : ℕ) (b : CoreState) : Type 0 where
@@ -51,7 +51,7 @@ TestOutcome home relied s t thread old target next (error kind pos) b = (c : Cor
 
 -- The lines, and a branch behind them, test an expression: the branch is taken where its word is 0.
 pub record Tests (vars : List (Option VarPlan)) (x : kernel.Expression) (pc : ℕ) (place : Pos) (lines : List Line) : Type 0 where
-  pub by : (target : ℕ) (home : Home) (relied : ℕ → Bool) (s t : ℕ) (thread : Thread) (store : Store) (a : CoreState) → StandAt home.parts.code pc (lines ++ line (Brff R0 target) place ∷ []) → RunsAt t pc thread a → HasRoom relied s thread.regs a.words → IsLaid vars relied s thread.regs.dp a.words store x → Within home relied s t (TestOutcome home relied s t thread a.words target (pc + length lines + 1) (eval store x)) (8 * nodes x) a
+  pub by : (target : ℕ) (home : Home) (relied : ℕ → Bool) (s t : ℕ) (thread : Thread) (store : Store) (a : CoreState) → StandAt home.parts.code pc (lines ++ line (Brff R0 target) place ∷ []) → RunsAt t pc thread a → HasRoom relied s thread.regs a.words → IsLaid vars relied s thread.regs.dp a.words store x → Within home relied (IsApart s) t (TestOutcome home relied s t thread a.words target (pc + length lines + 1) (eval store x)) (8 * nodes x) a
 
 -- lines were added, and a hole for a branch behind them
 pub record AddsTest (old new : List Line) (hole : ℕ) (place : Pos) (P : List Line → Type 0) : Type 0 where

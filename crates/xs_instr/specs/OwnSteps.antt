@@ -30,20 +30,21 @@ pub record Kept (relied : ℕ → Bool) (t : ℕ) (a b : CoreState) : Type 0 whe
   pub thread : slice_get b.threads t ≡ slice_get a.threads t
   pub words : (w : ℕ) → relied w ≡ true → slice_get b.words w ≡ slice_get a.words w
 
--- the guarantee: a step of thread t that changes nothing but its pc, its registers and its temporary words, and makes no record
-pub record OwnStep (home : Home) (s t : ℕ) (a b : CoreState) : Type 0 where
+-- the guarantee: a step of thread t that changes nothing but its pc, its registers and words, leaves these words as they are, and makes
+-- no record
+pub record OwnStep (home : Home) (leaves : ℕ → Type 0) (t : ℕ) (a b : CoreState) : Type 0 where
   pub thread : Thread
   pub here : slice_get a.threads t ≡ Some thread
   pub after : Own
   pub made : slot home a t ≡ makes b
   pub left : b ≡ put_own a t thread after
-  pub words : (w : ℕ) → IsApart s w → slice_get after.words w ≡ slice_get a.words w
+  pub words : (w : ℕ) → leaves w → slice_get after.words w ≡ slice_get a.words w
 
 -- at most n own steps of thread t, whatever happens between them, lead to where Q holds
-abbrev pub Within : Home → (ℕ → Bool) → ℕ → ℕ → (CoreState → Type 0) → ℕ → CoreState → Type 0
-Within home relied s t Q zero a = Q a
-Within home relied s t Q (suc n) a =
-    Q a ⊎ ((b : CoreState) → Kept relied t a b → (d : CoreState) × OwnStep home s t b d × Within home relied s t Q n d)
+abbrev pub Within : Home → (ℕ → Bool) → (ℕ → Type 0) → ℕ → (CoreState → Type 0) → ℕ → CoreState → Type 0
+Within home relied leaves t Q zero a = Q a
+Within home relied leaves t Q (suc n) a =
+    Q a ⊎ ((b : CoreState) → Kept relied t a b → (d : CoreState) × OwnStep home leaves t b d × Within home relied leaves t Q n d)
 
 -- thread t runs at pc, and takes no events
 pub record RunsAt (t pc : ℕ) (thread : Thread) (a : CoreState) : Type 0 where
