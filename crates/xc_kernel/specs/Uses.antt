@@ -1,10 +1,11 @@
 -- The uses of ports, timers and channels: by each output, input and case, and of its channel by each transaction.
-use Rattle.std.specs.Prelude.{ℕ, ◌+◌, Bool, false, List, [], ◌∷◌, ◌++◌, nat_eq, nat_lt}
+use Rattle.std.specs.Prelude.{ℕ, ◌+◌, Bool, true, false, List, [], ◌∷◌, ◌++◌}
 use Rattle.xw_words.specs.declared.pos.Pos.{Pos}
 use Rattle.xc_kernel.specs.declared.statement.KRes.{KRes}
-use Rattle.xc_kernel.specs.declared.statement.KRes.TheVariants.{Port, Timer, Chan}
+use Rattle.xc_kernel.specs.declared.statement.KRes.TheVariants.{Chan}
 use Rattle.xc_kernel.specs.Plain as kernel
-use Rattle.xc_disjoint.specs.Cores.{if_so}
+use Rattle.xc_kernel.specs.Things as things
+use Rattle.xc_kernel.specs.Things.{by_resource}
 
 -- what is used, and where
 pub record Use : Type 0 where
@@ -56,17 +57,12 @@ abbrev mutual
   of_branches kernel.no_branch = []
   of_branches (kernel.more_branches b bs) = of_branch b ++ of_branches bs
 
--- whether a resource is this channel
-abbrev pub is_channel : ℕ → KRes → Bool
-is_channel channel (Port n) = false
-is_channel channel (Timer n) = false
-is_channel channel (Chan n) = nat_eq n channel
+-- once where something is so, and else never
+abbrev pub once : Bool → ℕ
+once true = 1
+once false = 0
 
--- how many of some uses are of a channel
+-- how often some uses are of a channel
 abbrev pub count_of : ℕ → List Use → ℕ
 count_of channel [] = 0
-count_of channel (u ∷ us) = if_so (is_channel channel u.resource) 1 + count_of channel us
-
--- whether some are
-abbrev pub has_use : ℕ → List Use → Bool
-has_use channel us = nat_lt 0 (count_of channel us)
+count_of channel (u ∷ us) = once (by_resource (things.channel channel) u.resource) + count_of channel us
