@@ -33,16 +33,27 @@ fn add_calls<'a>(
     marks: &[Mark],
 ) -> Result<(), Memory> {
     for mark in marks {
-        let Mark::Calls(name) = mark else {
-            continue;
-        };
-        if let Some(callee) = names.number(name.text.as_slice()) {
-            edges.push(Edge {
-                caller,
-                callee,
-                pos: name.pos,
-            })?;
-        }
+        add_call(edges, names, caller, mark)?;
     }
     Ok(())
+}
+
+/// Adds the call at one place, if there is one.
+fn add_call<'a>(
+    edges: &mut List<Edge>,
+    names: &Names<'a>,
+    caller: usize,
+    mark: &Mark,
+) -> Result<(), Memory> {
+    let Mark::Calls(name) = mark else {
+        return Ok(());
+    };
+    match names.number(name.text.as_slice()) {
+        None => Ok(()),
+        Some(callee) => edges.push(Edge {
+            caller,
+            callee,
+            pos: name.pos,
+        }),
+    }
 }

@@ -3,7 +3,7 @@ use Rattle.xc_size.specs.declared.size.Size.{Size}
 use Rattle.xc_size.specs.Known.{AreKnown, AreSizesFrom}
 use Rattle.xc_tree.specs.Trees.{statement_of}
 use Rattle.xc_size.specs.Numbers.{number_of}
-use Rattle.xc_size.proofs.Callees.{statement}
+use Rattle.xc_size.proofs.CalledParts.{statement}
 use Rattle.xc_size.proofs.Filled.{from_deeper, from_more}
 use Rattle.xc_size.proofs.filling.add.Goals as goal
 

@@ -6,7 +6,7 @@ use Rattle.xc_tree.specs.Trees as tree
 use Rattle.xc_size.specs.Functions.{function_of}
 use Rattle.xc_size.specs.Known.{AreKnown, IsSizeOfBody, listed}
 use Rattle.xc_size.specs.Numbers.{number_of}
-use Rattle.xc_size.proofs.Callees.{statement}
+use Rattle.xc_size.proofs.CalledParts.{statement}
 use Rattle.xc_size.proofs.Right.{all_known, all_at, body_is}
 use Rattle.xc_size.proofs.filling.whole_size.Goals as goal
 

@@ -1,15 +1,15 @@
 ghost use Rattle.std.specs.Prelude.{◌≡◌, [], ◌<◌, ◌≤◌, drop, length, IfOk, OnOk};
 ghost use Rattle.xc_tree.specs.Shapes.Rules.{are_one as one};
-ghost use Rattle.xc_types.specs.Seen.{one_more_name, with_type, with_type_at, with_broken, with_channel, with_first};
+ghost use Rattle.xc_types.specs.Findings.{one_more_name, with_type, with_type_at, with_broken, with_channel, with_first};
 
 use crate::shapes::are_one;
 use std::alloc::Global;
 use xc_tree::earlier;
 use xw_words::{Broken, List, Memory, Pos};
 
-/// What a walk has seen of a program.
+/// What a walk has found of a program.
 #[derive(Drop)]
-pub struct Seen {
+pub struct Findings {
     /// Where memory is taken.
     pub alloc: Global,
     /// How many names were passed.
@@ -22,15 +22,15 @@ pub struct Seen {
     pub channels: List<u32>,
 }
 
-impl Seen {
+impl Findings {
     /// Of nothing.
-    pub fn new(alloc: Global) -> Seen
+    pub fn new(alloc: Global) -> Findings
         ensures names { result.names ≡ 0 }
         ensures types { result.types ≡ [] }
         ensures best { result.best ≡ None }
         ensures channels { result.channels ≡ [] }
     {
-        Seen {
+        Findings {
             alloc,
             names: 0,
             types: List::new(alloc),
@@ -40,7 +40,7 @@ impl Seen {
     }
 
     /// Goes past a name.
-    #[tactic(auto, unfolding(crate::specs::Seen::one_more_name))]
+    #[tactic(auto, unfolding(crate::specs::Findings::one_more_name))]
     pub fn pass(&mut self) -> Result<(), Memory>
         ensures { OnOk result (self.new ≡ one_more_name self.old) }
     {
@@ -49,9 +49,9 @@ impl Seen {
     }
 
     /// Keeps a node's type, and gives the node's place among the nodes.
-    #[tactic(auto, unfolding(crate::specs::Seen::with_type))]
+    #[tactic(auto, unfolding(crate::specs::Findings::with_type))]
     pub fn add_type(&mut self, is_unsigned: bool) -> Result<usize, Memory>
-        ensures seen { OnOk result (self.new ≡ with_type is_unsigned self.old) }
+        ensures found { OnOk result (self.new ≡ with_type is_unsigned self.old) }
         ensures place { IfOk result (λ place. place ≡ length self.old.types) }
     {
         let place = self.types.len();
@@ -60,7 +60,7 @@ impl Seen {
     }
 
     /// Changes the type of a node.
-    #[tactic(auto, unfolding(crate::specs::Seen::with_type_at))]
+    #[tactic(auto, unfolding(crate::specs::Findings::with_type_at))]
     pub fn set_type(&mut self, place: usize, is_unsigned: bool)
         requires { place < length self.old.types }
         ensures { self.new ≡ with_type_at place is_unsigned self.old }
@@ -69,7 +69,7 @@ impl Seen {
     }
 
     /// Keeps that a rule is broken, where it is.
-    #[tactic(auto, unfolding(crate::specs::Seen::with_broken))]
+    #[tactic(auto, unfolding(crate::specs::Findings::with_broken))]
     pub fn breaks_where(&mut self, is_broken: bool, rule: u16, pos: Pos)
         ensures { self.new ≡ with_broken is_broken rule pos self.old }
     {
@@ -79,7 +79,7 @@ impl Seen {
     }
 
     /// Keeps what a communication names, where that is a channel.
-    #[tactic(auto, unfolding(crate::specs::Seen::with_channel))]
+    #[tactic(auto, unfolding(crate::specs::Findings::with_channel))]
     pub fn names_channel(&mut self, is_channel: bool, declared: Option<u32>) -> Result<(), Memory>
         ensures { OnOk result (self.new ≡ with_channel is_channel declared self.old) }
     {
@@ -91,14 +91,14 @@ impl Seen {
     }
 
     /// Keeps one more broken rule, if there is one.
-    #[tactic(auto, unfolding(crate::specs::Seen::with_first))]
+    #[tactic(auto, unfolding(crate::specs::Findings::with_first))]
     pub fn breaks(&mut self, broken: Option<Broken>)
         ensures { self.new ≡ with_first broken self.old }
     {
         self.best = earlier(self.best, broken);
     }
 
-    /// Whether the communications that were seen since there were so many channels named one.
+    /// Whether the communications that were found since there were so many channels named one.
     pub fn names_one_channel(&self, begin: usize) -> bool
         requires { begin ≤ length self.now.channels }
         ensures { result ≡ one (drop begin self.now.channels) }
