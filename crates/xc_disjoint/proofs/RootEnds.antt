@@ -8,35 +8,43 @@ use Rattle.xc_disjoint.specs.declared.side.Side.{Side}
 use Rattle.xc_disjoint.specs.declared.side.Share.{Share}
 use Rattle.xc_disjoint.specs.declared.side.Share.TheVariants.{Nobody, One, Two, Many}
 use Rattle.xc_disjoint.specs.Cores.{if_so, on_core}
-use Rattle.xc_disjoint.specs.Uses as uses
-use Rattle.xc_disjoint.specs.Uses.{Use, count_of, has_use}
-use Rattle.xc_disjoint.specs.Pars as pars
+use Rattle.xc_kernel.specs.Uses as uses
+use Rattle.xc_kernel.specs.Uses.{once, count_of}
+use Rattle.xc_kernel.specs.Things.{channel, by_statements}
+use Rattle.xc_kernel.specs.Branches.{branches_of, users, some_has_sides}
+use Rattle.xc_kernel.proofs.Used.{count_append, statements_use}
+use Rattle.xc_kernel.specs.Pars as pars
 use Rattle.xc_disjoint.specs.Ends as ends
-use Rattle.xc_disjoint.specs.Ends.{users, some_has_sides, branches_of, uses_in}
 use Rattle.xc_disjoint.specs.Needs.{ends_on, ends_on_of_root}
 use Rattle.xc_disjoint.specs.Sides as sides
 use Rattle.xc_disjoint.specs.Sides.{Sides, Shares, all_with, no_shares, with_roots, with_branches, RootUse, seen_of, ends_at}
 use Rattle.xc_disjoint.specs.Sums.{capped}
-use Rattle.xc_disjoint.proofs.Settled.{Fits, Shared, Within, side_by, share_by, count_append, none_above, no_branch_yet, of_statements, of_branches, from_start}
+use Rattle.xc_disjoint.proofs.Settled.{Fits, Shared, Within, side_by, share_by, none_above, no_branch_yet, of_statements, of_branches, from_start}
 
 -- one of the roots
 abbrev In : kernel.Root → List kernel.Root → Type 0
 In r [] = ⊥
 In r (x ∷ xs) = (r ≡ x) ⊎ In r xs
 
-used_by : (n : ℕ) → ((n ≡ 0) × (if_so (nat_lt 0 n) 1 ≡ 0)) ⊎ ((0 < n) × (if_so (nat_lt 0 n) 1 ≡ 1))
-used_by zero = inl (refl, refl)
-used_by (suc n) = inr (omega arith, rw (positive n) refl)
-  where
-    positive : (m : ℕ) → nat_lt 0 (suc m) ≡ true
-    positive m = grind (arith, nat_tests)
-
 -- how often a root uses the channel, and whether it does
 abbrev own : ℕ → kernel.Root → ℕ
 own c r = count_of c (uses.of_statements r.body)
 
 abbrev uses_it : ℕ → kernel.Root → ℕ
-uses_it c r = if_so (has_use c (uses.of_statements r.body)) 1
+uses_it c r = once (by_statements (channel c) r.body)
+
+its_use : (c : ℕ) (r : kernel.Root) (n : ℕ) → own c r ≡ n → uses_it c r ≡ once (nat_lt 0 n)
+its_use c r n e = ap once (sym (statements_use c r.body) ∙ ap (nat_lt 0) e)
+
+positive : (m : ℕ) → nat_lt 0 (suc m) ≡ true
+positive m = grind (arith, nat_tests)
+
+used_by : (c : ℕ) (r : kernel.Root) → ((own c r ≡ 0) × (uses_it c r ≡ 0)) ⊎ ((0 < own c r) × (uses_it c r ≡ 1))
+used_by c r = by (own c r) refl
+  where
+    by : (n : ℕ) → own c r ≡ n → ((own c r ≡ 0) × (uses_it c r ≡ 0)) ⊎ ((0 < own c r) × (uses_it c r ≡ 1))
+    by zero e = inl (e, its_use c r zero e)
+    by (suc n) e = inr (omega arith, its_use c r (suc n) e ∙ ap once (positive n))
 
 abbrev all : ℕ → List kernel.Root → ℕ
 all c rs = count_of c (uses.of_branches (branches_of rs))
@@ -48,14 +56,14 @@ all_more : (c : ℕ) (r : kernel.Root) (rs : List kernel.Root) → all c (r ∷ 
 all_more c r rs = count_append c (uses.of_statements r.body) (uses.of_branches (branches_of rs))
 
 at_most_once : (c : ℕ) (r : kernel.Root) → uses_it c r ≤ own c r
-at_most_once c r = by (used_by (own c r))
+at_most_once c r = by (used_by c r)
   where
     by : ((own c r ≡ 0) × (uses_it c r ≡ 0)) ⊎ ((0 < own c r) × (uses_it c r ≡ 1)) → uses_it c r ≤ own c r
     by (inl h) = let e = h.1 in omega arith
     by (inr h) = let l = h.0 in let e = h.1 in omega arith
 
 unused_none : (c : ℕ) (r : kernel.Root) → uses_it c r ≡ 0 → own c r ≡ 0
-unused_none c r z = by (used_by (own c r))
+unused_none c r z = by (used_by c r)
   where
     by : ((own c r ≡ 0) × (uses_it c r ≡ 0)) ⊎ ((0 < own c r) × (uses_it c r ≡ 1)) → own c r ≡ 0
     by (inl h) = h.0
@@ -147,12 +155,9 @@ module _ (k : kernel.Kernel) (c : ℕ) (r : kernel.Root) (there : In r k.roots) 
   few m n e h = none_above c n m (pars.of_statements r.body) h (subst (λ (i : ℕ). Within c i (pars.of_statements r.body)) e fits.within)
 
   in_two : (n : ℕ) → own c r ≡ n → sides.ends_by Two (sides.of_statements r.body c) ≡ uses_it c r
-  in_two zero e = rw (side_when zero e, e) refl
-  in_two (suc n) e = rw (side_when (suc n) e, e, positive n) (settled (some_has_sides c (suc n) (pars.of_statements r.body)))
+  in_two zero e = rw (side_when zero e, its_use c r zero e) refl
+  in_two (suc n) e = rw (side_when (suc n) e, its_use c r (suc n) e, positive n) (settled (some_has_sides c (suc n) (pars.of_statements r.body)))
     where
-      positive : (m : ℕ) → nat_lt 0 (suc m) ≡ true
-      positive m = grind (arith, nat_tests)
-
       settled : (b : Bool) → sides.ends_by Two (side_by (suc n) b) ≡ 1
       settled true = refl
       settled false = refl
@@ -170,7 +175,7 @@ module _ (k : kernel.Kernel) (c : ℕ) (r : kernel.Root) (there : In r k.roots) 
       rw (side_when (suc n) e, same) (settled (some_has_sides c (suc n) (pars.of_statements r.body)))
     where
       user : uses_it c r ≡ 1
-      user = by (used_by (own c r))
+      user = by (used_by c r)
         where
           by : ((own c r ≡ 0) × (uses_it c r ≡ 0)) ⊎ ((0 < own c r) × (uses_it c r ≡ 1)) → uses_it c r ≡ 1
           by (inl h) = let z = h.0 in absurd (omega arith)
@@ -190,7 +195,7 @@ module _ (k : kernel.Kernel) (c : ℕ) (r : kernel.Root) (there : In r k.roots) 
   in_many : (i : ℕ) → all_users c k.roots ≡ suc (suc (suc i)) → sides.ends_by Many (sides.of_statements r.body c) ≡ if_so (some_has_sides c (all c k.roots) (pars.of_statements r.body)) 2
   in_many i many =
       let a = others c r k.roots there in
-      let less : own c r < all c k.roots = by a (used_by (own c r)) in
+      let less : own c r < all c k.roots = by a (used_by c r) in
       rw (few (all c k.roots) (own c r) refl less) refl
     where
       by : all_users c k.roots + own c r ≤ all c k.roots + uses_it c r → ((own c r ≡ 0) × (uses_it c r ≡ 0)) ⊎ ((0 < own c r) × (uses_it c r ≡ 1)) → own c r < all c k.roots

@@ -9,11 +9,13 @@ use Rattle.xc_disjoint.specs.declared.side.Side.{Side}
 use Rattle.xc_disjoint.specs.declared.side.Side.TheVariants.{Unused, Apart, Settled}
 use Rattle.xc_disjoint.specs.declared.side.Share.{Share}
 use Rattle.xc_disjoint.specs.declared.side.Share.TheVariants.{Nobody, One, Two, Many}
-use Rattle.xc_disjoint.specs.Cores.{if_so}
-use Rattle.xc_disjoint.specs.Uses as uses
-use Rattle.xc_disjoint.specs.Uses.{Use, is_channel, count_of, has_use}
-use Rattle.xc_disjoint.specs.Pars as pars
-use Rattle.xc_disjoint.specs.Ends.{users, has_sides, some_has_sides}
+use Rattle.xc_kernel.specs.Uses as uses
+use Rattle.xc_kernel.specs.Uses.{Use, once, count_of}
+use Rattle.xc_kernel.specs.Things as things
+use Rattle.xc_kernel.specs.Things.{by_resource, by_branch}
+use Rattle.xc_kernel.specs.Branches.{users, has_sides, some_has_sides}
+use Rattle.xc_kernel.proofs.Used.{count_append, branch_use}
+use Rattle.xc_kernel.specs.Pars as pars
 use Rattle.xc_disjoint.specs.Sides as sides
 use Rattle.xc_disjoint.specs.Sides.{Sides, Shares, after, with_branch, side_of, side_if, no_sides, no_shares, all_after, all_with, sides_of, only, of_resource}
 use Rattle.xc_disjoint.proofs.Entries.{after_unused, with_unused}
@@ -51,10 +53,6 @@ pub record Shared (c : ℕ) (us : List Use) (ps : List kernel.Branches) (k : ℕ
   pub is : share ≡ share_by k (side_by (count_of c us) (some_has_sides c (count_of c us) ps))
 
 module _ (c : ℕ) where
-  pub count_append : (us vs : List Use) → count_of c (us ++ vs) ≡ count_of c us + count_of c vs
-  count_append [] vs = omega arith
-  count_append (u ∷ us) vs = let h = count_append us vs in omega arith
-
   some_append : (m : ℕ) (ps qs : List kernel.Branches) → some_has_sides c m (ps ++ qs) ≡ (some_has_sides c m ps || some_has_sides c m qs)
   some_append m [] qs = refl
   some_append m (bs ∷ ps) qs = ap (λ b. has_sides c m bs || b) (some_append m ps qs) ∙ assoc (has_sides c m bs) (some_has_sides c m ps) (some_has_sides c m qs)
@@ -109,7 +107,7 @@ module _ (c : ℕ) where
 
   both : (us vs : List Use) (ps qs : List kernel.Branches) (s t : Side) → Fits c us ps s → Fits c vs qs t → Fits c (us ++ vs) (ps ++ qs) (after s t)
   both us vs ps qs s t f g =
-      let e = count_append us vs in
+      let e = count_append c us vs in
       record {
         within = within_append (count_of c (us ++ vs)) ps qs (within_more (count_of c us) (count_of c (us ++ vs)) ps (omega arith) f.within) (within_more (count_of c vs) (count_of c (us ++ vs)) qs (omega arith) g.within);
         unused = some_append 0 ps qs ∙ or_from (some_has_sides c 0 ps) (some_has_sides c 0 qs) f.unused g.unused;
@@ -129,14 +127,17 @@ module _ (c : ℕ) where
   unfolding no_sides only
   use_of u = record { within = tt; unused = refl; is = by u.resource }
     where
-      chosen : (b : Bool) → side_if b Apart ≡ side_by (if_so b 1 + 0) false
+      chosen : (b : Bool) → side_if b Apart ≡ side_by (once b + 0) false
       chosen true = refl
       chosen false = refl
 
-      by : (r : KRes) → of_resource r c ≡ side_by (if_so (is_channel c r) 1 + 0) false
+      swapped : (a b : ℕ) → nat_eq a b ≡ nat_eq b a
+      swapped a b = grind (arith, nat_tests)
+
+      by : (r : KRes) → of_resource r c ≡ side_by (once (by_resource (things.channel c) r) + 0) false
       by (Port n) = refl
       by (Timer n) = refl
-      by (Chan n) = chosen (nat_eq n c)
+      by (Chan n) = ap (λ b. side_if b Apart) (swapped n c) ∙ chosen (nat_eq c n)
 
   -- branches
 
@@ -147,7 +148,7 @@ module _ (c : ℕ) where
   -- a branch that doesn't use the channel, and one that does
 
   same_count : (us vs : List Use) → count_of c vs ≡ 0 → count_of c (us ++ vs) ≡ count_of c us
-  same_count us vs z = let e = count_append us vs in omega arith
+  same_count us vs z = let e = count_append c us vs in omega arith
 
   k_zero : (k : ℕ) → k + 0 ≡ k
   k_zero k = omega arith
@@ -191,7 +192,7 @@ module _ (c : ℕ) where
 
   is_used : (us vs : List Use) (ps qs : List kernel.Branches) (k b : ℕ) (share : Share) (t : Side) → Shared c us ps k share → Fits c vs qs t → count_of c vs ≡ suc b → Shared c (us ++ vs) (ps ++ qs) (suc k) (with_branch share t)
   is_used us vs ps qs k b share t h f z =
-      let e = count_append us vs in
+      let e = count_append c us vs in
       record {
         within = within_append (count_of c (us ++ vs)) ps qs (within_more (count_of c us) (count_of c (us ++ vs)) ps (omega arith) h.within) (within_more (count_of c vs) (count_of c (us ++ vs)) qs (omega arith) f.within);
         unused = some_append 0 ps qs ∙ or_from (some_has_sides c 0 ps) (some_has_sides c 0 qs) h.unused f.unused;
@@ -212,7 +213,7 @@ module _ (c : ℕ) where
 
       parted : (i : ℕ) → i ≡ k → 2 ≤ suc i → some_has_sides c (count_of c (us ++ vs)) (ps ++ qs) ≡ false
       parted i same g =
-          let e = count_append us vs in
+          let e = count_append c us vs in
           let positive : 0 < count_of c us = more_than_none (count_of c us) (λ n. let m = h.some n in absurd (omega arith)) in
           some_append (count_of c (us ++ vs)) ps qs
           ∙ or_from (some_has_sides c (count_of c (us ++ vs)) ps) (some_has_sides c (count_of c (us ++ vs)) qs)
@@ -226,7 +227,7 @@ module _ (c : ℕ) where
       chosen : (i : ℕ) → i ≡ k → with_branch (share_by k (side_by (count_of c us) (some_has_sides c (count_of c us) ps))) (side_by (suc b) (some_has_sides c (suc b) qs)) ≡ share_by (suc k) (side_by (count_of c (us ++ vs)) (some_has_sides c (count_of c (us ++ vs)) (ps ++ qs)))
       chosen zero same =
           let empty : count_of c us ≡ 0 = h.none (sym same) in
-          let e = count_append us vs in
+          let e = count_append c us vs in
           let all : count_of c (us ++ vs) ≡ suc b = omega arith in
           rw (← same, all)
           (first_share b (some_has_sides c (suc b) qs)
@@ -234,24 +235,25 @@ module _ (c : ℕ) where
       chosen (suc i) same = rw (← same) (share_more i b (some_has_sides c (suc b) qs) (side_by (count_of c us) (some_has_sides c (count_of c us) ps)) (side_by (count_of c (us ++ vs)) (some_has_sides c (count_of c (us ++ vs)) (ps ++ qs))))
 
   -- one more branch
-  one_more : (us vs : List Use) (ps qs : List kernel.Branches) (k : ℕ) (share : Share) (t : Side) → Shared c us ps k share → Fits c vs qs t → Shared c (us ++ vs) (ps ++ qs) (k + if_so (has_use c vs) 1) (with_branch share t)
+  one_more : (us vs : List Use) (ps qs : List kernel.Branches) (k : ℕ) (share : Share) (t : Side) → Shared c us ps k share → Fits c vs qs t → Shared c (us ++ vs) (ps ++ qs) (k + once (nat_lt 0 (count_of c vs))) (with_branch share t)
   one_more us vs ps qs k share t h f = by (count_of c vs) refl
     where
-      by : (n : ℕ) → count_of c vs ≡ n → Shared c (us ++ vs) (ps ++ qs) (k + if_so (has_use c vs) 1) (with_branch share t)
+      by : (n : ℕ) → count_of c vs ≡ n → Shared c (us ++ vs) (ps ++ qs) (k + once (nat_lt 0 (count_of c vs))) (with_branch share t)
       by zero z =
-          let none : k ≡ k + if_so (has_use c vs) 1 = rw z (omega arith) in
+          let none : k ≡ k + once (nat_lt 0 (count_of c vs)) = rw z (omega arith) in
           subst (λ (i : ℕ). Shared c (us ++ vs) (ps ++ qs) i (with_branch share t)) none (not_used us vs ps qs k share t h f z)
       by (suc b) z =
-          let tested : has_use c vs ≡ true = rw z (positive b) in
-          let more : suc k ≡ k + if_so (has_use c vs) 1 = rw tested (omega arith) in
+          let tested : nat_lt 0 (count_of c vs) ≡ true = rw z (positive b) in
+          let more : suc k ≡ k + once (nat_lt 0 (count_of c vs)) = rw tested (omega arith) in
           subst (λ (i : ℕ). Shared c (us ++ vs) (ps ++ qs) i (with_branch share t)) more (is_used us vs ps qs k b share t h f z)
         where
           positive : (m : ℕ) → nat_lt 0 (suc m) ≡ true
           positive m = grind (arith, nat_tests)
 
-  pub with_one_more : (us vs : List Use) (ps qs : List kernel.Branches) (k : ℕ) (shares : Shares) (s : Sides) → Shared c us ps k (shares c) → Fits c vs qs (s c) → Shared c (us ++ vs) (ps ++ qs) (k + if_so (has_use c vs) 1) (all_with shares s c)
+  pub with_one_more : (us vs : List Use) (ps qs : List kernel.Branches) (k : ℕ) (shares : Shares) (s : Sides) (used : Bool) → nat_lt 0 (count_of c vs) ≡ used → Shared c us ps k (shares c) → Fits c vs qs (s c) → Shared c (us ++ vs) (ps ++ qs) (k + once used) (all_with shares s c)
   unfolding all_with
-  with_one_more us vs ps qs k shares s h f = one_more us vs ps qs k (shares c) (s c) h f
+  with_one_more us vs ps qs k shares s used e h f =
+      subst (λ (u : Bool). Shared c (us ++ vs) (ps ++ qs) (k + once u) (with_branch (shares c) (s c))) e (one_more us vs ps qs k (shares c) (s c) h f)
 
   -- a `par` of branches
 
@@ -344,6 +346,6 @@ module _ (c : ℕ) where
     pub of_branches : (us : List Use) (ps : List kernel.Branches) (k : ℕ) (shares : Shares) (bs : kernel.Branches) → Shared c us ps k (shares c) → Shared c (us ++ uses.of_branches bs) (ps ++ pars.of_branches bs) (k + users c bs) (sides.with_branches shares bs c)
     of_branches us ps k shares kernel.no_branch h = rw (append-nil us, append-nil ps, k_zero k) h
     of_branches us ps k shares (kernel.more_branches b bs) h =
-        regrouped us (uses.of_branch b) (uses.of_branches bs) ps (pars.of_branch b) (pars.of_branches bs) k (if_so (has_use c (uses.of_branch b)) 1) (users c bs) (sides.with_branches (all_with shares (sides.of_branch b)) bs c)
-        (of_branches (us ++ uses.of_branch b) (ps ++ pars.of_branch b) (k + if_so (has_use c (uses.of_branch b)) 1) (all_with shares (sides.of_branch b)) bs
-        (with_one_more us (uses.of_branch b) ps (pars.of_branch b) k shares (sides.of_branch b) h (of_branch b)))
+        regrouped us (uses.of_branch b) (uses.of_branches bs) ps (pars.of_branch b) (pars.of_branches bs) k (once (by_branch (things.channel c) b)) (users c bs) (sides.with_branches (all_with shares (sides.of_branch b)) bs c)
+        (of_branches (us ++ uses.of_branch b) (ps ++ pars.of_branch b) (k + once (by_branch (things.channel c) b)) (all_with shares (sides.of_branch b)) bs
+        (with_one_more us (uses.of_branch b) ps (pars.of_branch b) k shares (sides.of_branch b) (by_branch (things.channel c) b) (branch_use c b) h (of_branch b)))

@@ -12,7 +12,7 @@ use Rattle.xc_kernel.proofs.Forms.{forms}
 use Rattle.xc_tree.specs.Least.{first_of}
 use Rattle.xc_disjoint.specs.Leasts.{first_among}
 use Rattle.xc_disjoint.specs.Places.{rule_of_use}
-use Rattle.xc_disjoint.specs.Uses.{Use, of_channel, of_statement, of_statements, of_branch, of_branches, of_case, of_cases}
+use Rattle.xc_kernel.specs.Uses.{Use, of_channel, of_statement, of_statements, of_branch, of_branches, of_case, of_cases}
 use Rattle.xc_disjoint.proofs.Steps.{drop_item}
 
 -- of a list behind another

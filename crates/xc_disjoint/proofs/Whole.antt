@@ -16,8 +16,8 @@ use Rattle.xc_disjoint.specs.Leasts.{first_among, IsBrokenBy}
 use Rattle.xc_disjoint.specs.Needs.{threads_on, ends_on, timers_on, words_on}
 use Rattle.xc_disjoint.specs.Places.{rule_if, rule_of_root, rule_of_port, rule_by_port, rule_of_resource, rule_of_use, first_in_roots}
 use Rattle.xc_disjoint.specs.Rules.{IsAbove, most_threads, most_ends, most_timers, most_words, NeedsMore, threads, ends, timers, words, HasNoCore, of_root, of_port, UsesElsewhere, Breaks, needs, without_core, elsewhere}
-use Rattle.xc_disjoint.specs.Uses as uses
-use Rattle.xc_disjoint.specs.Uses.{Use}
+use Rattle.xc_kernel.specs.Uses as uses
+use Rattle.xc_kernel.specs.Uses.{Use}
 use Rattle.xc_disjoint.proofs.Firsts.{least_among, first_is, split}
 
 some_same : {A : Type 0} (a b : A) → Some a ≡ Some b → a ≡ b

@@ -2,38 +2,16 @@
 use Rattle.std.specs.Prelude.{ℕ, zero, suc, ◌+◌, Bool, true, false, ◌&&◌, ◌||◌, List, [], ◌∷◌, length, nat_eq}
 use Rattle.xc_kernel.specs.Plain as kernel
 use Rattle.xc_disjoint.specs.Cores.{if_so}
-use Rattle.xc_disjoint.specs.Uses as uses
-use Rattle.xc_disjoint.specs.Uses.{count_of, has_use}
-use Rattle.xc_disjoint.specs.Pars as pars
-
--- how many of some branches use a channel
-abbrev pub users : ℕ → kernel.Branches → ℕ
-users channel kernel.no_branch = 0
-users channel (kernel.more_branches b bs) = if_so (has_use channel (uses.of_branch b)) 1 + users channel bs
-
--- The sides of a channel that is used so often are two branches of this `par`: it holds all uses, and exactly two of its
--- branches have some. So it is the innermost that holds them all.
-abbrev pub has_sides : (channel count : ℕ) → kernel.Branches → Bool
-has_sides channel count bs = nat_eq (users channel bs) 2 && nat_eq (count_of channel (uses.of_branches bs)) count
-
--- they are so of some `par`
-abbrev pub some_has_sides : (channel count : ℕ) → List kernel.Branches → Bool
-some_has_sides channel count [] = false
-some_has_sides channel count (bs ∷ ps) = has_sides channel count bs || some_has_sides channel count ps
-
--- the roots as the branches of one `par`, as which they run
-abbrev pub branches_of : List kernel.Root → kernel.Branches
-branches_of [] = kernel.no_branch
-branches_of (r ∷ rs) = kernel.more_branches (kernel.branch r.body r.pos) (branches_of rs)
-
--- how often a kernel uses a channel
-abbrev pub uses_in : kernel.Kernel → ℕ → ℕ
-uses_in k channel = count_of channel (uses.of_branches (branches_of k.roots))
+use Rattle.xc_kernel.specs.Things as things
+use Rattle.xc_kernel.specs.Things.{by_statements}
+use Rattle.xc_kernel.specs.Uses.{once}
+use Rattle.xc_kernel.specs.Branches.{branches_of, users, uses_in, some_has_sides}
+use Rattle.xc_kernel.specs.Pars as pars
 
 -- `ends_of`, by whether exactly two roots use the channel
 abbrev pub ends_by : kernel.Kernel → kernel.Root → ℕ → Bool → ℕ
-ends_by k r channel true = if_so (has_use channel (uses.of_statements r.body)) 1
-ends_by k r channel false = if_so (some_has_sides channel (uses_in k channel) (pars.of_statements r.body)) 2
+ends_by k r channel true = once (by_statements (things.channel channel) r.body)
+ends_by k r channel false = if_so (some_has_sides channel (uses_in channel (branches_of k.roots)) (pars.of_statements r.body)) 2
 
 -- The ends that a root needs for a channel. Where exactly two roots use the channel, these two are its sides and need one
 -- each; else a root needs both where the sides are branches of a `par` in it.

@@ -1,9 +1,8 @@
 pub mod Cores
-pub mod Uses
-pub mod Pars
 pub mod Threads
 pub mod Ends
 pub mod Needs
+pub mod Disjoint
 pub mod Rules
 pub mod Checked
 pub mod Sides

@@ -7,8 +7,8 @@ use Rattle.xc_kernel.specs.declared.statement.KRes.{KRes}
 use Rattle.xc_kernel.specs.declared.statement.KRes.TheVariants.{Port, Timer, Chan}
 use Rattle.xc_kernel.specs.Plain as kernel
 use Rattle.xc_disjoint.specs.Cores.{no_core}
-use Rattle.xc_disjoint.specs.Uses as uses
-use Rattle.xc_disjoint.specs.Uses.{Use}
+use Rattle.xc_kernel.specs.Uses as uses
+use Rattle.xc_kernel.specs.Uses.{Use}
 use Rattle.xc_disjoint.specs.Leasts.{first_among}
 
 -- a rule at a place, where it is broken

@@ -2,7 +2,7 @@ ghost use Rattle.std.specs.Option.{option_copied};
 ghost use Rattle.std.specs.Prelude.{◌≡◌, map};
 ghost use Rattle.xc_disjoint.specs.Leasts.{first_among};
 ghost use Rattle.xc_disjoint.specs.Places.{first_in_roots, rule_by_port as by_port, rule_of_use};
-ghost use Rattle.xc_disjoint.specs.Uses as uses;
+ghost use Rattle.xc_kernel.specs.Uses as uses;
 ghost use Rattle.xc_kernel.specs.Kernels.{branch_of, case_of, root_of, statement_of};
 ghost use Rattle.xc_kernel.specs.Plain as plain;
 

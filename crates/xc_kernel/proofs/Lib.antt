@@ -3,6 +3,7 @@ pub mod Paths
 pub mod Instances
 pub mod Roots
 pub mod Written
+pub mod Used
 pub mod CallExamples
 pub mod BranchExamples
 pub mod FlowExamples

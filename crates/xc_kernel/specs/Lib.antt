@@ -25,3 +25,7 @@ pub mod Nodes
 pub mod Depths
 pub mod Size
 pub mod Sound
+pub mod Things
+pub mod Uses
+pub mod Pars
+pub mod Branches

@@ -11,3 +11,6 @@ mod TransferExamples
 mod LawExamples
 pub mod Simulation
 pub mod Recursion
+pub mod Basics
+pub mod Outlines
+pub mod Moved

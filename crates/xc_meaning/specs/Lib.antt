@@ -5,3 +5,5 @@ pub mod Runs
 pub mod Counts
 pub mod Quiet
 pub mod Follows
+pub mod Uses
+pub mod Outline

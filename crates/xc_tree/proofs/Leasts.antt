@@ -1,10 +1,10 @@
--- The least of the broken rules of two kinds.
+-- The first of the broken rules of some kind, and of two kinds.
 use Rattle.std.proofs.Common.{◌≡◌, ◌<◌, ◌≤◌, ◌⊎◌, inl, inr, Bool, true, false, Option, None, Some, if◌then◌else◌, refl, sym, subst, ◌∙◌, arith}
 use Rattle.std.proofs.lemmas.Bool.Decides.{nat_tests}
 use Rattle.xw_words.specs.declared.pos.Pos.{Pos}
 use Rattle.xw_words.specs.declared.pos.Broken.{Broken}
 use Rattle.xc_tree.specs.Lexes.{IsBefore, IsNotAfter}
-use Rattle.xc_tree.specs.Least.{IsLeastOf, comes_before, first_of}
+use Rattle.xc_tree.specs.Least.{IsFirst, IsLeastOf, comes_before, first_of}
 
 some_same : {A : Type 0} (a b : A) → Some a ≡ Some b → a ≡ b
 some_same a b e = cc
@@ -56,7 +56,12 @@ clash x e = cc
 under : (P : Broken → Type 0) (a : Broken) → IsLeastOf P (Some a) → (b : Broken) → P b → IsNotAfter a b
 under P a p b h = let l = p.least b h in subst (λ (x : Broken). IsNotAfter x b) (sym (some_same a l.0 l.1)) l.2
 
-none_of : (P : Broken → Type 0) → IsLeastOf P None → (b : Broken) → P b → ⊥
+-- where there is a least one it is the first
+pub first_of_least : (P : Broken → Type 0) (b : Broken) → IsLeastOf P (Some b) → IsFirst P b
+first_of_least P b p = record { breaks = p.among b refl; least = under P b p }
+
+-- and else there is none
+pub none_of : (P : Broken → Type 0) → IsLeastOf P None → (b : Broken) → P b → ⊥
 none_of P p b h = let l = p.least b h in clash l.0 l.1
 
 module _ (P Q : Broken → Type 0) where

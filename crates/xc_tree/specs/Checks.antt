@@ -1,8 +1,7 @@
--- The phase of types and shapes: which of the rules 401 to 416 and 501 to 508 a program breaks, and the one that stands first.
+-- The phase of types and shapes: which of the rules 401 to 416 and 501 to 508 a program breaks.
 use Rattle.std.specs.Prelude.{◌≡◌, ℕ, List, [], ◌∷◌, Contains}
 use Rattle.xw_words.specs.declared.pos.Pos.{Pos}
 use Rattle.xw_words.specs.declared.pos.Broken.{Broken}
-use Rattle.xc_tree.specs.Lexes.{IsNotAfter}
 use Rattle.xc_tree.specs.Types.Named.{NamedProgram}
 use Rattle.xc_tree.specs.Types.Sites.{Site, sites}
 use Rattle.xc_tree.specs.Types.Rules.{rule_401, rule_402, rule_403, rule_404, rule_405, rule_406, rule_407, rule_408, rule_409, rule_410, rule_411, rule_412, rule_413, rule_414, rule_415, rule_416}
@@ -36,8 +35,3 @@ pub record BreaksRule (n : NamedProgram) (number : ℕ) (p : Pos) : Type 0 where
 
 abbrev pub Breaks : NamedProgram → Broken → Type 0
 Breaks n b = BreaksRule n b.rule b.pos
-
--- the broken rule of the least place, and there of the least number, of both families
-pub record FirstBroken (n : NamedProgram) (b : Broken) : Type 0 where
-  pub breaks : Breaks n b
-  pub least : (other : Broken) → Breaks n other → IsNotAfter b other

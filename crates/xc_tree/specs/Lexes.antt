@@ -47,8 +47,3 @@ IsBefore p q = (p.line < q.line) ⊎ ((p.line ≡ q.line) × (p.col < q.col))
 -- at a lesser place, or at the same one with a number that isn't greater
 abbrev pub IsNotAfter : Broken → Broken → Type 0
 IsNotAfter a b = IsBefore a.pos b.pos ⊎ ((a.pos ≡ b.pos) × (a.rule ≤ b.rule))
-
--- the broken rule of the least place, and there of the least number
-pub record FirstBroken (text : List ℕ) (b : Broken) : Type 0 where
-  pub breaks : Breaks text b
-  pub least : (other : Broken) → Breaks text other → IsNotAfter b other

@@ -6,6 +6,7 @@ pub mod HashLines
 pub mod Pieces
 pub mod Lexes
 pub mod Least
+pub mod Refusals
 pub mod Extents
 pub mod Plain
 pub mod Trees

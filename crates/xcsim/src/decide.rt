@@ -6,6 +6,7 @@ ghost use Rattle.xs_fabric.specs.Seen.{state_of};
 ghost use Rattle.xc_built.specs.Program.{IsWellFormed};
 ghost use Rattle.xr_match.specs.Code.{IsCodeOf};
 ghost use Rattle.xr_match.specs.Implements.{Implements};
+ghost use Rattle.xr_match.specs.Meanings.{of_built};
 ghost use Rattle.xcsim.specs.Answers.{Decided, status_of_run};
 ghost use Rattle.xcsim.specs.Decision.{outcome_of, IsPrintable};
 ghost use Rattle.xcsim.specs.Outside.{loads};
@@ -94,7 +95,7 @@ pub fn decide<'w, S: Shelf>(alloc: Global, words: &'w [String], shelf: &mut S) -
 fn compile_and_run(alloc: Global, program: &Program, ticks: u32) -> Result<(Image, Run), Memory>
     requires well_formed { IsWellFormed program.now }
     requires few { length program.now.outputs < 2 ^ 28 }
-    ensures implements { IfOk result (λ r. Implements r.0 program.now) }
+    ensures implements { IfOk result (λ r. Implements r.0 (of_built program.now)) }
     ensures valid { IfOk result (λ r. Valid r.0) }
     ensures code { IfOk result (λ r. IsCodeOf program.now r.0) }
     ensures lockstep { IfOk result (λ r.

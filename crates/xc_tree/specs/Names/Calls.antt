@@ -1,12 +1,22 @@
 -- Which function calls which, and the calls that stand on a cycle.
-use Rattle.std.specs.Prelude.{◌≡◌, ℕ, ◌+◌, ◌<◌, ◌≤◌, ◌⊎◌, List, length, take, slice_get, Some}
+use Rattle.std.specs.Prelude.{◌≡◌, ℕ, ◌+◌, ◌<◌, ◌≤◌, ◌⊎◌, List, [], ◌∷◌, length, take, slice_get, Some}
 use Rattle.xc_tree.specs.declared.tree.Id.{Id}
 use Rattle.xc_tree.specs.declared.names.Decl.{Decl}
 use Rattle.xc_tree.specs.declared.names.What.TheVariants.{Func}
-use Rattle.xc_tree.specs.declared.names.Mark.TheVariants.{Declares, Calls}
+use Rattle.xc_tree.specs.declared.names.Mark.{Mark}
+use Rattle.xc_tree.specs.declared.names.Mark.TheVariants.{Opens, Closes, Declares, Uses, Calls}
 use Rattle.xc_tree.specs.Plain as plain
 use Rattle.xc_tree.specs.Names.Marks.{of_items, of_program}
 use Rattle.xc_tree.specs.Names.Scopes.{Means}
+
+-- the names that are called in a part of the text, in its order
+abbrev pub called_names : List Mark → List Id
+called_names [] = []
+called_names (Opens ∷ ms) = called_names ms
+called_names (Closes ∷ ms) = called_names ms
+called_names (Declares d ∷ ms) = called_names ms
+called_names (Uses n ∷ ms) = called_names ms
+called_names (Calls n ∷ ms) = n ∷ called_names ms
 
 -- how many marks the items before item k have
 abbrev pub first_of : List plain.Item → ℕ → ℕ

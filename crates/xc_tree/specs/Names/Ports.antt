@@ -51,5 +51,5 @@ abbrev pub core_at : Option plain.Place → Option ℕ
 core_at None = Some 0
 core_at (Some p) = place_number p.value
 
-abbrev pub core_of : plain.Port → Option ℕ
-core_of p = core_at p.place
+abbrev pub core_of_port : plain.Port → Option ℕ
+core_of_port p = core_at p.place

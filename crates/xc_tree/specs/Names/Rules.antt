@@ -1,4 +1,4 @@
--- The rules 301 to 305 of names, and the broken one that stands first.
+-- The rules 301 to 305 of names.
 use Rattle.std.specs.Prelude.{◌≡◌, ℕ, ◌<◌, ◌⊎◌, List, [], slice_get, Contains, Some, codes}
 use Rattle.xw_words.specs.declared.pos.Pos.{Pos}
 use Rattle.xw_words.specs.declared.pos.Broken.{Broken}
@@ -7,11 +7,10 @@ use Rattle.xc_tree.specs.declared.names.Decl.{Decl}
 use Rattle.xc_tree.specs.declared.names.Mark.{Mark}
 use Rattle.xc_tree.specs.declared.names.Mark.TheVariants.{Declares}
 use Rattle.xc_tree.specs.Plain as plain
-use Rattle.xc_tree.specs.Lexes.{IsNotAfter}
 use Rattle.xc_tree.specs.Names.Marks.{of_program}
 use Rattle.xc_tree.specs.Names.Scopes.{end_of, DeclaresAt, IsKnown}
 use Rattle.xc_tree.specs.Names.Uses.{IsUse}
-use Rattle.xc_tree.specs.Names.Ports.{ports, core_of}
+use Rattle.xc_tree.specs.Names.Ports.{ports, core_of_port}
 use Rattle.xw_words.specs.Ports.{identifiers}
 use Rattle.xc_tree.specs.Names.Calls.{IsOnCycle}
 
@@ -42,8 +41,8 @@ pub record IsUsedAgain (program : List plain.Item) (k : ℕ) (port : plain.Port)
   pub there : slice_get (ports program) other ≡ Some port_before
   pub one_identifier : port_before.ident.text ≡ port.ident.text
   pub core : ℕ
-  pub its_core : core_of port ≡ Some core
-  pub one_core : core_of port_before ≡ Some core
+  pub its_core : core_of_port port ≡ Some core
+  pub one_core : core_of_port port_before ≡ Some core
 
 -- Rule 303: what stands for a port's identifier is none, or is used before on the same core.
 pub record Breaks303 (program : List plain.Item) (p : Pos) : Type 0 where
@@ -80,8 +79,3 @@ pub data Breaks (program : List plain.Item) : Broken → Type 0 where
   wrong_port : {p : Pos} → Breaks303 program p → Breaks program (record { rule = 303; pos = p })
   on_cycle : {p : Pos} → Breaks304 program p → Breaks program (record { rule = 304; pos = p })
   without_main : {p : Pos} → Breaks305 program p → Breaks program (record { rule = 305; pos = p })
-
--- the broken rule of the least place, and there of the least number
-pub record FirstBroken (program : List plain.Item) (b : Broken) : Type 0 where
-  pub breaks : Breaks program b
-  pub least : (other : Broken) → Breaks program other → IsNotAfter b other

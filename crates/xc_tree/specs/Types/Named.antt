@@ -1,5 +1,5 @@
 -- A program with what its names mean, as plain data.
-use Rattle.std.specs.Prelude.{ℕ, ◌+◌, List, [], ◌∷◌, Option, Some, None, slice_get}
+use Rattle.std.specs.Prelude.{◌≡◌, ℕ, ◌+◌, List, [], ◌∷◌, Option, Some, None, slice_get}
 use Rattle.xc_tree.specs.declared.tree.Id.{Id}
 use Rattle.xc_tree.specs.declared.names.Decl.{Decl}
 use Rattle.xc_tree.specs.declared.names.What.{What}
@@ -8,6 +8,8 @@ use Rattle.xc_tree.specs.declared.names.Mark.{Mark}
 use Rattle.xc_tree.specs.declared.names.Mark.TheVariants.{Opens, Closes, Declares, Uses, Calls}
 use Rattle.xc_tree.specs.declared.names.Named.{Named}
 use Rattle.xc_tree.specs.Plain as plain
+use Rattle.xc_tree.specs.Names.Marks.{of_program}
+use Rattle.xc_tree.specs.Names.Uses.{AreUses, declarations}
 use Rattle.xc_tree.specs.Trees.{program_of}
 
 -- a program with its declarations and, for each of its names, the place of its declaration among them; all in the order of
@@ -19,6 +21,12 @@ pub record NamedProgram : Type 0 where
 
 abbrev pub named_of : Named → NamedProgram
 named_of n = record { program = program_of n.tree; decls = n.decls; uses = n.uses }
+
+-- this is the program with its declarations, and with the declaration of each of its names
+pub record IsNamed (program : List plain.Item) (named : NamedProgram) : Type 0 where
+  pub program_is : named.program ≡ program
+  pub decls : named.decls ≡ declarations (of_program program)
+  pub uses : AreUses (of_program program) named.uses
 
 -- a name of the text, the place of its declaration, and what it is declared as
 pub record Name : Type 0 where

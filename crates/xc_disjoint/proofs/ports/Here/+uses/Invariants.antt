@@ -1,7 +1,7 @@
 use Rattle.std.proofs.Common.{◌≡◌, drop, map}
 use Rattle.xc_disjoint.specs.Leasts.{first_among}
 use Rattle.xc_disjoint.specs.Places.{rule_of_use}
-use Rattle.xc_disjoint.specs.Uses.{of_branches, of_cases, of_statements}
+use Rattle.xc_kernel.specs.Uses.{of_branches, of_cases, of_statements}
 use Rattle.xc_kernel.specs.Kernels.{branch_of, case_of, statement_of}
 use Rattle.xc_kernel.specs.Plain as plain
 use Rattle.xc_disjoint.proofs.ports.Here.+uses.Given as goal

@@ -1,0 +1,11 @@
+pub mod Every
+pub mod Each
+pub mod Tree
+pub mod Rules
+pub mod Sided
+pub mod Needs
+pub mod Placed
+pub mod Cores
+pub mod Lawful
+pub mod Frames
+pub mod Channels

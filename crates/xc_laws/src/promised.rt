@@ -1,0 +1,102 @@
+//! The laws, as contracts of functions that do nothing.
+
+ghost use Rattle.xc_laws.specs.Lawful.{AcceptedObey, AloneInside, BranchesFit, BranchesStay, CopiesAreListed, CopiesArePlaced, EachGoesOn, EachHasSide, FootprintsShrink, InsideIsOwn, LawsAreKept, LawsBegin, LawsHold, ListedHolds, MarksStandOnce, NoneClash, OneOnEachSide, OthersAreLeft, PortsAreHere, ThreadsSuffice, TidyLawsHold, UnbrokenIsApart, UnbrokenIsSided};
+
+/// The laws hold at the start of each kernel that obeys the rules, and each step keeps them.
+#[tactic(auto, using(crate::proofs::Always::laws_begin, crate::proofs::Always::laws_kept))]
+pub fn laws_kept()
+    ensures at_the_start { LawsBegin }
+    ensures by_steps { LawsAreKept }
+{}
+
+/// So they hold in each state of each run.
+#[tactic(auto, using(crate::proofs::Always::laws_hold))]
+pub fn laws_hold()
+    ensures { LawsHold }
+{}
+
+/// Of two branches of which none waits, none changes a variable that the other uses, and none uses a port or a timer of the other.
+#[tactic(auto, using(crate::proofs::Always::none_clash))]
+pub fn none_clash()
+    ensures { NoneClash }
+{}
+
+/// Of two branches of which none waits and which use a channel, each is on another side of it.
+#[tactic(auto, using(crate::proofs::Always::one_on_each_side))]
+pub fn one_on_each_side()
+    ensures { OneOnEachSide }
+{}
+
+/// A branch has a side of each channel on which its first item is.
+#[tactic(auto, using(crate::proofs::Always::each_has_side))]
+pub fn each_has_side()
+    ensures { EachHasSide }
+{}
+
+/// Where no block has the number of one around it and no `par` uses a channel of a transaction around it, each state of a run is tidy:
+/// the mark of a block stands once, and a branch that runs stands in a transaction whose end is among its items or uses nothing of
+/// the transaction's channel.
+pub fn tidy_laws_hold()
+    ensures of_runs { TidyLawsHold }
+    ensures marks { MarksStandOnce }
+    ensures inside { InsideIsOwn }
+{}
+
+/// In a transaction a branch is the only one on its side that uses the channel and doesn't wait.
+#[tactic(auto, using(crate::proofs::Always::alone_inside))]
+pub fn alone_inside()
+    ensures { AloneInside }
+{}
+
+/// The items of a branch that runs end with its end, and a block that it leaves is among them.
+#[tactic(auto, using(crate::proofs::Always::each_goes_on))]
+pub fn each_goes_on()
+    ensures { EachGoesOn }
+{}
+
+/// On each core no more threads are taken than its roots need: by the branches below its roots, and so by any present branches of the
+/// core that don't wait, each counted once.
+pub fn threads_suffice()
+    ensures below { ThreadsSuffice }
+    ensures fit { BranchesFit }
+{}
+
+/// Branches stay under their numbers and on their cores, and one that has ended or erred stays as it is.
+#[tactic(auto, using(crate::proofs::Always::branches_stay))]
+pub fn branches_stay()
+    ensures { BranchesStay }
+{}
+
+/// What a branch uses after a step it used before, and what a new branch uses its `par` used.
+#[tactic(auto, using(crate::proofs::Frames::footprints_shrink))]
+pub fn footprints_shrink()
+    ensures { FootprintsShrink }
+{}
+
+/// A step of a branch leaves each other branch as it is, and one that doesn't wait the words of all variables that it uses.
+#[tactic(auto, using(crate::proofs::Frames::others_are_left))]
+pub fn others_are_left()
+    ensures { OthersAreLeft }
+{}
+
+/// A kernel that breaks none of the rules on what branches of a `par` use together is as the laws ask.
+#[tactic(auto, using(crate::proofs::Unbroken::unbroken_apart, crate::proofs::Unbroken::unbroken_sided))]
+pub fn unbroken_obeys()
+    ensures apart { UnbrokenIsApart }
+    ensures sided { UnbrokenIsSided }
+{}
+
+/// The kernel of a program that breaks no rule of names, types and shapes leaves blocks of the same branch and transaction alone. So
+/// such a kernel obeys, where it breaks none of the rules on what branches use together and uses ports of its roots' cores.
+pub fn accepted_obey()
+    ensures placed { CopiesArePlaced }
+    ensures ports { PortsAreHere }
+    ensures obey { AcceptedObey }
+{}
+
+/// Where a kernel uses channels of its list alone, so do the branches of its runs; the kernel of a program does where its transactions
+/// do.
+pub fn listed_holds()
+    ensures of_runs { ListedHolds }
+    ensures of_copies { CopiesAreListed }
+{}
