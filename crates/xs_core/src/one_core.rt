@@ -1,7 +1,6 @@
 // One core.
 
 ghost use Rattle.std.specs.Prelude.{◌≡◌, ◌+◌, ◌≤◌, ◌<◌, [], ◌∷◌, length, IfOk, MatchOption, OnErr, OnOk};
-ghost use Rattle.xs_core.specs.Room.{level, Tokens, Credits};
 ghost use Rattle.xs_core.specs.Slots.{IsTurn};
 ghost use Rattle.xs_instr.specs.Machine.{came, home_of, boot_core, parts_in};
 ghost use Rattle.xs_instr.specs.Sight.{sight};
@@ -10,12 +9,12 @@ ghost use Rattle.xs_instr.specs.Valid.{Valid, IsGoodStim};
 
 use crate::did::Did;
 use crate::moves::arrive;
-use crate::state::State;
+use crate::state::{State, THREADS};
 use crate::{boot, counts, slots};
 use circular_buffer::HeapCircularBuffer;
 use std::alloc::Global;
 use std::marker::Model;
-use xs_instr::{Image, Moved, Sent, Sight, Stim};
+use xs_instr::{Image, Moved, Sent, Sight, Stim, Thread};
 use xw_words::Memory;
 
 /// For how many tokens and credits there is room in the outbox after `reserve_window`.
@@ -79,6 +78,14 @@ impl Core {
         ensures { result ≡ self.now.home.number }
     {
         self.state.ports.core()
+    }
+
+    /// How many threads the core has: eight.
+    pub fn thread_count(&self) -> u8
+        ensures eight { result ≡ 8 }
+        ensures count { result ≡ length self.now.state.threads }
+    {
+        count_of(&self.state.threads)
     }
 
     /// The clock, in ticks from the start.
@@ -149,4 +156,11 @@ impl Core {
             timed: counts::timed(&self.state),
         }
     }
+}
+
+fn count_of(threads: &[Thread; THREADS]) -> u8
+    ensures eight { result ≡ 8 }
+    ensures count { result ≡ length threads.now }
+{
+    threads.len() as u8
 }

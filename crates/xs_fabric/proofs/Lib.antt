@@ -14,4 +14,5 @@ mod Steps
 mod Taken
 mod Together
 mod Turns
+mod Unsent
 mod Ways
