@@ -1,4 +1,4 @@
-mod BuiltImage
+mod NearImage
 mod Completes
 mod Decides
 mod Dues

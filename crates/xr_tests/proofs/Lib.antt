@@ -1,1 +1,1 @@
-mod AloneCore
+mod TwoCores

@@ -15,6 +15,8 @@ mod pool;
 #[cfg(test)]
 mod ports;
 #[cfg(test)]
+mod programs;
+#[cfg(test)]
 mod registers;
 #[cfg(test)]
 mod slots;

@@ -1,18 +1,35 @@
 //! One core, booted from an image made by hand, slot by slot.
 
-ghost use Rattle.std.specs.Prelude.{◌≡◌, ◌≤◌, true, length, IfOk};
-ghost use Rattle.xs_core.specs.Built.{IsBuilt, all_built};
-ghost use Rattle.xs_instr.specs.Valid.{AreGoodPorts, AreIndices, Valid};
+ghost use Rattle.std.specs.Prelude.{◌≡◌, ◌≤◌, length, IfOk};
+ghost use Rattle.xs_instr.specs.Valid.{AreGoodInstrs, AreGoodPorts, AreIndices, IsGoodCore, Valid};
 
 use std::alloc::Global;
 use std::process::Abort;
 use std::test::Fail;
 use xs_core::{Core, Did};
-use xs_instr::{Code, CoreImage, Dir, Image, Instr, PortDecl, Record, Reg, Sight, Stim, Trap};
+use xs_instr::{
+    Code, CoreImage, Dir, Image, Instr, Pair, PortDecl, Record, Reg, Sight, Stim, Trap,
+};
 use xw_words::{List, Memory, Pos};
 
 /// Port 4A, by its identifier's place among all ports.
 const PORT_4A: u8 = 16;
+
+/// Ends 0 and 1 of core 0 are joined, and so are its end 2 and core 1's end 0.
+const CHANNELS: [Pair; 2] = [
+    Pair {
+        core: 0,
+        end: 0,
+        peer_core: 0,
+        peer_end: 1,
+    },
+    Pair {
+        core: 0,
+        end: 2,
+        peer_core: 1,
+        peer_end: 0,
+    },
+];
 
 fn listed<T: Copy>(alloc: Global, items: &[T]) -> Result<List<T>, Memory>
     ensures { IfOk result (λ list. list ≡ items.now) }
@@ -35,47 +52,69 @@ fn places(alloc: Global, count: u32) -> Result<List<Pos>, Memory>
     Ok(list)
 }
 
-/// An image of core 0 alone, with no memory, timers or channel ends.
-fn image_of(
+/// Core `number`, with four words of memory and one timer.
+fn core_of(
+    alloc: Global,
+    number: u8,
+    ends: u32,
+    instrs: &[Instr],
+    ports: &[PortDecl],
+    roots: &[u32],
+) -> Result<CoreImage, Memory>
+    requires ends { ends ≤ 32 }
+    requires code { AreGoodInstrs (length instrs.now) 0 instrs.now }
+    requires few { length instrs.now ≤ 100 }
+    requires ports { AreGoodPorts ports.now }
+    requires some_root { 1 ≤ length roots.now }
+    requires few_roots { length roots.now ≤ 8 }
+    requires roots { AreIndices (length instrs.now) roots.now }
+    ensures number { IfOk result (λ core. core.number ≡ number) }
+    ensures ends { IfOk result (λ core. core.ends ≡ ends) }
+    ensures good { IfOk result IsGoodCore }
+{
+    let ports = listed(alloc, ports)?;
+    let roots = listed(alloc, roots)?;
+    let instrs = listed(alloc, instrs)?;
+    let at = places(alloc, instrs.len() as u32)?;
+    Ok(CoreImage {
+        number,
+        words: 4,
+        timers: 1,
+        ends,
+        ports,
+        roots,
+        code: Code { instrs, at },
+    })
+}
+
+/// An image of two cores. Core 0 has this code, and three channel ends: 0 and 1 are joined, and 2 leads to core 1.
+pub fn image_of(
     alloc: Global,
     instrs: &[Instr],
     ports: &[PortDecl],
     roots: &[u32],
 ) -> Result<Image, Memory>
-    requires built { all_built instrs.now ≡ true }
+    requires code { AreGoodInstrs (length instrs.now) 0 instrs.now }
     requires few { length instrs.now ≤ 100 }
     requires ports { AreGoodPorts ports.now }
     requires some_root { 1 ≤ length roots.now }
     requires few_roots { length roots.now ≤ 8 }
     requires roots { AreIndices (length instrs.now) roots.now }
     ensures valid { IfOk result (λ image. Valid image) }
-    ensures built { IfOk result (λ image. IsBuilt image) }
 {
-    let ports = listed(alloc, ports)?;
-    let roots = listed(alloc, roots)?;
-    let instrs = listed(alloc, instrs)?;
-    let at = places(alloc, instrs.len() as u32)?;
+    let first = core_of(alloc, 0, 3, instrs, ports, roots)?;
+    let second = core_of(alloc, 1, 1, &[Instr::Freet], &[], &[0])?;
     let mut cores = List::new(alloc);
-    cores.push(CoreImage {
-        number: 0,
-        words: 0,
-        timers: 0,
-        ends: 0,
-        ports,
-        roots,
-        code: Code { instrs, at },
-    })?;
-    Ok(Image {
-        cores,
-        chans: List::new(alloc),
-    })
+    cores.push(first)?;
+    cores.push(second)?;
+    let chans = listed(alloc, &CHANNELS)?;
+    Ok(Image { cores, chans })
 }
 
 /// Root 0 puts out 0x2b5 at time 100 and ends. Root 6 sets the time of port 5, which is not there. Root 8 gives back
 /// lock 0, which is not taken. Root 10 runs past the code.
 fn sample(alloc: Global) -> Result<Image, Memory>
     ensures valid { IfOk result (λ image. Valid image) }
-    ensures built { IfOk result (λ image. IsBuilt image) }
 {
     let instrs = [
         Instr::Ldc(Reg::R0, 0),
@@ -98,7 +137,7 @@ fn sample(alloc: Global) -> Result<Image, Memory>
     Ok(image)
 }
 
-fn at_line(line: u32) -> Pos {
+pub fn at_line(line: u32) -> Pos {
     Pos { line, col: 5 }
 }
 
@@ -134,7 +173,7 @@ fn slots_of_one_core(rt: HostRuntime) -> Result<(), Fail> {
         (0, 0, Did::Paused),
         (99, 0, Did::Paused),
     ];
-    run_table(&rt, &mut core, &rows);
+    run_table(&rt, &mut core, &rows)?;
     assert_eq!(rt; core.clock(), 99);
     let sight = Sight {
         roots: 4,
@@ -163,7 +202,7 @@ fn slots_of_one_core(rt: HostRuntime) -> Result<(), Fail> {
         (0, 3, Did::Trapped(Trap::Code, Pos { line: 0, col: 0 })),
         (0, 4, Did::Idle),
     ];
-    run_table(&rt, &mut core, &rows);
+    run_table(&rt, &mut core, &rows)?;
     let sight = Sight {
         roots: 3,
         used: 3,
@@ -176,14 +215,16 @@ fn slots_of_one_core(rt: HostRuntime) -> Result<(), Fail> {
 }
 
 /// Each row: so many ticks, and then a thread's slot with what comes of it.
-fn run_table(rt: &impl Abort, core: &mut Core, rows: &[(u32, u8, Did)]) {
+pub fn run_table(rt: &impl Abort, core: &mut Core, rows: &[(u32, u8, Did)]) -> Result<(), Memory> {
     for (ticks, thread, want) in rows {
         advance(core, *ticks);
+        core.reserve_window()?;
         let is_step = *want != Did::Paused && *want != Did::Idle;
         assert!(rt; *thread < 8);
         assert_eq!(rt; core.ready(*thread), is_step, "thread {thread}");
         assert_eq!(rt; core.slot(*thread), *want, "thread {thread}");
     }
+    Ok(())
 }
 
 #[test]
@@ -194,7 +235,8 @@ fn core_that_is_not_there(rt: HostRuntime) -> Result<(), Fail> {
         lines: List::new(alloc),
     };
     let mut core = Core::new(alloc, &image, 3, &stim)?;
-    assert_eq!(rt; core.home.parts.code.instrs.len(), 0);
-    assert_eq!(rt; core.slot(0), Did::Idle);
+    assert_eq!(rt; core.number(), 3);
+    assert_eq!(rt; core.take_sent(), None);
+    run_table(&rt, &mut core, &[(0, 0, Did::Idle)])?;
     Ok(())
 }
