@@ -46,11 +46,7 @@ pub fn row(state: &State, t: u8, thread: &Thread, instr: Instr) -> Turn
         Instr::Freet => pool_rows::end(thread),
         Instr::Out(r, s) => out(state, t, look_up(core, read(regs, r)), read(regs, s)),
         Instr::Outt(r, s) => {
-            end_rows::send_token(
-                state,
-                look_up(core, read(regs, r)),
-                data_token(read(regs, s)),
-            )
+            end_rows::send_token(state, look_up(core, read(regs, r)), data_token(read(regs, s)))
         }
         Instr::Outct(r, n) => {
             end_rows::send_token(state, look_up(core, read(regs, r)), control_token(n))
@@ -60,11 +56,7 @@ pub fn row(state: &State, t: u8, thread: &Thread, instr: Instr) -> Turn
         Instr::Chkct(r, n) => end_rows::take_control(state, look_up(core, read(regs, r)), n as u8),
         Instr::Setc(r, cond) => set_cond(state, look_up(core, read(regs, r)), cond),
         Instr::Setd(r, s) => set_data(state, look_up(core, read(regs, r)), read(regs, s)),
-        Instr::Setpt(r, s) => port_rows::set_time(
-            state,
-            look_up(core, read(regs, r)),
-            read(regs, s),
-        ),
+        Instr::Setpt(r, s) => port_rows::set_time(state, look_up(core, read(regs, r)), read(regs, s)),
         Instr::Getts(d, r) => port_rows::stamp(state, d, look_up(core, read(regs, r))),
         Instr::Setv(r, k) => event_rows::set_vector(state, look_up(core, read(regs, r)), k),
         Instr::Eeu(r) => event_rows::enable(state, look_up(core, read(regs, r))),

@@ -43,13 +43,7 @@ fn run(state: &State, t: u8, thread: &Thread) -> Turn
     ensures fits { Fits (home_of state.now) (state_of state.now) t thread.now result }
     ensures room { MayGoOn thread.now.pc result }
 {
-    let instr = state
-        .fixed
-        .parts
-        .code
-        .instrs
-        .get(thread.pc as usize)
-        .copied();
+    let instr = state.fixed.parts.code.instrs.get(thread.pc as usize).copied();
     if takes_events(thread, instr) {
         if let Some(res) = pick(state, t) {
             return Turn::Take(res);
