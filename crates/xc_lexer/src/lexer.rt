@@ -113,7 +113,11 @@ fn go_on<'a>(text: &'a [u8], state: &mut State<'a>, end: usize, fresh: bool)
     requires place { IsPlace text.now state.old.place }
     requires end { state.old.place.at ≤ end }
     requires within { end ≤ length text.now }
-    ensures is { state.new ≡ record { place = record { at = end; pos = pos_at text.now end }; fresh = fresh; names = state.old.names } }
+    ensures is { state.new ≡ record {
+      place = record { at = end; pos = pos_at text.now end };
+      fresh = fresh;
+      names = state.old.names;
+    } }
 {
     state.place = state.place.further(text, end);
     state.fresh = fresh;

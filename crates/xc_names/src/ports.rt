@@ -28,7 +28,8 @@ pub fn broken_port(alloc: Global, tree: &Tree) -> Result<Option<Broken>, Memory>
 /// Looks at one more item.
 fn look_at<'a>(taken: &mut Taken<'a>, item: &'a Item) -> Result<Option<Broken>, Memory>
     ensures rule { IfOk result (λ r. r ≡ rule_of_item (is_taken taken.old) (item_of item.now)) }
-    ensures taken { OnOk result (TakesItem (is_taken taken.old) (item_of item.now) (is_taken taken.new)) }
+    ensures taken { OnOk result
+        (TakesItem (is_taken taken.old) (item_of item.now) (is_taken taken.new)) }
 {
     match item {
         Item::Func(_) => Ok(None),
@@ -41,7 +42,8 @@ fn look_at<'a>(taken: &mut Taken<'a>, item: &'a Item) -> Result<Option<Broken>, 
 
 fn look_at_port<'a>(taken: &mut Taken<'a>, port: &'a PortItem) -> Result<Option<Broken>, Memory>
     ensures rule { IfOk result (λ r. r ≡ rule_of (is_taken taken.old) (tree.port_of port.now)) }
-    ensures taken { OnOk result (Takes (is_taken taken.old) (tree.port_of port.now) (is_taken taken.new)) }
+    ensures taken { OnOk result
+        (Takes (is_taken taken.old) (tree.port_of port.now) (is_taken taken.new)) }
 {
     let identifier = port.ident.text.as_slice();
     let is_free = match core_of_port(port) {

@@ -197,8 +197,8 @@ module _ (n : List ℕ → Option ℕ) where
     action (tree.for_loop a c b s) =
         scope (marks.of_maybe a ++ (marks.optional marks.of_expression c ++ (marks.of_maybe b ++ marks.of_statement s)))
         ∙ joined (marks.of_maybe a) (marks.optional marks.of_expression c ++ (marks.of_maybe b ++ marks.of_statement s)) (of_maybe n a) (of_maybe n b ++ of_statement n s) (maybe a)
-          (behind (marks.optional marks.of_expression c) (marks.of_maybe b ++ marks.of_statement s) (expression_if_any c)
-          ∙ joined (marks.of_maybe b) (marks.of_statement s) (of_maybe n b) (of_statement n s) (maybe b) (statement s))
+        (behind (marks.optional marks.of_expression c) (marks.of_maybe b ++ marks.of_statement s) (expression_if_any c)
+        ∙ joined (marks.of_maybe b) (marks.of_statement s) (of_maybe n b) (of_statement n s) (maybe b) (statement s))
     action (tree.return_with r) = right_if_any r
     action tree.break_out = refl
     action tree.continue_on = refl

@@ -28,7 +28,8 @@ pub fn callees<'a>(
 /// Adds the number of the function that is called at one place, if one is.
 #[tactic(auto, using(crate::proofs::Called::called))]
 fn add<'a>(list: &mut List<Option<usize>>, names: &Names<'a>, mark: &Mark) -> Result<(), Memory>
-    ensures { OnOk result (list.new ≡ list.old ++ called_numbers (number_of names.now) (mark.now ∷ [])) }
+    ensures { OnOk result
+        (list.new ≡ list.old ++ called_numbers (number_of names.now) (mark.now ∷ [])) }
 {
     match mark {
         Mark::Opens => Ok(()),

@@ -23,9 +23,8 @@ pub fn whole_size<'a>(
 ) -> Result<Size, Memory>
     requires functions { AreOfFunctions sizes.old }
     requires none { AreSizesFrom sizes.old 0 }
-    ensures {
-        IfOk result (λ size. IsSizeOfBody (listed sizes.old) (tree.statement_of body.now) size)
-    }
+    ensures { IfOk result
+        (λ size. IsSizeOfBody (listed sizes.old) (tree.statement_of body.now) size) }
 {
     add_in_order(alloc, sizes, order)?;
     let callees = callees(alloc, &sizes.names, body)?;

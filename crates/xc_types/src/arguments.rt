@@ -120,7 +120,8 @@ pub fn is_channel_given(named: &Named, k: usize, e: &Expr) -> bool
 /// The variable that a call may change through an argument: for an `&` or array parameter the one that is given by itself or
 /// by an element.
 pub fn referred(named: &Named, k: usize, parameter: Option<&ParamKind>, e: &Expr) -> Option<u32>
-    ensures { result ≡ call.referred (argument named.now k (option_copied parameter.entry) e.now.pos e.now) }
+    ensures { result
+        ≡ call.referred (argument named.now k (option_copied parameter.entry) e.now.pos e.now) }
 {
     match parameter {
         Some(ParamKind::Ref(_) | ParamKind::Array(_, _)) => variable_of(named, k, e),

@@ -24,7 +24,8 @@ pub fn right_side_if_any(
     around: &Around,
     rhs: &Option<Rhs>,
 ) -> Result<(), Memory>
-    ensures { OnOk result (found.new ≡ after.right_side_if_any named.now around.now rhs.now found.old) }
+    ensures { OnOk result
+        (found.new ≡ after.right_side_if_any named.now around.now rhs.now found.old) }
 {
     match rhs {
         None => Ok(()),
@@ -41,7 +42,8 @@ pub fn right_side(
     rhs: &Rhs,
     is_right_side: bool,
 ) -> Result<(), Memory>
-    ensures { OnOk result (found.new ≡ after.right_side named.now around.now rhs.now is_right_side found.old) }
+    ensures { OnOk result
+        (found.new ≡ after.right_side named.now around.now rhs.now is_right_side found.old) }
 {
     match rhs {
         Rhs::Value(value) => part(found, named, value),
@@ -151,8 +153,10 @@ fn arguments(
     params: &[Param],
     args: &[Arg],
 ) -> Result<Judged, Memory>
-    ensures found { OnOk result (found.new ≡ after.arguments named.now params.now args.now found.old) }
-    ensures judged { IfOk result (λ j. j ≡ judged_arguments named.now params.now args.now found.old) }
+    ensures found { OnOk result
+        (found.new ≡ after.arguments named.now params.now args.now found.old) }
+    ensures judged { IfOk result
+        (λ j. j ≡ judged_arguments named.now params.now args.now found.old) }
 {
     let mut judged = Judged::new(found.alloc);
     for (i, arg) in args.iter().enumerate() {
@@ -181,7 +185,8 @@ fn argument(
     parameter: Option<&ParamKind>,
     e: &Expr,
 ) -> Result<(), Memory>
-    ensures { OnOk result (found.new ≡ after.argument named.now (option_copied parameter.entry) e.now found.old) }
+    ensures { OnOk result
+        (found.new ≡ after.argument named.now (option_copied parameter.entry) e.now found.old) }
 {
     match parameter {
         Some(ParamKind::Value(_)) => part(found, named, e),

@@ -68,7 +68,8 @@ fn target_and_stamp(
     is_port: bool,
     head: &Head,
 ) -> Result<(), Memory>
-    ensures { OnOk result (found.new ≡ after_target_and_stamp named.now is_port head.now found.old) }
+    ensures { OnOk result
+        (found.new ≡ after_target_and_stamp named.now is_port head.now found.old) }
 {
     target(found, named, &head.dest)?;
     stamp(found, named, is_port, &head.stamp)

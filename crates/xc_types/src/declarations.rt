@@ -20,7 +20,8 @@ pub fn declarations(
     around: &Around,
     declared: &[Declared],
 ) -> Result<(), Memory>
-    ensures { OnOk result (found.new ≡ after.declarations named.now around.now declared.now found.old) }
+    ensures { OnOk result
+        (found.new ≡ after.declarations named.now around.now declared.now found.old) }
 {
     for d in declared {
         found.pass()?;

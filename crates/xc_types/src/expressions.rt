@@ -60,7 +60,8 @@ fn indexed(found: &mut Findings, named: &Named, pos: Pos) -> Result<bool, Memory
 #[tactic(auto, using(crate::proofs::Steps::expression_steps))]
 pub fn expression(found: &mut Findings, named: &Named, e: &Expr) -> Result<bool, Memory>
     ensures found { OnOk result (found.new ≡ after.expression named.now e.now found.old) }
-    ensures is_unsigned { IfOk result (λ u. u ≡ is_unsigned (named_of named.now) found.old.names (expression_of e.now)) }
+    ensures is_unsigned { IfOk result
+        (λ u. u ≡ is_unsigned (named_of named.now) found.old.names (expression_of e.now)) }
 {
     match &e.kind {
         Ex::Num(_, is_unsigned) => {

@@ -43,7 +43,8 @@ impl Judged {
         parameter: Option<&ParamKind>,
         arg: &Arg,
     ) -> Result<(), Memory>
-        ensures { OnOk result (self.new ≡ with_argument named.now k (option_copied parameter.entry) arg.now self.old) }
+        ensures { OnOk result (self.new
+            ≡ with_argument named.now k (option_copied parameter.entry) arg.now self.old) }
     {
         let variable = referred(named, k, parameter, &arg.value);
         self.misfit = first_with(

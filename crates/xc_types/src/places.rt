@@ -34,7 +34,8 @@ pub fn branch_place(
     around: &Around,
     place: &Option<At>,
 ) -> Result<(), Memory>
-    ensures { OnOk result (found.new ≡ after.branch_place named.now around.now place.now found.old) }
+    ensures { OnOk result
+        (found.new ≡ after.branch_place named.now around.now place.now found.old) }
 {
     match place {
         None => Ok(()),

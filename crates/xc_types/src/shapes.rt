@@ -81,7 +81,8 @@ pub fn both(a: bool, b: bool) -> bool
 
 /// Checks what is around a select, whose word stands at this place, and its cases together: rules 506 and 507.
 pub fn begin_select(found: &mut Findings, around: &Around, cs: &[Case], pos: Pos)
-    ensures { found.new ≡ after_select (around_of around.now) (plain.cases (map case_of cs.now)) pos found.old }
+    ensures { found.new ≡ after_select (around_of around.now)
+        (plain.cases (map case_of cs.now)) pos found.old }
 {
     not_in_transaction(found, around, pos);
     defaults(found, cs);

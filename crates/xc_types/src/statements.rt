@@ -107,7 +107,8 @@ fn statement_if_any(
     s: &Option<Box<Stmt>>,
     around: &Around,
 ) -> Result<(), Memory>
-    ensures { OnOk result (found.new ≡ after.statement_if_any named.now s.now around.now found.old) }
+    ensures { OnOk result
+        (found.new ≡ after.statement_if_any named.now s.now around.now found.old) }
 {
     match s {
         None => Ok(()),
@@ -142,7 +143,8 @@ fn transaction(
     around: &Around,
     pos: Pos,
 ) -> Result<(), Memory>
-    ensures { OnOk result (found.new ≡ after.transaction named.now ss.now around.now pos found.old) }
+    ensures { OnOk result
+        (found.new ≡ after.transaction named.now ss.now around.now pos found.old) }
 {
     let begin = found.channels.len();
     found.breaks_where(in_transaction(around), 506, pos);
