@@ -1,5 +1,5 @@
 -- The uses of code that a footprint keeps are those by the test, of all things but channels.
-use Rattle.std.proofs.Common.{◌≡◌, ℕ, Bool, false, ◌||◌, Option, Some, None, refl, sym, ap, ap₂, ◌∙◌}
+use Rattle.std.proofs.Common.{◌≡◌, ℕ, Bool, ◌||◌, Option, Some, None, refl, ap, ap₂}
 use Rattle.xc_kernel.specs.declared.statement.KRes.{KRes}
 use Rattle.xc_kernel.specs.declared.statement.KRes.TheVariants as resource
 use Rattle.xc_kernel.specs.Plain as kernel
@@ -42,6 +42,7 @@ module _ (th : Thing) (kept : IsKept th) where
 
   mutual
     unfolding nothing both read_of
+
     expression : (e : kernel.Expression) → of_expression e th ≡ things.by_expression th e
     expression (kernel.number v) = refl
     expression (kernel.read p) = place p
@@ -85,6 +86,7 @@ module _ (th : Thing) (kept : IsKept th) where
 
   mutual
     unfolding nothing both change_of
+
     statement : (s : kernel.Statement) → of_statement s th ≡ things.by_statement th s
     statement (kernel.set_zero v) = refl
     statement (kernel.set p e) = ap₂ ◌||◌ (target p) (expression e)

@@ -52,11 +52,7 @@ fn branch(
 
 #[cycle(statements)]
 #[tactic(auto, using(crate::proofs::CodeSteps::steps))]
-fn branches(
-    alloc: Global,
-    whole: &mut Footprint,
-    all: &[KBranch],
-) -> Result<Option<Broken>, Memory>
+fn branches(alloc: Global, whole: &mut Footprint, all: &[KBranch]) -> Result<Option<Broken>, Memory>
     ensures uses { OnOk result (uses_in whole.new ≡ both (uses_in whole.old) (uses.of_branches (plain.branches (map branch_of all.now)))) }
     ensures first { IfOk result (λ first. IsLeastOf (ClashesBehind (uses_in whole.old) (plain.branches (map branch_of all.now))) first) }
 {
@@ -89,11 +85,7 @@ fn statements(
 
 #[cycle(statements)]
 #[tactic(auto, using(crate::proofs::CodeSteps::steps))]
-fn statement(
-    alloc: Global,
-    footprint: &mut Footprint,
-    s: &Kst,
-) -> Result<Option<Broken>, Memory>
+fn statement(alloc: Global, footprint: &mut Footprint, s: &Kst) -> Result<Option<Broken>, Memory>
     ensures uses { OnOk result (uses_in footprint.new ≡ both (uses_in footprint.old) (uses.of_statement (statement_of s.now))) }
     ensures first { IfOk result (λ first. IsLeastOf (Clashes (pars.of_statement (statement_of s.now))) first) }
 {
@@ -151,11 +143,7 @@ fn statement(
 
 #[cycle(statements)]
 #[tactic(auto, using(crate::proofs::CodeSteps::steps))]
-fn cases(
-    alloc: Global,
-    footprint: &mut Footprint,
-    all: &[KCase],
-) -> Result<Option<Broken>, Memory>
+fn cases(alloc: Global, footprint: &mut Footprint, all: &[KCase]) -> Result<Option<Broken>, Memory>
     ensures uses { OnOk result (uses_in footprint.new ≡ both (uses_in footprint.old) (uses.of_cases (plain.cases (map case_of all.now)))) }
     ensures first { IfOk result (λ first. IsLeastOf (Clashes (pars.of_cases (plain.cases (map case_of all.now)))) first) }
 {
@@ -169,11 +157,7 @@ fn cases(
 
 #[cycle(statements)]
 #[tactic(auto, using(crate::proofs::CodeSteps::steps))]
-fn case(
-    alloc: Global,
-    footprint: &mut Footprint,
-    c: &KCase,
-) -> Result<Option<Broken>, Memory>
+fn case(alloc: Global, footprint: &mut Footprint, c: &KCase) -> Result<Option<Broken>, Memory>
     ensures uses { OnOk result (uses_in footprint.new ≡ both (uses_in footprint.old) (uses.of_case (case_of c.now))) }
     ensures first { IfOk result (λ first. IsLeastOf (Clashes (pars.of_case (case_of c.now))) first) }
 {

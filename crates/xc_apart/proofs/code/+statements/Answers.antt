@@ -1,5 +1,4 @@
-use Rattle.std.proofs.Common.{◌≡◌, ◌+◌, List, [], drop, map, sym, ap, ap₂, subst, ◌∙◌}
-use Rattle.xw_words.specs.declared.pos.Broken.{Broken}
+use Rattle.std.proofs.Common.{◌≡◌, ◌+◌, List, [], drop, map, sym, ap, subst, ◌∙◌}
 use Rattle.xc_tree.specs.Least.{IsLeastOf}
 use Rattle.xc_tree.proofs.Leasts.{either}
 use Rattle.xc_kernel.specs.declared.statement.Kst.{Kst}
@@ -11,7 +10,8 @@ use Rattle.xc_kernel.specs.Plain as plain
 use Rattle.xc_apart.specs.Behind.{ClashesAt, ClashesBy, ClashesBehind}
 use Rattle.xc_apart.specs.Clashes.{Clashes}
 use Rattle.xc_apart.specs.Footprints.{Uses, both, uses_in, of_branches, of_cases, of_statements}
-use Rattle.xc_apart.proofs.Clashing.{Goes, goes_end, no_clash, statements_go, cases_go, branches_go, statements_more, cases_more, branches_next}
+use Rattle.xc_kernel.proofs.Firsts.{Goes, goes_end}
+use Rattle.xc_apart.proofs.Clashing.{no_clash, statements_go, cases_go, branches_go, statements_more, cases_more, branches_next}
 use Rattle.xc_apart.proofs.FootprintSteps.{both_nothing, nothing_both, both_each}
 use Rattle.xc_apart.proofs.Steps.{drop_past}
 use Rattle.xc_apart.proofs.code.+statements.Goals as goal
@@ -54,25 +54,25 @@ branch-returns-clause-first t c =
     let body = plain.statements (map statement_of c.args.body.now) in
     let own : uses_in c.statements.new.footprint ≡ of_statements body = c.in_ok-inside.ensures.uses ∙ ap (λ (f : Uses). both f (of_statements body)) c.new-own.ensures ∙ nothing_both (of_statements body) in
     rw c.earlier.ensures
-        (either (ClashesAt (uses_in c.args.whole.now) (of_statements body) c.args.pos) (Clashes (pars.of_statements body)) c.clash-here.result c.in_ok-inside.inside
-        (subst (λ (f : Uses). IsLeastOf (ClashesAt (uses_in c.args.whole.now) f c.args.pos) c.clash-here.result) own c.clash-here.ensures)
-        c.in_ok-inside.ensures.first)
+    (either (ClashesAt (uses_in c.args.whole.now) (of_statements body) c.args.pos) (Clashes (pars.of_statements body)) c.clash-here.result c.in_ok-inside.inside
+    (subst (λ (f : Uses). IsLeastOf (ClashesAt (uses_in c.args.whole.now) f c.args.pos) c.clash-here.result) own c.clash-here.ensures)
+    c.in_ok-inside.ensures.first)
 
 pub statements-loop-s-preserved : goal.statements-loop-s-preserved
 statements-loop-s-preserved t c = (
-      c.loop-s.invariant.0
-          ∙ statements_more (uses_in c.loop-s.footprint) (uses_in c.statement.new.footprint) c.args.all.now c.loop-s.s-index c.s-item.result c.s-item.is c.loop-s-test.true c.in_ok-clash.ensures.uses,
-      rw c.earlier-best.ensures
-          (statements_go (Clashes (pars.of_statements (plain.statements (map statement_of c.args.all.now)))) c.args.all.now c.loop-s.s-index c.s-item.result c.s-item.is c.loop-s-test.true c.loop-s.best c.in_ok-clash.clash c.in_ok-clash.ensures.first c.loop-s.invariant.1),
-    )
+  c.loop-s.invariant.0
+      ∙ statements_more (uses_in c.loop-s.footprint) (uses_in c.statement.new.footprint) c.args.all.now c.loop-s.s-index c.s-item.result c.s-item.is c.loop-s-test.true c.in_ok-clash.ensures.uses,
+  rw c.earlier-best.ensures
+      (statements_go (Clashes (pars.of_statements (plain.statements (map statement_of c.args.all.now)))) c.args.all.now c.loop-s.s-index c.s-item.result c.s-item.is c.loop-s-test.true c.loop-s.best c.in_ok-clash.clash c.in_ok-clash.ensures.first c.loop-s.invariant.1),
+)
 
 pub cases-loop-c-preserved : goal.cases-loop-c-preserved
 cases-loop-c-preserved t c = (
-      c.loop-c.invariant.0
-          ∙ cases_more (uses_in c.loop-c.footprint) (uses_in c.case.new.footprint) c.args.all.now c.loop-c.c-index c.c-item.result c.c-item.is c.loop-c-test.true c.in_ok-clash.ensures.uses,
-      rw c.earlier-best.ensures
-          (cases_go (Clashes (pars.of_cases (plain.cases (map case_of c.args.all.now)))) c.args.all.now c.loop-c.c-index c.c-item.result c.c-item.is c.loop-c-test.true c.loop-c.best c.in_ok-clash.clash c.in_ok-clash.ensures.first c.loop-c.invariant.1),
-    )
+  c.loop-c.invariant.0
+      ∙ cases_more (uses_in c.loop-c.footprint) (uses_in c.case.new.footprint) c.args.all.now c.loop-c.c-index c.c-item.result c.c-item.is c.loop-c-test.true c.in_ok-clash.ensures.uses,
+  rw c.earlier-best.ensures
+      (cases_go (Clashes (pars.of_cases (plain.cases (map case_of c.args.all.now)))) c.args.all.now c.loop-c.c-index c.c-item.result c.c-item.is c.loop-c-test.true c.loop-c.best c.in_ok-clash.clash c.in_ok-clash.ensures.first c.loop-c.invariant.1),
+)
 
 pub branches-loop-b-preserved : goal.branches-loop-b-preserved
 branches-loop-b-preserved t c =
