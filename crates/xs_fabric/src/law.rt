@@ -1,6 +1,6 @@
 ghost use Rattle.std.specs.Prelude.{◌≡◌, ◌≢◌, ◌<◌, ◌^◌, ◌+◌, ◌++◌, ℕ, List as Items, ◌∷◌, Some, slice_get};
 ghost use Rattle.xs_fabric.specs.Lockstep.{lockstep};
-ghost use Rattle.xs_fabric.specs.Room.{Tokens, Credits, total, ends_of, HasRoom};
+ghost use Rattle.xs_core.specs.Room.{Tokens, Credits, total, ends_of, HasRoom};
 ghost use Rattle.xs_instr.specs.Ends.{peer_of};
 ghost use Rattle.xs_instr.specs.Machine.{Event, Machine, Step, boot, does, link_of, runs};
 ghost use Rattle.xs_instr.specs.Slot.{is_ready, is_ready_by_words};
