@@ -11,11 +11,13 @@ use Rattle.xc_kernel.specs.declared.kernel.PortUse.{PortUse}
 use Rattle.xc_kernel.specs.declared.statement.KRes.{KRes}
 use Rattle.xc_kernel.specs.declared.statement.KRes.TheVariants.{Port, Timer, Chan}
 use Rattle.xc_kernel.specs.Plain as kernel
+use Rattle.xc_kernel.specs.Branches.{all_pars}
+use Rattle.xc_apart.specs.Clashes.{Clashes}
 use Rattle.xc_disjoint.specs.Cores.{no_core}
 use Rattle.xc_disjoint.specs.Leasts.{first_among, IsBrokenBy}
 use Rattle.xc_disjoint.specs.Needs.{threads_on, ends_on, timers_on, words_on}
 use Rattle.xc_disjoint.specs.Places.{rule_if, rule_of_root, rule_of_port, rule_by_port, rule_of_resource, rule_of_use, first_in_roots}
-use Rattle.xc_disjoint.specs.Rules.{IsAbove, most_threads, most_ends, most_timers, most_words, NeedsMore, threads, ends, timers, words, HasNoCore, of_root, of_port, UsesElsewhere, Breaks, needs, without_core, elsewhere}
+use Rattle.xc_disjoint.specs.Rules.{IsAbove, most_threads, most_ends, most_timers, most_words, NeedsMore, threads, ends, timers, words, HasNoCore, of_root, of_port, UsesElsewhere, Breaks, clash, needs, without_core, elsewhere}
 use Rattle.xc_kernel.specs.Uses as uses
 use Rattle.xc_kernel.specs.Uses.{Use}
 use Rattle.xc_disjoint.proofs.Firsts.{least_among, first_is, split}
@@ -23,8 +25,8 @@ use Rattle.xc_disjoint.proofs.Firsts.{least_among, first_is, split}
 some_same : {A : Type 0} (a b : A) → Some a ≡ Some b → a ≡ b
 some_same a b e = cc
 
-clash : {A : Type 0} (x : A) → None ≡ Some x → ⊥
-clash x e = cc
+none_there : {A : Type 0} (x : A) → None ≡ Some x → ⊥
+none_there x e = cc
 
 -- a use in some root breaks this rule
 pub record IsBrokenInRoots (ports : List PortUse) (rs : List kernel.Root) (b : Broken) : Type 0 where
@@ -60,12 +62,12 @@ least_in_roots ports P best (r ∷ rs) h =
 -- at a place a rule is broken where the test holds
 broken_if : (t : Bool) (rule : ℕ) (pos : Pos) (b : Broken) → rule_if t rule pos ≡ Some b → (t ≡ true) × (b ≡ record { rule = rule; pos = pos })
 broken_if true rule pos b e = (refl, sym (some_same (record { rule = rule; pos = pos }) b e))
-broken_if false rule pos b e = absurd (clash b e)
+broken_if false rule pos b e = absurd (none_there b e)
 
 module _ (k : kernel.Kernel) where
   -- the kinds of broken rules, as they are looked at
   abbrev IsAny : Broken → Type 0
-  IsAny b = ((NeedsMore k b ⊎ IsBrokenBy rule_of_root k.roots b) ⊎ IsBrokenBy rule_of_port k.ports b) ⊎ IsBrokenInRoots k.ports k.roots b
+  IsAny b = (((Clashes (all_pars k) b ⊎ NeedsMore k b) ⊎ IsBrokenBy rule_of_root k.roots b) ⊎ IsBrokenBy rule_of_port k.ports b) ⊎ IsBrokenInRoots k.ports k.roots b
 
   root_place : (b : Broken) → IsBrokenBy rule_of_root k.roots b → Breaks k b
   root_place b h =
@@ -86,7 +88,7 @@ module _ (k : kernel.Kernel) where
       not_true false e = refl
 
       at_port : (n : ℕ) → h.broken.item.resource ≡ Port n → (p : Option PortUse) → slice_get k.ports n ≡ p → rule_by_port h.root.core h.broken.item.pos p ≡ Some b → Breaks k b
-      at_port n e None f g = absurd (clash b g)
+      at_port n e None f g = absurd (none_there b g)
       at_port n e (Some p) f g =
           let t = broken_if (not (nat_eq p.core h.root.core)) 706 h.broken.item.pos b g in
           subst (Breaks k) (sym t.1) (elsewhere (record {
@@ -106,11 +108,12 @@ module _ (k : kernel.Kernel) where
 
       by : (r : KRes) → h.broken.item.resource ≡ r → rule_of_resource k.ports h.root.core h.broken.item.pos h.broken.item.resource ≡ Some b → Breaks k b
       by (Port n) e g = at_port n e (slice_get k.ports n) refl (ap (rule_of_resource k.ports h.root.core h.broken.item.pos) (sym e) ∙ g)
-      by (Timer n) e g = absurd (clash b (ap (rule_of_resource k.ports h.root.core h.broken.item.pos) (sym e) ∙ g))
-      by (Chan n) e g = absurd (clash b (ap (rule_of_resource k.ports h.root.core h.broken.item.pos) (sym e) ∙ g))
+      by (Timer n) e g = absurd (none_there b (ap (rule_of_resource k.ports h.root.core h.broken.item.pos) (sym e) ∙ g))
+      by (Chan n) e g = absurd (none_there b (ap (rule_of_resource k.ports h.root.core h.broken.item.pos) (sym e) ∙ g))
 
   to_breaks : (b : Broken) → IsAny b → Breaks k b
-  to_breaks b (inl (inl (inl h))) = needs h
+  to_breaks b (inl (inl (inl (inl h)))) = clash h
+  to_breaks b (inl (inl (inl (inr h)))) = needs h
   to_breaks b (inl (inl (inr h))) = root_place b h
   to_breaks b (inl (inr h)) = port_place b h
   to_breaks b (inr h) = use_place b h
@@ -135,17 +138,18 @@ module _ (k : kernel.Kernel) where
           rw (h.elsewhere.resource, h.elsewhere.is_port, ne_eqb h.elsewhere.port.core h.root.core h.elsewhere.other_core, h.place) refl
 
   from_breaks : (b : Broken) → Breaks k b → IsAny b
-  from_breaks b (needs h) = inl (inl (inl h))
+  from_breaks b (clash h) = inl (inl (inl (inl h)))
+  from_breaks b (needs h) = inl (inl (inl (inr h)))
   from_breaks b (without_core {pos = p} h) = place_any p h
   from_breaks b (elsewhere {pos = p} h) = use_any p h
 
   -- the first of all, by the first of what is needed
-  pub first_of_all : (best : Option Broken) → IsLeastOf (NeedsMore k) best → IsLeastOf (Breaks k) (first_in_roots k.ports (first_among rule_of_port (first_among rule_of_root best k.roots) k.ports) k.roots)
+  pub first_of_all : (best : Option Broken) → IsLeastOf (λ b. Clashes (all_pars k) b ⊎ NeedsMore k b) best → IsLeastOf (Breaks k) (first_in_roots k.ports (first_among rule_of_port (first_among rule_of_root best k.roots) k.ports) k.roots)
   first_of_all best h =
       of_same IsAny (Breaks k) (first_in_roots k.ports (first_among rule_of_port (first_among rule_of_root best k.roots) k.ports) k.roots) to_breaks from_breaks
-      (least_in_roots k.ports (λ b. (NeedsMore k b ⊎ IsBrokenBy rule_of_root k.roots b) ⊎ IsBrokenBy rule_of_port k.ports b) (first_among rule_of_port (first_among rule_of_root best k.roots) k.ports) k.roots
-      (least_among rule_of_port (λ b. NeedsMore k b ⊎ IsBrokenBy rule_of_root k.roots b) (first_among rule_of_root best k.roots) k.ports
-      (least_among rule_of_root (NeedsMore k) best k.roots h)))
+      (least_in_roots k.ports (λ b. ((Clashes (all_pars k) b ⊎ NeedsMore k b) ⊎ IsBrokenBy rule_of_root k.roots b) ⊎ IsBrokenBy rule_of_port k.ports b) (first_among rule_of_port (first_among rule_of_root best k.roots) k.ports) k.roots
+      (least_among rule_of_port (λ b. (Clashes (all_pars k) b ⊎ NeedsMore k b) ⊎ IsBrokenBy rule_of_root k.roots b) (first_among rule_of_root best k.roots) k.ports
+      (least_among rule_of_root (λ b. Clashes (all_pars k) b ⊎ NeedsMore k b) best k.roots h)))
 
   -- what a core needs too much of, in the order of the rules
 

@@ -3,46 +3,10 @@ use Rattle.std.specs.Prelude.{◌≡◌, ℕ, ◌<◌, IsTrue, Some, slice_get}
 use Rattle.xw_words.specs.declared.pos.Broken.{Broken}
 use Rattle.xc_kernel.specs.declared.kernel.Chan.{Chan}
 use Rattle.xc_kernel.specs.Plain as kernel
-use Rattle.xc_kernel.specs.Things.{Thing, variable, change, port, timer, channel, by_branch}
+use Rattle.xc_kernel.specs.Things.{channel, by_branch}
 use Rattle.xc_kernel.specs.Pars as pars
+use Rattle.xc_apart.specs.Clashes.{Clashes}
 use Rattle.xc_kernel.specs.Branches.{branches_of, all_pars, branch_at, pos_of, uses_in, users, users_before}
-
--- Two uses of which two branches of a `par` may not have one each: one changes a variable that the other uses, or both use a port or
--- a timer.
-pub data Clash : Thing → Thing → Type 0 where
-  changed : (v : ℕ) → Clash (change v) (variable v)
-  used : (v : ℕ) → Clash (variable v) (change v)
-  of_port : (p : ℕ) → Clash (port p) (port p)
-  of_timer : (t : ℕ) → Clash (timer t) (timer t)
-
--- the rule against two branches that use this
-abbrev pub rule_against : Thing → ℕ
-rule_against (variable v) = 601
-rule_against (change v) = 601
-rule_against (port p) = 602
-rule_against (timer t) = 606
-rule_against (channel c) = 603
-
--- a branch of a `par` uses what clashes with a use of an earlier branch
-pub record ClashesIn (bs : kernel.Branches) (rule : ℕ) (later : kernel.Branch) : Type 0 where
-  pub i : ℕ
-  pub j : ℕ
-  pub before : i < j
-  pub earlier : kernel.Branch
-  pub earlier_is : branch_at bs i ≡ Some earlier
-  pub later_is : branch_at bs j ≡ Some later
-  pub one : Thing
-  pub other : Thing
-  pub clash : Clash one other
-  pub against : rule ≡ rule_against other
-  pub earlier_uses : IsTrue (by_branch one earlier)
-  pub later_uses : IsTrue (by_branch other later)
-
-pub record Clashes (k : kernel.Kernel) (rule : ℕ) (later : kernel.Branch) : Type 0 where
-  pub bs : kernel.Branches
-  pub place : ℕ
-  pub is_par : slice_get (all_pars k) place ≡ Some bs
-  pub clashes : ClashesIn bs rule later
 
 -- a branch is the one behind so many others that use a channel, and uses it too
 pub record IsUser (c : ℕ) (bs : kernel.Branches) (others : ℕ) (b : kernel.Branch) : Type 0 where
@@ -91,7 +55,7 @@ pub record IsSecondInside (k : kernel.Kernel) (later : kernel.Branch) : Type 0 w
 -- at the later of these (605). The roots are one `par`: where main alone is the root and no other `par` holds all uses, one of its
 -- branches uses the channel.
 pub data NotApart (k : kernel.Kernel) : Broken → Type 0 where
-  clash : (rule : ℕ) (later : kernel.Branch) → Clashes k rule later → NotApart k (record { rule = rule; pos = pos_of later })
+  clash : {b : Broken} → Clashes (all_pars k) b → NotApart k b
   third : (b : kernel.Branch) → IsThird k b → NotApart k (record { rule = 603; pos = pos_of b })
   one_sided : (d : Chan) → IsOneSided k d → NotApart k (record { rule = 604; pos = d.pos })
   second_inside : (b : kernel.Branch) → IsSecondInside k b → NotApart k (record { rule = 605; pos = pos_of b })

@@ -10,4 +10,3 @@ pub mod Tables
 pub mod Leasts
 pub mod Places
 pub mod Sums
-pub mod Errors

@@ -1,11 +1,12 @@
--- The rules 701 to 706 of what a kernel needs, and the broken one that stands first.
+-- The rules of a kernel: 601 to 606 of what keeps branches apart, and 701 to 706 of what it needs.
 use Rattle.std.specs.Prelude.{◌≡◌, ℕ, ◌<◌, ◌≤◌, Contains, slice_get, Some}
 use Rattle.xw_words.specs.declared.pos.Pos.{Pos}
 use Rattle.xw_words.specs.declared.pos.Broken.{Broken}
-use Rattle.xc_tree.specs.Lexes.{IsNotAfter}
 use Rattle.xc_kernel.specs.declared.kernel.PortUse.{PortUse}
 use Rattle.xc_kernel.specs.declared.statement.KRes.TheVariants.{Port}
 use Rattle.xc_kernel.specs.Plain as kernel
+use Rattle.xc_kernel.specs.Branches.{all_pars}
+use Rattle.xc_apart.specs.Clashes.{Clashes}
 use Rattle.xc_disjoint.specs.Cores.{last_core, no_core}
 use Rattle.xc_kernel.specs.Uses as uses
 use Rattle.xc_kernel.specs.Uses.{Use}
@@ -58,14 +59,10 @@ pub data NeedsMore (k : kernel.Kernel) : Broken → Type 0 where
   timers : IsAbove most_timers (timers_on k) → NeedsMore k (record { rule = 703; pos = k.main })
   words : IsAbove most_words (words_on k) → NeedsMore k (record { rule = 704; pos = k.main })
 
--- One of the rules is broken, and where: a core needs more than it has; a place gives no core, at the place; a port is used on
--- another core than its own, at the use.
+-- One of the rules is broken, and where: branches don't keep apart; a core needs more than it has; a place gives no core, at the
+-- place; a port is used on another core than its own, at the use.
 pub data Breaks (k : kernel.Kernel) : Broken → Type 0 where
+  clash : {b : Broken} → Clashes (all_pars k) b → Breaks k b
   needs : {b : Broken} → NeedsMore k b → Breaks k b
   without_core : {pos : Pos} → HasNoCore k pos → Breaks k (record { rule = 705; pos = pos })
   elsewhere : {pos : Pos} → UsesElsewhere k pos → Breaks k (record { rule = 706; pos = pos })
-
--- the broken rule of the least place, and there of the least number
-pub record FirstBroken (k : kernel.Kernel) (b : Broken) : Type 0 where
-  pub breaks : Breaks k b
-  pub least : (other : Broken) → Breaks k other → IsNotAfter b other

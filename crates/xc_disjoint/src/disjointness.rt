@@ -1,41 +1,23 @@
 ghost use Rattle.std.specs.Prelude.{◌≡◌, Some, IfErr, IfOk};
 ghost use Rattle.xw_words.specs.declared.pos.Broken.{Broken as Wrong};
-ghost use Rattle.xc_disjoint.specs.Errors.{IfBroken};
 ghost use Rattle.xc_kernel.specs.Sound.{IsOfProgram};
-ghost use Rattle.xc_disjoint.specs.Rules.{Breaks, FirstBroken, NeedsMore};
+ghost use Rattle.xc_disjoint.specs.Rules.{Breaks, NeedsMore};
 ghost use Rattle.xc_kernel.specs.Kernels.{kernel_of};
-ghost use Rattle.xc_tree.specs.Least.{IsLeastOf};
+ghost use Rattle.xc_tree.specs.Least.{IsFirst, IsLeastOf};
+ghost use Rattle.xc_tree.specs.Refusals.{IfBroken};
 
 use crate::checked::Checked;
 use crate::needs::{too_many_ends, too_many_threads, too_many_timers, too_many_words};
 use crate::places::{first_of_ports, first_of_roots};
 use crate::ports::first_elsewhere;
 use std::alloc::Global;
-use thiserror::Error;
+use xc_apart::first_clash;
 use xc_kernel::Kernel;
+use xc_tree::{Refusal, earlier};
 use xw_words::{Broken, Memory};
 
 /// Why a kernel isn't accepted.
-#[derive(Debug, Drop, Error)]
-pub enum DisErr {
-    /// It breaks a rule, of all that it breaks the first.
-    #[error("{}:{}: rule {} is broken", .0.pos.line, .0.pos.col, .0.rule)]
-    Broken(Broken),
-    /// Memory could not be had.
-    #[error("out of memory")]
-    Memory,
-}
-
-impl From<Memory> for DisErr {
-    ghost use Rattle.std.specs.Prelude.{◌≡◌};
-    ghost use Rattle.xc_disjoint.specs.declared.disjointness.DisErr.TheVariants as err;
-
-    ghost from_gives = { λ _ e. e ≡ err.Memory };
-
-    fn from(_: Memory) -> DisErr {
-        DisErr::Memory
-    }
-}
+pub type DisErr = Refusal;
 
 /// The kernel as one that is checked, where it is that of a program that breaks no rule of the phases before and whose tree is
 /// no deeper than 200. The stack that it needs grows with the depth of the kernel.
@@ -48,7 +30,7 @@ pub fn disjoint(alloc: Global, kernel: Kernel) -> Result<Checked, DisErr>
     requires { IsOfProgram (kernel_of kernel) }
     ensures kernel { IfOk result (λ checked. checked ≡ kernel) }
     ensures unbroken { IfOk result (λ checked. (b : Wrong) → Breaks (kernel_of kernel) b → ⊥) }
-    ensures broken { IfErr result (λ e. IfBroken e (λ b. FirstBroken (kernel_of kernel) b)) }
+    ensures broken { IfErr result (λ e. IfBroken e (λ b. IsFirst (Breaks (kernel_of kernel)) b)) }
 {
     match first_broken(alloc, &kernel)? {
         Some(broken) => Err(DisErr::Broken(broken)),
@@ -60,8 +42,9 @@ pub fn disjoint(alloc: Global, kernel: Kernel) -> Result<Checked, DisErr>
 fn first_broken(alloc: Global, kernel: &Kernel) -> Result<Option<Broken>, Memory>
     ensures { IfOk result (λ best. IsLeastOf (Breaks (kernel_of kernel.now)) best) }
 {
+    let clash = first_clash(alloc, kernel.roots.as_slice())?;
     let needs = broken_need(alloc, kernel)?;
-    let roots = first_of_roots(kernel.roots.as_slice(), needs);
+    let roots = first_of_roots(kernel.roots.as_slice(), earlier(clash, needs));
     let places = first_of_ports(kernel.ports.as_slice(), roots);
     Ok(first_elsewhere(kernel.ports.as_slice(), kernel.roots.as_slice(), places))
 }

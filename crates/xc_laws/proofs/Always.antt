@@ -1,5 +1,5 @@
 -- The laws of a kernel's runs, and what follows of each state.
-use Rattle.std.proofs.Common.{◌≡◌, inl, inr, ⊎_elim, ℕ, ◌<◌, false, IsTrue, List, [], ◌∷◌, ◌++◌, length, Option, Some, None, slice_get, nat_eq, refl, sym, ap, subst, ◌∙◌, true≢false}
+use Rattle.std.proofs.Common.{◌≡◌, inl, inr, ⊎_elim, ℕ, ◌<◌, false, IsTrue, List, [], ◌∷◌, ◌++◌, length, Option, Some, None, slice_get, nat_eq, refl, sym, ap, subst, true≢false}
 use Rattle.std.specs.Prelude.{IsSome}
 use Rattle.xs_instr.specs.declared.image.Stim.{Stim}
 use Rattle.xc_kernel.specs.Plain as kernel

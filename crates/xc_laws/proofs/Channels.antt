@@ -17,7 +17,6 @@ use Rattle.std.proofs.lemmas.Bool.{eqb-true}
 use Rattle.xc_laws.specs.Rules.{AnyThing, AnyPar}
 use Rattle.xc_kernel.specs.Branches.{branches_of}
 use Rattle.xc_laws.specs.Every.{EveryStatement, EveryStatements, EveryCases, EveryDefault, EveryBranches}
-use Rattle.xc_disjoint.specs.Cores.{if_so}
 use Rattle.xc_kernel.specs.Uses as uses
 use Rattle.xc_kernel.specs.Uses.{Use, once, count_of}
 use Rattle.xc_kernel.specs.Things.{channel, by_resource}

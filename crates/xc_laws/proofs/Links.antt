@@ -1,5 +1,5 @@
 -- Whether code uses something, and what holds of all that it uses.
-use Rattle.std.proofs.Common.{◌≡◌, ⊎_elim, ℕ, false, IsTrue, List, [], ◌∷◌, Option, Some, None, refl, sym, subst, true≢false}
+use Rattle.std.proofs.Common.{⊎_elim, ℕ, false, IsTrue, List, [], ◌∷◌, Option, Some, None, sym, subst, true≢false}
 use Rattle.std.proofs.lemmas.Bool.{eqb-true}
 use Rattle.xc_kernel.specs.declared.statement.KRes.{KRes}
 use Rattle.xc_kernel.specs.declared.statement.KRes.TheVariants.{Port, Timer, Chan}

@@ -1,5 +1,5 @@
 -- What a kernel is that breaks none of the rules 601 to 606.
-use Rattle.std.proofs.Common.{◌≡◌, ◌≢◌, ◌⊎◌, inl, inr, ⊎_elim, ℕ, zero, suc, ◌+◌, ◌<◌, ◌≤◌, Bool, true, false, ◌||◌, IsTrue, List, [], ◌∷◌, ◌++◌, length, Option, Some, None, slice_get, nat_lt, nat_eq, refl, sym, ap, ap₂, subst, ◌∙◌, arith}
+use Rattle.std.proofs.Common.{◌≡◌, ◌≢◌, ◌⊎◌, inl, inr, ⊎_elim, ℕ, zero, suc, ◌+◌, ◌<◌, ◌≤◌, Bool, true, false, IsTrue, List, [], ◌∷◌, ◌++◌, length, Option, Some, None, slice_get, nat_lt, nat_eq, refl, sym, ap, subst, ◌∙◌, arith}
 use Rattle.xw_words.specs.declared.pos.Broken.{Broken}
 use Rattle.xc_kernel.specs.declared.kernel.Chan.{Chan}
 use Rattle.xc_kernel.specs.declared.statement.KRes.{KRes}
@@ -10,15 +10,16 @@ use Rattle.xc_kernel.proofs.Used.{count_append, one_use, statement_use, statemen
 use Rattle.xc_kernel.specs.Things.{Thing, channel, by_resource, by_statement, by_statements, by_branch, by_branches}
 use Rattle.xc_laws.specs.Every.{EveryResource, EveryExpression, EveryOperands, EveryPlace, EveryTarget, EverySomeTarget, EverySomeExpression, EveryCondition, EveryOutput, EveryInput, EveryStatement, EveryStatements, EveryCase, EveryCases, EveryDefault, EveryBranch, EveryBranches}
 use Rattle.xc_kernel.specs.Branches.{branches_of}
-use Rattle.xc_laws.specs.Rules.{code_at, CodesApart, AllApart, AnyThing, AnyTransaction, IsApart}
+use Rattle.xc_laws.specs.Rules.{code_at, AllApart, AnyThing, AnyTransaction, IsApart}
 use Rattle.xc_kernel.specs.Uses.{once}
 use Rattle.xc_kernel.specs.Branches.{users}
 use Rattle.xc_laws.specs.Sided.{AtMostOne, LoneBranches, UnsidedStatement, UnsidedStatements, UnsidedCases, UnsidedDefault, UnsidedBranches, IsSided}
 use Rattle.xc_kernel.specs.Uses as uses
 use Rattle.xc_kernel.specs.Uses.{Use, count_of}
 use Rattle.xc_kernel.specs.Pars as pars
-use Rattle.xc_kernel.specs.Branches.{all_pars, branch_at, pos_of, uses_in, users_before}
-use Rattle.xc_disjoint.specs.Disjoint.{Clash, changed, used, of_port, of_timer, rule_against, IsUser, IsInnermost, NotApart, clash, third, one_sided, second_inside}
+use Rattle.xc_kernel.specs.Branches.{all_pars, branch_at, pos_of, uses_in}
+use Rattle.xc_apart.specs.Clashes.{Clash, changed, used, of_port, of_timer, rule_against}
+use Rattle.xc_disjoint.specs.Disjoint.{IsUser, IsInnermost, NotApart, clash, third, one_sided, second_inside}
 use Rattle.xc_meaning.proofs.Basics.{some_given, none_given, true_or_false, same_or_not}
 use Rattle.xc_laws.proofs.Unsided.{unused_statement, unused_statements, unused_branches, no_users}
 use Rattle.xc_laws.specs.Channels.{IsListed}
@@ -375,12 +376,7 @@ module _ (K : kernel.Kernel) (unbroken : (b : Broken) → NotApart K b → ⊥) 
       let x = code_branch bs i a ea in
       let y = code_branch bs j b eb in
       unbroken (record { rule = rule_against u; pos = pos_of y.0 })
-      (clash (rule_against u) y.0 (record {
-        bs = bs;
-        place = place;
-        is_par = e;
-        clashes = record { i = i; j = j; before = lt; earlier = x.0; earlier_is = x.1; later_is = y.1; one = t; other = u; clash = k; against = refl; earlier_uses = x.2 t ua; later_uses = y.2 u ub };
-      }))
+      (clash (record { place = place; bs = bs; is_par = e; i = i; j = j; before = lt; earlier = x.0; earlier_is = x.1; later = y.0; later_is = y.1; one = t; other = u; clash = k; earlier_uses = x.2 t ua; later_uses = y.2 u ub; is = refl }))
 
   order : (i j : ℕ) → i ≢ j → (i < j) ⊎ (j < i)
   order i j ne = grind arith

@@ -1,12 +1,12 @@
 -- Code that stands in no side of a channel.
-use Rattle.std.proofs.Common.{◌≡◌, inl, ℕ, Bool, true, false, ◌||◌, Option, Some, None, nat_eq, refl, ap, ap₂, subst, ◌∙◌, true≢false, arith}
+use Rattle.std.proofs.Common.{◌≡◌, inl, ℕ, false, nat_eq, refl, ap, subst, arith}
 use Rattle.xc_kernel.specs.declared.statement.KRes.{KRes}
-use Rattle.xc_kernel.specs.declared.statement.KRes.TheVariants.{Port, Timer, Chan}
+use Rattle.xc_kernel.specs.declared.statement.KRes.TheVariants.{Chan}
 use Rattle.xc_kernel.specs.Plain as kernel
 use Rattle.xc_meaning.specs.States.Items.{Body, of_kernel, of_text}
 use Rattle.xc_kernel.proofs.Used.{or_false}
 use Rattle.xc_meaning.specs.Settings.Select.{default_of}
-use Rattle.xc_kernel.specs.Things.{channel, by_resource, by_expression, by_operands, by_place, by_target, by_some_target, by_some_expression, by_condition, by_output, by_input, by_statement, by_statements, by_case, by_cases, by_default, by_branch, by_branches}
+use Rattle.xc_kernel.specs.Things.{channel, by_resource, by_statement, by_statements, by_case, by_cases, by_default, by_branch, by_branches}
 use Rattle.xc_laws.specs.Every.{AllStatements, AllBranches, AllBody}
 use Rattle.xc_laws.specs.Sided.{BodyIs, DefaultIs, UnsidedStatement, UnsidedStatements, UnsidedCase, UnsidedCases, UnsidedDefault, UnsidedBranch, UnsidedBranches, UnsidedInput, UnsidedItem}
 use Rattle.xc_kernel.specs.Uses.{once}

@@ -12,11 +12,12 @@ ghost use Rattle.xcsim.specs.Decision.{outcome_of, IsPrintable};
 ghost use Rattle.xcsim.specs.Outside.{loads};
 ghost use Rattle.xcsim.specs.Runs.{IsLockstep, no_stim};
 
-use crate::front::{Refusal, read_text};
+use crate::front::read_text;
 use crate::run::{Run, run_lockstep};
 use crate::words::{Command, meaning};
 use std::alloc::Global;
 use xc_built::Program;
+use xc_tree::Refusal;
 use xr_match::compile;
 use xs_instr::{EndWord, Image, Stim};
 use xw_io::{LoadErr, Shelf};
@@ -53,7 +54,8 @@ pub struct Decision<'w> {
 
 /// Loads, compiles and runs, in this order. All memory is taken here.
 pub fn decide<'w, S: Shelf>(alloc: Global, words: &'w [String], shelf: &mut S) -> Decision<'w>
-    ensures decided { Decided (map string_bytes words.now) (loads S.files S.faults S.misses S.longs shelf.old shelf.new) (outcome_of result) }
+    ensures decided { Decided (map string_bytes words.now)
+        (loads S.files S.faults S.misses S.longs shelf.old shelf.new) (outcome_of result) }
     ensures printable { IsPrintable result.printed }
     ensures files { S.files shelf.new ≡ S.files shelf.old }
     ensures faults { S.faults shelf.old ≤ S.faults shelf.new }

@@ -27,7 +27,8 @@ pub fn state_for(alloc: Global, image: &Image, number: u8, stim: &Stim) -> Resul
     requires image { Valid image.now }
     requires stim { IsGoodStim stim.now }
     ensures home { IfOk result (λ state. home_in state ≡ home_of image.now stim.now number) }
-    ensures state { IfOk result (λ state. state_of state ≡ boot_core (parts_in image.now.cores number)) }
+    ensures state { IfOk result
+        (λ state. state_of state ≡ boot_core (parts_in image.now.cores number)) }
     ensures order { IfOk result IsInOrder }
 {
     let fixed = fixed_for(alloc, image, number)?;
@@ -68,7 +69,8 @@ fn parts_for(alloc: Global, fixed: Fixed, number: u8, stim: &Stim) -> Result<Sta
 fn fixed_for(alloc: Global, image: &Image, number: u8) -> Result<Fixed, Memory>
     ensures parts { IfOk result (λ fixed. fixed.parts ≡ parts_in image.now.cores number) }
     ensures pairs { IfOk result (λ fixed. fixed.pairs ≡ image.now.chans) }
-    ensures peers { IfOk result (λ fixed. ArePeers image.now.chans number (parts_in image.now.cores number).ends fixed.peers) }
+    ensures peers { IfOk result (λ fixed. ArePeers image.now.chans number
+        (parts_in image.now.cores number).ends fixed.peers) }
 {
     let parts = part_of(alloc, image.cores.as_slice(), number)?;
     let pairs = image.chans.copy(alloc)?;

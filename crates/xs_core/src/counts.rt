@@ -98,10 +98,17 @@ fn waits_for_time(state: &State, t: u8) -> bool
 /// Whether thread `t` runs, and stands at an input or output of a port or a timer, or takes events of one.
 fn is_at_timed(state: &State, t: u8) -> bool
     requires there { t < 8 }
-    ensures { result ≡ is_timed_thread (home_of state.now) (state_of state.now) t (slice_get state.now.threads t) }
+    ensures { result ≡ is_timed_thread (home_of state.now) (state_of state.now) t
+        (slice_get state.now.threads t) }
 {
     let thread = &state.threads[t as usize];
-    let instr = state.fixed.parts.code.instrs.get(thread.pc as usize).copied();
+    let instr = state
+        .fixed
+        .parts
+        .code
+        .instrs
+        .get(thread.pc as usize)
+        .copied();
     match thread.mode {
         Mode::Running => {
             is_at_port_or_timer(state, thread, instr)

@@ -39,8 +39,10 @@ pub enum EndStep {
 
 /// OUT on a channel end.
 pub fn send_word(state: &State, e: u32, value: u32) -> Turn
-    ensures means { (t : ℕ) (x : Thread) → meant (home_of state.now) (state_of state.now) t x result ≡ out_row (home_of state.now) (state_of state.now) t x value (AnEnd e) }
-    ensures steps { (t : ℕ) (x : Thread) → is_step (meant (home_of state.now) (state_of state.now) t x result) ≡ steps result }
+    ensures means { (t : ℕ) (x : Thread) → meant (home_of state.now) (state_of state.now) t x result
+        ≡ out_row (home_of state.now) (state_of state.now) t x value (AnEnd e) }
+    ensures steps { (t : ℕ) (x : Thread) →
+        is_step (meant (home_of state.now) (state_of state.now) t x result) ≡ steps result }
     ensures fits { (t : ℕ) (x : Thread) → Fits (home_of state.now) (state_of state.now) t x result }
 {
     if !state.ends.has(e) {
@@ -55,8 +57,12 @@ pub fn send_word(state: &State, e: u32, value: u32) -> Turn
 
 /// OUTT and OUTCT.
 pub fn send_token(state: &State, name: Resource, token: Token) -> Turn
-    ensures means { (t : ℕ) (x : Thread) → meant (home_of state.now) (state_of state.now) t x result ≡ told (goes_with put_ends (state_of state.now) t x) (on_end (state_of state.now) (outs (home_of state.now) (state_of state.now).clock (token ∷ []) (state_of state.now).ends) (meant_by name)) }
-    ensures steps { (t : ℕ) (x : Thread) → is_step (meant (home_of state.now) (state_of state.now) t x result) ≡ steps result }
+    ensures means { (t : ℕ) (x : Thread) → meant (home_of state.now) (state_of state.now) t x result
+        ≡ told (goes_with put_ends (state_of state.now) t x) (on_end (state_of state.now)
+        (outs (home_of state.now) (state_of state.now).clock (token ∷ []) (state_of state.now).ends)
+        (meant_by name)) }
+    ensures steps { (t : ℕ) (x : Thread) →
+        is_step (meant (home_of state.now) (state_of state.now) t x result) ≡ steps result }
     ensures fits { (t : ℕ) (x : Thread) → Fits (home_of state.now) (state_of state.now) t x result }
 {
     let Resource::End(e) = name else {
@@ -74,8 +80,10 @@ pub fn send_token(state: &State, name: Resource, token: Token) -> Turn
 
 /// IN on a channel end.
 pub fn take_word(state: &State, d: Reg, e: u32) -> Turn
-    ensures means { (t name : ℕ) (x : Thread) → meant (home_of state.now) (state_of state.now) t x result ≡ in_row (home_of state.now) (state_of state.now) t x d name (AnEnd e) }
-    ensures steps { (t : ℕ) (x : Thread) → is_step (meant (home_of state.now) (state_of state.now) t x result) ≡ steps result }
+    ensures means { (t name : ℕ) (x : Thread) → meant (home_of state.now) (state_of state.now) t x
+        result ≡ in_row (home_of state.now) (state_of state.now) t x d name (AnEnd e) }
+    ensures steps { (t : ℕ) (x : Thread) →
+        is_step (meant (home_of state.now) (state_of state.now) t x result) ≡ steps result }
     ensures fits { (t : ℕ) (x : Thread) → Fits (home_of state.now) (state_of state.now) t x result }
 {
     if !state.ends.has(e) {
@@ -90,8 +98,12 @@ pub fn take_word(state: &State, d: Reg, e: u32) -> Turn
 
 /// INT.
 pub fn take_byte(state: &State, d: Reg, name: Resource) -> Turn
-    ensures means { (t : ℕ) (x : Thread) → meant (home_of state.now) (state_of state.now) t x result ≡ told (gets_with put_ends (state_of state.now) t x d) (on_end (state_of state.now) (ins_byte (home_of state.now) (state_of state.now).clock (state_of state.now).ends) (meant_by name)) }
-    ensures steps { (t : ℕ) (x : Thread) → is_step (meant (home_of state.now) (state_of state.now) t x result) ≡ steps result }
+    ensures means { (t : ℕ) (x : Thread) → meant (home_of state.now) (state_of state.now) t x result
+        ≡ told (gets_with put_ends (state_of state.now) t x d) (on_end (state_of state.now)
+        (ins_byte (home_of state.now) (state_of state.now).clock (state_of state.now).ends)
+        (meant_by name)) }
+    ensures steps { (t : ℕ) (x : Thread) →
+        is_step (meant (home_of state.now) (state_of state.now) t x result) ≡ steps result }
     ensures fits { (t : ℕ) (x : Thread) → Fits (home_of state.now) (state_of state.now) t x result }
 {
     let Resource::End(e) = name else {
@@ -109,8 +121,12 @@ pub fn take_byte(state: &State, d: Reg, name: Resource) -> Turn
 
 /// CHKCT.
 pub fn take_control(state: &State, name: Resource, c: u8) -> Turn
-    ensures means { (t : ℕ) (x : Thread) → meant (home_of state.now) (state_of state.now) t x result ≡ told (goes_with put_ends (state_of state.now) t x) (on_end (state_of state.now) (ins_control (home_of state.now) (state_of state.now).clock c (state_of state.now).ends) (meant_by name)) }
-    ensures steps { (t : ℕ) (x : Thread) → is_step (meant (home_of state.now) (state_of state.now) t x result) ≡ steps result }
+    ensures means { (t : ℕ) (x : Thread) → meant (home_of state.now) (state_of state.now) t x result
+        ≡ told (goes_with put_ends (state_of state.now) t x) (on_end (state_of state.now)
+        (ins_control (home_of state.now) (state_of state.now).clock c (state_of state.now).ends)
+        (meant_by name)) }
+    ensures steps { (t : ℕ) (x : Thread) →
+        is_step (meant (home_of state.now) (state_of state.now) t x result) ≡ steps result }
     ensures fits { (t : ℕ) (x : Thread) → Fits (home_of state.now) (state_of state.now) t x result }
 {
     let Resource::End(e) = name else {
@@ -133,7 +149,8 @@ fn post_word(state: &mut State, outbox: &mut HeapCircularBuffer<Sent>, e: u32, v
     requires fits { 4 ≤ (end_at state.old.ends e).credits }
     requires spare { length outbox.old.items + 4 ≤ outbox.old.capacity }
     ensures moves { let s = state.old in
-        Moves s (tokens_go (home_of s) s.ports.clock s.ends e (end_at s.ends e) (word_tokens value) (peer_of s.fixed.pairs s.ports.core e)) state.new outbox.old outbox.new }
+        Moves s (tokens_go (home_of s) s.ports.clock s.ends e (end_at s.ends e) (word_tokens value)
+        (peer_of s.fixed.pairs s.ports.core e)) state.new outbox.old outbox.new }
 {
     let peer = state.fixed.peers.as_slice()[e as usize];
     let _ = state.ends.spend(e, 4);
@@ -149,7 +166,8 @@ fn post_token(state: &mut State, outbox: &mut HeapCircularBuffer<Sent>, e: u32, 
     requires fits { 1 ≤ (end_at state.old.ends e).credits }
     requires spare { length outbox.old.items + 4 ≤ outbox.old.capacity }
     ensures moves { let s = state.old in
-        Moves s (tokens_go (home_of s) s.ports.clock s.ends e (end_at s.ends e) (token ∷ []) (peer_of s.fixed.pairs s.ports.core e)) state.new outbox.old outbox.new }
+        Moves s (tokens_go (home_of s) s.ports.clock s.ends e (end_at s.ends e) (token ∷ [])
+        (peer_of s.fixed.pairs s.ports.core e)) state.new outbox.old outbox.new }
 {
     let peer = state.fixed.peers.as_slice()[e as usize];
     let _ = state.ends.spend(e, 1);
@@ -169,7 +187,8 @@ fn get_word(state: &mut State, outbox: &mut HeapCircularBuffer<Sent>, e: u32) ->
     requires spare { length outbox.old.items + 4 ≤ outbox.old.capacity }
     ensures value { take_word (end_at state.old.ends e).tokens ≡ Word result }
     ensures moves { let s = state.old in
-        Moves s (tokens_taken (home_of s) s.ports.clock s.ends e (end_at s.ends e) 4 (peer_of s.fixed.pairs s.ports.core e)) state.new outbox.old outbox.new }
+        Moves s (tokens_taken (home_of s) s.ports.clock s.ends e (end_at s.ends e) 4
+        (peer_of s.fixed.pairs s.ports.core e)) state.new outbox.old outbox.new }
 {
     let peer = state.fixed.peers.as_slice()[e as usize];
     let Taken::Word(value) = state.ends.take_word(e) else {
@@ -189,7 +208,8 @@ fn get_byte(state: &mut State, outbox: &mut HeapCircularBuffer<Sent>, e: u32) ->
     requires spare { length outbox.old.items + 4 ≤ outbox.old.capacity }
     ensures value { take_byte (end_at state.old.ends e).tokens ≡ Word result }
     ensures moves { let s = state.old in
-        Moves s (tokens_taken (home_of s) s.ports.clock s.ends e (end_at s.ends e) 1 (peer_of s.fixed.pairs s.ports.core e)) state.new outbox.old outbox.new }
+        Moves s (tokens_taken (home_of s) s.ports.clock s.ends e (end_at s.ends e) 1
+        (peer_of s.fixed.pairs s.ports.core e)) state.new outbox.old outbox.new }
 {
     let peer = state.fixed.peers.as_slice()[e as usize];
     let Taken::Word(value) = state.ends.take_byte(e) else {
@@ -208,7 +228,8 @@ fn get_control(state: &mut State, outbox: &mut HeapCircularBuffer<Sent>, e: u32,
     requires fits { check (end_at state.old.ends e).tokens c ≡ Passed }
     requires spare { length outbox.old.items + 4 ≤ outbox.old.capacity }
     ensures moves { let s = state.old in
-        Moves s (tokens_taken (home_of s) s.ports.clock s.ends e (end_at s.ends e) 1 (peer_of s.fixed.pairs s.ports.core e)) state.new outbox.old outbox.new }
+        Moves s (tokens_taken (home_of s) s.ports.clock s.ends e (end_at s.ends e) 1
+        (peer_of s.fixed.pairs s.ports.core e)) state.new outbox.old outbox.new }
 {
     let peer = state.fixed.peers.as_slice()[e as usize];
     let _ = state.ends.check(e, c);
@@ -255,7 +276,8 @@ pub fn apply(
     requires fits { EndFits (state_of state.old) step }
     requires order { IsInOrder state.old }
     requires spare { length outbox.old.items + 4 ≤ outbox.old.capacity }
-    ensures made { IsSent (end_did (home_of state.old) (state_of state.old) t (thread_at state.old.threads t) step) (state_of state.new) result outbox.old.items outbox.new.items }
+    ensures made { IsSent (end_did (home_of state.old) (state_of state.old) t (thread_at
+        state.old.threads t) step) (state_of state.new) result outbox.old.items outbox.new.items }
     ensures kept { KeepsHome state.old state.new }
     ensures order { IsInOrder state.new }
     ensures few { length outbox.new.items ≤ length outbox.old.items + 4 }

@@ -36,8 +36,11 @@ pub enum EventStep {
 
 /// SETV.
 pub fn set_vector(state: &State, name: Resource, k: u32) -> Turn
-    ensures means { (t : ℕ) (x : Thread) → meant (home_of state.now) (state_of state.now) t x result ≡ told (goes_with put_events (state_of state.now) t x) (on_evented (state_of state.now) (vector_row (state_of state.now).events k) (meant_by name)) }
-    ensures steps { (t : ℕ) (x : Thread) → is_step (meant (home_of state.now) (state_of state.now) t x result) ≡ steps result }
+    ensures means { (t : ℕ) (x : Thread) → meant (home_of state.now) (state_of state.now) t x result
+        ≡ told (goes_with put_events (state_of state.now) t x) (on_evented (state_of state.now)
+        (vector_row (state_of state.now).events k) (meant_by name)) }
+    ensures steps { (t : ℕ) (x : Thread) →
+        is_step (meant (home_of state.now) (state_of state.now) t x result) ≡ steps result }
     ensures fits { (t : ℕ) (x : Thread) → Fits (home_of state.now) (state_of state.now) t x result }
 {
     match find(state, name) {
@@ -48,8 +51,11 @@ pub fn set_vector(state: &State, name: Resource, k: u32) -> Turn
 
 /// EEU.
 pub fn enable(state: &State, name: Resource) -> Turn
-    ensures means { (t : ℕ) (x : Thread) → meant (home_of state.now) (state_of state.now) t x result ≡ told (goes_with put_events (state_of state.now) t x) (on_evented (state_of state.now) (enable_row (state_of state.now).events t) (meant_by name)) }
-    ensures steps { (t : ℕ) (x : Thread) → is_step (meant (home_of state.now) (state_of state.now) t x result) ≡ steps result }
+    ensures means { (t : ℕ) (x : Thread) → meant (home_of state.now) (state_of state.now) t x result
+        ≡ told (goes_with put_events (state_of state.now) t x) (on_evented (state_of state.now)
+        (enable_row (state_of state.now).events t) (meant_by name)) }
+    ensures steps { (t : ℕ) (x : Thread) →
+        is_step (meant (home_of state.now) (state_of state.now) t x result) ≡ steps result }
     ensures fits { (t : ℕ) (x : Thread) → Fits (home_of state.now) (state_of state.now) t x result }
 {
     match find(state, name) {
@@ -60,8 +66,11 @@ pub fn enable(state: &State, name: Resource) -> Turn
 
 /// EDU.
 pub fn disable(state: &State, name: Resource) -> Turn
-    ensures means { (t : ℕ) (x : Thread) → meant (home_of state.now) (state_of state.now) t x result ≡ told (goes_with put_events (state_of state.now) t x) (on_evented (state_of state.now) (disable_row (state_of state.now).events) (meant_by name)) }
-    ensures steps { (t : ℕ) (x : Thread) → is_step (meant (home_of state.now) (state_of state.now) t x result) ≡ steps result }
+    ensures means { (t : ℕ) (x : Thread) → meant (home_of state.now) (state_of state.now) t x result
+        ≡ told (goes_with put_events (state_of state.now) t x) (on_evented (state_of state.now)
+        (disable_row (state_of state.now).events) (meant_by name)) }
+    ensures steps { (t : ℕ) (x : Thread) →
+        is_step (meant (home_of state.now) (state_of state.now) t x result) ≡ steps result }
     ensures fits { (t : ℕ) (x : Thread) → Fits (home_of state.now) (state_of state.now) t x result }
 {
     match find(state, name) {
@@ -72,8 +81,10 @@ pub fn disable(state: &State, name: Resource) -> Turn
 
 /// SETSR: with 1 the event bit is set.
 pub fn set_bit(thread: &Thread, n: u32) -> Turn
-    ensures means { (home : Home) (core : CoreState) (t : ℕ) → meant home core t thread.now result ≡ bit_row core t thread.now (bit_by thread.now.event_bit true (nat_eq n 1)) }
-    ensures steps { (home : Home) (core : CoreState) (t : ℕ) → is_step (meant home core t thread.now result) ≡ steps result }
+    ensures means { (home : Home) (core : CoreState) (t : ℕ) → meant home core t thread.now result
+        ≡ bit_row core t thread.now (bit_by thread.now.event_bit true (nat_eq n 1)) }
+    ensures steps { (home : Home) (core : CoreState) (t : ℕ) →
+        is_step (meant home core t thread.now result) ≡ steps result }
     ensures fits { (home : Home) (core : CoreState) (t : ℕ) → Fits home core t thread.now result }
 {
     if n == 1 {
@@ -85,8 +96,10 @@ pub fn set_bit(thread: &Thread, n: u32) -> Turn
 
 /// CLRSR: with 1 the event bit is cleared.
 pub fn clear_bit(thread: &Thread, n: u32) -> Turn
-    ensures means { (home : Home) (core : CoreState) (t : ℕ) → meant home core t thread.now result ≡ bit_row core t thread.now (bit_by thread.now.event_bit false (nat_eq n 1)) }
-    ensures steps { (home : Home) (core : CoreState) (t : ℕ) → is_step (meant home core t thread.now result) ≡ steps result }
+    ensures means { (home : Home) (core : CoreState) (t : ℕ) → meant home core t thread.now result
+        ≡ bit_row core t thread.now (bit_by thread.now.event_bit false (nat_eq n 1)) }
+    ensures steps { (home : Home) (core : CoreState) (t : ℕ) →
+        is_step (meant home core t thread.now result) ≡ steps result }
     ensures fits { (home : Home) (core : CoreState) (t : ℕ) → Fits home core t thread.now result }
 {
     if n == 1 {
@@ -98,7 +111,8 @@ pub fn clear_bit(thread: &Thread, n: u32) -> Turn
 
 /// The port, timer or channel end that is named and there.
 fn find(state: &State, name: Resource) -> Option<Res>
-    ensures found { (go : Res → Did EventsOf) → go_where go result ≡ on_evented (state_of state.now) go (meant_by name) }
+    ensures found { (go : Res → Did EventsOf) → go_where go result
+        ≡ on_evented (state_of state.now) go (meant_by name) }
 {
     match name {
         Resource::Port(n) if state.ports.has(n) => Some(Res::Port(n)),
@@ -112,7 +126,8 @@ fn find(state: &State, name: Resource) -> Option<Res>
 pub fn apply(state: &mut State, t: u8, step: EventStep)
     requires there { t < 8 }
     requires room { (thread_at state.old.threads t).pc + 1 < 2 ^ 32 }
-    ensures made { IsMade (event_did (state_of state.old) t (thread_at state.old.threads t) step) (state_of state.new) None }
+    ensures made { IsMade (event_did (state_of state.old) t (thread_at state.old.threads t) step)
+        (state_of state.new) None }
     ensures keeps { Keeps state.old state.new }
 {
     match step {
@@ -128,7 +143,8 @@ pub fn apply(state: &mut State, t: u8, step: EventStep)
 /// The thread takes the resource's event.
 pub fn take(state: &mut State, t: u8, res: Res)
     requires there { t < 8 }
-    ensures made { state_of state.new ≡ event_taken (home_of state.old) (state_of state.old) t (thread_at state.old.threads t) res }
+    ensures made { state_of state.new ≡ event_taken (home_of state.old) (state_of state.old) t
+        (thread_at state.old.threads t) res }
     ensures keeps { Keeps state.old state.new }
 {
     latch(state, res);

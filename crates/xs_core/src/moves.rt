@@ -59,7 +59,8 @@ pub fn go(
     requires room { to ≡ here → HasRoomAlong ends.old moves.now }
     requires spare { length outbox.old.items + length moves.now ≤ outbox.old.capacity }
     ensures ends { ends.new ≡ (goes_by ends.old to tick moves.now (nat_eq to here)).ends }
-    ensures sent { outbox.new.items ≡ outbox.old.items ++ (goes_by ends.old to tick moves.now (nat_eq to here)).sent }
+    ensures sent { outbox.new.items
+        ≡ outbox.old.items ++ (goes_by ends.old to tick moves.now (nat_eq to here)).sent }
     ensures capacity { outbox.new.capacity ≡ outbox.old.capacity }
 {
     if to == here {

@@ -51,7 +51,8 @@ impl Core {
         requires image { Valid image.now }
         requires stim { IsGoodStim stim.now }
         ensures home { IfOk result (λ core. core.home ≡ home_of image.now stim.now number) }
-        ensures state { IfOk result (λ core. core.state ≡ boot_core (parts_in image.now.cores number)) }
+        ensures state { IfOk result
+            (λ core. core.state ≡ boot_core (parts_in image.now.cores number)) }
         ensures outbox { IfOk result (λ core. core.outbox ≡ []) }
         ensures spare { IfOk result (λ core. core.spare ≡ 0) }
     {
@@ -109,10 +110,12 @@ impl Core {
     pub fn slot(&mut self, thread: u8) -> Did
         requires thread { thread < 8 }
         requires spare { 4 ≤ self.old.spare }
-        ensures turn { IsTurn (slot self.old.home self.old.state thread) self.old.home self.old.state thread result self.new.state self.old.outbox self.new.outbox }
+        ensures turn { IsTurn (slot self.old.home self.old.state thread) self.old.home
+            self.old.state thread result self.new.state self.old.outbox self.new.outbox }
         ensures home { self.new.home ≡ self.old.home }
         ensures few { length self.new.outbox ≤ length self.old.outbox + 4 }
-        ensures spare { self.new.spare + length self.new.outbox ≡ self.old.spare + length self.old.outbox }
+        ensures spare { self.new.spare + length self.new.outbox
+            ≡ self.old.spare + length self.old.outbox }
     {
         slots::take(&mut self.state, &mut self.outbox, thread)
     }
@@ -136,10 +139,12 @@ impl Core {
 
     /// Takes what stands first in the outbox, and makes room for one more. `None` exactly where nothing does.
     pub fn take_sent(&mut self) -> Option<Sent>
-        ensures sent { MatchOption result ((self.old.outbox ≡ []) × (self.new.outbox ≡ [])) (λ sent. self.old.outbox ≡ sent ∷ self.new.outbox) }
+        ensures sent { MatchOption result ((self.old.outbox ≡ []) × (self.new.outbox ≡ []))
+            (λ sent. self.old.outbox ≡ sent ∷ self.new.outbox) }
         ensures state { self.new.state ≡ self.old.state }
         ensures home { self.new.home ≡ self.old.home }
-        ensures spare { self.new.spare + length self.new.outbox ≡ self.old.spare + length self.old.outbox }
+        ensures spare { self.new.spare + length self.new.outbox
+            ≡ self.old.spare + length self.old.outbox }
     {
         self.outbox.pop_front()
     }

@@ -36,7 +36,8 @@ pub enum OwnStep {
 /// What an instruction of registers, memory and flow does, or why it traps.
 pub fn step(thread: &Thread, words: &Ram, instr: Instr) -> Result<OwnStep, Trap>
     requires { is_own instr ≡ true }
-    ensures row { own_did (own_in thread.now words.now) result ≡ own_row (own_in thread.now words.now) instr }
+    ensures row { own_did (own_in thread.now words.now) result
+        ≡ own_row (own_in thread.now words.now) instr }
     ensures fits { IfOk result (λ s. OwnFits (own_in thread.now words.now) s) }
 {
     let regs = &thread.regs;
@@ -66,7 +67,8 @@ pub fn step(thread: &Thread, words: &Ram, instr: Instr) -> Result<OwnStep, Trap>
 /// What an instruction does that sets a register to a value.
 fn value(regs: &Regs, instr: Instr) -> OwnStep
     requires { is_value instr ≡ true }
-    ensures row { (own : Own) → own.regs ≡ regs.now → makes (own_after own result) ≡ own_row own instr }
+    ensures row { (own : Own) → own.regs ≡ regs.now → makes (own_after own result)
+        ≡ own_row own instr }
     ensures fits { (own : Own) → OwnFits own result }
 {
     match instr {
@@ -127,7 +129,8 @@ fn jump_where(k: u32, holds: bool) -> OwnStep
 }
 
 fn load(words: &Ram, d: Reg, address: u32) -> Result<OwnStep, Trap>
-    ensures row { (own : Own) → own.words ≡ words.now → own_did own result ≡ loads_at own d address }
+    ensures row { (own : Own) → own.words ≡ words.now → own_did own result
+        ≡ loads_at own d address }
     ensures fits { (own : Own) → IfOk result (λ s. OwnFits own s) }
 {
     match words.read(address) {
@@ -137,7 +140,8 @@ fn load(words: &Ram, d: Reg, address: u32) -> Result<OwnStep, Trap>
 }
 
 fn store(words: &Ram, value: u32, address: u32) -> Result<OwnStep, Trap>
-    ensures row { (own : Own) → own.words ≡ words.now → own_did own result ≡ stores_at own value address }
+    ensures row { (own : Own) → own.words ≡ words.now → own_did own result
+        ≡ stores_at own value address }
     ensures fits { (own : Own) → own.words ≡ words.now → IfOk result (λ s. OwnFits own s) }
 {
     match words.read(address) {
@@ -148,8 +152,10 @@ fn store(words: &Ram, value: u32, address: u32) -> Result<OwnStep, Trap>
 
 /// ENTSP.
 fn enter(regs: &Regs, words: &Ram, n: u32) -> Result<OwnStep, Trap>
-    ensures row { (own : Own) → own.regs ≡ regs.now → own.words ≡ words.now → own_did own result ≡ enters own n }
-    ensures fits { (own : Own) → own.regs ≡ regs.now → own.words ≡ words.now → IfOk result (λ s. OwnFits own s) }
+    ensures row { (own : Own) → own.regs ≡ regs.now → own.words ≡ words.now → own_did own result
+        ≡ enters own n }
+    ensures fits { (own : Own) → own.regs ≡ regs.now → own.words ≡ words.now →
+        IfOk result (λ s. OwnFits own s) }
 {
     if n == 0 {
         return Ok(OwnStep::Pass);
@@ -162,7 +168,8 @@ fn enter(regs: &Regs, words: &Ram, n: u32) -> Result<OwnStep, Trap>
 
 /// RETSP.
 fn go_back(regs: &Regs, words: &Ram, n: u32) -> Result<OwnStep, Trap>
-    ensures row { (own : Own) → own.regs ≡ regs.now → own.words ≡ words.now → own_did own result ≡ returns own n }
+    ensures row { (own : Own) → own.regs ≡ regs.now → own.words ≡ words.now → own_did own result
+        ≡ returns own n }
     ensures fits { (own : Own) → IfOk result (λ s. OwnFits own s) }
 {
     if n == 0 {
@@ -195,7 +202,8 @@ pub fn apply(threads: &mut [Thread; THREADS], words: &mut Ram, t: u8, step: OwnS
     requires fits { OwnFits (own_in (thread_at threads.old t) words.old) step }
     ensures threads { let own = own_after (own_in (thread_at threads.old t) words.old) step in
         threads.new ≡ slice_set threads.old t (with_own (thread_at threads.old t) own) }
-    ensures words { words.new ≡ (own_after (own_in (thread_at threads.old t) words.old) step).words }
+    ensures words { words.new
+        ≡ (own_after (own_in (thread_at threads.old t) words.old) step).words }
 {
     let thread = &mut threads[t as usize];
     let next = thread.pc + 1;

@@ -55,8 +55,10 @@ pub enum PoolStep {
 
 /// FREER on a synchroniser.
 pub fn free_sync(state: &State, n: u32) -> Turn
-    ensures means { (t : ℕ) (x : Thread) → meant (home_of state.now) (state_of state.now) t x result ≡ free_row (state_of state.now) t x (ASync n) }
-    ensures steps { (t : ℕ) (x : Thread) → is_step (meant (home_of state.now) (state_of state.now) t x result) ≡ steps result }
+    ensures means { (t : ℕ) (x : Thread) → meant (home_of state.now) (state_of state.now) t x result
+        ≡ free_row (state_of state.now) t x (ASync n) }
+    ensures steps { (t : ℕ) (x : Thread) →
+        is_step (meant (home_of state.now) (state_of state.now) t x result) ≡ steps result }
     ensures fits { (t : ℕ) (x : Thread) → Fits (home_of state.now) (state_of state.now) t x result }
 {
     if state.pool.has(PoolKind::Sync, n) && !is_some_tied(&state.threads, n as u8) {
@@ -68,8 +70,10 @@ pub fn free_sync(state: &State, n: u32) -> Turn
 
 /// FREER on a lock.
 pub fn free_lock(state: &State, n: u32) -> Turn
-    ensures means { (t : ℕ) (x : Thread) → meant (home_of state.now) (state_of state.now) t x result ≡ free_row (state_of state.now) t x (ALock n) }
-    ensures steps { (t : ℕ) (x : Thread) → is_step (meant (home_of state.now) (state_of state.now) t x result) ≡ steps result }
+    ensures means { (t : ℕ) (x : Thread) → meant (home_of state.now) (state_of state.now) t x result
+        ≡ free_row (state_of state.now) t x (ALock n) }
+    ensures steps { (t : ℕ) (x : Thread) →
+        is_step (meant (home_of state.now) (state_of state.now) t x result) ≡ steps result }
     ensures fits { (t : ℕ) (x : Thread) → Fits (home_of state.now) (state_of state.now) t x result }
 {
     let Some(lock) = state.locks.get(n as usize) else {
@@ -84,8 +88,11 @@ pub fn free_lock(state: &State, n: u32) -> Turn
 
 /// GETST.
 pub fn get_thread(state: &State, d: Reg, name: Resource) -> Turn
-    ensures means { (t : ℕ) (x : Thread) → meant (home_of state.now) (state_of state.now) t x result ≡ told (gets_with put_threads (state_of state.now) t x d) (on_sync (state_of state.now) (thread_got (home_of state.now).number (state_of state.now).threads) (meant_by name)) }
-    ensures steps { (t : ℕ) (x : Thread) → is_step (meant (home_of state.now) (state_of state.now) t x result) ≡ steps result }
+    ensures means { (t : ℕ) (x : Thread) → meant (home_of state.now) (state_of state.now) t x result
+        ≡ told (gets_with put_threads (state_of state.now) t x d) (on_sync (state_of state.now)
+        (thread_got (home_of state.now).number (state_of state.now).threads) (meant_by name)) }
+    ensures steps { (t : ℕ) (x : Thread) →
+        is_step (meant (home_of state.now) (state_of state.now) t x result) ≡ steps result }
     ensures fits { (t : ℕ) (x : Thread) → Fits (home_of state.now) (state_of state.now) t x result }
 {
     let Resource::Sync(n) = name else {
@@ -100,8 +107,11 @@ pub fn get_thread(state: &State, d: Reg, name: Resource) -> Turn
 
 /// TINITPC.
 pub fn set_pc(state: &State, name: Resource, k: u32) -> Turn
-    ensures means { (t : ℕ) (x : Thread) → meant (home_of state.now) (state_of state.now) t x result ≡ told (goes_with put_threads (state_of state.now) t x) (on_thread (state_of state.now) (prepared (with_pc k) (state_of state.now).threads) (meant_by name)) }
-    ensures steps { (t : ℕ) (x : Thread) → is_step (meant (home_of state.now) (state_of state.now) t x result) ≡ steps result }
+    ensures means { (t : ℕ) (x : Thread) → meant (home_of state.now) (state_of state.now) t x result
+        ≡ told (goes_with put_threads (state_of state.now) t x) (on_thread (state_of state.now)
+        (prepared (with_pc k) (state_of state.now).threads) (meant_by name)) }
+    ensures steps { (t : ℕ) (x : Thread) →
+        is_step (meant (home_of state.now) (state_of state.now) t x result) ≡ steps result }
     ensures fits { (t : ℕ) (x : Thread) → Fits (home_of state.now) (state_of state.now) t x result }
 {
     let Resource::Thread(n) = name else {
@@ -116,8 +126,11 @@ pub fn set_pc(state: &State, name: Resource, k: u32) -> Turn
 
 /// TINITDP and TINITSP.
 pub fn set_reg(state: &State, name: Resource, r: Reg, value: u32) -> Turn
-    ensures means { (t : ℕ) (x : Thread) → meant (home_of state.now) (state_of state.now) t x result ≡ told (goes_with put_threads (state_of state.now) t x) (on_thread (state_of state.now) (prepared (with_reg r value) (state_of state.now).threads) (meant_by name)) }
-    ensures steps { (t : ℕ) (x : Thread) → is_step (meant (home_of state.now) (state_of state.now) t x result) ≡ steps result }
+    ensures means { (t : ℕ) (x : Thread) → meant (home_of state.now) (state_of state.now) t x result
+        ≡ told (goes_with put_threads (state_of state.now) t x) (on_thread (state_of state.now)
+        (prepared (with_reg r value) (state_of state.now).threads) (meant_by name)) }
+    ensures steps { (t : ℕ) (x : Thread) →
+        is_step (meant (home_of state.now) (state_of state.now) t x result) ≡ steps result }
     ensures fits { (t : ℕ) (x : Thread) → Fits (home_of state.now) (state_of state.now) t x result }
 {
     let Resource::Thread(n) = name else {
@@ -132,8 +145,11 @@ pub fn set_reg(state: &State, name: Resource, r: Reg, value: u32) -> Turn
 
 /// MSYNC.
 pub fn start(state: &State, name: Resource) -> Turn
-    ensures means { (t : ℕ) (x : Thread) → meant (home_of state.now) (state_of state.now) t x result ≡ told (goes_with put_threads (state_of state.now) t x) (on_sync (state_of state.now) (synced (state_of state.now).threads) (meant_by name)) }
-    ensures steps { (t : ℕ) (x : Thread) → is_step (meant (home_of state.now) (state_of state.now) t x result) ≡ steps result }
+    ensures means { (t : ℕ) (x : Thread) → meant (home_of state.now) (state_of state.now) t x result
+        ≡ told (goes_with put_threads (state_of state.now) t x)
+        (on_sync (state_of state.now) (synced (state_of state.now).threads) (meant_by name)) }
+    ensures steps { (t : ℕ) (x : Thread) →
+        is_step (meant (home_of state.now) (state_of state.now) t x result) ≡ steps result }
     ensures fits { (t : ℕ) (x : Thread) → Fits (home_of state.now) (state_of state.now) t x result }
 {
     let Resource::Sync(n) = name else {
@@ -151,8 +167,11 @@ pub fn start(state: &State, name: Resource) -> Turn
 
 /// MJOIN.
 pub fn join(state: &State, name: Resource) -> Turn
-    ensures means { (t : ℕ) (x : Thread) → meant (home_of state.now) (state_of state.now) t x result ≡ told (goes_with put_threads (state_of state.now) t x) (on_sync (state_of state.now) (joined (state_of state.now).threads) (meant_by name)) }
-    ensures steps { (t : ℕ) (x : Thread) → is_step (meant (home_of state.now) (state_of state.now) t x result) ≡ steps result }
+    ensures means { (t : ℕ) (x : Thread) → meant (home_of state.now) (state_of state.now) t x result
+        ≡ told (goes_with put_threads (state_of state.now) t x)
+        (on_sync (state_of state.now) (joined (state_of state.now).threads) (meant_by name)) }
+    ensures steps { (t : ℕ) (x : Thread) →
+        is_step (meant (home_of state.now) (state_of state.now) t x result) ≡ steps result }
     ensures fits { (t : ℕ) (x : Thread) → Fits (home_of state.now) (state_of state.now) t x result }
 {
     let Resource::Sync(n) = name else {
@@ -170,8 +189,10 @@ pub fn join(state: &State, name: Resource) -> Turn
 
 /// SSYNC.
 pub fn wait(thread: &Thread) -> Turn
-    ensures means { (home : Home) (core : CoreState) (t : ℕ) → meant home core t thread.now result ≡ wait_row core t thread.now thread.now.tie }
-    ensures steps { (home : Home) (core : CoreState) (t : ℕ) → is_step (meant home core t thread.now result) ≡ steps result }
+    ensures means { (home : Home) (core : CoreState) (t : ℕ) → meant home core t thread.now result
+        ≡ wait_row core t thread.now thread.now.tie }
+    ensures steps { (home : Home) (core : CoreState) (t : ℕ) →
+        is_step (meant home core t thread.now result) ≡ steps result }
     ensures fits { (home : Home) (core : CoreState) (t : ℕ) → Fits home core t thread.now result }
 {
     match thread.tie {
@@ -182,8 +203,10 @@ pub fn wait(thread: &Thread) -> Turn
 
 /// FREET.
 pub fn end(thread: &Thread) -> Turn
-    ensures means { (home : Home) (core : CoreState) (t : ℕ) → meant home core t thread.now result ≡ end_row core t thread.now thread.now.tie }
-    ensures steps { (home : Home) (core : CoreState) (t : ℕ) → is_step (meant home core t thread.now result) ≡ steps result }
+    ensures means { (home : Home) (core : CoreState) (t : ℕ) → meant home core t thread.now result
+        ≡ end_row core t thread.now thread.now.tie }
+    ensures steps { (home : Home) (core : CoreState) (t : ℕ) →
+        is_step (meant home core t thread.now result) ≡ steps result }
     ensures fits { (home : Home) (core : CoreState) (t : ℕ) → Fits home core t thread.now result }
 {
     match thread.tie {
@@ -194,8 +217,10 @@ pub fn end(thread: &Thread) -> Turn
 
 /// IN on a lock.
 pub fn hold(state: &State, d: Reg, n: u32, name: u32) -> Turn
-    ensures means { (t : ℕ) (x : Thread) → meant (home_of state.now) (state_of state.now) t x result ≡ in_row (home_of state.now) (state_of state.now) t x d name (ALock n) }
-    ensures steps { (t : ℕ) (x : Thread) → is_step (meant (home_of state.now) (state_of state.now) t x result) ≡ steps result }
+    ensures means { (t : ℕ) (x : Thread) → meant (home_of state.now) (state_of state.now) t x result
+        ≡ in_row (home_of state.now) (state_of state.now) t x d name (ALock n) }
+    ensures steps { (t : ℕ) (x : Thread) →
+        is_step (meant (home_of state.now) (state_of state.now) t x result) ≡ steps result }
     ensures fits { (t : ℕ) (x : Thread) → Fits (home_of state.now) (state_of state.now) t x result }
 {
     let Some(lock) = state.locks.get(n as usize) else {
@@ -212,8 +237,10 @@ pub fn hold(state: &State, d: Reg, n: u32, name: u32) -> Turn
 
 /// OUT on a lock.
 pub fn give_back(state: &State, t: u8, n: u32) -> Turn
-    ensures means { (value : ℕ) (x : Thread) → meant (home_of state.now) (state_of state.now) t x result ≡ out_row (home_of state.now) (state_of state.now) t x value (ALock n) }
-    ensures steps { (x : Thread) → is_step (meant (home_of state.now) (state_of state.now) t x result) ≡ steps result }
+    ensures means { (value : ℕ) (x : Thread) → meant (home_of state.now) (state_of state.now) t x
+        result ≡ out_row (home_of state.now) (state_of state.now) t x value (ALock n) }
+    ensures steps { (x : Thread) →
+        is_step (meant (home_of state.now) (state_of state.now) t x result) ≡ steps result }
     ensures fits { (x : Thread) → Fits (home_of state.now) (state_of state.now) t x result }
 {
     let Some(lock) = state.locks.get(n as usize) else {
@@ -253,7 +280,8 @@ fn do_all_wait(threads: &[Thread], n: u8) -> bool
 /// Whether the thread of that number is there and waits.
 fn waits(state: &State, n: u32) -> bool
     ensures there { OnTrue result (IsWaiting (state_of state.now) n) }
-    ensures row { (change : Thread → Thread) → OnFalse result (on_thread (state_of state.now) (prepared change state.now.threads) (AThread n) ≡ Traps NoResource) }
+    ensures row { (change : Thread → Thread) → OnFalse result (on_thread (state_of state.now)
+        (prepared change state.now.threads) (AThread n) ≡ Traps NoResource) }
 {
     match state.threads.get(n as usize) {
         None => false,
@@ -266,7 +294,8 @@ pub fn apply(state: &mut State, t: u8, step: PoolStep)
     requires there { t < 8 }
     requires room { (thread_at state.old.threads t).pc + 1 < 2 ^ 32 }
     requires fits { PoolFits (state_of state.old) t (thread_at state.old.threads t) step }
-    ensures made { IsMade (pool_did (home_of state.old) (state_of state.old) t (thread_at state.old.threads t) step) (state_of state.new) None }
+    ensures made { IsMade (pool_did (home_of state.old) (state_of state.old) t
+        (thread_at state.old.threads t) step) (state_of state.new) None }
     ensures keeps { Keeps state.old state.new }
 {
     let thread = state.threads[t as usize];
@@ -339,7 +368,8 @@ fn unheld(taken: bool) -> Lock
 
 /// Takes the least free synchroniser, and gives its name, or 0 where none is free.
 fn take_sync(pool: &mut Pool, core: u8) -> u32
-    ensures name { record { left = pool.new.syncs; value = result } ≡ sync_got core pool.old.syncs (first_free pool.old.syncs 0) }
+    ensures name { record { left = pool.new.syncs; value = result }
+        ≡ sync_got core pool.old.syncs (first_free pool.old.syncs 0) }
 {
     match pool.get(PoolKind::Sync) {
         None => 0,
@@ -349,7 +379,8 @@ fn take_sync(pool: &mut Pool, core: u8) -> u32
 
 /// Takes the least free lock, and gives its name, or 0 where none is free.
 fn take_lock(locks: &mut [Lock; LOCKS], core: u8) -> u32
-    ensures name { record { left = locks.new; value = result } ≡ lock_got core locks.old (first_free (locks_taken locks.old) 0) }
+    ensures name { record { left = locks.new; value = result }
+        ≡ lock_got core locks.old (first_free (locks_taken locks.old) 0) }
 {
     match first_lock(&*locks) {
         None => 0,
@@ -376,7 +407,8 @@ fn first_lock(locks: &[Lock]) -> Option<u8>
 
 /// Ties the least unused thread to the synchroniser, and gives its name, or 0 where none is unused.
 fn take_thread(threads: &mut [Thread; THREADS], core: u8, n: u8) -> u32
-    ensures name { record { left = threads.new; value = result } ≡ thread_got_by core threads.old n (first_free (threads_taken threads.old) 0) }
+    ensures name { record { left = threads.new; value = result }
+        ≡ thread_got_by core threads.old n (first_free (threads_taken threads.old) 0) }
 {
     match first_unused(&*threads) {
         None => 0,

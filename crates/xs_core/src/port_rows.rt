@@ -42,8 +42,10 @@ pub enum PortStep {
 
 /// OUT on a port.
 pub fn drive(state: &State, p: u32, value: u32) -> Turn
-    ensures means { (t : ℕ) (x : Thread) → meant (home_of state.now) (state_of state.now) t x result ≡ out_row (home_of state.now) (state_of state.now) t x value (APort p) }
-    ensures steps { (t : ℕ) (x : Thread) → is_step (meant (home_of state.now) (state_of state.now) t x result) ≡ steps result }
+    ensures means { (t : ℕ) (x : Thread) → meant (home_of state.now) (state_of state.now) t x result
+        ≡ out_row (home_of state.now) (state_of state.now) t x value (APort p) }
+    ensures steps { (t : ℕ) (x : Thread) →
+        is_step (meant (home_of state.now) (state_of state.now) t x result) ≡ steps result }
     ensures fits { (t : ℕ) (x : Thread) → Fits (home_of state.now) (state_of state.now) t x result }
 {
     if !state.ports.has(p) || !sends(state.ports.decl(p).dir) {
@@ -58,8 +60,10 @@ pub fn drive(state: &State, p: u32, value: u32) -> Turn
 
 /// IN on a port.
 pub fn read_port(state: &State, d: Reg, p: u32) -> Turn
-    ensures means { (t name : ℕ) (x : Thread) → meant (home_of state.now) (state_of state.now) t x result ≡ in_row (home_of state.now) (state_of state.now) t x d name (APort p) }
-    ensures steps { (t : ℕ) (x : Thread) → is_step (meant (home_of state.now) (state_of state.now) t x result) ≡ steps result }
+    ensures means { (t name : ℕ) (x : Thread) → meant (home_of state.now) (state_of state.now) t x
+        result ≡ in_row (home_of state.now) (state_of state.now) t x d name (APort p) }
+    ensures steps { (t : ℕ) (x : Thread) →
+        is_step (meant (home_of state.now) (state_of state.now) t x result) ≡ steps result }
     ensures fits { (t : ℕ) (x : Thread) → Fits (home_of state.now) (state_of state.now) t x result }
 {
     if !state.ports.has(p) || !receives(state.ports.decl(p).dir) {
@@ -74,8 +78,10 @@ pub fn read_port(state: &State, d: Reg, p: u32) -> Turn
 
 /// IN on a timer.
 pub fn read_clock(state: &State, d: Reg, n: u32) -> Turn
-    ensures means { (t name : ℕ) (x : Thread) → meant (home_of state.now) (state_of state.now) t x result ≡ in_row (home_of state.now) (state_of state.now) t x d name (ATimer n) }
-    ensures steps { (t : ℕ) (x : Thread) → is_step (meant (home_of state.now) (state_of state.now) t x result) ≡ steps result }
+    ensures means { (t name : ℕ) (x : Thread) → meant (home_of state.now) (state_of state.now) t x
+        result ≡ in_row (home_of state.now) (state_of state.now) t x d name (ATimer n) }
+    ensures steps { (t : ℕ) (x : Thread) →
+        is_step (meant (home_of state.now) (state_of state.now) t x result) ≡ steps result }
     ensures fits { (t : ℕ) (x : Thread) → Fits (home_of state.now) (state_of state.now) t x result }
 {
     let Some(timer) = state.timers.get(n as usize) else {
@@ -90,8 +96,10 @@ pub fn read_clock(state: &State, d: Reg, n: u32) -> Turn
 
 /// SETC on a port.
 pub fn set_port_cond(state: &State, p: u32, cond: Cond) -> Turn
-    ensures means { (t : ℕ) (x : Thread) → meant (home_of state.now) (state_of state.now) t x result ≡ cond_row (state_of state.now) t x cond (APort p) }
-    ensures steps { (t : ℕ) (x : Thread) → is_step (meant (home_of state.now) (state_of state.now) t x result) ≡ steps result }
+    ensures means { (t : ℕ) (x : Thread) → meant (home_of state.now) (state_of state.now) t x result
+        ≡ cond_row (state_of state.now) t x cond (APort p) }
+    ensures steps { (t : ℕ) (x : Thread) →
+        is_step (meant (home_of state.now) (state_of state.now) t x result) ≡ steps result }
     ensures fits { (t : ℕ) (x : Thread) → Fits (home_of state.now) (state_of state.now) t x result }
 {
     if state.ports.has(p) && cond != Cond::After {
@@ -103,8 +111,10 @@ pub fn set_port_cond(state: &State, p: u32, cond: Cond) -> Turn
 
 /// SETC on a timer.
 pub fn set_timer_cond(state: &State, n: u32, cond: Cond) -> Turn
-    ensures means { (t : ℕ) (x : Thread) → meant (home_of state.now) (state_of state.now) t x result ≡ cond_row (state_of state.now) t x cond (ATimer n) }
-    ensures steps { (t : ℕ) (x : Thread) → is_step (meant (home_of state.now) (state_of state.now) t x result) ≡ steps result }
+    ensures means { (t : ℕ) (x : Thread) → meant (home_of state.now) (state_of state.now) t x result
+        ≡ cond_row (state_of state.now) t x cond (ATimer n) }
+    ensures steps { (t : ℕ) (x : Thread) →
+        is_step (meant (home_of state.now) (state_of state.now) t x result) ≡ steps result }
     ensures fits { (t : ℕ) (x : Thread) → Fits (home_of state.now) (state_of state.now) t x result }
 {
     if state.timers.get(n as usize).is_none() {
@@ -118,8 +128,10 @@ pub fn set_timer_cond(state: &State, n: u32, cond: Cond) -> Turn
 
 /// SETD on a port.
 pub fn set_port_data(state: &State, p: u32, value: u32) -> Turn
-    ensures means { (t : ℕ) (x : Thread) → meant (home_of state.now) (state_of state.now) t x result ≡ data_row (state_of state.now) t x value (APort p) }
-    ensures steps { (t : ℕ) (x : Thread) → is_step (meant (home_of state.now) (state_of state.now) t x result) ≡ steps result }
+    ensures means { (t : ℕ) (x : Thread) → meant (home_of state.now) (state_of state.now) t x result
+        ≡ data_row (state_of state.now) t x value (APort p) }
+    ensures steps { (t : ℕ) (x : Thread) →
+        is_step (meant (home_of state.now) (state_of state.now) t x result) ≡ steps result }
     ensures fits { (t : ℕ) (x : Thread) → Fits (home_of state.now) (state_of state.now) t x result }
 {
     if state.ports.has(p) {
@@ -131,8 +143,10 @@ pub fn set_port_data(state: &State, p: u32, value: u32) -> Turn
 
 /// SETD on a timer.
 pub fn set_timer_data(state: &State, n: u32, value: u32) -> Turn
-    ensures means { (t : ℕ) (x : Thread) → meant (home_of state.now) (state_of state.now) t x result ≡ data_row (state_of state.now) t x value (ATimer n) }
-    ensures steps { (t : ℕ) (x : Thread) → is_step (meant (home_of state.now) (state_of state.now) t x result) ≡ steps result }
+    ensures means { (t : ℕ) (x : Thread) → meant (home_of state.now) (state_of state.now) t x result
+        ≡ data_row (state_of state.now) t x value (ATimer n) }
+    ensures steps { (t : ℕ) (x : Thread) →
+        is_step (meant (home_of state.now) (state_of state.now) t x result) ≡ steps result }
     ensures fits { (t : ℕ) (x : Thread) → Fits (home_of state.now) (state_of state.now) t x result }
 {
     if state.timers.get(n as usize).is_some() {
@@ -144,8 +158,11 @@ pub fn set_timer_data(state: &State, n: u32, value: u32) -> Turn
 
 /// SETPT on a port.
 pub fn set_time(state: &State, name: Resource, value: u32) -> Turn
-    ensures means { (t : ℕ) (x : Thread) → meant (home_of state.now) (state_of state.now) t x result ≡ told (goes_with put_ports (state_of state.now) t x) (on_port (state_of state.now) (port_time_set value (state_of state.now).ports) (meant_by name)) }
-    ensures steps { (t : ℕ) (x : Thread) → is_step (meant (home_of state.now) (state_of state.now) t x result) ≡ steps result }
+    ensures means { (t : ℕ) (x : Thread) → meant (home_of state.now) (state_of state.now) t x result
+        ≡ told (goes_with put_ports (state_of state.now) t x) (on_port (state_of state.now)
+        (port_time_set value (state_of state.now).ports) (meant_by name)) }
+    ensures steps { (t : ℕ) (x : Thread) →
+        is_step (meant (home_of state.now) (state_of state.now) t x result) ≡ steps result }
     ensures fits { (t : ℕ) (x : Thread) → Fits (home_of state.now) (state_of state.now) t x result }
 {
     let Resource::Port(p) = name else {
@@ -160,8 +177,11 @@ pub fn set_time(state: &State, name: Resource, value: u32) -> Turn
 
 /// GETTS on a port.
 pub fn stamp(state: &State, d: Reg, name: Resource) -> Turn
-    ensures means { (t : ℕ) (x : Thread) → meant (home_of state.now) (state_of state.now) t x result ≡ told (gets_with put_ports (state_of state.now) t x d) (on_port (state_of state.now) (port_stamp (state_of state.now).ports) (meant_by name)) }
-    ensures steps { (t : ℕ) (x : Thread) → is_step (meant (home_of state.now) (state_of state.now) t x result) ≡ steps result }
+    ensures means { (t : ℕ) (x : Thread) → meant (home_of state.now) (state_of state.now) t x result
+        ≡ told (gets_with put_ports (state_of state.now) t x d)
+        (on_port (state_of state.now) (port_stamp (state_of state.now).ports) (meant_by name)) }
+    ensures steps { (t : ℕ) (x : Thread) →
+        is_step (meant (home_of state.now) (state_of state.now) t x result) ≡ steps result }
     ensures fits { (t : ℕ) (x : Thread) → Fits (home_of state.now) (state_of state.now) t x result }
 {
     let Resource::Port(p) = name else {
@@ -208,7 +228,8 @@ pub fn apply(state: &mut State, t: u8, step: PortStep) -> Option<Record>
     requires there { t < 8 }
     requires room { (thread_at state.old.threads t).pc + 1 < 2 ^ 32 }
     requires fits { PortFits (home_of state.old) (state_of state.old) step }
-    ensures made { IsMade (port_did (home_of state.old) (state_of state.old) t (thread_at state.old.threads t) step) (state_of state.new) result }
+    ensures made { IsMade (port_did (home_of state.old) (state_of state.old) t
+        (thread_at state.old.threads t) step) (state_of state.new) result }
     ensures keeps { Keeps state.old state.new }
 {
     match step {

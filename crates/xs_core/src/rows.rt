@@ -23,8 +23,10 @@ use xs_instr::{Cond, GetKind, Instr, Reg, Thread, Token, Trap};
 /// What comes of a thread's instruction.
 pub fn row(state: &State, t: u8, thread: &Thread, instr: Instr) -> Turn
     requires { HasByte instr }
-    ensures means { meant (home_of state.now) (state_of state.now) t thread.now result ≡ row_of (home_of state.now) (state_of state.now) t thread.now instr }
-    ensures steps { is_step (meant (home_of state.now) (state_of state.now) t thread.now result) ≡ steps result }
+    ensures means { meant (home_of state.now) (state_of state.now) t thread.now result
+        ≡ row_of (home_of state.now) (state_of state.now) t thread.now instr }
+    ensures steps { is_step (meant (home_of state.now) (state_of state.now) t thread.now result)
+        ≡ steps result }
     ensures fits { Fits (home_of state.now) (state_of state.now) t thread.now result }
 {
     let regs = &thread.regs;
@@ -46,7 +48,11 @@ pub fn row(state: &State, t: u8, thread: &Thread, instr: Instr) -> Turn
         Instr::Freet => pool_rows::end(thread),
         Instr::Out(r, s) => out(state, t, look_up(core, read(regs, r)), read(regs, s)),
         Instr::Outt(r, s) => {
-            end_rows::send_token(state, look_up(core, read(regs, r)), data_token(read(regs, s)))
+            end_rows::send_token(
+                state,
+                look_up(core, read(regs, r)),
+                data_token(read(regs, s)),
+            )
         }
         Instr::Outct(r, n) => {
             end_rows::send_token(state, look_up(core, read(regs, r)), control_token(n))
@@ -56,7 +62,11 @@ pub fn row(state: &State, t: u8, thread: &Thread, instr: Instr) -> Turn
         Instr::Chkct(r, n) => end_rows::take_control(state, look_up(core, read(regs, r)), n as u8),
         Instr::Setc(r, cond) => set_cond(state, look_up(core, read(regs, r)), cond),
         Instr::Setd(r, s) => set_data(state, look_up(core, read(regs, r)), read(regs, s)),
-        Instr::Setpt(r, s) => port_rows::set_time(state, look_up(core, read(regs, r)), read(regs, s)),
+        Instr::Setpt(r, s) => port_rows::set_time(
+            state,
+            look_up(core, read(regs, r)),
+            read(regs, s),
+        ),
         Instr::Getts(d, r) => port_rows::stamp(state, d, look_up(core, read(regs, r))),
         Instr::Setv(r, k) => event_rows::set_vector(state, look_up(core, read(regs, r)), k),
         Instr::Eeu(r) => event_rows::enable(state, look_up(core, read(regs, r))),
@@ -72,8 +82,10 @@ pub fn row(state: &State, t: u8, thread: &Thread, instr: Instr) -> Turn
 /// A row of registers, memory or flow.
 fn own(state: &State, thread: &Thread, instr: Instr) -> Turn
     requires { is_own instr ≡ true }
-    ensures means { (t : ℕ) → meant (home_of state.now) (state_of state.now) t thread.now result ≡ row_of (home_of state.now) (state_of state.now) t thread.now instr }
-    ensures steps { (t : ℕ) → is_step (meant (home_of state.now) (state_of state.now) t thread.now result) ≡ steps result }
+    ensures means { (t : ℕ) → meant (home_of state.now) (state_of state.now) t thread.now result
+        ≡ row_of (home_of state.now) (state_of state.now) t thread.now instr }
+    ensures steps { (t : ℕ) → is_step
+        (meant (home_of state.now) (state_of state.now) t thread.now result) ≡ steps result }
     ensures fits { (t : ℕ) → Fits (home_of state.now) (state_of state.now) t thread.now result }
 {
     match own_rows::step(thread, &state.words, instr) {
@@ -84,9 +96,12 @@ fn own(state: &State, thread: &Thread, instr: Instr) -> Turn
 
 /// GETR.
 fn get(d: Reg, kind: GetKind) -> Turn
-    ensures means { (home : Home) (core : CoreState) (t : ℕ) (x : Thread) → meant home core t x result ≡ get_row home core t x d kind }
-    ensures steps { (home : Home) (core : CoreState) (t : ℕ) (x : Thread) → is_step (meant home core t x result) ≡ steps result }
-    ensures fits { (home : Home) (core : CoreState) (t : ℕ) (x : Thread) → Fits home core t x result }
+    ensures means { (home : Home) (core : CoreState) (t : ℕ) (x : Thread) →
+        meant home core t x result ≡ get_row home core t x d kind }
+    ensures steps { (home : Home) (core : CoreState) (t : ℕ) (x : Thread) →
+        is_step (meant home core t x result) ≡ steps result }
+    ensures fits { (home : Home) (core : CoreState) (t : ℕ) (x : Thread) →
+        Fits home core t x result }
 {
     match kind {
         GetKind::Sync => Turn::Pool(PoolStep::GetSync(d)),
@@ -96,8 +111,10 @@ fn get(d: Reg, kind: GetKind) -> Turn
 
 /// FREER, by what is named.
 fn free(state: &State, name: Resource) -> Turn
-    ensures means { (t : ℕ) (x : Thread) → meant (home_of state.now) (state_of state.now) t x result ≡ free_row (state_of state.now) t x (meant_by name) }
-    ensures steps { (t : ℕ) (x : Thread) → is_step (meant (home_of state.now) (state_of state.now) t x result) ≡ steps result }
+    ensures means { (t : ℕ) (x : Thread) → meant (home_of state.now) (state_of state.now) t x result
+        ≡ free_row (state_of state.now) t x (meant_by name) }
+    ensures steps { (t : ℕ) (x : Thread) →
+        is_step (meant (home_of state.now) (state_of state.now) t x result) ≡ steps result }
     ensures fits { (t : ℕ) (x : Thread) → Fits (home_of state.now) (state_of state.now) t x result }
 {
     match name {
@@ -109,8 +126,10 @@ fn free(state: &State, name: Resource) -> Turn
 
 /// OUT, by what is named.
 fn out(state: &State, t: u8, name: Resource, value: u32) -> Turn
-    ensures means { (x : Thread) → meant (home_of state.now) (state_of state.now) t x result ≡ out_row (home_of state.now) (state_of state.now) t x value (meant_by name) }
-    ensures steps { (x : Thread) → is_step (meant (home_of state.now) (state_of state.now) t x result) ≡ steps result }
+    ensures means { (x : Thread) → meant (home_of state.now) (state_of state.now) t x result
+        ≡ out_row (home_of state.now) (state_of state.now) t x value (meant_by name) }
+    ensures steps { (x : Thread) →
+        is_step (meant (home_of state.now) (state_of state.now) t x result) ≡ steps result }
     ensures fits { (x : Thread) → Fits (home_of state.now) (state_of state.now) t x result }
 {
     match name {
@@ -123,8 +142,10 @@ fn out(state: &State, t: u8, name: Resource, value: u32) -> Turn
 
 /// IN, by what is named.
 fn input(state: &State, d: Reg, name: Resource, identifier: u32) -> Turn
-    ensures means { (t : ℕ) (x : Thread) → meant (home_of state.now) (state_of state.now) t x result ≡ in_row (home_of state.now) (state_of state.now) t x d identifier (meant_by name) }
-    ensures steps { (t : ℕ) (x : Thread) → is_step (meant (home_of state.now) (state_of state.now) t x result) ≡ steps result }
+    ensures means { (t : ℕ) (x : Thread) → meant (home_of state.now) (state_of state.now) t x result
+        ≡ in_row (home_of state.now) (state_of state.now) t x d identifier (meant_by name) }
+    ensures steps { (t : ℕ) (x : Thread) →
+        is_step (meant (home_of state.now) (state_of state.now) t x result) ≡ steps result }
     ensures fits { (t : ℕ) (x : Thread) → Fits (home_of state.now) (state_of state.now) t x result }
 {
     match name {
@@ -138,8 +159,10 @@ fn input(state: &State, d: Reg, name: Resource, identifier: u32) -> Turn
 
 /// SETC, by what is named.
 fn set_cond(state: &State, name: Resource, cond: Cond) -> Turn
-    ensures means { (t : ℕ) (x : Thread) → meant (home_of state.now) (state_of state.now) t x result ≡ cond_row (state_of state.now) t x cond (meant_by name) }
-    ensures steps { (t : ℕ) (x : Thread) → is_step (meant (home_of state.now) (state_of state.now) t x result) ≡ steps result }
+    ensures means { (t : ℕ) (x : Thread) → meant (home_of state.now) (state_of state.now) t x result
+        ≡ cond_row (state_of state.now) t x cond (meant_by name) }
+    ensures steps { (t : ℕ) (x : Thread) →
+        is_step (meant (home_of state.now) (state_of state.now) t x result) ≡ steps result }
     ensures fits { (t : ℕ) (x : Thread) → Fits (home_of state.now) (state_of state.now) t x result }
 {
     match name {
@@ -151,8 +174,10 @@ fn set_cond(state: &State, name: Resource, cond: Cond) -> Turn
 
 /// SETD, by what is named.
 fn set_data(state: &State, name: Resource, value: u32) -> Turn
-    ensures means { (t : ℕ) (x : Thread) → meant (home_of state.now) (state_of state.now) t x result ≡ data_row (state_of state.now) t x value (meant_by name) }
-    ensures steps { (t : ℕ) (x : Thread) → is_step (meant (home_of state.now) (state_of state.now) t x result) ≡ steps result }
+    ensures means { (t : ℕ) (x : Thread) → meant (home_of state.now) (state_of state.now) t x result
+        ≡ data_row (state_of state.now) t x value (meant_by name) }
+    ensures steps { (t : ℕ) (x : Thread) →
+        is_step (meant (home_of state.now) (state_of state.now) t x result) ≡ steps result }
     ensures fits { (t : ℕ) (x : Thread) → Fits (home_of state.now) (state_of state.now) t x result }
 {
     match name {

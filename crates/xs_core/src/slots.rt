@@ -22,9 +22,11 @@ use xw_words::Pos;
 pub fn decide(state: &State, t: u8) -> Turn
     requires there { t < 8 }
     requires order { IsInOrder state.now }
-    ensures means { meant (home_of state.now) (state_of state.now) t (thread_at state.now.threads t) result ≡ slot (home_of state.now) (state_of state.now) t }
+    ensures means { meant (home_of state.now) (state_of state.now) t
+        (thread_at state.now.threads t) result ≡ slot (home_of state.now) (state_of state.now) t }
     ensures steps { steps result ≡ is_ready (home_of state.now) (state_of state.now) t }
-    ensures fits { Fits (home_of state.now) (state_of state.now) t (thread_at state.now.threads t) result }
+    ensures fits { Fits (home_of state.now) (state_of state.now) t
+        (thread_at state.now.threads t) result }
     ensures room { MayGoOn (thread_at state.now.threads t).pc result }
 {
     let thread = &state.threads[t as usize];
@@ -38,12 +40,21 @@ pub fn decide(state: &State, t: u8) -> Turn
 /// What comes of the turn of a running thread: an event, where it takes events and one is there, else its instruction.
 fn run(state: &State, t: u8, thread: &Thread) -> Turn
     requires order { IsInOrder state.now }
-    ensures means { meant (home_of state.now) (state_of state.now) t thread.now result ≡ runs_on (home_of state.now) (state_of state.now) t thread.now (instr_at (home_of state.now) thread.now.pc) }
-    ensures steps { is_step (meant (home_of state.now) (state_of state.now) t thread.now result) ≡ steps result }
+    ensures means { meant (home_of state.now) (state_of state.now) t thread.now result
+        ≡ runs_on (home_of state.now) (state_of state.now) t thread.now
+        (instr_at (home_of state.now) thread.now.pc) }
+    ensures steps { is_step (meant (home_of state.now) (state_of state.now) t thread.now result)
+        ≡ steps result }
     ensures fits { Fits (home_of state.now) (state_of state.now) t thread.now result }
     ensures room { MayGoOn thread.now.pc result }
 {
-    let instr = state.fixed.parts.code.instrs.get(thread.pc as usize).copied();
+    let instr = state
+        .fixed
+        .parts
+        .code
+        .instrs
+        .get(thread.pc as usize)
+        .copied();
     if takes_events(thread, instr) {
         if let Some(res) = pick(state, t) {
             return Turn::Take(res);
@@ -70,7 +81,8 @@ pub fn take(state: &mut State, outbox: &mut HeapCircularBuffer<Sent>, t: u8) -> 
     requires there { t < 8 }
     requires order { IsInOrder state.old }
     requires spare { length outbox.old.items + 4 ≤ outbox.old.capacity }
-    ensures turn { IsTurn (slot (home_of state.old) (state_of state.old) t) (home_of state.old) (state_of state.old) t result (state_of state.new) outbox.old.items outbox.new.items }
+    ensures turn { IsTurn (slot (home_of state.old) (state_of state.old) t) (home_of state.old)
+        (state_of state.old) t result (state_of state.new) outbox.old.items outbox.new.items }
     ensures home { KeepsHome state.old state.new }
     ensures order { IsInOrder state.new }
     ensures few { length outbox.new.items ≤ length outbox.old.items + 4 }

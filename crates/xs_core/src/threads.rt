@@ -12,7 +12,8 @@ use xs_instr::{Reg, Thread};
 pub fn pass(threads: &mut [Thread; THREADS], t: u8)
     requires there { t < 8 }
     requires room { (thread_at threads.old t).pc + 1 < 2 ^ 32 }
-    ensures { let x = thread_at threads.old t in threads.new ≡ slice_set threads.old t (record x { pc = x.pc + 1 }) }
+    ensures { let x = thread_at threads.old t in threads.new
+        ≡ slice_set threads.old t (record x { pc = x.pc + 1 }) }
 {
     threads[t as usize].pc += 1;
 }
@@ -45,7 +46,8 @@ pub fn put_next(threads: &mut [Thread; THREADS], t: u8, thread: Thread)
 pub fn put_with(threads: &mut [Thread; THREADS], t: u8, thread: Thread, d: Reg, value: u32)
     requires there { t < 8 }
     requires room { thread.pc + 1 < 2 ^ 32 }
-    ensures { threads.new ≡ slice_set threads.old t (record thread { pc = thread.pc + 1; regs = reg_set thread.regs d value }) }
+    ensures { threads.new ≡ slice_set threads.old t
+        (record thread { pc = thread.pc + 1; regs = reg_set thread.regs d value }) }
 {
     let mut next = thread;
     next.pc += 1;

@@ -30,8 +30,8 @@ pub no_thread_step : (L : Image) (s : Stim) (cores : List Core) (trace : List Re
 no_thread_step L s cores trace i t core there eight far =
     no_step_of (home_of L s i) (map state_in cores) trace i t (slice_get (map state_in cores) i) refl
     (λ old e.
-        let same : core.state ≡ old = same_Some core.state old (sym (state_at cores i core there) ∙ e) in
-        none_past old.threads t (let n = ap (λ (x : CoreState). length x.threads) same in omega (arith, n, eight, far)))
+    let same : core.state ≡ old = same_Some core.state old (sym (state_at cores i core there) ∙ e) in
+    none_past old.threads t (let n = ap (λ (x : CoreState). length x.threads) same in omega (arith, n, eight, far)))
 
 -- a tick of a core that can tick, and of one that can't
 pub core_ticks : (cores : List Core) (trace : List Record) (i : ℕ) (core new : Core) → slice_get cores i ≡ Some core → nat_lt core.state.clock last_clock ≡ true → new.state ≡ ticked core.state → IsEvent (tick_at (together cores trace) i (slice_get (map state_in cores) i)) (together cores trace) Done (together (slice_set cores i new) trace)

@@ -57,7 +57,8 @@ fn note(trace: &mut Vec<Record>, made: Record)
 fn take_turn(core: &mut NearCore, trace: &mut Vec<Record>, thread: u8) -> bool
     requires thread { thread < 8 }
     requires room { vec_len trace.old < vec_capacity trace.old }
-    ensures turn { part core.new.state trace.new.items ≡ turn core.old.home (part core.old.state trace.old.items) thread }
+    ensures turn { part core.new.state trace.new.items
+        ≡ turn core.old.home (part core.old.state trace.old.items) thread }
     ensures stepped { result ≡ is_ready core.old.home core.old.state thread }
     ensures home { core.new.home ≡ core.old.home }
     ensures len { vec_len trace.new ≤ vec_len trace.old + 1 }
@@ -129,7 +130,8 @@ pub fn tick_core(cores: &mut Vec<NearCore>, core: u8) -> Event
 /// A core's part of a round, and how many events it had.
 fn one_round(core: &mut NearCore, trace: &mut Vec<Record>) -> u32
     requires room { vec_len trace.old + 8 ≤ vec_capacity trace.old }
-    ensures round { part core.new.state trace.new.items ≡ turns core.old.home (part (once_ticked core.old.state) trace.old.items) 8 }
+    ensures round { part core.new.state trace.new.items
+        ≡ turns core.old.home (part (once_ticked core.old.state) trace.old.items) 8 }
     ensures events { result ≡ round_events core.old.home core.old.state trace.old.items }
     ensures few { result ≤ 9 }
     ensures home { core.new.home ≡ core.old.home }

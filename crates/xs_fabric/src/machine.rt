@@ -85,8 +85,10 @@ impl Machine {
     /// events it had. It needs room for 32 records.
     pub fn round(&mut self) -> u32
         requires room { 32 ≤ room_of self.old }
-        ensures state { (L : Image) (s : Stim) → IsRunOf L s self.old → state_of self.new ≡ rounds_at L s (state_of self.old) 4 }
-        ensures events { (L : Image) (s : Stim) → IsRunOf L s self.old → result ≡ events_in L s (state_of self.old) 4 }
+        ensures state { (L : Image) (s : Stim) → IsRunOf L s self.old → state_of self.new
+            ≡ rounds_at L s (state_of self.old) 4 }
+        ensures events { (L : Image) (s : Stim) → IsRunOf L s self.old → result
+            ≡ events_in L s (state_of self.old) 4 }
         ensures run { homes_of self.new ≡ homes_of self.old }
         ensures room { room_of self.old ≤ room_of self.new + 32 }
     {
@@ -102,14 +104,16 @@ impl Machine {
 
     /// How a run ends that ends here.
     pub fn end(&self) -> EndWord
-        ensures { (L : Image) (s : Stim) → IsRunOf L s self.now → result ≡ end_of L s (state_of self.now) }
+        ensures { (L : Image) (s : Stim) → IsRunOf L s self.now → result
+            ≡ end_of L s (state_of self.now) }
     {
         word_of(sum_of_sights(self.cores.as_slice()))
     }
 
     /// Whether some thread is trapped.
     pub fn trapped(&self) -> bool
-        ensures { (L : Image) (s : Stim) → IsRunOf L s self.now → result ≡ has_trap L s (state_of self.now) }
+        ensures { (L : Image) (s : Stim) → IsRunOf L s self.now → result
+            ≡ has_trap L s (state_of self.now) }
     {
         sum_of_sights(self.cores.as_slice()).trapped != 0
     }

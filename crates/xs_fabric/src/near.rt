@@ -40,7 +40,8 @@ impl NearCore {
         requires near { AreNear image.now.chans }
         requires stim { IsGoodStim stim.now }
         ensures home { IfOk result (λ core. core.home ≡ home_of image.now stim.now number) }
-        ensures state { IfOk result (λ core. core.state ≡ boot_core (parts_in image.now.cores number)) }
+        ensures state { IfOk result
+            (λ core. core.state ≡ boot_core (parts_in image.now.cores number)) }
     {
         let mut core = Core::new(alloc, image, number, stim)?;
         core.reserve_window()?;
@@ -69,7 +70,8 @@ impl NearCore {
     /// The thread takes its turn, which sends nothing.
     pub fn slot(&mut self, thread: u8) -> Did
         requires { thread < 8 }
-        ensures turn { IsTurn (slot self.old.home self.old.state thread) self.old.home self.old.state thread result self.new.state [] [] }
+        ensures turn { IsTurn (slot self.old.home self.old.state thread) self.old.home
+            self.old.state thread result self.new.state [] [] }
         ensures home { self.new.home ≡ self.old.home }
     {
         self.core.slot(thread)

@@ -25,7 +25,8 @@ pub struct Totals {
 /// The sums over the four cores.
 pub fn sum_of_sights(cores: &[NearCore]) -> Totals
     requires { length cores.now ≡ 4 }
-    ensures { (L : Image) (s : Stim) (trace : Items Record) → map home_in cores.now ≡ homes L s → seen_as result ≡ sights L s (together cores.now trace) 4 }
+    ensures { (L : Image) (s : Stim) (trace : Items Record) → map home_in cores.now ≡ homes L s →
+        seen_as result ≡ sights L s (together cores.now trace) 4 }
 {
     let a = cores[0].sight();
     let b = cores[1].sight();

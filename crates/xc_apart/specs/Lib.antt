@@ -1,0 +1,3 @@
+pub mod Clashes
+pub mod Footprints
+pub mod Behind
