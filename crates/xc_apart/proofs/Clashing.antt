@@ -19,7 +19,7 @@ use Rattle.xc_apart.specs.Clashes.{Clash, rule_against, Clashes}
 use Rattle.xc_apart.specs.Footprints.{Uses, nothing, both, of_statement, of_statements, of_case, of_cases}
 use Rattle.xc_apart.proofs.FootprintSteps.{both_each}
 use Rattle.xc_apart.specs.Behind.{ClashesBy, ClashesBehind}
-use Rattle.xc_kernel.proofs.Firsts.{some_same, none_same, Goes, goes_on}
+use Rattle.xc_apart.proofs.Firsts.{some_same, none_same, Goes, goes_on}
 use Rattle.xc_apart.proofs.Covered.{covered_first, covered_second}
 use Rattle.xc_apart.proofs.Steps.{drop_item}
 

@@ -40,8 +40,10 @@ fn branch(
     body: &[Kst],
     pos: Pos,
 ) -> Result<Option<Broken>, Memory>
-    ensures uses { OnOk result (uses_in whole.new ≡ both (uses_in whole.old) (uses.of_statements (plain.statements (map statement_of body.now)))) }
-    ensures first { IfOk result (λ first. IsLeastOf (ClashesBy (uses_in whole.old) (plain.statements (map statement_of body.now)) pos) first) }
+    ensures uses { OnOk result (uses_in whole.new ≡ both (uses_in whole.old)
+        (uses.of_statements (plain.statements (map statement_of body.now)))) }
+    ensures first { IfOk result (λ first. IsLeastOf
+        (ClashesBy (uses_in whole.old) (plain.statements (map statement_of body.now)) pos) first) }
 {
     let mut own = Footprint::new(alloc);
     let inside = statements(alloc, &mut own, body)?;
@@ -53,8 +55,10 @@ fn branch(
 #[cycle(statements)]
 #[tactic(auto, using(crate::proofs::CodeSteps::steps))]
 fn branches(alloc: Global, whole: &mut Footprint, all: &[KBranch]) -> Result<Option<Broken>, Memory>
-    ensures uses { OnOk result (uses_in whole.new ≡ both (uses_in whole.old) (uses.of_branches (plain.branches (map branch_of all.now)))) }
-    ensures first { IfOk result (λ first. IsLeastOf (ClashesBehind (uses_in whole.old) (plain.branches (map branch_of all.now))) first) }
+    ensures uses { OnOk result (uses_in whole.new
+        ≡ both (uses_in whole.old) (uses.of_branches (plain.branches (map branch_of all.now)))) }
+    ensures first { IfOk result (λ first. IsLeastOf
+        (ClashesBehind (uses_in whole.old) (plain.branches (map branch_of all.now))) first) }
 {
     let mut best = None;
     for b in all {
@@ -72,8 +76,10 @@ fn statements(
     footprint: &mut Footprint,
     all: &[Kst],
 ) -> Result<Option<Broken>, Memory>
-    ensures uses { OnOk result (uses_in footprint.new ≡ both (uses_in footprint.old) (uses.of_statements (plain.statements (map statement_of all.now)))) }
-    ensures first { IfOk result (λ first. IsLeastOf (Clashes (pars.of_statements (plain.statements (map statement_of all.now)))) first) }
+    ensures uses { OnOk result (uses_in footprint.new ≡ both (uses_in footprint.old)
+        (uses.of_statements (plain.statements (map statement_of all.now)))) }
+    ensures first { IfOk result (λ first. IsLeastOf
+        (Clashes (pars.of_statements (plain.statements (map statement_of all.now)))) first) }
 {
     let mut best = None;
     for s in all {
@@ -86,8 +92,10 @@ fn statements(
 #[cycle(statements)]
 #[tactic(auto, using(crate::proofs::CodeSteps::steps))]
 fn statement(alloc: Global, footprint: &mut Footprint, s: &Kst) -> Result<Option<Broken>, Memory>
-    ensures uses { OnOk result (uses_in footprint.new ≡ both (uses_in footprint.old) (uses.of_statement (statement_of s.now))) }
-    ensures first { IfOk result (λ first. IsLeastOf (Clashes (pars.of_statement (statement_of s.now))) first) }
+    ensures uses { OnOk result (uses_in footprint.new
+        ≡ both (uses_in footprint.old) (uses.of_statement (statement_of s.now))) }
+    ensures first { IfOk result
+        (λ first. IsLeastOf (Clashes (pars.of_statement (statement_of s.now))) first) }
 {
     match s {
         Kst::Zero(variable) => {
@@ -144,8 +152,10 @@ fn statement(alloc: Global, footprint: &mut Footprint, s: &Kst) -> Result<Option
 #[cycle(statements)]
 #[tactic(auto, using(crate::proofs::CodeSteps::steps))]
 fn cases(alloc: Global, footprint: &mut Footprint, all: &[KCase]) -> Result<Option<Broken>, Memory>
-    ensures uses { OnOk result (uses_in footprint.new ≡ both (uses_in footprint.old) (uses.of_cases (plain.cases (map case_of all.now)))) }
-    ensures first { IfOk result (λ first. IsLeastOf (Clashes (pars.of_cases (plain.cases (map case_of all.now)))) first) }
+    ensures uses { OnOk result (uses_in footprint.new
+        ≡ both (uses_in footprint.old) (uses.of_cases (plain.cases (map case_of all.now)))) }
+    ensures first { IfOk result
+        (λ first. IsLeastOf (Clashes (pars.of_cases (plain.cases (map case_of all.now)))) first) }
 {
     let mut best = None;
     for c in all {
@@ -158,8 +168,10 @@ fn cases(alloc: Global, footprint: &mut Footprint, all: &[KCase]) -> Result<Opti
 #[cycle(statements)]
 #[tactic(auto, using(crate::proofs::CodeSteps::steps))]
 fn case(alloc: Global, footprint: &mut Footprint, c: &KCase) -> Result<Option<Broken>, Memory>
-    ensures uses { OnOk result (uses_in footprint.new ≡ both (uses_in footprint.old) (uses.of_case (case_of c.now))) }
-    ensures first { IfOk result (λ first. IsLeastOf (Clashes (pars.of_case (case_of c.now))) first) }
+    ensures uses { OnOk result
+        (uses_in footprint.new ≡ both (uses_in footprint.old) (uses.of_case (case_of c.now))) }
+    ensures first { IfOk result
+        (λ first. IsLeastOf (Clashes (pars.of_case (case_of c.now))) first) }
 {
     some_expression(footprint, &c.guard)?;
     input(footprint, &c.head)?;
@@ -168,7 +180,8 @@ fn case(alloc: Global, footprint: &mut Footprint, c: &KCase) -> Result<Option<Br
 
 #[tactic(auto, using(crate::proofs::FootprintSteps::steps))]
 fn output(footprint: &mut Footprint, o: &KOut) -> Result<(), Memory>
-    ensures { OnOk result (uses_in footprint.new ≡ both (uses_in footprint.old) (uses.of_output (output_of o.now))) }
+    ensures { OnOk result
+        (uses_in footprint.new ≡ both (uses_in footprint.old) (uses.of_output (output_of o.now))) }
 {
     footprint.take(o.res)?;
     some_expression(footprint, &o.time)?;
@@ -178,7 +191,8 @@ fn output(footprint: &mut Footprint, o: &KOut) -> Result<(), Memory>
 
 #[tactic(auto, using(crate::proofs::FootprintSteps::steps))]
 fn input(footprint: &mut Footprint, head: &KHead) -> Result<(), Memory>
-    ensures { OnOk result (uses_in footprint.new ≡ both (uses_in footprint.old) (uses.of_input (input_of head.now))) }
+    ensures { OnOk result
+        (uses_in footprint.new ≡ both (uses_in footprint.old) (uses.of_input (input_of head.now))) }
 {
     footprint.take(head.res)?;
     some_expression(footprint, &head.time)?;

@@ -12,7 +12,8 @@ use xw_words::Memory;
 #[cycle(expressions)]
 #[tactic(auto, using(crate::proofs::FootprintSteps::steps))]
 pub fn expression(footprint: &mut Footprint, e: &Kx) -> Result<(), Memory>
-    ensures { OnOk result (uses_in footprint.new ≡ both (uses_in footprint.old) (uses.of_expression (expression_of e.now))) }
+    ensures { OnOk result (uses_in footprint.new
+        ≡ both (uses_in footprint.old) (uses.of_expression (expression_of e.now))) }
 {
     match e {
         Kx::Num(_) => Ok(()),
@@ -24,7 +25,8 @@ pub fn expression(footprint: &mut Footprint, e: &Kx) -> Result<(), Memory>
 #[cycle(expressions)]
 #[tactic(auto, using(crate::proofs::FootprintSteps::steps))]
 fn operands(footprint: &mut Footprint, all: &[Kx]) -> Result<(), Memory>
-    ensures { OnOk result (uses_in footprint.new ≡ both (uses_in footprint.old) (uses.of_operands (plain.operands (map expression_of all.now)))) }
+    ensures { OnOk result (uses_in footprint.new ≡ both (uses_in footprint.old)
+        (uses.of_operands (plain.operands (map expression_of all.now)))) }
 {
     for e in all {
         expression(footprint, e)?;
@@ -36,7 +38,8 @@ fn operands(footprint: &mut Footprint, all: &[Kx]) -> Result<(), Memory>
 #[cycle(expressions)]
 #[tactic(auto, using(crate::proofs::FootprintSteps::steps))]
 fn read(footprint: &mut Footprint, place: &Place) -> Result<(), Memory>
-    ensures { OnOk result (uses_in footprint.new ≡ both (uses_in footprint.old) (uses.of_place (place_of place.now))) }
+    ensures { OnOk result (uses_in footprint.new
+        ≡ both (uses_in footprint.old) (uses.of_place (place_of place.now))) }
 {
     match place {
         Place::Word(variable) => footprint.read(*variable),
@@ -50,7 +53,8 @@ fn read(footprint: &mut Footprint, place: &Place) -> Result<(), Memory>
 /// Behind a place at which something is stored.
 #[tactic(auto, using(crate::proofs::FootprintSteps::steps))]
 pub fn target(footprint: &mut Footprint, place: &Place) -> Result<(), Memory>
-    ensures { OnOk result (uses_in footprint.new ≡ both (uses_in footprint.old) (uses.of_target (place_of place.now))) }
+    ensures { OnOk result (uses_in footprint.new
+        ≡ both (uses_in footprint.old) (uses.of_target (place_of place.now))) }
 {
     match place {
         Place::Word(variable) => footprint.change(*variable),
@@ -63,7 +67,8 @@ pub fn target(footprint: &mut Footprint, place: &Place) -> Result<(), Memory>
 
 #[tactic(auto, using(crate::proofs::FootprintSteps::steps))]
 pub fn some_target(footprint: &mut Footprint, place: &Option<Place>) -> Result<(), Memory>
-    ensures { OnOk result (uses_in footprint.new ≡ both (uses_in footprint.old) (uses.of_some_target (option_map place_of place.now))) }
+    ensures { OnOk result (uses_in footprint.new
+        ≡ both (uses_in footprint.old) (uses.of_some_target (option_map place_of place.now))) }
 {
     match place {
         None => Ok(()),
@@ -73,7 +78,8 @@ pub fn some_target(footprint: &mut Footprint, place: &Option<Place>) -> Result<(
 
 #[tactic(auto, using(crate::proofs::FootprintSteps::steps))]
 pub fn some_expression(footprint: &mut Footprint, e: &Option<Kx>) -> Result<(), Memory>
-    ensures { OnOk result (uses_in footprint.new ≡ both (uses_in footprint.old) (uses.of_some_expression (option_map expression_of e.now))) }
+    ensures { OnOk result (uses_in footprint.new
+        ≡ both (uses_in footprint.old) (uses.of_some_expression (option_map expression_of e.now))) }
 {
     match e {
         None => Ok(()),
@@ -83,7 +89,8 @@ pub fn some_expression(footprint: &mut Footprint, e: &Option<Kx>) -> Result<(), 
 
 #[tactic(auto, using(crate::proofs::FootprintSteps::steps))]
 pub fn condition(footprint: &mut Footprint, test: &Option<(u8, Kx)>) -> Result<(), Memory>
-    ensures { OnOk result (uses_in footprint.new ≡ both (uses_in footprint.old) (uses.of_condition (option_map condition_of test.now))) }
+    ensures { OnOk result (uses_in footprint.new
+        ≡ both (uses_in footprint.old) (uses.of_condition (option_map condition_of test.now))) }
 {
     match test {
         None => Ok(()),

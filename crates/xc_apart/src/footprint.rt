@@ -114,7 +114,8 @@ fn insert_all(
     alloc: Global,
     others: IndexSet<u32>,
 ) -> Result<(), Memory>
-    ensures { OnOk result (members numbers.new.keys ≡ with_all (members numbers.old.keys) (members others.keys)) }
+    ensures { OnOk result
+        (members numbers.new.keys ≡ with_all (members numbers.old.keys) (members others.keys)) }
 {
     let first = mem::replace(numbers, IndexSet::new(alloc));
     let (larger, smaller) = larger_first(first, others);
@@ -123,7 +124,8 @@ fn insert_all(
 }
 
 fn insert_each(numbers: &mut IndexSet<u32>, others: &IndexSet<u32>) -> Result<(), Memory>
-    ensures { OnOk result (members numbers.new.keys ≡ with_all (members numbers.old.keys) (members others.now.keys)) }
+    ensures { OnOk result
+        (members numbers.new.keys ≡ with_all (members numbers.old.keys) (members others.now.keys)) }
 {
     for at in 0..others.len() {
         insert(numbers, number_at(others, at))?;
@@ -133,7 +135,8 @@ fn insert_each(numbers: &mut IndexSet<u32>, others: &IndexSet<u32>) -> Result<()
 
 /// Two sets, of which the first has no fewer numbers than the second.
 fn larger_first(first: IndexSet<u32>, second: IndexSet<u32>) -> (IndexSet<u32>, IndexSet<u32>)
-    ensures { with_all (members result.0.keys) (members result.1.keys) ≡ with_all (members first.keys) (members second.keys) }
+    ensures { with_all (members result.0.keys) (members result.1.keys)
+        ≡ with_all (members first.keys) (members second.keys) }
 {
     if first.len() < second.len() {
         (second, first)

@@ -23,8 +23,10 @@ pub const MOST: usize = 4_194_304;
 /// The program that a text is with the types of its expressions, if it breaks no rule up to 508.
 pub fn typed(alloc: Global, text: &[u8]) -> Option<Typed>
     requires { length text.now ≤ 4194304 }
-    ensures typed { IfSome result (λ typed. IsTyped (program_of typed.named.tree) (named_of typed.named) typed.unsigned_at) }
-    ensures shallow { IfSome result (λ typed. depth.of_program (program_of typed.named.tree) ≤ deepest) }
+    ensures typed { IfSome result (λ typed. IsTyped (program_of typed.named.tree)
+        (named_of typed.named) typed.unsigned_at) }
+    ensures shallow { IfSome result
+        (λ typed. depth.of_program (program_of typed.named.tree) ≤ deepest) }
 {
     let tree = tree_of(alloc, text)?;
     let Ok(named) = resolve(alloc, tree) else {

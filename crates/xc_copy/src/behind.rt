@@ -55,7 +55,13 @@ impl<'p, 'a> Context<'p, 'a> {
         passed: Copied,
         body: Result<Copied, Memory>,
     ) -> Result<Copied, Memory>
-        ensures { IfOk result (λ copied. (entered inner behind : Names) (whole : copies.Copy) → IfOk body (λ b. copy_of b inner ≡ whole) → copy_of copied behind ≡ copies.in_scope_of behind (calls.naming_none (copies.joined (calls.instance_of (context_of self.now) (function_of function.now) behind) (copies.joined (calls.result_copy (context_of self.now) result_path.now function.now.name.pos behind function.now.result) (copies.joined (copy_of passed entered) (calls.as_block (context_of self.now) own.now whole)))))) }
+        ensures { IfOk result (λ copied. (entered inner behind : Names) (whole : copies.Copy) →
+            IfOk body (λ b. copy_of b inner ≡ whole) → copy_of copied behind
+            ≡ copies.in_scope_of behind (calls.naming_none (copies.joined
+            (calls.instance_of (context_of self.now) (function_of function.now) behind)
+            (copies.joined (calls.result_copy (context_of self.now) result_path.now
+            function.now.name.pos behind function.now.result) (copies.joined
+            (copy_of passed entered) (calls.as_block (context_of self.now) own.now whole)))))) }
     {
         let (passed, body) = beside(passed, body)?;
         let block = self.as_block(alloc, own, body);
@@ -80,7 +86,11 @@ impl<'p, 'a> Context<'p, 'a> {
         right: &Rhs,
         scope: &Scope<'a>,
     ) -> Result<Copied, Memory>
-        ensures { IfOk result (λ copied. (within : Names) (call : copies.Copy) → IfOk called (λ c. copy_of c within ≡ call) → copy_of copied (scope_of scope.now) ≡ copies.joined call (copies.one_statement (scope_of scope.now) (contexts.set_word (context_of self.now) path.now (calls.value_of (context_of self.now) (scope_of scope.now) (tree.right_of right.now))))) }
+        ensures { IfOk result (λ copied. (within : Names) (call : copies.Copy) →
+            IfOk called (λ c. copy_of c within ≡ call) → copy_of copied (scope_of scope.now)
+            ≡ copies.joined call (copies.one_statement (scope_of scope.now)
+            (contexts.set_word (context_of self.now) path.now (calls.value_of
+            (context_of self.now) (scope_of scope.now) (tree.right_of right.now))))) }
     {
         let stored = self.value_stored(alloc, path, right, scope);
         let (called, stored) = both(called, stored)?;
@@ -98,7 +108,11 @@ impl<'p, 'a> Context<'p, 'a> {
         right: &Rhs,
         scope: &Scope<'a>,
     ) -> Result<Copied, Memory>
-        ensures { IfOk result (λ copied. (within : Names) (call : copies.Copy) → IfOk called (λ c. copy_of c within ≡ call) → copy_of copied (scope_of scope.now) ≡ copies.joined call (copies.one_statement (scope_of scope.now) (plain.set (contexts.place (context_of self.now) (scope_of scope.now) (tree.expression_of to.now)) (calls.value_of (context_of self.now) (scope_of scope.now) (tree.right_of right.now))))) }
+        ensures { IfOk result (λ copied. (within : Names) (call : copies.Copy) → IfOk called (λ c.
+            copy_of c within ≡ call) → copy_of copied (scope_of scope.now) ≡ copies.joined call
+            (copies.one_statement (scope_of scope.now) (plain.set (contexts.place (context_of
+            self.now) (scope_of scope.now) (tree.expression_of to.now)) (calls.value_of
+            (context_of self.now) (scope_of scope.now) (tree.right_of right.now))))) }
     {
         let stored = self.value_assigned(alloc, to, right, scope);
         let (called, stored) = both(called, stored)?;
@@ -116,7 +130,12 @@ impl<'p, 'a> Context<'p, 'a> {
         right: &Rhs,
         scope: &Scope<'a>,
     ) -> Result<Copied, Memory>
-        ensures { IfOk result (λ copied. (within : Names) (call : copies.Copy) → IfOk called (λ c. copy_of c within ≡ call) → copy_of copied (scope_of scope.now) ≡ copies.joined call (copies.joined (copies.one_statement (scope_of scope.now) (contexts.set_word (context_of self.now) self.now.result.now (calls.value_of (context_of self.now) (scope_of scope.now) (tree.right_of right.now)))) (copies.one_statement (scope_of scope.now) (contexts.leave (context_of self.now) self.now.returns.now)))) }
+        ensures { IfOk result (λ copied. (within : Names) (call : copies.Copy) → IfOk called (λ c.
+            copy_of c within ≡ call) → copy_of copied (scope_of scope.now) ≡ copies.joined call
+            (copies.joined (copies.one_statement (scope_of scope.now) (contexts.set_word
+            (context_of self.now) self.now.result.now (calls.value_of (context_of self.now)
+            (scope_of scope.now) (tree.right_of right.now)))) (copies.one_statement
+            (scope_of scope.now) (contexts.leave (context_of self.now) self.now.returns.now)))) }
     {
         let returned = self.value_returned(alloc, right, scope);
         let (called, returned) = both(called, returned)?;
@@ -136,7 +155,11 @@ impl<'p, 'a> Context<'p, 'a> {
         body: Result<Copied, Memory>,
     ) -> Result<Copied, Memory>
         requires { paths.turn ≡ turn_of paths.whole }
-        ensures { IfOk result (λ copied. (between behind : Names) (done : copies.Copy) → IfOk body (λ b. copy_of b behind ≡ done) → copy_of copied behind ≡ flow.loop_at (context_of self.now) paths.whole (kernel.expression_of test) (flow.turn (context_of self.now) paths.whole done.code []) (copies.code_of (copy_of next between)) (copies.joined (copy_of next between) done)) }
+        ensures { IfOk result (λ copied. (between behind : Names) (done : copies.Copy) →
+            IfOk body (λ b. copy_of b behind ≡ done) → copy_of copied behind
+            ≡ flow.loop_at (context_of self.now) paths.whole (kernel.expression_of test)
+            (flow.turn (context_of self.now) paths.whole done.code [])
+            (copies.code_of (copy_of next between)) (copies.joined (copy_of next between) done)) }
     {
         let (((paths, test), next), body) = beside(((paths, test), next), body)?;
         let copied = self.loop_at(alloc, paths, test, next, body, None)?;
@@ -154,7 +177,12 @@ impl<'p, 'a> Context<'p, 'a> {
         scope: &Scope<'a>,
     ) -> Result<Copied, Memory>
         requires { paths.turn ≡ turn_of paths.whole }
-        ensures { IfOk result (λ copied. (done : copies.Copy) → IfOk body (λ b. copy_of b (scope_of scope.now) ≡ done) → copy_of copied (scope_of scope.now) ≡ flow.loop_at (context_of self.now) paths.whole (plain.number 1) (flow.turn (context_of self.now) paths.whole done.code (flow.leave_unless (context_of self.now) paths.whole (contexts.expression (context_of self.now) done.scope (tree.expression_of test.now)) ∷ [])) plain.no_more done) }
+        ensures { IfOk result (λ copied. (done : copies.Copy) → IfOk body
+            (λ b. copy_of b (scope_of scope.now) ≡ done) → copy_of copied (scope_of scope.now)
+            ≡ flow.loop_at (context_of self.now) paths.whole (plain.number 1)
+            (flow.turn (context_of self.now) paths.whole done.code (flow.leave_unless
+            (context_of self.now) paths.whole (contexts.expression (context_of self.now)
+            done.scope (tree.expression_of test.now)) ∷ [])) plain.no_more done) }
     {
         let test = word(alloc, self.numbers, scope, test);
         let ends = both(body, test);
@@ -174,7 +202,10 @@ impl<'p, 'a> Context<'p, 'a> {
         right: &Rhs,
         scope: &Scope<'a>,
     ) -> Result<Copied, Memory>
-        ensures { IfOk result (λ stored. copy_of stored (scope_of scope.now) ≡ copies.one_statement (scope_of scope.now) (contexts.set_word (context_of self.now) path.now (calls.value_of (context_of self.now) (scope_of scope.now) (tree.right_of right.now)))) }
+        ensures { IfOk result (λ stored. copy_of stored (scope_of scope.now)
+            ≡ copies.one_statement (scope_of scope.now)
+            (contexts.set_word (context_of self.now) path.now (calls.value_of
+            (context_of self.now) (scope_of scope.now) (tree.right_of right.now)))) }
     {
         let value = self.value(alloc, right, scope)?;
         let stored = Copied::one_statement(alloc, self.set_word(path, value))?;
@@ -189,7 +220,10 @@ impl<'p, 'a> Context<'p, 'a> {
         right: &Rhs,
         scope: &Scope<'a>,
     ) -> Result<Copied, Memory>
-        ensures { IfOk result (λ stored. copy_of stored (scope_of scope.now) ≡ copies.one_statement (scope_of scope.now) (plain.set (contexts.place (context_of self.now) (scope_of scope.now) (tree.expression_of to.now)) (calls.value_of (context_of self.now) (scope_of scope.now) (tree.right_of right.now)))) }
+        ensures { IfOk result (λ stored. copy_of stored (scope_of scope.now) ≡ copies.one_statement
+            (scope_of scope.now) (plain.set (contexts.place (context_of self.now)
+            (scope_of scope.now) (tree.expression_of to.now)) (calls.value_of
+            (context_of self.now) (scope_of scope.now) (tree.right_of right.now)))) }
     {
         let value = self.value(alloc, right, scope);
         let place = place(alloc, self.numbers, scope, to);
@@ -205,7 +239,11 @@ impl<'p, 'a> Context<'p, 'a> {
         right: &Rhs,
         scope: &Scope<'a>,
     ) -> Result<Copied, Memory>
-        ensures { IfOk result (λ returned. copy_of returned (scope_of scope.now) ≡ copies.joined (copies.one_statement (scope_of scope.now) (contexts.set_word (context_of self.now) self.now.result.now (calls.value_of (context_of self.now) (scope_of scope.now) (tree.right_of right.now)))) (copies.one_statement (scope_of scope.now) (contexts.leave (context_of self.now) self.now.returns.now))) }
+        ensures { IfOk result (λ returned. copy_of returned (scope_of scope.now)
+            ≡ copies.joined (copies.one_statement (scope_of scope.now) (contexts.set_word
+            (context_of self.now) self.now.result.now (calls.value_of (context_of self.now)
+            (scope_of scope.now) (tree.right_of right.now)))) (copies.one_statement
+            (scope_of scope.now) (contexts.leave (context_of self.now) self.now.returns.now))) }
     {
         let stored = self.value_stored(alloc, self.result, right, scope);
         let left = self.leaves(alloc, self.returns, scope);
@@ -223,8 +261,15 @@ impl<'p, 'a> Context<'p, 'a> {
         case: &'a Case,
         scope: &mut Scope<'a>,
     ) -> Result<Option<Opened>, Memory>
-        ensures head { IfOk result (λ opened. (body : copies.Copy) (others : flow.Cased) → case_by opened (scope_of scope.new) (calls.as_block (context_of self.now) (paths.path_at self.now.path.now (out-Case case.now).pos) body) others ≡ flow.and_case (context_of self.now) (scope_of scope.old) (out-Case case.now).pos (option_map tree.expression_of (out-Case case.now).guard) (option_map tree.input_of (out-Case case.now).head) body others) }
-        ensures names { IfOk result (λ opened. scope_of scope.new ≡ flow.case_scope (context_of self.now) (scope_of scope.old) (option_map tree.input_of (out-Case case.now).head)) }
+        ensures head { IfOk result (λ opened. (body : copies.Copy) (others : flow.Cased) →
+            case_by opened (scope_of scope.new) (calls.as_block (context_of self.now)
+            (paths.path_at self.now.path.now (out-Case case.now).pos) body) others
+            ≡ flow.and_case (context_of self.now) (scope_of scope.old)
+            (out-Case case.now).pos (option_map tree.expression_of (out-Case case.now).guard)
+            (option_map tree.input_of (out-Case case.now).head) body others) }
+        ensures names { IfOk result
+            (λ opened. scope_of scope.new ≡ flow.case_scope (context_of self.now)
+            (scope_of scope.old) (option_map tree.input_of (out-Case case.now).head)) }
         ensures grows { IfOk result (λ opened. Grows (scope_of scope.old) (scope_of scope.new)) }
     {
         match &case.head {
@@ -246,7 +291,9 @@ impl<'p, 'a> Context<'p, 'a> {
         body: Result<Copied, Memory>,
     ) -> Result<Copied, Memory>
         ensures made { OnOk result (IsOk body) }
-        ensures block { IfOk result (λ block. (behind : Names) (whole : copies.Copy) → IfOk body (λ b. copy_of b behind ≡ whole) → copy_of block behind ≡ calls.as_block (context_of self.now) path whole) }
+        ensures block { IfOk result (λ block. (behind : Names) (whole : copies.Copy) →
+            IfOk body (λ b. copy_of b behind ≡ whole) → copy_of block behind
+            ≡ calls.as_block (context_of self.now) path whole) }
     {
         let (path, body) = beside(path, body)?;
         let block = self.as_block(alloc, path.as_slice(), body)?;
@@ -265,7 +312,10 @@ impl<'p, 'a> Context<'p, 'a> {
         cases: &mut Cased,
     ) -> Result<(), Memory>
         ensures made { OnOk result (IsOk body) }
-        ensures cases { OnOk result ((between behind : Names) (whole : copies.Copy) → IfOk body (λ b. copy_of b behind ≡ whole) → (others : flow.Cased) → cased_before cases.new others ≡ cased_before cases.old (case_by opened between (calls.as_block (context_of self.now) path whole) others)) }
+        ensures cases { OnOk result ((between behind : Names) (whole : copies.Copy) →
+            IfOk body (λ b. copy_of b behind ≡ whole) → (others : flow.Cased) →
+            cased_before cases.new others ≡ cased_before cases.old
+            (case_by opened between (calls.as_block (context_of self.now) path whole) others)) }
     {
         let block = self.block_of(alloc, path, body);
         let (opened, block) = beside(opened, block)?;

@@ -46,7 +46,8 @@ impl<'p, 'a> Context<'p, 'a> {
 
     /// A statement that stores a word in the variable of this path.
     pub fn set_word(&self, path: &[u32], value: Kx) -> Kst
-        ensures { kernel.statement_of result ≡ spec.set_word (context_of self.now) path.now (kernel.expression_of value) }
+        ensures { kernel.statement_of result
+            ≡ spec.set_word (context_of self.now) path.now (kernel.expression_of value) }
     {
         Kst::Set(Place::Word(self.numbers.variable(path)), value)
     }
@@ -66,7 +67,8 @@ impl<'p, 'a> Context<'p, 'a> {
         path: &[u32],
         pos: Pos,
     ) -> Result<Var, Memory>
-        ensures { IfOk result (λ v. v ≡ spec.word_variable (context_of self.now) counted path.now pos) }
+        ensures { IfOk result
+            (λ v. v ≡ spec.word_variable (context_of self.now) counted path.now pos) }
     {
         Ok(Var {
             words: 1,
@@ -86,7 +88,8 @@ impl<'p, 'a> Context<'p, 'a> {
         path: &[u32],
         pos: Pos,
     ) -> Result<Var, Memory>
-        ensures { IfOk result (λ v. v ≡ spec.array_variable (context_of self.now) words path.now pos) }
+        ensures { IfOk result
+            (λ v. v ≡ spec.array_variable (context_of self.now) words path.now pos) }
     {
         Ok(Var {
             words,

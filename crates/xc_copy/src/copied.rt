@@ -45,7 +45,8 @@ impl Copied {
 
     /// The copy that is one statement. The one error is want of memory.
     pub fn one_statement(alloc: Global, statement: Kst) -> Result<Copied, Memory>
-        ensures { IfOk result (λ copied. (scope : Names) → copy_of copied scope ≡ spec.one_statement scope (statement_of statement)) }
+        ensures { IfOk result (λ copied. (scope : Names) → copy_of copied scope
+            ≡ spec.one_statement scope (statement_of statement)) }
     {
         let nothing = Copied::nothing(alloc);
         let copied = nothing.and_statement(statement)?;
@@ -54,7 +55,8 @@ impl Copied {
 
     /// One more statement, behind the others. The one error is want of memory.
     pub fn and_statement(self, statement: Kst) -> Result<Copied, Memory>
-        ensures { IfOk result (λ copied. (scope : Names) → copy_of copied scope ≡ spec.with_code (copy_of self scope) ((copy_of self scope).code ++ statement_of statement ∷ [])) }
+        ensures { IfOk result (λ copied. (scope : Names) → copy_of copied scope ≡ spec.with_code
+            (copy_of self scope) ((copy_of self scope).code ++ statement_of statement ∷ [])) }
     {
         let mut copied = self;
         let added = push_back(&mut copied.code, statement);
@@ -64,7 +66,8 @@ impl Copied {
 
     /// The instances of a copy, with one statement in place of its own. The one error is want of memory.
     pub fn with_statement(self, alloc: Global, statement: Kst) -> Result<Copied, Memory>
-        ensures { IfOk result (λ copied. (scope : Names) → copy_of copied scope ≡ spec.with_code (copy_of self scope) (statement_of statement ∷ [])) }
+        ensures { IfOk result (λ copied. (scope : Names) → copy_of copied scope
+            ≡ spec.with_code (copy_of self scope) (statement_of statement ∷ [])) }
     {
         let mut made = self;
         let _replaced = made.take_code(alloc);
@@ -75,7 +78,8 @@ impl Copied {
     /// The copy followed by another. The one error is want of memory.
     #[inline(never)]
     pub fn followed_by(self, other: Copied) -> Result<Copied, Memory>
-        ensures { IfOk result (λ both. (before after : Names) → copy_of both after ≡ spec.joined (copy_of self before) (copy_of other after)) }
+        ensures { IfOk result (λ both. (before after : Names) → copy_of both after
+            ≡ spec.joined (copy_of self before) (copy_of other after)) }
     {
         let mut copied = self;
         let joined = copied.join(other);
@@ -86,7 +90,9 @@ impl Copied {
     /// The copy followed by another, where that could be made. The one error is want of memory.
     #[inline(never)]
     pub fn with_next(self, next: Result<Copied, Memory>) -> Result<Copied, Memory>
-        ensures { IfOk result (λ both. (before after : Names) (other : spec.Copy) → IfOk next (λ n. copy_of n after ≡ other) → copy_of both after ≡ spec.joined (copy_of self before) other) }
+        ensures { IfOk result (λ both. (before after : Names) (other : spec.Copy) →
+            IfOk next (λ n. copy_of n after ≡ other) → copy_of both after
+            ≡ spec.joined (copy_of self before) other) }
     {
         let (first, next) = beside(self, next)?;
         let both = first.followed_by(next)?;
@@ -95,7 +101,8 @@ impl Copied {
 
     /// One more variable, seen before the others. The one error is want of memory.
     pub fn and_variable(self, variable: Var) -> Result<Copied, Memory>
-        ensures { IfOk result (λ copied. (scope : Names) → copy_of copied scope ≡ spec.with_variable (copy_of self scope) variable) }
+        ensures { IfOk result (λ copied. (scope : Names) → copy_of copied scope
+            ≡ spec.with_variable (copy_of self scope) variable) }
     {
         let mut copied = self;
         let added = push_front(&mut copied.variables, variable);
@@ -105,7 +112,8 @@ impl Copied {
 
     /// One more block, seen before the others. The one error is want of memory.
     pub fn and_block(self, path: List<u32>) -> Result<Copied, Memory>
-        ensures { IfOk result (λ copied. (scope : Names) → copy_of copied scope ≡ spec.with_block (copy_of self scope) path) }
+        ensures { IfOk result (λ copied. (scope : Names) → copy_of copied scope
+            ≡ spec.with_block (copy_of self scope) path) }
     {
         let mut copied = self;
         let added = push_front(&mut copied.blocks, path);
@@ -115,7 +123,8 @@ impl Copied {
 
     /// One more channel, behind the others. The one error is want of memory.
     pub fn and_channel(self, channel: Chan) -> Result<Copied, Memory>
-        ensures { IfOk result (λ copied. (scope : Names) → copy_of copied scope ≡ record (copy_of self scope) { channels = (copy_of self scope).channels ++ channel ∷ [] }) }
+        ensures { IfOk result (λ copied. (scope : Names) → copy_of copied scope ≡ record
+            (copy_of self scope) { channels = (copy_of self scope).channels ++ channel ∷ [] }) }
     {
         let mut copied = self;
         let added = push_back(&mut copied.channels, channel);
@@ -125,7 +134,8 @@ impl Copied {
 
     /// One more timer, behind the others. The one error is want of memory.
     pub fn and_timer(self, timer: Timer) -> Result<Copied, Memory>
-        ensures { IfOk result (λ copied. (scope : Names) → copy_of copied scope ≡ record (copy_of self scope) { timers = (copy_of self scope).timers ++ timer ∷ [] }) }
+        ensures { IfOk result (λ copied. (scope : Names) → copy_of copied scope ≡ record
+            (copy_of self scope) { timers = (copy_of self scope).timers ++ timer ∷ [] }) }
     {
         let mut copied = self;
         let added = push_back(&mut copied.timers, timer);
@@ -135,7 +145,9 @@ impl Copied {
 
     /// One more instance of a function, behind the others. The one error is want of memory.
     pub fn and_instance(self, instance: Inst) -> Result<Copied, Memory>
-        ensures { IfOk result (λ copied. (scope : Names) → copy_of copied scope ≡ record (copy_of self scope) { instances = (copy_of self scope).instances ++ instance ∷ [] }) }
+        ensures { IfOk result
+            (λ copied. (scope : Names) → copy_of copied scope ≡ record (copy_of self
+            scope) { instances = (copy_of self scope).instances ++ instance ∷ [] }) }
     {
         let mut copied = self;
         let added = push_back(&mut copied.instances, instance);
@@ -146,7 +158,8 @@ impl Copied {
     /// Another copy behind this one, in place. The one error is want of memory.
     #[inline(never)]
     pub fn join(&mut self, other: Copied) -> Result<(), Memory>
-        ensures { OnOk result ((before after : Names) → copy_of self.new after ≡ spec.joined (copy_of self.old before) (copy_of other after)) }
+        ensures { OnOk result ((before after : Names) → copy_of self.new after
+            ≡ spec.joined (copy_of self.old before) (copy_of other after)) }
     {
         let mut other = other;
         self.append(&mut other)
@@ -154,7 +167,8 @@ impl Copied {
 
     /// All that another copy holds behind what this one does. The one error is want of memory.
     fn append(&mut self, other: &mut Copied) -> Result<(), Memory>
-        ensures { OnOk result ((before after : Names) → copy_of self.new after ≡ spec.joined (copy_of self.old before) (copy_of other.old after)) }
+        ensures { OnOk result ((before after : Names) → copy_of self.new after
+            ≡ spec.joined (copy_of self.old before) (copy_of other.old after)) }
     {
         append(&mut self.code, &mut other.code)?;
         append(&mut self.variables, &mut other.variables)?;
@@ -197,7 +211,8 @@ impl Copied {
     /// Takes the statements, and leaves the instances.
     pub fn take_code(&mut self, alloc: Global) -> List<Kst>
         ensures code { (scope : Names) → map statement_of result ≡ (copy_of self.old scope).code }
-        ensures left { (scope : Names) → copy_of self.new scope ≡ spec.with_code (copy_of self.old scope) [] }
+        ensures left { (scope : Names) → copy_of self.new scope
+            ≡ spec.with_code (copy_of self.old scope) [] }
     {
         let code = mem::replace(&mut self.code, VecDeque::new(alloc));
         List::from_vec(Vec::from(code))

@@ -42,7 +42,9 @@ impl<'p, 'a> Context<'p, 'a> {
         unsigned: bool,
         words: u32,
     ) -> Result<Copied, Memory>
-        ensures { IfOk result (λ copied. copy_of copied (scope_of scope.new) ≡ declarations.array_copy (context_of self.now) (scope_of scope.old) name.now pos (paths.path_at self.now.path.now pos) unsigned words) }
+        ensures { IfOk result (λ copied. copy_of copied (scope_of scope.new)
+            ≡ declarations.array_copy (context_of self.now) (scope_of scope.old) name.now pos
+            (paths.path_at self.now.path.now pos) unsigned words) }
     {
         let path = path_at(alloc, self.path, pos)?;
         let variable = self.array_variable(alloc, words, path.as_slice(), pos);
@@ -64,7 +66,9 @@ impl<'p, 'a> Context<'p, 'a> {
         pos: Pos,
         streaming: bool,
     ) -> Result<Copied, Memory>
-        ensures { IfOk result (λ copied. copy_of copied (scope_of scope.new) ≡ declarations.channel_copy (scope_of scope.old) name.now pos (paths.path_at self.now.path.now pos) streaming) }
+        ensures { IfOk result
+            (λ copied. copy_of copied (scope_of scope.new) ≡ declarations.channel_copy
+            (scope_of scope.old) name.now pos (paths.path_at self.now.path.now pos) streaming) }
     {
         let path = path_at(alloc, self.path, pos)?;
         let own = same_path(alloc, path.as_slice());
@@ -87,7 +91,9 @@ impl<'p, 'a> Context<'p, 'a> {
         name: &'a [u8],
         pos: Pos,
     ) -> Result<Copied, Memory>
-        ensures { IfOk result (λ copied. copy_of copied (scope_of scope.new) ≡ declarations.timer_copy (context_of self.now) (scope_of scope.old) name.now pos (paths.path_at self.now.path.now pos)) }
+        ensures { IfOk result (λ copied. copy_of copied (scope_of scope.new)
+            ≡ declarations.timer_copy (context_of self.now) (scope_of scope.old) name.now pos
+            (paths.path_at self.now.path.now pos)) }
     {
         let path = path_at(alloc, self.path, pos)?;
         let own = same_path(alloc, path.as_slice());
@@ -104,7 +110,8 @@ impl<'p, 'a> Context<'p, 'a> {
     /// What a right side stands for once its call, if it is one, is done. The one error is want of memory.
     #[inline(never)]
     pub fn value(&self, alloc: Global, right: &Rhs, scope: &Scope<'a>) -> Result<Kx, Memory>
-        ensures { IfOk result (λ e. kernel.expression_of e ≡ calls.value_of (context_of self.now) (scope_of scope.now) (tree.right_of right.now)) }
+        ensures { IfOk result (λ e. kernel.expression_of e ≡ calls.value_of (context_of self.now)
+            (scope_of scope.now) (tree.right_of right.now)) }
     {
         let typed = self.typed(alloc, right, scope)?;
         Ok(typed.value)
@@ -114,8 +121,11 @@ impl<'p, 'a> Context<'p, 'a> {
     #[inline(never)]
     #[tactic(auto, using(crate::proofs::Laws::Expressions::words))]
     pub fn typed(&self, alloc: Global, right: &Rhs, scope: &Scope<'a>) -> Result<Typed, Memory>
-        ensures value { IfOk result (λ t. kernel.expression_of t.value ≡ calls.value_of (context_of self.now) (scope_of scope.now) (tree.right_of right.now)) }
-        ensures unsigned { IfOk result (λ t. t.unsigned ≡ calls.right_is_unsigned (scope_of scope.now) (tree.right_of right.now)) }
+        ensures value { IfOk result
+            (λ t. kernel.expression_of t.value ≡ calls.value_of (context_of self.now)
+            (scope_of scope.now) (tree.right_of right.now)) }
+        ensures unsigned { IfOk result (λ t. t.unsigned
+            ≡ calls.right_is_unsigned (scope_of scope.now) (tree.right_of right.now)) }
     {
         match right {
             Rhs::Value(e) => word(alloc, self.numbers, scope, e),
@@ -131,7 +141,8 @@ impl<'p, 'a> Context<'p, 'a> {
 
     /// The variable of the result of a call whose function's name stands at a place. The one error is want of memory.
     fn path_of_result(&self, alloc: Global, name: &[u8], pos: Pos) -> Result<List<u32>, Memory>
-        ensures { IfOk result (λ path. path ≡ calls.path_of_result (context_of self.now) pos (programs.function_named (functions_of self.now.functions.now) name.now)) }
+        ensures { IfOk result (λ path. path ≡ calls.path_of_result (context_of self.now) pos
+            (programs.function_named (functions_of self.now.functions.now) name.now)) }
     {
         match self.functions.named(name) {
             None => Ok(List::new(alloc)),
@@ -153,7 +164,9 @@ impl<'p, 'a> Context<'p, 'a> {
         right: Typed,
         scope: &Scope<'a>,
     ) -> Result<Copied, Memory>
-        ensures { IfOk result (λ copied. copy_of copied (scope_of scope.now) ≡ spec.update_copy (context_of self.now) (scope_of scope.now) (tree.expression_of to.now) symbol pos right.unsigned (kernel.expression_of right.value)) }
+        ensures { IfOk result (λ copied. copy_of copied (scope_of scope.now) ≡ spec.update_copy
+            (context_of self.now) (scope_of scope.now) (tree.expression_of to.now) symbol pos
+            right.unsigned (kernel.expression_of right.value)) }
     {
         let stored = updated(alloc, self.numbers, scope, to, symbol, pos, right);
         let place = place(alloc, self.numbers, scope, to);
@@ -172,7 +185,9 @@ impl<'p, 'a> Context<'p, 'a> {
         pos: Pos,
         scope: &Scope<'a>,
     ) -> Result<Copied, Memory>
-        ensures { IfOk result (λ copied. copy_of copied (scope_of scope.now) ≡ spec.update_copy (context_of self.now) (scope_of scope.now) (tree.expression_of to.now) symbol pos false (plain.number 1)) }
+        ensures { IfOk result (λ copied. copy_of copied (scope_of scope.now)
+            ≡ spec.update_copy (context_of self.now) (scope_of scope.now)
+            (tree.expression_of to.now) symbol pos false (plain.number 1)) }
     {
         let one = Typed {
             value: Kx::Num(1),
@@ -185,7 +200,8 @@ impl<'p, 'a> Context<'p, 'a> {
     /// An instance of a function, on the core of the call. The one error is want of memory, or of numbers for 2^32 parameters.
     #[inline(never)]
     pub fn instance(&self, alloc: Global, function: &FuncItem) -> Result<Copied, Memory>
-        ensures { IfOk result (λ copied. (behind : Names) → copy_of copied behind ≡ calls.instance_of (context_of self.now) (function_of function.now) behind) }
+        ensures { IfOk result (λ copied. (behind : Names) → copy_of copied behind
+            ≡ calls.instance_of (context_of self.now) (function_of function.now) behind) }
     {
         let params = match u32::try_from(function.params.len()) {
             Ok(params) => params,
@@ -206,7 +222,9 @@ impl<'p, 'a> Context<'p, 'a> {
         path: &[u32],
         function: &FuncItem,
     ) -> Result<Copied, Memory>
-        ensures { IfOk result (λ copied. (behind : Names) → copy_of copied behind ≡ calls.result_copy (context_of self.now) path.now function.now.name.pos behind function.now.result) }
+        ensures { IfOk result
+            (λ copied. (behind : Names) → copy_of copied behind ≡ calls.result_copy
+            (context_of self.now) path.now function.now.name.pos behind function.now.result) }
     {
         match function.result {
             None => Ok(Copied::nothing(alloc)),
@@ -219,7 +237,10 @@ impl<'p, 'a> Context<'p, 'a> {
 
     /// The copy of the variable of this path, whose word becomes 0. The one error is want of memory.
     fn zeroed_word(&self, alloc: Global, path: &[u32], pos: Pos) -> Result<Copied, Memory>
-        ensures { IfOk result (λ copied. (behind : Names) → copy_of copied behind ≡ copies.with_variable (copies.one_statement behind (contexts.set_zero (context_of self.now) path.now)) (contexts.word_variable (context_of self.now) false path.now pos)) }
+        ensures { IfOk result
+            (λ copied. (behind : Names) → copy_of copied behind ≡ copies.with_variable
+            (copies.one_statement behind (contexts.set_zero (context_of self.now) path.now))
+            (contexts.word_variable (context_of self.now) false path.now pos)) }
     {
         let variable = self.word_variable(alloc, false, path, pos)?;
         let zeroed = Copied::one_statement(alloc, self.set_zero(path))?;
@@ -236,7 +257,9 @@ impl<'p, 'a> Context<'p, 'a> {
         test: &Option<Expr>,
         scope: &Scope<'a>,
     ) -> Result<Kx, Memory>
-        ensures { IfOk result (λ e. kernel.expression_of e ≡ flow.test_or_true (contexts.maybe_expression (context_of self.now) (scope_of scope.now) (option_map tree.expression_of test.now))) }
+        ensures { IfOk result (λ e. kernel.expression_of e
+            ≡ flow.test_or_true (contexts.maybe_expression (context_of self.now)
+            (scope_of scope.now) (option_map tree.expression_of test.now))) }
     {
         match test {
             None => Ok(Kx::Num(1)),
@@ -253,7 +276,9 @@ impl<'p, 'a> Context<'p, 'a> {
         guard: &Option<Expr>,
         scope: &Scope<'a>,
     ) -> Result<Option<Kx>, Memory>
-        ensures { IfOk result (λ e. option_map kernel.expression_of e ≡ contexts.maybe_expression (context_of self.now) (scope_of scope.now) (option_map tree.expression_of guard.now)) }
+        ensures { IfOk result (λ e. option_map kernel.expression_of e
+            ≡ contexts.maybe_expression (context_of self.now) (scope_of scope.now)
+            (option_map tree.expression_of guard.now)) }
     {
         match guard {
             None => Ok(None),
@@ -265,7 +290,8 @@ impl<'p, 'a> Context<'p, 'a> {
     #[inline(never)]
     pub fn loop_paths(&self, alloc: Global, pos: Pos) -> Result<LoopPaths, Memory>
         ensures whole { IfOk result (λ r. r.whole ≡ paths.path_at self.now.path.now pos) }
-        ensures turn { IfOk result (λ r. r.turn ≡ paths.path_of_turn (paths.path_at self.now.path.now pos)) }
+        ensures turn { IfOk result
+            (λ r. r.turn ≡ paths.path_of_turn (paths.path_at self.now.path.now pos)) }
     {
         let whole = path_at(alloc, self.path, pos)?;
         let turn = path_of_turn(alloc, whole.as_slice())?;
@@ -302,7 +328,8 @@ impl<'p, 'a> Context<'p, 'a> {
 
     /// The body of a loop, by the paths of the blocks that `break` and `continue` leave.
     pub fn in_loop<'q>(&'q self, whole: &'q [u32], turn: &'q [u32]) -> Context<'q, 'a>
-        ensures context { context_of result ≡ record (context_of self.now) { breaks = whole.now; continues = turn.now } }
+        ensures context { context_of result
+            ≡ record (context_of self.now) { breaks = whole.now; continues = turn.now } }
         ensures functions { result.functions ≡ self.now.functions }
     {
         Context {
@@ -338,7 +365,8 @@ impl<'p, 'a> Context<'p, 'a> {
 
     /// The body of a function, by the paths of its instance and of its result.
     pub fn in_function<'q>(&'q self, own: &'q [u32], result_path: &'q [u32]) -> Context<'q, 'a>
-        ensures context { context_of result ≡ record (context_of self.now) { path = own.now; result = result_path.now; returns = own.now } }
+        ensures context { context_of result ≡ record (context_of self.now)
+            { path = own.now; result = result_path.now; returns = own.now } }
         ensures functions { result.functions ≡ self.now.functions }
     {
         Context {

@@ -22,7 +22,8 @@ pub fn word_of_name(
     entity: Option<&Entity>,
     pos: Pos,
 ) -> Result<Kx, Memory>
-    ensures { IfOk result (λ e. kernel.expression_of e ≡ spec.word_of_entity (numbering_of numbers.now) pos (entity_found entity.entry)) }
+    ensures { IfOk result (λ e. kernel.expression_of e
+        ≡ spec.word_of_entity (numbering_of numbers.now) pos (entity_found entity.entry)) }
 {
     match entity {
         None => Ok(Kx::Read(Place::Word(0))),
@@ -38,7 +39,8 @@ pub fn place_of_name(
     entity: Option<&Entity>,
     pos: Pos,
 ) -> Result<Place, Memory>
-    ensures { IfOk result (λ p. kernel.place_of p ≡ spec.place_of_entity (numbering_of numbers.now) pos (entity_found entity.entry)) }
+    ensures { IfOk result (λ p. kernel.place_of p
+        ≡ spec.place_of_entity (numbering_of numbers.now) pos (entity_found entity.entry)) }
 {
     match entity {
         None => Ok(Place::Word(0)),
@@ -52,7 +54,8 @@ fn place_of_entity(
     entity: &Entity,
     pos: Pos,
 ) -> Result<Place, Memory>
-    ensures { IfOk result (λ p. kernel.place_of p ≡ spec.place_of_entity (numbering_of numbers.now) pos (entity_meant entity.now)) }
+    ensures { IfOk result (λ p. kernel.place_of p
+        ≡ spec.place_of_entity (numbering_of numbers.now) pos (entity_meant entity.now)) }
 {
     match entity {
         Entity::Word(path, _) => Ok(Place::Word(numbers.variable(path.as_slice()))),
@@ -106,7 +109,8 @@ pub fn name_is_unsigned(entity: Option<&Entity>) -> bool
 
 /// Whether a name is an array whose elements are `unsigned`.
 pub fn elements_are_unsigned(entity: Option<&Entity>) -> bool
-    ensures { result ≡ types.elements_are_unsigned (scopes.type_of_entity (entity_found entity.entry)) }
+    ensures { result
+        ≡ types.elements_are_unsigned (scopes.type_of_entity (entity_found entity.entry)) }
 {
     match entity {
         Some(Entity::Array(_, _, unsigned)) => *unsigned,

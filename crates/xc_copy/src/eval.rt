@@ -111,7 +111,8 @@ fn eval_place(place: &Place) -> Option<u32>
 /// The word of an operation; an operand's error counts where its word is needed.
 #[cycle(eval)]
 fn eval_operation(operator: Operator, unsigned: bool, operands: &[Kx]) -> Option<u32>
-    ensures { (pos : Pos) → result ≡ word_in (values.applied (operator_meant operator) unsigned pos (spec.eval_all [] (plain.operands (map kernel.expression_of operands.now)))) }
+    ensures { (pos : Pos) → result ≡ word_in (values.applied (operator_meant operator) unsigned pos
+        (spec.eval_all [] (plain.operands (map kernel.expression_of operands.now)))) }
 {
     match operands {
         [] => Some(0),
@@ -153,7 +154,8 @@ fn of_one(operator: Operator, a: u32) -> u32
 
 /// Of a word and a second operand's, which counts only where it is needed.
 fn with_second(operator: Operator, unsigned: bool, a: u32, second: Option<u32>) -> Option<u32>
-    ensures { (pos : Pos) (v : values.Value) → second ≡ word_in v → result ≡ word_in (values.with_second (operator_meant operator) unsigned pos a v) }
+    ensures { (pos : Pos) (v : values.Value) → second ≡ word_in v → result
+        ≡ word_in (values.with_second (operator_meant operator) unsigned pos a v) }
 {
     match operator {
         Operator::Both => { if a != 0 { truth_of(second) } else { Some(0) } }
@@ -164,7 +166,8 @@ fn with_second(operator: Operator, unsigned: bool, a: u32, second: Option<u32>) 
 
 /// Of two words, for operators of `unsigned` words or else of `int` ones.
 fn of_two(operator: Operator, unsigned: bool, a: u32, b: u32) -> Option<u32>
-    ensures { (pos : Pos) → result ≡ word_in (values.of_two (operator_meant operator) unsigned pos a b) }
+    ensures { (pos : Pos) → result
+        ≡ word_in (values.of_two (operator_meant operator) unsigned pos a b) }
 {
     match operator {
         Operator::BelowLength => below(a, b),

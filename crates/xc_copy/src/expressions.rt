@@ -35,8 +35,10 @@ pub struct Typed {
 /// The kernel's expression for one of the program. The one error is want of memory.
 #[cycle(word)]
 pub fn word(alloc: Global, numbers: &Numbers, scope: &Scope, e: &Expr) -> Result<Typed, Memory>
-    ensures value { IfOk result (λ w. kernel.expression_of w.value ≡ spec.expression_in (numbering_of numbers.now) (scope_of scope.now) (tree.expression_of e.now)) }
-    ensures unsigned { IfOk result (λ w. w.unsigned ≡ scopes.is_unsigned (scope_of scope.now) (tree.expression_of e.now)) }
+    ensures value { IfOk result (λ w. kernel.expression_of w.value ≡ spec.expression_in
+        (numbering_of numbers.now) (scope_of scope.now) (tree.expression_of e.now)) }
+    ensures unsigned { IfOk result
+        (λ w. w.unsigned ≡ scopes.is_unsigned (scope_of scope.now) (tree.expression_of e.now)) }
 {
     match &e.kind {
         Ex::Num(value, unsigned) => Ok(Typed {
@@ -80,8 +82,10 @@ fn named(
     entity: Option<&Entity>,
     pos: Pos,
 ) -> Result<Typed, Memory>
-    ensures value { IfOk result (λ w. kernel.expression_of w.value ≡ spec.word_of_entity (numbering_of numbers.now) pos (entity_found entity.entry)) }
-    ensures unsigned { IfOk result (λ w. w.unsigned ≡ types.word_is_unsigned (scopes.type_of_entity (entity_found entity.entry))) }
+    ensures value { IfOk result (λ w. kernel.expression_of w.value
+        ≡ spec.word_of_entity (numbering_of numbers.now) pos (entity_found entity.entry)) }
+    ensures unsigned { IfOk result (λ w. w.unsigned
+        ≡ types.word_is_unsigned (scopes.type_of_entity (entity_found entity.entry))) }
 {
     let value = word_of_name(alloc, numbers, entity, pos)?;
     Ok(Typed {
@@ -98,8 +102,11 @@ fn read_element(
     index: Typed,
     pos: Pos,
 ) -> Result<Typed, Memory>
-    ensures value { IfOk result (λ w. kernel.expression_of w.value ≡ plain.read (plain.element (spec.array_number (numbering_of numbers.now) (entity_found entity.entry)) (kernel.expression_of index.value) pos)) }
-    ensures unsigned { IfOk result (λ w. w.unsigned ≡ types.elements_are_unsigned (scopes.type_of_entity (entity_found entity.entry))) }
+    ensures value { IfOk result (λ w. kernel.expression_of w.value
+        ≡ plain.read (plain.element (spec.array_number (numbering_of numbers.now)
+        (entity_found entity.entry)) (kernel.expression_of index.value) pos)) }
+    ensures unsigned { IfOk result (λ w. w.unsigned
+        ≡ types.elements_are_unsigned (scopes.type_of_entity (entity_found entity.entry))) }
 {
     let place = element(alloc, array_number(numbers, entity), index.value, pos)?;
     Ok(Typed {
@@ -121,8 +128,11 @@ fn cast(unsigned: bool, operand: Typed) -> Typed
 
 /// An operator before an expression. The one error is want of memory.
 fn unary(alloc: Global, symbol: u8, operand: Typed, pos: Pos) -> Result<Typed, Memory>
-    ensures value { IfOk result (λ w. kernel.expression_of w.value ≡ plain.operation symbol operand.unsigned (spec.one_operand (kernel.expression_of operand.value)) pos) }
-    ensures unsigned { IfOk result (λ w. w.unsigned ≡ types.sign_is_unsigned (operators.operator_at symbol) operand.unsigned) }
+    ensures value { IfOk result
+        (λ w. kernel.expression_of w.value ≡ plain.operation symbol operand.unsigned
+        (spec.one_operand (kernel.expression_of operand.value)) pos) }
+    ensures unsigned { IfOk result (λ w. w.unsigned
+        ≡ types.sign_is_unsigned (operators.operator_at symbol) operand.unsigned) }
 {
     let unsigned = operand.unsigned;
     let operands = one(alloc, operand.value)?;
@@ -140,8 +150,12 @@ pub fn binary(
     right: Typed,
     pos: Pos,
 ) -> Result<Typed, Memory>
-    ensures value { IfOk result (λ w. kernel.expression_of w.value ≡ plain.operation symbol (types.operation_is_unsigned (operators.operator_at symbol) left.unsigned right.unsigned) (spec.two_operands (kernel.expression_of left.value) (kernel.expression_of right.value)) pos) }
-    ensures unsigned { IfOk result (λ w. w.unsigned ≡ types.result_is_unsigned (operators.operator_at symbol) left.unsigned right.unsigned) }
+    ensures value { IfOk result
+        (λ w. kernel.expression_of w.value ≡ plain.operation symbol (types.operation_is_unsigned
+        (operators.operator_at symbol) left.unsigned right.unsigned) (spec.two_operands
+        (kernel.expression_of left.value) (kernel.expression_of right.value)) pos) }
+    ensures unsigned { IfOk result (λ w. w.unsigned
+        ≡ types.result_is_unsigned (operators.operator_at symbol) left.unsigned right.unsigned) }
 {
     let operation = operation_is_unsigned(symbol, left.unsigned, right.unsigned);
     let unsigned = result_is_unsigned(symbol, left.unsigned, right.unsigned);
@@ -160,7 +174,10 @@ fn choice(
     second: Typed,
     pos: Pos,
 ) -> Result<Typed, Memory>
-    ensures value { IfOk result (λ w. kernel.expression_of w.value ≡ plain.operation symbols.question (first.unsigned || second.unsigned) (plain.more_operands (kernel.expression_of test.value) (spec.two_operands (kernel.expression_of first.value) (kernel.expression_of second.value))) pos) }
+    ensures value { IfOk result (λ w. kernel.expression_of w.value
+        ≡ plain.operation symbols.question (first.unsigned || second.unsigned)
+        (plain.more_operands (kernel.expression_of test.value) (spec.two_operands
+        (kernel.expression_of first.value) (kernel.expression_of second.value))) pos) }
     ensures unsigned { IfOk result (λ w. w.unsigned ≡ (first.unsigned || second.unsigned)) }
 {
     let unsigned = first.unsigned || second.unsigned;
@@ -173,7 +190,8 @@ fn choice(
 
 /// The place of an expression that can be assigned to. The one error is want of memory.
 pub fn place(alloc: Global, numbers: &Numbers, scope: &Scope, e: &Expr) -> Result<Place, Memory>
-    ensures { IfOk result (λ p. kernel.place_of p ≡ spec.place_in (numbering_of numbers.now) (scope_of scope.now) (tree.expression_of e.now)) }
+    ensures { IfOk result (λ p. kernel.place_of p ≡ spec.place_in (numbering_of numbers.now)
+        (scope_of scope.now) (tree.expression_of e.now)) }
 {
     match &e.kind {
         Ex::Num(_, _) => Ok(Place::Word(0)),
@@ -200,7 +218,9 @@ pub fn updated(
     pos: Pos,
     right: Typed,
 ) -> Result<Kx, Memory>
-    ensures { IfOk result (λ e. kernel.expression_of e ≡ spec.updated (numbering_of numbers.now) (scope_of scope.now) (tree.expression_of to.now) symbol pos right.unsigned (kernel.expression_of right.value)) }
+    ensures { IfOk result (λ e. kernel.expression_of e ≡ spec.updated (numbering_of numbers.now)
+        (scope_of scope.now) (tree.expression_of to.now) symbol pos right.unsigned
+        (kernel.expression_of right.value)) }
 {
     let left = word(alloc, numbers, scope, to);
     let (right, left) = beside(right, left)?;
@@ -211,7 +231,8 @@ pub fn updated(
 /// The test of an index that stands alone: it gives the index, where that is below the array's length. The one error is want
 /// of memory.
 pub fn index_test(alloc: Global, index: Kx, words: u32, pos: Pos) -> Result<Kx, Memory>
-    ensures { IfOk result (λ e. kernel.expression_of e ≡ plain.operation symbols.bracket true (spec.two_operands (kernel.expression_of index) (plain.number words)) pos) }
+    ensures { IfOk result (λ e. kernel.expression_of e ≡ plain.operation symbols.bracket true
+        (spec.two_operands (kernel.expression_of index) (plain.number words)) pos) }
 {
     let operands = two(alloc, index, Kx::Num(words))?;
     Ok(Kx::Op(BRACKET, true, operands, pos))
@@ -219,7 +240,8 @@ pub fn index_test(alloc: Global, index: Kx, words: u32, pos: Pos) -> Result<Kx, 
 
 /// An element of an array.
 pub fn element(alloc: Global, array: u32, index: Kx, pos: Pos) -> Result<Place, Memory>
-    ensures { IfOk result (λ p. kernel.place_of p ≡ plain.element array (kernel.expression_of index) pos) }
+    ensures { IfOk result
+        (λ p. kernel.place_of p ≡ plain.element array (kernel.expression_of index) pos) }
 {
     let index = boxed(alloc, index)?;
     Ok(Place::Elem(array, index, pos))

@@ -32,7 +32,8 @@ impl<'p, 'a> Context<'p, 'a> {
         path: &[u32],
         mut copied: Copied,
     ) -> Result<Copied, Memory>
-        ensures { IfOk result (λ block. (behind : Names) → copy_of block behind ≡ calls.as_block (context_of self.now) path.now (copy_of copied behind)) }
+        ensures { IfOk result (λ block. (behind : Names) → copy_of block behind
+            ≡ calls.as_block (context_of self.now) path.now (copy_of copied behind)) }
     {
         let code = copied.take_code(alloc);
         let whole = copied.and_statement(self.block_at(path, code));
@@ -44,7 +45,8 @@ impl<'p, 'a> Context<'p, 'a> {
 
     /// The block of this path.
     pub fn block_at(&self, path: &[u32], code: List<Kst>) -> Kst
-        ensures { kernel.statement_of result ≡ contexts.block_at (context_of self.now) path.now (map kernel.statement_of code) }
+        ensures { kernel.statement_of result
+            ≡ contexts.block_at (context_of self.now) path.now (map kernel.statement_of code) }
     {
         Kst::Block(self.numbers.block(path), code)
     }
@@ -63,7 +65,12 @@ impl<'p, 'a> Context<'p, 'a> {
         last: Option<Kst>,
     ) -> Result<Copied, Memory>
         requires { paths.turn ≡ turn_of paths.whole }
-        ensures { IfOk result (λ copied. (between behind : Names) → copy_of copied behind ≡ spec.loop_at (context_of self.now) paths.whole (kernel.expression_of test) (spec.turn (context_of self.now) paths.whole (copy_of body behind).code (option_to_list (option_map kernel.statement_of last))) (copies.code_of (copy_of next between)) (copies.joined (copy_of next between) (copy_of body behind))) }
+        ensures { IfOk result
+            (λ copied. (between behind : Names) → copy_of copied behind ≡ spec.loop_at
+            (context_of self.now) paths.whole (kernel.expression_of test) (spec.turn
+            (context_of self.now) paths.whole (copy_of body behind).code (option_to_list
+            (option_map kernel.statement_of last))) (copies.code_of (copy_of next between))
+            (copies.joined (copy_of next between) (copy_of body behind))) }
     {
         let followed = next.take_code(alloc);
         let done = body.take_code(alloc);
@@ -87,7 +94,11 @@ impl<'p, 'a> Context<'p, 'a> {
         last: Option<Kst>,
         followed: List<Kst>,
     ) -> Result<List<Kst>, Memory>
-        ensures { IfOk result (λ round. map kernel.statement_of round ≡ plain.loop (kernel.expression_of test) (plain.statements (contexts.block_at (context_of self.now) path.now (map kernel.statement_of body) ∷ option_to_list (option_map kernel.statement_of last))) (plain.statements (map kernel.statement_of followed)) ∷ []) }
+        ensures { IfOk result
+            (λ round. map kernel.statement_of round ≡ plain.loop (kernel.expression_of
+            test) (plain.statements (contexts.block_at (context_of self.now) path.now (map
+            kernel.statement_of body) ∷ option_to_list (option_map kernel.statement_of last)))
+            (plain.statements (map kernel.statement_of followed)) ∷ []) }
     {
         let turn = self.turn(alloc, path, body, last);
         let (test, turn) = beside(test, turn)?;
@@ -103,7 +114,9 @@ impl<'p, 'a> Context<'p, 'a> {
         body: List<Kst>,
         last: Option<Kst>,
     ) -> Result<List<Kst>, Memory>
-        ensures { IfOk result (λ turn. map kernel.statement_of turn ≡ contexts.block_at (context_of self.now) path.now (map kernel.statement_of body) ∷ option_to_list (option_map kernel.statement_of last)) }
+        ensures { IfOk result (λ turn. map kernel.statement_of turn ≡ contexts.block_at
+            (context_of self.now) path.now (map kernel.statement_of body) ∷ option_to_list
+            (option_map kernel.statement_of last)) }
     {
         let block = self.block_at(path, body);
         match last {
@@ -121,7 +134,8 @@ impl<'p, 'a> Context<'p, 'a> {
     /// The copy of a statement that leaves the block of this path. The one error is want of memory.
     #[inline(never)]
     pub fn leaves(&self, alloc: Global, path: &[u32], scope: &Scope<'a>) -> Result<Copied, Memory>
-        ensures { IfOk result (λ copied. copy_of copied (scope_of scope.now) ≡ copies.one_statement (scope_of scope.now) (contexts.leave (context_of self.now) path.now)) }
+        ensures { IfOk result (λ copied. copy_of copied (scope_of scope.now) ≡ copies.one_statement
+            (scope_of scope.now) (contexts.leave (context_of self.now) path.now)) }
     {
         let copied = Copied::one_statement(alloc, self.leave(path))?;
         Ok(copied)
@@ -130,7 +144,8 @@ impl<'p, 'a> Context<'p, 'a> {
     /// The block of this path is left where the test is 0. The one error is want of memory.
     #[inline(never)]
     pub fn leave_unless(&self, alloc: Global, path: &[u32], test: Kx) -> Result<Kst, Memory>
-        ensures { IfOk result (λ statement. kernel.statement_of statement ≡ spec.leave_unless (context_of self.now) path.now (kernel.expression_of test)) }
+        ensures { IfOk result (λ statement. kernel.statement_of statement
+            ≡ spec.leave_unless (context_of self.now) path.now (kernel.expression_of test)) }
     {
         let left = one(alloc, self.leave(path));
         let (test, left) = beside(test, left)?;
@@ -154,7 +169,9 @@ pub fn if_copy(
     first: Copied,
     second: Result<Copied, Memory>,
 ) -> Result<Copied, Memory>
-    ensures { IfOk result (λ copied. (between behind : Names) (other : copies.Copy) → IfOk second (λ s. copy_of s behind ≡ other) → copy_of copied behind ≡ spec.if_copy (kernel.expression_of test) (copy_of first between) other) }
+    ensures { IfOk result (λ copied. (between behind : Names) (other : copies.Copy) →
+        IfOk second (λ s. copy_of s behind ≡ other) → copy_of copied behind
+        ≡ spec.if_copy (kernel.expression_of test) (copy_of first between) other) }
 {
     let ((test, first), second) = beside((test, first), second)?;
     let mut first = first;

@@ -19,7 +19,8 @@ impl<'a> Functions<'a> {
     #[tactic(auto, using(crate::proofs::Laws::Functions::functions_step))]
     /// Those of a tree. The one error is want of memory.
     pub fn of_tree(alloc: Global, tree: &'a Tree) -> Result<Functions<'a>, Memory>
-        ensures { IfOk result (λ functions. functions_of functions ≡ spec.functions (program_of tree.now)) }
+        ensures { IfOk result
+            (λ functions. functions_of functions ≡ spec.functions (program_of tree.now)) }
     {
         let mut all = Vec::new(alloc);
         for item in tree.items.as_slice() {
@@ -38,8 +39,10 @@ impl<'a> Functions<'a> {
     #[tactic(auto, using(crate::proofs::Laws::Functions::named_step, crate::proofs::Laws::Functions::deepest_step))]
     /// The first function of a name, if there is one.
     pub fn named(&self, name: &[u8]) -> Option<&'a FuncItem>
-        ensures function { option_map (λ f. function_of f.now) result ≡ spec.function_named (functions_of self.now) name.now }
-        ensures depth { IfSome result (λ f. height (statement_of f.now.body) ≤ deepest self.now.all.items) }
+        ensures function { option_map (λ f. function_of f.now) result
+            ≡ spec.function_named (functions_of self.now) name.now }
+        ensures depth { IfSome result
+            (λ f. height (statement_of f.now.body) ≤ deepest self.now.all.items) }
     {
         for function in &self.all {
             if function.name.text.as_slice() == name {
@@ -52,7 +55,8 @@ impl<'a> Functions<'a> {
 
 /// Adds the function that an item is, if it is one.
 fn add_function<'a>(all: &mut Vec<&'a FuncItem>, item: &'a Item) -> Result<(), Memory>
-    ensures { OnOk result (functions_among all.new.items ≡ functions_among all.old.items ++ spec.functions (item_of item.now ∷ [])) }
+    ensures { OnOk result (functions_among all.new.items
+        ≡ functions_among all.old.items ++ spec.functions (item_of item.now ∷ [])) }
 {
     match item {
         Item::Port(_) => Ok(()),

@@ -32,7 +32,8 @@ impl Numbers {
 
     /// Those that a copy makes. The one error is want of memory, or of numbers for more than 2^32 instances.
     pub fn of_copy(alloc: Global, copied: Copied) -> Result<Numbers, Memory>
-        ensures { IfOk result (λ numbers. (scope : Scope) → numbering_of numbers ≡ numbering_in (copy_of copied scope)) }
+        ensures { IfOk result (λ numbers. (scope : Scope) → numbering_of numbers
+            ≡ numbering_in (copy_of copied scope)) }
     {
         let variables = each_once(alloc, copied.variables);
         let channels = each_once(alloc, copied.channels);

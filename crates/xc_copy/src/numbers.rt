@@ -61,7 +61,8 @@ pub struct Once<T> {
 
 /// Each path of some instances once. The one error is want of memory, or of numbers for 2^32 instances and more.
 pub fn each_once<T: HasPath + Drop>(alloc: Global, seen: VecDeque<T>) -> Result<Once<T>, Memory>
-    ensures items { IfOk result (λ once. once.items.items ≡ spec_paths.each_once T.path_of seen.items) }
+    ensures items { IfOk result
+        (λ once. once.items.items ≡ spec_paths.each_once T.path_of seen.items) }
     ensures paths { IfOk result (λ once. paths_in once.paths ≡ map T.path_of once.items.items) }
     ensures few { IfOk result (λ once. length (paths_in once.paths) < 2 ^ 32) }
 {
@@ -81,7 +82,8 @@ fn keep_all<T: HasPath + Drop>(
     mut seen: VecDeque<T>,
 ) -> Result<(), Memory>
     requires { paths_in once.old.paths ≡ map T.path_of once.old.items.items }
-    ensures items { OnOk result (once.new.items.items ≡ spec_paths.with_all T.path_of once.old.items.items seen.items) }
+    ensures items { OnOk result
+        (once.new.items.items ≡ spec_paths.with_all T.path_of once.old.items.items seen.items) }
     ensures paths { OnOk result (paths_in once.new.paths ≡ map T.path_of once.new.items.items) }
     ensures few { OnOk result (length (paths_in once.new.paths) < 2 ^ 32) }
 {
@@ -98,7 +100,8 @@ fn keep_all<T: HasPath + Drop>(
 #[tactic(auto, using(crate::proofs::Laws::PathSets::kept_new, crate::proofs::Laws::PathSets::kept_known))]
 fn keep<T: HasPath + Drop>(alloc: Global, once: &mut Once<T>, instance: T) -> Result<(), Memory>
     requires { paths_in once.old.paths ≡ map T.path_of once.old.items.items }
-    ensures items { OnOk result (once.new.items.items ≡ with_new T.path_of once.old.items.items instance) }
+    ensures items { OnOk result
+        (once.new.items.items ≡ with_new T.path_of once.old.items.items instance) }
     ensures paths { OnOk result (paths_in once.new.paths ≡ map T.path_of once.new.items.items) }
 {
     if !add(alloc, &mut once.paths, instance.path())? {
@@ -113,7 +116,8 @@ fn keep<T: HasPath + Drop>(alloc: Global, once: &mut Once<T>, instance: T) -> Re
 #[tactic(auto, using(crate::proofs::Laws::PathSets::path_added, crate::proofs::Laws::PathSets::has_is))]
 /// Adds a path, and says whether it is new. The one error is want of memory.
 fn add(alloc: Global, paths: &mut IndexSet<Vec<u32>>, path: &[u32]) -> Result<bool, Memory>
-    ensures paths { OnOk result (paths_in paths.new ≡ with_new itself (paths_in paths.old) path.now) }
+    ensures paths { OnOk result
+        (paths_in paths.new ≡ with_new itself (paths_in paths.old) path.now) }
     ensures new { IfOk result (λ new. new ≡ not (has_path itself (paths_in paths.old) path.now)) }
 {
     let path = Vec::from_slice(alloc, path)?;

@@ -41,7 +41,8 @@ impl<'a> Entered<'a> {
     /// With the ports alone.
     #[tactic(auto)]
     fn with(alloc: Global, ports: Scope<'a>) -> Entered<'a>
-        ensures { copy_of result.copied (scope_of result.scope) ≡ copies.no_copy (scope_of ports.entry) }
+        ensures { copy_of result.copied (scope_of result.scope)
+            ≡ copies.no_copy (scope_of ports.entry) }
     {
         Entered {
             copied: Copied::nothing(alloc),
@@ -52,7 +53,9 @@ impl<'a> Entered<'a> {
     /// What is handed to a parameter of this name, before what is to the others. The one error is want of memory.
     #[tactic(auto)]
     fn behind(self, name: &'a [u8], handed: Handed) -> Result<Entered<'a>, Memory>
-        ensures { IfOk result (λ entered. (p : spec.Passed) → IsPassed p handed → copy_of entered.copied (scope_of entered.scope) ≡ spec.and_passed name.now p (copy_of self.entry.copied (scope_of self.entry.scope))) }
+        ensures { IfOk result (λ entered. (p : spec.Passed) → IsPassed p handed →
+            copy_of entered.copied (scope_of entered.scope) ≡ spec.and_passed name.now p
+            (copy_of self.entry.copied (scope_of self.entry.scope))) }
     {
         let Entered { copied, mut scope } = self;
         let Handed {
@@ -80,7 +83,9 @@ impl<'p, 'a> Context<'p, 'a> {
         params: &'a [Param],
         args: &[Arg],
     ) -> Result<Entered<'a>, Memory>
-        ensures { IfOk result (λ entered. copy_of entered.copied (scope_of entered.scope) ≡ spec.all_passed (context_of self.now) (scope_of scope.now) own.now params.now (map tree.argument_of args.now)) }
+        ensures { IfOk result (λ entered. copy_of entered.copied (scope_of entered.scope)
+            ≡ spec.all_passed (context_of self.now) (scope_of scope.now) own.now params.now
+            (map tree.argument_of args.now)) }
     {
         let ports = self.scope_of_ports(alloc)?;
         let mut entered = Entered::with(alloc, ports);
@@ -104,7 +109,9 @@ impl<'p, 'a> Context<'p, 'a> {
         param: &Param,
         argument: &Expr,
     ) -> Result<Handed, Memory>
-        ensures { IfOk result (λ handed. IsPassed (spec.passed (context_of self.now) (scope_of scope.now) own.now param.now.name.pos param.now.kind (tree.expression_of argument.now)) handed) }
+        ensures { IfOk result
+            (λ handed. IsPassed (spec.passed (context_of self.now) (scope_of scope.now)
+            own.now param.now.name.pos param.now.kind (tree.expression_of argument.now)) handed) }
     {
         match &param.kind {
             ParamKind::Value(unsigned) => {
@@ -128,7 +135,8 @@ impl<'p, 'a> Context<'p, 'a> {
         unsigned: bool,
         argument: &Expr,
     ) -> Result<Handed, Memory>
-        ensures { IfOk result (λ handed. IsPassed (spec.by_value (context_of self.now) (scope_of scope.now) own.now pos unsigned (tree.expression_of argument.now)) handed) }
+        ensures { IfOk result (λ handed. IsPassed (spec.by_value (context_of self.now)
+            (scope_of scope.now) own.now pos unsigned (tree.expression_of argument.now)) handed) }
     {
         let path = path_at(alloc, own, pos);
         let value = word(alloc, self.numbers, scope, argument);
@@ -150,7 +158,8 @@ impl<'p, 'a> Context<'p, 'a> {
         pos: Pos,
         argument: &Expr,
     ) -> Result<Handed, Memory>
-        ensures { IfOk result (λ handed. IsPassed (spec.by_reference (context_of self.now) (scope_of scope.now) own.now pos (tree.expression_of argument.now)) handed) }
+        ensures { IfOk result (λ handed. IsPassed (spec.by_reference (context_of self.now)
+            (scope_of scope.now) own.now pos (tree.expression_of argument.now)) handed) }
     {
         match &argument.kind {
             Ex::Name(name) => stands_for(alloc, scope.entity(name.as_slice())),
@@ -181,7 +190,9 @@ impl<'p, 'a> Context<'p, 'a> {
         array_pos: Pos,
         array: &Entity,
     ) -> Result<Handed, Memory>
-        ensures { IfOk result (λ handed. IsPassed (spec.by_element (context_of self.now) (scope_of scope.now) own.now pos (tree.expression_of index.now) array_pos (entity_meant array.now)) handed) }
+        ensures { IfOk result (λ handed.
+            IsPassed (spec.by_element (context_of self.now) (scope_of scope.now) own.now pos
+            (tree.expression_of index.now) array_pos (entity_meant array.now)) handed) }
     {
         match array {
             Entity::Array(path, words, unsigned) => {
@@ -217,7 +228,9 @@ impl<'p, 'a> Context<'p, 'a> {
         words: u32,
         pos: Pos,
     ) -> Result<Kx, Memory>
-        ensures { IfOk result (λ test. kernel.expression_of test ≡ spec.index_test (context_of self.now) (scope_of scope.now) (tree.expression_of index.now) words pos) }
+        ensures { IfOk result
+            (λ test. kernel.expression_of test ≡ spec.index_test (context_of self.now)
+            (scope_of scope.now) (tree.expression_of index.now) words pos) }
     {
         let index = word(alloc, self.numbers, scope, index)?;
         let test = index_test(alloc, index.value, words, pos)?;
@@ -227,7 +240,10 @@ impl<'p, 'a> Context<'p, 'a> {
     /// The copy of a parameter's variable of this path, which holds a word. The one error is want of memory.
     #[tactic(auto)]
     fn stored(&self, alloc: Global, path: &[u32], pos: Pos, value: Kx) -> Result<Copied, Memory>
-        ensures { IfOk result (λ copied. (behind : Names) → copy_of copied behind ≡ copies.with_variable (copies.one_statement behind (contexts.set_word (context_of self.now) path.now (kernel.expression_of value))) (contexts.word_variable (context_of self.now) false path.now pos)) }
+        ensures { IfOk result (λ copied. (behind : Names) → copy_of copied behind
+            ≡ copies.with_variable (copies.one_statement behind
+            (contexts.set_word (context_of self.now) path.now (kernel.expression_of value)))
+            (contexts.word_variable (context_of self.now) false path.now pos)) }
     {
         let stored = Copied::one_statement(alloc, self.set_word(path, value));
         let variable = self.word_variable(alloc, false, path, pos);
@@ -246,7 +262,8 @@ fn least(a: usize, b: usize) -> usize
 
 /// A whole array, a channel or a port: a name. The one error is want of memory.
 fn by_name(alloc: Global, scope: &Scope, argument: &Expr) -> Result<Handed, Memory>
-    ensures { IfOk result (λ handed. IsPassed (spec.by_name (scope_of scope.now) (tree.expression_of argument.now)) handed) }
+    ensures { IfOk result (λ handed.
+        IsPassed (spec.by_name (scope_of scope.now) (tree.expression_of argument.now)) handed) }
 {
     match &argument.kind {
         Ex::Name(name) => stands_for(alloc, scope.entity(name.as_slice())),
@@ -261,7 +278,8 @@ fn by_name(alloc: Global, scope: &Scope, argument: &Expr) -> Result<Handed, Memo
 
 /// The parameter stands for what the argument stands for. The one error is want of memory.
 fn stands_for(alloc: Global, entity: Option<&Entity>) -> Result<Handed, Memory>
-    ensures { IfOk result (λ handed. IsPassed (spec.stands_for (entity_found entity.entry)) handed) }
+    ensures { IfOk result
+        (λ handed. IsPassed (spec.stands_for (entity_found entity.entry)) handed) }
 {
     let entity = match entity {
         None => Entity::Unknown,

@@ -36,7 +36,9 @@ impl Branched {
     /// One more branch behind the others, whose statement begins at a place. The one error is want of memory.
     #[inline(never)]
     pub fn and(self, alloc: Global, pos: Pos, mut copied: Copied) -> Result<Branched, Memory>
-        ensures { IfOk result (λ r. (behind : Names) (others : spec.Branched) → branched_before r others ≡ branched_before self (spec.and_branch pos (copy_of copied behind) others)) }
+        ensures { IfOk result
+            (λ r. (behind : Names) (others : spec.Branched) → branched_before r others
+            ≡ branched_before self (spec.and_branch pos (copy_of copied behind) others)) }
     {
         let Branched { made, mut branches } = self;
         let body = copied.take_code(alloc);
@@ -49,7 +51,8 @@ impl Branched {
     /// A `par` of the branches. The one error is want of memory.
     #[inline(never)]
     pub fn as_par(self, alloc: Global) -> Result<Copied, Memory>
-        ensures { IfOk result (λ copied. (behind : Names) → copy_of copied behind ≡ spec.par_copy (branched_before self (spec.no_branches behind))) }
+        ensures { IfOk result (λ copied. (behind : Names) → copy_of copied behind
+            ≡ spec.par_copy (branched_before self (spec.no_branches behind))) }
     {
         let Branched { made, branches } = self;
         let copied = made.with_statement(alloc, Kst::Par(branches))?;
@@ -86,7 +89,17 @@ impl Cased {
         received: Received,
         block: Copied,
     ) -> Result<(), Memory>
-        ensures { OnOk result ((between behind : Names) (others : spec.Cased) → cased_before self.new others ≡ cased_before self.old (record { made = copies.joined (copies.joined (copy_of received.names between) (copies.with_code (copy_of block behind) [])) others.made; cases = plain.more_cases (plain.case (option_map kernel.expression_of guard) (kernel.input_of received.head) (copies.code_of (copy_of block behind))) others.cases; otherwise = others.otherwise })) }
+        ensures { OnOk result
+            ((between behind : Names) (others : spec.Cased) → cased_before self.new
+            others ≡ cased_before self.old (record {
+              made = copies.joined (copies.joined
+                  (copy_of received.names between) (copies.with_code (copy_of block behind) []))
+                  others.made;
+              cases = plain.more_cases (plain.case (option_map kernel.expression_of
+                  guard) (kernel.input_of received.head) (copies.code_of (copy_of block behind)))
+                  others.cases;
+              otherwise = others.otherwise;
+            })) }
     {
         let mut block = block;
         let body = block.take_code(alloc);
@@ -101,7 +114,13 @@ impl Cased {
     /// A `default` behind the others, which counts where none was before. The one error is want of memory.
     #[inline(never)]
     pub fn add_default(&mut self, alloc: Global, block: Copied) -> Result<(), Memory>
-        ensures { OnOk result ((behind : Names) (others : spec.Cased) → cased_before self.new others ≡ cased_before self.old (record { made = copies.joined (copies.with_code (copy_of block behind) []) others.made; cases = others.cases; otherwise = plain.default (copies.code_of (copy_of block behind)) })) }
+        ensures { OnOk result ((behind : Names) (others : spec.Cased) → cased_before self.new others
+            ≡ cased_before self.old (record {
+              made = copies.joined
+                  (copies.with_code (copy_of block behind) []) others.made;
+              cases = others.cases;
+              otherwise = plain.default (copies.code_of (copy_of block behind));
+            })) }
     {
         let mut block = block;
         let body = block.take_code(alloc);
@@ -114,7 +133,8 @@ impl Cased {
     /// A `select` of the cases, whose word stands at a place. The one error is want of memory.
     #[inline(never)]
     pub fn as_select(self, alloc: Global, pos: Pos) -> Result<Copied, Memory>
-        ensures { IfOk result (λ copied. (behind : Names) → copy_of copied behind ≡ spec.select_copy behind pos (cased_before self (spec.no_cases behind))) }
+        ensures { IfOk result (λ copied. (behind : Names) → copy_of copied behind
+            ≡ spec.select_copy behind pos (cased_before self (spec.no_cases behind))) }
     {
         let Cased {
             made,
@@ -133,7 +153,8 @@ impl Cased {
 
 /// The first `default`.
 fn first_of(before: Option<List<Kst>>, body: List<Kst>) -> Option<List<Kst>>
-    ensures { (others : plain.Default) → default_before result others ≡ default_before before (plain.default (plain.statements (map kernel.statement_of body))) }
+    ensures { (others : plain.Default) → default_before result others ≡ default_before before
+        (plain.default (plain.statements (map kernel.statement_of body))) }
 {
     match before {
         Some(before) => Some(before),

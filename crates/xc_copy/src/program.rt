@@ -48,8 +48,13 @@ fn walked<'a>(
     functions: &Functions<'a>,
     ports: &[&'a [u8]],
 ) -> Result<(Numbers, Rooted), Memory>
-    ensures numbers { IfOk result (λ r. numbering_of r.0 ≡ numbering_by (functions_of functions.now) (ports_from 0 ports.now)) }
-    ensures roots { IfOk result (λ r. rooted_of r.1 (rooted_by (functions_of functions.now) (ports_from 0 ports.now) (numbering_by (functions_of functions.now) (ports_from 0 ports.now))).made.scope ≡ rooted_by (functions_of functions.now) (ports_from 0 ports.now) (numbering_by (functions_of functions.now) (ports_from 0 ports.now))) }
+    ensures numbers { IfOk result (λ r. numbering_of r.0
+        ≡ numbering_by (functions_of functions.now) (ports_from 0 ports.now)) }
+    ensures roots { IfOk result
+        (λ r. rooted_of r.1 (rooted_by (functions_of functions.now) (ports_from 0 ports.now)
+        (numbering_by (functions_of functions.now) (ports_from 0 ports.now))).made.scope
+        ≡ rooted_by (functions_of functions.now) (ports_from 0 ports.now)
+        (numbering_by (functions_of functions.now) (ports_from 0 ports.now))) }
 {
     let numbers = numbered(alloc, functions, ports)?;
     let rooted = rooted(alloc, functions, ports, &numbers);
@@ -63,7 +68,8 @@ fn numbered<'a>(
     functions: &Functions<'a>,
     ports: &[&'a [u8]],
 ) -> Result<Numbers, Memory>
-    ensures { IfOk result (λ numbers. numbering_of numbers ≡ numbering_by (functions_of functions.now) (ports_from 0 ports.now)) }
+    ensures { IfOk result (λ numbers. numbering_of numbers
+        ≡ numbering_by (functions_of functions.now) (ports_from 0 ports.now)) }
 {
     let none = Numbers::none(alloc);
     let walked = rooted(alloc, functions, ports, &none);
@@ -75,7 +81,16 @@ fn numbered<'a>(
 
 /// The kernel by its numbers, its roots and their instances, its ports, and the place of main's name.
 fn kernel_by(numbers: Numbers, rooted: Rooted, ports: List<PortUse>, main: Pos) -> Kernel
-    ensures { kernel_of result ≡ record { roots = map root_of rooted.roots; variables = numbers.variables.items; channels = numbers.channels.items; timers = numbers.timers.items; ports = ports; instances = rooted.made.instances.items; main = main } }
+    ensures { kernel_of result
+        ≡ record {
+          roots = map root_of rooted.roots;
+          variables = numbers.variables.items;
+          channels = numbers.channels.items;
+          timers = numbers.timers.items;
+          ports = ports;
+          instances = rooted.made.instances.items;
+          main = main;
+        } }
 {
     let (vars, chans, timers) = numbers.into_lists();
     let Rooted { made, roots } = rooted;
@@ -98,7 +113,9 @@ fn rooted<'a>(
     ports: &[&'a [u8]],
     numbers: &Numbers,
 ) -> Result<Rooted, Memory>
-    ensures { IfOk result (λ r. rooted_of r (rooted_by (functions_of functions.now) (ports_from 0 ports.now) (numbering_of numbers.now)).made.scope ≡ rooted_by (functions_of functions.now) (ports_from 0 ports.now) (numbering_of numbers.now)) }
+    ensures { IfOk result (λ r. rooted_of r (rooted_by (functions_of functions.now)
+        (ports_from 0 ports.now) (numbering_of numbers.now)).made.scope ≡ rooted_by
+        (functions_of functions.now) (ports_from 0 ports.now) (numbering_of numbers.now)) }
 {
     let context = Context {
         functions,
@@ -128,7 +145,8 @@ fn main_pos(main: Option<&FuncItem>) -> Pos
 
 /// The names of ports, in the order of the text. The one error is want of memory.
 fn port_names<'a>(alloc: Global, tree: &'a Tree) -> Result<Vec<&'a [u8]>, Memory>
-    ensures { IfOk result (λ names. names_among names.items ≡ names_of_ports (programs.ports (program_of tree.now))) }
+    ensures { IfOk result (λ names. names_among names.items
+        ≡ names_of_ports (programs.ports (program_of tree.now))) }
 {
     let mut names = Vec::new(alloc);
     for item in tree.items.as_slice() {
@@ -139,7 +157,9 @@ fn port_names<'a>(alloc: Global, tree: &'a Tree) -> Result<Vec<&'a [u8]>, Memory
 
 /// Adds the name of the port that an item is, if it is one. The one error is want of memory.
 fn add_port_name<'a>(names: &mut Vec<&'a [u8]>, item: &'a Item) -> Result<(), Memory>
-    ensures { OnOk result (names_among names.new.items ≡ names_among names.old.items ++ names_of_ports (programs.ports (item_of item.now ∷ []))) }
+    ensures { OnOk result
+        (names_among names.new.items ≡ names_among names.old.items ++ names_of_ports
+        (programs.ports (item_of item.now ∷ []))) }
 {
     match item {
         Item::Func(_) => Ok(()),
@@ -152,7 +172,8 @@ fn add_port_name<'a>(names: &mut Vec<&'a [u8]>, item: &'a Item) -> Result<(), Me
 
 /// The kernel's entries for ports, in the order of the text. The one error is want of memory.
 fn port_uses(alloc: Global, tree: &Tree) -> Result<List<PortUse>, Memory>
-    ensures { IfOk result (λ ports. ports ≡ map ports_spec.port_use (programs.ports (program_of tree.now))) }
+    ensures { IfOk result
+        (λ ports. ports ≡ map ports_spec.port_use (programs.ports (program_of tree.now))) }
 {
     let mut ports = List::new(alloc);
     for item in tree.items.as_slice() {
@@ -163,7 +184,8 @@ fn port_uses(alloc: Global, tree: &Tree) -> Result<List<PortUse>, Memory>
 
 /// Adds the kernel's entry for the port that an item is, if it is one. The one error is want of memory.
 fn add_port_use(alloc: Global, ports: &mut List<PortUse>, item: &Item) -> Result<(), Memory>
-    ensures { OnOk result (ports.new ≡ ports.old ++ map ports_spec.port_use (programs.ports (item_of item.now ∷ []))) }
+    ensures { OnOk result (ports.new
+        ≡ ports.old ++ map ports_spec.port_use (programs.ports (item_of item.now ∷ []))) }
 {
     match item {
         Item::Func(_) => Ok(()),

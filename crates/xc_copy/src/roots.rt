@@ -54,7 +54,8 @@ impl Rooted {
 
     /// More instances behind, without a root. The one error is want of memory.
     fn add_copy(&mut self, alloc: Global, copied: Copied) -> Result<(), Memory>
-        ensures { OnOk result ((before behind : Names) → rooted_of self.new behind ≡ spec.and_roots (rooted_of self.old before) (spec.no_roots (copy_of copied behind))) }
+        ensures { OnOk result ((before behind : Names) → rooted_of self.new behind ≡ spec.and_roots
+            (rooted_of self.old before) (spec.no_roots (copy_of copied behind))) }
     {
         let mut copied = copied;
         let _code = copied.take_code(alloc);
@@ -71,7 +72,8 @@ impl Rooted {
         pos: Pos,
         copied: Copied,
     ) -> Result<(), Memory>
-        ensures { OnOk result ((before behind : Names) → rooted_of self.new behind ≡ spec.and_roots (rooted_of self.old before) (spec.root_of core place pos (copy_of copied behind))) }
+        ensures { OnOk result ((before behind : Names) → rooted_of self.new behind ≡ spec.and_roots
+            (rooted_of self.old before) (spec.root_of core place pos (copy_of copied behind))) }
     {
         let mut copied = copied;
         let body = copied.take_code(alloc);
@@ -95,8 +97,12 @@ impl<'p, 'a> Context<'p, 'a> {
         calls: usize,
         main: Option<&'a FuncItem>,
     ) -> Result<Rooted, Memory>
-        requires { IfSome main (λ f. height (tree.statement_of f.now.body) ≤ deepest self.now.functions.now.all.items) }
-        ensures { IfOk result (λ r. rooted_of r (spec.roots_of (calls_copy calls) (option_map (λ f. function_of f.now) main.entry) (context_of self.now)).made.scope ≡ spec.roots_of (calls_copy calls) (option_map (λ f. function_of f.now) main.entry) (context_of self.now)) }
+        requires { IfSome main (λ f.
+            height (tree.statement_of f.now.body) ≤ deepest self.now.functions.now.all.items) }
+        ensures { IfOk result (λ r. rooted_of r (spec.roots_of (calls_copy calls)
+            (option_map (λ f. function_of f.now) main.entry) (context_of self.now)).made.scope
+            ≡ spec.roots_of (calls_copy calls) (option_map (λ f. function_of f.now) main.entry)
+            (context_of self.now)) }
     {
         match main {
             None => Ok(Rooted::none(alloc)),
@@ -114,8 +120,11 @@ impl<'p, 'a> Context<'p, 'a> {
         calls: usize,
         main: &'a FuncItem,
     ) -> Result<Rooted, Memory>
-        requires { height (tree.statement_of main.now.body) ≤ deepest self.now.functions.now.all.items }
-        ensures { IfOk result (λ r. rooted_of r (spec.roots_of (calls_copy calls) (Some (function_of main.now)) (context_of self.now)).made.scope ≡ spec.roots_of (calls_copy calls) (Some (function_of main.now)) (context_of self.now)) }
+        requires { height
+            (tree.statement_of main.now.body) ≤ deepest self.now.functions.now.all.items }
+        ensures { IfOk result (λ r. rooted_of r (spec.roots_of (calls_copy calls)
+            (Some (function_of main.now)) (context_of self.now)).made.scope ≡ spec.roots_of
+            (calls_copy calls) (Some (function_of main.now)) (context_of self.now)) }
     {
         if block_has_placed(in_block(&main.body)) {
             let rooted = self.placed_roots(alloc, calls, main)?;
@@ -128,8 +137,10 @@ impl<'p, 'a> Context<'p, 'a> {
 
     /// Main as the one root, by the empty path. The one error is as for `roots`.
     fn main_root(&self, alloc: Global, calls: usize, main: &'a FuncItem) -> Result<Rooted, Memory>
-        requires { height (tree.statement_of main.now.body) ≤ deepest self.now.functions.now.all.items }
-        ensures { IfOk result (λ r. rooted_of r (context_of self.now).ports ≡ spec.main_root (calls_copy calls) (function_of main.now) (context_of self.now)) }
+        requires { height
+            (tree.statement_of main.now.body) ≤ deepest self.now.functions.now.all.items }
+        ensures { IfOk result (λ r. rooted_of r (context_of self.now).ports
+            ≡ spec.main_root (calls_copy calls) (function_of main.now) (context_of self.now)) }
     {
         let scope: Scope<'a> = self.scope_of_ports(alloc)?;
         let own: &[u32] = &[];
@@ -148,7 +159,9 @@ impl<'p, 'a> Context<'p, 'a> {
         calls: usize,
         main: &'a FuncItem,
     ) -> Result<Rooted, Memory>
-        ensures { IfOk result (λ r. rooted_of r (spec.placed_roots (calls_copy calls) (function_of main.now) (context_of self.now)).made.scope ≡ spec.placed_roots (calls_copy calls) (function_of main.now) (context_of self.now)) }
+        ensures { IfOk result (λ r. rooted_of r (spec.placed_roots (calls_copy calls)
+            (function_of main.now) (context_of self.now)).made.scope
+            ≡ spec.placed_roots (calls_copy calls) (function_of main.now) (context_of self.now)) }
     {
         let mut scope = self.scope_of_ports(alloc)?;
         let instance = self.instance(alloc, main)?;
@@ -171,7 +184,9 @@ impl<'p, 'a> Context<'p, 'a> {
         rooted: &mut Rooted,
         scope: &mut Scope<'a>,
     ) -> Result<(), Memory>
-        ensures { OnOk result (rooted_of rooted.new (scope_of scope.new) ≡ spec.roots_then (rooted_of rooted.old (scope_of scope.old)) (spec.action_roots (calls_copy calls) main (tree.action_of (out-Stmt s.now).kind) (context_of self.now))) }
+        ensures { OnOk result (rooted_of rooted.new (scope_of scope.new) ≡ spec.roots_then
+            (rooted_of rooted.old (scope_of scope.old)) (spec.action_roots (calls_copy calls)
+            main (tree.action_of (out-Stmt s.now).kind) (context_of self.now))) }
     {
         match &s.kind {
             St::Decl(ds) => {
@@ -222,7 +237,9 @@ impl<'p, 'a> Context<'p, 'a> {
         rooted: &mut Rooted,
         scope: &mut Scope<'a>,
     ) -> Result<(), Memory>
-        ensures { OnOk result (rooted_of rooted.new (scope_of scope.new) ≡ spec.roots_then (rooted_of rooted.old (scope_of scope.old)) (spec.branch_roots (calls_copy calls) main (plain.branches (map tree.branch_of bs.now)) 0 (context_of self.now))) }
+        ensures { OnOk result (rooted_of rooted.new (scope_of scope.new) ≡ spec.roots_then
+            (rooted_of rooted.old (scope_of scope.old)) (spec.branch_roots (calls_copy calls)
+            main (plain.branches (map tree.branch_of bs.now)) 0 (context_of self.now))) }
     {
         for (index, b) in bs.iter().enumerate() {
             let path = self.branch_path(alloc, index)?;
@@ -246,7 +263,10 @@ impl<'p, 'a> Context<'p, 'a> {
         rooted: &mut Rooted,
         scope: &mut Scope<'a>,
     ) -> Result<(), Memory>
-        ensures { OnOk result (rooted_of rooted.new (scope_of scope.new) ≡ spec.and_roots (rooted_of rooted.old (scope_of scope.old)) (spec.numbered_roots (calls_copy calls) main (tree.branch_of b.now) name.now.text (context_of self.now) (scope_of scope.old) (until - from) 0 from)) }
+        ensures { OnOk result (rooted_of rooted.new (scope_of scope.new)
+            ≡ spec.and_roots (rooted_of rooted.old (scope_of scope.old))
+            (spec.numbered_roots (calls_copy calls) main (tree.branch_of b.now) name.now.text
+            (context_of self.now) (scope_of scope.old) (until - from) 0 from)) }
     {
         let known = scope.len();
         for number in from..until {
@@ -270,7 +290,9 @@ impl<'p, 'a> Context<'p, 'a> {
         rooted: &mut Rooted,
         scope: &mut Scope<'a>,
     ) -> Result<(), Memory>
-        ensures { OnOk result (rooted_of rooted.new (scope_of scope.new) ≡ spec.roots_then (rooted_of rooted.old (scope_of scope.old)) (spec.branch_root (calls_copy calls) main (tree.branch_of b.now) (context_of self.now))) }
+        ensures { OnOk result (rooted_of rooted.new (scope_of scope.new)
+            ≡ spec.roots_then (rooted_of rooted.old (scope_of scope.old)) (spec.branch_root
+            (calls_copy calls) main (tree.branch_of b.now) (context_of self.now))) }
     {
         let core = core_of(alloc, &b.place, scope)?;
         let copied = (&*self)
@@ -285,7 +307,8 @@ impl<'p, 'a> Context<'p, 'a> {
 /// The core that a place names, or 255 where it names none of 0 to 3; what isn't placed is on core 0. The one error is want of
 /// memory.
 pub fn core_of(alloc: Global, place: &Option<At>, scope: &Scope) -> Result<u8, Memory>
-    ensures { IfOk result (λ core. core ≡ ports_spec.core_of (scope_of scope.now) (option_map tree.place_of place.now)) }
+    ensures { IfOk result (λ core. core
+        ≡ ports_spec.core_of (scope_of scope.now) (option_map tree.place_of place.now)) }
 {
     match place {
         None => Ok(0),
@@ -320,7 +343,8 @@ pub fn pos_of_place(other: Pos, place: &Option<At>) -> Pos
 /// The statements directly in a block.
 #[tactic(auto, using(crate::proofs::Laws::Expressions::actions))]
 fn in_block(s: &Stmt) -> &[Stmt]
-    ensures { plain.statements (map tree.statement_of result.now) ≡ spec.in_block (tree.statement_of s.now) }
+    ensures { plain.statements (map tree.statement_of result.now)
+        ≡ spec.in_block (tree.statement_of s.now) }
 {
     match &s.kind {
         St::Block(ss) => ss.as_slice(),

@@ -82,7 +82,8 @@ impl<'a> Scope<'a> {
     /// Declares a name, which hides others. The one error is want of memory.
     #[tactic(auto, using(crate::proofs::Laws::Scopes::declared_last))]
     pub fn declare(&mut self, name: &'a [u8], entity: Entity) -> Result<(), Memory>
-        ensures { OnOk result (scope_of self.new ≡ spec.with_name (scope_of self.old) name.now (entity_meant entity)) }
+        ensures { OnOk result (scope_of self.new
+            ≡ spec.with_name (scope_of self.old) name.now (entity_meant entity)) }
     {
         push(&mut self.names, Binding { name, entity })
     }

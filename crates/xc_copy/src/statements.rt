@@ -41,7 +41,9 @@ impl<'p, 'a> Context<'p, 'a> {
         s: &'a Stmt,
         scope: &mut Scope<'a>,
     ) -> Result<Copied, Memory>
-        ensures { IfOk result (λ copied. copy_of copied (scope_of scope.new) ≡ spec.statement_copy (spec.calls_copy calls) (tree.statement_of s.now) (context_of self.now) (scope_of scope.old)) }
+        ensures { IfOk result (λ copied. copy_of copied (scope_of scope.new)
+            ≡ spec.statement_copy (spec.calls_copy calls) (tree.statement_of s.now)
+            (context_of self.now) (scope_of scope.old)) }
     {
         match &s.kind {
             St::Empty => Ok(Copied::nothing(alloc)),
@@ -88,7 +90,9 @@ impl<'p, 'a> Context<'p, 'a> {
         s: &'a Option<Box<Stmt>>,
         scope: &mut Scope<'a>,
     ) -> Result<Copied, Memory>
-        ensures { IfOk result (λ copied. copy_of copied (scope_of scope.new) ≡ spec.maybe_copy (spec.calls_copy calls) (tree.maybe_of s.now) (context_of self.now) (scope_of scope.old)) }
+        ensures { IfOk result (λ copied. copy_of copied (scope_of scope.new)
+            ≡ spec.maybe_copy (spec.calls_copy calls) (tree.maybe_of s.now)
+            (context_of self.now) (scope_of scope.old)) }
     {
         match s {
             None => Ok(Copied::nothing(alloc)),
@@ -105,7 +109,9 @@ impl<'p, 'a> Context<'p, 'a> {
         ss: &'a [Stmt],
         scope: &mut Scope<'a>,
     ) -> Result<Copied, Memory>
-        ensures { IfOk result (λ copied. copy_of copied (scope_of scope.new) ≡ spec.statements_copy (spec.calls_copy calls) (plain.statements (map tree.statement_of ss.now)) (context_of self.now) (scope_of scope.old)) }
+        ensures { IfOk result (λ copied. copy_of copied (scope_of scope.new) ≡ spec.statements_copy
+            (spec.calls_copy calls) (plain.statements (map tree.statement_of ss.now))
+            (context_of self.now) (scope_of scope.old)) }
     {
         let mut copied = Copied::nothing(alloc);
         for s in ss {
@@ -125,7 +131,9 @@ impl<'p, 'a> Context<'p, 'a> {
         ss: &'a [Stmt],
         scope: &mut Scope<'a>,
     ) -> Result<Copied, Memory>
-        ensures { IfOk result (λ copied. copy_of copied (scope_of scope.new) ≡ copies.in_scope_of (scope_of scope.old) (spec.statements_copy (spec.calls_copy calls) (plain.statements (map tree.statement_of ss.now)) (context_of self.now) (scope_of scope.old))) }
+        ensures { IfOk result (λ copied. copy_of copied (scope_of scope.new) ≡ copies.in_scope_of
+            (scope_of scope.old) (spec.statements_copy (spec.calls_copy calls) (plain.statements
+            (map tree.statement_of ss.now)) (context_of self.now) (scope_of scope.old))) }
     {
         let known = scope.len();
         let copied = self.statements(alloc, calls, ss, scope)?;
@@ -143,7 +151,9 @@ impl<'p, 'a> Context<'p, 'a> {
         ds: &'a [Declared],
         scope: &mut Scope<'a>,
     ) -> Result<Copied, Memory>
-        ensures { IfOk result (λ copied. copy_of copied (scope_of scope.new) ≡ declarations.declarations_copy (spec.calls_copy calls) (context_of self.now) (map tree.declaration_of ds.now) (scope_of scope.old)) }
+        ensures { IfOk result (λ copied. copy_of copied (scope_of scope.new)
+            ≡ declarations.declarations_copy (spec.calls_copy calls) (context_of self.now)
+            (map tree.declaration_of ds.now) (scope_of scope.old)) }
     {
         let mut copied = Copied::nothing(alloc);
         for d in ds {
@@ -163,7 +173,9 @@ impl<'p, 'a> Context<'p, 'a> {
         d: &'a Declared,
         scope: &mut Scope<'a>,
     ) -> Result<Copied, Memory>
-        ensures { IfOk result (λ copied. copy_of copied (scope_of scope.new) ≡ declarations.declaration_copy (spec.calls_copy calls) (context_of self.now) (scope_of scope.old) (tree.declaration_of d.now)) }
+        ensures { IfOk result (λ copied. copy_of copied (scope_of scope.new)
+            ≡ declarations.declaration_copy (spec.calls_copy calls) (context_of self.now)
+            (scope_of scope.old) (tree.declaration_of d.now)) }
     {
         let name = d.name.text.as_slice();
         let pos = d.name.pos;
@@ -193,7 +205,10 @@ impl<'p, 'a> Context<'p, 'a> {
         right: &'a Option<Rhs>,
         scope: &Scope<'a>,
     ) -> Result<Copied, Memory>
-        ensures { IfOk result (λ copied. copy_of copied (scope_of scope.now) ≡ declarations.initial_copy (spec.calls_copy calls) (context_of self.now) (paths.path_at self.now.path.now pos) (option_map tree.right_of right.now) (scope_of scope.now)) }
+        ensures { IfOk result
+            (λ copied. copy_of copied (scope_of scope.now) ≡ declarations.initial_copy
+            (spec.calls_copy calls) (context_of self.now) (paths.path_at self.now.path.now pos)
+            (option_map tree.right_of right.now) (scope_of scope.now)) }
     {
         let path = path_at(alloc, self.path, pos)?;
         match right {
@@ -222,7 +237,9 @@ impl<'p, 'a> Context<'p, 'a> {
         right: &'a Rhs,
         scope: &Scope<'a>,
     ) -> Result<Copied, Memory>
-        ensures { IfOk result (λ copied. copy_of copied (scope_of scope.now) ≡ spec.assign_copy (spec.calls_copy calls) (context_of self.now) (scope_of scope.now) (tree.expression_of to.now) symbol pos (tree.right_of right.now)) }
+        ensures { IfOk result (λ copied. copy_of copied (scope_of scope.now) ≡ spec.assign_copy
+            (spec.calls_copy calls) (context_of self.now) (scope_of scope.now)
+            (tree.expression_of to.now) symbol pos (tree.right_of right.now)) }
     {
         if symbol != EQUALS {
             let value = self.typed(alloc, right, scope)?;
@@ -243,7 +260,9 @@ impl<'p, 'a> Context<'p, 'a> {
         right: &'a Option<Rhs>,
         scope: &Scope<'a>,
     ) -> Result<Copied, Memory>
-        ensures { IfOk result (λ copied. copy_of copied (scope_of scope.now) ≡ spec.return_copy (spec.calls_copy calls) (context_of self.now) (scope_of scope.now) (option_map tree.right_of right.now)) }
+        ensures { IfOk result (λ copied. copy_of copied (scope_of scope.now)
+            ≡ spec.return_copy (spec.calls_copy calls) (context_of self.now)
+            (scope_of scope.now) (option_map tree.right_of right.now)) }
     {
         match right {
             None => {
@@ -268,7 +287,9 @@ impl<'p, 'a> Context<'p, 'a> {
         right: &'a Rhs,
         scope: &Scope<'a>,
     ) -> Result<Copied, Memory>
-        ensures { IfOk result (λ copied. copy_of copied (scope_of scope.now) ≡ calls_spec.right_copy (spec.calls_copy calls) (context_of self.now) (scope_of scope.now) (tree.right_of right.now)) }
+        ensures { IfOk result (λ copied. copy_of copied (scope_of scope.now)
+            ≡ calls_spec.right_copy (spec.calls_copy calls) (context_of self.now)
+            (scope_of scope.now) (tree.right_of right.now)) }
     {
         match right {
             Rhs::Value(_) => Ok(Copied::nothing(alloc)),
@@ -293,8 +314,11 @@ impl<'p, 'a> Context<'p, 'a> {
         args: &'a [Arg],
         scope: &Scope<'a>,
     ) -> Result<Copied, Memory>
-        requires { height (tree.statement_of function.now.body) ≤ deepest self.now.functions.now.all.items }
-        ensures { IfOk result (λ copied. copy_of copied (scope_of scope.now) ≡ spec.calls_copy calls (context_of self.now) (scope_of scope.now) (function_of function.now) pos (map tree.argument_of args.now)) }
+        requires { height
+            (tree.statement_of function.now.body) ≤ deepest self.now.functions.now.all.items }
+        ensures { IfOk result (λ copied. copy_of copied (scope_of scope.now)
+            ≡ spec.calls_copy calls (context_of self.now) (scope_of scope.now)
+            (function_of function.now) pos (map tree.argument_of args.now)) }
     {
         if calls == 0 {
             return Ok(Copied::nothing(alloc));
@@ -315,8 +339,12 @@ impl<'p, 'a> Context<'p, 'a> {
         args: &'a [Arg],
         scope: &Scope<'a>,
     ) -> Result<Copied, Memory>
-        requires { height (tree.statement_of function.now.body) ≤ deepest self.now.functions.now.all.items }
-        ensures { IfOk result (λ copied. copy_of copied (scope_of scope.now) ≡ calls_spec.function_copy (spec.statement_copy (spec.calls_copy calls)) (context_of self.now) (scope_of scope.now) own.now (function_of function.now) (map tree.argument_of args.now)) }
+        requires { height
+            (tree.statement_of function.now.body) ≤ deepest self.now.functions.now.all.items }
+        ensures { IfOk result
+            (λ copied. copy_of copied (scope_of scope.now) ≡ calls_spec.function_copy
+            (spec.statement_copy (spec.calls_copy calls)) (context_of self.now) (scope_of
+            scope.now) own.now (function_of function.now) (map tree.argument_of args.now)) }
     {
         let result = path_at(alloc, own, function.name.pos);
         let entered = self.all_passed(alloc, scope, own, function.params.as_slice(), args);
@@ -347,7 +375,11 @@ impl<'p, 'a> Context<'p, 'a> {
         second: &'a Option<Box<Stmt>>,
         scope: &mut Scope<'a>,
     ) -> Result<Copied, Memory>
-        ensures { IfOk result (λ copied. copy_of copied (scope_of scope.new) ≡ flow.if_parts (contexts.expression (context_of self.now) (scope_of scope.old) (tree.expression_of test.now)) (spec.statement_copy (spec.calls_copy calls) (tree.statement_of first.now) (context_of self.now) (scope_of scope.old)) (spec.maybe_copy (spec.calls_copy calls) (tree.maybe_of second.now) (context_of self.now))) }
+        ensures { IfOk result (λ copied. copy_of copied (scope_of scope.new) ≡ flow.if_parts
+            (contexts.expression (context_of self.now) (scope_of scope.old) (tree.expression_of
+            test.now)) (spec.statement_copy (spec.calls_copy calls) (tree.statement_of
+            first.now) (context_of self.now) (scope_of scope.old)) (spec.maybe_copy
+            (spec.calls_copy calls) (tree.maybe_of second.now) (context_of self.now))) }
     {
         let test = word(alloc, self.numbers, scope, test)?;
         let first = self.statement(alloc, calls, first, scope);
@@ -369,7 +401,11 @@ impl<'p, 'a> Context<'p, 'a> {
         body: &'a Stmt,
         scope: &mut Scope<'a>,
     ) -> Result<Copied, Memory>
-        ensures { IfOk result (λ copied. copy_of copied (scope_of scope.new) ≡ flow.while_copy (context_of self.now) pos (contexts.expression (context_of self.now) (scope_of scope.old) (tree.expression_of test.now)) (spec.statement_copy (spec.calls_copy calls) (tree.statement_of body.now) (contexts.in_loop (context_of self.now) pos) (scope_of scope.old))) }
+        ensures { IfOk result (λ copied. copy_of copied (scope_of scope.new)
+            ≡ flow.while_copy (context_of self.now) pos (contexts.expression
+            (context_of self.now) (scope_of scope.old) (tree.expression_of test.now))
+            (spec.statement_copy (spec.calls_copy calls) (tree.statement_of body.now)
+            (contexts.in_loop (context_of self.now) pos) (scope_of scope.old))) }
     {
         let paths = self.loop_paths(alloc, pos);
         let test = word(alloc, self.numbers, scope, test);
@@ -394,7 +430,10 @@ impl<'p, 'a> Context<'p, 'a> {
         test: &Expr,
         scope: &mut Scope<'a>,
     ) -> Result<Copied, Memory>
-        ensures { IfOk result (λ copied. copy_of copied (scope_of scope.new) ≡ flow.do_while_copy (context_of self.now) pos (tree.expression_of test.now) (spec.statement_copy (spec.calls_copy calls) (tree.statement_of body.now) (contexts.in_loop (context_of self.now) pos) (scope_of scope.old))) }
+        ensures { IfOk result (λ copied. copy_of copied (scope_of scope.new)
+            ≡ flow.do_while_copy (context_of self.now) pos (tree.expression_of test.now)
+            (spec.statement_copy (spec.calls_copy calls) (tree.statement_of body.now)
+            (contexts.in_loop (context_of self.now) pos) (scope_of scope.old))) }
     {
         let paths = self.loop_paths(alloc, pos)?;
         let body = (&*self)
@@ -418,7 +457,13 @@ impl<'p, 'a> Context<'p, 'a> {
         body: &'a Stmt,
         scope: &mut Scope<'a>,
     ) -> Result<Copied, Memory>
-        ensures { IfOk result (λ copied. copy_of copied (scope_of scope.new) ≡ copies.in_scope_of (scope_of scope.old) (copies.followed_by (spec.maybe_copy (spec.calls_copy calls) (tree.maybe_of first.now) (context_of self.now) (scope_of scope.old)) (flow.for_parts (context_of self.now) pos (option_map tree.expression_of test.now) (spec.maybe_copy (spec.calls_copy calls) (tree.maybe_of next.now) (context_of self.now)) (spec.statement_copy (spec.calls_copy calls) (tree.statement_of body.now) (contexts.in_loop (context_of self.now) pos))))) }
+        ensures { IfOk result (λ copied. copy_of copied (scope_of scope.new) ≡ copies.in_scope_of
+            (scope_of scope.old) (copies.followed_by (spec.maybe_copy (spec.calls_copy calls)
+            (tree.maybe_of first.now) (context_of self.now) (scope_of scope.old))
+            (flow.for_parts (context_of self.now) pos (option_map tree.expression_of test.now)
+            (spec.maybe_copy (spec.calls_copy calls) (tree.maybe_of next.now)
+            (context_of self.now)) (spec.statement_copy (spec.calls_copy calls)
+            (tree.statement_of body.now) (contexts.in_loop (context_of self.now) pos))))) }
     {
         let known = scope.len();
         let first = self.maybe(alloc, calls, first, scope)?;
@@ -441,7 +486,11 @@ impl<'p, 'a> Context<'p, 'a> {
         body: &'a Stmt,
         scope: &mut Scope<'a>,
     ) -> Result<Copied, Memory>
-        ensures { IfOk result (λ copied. copy_of copied (scope_of scope.new) ≡ flow.for_parts (context_of self.now) pos (option_map tree.expression_of test.now) (spec.maybe_copy (spec.calls_copy calls) (tree.maybe_of next.now) (context_of self.now)) (spec.statement_copy (spec.calls_copy calls) (tree.statement_of body.now) (contexts.in_loop (context_of self.now) pos)) (scope_of scope.old)) }
+        ensures { IfOk result (λ copied. copy_of copied (scope_of scope.new) ≡ flow.for_parts
+            (context_of self.now) pos (option_map tree.expression_of test.now) (spec.maybe_copy
+            (spec.calls_copy calls) (tree.maybe_of next.now) (context_of self.now))
+            (spec.statement_copy (spec.calls_copy calls) (tree.statement_of body.now)
+            (contexts.in_loop (context_of self.now) pos)) (scope_of scope.old)) }
     {
         let known = scope.len();
         let paths = self.loop_paths(alloc, pos);
@@ -467,7 +516,9 @@ impl<'p, 'a> Context<'p, 'a> {
         bs: &'a [Branch],
         scope: &mut Scope<'a>,
     ) -> Result<Copied, Memory>
-        ensures { IfOk result (λ copied. copy_of copied (scope_of scope.new) ≡ flow.par_copy (spec.branches_copy (spec.calls_copy calls) (plain.branches (map tree.branch_of bs.now)) 0 (context_of self.now) (scope_of scope.old))) }
+        ensures { IfOk result (λ copied. copy_of copied (scope_of scope.new)
+            ≡ flow.par_copy (spec.branches_copy (spec.calls_copy calls) (plain.branches
+            (map tree.branch_of bs.now)) 0 (context_of self.now) (scope_of scope.old))) }
     {
         let mut branches = Branched::none(alloc);
         for (index, b) in bs.iter().enumerate() {
@@ -490,7 +541,9 @@ impl<'p, 'a> Context<'p, 'a> {
         b: &'a Branch,
         scope: &mut Scope<'a>,
     ) -> Result<Copied, Memory>
-        ensures { IfOk result (λ copied. copy_of copied (scope_of scope.new) ≡ spec.branch_copy (spec.calls_copy calls) (tree.branch_of b.now) (contexts.in_branch (context_of self.now) index) (scope_of scope.old)) }
+        ensures { IfOk result (λ copied. copy_of copied (scope_of scope.new)
+            ≡ spec.branch_copy (spec.calls_copy calls) (tree.branch_of b.now)
+            (contexts.in_branch (context_of self.now) index) (scope_of scope.old)) }
     {
         let path = self.branch_path(alloc, index)?;
         let copied = (&*self)
@@ -512,7 +565,11 @@ impl<'p, 'a> Context<'p, 'a> {
         b: &'a Branch,
         scope: &mut Scope<'a>,
     ) -> Result<Copied, Memory>
-        ensures { IfOk result (λ copied. copy_of copied (scope_of scope.new) ≡ flow.par_copy (flow.replicated (flow.numbered_copy (spec.branch_copy (spec.calls_copy calls) (tree.branch_of b.now)) (context_of self.now) (scope_of scope.old) name.now.text) (spec.pos_of_branch (tree.branch_of b.now)) (scope_of scope.old) (until - from) 0 from)) }
+        ensures { IfOk result (λ copied. copy_of copied (scope_of scope.new) ≡ flow.par_copy
+            (flow.replicated (flow.numbered_copy (spec.branch_copy (spec.calls_copy calls)
+            (tree.branch_of b.now)) (context_of self.now) (scope_of scope.old) name.now.text)
+            (spec.pos_of_branch (tree.branch_of b.now)) (scope_of scope.old)
+            (until - from) 0 from)) }
     {
         let mut branches = Branched::none(alloc);
         for number in from..until {
@@ -537,7 +594,9 @@ impl<'p, 'a> Context<'p, 'a> {
         b: &'a Branch,
         scope: &mut Scope<'a>,
     ) -> Result<Copied, Memory>
-        ensures { IfOk result (λ copied. copy_of copied (scope_of scope.new) ≡ flow.numbered_copy (spec.branch_copy (spec.calls_copy calls) (tree.branch_of b.now)) (context_of self.now) (scope_of scope.old) name.now.text index number) }
+        ensures { IfOk result (λ copied. copy_of copied (scope_of scope.new) ≡ flow.numbered_copy
+            (spec.branch_copy (spec.calls_copy calls) (tree.branch_of b.now))
+            (context_of self.now) (scope_of scope.old) name.now.text index number) }
     {
         let known = scope.len();
         scope.declare(name.text.as_slice(), Entity::Constant(number))?;
@@ -557,7 +616,9 @@ impl<'p, 'a> Context<'p, 'a> {
         cs: &'a [Case],
         scope: &mut Scope<'a>,
     ) -> Result<Copied, Memory>
-        ensures { IfOk result (λ copied. copy_of copied (scope_of scope.new) ≡ flow.select_copy (scope_of scope.old) pos (spec.cases_copy (spec.calls_copy calls) (plain.cases (map tree.case_of cs.now)) (context_of self.now) (scope_of scope.old))) }
+        ensures { IfOk result (λ copied. copy_of copied (scope_of scope.new)
+            ≡ flow.select_copy (scope_of scope.old) pos (spec.cases_copy (spec.calls_copy calls)
+            (plain.cases (map tree.case_of cs.now)) (context_of self.now) (scope_of scope.old))) }
     {
         let known = scope.len();
         let mut cases = Cased::none(alloc);
@@ -581,7 +642,9 @@ impl<'p, 'a> Context<'p, 'a> {
         cases: &mut Cased,
         scope: &mut Scope<'a>,
     ) -> Result<(), Memory>
-        ensures cases { OnOk result ((others : flow.Cased) → cased_before cases.new others ≡ cased_before cases.old (spec.case_copy (spec.calls_copy calls) (tree.case_of case.now) (context_of self.now) (scope_of scope.old) others)) }
+        ensures cases { OnOk result ((others : flow.Cased) → cased_before cases.new others
+            ≡ cased_before cases.old (spec.case_copy (spec.calls_copy calls)
+            (tree.case_of case.now) (context_of self.now) (scope_of scope.old) others)) }
         ensures names { OnOk result (Grows (scope_of scope.old) (scope_of scope.new)) }
     {
         let path = path_at(alloc, self.path, case.pos);
@@ -607,7 +670,10 @@ impl<'p, 'a> Context<'p, 'a> {
         close: Pos,
         scope: &mut Scope<'a>,
     ) -> Result<Copied, Memory>
-        ensures { IfOk result (λ copied. copy_of copied (scope_of scope.new) ≡ flow.transaction_copy (context_of self.now) (scope_of scope.old) master start close (spec.statements_copy (spec.calls_copy calls) (plain.statements (map tree.statement_of ss.now)) (context_of self.now) (scope_of scope.old))) }
+        ensures { IfOk result (λ copied. copy_of copied (scope_of scope.new) ≡ flow.transaction_copy
+            (context_of self.now) (scope_of scope.old) master start close (spec.statements_copy
+            (spec.calls_copy calls) (plain.statements (map tree.statement_of ss.now))
+            (context_of self.now) (scope_of scope.old))) }
     {
         let known = scope.len();
         let mut inside = self.statements(alloc, calls, ss, scope)?;

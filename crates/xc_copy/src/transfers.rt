@@ -43,7 +43,8 @@ impl<'p, 'a> Context<'p, 'a> {
     #[inline(never)]
     #[tactic(auto)]
     pub fn output(&self, alloc: Global, scope: &Scope<'a>, o: &Send) -> Result<Copied, Memory>
-        ensures { IfOk result (λ copied. copy_of copied (scope_of scope.now) ≡ spec.output_copy (context_of self.now) (scope_of scope.now) (tree.output_of o.now)) }
+        ensures { IfOk result (λ copied. copy_of copied (scope_of scope.now) ≡ spec.output_copy
+            (context_of self.now) (scope_of scope.now) (tree.output_of o.now)) }
     {
         let output = self.sent(alloc, scope, o)?;
         let one = Copied::one_statement(alloc, Kst::Out(output));
@@ -56,7 +57,8 @@ impl<'p, 'a> Context<'p, 'a> {
     /// The kernel's output. The one error is want of memory.
     #[tactic(auto)]
     fn sent(&self, alloc: Global, scope: &Scope<'a>, o: &Send) -> Result<KOut, Memory>
-        ensures { IfOk result (λ r. kernel.output_of r ≡ spec.output_of (context_of self.now) (scope_of scope.now) (tree.output_of o.now)) }
+        ensures { IfOk result (λ r. kernel.output_of r
+            ≡ spec.output_of (context_of self.now) (scope_of scope.now) (tree.output_of o.now)) }
     {
         let res = resource(self.numbers, scope.entity(o.name.as_slice()));
         let time = self.time(alloc, scope, &o.time);
@@ -77,7 +79,8 @@ impl<'p, 'a> Context<'p, 'a> {
     #[inline(never)]
     #[tactic(auto)]
     pub fn input(&self, alloc: Global, scope: &mut Scope<'a>, i: &'a Head) -> Result<Copied, Memory>
-        ensures { IfOk result (λ copied. copy_of copied (scope_of scope.new) ≡ spec.input_copy (context_of self.now) (scope_of scope.old) (tree.input_of i.now)) }
+        ensures { IfOk result (λ copied. copy_of copied (scope_of scope.new)
+            ≡ spec.input_copy (context_of self.now) (scope_of scope.old) (tree.input_of i.now)) }
     {
         let received = self.received(alloc, scope, i)?;
         let copied = received.names.and_statement(Kst::In(received.head))?;
@@ -93,8 +96,10 @@ impl<'p, 'a> Context<'p, 'a> {
         scope: &mut Scope<'a>,
         i: &'a Head,
     ) -> Result<Received, Memory>
-        ensures head { IfOk result (λ r. kernel.input_of r.head ≡ spec.input_of (context_of self.now) (scope_of scope.old) (tree.input_of i.now)) }
-        ensures names { IfOk result (λ r. copy_of r.names (scope_of scope.new) ≡ spec.input_names (context_of self.now) (scope_of scope.old) (tree.input_of i.now)) }
+        ensures head { IfOk result (λ r. kernel.input_of r.head
+            ≡ spec.input_of (context_of self.now) (scope_of scope.old) (tree.input_of i.now)) }
+        ensures names { IfOk result (λ r. copy_of r.names (scope_of scope.new)
+            ≡ spec.input_names (context_of self.now) (scope_of scope.old) (tree.input_of i.now)) }
     {
         let res = resource(self.numbers, scope.entity(i.name.as_slice()));
         let named = channel_named(alloc, scope, i.name.as_slice());
@@ -127,8 +132,10 @@ impl<'p, 'a> Context<'p, 'a> {
         scope: &mut Scope<'a>,
         target: &'a Dest,
     ) -> Result<Target, Memory>
-        ensures place { IfOk result (λ r. option_map kernel.place_of r.place ≡ spec.target_of (context_of self.now) (scope_of scope.old) (tree.target_of target.now)) }
-        ensures names { IfOk result (λ r. copy_of r.names (scope_of scope.new) ≡ spec.target_copy (context_of self.now) (scope_of scope.old) (tree.target_of target.now)) }
+        ensures place { IfOk result (λ r. option_map kernel.place_of r.place ≡ spec.target_of
+            (context_of self.now) (scope_of scope.old) (tree.target_of target.now)) }
+        ensures names { IfOk result (λ r. copy_of r.names (scope_of scope.new) ≡ spec.target_copy
+            (context_of self.now) (scope_of scope.old) (tree.target_of target.now)) }
     {
         match target {
             Dest::To(e) => Ok(Target {
@@ -158,7 +165,8 @@ impl<'p, 'a> Context<'p, 'a> {
         scope: &Scope<'a>,
         time: &Option<Timed>,
     ) -> Result<Option<Kx>, Memory>
-        ensures { IfOk result (λ r. option_map kernel.expression_of r ≡ option_map (spec.time_of (context_of self.now) (scope_of scope.now)) (option_map tree.timing_of time.now)) }
+        ensures { IfOk result (λ r. option_map kernel.expression_of r ≡ option_map (spec.time_of
+            (context_of self.now) (scope_of scope.now)) (option_map tree.timing_of time.now)) }
     {
         match time {
             None => Ok(None),
@@ -173,7 +181,8 @@ impl<'p, 'a> Context<'p, 'a> {
         scope: &Scope<'a>,
         stamp: &Option<Timed>,
     ) -> Result<Option<Place>, Memory>
-        ensures { IfOk result (λ r. option_map kernel.place_of r ≡ option_map (spec.stamp_of (context_of self.now) (scope_of scope.now)) (option_map tree.timing_of stamp.now)) }
+        ensures { IfOk result (λ r. option_map kernel.place_of r ≡ option_map (spec.stamp_of
+            (context_of self.now) (scope_of scope.now)) (option_map tree.timing_of stamp.now)) }
     {
         match stamp {
             None => Ok(None),
@@ -188,7 +197,9 @@ impl<'p, 'a> Context<'p, 'a> {
         scope: &Scope<'a>,
         condition: &Option<When>,
     ) -> Result<Option<(u8, Kx)>, Memory>
-        ensures { IfOk result (λ r. option_map kernel.condition_of r ≡ option_map (spec.condition_of (context_of self.now) (scope_of scope.now)) (option_map tree.condition_of condition.now)) }
+        ensures { IfOk result (λ r. option_map kernel.condition_of r
+            ≡ option_map (spec.condition_of (context_of self.now) (scope_of scope.now))
+            (option_map tree.condition_of condition.now)) }
     {
         match condition {
             None => Ok(None),
@@ -209,7 +220,9 @@ impl<'p, 'a> Context<'p, 'a> {
         pos: Pos,
         unsigned: bool,
     ) -> Result<Copied, Memory>
-        ensures { IfOk result (λ copied. copy_of copied (scope_of scope.new) ≡ contexts.declares_word (context_of self.now) name.now pos unsigned (scope_of scope.old)) }
+        ensures { IfOk result
+            (λ copied. copy_of copied (scope_of scope.new) ≡ contexts.declares_word
+            (context_of self.now) name.now pos unsigned (scope_of scope.old)) }
     {
         let path = path_at(alloc, self.path, pos)?;
         let variable = self.word_variable(alloc, true, path.as_slice(), pos);
@@ -223,7 +236,8 @@ impl<'p, 'a> Context<'p, 'a> {
 /// The copy of a communication without its statement: it names what a name stands for, where that is a channel. The one error
 /// is want of memory.
 fn channel_named(alloc: Global, scope: &Scope, name: &[u8]) -> Result<Copied, Memory>
-    ensures { IfOk result (λ copied. (behind : Names) → copy_of copied behind ≡ spec.naming (scope_of scope.now) name.now (copies.no_copy behind)) }
+    ensures { IfOk result (λ copied. (behind : Names) → copy_of copied behind
+        ≡ spec.naming (scope_of scope.now) name.now (copies.no_copy behind)) }
 {
     let named = channels_in(alloc, scope.entity(name))?;
     Ok(Copied {

@@ -28,8 +28,10 @@ pub struct RootSides {
 
 /// Goes through all roots. The stack that it needs grows with the depth of the kernel.
 pub fn channels_of(alloc: Global, roots: &[Root]) -> Result<Channels, Memory>
-    ensures in_roots { IfOk result (λ c. map seen_in c.in_roots ≡ map seen_of (map root_of roots.now)) }
-    ensures among_roots { IfOk result (λ c. shares_in c.among_roots ≡ sides.with_roots no_shares (map root_of roots.now)) }
+    ensures in_roots { IfOk result
+        (λ c. map seen_in c.in_roots ≡ map seen_of (map root_of roots.now)) }
+    ensures among_roots { IfOk result
+        (λ c. shares_in c.among_roots ≡ sides.with_roots no_shares (map root_of roots.now)) }
 {
     let mut in_roots = List::new(alloc);
     let mut among_roots = ShareTable::new(alloc);
@@ -52,7 +54,8 @@ impl Channels {
     /// The ends that the roots on a core need for so many channels.
     #[tactic(auto, unfolding(crate::specs::Sums::capped))]
     pub fn ends_on(&self, core: u8, channels: usize) -> u64
-        ensures { result ≡ capped (sum_by (ends_at (shares_in self.now.among_roots) channels core) (map seen_in self.now.in_roots)) }
+        ensures { result ≡ capped (sum_by (ends_at (shares_in self.now.among_roots) channels core)
+            (map seen_in self.now.in_roots)) }
     {
         let mut ends: u64 = 0;
         for root in self.in_roots.as_slice() {
@@ -65,7 +68,8 @@ impl Channels {
 /// The ends that a root needs on a core.
 #[tactic(auto, unfolding(crate::specs::Sums::capped))]
 fn root_ends(root: &RootSides, among_roots: &ShareTable, core: u8, channels: usize) -> u64
-    ensures { result ≡ capped (ends_at (shares_in among_roots.now) channels core (seen_in root.now)) }
+    ensures { result
+        ≡ capped (ends_at (shares_in among_roots.now) channels core (seen_in root.now)) }
 {
     if root.core == core {
         ends_for(&root.sides, among_roots, channels)
@@ -77,7 +81,8 @@ fn root_ends(root: &RootSides, among_roots: &ShareTable, core: u8, channels: usi
 /// The ends that a root needs for so many channels.
 #[tactic(auto, unfolding(crate::specs::Sums::capped))]
 fn ends_for(sides: &SideTable, among_roots: &ShareTable, channels: usize) -> u64
-    ensures { result ≡ capped (ends_below (shares_in among_roots.now) (sides_in sides.now) channels) }
+    ensures { result
+        ≡ capped (ends_below (shares_in among_roots.now) (sides_in sides.now) channels) }
 {
     let mut ends: u64 = 0;
     for channel in 0..channels {
@@ -102,7 +107,8 @@ fn channel_ends(share: Share, side: Side) -> u64
 #[cycle(channels)]
 #[tactic(auto, using(crate::proofs::SideSteps::steps))]
 fn statements(alloc: Global, table: &mut SideTable, ss: &[Kst]) -> Result<(), Memory>
-    ensures { OnOk result (sides_in table.new ≡ all_after (sides_in table.old) (sides.of_statements (plain.statements (map statement_of ss.now)))) }
+    ensures { OnOk result (sides_in table.new ≡ all_after (sides_in table.old)
+        (sides.of_statements (plain.statements (map statement_of ss.now)))) }
 {
     for s in ss {
         statement(alloc, table, s)?;
@@ -113,7 +119,8 @@ fn statements(alloc: Global, table: &mut SideTable, ss: &[Kst]) -> Result<(), Me
 #[cycle(channels)]
 #[tactic(auto, using(crate::proofs::SideSteps::steps))]
 fn statement(alloc: Global, table: &mut SideTable, s: &Kst) -> Result<(), Memory>
-    ensures { OnOk result (sides_in table.new ≡ all_after (sides_in table.old) (sides.of_statement (statement_of s.now))) }
+    ensures { OnOk result (sides_in table.new
+        ≡ all_after (sides_in table.old) (sides.of_statement (statement_of s.now))) }
 {
     match s {
         Kst::Zero(_) => Ok(()),
@@ -152,7 +159,8 @@ fn statement(alloc: Global, table: &mut SideTable, s: &Kst) -> Result<(), Memory
 #[cycle(channels)]
 #[tactic(auto, using(crate::proofs::SideSteps::steps))]
 fn cases(alloc: Global, table: &mut SideTable, all: &[KCase]) -> Result<(), Memory>
-    ensures { OnOk result (sides_in table.new ≡ all_after (sides_in table.old) (sides.of_cases (plain.cases (map case_of all.now)))) }
+    ensures { OnOk result (sides_in table.new
+        ≡ all_after (sides_in table.old) (sides.of_cases (plain.cases (map case_of all.now)))) }
 {
     for c in all {
         case(alloc, table, c)?;
@@ -163,7 +171,8 @@ fn cases(alloc: Global, table: &mut SideTable, all: &[KCase]) -> Result<(), Memo
 #[cycle(channels)]
 #[tactic(auto, using(crate::proofs::SideSteps::steps))]
 fn case(alloc: Global, table: &mut SideTable, c: &KCase) -> Result<(), Memory>
-    ensures { OnOk result (sides_in table.new ≡ all_after (sides_in table.old) (sides.of_case (case_of c.now))) }
+    ensures { OnOk result
+        (sides_in table.new ≡ all_after (sides_in table.old) (sides.of_case (case_of c.now))) }
 {
     used(table, c.head.res)?;
     statements(alloc, table, c.body.as_slice())
@@ -173,7 +182,8 @@ fn case(alloc: Global, table: &mut SideTable, c: &KCase) -> Result<(), Memory>
 #[cycle(channels)]
 #[tactic(auto, using(crate::proofs::SideSteps::steps))]
 fn branches(alloc: Global, par: &mut ParTable, all: &[KBranch]) -> Result<(), Memory>
-    ensures { OnOk result (shares_of par.new ≡ sides.with_branches (shares_of par.old) (plain.branches (map branch_of all.now))) }
+    ensures { OnOk result (shares_of par.new
+        ≡ sides.with_branches (shares_of par.old) (plain.branches (map branch_of all.now))) }
 {
     for b in all {
         branch(alloc, par, b)?;
@@ -184,7 +194,8 @@ fn branches(alloc: Global, par: &mut ParTable, all: &[KBranch]) -> Result<(), Me
 #[cycle(channels)]
 #[tactic(auto, using(crate::proofs::SideSteps::steps))]
 fn branch(alloc: Global, par: &mut ParTable, b: &KBranch) -> Result<(), Memory>
-    ensures { OnOk result (shares_of par.new ≡ sides.all_with (shares_of par.old) (sides.of_branch (branch_of b.now))) }
+    ensures { OnOk result (shares_of par.new
+        ≡ sides.all_with (shares_of par.old) (sides.of_branch (branch_of b.now))) }
 {
     let mut table = SideTable::new(alloc);
     statements(alloc, &mut table, b.body.as_slice())?;
@@ -194,7 +205,8 @@ fn branch(alloc: Global, par: &mut ParTable, b: &KBranch) -> Result<(), Memory>
 /// Goes on behind a use.
 #[tactic(auto, using(crate::proofs::SideSteps::steps))]
 fn used(table: &mut SideTable, resource: KRes) -> Result<(), Memory>
-    ensures { OnOk result (sides_in table.new ≡ all_after (sides_in table.old) (sides.of_resource resource)) }
+    ensures { OnOk result
+        (sides_in table.new ≡ all_after (sides_in table.old) (sides.of_resource resource)) }
 {
     match resource {
         KRes::Port(_) => Ok(()),

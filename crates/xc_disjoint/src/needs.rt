@@ -41,7 +41,8 @@ pub fn too_many_threads(kernel: &Kernel) -> bool
 
 /// Whether some core needs too many channel ends. The stack that it needs grows with the depth of the kernel.
 pub fn too_many_ends(alloc: Global, kernel: &Kernel) -> Result<bool, Memory>
-    ensures { IfOk result (λ above. Decides above (IsAbove most_ends (ends_on (kernel_of kernel.now)))) }
+    ensures { IfOk result
+        (λ above. Decides above (IsAbove most_ends (ends_on (kernel_of kernel.now)))) }
 {
     let channels = channels_of(alloc, kernel.roots.as_slice())?;
     let count = kernel.chans.len();

@@ -37,7 +37,8 @@ impl<'a> Here<'a> {
     #[cycle(uses)]
     #[tactic(auto, using(crate::proofs::UseSteps::steps))]
     fn in_statements(&self, best: Option<Broken>, ss: &[Kst]) -> Option<Broken>
-        ensures { result ≡ first_among (rule_of_use self.now.ports.now self.now.core) best (uses.of_statements (plain.statements (map statement_of ss.now))) }
+        ensures { result ≡ first_among (rule_of_use self.now.ports.now self.now.core) best
+            (uses.of_statements (plain.statements (map statement_of ss.now))) }
     {
         let mut best = best;
         for s in ss {
@@ -49,7 +50,8 @@ impl<'a> Here<'a> {
     #[cycle(uses)]
     #[tactic(auto, using(crate::proofs::UseSteps::steps))]
     fn in_statement(&self, best: Option<Broken>, s: &Kst) -> Option<Broken>
-        ensures { result ≡ first_among (rule_of_use self.now.ports.now self.now.core) best (uses.of_statement (statement_of s.now)) }
+        ensures { result ≡ first_among (rule_of_use self.now.ports.now self.now.core) best
+            (uses.of_statement (statement_of s.now)) }
     {
         match s {
             Kst::Zero(_) => best,
@@ -81,7 +83,8 @@ impl<'a> Here<'a> {
     #[cycle(uses)]
     #[tactic(auto, using(crate::proofs::UseSteps::steps))]
     fn in_cases(&self, best: Option<Broken>, cases: &[KCase]) -> Option<Broken>
-        ensures { result ≡ first_among (rule_of_use self.now.ports.now self.now.core) best (uses.of_cases (plain.cases (map case_of cases.now))) }
+        ensures { result ≡ first_among (rule_of_use self.now.ports.now self.now.core) best
+            (uses.of_cases (plain.cases (map case_of cases.now))) }
     {
         let mut best = best;
         for c in cases {
@@ -93,7 +96,8 @@ impl<'a> Here<'a> {
     #[cycle(uses)]
     #[tactic(auto, using(crate::proofs::UseSteps::steps))]
     fn in_case(&self, best: Option<Broken>, c: &KCase) -> Option<Broken>
-        ensures { result ≡ first_among (rule_of_use self.now.ports.now self.now.core) best (uses.of_case (case_of c.now)) }
+        ensures { result ≡ first_among (rule_of_use self.now.ports.now self.now.core) best
+            (uses.of_case (case_of c.now)) }
     {
         let best = earlier(best, self.at_use(c.head.res, c.head.pos));
         self.in_statements(best, c.body.as_slice())
@@ -102,7 +106,8 @@ impl<'a> Here<'a> {
     #[cycle(uses)]
     #[tactic(auto, using(crate::proofs::UseSteps::steps))]
     fn in_branches(&self, best: Option<Broken>, branches: &[KBranch]) -> Option<Broken>
-        ensures { result ≡ first_among (rule_of_use self.now.ports.now self.now.core) best (uses.of_branches (plain.branches (map branch_of branches.now))) }
+        ensures { result ≡ first_among (rule_of_use self.now.ports.now self.now.core) best
+            (uses.of_branches (plain.branches (map branch_of branches.now))) }
     {
         let mut best = best;
         for b in branches {
@@ -114,7 +119,8 @@ impl<'a> Here<'a> {
     #[cycle(uses)]
     #[tactic(auto, using(crate::proofs::UseSteps::steps))]
     fn in_branch(&self, best: Option<Broken>, b: &KBranch) -> Option<Broken>
-        ensures { result ≡ first_among (rule_of_use self.now.ports.now self.now.core) best (uses.of_branch (branch_of b.now)) }
+        ensures { result ≡ first_among (rule_of_use self.now.ports.now self.now.core) best
+            (uses.of_branch (branch_of b.now)) }
     {
         self.in_statements(best, b.body.as_slice())
     }
@@ -122,7 +128,8 @@ impl<'a> Here<'a> {
     /// The rule that a use breaks.
     #[tactic(auto, unfolding(crate::specs::Places::rule_of_use))]
     fn at_use(&self, resource: KRes, pos: Pos) -> Option<Broken>
-        ensures { result ≡ rule_of_use self.now.ports.now self.now.core (record { resource = resource; pos = pos }) }
+        ensures { result ≡ rule_of_use self.now.ports.now self.now.core
+            (record { resource = resource; pos = pos }) }
     {
         match resource {
             KRes::Port(n) => rule_by_port(self.ports.get(n as usize), self.core, pos),

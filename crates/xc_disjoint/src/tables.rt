@@ -43,7 +43,8 @@ impl SideTable {
 
     /// Goes on behind statements that use one channel.
     pub fn follow(&mut self, channel: usize, side: Side) -> Result<(), Memory>
-        ensures { OnOk result (sides_in self.new ≡ all_after (sides_in self.old) (only channel side)) }
+        ensures { OnOk result
+            (sides_in self.new ≡ all_after (sides_in self.old) (only channel side)) }
     {
         let sides = after(self.side(channel), side);
         match self.entries.insert(channel, sides) {
@@ -63,7 +64,8 @@ impl SideTable {
     }
 
     fn follow_each(&mut self, next: &SideTable) -> Result<(), Memory>
-        ensures { OnOk result (sides_in self.new ≡ all_after (sides_in self.old) (sides_in next.now)) }
+        ensures { OnOk result
+            (sides_in self.new ≡ all_after (sides_in self.old) (sides_in next.now)) }
     {
         for at in 0..next.entries.len() {
             let (channel, side) = entry_at(&next.entries, at);
@@ -106,7 +108,8 @@ impl ShareTable {
 
     /// Goes on to one more branch, as far as it uses one channel.
     pub fn add(&mut self, channel: usize, side: Side) -> Result<(), Memory>
-        ensures { OnOk result (shares_in self.new ≡ all_with (shares_in self.old) (only channel side)) }
+        ensures { OnOk result
+            (shares_in self.new ≡ all_with (shares_in self.old) (only channel side)) }
     {
         let share = with_branch(self.share(channel), side);
         match self.entries.insert(channel, share) {
@@ -117,7 +120,8 @@ impl ShareTable {
 
     /// Goes on to one more branch.
     pub fn add_branch(&mut self, sides: &SideTable) -> Result<(), Memory>
-        ensures { OnOk result (shares_in self.new ≡ all_with (shares_in self.old) (sides_in sides.now)) }
+        ensures { OnOk result
+            (shares_in self.new ≡ all_with (shares_in self.old) (sides_in sides.now)) }
     {
         for at in 0..sides.entries.len() {
             let (channel, side) = entry_at(&sides.entries, at);
@@ -147,7 +151,8 @@ impl ParTable {
 
     /// Goes on to one more branch. It goes through this branch's table or the largest so far, the smaller of both.
     pub fn add(&mut self, alloc: Global, sides: SideTable) -> Result<(), Memory>
-        ensures { OnOk result (shares_of self.new ≡ all_with (shares_of self.old) (sides_in sides)) }
+        ensures { OnOk result
+            (shares_of self.new ≡ all_with (shares_of self.old) (sides_in sides)) }
     {
         let largest = mem::replace(&mut self.largest, SideTable::new(alloc));
         let (larger, smaller) = larger_first(largest, sides);
@@ -173,8 +178,10 @@ impl ParTable {
 
 /// Two tables, of which the first has no fewer entries than the second.
 fn larger_first(first: SideTable, second: SideTable) -> (SideTable, SideTable)
-    ensures followed { all_after (sides_in result.0) (sides_in result.1) ≡ all_after (sides_in first) (sides_in second) }
-    ensures shared { (shares : Shares) → all_with (all_with shares (sides_in result.1)) (sides_in result.0) ≡ all_with (all_with shares (sides_in first)) (sides_in second) }
+    ensures followed { all_after (sides_in result.0) (sides_in result.1)
+        ≡ all_after (sides_in first) (sides_in second) }
+    ensures shared { (shares : Shares) → all_with (all_with shares (sides_in result.1))
+        (sides_in result.0) ≡ all_with (all_with shares (sides_in first)) (sides_in second) }
 {
     if first.entries.len() < second.entries.len() {
         (second, first)

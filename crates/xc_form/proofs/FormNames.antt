@@ -10,7 +10,7 @@ use Rattle.xc_built.specs.Program.{AreDistinctPorts, IsNew}
 use Rattle.xc_tree.specs.declared.names.Mark.{Mark}
 use Rattle.xc_tree.specs.declared.names.What.TheVariants as what
 use Rattle.xc_tree.specs.Plain as plain
-use Rattle.xc_tree.specs.Names.Ports.{core_at, core_of, ports}
+use Rattle.xc_tree.specs.Names.Ports.{core_at, core_of_port, ports}
 use Rattle.xw_words.specs.Ports.{identifiers}
 use Rattle.xc_tree.specs.Names.Rules.{Breaks, Breaks302, IsUsedAgain, declared_again, wrong_port}
 use Rattle.xc_tree.specs.Names.Scopes.{DeclaresAt, end_of}
@@ -184,7 +184,7 @@ module _ (items : List plain.Item) (h : Formed items) (unbroken : (b : Broken) �
   right_port : (i : ℕ) (p : plain.Port) → slice_get h.ports i ≡ Some p → (Contains identifiers p.ident.text → ⊥) ⊎ IsUsedAgain items i p → ⊥
   right_port i p e wrong = unbroken (record { rule = 303; pos = p.ident.pos }) (wrong_port (record { «at» = i; port = p; there = port_at i p e; wrong = wrong; place = refl }))
 
-  on_core_0 : (i : ℕ) (p : plain.Port) → slice_get h.ports i ≡ Some p → core_of p ≡ Some 0
+  on_core_0 : (i : ℕ) (p : plain.Port) → slice_get h.ports i ≡ Some p → core_of_port p ≡ Some 0
   on_core_0 i p e = ap core_at (out_at h.ports i p h.declared e).unplaced
 
   identifiers_differ : (i k : ℕ) (p q : plain.Port) → i < k → slice_get h.ports i ≡ Some p → slice_get h.ports k ≡ Some q → p.ident.text ≢ q.ident.text

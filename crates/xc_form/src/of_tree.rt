@@ -24,11 +24,14 @@ use xw_words::{List, Pos};
 /// could not be had.
 pub fn program_of_tree(alloc: Global, tree: &Tree) -> Result<Program, ReadErr>
     ensures program { IfOk result (λ p. IsOfTree (program_of tree.now) p) }
-    ensures no_other_program { IfOk result (λ p. (other : Program) → IsOfTree (program_of tree.now) other → other ≡ p) }
+    ensures no_other_program { IfOk result
+        (λ p. (other : Program) → IsOfTree (program_of tree.now) other → other ≡ p) }
     ensures well_formed { IfOk result (λ p. IsWellFormed p) }
     ensures words { IfOk result (λ p. AreWordOutputs p.outputs) }
-    ensures few { IfOk result (λ p. (toks : List Tok) → IsProgram toks (program_of tree.now) → length p.outputs ≤ length toks) }
-    ensures of_another_form { IfErr result (λ e. IfOther e ((p : Program) → IsOfTree (program_of tree.now) p → ⊥)) }
+    ensures few { IfOk result (λ p. (toks : List Tok) → IsProgram toks (program_of tree.now) →
+        length p.outputs ≤ length toks) }
+    ensures of_another_form { IfErr result
+        (λ e. IfOther e ((p : Program) → IsOfTree (program_of tree.now) p → ⊥)) }
 {
     let Some((main, declarations)) = tree.items.as_slice().split_last() else {
         return Err(ReadErr::Other);
@@ -55,7 +58,8 @@ pub fn program_of_tree(alloc: Global, tree: &Tree) -> Result<Program, ReadErr>
 /// those before.
 fn declared(alloc: Global, items: &[Item]) -> Result<Ports, ReadErr>
     ensures ports { IfOk result (λ ports. AreAllDeclared (map item_of items.now) ports) }
-    ensures other { IfErr result (λ e. IfOther e ((ports : Ports) → CanBeDeclared (map item_of items.now) ports → ⊥)) }
+    ensures other { IfErr result
+        (λ e. IfOther e ((ports : Ports) → CanBeDeclared (map item_of items.now) ports → ⊥)) }
 {
     let mut ports = Ports {
         names: List::new(alloc),
@@ -73,7 +77,8 @@ fn declared(alloc: Global, items: &[Item]) -> Result<Ports, ReadErr>
 /// The name and the identifier of an output port that an item declares, where it isn't placed and isn't named `main`.
 fn declaration(item: &Item) -> Option<(&[u8], &[u8])>
     ensures some { IfSome result (λ r. IsDeclaration (item_of item.now) r.0.now r.1.now) }
-    ensures none { IfNone result ((name identifier : List ℕ) → IsDeclaration (item_of item.now) name identifier → ⊥) }
+    ensures none { IfNone result
+        ((name identifier : List ℕ) → IsDeclaration (item_of item.now) name identifier → ⊥) }
 {
     let Item::Port(port) = item else {
         return None;
@@ -137,10 +142,12 @@ fn is_zero(value: &Option<Rhs>) -> bool
 /// The outputs that some statements are, to ports with these names.
 fn outputs(alloc: Global, statements: &[Stmt], names: &[List<u8>]) -> Result<List<Output>, ReadErr>
     requires { length names.now < 2 ^ 32 }
-    ensures outputs { IfOk result (λ os. IsOnly (AreOutputs names.now (map statement_of statements.now)) os) }
+    ensures outputs { IfOk result
+        (λ os. IsOnly (AreOutputs names.now (map statement_of statements.now)) os) }
     ensures declared { IfOk result (λ os. AreDeclared (length names.now) os) }
     ensures words { IfOk result (λ os. AreWordOutputs os) }
-    ensures other { IfErr result (λ e. IfOther e ((os : List Output) → AreOutputs names.now (map statement_of statements.now) os → ⊥)) }
+    ensures other { IfErr result (λ e. IfOther e
+        ((os : List Output) → AreOutputs names.now (map statement_of statements.now) os → ⊥)) }
 {
     let mut outputs = List::new(alloc);
     for statement in statements {
@@ -157,7 +164,8 @@ fn output(statement: &Stmt, names: &[List<u8>]) -> Option<Output>
     requires { length names.now < 2 ^ 32 }
     ensures words { IfSome result (λ o. IsWordOutput o) }
     ensures some { IfSome result (λ o. IsOnly (IsOutput names.now (statement_of statement.now)) o) }
-    ensures none { IfNone result ((o : Output) → IsOutput names.now (statement_of statement.now) o → ⊥) }
+    ensures none { IfNone result
+        ((o : Output) → IsOutput names.now (statement_of statement.now) o → ⊥) }
 {
     let St::Output(sent) = &statement.kind else {
         return None;
@@ -188,7 +196,8 @@ fn word_place(pos: Pos) -> Pos
 pub fn time(timed: &Option<Timed>) -> Option<Option<u32>>
     ensures words { IfSome result (λ time. IsWordTime time) }
     ensures some { IfSome result (λ time. IsOnly (IsTime (option_map timing_of timed.now)) time) }
-    ensures none { IfNone result ((time : Option ℕ) → IsTime (option_map timing_of timed.now) time → ⊥) }
+    ensures none { IfNone result
+        ((time : Option ℕ) → IsTime (option_map timing_of timed.now) time → ⊥) }
 {
     match timed {
         None => Some(None),

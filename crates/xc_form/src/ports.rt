@@ -25,7 +25,8 @@ pub fn declare(
 ) -> Result<(), ReadErr>
     requires { length ports.old.names < 2 ^ 32 }
     ensures declared { OnOk result (Declared ports.old name.now identifier.now ports.new) }
-    ensures other { IfErr result (λ e. IfOther e ((id : ℕ) → CanDeclare ports.old name.now identifier.now id → ⊥)) }
+    ensures other { IfErr result
+        (λ e. IfOther e ((id : ℕ) → CanDeclare ports.old name.now identifier.now id → ⊥)) }
 {
     if name_place(ports.names.as_slice(), name).is_some() {
         return Err(ReadErr::Other);

@@ -4,7 +4,6 @@ pub mod Instances
 pub mod Roots
 pub mod Written
 pub mod Used
-pub mod Firsts
 pub mod CallExamples
 pub mod BranchExamples
 pub mod FlowExamples

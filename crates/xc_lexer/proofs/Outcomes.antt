@@ -16,11 +16,11 @@ use Rattle.xc_lexer.specs.declared.lines.Ending.TheVariants.{At, Unclosed}
 use Rattle.xc_lexer.specs.declared.names.Names.{Names}
 use Rattle.xc_lexer.specs.Lines.{TailIs}
 use Rattle.xc_lexer.specs.declared.lexer.State.{State}
-use Rattle.xc_lexer.specs.declared.lexer.LexErr.{LexErr}
-use Rattle.xc_lexer.specs.declared.lexer.LexErr.TheVariants as err
+use Rattle.xc_tree.specs.declared.refusal.Refusal.{Refusal}
+use Rattle.xc_tree.specs.declared.refusal.Refusal.TheVariants as refusal
 use Rattle.xc_lexer.specs.Names.{numbers_of}
 use Rattle.xc_lexer.specs.Places.{IsPlace}
-use Rattle.xc_lexer.specs.Errors.{IfBroken}
+use Rattle.xc_tree.specs.Refusals.{IfBroken}
 use Rattle.xc_lexer.specs.Steps.{Went, FirstOf, stand, NotAfter, Each}
 use Rattle.xc_lexer.proofs.Pieces.{piece_after, each_map, From}
 
@@ -53,7 +53,7 @@ breaks text before found rule at others after b e p n l h = record {
 }
 
 -- the error of a rule that the next piece breaks where it begins
-pub broken_here : (text : List ℕ) (before : State) (found : List Tok) (rule : ℕ) (after : Stand) (e : LexErr) → e ≡ err.Broken (record { rule = rule; pos = before.place.pos }) → IsPlace text before.place → before.place.at < length text → Piece text (stand before) found (fault rule before.place.at) after → IfBroken e (λ b. FirstOf text before b)
+pub broken_here : (text : List ℕ) (before : State) (found : List Tok) (rule : ℕ) (after : Stand) (e : Refusal) → e ≡ refusal.Broken (record { rule = rule; pos = before.place.pos }) → IsPlace text before.place → before.place.at < length text → Piece text (stand before) found (fault rule before.place.at) after → IfBroken e (λ b. FirstOf text before b)
 broken_here text before found rule after e is place l p =
     let h = piece_after text (stand before) found (fault rule before.place.at) after p in
     subst (λ x. IfBroken x (λ b. FirstOf text before b)) (sym is)
@@ -103,6 +103,6 @@ some_of None e = absurd (cc)
 some_of (Some x) e = (x, refl)
 
 -- what holds of each broken rule holds of the error
-pub broken_map : {P Q : Broken → Type 0} (e : LexErr) → ((b : Broken) → P b → Q b) → IfBroken e P → IfBroken e Q
-broken_map (err.Broken b) f h = f b h
-broken_map err.Memory f h = tt
+pub broken_map : {P Q : Broken → Type 0} (e : Refusal) → ((b : Broken) → P b → Q b) → IfBroken e P → IfBroken e Q
+broken_map (refusal.Broken b) f h = f b h
+broken_map refusal.Memory f h = tt

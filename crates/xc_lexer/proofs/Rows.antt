@@ -6,7 +6,8 @@ use Rattle.xw_words.specs.declared.pos.Broken.{Broken}
 use Rattle.xc_tree.specs.declared.token.Tok.{Tok}
 use Rattle.xc_tree.specs.Places.{pos_at}
 use Rattle.xc_tree.specs.Pieces.{Stand, Fault, Piece}
-use Rattle.xc_tree.specs.Lexes.{Leads, here, onward, beginning, Lexes, Breaks, BreaksAt, FirstBroken, IsNotAfter, longest_text}
+use Rattle.xc_tree.specs.Least.{IsFirst}
+use Rattle.xc_tree.specs.Lexes.{Leads, here, onward, beginning, Lexes, Breaks, BreaksAt, IsNotAfter, longest_text}
 use Rattle.xc_lexer.specs.declared.lexer.State.{State}
 use Rattle.xc_lexer.specs.Places.{IsPlace}
 use Rattle.xc_lexer.specs.Steps.{Went, FirstOf, stand, NotAfter, Each}
@@ -147,7 +148,7 @@ module _ {text : List ℕ} {before : State} {toks : List Tok} {b : Broken} (k : 
   least_of short other (inl h) = absurd (omega (arith, h.0))
   least_of short other (inr h) = subst (λ x. IsNotAfter x other) (sym w.is) (subst (IsNotAfter (broken_of text w.first)) (sym h.1.2) (not_after text w.first h.1.0 w.in_text (reached_least h.1.0 h.1.1)))
 
-  pub first_broken : length text ≤ longest_text → FirstBroken text b
+  pub first_broken : length text ≤ longest_text → IsFirst (Breaks text) b
   first_broken short = record {
     breaks = inr (short, (w.first, record { toks = toks ++ w.found; faults = w.first ∷ w.others; last = w.after; leads = snoc w.found (w.first ∷ w.others) k.derives w.next; among = (0, omega arith, refl) }, w.is));
     least = least_of short;

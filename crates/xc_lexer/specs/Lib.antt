@@ -3,4 +3,3 @@ pub mod Places
 pub mod Tables
 pub mod Lines
 pub mod Steps
-pub mod Errors

@@ -21,14 +21,16 @@ pub fn tokens_or_broken_rule(text: &[u8])
 /// A law of the definition: the pieces of a text that has tokens lie one behind the other from its begin to its end, and
 /// none is empty.
 pub fn pieces_lie_behind_each_other(text: &[u8])
-    ensures { (toks : List Tok) (l : Lexes text.now toks) → Tiles 0 (length text.now) (extents l.leads) }
+    ensures { (toks : List Tok) (l : Lexes text.now toks) →
+        Tiles 0 (length text.now) (extents l.leads) }
 {
     let _ = text;
 }
 
 /// A law of the definition: each byte of a text that has tokens belongs to exactly one piece.
 pub fn each_byte_in_one_piece(text: &[u8])
-    ensures { (toks : List Tok) (l : Lexes text.now toks) → EachOnce (length text.now) (extents l.leads) }
+    ensures { (toks : List Tok) (l : Lexes text.now toks) →
+        EachOnce (length text.now) (extents l.leads) }
 {
     let _ = text;
 }
@@ -36,7 +38,8 @@ pub fn each_byte_in_one_piece(text: &[u8])
 /// A law of the definition: the tokens of a text stand, in their order, at the first bytes of those of its pieces that are
 /// words, numbers and symbols. Blanks, comments and `#` lines give none.
 pub fn tokens_stand_at_their_pieces(text: &[u8])
-    ensures { (toks : List Tok) (l : Lexes text.now toks) → map (λ tok. tok.pos) toks ≡ token_places text.now (extents l.leads) }
+    ensures { (toks : List Tok) (l : Lexes text.now toks) → map (λ tok. tok.pos) toks
+        ≡ token_places text.now (extents l.leads) }
 {
     let _ = text;
 }

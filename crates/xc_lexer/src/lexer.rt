@@ -5,10 +5,11 @@ ghost use Rattle.xc_tree.specs.declared.token.Tok.{Tok};
 ghost use Rattle.xc_tree.specs.Bytes.{start_at};
 ghost use Rattle.xc_tree.specs.HashLines.{Include};
 ghost use Rattle.xc_tree.specs.Places.{pos_at};
-ghost use Rattle.xc_tree.specs.Lexes.{Lexes, FirstBroken, Breaks};
+ghost use Rattle.xc_tree.specs.Least.{IsFirst};
+ghost use Rattle.xc_tree.specs.Lexes.{Lexes, Breaks};
+ghost use Rattle.xc_tree.specs.Refusals.{IfBroken};
 ghost use Rattle.xc_lexer.specs.Lines.{DefineIs, TailIs};
 ghost use Rattle.xc_lexer.specs.Places.{IsPlace};
-ghost use Rattle.xc_lexer.specs.Errors.{IfBroken};
 ghost use Rattle.xc_lexer.specs.Steps.{Went, FirstOf};
 
 use crate::lines::{Definition, Ending, definition_at, include_end, tail};
@@ -18,31 +19,11 @@ use crate::place::Place;
 use crate::scan::{comment_end, line_end, run_end, starts};
 use crate::words::{kind_of_word, longest_symbol};
 use std::alloc::Global;
-use thiserror::Error;
-use xc_tree::{Kind, Reading, Start, Tok};
-use xw_words::{Broken, List, Memory, Pos};
+use xc_tree::{Kind, Reading, Refusal, Start, Tok};
+use xw_words::{Broken, List, Pos};
 
 /// Why a text has no tokens.
-#[derive(Debug, Drop, Error)]
-pub enum LexErr {
-    /// It breaks a rule, of all that it breaks the first.
-    #[error("{}:{}: rule {} is broken", .0.pos.line, .0.pos.col, .0.rule)]
-    Broken(Broken),
-    /// Memory could not be had.
-    #[error("out of memory")]
-    Memory,
-}
-
-impl From<Memory> for LexErr {
-    ghost use Rattle.std.specs.Prelude.{◌≡◌};
-    ghost use Rattle.xc_lexer.specs.declared.lexer.LexErr.TheVariants as err;
-
-    ghost from_gives = { λ _ e. e ≡ err.Memory };
-
-    fn from(_: Memory) -> LexErr {
-        LexErr::Memory
-    }
-}
+pub type LexErr = Refusal;
 
 /// How far a text has been read.
 #[derive(Drop)]
@@ -68,7 +49,7 @@ pub fn lex(alloc: Global, text: &[u8]) -> Result<List<Tok>, LexErr>
     ensures tokens { IfOk result (λ toks. Lexes text.now toks) }
     ensures only { IfOk result (λ toks. (v : List Tok) → Lexes text.now v → v ≡ toks) }
     ensures unbroken { IfOk result (λ toks. (b : Broken) → Breaks text.now b → ⊥) }
-    ensures broken { IfErr result (λ e. IfBroken e (λ b. FirstBroken text.now b)) }
+    ensures broken { IfErr result (λ e. IfBroken e (IsFirst (Breaks text.now))) }
     ensures none { IfErr result (λ e. IfBroken e (λ b. (v : List Tok) → Lexes text.now v → ⊥)) }
 {
     let pos = Pos { line: 1, col: 1 };
@@ -132,7 +113,11 @@ fn go_on<'a>(text: &'a [u8], state: &mut State<'a>, end: usize, fresh: bool)
     requires place { IsPlace text.now state.old.place }
     requires end { state.old.place.at ≤ end }
     requires within { end ≤ length text.now }
-    ensures is { state.new ≡ record { place = record { at = end; pos = pos_at text.now end }; fresh = fresh; names = state.old.names } }
+    ensures is { state.new ≡ record {
+      place = record { at = end; pos = pos_at text.now end };
+      fresh = fresh;
+      names = state.old.names;
+    } }
 {
     state.place = state.place.further(text, end);
     state.fresh = fresh;
@@ -140,7 +125,7 @@ fn go_on<'a>(text: &'a [u8], state: &mut State<'a>, end: usize, fresh: bool)
 
 /// A rule that is broken at a place.
 fn broken(rule: u16, pos: Pos) -> LexErr
-    ensures { result ≡ LexErr.Broken (record { rule = rule; pos = pos }) }
+    ensures { result ≡ Refusal.Broken (record { rule = rule; pos = pos }) }
 {
     LexErr::Broken(Broken { rule, pos })
 }

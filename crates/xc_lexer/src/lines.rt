@@ -42,7 +42,8 @@ enum Step {
 
 /// Where one of the three headers ends that may be included.
 fn header_end(text: &[u8], at: usize) -> Option<usize>
-    ensures some { IfSome result (λ end. Header text.now at end × (at ≤ end) × (end ≤ length text.now)) }
+    ensures some { IfSome result
+        (λ end. Header text.now at end × (at ≤ end) × (end ≤ length text.now)) }
     ensures none { IfNone result ((end : ℕ) → Header text.now at end → ⊥) }
 {
     if let Some(end) = past(text, at, b"<xs1.h>") {
@@ -59,7 +60,8 @@ fn header_end(text: &[u8], at: usize) -> Option<usize>
 
 /// Where a `#include` of one of the three headers ends.
 pub fn include_end(text: &[u8], at: usize) -> Option<usize>
-    ensures some { IfSome result (λ end. Include text.now at end × (at < end) × (end ≤ length text.now)) }
+    ensures some { IfSome result
+        (λ end. Include text.now at end × (at < end) × (end ≤ length text.now)) }
     ensures none { IfNone result ((end : ℕ) → Include text.now at end → ⊥) }
 {
     let opened = past(text, at, b"#include")?;
@@ -73,7 +75,8 @@ pub fn include_end(text: &[u8], at: usize) -> Option<usize>
 /// A `#define` of a name that is no word.
 pub fn definition_at<'a>(text: &'a [u8], at: usize) -> Option<Definition<'a>>
     ensures some { IfSome result (λ d. DefineIs text.now at d) }
-    ensures none { IfNone result ((name : List ℕ) (m k : ℕ) → spec.Define text.now at name m k → ⊥) }
+    ensures none { IfNone result
+        ((name : List ℕ) (m k : ℕ) → spec.Define text.now at name m k → ⊥) }
 {
     let opened = past(text, at, b"#define")?;
     let name_at = blanks_end(text, opened);
@@ -129,7 +132,8 @@ fn tail_step(text: &[u8], here: Place) -> Step
 pub fn tail(text: &[u8], form_end: Place) -> Option<Ending>
     requires { IsPlace text.now form_end }
     ensures some { IfSome result (λ ending. TailIs text.now form_end.at ending) }
-    ensures none { IfNone result ((j : ℕ) (e : spec.Ending) → spec.Tail text.now form_end.at j e → ⊥) }
+    ensures none { IfNone result
+        ((j : ℕ) (e : spec.Ending) → spec.Tail text.now form_end.at j e → ⊥) }
 {
     let mut here = form_end;
     'tail: loop {

@@ -33,7 +33,8 @@ impl<'a> Names<'a> {
 
     /// Defines a name.
     pub fn define(&mut self, name: &'a [u8], number: Number) -> Result<(), Memory>
-        ensures ok { OnOk result (numbers_of self.new ≡ defined (numbers_of self.old) name.now number) }
+        ensures ok { OnOk result
+            (numbers_of self.new ≡ defined (numbers_of self.old) name.now number) }
     {
         match self.numbers.insert(name, number) {
             Ok(_) => Ok(()),

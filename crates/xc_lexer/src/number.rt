@@ -27,7 +27,8 @@ fn digit(b: u8) -> u8
 fn numeral(base: u8, digits: &[u8]) -> Option<u64>
     requires low { 0 < base }
     requires high { base ≤ 16 }
-    ensures some { IfSome result (λ v. (n : ℕ) × (spec.numeral base digits.now ≡ Some n) × (v ≡ min n (2 ^ 32))) }
+    ensures some { IfSome result
+        (λ v. (n : ℕ) × (spec.numeral base digits.now ≡ Some n) × (v ≡ min n (2 ^ 32))) }
     ensures none { IfNone result (spec.numeral base digits.now ≡ None) }
 {
     if digits.is_empty() {
@@ -47,7 +48,8 @@ fn numeral(base: u8, digits: &[u8]) -> Option<u64>
 #[tactic(auto, unfolding(xc_tree::specs::Numbers::value_of, xc_tree::specs::Numbers::numeral))]
 /// The number that a run without its suffix is, and 2^32 for each greater one.
 fn value_of(digits: &[u8]) -> Option<u64>
-    ensures some { IfSome result (λ v. (n : ℕ) × (spec.value_of digits.now ≡ Some n) × (v ≡ min n (2 ^ 32))) }
+    ensures some { IfSome result
+        (λ v. (n : ℕ) × (spec.value_of digits.now ≡ Some n) × (v ≡ min n (2 ^ 32))) }
     ensures none { IfNone result (spec.value_of digits.now ≡ None) }
 {
     if digits.is_empty() || digits[0] != b'0' {

@@ -178,7 +178,9 @@ pub fn starts(text: &[u8], at: usize) -> Start
 /// Where these bytes end, if they stand at a place.
 pub fn past(text: &[u8], at: usize, spelled: &[u8]) -> Option<usize>
     requires { 0 < length spelled.now }
-    ensures some { IfSome result (λ end. Stands text.now at spelled.now × (end ≡ at + length spelled.now) × (end ≤ length text.now)) }
+    ensures some { IfSome result
+        (λ end. Stands text.now at spelled.now × (end ≡ at + length spelled.now)
+        × (end ≤ length text.now)) }
     ensures none { IfNone result (Stands text.now at spelled.now → ⊥) }
 {
     if at > text.len() || text.len() - at < spelled.len() {

@@ -14,7 +14,7 @@ use Rattle.xc_tree.specs.Plain as plain
 use Rattle.xc_tree.specs.Names.Marks.{of_items, of_program}
 use Rattle.xc_tree.specs.Names.Scopes.{Means, IsWithin}
 use Rattle.xc_tree.specs.Names.Calls.{first_of, IsInItem, CallsAt, Reaches, directly, through}
-use Rattle.xc_names.specs.Starts.{AreStarts}
+use Rattle.xc_marks.specs.Starts.{AreStarts}
 use Rattle.xc_tree.specs.Least.{IsLeastOf}
 use Rattle.xc_names.specs.Meanings.{AreMeanings, Meaning, means, unknown}
 use Rattle.xc_names.specs.Callees.{called_at, declared_function, function_of, IsCall}
@@ -53,7 +53,7 @@ a_function (what.Func k) g e = ap what.Func (some_same k g e)
 a_function what.Index g e = absurd (clash g e)
 
 -- a name that calls item g by what names mean
-pub record IsNamed (program : List plain.Item) (u f g : ℕ) (p : Pos) : Type 0 where
+pub record IsNamedCall (program : List plain.Item) (u f g : ℕ) (p : Pos) : Type 0 where
   pub name : Id
   pub calls : CallsAt program u f g name
   pub place : p ≡ name.pos
@@ -83,10 +83,10 @@ module _ (program : List plain.Item) (meant : List (Option ℕ)) (starts : List 
       let end : b.end ≡ first_of program (f + 1) = some_same _ _ (sym b.ends ∙ begin.each (f + 1) (omega arith)) in
       record { begun = let x = b.behind in omega arith; before_next = let x = b.before in omega arith }
 
-  pub to_named : (f u g : ℕ) (p : Pos) → IsStep (of_program program) meant starts f u p g → IsNamed program u f g p
+  pub to_named : (f u g : ℕ) (p : Pos) → IsStep (of_program program) meant starts f u p g → IsNamedCall program u f g p
   to_named f u g p s = by s.call.mark s.call.there s.call.called
     where
-      of_meaning : (n : Id) → slice_get (of_program program) u ≡ Some (Calls n) → p ≡ n.pos → (o : Option ℕ) → Meaning (of_program program) u n.text o → o ≡ Some s.call.place → IsNamed program u f g p
+      of_meaning : (n : Id) → slice_get (of_program program) u ≡ Some (Calls n) → p ≡ n.pos → (o : Option ℕ) → Meaning (of_program program) u n.text o → o ≡ Some s.call.place → IsNamedCall program u f g p
       of_meaning n e q o (unknown no_one) x = absurd (clash s.call.place x)
       of_meaning n e q o (means {d = d} k) x =
           let same : d ≡ s.call.place = some_same d s.call.place x in
@@ -105,7 +105,7 @@ module _ (program : List plain.Item) (meant : List (Option ℕ)) (starts : List 
             place = q;
           }
 
-      by : (m : Mark) → slice_get (of_program program) u ≡ Some m → called_at m ≡ Some p → IsNamed program u f g p
+      by : (m : Mark) → slice_get (of_program program) u ≡ Some m → called_at m ≡ Some p → IsNamedCall program u f g p
       by Opens e q = absurd (clash p q)
       by Closes e q = absurd (clash p q)
       by (Declares d) e q = absurd (clash p q)
@@ -132,7 +132,7 @@ module _ (program : List plain.Item) (meant : List (Option ℕ)) (starts : List 
   to_reaches g x itself = inl refl
   to_reaches g x (further {f = f} r k) = by (to_reaches g f r) (to_named f k.place x k.pos k.step)
     where
-      by : (g ≡ f) ⊎ Reaches program g f → IsNamed program k.place f x k.pos → (g ≡ x) ⊎ Reaches program g x
+      by : (g ≡ f) ⊎ Reaches program g f → IsNamedCall program k.place f x k.pos → (g ≡ x) ⊎ Reaches program g x
       by (inl e) c = inr (subst (λ (z : ℕ). Reaches program z x) (sym e) (directly c.calls))
       by (inr e) c = inr (longer g f x k.place c.name e c.calls)
 

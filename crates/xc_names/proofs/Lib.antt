@@ -1,7 +1,3 @@
-pub mod Steps
-pub mod Bodies
-pub mod Lists
-pub mod Starts
 pub mod Ends
 pub mod Known
 pub mod Finds

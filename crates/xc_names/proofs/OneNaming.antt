@@ -4,9 +4,9 @@ use Rattle.xc_tree.specs.declared.names.Mark.{Mark}
 use Rattle.xc_tree.specs.declared.names.Mark.TheVariants.{Opens, Closes, Declares, Uses, Calls}
 use Rattle.xc_tree.specs.Names.Scopes.{Means}
 use Rattle.xc_tree.specs.Names.Marks.{of_program}
-use Rattle.xc_tree.specs.Names.Uses.{AreUses, Entries, declarations, number_of, none, past_begin, past_end, declared, used}
-use Rattle.xc_tree.specs.Types.Named.{NamedProgram}
-use Rattle.xc_names.specs.Named.{HasNames}
+use Rattle.xc_tree.specs.Names.Uses.{AreUses, Entries, number_of, none, past_begin, past_end, declared, used}
+use Rattle.xc_tree.specs.Plain.{Item}
+use Rattle.xc_tree.specs.Types.Named.{IsNamed, NamedProgram}
 use Rattle.xc_names.proofs.Cycles.{one_meaning}
 
 -- what a mark adds to the entries
@@ -85,7 +85,6 @@ pub named_same : (a b : NamedProgram) → a.program ≡ b.program → a.decls �
 named_same a b e f g = λ j. record { program = e j; decls = f j; uses = g j }
 
 -- a tree has one named program
-pub one_naming : (a b : NamedProgram) → HasNames a → HasNames b → a.program ≡ b.program → a ≡ b
-one_naming a b x y same =
-    named_same a b same (x.decls ∙ ap (λ p. declarations (of_program p)) same ∙ sym y.decls)
-    (uses_one (of_program b.program) a.uses b.uses (subst (λ p. AreUses (of_program p) a.uses) same x.uses) y.uses)
+pub one_naming : (program : List Item) (a b : NamedProgram) → IsNamed program a → IsNamed program b → a ≡ b
+one_naming program a b x y =
+    named_same a b (x.program_is ∙ sym y.program_is) (x.decls ∙ sym y.decls) (uses_one (of_program program) a.uses b.uses x.uses y.uses)

@@ -1,17 +1,16 @@
 -- The rules of names together.
-use Rattle.std.proofs.Common.{◌≡◌, ℕ, suc, ◌+◌, ◌<◌, ◌≤◌, ◌⊎◌, inl, inr, List, [], ◌∷◌, ◌++◌, length, take, drop, slice_get, Option, None, Some, refl, sym, ap, subst, ◌∙◌, arith, length-append, append_assoc}
+use Rattle.std.proofs.Common.{◌≡◌, ℕ, suc, ◌+◌, ◌<◌, ◌≤◌, ◌⊎◌, inl, inr, List, [], ◌∷◌, ◌++◌, length, take, drop, slice_get, Option, Some, refl, sym, ap, subst, ◌∙◌, arith, length-append, append_assoc}
 use Rattle.std.proofs.lemmas.List.{take-append-drop}
 use Rattle.std.proofs.lemmas.Option.{slice_get_within}
 use Rattle.xw_words.specs.declared.pos.Broken.{Broken}
 use Rattle.xc_tree.specs.declared.names.Mark.{Mark}
 use Rattle.xc_tree.specs.Plain.{Item}
-use Rattle.xc_tree.specs.Lexes.{IsNotAfter}
 use Rattle.xc_tree.specs.Names.Marks.{of_item, of_items, of_program}
 use Rattle.xc_tree.specs.Names.Calls.{first_of}
 use Rattle.xc_tree.specs.Names.Uses.{IsUse}
-use Rattle.xc_tree.specs.Names.Rules.{Breaks, unknown as unknown_name, declared_again, wrong_port as a_wrong_port, on_cycle as a_cycle, without_main, FirstBroken}
+use Rattle.xc_tree.specs.Names.Rules.{Breaks, unknown as unknown_name, declared_again, wrong_port as a_wrong_port, on_cycle as a_cycle, without_main}
 use Rattle.xc_tree.specs.Least.{IsLeastOf, first_of as first_rule}
-use Rattle.xc_names.specs.Starts.{AreStarts}
+use Rattle.xc_marks.specs.Starts.{AreStarts}
 use Rattle.xc_names.specs.NameRules.{IsBrokenAt, unknown, again, IsBrokenBefore}
 use Rattle.xc_names.specs.PortRules.{HasWrongPort, wrong_port}
 use Rattle.xc_names.specs.Cycles.{HasCycle, on_cycle}
@@ -79,24 +78,6 @@ module _ (program : List Item) where
 
   pub all_rules : (best : Option Broken) → IsLeastOf (IsAny program) best → IsLeastOf (Breaks program) best
   all_rules best l = of_same (IsAny program) (Breaks program) best to_breaks of_breaks l
-
-  pub first_of_all : (b : Broken) → IsLeastOf (Breaks program) (Some b) → FirstBroken program b
-  first_of_all b l = record { breaks = l.among b refl; least = λ c h. by c (l.least c h) }
-    where
-      by : (c : Broken) → (a : Broken) × (Some b ≡ Some a) × IsNotAfter a c → IsNotAfter b c
-      by c (a, e, h) = subst (λ (x : Broken). IsNotAfter x c) (sym (same a e)) h
-        where
-          same : (x : Broken) → Some b ≡ Some x → b ≡ x
-          same x q = cc
-
-  pub no_rule : (b : Broken) → IsLeastOf (Breaks program) None → Breaks program b → ⊥
-  no_rule b l h = by (l.least b h)
-    where
-      by : (a : Broken) × (None ≡ Some a) × IsNotAfter a b → ⊥
-      by (a, e, k) = clash a e
-        where
-          clash : (x : Broken) → None ≡ Some x → ⊥
-          clash x q = cc
 
 -- the least of each kind make the least of all
 module _ (program : List Item) (ms : List Mark) (is : ms ≡ of_program program) where

@@ -1,10 +1,10 @@
 -- The graph of calls as a list of its edges, and numbers of functions that never rise along a call.
-use Rattle.std.specs.Prelude.{◌≡◌, ℕ, ◌<◌, ◌≤◌, Bool, false, not, nat_eq, if◌then◌else◌, List, slice_get, get_or, Option, Some, None}
+use Rattle.std.specs.Prelude.{◌≡◌, ℕ, ◌<◌, ◌≤◌, Bool, false, not, nat_eq, if◌then◌else◌, List, length, slice_get, get_or, Option, Some, None}
 use Rattle.xw_words.specs.declared.pos.Pos.{Pos}
 use Rattle.xw_words.specs.declared.pos.Broken.{Broken}
 use Rattle.xc_tree.specs.declared.names.Mark.{Mark}
 use Rattle.xc_tree.specs.Lexes.{IsNotAfter}
-use Rattle.xc_names.specs.declared.graph.Edge.{Edge}
+use Rattle.xc_marks.specs.declared.graph.Edge.{Edge}
 use Rattle.xc_tree.specs.Least.{comes_before}
 use Rattle.xc_names.specs.Callees.{IsCall}
 use Rattle.xc_names.specs.Searches.{IsStep}
@@ -25,6 +25,10 @@ HasCall ms meant f u edges = (h : ℕ) (p : Pos) → IsCall ms meant u p h → H
 -- each call in the first k items is one of these edges
 abbrev pub HasCalls : List Mark → List (Option ℕ) → List ℕ → ℕ → List Edge → Type 0
 HasCalls ms meant starts k edges = (f u h : ℕ) (p : Pos) → f < k → IsStep ms meant starts f u p h → HasEdge edges f h p
+
+-- each call is one of these edges
+abbrev pub HasAllCalls : List Mark → List (Option ℕ) → List ℕ → List Edge → Type 0
+HasAllCalls ms meant starts edges = HasCalls ms meant starts (length starts) edges
 
 -- the number of an item, 0 where it has none
 abbrev pub number_in : List ℕ → ℕ → ℕ

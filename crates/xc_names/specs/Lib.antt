@@ -1,4 +1,3 @@
-pub mod Starts
 pub mod Ends
 pub mod Latest
 pub mod Meanings
@@ -12,5 +11,3 @@ pub mod Callees
 pub mod Searches
 pub mod Graphs
 pub mod Cycles
-pub mod Errors
-pub mod Named

@@ -2,6 +2,8 @@
 -- each declaration the one that its name meant before.
 use Rattle.std.specs.Prelude.{◌≡◌, ℕ, ◌<◌, ◌≤◌, ◌⊎◌, List, length, slice_get, get_or, Bool, false, not, nat_eq, nat_lt, ◌&&◌, is_some, Option, Some, None}
 use Rattle.xc_tree.specs.declared.names.Mark.{Mark}
+use Rattle.xc_names.specs.declared.meanings.Walk.{Walk}
+use Rattle.xc_names.specs.Latest.{latest_of}
 use Rattle.xc_tree.specs.Names.Scopes.{end_of, DeclaresAt, IsKnown, IsWithin}
 use Rattle.xc_names.specs.Ends.{AreEnds}
 use Rattle.xc_names.specs.Meanings.{declared_by, IsSpelledAt, IsMeantAt}
@@ -44,6 +46,10 @@ pub record HasRead (ms : List Mark) (ends : List ℕ) (latest : List ℕ → Opt
   pub count : length meant ≡ i
   pub finds : (t : List ℕ) (u : ℕ) → i ≤ u → u < length ms → Answers ms ends outer i u t (latest t)
   pub each : (j : ℕ) (t : List ℕ) → j < i → IsSpelledAt ms j t → IsMeantAt ms meant j t
+
+-- the marks before place i have been read
+abbrev pub HasReadTo : List Mark → List ℕ → Walk → ℕ → Type 0
+HasReadTo ms ends walk i = HasRead ms ends (latest_of walk.latest) walk.outer walk.meant i
 
 -- of the declarations before place k that are known in the whole text, the first with this spelling
 pub data FirstGlobal (ms : List Mark) (k : ℕ) (t : List ℕ) : Option ℕ → Type 0 where

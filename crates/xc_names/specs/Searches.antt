@@ -1,5 +1,5 @@
 -- The search along calls from one function, which gives the calls that come back to it.
-use Rattle.std.specs.Prelude.{◌≡◌, ℕ, ◌+◌, ◌<◌, ◌≤◌, ◌^◌, ◌⊎◌, List, slice_get, nat_eq, if◌then◌else◌, Option, Some, None}
+use Rattle.std.specs.Prelude.{◌≡◌, ℕ, ◌+◌, ◌<◌, ◌≤◌, ◌^◌, ◌⊎◌, List, length, slice_get, nat_eq, if◌then◌else◌, Option, Some, None}
 use Rattle.xw_words.specs.declared.pos.Pos.{Pos}
 use Rattle.xw_words.specs.declared.pos.Broken.{Broken}
 use Rattle.xc_tree.specs.declared.names.Mark.{Mark}
@@ -100,3 +100,7 @@ pub record IsBackToOne (ms : List Mark) (meant : List (Option ℕ)) (starts : Li
   pub goal : ℕ
   pub before : goal < k
   pub back : IsBackTo ms meant starts goal b
+
+-- a call of any function stands on a cycle
+abbrev pub IsBackToAny : List Mark → List (Option ℕ) → List ℕ → Broken → Type 0
+IsBackToAny ms meant starts b = IsBackToOne ms meant starts (length starts) b

@@ -120,7 +120,8 @@ fn pass(
     requires small { f < 2 ^ 32 }
     requires meant { AreMeanings marks.now meant.now }
     requires starts { AreWithin starts.now (length marks.now) }
-    ensures adds { OnOk result (AddsNext marks.now meant.now starts.now f reached.old.keys reached.new.keys) }
+    ensures adds { OnOk result
+        (AddsNext marks.now meant.now starts.now f reached.old.keys reached.new.keys) }
     ensures back { IfOk result (λ b. IsLeastOf (IsBackIn marks.now meant.now starts.now goal f) b) }
 {
     let (first, end) = body(starts, f, marks.len());
@@ -154,8 +155,9 @@ fn follow(
 ) -> Result<Option<Broken>, Memory>
     requires within { at < length marks.now }
     requires meant { AreMeanings marks.now meant.now }
-    ensures adds { OnOk result (Adds marks.now meant.now at (at + 1) reached.old.keys reached.new.keys) }
-    ensures back { IfOk result (λ b. IsLeastOf (IsBackBefore marks.now meant.now at (at + 1) goal) b) }
+    ensures adds { OnOk result
+        (Adds marks.now meant.now at (at + 1) reached.old.keys reached.new.keys) }
+    ensures back { IfOk result (IsLeastOf (IsBackBefore marks.now meant.now at (at + 1) goal)) }
 {
     match call_at(marks, meant, at) {
         None => Ok(None),

@@ -1,28 +1,13 @@
 ghost use Rattle.std.specs.Prelude.{◌≡◌, ◌+◌, ◌<◌, ◌≤◌, ◌^◌, length, IfOk, OnOk};
 ghost use Rattle.xc_names.specs.Meanings.{AreMeanings};
 ghost use Rattle.xc_names.specs.Searches.{AreWithin};
-ghost use Rattle.xc_names.specs.Graphs.{HasCall, HasCalls, IsLonger};
+ghost use Rattle.xc_names.specs.Graphs.{HasAllCalls, HasCall, HasCalls, IsLonger};
 
 use crate::calls::{body, call_at};
 use std::alloc::Global;
+use xc_marks::{Edge, Graph};
 use xc_tree::Mark;
-use xw_words::{List, Memory, Pos};
-
-/// A call: the function in which it stands and the one that is called, by their places among the items, and the place of
-/// the name.
-#[derive(Clone, Copy)]
-pub struct Edge {
-    pub caller: usize,
-    pub callee: usize,
-    pub pos: Pos,
-}
-
-/// All calls in the order of the text, and where those of each item begin, with their end for the last.
-#[derive(Drop)]
-pub struct Graph {
-    pub edges: List<Edge>,
-    pub firsts: List<usize>,
-}
+use xw_words::{List, Memory};
 
 /// The calls of a program, by what names mean and where the items begin.
 pub fn graph_of(
@@ -34,10 +19,12 @@ pub fn graph_of(
     requires few { length starts.now ≤ 2 ^ 32 }
     requires meant { AreMeanings marks.now meant.now }
     requires starts { AreWithin starts.now (length marks.now) }
-    ensures { IfOk result (λ graph. HasCalls marks.now meant.now starts.now (length starts.now) graph.edges) }
+    ensures { IfOk result (λ graph. HasAllCalls marks.now meant.now starts.now graph.edges) }
 {
-    let mut edges = List::new(alloc);
-    let mut firsts = List::new(alloc);
+    let Graph {
+        mut edges,
+        mut firsts,
+    } = Graph::new(alloc);
     for f in 0..starts.len() {
         firsts.push(edges.len())?;
         add_calls(&mut edges, marks, meant, starts, f)?;

@@ -1,5 +1,5 @@
 ghost use Rattle.std.specs.Prelude.{◌≡◌, ℕ, List, None, Some, OnOk};
-ghost use Rattle.xc_names.specs.Latest.{latest_of};
+ghost use Rattle.xc_names.specs.Latest.{OthersStay, latest_of};
 
 use indexmap::IndexMap;
 use std::alloc::Global;
@@ -31,7 +31,7 @@ impl<'a> Latest<'a> {
     /// Keeps this place for a spelling.
     pub fn keep(&mut self, name: &'a [u8], place: usize) -> Result<(), Memory>
         ensures here { OnOk result (latest_of self.new name.now ≡ Some place) }
-        ensures others { OnOk result ((t : List ℕ) → (t ≡ name.now → ⊥) → latest_of self.new t ≡ latest_of self.old t) }
+        ensures others { OnOk result (OthersStay self.old self.new name.now) }
     {
         match self.places.insert(name, place) {
             Ok(_) => Ok(()),

@@ -2,12 +2,10 @@
 #![tactic(auto)]
 
 mod calls;
-mod components;
 mod graph;
 mod latest;
 mod laws;
 mod main_function;
-mod marks;
 mod meanings;
 mod names;
 mod ports;

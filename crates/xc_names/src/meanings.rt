@@ -4,7 +4,7 @@ ghost use Rattle.xc_tree.specs.Names.Scopes.{end_of};
 ghost use Rattle.xc_names.specs.Ends.{AreEnds};
 ghost use Rattle.xc_names.specs.Latest.{latest_of};
 ghost use Rattle.xc_names.specs.Meanings.{AreMeanings, declared_by, spelling_of};
-ghost use Rattle.xc_names.specs.Reads.{adds_one, ends_with, Finds, HasGlobals, HasRead, IsFound};
+ghost use Rattle.xc_names.specs.Reads.{adds_one, ends_with, Finds, HasGlobals, HasReadTo, IsFound};
 
 use crate::latest::Latest;
 use std::alloc::Global;
@@ -83,8 +83,8 @@ fn keep_global<'a>(
 /// Reads one mark.
 fn read<'a>(walk: &mut Walk<'a>, marks: &'a [Mark], ends: &[usize], at: usize) -> Result<(), Memory>
     requires within { at < length marks.now }
-    requires before { HasRead marks.now ends.now (latest_of walk.old.latest) walk.old.outer walk.old.meant at }
-    ensures { OnOk result (HasRead marks.now ends.now (latest_of walk.new.latest) walk.new.outer walk.new.meant (at + 1)) }
+    requires before { HasReadTo marks.now ends.now walk.old at }
+    ensures { OnOk result (HasReadTo marks.now ends.now walk.new (at + 1)) }
 {
     let mark = &marks[at];
     let Some(name) = spelling(mark) else {

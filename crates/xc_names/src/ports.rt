@@ -28,7 +28,8 @@ pub fn broken_port(alloc: Global, tree: &Tree) -> Result<Option<Broken>, Memory>
 /// Looks at one more item.
 fn look_at<'a>(taken: &mut Taken<'a>, item: &'a Item) -> Result<Option<Broken>, Memory>
     ensures rule { IfOk result (λ r. r ≡ rule_of_item (is_taken taken.old) (item_of item.now)) }
-    ensures taken { OnOk result (TakesItem (is_taken taken.old) (item_of item.now) (is_taken taken.new)) }
+    ensures taken { OnOk result
+        (TakesItem (is_taken taken.old) (item_of item.now) (is_taken taken.new)) }
 {
     match item {
         Item::Func(_) => Ok(None),
@@ -41,10 +42,11 @@ fn look_at<'a>(taken: &mut Taken<'a>, item: &'a Item) -> Result<Option<Broken>, 
 
 fn look_at_port<'a>(taken: &mut Taken<'a>, port: &'a PortItem) -> Result<Option<Broken>, Memory>
     ensures rule { IfOk result (λ r. r ≡ rule_of (is_taken taken.old) (tree.port_of port.now)) }
-    ensures taken { OnOk result (Takes (is_taken taken.old) (tree.port_of port.now) (is_taken taken.new)) }
+    ensures taken { OnOk result
+        (Takes (is_taken taken.old) (tree.port_of port.now) (is_taken taken.new)) }
 {
     let identifier = port.ident.text.as_slice();
-    let is_free = match core_of(port) {
+    let is_free = match core_of_port(port) {
         None => true,
         Some(core) => taken.take(identifier, core)?,
     };
@@ -79,8 +81,8 @@ fn is_among(table: &[&[u8]], text: &[u8]) -> bool
 }
 
 /// The core of a port, where its place is made of numbers, `+`, `-`, `*` and brackets: 0 where it isn't placed.
-fn core_of(port: &PortItem) -> Option<u32>
-    ensures { result ≡ spec.core_of (tree.port_of port.now) }
+fn core_of_port(port: &PortItem) -> Option<u32>
+    ensures { result ≡ spec.core_of_port (tree.port_of port.now) }
 {
     match &port.place {
         None => Some(0),

@@ -2,12 +2,12 @@ ghost use Rattle.std.specs.Prelude.{◌≡◌, ◌<◌, ◌≤◌, ◌^◌, true
 ghost use Rattle.xc_names.specs.Graphs.{IsFirstLevel, level_edge, NeverRises, no_later, number_in, rule_at};
 ghost use Rattle.xc_tree.specs.Least.{IsLeastOf};
 ghost use Rattle.xc_names.specs.Meanings.{AreMeanings};
-ghost use Rattle.xc_names.specs.Searches.{AreWithin, IsBackToOne};
+ghost use Rattle.xc_names.specs.Searches.{AreWithin, IsBackToAny};
 
 use crate::calls::broken_into;
-use crate::components::components;
-use crate::graph::{Edge, graph_of};
+use crate::graph::graph_of;
 use std::alloc::Global;
+use xc_marks::{Edge, components_of};
 use xc_tree::{Mark, comes_before, earlier};
 use xw_words::{Broken, Memory, Pos};
 
@@ -25,12 +25,12 @@ pub fn broken_call(
     requires few { length starts.now ≤ 2 ^ 32 }
     requires meant { AreMeanings marks.now meant.now }
     requires starts { AreWithin starts.now (length marks.now) }
-    ensures { IfOk result (λ b. IsLeastOf (IsBackToOne marks.now meant.now starts.now (length starts.now)) b) }
+    ensures { IfOk result (λ b. IsLeastOf (IsBackToAny marks.now meant.now starts.now) b) }
 {
     let graph = graph_of(alloc, marks, meant, starts)?;
-    let components = components(alloc, &graph)?;
+    let components = components_of(alloc, &graph)?;
     let edges = graph.edges.as_slice();
-    let numbers = components.as_slice();
+    let numbers = components.numbers.as_slice();
     if !never_rises(edges, numbers) {
         return broken_by_search(alloc, marks, meant, starts);
     }
@@ -56,7 +56,7 @@ fn broken_by_search(
     requires few { length starts.now ≤ 2 ^ 32 }
     requires meant { AreMeanings marks.now meant.now }
     requires starts { AreWithin starts.now (length marks.now) }
-    ensures { IfOk result (λ b. IsLeastOf (IsBackToOne marks.now meant.now starts.now (length starts.now)) b) }
+    ensures { IfOk result (λ b. IsLeastOf (IsBackToAny marks.now meant.now starts.now) b) }
 {
     let mut best = None;
     for goal in 0..starts.len() {

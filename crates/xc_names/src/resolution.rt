@@ -1,17 +1,16 @@
 ghost use Rattle.std.specs.Prelude.{◌≡◌, ◌<◌, ◌≤◌, ◌^◌, length, IfErr, IfOk};
 ghost use Rattle.xw_words.specs.declared.pos.Broken.{Broken as Wrong};
 ghost use Rattle.xc_tree.specs.Names.Marks.{of_program};
-ghost use Rattle.xc_tree.specs.Names.Rules.{Breaks, FirstBroken};
-ghost use Rattle.xc_tree.specs.Names.Uses.{AreUses, declarations};
+ghost use Rattle.xc_tree.specs.Names.Rules.{Breaks};
 ghost use Rattle.xc_tree.specs.Programs.{IsParsed};
 ghost use Rattle.xc_tree.specs.Trees.{program_of};
-ghost use Rattle.xc_names.specs.Errors.{IfBroken};
-ghost use Rattle.xc_tree.specs.Least.{IsLeastOf};
+ghost use Rattle.xc_tree.specs.Types.Named.{IsNamed, named_of};
+ghost use Rattle.xc_tree.specs.Least.{IsFirst, IsLeastOf};
+ghost use Rattle.xc_tree.specs.Refusals.{IfBroken};
 ghost use Rattle.xc_names.specs.Meanings.{AreMeanings};
-ghost use Rattle.xc_names.specs.Starts.{AreStarts};
+ghost use Rattle.xc_marks.specs.Starts.{AreStarts};
 
 use crate::main_function::broken_main;
-use crate::marks::{Marks, marks_of};
 use crate::meanings::meanings;
 use crate::names::broken_name;
 use crate::ports::broken_port;
@@ -19,31 +18,12 @@ use crate::recursion::broken_call;
 use crate::scopes::scope_ends;
 use crate::uses::{decls, uses};
 use std::alloc::Global;
-use thiserror::Error;
-use xc_tree::{Mark, Named, Tree, earlier};
+use xc_marks::{Marks, marks_of};
+use xc_tree::{Mark, Named, Refusal, Tree, earlier};
 use xw_words::{Broken, Memory};
 
 /// Why the names of a program have no declarations.
-#[derive(Debug, Drop, Error)]
-pub enum NameErr {
-    /// It breaks a rule, of all that it breaks the first.
-    #[error("{}:{}: rule {} is broken", .0.pos.line, .0.pos.col, .0.rule)]
-    Broken(Broken),
-    /// Memory could not be had.
-    #[error("out of memory")]
-    Memory,
-}
-
-impl From<Memory> for NameErr {
-    ghost use Rattle.std.specs.Prelude.{◌≡◌};
-    ghost use Rattle.xc_names.specs.declared.resolution.NameErr.TheVariants as err;
-
-    ghost from_gives = { λ _ e. e ≡ err.Memory };
-
-    fn from(_: Memory) -> NameErr {
-        NameErr::Memory
-    }
-}
+pub type NameErr = Refusal;
 
 /// The declarations of a program and for each of its names the number of its declaration, where the tree is one that
 /// fewer than 2^32 tokens derive. The stack that it needs grows with the depth of the tree.
@@ -55,11 +35,10 @@ impl From<Memory> for NameErr {
 /// too.
 pub fn resolve(alloc: Global, tree: Tree) -> Result<Named, NameErr>
     requires { IsParsed (program_of tree) }
-    ensures program { IfOk result (λ named. named.tree ≡ tree) }
-    ensures decls { IfOk result (λ named. named.decls ≡ declarations (of_program (program_of tree))) }
-    ensures uses { IfOk result (λ named. AreUses (of_program (program_of tree)) named.uses) }
+    ensures tree { IfOk result (λ named. named.tree ≡ tree) }
+    ensures named { IfOk result (λ named. IsNamed (program_of tree) (named_of named)) }
     ensures unbroken { IfOk result (λ named. (b : Wrong) → Breaks (program_of tree) b → ⊥) }
-    ensures broken { IfErr result (λ e. IfBroken e (λ b. FirstBroken (program_of tree) b)) }
+    ensures broken { IfErr result (λ e. IfBroken e (IsFirst (Breaks (program_of tree)))) }
 {
     let Marks { all, starts } = marks_of(alloc, &tree)?;
     let ends = scope_ends(alloc, all.as_slice())?;

@@ -1,5 +1,5 @@
 ghost use Rattle.std.specs.Prelude.{◌≡◌, ℕ, List, true, false, not, IfOk, OnOk};
-ghost use Rattle.xc_names.specs.Taken.{is_taken};
+ghost use Rattle.xc_names.specs.Taken.{OthersStay, is_taken};
 
 use indexmap::IndexSet;
 use std::alloc::Global;
@@ -25,7 +25,7 @@ impl<'a> Taken<'a> {
     pub fn take(&mut self, identifier: &'a [u8], core: u32) -> Result<bool, Memory>
         ensures free { IfOk result (λ free. free ≡ not (is_taken self.old identifier.now core)) }
         ensures here { OnOk result (is_taken self.new identifier.now core ≡ true) }
-        ensures others { OnOk result ((t : List ℕ) (c : ℕ) → (t ≡ identifier.now → c ≡ core → ⊥) → is_taken self.new t c ≡ is_taken self.old t c) }
+        ensures others { OnOk result (OthersStay self.old self.new identifier.now core) }
     {
         match self.keys.insert_full((identifier, core)) {
             Ok((_, is_new)) => Ok(is_new),

@@ -4,7 +4,6 @@ pub mod Reading
 pub mod Stops
 pub mod Values
 pub mod Parts
-pub mod Errors
 pub mod Levels
 pub mod Operands
 pub mod RightSides

@@ -33,7 +33,8 @@ impl<'a> Parser<'a> {
     pub fn assign(&self, at: usize, room: u32) -> Result<Read<St>, Stop>
         requires at { at ≤ length self.now.toks.now }
         ensures bounds { IfOk result (λ r. (at < r.end) × (r.end ≤ length self.now.toks.now)) }
-        ensures read { IfOk result (λ r. Reads self.now.toks.now room symbol.assign at r.end (trees.action_of r.value)) }
+        ensures read { IfOk result
+            (λ r. Reads self.now.toks.now room symbol.assign at r.end (trees.action_of r.value)) }
         ensures stopped { IfErr result (λ e. Stopped self.now.toks.now room symbol.assign at e) }
     {
         let target = self.lval(at, room)?;
@@ -73,8 +74,10 @@ impl<'a> Parser<'a> {
     pub fn assign_op(&self, at: usize) -> Result<Read<Mark>, Stop>
         requires at { at ≤ length self.now.toks.now }
         ensures bounds { IfOk result (λ r. (r.end ≡ at + 1) × (r.end ≤ length self.now.toks.now)) }
-        ensures read { IfOk result (λ r. (room : ℕ) → Reads self.now.toks.now room symbol.assign_op at r.end (mark_of r.value)) }
-        ensures stopped { IfErr result (λ e. (room : ℕ) → Stopped self.now.toks.now room symbol.assign_op at e) }
+        ensures read { IfOk result (λ r. (room : ℕ) →
+            Reads self.now.toks.now room symbol.assign_op at r.end (mark_of r.value)) }
+        ensures stopped { IfErr result
+            (λ e. (room : ℕ) → Stopped self.now.toks.now room symbol.assign_op at e) }
     {
         if at >= self.toks.len() {
             return Err(Stop::Wrong(at));

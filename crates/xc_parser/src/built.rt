@@ -18,7 +18,8 @@ impl<'a> Parser<'a> {
         requires held { held ≡ plain.held (trees.action_of kind) }
         requires room { held ≤ end - at }
         ensures end { result.end ≡ end }
-        ensures value { trees.statement_of result.value ≡ statement_of (extent self.now.toks.now at end) (trees.action_of kind) }
+        ensures value { trees.statement_of result.value
+            ≡ statement_of (extent self.now.toks.now at end) (trees.action_of kind) }
     {
         let value = Stmt {
             kind,

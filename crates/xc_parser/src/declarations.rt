@@ -26,7 +26,8 @@ impl<'a> Parser<'a> {
         requires short { length self.now.toks.now < 2 ^ 32 }
         requires at { at ≤ length self.now.toks.now }
         ensures bounds { IfOk result (λ r. (at < r.end) × (r.end ≤ length self.now.toks.now)) }
-        ensures read { IfOk result (λ r. Reads self.now.toks.now room symbol.decl at r.end (trees.statement_of r.value)) }
+        ensures read { IfOk result
+            (λ r. Reads self.now.toks.now room symbol.decl at r.end (trees.statement_of r.value)) }
         ensures stopped { IfErr result (λ e. Stopped self.now.toks.now room symbol.decl at e) }
     {
         if !self.begins_declaration(at) {
@@ -57,8 +58,10 @@ impl<'a> Parser<'a> {
         requires short { length self.now.toks.now < 2 ^ 32 }
         requires begins { OneOf self.now.toks.now at (key 2 ∷ key 24 ∷ []) }
         ensures bounds { IfOk result (λ r. (at < r.end) × (r.end ≤ length self.now.toks.now)) }
-        ensures read { IfOk result (λ r. (room : ℕ) → 1 ≤ room → Reads self.now.toks.now room symbol.decl at r.end (trees.statement_of r.value)) }
-        ensures stopped { IfErr result (λ e. (room : ℕ) → 1 ≤ room → Stopped self.now.toks.now room symbol.decl at e) }
+        ensures read { IfOk result (λ r. (room : ℕ) → 1 ≤ room →
+            Reads self.now.toks.now room symbol.decl at r.end (trees.statement_of r.value)) }
+        ensures stopped { IfErr result
+            (λ e. (room : ℕ) → 1 ≤ room → Stopped self.now.toks.now room symbol.decl at e) }
     {
         let is_chan = is_word(self.toks, at, CHAN_WORD);
         let mut declared = List::new(self.alloc);
@@ -78,8 +81,10 @@ impl<'a> Parser<'a> {
         is_chan: bool,
     ) -> Result<usize, Stop>
         ensures bounds { IfOk result (λ end. (end ≡ at + 1) × (end ≤ length self.now.toks.now)) }
-        ensures read { IfOk result (λ end. Adds declared.old declared.new (Names self.now.toks.now at end (resource_kind is_chan))) }
-        ensures stopped { IfErr result (λ e. (room : ℕ) → Stopped self.now.toks.now room a_name at e) }
+        ensures read { IfOk result (λ end. Adds declared.old declared.new
+            (Names self.now.toks.now at end (resource_kind is_chan))) }
+        ensures stopped { IfErr result
+            (λ e. (room : ℕ) → Stopped self.now.toks.now room a_name at e) }
     {
         let name = self.id(at)?;
         declared.push(resource(is_chan, name.value))?;
@@ -92,7 +97,8 @@ impl<'a> Parser<'a> {
         requires room { 1 ≤ room }
         requires begins { OneOf self.now.toks.now at (key 11 ∷ key 26 ∷ []) }
         ensures bounds { IfOk result (λ r. (at < r.end) × (r.end ≤ length self.now.toks.now)) }
-        ensures read { IfOk result (λ r. Reads self.now.toks.now room symbol.decl at r.end (trees.statement_of r.value)) }
+        ensures read { IfOk result
+            (λ r. Reads self.now.toks.now room symbol.decl at r.end (trees.statement_of r.value)) }
         ensures stopped { IfErr result (λ e. Stopped self.now.toks.now room symbol.decl at e) }
     {
         let word = self.word_type(at)?;
@@ -116,7 +122,8 @@ impl<'a> Parser<'a> {
     ) -> Result<usize, Stop>
         requires at { at ≤ length self.now.toks.now }
         ensures bounds { IfOk result (λ end. (at < end) × (end ≤ length self.now.toks.now)) }
-        ensures read { IfOk result (λ end. Adds declared.old declared.new (Declares self.now.toks.now room at end is_unsigned)) }
+        ensures read { IfOk result (λ end. Adds declared.old declared.new
+            (Declares self.now.toks.now room at end is_unsigned)) }
         ensures stopped { IfErr result (λ e. NoName self.now.toks.now room at e) }
     {
         let Read { value, end } = self.variable_or_array(at, is_unsigned, room)?;
@@ -139,8 +146,10 @@ impl<'a> Parser<'a> {
     ) -> Result<Read<Option<Declared>>, Stop>
         requires at { at ≤ length self.now.toks.now }
         ensures bounds { IfOk result (λ r. (at < r.end) × (r.end ≤ length self.now.toks.now)) }
-        ensures read { IfOk result (λ r. IfSome r.value (Declares self.now.toks.now room at r.end is_unsigned)) }
-        ensures unfit { IfOk result (λ r. IfNone r.value (Unfit self.now.toks.now room symbol.dv at r.end)) }
+        ensures read { IfOk result
+            (λ r. IfSome r.value (Declares self.now.toks.now room at r.end is_unsigned)) }
+        ensures unfit { IfOk result
+            (λ r. IfNone r.value (Unfit self.now.toks.now room symbol.dv at r.end)) }
         ensures stopped { IfErr result (λ e. Stopped self.now.toks.now room symbol.dv at e) }
     {
         let name = self.id(at)?;
@@ -171,7 +180,8 @@ impl<'a> Parser<'a> {
 
 /// A variable, with its initial value.
 pub fn variable(is_unsigned: bool, name: Id, initial: Option<Rhs>) -> Declared
-    ensures { trees.declaration_of result ≡ grammar.declared is_unsigned (a_word name (option_map trees.right_of initial)) }
+    ensures { trees.declaration_of result
+        ≡ grammar.declared is_unsigned (a_word name (option_map trees.right_of initial)) }
 {
     Declared {
         kind: DeclKind::Word(is_unsigned, initial),
@@ -181,7 +191,8 @@ pub fn variable(is_unsigned: bool, name: Id, initial: Option<Rhs>) -> Declared
 
 /// An array of so many words.
 fn array(is_unsigned: bool, name: Id, length: Numeral) -> Declared
-    ensures { trees.declaration_of result ≡ grammar.declared is_unsigned (an_array name length.value length.pos) }
+    ensures { trees.declaration_of result
+        ≡ grammar.declared is_unsigned (an_array name length.value length.pos) }
 {
     Declared {
         kind: DeclKind::Array(is_unsigned, length.value, length.pos),

@@ -25,8 +25,10 @@ impl<'a> Parser<'a> {
     /// A symbol, by its place in `SYMBOLS`.
     pub fn symbol(&self, at: usize, wanted: u8) -> Result<Read<Pos>, Stop>
         ensures bounds { IfOk result (λ r. (r.end ≡ at + 1) × (r.end ≤ length self.now.toks.now)) }
-        ensures read { IfOk result (λ r. (room : ℕ) → Reads self.now.toks.now room (sym wanted) at r.end r.value) }
-        ensures stopped { IfErr result (λ e. (room : ℕ) → Stopped self.now.toks.now room (sym wanted) at e) }
+        ensures read { IfOk result
+            (λ r. (room : ℕ) → Reads self.now.toks.now room (sym wanted) at r.end r.value) }
+        ensures stopped { IfErr result
+            (λ e. (room : ℕ) → Stopped self.now.toks.now room (sym wanted) at e) }
     {
         if !is_symbol(self.toks, at, wanted) {
             return Err(Stop::Wrong(at));
@@ -40,9 +42,12 @@ impl<'a> Parser<'a> {
     /// What was read, with the symbol behind it, by its place in `SYMBOLS`.
     pub fn closed<T: Drop>(&self, read: Read<T>, wanted: u8) -> Result<Read<T>, Stop>
         ensures value { IfOk result (λ r. r.value ≡ read.value) }
-        ensures bounds { IfOk result (λ r. (r.end ≡ read.end + 1) × (r.end ≤ length self.now.toks.now)) }
-        ensures read { IfOk result (λ r. (p : pos.Pos) × ((room : ℕ) → Reads self.now.toks.now room (sym wanted) read.end r.end p)) }
-        ensures stopped { IfErr result (λ e. (room : ℕ) → Stopped self.now.toks.now room (sym wanted) read.end e) }
+        ensures bounds { IfOk result
+            (λ r. (r.end ≡ read.end + 1) × (r.end ≤ length self.now.toks.now)) }
+        ensures read { IfOk result (λ r. (p : pos.Pos)
+            × ((room : ℕ) → Reads self.now.toks.now room (sym wanted) read.end r.end p)) }
+        ensures stopped { IfErr result
+            (λ e. (room : ℕ) → Stopped self.now.toks.now room (sym wanted) read.end e) }
     {
         let behind = self.symbol(read.end, wanted)?;
         Ok(Read {
@@ -54,8 +59,10 @@ impl<'a> Parser<'a> {
     /// A word, by its place in `WORDS`.
     pub fn word(&self, at: usize, wanted: u8) -> Result<Read<Pos>, Stop>
         ensures bounds { IfOk result (λ r. (r.end ≡ at + 1) × (r.end ≤ length self.now.toks.now)) }
-        ensures read { IfOk result (λ r. (room : ℕ) → Reads self.now.toks.now room (key wanted) at r.end r.value) }
-        ensures stopped { IfErr result (λ e. (room : ℕ) → Stopped self.now.toks.now room (key wanted) at e) }
+        ensures read { IfOk result
+            (λ r. (room : ℕ) → Reads self.now.toks.now room (key wanted) at r.end r.value) }
+        ensures stopped { IfErr result
+            (λ e. (room : ℕ) → Stopped self.now.toks.now room (key wanted) at e) }
     {
         if !is_word(self.toks, at, wanted) {
             return Err(Stop::Wrong(at));
@@ -69,8 +76,10 @@ impl<'a> Parser<'a> {
     /// A name.
     pub fn id(&self, at: usize) -> Result<Read<Id>, Stop>
         ensures bounds { IfOk result (λ r. (r.end ≡ at + 1) × (r.end ≤ length self.now.toks.now)) }
-        ensures read { IfOk result (λ r. (room : ℕ) → Reads self.now.toks.now room a_name at r.end r.value) }
-        ensures stopped { IfErr result (λ e. (room : ℕ) → Stopped self.now.toks.now room a_name at e) }
+        ensures read { IfOk result
+            (λ r. (room : ℕ) → Reads self.now.toks.now room a_name at r.end r.value) }
+        ensures stopped { IfErr result
+            (λ e. (room : ℕ) → Stopped self.now.toks.now room a_name at e) }
     {
         if at >= self.toks.len() {
             return Err(Stop::Wrong(at));
@@ -93,8 +102,10 @@ impl<'a> Parser<'a> {
     /// A number.
     pub fn numeral(&self, at: usize) -> Result<Read<Numeral>, Stop>
         ensures bounds { IfOk result (λ r. (r.end ≡ at + 1) × (r.end ≤ length self.now.toks.now)) }
-        ensures read { IfOk result (λ r. (room : ℕ) → Reads self.now.toks.now room a_number at r.end (numeral_of r.value)) }
-        ensures stopped { IfErr result (λ e. (room : ℕ) → Stopped self.now.toks.now room a_number at e) }
+        ensures read { IfOk result (λ r. (room : ℕ) →
+            Reads self.now.toks.now room a_number at r.end (numeral_of r.value)) }
+        ensures stopped { IfErr result
+            (λ e. (room : ℕ) → Stopped self.now.toks.now room a_number at e) }
     {
         if at >= self.toks.len() {
             return Err(Stop::Wrong(at));

@@ -36,7 +36,8 @@ impl<'a> Parser<'a> {
     pub fn expr(&self, at: usize, room: u32) -> Result<Read<Expr>, Stop>
         requires at { at ≤ length self.now.toks.now }
         ensures bounds { IfOk result (λ r. (at < r.end) × (r.end ≤ length self.now.toks.now)) }
-        ensures read { IfOk result (λ r. Reads self.now.toks.now room symbol.expr at r.end (expression_of r.value)) }
+        ensures read { IfOk result
+            (λ r. Reads self.now.toks.now room symbol.expr at r.end (expression_of r.value)) }
         ensures stopped { IfErr result (λ e. Stopped self.now.toks.now room symbol.expr at e) }
     {
         match self.expression(at, room) {
@@ -108,8 +109,10 @@ impl<'a> Parser<'a> {
     fn rest(&self, first: Operand, room: u32) -> Result<Operand, Stop>
         requires first { IsSized self.now.toks.now room first }
         ensures sized { IfOk result (λ o. (first.end ≤ o.end) × IsSized self.now.toks.now room o) }
-        ensures read { IfOk result (λ o. (at : ℕ) → ReadsLevel self.now.toks.now room 0 at first → ReadsExpression self.now.toks.now room at o) }
-        ensures stopped { IfErr result (λ e. (at : ℕ) → ReadsLevel self.now.toks.now room 0 at first → Stopped self.now.toks.now room symbol.expr at e) }
+        ensures read { IfOk result (λ o. (at : ℕ) → ReadsLevel self.now.toks.now room 0 at first →
+            ReadsExpression self.now.toks.now room at o) }
+        ensures stopped { IfErr result (λ e. (at : ℕ) → ReadsLevel self.now.toks.now room 0 at first
+            → Stopped self.now.toks.now room symbol.expr at e) }
     {
         let test = match self.climb(first, WEAKEST, room) {
             Ok(test) => test,
@@ -128,11 +131,14 @@ impl<'a> Parser<'a> {
     #[cycle(expression)]
     fn choice(&self, test: Operand, room: u32) -> Result<Operand, Stop>
         requires test { IsSized self.now.toks.now room test }
-        requires question { (test.end < length self.now.toks.now) × IsSymbol self.now.toks.now test.end 9 }
+        requires question { (test.end < length self.now.toks.now)
+            × IsSymbol self.now.toks.now test.end 9 }
         requires fits { test.depth < room }
         ensures sized { IfOk result (λ o. (test.end ≤ o.end) × IsSized self.now.toks.now room o) }
-        ensures read { IfOk result (λ o. (at : ℕ) → ReadsLevel self.now.toks.now room 10 at test → ReadsExpression self.now.toks.now room at o) }
-        ensures stopped { IfErr result (λ e. (at : ℕ) → ReadsLevel self.now.toks.now room 10 at test → Stopped self.now.toks.now room symbol.expr at e) }
+        ensures read { IfOk result (λ o. (at : ℕ) → ReadsLevel self.now.toks.now room 10 at test →
+            ReadsExpression self.now.toks.now room at o) }
+        ensures stopped { IfErr result (λ e. (at : ℕ) → ReadsLevel self.now.toks.now room 10 at test
+            → Stopped self.now.toks.now room symbol.expr at e) }
     {
         let question = test.end;
         let pos = self.toks[question].pos;
@@ -163,9 +169,11 @@ impl<'a> Parser<'a> {
     fn climb(&self, first: Operand, level: u8, room: u32) -> Result<Operand, Stop>
         requires first { IsSized self.now.toks.now room first }
         ensures sized { IfOk result (λ o. (first.end ≤ o.end) × IsSized self.now.toks.now room o) }
-        ensures read { IfOk result (λ o. (at : ℕ) → ReadsLevel self.now.toks.now room 0 at first → ReadsLevel self.now.toks.now room level at o) }
+        ensures read { IfOk result (λ o. (at : ℕ) → ReadsLevel self.now.toks.now room 0 at first →
+            ReadsLevel self.now.toks.now room level at o) }
         ensures last { IfOk result (λ o. NoOperator self.now.toks.now o.end level) }
-        ensures stopped { IfErr result (λ e. (at : ℕ) → ReadsLevel self.now.toks.now room 0 at first → Stopped self.now.toks.now room (symbol.level level) at e) }
+        ensures stopped { IfErr result (λ e. (at : ℕ) → ReadsLevel self.now.toks.now room 0 at first
+            → Stopped self.now.toks.now room (symbol.level level) at e) }
     {
         let mut left = first;
         'operators: while let Some(operator) = operator_at(self.toks, left.end, level) {
@@ -199,7 +207,8 @@ impl<'a> Parser<'a> {
         ensures sized { IfOk result (λ o. (at < o.end) × IsSized self.now.toks.now room o) }
         ensures read { IfOk result (λ o. ReadsLevel self.now.toks.now room level at o) }
         ensures last { IfOk result (λ o. NoOperator self.now.toks.now o.end level) }
-        ensures stopped { IfErr result (λ e. Stopped self.now.toks.now room (symbol.level level) at e) }
+        ensures stopped { IfErr result
+            (λ e. Stopped self.now.toks.now room (symbol.level level) at e) }
     {
         match self.operand(at, room) {
             Ok(first) => self.climb(first, level, room),

@@ -32,8 +32,10 @@ impl<'a> Parser<'a> {
         requires short { length self.now.toks.now < 2 ^ 32 }
         requires at { at ≤ length self.now.toks.now }
         ensures bounds { IfOk result (λ r. (at < r.end) × (r.end ≤ length self.now.toks.now)) }
-        ensures read { IfOk result (λ r. (room : ℕ) → Reads self.now.toks.now room symbol.head at r.end (head_of r.value)) }
-        ensures stopped { IfErr result (λ e. (room : ℕ) → Stopped self.now.toks.now room symbol.head at e) }
+        ensures read { IfOk result (λ r. (room : ℕ) →
+            Reads self.now.toks.now room symbol.head at r.end (head_of r.value)) }
+        ensures stopped { IfErr result
+            (λ e. (room : ℕ) → Stopped self.now.toks.now room symbol.head at e) }
     {
         let result = self.result_type(at)?;
         let name = self.id(result.end)?;
@@ -55,8 +57,10 @@ impl<'a> Parser<'a> {
     pub fn result_type(&self, at: usize) -> Result<Read<Option<bool>>, Stop>
         requires at { at ≤ length self.now.toks.now }
         ensures bounds { IfOk result (λ r. (at < r.end) × (r.end ≤ length self.now.toks.now)) }
-        ensures read { IfOk result (λ r. (room : ℕ) → Reads self.now.toks.now room symbol.result at r.end r.value) }
-        ensures stopped { IfErr result (λ e. (room : ℕ) → Stopped self.now.toks.now room symbol.result at e) }
+        ensures read { IfOk result
+            (λ r. (room : ℕ) → Reads self.now.toks.now room symbol.result at r.end r.value) }
+        ensures stopped { IfErr result
+            (λ e. (room : ℕ) → Stopped self.now.toks.now room symbol.result at e) }
     {
         if is_word(self.toks, at, VOID_WORD) {
             return Ok(Read {
@@ -75,8 +79,10 @@ impl<'a> Parser<'a> {
     pub fn word_type(&self, at: usize) -> Result<Read<bool>, Stop>
         requires at { at ≤ length self.now.toks.now }
         ensures bounds { IfOk result (λ r. (at < r.end) × (r.end ≤ length self.now.toks.now)) }
-        ensures read { IfOk result (λ r. (room : ℕ) → Reads self.now.toks.now room symbol.word at r.end r.value) }
-        ensures stopped { IfErr result (λ e. (room : ℕ) → Stopped self.now.toks.now room symbol.word at e) }
+        ensures read { IfOk result
+            (λ r. (room : ℕ) → Reads self.now.toks.now room symbol.word at r.end r.value) }
+        ensures stopped { IfErr result
+            (λ e. (room : ℕ) → Stopped self.now.toks.now room symbol.word at e) }
     {
         if !is_word(self.toks, at, UNSIGNED_WORD) {
             let int = self.word(at, INT_WORD)?;
@@ -101,8 +107,10 @@ impl<'a> Parser<'a> {
     pub fn params(&self, at: usize) -> Result<Read<List<Param>>, Stop>
         requires at { at ≤ length self.now.toks.now }
         ensures bounds { IfOk result (λ r. (at ≤ r.end) × (r.end ≤ length self.now.toks.now)) }
-        ensures read { IfOk result (λ r. (room : ℕ) → Reads self.now.toks.now room symbol.params at r.end r.value) }
-        ensures stopped { IfErr result (λ e. (room : ℕ) → Stopped self.now.toks.now room symbol.params at e) }
+        ensures read { IfOk result
+            (λ r. (room : ℕ) → Reads self.now.toks.now room symbol.params at r.end r.value) }
+        ensures stopped { IfErr result
+            (λ e. (room : ℕ) → Stopped self.now.toks.now room symbol.params at e) }
     {
         let mut value = List::new(self.alloc);
         if is_word(self.toks, at, VOID_WORD) {
@@ -146,8 +154,10 @@ impl<'a> Parser<'a> {
     pub fn param(&self, at: usize) -> Result<Read<Param>, Stop>
         requires at { at ≤ length self.now.toks.now }
         ensures bounds { IfOk result (λ r. (at < r.end) × (r.end ≤ length self.now.toks.now)) }
-        ensures read { IfOk result (λ r. (room : ℕ) → Reads self.now.toks.now room symbol.param at r.end r.value) }
-        ensures stopped { IfErr result (λ e. (room : ℕ) → Stopped self.now.toks.now room symbol.param at e) }
+        ensures read { IfOk result
+            (λ r. (room : ℕ) → Reads self.now.toks.now room symbol.param at r.end r.value) }
+        ensures stopped { IfErr result
+            (λ e. (room : ℕ) → Stopped self.now.toks.now room symbol.param at e) }
     {
         if begins_type(self.toks, at) {
             return self.word_param(at);
@@ -166,8 +176,10 @@ impl<'a> Parser<'a> {
         requires at { at ≤ length self.now.toks.now }
         requires word { OneOf self.now.toks.now at (symbol.key 11 ∷ symbol.key 26 ∷ []) }
         ensures bounds { IfOk result (λ r. (at < r.end) × (r.end ≤ length self.now.toks.now)) }
-        ensures read { IfOk result (λ r. (room : ℕ) → Reads self.now.toks.now room symbol.param at r.end r.value) }
-        ensures stopped { IfErr result (λ e. (room : ℕ) → Stopped self.now.toks.now room symbol.param at e) }
+        ensures read { IfOk result
+            (λ r. (room : ℕ) → Reads self.now.toks.now room symbol.param at r.end r.value) }
+        ensures stopped { IfErr result
+            (λ e. (room : ℕ) → Stopped self.now.toks.now room symbol.param at e) }
     {
         let word = self.word_type(at)?;
         if is_symbol(self.toks, word.end, AMPERSAND) {
@@ -205,8 +217,10 @@ impl<'a> Parser<'a> {
     pub fn dir(&self, at: usize) -> Result<Read<TreeDir>, Stop>
         requires at { at ≤ length self.now.toks.now }
         ensures bounds { IfOk result (λ r. (at < r.end) × (r.end ≤ length self.now.toks.now)) }
-        ensures read { IfOk result (λ r. (room : ℕ) → Reads self.now.toks.now room symbol.dir at r.end r.value) }
-        ensures stopped { IfErr result (λ e. (room : ℕ) → Stopped self.now.toks.now room symbol.dir at e) }
+        ensures read { IfOk result
+            (λ r. (room : ℕ) → Reads self.now.toks.now room symbol.dir at r.end r.value) }
+        ensures stopped { IfErr result
+            (λ e. (room : ℕ) → Stopped self.now.toks.now room symbol.dir at e) }
     {
         if is_word(self.toks, at, IN_WORD) {
             let port = self.word(at + 1, PORT_WORD)?;
@@ -232,7 +246,8 @@ impl<'a> Parser<'a> {
 
 /// A parameter that ends with its name.
 fn param_of(kind: ParamKind, name: Read<Id>) -> Read<Param>
-    ensures { result ≡ record { value = record { kind = kind; name = name.value }; end = name.end } }
+    ensures { result
+        ≡ record { value = record { kind = kind; name = name.value }; end = name.end } }
 {
     Read {
         value: Param {

@@ -40,8 +40,10 @@ impl<'a> Parser<'a> {
         requires short { length self.now.toks.now < 2 ^ 32 }
         requires word { StandsAt self.now.toks.now at (symbol.key 29) }
         ensures bounds { IfOk result (λ r. (at < r.end) × (r.end ≤ length self.now.toks.now)) }
-        ensures read { IfOk result (λ r. Reads self.now.toks.now (room + 1) symbol.statement at r.end (trees.statement_of r.value)) }
-        ensures stopped { IfErr result (λ e. Stopped self.now.toks.now (room + 1) symbol.statement at e) }
+        ensures read { IfOk result (λ r. Reads self.now.toks.now
+            (room + 1) symbol.statement at r.end (trees.statement_of r.value)) }
+        ensures stopped { IfErr result
+            (λ e. Stopped self.now.toks.now (room + 1) symbol.statement at e) }
     {
         let open = self.symbol(at + 1, PAREN)?;
         let test = self.expr(open.end, room)?;
@@ -57,8 +59,10 @@ impl<'a> Parser<'a> {
         requires short { length self.now.toks.now < 2 ^ 32 }
         requires word { StandsAt self.now.toks.now at (symbol.key 6) }
         ensures bounds { IfOk result (λ r. (at < r.end) × (r.end ≤ length self.now.toks.now)) }
-        ensures read { IfOk result (λ r. Reads self.now.toks.now (room + 1) symbol.statement at r.end (trees.statement_of r.value)) }
-        ensures stopped { IfErr result (λ e. Stopped self.now.toks.now (room + 1) symbol.statement at e) }
+        ensures read { IfOk result (λ r. Reads self.now.toks.now
+            (room + 1) symbol.statement at r.end (trees.statement_of r.value)) }
+        ensures stopped { IfErr result
+            (λ e. Stopped self.now.toks.now (room + 1) symbol.statement at e) }
     {
         let body = self.boxed_statement(at + 1, room)?;
         let held = body.end - at - 1;
@@ -69,7 +73,9 @@ impl<'a> Parser<'a> {
     /// What ends a `do`: its `while`, the test between brackets, and the `;`.
     fn do_tail(&self, at: usize, room: u32) -> Result<Read<Expr>, Stop>
         ensures bounds { IfOk result (λ r. (at < r.end) × (r.end ≤ length self.now.toks.now)) }
-        ensures read { IfOk result (λ r. (p : Pos) × (q : Pos) × (s : Pos) × (t : Pos) × ReadsRow self.now.toks.now room do_row at r.end (p, (q, (trees.expression_of r.value, (s, (t, tt)))))) }
+        ensures read { IfOk result (λ r. (p : Pos) × (q : Pos) × (s : Pos)
+            × (t : Pos) × ReadsRow self.now.toks.now room do_row at r.end
+            (p, (q, (trees.expression_of r.value, (s, (t, tt)))))) }
         ensures stopped { IfErr result (λ e. StoppedRow self.now.toks.now room do_row at e) }
     {
         let word = self.word(at, WHILE_WORD)?;
@@ -89,8 +95,10 @@ impl<'a> Parser<'a> {
         requires short { length self.now.toks.now < 2 ^ 32 }
         requires word { StandsAt self.now.toks.now at (symbol.key 8) }
         ensures bounds { IfOk result (λ r. (at < r.end) × (r.end ≤ length self.now.toks.now)) }
-        ensures read { IfOk result (λ r. Reads self.now.toks.now (room + 1) symbol.statement at r.end (trees.statement_of r.value)) }
-        ensures stopped { IfErr result (λ e. Stopped self.now.toks.now (room + 1) symbol.statement at e) }
+        ensures read { IfOk result (λ r. Reads self.now.toks.now
+            (room + 1) symbol.statement at r.end (trees.statement_of r.value)) }
+        ensures stopped { IfErr result
+            (λ e. Stopped self.now.toks.now (room + 1) symbol.statement at e) }
     {
         let read = self.for_parts(at, room)?;
         let held = read.value.held;
@@ -107,7 +115,8 @@ impl<'a> Parser<'a> {
         ensures bounds { IfOk result (λ r. (at < r.end) × (r.end ≤ length self.now.toks.now)) }
         ensures held { IfOk result (λ r. at + r.value.held ≤ r.end) }
         ensures read { IfOk result (λ r. ReadsParts self.now.toks.now room at r.end r.value) }
-        ensures stopped { IfErr result (λ e. Stopped self.now.toks.now (room + 1) symbol.statement at e) }
+        ensures stopped { IfErr result
+            (λ e. Stopped self.now.toks.now (room + 1) symbol.statement at e) }
     {
         let open = self.symbol(at + 1, PAREN)?;
         let start = self.maybe_start(open.end, room)?;
@@ -135,7 +144,8 @@ impl<'a> Parser<'a> {
         requires short { length self.now.toks.now < 2 ^ 32 }
         requires at { at ≤ length self.now.toks.now }
         ensures bounds { IfOk result (λ r. (at ≤ r.end) × (r.end ≤ length self.now.toks.now)) }
-        ensures read { IfOk result (λ r. Reads self.now.toks.now room (maybe symbol.for_start) at r.end (option_map trees.statement_of r.value)) }
+        ensures read { IfOk result (λ r. Reads self.now.toks.now room
+            (maybe symbol.for_start) at r.end (option_map trees.statement_of r.value)) }
         ensures stopped { IfErr result (λ e. StopsStart self.now.toks.now room at e) }
     {
         if is_symbol(self.toks, at, SEMICOLON) {
@@ -196,10 +206,13 @@ impl<'a> Parser<'a> {
         requires short { length self.now.toks.now < 2 ^ 32 }
         requires at { at ≤ length self.now.toks.now }
         ensures bounds { IfOk result (λ r. (at < r.end) × (r.end ≤ length self.now.toks.now)) }
-        ensures read { IfOk result (λ r. Reads self.now.toks.now room symbol.for_step at r.end (trees.statement_of r.value)) }
+        ensures read { IfOk result (λ r. Reads self.now.toks.now room symbol.for_step at r.end
+            (trees.statement_of r.value)) }
         ensures stopped { IfErr result (λ e. Stopped self.now.toks.now room symbol.for_step at e) }
-        ensures start { IfOk result (λ r. NoType self.now.toks.now at → Reads self.now.toks.now room symbol.for_start at r.end (trees.statement_of r.value)) }
-        ensures no_start { IfErr result (λ e. NoType self.now.toks.now at → Stopped self.now.toks.now room symbol.for_start at e) }
+        ensures start { IfOk result (λ r. NoType self.now.toks.now at →
+            Reads self.now.toks.now room symbol.for_start at r.end (trees.statement_of r.value)) }
+        ensures no_start { IfErr result (λ e. NoType self.now.toks.now at →
+            Stopped self.now.toks.now room symbol.for_start at e) }
     {
         if room < 2 {
             if is_name(self.toks, at) {
@@ -216,8 +229,10 @@ impl<'a> Parser<'a> {
         requires short { length self.now.toks.now < 2 ^ 32 }
         requires at { at ≤ length self.now.toks.now }
         ensures bounds { IfOk result (λ r. (at ≤ r.end) × (r.end ≤ length self.now.toks.now)) }
-        ensures read { IfOk result (λ r. Reads self.now.toks.now room (maybe symbol.for_step) at r.end (option_map trees.statement_of r.value)) }
-        ensures stopped { IfErr result (λ e. StopsMaybe self.now.toks.now room symbol.for_step 1 at e) }
+        ensures read { IfOk result (λ r. Reads self.now.toks.now room
+            (maybe symbol.for_step) at r.end (option_map trees.statement_of r.value)) }
+        ensures stopped { IfErr result
+            (λ e. StopsMaybe self.now.toks.now room symbol.for_step 1 at e) }
     {
         if is_symbol(self.toks, at, END_PAREN) {
             return Ok(Read {
@@ -236,7 +251,8 @@ impl<'a> Parser<'a> {
     fn maybe_expr(&self, at: usize, room: u32) -> Result<Read<Option<Expr>>, Stop>
         requires at { at ≤ length self.now.toks.now }
         ensures bounds { IfOk result (λ r. (at ≤ r.end) × (r.end ≤ length self.now.toks.now)) }
-        ensures read { IfOk result (λ r. Reads self.now.toks.now room (maybe symbol.expr) at r.end (option_map trees.expression_of r.value)) }
+        ensures read { IfOk result (λ r. Reads self.now.toks.now room (maybe symbol.expr) at r.end
+            (option_map trees.expression_of r.value)) }
         ensures stopped { IfErr result (λ e. StopsMaybe self.now.toks.now room symbol.expr 6 at e) }
     {
         if is_symbol(self.toks, at, SEMICOLON) {

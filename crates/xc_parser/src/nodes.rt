@@ -33,7 +33,8 @@ pub fn name(text: Text, pos: Pos) -> Expr
 
 /// `text [ place ]`
 pub fn index(alloc: Global, text: Text, place: Expr, pos: Pos) -> Result<Expr, Stop>
-    ensures made { IfOk result (λ e. expression_of e ≡ plain.expression (plain.index text (expression_of place)) pos) }
+    ensures made { IfOk result
+        (λ e. expression_of e ≡ plain.expression (plain.index text (expression_of place)) pos) }
     ensures memory { IfErr result (λ e. e ≡ stop.Memory) }
 {
     match boxed(alloc, place) {
@@ -47,7 +48,8 @@ pub fn index(alloc: Global, text: Text, place: Expr, pos: Pos) -> Result<Expr, S
 
 /// A sign and its operand.
 pub fn unary(alloc: Global, symbol: u8, operand: Expr, pos: Pos) -> Result<Expr, Stop>
-    ensures made { IfOk result (λ e. expression_of e ≡ plain.expression (plain.unary symbol (expression_of operand)) pos) }
+    ensures made { IfOk result
+        (λ e. expression_of e ≡ plain.expression (plain.unary symbol (expression_of operand)) pos) }
     ensures memory { IfErr result (λ e. e ≡ stop.Memory) }
 {
     match boxed(alloc, operand) {
@@ -61,7 +63,8 @@ pub fn unary(alloc: Global, symbol: u8, operand: Expr, pos: Pos) -> Result<Expr,
 
 /// `(unsigned)`, or else `(int)`, and its operand.
 pub fn cast(alloc: Global, is_unsigned: bool, operand: Expr, pos: Pos) -> Result<Expr, Stop>
-    ensures made { IfOk result (λ e. expression_of e ≡ plain.expression (plain.cast is_unsigned (expression_of operand)) pos) }
+    ensures made { IfOk result (λ e. expression_of e
+        ≡ plain.expression (plain.cast is_unsigned (expression_of operand)) pos) }
     ensures memory { IfErr result (λ e. e ≡ stop.Memory) }
 {
     match boxed(alloc, operand) {
@@ -75,7 +78,8 @@ pub fn cast(alloc: Global, is_unsigned: bool, operand: Expr, pos: Pos) -> Result
 
 /// An operator between its operands.
 pub fn binary(alloc: Global, symbol: u8, left: Expr, right: Expr, pos: Pos) -> Result<Expr, Stop>
-    ensures made { IfOk result (λ e. expression_of e ≡ plain.expression (plain.binary symbol (expression_of left) (expression_of right)) pos) }
+    ensures made { IfOk result (λ e. expression_of e
+        ≡ plain.expression (plain.binary symbol (expression_of left) (expression_of right)) pos) }
     ensures memory { IfErr result (λ e. e ≡ stop.Memory) }
 {
     match boxed_pair(alloc, left, right) {
@@ -89,7 +93,8 @@ pub fn binary(alloc: Global, symbol: u8, left: Expr, right: Expr, pos: Pos) -> R
 
 /// `test ? first : second`
 pub fn choice(alloc: Global, test: Expr, first: Expr, second: Expr, pos: Pos) -> Result<Expr, Stop>
-    ensures made { IfOk result (λ e. expression_of e ≡ plain.expression (plain.choice (expression_of test) (expression_of first) (expression_of second)) pos) }
+    ensures made { IfOk result (λ e. expression_of e ≡ plain.expression
+        (plain.choice (expression_of test) (expression_of first) (expression_of second)) pos) }
     ensures memory { IfErr result (λ e. e ≡ stop.Memory) }
 {
     match boxed_three(alloc, test, first, second) {

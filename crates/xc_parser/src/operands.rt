@@ -27,7 +27,8 @@ impl<'a> Parser<'a> {
         requires no_bracket { IsBracket self.now.toks.now at → ⊥ }
         ensures sized { IfOk result (λ o. (at < o.end) × IsSized self.now.toks.now room o) }
         ensures read { IfOk result (λ o. ReadsLevel self.now.toks.now room 0 at o) }
-        ensures stopped { IfErr result (λ e. Stopped self.now.toks.now room (symbols.level 0) at e) }
+        ensures stopped { IfErr result
+            (λ e. Stopped self.now.toks.now room (symbols.level 0) at e) }
     {
         if is_cast(self.toks, at) {
             return self.cast(at, room);
@@ -61,11 +62,14 @@ impl<'a> Parser<'a> {
     /// A name, or an element of an array of this name.
     #[cycle(expression)]
     pub fn variable(&self, text: &Text, pos: Pos, at: usize, room: u32) -> Result<Operand, Stop>
-        requires on { (at < length self.now.toks.now) × On self.now.toks.now at (Name text.now) pos }
+        requires on { (at < length self.now.toks.now) × On self.now.toks.now at
+            (Name text.now) pos }
         ensures sized { IfOk result (λ o. (at < o.end) × IsSized self.now.toks.now room o) }
         ensures read { IfOk result (λ o. ReadsLevel self.now.toks.now room 0 at o) }
-        ensures stopped { IfErr result (λ e. Stopped self.now.toks.now room (symbols.level 0) at e) }
-        ensures lval { IfOk result (λ o. Reads self.now.toks.now room symbols.lval at o.end (expression_of o.tree)) }
+        ensures stopped { IfErr result
+            (λ e. Stopped self.now.toks.now room (symbols.level 0) at e) }
+        ensures lval { IfOk result
+            (λ o. Reads self.now.toks.now room symbols.lval at o.end (expression_of o.tree)) }
         ensures no_lval { IfErr result (λ e. Stopped self.now.toks.now room symbols.lval at e) }
     {
         if room == 0 {
@@ -108,7 +112,8 @@ impl<'a> Parser<'a> {
         requires on { (at < length self.now.toks.now) × On self.now.toks.now at (Sym symbol) pos }
         ensures sized { IfOk result (λ o. (at < o.end) × IsSized self.now.toks.now room o) }
         ensures read { IfOk result (λ o. ReadsLevel self.now.toks.now room 0 at o) }
-        ensures stopped { IfErr result (λ e. Stopped self.now.toks.now room (symbols.level 0) at e) }
+        ensures stopped { IfErr result
+            (λ e. Stopped self.now.toks.now room (symbols.level 0) at e) }
     {
         if room == 0 {
             return Err(Stop::Deep(at));
@@ -131,7 +136,8 @@ impl<'a> Parser<'a> {
         requires cast { (at + 1 < length self.now.toks.now) × IsCast self.now.toks.now at }
         ensures sized { IfOk result (λ o. (at < o.end) × IsSized self.now.toks.now room o) }
         ensures read { IfOk result (λ o. ReadsLevel self.now.toks.now room 0 at o) }
-        ensures stopped { IfErr result (λ e. Stopped self.now.toks.now room (symbols.level 0) at e) }
+        ensures stopped { IfErr result
+            (λ e. Stopped self.now.toks.now room (symbols.level 0) at e) }
     {
         let pos = self.toks[at].pos;
         if room == 0 {

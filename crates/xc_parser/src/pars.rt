@@ -45,8 +45,10 @@ impl<'a> Parser<'a> {
         requires short { length self.now.toks.now < 2 ^ 32 }
         requires word { StandsAt self.now.toks.now at (key 15) }
         ensures bounds { IfOk result (λ r. (at < r.end) × (r.end ≤ length self.now.toks.now)) }
-        ensures read { IfOk result (λ r. Reads self.now.toks.now (room + 1) symbol.statement at r.end (trees.statement_of r.value)) }
-        ensures stopped { IfErr result (λ e. Stopped self.now.toks.now (room + 1) symbol.statement at e) }
+        ensures read { IfOk result (λ r. Reads self.now.toks.now
+            (room + 1) symbol.statement at r.end (trees.statement_of r.value)) }
+        ensures stopped { IfErr result
+            (λ e. Stopped self.now.toks.now (room + 1) symbol.statement at e) }
     {
         if is_symbol(self.toks, at + 1, PAREN) {
             return self.replicated(at, room);
@@ -70,8 +72,10 @@ impl<'a> Parser<'a> {
         requires short { length self.now.toks.now < 2 ^ 32 }
         requires at { at ≤ length self.now.toks.now }
         ensures bounds { IfOk result (λ r. (at < r.end) × (r.end ≤ length self.now.toks.now)) }
-        ensures holds { IfOk result (λ r. (r.held ≡ plain.branch_tokens (trees.branch_of r.value)) × (at + r.held ≤ r.end)) }
-        ensures read { IfOk result (λ r. Reads self.now.toks.now room symbol.branch at r.end (trees.branch_of r.value)) }
+        ensures holds { IfOk result (λ r. (r.held ≡ plain.branch_tokens (trees.branch_of r.value))
+            × (at + r.held ≤ r.end)) }
+        ensures read { IfOk result
+            (λ r. Reads self.now.toks.now room symbol.branch at r.end (trees.branch_of r.value)) }
         ensures stopped { IfErr result (λ e. Stopped self.now.toks.now room symbol.branch at e) }
     {
         let place = self.maybe_place(at, room)?;
@@ -93,8 +97,10 @@ impl<'a> Parser<'a> {
         requires word { StandsAt self.now.toks.now at (key 15) }
         requires bracket { StandsAt self.now.toks.now (at + 1) (symbol.sym 0) }
         ensures bounds { IfOk result (λ r. (at < r.end) × (r.end ≤ length self.now.toks.now)) }
-        ensures read { IfOk result (λ r. Reads self.now.toks.now (room + 1) symbol.statement at r.end (trees.statement_of r.value)) }
-        ensures stopped { IfErr result (λ e. Stopped self.now.toks.now (room + 1) symbol.statement at e) }
+        ensures read { IfOk result (λ r. Reads self.now.toks.now
+            (room + 1) symbol.statement at r.end (trees.statement_of r.value)) }
+        ensures stopped { IfErr result
+            (λ e. Stopped self.now.toks.now (room + 1) symbol.statement at e) }
     {
         let open = self.symbol(at + 1, PAREN)?;
         let int = self.word(open.end, INT_WORD)?;
@@ -116,8 +122,11 @@ impl<'a> Parser<'a> {
     /// A name, a symbol by its place in `SYMBOLS`, a number and a `;`.
     fn bound(&self, at: usize, wanted: u8) -> Result<Read<Bound>, Stop>
         ensures bounds { IfOk result (λ r. (at < r.end) × (r.end ≤ length self.now.toks.now)) }
-        ensures read { IfOk result (λ r. (p : Pos) × (q : Pos) × ((room : ℕ) → ReadsRow self.now.toks.now room (bound_row wanted) at r.end (r.value.name, (p, (numeral_of r.value.number, (q, tt)))))) }
-        ensures stopped { IfErr result (λ e. (room : ℕ) → StoppedRow self.now.toks.now room (bound_row wanted) at e) }
+        ensures read { IfOk result (λ r. (p : Pos) × (q : Pos)
+            × ((room : ℕ) → ReadsRow self.now.toks.now room (bound_row wanted) at r.end
+            (r.value.name, (p, (numeral_of r.value.number, (q, tt)))))) }
+        ensures stopped { IfErr result
+            (λ e. (room : ℕ) → StoppedRow self.now.toks.now room (bound_row wanted) at e) }
     {
         let name = self.id(at)?;
         let closed = self.closed(name, wanted)?;
@@ -135,8 +144,10 @@ impl<'a> Parser<'a> {
     /// A name, with the `++` and the `)` behind it.
     fn step(&self, at: usize) -> Result<Read<Id>, Stop>
         ensures bounds { IfOk result (λ r. (at < r.end) × (r.end ≤ length self.now.toks.now)) }
-        ensures read { IfOk result (λ r. (p : Pos) × (q : Pos) × ((room : ℕ) → ReadsRow self.now.toks.now room step_row at r.end (r.value, (p, (q, tt))))) }
-        ensures stopped { IfErr result (λ e. (room : ℕ) → StoppedRow self.now.toks.now room step_row at e) }
+        ensures read { IfOk result (λ r. (p : Pos) × (q : Pos) × ((room : ℕ) →
+            ReadsRow self.now.toks.now room step_row at r.end (r.value, (p, (q, tt))))) }
+        ensures stopped { IfErr result
+            (λ e. (room : ℕ) → StoppedRow self.now.toks.now room step_row at e) }
     {
         let name = self.id(at)?;
         let stepped = self.closed(name, PLUS_PLUS)?;

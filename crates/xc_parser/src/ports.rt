@@ -34,7 +34,8 @@ impl<'a> Parser<'a> {
     pub fn portdecl(&self, at: usize, room: u32) -> Result<Read<PortItem>, Stop>
         requires at { at ≤ length self.now.toks.now }
         ensures bounds { IfOk result (λ r. (at < r.end) × (r.end ≤ length self.now.toks.now)) }
-        ensures read { IfOk result (λ r. Reads self.now.toks.now room symbol.portdecl at r.end (port_of r.value)) }
+        ensures read { IfOk result
+            (λ r. Reads self.now.toks.now room symbol.portdecl at r.end (port_of r.value)) }
         ensures stopped { IfErr result (λ e. Stopped self.now.toks.now room symbol.portdecl at e) }
     {
         let place = self.maybe_place(at, room)?;
@@ -55,8 +56,11 @@ impl<'a> Parser<'a> {
     fn port(&self, at: usize) -> Result<Read<Port>, Stop>
         requires at { at ≤ length self.now.toks.now }
         ensures bounds { IfOk result (λ r. (at < r.end) × (r.end ≤ length self.now.toks.now)) }
-        ensures read { IfOk result (λ r. (p : Pos) × (q : Pos) × ((room : ℕ) → ReadsRow self.now.toks.now room port_row at r.end (r.value.dir, (r.value.name, (p, (r.value.ident, (q, tt))))))) }
-        ensures stopped { IfErr result (λ e. (room : ℕ) → StoppedRow self.now.toks.now room port_row at e) }
+        ensures read { IfOk result (λ r.
+            (p : Pos) × (q : Pos) × ((room : ℕ) → ReadsRow self.now.toks.now room port_row at r.end
+            (r.value.dir, (r.value.name, (p, (r.value.ident, (q, tt))))))) }
+        ensures stopped { IfErr result
+            (λ e. (room : ℕ) → StoppedRow self.now.toks.now room port_row at e) }
     {
         let dir = self.dir(at)?;
         let first = self.id(dir.end)?;
@@ -77,8 +81,10 @@ impl<'a> Parser<'a> {
     pub fn maybe_place(&self, at: usize, room: u32) -> Result<Read<Option<At>>, Stop>
         requires at { at ≤ length self.now.toks.now }
         ensures bounds { IfOk result (λ r. (at ≤ r.end) × (r.end ≤ length self.now.toks.now)) }
-        ensures read { IfOk result (λ r. Reads self.now.toks.now room (symbol.maybe symbol.place) at r.end (option_map place_of r.value)) }
-        ensures stopped { IfErr result (λ e. Stopped self.now.toks.now room (symbol.maybe symbol.place) at e) }
+        ensures read { IfOk result (λ r. Reads self.now.toks.now room
+            (symbol.maybe symbol.place) at r.end (option_map place_of r.value)) }
+        ensures stopped { IfErr result
+            (λ e. Stopped self.now.toks.now room (symbol.maybe symbol.place) at e) }
     {
         if !is_word(self.toks, at, ON_WORD) {
             return Ok(Read {
@@ -97,7 +103,8 @@ impl<'a> Parser<'a> {
     pub fn place(&self, at: usize, room: u32) -> Result<Read<At>, Stop>
         requires at { at ≤ length self.now.toks.now }
         ensures bounds { IfOk result (λ r. (at < r.end) × (r.end ≤ length self.now.toks.now)) }
-        ensures read { IfOk result (λ r. Reads self.now.toks.now room symbol.place at r.end (place_of r.value)) }
+        ensures read { IfOk result
+            (λ r. Reads self.now.toks.now room symbol.place at r.end (place_of r.value)) }
         ensures stopped { IfErr result (λ e. Stopped self.now.toks.now room symbol.place at e) }
     {
         let on = self.word(at, ON_WORD)?;
@@ -119,8 +126,10 @@ impl<'a> Parser<'a> {
     /// `stdcore` or `tile`.
     fn core_word(&self, at: usize) -> Result<Read<u8>, Stop>
         ensures bounds { IfOk result (λ r. (r.end ≡ at + 1) × (r.end ≤ length self.now.toks.now)) }
-        ensures read { IfOk result (λ r. ((r.value ≡ 22) ⊎ (r.value ≡ 23)) × ((p : Pos) × On self.now.toks.now at (Key r.value) p)) }
-        ensures stopped { IfErr result (λ e. (e ≡ stop.Wrong at) × (OneOf self.now.toks.now at (symbol.key 22 ∷ symbol.key 23 ∷ []) → ⊥)) }
+        ensures read { IfOk result (λ r. ((r.value ≡ 22) ⊎ (r.value ≡ 23))
+            × ((p : Pos) × On self.now.toks.now at (Key r.value) p)) }
+        ensures stopped { IfErr result (λ e. (e ≡ stop.Wrong at)
+            × (OneOf self.now.toks.now at (symbol.key 22 ∷ symbol.key 23 ∷ []) → ⊥)) }
     {
         if is_word(self.toks, at, STDCORE_WORD) {
             return Ok(Read {

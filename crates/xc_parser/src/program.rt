@@ -5,10 +5,10 @@ ghost use Rattle.xc_tree.specs.Depth.{of_program};
 ghost use Rattle.xc_tree.specs.Derives.{IsProgram, deepest};
 ghost use Rattle.xc_tree.specs.Parses.{BreaksRule, FirstBroken, place_at};
 ghost use Rattle.xc_tree.specs.Plain as plain;
+ghost use Rattle.xc_tree.specs.Refusals.{IfBroken};
 ghost use Rattle.xc_tree.specs.Symbol as symbol;
 ghost use Rattle.xc_tree.specs.Trees.{item_of, program_of};
 ghost use Rattle.xw_words.specs.declared.pos.Broken.{Broken};
-ghost use Rattle.xc_parser.specs.Errors.{IfBroken};
 ghost use Rattle.xc_parser.specs.Follows.{OneOf, first};
 ghost use Rattle.xc_parser.specs.Programs.{Halted};
 ghost use Rattle.xc_parser.specs.Reading.{Reads};
@@ -19,22 +19,13 @@ use crate::parser::{Parser, Read};
 use crate::stop::Stop;
 use crate::tokens::{begins_type, is_symbol, is_word};
 use std::alloc::Global;
-use thiserror::Error;
 use xc_tree::symbols::SEMICOLON;
 use xc_tree::words::VOID_WORD;
-use xc_tree::{FuncItem, Item, Tok, Tree};
+use xc_tree::{FuncItem, Item, Refusal, Tok, Tree};
 use xw_words::{Broken, List, Pos};
 
 /// Why tokens have no tree.
-#[derive(Debug, Drop, Error)]
-pub enum ParseErr {
-    /// They break a rule, and of both that they break this one first.
-    #[error("{}:{}: rule {} is broken", .0.pos.line, .0.pos.col, .0.rule)]
-    Broken(Broken),
-    /// Memory could not be had.
-    #[error("out of memory")]
-    Memory,
-}
+pub type ParseErr = Refusal;
 
 /// How many nodes of a tree may stand one below the other.
 const DEEPEST: u32 = 200;
@@ -47,11 +38,13 @@ const DEEPEST: u32 = 200;
 pub fn parse(alloc: Global, toks: &List<Tok>, end: Pos) -> Result<Tree, ParseErr>
     requires short { length toks.now < 2 ^ 32 }
     ensures tree { IfOk result (λ t. IsProgram toks.now (program_of t)) }
-    ensures only { IfOk result (λ t. (v : List plain.Item) → IsProgram toks.now v → v ≡ program_of t) }
+    ensures only { IfOk result (λ t. (v : List plain.Item) → IsProgram toks.now v → v
+        ≡ program_of t) }
     ensures shallow { IfOk result (λ t. of_program (program_of t) ≤ deepest) }
     ensures unbroken { IfOk result (λ t. (rule i : ℕ) → BreaksRule toks.now rule i → ⊥) }
     ensures broken { IfErr result (λ e. IfBroken e (λ b. FirstBroken toks.now end b)) }
-    ensures none { IfErr result (λ e. IfBroken e (λ b. (v : List plain.Item) → IsProgram toks.now v → deepest < of_program v)) }
+    ensures none { IfErr result (λ e.
+        IfBroken e (λ b. (v : List plain.Item) → IsProgram toks.now v → deepest < of_program v)) }
 {
     let parser = Parser {
         alloc,
@@ -68,7 +61,8 @@ pub fn parse(alloc: Global, toks: &List<Tok>, end: Pos) -> Result<Tree, ParseErr
 impl<'a> Parser<'a> {
     /// A rule that is broken at a token, or at the end of the text.
     fn broken(&self, rule: u16, at: usize, end: Pos) -> ParseErr
-        ensures { result ≡ ParseErr.Broken (record { rule = rule; pos = place_at self.now.toks.now end at }) }
+        ensures { result
+            ≡ Refusal.Broken (record { rule = rule; pos = place_at self.now.toks.now end at }) }
     {
         let pos = if at < self.toks.len() {
             self.toks[at].pos
@@ -81,7 +75,8 @@ impl<'a> Parser<'a> {
     /// All items.
     fn program(&self) -> Result<List<Item>, Stop>
         requires short { length self.now.toks.now < 2 ^ 32 }
-        ensures read { IfOk result (λ items. Reads self.now.toks.now deepest symbol.program 0 (length self.now.toks.now) (map item_of items)) }
+        ensures read { IfOk result (λ items. Reads self.now.toks.now deepest symbol.program 0
+            (length self.now.toks.now) (map item_of items)) }
         ensures stopped { IfErr result (λ e. Halted self.now.toks.now e) }
     {
         let mut items = List::new(self.alloc);
@@ -102,7 +97,8 @@ impl<'a> Parser<'a> {
         requires short { length self.now.toks.now < 2 ^ 32 }
         requires at { at ≤ length self.now.toks.now }
         ensures bounds { IfOk result (λ r. (at < r.end) × (r.end ≤ length self.now.toks.now)) }
-        ensures read { IfOk result (λ r. Reads self.now.toks.now deepest symbol.item at r.end (option_map item_of r.value)) }
+        ensures read { IfOk result (λ r. Reads self.now.toks.now deepest symbol.item at r.end
+            (option_map item_of r.value)) }
         ensures stopped { IfErr result (λ e. Stopped self.now.toks.now deepest symbol.item at e) }
     {
         if !self.begins_head(at) {

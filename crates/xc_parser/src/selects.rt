@@ -36,8 +36,10 @@ impl<'a> Parser<'a> {
         requires short { length self.now.toks.now < 2 ^ 32 }
         requires word { StandsAt self.now.toks.now at (key 20) }
         ensures bounds { IfOk result (λ r. (at < r.end) × (r.end ≤ length self.now.toks.now)) }
-        ensures read { IfOk result (λ r. Reads self.now.toks.now (room + 1) symbol.statement at r.end (trees.statement_of r.value)) }
-        ensures stopped { IfErr result (λ e. Stopped self.now.toks.now (room + 1) symbol.statement at e) }
+        ensures read { IfOk result (λ r. Reads self.now.toks.now
+            (room + 1) symbol.statement at r.end (trees.statement_of r.value)) }
+        ensures stopped { IfErr result
+            (λ e. Stopped self.now.toks.now (room + 1) symbol.statement at e) }
     {
         let open = self.symbol(at + 1, BRACE)?;
         let first = self.case(open.end, room)?;
@@ -60,8 +62,10 @@ impl<'a> Parser<'a> {
         requires short { length self.now.toks.now < 2 ^ 32 }
         requires at { at ≤ length self.now.toks.now }
         ensures bounds { IfOk result (λ r. (at < r.end) × (r.end ≤ length self.now.toks.now)) }
-        ensures holds { IfOk result (λ r. (r.held ≡ plain.case_tokens (trees.case_of r.value)) × (at + r.held ≤ r.end)) }
-        ensures read { IfOk result (λ r. Reads self.now.toks.now room symbol.case at r.end (trees.case_of r.value)) }
+        ensures holds { IfOk result
+            (λ r. (r.held ≡ plain.case_tokens (trees.case_of r.value)) × (at + r.held ≤ r.end)) }
+        ensures read { IfOk result
+            (λ r. Reads self.now.toks.now room symbol.case at r.end (trees.case_of r.value)) }
         ensures stopped { IfErr result (λ e. Stopped self.now.toks.now room symbol.case at e) }
     {
         if is_word(self.toks, at, DEFAULT_WORD) {
@@ -89,8 +93,10 @@ impl<'a> Parser<'a> {
         requires short { length self.now.toks.now < 2 ^ 32 }
         requires word { StandsAt self.now.toks.now at (key 5) }
         ensures bounds { IfOk result (λ r. (at < r.end) × (r.end ≤ length self.now.toks.now)) }
-        ensures holds { IfOk result (λ r. (r.held ≡ plain.case_tokens (trees.case_of r.value)) × (at + r.held ≤ r.end)) }
-        ensures read { IfOk result (λ r. Reads self.now.toks.now room symbol.case at r.end (trees.case_of r.value)) }
+        ensures holds { IfOk result
+            (λ r. (r.held ≡ plain.case_tokens (trees.case_of r.value)) × (at + r.held ≤ r.end)) }
+        ensures read { IfOk result
+            (λ r. Reads self.now.toks.now room symbol.case at r.end (trees.case_of r.value)) }
         ensures stopped { IfErr result (λ e. Stopped self.now.toks.now room symbol.case at e) }
     {
         let word = self.word(at, DEFAULT_WORD)?;
@@ -114,8 +120,10 @@ impl<'a> Parser<'a> {
         requires short { length self.now.toks.now < 2 ^ 32 }
         requires at { at ≤ length self.now.toks.now }
         ensures bounds { IfOk result (λ r. (at < r.end) × (r.end ≤ length self.now.toks.now)) }
-        ensures holds { IfOk result (λ r. (r.held ≡ plain.all_tokens (plain.statements (map trees.statement_of r.value))) × (at + r.held ≤ r.end)) }
-        ensures read { IfOk result (λ r. (p : Pos) × (q : Pos) × ReadsRow self.now.toks.now room body_row at r.end (map trees.statement_of r.value, (p, (q, tt)))) }
+        ensures holds { IfOk result (λ r. (r.held ≡ plain.all_tokens
+            (plain.statements (map trees.statement_of r.value))) × (at + r.held ≤ r.end)) }
+        ensures read { IfOk result (λ r. (p : Pos) × (q : Pos) × ReadsRow self.now.toks.now room
+            body_row at r.end (map trees.statement_of r.value, (p, (q, tt)))) }
         ensures stopped { IfErr result (λ e. StoppedRow self.now.toks.now room body_row at e) }
     {
         let mut value = List::new(self.alloc);
@@ -137,7 +145,12 @@ impl<'a> Parser<'a> {
     fn event(&self, at: usize, room: u32) -> Result<Read<Event>, Stop>
         requires at { at ≤ length self.now.toks.now }
         ensures bounds { IfOk result (λ r. (at < r.end) × (r.end ≤ length self.now.toks.now)) }
-        ensures read { IfOk result (λ r. (p : Pos) × ReadsRow self.now.toks.now room event_row at r.end (option_map trees.expression_of r.value.guard, (trees.input_of r.value.input, (p, tt)))) }
+        ensures read { IfOk result
+            (λ r. (p : Pos) × ReadsRow self.now.toks.now room event_row at r.end (
+              option_map
+                  trees.expression_of r.value.guard,
+              (trees.input_of r.value.input, (p, tt)),
+            )) }
         ensures stopped { IfErr result (λ e. StoppedRow self.now.toks.now room event_row at e) }
     {
         if is_name(self.toks, at) {
@@ -170,7 +183,8 @@ impl<'a> Parser<'a> {
     fn awaited(&self, at: usize, room: u32) -> Result<Read<Head>, Stop>
         requires at { at ≤ length self.now.toks.now }
         ensures bounds { IfOk result (λ r. (at < r.end) × (r.end ≤ length self.now.toks.now)) }
-        ensures read { IfOk result (λ r. (p : Pos) × ReadsRow self.now.toks.now room awaited at r.end (trees.input_of r.value, (p, tt))) }
+        ensures read { IfOk result (λ r. (p : Pos)
+            × ReadsRow self.now.toks.now room awaited at r.end (trees.input_of r.value, (p, tt))) }
         ensures stopped { IfErr result (λ e. StoppedRow self.now.toks.now room awaited at e) }
     {
         let input = self.input(at, room)?;

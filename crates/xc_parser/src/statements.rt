@@ -54,7 +54,8 @@ impl<'a> Parser<'a> {
         requires short { length self.now.toks.now < 2 ^ 32 }
         requires at { at ≤ length self.now.toks.now }
         ensures bounds { IfOk result (λ r. (at < r.end) × (r.end ≤ length self.now.toks.now)) }
-        ensures read { IfOk result (λ r. Reads self.now.toks.now room symbol.statement at r.end (trees.statement_of r.value)) }
+        ensures read { IfOk result (λ r. Reads self.now.toks.now room symbol.statement at r.end
+            (trees.statement_of r.value)) }
         ensures stopped { IfErr result (λ e. Stopped self.now.toks.now room symbol.statement at e) }
     {
         let Some(first) = self.first(at) else {
@@ -72,7 +73,8 @@ impl<'a> Parser<'a> {
         requires short { length self.now.toks.now < 2 ^ 32 }
         requires at { at ≤ length self.now.toks.now }
         ensures bounds { IfOk result (λ r. (at < r.end) × (r.end ≤ length self.now.toks.now)) }
-        ensures read { IfOk result (λ r. Reads self.now.toks.now room symbol.statement at r.end (trees.statement_of r.value.value)) }
+        ensures read { IfOk result (λ r. Reads self.now.toks.now room symbol.statement at r.end
+            (trees.statement_of r.value.value)) }
         ensures stopped { IfErr result (λ e. Stopped self.now.toks.now room symbol.statement at e) }
     {
         let read = self.statement(at, room)?;
@@ -90,8 +92,10 @@ impl<'a> Parser<'a> {
         requires at { at < length self.now.toks.now }
         requires begins { StandsAt self.now.toks.now at (token_of first) }
         ensures bounds { IfOk result (λ r. (at < r.end) × (r.end ≤ length self.now.toks.now)) }
-        ensures read { IfOk result (λ r. Reads self.now.toks.now (room + 1) symbol.statement at r.end (trees.statement_of r.value)) }
-        ensures stopped { IfErr result (λ e. Stopped self.now.toks.now (room + 1) symbol.statement at e) }
+        ensures read { IfOk result (λ r. Reads self.now.toks.now
+            (room + 1) symbol.statement at r.end (trees.statement_of r.value)) }
+        ensures stopped { IfErr result
+            (λ e. Stopped self.now.toks.now (room + 1) symbol.statement at e) }
     {
         match first {
             First::Semicolon => Ok(self.whole(at, at + 1, 0, St::Empty)),
@@ -113,7 +117,8 @@ impl<'a> Parser<'a> {
 
     /// How the statement at a place begins, if one begins there.
     fn first(&self, at: usize) -> Option<First>
-        ensures some { IfSome result (λ f. (at < length self.now.toks.now) × StandsAt self.now.toks.now at (token_of f)) }
+        ensures some { IfSome result
+            (λ f. (at < length self.now.toks.now) × StandsAt self.now.toks.now at (token_of f)) }
         ensures none { IfNone result (OneOf self.now.toks.now at begins_statement → ⊥) }
     {
         if at >= self.toks.len() {
@@ -132,7 +137,8 @@ impl<'a> Parser<'a> {
         requires short { length self.now.toks.now < 2 ^ 32 }
         requires at { at ≤ length self.now.toks.now }
         ensures bounds { IfOk result (λ r. (at < r.end) × (r.end ≤ length self.now.toks.now)) }
-        ensures read { IfOk result (λ r. Reads self.now.toks.now room symbol.body at r.end (trees.statement_of r.value)) }
+        ensures read { IfOk result
+            (λ r. Reads self.now.toks.now room symbol.body at r.end (trees.statement_of r.value)) }
         ensures stopped { IfErr result (λ e. Stopped self.now.toks.now room symbol.body at e) }
     {
         if room > 0 {
@@ -150,10 +156,14 @@ impl<'a> Parser<'a> {
         requires short { length self.now.toks.now < 2 ^ 32 }
         requires at { at ≤ length self.now.toks.now }
         ensures bounds { IfOk result (λ r. (at < r.end) × (r.end ≤ length self.now.toks.now)) }
-        ensures read { IfOk result (λ r. StandsAt self.now.toks.now at (sym 2) → Reads self.now.toks.now (room + 1) symbol.statement at r.end (trees.statement_of r.value)) }
-        ensures stopped { IfErr result (λ e. StandsAt self.now.toks.now at (sym 2) → Stopped self.now.toks.now (room + 1) symbol.statement at e) }
-        ensures body { IfOk result (λ r. Reads self.now.toks.now (room + 1) symbol.body at r.end (trees.statement_of r.value)) }
-        ensures no_body { IfErr result (λ e. Stopped self.now.toks.now (room + 1) symbol.body at e) }
+        ensures read { IfOk result (λ r. StandsAt self.now.toks.now at (sym 2) → Reads
+            self.now.toks.now (room + 1) symbol.statement at r.end (trees.statement_of r.value)) }
+        ensures stopped { IfErr result (λ e. StandsAt self.now.toks.now at (sym 2) →
+            Stopped self.now.toks.now (room + 1) symbol.statement at e) }
+        ensures body { IfOk result (λ r. Reads self.now.toks.now (room + 1) symbol.body at r.end
+            (trees.statement_of r.value)) }
+        ensures no_body { IfErr result
+            (λ e. Stopped self.now.toks.now (room + 1) symbol.body at e) }
     {
         let block = self.block(at, room)?;
         let held = block.end - at - 2;
@@ -166,7 +176,8 @@ impl<'a> Parser<'a> {
         requires short { length self.now.toks.now < 2 ^ 32 }
         requires at { at ≤ length self.now.toks.now }
         ensures bounds { IfOk result (λ r. (at + 1 < r.end) × (r.end ≤ length self.now.toks.now)) }
-        ensures read { IfOk result (λ r. Reads self.now.toks.now room symbol.block at r.end (map trees.statement_of r.value)) }
+        ensures read { IfOk result (λ r. Reads self.now.toks.now room symbol.block at r.end
+            (map trees.statement_of r.value)) }
         ensures stopped { IfErr result (λ e. Stopped self.now.toks.now room symbol.block at e) }
     {
         let open = self.symbol(at, BRACE)?;
@@ -189,8 +200,10 @@ impl<'a> Parser<'a> {
         requires short { length self.now.toks.now < 2 ^ 32 }
         requires at { at ≤ length self.now.toks.now }
         ensures bounds { IfOk result (λ r. (at < r.end) × (r.end ≤ length self.now.toks.now)) }
-        ensures read { IfOk result (λ r. Reads self.now.toks.now room symbol.block_item at r.end (trees.statement_of r.value)) }
-        ensures stopped { IfErr result (λ e. Stopped self.now.toks.now room symbol.block_item at e) }
+        ensures read { IfOk result (λ r. Reads self.now.toks.now room symbol.block_item at r.end
+            (trees.statement_of r.value)) }
+        ensures stopped { IfErr result
+            (λ e. Stopped self.now.toks.now room symbol.block_item at e) }
     {
         if self.begins_declaration(at) {
             return self.declaration(at, room);
@@ -204,8 +217,10 @@ impl<'a> Parser<'a> {
         requires short { length self.now.toks.now < 2 ^ 32 }
         requires word { StandsAt self.now.toks.now at (key (if is_master then 12 else 21)) }
         ensures bounds { IfOk result (λ r. (at < r.end) × (r.end ≤ length self.now.toks.now)) }
-        ensures read { IfOk result (λ r. Reads self.now.toks.now (room + 1) symbol.statement at r.end (trees.statement_of r.value)) }
-        ensures stopped { IfErr result (λ e. Stopped self.now.toks.now (room + 1) symbol.statement at e) }
+        ensures read { IfOk result (λ r. Reads self.now.toks.now
+            (room + 1) symbol.statement at r.end (trees.statement_of r.value)) }
+        ensures stopped { IfErr result
+            (λ e. Stopped self.now.toks.now (room + 1) symbol.statement at e) }
     {
         let block = self.block(at + 1, room)?;
         let held = block.end - at - 3;
@@ -217,8 +232,10 @@ impl<'a> Parser<'a> {
         requires short { length self.now.toks.now < 2 ^ 32 }
         requires name { StandsAt self.now.toks.now at a_name }
         ensures bounds { IfOk result (λ r. (at < r.end) × (r.end ≤ length self.now.toks.now)) }
-        ensures read { IfOk result (λ r. Reads self.now.toks.now (room + 1) symbol.statement at r.end (trees.statement_of r.value)) }
-        ensures stopped { IfErr result (λ e. Stopped self.now.toks.now (room + 1) symbol.statement at e) }
+        ensures read { IfOk result (λ r. Reads self.now.toks.now
+            (room + 1) symbol.statement at r.end (trees.statement_of r.value)) }
+        ensures stopped { IfErr result
+            (λ e. Stopped self.now.toks.now (room + 1) symbol.statement at e) }
     {
         let behind = at + 1;
         if is_symbol(self.toks, behind, PAREN) {
@@ -247,8 +264,10 @@ impl<'a> Parser<'a> {
         requires name { StandsAt self.now.toks.now at a_name }
         requires open { StandsAt self.now.toks.now (at + 1) (sym 0) }
         ensures bounds { IfOk result (λ r. (at < r.end) × (r.end ≤ length self.now.toks.now)) }
-        ensures read { IfOk result (λ r. Reads self.now.toks.now (room + 1) symbol.statement at r.end (trees.statement_of r.value)) }
-        ensures stopped { IfErr result (λ e. Stopped self.now.toks.now (room + 1) symbol.statement at e) }
+        ensures read { IfOk result (λ r. Reads self.now.toks.now
+            (room + 1) symbol.statement at r.end (trees.statement_of r.value)) }
+        ensures stopped { IfErr result
+            (λ e. Stopped self.now.toks.now (room + 1) symbol.statement at e) }
     {
         let call = self.call(at, room)?;
         let closed = self.closed(call, SEMICOLON)?;
@@ -260,8 +279,10 @@ impl<'a> Parser<'a> {
         requires short { length self.now.toks.now < 2 ^ 32 }
         requires word { StandsAt self.now.toks.now at (key (if is_break then 0 else 4)) }
         ensures bounds { IfOk result (λ r. (at < r.end) × (r.end ≤ length self.now.toks.now)) }
-        ensures read { IfOk result (λ r. (room : ℕ) → Reads self.now.toks.now (room + 1) symbol.statement at r.end (trees.statement_of r.value)) }
-        ensures stopped { IfErr result (λ e. (room : ℕ) → Stopped self.now.toks.now (room + 1) symbol.statement at e) }
+        ensures read { IfOk result (λ r. (room : ℕ) → Reads self.now.toks.now
+            (room + 1) symbol.statement at r.end (trees.statement_of r.value)) }
+        ensures stopped { IfErr result
+            (λ e. (room : ℕ) → Stopped self.now.toks.now (room + 1) symbol.statement at e) }
     {
         let semicolon = self.symbol(at + 1, SEMICOLON)?;
         if is_break {
@@ -276,8 +297,10 @@ impl<'a> Parser<'a> {
         requires short { length self.now.toks.now < 2 ^ 32 }
         requires word { StandsAt self.now.toks.now at (key 19) }
         ensures bounds { IfOk result (λ r. (at < r.end) × (r.end ≤ length self.now.toks.now)) }
-        ensures read { IfOk result (λ r. Reads self.now.toks.now (room + 1) symbol.statement at r.end (trees.statement_of r.value)) }
-        ensures stopped { IfErr result (λ e. Stopped self.now.toks.now (room + 1) symbol.statement at e) }
+        ensures read { IfOk result (λ r. Reads self.now.toks.now
+            (room + 1) symbol.statement at r.end (trees.statement_of r.value)) }
+        ensures stopped { IfErr result
+            (λ e. Stopped self.now.toks.now (room + 1) symbol.statement at e) }
     {
         let behind = at + 1;
         if is_symbol(self.toks, behind, SEMICOLON) {
@@ -300,8 +323,10 @@ impl<'a> Parser<'a> {
         requires short { length self.now.toks.now < 2 ^ 32 }
         requires word { StandsAt self.now.toks.now at (key 9) }
         ensures bounds { IfOk result (λ r. (at < r.end) × (r.end ≤ length self.now.toks.now)) }
-        ensures read { IfOk result (λ r. Reads self.now.toks.now (room + 1) symbol.statement at r.end (trees.statement_of r.value)) }
-        ensures stopped { IfErr result (λ e. Stopped self.now.toks.now (room + 1) symbol.statement at e) }
+        ensures read { IfOk result (λ r. Reads self.now.toks.now
+            (room + 1) symbol.statement at r.end (trees.statement_of r.value)) }
+        ensures stopped { IfErr result
+            (λ e. Stopped self.now.toks.now (room + 1) symbol.statement at e) }
     {
         let open = self.symbol(at + 1, PAREN)?;
         let test = self.expr(open.end, room)?;

@@ -22,7 +22,8 @@ use xw_words::Pos;
 
 /// Whether this symbol stands at a place.
 pub fn is_symbol(toks: &[Tok], at: usize, symbol: u8) -> bool
-    ensures yes { IsTrue result → (at < length toks.now) × ((p : Pos) × On toks.now at (Sym symbol) p) }
+    ensures yes { IsTrue result →
+        (at < length toks.now) × ((p : Pos) × On toks.now at (Sym symbol) p) }
     ensures no { (result ≡ false) → (p : Pos) → On toks.now at (Sym symbol) p → ⊥ }
 {
     if at >= toks.len() {
@@ -38,7 +39,8 @@ pub fn is_symbol(toks: &[Tok], at: usize, symbol: u8) -> bool
 
 /// Whether this word stands at a place.
 pub fn is_word(toks: &[Tok], at: usize, word: u8) -> bool
-    ensures yes { IsTrue result → (at < length toks.now) × ((p : Pos) × On toks.now at (Key word) p) }
+    ensures yes { IsTrue result →
+        (at < length toks.now) × ((p : Pos) × On toks.now at (Key word) p) }
     ensures no { (result ≡ false) → (p : Pos) → On toks.now at (Key word) p → ⊥ }
 {
     if at >= toks.len() {
@@ -118,8 +120,10 @@ const LEVELS: [u8; 47] = [
 
 /// The operator at a place, where it binds at least as strongly as those of a level.
 pub fn operator_at(toks: &[Tok], at: usize, weakest: u8) -> Option<Operator>
-    ensures some { IfSome result (λ o. (at < length toks.now) × (0 < o.level) × (o.level ≤ weakest)) }
-    ensures is { IfSome result (λ o. IsOperator toks.now at o.level (record { mark = o.symbol; pos = o.pos })) }
+    ensures some { IfSome result
+        (λ o. (at < length toks.now) × (0 < o.level) × (o.level ≤ weakest)) }
+    ensures is { IfSome result
+        (λ o. IsOperator toks.now at o.level (record { mark = o.symbol; pos = o.pos })) }
     ensures none { IfNone result (NoOperator toks.now at weakest) }
 {
     if at >= toks.len() {
@@ -172,7 +176,8 @@ pub fn is_name(toks: &[Tok], at: usize) -> bool
 
 /// Whether a token that an expression can begin with stands at a place.
 pub fn begins_operand(toks: &[Tok], at: usize) -> bool
-    ensures yes { IsTrue result → (at < length toks.now) × OneOf toks.now at follows.begins_operand }
+    ensures yes { IsTrue result →
+        (at < length toks.now) × OneOf toks.now at follows.begins_operand }
     ensures no { (result ≡ false) → OneOf toks.now at follows.begins_operand → ⊥ }
 {
     if at >= toks.len() {
@@ -198,7 +203,8 @@ fn begins_operand_as(symbol: u8) -> bool
 
 /// Whether a token that an expression can go on with stands at a place: an operator, `?` or `[`.
 pub fn goes_on(toks: &[Tok], at: usize) -> bool
-    ensures yes { IsTrue result → (at < length toks.now) × OneOf toks.now at follows.after_expression }
+    ensures yes { IsTrue result →
+        (at < length toks.now) × OneOf toks.now at follows.after_expression }
     ensures no { (result ≡ false) → OneOf toks.now at follows.after_expression → ⊥ }
 {
     if let Some(_) = operator_at(toks, at, 10) {

@@ -50,7 +50,8 @@ impl<'a> Parser<'a> {
     pub fn input(&self, at: usize, room: u32) -> Result<Read<Head>, Stop>
         requires at { at ≤ length self.now.toks.now }
         ensures bounds { IfOk result (λ r. (at < r.end) × (r.end ≤ length self.now.toks.now)) }
-        ensures read { IfOk result (λ r. Reads self.now.toks.now room symbol.input at r.end (trees.input_of r.value)) }
+        ensures read { IfOk result
+            (λ r. Reads self.now.toks.now room symbol.input at r.end (trees.input_of r.value)) }
         ensures stopped { IfErr result (λ e. Stopped self.now.toks.now room symbol.input at e) }
     {
         let name = self.id(at)?;
@@ -71,8 +72,10 @@ impl<'a> Parser<'a> {
         requires name { StandsAt self.now.toks.now at a_name }
         requires begins { OneOf self.now.toks.now (at + 1) (sym 25 ∷ key 28 ∷ []) }
         ensures bounds { IfOk result (λ r. (at < r.end) × (r.end ≤ length self.now.toks.now)) }
-        ensures read { IfOk result (λ r. Reads self.now.toks.now (room + 1) symbol.statement at r.end (trees.statement_of r.value)) }
-        ensures stopped { IfErr result (λ e. Stopped self.now.toks.now (room + 1) symbol.statement at e) }
+        ensures read { IfOk result (λ r. Reads self.now.toks.now
+            (room + 1) symbol.statement at r.end (trees.statement_of r.value)) }
+        ensures stopped { IfErr result
+            (λ e. Stopped self.now.toks.now (room + 1) symbol.statement at e) }
     {
         let input = self.input(at, room)?;
         let closed = self.closed(input, SEMICOLON)?;
@@ -86,8 +89,10 @@ impl<'a> Parser<'a> {
         requires name { StandsAt self.now.toks.now at a_name }
         requires begins { OneOf self.now.toks.now (at + 1) (sym 24 ∷ sym 23 ∷ []) }
         ensures bounds { IfOk result (λ r. (at < r.end) × (r.end ≤ length self.now.toks.now)) }
-        ensures read { IfOk result (λ r. Reads self.now.toks.now (room + 1) symbol.statement at r.end (trees.statement_of r.value)) }
-        ensures stopped { IfErr result (λ e. Stopped self.now.toks.now (room + 1) symbol.statement at e) }
+        ensures read { IfOk result (λ r. Reads self.now.toks.now
+            (room + 1) symbol.statement at r.end (trees.statement_of r.value)) }
+        ensures stopped { IfErr result
+            (λ e. Stopped self.now.toks.now (room + 1) symbol.statement at e) }
     {
         if !is_symbol(self.toks, at + 1, SENDS) {
             return self.timed_transfer(at, room);
@@ -105,8 +110,10 @@ impl<'a> Parser<'a> {
         requires name { StandsAt self.now.toks.now at a_name }
         requires begins { StandsAt self.now.toks.now (at + 1) (sym 23) }
         ensures bounds { IfOk result (λ r. (at < r.end) × (r.end ≤ length self.now.toks.now)) }
-        ensures read { IfOk result (λ r. Reads self.now.toks.now (room + 1) symbol.statement at r.end (trees.statement_of r.value)) }
-        ensures stopped { IfErr result (λ e. Stopped self.now.toks.now (room + 1) symbol.statement at e) }
+        ensures read { IfOk result (λ r. Reads self.now.toks.now
+            (room + 1) symbol.statement at r.end (trees.statement_of r.value)) }
+        ensures stopped { IfErr result
+            (λ e. Stopped self.now.toks.now (room + 1) symbol.statement at e) }
     {
         let name = self.id(at)?;
         let (name, time) = beside(name.value, self.time(name.end, room))?;
@@ -127,7 +134,14 @@ impl<'a> Parser<'a> {
     /// An output from its `<:` on, with the `;` behind it.
     fn output_tail(&self, at: usize, room: u32) -> Result<Read<OutputTail>, Stop>
         ensures bounds { IfOk result (λ r. (at < r.end) × (r.end ≤ length self.now.toks.now)) }
-        ensures read { IfOk result (λ r. (p : Pos) × (q : Pos) × ReadsRow self.now.toks.now room output_row at r.end (p, (trees.expression_of r.value.value, (option_map trees.timing_of r.value.stamp, (q, tt))))) }
+        ensures read { IfOk result (λ r. (p : Pos) × (q : Pos) × ReadsRow self.now.toks.now
+            room output_row at r.end (
+              p,
+              (
+                trees.expression_of r.value.value,
+                (option_map trees.timing_of r.value.stamp, (q, tt)),
+              ),
+            )) }
         ensures stopped { IfErr result (λ e. StoppedRow self.now.toks.now room output_row at e) }
     {
         let sends = self.symbol(at, SENDS)?;
@@ -146,7 +160,11 @@ impl<'a> Parser<'a> {
     /// An input from its `:>` on, with the `;` behind it.
     fn input_tail(&self, at: usize, room: u32) -> Result<Read<Goal>, Stop>
         ensures bounds { IfOk result (λ r. (at < r.end) × (r.end ≤ length self.now.toks.now)) }
-        ensures read { IfOk result (λ r. (p : Pos) × (q : Pos) × ReadsRow self.now.toks.now room input_row at r.end (p, (trees.target_of r.value.dest, (option_map trees.timing_of r.value.stamp, (q, tt))))) }
+        ensures read { IfOk result
+            (λ r. (p : Pos) × (q : Pos) × ReadsRow self.now.toks.now room input_row at r.end (
+              p,
+              (trees.target_of r.value.dest, (option_map trees.timing_of r.value.stamp, (q, tt))),
+            )) }
         ensures stopped { IfErr result (λ e. StoppedRow self.now.toks.now room input_row at e) }
     {
         let receives = self.symbol(at, RECEIVES)?;
@@ -162,7 +180,8 @@ impl<'a> Parser<'a> {
     fn goal(&self, at: usize, room: u32) -> Result<Read<Goal>, Stop>
         requires at { at ≤ length self.now.toks.now }
         ensures bounds { IfOk result (λ r. (at < r.end) × (r.end ≤ length self.now.toks.now)) }
-        ensures read { IfOk result (λ r. ReadsGoal self.now.toks.now room at r.end (trees.target_of r.value.dest) (option_map trees.timing_of r.value.stamp)) }
+        ensures read { IfOk result (λ r. ReadsGoal self.now.toks.now room at r.end
+            (trees.target_of r.value.dest) (option_map trees.timing_of r.value.stamp)) }
         ensures stopped { IfErr result (λ e. StopsGoal self.now.toks.now room at e) }
     {
         let dest = self.dest(at, room)?;
@@ -180,8 +199,10 @@ impl<'a> Parser<'a> {
     pub fn maybe_stamp(&self, at: usize, room: u32) -> Result<Read<Option<Timed>>, Stop>
         requires at { at ≤ length self.now.toks.now }
         ensures bounds { IfOk result (λ r. (at ≤ r.end) × (r.end ≤ length self.now.toks.now)) }
-        ensures read { IfOk result (λ r. Reads self.now.toks.now room (symbol.maybe symbol.stamp) at r.end (option_map trees.timing_of r.value)) }
-        ensures stopped { IfErr result (λ e. Stopped self.now.toks.now room (symbol.maybe symbol.stamp) at e) }
+        ensures read { IfOk result (λ r. Reads self.now.toks.now room
+            (symbol.maybe symbol.stamp) at r.end (option_map trees.timing_of r.value)) }
+        ensures stopped { IfErr result
+            (λ e. Stopped self.now.toks.now room (symbol.maybe symbol.stamp) at e) }
     {
         if !is_symbol(self.toks, at, AT_SIGN) {
             return Ok(Read {
@@ -200,7 +221,8 @@ impl<'a> Parser<'a> {
     pub fn waits(&self, at: usize, room: u32) -> Result<Read<Waits>, Stop>
         requires at { at ≤ length self.now.toks.now }
         ensures bounds { IfOk result (λ r. (at ≤ r.end) × (r.end ≤ length self.now.toks.now)) }
-        ensures read { IfOk result (λ r. Reads self.now.toks.now room symbol.waits at r.end (waits_of r.value)) }
+        ensures read { IfOk result
+            (λ r. Reads self.now.toks.now room symbol.waits at r.end (waits_of r.value)) }
         ensures stopped { IfErr result (λ e. Stopped self.now.toks.now room symbol.waits at e) }
     {
         if is_symbol(self.toks, at, AT_SIGN) {
@@ -235,8 +257,10 @@ impl<'a> Parser<'a> {
     pub fn test(&self, at: usize) -> Result<Read<u8>, Stop>
         requires at { at ≤ length self.now.toks.now }
         ensures bounds { IfOk result (λ r. (r.end ≡ at + 1) × (r.end ≤ length self.now.toks.now)) }
-        ensures read { IfOk result (λ r. (room : ℕ) → Reads self.now.toks.now room symbol.test at r.end r.value) }
-        ensures stopped { IfErr result (λ e. (room : ℕ) → Stopped self.now.toks.now room symbol.test at e) }
+        ensures read { IfOk result
+            (λ r. (room : ℕ) → Reads self.now.toks.now room symbol.test at r.end r.value) }
+        ensures stopped { IfErr result
+            (λ e. (room : ℕ) → Stopped self.now.toks.now room symbol.test at e) }
     {
         if is_word(self.toks, at, PINSEQ_WORD) {
             return Ok(Read {
@@ -261,7 +285,8 @@ impl<'a> Parser<'a> {
     pub fn dest(&self, at: usize, room: u32) -> Result<Read<Dest>, Stop>
         requires at { at ≤ length self.now.toks.now }
         ensures bounds { IfOk result (λ r. (at < r.end) × (r.end ≤ length self.now.toks.now)) }
-        ensures read { IfOk result (λ r. Reads self.now.toks.now room symbol.dest at r.end (trees.target_of r.value)) }
+        ensures read { IfOk result
+            (λ r. Reads self.now.toks.now room symbol.dest at r.end (trees.target_of r.value)) }
         ensures stopped { IfErr result (λ e. Stopped self.now.toks.now room symbol.dest at e) }
     {
         if is_word(self.toks, at, VOID_WORD) {
@@ -296,7 +321,8 @@ fn fresh(is_unsigned: bool, name: Id) -> Dest
 
 /// An input of its parts.
 fn input_of(name: Id, waits: Waits, dest: Dest, stamp: Option<Timed>) -> Head
-    ensures { trees.input_of result ≡ received name (waits_of waits) (trees.target_of dest) (option_map trees.timing_of stamp) }
+    ensures { trees.input_of result ≡ received name (waits_of waits) (trees.target_of dest)
+        (option_map trees.timing_of stamp) }
 {
     let Id { text, pos } = name;
     let (time, cond) = match waits {
@@ -316,7 +342,8 @@ fn input_of(name: Id, waits: Waits, dest: Dest, stamp: Option<Timed>) -> Head
 
 /// An output of its parts.
 fn output_of(name: Id, time: Option<Timed>, value: Expr, stamp: Option<Timed>) -> Send
-    ensures { trees.output_of result ≡ sent name (option_map trees.timing_of time) (trees.expression_of value) (option_map trees.timing_of stamp) }
+    ensures { trees.output_of result ≡ sent name (option_map trees.timing_of time)
+        (trees.expression_of value) (option_map trees.timing_of stamp) }
 {
     let Id { text, pos } = name;
     Send {

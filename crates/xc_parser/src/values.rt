@@ -30,7 +30,8 @@ pub struct Called {
 impl<'a> Parser<'a> {
     /// The name at a place.
     pub fn name(&self, at: usize) -> Result<Id, Stop>
-        ensures named { IfOk result (λ n. (at < length self.now.toks.now) × On self.now.toks.now at (Name n.text) n.pos) }
+        ensures named { IfOk result
+            (λ n. (at < length self.now.toks.now) × On self.now.toks.now at (Name n.text) n.pos) }
         ensures missing { IfErr result (IsMissing self.now.toks.now at symbol.a_name) }
     {
         if at >= self.toks.len() {
@@ -52,7 +53,8 @@ impl<'a> Parser<'a> {
     pub fn lval(&self, at: usize, room: u32) -> Result<Read<Expr>, Stop>
         requires at { at ≤ length self.now.toks.now }
         ensures bounds { IfOk result (λ r. (at < r.end) × (r.end ≤ length self.now.toks.now)) }
-        ensures read { IfOk result (λ r. Reads self.now.toks.now room symbol.lval at r.end (expression_of r.value)) }
+        ensures read { IfOk result
+            (λ r. Reads self.now.toks.now room symbol.lval at r.end (expression_of r.value)) }
         ensures stopped { IfErr result (λ e. Stopped self.now.toks.now room symbol.lval at e) }
     {
         if at >= self.toks.len() {
@@ -77,8 +79,10 @@ impl<'a> Parser<'a> {
     pub fn place_value(&self, at: usize, room: u32) -> Result<Read<Arg>, Stop>
         requires at { at ≤ length self.now.toks.now }
         ensures bounds { IfOk result (λ r. (at < r.end) × (r.end ≤ length self.now.toks.now)) }
-        ensures read { IfOk result (λ r. Reads self.now.toks.now room symbol.place_value at r.end (argument_of r.value)) }
-        ensures stopped { IfErr result (λ e. Stopped self.now.toks.now room symbol.place_value at e) }
+        ensures read { IfOk result
+            (λ r. Reads self.now.toks.now room symbol.place_value at r.end (argument_of r.value)) }
+        ensures stopped { IfErr result
+            (λ e. Stopped self.now.toks.now room symbol.place_value at e) }
     {
         self.valued(at, room)
     }
@@ -87,7 +91,8 @@ impl<'a> Parser<'a> {
     pub fn argument(&self, at: usize, room: u32) -> Result<Read<Arg>, Stop>
         requires at { at ≤ length self.now.toks.now }
         ensures bounds { IfOk result (λ r. (at < r.end) × (r.end ≤ length self.now.toks.now)) }
-        ensures read { IfOk result (λ r. Reads self.now.toks.now room symbol.argument at r.end (argument_of r.value)) }
+        ensures read { IfOk result
+            (λ r. Reads self.now.toks.now room symbol.argument at r.end (argument_of r.value)) }
         ensures stopped { IfErr result (λ e. Stopped self.now.toks.now room symbol.argument at e) }
     {
         self.valued(at, room)
@@ -97,7 +102,8 @@ impl<'a> Parser<'a> {
     fn valued(&self, at: usize, room: u32) -> Result<Read<Arg>, Stop>
         requires at { at ≤ length self.now.toks.now }
         ensures bounds { IfOk result (λ r. (at < r.end) × (r.end ≤ length self.now.toks.now)) }
-        ensures read { IfOk result (λ r. IsValued self.now.toks.now room at r.end (argument_of r.value)) }
+        ensures read { IfOk result
+            (λ r. IsValued self.now.toks.now room at r.end (argument_of r.value)) }
         ensures stopped { IfErr result (λ e. Stopped self.now.toks.now room symbol.expr at e) }
     {
         let read = match self.expr(at, room) {
@@ -118,7 +124,8 @@ impl<'a> Parser<'a> {
     pub fn arguments(&self, at: usize, room: u32) -> Result<Read<List<Arg>>, Stop>
         requires at { at ≤ length self.now.toks.now }
         ensures bounds { IfOk result (λ r. (at ≤ r.end) × (r.end ≤ length self.now.toks.now)) }
-        ensures read { IfOk result (λ r. Reads self.now.toks.now room symbol.arguments at r.end (map argument_of r.value)) }
+        ensures read { IfOk result (λ r. Reads self.now.toks.now room symbol.arguments at r.end
+            (map argument_of r.value)) }
         ensures stopped { IfErr result (λ e. Stopped self.now.toks.now room symbol.arguments at e) }
     {
         let mut value = List::new(self.alloc);
@@ -142,7 +149,8 @@ impl<'a> Parser<'a> {
     fn next_argument(&self, arguments: &mut List<Arg>, at: usize, room: u32) -> Result<usize, Stop>
         requires at { at ≤ length self.now.toks.now }
         ensures bounds { IfOk result (λ end. (at < end) × (end ≤ length self.now.toks.now)) }
-        ensures read { IfOk result (λ end. (a : Arg) × (arguments.new ≡ arguments.old ++ a ∷ []) × Reads self.now.toks.now room symbol.argument at end (argument_of a)) }
+        ensures read { IfOk result (λ end. (a : Arg) × (arguments.new ≡ arguments.old ++ a ∷ [])
+            × Reads self.now.toks.now room symbol.argument at end (argument_of a)) }
         ensures stopped { IfErr result (λ e. Stopped self.now.toks.now room symbol.argument at e) }
     {
         let read = match self.argument(at, room) {
@@ -159,7 +167,8 @@ impl<'a> Parser<'a> {
     pub fn call(&self, at: usize, room: u32) -> Result<Read<Called>, Stop>
         requires at { at ≤ length self.now.toks.now }
         ensures bounds { IfOk result (λ r. (at < r.end) × (r.end ≤ length self.now.toks.now)) }
-        ensures read { IfOk result (λ r. Reads self.now.toks.now room symbol.call at r.end (call_of r.value)) }
+        ensures read { IfOk result
+            (λ r. Reads self.now.toks.now room symbol.call at r.end (call_of r.value)) }
         ensures stopped { IfErr result (λ e. Stopped self.now.toks.now room symbol.call at e) }
     {
         let name = match self.name(at) {
@@ -218,7 +227,8 @@ impl<'a> Parser<'a> {
     /// An expression as a right side.
     fn value(&self, at: usize, room: u32) -> Result<Read<Option<Rhs>>, Stop>
         requires at { at ≤ length self.now.toks.now }
-        requires no_call { StandsAt self.now.toks.now at symbol.a_name → IsSymbol self.now.toks.now (at + 1) 0 → ⊥ }
+        requires no_call { StandsAt self.now.toks.now at symbol.a_name →
+            IsSymbol self.now.toks.now (at + 1) 0 → ⊥ }
         requires room { StandsAt self.now.toks.now at symbol.a_name → 1 ≤ room }
         ensures bounds { IfOk result (λ r. (at < r.end) × (r.end ≤ length self.now.toks.now)) }
         ensures read { IfOk result (λ r. ReadsRhs self.now.toks.now room at r.end r.value) }
@@ -236,7 +246,8 @@ impl<'a> Parser<'a> {
 
     /// A call as a right side.
     fn result(&self, at: usize, room: u32) -> Result<Read<Option<Rhs>>, Stop>
-        requires name { (at < length self.now.toks.now) × StandsAt self.now.toks.now at symbol.a_name }
+        requires name { (at < length self.now.toks.now)
+            × StandsAt self.now.toks.now at symbol.a_name }
         requires paren { IsSymbol self.now.toks.now (at + 1) 0 }
         ensures bounds { IfOk result (λ r. (at < r.end) × (r.end ≤ length self.now.toks.now)) }
         ensures read { IfOk result (λ r. ReadsRhs self.now.toks.now room at r.end r.value) }
@@ -269,7 +280,8 @@ impl<'a> Parser<'a> {
     pub fn time(&self, at: usize, room: u32) -> Result<Read<Timed>, Stop>
         requires at { at ≤ length self.now.toks.now }
         ensures bounds { IfOk result (λ r. (at < r.end) × (r.end ≤ length self.now.toks.now)) }
-        ensures read { IfOk result (λ r. Reads self.now.toks.now room symbol.time at r.end (timing_of r.value)) }
+        ensures read { IfOk result
+            (λ r. Reads self.now.toks.now room symbol.time at r.end (timing_of r.value)) }
         ensures stopped { IfErr result (λ e. Stopped self.now.toks.now room symbol.time at e) }
     {
         if !is_symbol(self.toks, at, AT_SIGN) {
@@ -292,7 +304,8 @@ impl<'a> Parser<'a> {
     pub fn stamp(&self, at: usize, room: u32) -> Result<Read<Timed>, Stop>
         requires at { at ≤ length self.now.toks.now }
         ensures bounds { IfOk result (λ r. (at < r.end) × (r.end ≤ length self.now.toks.now)) }
-        ensures read { IfOk result (λ r. Reads self.now.toks.now room symbol.stamp at r.end (timing_of r.value)) }
+        ensures read { IfOk result
+            (λ r. Reads self.now.toks.now room symbol.stamp at r.end (timing_of r.value)) }
         ensures stopped { IfErr result (λ e. Stopped self.now.toks.now room symbol.stamp at e) }
     {
         if !is_symbol(self.toks, at, AT_SIGN) {
@@ -315,7 +328,8 @@ impl<'a> Parser<'a> {
     pub fn guard(&self, at: usize, room: u32) -> Result<Read<Expr>, Stop>
         requires at { at ≤ length self.now.toks.now }
         ensures bounds { IfOk result (λ r. (at < r.end) × (r.end ≤ length self.now.toks.now)) }
-        ensures read { IfOk result (λ r. Reads self.now.toks.now room symbol.guard at r.end (expression_of r.value)) }
+        ensures read { IfOk result
+            (λ r. Reads self.now.toks.now room symbol.guard at r.end (expression_of r.value)) }
         ensures stopped { IfErr result (λ e. Stopped self.now.toks.now room symbol.guard at e) }
     {
         let test = self.expr(at, room)?;

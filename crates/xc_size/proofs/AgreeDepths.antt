@@ -4,7 +4,7 @@ use Rattle.xc_tree.specs.Depth as depth
 use Rattle.xc_tree.specs.Plain as tree
 use Rattle.xc_kernel.specs.Depths as depths
 use Rattle.xc_size.specs.Sizes.{up_to}
-use Rattle.xc_size.specs.Callees as callees
+use Rattle.xc_size.proofs.CalledParts as callees
 use Rattle.xc_size.proofs.Same.{Each, each_front, each_back, same_sum, same_greater}
 
 module _ (number : List ℕ → Option ℕ) (l : ℕ) (g h : tree.Call → ℕ) where

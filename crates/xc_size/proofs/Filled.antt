@@ -9,7 +9,7 @@ use Rattle.xc_kernel.specs.Size.{most_statements, most_nodes, greatest_depth}
 use Rattle.xc_size.specs.declared.names.Names.{Names}
 use Rattle.xc_size.specs.declared.size.Size.{Size}
 use Rattle.xc_size.specs.declared.sizes.Sizes.{Sizes}
-use Rattle.xc_size.specs.Callees as callees
+use Rattle.xc_size.proofs.CalledParts as callees
 use Rattle.xc_size.specs.Functions.{function_of, function_at}
 use Rattle.xc_size.specs.Known.{AreKnown, IsSizeOfCall, IsSizeOfFunction, AreOfFunctions, AreSizesFrom, AreSizesAt, AreNextSizes, listed}
 use Rattle.xc_size.specs.Numbers.{number_of}

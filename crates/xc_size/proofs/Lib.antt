@@ -1,6 +1,7 @@
 pub mod UpTo
 pub mod Gathers
 pub mod Measures
+pub mod CalledParts
 pub mod Called
 pub mod Numbered
 pub mod Listed

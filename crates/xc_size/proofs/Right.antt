@@ -9,7 +9,7 @@ use Rattle.xc_kernel.specs.Programs.{Function, function_named, count_within}
 use Rattle.xc_kernel.specs.Size.{most_statements, most_nodes, greatest_depth}
 use Rattle.xc_size.specs.declared.size.Size.{Size}
 use Rattle.xc_size.specs.declared.sizes.Sizes.{Sizes}
-use Rattle.xc_size.specs.Callees as callees
+use Rattle.xc_size.proofs.CalledParts as callees
 use Rattle.xc_size.specs.Functions.{function_at}
 use Rattle.xc_size.specs.Known.{IsKnown, AreKnown, IsSizeOfCall, IsSizeOfFunction, IsSizeOfBody, AreOfFunctions, AreSizesFrom, AreSizesAt, listed}
 use Rattle.xc_size.specs.Numbers.{number_of}

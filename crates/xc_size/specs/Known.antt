@@ -1,5 +1,5 @@
 -- When the size of a function is known, and when it is right.
-use Rattle.std.specs.Prelude.{◌≡◌, ℕ, ◌<◌, ◌≤◌, List, [], ◌∷◌, map, length, slice_get, Option, Some}
+use Rattle.std.specs.Prelude.{◌≡◌, ℕ, ◌+◌, ◌<◌, ◌≤◌, List, [], ◌∷◌, length, slice_get, Option, Some}
 use Rattle.xc_tree.specs.Plain as tree
 use Rattle.xc_kernel.specs.Counts as counts
 use Rattle.xc_kernel.specs.Depths as depths
@@ -8,7 +8,7 @@ use Rattle.xc_kernel.specs.Programs.{Function, count_within}
 use Rattle.xc_kernel.specs.Size.{most_statements, most_nodes, greatest_depth}
 use Rattle.xc_size.specs.declared.size.Size.{Size}
 use Rattle.xc_size.specs.declared.sizes.Sizes.{Sizes}
-use Rattle.xc_size.specs.Functions.{function_of, AreNumbers}
+use Rattle.xc_size.specs.Functions.{AreNumbers, functions_at}
 use Rattle.xc_size.specs.Numbers.{number_of}
 use Rattle.xc_size.specs.Sizes.{up_to, statements_called, nodes_called, depth_called}
 
@@ -29,7 +29,7 @@ pub record IsSizeOfCall (fs : List Function) (deep : ℕ) (call : tree.Call) (si
 
 -- the functions that the sizes are of
 abbrev pub listed : Sizes → List Function
-listed sizes = map (λ f. function_of f.now) sizes.all
+listed sizes = functions_at sizes.all
 
 -- numbers and places fit
 pub record AreOfFunctions (sizes : Sizes) : Type 0 where
@@ -39,6 +39,10 @@ pub record AreOfFunctions (sizes : Sizes) : Type 0 where
 -- what is known is what a call adds, however deep calls are followed beyond this depth
 pub record AreSizesFrom (sizes : Sizes) (deep : ℕ) : Type 0 where
   pub right : (call : tree.Call) (number : ℕ) (size : Size) → number_of sizes.names call.called.text ≡ Some number → slice_get sizes.each number ≡ Some (Some size) → (n : ℕ) → deep ≤ n → IsSizeOfCall (listed sizes) n call size
+
+-- what is known then is right from one step deeper on than what was known before
+abbrev pub AreRightDeeper : Sizes → Sizes → Type 0
+AreRightDeeper old new = (deep : ℕ) → AreSizesFrom old deep → AreSizesFrom new (deep + 1)
 
 -- all are known, as what a call adds where calls are followed so deep
 pub record AreSizesAt (sizes : Sizes) (deep : ℕ) : Type 0 where

@@ -4,3 +4,4 @@ pub mod Numbers
 pub mod Sizes
 pub mod Known
 pub mod Limits
+pub mod Counted

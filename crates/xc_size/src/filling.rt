@@ -1,5 +1,5 @@
-ghost use Rattle.std.specs.Prelude.{◌≡◌, ℕ, ◌+◌, length, IfOk, OnOk};
-ghost use Rattle.xc_size.specs.Known.{AreNextSizes, AreOfFunctions, AreSizesAt, AreSizesFrom, IsSizeOfBody, listed};
+ghost use Rattle.std.specs.Prelude.{◌≡◌, length, IfOk, OnOk};
+ghost use Rattle.xc_size.specs.Known.{AreNextSizes, AreOfFunctions, AreRightDeeper, AreSizesAt, AreSizesFrom, IsSizeOfBody, listed};
 ghost use Rattle.xc_tree.specs.Trees as tree;
 
 use crate::callees::callees;
@@ -23,7 +23,8 @@ pub fn whole_size<'a>(
 ) -> Result<Size, Memory>
     requires functions { AreOfFunctions sizes.old }
     requires none { AreSizesFrom sizes.old 0 }
-    ensures { IfOk result (λ size. IsSizeOfBody (listed sizes.old) (tree.statement_of body.now) size) }
+    ensures { IfOk result
+        (λ size. IsSizeOfBody (listed sizes.old) (tree.statement_of body.now) size) }
 {
     add_in_order(alloc, sizes, order)?;
     let callees = callees(alloc, &sizes.names, body)?;
@@ -53,7 +54,7 @@ fn add<'a>(alloc: Global, sizes: &mut Sizes<'a>, order: &[usize], turn: usize) -
     requires functions { AreOfFunctions sizes.old }
     ensures all { OnOk result (sizes.new.all ≡ sizes.old.all) }
     ensures functions { OnOk result (AreOfFunctions sizes.new) }
-    ensures right { OnOk result ((deep : ℕ) → AreSizesFrom sizes.old deep → AreSizesFrom sizes.new (deep + 1)) }
+    ensures right { OnOk result (AreRightDeeper sizes.old sizes.new) }
 {
     if turn >= order.len() || order[turn] >= sizes.all.len() {
         return Ok(());

@@ -1,13 +1,9 @@
-ghost use Rattle.std.specs.Prelude.{◌≡◌, ◌+◌, Some, map, max, option_map, sum_by};
-ghost use Rattle.xc_size.specs.Functions.{function_of};
-ghost use Rattle.xc_size.specs.Sizes.{depth_called, nodes_called, statements_called, up_to};
-ghost use Rattle.xc_kernel.specs.Counts as counts;
-ghost use Rattle.xc_kernel.specs.Depths as depths;
-ghost use Rattle.xc_kernel.specs.Nodes as nodes;
-ghost use Rattle.xc_kernel.specs.Size.{greatest_depth, most_nodes, most_statements};
-ghost use Rattle.xc_tree.specs.Depth as depth;
-ghost use Rattle.xc_tree.specs.Plain as plain;
-ghost use Rattle.xc_tree.specs.Trees as tree;
+ghost use Rattle.std.specs.Prelude.{◌≡◌};
+ghost use Rattle.xc_size.specs.Counted.Depth as depths;
+ghost use Rattle.xc_size.specs.Counted.Nodes as nodes;
+ghost use Rattle.xc_size.specs.Counted.Statements as statements;
+ghost use Rattle.xc_size.specs.Sizes.{up_to};
+ghost use Rattle.xc_kernel.specs.Size.{most_statements};
 
 use crate::size::Size;
 use crate::sizes::Sizes;
@@ -19,9 +15,9 @@ use xc_tree::{
 /// The size that a call of a function adds to the part in which it stands.
 #[tactic(auto, using(crate::proofs::Measures::measures))]
 pub fn function<'a>(sizes: &Sizes<'a>, f: &'a FuncItem) -> Size
-    ensures statements { result.statements ≡ up_to most_statements (counts.of_function (statements_called sizes.now) (Some (function_of f.now))) }
-    ensures nodes { result.nodes ≡ up_to most_nodes (nodes.of_function (nodes_called sizes.now) (Some (function_of f.now))) }
-    ensures depth { result.depth ≡ up_to greatest_depth (depths.of_function (depth_called sizes.now) (Some (function_of f.now))) }
+    ensures statements { result.statements ≡ statements.of_function sizes.now f.now }
+    ensures nodes { result.nodes ≡ nodes.of_function sizes.now f.now }
+    ensures depth { result.depth ≡ depths.of_function sizes.now f.now }
 {
     statement(sizes, &f.body).counted(f.params.len()).counted(1)
 }
@@ -31,8 +27,8 @@ pub fn function<'a>(sizes: &Sizes<'a>, f: &'a FuncItem) -> Size
 #[tactic(auto, using(crate::proofs::Measures::measures))]
 fn expression(e: &Expr) -> Size
     ensures statements { result.statements ≡ up_to most_statements 0 }
-    ensures nodes { result.nodes ≡ up_to most_nodes (nodes.of_expression (tree.expression_of e.now)) }
-    ensures depth { result.depth ≡ up_to greatest_depth (depth.of_expression (tree.expression_of e.now)) }
+    ensures nodes { result.nodes ≡ nodes.of_expression e.now }
+    ensures depth { result.depth ≡ depths.of_expression e.now }
 {
     let operands = match &e.kind {
         Ex::Num(_, _) => Size::none(),
@@ -51,8 +47,8 @@ fn expression(e: &Expr) -> Size
 #[tactic(auto, using(crate::proofs::Measures::measures))]
 fn expression_if_any(e: &Option<Expr>) -> Size
     ensures statements { result.statements ≡ up_to most_statements 0 }
-    ensures nodes { result.nodes ≡ up_to most_nodes (depth.if_some nodes.of_expression (option_map tree.expression_of e.now)) }
-    ensures depth { result.depth ≡ up_to greatest_depth (depth.if_some depth.of_expression (option_map tree.expression_of e.now)) }
+    ensures nodes { result.nodes ≡ nodes.of_expression_if_any e.now }
+    ensures depth { result.depth ≡ depths.of_expression_if_any e.now }
 {
     match e {
         None => Size::none(),
@@ -63,8 +59,8 @@ fn expression_if_any(e: &Option<Expr>) -> Size
 #[tactic(auto, using(crate::proofs::Measures::measures))]
 fn arguments(args: &[Arg]) -> Size
     ensures statements { result.statements ≡ up_to most_statements 0 }
-    ensures nodes { result.nodes ≡ up_to most_nodes (sum_by nodes.of_argument (map tree.argument_of args.now)) }
-    ensures depth { result.depth ≡ up_to greatest_depth (depth.highest depth.of_argument (map tree.argument_of args.now)) }
+    ensures nodes { result.nodes ≡ nodes.of_arguments args.now }
+    ensures depth { result.depth ≡ depths.of_arguments args.now }
 {
     let mut size = Size::none();
     for arg in args {
@@ -76,9 +72,9 @@ fn arguments(args: &[Arg]) -> Size
 /// The size of what stands at the right of an `=`, with that of the function that it calls.
 #[tactic(auto, using(crate::proofs::Measures::measures))]
 fn right_side<'a>(sizes: &Sizes<'a>, rhs: &'a Rhs) -> Size
-    ensures statements { result.statements ≡ up_to most_statements (counts.of_right (statements_called sizes.now) (tree.right_of rhs.now)) }
-    ensures nodes { result.nodes ≡ up_to most_nodes (nodes.of_right (nodes_called sizes.now) (tree.right_of rhs.now)) }
-    ensures depth { result.depth ≡ up_to greatest_depth (depths.of_right (depth_called sizes.now) (tree.right_of rhs.now)) }
+    ensures statements { result.statements ≡ statements.of_right_side sizes.now rhs.now }
+    ensures nodes { result.nodes ≡ nodes.of_right_side sizes.now rhs.now }
+    ensures depth { result.depth ≡ depths.of_right_side sizes.now rhs.now }
 {
     match rhs {
         Rhs::Value(value) => expression(value),
@@ -88,9 +84,9 @@ fn right_side<'a>(sizes: &Sizes<'a>, rhs: &'a Rhs) -> Size
 
 #[tactic(auto, using(crate::proofs::Measures::measures))]
 fn right_side_if_any<'a>(sizes: &Sizes<'a>, rhs: &'a Option<Rhs>) -> Size
-    ensures statements { result.statements ≡ up_to most_statements (depth.if_some (counts.of_right (statements_called sizes.now)) (option_map tree.right_of rhs.now)) }
-    ensures nodes { result.nodes ≡ up_to most_nodes (depth.if_some (nodes.of_right (nodes_called sizes.now)) (option_map tree.right_of rhs.now)) }
-    ensures depth { result.depth ≡ up_to greatest_depth (depth.if_some (depths.of_right (depth_called sizes.now)) (option_map tree.right_of rhs.now)) }
+    ensures statements { result.statements ≡ statements.of_right_side_if_any sizes.now rhs.now }
+    ensures nodes { result.nodes ≡ nodes.of_right_side_if_any sizes.now rhs.now }
+    ensures depth { result.depth ≡ depths.of_right_side_if_any sizes.now rhs.now }
 {
     match rhs {
         None => Size::none(),
@@ -101,8 +97,8 @@ fn right_side_if_any<'a>(sizes: &Sizes<'a>, rhs: &'a Option<Rhs>) -> Size
 #[tactic(auto, using(crate::proofs::Measures::measures))]
 fn timing(time: &Option<Timed>) -> Size
     ensures statements { result.statements ≡ up_to most_statements 0 }
-    ensures nodes { result.nodes ≡ up_to most_nodes (depth.if_some nodes.of_timing (option_map tree.timing_of time.now)) }
-    ensures depth { result.depth ≡ up_to greatest_depth (depth.if_some depth.of_timing (option_map tree.timing_of time.now)) }
+    ensures nodes { result.nodes ≡ nodes.of_timing time.now }
+    ensures depth { result.depth ≡ depths.of_timing time.now }
 {
     match time {
         None => Size::none(),
@@ -113,8 +109,8 @@ fn timing(time: &Option<Timed>) -> Size
 #[tactic(auto, using(crate::proofs::Measures::measures))]
 fn condition(cond: &Option<When>) -> Size
     ensures statements { result.statements ≡ up_to most_statements 0 }
-    ensures nodes { result.nodes ≡ up_to most_nodes (depth.if_some nodes.of_condition (option_map tree.condition_of cond.now)) }
-    ensures depth { result.depth ≡ up_to greatest_depth (depth.if_some depth.of_condition (option_map tree.condition_of cond.now)) }
+    ensures nodes { result.nodes ≡ nodes.of_condition cond.now }
+    ensures depth { result.depth ≡ depths.of_condition cond.now }
 {
     match cond {
         None => Size::none(),
@@ -125,8 +121,8 @@ fn condition(cond: &Option<When>) -> Size
 #[tactic(auto, using(crate::proofs::Measures::measures))]
 fn output(send: &Send) -> Size
     ensures statements { result.statements ≡ up_to most_statements 0 }
-    ensures nodes { result.nodes ≡ up_to most_nodes (nodes.of_output (tree.output_of send.now)) }
-    ensures depth { result.depth ≡ up_to greatest_depth (depth.of_output (tree.output_of send.now)) }
+    ensures nodes { result.nodes ≡ nodes.of_output send.now }
+    ensures depth { result.depth ≡ depths.of_output send.now }
 {
     let value = expression(&send.value).beside(timing(&send.stamp));
     timing(&send.time).beside(value)
@@ -135,8 +131,8 @@ fn output(send: &Send) -> Size
 #[tactic(auto, using(crate::proofs::Measures::measures))]
 fn target(dest: &Dest) -> Size
     ensures statements { result.statements ≡ up_to most_statements 0 }
-    ensures nodes { result.nodes ≡ up_to most_nodes (nodes.of_target (tree.target_of dest.now)) }
-    ensures depth { result.depth ≡ up_to greatest_depth (depth.of_target (tree.target_of dest.now)) }
+    ensures nodes { result.nodes ≡ nodes.of_target dest.now }
+    ensures depth { result.depth ≡ depths.of_target dest.now }
 {
     match dest {
         Dest::To(e) => expression(e),
@@ -149,8 +145,8 @@ fn target(dest: &Dest) -> Size
 #[tactic(auto, using(crate::proofs::Measures::measures))]
 fn stored(dest: &Dest, stamp: &Option<Timed>) -> Size
     ensures statements { result.statements ≡ up_to most_statements 0 }
-    ensures nodes { result.nodes ≡ up_to most_nodes (nodes.of_target (tree.target_of dest.now) + depth.if_some nodes.of_timing (option_map tree.timing_of stamp.now)) }
-    ensures depth { result.depth ≡ up_to greatest_depth (max (depth.of_target (tree.target_of dest.now)) (depth.if_some depth.of_timing (option_map tree.timing_of stamp.now))) }
+    ensures nodes { result.nodes ≡ nodes.of_stored dest.now stamp.now }
+    ensures depth { result.depth ≡ depths.of_stored dest.now stamp.now }
 {
     target(dest).beside(timing(stamp))
 }
@@ -158,8 +154,8 @@ fn stored(dest: &Dest, stamp: &Option<Timed>) -> Size
 #[tactic(auto, using(crate::proofs::Measures::measures))]
 fn input(head: &Head) -> Size
     ensures statements { result.statements ≡ up_to most_statements 0 }
-    ensures nodes { result.nodes ≡ up_to most_nodes (nodes.of_input (tree.input_of head.now)) }
-    ensures depth { result.depth ≡ up_to greatest_depth (depth.of_input (tree.input_of head.now)) }
+    ensures nodes { result.nodes ≡ nodes.of_input head.now }
+    ensures depth { result.depth ≡ depths.of_input head.now }
 {
     let stored = stored(&head.dest, &head.stamp);
     timing(&head.time).beside(condition(&head.cond).beside(stored))
@@ -168,8 +164,8 @@ fn input(head: &Head) -> Size
 #[tactic(auto, using(crate::proofs::Measures::measures))]
 fn input_if_any(head: &Option<Head>) -> Size
     ensures statements { result.statements ≡ up_to most_statements 0 }
-    ensures nodes { result.nodes ≡ up_to most_nodes (depth.if_some nodes.of_input (option_map tree.input_of head.now)) }
-    ensures depth { result.depth ≡ up_to greatest_depth (depth.if_some depth.of_input (option_map tree.input_of head.now)) }
+    ensures nodes { result.nodes ≡ nodes.of_input_if_any head.now }
+    ensures depth { result.depth ≡ depths.of_input_if_any head.now }
 {
     match head {
         None => Size::none(),
@@ -180,8 +176,8 @@ fn input_if_any(head: &Option<Head>) -> Size
 #[tactic(auto, using(crate::proofs::Measures::measures))]
 fn place(place: &Option<At>) -> Size
     ensures statements { result.statements ≡ up_to most_statements 0 }
-    ensures nodes { result.nodes ≡ up_to most_nodes (depth.if_some nodes.of_place (option_map tree.place_of place.now)) }
-    ensures depth { result.depth ≡ up_to greatest_depth (depth.if_some depth.of_place (option_map tree.place_of place.now)) }
+    ensures nodes { result.nodes ≡ nodes.of_place place.now }
+    ensures depth { result.depth ≡ depths.of_place place.now }
 {
     match place {
         None => Size::none(),
@@ -192,9 +188,9 @@ fn place(place: &Option<At>) -> Size
 /// The size of what stands behind the `=` of a declared name.
 #[tactic(auto, using(crate::proofs::Measures::measures))]
 fn initial<'a>(sizes: &Sizes<'a>, kind: &'a DeclKind) -> Size
-    ensures statements { result.statements ≡ up_to most_statements (counts.of_kind (statements_called sizes.now) (tree.kind_of kind.now)) }
-    ensures nodes { result.nodes ≡ up_to most_nodes (nodes.of_kind (nodes_called sizes.now) (tree.kind_of kind.now)) }
-    ensures depth { result.depth ≡ up_to greatest_depth (depths.of_kind (depth_called sizes.now) (tree.kind_of kind.now)) }
+    ensures statements { result.statements ≡ statements.of_initial sizes.now kind.now }
+    ensures nodes { result.nodes ≡ nodes.of_initial sizes.now kind.now }
+    ensures depth { result.depth ≡ depths.of_initial sizes.now kind.now }
 {
     match kind {
         DeclKind::Word(_, rhs) => right_side_if_any(sizes, rhs),
@@ -206,18 +202,18 @@ fn initial<'a>(sizes: &Sizes<'a>, kind: &'a DeclKind) -> Size
 
 #[tactic(auto, using(crate::proofs::Measures::measures))]
 fn declaration<'a>(sizes: &Sizes<'a>, d: &'a Declared) -> Size
-    ensures statements { result.statements ≡ up_to most_statements (counts.of_declaration (statements_called sizes.now) (tree.declaration_of d.now)) }
-    ensures nodes { result.nodes ≡ up_to most_nodes (nodes.of_declaration (nodes_called sizes.now) (tree.declaration_of d.now)) }
-    ensures depth { result.depth ≡ up_to greatest_depth (depths.of_declaration (depth_called sizes.now) (tree.declaration_of d.now)) }
+    ensures statements { result.statements ≡ statements.of_declaration sizes.now d.now }
+    ensures nodes { result.nodes ≡ nodes.of_declaration sizes.now d.now }
+    ensures depth { result.depth ≡ depths.of_declaration sizes.now d.now }
 {
     initial(sizes, &d.kind).counted(1)
 }
 
 #[tactic(auto, using(crate::proofs::Measures::measures))]
 fn declarations<'a>(sizes: &Sizes<'a>, declared: &'a [Declared]) -> Size
-    ensures statements { result.statements ≡ up_to most_statements (sum_by (counts.of_declaration (statements_called sizes.now)) (map tree.declaration_of declared.now)) }
-    ensures nodes { result.nodes ≡ up_to most_nodes (sum_by (nodes.of_declaration (nodes_called sizes.now)) (map tree.declaration_of declared.now)) }
-    ensures depth { result.depth ≡ up_to greatest_depth (depth.highest (depths.of_declaration (depth_called sizes.now)) (map tree.declaration_of declared.now)) }
+    ensures statements { result.statements ≡ statements.of_declarations sizes.now declared.now }
+    ensures nodes { result.nodes ≡ nodes.of_declarations sizes.now declared.now }
+    ensures depth { result.depth ≡ depths.of_declarations sizes.now declared.now }
 {
     let mut size = Size::none();
     for d in declared {
@@ -230,9 +226,9 @@ fn declarations<'a>(sizes: &Sizes<'a>, declared: &'a [Declared]) -> Size
 #[cycle(statement)]
 #[tactic(auto, using(crate::proofs::Measures::measures))]
 pub fn statement<'a>(sizes: &Sizes<'a>, s: &'a Stmt) -> Size
-    ensures statements { result.statements ≡ up_to most_statements (counts.of_statement (statements_called sizes.now) (tree.statement_of s.now)) }
-    ensures nodes { result.nodes ≡ up_to most_nodes (nodes.of_statement (nodes_called sizes.now) (tree.statement_of s.now)) }
-    ensures depth { result.depth ≡ up_to greatest_depth (depths.of_statement (depth_called sizes.now) (tree.statement_of s.now)) }
+    ensures statements { result.statements ≡ statements.of_statement sizes.now s.now }
+    ensures nodes { result.nodes ≡ nodes.of_statement sizes.now s.now }
+    ensures depth { result.depth ≡ depths.of_statement sizes.now s.now }
 {
     action(sizes, &s.kind).deeper()
 }
@@ -240,9 +236,9 @@ pub fn statement<'a>(sizes: &Sizes<'a>, s: &'a Stmt) -> Size
 #[cycle(statement)]
 #[tactic(auto, using(crate::proofs::Measures::measures))]
 fn action<'a>(sizes: &Sizes<'a>, kind: &'a St) -> Size
-    ensures statements { result.statements ≡ up_to most_statements (counts.of_action (statements_called sizes.now) (tree.action_of kind.now)) }
-    ensures nodes { result.nodes ≡ up_to most_nodes (nodes.of_action (nodes_called sizes.now) (tree.action_of kind.now)) }
-    ensures depth { result.depth ≡ up_to greatest_depth (depths.of_action (depth_called sizes.now) (tree.action_of kind.now)) }
+    ensures statements { result.statements ≡ statements.of_action sizes.now kind.now }
+    ensures nodes { result.nodes ≡ nodes.of_action sizes.now kind.now }
+    ensures depth { result.depth ≡ depths.of_action sizes.now kind.now }
 {
     match kind {
         St::Empty => Size::none(),
@@ -287,9 +283,9 @@ fn action<'a>(sizes: &Sizes<'a>, kind: &'a St) -> Size
 #[cycle(statement)]
 #[tactic(auto, using(crate::proofs::Measures::measures))]
 fn statement_if_any<'a>(sizes: &Sizes<'a>, s: &'a Option<Box<Stmt>>) -> Size
-    ensures statements { result.statements ≡ up_to most_statements (counts.of_maybe (statements_called sizes.now) (tree.maybe_of s.now)) }
-    ensures nodes { result.nodes ≡ up_to most_nodes (nodes.of_maybe (nodes_called sizes.now) (tree.maybe_of s.now)) }
-    ensures depth { result.depth ≡ up_to greatest_depth (depths.of_maybe (depth_called sizes.now) (tree.maybe_of s.now)) }
+    ensures statements { result.statements ≡ statements.of_statement_if_any sizes.now s.now }
+    ensures nodes { result.nodes ≡ nodes.of_statement_if_any sizes.now s.now }
+    ensures depth { result.depth ≡ depths.of_statement_if_any sizes.now s.now }
 {
     match s {
         None => Size::none(),
@@ -300,9 +296,9 @@ fn statement_if_any<'a>(sizes: &Sizes<'a>, s: &'a Option<Box<Stmt>>) -> Size
 #[cycle(statement)]
 #[tactic(auto, using(crate::proofs::Measures::measures))]
 fn statements<'a>(sizes: &Sizes<'a>, ss: &'a [Stmt]) -> Size
-    ensures statements { result.statements ≡ up_to most_statements (counts.of_statements (statements_called sizes.now) (plain.statements (map tree.statement_of ss.now))) }
-    ensures nodes { result.nodes ≡ up_to most_nodes (nodes.of_statements (nodes_called sizes.now) (plain.statements (map tree.statement_of ss.now))) }
-    ensures depth { result.depth ≡ up_to greatest_depth (depths.of_statements (depth_called sizes.now) (plain.statements (map tree.statement_of ss.now))) }
+    ensures statements { result.statements ≡ statements.of_statements sizes.now ss.now }
+    ensures nodes { result.nodes ≡ nodes.of_statements sizes.now ss.now }
+    ensures depth { result.depth ≡ depths.of_statements sizes.now ss.now }
 {
     let mut size = Size::none();
     for s in ss {
@@ -314,9 +310,9 @@ fn statements<'a>(sizes: &Sizes<'a>, ss: &'a [Stmt]) -> Size
 #[cycle(statement)]
 #[tactic(auto, using(crate::proofs::Measures::measures))]
 fn branch<'a>(sizes: &Sizes<'a>, b: &'a Branch) -> Size
-    ensures statements { result.statements ≡ up_to most_statements (counts.of_branch (statements_called sizes.now) (tree.branch_of b.now)) }
-    ensures nodes { result.nodes ≡ up_to most_nodes (nodes.of_branch (nodes_called sizes.now) (tree.branch_of b.now)) }
-    ensures depth { result.depth ≡ up_to greatest_depth (depths.of_branch (depth_called sizes.now) (tree.branch_of b.now)) }
+    ensures statements { result.statements ≡ statements.of_branch sizes.now b.now }
+    ensures nodes { result.nodes ≡ nodes.of_branch sizes.now b.now }
+    ensures depth { result.depth ≡ depths.of_branch sizes.now b.now }
 {
     place(&b.place).beside(statement(sizes, &b.body)).counted(1)
 }
@@ -324,9 +320,9 @@ fn branch<'a>(sizes: &Sizes<'a>, b: &'a Branch) -> Size
 #[cycle(statement)]
 #[tactic(auto, using(crate::proofs::Measures::measures))]
 fn branches<'a>(sizes: &Sizes<'a>, bs: &'a [Branch]) -> Size
-    ensures statements { result.statements ≡ up_to most_statements (counts.of_branches (statements_called sizes.now) (plain.branches (map tree.branch_of bs.now))) }
-    ensures nodes { result.nodes ≡ up_to most_nodes (nodes.of_branches (nodes_called sizes.now) (plain.branches (map tree.branch_of bs.now))) }
-    ensures depth { result.depth ≡ up_to greatest_depth (depths.of_branches (depth_called sizes.now) (plain.branches (map tree.branch_of bs.now))) }
+    ensures statements { result.statements ≡ statements.of_branches sizes.now bs.now }
+    ensures nodes { result.nodes ≡ nodes.of_branches sizes.now bs.now }
+    ensures depth { result.depth ≡ depths.of_branches sizes.now bs.now }
 {
     let mut size = Size::none();
     for b in bs {
@@ -338,9 +334,9 @@ fn branches<'a>(sizes: &Sizes<'a>, bs: &'a [Branch]) -> Size
 #[cycle(statement)]
 #[tactic(auto, using(crate::proofs::Measures::measures))]
 fn case<'a>(sizes: &Sizes<'a>, c: &'a Case) -> Size
-    ensures statements { result.statements ≡ up_to most_statements (counts.of_case (statements_called sizes.now) (tree.case_of c.now)) }
-    ensures nodes { result.nodes ≡ up_to most_nodes (nodes.of_case (nodes_called sizes.now) (tree.case_of c.now)) }
-    ensures depth { result.depth ≡ up_to greatest_depth (depths.of_case (depth_called sizes.now) (tree.case_of c.now)) }
+    ensures statements { result.statements ≡ statements.of_case sizes.now c.now }
+    ensures nodes { result.nodes ≡ nodes.of_case sizes.now c.now }
+    ensures depth { result.depth ≡ depths.of_case sizes.now c.now }
 {
     let body = input_if_any(&c.head).beside(statements(sizes, c.body.as_slice()));
     expression_if_any(&c.guard).beside(body).counted(1)
@@ -349,9 +345,9 @@ fn case<'a>(sizes: &Sizes<'a>, c: &'a Case) -> Size
 #[cycle(statement)]
 #[tactic(auto, using(crate::proofs::Measures::measures))]
 fn cases<'a>(sizes: &Sizes<'a>, cs: &'a [Case]) -> Size
-    ensures statements { result.statements ≡ up_to most_statements (counts.of_cases (statements_called sizes.now) (plain.cases (map tree.case_of cs.now))) }
-    ensures nodes { result.nodes ≡ up_to most_nodes (nodes.of_cases (nodes_called sizes.now) (plain.cases (map tree.case_of cs.now))) }
-    ensures depth { result.depth ≡ up_to greatest_depth (depths.of_cases (depth_called sizes.now) (plain.cases (map tree.case_of cs.now))) }
+    ensures statements { result.statements ≡ statements.of_cases sizes.now cs.now }
+    ensures nodes { result.nodes ≡ nodes.of_cases sizes.now cs.now }
+    ensures depth { result.depth ≡ depths.of_cases sizes.now cs.now }
 {
     let mut size = Size::none();
     for c in cs {

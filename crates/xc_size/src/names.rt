@@ -1,5 +1,5 @@
 ghost use Rattle.std.specs.Prelude.{◌≡◌, ℕ, List, None, Some, OnOk};
-ghost use Rattle.xc_size.specs.Numbers.{number_of};
+ghost use Rattle.xc_size.specs.Numbers.{OthersStay, number_of};
 
 use indexmap::IndexMap;
 use std::alloc::Global;
@@ -31,7 +31,7 @@ impl<'a> Names<'a> {
     /// Gives a name this number.
     pub fn keep(&mut self, name: &'a [u8], number: usize) -> Result<(), Memory>
         ensures here { OnOk result (number_of self.new name.now ≡ Some number) }
-        ensures others { OnOk result ((t : List ℕ) → (t ≡ name.now → ⊥) → number_of self.new t ≡ number_of self.old t) }
+        ensures others { OnOk result (OthersStay self.old self.new name.now) }
     {
         match self.numbers.insert(name, number) {
             Ok(_) => Ok(()),

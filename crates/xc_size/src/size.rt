@@ -33,7 +33,8 @@ impl Size {
     /// The size of this and another part.
     #[tactic(auto, unfolding(crate::specs::Sizes::up_to))]
     pub fn beside(self, other: Size) -> Size
-        ensures statements { result.statements ≡ up_to most_statements (self.statements + other.statements) }
+        ensures statements { result.statements
+            ≡ up_to most_statements (self.statements + other.statements) }
         ensures nodes { result.nodes ≡ up_to most_nodes (self.nodes + other.nodes) }
         ensures depth { result.depth ≡ up_to greatest_depth (max self.depth other.depth) }
     {

@@ -5,7 +5,7 @@ ghost use Rattle.xc_tree.specs.Trees.{program_of};
 
 use crate::filling::whole_size;
 use crate::functions::functions_of;
-use crate::order::order_from;
+use crate::order::order_of;
 use crate::size::Size;
 use crate::sizes::Sizes;
 use std::alloc::Global;
@@ -26,7 +26,7 @@ pub fn broken_size(alloc: Global, tree: &Tree) -> Result<Option<Broken>, Memory>
     let Some(main) = sizes.all.get(number).copied() else {
         return Ok(None);
     };
-    let order = order_from(alloc, &sizes, number)?;
+    let order = order_of(alloc, &sizes)?;
     let size = whole_size(alloc, &mut sizes, order.as_slice(), &main.body)?;
     Ok(broken_by(size, main.name.pos))
 }

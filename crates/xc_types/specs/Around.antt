@@ -1,4 +1,5 @@
 -- What stands around a statement, as the definitions of shapes have it.
+use Rattle.std.specs.Prelude.{Bool}
 use Rattle.xc_tree.specs.Shapes.Around as spec
 use Rattle.xc_tree.specs.Trees.{head_of}
 use Rattle.xc_types.specs.declared.around.Holder.{Holder}
@@ -21,3 +22,6 @@ around_step (A.Inside h a) = spec.inside (holder_of h) a.now
 -- what an `Around` stands for
 unfoldable pub around_of : Around → spec.Around
 around_of = fold-Around spec.Around around_step
+
+abbrev pub is_in_transaction : Around → Bool
+is_in_transaction around = spec.in_transaction (around_of around).holders

@@ -1,15 +1,21 @@
 -- What is said of the arguments of a call together.
-use Rattle.std.specs.Prelude.{ℕ, Bool, true, false, not, nat_eq, is_some, ◌&&◌, ◌||◌, List, [], ◌∷◌, ◌++◌, length, slice_get, Option, Some, None, option_map}
+use Rattle.std.specs.Prelude.{ℕ, Bool, true, false, not, nat_eq, is_some, ◌&&◌, ◌||◌, List, [], ◌∷◌, ◌++◌, length, map, slice_get, Option, Some, None, option_map}
 use Rattle.xw_words.specs.declared.pos.Pos.{Pos}
+use Rattle.xc_tree.specs.declared.names.Named.{Named}
+use Rattle.xc_tree.specs.declared.tree.Arg.{Arg}
 use Rattle.xc_tree.specs.declared.tree.Param.{Param}
 use Rattle.xc_tree.specs.declared.tree.ParamKind.{ParamKind}
 use Rattle.xc_tree.specs.Plain as plain
 use Rattle.xc_tree.specs.Types.Calls.{Argument, fits, referred, is_channel_given}
 use Rattle.xc_tree.specs.Types.Rules.{is_one_of, gives_word}
 use Rattle.xc_tree.specs.Shapes.Around.{Around, in_transaction}
-use Rattle.xc_types.specs.declared.seen.Seen.{Seen}
+use Rattle.xc_tree.specs.Trees.{argument_of}
+use Rattle.xc_tree.specs.Types.Calls as calls
+use Rattle.xc_tree.specs.Types.Named.{named_of}
+use Rattle.xc_types.specs.declared.findings.Findings.{Findings}
 use Rattle.xc_types.specs.declared.judged.Judged.{Judged}
-use Rattle.xc_types.specs.Seen.{first_with, with_broken, with_first}
+use Rattle.xc_types.specs.Given.{argument}
+use Rattle.xc_types.specs.Findings.{first_with, with_broken, with_first}
 
 abbrev pub judged_nothing : Judged
 judged_nothing = record { misfit = None; again = None; variables = []; has_channel = false }
@@ -28,6 +34,14 @@ judged_with j a = record {
   has_channel = j.has_channel || is_channel_given a.given;
 }
 
+-- with one more argument as the code has it, before which k names stand
+abbrev pub with_argument : Named → ℕ → Option ParamKind → Arg → Judged → Judged
+with_argument named k parameter arg j = judged_with j (argument named k parameter arg.first arg.value)
+
+-- with one more variable
+abbrev pub with_variable : Option ℕ → Judged → Judged
+with_variable v j = record j { variables = with_last j.variables v }
+
 -- with these arguments
 abbrev pub judged : Judged → List Argument → Judged
 judged j [] = j
@@ -43,7 +57,7 @@ abbrev pub kind_of : List Param → ℕ → Option ParamKind
 kind_of ps i = option_map (λ (p : Param). p.kind) (slice_get ps i)
 
 -- with what a call breaks, by how many arguments it has and what is said of them
-abbrev pub with_call : Around → Option plain.Head → (number : ℕ) → Judged → (is_right_side : Bool) → Pos → Seen → Seen
+abbrev pub with_call : Around → Option plain.Head → (number : ℕ) → Judged → (is_right_side : Bool) → Pos → Findings → Findings
 with_call around meant number j r p s =
     with_broken (in_transaction around.holders && j.has_channel) 506 p
     (with_first j.again
@@ -51,3 +65,8 @@ with_call around meant number j r p s =
     (with_first j.misfit
     (with_broken (not (has_number_of meant number)) 405 p
     (with_broken (not (is_some meant)) 404 p s)))))
+
+-- what is said of these arguments, by what was found before them
+abbrev pub judged_arguments : Named → List Param → List Arg → Findings → Judged
+judged_arguments named params args f =
+    judged judged_nothing (calls.arguments (named_of named) f.names params (map argument_of args))

@@ -1,7 +1,8 @@
 pub mod Around
-pub mod Seen
+pub mod Findings
+pub mod After
+pub mod Given
 pub mod Judged
 pub mod Communications
 pub mod Places
 pub mod Mains
-pub mod Errors

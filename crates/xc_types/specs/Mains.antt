@@ -1,9 +1,11 @@
 -- The statements of main's block.
-use Rattle.std.specs.Prelude.{Bool, true, false, List, map, if◌then◌else◌}
+use Rattle.std.specs.Prelude.{Bool, true, false, not, ◌&&◌, List, map, if◌then◌else◌}
 use Rattle.xc_tree.specs.Plain as plain
-use Rattle.xc_tree.specs.Shapes.Main.{has_placed, is_placed, are_channels}
+use Rattle.xc_tree.specs.Shapes.Around.{is_main}
+use Rattle.xc_tree.specs.Shapes.Main.{has_placed, is_placed, are_channels, is_channels_par_return, place_branches, statements_in}
+use Rattle.xc_tree.specs.declared.tree.FuncItem.{FuncItem}
 use Rattle.xc_tree.specs.declared.tree.Stmt.{Stmt}
-use Rattle.xc_tree.specs.Trees.{statement_of}
+use Rattle.xc_tree.specs.Trees.{head_of, statement_of}
 use Rattle.xc_types.specs.declared.main_function.Part.{Part}
 use Rattle.xc_types.specs.declared.main_function.Part.TheVariants.{Channels, Par, Return, Other}
 
@@ -29,3 +31,8 @@ places _ = false
 abbrev pub is_return_part : Part → Bool
 is_return_part Return = true
 is_return_part _ = false
+
+-- it is `main`, and its block has a placed branch and another form
+abbrev pub breaks_form_of_main : FuncItem → Bool
+breaks_form_of_main f =
+    is_main (head_of f) && (place_branches (statements_in (statement_of f.body)) && not (is_channels_par_return (statements_in (statement_of f.body))))

@@ -1,11 +1,9 @@
 // Which parameters an argument fits.
 ghost use Rattle.std.specs.Option.{option_copied};
-ghost use Rattle.std.specs.Prelude.{◌≡◌, if◌then◌else◌, slice_get};
+ghost use Rattle.std.specs.Prelude.{◌≡◌};
 ghost use Rattle.xc_tree.specs.Names.Marks as marks;
-ghost use Rattle.xc_tree.specs.Trees.{expression_of};
 ghost use Rattle.xc_tree.specs.Types.Calls as call;
-ghost use Rattle.xc_tree.specs.Types.Entities.{is_variable as is_a_variable};
-ghost use Rattle.xc_tree.specs.Types.Named.{named_of, what_at};
+ghost use Rattle.xc_types.specs.Given.{argument, given, variable_at};
 
 use crate::entities::{
     declaration_of, is_array_of, is_channel, is_channel_of, is_port_of, is_variable, is_word_of,
@@ -16,7 +14,7 @@ use xw_words::Pos;
 
 /// Whether an argument, before which the text has k names, fits its parameter, where it has one.
 pub fn fits(named: &Named, k: usize, parameter: Option<&ParamKind>, e: &Expr) -> bool
-    ensures { result ≡ call.fits (option_copied parameter.entry) (call.given_by (named_of named.now) k (expression_of e.now)) }
+    ensures { result ≡ call.fits (option_copied parameter.entry) (given named.now k e.now) }
 {
     match parameter {
         None => true,
@@ -42,7 +40,7 @@ fn number_of(length: &Option<(u32, Pos)>) -> Option<u32>
 
 #[tactic(auto, using(crate::proofs::Steps::steps))]
 fn fits_reference(named: &Named, k: usize, is_unsigned: bool, e: &Expr) -> bool
-    ensures { result ≡ call.fits_reference is_unsigned (call.given_by (named_of named.now) k (expression_of e.now)) }
+    ensures { result ≡ call.fits_reference is_unsigned (given named.now k e.now) }
 {
     match &e.kind {
         Ex::Name(_) => is_word_of(is_unsigned, what_of(named, k)),
@@ -57,7 +55,7 @@ fn fits_reference(named: &Named, k: usize, is_unsigned: bool, e: &Expr) -> bool
 
 #[tactic(auto, using(crate::proofs::Steps::steps))]
 fn fits_array(named: &Named, k: usize, is_unsigned: bool, length: Option<u32>, e: &Expr) -> bool
-    ensures { result ≡ call.fits_array is_unsigned length (call.given_by (named_of named.now) k (expression_of e.now)) }
+    ensures { result ≡ call.fits_array is_unsigned length (given named.now k e.now) }
 {
     match &e.kind {
         Ex::Name(_) => {
@@ -75,7 +73,7 @@ fn fits_array(named: &Named, k: usize, is_unsigned: bool, length: Option<u32>, e
 
 #[tactic(auto, using(crate::proofs::Steps::steps))]
 fn fits_end(named: &Named, k: usize, is_streaming: bool, e: &Expr) -> bool
-    ensures { result ≡ call.fits_end is_streaming (call.given_by (named_of named.now) k (expression_of e.now)) }
+    ensures { result ≡ call.fits_end is_streaming (given named.now k e.now) }
 {
     match &e.kind {
         Ex::Name(_) => is_channel_of(is_streaming, what_of(named, k)),
@@ -90,7 +88,7 @@ fn fits_end(named: &Named, k: usize, is_streaming: bool, e: &Expr) -> bool
 
 #[tactic(auto, using(crate::proofs::Steps::steps))]
 fn fits_port(named: &Named, k: usize, dir: TreeDir, e: &Expr) -> bool
-    ensures { result ≡ call.fits_port dir (call.given_by (named_of named.now) k (expression_of e.now)) }
+    ensures { result ≡ call.fits_port dir (given named.now k e.now) }
 {
     match &e.kind {
         Ex::Name(_) => is_port_of(dir, what_of(named, k)),
@@ -106,7 +104,7 @@ fn fits_port(named: &Named, k: usize, dir: TreeDir, e: &Expr) -> bool
 /// Whether an argument, before which the text has k names, is a channel.
 #[tactic(auto, using(crate::proofs::Steps::steps))]
 pub fn is_channel_given(named: &Named, k: usize, e: &Expr) -> bool
-    ensures { result ≡ call.is_channel_given (call.given_by (named_of named.now) k (expression_of e.now)) }
+    ensures { result ≡ call.is_channel_given (given named.now k e.now) }
 {
     match &e.kind {
         Ex::Name(_) => is_channel(what_of(named, k)),
@@ -122,7 +120,8 @@ pub fn is_channel_given(named: &Named, k: usize, e: &Expr) -> bool
 /// The variable that a call may change through an argument: for an `&` or array parameter the one that is given by itself or
 /// by an element.
 pub fn referred(named: &Named, k: usize, parameter: Option<&ParamKind>, e: &Expr) -> Option<u32>
-    ensures { result ≡ call.referred (record { first = e.now.pos; parameter = option_copied parameter.entry; given = call.given_by (named_of named.now) k (expression_of e.now) }) }
+    ensures { result
+        ≡ call.referred (argument named.now k (option_copied parameter.entry) e.now.pos e.now) }
 {
     match parameter {
         Some(ParamKind::Ref(_) | ParamKind::Array(_, _)) => variable_of(named, k, e),
@@ -132,7 +131,7 @@ pub fn referred(named: &Named, k: usize, parameter: Option<&ParamKind>, e: &Expr
 
 #[tactic(auto, using(crate::proofs::Steps::steps))]
 fn variable_of(named: &Named, k: usize, e: &Expr) -> Option<u32>
-    ensures { result ≡ call.variable_of (call.given_by (named_of named.now) k (expression_of e.now)) }
+    ensures { result ≡ call.variable_of (given named.now k e.now) }
 {
     match &e.kind {
         Ex::Name(_) => declared_variable(named, k),
@@ -147,7 +146,7 @@ fn variable_of(named: &Named, k: usize, e: &Expr) -> Option<u32>
 
 /// The declaration of the name before which k others stand, if it is a variable.
 fn declared_variable(named: &Named, k: usize) -> Option<u32>
-    ensures { result ≡ (if is_a_variable (what_at (named_of named.now) (slice_get named.now.uses k)) then slice_get named.now.uses k else None) }
+    ensures { result ≡ variable_at named.now k }
 {
     if is_variable(what_of(named, k)) {
         declaration_of(named, k)

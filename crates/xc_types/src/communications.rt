@@ -1,122 +1,131 @@
 ghost use Rattle.std.specs.Option.{option_copied};
-ghost use Rattle.std.specs.Prelude.{◌≡◌, option_map, OnOk};
-ghost use Rattle.xc_tree.specs.Names.Marks as marks;
-ghost use Rattle.xc_tree.specs.Trees as tree;
+ghost use Rattle.std.specs.Prelude.{◌≡◌, OnOk};
 ghost use Rattle.xc_tree.specs.Types.Named.{named_of};
-ghost use Rattle.xc_tree.specs.Types.Sites as sites;
-ghost use Rattle.xc_types.specs.Communications.{can_ask, past_input, with_condition, with_stamp, with_target_and_stamp, with_time};
-ghost use Rattle.xc_types.specs.Seen.{saw};
+ghost use Rattle.xc_types.specs.Communications.{after_condition, after_stamp, after_target_and_stamp, after_time, can_ask, past_input};
+ghost use Rattle.xc_types.specs.After as after;
 
 use crate::entities::{
     declaration_of, gives_input, is_channel, is_port, is_timer, takes_output, what_of,
 };
+use crate::findings::Findings;
 use crate::lvals::{lval, part};
-use crate::seen::Seen;
 use xc_tree::words::TIMERAFTER_WORD;
 use xc_tree::{Dest, Head, Named, Send, Timed, What, When};
 use xw_words::{Memory, Pos};
 
 /// Checks an output.
 #[tactic(auto, using(crate::proofs::Talks::talks))]
-pub fn output(seen: &mut Seen, named: &Named, send: &Send) -> Result<(), Memory>
-    ensures { OnOk result (seen.new ≡ saw seen.old (marks.of_output (tree.output_of send.now)) (sites.of_output (named_of named.now) seen.old.names (tree.output_of send.now))) }
+pub fn output(found: &mut Findings, named: &Named, send: &Send) -> Result<(), Memory>
+    ensures { OnOk result (found.new ≡ after.output named.now send.now found.old) }
 {
-    let what = what_of(named, seen.names);
-    seen.breaks_where(!takes_output(what), 410, send.pos);
-    seen.names_channel(is_channel(what), declaration_of(named, seen.names))?;
-    seen.pass()?;
-    time(seen, named, is_port(what), &send.time)?;
-    part(seen, named, &send.value)?;
-    stamp(seen, named, is_port(what), &send.stamp)
+    let what = what_of(named, found.names);
+    found.breaks_where(!takes_output(what), 410, send.pos);
+    found.names_channel(is_channel(what), declaration_of(named, found.names))?;
+    found.pass()?;
+    time(found, named, is_port(what), &send.time)?;
+    part(found, named, &send.value)?;
+    stamp(found, named, is_port(what), &send.stamp)
 }
 
 /// Checks an input.
-pub fn input(seen: &mut Seen, named: &Named, head: &Head) -> Result<(), Memory>
-    ensures { OnOk result (seen.new ≡ saw seen.old (marks.of_input (tree.input_of head.now)) (sites.of_input (named_of named.now) seen.old.names (tree.input_of head.now))) }
+pub fn input(found: &mut Findings, named: &Named, head: &Head) -> Result<(), Memory>
+    ensures { OnOk result (found.new ≡ after.input named.now head.now found.old) }
 {
-    let what = what_of(named, seen.names);
+    let what = what_of(named, found.names);
     let is_port = is_port(what);
-    input_name(seen, named, head.pos)?;
-    time(seen, named, is_port, &head.time)?;
-    condition(seen, named, what, &head.cond)?;
-    target_and_stamp(seen, named, is_port, head)
+    input_name(found, named, head.pos)?;
+    time(found, named, is_port, &head.time)?;
+    condition(found, named, what, &head.cond)?;
+    target_and_stamp(found, named, is_port, head)
 }
 
 /// Checks an input, if there is one.
 #[tactic(auto, using(crate::proofs::Steps::steps))]
-pub fn input_if_any(seen: &mut Seen, named: &Named, head: &Option<Head>) -> Result<(), Memory>
-    ensures { OnOk result (seen.new ≡ saw seen.old (marks.optional marks.of_input (option_map tree.input_of head.now)) (sites.optional (sites.of_input (named_of named.now) seen.old.names) (option_map tree.input_of head.now))) }
+pub fn input_if_any(found: &mut Findings, named: &Named, head: &Option<Head>) -> Result<(), Memory>
+    ensures { OnOk result (found.new ≡ after.input_if_any named.now head.now found.old) }
 {
     match head {
         None => Ok(()),
-        Some(head) => input(seen, named, head),
+        Some(head) => input(found, named, head),
     }
 }
 
 /// Checks the name of an input, which stands at this place.
 #[tactic(auto, using(crate::proofs::Talks::same_names))]
-fn input_name(seen: &mut Seen, named: &Named, pos: Pos) -> Result<(), Memory>
-    ensures { OnOk result (seen.new ≡ past_input (named_of named.now) pos seen.old) }
+fn input_name(found: &mut Findings, named: &Named, pos: Pos) -> Result<(), Memory>
+    ensures { OnOk result (found.new ≡ past_input (named_of named.now) pos found.old) }
 {
-    let what = what_of(named, seen.names);
-    seen.breaks_where(!gives_input(what), 411, pos);
-    seen.names_channel(is_channel(what), declaration_of(named, seen.names))?;
-    seen.pass()
+    let what = what_of(named, found.names);
+    found.breaks_where(!gives_input(what), 411, pos);
+    found.names_channel(is_channel(what), declaration_of(named, found.names))?;
+    found.pass()
 }
 
 /// Checks where an input goes, and the stamp behind that.
 fn target_and_stamp(
-    seen: &mut Seen,
+    found: &mut Findings,
     named: &Named,
     is_port: bool,
     head: &Head,
 ) -> Result<(), Memory>
-    ensures { OnOk result (seen.new ≡ with_target_and_stamp (named_of named.now) is_port (tree.input_of head.now) seen.old) }
+    ensures { OnOk result
+        (found.new ≡ after_target_and_stamp named.now is_port head.now found.old) }
 {
-    target(seen, named, &head.dest)?;
-    stamp(seen, named, is_port, &head.stamp)
+    target(found, named, &head.dest)?;
+    stamp(found, named, is_port, &head.stamp)
 }
 
 /// Checks a time, in a communication with a port or something else.
-fn time(seen: &mut Seen, named: &Named, is_port: bool, time: &Option<Timed>) -> Result<(), Memory>
-    ensures { OnOk result (seen.new ≡ with_time (named_of named.now) is_port (option_map tree.timing_of time.now) seen.old) }
+fn time(
+    found: &mut Findings,
+    named: &Named,
+    is_port: bool,
+    time: &Option<Timed>,
+) -> Result<(), Memory>
+    ensures { OnOk result (found.new ≡ after_time named.now is_port time.now found.old) }
 {
     match time {
         None => Ok(()),
         Some(time) => {
-            seen.breaks_where(!is_port, 413, time.at);
-            part(seen, named, &time.value)
+            found.breaks_where(!is_port, 413, time.at);
+            part(found, named, &time.value)
         }
     }
 }
 
 /// Checks a stamp, which is an `lval`.
-fn stamp(seen: &mut Seen, named: &Named, is_port: bool, stamp: &Option<Timed>) -> Result<(), Memory>
-    ensures { OnOk result (seen.new ≡ with_stamp (named_of named.now) is_port (option_map tree.timing_of stamp.now) seen.old) }
+fn stamp(
+    found: &mut Findings,
+    named: &Named,
+    is_port: bool,
+    stamp: &Option<Timed>,
+) -> Result<(), Memory>
+    ensures { OnOk result (found.new ≡ after_stamp named.now is_port stamp.now found.old) }
 {
     match stamp {
         None => Ok(()),
         Some(stamp) => {
-            seen.breaks_where(!is_port, 413, stamp.at);
-            lval(seen, named, &stamp.value)
+            found.breaks_where(!is_port, 413, stamp.at);
+            lval(found, named, &stamp.value)
         }
     }
 }
 
 /// Checks a condition on what is read.
 fn condition(
-    seen: &mut Seen,
+    found: &mut Findings,
     named: &Named,
     what: Option<&What>,
     condition: &Option<When>,
 ) -> Result<(), Memory>
-    ensures { OnOk result (seen.new ≡ with_condition (named_of named.now) (option_copied what.entry) (option_map tree.condition_of condition.now) seen.old) }
+    ensures { OnOk result
+        (found.new ≡ after_condition named.now (option_copied what.entry) condition.now found.old) }
 {
     match condition {
         None => Ok(()),
         Some(condition) => {
-            seen.breaks_where(!can_be_asked(what, condition.test), 414, condition.at);
-            part(seen, named, &condition.value)
+            found.breaks_where(!can_be_asked(what, condition.test), 414, condition.at);
+            part(found, named, &condition.value)
         }
     }
 }
@@ -134,12 +143,12 @@ fn can_be_asked(what: Option<&What>, test: u8) -> bool
 
 /// Checks where an input goes. A name that is declared there is a word.
 #[tactic(auto, using(crate::proofs::Steps::steps))]
-fn target(seen: &mut Seen, named: &Named, dest: &Dest) -> Result<(), Memory>
-    ensures { OnOk result (seen.new ≡ saw seen.old (marks.of_target (tree.target_of dest.now)) (sites.of_target (named_of named.now) seen.old.names (tree.target_of dest.now))) }
+fn target(found: &mut Findings, named: &Named, dest: &Dest) -> Result<(), Memory>
+    ensures { OnOk result (found.new ≡ after.target named.now dest.now found.old) }
 {
     match dest {
-        Dest::To(e) => lval(seen, named, e),
+        Dest::To(e) => lval(found, named, e),
         Dest::Drop => Ok(()),
-        Dest::Fresh(_, _, _) => seen.pass(),
+        Dest::Fresh(_, _, _) => found.pass(),
     }
 }

@@ -1,11 +1,8 @@
 ghost use Rattle.std.specs.Option.{option_copied};
 ghost use Rattle.std.specs.Prelude.{◌≡◌, OnOk};
-ghost use Rattle.xc_tree.specs.Trees.{expression_of};
-ghost use Rattle.xc_tree.specs.Types.Calls.{given_by};
-ghost use Rattle.xc_tree.specs.Types.Named.{named_of};
 ghost use Rattle.xc_tree.specs.Types.Rules.{is_one_of as one_of};
-ghost use Rattle.xc_types.specs.Judged.{judged_nothing, judged_with, with_last};
-ghost use Rattle.xc_types.specs.Seen.{first_with as first_of_with};
+ghost use Rattle.xc_types.specs.Judged.{judged_nothing, with_argument, with_variable};
+ghost use Rattle.xc_types.specs.Findings.{first_with as first_of_with};
 
 use crate::arguments::{fits, is_channel_given, referred};
 use std::alloc::Global;
@@ -46,7 +43,8 @@ impl Judged {
         parameter: Option<&ParamKind>,
         arg: &Arg,
     ) -> Result<(), Memory>
-        ensures { OnOk result (self.new ≡ judged_with self.old (record { first = arg.now.first; parameter = option_copied parameter.entry; given = given_by (named_of named.now) k (expression_of arg.now.value) })) }
+        ensures { OnOk result (self.new
+            ≡ with_argument named.now k (option_copied parameter.entry) arg.now self.old) }
     {
         let variable = referred(named, k, parameter, &arg.value);
         self.misfit = first_with(
@@ -67,7 +65,7 @@ impl Judged {
 
     /// Keeps a variable, if it is one.
     fn add(&mut self, variable: Option<u32>) -> Result<(), Memory>
-        ensures { OnOk result (self.new ≡ record self.old { variables = with_last self.old.variables variable }) }
+        ensures { OnOk result (self.new ≡ with_variable variable self.old) }
     {
         match variable {
             None => Ok(()),

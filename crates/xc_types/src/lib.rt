@@ -10,12 +10,12 @@ mod communications;
 mod declarations;
 mod entities;
 mod expressions;
+mod findings;
 mod judged;
 mod lvals;
 mod main_function;
 mod places;
 mod program;
-mod seen;
 mod shapes;
 mod statements;
 

@@ -1,62 +1,58 @@
-ghost use Rattle.std.specs.Prelude.{◌≡◌, option_map, OnOk};
-ghost use Rattle.xc_tree.specs.Names.Marks as marks;
-ghost use Rattle.xc_tree.specs.Trees.{expression_of};
-ghost use Rattle.xc_tree.specs.Types.Named.{named_of};
-ghost use Rattle.xc_tree.specs.Types.Sites as sites;
-ghost use Rattle.xc_types.specs.Seen.{saw};
+ghost use Rattle.std.specs.Prelude.{◌≡◌, OnOk};
+ghost use Rattle.xc_types.specs.After as after;
 
 use crate::entities::{is_index, is_word, what_of, word_is_unsigned};
 use crate::expressions::expression;
-use crate::seen::Seen;
+use crate::findings::Findings;
 use xc_tree::{Ex, Expr, Named};
 use xw_words::Memory;
 
 /// Checks an expression where an `lval` is needed: rules 403 and 412 speak of a name alone.
 #[tactic(auto, using(crate::proofs::Steps::steps))]
-pub fn lval(seen: &mut Seen, named: &Named, e: &Expr) -> Result<(), Memory>
-    ensures { OnOk result (seen.new ≡ saw seen.old (marks.of_expression (expression_of e.now)) (sites.of_lval (named_of named.now) seen.old.names (expression_of e.now))) }
+pub fn lval(found: &mut Findings, named: &Named, e: &Expr) -> Result<(), Memory>
+    ensures { OnOk result (found.new ≡ after.lval named.now e.now found.old) }
 {
     match &e.kind {
         Ex::Name(_) => {
-            let what = what_of(named, seen.names);
-            seen.breaks_where(!is_word(what), 403, e.pos);
-            seen.breaks_where(is_index(what), 412, e.pos);
-            seen.add_type(word_is_unsigned(what))?;
-            seen.pass()
+            let what = what_of(named, found.names);
+            found.breaks_where(!is_word(what), 403, e.pos);
+            found.breaks_where(is_index(what), 412, e.pos);
+            found.add_type(word_is_unsigned(what))?;
+            found.pass()
         }
-        _ => part(seen, named, e),
+        _ => part(found, named, e),
     }
 }
 
 /// Checks an argument whose parameter is neither by value nor `&`: a name alone needs be no word.
 #[tactic(auto, using(crate::proofs::Steps::steps))]
-pub fn whole(seen: &mut Seen, named: &Named, e: &Expr) -> Result<(), Memory>
-    ensures { OnOk result (seen.new ≡ saw seen.old (marks.of_expression (expression_of e.now)) (sites.of_whole (named_of named.now) seen.old.names (expression_of e.now))) }
+pub fn whole(found: &mut Findings, named: &Named, e: &Expr) -> Result<(), Memory>
+    ensures { OnOk result (found.new ≡ after.whole named.now e.now found.old) }
 {
     match &e.kind {
         Ex::Name(_) => {
-            seen.add_type(word_is_unsigned(what_of(named, seen.names)))?;
-            seen.pass()
+            found.add_type(word_is_unsigned(what_of(named, found.names)))?;
+            found.pass()
         }
-        _ => part(seen, named, e),
+        _ => part(found, named, e),
     }
 }
 
 /// Checks an expression whose type nothing asks for.
-pub fn part(seen: &mut Seen, named: &Named, e: &Expr) -> Result<(), Memory>
-    ensures { OnOk result (seen.new ≡ saw seen.old (marks.of_expression (expression_of e.now)) (sites.of_expression (named_of named.now) seen.old.names (expression_of e.now))) }
+pub fn part(found: &mut Findings, named: &Named, e: &Expr) -> Result<(), Memory>
+    ensures { OnOk result (found.new ≡ after.part named.now e.now found.old) }
 {
-    expression(seen, named, e)?;
+    expression(found, named, e)?;
     Ok(())
 }
 
 /// Checks an expression, if there is one.
 #[tactic(auto, using(crate::proofs::Steps::steps))]
-pub fn part_if_any(seen: &mut Seen, named: &Named, e: &Option<Expr>) -> Result<(), Memory>
-    ensures { OnOk result (seen.new ≡ saw seen.old (marks.optional marks.of_expression (option_map expression_of e.now)) (sites.optional (sites.of_expression (named_of named.now) seen.old.names) (option_map expression_of e.now))) }
+pub fn part_if_any(found: &mut Findings, named: &Named, e: &Option<Expr>) -> Result<(), Memory>
+    ensures { OnOk result (found.new ≡ after.part_if_any named.now e.now found.old) }
 {
     match e {
         None => Ok(()),
-        Some(e) => part(seen, named, e),
+        Some(e) => part(found, named, e),
     }
 }

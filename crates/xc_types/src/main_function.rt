@@ -1,10 +1,9 @@
 // The form of main's block where it has a placed branch: rule 504.
-ghost use Rattle.std.specs.Prelude.{◌≡◌, ◌&&◌, not, map};
+ghost use Rattle.std.specs.Prelude.{◌≡◌, map};
 ghost use Rattle.xc_tree.specs.Plain as plain;
-ghost use Rattle.xc_tree.specs.Shapes.Around.{is_main as is_main_head};
 ghost use Rattle.xc_tree.specs.Shapes.Main as main;
 ghost use Rattle.xc_tree.specs.Trees as tree;
-ghost use Rattle.xc_types.specs.Mains.{is_return_part, part_of, places, statements_of};
+ghost use Rattle.xc_types.specs.Mains.{breaks_form_of_main, is_return_part, part_of, places, statements_of};
 
 use crate::around::is_main;
 use crate::shapes::both;
@@ -13,7 +12,7 @@ use xc_tree::{Branch, DeclKind, Declared, FuncItem, St, Stmt};
 
 /// Whether a function is `main`, has a placed branch, and its block hasn't the form for that.
 pub fn breaks_form(function: &FuncItem) -> bool
-    ensures { result ≡ (is_main_head (tree.head_of function.now) && (main.place_branches (main.statements_in (tree.statement_of function.now.body)) && not (main.is_channels_par_return (main.statements_in (tree.statement_of function.now.body))))) }
+    ensures { result ≡ breaks_form_of_main function.now }
 {
     let ss = statements_in(&function.body);
     is_main(function) && place_branches(ss) && !is_channels_par_return(ss)

@@ -1,68 +1,66 @@
 // Where branches and ports are placed.
-ghost use Rattle.std.specs.Prelude.{◌≡◌, ◌-◌, ◌&&◌, option_map, OnOk};
-ghost use Rattle.xc_tree.specs.Names.Marks as marks;
+ghost use Rattle.std.specs.Prelude.{◌≡◌, ◌-◌, OnOk};
 ghost use Rattle.xc_tree.specs.Shapes.Places.{is_made_of_these as made_of_these, operators, signs};
 ghost use Rattle.xc_tree.specs.Trees as tree;
 ghost use Rattle.xc_tree.specs.Types.Named.{named_of};
-ghost use Rattle.xc_tree.specs.Types.Sites as sites;
 ghost use Rattle.xc_tree.specs.Types.Words.{is_among};
-ghost use Rattle.xc_types.specs.Around.{around_of};
-ghost use Rattle.xc_types.specs.Places.{all_indices};
-ghost use Rattle.xc_types.specs.Seen.{saw};
+ghost use Rattle.xc_types.specs.Places.{all_indices, has_form_of_place};
+ghost use Rattle.xc_types.specs.After as after;
 
 use crate::around::{Around, directly_in_main};
 use crate::entities::{is_index, what_of};
+use crate::findings::Findings;
 use crate::lvals::part;
-use crate::seen::Seen;
 use xc_tree::symbols::{MINUS, PLUS, STAR};
 use xc_tree::{At, Ex, Expr, Named};
 use xw_words::Memory;
 
 /// Checks a place, if there is one: rule 508.
 #[tactic(auto, using(crate::proofs::Placings::placings))]
-pub fn place_if_any(seen: &mut Seen, named: &Named, place: &Option<At>) -> Result<(), Memory>
-    ensures { OnOk result (seen.new ≡ saw seen.old (marks.optional marks.of_place (option_map tree.place_of place.now)) (sites.optional (sites.of_place (named_of named.now) seen.old.names) (option_map tree.place_of place.now))) }
+pub fn place_if_any(found: &mut Findings, named: &Named, place: &Option<At>) -> Result<(), Memory>
+    ensures { OnOk result (found.new ≡ after.place_if_any named.now place.now found.old) }
 {
     match place {
         None => Ok(()),
-        Some(place) => place_at(seen, named, place),
+        Some(place) => place_at(found, named, place),
     }
 }
 
 /// Checks the place of a branch, if it has one, by what stands around its `par`: rules 503 and 508.
 #[tactic(auto, using(crate::proofs::Placings::placings))]
 pub fn branch_place(
-    seen: &mut Seen,
+    found: &mut Findings,
     named: &Named,
     around: &Around,
     place: &Option<At>,
 ) -> Result<(), Memory>
-    ensures { OnOk result (seen.new ≡ saw seen.old (marks.optional marks.of_place (option_map tree.place_of place.now)) (sites.optional (sites.of_branch_place (named_of named.now) (around_of around.now) seen.old.names) (option_map tree.place_of place.now))) }
+    ensures { OnOk result
+        (found.new ≡ after.branch_place named.now around.now place.now found.old) }
 {
     match place {
         None => Ok(()),
         Some(place) => {
-            seen.breaks_where(!directly_in_main(around), 503, place.on);
-            place_at(seen, named, place)
+            found.breaks_where(!directly_in_main(around), 503, place.on);
+            place_at(found, named, place)
         }
     }
 }
 
 /// Checks a place: rule 508.
 #[tactic(auto, using(crate::proofs::Placings::placings))]
-fn place_at(seen: &mut Seen, named: &Named, place: &At) -> Result<(), Memory>
-    ensures { OnOk result (seen.new ≡ saw seen.old (marks.of_place (tree.place_of place.now)) (sites.of_place (named_of named.now) seen.old.names (tree.place_of place.now))) }
+fn place_at(found: &mut Findings, named: &Named, place: &At) -> Result<(), Memory>
+    ensures { OnOk result (found.new ≡ after.place_at named.now place.now found.old) }
 {
-    let first = seen.names;
-    part(seen, named, &place.value)?;
-    let is_well_formed = has_form(named, &place.value, first, seen.names);
-    seen.breaks_where(!is_well_formed, 508, place.first);
+    let first = found.names;
+    part(found, named, &place.value)?;
+    let is_well_formed = has_form(named, &place.value, first, found.names);
+    found.breaks_where(!is_well_formed, 508, place.first);
     Ok(())
 }
 
 /// Whether an expression, whose names are those from the first up to the last, has the form of a place's.
 fn has_form(named: &Named, e: &Expr, first: usize, last: usize) -> bool
-    ensures { result ≡ (made_of_these (tree.expression_of e.now) && all_indices (named_of named.now) first (last - first)) }
+    ensures { result ≡ has_form_of_place named.now e.now first last }
 {
     is_made_of_these(e) && are_indices(named, first, last)
 }

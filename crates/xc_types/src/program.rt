@@ -1,87 +1,83 @@
 ghost use Rattle.std.specs.Prelude.{◌≡◌, [], OnOk};
-ghost use Rattle.xc_tree.specs.Names.Marks as marks;
-ghost use Rattle.xc_tree.specs.Plain as plain;
-ghost use Rattle.xc_tree.specs.Trees as tree;
-ghost use Rattle.xc_tree.specs.Types.Named.{named_of};
 ghost use Rattle.xc_tree.specs.Types.Sites as sites;
-ghost use Rattle.xc_types.specs.Around.{around_of};
-ghost use Rattle.xc_types.specs.Seen.{saw};
+ghost use Rattle.xc_types.specs.Findings.{saw};
+ghost use Rattle.xc_types.specs.After as after;
 
 use crate::around::Around;
 use crate::declarations::array_length;
+use crate::findings::Findings;
 use crate::main_function::breaks_form;
 use crate::places::place_if_any;
-use crate::seen::Seen;
 use crate::statements::{statement, statements};
 use xc_tree::{FuncItem, Item, Named, Param, ParamKind, PortItem, St, Stmt};
 use xw_words::Memory;
 
 /// Checks a program.
 #[tactic(auto, using(crate::proofs::Programs::items))]
-pub fn program(seen: &mut Seen, named: &Named) -> Result<(), Memory>
-    ensures { OnOk result (seen.new ≡ saw seen.old (marks.of_items 0 (tree.program_of named.now.tree)) (sites.of_items (named_of named.now) 0 seen.old.names (tree.program_of named.now.tree))) }
+pub fn program(found: &mut Findings, named: &Named) -> Result<(), Memory>
+    ensures { OnOk result (found.new ≡ after.program named.now found.old) }
 {
     for item in named.tree.items.as_slice() {
-        check_item(seen, named, item)?;
+        check_item(found, named, item)?;
     }
     Ok(())
 }
 
 /// Checks an item of a program.
-fn check_item(seen: &mut Seen, named: &Named, item: &Item) -> Result<(), Memory>
-    ensures { OnOk result (seen.new ≡ saw seen.old (marks.of_item 0 (tree.item_of item.now)) (sites.of_item (named_of named.now) seen.old.names (tree.item_of item.now))) }
+fn check_item(found: &mut Findings, named: &Named, item: &Item) -> Result<(), Memory>
+    ensures { OnOk result (found.new ≡ after.item named.now item.now found.old) }
 {
     match item {
-        Item::Port(port) => check_port(seen, named, port),
-        Item::Func(function) => check_function(seen, named, function),
+        Item::Port(port) => check_port(found, named, port),
+        Item::Func(function) => check_function(found, named, function),
     }
 }
 
 #[tactic(auto, using(crate::proofs::Programs::programs))]
-fn check_port(seen: &mut Seen, named: &Named, port: &PortItem) -> Result<(), Memory>
-    ensures { OnOk result (seen.new ≡ saw seen.old (marks.of_item 0 (plain.port (tree.port_of port.now))) (sites.of_item (named_of named.now) seen.old.names (plain.port (tree.port_of port.now)))) }
+fn check_port(found: &mut Findings, named: &Named, port: &PortItem) -> Result<(), Memory>
+    ensures { OnOk result (found.new ≡ after.port named.now port.now found.old) }
 {
-    place_if_any(seen, named, &port.place)?;
-    seen.pass()
+    place_if_any(found, named, &port.place)?;
+    found.pass()
 }
 
 #[tactic(auto, using(crate::proofs::Programs::programs))]
-fn check_function(seen: &mut Seen, named: &Named, function: &FuncItem) -> Result<(), Memory>
-    ensures { OnOk result (seen.new ≡ saw seen.old (marks.of_item 0 (plain.function (tree.head_of function.now) (tree.statement_of function.now.body))) (sites.of_item (named_of named.now) seen.old.names (plain.function (tree.head_of function.now) (tree.statement_of function.now.body)))) }
+fn check_function(found: &mut Findings, named: &Named, function: &FuncItem) -> Result<(), Memory>
+    ensures { OnOk result (found.new ≡ after.function named.now function.now found.old) }
 {
-    seen.breaks_where(breaks_form(function), 504, function.name.pos);
-    seen.pass()?;
-    parameters(seen, function.params.as_slice())?;
-    body(seen, named, &function.body, &Around::Block(function))
+    found.breaks_where(breaks_form(function), 504, function.name.pos);
+    found.pass()?;
+    parameters(found, function.params.as_slice())?;
+    body(found, named, &function.body, &Around::Block(function))
 }
 
 /// Checks the parameters of a function.
 #[tactic(auto, using(crate::proofs::Loops::loops))]
-fn parameters(seen: &mut Seen, params: &[Param]) -> Result<(), Memory>
-    ensures { OnOk result (seen.new ≡ saw seen.old (marks.each marks.of_param params.now) (sites.each sites.of_parameter params.now)) }
+fn parameters(found: &mut Findings, params: &[Param]) -> Result<(), Memory>
+    ensures { OnOk result (found.new ≡ after.parameters params.now found.old) }
 {
     for p in params {
-        parameter(seen, p)?;
+        parameter(found, p)?;
     }
     Ok(())
 }
 
 #[tactic(auto, using(crate::proofs::Programs::programs))]
-fn parameter(seen: &mut Seen, p: &Param) -> Result<(), Memory>
-    ensures { OnOk result (seen.new ≡ saw seen.old (marks.of_param p.now) (sites.of_parameter p.now)) }
+fn parameter(found: &mut Findings, p: &Param) -> Result<(), Memory>
+    ensures { OnOk result (found.new ≡ after.parameter p.now found.old) }
 {
-    seen.pass()?;
-    parameter_length(seen, &p.kind);
+    found.pass()?;
+    parameter_length(found, &p.kind);
     Ok(())
 }
 
 /// Checks the length of an array parameter, if it has one.
 #[tactic(auto, using(crate::proofs::Programs::programs))]
-fn parameter_length(seen: &mut Seen, kind: &ParamKind)
-    ensures { seen.new ≡ saw seen.old [] (sites.of_parameter_kind kind.now) }
+fn parameter_length(found: &mut Findings, kind: &ParamKind)
+    ensures { found.new ≡ saw found.old [] (sites.of_parameter_kind kind.now) }
 {
     match kind {
-        ParamKind::Array(_, Some((length, pos))) => array_length(seen, *length, *pos),
+        ParamKind::Array(_, Some((length, pos))) => array_length(found, *length, *pos),
         ParamKind::Array(_, None) => {}
         ParamKind::Value(_) | ParamKind::Ref(_) | ParamKind::End(_) | ParamKind::Port(_) => {}
     }
@@ -89,11 +85,11 @@ fn parameter_length(seen: &mut Seen, kind: &ParamKind)
 
 /// Checks what stands in a function's block, which shares the scope of its parameters.
 #[tactic(auto, using(crate::proofs::Programs::programs))]
-fn body(seen: &mut Seen, named: &Named, s: &Stmt, around: &Around) -> Result<(), Memory>
-    ensures { OnOk result (seen.new ≡ saw seen.old (marks.of_body (tree.statement_of s.now)) (sites.of_body (named_of named.now) (around_of around.now) seen.old.names (tree.statement_of s.now))) }
+fn body(found: &mut Findings, named: &Named, s: &Stmt, around: &Around) -> Result<(), Memory>
+    ensures { OnOk result (found.new ≡ after.body named.now s.now around.now found.old) }
 {
     match &s.kind {
-        St::Block(ss) => statements(seen, named, ss.as_slice(), around),
+        St::Block(ss) => statements(found, named, ss.as_slice(), around),
         St::Empty
         | St::Decl(_)
         | St::Assign(_, _, _, _)
@@ -111,6 +107,6 @@ fn body(seen: &mut Seen, named: &Named, s: &Stmt, around: &Around) -> Result<(),
         | St::Par(_)
         | St::Repl { .. }
         | St::Select(_)
-        | St::Tran(_, _) => statement(seen, named, s, around),
+        | St::Tran(_, _) => statement(found, named, s, around),
     }
 }

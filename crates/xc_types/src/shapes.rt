@@ -1,69 +1,68 @@
-ghost use Rattle.std.specs.Prelude.{◌≡◌, ◌&&◌, not, is_some, map, bytes_eq, OnOk};
+ghost use Rattle.std.specs.Prelude.{◌≡◌, ◌&&◌, map, bytes_eq, OnOk};
 ghost use Rattle.xc_tree.specs.Plain as plain;
-ghost use Rattle.xc_tree.specs.Shapes.Around.{in_par_or_transaction as par_or_transaction};
 ghost use Rattle.xc_tree.specs.Shapes.Rules.{are_all as all, are_one as one};
 ghost use Rattle.xc_tree.specs.Trees.{case_of};
-ghost use Rattle.xc_tree.specs.Types.Entities.{agree};
 ghost use Rattle.xc_types.specs.Around.{around_of};
-ghost use Rattle.xc_types.specs.Seen.{after_break, after_continue, after_replicator, after_select, not_inside, with_broken, with_defaults};
+ghost use Rattle.xc_types.specs.Findings.{after_break, after_continue, after_replicator, after_return, after_select, not_inside, with_defaults};
 
 use crate::around::{
     Around, function_around, has_next_turn, has_way_out, in_par_or_transaction, in_transaction,
 };
-use crate::seen::Seen;
+use crate::findings::Findings;
 use xc_tree::{Case, Id};
 use xw_words::{Memory, Pos};
 
 /// Checks a `return`, whose word stands at this place: rules 408 and 502.
-pub fn returns(seen: &mut Seen, around: &Around, has_value: bool, pos: Pos)
-    ensures { seen.new ≡ with_broken (par_or_transaction (around_of around.now).holders) 502 pos (with_broken (not (agree has_value (is_some (around_of around.now).function.result))) 408 pos seen.old) }
+pub fn returns(found: &mut Findings, around: &Around, has_value: bool, pos: Pos)
+    ensures { found.new ≡ after_return (around_of around.now) has_value pos found.old }
 {
     let gives_word = function_around(around).result.is_some();
-    seen.breaks_where(has_value != gives_word, 408, pos);
-    seen.breaks_where(in_par_or_transaction(around), 502, pos);
+    found.breaks_where(has_value != gives_word, 408, pos);
+    found.breaks_where(in_par_or_transaction(around), 502, pos);
 }
 
 /// Checks a `break`, whose word stands at this place: rule 501.
-pub fn breaks(seen: &mut Seen, around: &Around, pos: Pos)
-    ensures { seen.new ≡ after_break (around_of around.now) pos seen.old }
+pub fn breaks(found: &mut Findings, around: &Around, pos: Pos)
+    ensures { found.new ≡ after_break (around_of around.now) pos found.old }
 {
-    seen.breaks_where(!has_way_out(around), 501, pos);
+    found.breaks_where(!has_way_out(around), 501, pos);
 }
 
 /// Checks a `continue`, whose word stands at this place: rule 501.
-pub fn continues(seen: &mut Seen, around: &Around, pos: Pos)
-    ensures { seen.new ≡ after_continue (around_of around.now) pos seen.old }
+pub fn continues(found: &mut Findings, around: &Around, pos: Pos)
+    ensures { found.new ≡ after_continue (around_of around.now) pos found.old }
 {
-    seen.breaks_where(!has_next_turn(around), 501, pos);
+    found.breaks_where(!has_next_turn(around), 501, pos);
 }
 
 /// Checks that a `par`, a select or a transaction, whose word stands at this place, isn't in a transaction: rule 506.
-pub fn not_in_transaction(seen: &mut Seen, around: &Around, pos: Pos)
-    ensures { seen.new ≡ not_inside (around_of around.now) pos seen.old }
+pub fn not_in_transaction(found: &mut Findings, around: &Around, pos: Pos)
+    ensures { found.new ≡ not_inside (around_of around.now) pos found.old }
 {
-    seen.breaks_where(in_transaction(around), 506, pos);
+    found.breaks_where(in_transaction(around), 506, pos);
 }
 
 /// Checks what stands before the body of a replicated `par`, whose word stands at this place: rules 415 and 506.
 #[tactic(auto, using(crate::proofs::Shaping::replicating))]
 pub fn begin_replicated(
-    seen: &mut Seen,
+    found: &mut Findings,
     around: &Around,
     first: &Id,
     second: &Id,
     third: &Id,
     pos: Pos,
 ) -> Result<(), Memory>
-    ensures { OnOk result (seen.new ≡ after_replicator (around_of around.now) first.now second.now third.now pos seen.old) }
+    ensures { OnOk result (found.new ≡ after_replicator (around_of around.now)
+        first.now second.now third.now pos found.old) }
 {
-    not_in_transaction(seen, around, pos);
+    not_in_transaction(found, around, pos);
     let second_is_same = is_same(first, second);
     let third_differs = !is_same(first, third);
-    seen.breaks_where(!second_is_same, 415, second.pos);
-    seen.breaks_where(both(second_is_same, third_differs), 415, third.pos);
-    seen.pass()?;
-    seen.pass()?;
-    seen.pass()
+    found.breaks_where(!second_is_same, 415, second.pos);
+    found.breaks_where(both(second_is_same, third_differs), 415, third.pos);
+    found.pass()?;
+    found.pass()?;
+    found.pass()
 }
 
 /// Whether two names are spelled in one way.
@@ -81,23 +80,24 @@ pub fn both(a: bool, b: bool) -> bool
 }
 
 /// Checks what is around a select, whose word stands at this place, and its cases together: rules 506 and 507.
-pub fn begin_select(seen: &mut Seen, around: &Around, cs: &[Case], pos: Pos)
-    ensures { seen.new ≡ after_select (around_of around.now) (plain.cases (map case_of cs.now)) pos seen.old }
+pub fn begin_select(found: &mut Findings, around: &Around, cs: &[Case], pos: Pos)
+    ensures { found.new ≡ after_select (around_of around.now)
+        (plain.cases (map case_of cs.now)) pos found.old }
 {
-    not_in_transaction(seen, around, pos);
-    defaults(seen, cs);
+    not_in_transaction(found, around, pos);
+    defaults(found, cs);
 }
 
 /// Checks that a select has at most one `default`: rule 507.
 #[tactic(auto, using(crate::proofs::Defaults::one_by_one))]
-fn defaults(seen: &mut Seen, cs: &[Case])
-    ensures { seen.new ≡ with_defaults (plain.cases (map case_of cs.now)) seen.old }
+fn defaults(found: &mut Findings, cs: &[Case])
+    ensures { found.new ≡ with_defaults (plain.cases (map case_of cs.now)) found.old }
 {
     let mut has_default = false;
     for c in cs {
         match &c.head {
             None => {
-                seen.breaks_where(has_default, 507, c.pos);
+                found.breaks_where(has_default, 507, c.pos);
                 has_default = true;
             }
             Some(_) => {}

@@ -1,19 +1,13 @@
-ghost use Rattle.std.specs.Prelude.{◌≡◌, true, map, OnOk};
-ghost use Rattle.xc_tree.specs.Names.Marks as marks;
-ghost use Rattle.xc_tree.specs.Plain as plain;
-ghost use Rattle.xc_tree.specs.Trees as tree;
-ghost use Rattle.xc_tree.specs.Types.Named.{named_of};
-ghost use Rattle.xc_tree.specs.Types.Sites as sites;
-ghost use Rattle.xc_types.specs.Around.{around_of};
-ghost use Rattle.xc_types.specs.Seen.{saw};
+ghost use Rattle.std.specs.Prelude.{◌≡◌, OnOk};
+ghost use Rattle.xc_types.specs.After as after;
 
 use crate::around::{Around, Holder, in_transaction};
 use crate::calls::{right_side, right_side_if_any};
 use crate::communications::{input, input_if_any, output};
 use crate::declarations::declarations;
+use crate::findings::Findings;
 use crate::lvals::{lval, part, part_if_any};
 use crate::places::branch_place;
-use crate::seen::Seen;
 use crate::shapes::{
     begin_replicated, begin_select, breaks, continues, not_in_transaction, returns,
 };
@@ -23,63 +17,68 @@ use xw_words::{Memory, Pos};
 /// Checks a statement, with what stands around it.
 #[cycle(statement)]
 #[tactic(auto, using(crate::proofs::Shaping::statement_steps))]
-pub fn statement(seen: &mut Seen, named: &Named, s: &Stmt, around: &Around) -> Result<(), Memory>
-    ensures { OnOk result (seen.new ≡ saw seen.old (marks.of_statement (tree.statement_of s.now)) (sites.of_statement (named_of named.now) (around_of around.now) seen.old.names (tree.statement_of s.now))) }
+pub fn statement(
+    found: &mut Findings,
+    named: &Named,
+    s: &Stmt,
+    around: &Around,
+) -> Result<(), Memory>
+    ensures { OnOk result (found.new ≡ after.statement named.now s.now around.now found.old) }
 {
     match &s.kind {
         St::Empty => Ok(()),
         St::Block(ss) => {
             statements(
-                seen,
+                found,
                 named,
                 ss.as_slice(),
                 &Around::Inside(Holder::Block, &*around),
             )
         }
-        St::Decl(ds) => declarations(seen, named, around, ds.as_slice()),
+        St::Decl(ds) => declarations(found, named, around, ds.as_slice()),
         St::Assign(left, _, _, rhs) => {
-            lval(seen, named, left)?;
-            right_side(seen, named, around, rhs, true)
+            lval(found, named, left)?;
+            right_side(found, named, around, rhs, true)
         }
-        St::Step(left, _) => lval(seen, named, left),
-        St::Do(rhs) => right_side(seen, named, around, rhs, false),
-        St::Output(send) => output(seen, named, send),
-        St::Input(head) => input(seen, named, head),
+        St::Step(left, _) => lval(found, named, left),
+        St::Do(rhs) => right_side(found, named, around, rhs, false),
+        St::Output(send) => output(found, named, send),
+        St::Input(head) => input(found, named, head),
         St::If(test, then, otherwise) => {
             let inner = Around::Inside(Holder::If, &*around);
-            part(seen, named, test)?;
-            statement(seen, named, then, &inner)?;
-            statement_if_any(seen, named, otherwise, &inner)
+            part(found, named, test)?;
+            statement(found, named, then, &inner)?;
+            statement_if_any(found, named, otherwise, &inner)
         }
         St::While(test, body) => {
-            part(seen, named, test)?;
-            statement(seen, named, body, &Around::Inside(Holder::Loop, &*around))
+            part(found, named, test)?;
+            statement(found, named, body, &Around::Inside(Holder::Loop, &*around))
         }
         St::DoWhile(body, test) => {
-            statement(seen, named, body, &Around::Inside(Holder::Loop, &*around))?;
-            part(seen, named, test)
+            statement(found, named, body, &Around::Inside(Holder::Loop, &*around))?;
+            part(found, named, test)
         }
         St::For(first, test, step, body) => {
-            statement_if_any(seen, named, first, around)?;
-            part_if_any(seen, named, test)?;
-            statement_if_any(seen, named, step, around)?;
-            statement(seen, named, body, &Around::Inside(Holder::Loop, &*around))
+            statement_if_any(found, named, first, around)?;
+            part_if_any(found, named, test)?;
+            statement_if_any(found, named, step, around)?;
+            statement(found, named, body, &Around::Inside(Holder::Loop, &*around))
         }
         St::Return(rhs) => {
-            returns(seen, around, rhs.is_some(), s.pos);
-            right_side_if_any(seen, named, around, rhs)
+            returns(found, around, rhs.is_some(), s.pos);
+            right_side_if_any(found, named, around, rhs)
         }
         St::Break => {
-            breaks(seen, around, s.pos);
+            breaks(found, around, s.pos);
             Ok(())
         }
         St::Continue => {
-            continues(seen, around, s.pos);
+            continues(found, around, s.pos);
             Ok(())
         }
         St::Par(bs) => {
-            not_in_transaction(seen, around, s.pos);
-            branches(seen, named, bs.as_slice(), around)
+            not_in_transaction(found, around, s.pos);
+            branches(found, named, bs.as_slice(), around)
         }
         St::Repl {
             first,
@@ -89,30 +88,31 @@ pub fn statement(seen: &mut Seen, named: &Named, s: &Stmt, around: &Around) -> R
             to: _,
             body,
         } => {
-            begin_replicated(seen, around, first, second, third, s.pos)?;
-            branch(seen, named, body, around)
+            begin_replicated(found, around, first, second, third, s.pos)?;
+            branch(found, named, body, around)
         }
         St::Select(cs) => {
-            begin_select(seen, around, cs.as_slice(), s.pos);
-            cases(seen, named, cs.as_slice(), around)
+            begin_select(found, around, cs.as_slice(), s.pos);
+            cases(found, named, cs.as_slice(), around)
         }
-        St::Tran(_, ss) => transaction(seen, named, ss.as_slice(), around, s.pos),
+        St::Tran(_, ss) => transaction(found, named, ss.as_slice(), around, s.pos),
     }
 }
 
 #[cycle(statement)]
 #[tactic(auto, using(crate::proofs::Shaping::statement_steps))]
 fn statement_if_any(
-    seen: &mut Seen,
+    found: &mut Findings,
     named: &Named,
     s: &Option<Box<Stmt>>,
     around: &Around,
 ) -> Result<(), Memory>
-    ensures { OnOk result (seen.new ≡ saw seen.old (marks.of_maybe (tree.maybe_of s.now)) (sites.of_maybe (named_of named.now) (around_of around.now) seen.old.names (tree.maybe_of s.now))) }
+    ensures { OnOk result
+        (found.new ≡ after.statement_if_any named.now s.now around.now found.old) }
 {
     match s {
         None => Ok(()),
-        Some(s) => statement(seen, named, s, around),
+        Some(s) => statement(found, named, s, around),
     }
 }
 
@@ -120,15 +120,15 @@ fn statement_if_any(
 #[cycle(statement)]
 #[tactic(auto, using(crate::proofs::Loops::loops))]
 pub fn statements(
-    seen: &mut Seen,
+    found: &mut Findings,
     named: &Named,
     ss: &[Stmt],
     around: &Around,
 ) -> Result<(), Memory>
-    ensures { OnOk result (seen.new ≡ saw seen.old (marks.of_statements (plain.statements (map tree.statement_of ss.now))) (sites.of_statements (named_of named.now) (around_of around.now) seen.old.names (plain.statements (map tree.statement_of ss.now)))) }
+    ensures { OnOk result (found.new ≡ after.statements named.now ss.now around.now found.old) }
 {
     for s in ss {
-        statement(seen, named, s, around)?;
+        statement(found, named, s, around)?;
     }
     Ok(())
 }
@@ -137,38 +137,37 @@ pub fn statements(
 #[cycle(statement)]
 #[tactic(auto, using(crate::proofs::Shaping::statement_steps))]
 fn transaction(
-    seen: &mut Seen,
+    found: &mut Findings,
     named: &Named,
     ss: &[Stmt],
     around: &Around,
     pos: Pos,
 ) -> Result<(), Memory>
-    ensures { OnOk result (seen.new ≡ saw seen.old
-        (marks.in_scope (marks.of_statements (plain.statements (map tree.statement_of ss.now))))
-        (sites.of_action (named_of named.now) (around_of around.now) seen.old.names pos (plain.transaction true (plain.statements (map tree.statement_of ss.now))))) }
+    ensures { OnOk result
+        (found.new ≡ after.transaction named.now ss.now around.now pos found.old) }
 {
-    let begin = seen.channels.len();
-    seen.breaks_where(in_transaction(around), 506, pos);
+    let begin = found.channels.len();
+    found.breaks_where(in_transaction(around), 506, pos);
     statements(
-        seen,
+        found,
         named,
         ss,
         &Around::Inside(Holder::Transaction, &*around),
     )?;
-    let names_one = seen.names_one_channel(begin);
-    seen.breaks_where(!names_one, 505, pos);
+    let names_one = found.names_one_channel(begin);
+    found.breaks_where(!names_one, 505, pos);
     Ok(())
 }
 
 /// Checks a branch of a `par`, with what stands around that.
 #[cycle(statement)]
 #[tactic(auto, using(crate::proofs::Shaping::statement_steps))]
-fn branch(seen: &mut Seen, named: &Named, b: &Branch, around: &Around) -> Result<(), Memory>
-    ensures { OnOk result (seen.new ≡ saw seen.old (marks.of_branch (tree.branch_of b.now)) (sites.of_branch (named_of named.now) (around_of around.now) seen.old.names (tree.branch_of b.now))) }
+fn branch(found: &mut Findings, named: &Named, b: &Branch, around: &Around) -> Result<(), Memory>
+    ensures { OnOk result (found.new ≡ after.branch named.now b.now around.now found.old) }
 {
-    branch_place(seen, named, around, &b.place)?;
+    branch_place(found, named, around, &b.place)?;
     statement(
-        seen,
+        found,
         named,
         &b.body,
         &Around::Inside(Holder::Branch, &*around),
@@ -177,11 +176,16 @@ fn branch(seen: &mut Seen, named: &Named, b: &Branch, around: &Around) -> Result
 
 #[cycle(statement)]
 #[tactic(auto, using(crate::proofs::Loops::loops))]
-fn branches(seen: &mut Seen, named: &Named, bs: &[Branch], around: &Around) -> Result<(), Memory>
-    ensures { OnOk result (seen.new ≡ saw seen.old (marks.of_branches (plain.branches (map tree.branch_of bs.now))) (sites.of_branches (named_of named.now) (around_of around.now) seen.old.names (plain.branches (map tree.branch_of bs.now)))) }
+fn branches(
+    found: &mut Findings,
+    named: &Named,
+    bs: &[Branch],
+    around: &Around,
+) -> Result<(), Memory>
+    ensures { OnOk result (found.new ≡ after.branches named.now bs.now around.now found.old) }
 {
     for b in bs {
-        branch(seen, named, b, around)?;
+        branch(found, named, b, around)?;
     }
     Ok(())
 }
@@ -189,13 +193,13 @@ fn branches(seen: &mut Seen, named: &Named, bs: &[Branch], around: &Around) -> R
 /// Checks a case of a select, with what stands around that.
 #[cycle(statement)]
 #[tactic(auto, using(crate::proofs::Shaping::statement_steps))]
-fn case(seen: &mut Seen, named: &Named, c: &Case, around: &Around) -> Result<(), Memory>
-    ensures { OnOk result (seen.new ≡ saw seen.old (marks.of_case (tree.case_of c.now)) (sites.of_case (named_of named.now) (around_of around.now) seen.old.names (tree.case_of c.now))) }
+fn case(found: &mut Findings, named: &Named, c: &Case, around: &Around) -> Result<(), Memory>
+    ensures { OnOk result (found.new ≡ after.case named.now c.now around.now found.old) }
 {
-    part_if_any(seen, named, &c.guard)?;
-    input_if_any(seen, named, &c.head)?;
+    part_if_any(found, named, &c.guard)?;
+    input_if_any(found, named, &c.head)?;
     statements(
-        seen,
+        found,
         named,
         c.body.as_slice(),
         &Around::Inside(Holder::Case, &*around),
@@ -204,11 +208,11 @@ fn case(seen: &mut Seen, named: &Named, c: &Case, around: &Around) -> Result<(),
 
 #[cycle(statement)]
 #[tactic(auto, using(crate::proofs::Loops::loops))]
-fn cases(seen: &mut Seen, named: &Named, cs: &[Case], around: &Around) -> Result<(), Memory>
-    ensures { OnOk result (seen.new ≡ saw seen.old (marks.of_cases (plain.cases (map tree.case_of cs.now))) (sites.of_cases (named_of named.now) (around_of around.now) seen.old.names (plain.cases (map tree.case_of cs.now)))) }
+fn cases(found: &mut Findings, named: &Named, cs: &[Case], around: &Around) -> Result<(), Memory>
+    ensures { OnOk result (found.new ≡ after.cases named.now cs.now around.now found.old) }
 {
     for c in cs {
-        case(seen, named, c, around)?;
+        case(found, named, c, around)?;
     }
     Ok(())
 }

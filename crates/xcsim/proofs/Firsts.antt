@@ -3,22 +3,23 @@ use Rattle.std.proofs.Common.{◌≡◌, ◌⊎◌, ◌<◌, ◌≤◌, ℕ, Lis
 use Rattle.xw_words.specs.declared.pos.Broken.{Broken}
 use Rattle.xc_tree.specs.declared.token.Tok.{Tok}
 use Rattle.xc_tree.specs.Derives.{IsProgram}
-use Rattle.xc_tree.specs.Lexes.{Lexes, IsBefore, IsNotAfter, Breaks as BreaksInBytes, FirstBroken as FirstInBytes}
+use Rattle.xc_tree.specs.Lexes.{Lexes, IsBefore, IsNotAfter, Breaks as BreaksInBytes}
+use Rattle.xc_tree.specs.Least.{IsFirst}
 use Rattle.xc_tree.specs.Parses.{BreaksRule, FirstBroken as FirstInTokens, place_at}
 use Rattle.xc_tree.specs.Plain.{Item}
-use Rattle.xc_tree.specs.Names.Rules.{Breaks as BreaksInNames, FirstBroken as FirstInNames}
+use Rattle.xc_tree.specs.Names.Rules.{Breaks as BreaksInNames}
 use Rattle.xc_tree.specs.Types.Named.{NamedProgram}
-use Rattle.xc_tree.specs.Checks.{Breaks as BreaksInTypes, FirstBroken as FirstInTypes}
+use Rattle.xc_tree.specs.Checks.{Breaks as BreaksInTypes}
 use Rattle.xc_built.specs.declared.program.Program.{Program}
 use Rattle.xc_form.specs.Form.{HasForm}
 use Rattle.xc_form.specs.OfTree.{IsOfTree}
 use Rattle.xc_form.proofs.FormPrograms.{program_of_form}
 use Rattle.xc_lexer.proofs.Rows.{tokens_one, tokens_unbroken}
-use Rattle.xcsim.specs.Rules.{Breaks, of_bytes, of_form, of_names, of_tokens, of_types, First, IsAccepted, IsEarlier, IsNamed, IsTree, Phase, Form, Bytes, Tokens, Names, Types, end_of, not_built}
+use Rattle.xcsim.specs.Rules.{Breaks, of_bytes, of_form, of_names, of_tokens, of_types, First, IsAccepted, IsEarlier, IsResolved, IsTree, Phase, Form, Bytes, Tokens, Names, Types, end_of, not_built}
 use Rattle.xcsim.proofs.Meanings.{named_by_uses, named_one}
 use Rattle.xcsim.proofs.Order.{tokens_in_order}
 
-pub first_in_bytes : (text : List ℕ) (b : Broken) → FirstInBytes text b → First text b
+pub first_in_bytes : (text : List ℕ) (b : Broken) → IsFirst (BreaksInBytes text) b → First text b
 first_in_bytes text b f = record { phase = Bytes; breaks = of_bytes b f.breaks; least = least }
   where
     least : (later : Phase) (other : Broken) → Breaks text later other → IsEarlier Bytes later ⊎ ((Bytes ≡ later) × IsNotAfter b other)
@@ -84,7 +85,7 @@ module _ (text : List ℕ) (toks : List Tok) (lexes : Lexes text toks) where
       no_other_form : (others : List Item) → IsTree text others → (HasForm others → ⊥) → ⊥
       no_other_form others t not = not (subst HasForm (sym (one_tree others t)) form)
 
-      pub first_in_names : (b : Broken) → FirstInNames items b → First text b
+      pub first_in_names : (b : Broken) → IsFirst (BreaksInNames items) b → First text b
       first_in_names b f = record { phase = Names; breaks = of_names items b tree f.breaks; least = least }
         where
           least : (later : Phase) (other : Broken) → Breaks text later other → IsEarlier Names later ⊎ ((Names ≡ later) × IsNotAfter b other)
@@ -94,15 +95,15 @@ module _ (text : List ℕ) (toks : List Tok) (lexes : Lexes text toks) where
           least later other (of_names others c t breaks) = inr (refl, f.least c (subst (λ v. BreaksInNames v c) (one_tree others t) breaks))
           least later other (of_types others n c t named breaks) = inl (omega arith)
 
-      module _ (n : NamedProgram) (named : IsNamed items n) where
+      module _ (n : NamedProgram) (named : IsResolved items n) where
         no_names : (others : List Item) (c : Broken) → IsTree text others → BreaksInNames others c → ⊥
         no_names others c t breaks = named.unbroken c (subst (λ v. BreaksInNames v c) (one_tree others t) breaks)
 
-        in_types : (others : List Item) (m : NamedProgram) (c : Broken) → IsTree text others → IsNamed others m → BreaksInTypes m c → BreaksInTypes n c
+        in_types : (others : List Item) (m : NamedProgram) (c : Broken) → IsTree text others → IsResolved others m → BreaksInTypes m c → BreaksInTypes n c
         in_types others m c t other_named breaks =
-            subst (λ x. BreaksInTypes x c) (named_one items m n (subst (λ v. IsNamed v m) (one_tree others t) other_named) named) breaks
+            subst (λ x. BreaksInTypes x c) (named_one items m n (subst (λ v. IsResolved v m) (one_tree others t) other_named) named) breaks
 
-        pub first_in_types : (b : Broken) → FirstInTypes n b → First text b
+        pub first_in_types : (b : Broken) → IsFirst (BreaksInTypes n) b → First text b
         first_in_types b f = record { phase = Types; breaks = of_types items n b tree named f.breaks; least = least }
           where
             least : (later : Phase) (other : Broken) → Breaks text later other → IsEarlier Types later ⊎ ((Types ≡ later) × IsNotAfter b other)
@@ -127,5 +128,5 @@ module _ (text : List ℕ) (toks : List Tok) (lexes : Lexes text toks) where
           pub is_program : ((P : Program) → IsOfTree items P → ⊥) → ⊥
           is_program not =
               let typed_so = subst (λ x. (b : Broken) → BreaksInTypes x b → ⊥) (named_by_uses items n named) typed in
-              let made = program_of_form items form n.uses named.unbroken named.uses typed_so in
+              let made = program_of_form items form n.uses named.unbroken named.named.uses typed_so in
               not made.0 made.1

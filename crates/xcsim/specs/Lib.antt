@@ -1,7 +1,6 @@
 pub mod Command
 pub mod Lines
 pub mod Rules
-pub mod Refusals
 pub mod Due
 pub mod Runs
 pub mod Outside

@@ -8,10 +8,8 @@ use Rattle.xc_tree.specs.Lexes.{Lexes, IsNotAfter, Breaks as BreaksInBytes}
 use Rattle.xc_tree.specs.Derives.{IsProgram}
 use Rattle.xc_tree.specs.Parses.{BreaksRule, place_at}
 use Rattle.xc_tree.specs.Plain.{Item}
-use Rattle.xc_tree.specs.Names.Marks.{of_program}
 use Rattle.xc_tree.specs.Names.Rules.{Breaks as BreaksInNames}
-use Rattle.xc_tree.specs.Names.Uses.{AreUses, declarations}
-use Rattle.xc_tree.specs.Types.Named.{NamedProgram}
+use Rattle.xc_tree.specs.Types.Named.{IsNamed, NamedProgram}
 use Rattle.xc_tree.specs.Checks.{Breaks as BreaksInTypes}
 use Rattle.xc_built.specs.declared.program.Program.{Program}
 use Rattle.xc_form.specs.Form.{HasForm}
@@ -24,12 +22,10 @@ pub record IsTree (text : List ℕ) (items : List Item) : Type 0 where
   pub derives : IsProgram toks items
   pub unbroken : (rule i : ℕ) → BreaksRule toks rule i → ⊥
 
--- the items break no rule of names, and these are their declarations and what each of their names means
-pub record IsNamed (items : List Item) (n : NamedProgram) : Type 0 where
+-- the items break no rule of names, and this is their named program
+pub record IsResolved (items : List Item) (n : NamedProgram) : Type 0 where
   pub unbroken : (b : Broken) → BreaksInNames items b → ⊥
-  pub program : n.program ≡ items
-  pub decls : n.decls ≡ declarations (of_program items)
-  pub uses : AreUses (of_program items) n.uses
+  pub named : IsNamed items n
 
 -- the place just behind a text
 abbrev pub end_of : List ℕ → Pos
@@ -71,7 +67,7 @@ pub data Breaks (text : List ℕ) : Phase → Broken → Type 0 where
   of_bytes : (b : Broken) → BreaksInBytes text b → Breaks text Bytes b
   of_tokens : (toks : List Tok) (rule i : ℕ) → Lexes text toks → BreaksRule toks rule i → Breaks text Tokens (record { rule = rule; pos = place_at toks (end_of text) i })
   of_names : (items : List Item) (b : Broken) → IsTree text items → BreaksInNames items b → Breaks text Names b
-  of_types : (items : List Item) (n : NamedProgram) (b : Broken) → IsTree text items → IsNamed items n → BreaksInTypes n b → Breaks text Types b
+  of_types : (items : List Item) (n : NamedProgram) (b : Broken) → IsTree text items → IsResolved items n → BreaksInTypes n b → Breaks text Types b
 
 -- the broken rule of the earliest phase, there of the least place, and there of the least number
 pub record First (text : List ℕ) (b : Broken) : Type 0 where

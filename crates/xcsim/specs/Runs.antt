@@ -10,6 +10,7 @@ use Rattle.xs_fabric.specs.EndWord.{end_of, has_trap}
 use Rattle.xs_fabric.specs.Lockstep.{lockstep}
 use Rattle.xc_built.specs.declared.program.Program.{Program}
 use Rattle.xr_match.specs.Implements.{Implements}
+use Rattle.xr_match.specs.Meanings.{of_built}
 use Rattle.xs_instr.specs.Words.{HasWords}
 use Rattle.xcsim.specs.Rules.{IsAccepted}
 
@@ -20,7 +21,7 @@ pub record IsCompiled (text : List ℕ) (L : Image) : Type 0 where
   pub means_so : IsAccepted text program
   pub valid : Valid L
   pub words : HasWords L
-  pub implements : Implements L program
+  pub implements : Implements L (of_built program)
 
 -- pins that are never driven
 abbrev pub no_stim : Stim

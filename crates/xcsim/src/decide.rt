@@ -6,16 +6,18 @@ ghost use Rattle.xs_fabric.specs.Seen.{state_of};
 ghost use Rattle.xc_built.specs.Program.{IsWellFormed};
 ghost use Rattle.xr_match.specs.Code.{IsCodeOf};
 ghost use Rattle.xr_match.specs.Implements.{Implements};
+ghost use Rattle.xr_match.specs.Meanings.{of_built};
 ghost use Rattle.xcsim.specs.Answers.{Decided, status_of_run};
 ghost use Rattle.xcsim.specs.Decision.{outcome_of, IsPrintable};
 ghost use Rattle.xcsim.specs.Outside.{loads};
 ghost use Rattle.xcsim.specs.Runs.{IsLockstep, no_stim};
 
-use crate::front::{Refusal, read_text};
+use crate::front::read_text;
 use crate::run::{Run, run_lockstep};
 use crate::words::{Command, meaning};
 use std::alloc::Global;
 use xc_built::Program;
+use xc_tree::Refusal;
 use xr_match::compile;
 use xs_instr::{EndWord, Image, Stim};
 use xw_io::{LoadErr, Shelf};
@@ -52,7 +54,8 @@ pub struct Decision<'w> {
 
 /// Loads, compiles and runs, in this order. All memory is taken here.
 pub fn decide<'w, S: Shelf>(alloc: Global, words: &'w [String], shelf: &mut S) -> Decision<'w>
-    ensures decided { Decided (map string_bytes words.now) (loads S.files S.faults S.misses S.longs shelf.old shelf.new) (outcome_of result) }
+    ensures decided { Decided (map string_bytes words.now)
+        (loads S.files S.faults S.misses S.longs shelf.old shelf.new) (outcome_of result) }
     ensures printable { IsPrintable result.printed }
     ensures files { S.files shelf.new ≡ S.files shelf.old }
     ensures faults { S.faults shelf.old ≤ S.faults shelf.new }
@@ -94,7 +97,7 @@ pub fn decide<'w, S: Shelf>(alloc: Global, words: &'w [String], shelf: &mut S) -
 fn compile_and_run(alloc: Global, program: &Program, ticks: u32) -> Result<(Image, Run), Memory>
     requires well_formed { IsWellFormed program.now }
     requires few { length program.now.outputs < 2 ^ 28 }
-    ensures implements { IfOk result (λ r. Implements r.0 program.now) }
+    ensures implements { IfOk result (λ r. Implements r.0 (of_built program.now)) }
     ensures valid { IfOk result (λ r. Valid r.0) }
     ensures code { IfOk result (λ r. IsCodeOf program.now r.0) }
     ensures lockstep { IfOk result (λ r.

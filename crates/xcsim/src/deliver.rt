@@ -20,7 +20,8 @@ const WRITE_FAULT: u8 = 9;
 /// Writes what is due, and answers the status: the one decided, or that of a write fault.
 pub fn deliver<O: Sink, E: Sink>(decision: &Decision, out: &mut O, err: &mut E) -> u8
     requires { IsPrintable decision.now.printed }
-    ensures delivered { Delivered (outcome_of decision.now) (span O.bytes O.faults out.old out.new) (span E.bytes E.faults err.old err.new) result }
+    ensures delivered { Delivered (outcome_of decision.now) (span O.bytes O.faults out.old out.new)
+        (span E.bytes E.faults err.old err.new) result }
     ensures out_counts { O.faults out.old ≤ O.faults out.new }
     ensures err_counts { E.faults err.old ≤ E.faults err.new }
 {

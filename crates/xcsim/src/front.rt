@@ -3,16 +3,17 @@
 ghost use Rattle.std.specs.Prelude.{◌≤◌, length, IfOk, IfErr};
 ghost use Rattle.xc_form.specs.Ranges.{AreWordOutputs};
 ghost use Rattle.xc_built.specs.Program.{IsWellFormed};
-ghost use Rattle.xcsim.specs.Refusals.{IfBroken};
+ghost use Rattle.xc_tree.specs.Refusals.{IfBroken};
 ghost use Rattle.xcsim.specs.Rules.{First, IsAccepted};
 
 use std::alloc::Global;
 use xc_built::Program;
 use xc_form::{ReadErr, has_form, program_of_tree};
-use xc_lexer::{LexErr, lex};
-use xc_names::{NameErr, resolve};
-use xc_parser::{ParseErr, end_pos, parse};
-use xc_types::{TypeErr, check};
+use xc_lexer::lex;
+use xc_names::resolve;
+use xc_parser::{end_pos, parse};
+use xc_tree::Refusal;
+use xc_types::check;
 use xw_words::{Broken, Pos};
 
 /// The tree isn't of the form that is built.
@@ -20,15 +21,6 @@ const NOT_BUILT: Broken = Broken {
     rule: 299,
     pos: Pos { line: 1, col: 1 },
 };
-
-/// Why a text has no program.
-#[derive(Debug, Drop)]
-pub enum Refusal {
-    /// It breaks a rule, of all that it breaks the first.
-    Broken(Broken),
-    /// Memory could not be had.
-    Memory,
-}
 
 /// The program that a text means, or the first rule that it breaks.
 pub fn read_text(alloc: Global, text: &[u8]) -> Result<Program, Refusal>
@@ -39,29 +31,13 @@ pub fn read_text(alloc: Global, text: &[u8]) -> Result<Program, Refusal>
     ensures few { IfOk result (λ program. length program.outputs ≤ 262144) }
     ensures first { IfErr result (λ refusal. IfBroken refusal (λ broken. First text.now broken)) }
 {
-    let toks = match lex(alloc, text) {
-        Ok(toks) => toks,
-        Err(LexErr::Broken(broken)) => return Err(Refusal::Broken(broken)),
-        Err(LexErr::Memory) => return Err(Refusal::Memory),
-    };
-    let tree = match parse(alloc, &toks, end_pos(text)) {
-        Ok(tree) => tree,
-        Err(ParseErr::Broken(broken)) => return Err(Refusal::Broken(broken)),
-        Err(ParseErr::Memory) => return Err(Refusal::Memory),
-    };
+    let toks = lex(alloc, text)?;
+    let tree = parse(alloc, &toks, end_pos(text))?;
     if !has_form(&tree) {
         return Err(Refusal::Broken(NOT_BUILT));
     }
-    let named = match resolve(alloc, tree) {
-        Ok(named) => named,
-        Err(NameErr::Broken(broken)) => return Err(Refusal::Broken(broken)),
-        Err(NameErr::Memory) => return Err(Refusal::Memory),
-    };
-    let typed = match check(alloc, named) {
-        Ok(typed) => typed,
-        Err(TypeErr::Broken(broken)) => return Err(Refusal::Broken(broken)),
-        Err(TypeErr::Memory) => return Err(Refusal::Memory),
-    };
+    let named = resolve(alloc, tree)?;
+    let typed = check(alloc, named)?;
     match program_of_tree(alloc, &typed.named.tree) {
         Ok(program) => Ok(program),
         Err(ReadErr::Other) => unreachable!(),

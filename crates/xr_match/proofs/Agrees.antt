@@ -9,6 +9,7 @@ use Rattle.xs_instr.specs.Machine.{Machine}
 use Rattle.xc_built.specs.declared.program.Program.{Program}
 use Rattle.xc_built.specs.World.{World}
 use Rattle.xr_match.specs.Implements.{Agree, AllRootsEnded}
+use Rattle.xr_match.specs.Meanings.{of_built}
 use Rattle.xr_match.proofs.Counts.{all_ended, none_running}
 use Rattle.xr_match.proofs.Standing.{Standing}
 
@@ -28,7 +29,7 @@ core_at [] c lt = absurd (omega arith)
 core_at (d ∷ cores) zero lt = (d, refl)
 core_at (d ∷ cores) (suc c) lt = core_at cores c (omega arith)
 
-pub agrees : (L : Image) (P : Program) (s : Stim) (who : ℕ → ℕ → Option ℕ) (own : ℕ → ℕ → Bool) (m : Machine) (x : World) → Standing L P s who own m x → Agree m x
+pub agrees : (L : Image) (P : Program) (s : Stim) (who : ℕ → ℕ → Option ℕ) (own : ℕ → ℕ → Bool) (m : Machine) (x : World) → Standing L P s who own m x → Agree (of_built P) m x
 agrees L P s who own m x st = record {
   clocks = st.clocks;
   trace = st.trace;

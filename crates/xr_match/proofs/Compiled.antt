@@ -12,6 +12,7 @@ use Rattle.xc_built.specs.Program.{IsWellFormed}
 use Rattle.xc_built.specs.World.{Branch, Running, start}
 use Rattle.xr_match.specs.Code.{IsCodeOf, IsCoreOf}
 use Rattle.xr_match.specs.Implements.{Implements}
+use Rattle.xr_match.specs.Meanings.{of_built}
 use Rattle.xr_match.proofs.Simulates.{Simulates, implements_by}
 use Rattle.xr_match.proofs.Answers.{IsUnused}
 use Rattle.xr_match.proofs.Counts.{running_on, far_counts}
@@ -65,7 +66,7 @@ module _ (P : Program) (L : Image) (is : IsCodeOf P L) where
     begins : Standing L P s main_runs (owns_all P) (boot L) (start P)
     begins = record { clocks = refl; trace = refl; links = refl; threads = threads_stand; roots = roots_are; placed = placed_are }
 
-    pub simulates : Simulates L P s (Standing L P s main_runs (owns_all P))
+    pub simulates : Simulates L (of_built P) s (Standing L P s main_runs (owns_all P))
     simulates = record {
       agree = agrees L P s main_runs (owns_all P);
       begins = ([], start P, refl, begins);
@@ -73,6 +74,6 @@ module _ (P : Program) (L : Image) (is : IsCodeOf P L) where
     }
 
 -- the central theorem
-pub code_implements : (P : Program) (L : Image) → IsWellFormed P → IsCodeOf P L → Implements L P
+pub code_implements : (P : Program) (L : Image) → IsWellFormed P → IsCodeOf P L → Implements L (of_built P)
 code_implements P L ok is =
-    implements_by L P (λ s. Standing L P s main_runs (owns_all P)) (λ s good. simulates P L is ok s)
+    implements_by L (of_built P) (λ s. Standing L P s main_runs (owns_all P)) (λ s good. simulates P L is ok s)

@@ -3,7 +3,7 @@ use Rattle.std.proofs.Common.{◌≡◌, ℕ, zero, suc, ◌+◌, ◌<◌, ◌�
 use Rattle.std.proofs.lemmas.Bool.{ne_eqb}
 use Rattle.std.specs.Prelude.{slice_get, slice_set}
 use Rattle.xc_built.specs.World.{Life, Running, Ended, Branch}
-use Rattle.xr_match.specs.Implements.{AllBranchesEnded, HasEnded}
+use Rattle.xr_match.specs.Meanings.{AllBranchesEnded, HasEnded}
 use Rattle.xr_match.proofs.Answers.{one_where, counts}
 
 -- how many of the branches run on core c

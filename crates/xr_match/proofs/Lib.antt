@@ -1,4 +1,7 @@
 pub mod Lists
+pub mod Frame
+pub mod Through
+pub mod Counted
 pub mod Simulates
 pub mod Leads
 pub mod Names
@@ -19,3 +22,4 @@ pub mod Emitted
 pub mod Boot
 pub mod Compiled
 pub mod Validity
+pub mod Texts

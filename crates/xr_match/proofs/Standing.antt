@@ -14,7 +14,7 @@ use Rattle.xs_instr.specs.Machine.{Machine, home_of, no_links, noted}
 use Rattle.xs_instr.specs.Slot.{turn_at, turn_of}
 use Rattle.xc_built.specs.declared.program.Program.{Program}
 use Rattle.xc_built.specs.World.{World, Branch, Item, Life, Running, Ended}
-use Rattle.xr_match.specs.Implements.{IsThere}
+use Rattle.xr_match.specs.Systems.{SomeIs}
 use Rattle.xr_match.proofs.Lists.{get_set_cases}
 use Rattle.xr_match.proofs.Leads.{Kept, leads_in_stable}
 use Rattle.xr_match.proofs.Items.{AtItems, at_items_stable}
@@ -37,7 +37,7 @@ unused_idle home t a None h = refl
 unused_idle home t a (Some thread) h = ap (turn_of home a t thread) h
 
 -- what is there is also so
-pub there_then : {A : Type 0} (F G : A → Type 0) (o : Option A) → ((y : A) → F y → G y) → IsThere o F → IsThere o G
+pub there_then : {A : Type 0} (F G : A → Type 0) (o : Option A) → ((y : A) → F y → G y) → SomeIs o F → SomeIs o G
 there_then F G None f h = h
 there_then F G (Some y) f h = f y h
 
@@ -49,7 +49,7 @@ module _ (L : Image) (P : Program) (s : Stim) (who : ℕ → ℕ → Option ℕ)
   -- what thread t of core c does: it is unused, or it runs a branch
   abbrev pub Stands : ℕ → ℕ → CoreState → World → Option ℕ → Type 0
   Stands c t a x None = IsUnused (slice_get a.threads t)
-  Stands c t a x (Some b) = IsThere (slice_get x.branches b) (Runs c t b a)
+  Stands c t a x (Some b) = SomeIs (slice_get x.branches b) (Runs c t b a)
 
   -- the two sides have the same clocks and trace, nothing is on its way between cores, each thread does what it should,
   -- and as many roots as branches go on

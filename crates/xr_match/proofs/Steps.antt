@@ -11,7 +11,8 @@ use Rattle.xs_instr.specs.Machine.{Machine, home_of, noted}
 use Rattle.xc_built.specs.declared.program.Program.{Program}
 use Rattle.xc_built.specs.World.{World, Branch, Running}
 use Rattle.xc_built.specs.Steps.{Go}
-use Rattle.xr_match.specs.Implements.{IsThere}
+use Rattle.xr_match.specs.Systems.{SomeIs}
+use Rattle.xr_match.specs.Meanings.{of_built}
 use Rattle.xr_match.proofs.Lists.{get_set_same, get_set_other, get_set_cases}
 use Rattle.xr_match.proofs.Simulates.{Follows}
 use Rattle.xr_match.proofs.Leads.{Kept, Touched, LeadsIn}
@@ -27,17 +28,17 @@ module _ (L : Image) (P : Program) (s : Stim) (who : ℕ → ℕ → Option ℕ)
   others_stand a' x' touched same t' ne (Some b') e h =
       let ne_b : b' ≢ b = λ f. ne (apart.branches c t' c t b (e ∙ ap Some f) runs_b).1 in
       let kept : Kept (own b') t' a a' = record { thread = touched.others t' ne; ports = λ p o. touched.ports p (apart.ports c t t' b b' p runs_b e ne o) } in
-      subst (λ o. IsThere o (Runs L P s who own c t' b' a')) (sym (same b' ne_b)) (there_then (Runs L P s who own c t' b' a) (Runs L P s who own c t' b' a') (slice_get x.branches b') (λ branch. runs_still L P s who own c t' b' a a' branch kept) h)
+      subst (λ o. SomeIs o (Runs L P s who own c t' b' a')) (sym (same b' ne_b)) (there_then (Runs L P s who own c t' b' a) (Runs L P s who own c t' b' a') (slice_get x.branches b') (λ branch. runs_still L P s who own c t' b' a a' branch kept) h)
 
   -- and so do those of other cores
   far_stand : (x' : World) → ((b' : ℕ) → b' ≢ b → slice_get x'.branches b' ≡ slice_get x.branches b') → (c' t' : ℕ) (d : CoreState) → c' ≢ c → (w : Option ℕ) → who c' t' ≡ w → Stands L P s who own c' t' d x w → Stands L P s who own c' t' d x' w
   far_stand x' same c' t' d ne None e h = h
   far_stand x' same c' t' d ne (Some b') e h =
       let ne_b : b' ≢ b = λ f. ne (apart.branches c' t' c t b (e ∙ ap Some f) runs_b).0 in
-      subst (λ o. IsThere o (Runs L P s who own c' t' b' d)) (sym (same b' ne_b)) h
+      subst (λ o. SomeIs o (Runs L P s who own c' t' b' d)) (sym (same b' ne_b)) h
 
   -- all of the core's threads stand, where the one that stepped does
-  all_stand : (a' : CoreState) (x' : World) → Touched (own b) t a a' → ((b' : ℕ) → b' ≢ b → slice_get x'.branches b' ≡ slice_get x.branches b') → IsThere (slice_get x'.branches b) (Runs L P s who own c t b a') → (t' : ℕ) → Stands L P s who own c t' a' x' (who c t')
+  all_stand : (a' : CoreState) (x' : World) → Touched (own b) t a a' → ((b' : ℕ) → b' ≢ b → slice_get x'.branches b' ≡ slice_get x.branches b') → SomeIs (slice_get x'.branches b) (Runs L P s who own c t b a') → (t' : ℕ) → Stands L P s who own c t' a' x' (who c t')
   all_stand a' x' touched same own_stands t' =
       ⊎_elim
       (λ (e : t' ≡ t). subst (λ k. Stands L P s who own c k a' x' (who c k)) (sym e) (subst (Stands L P s who own c t a' x') (sym runs_b) own_stands))
@@ -49,10 +50,10 @@ module _ (L : Image) (P : Program) (s : Stim) (who : ℕ → ℕ → Option ℕ)
 
   module _ (branch : Branch) (known : slice_get x.branches b ≡ Some branch) (core : branch.core ≡ c) where
     -- a silent step: the program does nothing
-    pub silent_followed : (n : ℕ) (a' : CoreState) → branch.life ≡ Running → a'.roots ≡ a.roots → Touched (own b) t a a' → LeadsIn (home_of L s c) (own b) t (AtItems P (home_of L s c) (own b) t branch.items) n a' → Follows P s (Standing L P s who own) x (record m { cores = slice_set m.cores c a' })
+    pub silent_followed : (n : ℕ) (a' : CoreState) → branch.life ≡ Running → a'.roots ≡ a.roots → Touched (own b) t a a' → LeadsIn (home_of L s c) (own b) t (AtItems P (home_of L s c) (own b) t branch.items) n a' → Follows (of_built P) s (Standing L P s who own) x (record m { cores = slice_set m.cores c a' })
     silent_followed n a' runs roots touched on =
         let by = subst (StandsBy P s (home_of L s c) (own b) t a' branch.items) (sym runs) (n, on) in
-        let own_stands = subst (λ o. IsThere o (Runs L P s who own c t b a')) (sym known) (record { core = core; by = by }) in (
+        let own_stands = subst (λ o. SomeIs o (Runs L P s who own c t b a')) (sym known) (record { core = core; by = by }) in (
           [],
           x,
           refl,
@@ -68,12 +69,12 @@ module _ (L : Image) (P : Program) (s : Stim) (who : ℕ → ℕ → Option ℕ)
         )
 
     -- a step that is seen: the branch's step answers it
-    pub seen_followed : (ans : Answers P s (home_of L s c) (own b) t x b branch a) → Follows P s (Standing L P s who own) x (record { cores = slice_set m.cores c ans.left; links = m.links; trace = noted m.trace ans.made })
+    pub seen_followed : (ans : Answers P s (home_of L s c) (own b) t x b branch a) → Follows (of_built P) s (Standing L P s who own) x (record { cores = slice_set m.cores c ans.left; links = m.links; trace = noted m.trace ans.made })
     seen_followed ans =
         let bs = slice_set x.branches b ans.next in
         let x' : World = record { clocks = x.clocks; branches = bs; trace = noted x.trace ans.made } in
         let same : (b' : ℕ) → b' ≢ b → slice_get bs b' ≡ slice_get x.branches b' = λ b' ne. get_set_other x.branches b b' ans.next ne in
-        let own_stands = subst (λ o. IsThere o (Runs L P s who own c t b ans.left)) (sym (get_set_same x.branches b branch ans.next known)) ans.stands in (
+        let own_stands = subst (λ o. SomeIs o (Runs L P s who own c t b ans.left)) (sym (get_set_same x.branches b branch ans.next known)) ans.stands in (
           Go b ∷ [],
           x',
           rw ans.moved,

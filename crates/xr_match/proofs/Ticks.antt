@@ -11,6 +11,7 @@ use Rattle.xs_instr.specs.Slot.{last_clock, ticked}
 use Rattle.xc_built.specs.declared.program.Program.{Program}
 use Rattle.xc_built.specs.World.{World}
 use Rattle.xc_built.specs.Steps.{Clock, acts, ticks, ticks_by}
+use Rattle.xr_match.specs.Meanings.{of_built}
 use Rattle.xr_match.proofs.Simulates.{Follows}
 use Rattle.xr_match.proofs.Standing.{clock_of, there_then, Runs, Stands, Standing, runs_still, clock_at, stands_next}
 
@@ -21,7 +22,7 @@ module _ (L : Image) (P : Program) (s : Stim) (who : ℕ → ℕ → Option ℕ)
   ticked_stands t (Some b) h =
       there_then (Runs L P s who own c t b a) (Runs L P s who own c t b (ticked a)) (slice_get x.branches b) (λ branch. runs_still L P s who own c t b a (ticked a) branch (record { thread = refl; ports = λ p o. refl })) h
 
-  after_tick : nat_lt a.clock last_clock ≡ true → Follows P s (Standing L P s who own) x (record m { cores = slice_set m.cores c (ticked a) })
+  after_tick : nat_lt a.clock last_clock ≡ true → Follows (of_built P) s (Standing L P s who own) x (record m { cores = slice_set m.cores c (ticked a) })
   after_tick e =
       let x' : World = record x { clocks = slice_set x.clocks c (a.clock + 1) } in
       let moved : acts P s x (Clock c) ≡ Some x' = ap (λ o. and_then o (ticks x c)) (clock_at L P s who own m x c a st at_c) ∙ ap (ticks_by x c a.clock) e in (
@@ -39,10 +40,10 @@ module _ (L : Image) (P : Program) (s : Stim) (who : ℕ → ℕ → Option ℕ)
         }),
       )
 
-  tick_by_followed : (below : Bool) → nat_lt a.clock last_clock ≡ below → (m' : Machine) → tick_by m c a below ≡ Some m' → Follows P s (Standing L P s who own) x m'
-  tick_by_followed true e m' h = subst (Follows P s (Standing L P s who own) x) (same_Some _ _ h) (after_tick e)
+  tick_by_followed : (below : Bool) → nat_lt a.clock last_clock ≡ below → (m' : Machine) → tick_by m c a below ≡ Some m' → Follows (of_built P) s (Standing L P s who own) x m'
+  tick_by_followed true e m' h = subst (Follows (of_built P) s (Standing L P s who own) x) (same_Some _ _ h) (after_tick e)
   tick_by_followed false e m' h = cc
 
   -- where the tick is an event, the program follows
-  pub tick_followed : (m' : Machine) → tick_at m c (Some a) ≡ Some m' → Follows P s (Standing L P s who own) x m'
+  pub tick_followed : (m' : Machine) → tick_at m c (Some a) ≡ Some m' → Follows (of_built P) s (Standing L P s who own) x m'
   tick_followed m' h = tick_by_followed (nat_lt a.clock last_clock) refl m' h

@@ -1,50 +1,88 @@
 -- When an image implements a program.
-use Rattle.std.specs.Prelude.{◌≡◌, List, [], ◌∷◌, map, Option, Some, None, ◌↔◌}
+use Rattle.std.specs.Prelude.{◌≡◌, ◌≤◌, ◌+◌, ◌*◌, ℕ, true, false, List, [], ◌∷◌, map, Some, None, slice_get, ◌↔◌}
 use Rattle.xs_instr.specs.declared.image.Image.{Image}
+use Rattle.xs_instr.specs.declared.image.Pair.{Pair}
 use Rattle.xs_instr.specs.declared.image.Stim.{Stim}
+use Rattle.xs_instr.specs.declared.state.ChanEnd.{ChanEnd}
 use Rattle.xs_instr.specs.declared.state.CoreState.{CoreState}
-use Rattle.xs_instr.specs.Machine.{Machine, Event, does, runs, boot}
+use Rattle.xs_instr.specs.declared.state.Token.{Token}
+use Rattle.xs_instr.specs.Machine.{Machine, Step, Move, does}
 use Rattle.xs_instr.specs.Valid.{IsGoodStim}
-use Rattle.xc_built.specs.declared.program.Program.{Program}
-use Rattle.xc_built.specs.World.{World, Branch, Life, Running, Ended, start}
-use Rattle.xc_built.specs.Steps.{Action, allowed}
-
--- there is something, and it is so
-abbrev pub IsThere : {A : Type 0} → Option A → (A → Type 0) → Type 0
-IsThere None P = ⊥
-IsThere (Some x) P = P x
+use Rattle.xc_meaning.specs.States.Channels.{Side, first, second}
+use Rattle.xr_match.specs.Lives.{Watched, machine_of}
+use Rattle.xr_match.specs.Sources.{Source, Told, actions_of, told_of}
+use Rattle.xr_match.specs.Systems.{Refines}
 
 -- every root has ended
 abbrev pub AllRootsEnded : List CoreState → Type 0
 AllRootsEnded [] = Unit {0}
 AllRootsEnded (core ∷ cores) = (core.roots ≡ 0) × AllRootsEnded cores
 
--- the branch has ended
-abbrev pub HasEnded : Life → Type 0
-HasEnded Running = ⊥
-HasEnded Ended = Unit {0}
+abbrev pub clock_of : CoreState → ℕ
+clock_of core = core.clock
 
--- every branch has ended
-abbrev pub AllBranchesEnded : List Branch → Type 0
-AllBranchesEnded [] = Unit {0}
-AllBranchesEnded (b ∷ bs) = HasEnded b.life × AllBranchesEnded bs
+-- What is the same on both sides at each moment: each core's clock, the trace, and whether all has ended.
+pub record Agree (P : Source) (m : Machine) (x : P.State) : Type 0 where
+  pub clocks : map clock_of m.cores ≡ P.clocks x
+  pub trace : m.trace ≡ P.trace x
+  pub ended : AllRootsEnded m.cores ↔ P.HasEnded x
 
--- what is the same on both sides at each moment: the clocks, the trace, and whether all has ended
-pub record Agree (m : Machine) (x : World) : Type 0 where
-  pub clocks : map (λ core. core.clock) m.cores ≡ x.clocks
-  pub trace : m.trace ≡ x.trace
-  pub ended : AllRootsEnded m.cores ↔ AllBranchesEnded x.branches
+abbrev pub AgreeNow : (P : Source) → Watched → Told P → Type 0
+AgreeNow P w x = Agree P w.machine x.state
 
--- the two agree now, and again after each event of the machine with its piece of the program's run
-abbrev pub Together : Image → Program → Stim → Machine → World → List Event → List (List Action) → Type 0
-Together L P s m x [] [] = Agree m x
-Together L P s m x (e ∷ es) (piece ∷ pieces) =
-    Agree m x × IsThere (does L s m e) (λ m'. IsThere (allowed P s x piece) (λ x'. Together L P s m' x' es pieces))
-Together L P s m x [] (piece ∷ pieces) = ⊥
-Together L P s m x (e ∷ es) [] = ⊥
+-- Under every good stimulus each run of the machine, whatever the order of its events, has a run of the program beside it, which is cut
+-- into a first piece and one piece for each event.
+pub record Implements (L : Image) (P : Source) : Type 0 where
+  pub by : (s : Stim) → IsGoodStim s → Refines (machine_of L s) (told_of P s) (AgreeNow P)
 
--- under every good stimulus each run of the machine, whatever the order of its events, has a run of the program, which
--- is cut into a first piece and one piece for each event
-pub record Implements (L : Image) (P : Program) : Type 0 where
-  pub by : (s : Stim) (es : List Event) → IsGoodStim s → IsThere (runs L s (boot L) es) (λ m. Unit {0}) →
-      (first : List Action) × (pieces : List (List Action)) × IsThere (allowed P s (start P) first) (λ x. Together L P s (boot L) x es pieces)
+-- What an image promises besides, once it promises all: what has arrived, that it waits only where the program does, and that it doesn't
+-- go on and on without the program.
+
+-- a token that begins something on its channel: a data token or an OPEN, which is the control token 16
+pub data Begins : Token → Type 0 where
+  of_data : (byte : ℕ) → Begins (record { control = false; byte = byte })
+  of_open : Begins (record { control = true; byte = 16 })
+
+-- such a token stands at an end
+pub record Arrives (m : Machine) (core end : ℕ) : Type 0 where
+  pub of_core : CoreState
+  pub at_core : slice_get m.cores core ≡ Some of_core
+  pub of_end : ChanEnd
+  pub at_end : slice_get of_core.ends end ≡ Some of_end
+  pub place : ℕ
+  pub token : Token
+  pub stands : slice_get of_end.tokens place ≡ Some token
+  pub begins : Begins token
+
+-- the end of a line's first side, and of its second
+abbrev pub ArrivesAt : Machine → Pair → Side → Type 0
+ArrivesAt m pair first = Arrives m pair.core pair.end
+ArrivesAt m pair second = Arrives m pair.peer_core pair.peer_end
+
+-- Line k of a listing's channels is the k-th channel of the program that has two sides, its first end the first side.
+abbrev pub ArrivalsAgree : Image → (P : Source) → Machine → P.State → Type 0
+ArrivalsAgree L P m x =
+    (line : ℕ) (pair : Pair) (side : Side) → slice_get L.chans line ≡ Some pair → ArrivesAt m pair side → P.HasArrived x line side
+
+-- no thread's step and no move is enabled
+pub record IsQuietMachine (L : Image) (s : Stim) (m : Machine) : Type 0 where
+  pub steps : (core thread : ℕ) → does L s m (Step core thread) ≡ None
+  pub moves : (from to : ℕ) → does L s m (Move from to) ≡ None
+
+abbrev pub QuietAgree : Image → (P : Source) → Stim → Machine → P.State → Type 0
+QuietAgree L P s m x = IsQuietMachine L s m → P.IsQuiet s x
+
+-- no life has done too many steps for its family
+abbrev pub StepsAreBounded : (P : Source) → Watched → Told P → Type 0
+StepsAreBounded P w x =
+    (core thread : ℕ) → (w.lives core thread).steps ≤ P.bound * (actions_of P x (w.lives core thread).family + 1)
+
+-- all that is so at each moment
+pub record AgreeWholly (L : Image) (P : Source) (s : Stim) (w : Watched) (x : Told P) : Type 0 where
+  pub agree : AgreeNow P w x
+  pub arrivals : ArrivalsAgree L P w.machine x.state
+  pub quiet : QuietAgree L P s w.machine x.state
+  pub bounded : StepsAreBounded P w x
+
+pub record ImplementsWholly (L : Image) (P : Source) : Type 0 where
+  pub by : (s : Stim) → IsGoodStim s → Refines (machine_of L s) (told_of P s) (AgreeWholly L P s)

@@ -1,2 +1,7 @@
-pub mod Implements
 pub mod Code
+pub mod Implements
+pub mod Lives
+pub mod Meanings
+pub mod Sides
+pub mod Sources
+pub mod Systems

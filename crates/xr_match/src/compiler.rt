@@ -5,6 +5,7 @@ ghost use Rattle.xw_words.specs.Ports.{port_count};
 ghost use Rattle.xc_built.specs.World.{items_of};
 ghost use Rattle.xr_match.specs.Code.{IsCodeOf, IsCoreOf, first_place, items_code, items_places, out_port, output_code, output_places};
 ghost use Rattle.xr_match.specs.Implements.{Implements};
+ghost use Rattle.xr_match.specs.Meanings.{of_built};
 ghost use Rattle.xs_instr.specs.Valid.{Valid};
 
 use std::alloc::{AllocError, Global};
@@ -22,7 +23,7 @@ const NAME_STEP: u32 = 256;
 pub fn compile(alloc: Global, program: &Program) -> Result<Image, Memory>
     requires well_formed { IsWellFormed program.now }
     requires few { length program.now.outputs < 2 ^ 28 }
-    ensures implements { IfOk result (λ image. Implements image program.now) }
+    ensures implements { IfOk result (λ image. Implements image (of_built program.now)) }
     ensures valid { IfOk result (λ image. Valid image) }
     ensures code { IfOk result (λ image. IsCodeOf program.now image) }
 {

@@ -3,5 +3,7 @@
 #![tactic(auto)]
 
 mod compiler;
+mod law;
 
 pub use compiler::compile;
+pub use law::kernel_carries_to_text;

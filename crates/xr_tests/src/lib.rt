@@ -19,4 +19,6 @@ mod registers;
 #[cfg(test)]
 mod slots;
 #[cfg(test)]
+mod stimuli;
+#[cfg(test)]
 mod texts;

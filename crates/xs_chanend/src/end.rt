@@ -116,6 +116,44 @@ impl End {
         }
     }
 
+    /// What `take_word` would find.
+    pub fn word(&self) -> Taken
+        ensures { taken_as result ≡ take_word self.now.tokens }
+    {
+        match self.first_word() {
+            Ok(v) => Taken::Word(v),
+            Err(Stop::Control(c)) => Taken::Control(c),
+            Err(Stop::NotYet) => Taken::NotYet,
+        }
+    }
+
+    /// What `take_byte` would find.
+    pub fn byte(&self) -> Taken
+        ensures { taken_as result ≡ take_byte self.now.tokens }
+    {
+        match self.data_at(0) {
+            Ok(b) => Taken::Word(b as u32),
+            Err(Stop::Control(c)) => Taken::Control(c),
+            Err(Stop::NotYet) => Taken::NotYet,
+        }
+    }
+
+    /// What `check` would find.
+    pub fn checked(&self, c: u8) -> Checked1
+        ensures { checked_as result ≡ check self.now.tokens c }
+    {
+        match self.tokens.front() {
+            None => Checked1::NotYet,
+            Some(&t) => {
+                if t.control && t.byte == c {
+                    Checked1::Passed
+                } else {
+                    Checked1::Other(t)
+                }
+            }
+        }
+    }
+
     /// Whether a token is there.
     pub fn any(&self) -> bool
         ensures { result ≡ has_token self.now.tokens }

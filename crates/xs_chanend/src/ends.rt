@@ -1,6 +1,6 @@
 // All channel ends of a core.
 
-ghost use Rattle.std.specs.Prelude.{◌≡◌, ◌<◌, ◌≤◌, ◌↔◌, ◌+◌, true, false, length, replicate, IfOk};
+ghost use Rattle.std.specs.Prelude.{◌≡◌, ◌<◌, ◌≤◌, ◌↔◌, ◌+◌, true, false, length, nat_lt, replicate, IfOk};
 ghost use Rattle.std.specs.Bool.{OnTrue, OnFalse};
 ghost use Rattle.xs_instr.specs.declared.state.Moved.TheVariants.{Tok, Credit};
 ghost use Rattle.xs_instr.specs.Ends.{arrives, has_token, take_word, take_byte, check};
@@ -90,6 +90,37 @@ impl Ends {
     {
         let it = &mut self.all[end as usize];
         it.check(c)
+    }
+
+    /// Whether there is an end of that number.
+    pub fn has(&self, end: u32) -> bool
+        ensures { result ≡ nat_lt end (length self.now) }
+    {
+        (end as usize) < self.all.len()
+    }
+
+    /// What `take_word` would find; nothing is taken.
+    pub fn word(&self, end: u32) -> Taken
+        requires { end < length self.now }
+        ensures { taken_as result ≡ take_word (end_at self.now end).tokens }
+    {
+        self.all[end as usize].word()
+    }
+
+    /// What `take_byte` would find; nothing is taken.
+    pub fn byte(&self, end: u32) -> Taken
+        requires { end < length self.now }
+        ensures { taken_as result ≡ take_byte (end_at self.now end).tokens }
+    {
+        self.all[end as usize].byte()
+    }
+
+    /// What `check` would find; nothing is taken.
+    pub fn checked(&self, end: u32, c: u8) -> Checked1
+        requires { end < length self.now }
+        ensures { checked_as result ≡ check (end_at self.now end).tokens c }
+    {
+        self.all[end as usize].checked(c)
     }
 
     /// Whether a token is at an end.

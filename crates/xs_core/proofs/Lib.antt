@@ -1,3 +1,11 @@
-pub mod BuiltCode
-pub mod PlainCore
+pub mod Balance
+pub mod BitLemmas
+pub mod Changed
+pub mod Delivered
+pub mod EndSteps
+pub mod Lists
+pub mod Peers
 pub mod Starting
+pub mod There
+pub mod Turning
+pub mod Weights

@@ -1,41 +1,117 @@
 // A core as it starts.
 
 ghost use Rattle.std.specs.Option.{option_copied};
-ghost use Rattle.std.specs.Prelude.{◌≡◌, ◌≤◌, length, replicate, IfOk};
+ghost use Rattle.std.specs.Prelude.{◌≡◌, ◌<◌, ◌≤◌, length, replicate, IfOk};
+ghost use Rattle.xs_core.specs.Order.{IsInOrder};
+ghost use Rattle.xs_core.specs.Seen.{home_of as home_in, state_of};
 ghost use Rattle.xs_core.specs.Start.{started};
-ghost use Rattle.xs_instr.specs.Machine.{boot_core, boot_events, boot_port, boot_ports, boot_threads, boot_end, home_of, no_parts, parts_in, root_thread, unused_thread};
-ghost use Rattle.xs_instr.specs.Registers.{no_regs};
+ghost use Rattle.xs_core.specs.Wired.{ArePeers, peer_as};
+ghost use Rattle.xs_instr.specs.Ends.{peer_of};
+ghost use Rattle.xs_instr.specs.Machine.{boot_core, boot_threads, boot_timer, home_of, no_parts, parts_in, root_thread, unused_thread};
+ghost use Rattle.xs_instr.specs.Pool.{lock_free};
+ghost use Rattle.xs_instr.specs.Valid.{Valid, IsGoodStim, AreGoodPorts};
 
+use crate::regs::zeros;
+use crate::state::{Fixed, LOCKS, Peer, State, THREADS};
 use std::alloc::Global;
-use xs_instr::{
-    ChanEnd, Code, Cond, CoreImage, CoreState, Events, Home, Image, Lock, Mode, Port, PortDecl,
-    Regs, Stim, Thread, Timer, Watch,
-};
+use xs_chanend::Ends;
+use xs_event::Events;
+use xs_instr::{Code, Cond, CoreImage, Image, Lock, Mode, Pair, Stim, Thread, Timer};
+use xs_pool::Pool;
+use xs_port::Ports;
+use xs_state::Ram;
 use xw_words::{List, Memory};
 
-const THREADS: u32 = 8;
+/// The parts of core `number` as it starts.
+pub fn state_for(alloc: Global, image: &Image, number: u8, stim: &Stim) -> Result<State, Memory>
+    requires image { Valid image.now }
+    requires stim { IsGoodStim stim.now }
+    ensures home { IfOk result (λ state. home_in state ≡ home_of image.now stim.now number) }
+    ensures state { IfOk result
+        (λ state. state_of state ≡ boot_core (parts_in image.now.cores number)) }
+    ensures order { IfOk result IsInOrder }
+{
+    let fixed = fixed_for(alloc, image, number)?;
+    parts_for(alloc, fixed, number, stim)
+}
 
-const SYNCS: u32 = 7;
-
-const LOCKS: u32 = 4;
-
-const WATCHES: u32 = 32;
-
-const CREDITS: u32 = 8;
+/// The parts of a core around what no event changes of it.
+fn parts_for(alloc: Global, fixed: Fixed, number: u8, stim: &Stim) -> Result<State, Memory>
+    requires ports { AreGoodPorts fixed.parts.ports }
+    requires roots { length fixed.parts.roots ≤ 8 }
+    requires stim { IsGoodStim stim.now }
+    ensures fixed { IfOk result (λ state. state.fixed ≡ fixed) }
+    ensures core { IfOk result (λ state. state.ports.core ≡ number) }
+    ensures stim { IfOk result (λ state. state.ports.stim ≡ stim.now.lines) }
+    ensures state { IfOk result (λ state. state_of state ≡ boot_core fixed.parts) }
+{
+    let ports = Ports::new(alloc, &fixed.parts.ports, stim, number)?;
+    let words = Ram::new(alloc, fixed.parts.words)?;
+    let timers = timers(alloc, fixed.parts.timers)?;
+    let ends = Ends::new(alloc, fixed.parts.ends)?;
+    let events = Events::new(alloc)?;
+    let threads = threads(&fixed.parts.roots);
+    Ok(State {
+        roots: fixed.parts.roots.len() as u32,
+        threads,
+        words,
+        pool: Pool::new(),
+        locks: [free_lock(); LOCKS],
+        ports,
+        timers,
+        ends,
+        events,
+        fixed,
+    })
+}
 
 /// What no event changes of core `number`, copied.
-pub fn home_for(alloc: Global, image: &Image, number: u8, stim: &Stim) -> Result<Home, Memory>
-    ensures { IfOk result (λ home. home ≡ home_of image.now stim.now number) }
+fn fixed_for(alloc: Global, image: &Image, number: u8) -> Result<Fixed, Memory>
+    ensures parts { IfOk result (λ fixed. fixed.parts ≡ parts_in image.now.cores number) }
+    ensures pairs { IfOk result (λ fixed. fixed.pairs ≡ image.now.chans) }
+    ensures peers { IfOk result (λ fixed. ArePeers image.now.chans number
+        (parts_in image.now.cores number).ends fixed.peers) }
 {
     let parts = part_of(alloc, image.cores.as_slice(), number)?;
     let pairs = image.chans.copy(alloc)?;
-    let stim = stim.lines.copy(alloc)?;
-    Ok(Home {
-        number,
+    let peers = peers(alloc, image.chans.as_slice(), number, parts.ends)?;
+    Ok(Fixed {
         parts,
         pairs,
-        stim,
+        peers,
     })
+}
+
+/// The peer of each of the core's ends.
+fn peers(alloc: Global, pairs: &[Pair], core: u8, ends: u32) -> Result<List<Peer>, Memory>
+    ensures { IfOk result (ArePeers pairs.now core ends) }
+{
+    let mut peers = List::new(alloc);
+    for end in 0..ends {
+        peers.push(peer(pairs, core, end))?;
+    }
+    Ok(peers)
+}
+
+/// An end's peer by the channels; an end that no channel names is its own.
+fn peer(pairs: &[Pair], core: u8, end: u32) -> Peer
+    ensures { peer_as result ≡ peer_of pairs.now core end }
+{
+    for pair in pairs {
+        if pair.core == core && pair.end == end {
+            return Peer {
+                core: pair.peer_core,
+                end: pair.peer_end,
+            };
+        }
+        if pair.peer_core == core && pair.peer_end == end {
+            return Peer {
+                core: pair.core,
+                end: pair.end,
+            };
+        }
+    }
+    Peer { core, end }
 }
 
 fn part_of(alloc: Global, cores: &[CoreImage], number: u8) -> Result<CoreImage, Memory>
@@ -86,57 +162,15 @@ fn no_part(alloc: Global, number: u8) -> CoreImage
     }
 }
 
-/// The state that a core with this part starts in.
-pub fn state_for(alloc: Global, part: &CoreImage) -> Result<CoreState, Memory>
-    requires { length part.now.roots ≤ 8 }
-    ensures { IfOk result (λ state. state ≡ boot_core part.now) }
+/// The roots' threads, and then unused ones.
+fn threads(roots: &List<u32>) -> [Thread; THREADS]
+    ensures { result ≡ boot_threads roots.now 8 }
 {
-    let threads = threads(alloc, &part.roots)?;
-    let words = filled(alloc, 0, part.words)?;
-    let syncs = filled(alloc, false, SYNCS)?;
-    let locks = filled(
-        alloc,
-        Lock {
-            taken: false,
-            holder: None,
-        },
-        LOCKS,
-    )?;
-    let ports = ports(alloc, part.ports.as_slice())?;
-    let timers = filled(
-        alloc,
-        Timer {
-            cond: Cond::None,
-            datum: 0,
-            latch: None,
-        },
-        part.timers,
-    )?;
-    let ends = ends(alloc, part.ends)?;
-    let events = events(alloc)?;
-    Ok(CoreState {
-        clock: 0,
-        roots: part.roots.len() as u32,
-        threads,
-        words,
-        syncs,
-        locks,
-        ports,
-        timers,
-        ends,
-        events,
-    })
-}
-
-/// The roots' threads, and then unused ones, eight in all.
-fn threads(alloc: Global, roots: &List<u32>) -> Result<List<Thread>, Memory>
-    ensures { IfOk result (λ threads. threads ≡ boot_threads roots.now 8) }
-{
-    let mut threads = List::new(alloc);
+    let mut threads = [unused(); THREADS];
     for t in 0..THREADS {
-        threads.push(thread_for(roots.get(t as usize)))?;
+        threads[t] = thread_for(roots.get(t));
     }
-    Ok(threads)
+    threads
 }
 
 /// A thread at its root, or unused where there is none.
@@ -171,91 +205,24 @@ fn unused() -> Thread
     }
 }
 
-fn zeros() -> Regs
-    ensures { result ≡ no_regs }
+fn free_lock() -> Lock
+    ensures { result ≡ lock_free }
 {
-    Regs {
-        r0: 0,
-        r1: 0,
-        r2: 0,
-        r3: 0,
-        r4: 0,
-        r5: 0,
-        r6: 0,
-        r7: 0,
-        r8: 0,
-        r9: 0,
-        r10: 0,
-        r11: 0,
-        cp: 0,
-        dp: 0,
-        sp: 0,
-        lr: 0,
+    Lock {
+        taken: false,
+        holder: None,
     }
 }
 
-fn ports(alloc: Global, decls: &[PortDecl]) -> Result<List<Port>, Memory>
-    ensures { IfOk result (λ ports. ports ≡ boot_ports decls.now) }
+/// So many timers as they start.
+fn timers(alloc: Global, count: u32) -> Result<List<Timer>, Memory>
+    ensures { IfOk result (λ timers. timers ≡ replicate count boot_timer) }
 {
-    let mut ports = List::new(alloc);
-    for decl in decls {
-        ports.push(port(*decl))?;
-    }
-    Ok(ports)
-}
-
-fn port(decl: PortDecl) -> Port
-    ensures { result ≡ boot_port decl }
-{
-    Port {
-        decl,
+    let timer = Timer {
         cond: Cond::None,
         datum: 0,
-        time: None,
         latch: None,
-        stamp: 0,
-    }
-}
-
-fn ends(alloc: Global, count: u32) -> Result<List<ChanEnd>, Memory>
-    ensures { IfOk result (λ ends. ends ≡ replicate count boot_end) }
-{
-    let mut ends = List::new(alloc);
-    for _end in 0..count {
-        let tokens = List::new(alloc);
-        ends.push(ChanEnd {
-            tokens,
-            credits: CREDITS,
-        })?;
-    }
-    Ok(ends)
-}
-
-/// No vector is set, and nothing is enabled.
-fn events(alloc: Global) -> Result<Events, Memory>
-    ensures { IfOk result (λ events. events ≡ boot_events) }
-{
-    let watch = Watch {
-        vector: 0,
-        owner: None,
     };
-    let ports = filled(alloc, watch, WATCHES)?;
-    let timers = filled(alloc, watch, WATCHES)?;
-    let ends = filled(alloc, watch, WATCHES)?;
-    Ok(Events {
-        ports,
-        timers,
-        ends,
-    })
-}
-
-/// The list of `count` equal items.
-fn filled<T: Copy>(alloc: Global, item: T, count: u32) -> Result<List<T>, Memory>
-    ensures { IfOk result (λ list. list ≡ replicate count item) }
-{
-    let mut list = List::new(alloc);
-    for _item in 0..count {
-        list.push(item)?;
-    }
-    Ok(list)
+    let timers = vec![in alloc; timer; count as usize]?;
+    Ok(List::from_vec(timers))
 }

@@ -1,14 +1,21 @@
 // How many threads are so.
 
-ghost use Rattle.std.specs.Prelude.{◌≡◌, ◌≤◌, true, not, length};
-ghost use Rattle.xs_core.specs.Built.{all_built};
-ghost use Rattle.xs_core.specs.Plain.{IsPlain};
+ghost use Rattle.std.specs.Prelude.{◌≡◌, ◌≤◌, ◌<◌, not, length, slice_get};
+ghost use Rattle.xs_core.specs.Names.{meant_by};
+ghost use Rattle.xs_core.specs.Order.{IsInOrder};
+ghost use Rattle.xs_core.specs.Seen.{home_of, state_of};
+ghost use Rattle.xs_core.specs.Turns.{steps};
 ghost use Rattle.xs_instr.specs.Pool.{is_unused, is_trapped, threads_taken};
-ghost use Rattle.xs_instr.specs.Sight.{count_true, threads_trapped, ready_below, timed_below};
+ghost use Rattle.xs_instr.specs.Sight.{count_true, is_timed, is_timed_instr, is_timed_name as is_timed_of, is_timed_thread, threads_trapped, ready_below, timed_below};
+ghost use Rattle.xs_instr.specs.Slot.{is_ready};
 ghost use Rattle.xw_words.specs.Words.{truth};
 
-use crate::turn;
-use xs_instr::{CoreState, Home, Mode, Thread};
+use crate::names::{Resource, look_up};
+use crate::regs::read;
+use crate::slots::{decide, takes_events};
+use crate::state::State;
+use crate::turn::Turn;
+use xs_instr::{Instr, Mode, Thread};
 
 /// How many threads a core has.
 const THREADS: u8 = 8;
@@ -38,29 +45,97 @@ pub fn trapped(threads: &[Thread]) -> u32
 }
 
 /// How many threads would take a step.
-pub fn ready(home: &Home, state: &CoreState) -> u32
-    requires built { all_built home.now.parts.code.instrs ≡ true }
-    requires plain { IsPlain state.now.threads state.now.ends }
-    ensures { result ≡ count_true (ready_below home.now state.now 8) }
+pub fn ready(state: &State) -> u32
+    requires { IsInOrder state.now }
+    ensures { result ≡ count_true (ready_below (home_of state.now) (state_of state.now) 8) }
 {
     let mut count = 0;
     for t in 0..THREADS {
-        count += one_if(turn::can_step(home, state, t));
+        count += one_if(can_step(state, t));
     }
     count
 }
 
 /// How many threads wait on a port or a timer.
-pub fn timed(home: &Home, state: &CoreState) -> u32
-    requires built { all_built home.now.parts.code.instrs ≡ true }
-    requires plain { IsPlain state.now.threads state.now.ends }
-    ensures { result ≡ count_true (timed_below home.now state.now 8) }
+pub fn timed(state: &State) -> u32
+    requires { IsInOrder state.now }
+    ensures { result ≡ count_true (timed_below (home_of state.now) (state_of state.now) 8) }
 {
     let mut count = 0;
     for t in 0..THREADS {
-        count += one_if(turn::waits_for_time(home, state, t));
+        count += one_if(waits_for_time(state, t));
     }
     count
+}
+
+/// Whether the turn of thread `t` is a step.
+pub fn can_step(state: &State, t: u8) -> bool
+    requires there { t < 8 }
+    requires order { IsInOrder state.now }
+    ensures { result ≡ is_ready (home_of state.now) (state_of state.now) t }
+{
+    is_step(decide(state, t))
+}
+
+fn is_step(turn: Turn) -> bool
+    ensures { result ≡ steps turn }
+{
+    match turn {
+        Turn::Idle | Turn::Paused => false,
+        _ => true,
+    }
+}
+
+/// Whether thread `t` waits on a port or a timer.
+fn waits_for_time(state: &State, t: u8) -> bool
+    requires there { t < 8 }
+    requires order { IsInOrder state.now }
+    ensures { result ≡ is_timed (home_of state.now) (state_of state.now) t }
+{
+    is_at_timed(state, t) && !can_step(state, t)
+}
+
+/// Whether thread `t` runs, and stands at an input or output of a port or a timer, or takes events of one.
+fn is_at_timed(state: &State, t: u8) -> bool
+    requires there { t < 8 }
+    ensures { result ≡ is_timed_thread (home_of state.now) (state_of state.now) t
+        (slice_get state.now.threads t) }
+{
+    let thread = &state.threads[t as usize];
+    let instr = state
+        .fixed
+        .parts
+        .code
+        .instrs
+        .get(thread.pc as usize)
+        .copied();
+    match thread.mode {
+        Mode::Running => {
+            is_at_port_or_timer(state, thread, instr)
+                || takes_events(thread, instr) && state.events.has_timed(t)
+        }
+        Mode::Unused | Mode::Waiting | Mode::Trapped => false,
+    }
+}
+
+/// Whether the instruction is an input from, or an output to, what its register names as a port or a timer.
+fn is_at_port_or_timer(state: &State, thread: &Thread, instr: Option<Instr>) -> bool
+    ensures { result ≡ is_timed_instr (home_of state.now) thread.now instr }
+{
+    match instr {
+        Some(Instr::In(_, r)) => is_timed_name(look_up(state.ports.core(), read(&thread.regs, r))),
+        Some(Instr::Out(r, _)) => is_timed_name(look_up(state.ports.core(), read(&thread.regs, r))),
+        _ => false,
+    }
+}
+
+fn is_timed_name(name: Resource) -> bool
+    ensures { result ≡ is_timed_of (meant_by name) }
+{
+    match name {
+        Resource::Port(_) | Resource::Timer(_) => true,
+        _ => false,
+    }
 }
 
 fn is_used(mode: Mode) -> bool

@@ -1,4 +1,4 @@
-// What comes of a turn, and of a row.
+// What came of a turn.
 
 use xs_instr::{Record, Trap};
 use xw_words::Pos;
@@ -14,12 +14,4 @@ pub enum Did {
     Trapped(Trap, Pos),
     /// The thread is unused, or was halted before.
     Idle,
-}
-
-/// What came of one instruction. After a pause or a trap the state is as it was.
-#[derive(Clone, Copy)]
-pub enum Outcome {
-    Made(Option<Record>),
-    Paused,
-    Trapped(Trap),
 }

@@ -5,14 +5,19 @@
 mod boot;
 mod counts;
 mod did;
-mod lock_rows;
+mod end_rows;
+mod event_rows;
+mod moves;
 mod names;
 mod one_core;
 mod own_rows;
+mod pool_rows;
 mod port_rows;
+mod ready;
 mod regs;
 mod rows;
-mod thread_rows;
+mod slots;
+mod state;
 mod threads;
 mod turn;
 

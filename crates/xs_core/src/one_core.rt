@@ -1,52 +1,99 @@
-// One core: its part of the image, and its state.
+// One core.
 
-ghost use Rattle.std.specs.Prelude.{◌≡◌, ◌^◌, ◌<◌, true, length, IfOk};
-ghost use Rattle.xs_core.specs.Built.{IsBuilt, all_built};
-ghost use Rattle.xs_core.specs.Plain.{IsPlain};
-ghost use Rattle.xs_core.specs.Turn.{IsTurn};
-ghost use Rattle.xs_instr.specs.Machine.{home_of, boot_core, parts_in};
+ghost use Rattle.std.specs.Prelude.{◌≡◌, ◌+◌, ◌≤◌, ◌<◌, [], ◌∷◌, length, IfOk, MatchOption, OnErr, OnOk};
+ghost use Rattle.xs_core.specs.Slots.{IsTurn};
+ghost use Rattle.xs_instr.specs.Machine.{came, home_of, boot_core, parts_in};
 ghost use Rattle.xs_instr.specs.Sight.{sight};
 ghost use Rattle.xs_instr.specs.Slot.{slot, is_ready, last_clock, ticked};
 ghost use Rattle.xs_instr.specs.Valid.{Valid, IsGoodStim};
 
 use crate::did::Did;
-use crate::{boot, counts, turn};
+use crate::moves::arrive;
+use crate::state::{State, THREADS};
+use crate::{boot, counts, slots};
+use circular_buffer::HeapCircularBuffer;
 use std::alloc::Global;
-use xs_instr::{CoreState, Home, Image, Sight, Stim};
+use std::marker::Model;
+use xs_instr::{Image, Moved, Sent, Sight, Stim, Thread};
 use xw_words::Memory;
 
-/// A core, with built instructions alone and no channel ends. No event changes its home.
+/// For how many tokens and credits there is room in the outbox after `reserve_window`.
+const WINDOW: usize = 256;
+
+/// A core, which contracts see as what no event changes of it, its state, what it has sent to other cores and is not
+/// taken yet, and for how much more of this there is room.
 #[derive(Drop)]
 pub struct Core {
-    pub home: Home,
-    pub state: CoreState,
-    ghost few: { length home.parts.code.instrs < 2 ^ 32 },
-    ghost built: { all_built home.parts.code.instrs ≡ true },
-    ghost plain: { IsPlain state.threads state.ends },
+    state: State,
+    outbox: HeapCircularBuffer<Sent>,
+}
+
+impl Model for Core {
+    ghost use Rattle.xs_core.specs.Core.{Seen};
+
+    ghost Value = { Seen };
+
+    ghost use Rattle.xs_core.specs.Inside.{seen_of, IsCore};
+
+    ghost view = { seen_of };
+
+    ghost invariant = { IsCore };
 }
 
 impl Core {
+    ghost use Rattle.xs_core.specs.Deliver.{HasRoomFrom};
+
     /// Core `number` of the image as it starts, with its own copies of its part, the channels and the stimulus. A core
-    /// that the image doesn't hold has no code and no ports, and its threads are unused. `Err` is given where an
-    /// allocation failed.
+    /// that the image doesn't hold has no code, no ports and no ends, and its threads are unused. Its outbox has no room
+    /// yet. `Err` is given where an allocation failed.
     pub fn new(alloc: Global, image: &Image, number: u8, stim: &Stim) -> Result<Core, Memory>
         requires number { number < 4 }
         requires image { Valid image.now }
         requires stim { IsGoodStim stim.now }
-        requires built { IsBuilt image.now }
         ensures home { IfOk result (λ core. core.home ≡ home_of image.now stim.now number) }
-        ensures state { IfOk result (λ core. core.state ≡ boot_core (parts_in image.now.cores number)) }
+        ensures state { IfOk result
+            (λ core. core.state ≡ boot_core (parts_in image.now.cores number)) }
+        ensures outbox { IfOk result (λ core. core.outbox ≡ []) }
+        ensures spare { IfOk result (λ core. core.spare ≡ 0) }
     {
-        let home = boot::home_for(alloc, image, number, stim)?;
-        let state = boot::state_for(alloc, &home.parts)?;
-        Ok(Core { home, state })
+        let state = boot::state_for(alloc, image, number, stim)?;
+        let outbox = HeapCircularBuffer::with_capacity(alloc, 0)?;
+        Ok(Core { state, outbox })
+    }
+
+    /// Makes room in the outbox for all that goes out in a window. `Err` is given where an allocation failed, and then
+    /// nothing changes.
+    pub fn reserve_window(&mut self) -> Result<(), Memory>
+        ensures room { OnOk result (256 ≤ self.new.spare) }
+        ensures refused { OnErr result (self.new ≡ self.old) }
+        ensures rest { self.new ≡ record self.old { spare = self.new.spare } }
+    {
+        if self.outbox.capacity() - self.outbox.len() < WINDOW {
+            self.outbox.resize(self.outbox.len() + WINDOW)?;
+        }
+        Ok(())
+    }
+
+    /// The core's number.
+    pub fn number(&self) -> u8
+        ensures { result ≡ self.now.home.number }
+    {
+        self.state.ports.core()
+    }
+
+    /// How many threads the core has: eight.
+    pub fn thread_count(&self) -> u8
+        ensures eight { result ≡ 8 }
+        ensures count { result ≡ length self.now.state.threads }
+    {
+        count_of(&self.state.threads)
     }
 
     /// The clock, in ticks from the start.
     pub fn clock(&self) -> u32
         ensures { result ≡ self.now.state.clock }
     {
-        self.state.clock
+        self.state.ports.clock()
     }
 
     /// Whether the thread's turn would be a step, which may be one that traps.
@@ -54,26 +101,52 @@ impl Core {
         requires { thread < 8 }
         ensures { result ≡ is_ready self.now.home self.now.state thread }
     {
-        turn::can_step(&self.home, &self.state, thread)
+        counts::can_step(&self.state, thread)
     }
 
-    /// The thread takes its turn: a step with its record, a wait that changes nothing, or a trap, which halts the thread. One
-    /// that is unused or halted does nothing.
+    /// The thread takes its turn: a step with its record, a wait that changes nothing, or a trap, which halts the thread.
+    /// One that is unused or halted does nothing. What goes to other cores, at most four tokens or credits, stands last
+    /// in the outbox.
     pub fn slot(&mut self, thread: u8) -> Did
-        requires { thread < 8 }
-        ensures turn { IsTurn (slot self.old.home self.old.state thread) self.old.home self.old.state thread result self.new.state }
+        requires thread { thread < 8 }
+        requires spare { 4 ≤ self.old.spare }
+        ensures turn { IsTurn (slot self.old.home self.old.state thread) self.old.home
+            self.old.state thread result self.new.state self.old.outbox self.new.outbox }
         ensures home { self.new.home ≡ self.old.home }
+        ensures few { length self.new.outbox ≤ length self.old.outbox + 4 }
+        ensures spare { self.new.spare + length self.new.outbox
+            ≡ self.old.spare + length self.old.outbox }
     {
-        turn::take(&self.home, &mut self.state, thread)
+        slots::take(&mut self.state, &mut self.outbox, thread)
     }
 
     /// The clock goes up by one tick.
     pub fn tick(&mut self)
         requires { self.old.state.clock < last_clock }
-        ensures state { self.new.state ≡ ticked self.old.state }
-        ensures home { self.new.home ≡ self.old.home }
+        ensures { self.new ≡ record self.old { state = ticked self.old.state } }
     {
-        self.state.clock += 1;
+        let clock = self.state.ports.clock() + 1;
+        self.state.ports.tick(clock);
+    }
+
+    /// A token or a credit of another core comes to its end, which has room for it.
+    pub fn deliver(&mut self, moved: Moved)
+        requires { HasRoomFrom self.old.home self.old.state.ends moved }
+        ensures { self.new ≡ record self.old { state = came self.old.state moved } }
+    {
+        arrive(&mut self.state.ends, moved);
+    }
+
+    /// Takes what stands first in the outbox, and makes room for one more. `None` exactly where nothing does.
+    pub fn take_sent(&mut self) -> Option<Sent>
+        ensures sent { MatchOption result ((self.old.outbox ≡ []) × (self.new.outbox ≡ []))
+            (λ sent. self.old.outbox ≡ sent ∷ self.new.outbox) }
+        ensures state { self.new.state ≡ self.old.state }
+        ensures home { self.new.home ≡ self.old.home }
+        ensures spare { self.new.spare + length self.new.outbox
+            ≡ self.old.spare + length self.old.outbox }
+    {
+        self.outbox.pop_front()
     }
 
     /// How many roots have not ended, and how many threads are in use, halted, ready, and waiting on a port or timer.
@@ -82,10 +155,17 @@ impl Core {
     {
         Sight {
             roots: self.state.roots,
-            used: counts::used(self.state.threads.as_slice()),
-            trapped: counts::trapped(self.state.threads.as_slice()),
-            ready: counts::ready(&self.home, &self.state),
-            timed: counts::timed(&self.home, &self.state),
+            used: counts::used(&self.state.threads),
+            trapped: counts::trapped(&self.state.threads),
+            ready: counts::ready(&self.state),
+            timed: counts::timed(&self.state),
         }
     }
+}
+
+fn count_of(threads: &[Thread; THREADS]) -> u8
+    ensures eight { result ≡ 8 }
+    ensures count { result ≡ length threads.now }
+{
+    threads.len() as u8
 }

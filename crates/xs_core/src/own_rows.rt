@@ -1,28 +1,244 @@
-// The rows of registers.
+// The rows of registers, memory and flow.
 
-ghost use Rattle.std.specs.Prelude.{◌≡◌};
-ghost use Rattle.xs_core.specs.Plain.{IsPlain, MayGo};
-ghost use Rattle.xs_core.specs.Turn.{IsRow};
-ghost use Rattle.xs_instr.specs.declared.instr.Instr.TheVariants.{Ldc};
-ghost use Rattle.xs_instr.specs.Rows.{row};
+ghost use Rattle.std.specs.Prelude.{◌≡◌, ◌+◌, ◌*◌, ◌%◌, ◌<◌, ◌^◌, true, slice_set, IfOk};
+ghost use Rattle.xs_core.specs.Own.{OwnFits, is_own, is_value, own_after, own_did, own_in, with_own};
+ghost use Rattle.xs_core.specs.Seen.{thread_at};
+ghost use Rattle.xs_instr.specs.Did.{makes};
+ghost use Rattle.xs_instr.specs.Memory.{address_at};
+ghost use Rattle.xs_instr.specs.Rows.{Own, own_row, sets_where, passes_by, jumps_by, loads_at, stores_at, enters, returns};
+ghost use Rattle.xw_words.specs.Words.{truth, word_difference};
 
-use crate::did::Outcome;
-use crate::{regs, threads};
-use xs_instr::{CoreState, Home, Instr, Reg, Thread};
+use crate::regs::{read, write};
+use crate::state::THREADS;
+use xs_instr::{Instr, Reg, Regs, Thread, Trap};
+use xs_state::Ram;
+use xw_words::{ashr, div_s, div_u, less_s, rem_s, rem_u, shl, shr};
 
-/// LDC: the register is set to the number.
-pub fn load_constant(
-    _home: &Home,
-    state: &mut CoreState,
-    t: u8,
-    thread: Thread,
-    d: Reg,
-    n: u32,
-) -> Outcome
-    requires { MayGo state.old.threads state.old.ends t thread }
-    ensures row { IsRow (row _home.now state.old t thread (Instr.Ldc d n)) state.old result state.new }
-    ensures plain { IsPlain state.new.threads state.new.ends }
+/// What a thread does to its registers and the core's words.
+#[derive(Clone, Copy)]
+pub enum OwnStep {
+    /// On to the next instruction.
+    Pass,
+    /// A register is set.
+    Set(Reg, u32),
+    /// To an index.
+    Jump(u32),
+    /// To an index, and lr leads to the next instruction.
+    Call(u32),
+    /// The word at an address is set.
+    Store(u32, u32),
+    /// lr is kept at sp, which goes down by so many words.
+    Enter(u32),
+    /// sp and lr are set, and the way goes on at lr.
+    Return(u32, u32),
+}
+
+/// What an instruction of registers, memory and flow does, or why it traps.
+pub fn step(thread: &Thread, words: &Ram, instr: Instr) -> Result<OwnStep, Trap>
+    requires { is_own instr ≡ true }
+    ensures row { own_did (own_in thread.now words.now) result
+        ≡ own_row (own_in thread.now words.now) instr }
+    ensures fits { IfOk result (λ s. OwnFits (own_in thread.now words.now) s) }
 {
-    threads::go_on(state, t, thread, regs::write(thread.regs, d, n));
-    Outcome::Made(None)
+    let regs = &thread.regs;
+    match instr {
+        Instr::Divs(d, a, b) => set_where(d, div_s(read(regs, a), read(regs, b))),
+        Instr::Rems(d, a, b) => set_where(d, rem_s(read(regs, a), read(regs, b))),
+        Instr::Divu(d, a, b) => set_where(d, div_u(read(regs, a), read(regs, b))),
+        Instr::Remu(d, a, b) => set_where(d, rem_u(read(regs, a), read(regs, b))),
+        Instr::Ecallf(a) => pass_where(read(regs, a) != 0),
+        Instr::Ecallt(a) => pass_where(read(regs, a) == 0),
+        Instr::Ldwdp(d, n) => load(words, d, address(regs.dp, n)),
+        Instr::Stwdp(s, n) => store(words, read(regs, s), address(regs.dp, n)),
+        Instr::Ldwsp(d, n) => load(words, d, address(regs.sp, n)),
+        Instr::Stwsp(s, n) => store(words, read(regs, s), address(regs.sp, n)),
+        Instr::Ldw(d, b, i) => load(words, d, address(read(regs, b), read(regs, i))),
+        Instr::Stw(s, b, i) => store(words, read(regs, s), address(read(regs, b), read(regs, i))),
+        Instr::Brft(a, k) | Instr::Brbt(a, k) => Ok(jump_where(k, read(regs, a) != 0)),
+        Instr::Brff(a, k) | Instr::Brbf(a, k) => Ok(jump_where(k, read(regs, a) == 0)),
+        Instr::Brfu(k) | Instr::Brbu(k) => Ok(OwnStep::Jump(k)),
+        Instr::Blrf(k) | Instr::Blrb(k) => Ok(OwnStep::Call(k)),
+        Instr::Entsp(n) => enter(regs, words, n),
+        Instr::Retsp(n) => go_back(regs, words, n),
+        _ => Ok(value(regs, instr)),
+    }
+}
+
+/// What an instruction does that sets a register to a value.
+fn value(regs: &Regs, instr: Instr) -> OwnStep
+    requires { is_value instr ≡ true }
+    ensures row { (own : Own) → own.regs ≡ regs.now → makes (own_after own result)
+        ≡ own_row own instr }
+    ensures fits { (own : Own) → OwnFits own result }
+{
+    match instr {
+        Instr::Add(d, a, b) => OwnStep::Set(d, read(regs, a).wrapping_add(read(regs, b))),
+        Instr::Sub(d, a, b) => OwnStep::Set(d, read(regs, a).wrapping_sub(read(regs, b))),
+        Instr::Mul(d, a, b) => OwnStep::Set(d, read(regs, a).wrapping_mul(read(regs, b))),
+        Instr::And(d, a, b) => OwnStep::Set(d, read(regs, a) & read(regs, b)),
+        Instr::Or(d, a, b) => OwnStep::Set(d, read(regs, a) | read(regs, b)),
+        Instr::Xor(d, a, b) => OwnStep::Set(d, read(regs, a) ^ read(regs, b)),
+        Instr::Addi(d, a, n) => OwnStep::Set(d, read(regs, a).wrapping_add(n)),
+        Instr::Neg(d, a) => OwnStep::Set(d, read(regs, a).wrapping_neg()),
+        Instr::Not(d, a) => OwnStep::Set(d, !read(regs, a)),
+        Instr::Eq(d, a, b) => OwnStep::Set(d, one_if(read(regs, a) == read(regs, b))),
+        Instr::Lss(d, a, b) => OwnStep::Set(d, one_if(less_s(read(regs, a), read(regs, b)))),
+        Instr::Lsu(d, a, b) => OwnStep::Set(d, one_if(read(regs, a) < read(regs, b))),
+        Instr::Shl(d, a, b) => OwnStep::Set(d, shl(read(regs, a), read(regs, b))),
+        Instr::Shr(d, a, b) => OwnStep::Set(d, shr(read(regs, a), read(regs, b))),
+        Instr::Ashr(d, a, b) => OwnStep::Set(d, ashr(read(regs, a), read(regs, b))),
+        Instr::Ldc(d, n) => OwnStep::Set(d, n),
+        Instr::Ldawdp(d, n) => OwnStep::Set(d, address(regs.dp, n)),
+        Instr::Ldawsp(d, n) => OwnStep::Set(d, address(regs.sp, n)),
+        Instr::Setdp(s) => OwnStep::Set(Reg::Dp, read(regs, s)),
+        Instr::Setsp(s) => OwnStep::Set(Reg::Sp, read(regs, s)),
+        _ => unreachable!(),
+    }
+}
+
+fn set_where(d: Reg, value: Option<u32>) -> Result<OwnStep, Trap>
+    ensures row { (own : Own) → own_did own result ≡ sets_where own d value }
+    ensures fits { (own : Own) → IfOk result (λ s. OwnFits own s) }
+{
+    match value {
+        Some(value) => Ok(OwnStep::Set(d, value)),
+        None => Err(Trap::Arithmetic),
+    }
+}
+
+fn pass_where(holds: bool) -> Result<OwnStep, Trap>
+    ensures row { (own : Own) → own_did own result ≡ passes_by own holds }
+    ensures fits { (own : Own) → IfOk result (λ s. OwnFits own s) }
+{
+    if holds {
+        Ok(OwnStep::Pass)
+    } else {
+        Err(Trap::Index)
+    }
+}
+
+fn jump_where(k: u32, holds: bool) -> OwnStep
+    ensures row { (own : Own) → makes (own_after own result) ≡ jumps_by own k holds }
+    ensures fits { (own : Own) → OwnFits own result }
+{
+    if holds {
+        OwnStep::Jump(k)
+    } else {
+        OwnStep::Pass
+    }
+}
+
+fn load(words: &Ram, d: Reg, address: u32) -> Result<OwnStep, Trap>
+    ensures row { (own : Own) → own.words ≡ words.now → own_did own result
+        ≡ loads_at own d address }
+    ensures fits { (own : Own) → IfOk result (λ s. OwnFits own s) }
+{
+    match words.read(address) {
+        Some(value) => Ok(OwnStep::Set(d, value)),
+        None => Err(Trap::Address),
+    }
+}
+
+fn store(words: &Ram, value: u32, address: u32) -> Result<OwnStep, Trap>
+    ensures row { (own : Own) → own.words ≡ words.now → own_did own result
+        ≡ stores_at own value address }
+    ensures fits { (own : Own) → own.words ≡ words.now → IfOk result (λ s. OwnFits own s) }
+{
+    match words.read(address) {
+        Some(_) => Ok(OwnStep::Store(address, value)),
+        None => Err(Trap::Address),
+    }
+}
+
+/// ENTSP.
+fn enter(regs: &Regs, words: &Ram, n: u32) -> Result<OwnStep, Trap>
+    ensures row { (own : Own) → own.regs ≡ regs.now → own.words ≡ words.now → own_did own result
+        ≡ enters own n }
+    ensures fits { (own : Own) → own.regs ≡ regs.now → own.words ≡ words.now →
+        IfOk result (λ s. OwnFits own s) }
+{
+    if n == 0 {
+        return Ok(OwnStep::Pass);
+    }
+    match words.read(regs.sp) {
+        Some(_) => Ok(OwnStep::Enter(n)),
+        None => Err(Trap::Address),
+    }
+}
+
+/// RETSP.
+fn go_back(regs: &Regs, words: &Ram, n: u32) -> Result<OwnStep, Trap>
+    ensures row { (own : Own) → own.regs ≡ regs.now → own.words ≡ words.now → own_did own result
+        ≡ returns own n }
+    ensures fits { (own : Own) → IfOk result (λ s. OwnFits own s) }
+{
+    if n == 0 {
+        return Ok(OwnStep::Jump(regs.lr));
+    }
+    let sp = address(regs.sp, n);
+    match words.read(sp) {
+        Some(lr) => Ok(OwnStep::Return(sp, lr)),
+        None => Err(Trap::Address),
+    }
+}
+
+/// `n` words further up, wrapping.
+fn address(base: u32, n: u32) -> u32
+    ensures { result ≡ address_at base n }
+{
+    ((base as u64 + 4 * n as u64) % 0x1_0000_0000) as u32
+}
+
+fn one_if(holds: bool) -> u32
+    ensures { result ≡ truth holds }
+{
+    if holds { 1 } else { 0 }
+}
+
+/// Takes the step.
+pub fn apply(threads: &mut [Thread; THREADS], words: &mut Ram, t: u8, step: OwnStep)
+    requires there { t < 8 }
+    requires room { (thread_at threads.old t).pc + 1 < 2 ^ 32 }
+    requires fits { OwnFits (own_in (thread_at threads.old t) words.old) step }
+    ensures threads { let own = own_after (own_in (thread_at threads.old t) words.old) step in
+        threads.new ≡ slice_set threads.old t (with_own (thread_at threads.old t) own) }
+    ensures words { words.new
+        ≡ (own_after (own_in (thread_at threads.old t) words.old) step).words }
+{
+    let thread = &mut threads[t as usize];
+    let next = thread.pc + 1;
+    match step {
+        OwnStep::Pass => thread.pc = next,
+        OwnStep::Set(d, value) => {
+            write(&mut thread.regs, d, value);
+            thread.pc = next;
+        }
+        OwnStep::Jump(k) => thread.pc = k,
+        OwnStep::Call(k) => {
+            thread.regs.lr = next;
+            thread.pc = k;
+        }
+        OwnStep::Store(address, value) => {
+            let _ = words.write(address, value);
+            thread.pc = next;
+        }
+        OwnStep::Enter(n) => {
+            let _ = words.write(thread.regs.sp, thread.regs.lr);
+            thread.regs.sp = lower(thread.regs.sp, n);
+            thread.pc = next;
+        }
+        OwnStep::Return(sp, lr) => {
+            thread.regs.sp = sp;
+            thread.regs.lr = lr;
+            thread.pc = lr;
+        }
+    }
+}
+
+/// `n` words further down, wrapping.
+fn lower(sp: u32, n: u32) -> u32
+    ensures { result ≡ word_difference sp (4 * n % 2 ^ 32) }
+{
+    let bytes = (4 * n as u64 % 0x1_0000_0000) as u32;
+    sp.wrapping_sub(bytes)
 }

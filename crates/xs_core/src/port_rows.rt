@@ -1,94 +1,196 @@
-// The rows of ports.
+// The rows of ports and timers.
 
-ghost use Rattle.std.specs.Prelude.{◌≡◌, ℕ, not, slice_get};
-ghost use Rattle.xs_core.specs.Plain.{IsPlain, MayGo};
-ghost use Rattle.xs_core.specs.Turn.{IsRow};
-ghost use Rattle.xs_instr.specs.Did.{is_step};
-ghost use Rattle.xs_instr.specs.Ports.{can_send, counter, low_bits, time_meets};
-ghost use Rattle.xs_instr.specs.Resources.{APort};
-ghost use Rattle.xs_instr.specs.Rows.{out_row, row};
+ghost use Rattle.std.specs.Prelude.{◌≡◌, ◌+◌, ◌<◌, ◌^◌, ℕ};
+ghost use Rattle.xs_core.specs.Ports.{port_did, PortFits};
+ghost use Rattle.xs_core.specs.Names.{meant_by};
+ghost use Rattle.xs_core.specs.Seen.{home_of, state_of, thread_at};
+ghost use Rattle.xs_core.specs.Turns.{meant, steps, Fits, IsMade, Keeps};
+ghost use Rattle.xs_instr.specs.Did.{is_step, told};
+ghost use Rattle.xs_instr.specs.Ports.{can_send, can_receive, port_time_set, port_stamp};
+ghost use Rattle.xs_instr.specs.Resources.{APort, ATimer, on_port};
+ghost use Rattle.xs_instr.specs.Rows.{out_row, in_row, cond_row, data_row, goes_with, gets_with, put_ports};
+ghost use Rattle.xs_instr.specs.Timers.{timer_meets};
 
-use crate::did::Outcome;
-use crate::names::{Resource, look_up};
-use crate::{regs, threads};
-use xs_instr::{CoreState, Dir, Home, Instr, Port, Record, Reg, Thread, Trap};
-use xw_words::port_width;
+use crate::names::Resource;
+use crate::own_rows::OwnStep;
+use crate::state::State;
+use crate::threads::{pass, pass_with};
+use crate::turn::Turn;
+use xs_instr::{Cond, Dir, PortGot, Record, Reg, Thread, Timer, Trap};
+use xw_words::after;
 
-/// SETPT: the port's time is set to the low 16 bits of the register.
-pub fn set_time(
-    home: &Home,
-    state: &mut CoreState,
-    t: u8,
-    thread: Thread,
-    r: Reg,
-    s: Reg,
-) -> Outcome
-    requires { MayGo state.old.threads state.old.ends t thread }
-    ensures row { IsRow (row home.now state.old t thread (Instr.Setpt r s)) state.old result state.new }
-    ensures plain { IsPlain state.new.threads state.new.ends }
-{
-    let Resource::Port(p) = look_up(home.number, regs::read(&thread.regs, r)) else {
-        return Outcome::Trapped(Trap::Resource);
-    };
-    let Some(port) = state.ports.get(p as usize) else {
-        return Outcome::Trapped(Trap::Resource);
-    };
-    let time = (regs::read(&thread.regs, s) % 0x1_0000) as u16;
-    let timed = Port {
-        time: Some(time),
-        ..*port
-    };
-    state.ports.set(p as usize, timed);
-    threads::go_on(state, t, thread, thread.regs);
-    Outcome::Made(None)
+/// What a thread does at a port, by the port's place, or at a timer, by its number.
+#[derive(Clone, Copy)]
+pub enum PortStep {
+    /// The port puts the value out.
+    Drive(u32, u32),
+    /// A register gets what the port has.
+    Read(Reg, u32),
+    /// The port's condition is set.
+    PortCond(u32, Cond),
+    /// What the port's condition compares with is set.
+    PortData(u32, u32),
+    /// The port's time is set.
+    PortTime(u32, u32),
+    /// A register gets the timer's time.
+    Clock(Reg, u32),
+    /// The timer's condition is set.
+    TimerCond(u32, Cond),
+    /// What the timer's condition compares with is set.
+    TimerData(u32, u32),
 }
 
-/// OUT on port `p`: the port's bits of the value go out, at once or when the port's counter is its time.
-pub fn output(
-    home: &Home,
-    state: &mut CoreState,
-    t: u8,
-    thread: Thread,
-    value: u32,
-    p: u32,
-) -> Outcome
-    requires { MayGo state.old.threads state.old.ends t thread }
-    ensures row { IsRow (out_row home.now state.old t thread value (APort p)) state.old result state.new }
-    ensures plain { IsPlain state.new.threads state.new.ends }
+/// OUT on a port.
+pub fn drive(state: &State, p: u32, value: u32) -> Turn
+    ensures means { (t : ℕ) (x : Thread) → meant (home_of state.now) (state_of state.now) t x result
+        ≡ out_row (home_of state.now) (state_of state.now) t x value (APort p) }
+    ensures steps { (t : ℕ) (x : Thread) →
+        is_step (meant (home_of state.now) (state_of state.now) t x result) ≡ steps result }
+    ensures fits { (t : ℕ) (x : Thread) → Fits (home_of state.now) (state_of state.now) t x result }
 {
-    let Some(port) = state.ports.get(p as usize) else {
-        return Outcome::Trapped(Trap::Resource);
-    };
-    if !sends(port.decl.dir) {
-        return Outcome::Trapped(Trap::Resource);
+    if !state.ports.has(p) || !sends(state.ports.decl(p).dir) {
+        return Turn::Trapped(Trap::Resource);
     }
-    let now = counter_at(state.clock);
-    if !meets_time(port.time, now) {
-        return Outcome::Paused;
+    if state.ports.can_drive(p) {
+        Turn::Port(PortStep::Drive(p, value))
+    } else {
+        Turn::Paused
     }
-    let id = port.decl.port;
-    let driven = Port {
-        time: None,
-        stamp: now,
-        ..*port
-    };
-    state.ports.set(p as usize, driven);
-    threads::go_on(state, t, thread, thread.regs);
-    Outcome::Made(Some(Record::PortOut {
-        core: home.number,
-        port: id,
-        stamp: now,
-        value: bits_of(value, id),
-    }))
 }
 
-/// Whether OUT on port `p` waits for the port's time.
-pub fn output_pauses(home: &Home, state: &CoreState, p: u32) -> bool
-    ensures { (t : ℕ) (thread : Thread) (value : ℕ) → is_step (out_row home.now state.now t thread value (APort p)) ≡ not result }
+/// IN on a port.
+pub fn read_port(state: &State, d: Reg, p: u32) -> Turn
+    ensures means { (t name : ℕ) (x : Thread) → meant (home_of state.now) (state_of state.now) t x
+        result ≡ in_row (home_of state.now) (state_of state.now) t x d name (APort p) }
+    ensures steps { (t : ℕ) (x : Thread) →
+        is_step (meant (home_of state.now) (state_of state.now) t x result) ≡ steps result }
+    ensures fits { (t : ℕ) (x : Thread) → Fits (home_of state.now) (state_of state.now) t x result }
 {
-    match state.ports.get(p as usize) {
-        None => false,
-        Some(port) => sends(port.decl.dir) && !meets_time(port.time, counter_at(state.clock)),
+    if !state.ports.has(p) || !receives(state.ports.decl(p).dir) {
+        return Turn::Trapped(Trap::Resource);
+    }
+    if state.ports.can_read(p) {
+        Turn::Port(PortStep::Read(d, p))
+    } else {
+        Turn::Paused
+    }
+}
+
+/// IN on a timer.
+pub fn read_clock(state: &State, d: Reg, n: u32) -> Turn
+    ensures means { (t name : ℕ) (x : Thread) → meant (home_of state.now) (state_of state.now) t x
+        result ≡ in_row (home_of state.now) (state_of state.now) t x d name (ATimer n) }
+    ensures steps { (t : ℕ) (x : Thread) →
+        is_step (meant (home_of state.now) (state_of state.now) t x result) ≡ steps result }
+    ensures fits { (t : ℕ) (x : Thread) → Fits (home_of state.now) (state_of state.now) t x result }
+{
+    let Some(timer) = state.timers.get(n as usize) else {
+        return Turn::Trapped(Trap::Resource);
+    };
+    if timer.latch.is_some() || passes(timer, state.ports.clock()) {
+        Turn::Port(PortStep::Clock(d, n))
+    } else {
+        Turn::Paused
+    }
+}
+
+/// SETC on a port.
+pub fn set_port_cond(state: &State, p: u32, cond: Cond) -> Turn
+    ensures means { (t : ℕ) (x : Thread) → meant (home_of state.now) (state_of state.now) t x result
+        ≡ cond_row (state_of state.now) t x cond (APort p) }
+    ensures steps { (t : ℕ) (x : Thread) →
+        is_step (meant (home_of state.now) (state_of state.now) t x result) ≡ steps result }
+    ensures fits { (t : ℕ) (x : Thread) → Fits (home_of state.now) (state_of state.now) t x result }
+{
+    if state.ports.has(p) && cond != Cond::After {
+        Turn::Port(PortStep::PortCond(p, cond))
+    } else {
+        Turn::Trapped(Trap::Resource)
+    }
+}
+
+/// SETC on a timer.
+pub fn set_timer_cond(state: &State, n: u32, cond: Cond) -> Turn
+    ensures means { (t : ℕ) (x : Thread) → meant (home_of state.now) (state_of state.now) t x result
+        ≡ cond_row (state_of state.now) t x cond (ATimer n) }
+    ensures steps { (t : ℕ) (x : Thread) →
+        is_step (meant (home_of state.now) (state_of state.now) t x result) ≡ steps result }
+    ensures fits { (t : ℕ) (x : Thread) → Fits (home_of state.now) (state_of state.now) t x result }
+{
+    if state.timers.get(n as usize).is_none() {
+        return Turn::Trapped(Trap::Resource);
+    }
+    match cond {
+        Cond::None | Cond::After => Turn::Port(PortStep::TimerCond(n, cond)),
+        Cond::Eq | Cond::Neq => Turn::Trapped(Trap::Resource),
+    }
+}
+
+/// SETD on a port.
+pub fn set_port_data(state: &State, p: u32, value: u32) -> Turn
+    ensures means { (t : ℕ) (x : Thread) → meant (home_of state.now) (state_of state.now) t x result
+        ≡ data_row (state_of state.now) t x value (APort p) }
+    ensures steps { (t : ℕ) (x : Thread) →
+        is_step (meant (home_of state.now) (state_of state.now) t x result) ≡ steps result }
+    ensures fits { (t : ℕ) (x : Thread) → Fits (home_of state.now) (state_of state.now) t x result }
+{
+    if state.ports.has(p) {
+        Turn::Port(PortStep::PortData(p, value))
+    } else {
+        Turn::Trapped(Trap::Resource)
+    }
+}
+
+/// SETD on a timer.
+pub fn set_timer_data(state: &State, n: u32, value: u32) -> Turn
+    ensures means { (t : ℕ) (x : Thread) → meant (home_of state.now) (state_of state.now) t x result
+        ≡ data_row (state_of state.now) t x value (ATimer n) }
+    ensures steps { (t : ℕ) (x : Thread) →
+        is_step (meant (home_of state.now) (state_of state.now) t x result) ≡ steps result }
+    ensures fits { (t : ℕ) (x : Thread) → Fits (home_of state.now) (state_of state.now) t x result }
+{
+    if state.timers.get(n as usize).is_some() {
+        Turn::Port(PortStep::TimerData(n, value))
+    } else {
+        Turn::Trapped(Trap::Resource)
+    }
+}
+
+/// SETPT on a port.
+pub fn set_time(state: &State, name: Resource, value: u32) -> Turn
+    ensures means { (t : ℕ) (x : Thread) → meant (home_of state.now) (state_of state.now) t x result
+        ≡ told (goes_with put_ports (state_of state.now) t x) (on_port (state_of state.now)
+        (port_time_set value (state_of state.now).ports) (meant_by name)) }
+    ensures steps { (t : ℕ) (x : Thread) →
+        is_step (meant (home_of state.now) (state_of state.now) t x result) ≡ steps result }
+    ensures fits { (t : ℕ) (x : Thread) → Fits (home_of state.now) (state_of state.now) t x result }
+{
+    let Resource::Port(p) = name else {
+        return Turn::Trapped(Trap::Resource);
+    };
+    if state.ports.has(p) {
+        Turn::Port(PortStep::PortTime(p, value))
+    } else {
+        Turn::Trapped(Trap::Resource)
+    }
+}
+
+/// GETTS on a port.
+pub fn stamp(state: &State, d: Reg, name: Resource) -> Turn
+    ensures means { (t : ℕ) (x : Thread) → meant (home_of state.now) (state_of state.now) t x result
+        ≡ told (gets_with put_ports (state_of state.now) t x d)
+        (on_port (state_of state.now) (port_stamp (state_of state.now).ports) (meant_by name)) }
+    ensures steps { (t : ℕ) (x : Thread) →
+        is_step (meant (home_of state.now) (state_of state.now) t x result) ≡ steps result }
+    ensures fits { (t : ℕ) (x : Thread) → Fits (home_of state.now) (state_of state.now) t x result }
+{
+    let Resource::Port(p) = name else {
+        return Turn::Trapped(Trap::Resource);
+    };
+    if state.ports.has(p) {
+        Turn::Own(OwnStep::Set(d, state.ports.stamp(p) as u32))
+    } else {
+        Turn::Trapped(Trap::Resource)
     }
 }
 
@@ -97,35 +199,114 @@ fn sends(dir: Dir) -> bool
 {
     match dir {
         Dir::In => false,
-        Dir::Out => true,
-        Dir::Both => true,
+        Dir::Out | Dir::Both => true,
     }
 }
 
-fn counter_at(clock: u32) -> u16
-    ensures { result ≡ counter clock }
+fn receives(dir: Dir) -> bool
+    ensures { result ≡ can_receive dir }
 {
-    (clock % 0x1_0000) as u16
-}
-
-fn meets_time(time: Option<u16>, now: u16) -> bool
-    ensures { result ≡ time_meets time now }
-{
-    match time {
-        None => true,
-        Some(time) => time == now,
+    match dir {
+        Dir::Out => false,
+        Dir::In | Dir::Both => true,
     }
 }
 
-/// The low bits of a value, as many as the port has.
-fn bits_of(value: u32, id: u8) -> u32
-    ensures { result ≡ low_bits value id }
+/// Whether the timer's condition holds, or it has none.
+pub fn passes(timer: &Timer, clock: u32) -> bool
+    ensures { result ≡ timer_meets timer.now.cond clock timer.now.datum }
 {
-    match port_width(id) {
-        1 => value % 2,
-        4 => value % 16,
-        8 => value % 256,
-        16 => value % 65536,
-        _ => value,
+    match timer.cond {
+        Cond::After => after(clock, timer.datum),
+        Cond::None | Cond::Eq | Cond::Neq => true,
+    }
+}
+
+/// Takes the step.
+#[tactic(auto, using(crate::proofs::There::there))]
+pub fn apply(state: &mut State, t: u8, step: PortStep) -> Option<Record>
+    requires there { t < 8 }
+    requires room { (thread_at state.old.threads t).pc + 1 < 2 ^ 32 }
+    requires fits { PortFits (home_of state.old) (state_of state.old) step }
+    ensures made { IsMade (port_did (home_of state.old) (state_of state.old) t
+        (thread_at state.old.threads t) step) (state_of state.new) result }
+    ensures keeps { Keeps state.old state.new }
+{
+    match step {
+        PortStep::Drive(p, value) => {
+            let id = state.ports.decl(p).port;
+            let PortGot { value, stamp } = state.ports.drive(p, value)?;
+            pass(&mut state.threads, t);
+            Some(Record::PortOut {
+                core: state.ports.core(),
+                port: id,
+                stamp,
+                value,
+            })
+        }
+        PortStep::Read(d, p) => {
+            let id = state.ports.decl(p).port;
+            let PortGot { value, stamp } = state.ports.read(p)?;
+            pass_with(&mut state.threads, t, d, value);
+            Some(Record::PortIn {
+                core: state.ports.core(),
+                port: id,
+                stamp,
+                value,
+            })
+        }
+        PortStep::PortCond(p, cond) => {
+            state.ports.set_cond(p, cond);
+            pass(&mut state.threads, t);
+            None
+        }
+        PortStep::PortData(p, value) => {
+            state.ports.set_data(p, value);
+            pass(&mut state.threads, t);
+            None
+        }
+        PortStep::PortTime(p, value) => {
+            state.ports.set_time(p, value);
+            pass(&mut state.threads, t);
+            None
+        }
+        PortStep::Clock(d, n) => {
+            let timer = state.timers.as_slice()[n as usize];
+            let time = timer.latch.unwrap_or(state.ports.clock());
+            state.timers.set(
+                n as usize,
+                Timer {
+                    latch: None,
+                    ..timer
+                },
+            );
+            pass_with(&mut state.threads, t, d, time);
+            None
+        }
+        PortStep::TimerCond(n, cond) => {
+            let timer = state.timers.as_slice()[n as usize];
+            state.timers.set(
+                n as usize,
+                Timer {
+                    cond,
+                    latch: None,
+                    ..timer
+                },
+            );
+            pass(&mut state.threads, t);
+            None
+        }
+        PortStep::TimerData(n, value) => {
+            let timer = state.timers.as_slice()[n as usize];
+            state.timers.set(
+                n as usize,
+                Timer {
+                    datum: value,
+                    ..timer
+                },
+            );
+            pass(&mut state.threads, t);
+            None
+        }
     }
 }

@@ -1,7 +1,7 @@
 // A thread's registers.
 
 ghost use Rattle.std.specs.Prelude.{◌≡◌};
-ghost use Rattle.xs_instr.specs.Registers.{reg_get, reg_set};
+ghost use Rattle.xs_instr.specs.Registers.{no_regs, reg_get, reg_set};
 
 use xs_instr::{Reg, Regs};
 
@@ -28,25 +28,49 @@ pub fn read(regs: &Regs, r: Reg) -> u32
     }
 }
 
-pub fn write(regs: Regs, r: Reg, v: u32) -> Regs
-    ensures { result ≡ reg_set regs r v }
+pub fn write(regs: &mut Regs, r: Reg, v: u32)
+    ensures { regs.new ≡ reg_set regs.old r v }
 {
     match r {
-        Reg::R0 => Regs { r0: v, ..regs },
-        Reg::R1 => Regs { r1: v, ..regs },
-        Reg::R2 => Regs { r2: v, ..regs },
-        Reg::R3 => Regs { r3: v, ..regs },
-        Reg::R4 => Regs { r4: v, ..regs },
-        Reg::R5 => Regs { r5: v, ..regs },
-        Reg::R6 => Regs { r6: v, ..regs },
-        Reg::R7 => Regs { r7: v, ..regs },
-        Reg::R8 => Regs { r8: v, ..regs },
-        Reg::R9 => Regs { r9: v, ..regs },
-        Reg::R10 => Regs { r10: v, ..regs },
-        Reg::R11 => Regs { r11: v, ..regs },
-        Reg::Cp => Regs { cp: v, ..regs },
-        Reg::Dp => Regs { dp: v, ..regs },
-        Reg::Sp => Regs { sp: v, ..regs },
-        Reg::Lr => Regs { lr: v, ..regs },
+        Reg::R0 => regs.r0 = v,
+        Reg::R1 => regs.r1 = v,
+        Reg::R2 => regs.r2 = v,
+        Reg::R3 => regs.r3 = v,
+        Reg::R4 => regs.r4 = v,
+        Reg::R5 => regs.r5 = v,
+        Reg::R6 => regs.r6 = v,
+        Reg::R7 => regs.r7 = v,
+        Reg::R8 => regs.r8 = v,
+        Reg::R9 => regs.r9 = v,
+        Reg::R10 => regs.r10 = v,
+        Reg::R11 => regs.r11 = v,
+        Reg::Cp => regs.cp = v,
+        Reg::Dp => regs.dp = v,
+        Reg::Sp => regs.sp = v,
+        Reg::Lr => regs.lr = v,
+    }
+}
+
+/// All are 0.
+pub fn zeros() -> Regs
+    ensures { result ≡ no_regs }
+{
+    Regs {
+        r0: 0,
+        r1: 0,
+        r2: 0,
+        r3: 0,
+        r4: 0,
+        r5: 0,
+        r6: 0,
+        r7: 0,
+        r8: 0,
+        r9: 0,
+        r10: 0,
+        r11: 0,
+        cp: 0,
+        dp: 0,
+        sp: 0,
+        lr: 0,
     }
 }

@@ -1,96 +1,208 @@
 // The table: one row for each instruction.
 
-ghost use Rattle.std.specs.Prelude.{◌≡◌, ℕ, true, not, Some};
-ghost use Rattle.xs_core.specs.Built.{is_built};
-ghost use Rattle.xs_core.specs.Plain.{IsPlain, MayGo};
-ghost use Rattle.xs_core.specs.Turn.{IsRow};
+ghost use Rattle.std.specs.Prelude.{◌≡◌, ◌≤◌, ◌%◌, ◌^◌, ℕ, true};
+ghost use Rattle.xs_core.specs.Names.{meant_by};
+ghost use Rattle.xs_core.specs.Own.{is_own};
+ghost use Rattle.xs_core.specs.Seen.{home_of, state_of};
+ghost use Rattle.xs_core.specs.Turns.{meant, steps, Fits, HasByte};
+ghost use Rattle.xs_instr.specs.declared.image.Home.{Home};
+ghost use Rattle.xs_instr.specs.declared.state.CoreState.{CoreState};
 ghost use Rattle.xs_instr.specs.Did.{is_step};
-ghost use Rattle.xs_instr.specs.Rows.{row};
-ghost use Rattle.xs_instr.specs.Sight.{is_timed_instr};
+ghost use Rattle.xs_instr.specs.Ends.{control_token as control_of, data_token as data_of};
+ghost use Rattle.xs_instr.specs.Rows.{cond_row, data_row, free_row, get_row, in_row, out_row, row as row_of};
 
-use crate::did::Outcome;
+use crate::event_rows::EventStep;
 use crate::names::{Resource, look_up};
-use crate::{lock_rows, own_rows, port_rows, regs, thread_rows};
-use xs_instr::{CoreState, Home, Instr, Reg, Thread, Trap};
+use crate::pool_rows::PoolStep;
+use crate::regs::read;
+use crate::state::State;
+use crate::turn::Turn;
+use crate::{end_rows, event_rows, own_rows, pool_rows, port_rows};
+use xs_instr::{Cond, GetKind, Instr, Reg, Thread, Token, Trap};
 
-/// What an instruction of thread `t` does.
-pub fn run(home: &Home, state: &mut CoreState, t: u8, thread: Thread, instr: Instr) -> Outcome
-    requires built { is_built instr ≡ true }
-    requires go { MayGo state.old.threads state.old.ends t thread }
-    ensures row { IsRow (row home.now state.old t thread instr) state.old result state.new }
-    ensures plain { IsPlain state.new.threads state.new.ends }
+/// What comes of a thread's instruction.
+pub fn row(state: &State, t: u8, thread: &Thread, instr: Instr) -> Turn
+    requires { HasByte instr }
+    ensures means { meant (home_of state.now) (state_of state.now) t thread.now result
+        ≡ row_of (home_of state.now) (state_of state.now) t thread.now instr }
+    ensures steps { is_step (meant (home_of state.now) (state_of state.now) t thread.now result)
+        ≡ steps result }
+    ensures fits { Fits (home_of state.now) (state_of state.now) t thread.now result }
 {
+    let regs = &thread.regs;
+    let core = state.ports.core();
     match instr {
-        Instr::Ldc(d, n) => own_rows::load_constant(home, state, t, thread, d, n),
-        Instr::Setpt(r, s) => port_rows::set_time(home, state, t, thread, r, s),
-        Instr::Out(r, s) => out(home, state, t, thread, r, s),
-        Instr::Freet => thread_rows::free_thread(home, state, t, thread),
-        _ => unreachable!(),
+        Instr::Getr(d, kind) => get(d, kind),
+        Instr::Freer(r) => free(state, look_up(core, read(regs, r))),
+        Instr::Getst(d, r) => pool_rows::get_thread(state, d, look_up(core, read(regs, r))),
+        Instr::Tinitpc(x, k) => pool_rows::set_pc(state, look_up(core, read(regs, x)), k),
+        Instr::Tinitdp(x, s) => {
+            pool_rows::set_reg(state, look_up(core, read(regs, x)), Reg::Dp, read(regs, s))
+        }
+        Instr::Tinitsp(x, s) => {
+            pool_rows::set_reg(state, look_up(core, read(regs, x)), Reg::Sp, read(regs, s))
+        }
+        Instr::Msync(r) => pool_rows::start(state, look_up(core, read(regs, r))),
+        Instr::Ssync => pool_rows::wait(thread),
+        Instr::Mjoin(r) => pool_rows::join(state, look_up(core, read(regs, r))),
+        Instr::Freet => pool_rows::end(thread),
+        Instr::Out(r, s) => out(state, t, look_up(core, read(regs, r)), read(regs, s)),
+        Instr::Outt(r, s) => {
+            end_rows::send_token(
+                state,
+                look_up(core, read(regs, r)),
+                data_token(read(regs, s)),
+            )
+        }
+        Instr::Outct(r, n) => {
+            end_rows::send_token(state, look_up(core, read(regs, r)), control_token(n))
+        }
+        Instr::In(d, r) => input(state, d, look_up(core, read(regs, r)), read(regs, r)),
+        Instr::Int(d, r) => end_rows::take_byte(state, d, look_up(core, read(regs, r))),
+        Instr::Chkct(r, n) => end_rows::take_control(state, look_up(core, read(regs, r)), n as u8),
+        Instr::Setc(r, cond) => set_cond(state, look_up(core, read(regs, r)), cond),
+        Instr::Setd(r, s) => set_data(state, look_up(core, read(regs, r)), read(regs, s)),
+        Instr::Setpt(r, s) => port_rows::set_time(
+            state,
+            look_up(core, read(regs, r)),
+            read(regs, s),
+        ),
+        Instr::Getts(d, r) => port_rows::stamp(state, d, look_up(core, read(regs, r))),
+        Instr::Setv(r, k) => event_rows::set_vector(state, look_up(core, read(regs, r)), k),
+        Instr::Eeu(r) => event_rows::enable(state, look_up(core, read(regs, r))),
+        Instr::Edu(r) => event_rows::disable(state, look_up(core, read(regs, r))),
+        Instr::Clre => Turn::Event(EventStep::Clear),
+        Instr::Waiteu => Turn::Paused,
+        Instr::Setsr(n) => event_rows::set_bit(thread, n),
+        Instr::Clrsr(n) => event_rows::clear_bit(thread, n),
+        _ => own(state, thread, instr),
     }
 }
 
-/// OUT, by what the identifier names. A core has no channel ends yet.
-fn out(home: &Home, state: &mut CoreState, t: u8, thread: Thread, r: Reg, s: Reg) -> Outcome
-    requires { MayGo state.old.threads state.old.ends t thread }
-    ensures row { IsRow (row home.now state.old t thread (Instr.Out r s)) state.old result state.new }
-    ensures plain { IsPlain state.new.threads state.new.ends }
+/// A row of registers, memory or flow.
+fn own(state: &State, thread: &Thread, instr: Instr) -> Turn
+    requires { is_own instr ≡ true }
+    ensures means { (t : ℕ) → meant (home_of state.now) (state_of state.now) t thread.now result
+        ≡ row_of (home_of state.now) (state_of state.now) t thread.now instr }
+    ensures steps { (t : ℕ) → is_step
+        (meant (home_of state.now) (state_of state.now) t thread.now result) ≡ steps result }
+    ensures fits { (t : ℕ) → Fits (home_of state.now) (state_of state.now) t thread.now result }
 {
-    let value = regs::read(&thread.regs, s);
-    match look_up(home.number, regs::read(&thread.regs, r)) {
-        Resource::Port(p) => port_rows::output(home, state, t, thread, value, p),
-        Resource::Lock(n) => lock_rows::give_back(home, state, t, thread, value, n),
-        Resource::End(_)
-        | Resource::Timer(_)
-        | Resource::Sync(_)
-        | Resource::Thread(_)
-        | Resource::Unknown => Outcome::Trapped(Trap::Resource),
+    match own_rows::step(thread, &state.words, instr) {
+        Ok(step) => Turn::Own(step),
+        Err(kind) => Turn::Trapped(kind),
     }
 }
 
-/// Whether an instruction waits.
-pub fn pauses(home: &Home, state: &CoreState, thread: &Thread, instr: Instr) -> bool
-    requires built { is_built instr ≡ true }
-    requires plain { IsPlain state.now.threads state.now.ends }
-    ensures { (t : ℕ) → is_step (row home.now state.now t thread.now instr) ≡ not result }
+/// GETR.
+fn get(d: Reg, kind: GetKind) -> Turn
+    ensures means { (home : Home) (core : CoreState) (t : ℕ) (x : Thread) →
+        meant home core t x result ≡ get_row home core t x d kind }
+    ensures steps { (home : Home) (core : CoreState) (t : ℕ) (x : Thread) →
+        is_step (meant home core t x result) ≡ steps result }
+    ensures fits { (home : Home) (core : CoreState) (t : ℕ) (x : Thread) →
+        Fits home core t x result }
 {
-    match instr {
-        Instr::Out(r, _) => out_pauses(home, state, thread, r),
-        Instr::Ldc(_, _) => false,
-        Instr::Setpt(_, _) => false,
-        Instr::Freet => false,
-        _ => unreachable!(),
+    match kind {
+        GetKind::Sync => Turn::Pool(PoolStep::GetSync(d)),
+        GetKind::Lock => Turn::Pool(PoolStep::GetLock(d)),
     }
 }
 
-fn out_pauses(home: &Home, state: &CoreState, thread: &Thread, r: Reg) -> bool
-    requires { IsPlain state.now.threads state.now.ends }
-    ensures { (t : ℕ) (s : Reg) → is_step (row home.now state.now t thread.now (Instr.Out r s)) ≡ not result }
+/// FREER, by what is named.
+fn free(state: &State, name: Resource) -> Turn
+    ensures means { (t : ℕ) (x : Thread) → meant (home_of state.now) (state_of state.now) t x result
+        ≡ free_row (state_of state.now) t x (meant_by name) }
+    ensures steps { (t : ℕ) (x : Thread) →
+        is_step (meant (home_of state.now) (state_of state.now) t x result) ≡ steps result }
+    ensures fits { (t : ℕ) (x : Thread) → Fits (home_of state.now) (state_of state.now) t x result }
 {
-    match look_up(home.number, regs::read(&thread.regs, r)) {
-        Resource::Port(p) => port_rows::output_pauses(home, state, p),
-        Resource::Lock(_)
-        | Resource::End(_)
-        | Resource::Timer(_)
-        | Resource::Sync(_)
-        | Resource::Thread(_)
-        | Resource::Unknown => false,
+    match name {
+        Resource::Sync(n) => pool_rows::free_sync(state, n),
+        Resource::Lock(n) => pool_rows::free_lock(state, n),
+        _ => Turn::Trapped(Trap::Resource),
     }
 }
 
-/// Whether an instruction is an input from, or an output to, what its register names as a port or a timer.
-pub fn is_timed(home: &Home, thread: &Thread, instr: Instr) -> bool
-    requires { is_built instr ≡ true }
-    ensures { result ≡ is_timed_instr home.now thread.now (Some instr) }
+/// OUT, by what is named.
+fn out(state: &State, t: u8, name: Resource, value: u32) -> Turn
+    ensures means { (x : Thread) → meant (home_of state.now) (state_of state.now) t x result
+        ≡ out_row (home_of state.now) (state_of state.now) t x value (meant_by name) }
+    ensures steps { (x : Thread) →
+        is_step (meant (home_of state.now) (state_of state.now) t x result) ≡ steps result }
+    ensures fits { (x : Thread) → Fits (home_of state.now) (state_of state.now) t x result }
 {
-    let Instr::Out(r, _) = instr else {
-        return false;
-    };
-    match look_up(home.number, regs::read(&thread.regs, r)) {
-        Resource::Port(_) | Resource::Timer(_) => true,
-        Resource::End(_)
-        | Resource::Sync(_)
-        | Resource::Thread(_)
-        | Resource::Lock(_)
-        | Resource::Unknown => false,
+    match name {
+        Resource::Port(p) => port_rows::drive(state, p, value),
+        Resource::End(e) => end_rows::send_word(state, e, value),
+        Resource::Lock(n) => pool_rows::give_back(state, t, n),
+        _ => Turn::Trapped(Trap::Resource),
+    }
+}
+
+/// IN, by what is named.
+fn input(state: &State, d: Reg, name: Resource, identifier: u32) -> Turn
+    ensures means { (t : ℕ) (x : Thread) → meant (home_of state.now) (state_of state.now) t x result
+        ≡ in_row (home_of state.now) (state_of state.now) t x d identifier (meant_by name) }
+    ensures steps { (t : ℕ) (x : Thread) →
+        is_step (meant (home_of state.now) (state_of state.now) t x result) ≡ steps result }
+    ensures fits { (t : ℕ) (x : Thread) → Fits (home_of state.now) (state_of state.now) t x result }
+{
+    match name {
+        Resource::Port(p) => port_rows::read_port(state, d, p),
+        Resource::Timer(n) => port_rows::read_clock(state, d, n),
+        Resource::End(e) => end_rows::take_word(state, d, e),
+        Resource::Lock(n) => pool_rows::hold(state, d, n, identifier),
+        _ => Turn::Trapped(Trap::Resource),
+    }
+}
+
+/// SETC, by what is named.
+fn set_cond(state: &State, name: Resource, cond: Cond) -> Turn
+    ensures means { (t : ℕ) (x : Thread) → meant (home_of state.now) (state_of state.now) t x result
+        ≡ cond_row (state_of state.now) t x cond (meant_by name) }
+    ensures steps { (t : ℕ) (x : Thread) →
+        is_step (meant (home_of state.now) (state_of state.now) t x result) ≡ steps result }
+    ensures fits { (t : ℕ) (x : Thread) → Fits (home_of state.now) (state_of state.now) t x result }
+{
+    match name {
+        Resource::Port(p) => port_rows::set_port_cond(state, p, cond),
+        Resource::Timer(n) => port_rows::set_timer_cond(state, n, cond),
+        _ => Turn::Trapped(Trap::Resource),
+    }
+}
+
+/// SETD, by what is named.
+fn set_data(state: &State, name: Resource, value: u32) -> Turn
+    ensures means { (t : ℕ) (x : Thread) → meant (home_of state.now) (state_of state.now) t x result
+        ≡ data_row (state_of state.now) t x value (meant_by name) }
+    ensures steps { (t : ℕ) (x : Thread) →
+        is_step (meant (home_of state.now) (state_of state.now) t x result) ≡ steps result }
+    ensures fits { (t : ℕ) (x : Thread) → Fits (home_of state.now) (state_of state.now) t x result }
+{
+    match name {
+        Resource::Port(p) => port_rows::set_port_data(state, p, value),
+        Resource::Timer(n) => port_rows::set_timer_data(state, n, value),
+        _ => Turn::Trapped(Trap::Resource),
+    }
+}
+
+/// The low byte of a word, as a data token.
+fn data_token(value: u32) -> Token
+    ensures { result ≡ data_of (value % 2 ^ 8) }
+{
+    Token {
+        control: false,
+        byte: (value % 0x100) as u8,
+    }
+}
+
+fn control_token(n: u32) -> Token
+    requires { n ≤ 255 }
+    ensures { result ≡ control_of n }
+{
+    Token {
+        control: true,
+        byte: n as u8,
     }
 }

@@ -1,35 +1,56 @@
-// Threads put back into the state.
+// Threads that go on.
 
-ghost use Rattle.std.specs.Prelude.{◌≡◌, ◌+◌, ◌^◌, ◌<◌, false, length};
-ghost use Rattle.xs_core.specs.Plain.{IsPlain, MayGo};
-ghost use Rattle.xs_instr.specs.Rows.{with_thread, goes_on};
+ghost use Rattle.std.specs.Prelude.{◌≡◌, ◌+◌, ◌<◌, ◌^◌, slice_set};
+ghost use Rattle.xs_core.specs.Seen.{thread_at};
+ghost use Rattle.xs_instr.specs.Registers.{reg_set};
 
-use xs_instr::{CoreState, Regs, Thread};
+use crate::regs::write;
+use crate::state::THREADS;
+use xs_instr::{Reg, Thread};
 
-/// Puts the thread in place `t`.
-pub fn put(state: &mut CoreState, t: u8, thread: Thread)
-    requires plain { IsPlain state.old.threads state.old.ends }
-    requires place { t < length state.old.threads }
-    requires bit { thread.event_bit ≡ false }
-    ensures state { state.new ≡ with_thread state.old t thread }
-    ensures plain { IsPlain state.new.threads state.new.ends }
+/// On to the next instruction.
+pub fn pass(threads: &mut [Thread; THREADS], t: u8)
+    requires there { t < 8 }
+    requires room { (thread_at threads.old t).pc + 1 < 2 ^ 32 }
+    ensures { let x = thread_at threads.old t in threads.new
+        ≡ slice_set threads.old t (record x { pc = x.pc + 1 }) }
 {
-    state.threads.set(t as usize, thread);
+    threads[t as usize].pc += 1;
 }
 
-/// Puts the thread in place `t`, at its next instruction and with these registers.
-pub fn go_on(state: &mut CoreState, t: u8, thread: Thread, regs: Regs)
-    requires { MayGo state.old.threads state.old.ends t thread }
-    ensures state { state.new ≡ goes_on state.old t thread regs }
-    ensures plain { IsPlain state.new.threads state.new.ends }
+/// On to the next instruction, and a register is set.
+pub fn pass_with(threads: &mut [Thread; THREADS], t: u8, d: Reg, value: u32)
+    requires there { t < 8 }
+    requires room { (thread_at threads.old t).pc + 1 < 2 ^ 32 }
+    ensures { let x = thread_at threads.old t in
+        threads.new ≡ slice_set threads.old t (record x { pc = x.pc + 1; regs = reg_set x.regs d value }) }
 {
-    put(
-        state,
-        t,
-        Thread {
-            pc: thread.pc + 1,
-            regs,
-            ..thread
-        },
-    );
+    let thread = &mut threads[t as usize];
+    thread.pc += 1;
+    write(&mut thread.regs, d, value);
+}
+
+/// Puts a thread back at its next instruction.
+pub fn put_next(threads: &mut [Thread; THREADS], t: u8, thread: Thread)
+    requires there { t < 8 }
+    requires room { thread.pc + 1 < 2 ^ 32 }
+    ensures { threads.new ≡ slice_set threads.old t (record thread { pc = thread.pc + 1 }) }
+{
+    threads[t as usize] = Thread {
+        pc: thread.pc + 1,
+        ..thread
+    };
+}
+
+/// Puts a thread back at its next instruction, with a register set.
+pub fn put_with(threads: &mut [Thread; THREADS], t: u8, thread: Thread, d: Reg, value: u32)
+    requires there { t < 8 }
+    requires room { thread.pc + 1 < 2 ^ 32 }
+    ensures { threads.new ≡ slice_set threads.old t
+        (record thread { pc = thread.pc + 1; regs = reg_set thread.regs d value }) }
+{
+    let mut next = thread;
+    next.pc += 1;
+    write(&mut next.regs, d, value);
+    threads[t as usize] = next;
 }

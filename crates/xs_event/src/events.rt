@@ -1,10 +1,11 @@
-ghost use Rattle.std.specs.Prelude.{◌≡◌, ◌<◌, ◌≤◌, ◌↔◌, ◌&&◌, Some, None, IfNone, IfOk, IfSome, IsSome, length};
+ghost use Rattle.std.specs.Prelude.{◌≡◌, ◌<◌, ◌≤◌, ◌↔◌, ◌&&◌, ◌||◌, Some, None, IfNone, IfOk, IfSome, IsSome, length};
 ghost use Rattle.xs_event.specs.Picks.{IsLeastPickable, NonePickable};
 ghost use Rattle.xs_event.specs.Readiness.{is_set, readiness_of};
-ghost use Rattle.xs_event.specs.Watches.{owner_of};
+ghost use Rattle.xs_event.specs.Watches.{owner_of, HasAll};
 ghost use Rattle.xs_instr.specs.Events.{cleared, cleared_by, cleared_in, disabled, enabled, owner_at, picked, picked_in, res_number, vector_of, vector_set, watch_of, watch_put};
 ghost use Rattle.xs_instr.specs.Machine.{boot_events, boot_watches};
 ghost use Rattle.xs_instr.specs.Resources.{is_num};
+ghost use Rattle.xs_instr.specs.Sight.{some_enabled};
 
 use crate::Ready;
 use std::alloc::Global;
@@ -101,6 +102,7 @@ impl Events {
         ensures picked { result ≡ picked self.now thread (readiness_of ready.now) }
         ensures none { IfNone result (NonePickable self.now thread (readiness_of ready.now)) }
         ensures least { IfSome result (IsLeastPickable self.now thread (readiness_of ready.now)) }
+        ensures all { HasAll self.now }
     {
         if let Some(n) = first_ready(self.watched.ports.as_slice(), ready.ports, thread) {
             return Some(Res::Port(n));
@@ -112,6 +114,14 @@ impl Events {
             Some(n) => Some(Res::End(n)),
             None => None,
         }
+    }
+
+    /// Whether the thread enabled a port or a timer.
+    pub fn has_timed(&self, thread: u8) -> bool
+        ensures { result ≡ (some_enabled self.now.ports thread || some_enabled self.now.timers thread) }
+    {
+        enabled_one(self.watched.ports.as_slice(), thread)
+            || enabled_one(self.watched.timers.as_slice(), thread)
     }
 
     fn set_owner(&mut self, r: Res, owner: Option<u8>)
@@ -190,6 +200,17 @@ fn first_ready(watches: &[Watch], ready: u32, thread: u8) -> Option<u32>
         }
     }
     None
+}
+
+fn enabled_one(watches: &[Watch], thread: u8) -> bool
+    ensures { result ≡ some_enabled watches.now thread }
+{
+    for watch in watches {
+        if is_enabled_by(watch, thread) {
+            return true;
+        }
+    }
+    false
 }
 
 fn is_pickable(watch: &Watch, thread: u8, ready: u32, n: usize) -> bool

@@ -8,7 +8,7 @@ use Rattle.xs_instr.specs.declared.image.Image.{Image}
 use Rattle.xs_instr.specs.declared.image.Stim.{Stim}
 use Rattle.xs_instr.specs.declared.state.CoreState.{CoreState}
 use Rattle.xs_instr.specs.Machine.{home_of}
-use Rattle.xs_core.specs.declared.one_core.Core.{Core}
+use Rattle.xs_fabric.specs.Near.{Known as Core}
 use Rattle.xs_fabric.specs.Seen.{home_in, homes, state_in}
 
 home_among : (L : Image) (s : Stim) (i : ℕ) → i < 4 → slice_get (homes L s) i ≡ Some (home_of L s i)
@@ -42,9 +42,3 @@ none_past (x ∷ xs) (suc i) h = none_past xs i (omega (arith, h))
 
 pub no_core : (cores : List Core) (i : ℕ) → length cores ≡ 4 → 4 ≤ i → slice_get (map state_in cores) i ≡ None
 no_core cores i four h = none_past (map state_in cores) i (omega (arith, length-map cores state_in, four, h))
-
--- each core has eight threads
-pub eight : (cores : List Core) (i : ℕ) (state : CoreState) → slice_get (map state_in cores) i ≡ Some state → length state.threads ≡ 8
-eight [] i state g = cc
-eight (core ∷ cores) zero state g = ap (λ (s : CoreState). length s.threads) (sym (same_Some core.state state g)) ∙ core.plain.eight
-eight (core ∷ cores) (suc i) state g = eight cores i state g

@@ -26,8 +26,8 @@ use Rattle.xs_instr.specs.Registers.{reg_get}
 use Rattle.xs_instr.specs.Slot.{fetched, event_or_row, instr_at, pick_where, takes_events, turn_of, turn_at, slot, trapped, trapped_at, last_clock}
 use Rattle.xs_instr.specs.Machine.{Machine, boot, came, home_of}
 use Rattle.xs_fabric.specs.Lockstep.{Part, after, turn, turns, tick_if, tick_once, all_came, core_round, due_from, part_at, round_there, round_at, rounds_at, lockstep}
-use Rattle.xs_fabric.proofs.Lists.{get_set, get_set_other}
-use Rattle.xs_fabric.proofs.Weights.{same_num, get_below, length_set}
+use Rattle.xs_core.proofs.Lists.{get_set, get_set_other}
+use Rattle.xs_core.proofs.Weights.{same_num, get_below, length_set}
 
 -- the clock after a turn
 abbrev clock_after : CoreState → Did CoreState → ℕ

@@ -3,7 +3,7 @@ use Rattle.std.proofs.Common.{◌≡◌, List, map, subst}
 use Rattle.xs_instr.specs.declared.image.Image.{Image}
 use Rattle.xs_instr.specs.declared.image.Stim.{Stim}
 use Rattle.xs_instr.specs.declared.trace.Record.{Record}
-use Rattle.xs_core.specs.declared.one_core.Core.{Core}
+use Rattle.xs_fabric.specs.Near.{Known as Core}
 use Rattle.xs_fabric.specs.declared.totals.Totals.{Totals}
 use Rattle.xs_fabric.specs.EndWord.{sights}
 use Rattle.xs_fabric.specs.Seen.{home_in, homes, together}

@@ -3,10 +3,8 @@ mod Clocks
 mod Ends
 mod Idles
 mod Links
-mod Lists
 mod LockstepLeads
 mod Others
-mod Peers
 mod Quiet
 mod Rounds
 mod Rows
@@ -16,5 +14,5 @@ mod Steps
 mod Taken
 mod Together
 mod Turns
+mod Unsent
 mod Ways
-mod Weights

@@ -5,7 +5,7 @@ use Rattle.xs_instr.specs.declared.state.Item.{Item}
 use Rattle.xs_instr.specs.declared.state.Sent.{Sent}
 use Rattle.xs_instr.specs.Machine.{items_in, link_in, link_of, link_put_in, link_put, on_links}
 use Rattle.xs_fabric.specs.Lockstep.{late_from}
-use Rattle.xs_fabric.proofs.Lists.{set_same, set_past, get_set, get_set_other, set_twice}
+use Rattle.xs_core.proofs.Lists.{set_same, set_past, get_set, get_set_other, set_twice}
 
 abbrev pub Links : Type 0
 Links = List (List (List Item))

@@ -11,7 +11,7 @@ use Rattle.xs_instr.specs.declared.image.Home.{Home}
 use Rattle.xs_instr.specs.Slot.{slot, last_clock, trapped, fault_of}
 use Rattle.xs_instr.specs.Machine.{Machine, Event, Step, Tick, Move, and_then, does, runs, boot, home_of, link_of, link_put, on_links, noted, came}
 use Rattle.xs_fabric.specs.Lockstep.{Part, after, turn, turns, tick_if, tick_once, all_came, core_round, is_due, due_by, due_of, late_by, late_of, due_from, late_from, part_at, round_there, round_at, rounds_at, lockstep}
-use Rattle.xs_fabric.proofs.Lists.{set_same, get_set, set_twice, append_nothing, append_three}
+use Rattle.xs_core.proofs.Lists.{set_same, get_set, set_twice, append_nothing, append_three}
 use Rattle.xs_fabric.proofs.Links.{Links, put_same, put_twice, get_put, late_keeps, on_links_append}
 
 -- some events lead from m to m'

@@ -10,7 +10,7 @@ use Rattle.xs_instr.specs.declared.trace.Record.{Record}
 use Rattle.xs_instr.specs.Did.{Did, Made, Paused, Traps, Idle}
 use Rattle.xs_instr.specs.Slot.{slot, trapped, fault_of}
 use Rattle.xs_instr.specs.Machine.{Machine, Step, does, stepped, step_at, home_of, link_in, link_of, link_put, link_put_in, on_links, noted}
-use Rattle.xs_fabric.proofs.Lists.{get_set_other, append_nothing}
+use Rattle.xs_core.proofs.Lists.{get_set_other, append_nothing}
 use Rattle.xs_fabric.proofs.Links.{Links}
 
 -- what a step of core c keeps

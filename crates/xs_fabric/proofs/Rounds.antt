@@ -11,7 +11,7 @@ use Rattle.xs_instr.specs.Slot.{last_clock}
 use Rattle.xw_words.specs.Words.{truth}
 use Rattle.xs_fabric.specs.Lockstep.{Part, all_came, core_round, late_from, events_in, events_there, part_at, put_part, round_at, round_there, rounds_at, steps_in, tick_once, turns}
 use Rattle.xs_fabric.specs.Parts.{part, round_events}
-use Rattle.xs_fabric.proofs.Lists.{append_nothing}
+use Rattle.xs_core.proofs.Lists.{append_nothing}
 use Rattle.xs_fabric.proofs.Quiet.{due_from-no_links, late_from-no_links}
 use Rattle.xs_fabric.proofs.Turns.{behind, turns-behind, steps_in-behind}
 

@@ -10,12 +10,12 @@ use Rattle.xs_instr.specs.declared.trace.Record.{Record}
 use Rattle.xs_instr.specs.Ends.{Peer, peer_of}
 use Rattle.xs_instr.specs.Machine.{Machine, link_in, link_of, link_put, parts_in, came}
 use Rattle.xs_instr.specs.Valid.{Valid, IsThere}
-use Rattle.xs_fabric.specs.Room.{Kind, Tokens, Credits, weight, items_weight, on_way, level, ends_in, ends_of, total, HasRoom}
-use Rattle.xs_fabric.proofs.Lists.{get_set, get_set_other}
+use Rattle.xs_core.specs.Room.{Kind, Tokens, Credits, weight, items_weight, on_way, level, ends_in, ends_of, total, HasRoom}
+use Rattle.xs_core.proofs.Lists.{get_set, get_set_other}
 use Rattle.xs_fabric.proofs.Links.{Links, get_put_other}
-use Rattle.xs_fabric.proofs.Weights.{same_num, length_set, get_there, get_below, arrive, length_arrives, eq_itself}
+use Rattle.xs_core.proofs.Weights.{same_num, length_set, get_there, get_below, arrive, length_arrives, eq_itself}
 use Rattle.xs_fabric.proofs.Ways.{Square, square_put, get_put_there, get_put_column, way_put, way_column}
-use Rattle.xs_fabric.proofs.Peers.{peer_there, peer_twice, core_below}
+use Rattle.xs_core.proofs.Peers.{peer_there, peer_twice, core_below}
 use Rattle.xw_words.specs.Words.{truth}
 
 -- the end that something is for

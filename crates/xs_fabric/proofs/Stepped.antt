@@ -16,14 +16,14 @@ use Rattle.xs_instr.specs.Slot.{slot, ticked, last_clock, trapped, trapped_at, f
 use Rattle.xs_instr.specs.Machine.{Machine, Event, Step, Tick, Move, link_of, link_put, on_links, parts_in, home_of, noted, came, and_then, stepped, step_at, tick_by, tick_at, move_to, move_at, does, runs, boot, boot_end, no_links}
 use Rattle.xs_instr.specs.Valid.{Valid, IsThere}
 use Rattle.xs_fabric.specs.Changes.{Gives, Takes, Changes, sent_of, ends_after}
-use Rattle.xs_fabric.specs.Room.{Kind, Tokens, Credits, weights, items_weight, on_way, level, ends_in, ends_of, total}
-use Rattle.xs_fabric.proofs.Lists.{get_set, get_set_other}
+use Rattle.xs_core.specs.Room.{Kind, Tokens, Credits, weights, items_weight, on_way, level, ends_in, ends_of, total}
+use Rattle.xs_core.proofs.Lists.{get_set, get_set_other}
 use Rattle.xs_fabric.proofs.Rows.{slot_kept}
-use Rattle.xs_fabric.proofs.Weights.{same_num, length_set, get_below, length_all_arrive}
+use Rattle.xs_core.proofs.Weights.{same_num, length_set, get_below, length_all_arrive, weights_tokens, weights_tokens_here, weights_tokens_other, weights_credits, weights_credits_here, weights_credits_other}
 use Rattle.xs_fabric.proofs.Ways.{Square, square_sent}
-use Rattle.xs_fabric.proofs.Peers.{peer_there, core_below}
+use Rattle.xs_core.proofs.Peers.{peer_there, core_below}
 use Rattle.xs_fabric.proofs.Sound.{Sound, AllThere, AreBound, peer_at, machine, end_there, ends_new, ends_old, sizes_set, same_sound, move_sound}
-use Rattle.xs_fabric.proofs.Steps.{Shifts, sums_given, sums_taken, AllFor, all_for_tokens, all_for_credits, bound_sent, weights_tokens, weights_tokens_here, weights_tokens_other, weights_credits, weights_credits_here, weights_credits_other, post_here, post_none}
+use Rattle.xs_fabric.proofs.Steps.{Shifts, sums_given, sums_taken, AllFor, all_for_tokens, all_for_credits, bound_sent, post_here, post_none}
 
 -- one end of core c is changed
 abbrev changed : Machine → ℕ → CoreState → ℕ → ChanEnd → Machine

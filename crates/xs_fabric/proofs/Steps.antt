@@ -12,11 +12,11 @@ use Rattle.xs_instr.specs.declared.trace.Record.{Record}
 use Rattle.xs_instr.specs.Ends.{Peer, Gone, peer_of, all_sent, tokens_to, credits_to, goes_by}
 use Rattle.xs_instr.specs.Machine.{Machine, link_of, link_put, on_links}
 use Rattle.xs_instr.specs.Valid.{Valid, IsThere}
-use Rattle.xs_fabric.specs.Room.{Kind, Tokens, Credits, weights, level, ends_in, ends_of, total}
+use Rattle.xs_core.specs.Room.{Kind, Tokens, Credits, weights, level, ends_in, ends_of, total}
 use Rattle.xs_fabric.proofs.Links.{Links}
-use Rattle.xs_fabric.proofs.Weights.{same_num, arrive_all, eq_itself, eq_not}
+use Rattle.xs_core.proofs.Weights.{same_num, arrive_all, eq_itself, eq_not}
 use Rattle.xs_fabric.proofs.Ways.{Square, square_put, way_sent, way_sent_other}
-use Rattle.xs_fabric.proofs.Peers.{peer, peer_there, peer_twice}
+use Rattle.xs_core.proofs.Peers.{peer, peer_there, peer_twice}
 use Rattle.xs_fabric.proofs.Sound.{Sound, AllThere, AreBound, target, peer_at, machine, bound_put, ends_new, ends_old}
 use Rattle.xw_words.specs.Words.{truth}
 
@@ -94,30 +94,6 @@ module _ (L : Image) (valid : Valid L) where
           w is.0 is.1 in
           let b = s.kept _ _ (peer_there L valid x y g) far in
           omega (arith, sum, a, b)
-
-pub weights_tokens : (f y : ℕ) (ks : List Token) → weights Credits y (tokens_to f ks) ≡ 0
-weights_tokens f y [] = refl
-weights_tokens f y (k ∷ ks) = let r = weights_tokens f y ks in omega (arith, r)
-
-pub weights_tokens_here : (f : ℕ) (ks : List Token) → weights Tokens f (tokens_to f ks) ≡ length ks
-weights_tokens_here f [] = refl
-weights_tokens_here f (k ∷ ks) = let r = weights_tokens_here f ks in let s = ap truth (eq_itself f) in omega (arith, r, s)
-
-pub weights_tokens_other : (f y : ℕ) (ks : List Token) → f ≢ y → weights Tokens y (tokens_to f ks) ≡ 0
-weights_tokens_other f y [] n = refl
-weights_tokens_other f y (k ∷ ks) n = let r = weights_tokens_other f y ks n in let s = ap truth (eq_not f y n) in omega (arith, r, s)
-
-pub weights_credits : (f y n : ℕ) → weights Tokens y (credits_to f n) ≡ 0
-weights_credits f y zero = refl
-weights_credits f y (suc n) = let r = weights_credits f y n in omega (arith, r)
-
-pub weights_credits_here : (f n : ℕ) → weights Credits f (credits_to f n) ≡ n
-weights_credits_here f zero = refl
-weights_credits_here f (suc n) = let r = weights_credits_here f n in let s = ap truth (eq_itself f) in omega (arith, r, s)
-
-pub weights_credits_other : (f y n : ℕ) → f ≢ y → weights Credits y (credits_to f n) ≡ 0
-weights_credits_other f y zero ne = refl
-weights_credits_other f y (suc n) ne = let r = weights_credits_other f y n ne in let s = ap truth (eq_not f y ne) in omega (arith, r, s)
 
 abbrev pub AllFor : Image → ℕ → List Moved → Type 0
 AllFor L d [] = Unit {0}

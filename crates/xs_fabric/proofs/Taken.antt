@@ -11,12 +11,12 @@ use Rattle.xs_instr.specs.Machine.{no_links, noted, on_links, step_at, stepped}
 use Rattle.xs_instr.specs.Slot.{slot, trapped, turn_at}
 use Rattle.xs_core.specs.declared.did.Did.{Did as Answer}
 use Rattle.xs_core.specs.declared.did.Did.TheVariants.{Made as DidMake, Paused as DidPause, Trapped as DidTrap, Idle as DidRest}
-use Rattle.xs_core.specs.Turn.{IsTurn}
+use Rattle.xs_core.specs.Slots.{IsTurn}
 use Rattle.xs_fabric.specs.declared.machine.Event.TheVariants.{Done, NotEnabled}
 use Rattle.xs_fabric.specs.Lockstep.{Part, after, turn}
 use Rattle.xs_fabric.specs.Parts.{part}
 use Rattle.xs_fabric.specs.Seen.{IsEvent}
-use Rattle.xs_fabric.proofs.Lists.{set_same}
+use Rattle.xs_core.proofs.Lists.{set_same}
 use Rattle.xs_fabric.proofs.Rounds.{still}
 
 -- the trace after an answer of core c
@@ -26,11 +26,11 @@ told_by c trace DidPause = trace
 told_by c trace (DidTrap kind pos) = trace ++ Fault c pos kind ∷ []
 told_by c trace DidRest = trace
 
-after_is : (home : Home) (old new : CoreState) (t : ℕ) (trace : List Record) (d : Did CoreState) (answer : Answer) → IsTurn d home old t answer new → part new (told_by home.number trace answer) ≡ after home (part old trace) t d
+after_is : (home : Home) (old new : CoreState) (t : ℕ) (trace : List Record) (d : Did CoreState) (answer : Answer) → IsTurn d home old t answer new [] [] → part new (told_by home.number trace answer) ≡ after home (part old trace) t d
 after_is home old new t trace (Made core made sent) (DidMake told) h = let a = h.0 in let b = h.1 in let c = h.2 in cc
-after_is home old new t trace Paused DidPause h = ap (λ core. part core trace) h
+after_is home old new t trace Paused DidPause h = ap (λ core. part core trace) h.0
 after_is home old new t trace (Traps kind) (DidTrap trap pos) h = let a = h.0 in let b = h.1 in let c = h.2 in cc
-after_is home old new t trace Idle DidRest h = ap (λ core. part core trace) h
+after_is home old new t trace Idle DidRest h = ap (λ core. part core trace) h.0
 after_is home old new t trace (Made core made sent) DidPause h = absurd h
 after_is home old new t trace (Made core made sent) (DidTrap trap pos) h = absurd h
 after_is home old new t trace (Made core made sent) DidRest h = absurd h
@@ -44,7 +44,7 @@ after_is home old new t trace Idle (DidMake told) h = absurd h
 after_is home old new t trace Idle DidPause h = absurd h
 after_is home old new t trace Idle (DidTrap trap pos) h = absurd h
 
-pub turn_is : (home : Home) (old new : CoreState) (t : ℕ) (trace trace' : List Record) (answer : Answer) → IsTurn (slot home old t) home old t answer new → trace' ≡ told_by home.number trace answer → part new trace' ≡ turn home (part old trace) t
+pub turn_is : (home : Home) (old new : CoreState) (t : ℕ) (trace trace' : List Record) (answer : Answer) → IsTurn (slot home old t) home old t answer new [] [] → trace' ≡ told_by home.number trace answer → part new trace' ≡ turn home (part old trace) t
 unfolding turn
 turn_is home old new t trace trace' answer h e = ap (part new) e ∙ after_is home old new t trace (slot home old t) answer h
 

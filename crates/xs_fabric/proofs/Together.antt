@@ -1,19 +1,22 @@
 -- Steps and rounds of a core among the four.
 use Rattle.std.proofs.Common.{◌≡◌, ℕ, ◌+◌, ◌<◌, ◌≤◌, Bool, true, false, List, map, length, Some, refl, sym, ap, ◌∙◌, subst, arith}
-use Rattle.std.specs.Prelude.{slice_get, slice_set}
+use Rattle.std.specs.Prelude.{nat_lt, slice_get, slice_set}
 use Rattle.xs_instr.specs.declared.image.Home.{Home}
 use Rattle.xs_instr.specs.declared.image.Image.{Image}
 use Rattle.xs_instr.specs.declared.image.Stim.{Stim}
+use Rattle.std.proofs.lemmas.Option.{same_Some}
+use Rattle.xs_instr.specs.declared.state.CoreState.{CoreState}
 use Rattle.xs_instr.specs.declared.trace.Record.{Record}
 use Rattle.xs_instr.specs.Did.{is_step}
-use Rattle.xs_instr.specs.Machine.{Machine as State, home_of, step_at}
-use Rattle.xs_instr.specs.Slot.{slot}
-use Rattle.xs_core.specs.declared.one_core.Core.{Core}
+use Rattle.xs_instr.specs.Machine.{Machine as State, home_of, step_at, tick_at, tick_by}
+use Rattle.xs_instr.specs.Slot.{last_clock, slot, ticked}
+use Rattle.xs_fabric.specs.Near.{Known as Core}
 use Rattle.xs_fabric.specs.declared.machine.Event.TheVariants.{Done, NotEnabled}
 use Rattle.xs_fabric.specs.Lockstep.{events_in, rounds_at, tick_once, turn, turns}
 use Rattle.xs_fabric.specs.Parts.{part, round_events}
 use Rattle.xs_fabric.specs.Seen.{IsEvent, home_in, homes, state_in, together}
-use Rattle.xs_fabric.proofs.Among.{eight, home_at, no_core, none_past, state_at, states_set}
+use Rattle.xs_core.proofs.Lists.{set_same}
+use Rattle.xs_fabric.proofs.Among.{home_at, no_core, none_past, state_at, states_set}
 use Rattle.xs_fabric.proofs.Rounds.{events_next, rounds_next, still}
 use Rattle.xs_fabric.proofs.Taken.{no_step_of, step_done, step_not_done}
 
@@ -23,10 +26,24 @@ no_core_step L s cores trace i t four far =
     no_step_of (home_of L s i) (map state_in cores) trace i t (slice_get (map state_in cores) i) refl
     (λ old e. let none = no_core cores i four far in absurd (cc))
 
-pub no_thread_step : (L : Image) (s : Stim) (cores : List Core) (trace : List Record) (i t : ℕ) → 8 ≤ t → IsEvent (step_at (home_of L s i) (together cores trace) i t (slice_get (map state_in cores) i)) (together cores trace) NotEnabled (together cores trace)
-no_thread_step L s cores trace i t far =
+pub no_thread_step : (L : Image) (s : Stim) (cores : List Core) (trace : List Record) (i t : ℕ) (core : Core) → slice_get cores i ≡ Some core → length core.state.threads ≡ 8 → 8 ≤ t → IsEvent (step_at (home_of L s i) (together cores trace) i t (slice_get (map state_in cores) i)) (together cores trace) NotEnabled (together cores trace)
+no_thread_step L s cores trace i t core there eight far =
     no_step_of (home_of L s i) (map state_in cores) trace i t (slice_get (map state_in cores) i) refl
-    (λ old e. let n = eight cores i old e in none_past old.threads t (omega (arith, n, far)))
+    (λ old e.
+    let same : core.state ≡ old = same_Some core.state old (sym (state_at cores i core there) ∙ e) in
+    none_past old.threads t (let n = ap (λ (x : CoreState). length x.threads) same in omega (arith, n, eight, far)))
+
+-- a tick of a core that can tick, and of one that can't
+pub core_ticks : (cores : List Core) (trace : List Record) (i : ℕ) (core new : Core) → slice_get cores i ≡ Some core → nat_lt core.state.clock last_clock ≡ true → new.state ≡ ticked core.state → IsEvent (tick_at (together cores trace) i (slice_get (map state_in cores) i)) (together cores trace) Done (together (slice_set cores i new) trace)
+core_ticks cores trace i core new there can is =
+    subst (λ o. IsEvent (tick_at (together cores trace) i o) (together cores trace) Done (together (slice_set cores i new) trace)) (sym (state_at cores i core there))
+    (subst (λ b. IsEvent (tick_by (together cores trace) i core.state b) (together cores trace) Done (together (slice_set cores i new) trace)) (sym can)
+    (ap (λ l. still l trace) (states_set cores i new ∙ ap (λ v. slice_set (map state_in cores) i v) is)))
+
+pub core_waits : (cores : List Core) (trace : List Record) (i : ℕ) (core : Core) → slice_get cores i ≡ Some core → nat_lt core.state.clock last_clock ≡ false → IsEvent (tick_at (together cores trace) i (slice_get (map state_in cores) i)) (together cores trace) NotEnabled (together (slice_set cores i core) trace)
+core_waits cores trace i core there cannot =
+    subst (λ o. IsEvent (tick_at (together cores trace) i o) (together cores trace) NotEnabled (together (slice_set cores i core) trace)) (sym (state_at cores i core there))
+    (subst (λ b. IsEvent (tick_by (together cores trace) i core.state b) (together cores trace) NotEnabled (together (slice_set cores i core) trace)) (sym cannot) (ap (λ (l : List Core). together l trace) (set_same cores i core there)))
 
 module _ (L : Image) (s : Stim) (cores : List Core) (trace trace' : List Record) (i : ℕ) (core new : Core) (lt : i < 4) (of : map home_in cores ≡ homes L s) (there : slice_get cores i ≡ Some core) where
   set_is : still (slice_set (map state_in cores) i new.state) trace' ≡ together (slice_set cores i new) trace'

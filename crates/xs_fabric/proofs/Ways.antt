@@ -5,10 +5,10 @@ use Rattle.xs_instr.specs.declared.state.Item.{Item}
 use Rattle.xs_instr.specs.declared.state.Moved.{Moved}
 use Rattle.xs_instr.specs.Ends.{all_sent}
 use Rattle.xs_instr.specs.Machine.{items_in, link_in, link_of, link_put, link_put_in, on_links}
-use Rattle.xs_fabric.specs.Room.{Kind, weights, items_weight, on_way}
-use Rattle.xs_fabric.proofs.Lists.{get_set, get_set_other}
+use Rattle.xs_core.specs.Room.{Kind, weights, items_weight, on_way}
+use Rattle.xs_core.proofs.Lists.{get_set, get_set_other}
 use Rattle.xs_fabric.proofs.Links.{Links, get_put_other}
-use Rattle.xs_fabric.proofs.Weights.{same_num, length_set, get_there}
+use Rattle.xs_core.proofs.Weights.{same_num, length_set, get_there}
 
 -- four links out of each of four cores
 pub record Square (links : Links) : Type 0 where

@@ -1,7 +1,8 @@
 pub mod Changes
 pub mod EndWord
 pub mod Lockstep
+pub mod Near
+pub mod NearInside
 pub mod Parts
-pub mod Room
 pub mod Seen
 pub mod Totals

@@ -6,7 +6,7 @@ use Rattle.xs_instr.specs.declared.image.Stim.{Stim}
 use Rattle.xs_instr.specs.declared.state.CoreState.{CoreState}
 use Rattle.xs_instr.specs.declared.trace.Record.{Record}
 use Rattle.xs_instr.specs.Machine.{Machine as State, home_of, no_links, boot}
-use Rattle.xs_core.specs.declared.one_core.Core.{Core}
+use Rattle.xs_fabric.specs.Near.{Known as Core}
 use Rattle.xs_fabric.specs.declared.machine.Event.{Event}
 use Rattle.xs_fabric.specs.declared.machine.Event.TheVariants.{Done, NotEnabled}
 use Rattle.xs_fabric.specs.declared.machine.Machine.{Machine}

@@ -1,6 +1,6 @@
 ghost use Rattle.std.specs.Prelude.{◌≡◌, ◌≢◌, ◌<◌, ◌^◌, ◌+◌, ◌++◌, ℕ, List as Items, ◌∷◌, Some, slice_get};
 ghost use Rattle.xs_fabric.specs.Lockstep.{lockstep};
-ghost use Rattle.xs_fabric.specs.Room.{Tokens, Credits, total, ends_of, HasRoom};
+ghost use Rattle.xs_core.specs.Room.{Tokens, Credits, total, ends_of, HasRoom};
 ghost use Rattle.xs_instr.specs.Ends.{peer_of};
 ghost use Rattle.xs_instr.specs.Machine.{Event, Machine, Step, boot, does, link_of, runs};
 ghost use Rattle.xs_instr.specs.Slot.{is_ready, is_ready_by_words};
@@ -15,33 +15,43 @@ ghost use Rattle.xs_instr.specs.declared.trace.Record.{Record};
 /// The run in lockstep is a run of events, each enabled where it stands. So what is proved of every run of an image
 /// holds of the one that is written.
 pub fn lockstep_is_a_run()
-    ensures { (L : Image) (s : Stim) (n : ℕ) → (events : Items Event) × (runs L s (boot L) events ≡ Some (lockstep L s n)) }
+    ensures { (L : Image) (s : Stim) (n : ℕ) →
+        (events : Items Event) × (runs L s (boot L) events ≡ Some (lockstep L s n)) }
 {}
 
 /// After n rounds each clock is n.
 pub fn clocks_count_rounds()
-    ensures { (L : Image) (s : Stim) (n c : ℕ) (core : CoreState) → n < 2 ^ 32 → slice_get (lockstep L s n).cores c ≡ Some core → core.clock ≡ n }
+    ensures { (L : Image) (s : Stim) (n c : ℕ) (core : CoreState) → n < 2 ^ 32 →
+        slice_get (lockstep L s n).cores c ≡ Some core → core.clock ≡ n }
 {}
 
 /// A thread is ready, its turn being a step, exactly where it runs, and it may take an event or its next instruction
 /// doesn't pause.
 pub fn ready_is_as_said()
-    ensures { (home : Home) (core : CoreState) (t : ℕ) → is_ready home core t ≡ is_ready_by_words home core t }
+    ensures { (home : Home) (core : CoreState) (t : ℕ) → is_ready home core t
+        ≡ is_ready_by_words home core t }
 {}
 
 /// A step changes no other core and no link out of another core, and only adds to the trace.
 pub fn step_keeps_others()
-    ensures cores { (L : Image) (s : Stim) (m m' : Machine) (c t d : ℕ) → does L s m (Step c t) ≡ Some m' → c ≢ d → slice_get m'.cores d ≡ slice_get m.cores d }
-    ensures links { (L : Image) (s : Stim) (m m' : Machine) (c t a b : ℕ) → does L s m (Step c t) ≡ Some m' → c ≢ a → link_of m'.links a b ≡ link_of m.links a b }
-    ensures trace { (L : Image) (s : Stim) (m m' : Machine) (c t : ℕ) → does L s m (Step c t) ≡ Some m' → (more : Items Record) × (m'.trace ≡ m.trace ++ more) }
+    ensures cores { (L : Image) (s : Stim) (m m' : Machine) (c t d : ℕ) → does L s m (Step c t)
+        ≡ Some m' → c ≢ d → slice_get m'.cores d ≡ slice_get m.cores d }
+    ensures links { (L : Image) (s : Stim) (m m' : Machine) (c t a b : ℕ) → does L s m (Step c t)
+        ≡ Some m' → c ≢ a → link_of m'.links a b ≡ link_of m.links a b }
+    ensures trace { (L : Image) (s : Stim) (m m' : Machine) (c t : ℕ) → does L s m (Step c t)
+        ≡ Some m' → (more : Items Record) × (m'.trace ≡ m.trace ++ more) }
 {}
 
 /// In each run of a valid image an end's credits, its peer's tokens, and those on their way add up to 8.
 pub fn pairs_count_eight()
-    ensures { (L : Image) (s : Stim) (events : Items Event) (m : Machine) (c e : ℕ) → Valid L → runs L s (boot L) events ≡ Some m → IsThere L.cores c e → total Credits m c e + total Tokens m (peer_of L.chans c e).core (peer_of L.chans c e).end ≡ 8 }
+    ensures { (L : Image) (s : Stim) (events : Items Event) (m : Machine) (c e : ℕ) → Valid L →
+        runs L s (boot L) events ≡ Some m → IsThere L.cores c e → total Credits m c e + total Tokens
+        m (peer_of L.chans c e).core (peer_of L.chans c e).end ≡ 8 }
 {}
 
 /// In each run of a valid image the end of a link's first item has room for it.
 pub fn first_item_has_room()
-    ensures { (L : Image) (s : Stim) (events : Items Event) (m : Machine) (a b : ℕ) (i : Item) (rest : Items Item) → Valid L → runs L s (boot L) events ≡ Some m → link_of m.links a b ≡ i ∷ rest → HasRoom (ends_of m b) i.moved }
+    ensures { (L : Image) (s : Stim) (events : Items Event) (m : Machine) (a b : ℕ) (i : Item)
+        (rest : Items Item) → Valid L → runs L s (boot L) events ≡ Some m → link_of m.links a b
+        ≡ i ∷ rest → HasRoom (ends_of m b) i.moved }
 {}

@@ -4,6 +4,7 @@
 mod cores;
 mod law;
 mod machine;
+mod near;
 mod totals;
 
 pub use law::{

@@ -3,14 +3,14 @@ ghost use Rattle.xs_instr.specs.Machine.{Step, Tick, does};
 ghost use Rattle.xs_instr.specs.Valid.{Valid, IsGoodStim};
 ghost use Rattle.xs_instr.specs.declared.image.Image.{Image};
 ghost use Rattle.xs_instr.specs.declared.image.Stim.{Stim};
-ghost use Rattle.xs_core.specs.Built.{IsBuilt};
+ghost use Rattle.xs_fabric.specs.Near.{AreNear};
 ghost use Rattle.xs_fabric.specs.EndWord.{end_of, has_trap};
 ghost use Rattle.xs_fabric.specs.Lockstep.{events_in, rounds_at};
 
 use crate::cores::{all_rounds, boot_cores, step_core, tick_core};
+use crate::near::NearCore;
 use crate::totals::{sum_of_sights, word_of};
 use std::alloc::Global;
-use xs_core::Core;
 use xs_instr::{EndWord, Image, Record, Stim};
 use xw_words::Memory;
 
@@ -24,7 +24,7 @@ pub enum Event {
 /// Four cores, and what they recorded so far. `room` is for how many records memory is reserved.
 #[derive(Drop)]
 pub struct Machine {
-    cores: Vec<Core>,
+    cores: Vec<NearCore>,
     trace: Vec<Record>,
     ghost four: { vec_len cores ≡ 4 },
 }
@@ -32,11 +32,11 @@ pub struct Machine {
 impl Machine {
     ghost use Rattle.xs_fabric.specs.Seen.{IsBooted, IsEvent, IsRunOf, homes_of, room_of, state_of};
 
-    /// The machine of an image under a stimulus, as it starts. It has no room for records yet. The one error is want of
+    /// The machine of an image under a stimulus, as it starts; each channel of the image joins two ends of one core. It has no room for records yet. The one error is want of
     /// memory.
     pub fn boot(alloc: Global, image: &Image, stim: &Stim) -> Result<Machine, Memory>
         requires valid { Valid image.now }
-        requires built { IsBuilt image.now }
+        requires near { AreNear image.now.chans }
         requires stim { IsGoodStim stim.now }
         ensures booted { IfOk result (λ machine. IsBooted image.now stim.now machine) }
     {
@@ -85,8 +85,10 @@ impl Machine {
     /// events it had. It needs room for 32 records.
     pub fn round(&mut self) -> u32
         requires room { 32 ≤ room_of self.old }
-        ensures state { (L : Image) (s : Stim) → IsRunOf L s self.old → state_of self.new ≡ rounds_at L s (state_of self.old) 4 }
-        ensures events { (L : Image) (s : Stim) → IsRunOf L s self.old → result ≡ events_in L s (state_of self.old) 4 }
+        ensures state { (L : Image) (s : Stim) → IsRunOf L s self.old → state_of self.new
+            ≡ rounds_at L s (state_of self.old) 4 }
+        ensures events { (L : Image) (s : Stim) → IsRunOf L s self.old → result
+            ≡ events_in L s (state_of self.old) 4 }
         ensures run { homes_of self.new ≡ homes_of self.old }
         ensures room { room_of self.old ≤ room_of self.new + 32 }
     {
@@ -102,14 +104,16 @@ impl Machine {
 
     /// How a run ends that ends here.
     pub fn end(&self) -> EndWord
-        ensures { (L : Image) (s : Stim) → IsRunOf L s self.now → result ≡ end_of L s (state_of self.now) }
+        ensures { (L : Image) (s : Stim) → IsRunOf L s self.now → result
+            ≡ end_of L s (state_of self.now) }
     {
         word_of(sum_of_sights(self.cores.as_slice()))
     }
 
     /// Whether some thread is trapped.
     pub fn trapped(&self) -> bool
-        ensures { (L : Image) (s : Stim) → IsRunOf L s self.now → result ≡ has_trap L s (state_of self.now) }
+        ensures { (L : Image) (s : Stim) → IsRunOf L s self.now → result
+            ≡ has_trap L s (state_of self.now) }
     {
         sum_of_sights(self.cores.as_slice()).trapped != 0
     }

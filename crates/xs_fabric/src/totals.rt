@@ -8,7 +8,7 @@ ghost use Rattle.xs_fabric.specs.EndWord.{end_word, sights};
 ghost use Rattle.xs_fabric.specs.Seen.{home_in, homes, together};
 ghost use Rattle.xs_fabric.specs.Totals.{seen_as};
 
-use xs_core::Core;
+use crate::near::NearCore;
 use xs_instr::EndWord;
 
 /// How many roots of the four cores haven't ended, and how many threads are in use, are trapped, are ready, and wait on a
@@ -23,9 +23,10 @@ pub struct Totals {
 }
 
 /// The sums over the four cores.
-pub fn sum_of_sights(cores: &[Core]) -> Totals
+pub fn sum_of_sights(cores: &[NearCore]) -> Totals
     requires { length cores.now ≡ 4 }
-    ensures { (L : Image) (s : Stim) (trace : Items Record) → map home_in cores.now ≡ homes L s → seen_as result ≡ sights L s (together cores.now trace) 4 }
+    ensures { (L : Image) (s : Stim) (trace : Items Record) → map home_in cores.now ≡ homes L s →
+        seen_as result ≡ sights L s (together cores.now trace) 4 }
 {
     let a = cores[0].sight();
     let b = cores[1].sight();

@@ -77,8 +77,8 @@ impl Pool {
         }
     }
 
-    /// Whether a number is taken. A number that the kind doesn't have never is.
-    pub fn taken(&self, k: PoolKind, n: u8) -> bool
+    /// The same as `taken`, for a number of any size.
+    pub fn has(&self, k: PoolKind, n: u32) -> bool
         ensures taken { result ≡ is_taken self.now k n }
         ensures counted { OnTrue result (n < count_of k) }
     {
@@ -86,6 +86,18 @@ impl Pool {
             PoolKind::Thread => has_taken(&self.threads, n),
             PoolKind::Sync => has_taken(&self.syncs, n),
             PoolKind::Lock => has_taken(&self.locks, n),
+        }
+    }
+
+    /// Whether a number is taken. A number that the kind doesn't have never is.
+    pub fn taken(&self, k: PoolKind, n: u8) -> bool
+        ensures taken { result ≡ is_taken self.now k n }
+        ensures counted { OnTrue result (n < count_of k) }
+    {
+        match k {
+            PoolKind::Thread => has_taken(&self.threads, n as u32),
+            PoolKind::Sync => has_taken(&self.syncs, n as u32),
+            PoolKind::Lock => has_taken(&self.locks, n as u32),
         }
     }
 }
@@ -112,14 +124,14 @@ fn let_go(taken: &mut [bool], n: u8) -> bool
     ensures freed { OnTrue result (taken.new ≡ slice_set taken.old n false) }
     ensures refused { OnFalse result (taken.new ≡ taken.old) }
 {
-    if !has_taken(taken, n) {
+    if !has_taken(taken, n as u32) {
         return false;
     }
     taken[n as usize] = false;
     true
 }
 
-fn has_taken(taken: &[bool], n: u8) -> bool
+fn has_taken(taken: &[bool], n: u32) -> bool
     ensures taken { result ≡ taken_at taken.now n }
     ensures counted { OnTrue result (n < length taken.now) }
 {

@@ -1,5 +1,5 @@
 -- What the calls on ports give and leave.
-use Rattle.std.specs.Prelude.{ℕ, List, [], Option, Some, None, slice_index_or, slice_set}
+use Rattle.std.specs.Prelude.{ℕ, Bool, ◌||◌, List, [], Option, Some, None, slice_index_or, slice_set}
 use Rattle.xs_instr.specs.declared.image.Dir.TheVariants.{Both}
 use Rattle.xs_instr.specs.declared.image.Home.{Home}
 use Rattle.xs_instr.specs.declared.image.StimLine.{StimLine}
@@ -8,7 +8,8 @@ use Rattle.xs_instr.specs.declared.state.PortGot.{PortGot}
 use Rattle.xs_instr.specs.declared.trace.Record.TheVariants.{PortOut}
 use Rattle.xs_instr.specs.Did.{Did, Given, Made, Paused}
 use Rattle.xs_instr.specs.Machine.{boot_port, no_parts}
-use Rattle.xs_instr.specs.Ports.{got_record}
+use Rattle.xs_instr.specs.Ports.{got_record, meets}
+use Rattle.xs_instr.specs.Slot.{is_there}
 use Rattle.xs_port.specs.State.{PortsState}
 
 -- a port's place is below the count, so that this one is never meant
@@ -40,3 +41,7 @@ input_turn s port (Some got) left = Made (record { left = left; value = got.valu
 abbrev pub output_turn : PortsState → Port → Option PortGot → List Port → Did (List Port)
 output_turn s port None left = Paused
 output_turn s port (Some got) left = Made left (Some (PortOut s.core port.decl.port got.stamp got.value)) []
+
+-- whether an input passes: something is latched, or the port meets
+abbrev pub passes_input : Home → ℕ → Port → Bool
+passes_input home clock port = is_there port.latch || meets home clock port

@@ -91,6 +91,13 @@ impl Pins {
         self.clock
     }
 
+    /// The number of the core.
+    pub fn core(&self) -> u8
+        ensures { result ≡ self.now.core }
+    {
+        self.core
+    }
+
     /// The pins of the port with that identifier.
     pub fn of(&self, id: u8) -> u32
         ensures { result ≡ pins_from self.now.stim self.now.core id self.now.clock 0 }

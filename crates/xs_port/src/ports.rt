@@ -1,10 +1,10 @@
 // The ports of a core.
 
-ghost use Rattle.std.specs.Prelude.{◌≡◌, ◌≢◌, ◌%◌, ◌^◌, ◌<◌, ◌≤◌, ◌↔◌, Some, None, false, length, map, IfOk, IfNone};
+ghost use Rattle.std.specs.Prelude.{◌≡◌, ◌≢◌, ◌%◌, ◌^◌, ◌<◌, ◌≤◌, ◌↔◌, Some, None, false, length, map, nat_lt, IfOk, IfNone};
 ghost use Rattle.xs_instr.specs.Machine.{boot_port, boot_ports};
 ghost use Rattle.xs_instr.specs.Ports as rules;
 ghost use Rattle.xs_instr.specs.Valid.{AreGoodPorts, IsGoodStim};
-ghost use Rattle.xs_port.specs.Ports.{port_at, with_port, boot_seen, home_of, input_turn, output_turn};
+ghost use Rattle.xs_port.specs.Ports.{port_at, with_port, boot_seen, home_of, input_turn, output_turn, passes_input};
 
 use crate::meeting::{counter, low_bits, pins_meet, time_meets};
 use crate::pins::Pins;
@@ -52,6 +52,51 @@ impl Ports {
         ensures { self.new ≡ record self.old { clock = clock } }
     {
         self.pins.tick(clock);
+    }
+
+    /// The clock that was told last, in ticks.
+    pub fn clock(&self) -> u32
+        ensures { result ≡ self.now.clock }
+    {
+        self.pins.clock()
+    }
+
+    /// The number of the core.
+    pub fn core(&self) -> u8
+        ensures { result ≡ self.now.core }
+    {
+        self.pins.core()
+    }
+
+    /// Whether there is a port at a place.
+    pub fn has(&self, p: u32) -> bool
+        ensures { result ≡ nat_lt p (length self.now.ports) }
+    {
+        (p as usize) < self.ports.len()
+    }
+
+    /// The port's identifier and the way that it goes.
+    pub fn decl(&self, p: u32) -> PortDecl
+        requires { p < length self.now.ports }
+        ensures { result ≡ (port_at self.now p).decl }
+    {
+        self.port(p).decl
+    }
+
+    /// Whether an output would pass now: no time is set, or the counter is there.
+    pub fn can_drive(&self, p: u32) -> bool
+        requires { p < length self.now.ports }
+        ensures { result ≡ rules.time_meets (port_at self.now p).time (rules.counter self.now.clock) }
+    {
+        time_meets(self.port(p).time, self.counter())
+    }
+
+    /// Whether an input would pass now: something is latched, or the port meets.
+    pub fn can_read(&self, p: u32) -> bool
+        requires { p < length self.now.ports }
+        ensures { result ≡ passes_input (home_of self.now) self.now.clock (port_at self.now p) }
+    {
+        self.port(p).latch.is_some() || self.meets(p)
     }
 
     /// The port's pins: the value of the stimulus's last line for it at or before the clock, else 0.

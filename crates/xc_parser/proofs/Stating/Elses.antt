@@ -15,6 +15,9 @@ use Rattle.xc_parser.proofs.Rests.Behinds.{token_derived, token_derives}
 use Rattle.xc_parser.proofs.Derivations.Lists.{unrow, unend}
 use Rattle.xc_parser.proofs.Derivations.Forth.{forth, lift, strict}
 
+never : false ≡ true → ⊥
+never e = cc
+
 abbrev last_of : Symbol → List Symbol → Symbol
 last_of s [] = s
 last_of s (t ∷ ts) = last_of t ts
@@ -59,12 +62,12 @@ module _ (toks : List Tok) where
       from_starts toks unlimited statement i (j + 1) (inr (inr (inr (inr (inr (inr (inr (inl (tt, after ka (after kb (after kc (after kd (after shut (in_this (whole (token_derives else_word on))))))))))))))))
 
   step : (n : ℕ) → Goes n → (i j : ℕ) (v : plain.Statement) (p : Pos) → j ≤ i + suc n → ByRules toks unlimited (rules statement) i j v → is_open v ≡ true → On toks j (Key 7) p → Prefix toks unlimited statement i (j + 1)
-  step n rec i j v p l (inl x) o on = let e = ap is_open (sym' x.4) ∙ o in absurd (cc)
-  step n rec i j v p l (inr (inl x)) o on = let e = ap is_open (sym' x.4) ∙ o in absurd (cc)
-  step n rec i j v p l (inr (inr (inl x))) o on = let e = ap is_open (sym' x.4) ∙ o in let g = assign_shut (unrow x.2).1 in absurd (cc)
-  step n rec i j v p l (inr (inr (inr (inl x)))) o on = let e = ap is_open (sym' x.4) ∙ o in absurd (cc)
-  step n rec i j v p l (inr (inr (inr (inr (inl x))))) o on = let e = ap is_open (sym' x.4) ∙ o in absurd (cc)
-  step n rec i j v p l (inr (inr (inr (inr (inr (inl x)))))) o on = let e = ap is_open (sym' x.4) ∙ o in absurd (cc)
+  step n rec i j v p l (inl x) o on = absurd (never (ap is_open (sym' x.4) ∙ o))
+  step n rec i j v p l (inr (inl x)) o on = absurd (never (ap is_open (sym' x.4) ∙ o))
+  step n rec i j v p l (inr (inr (inl x))) o on = absurd (never (sym' (assign_shut (unrow x.2).1) ∙ (ap is_open (sym' x.4) ∙ o)))
+  step n rec i j v p l (inr (inr (inr (inl x)))) o on = absurd (never (ap is_open (sym' x.4) ∙ o))
+  step n rec i j v p l (inr (inr (inr (inr (inl x))))) o on = absurd (never (ap is_open (sym' x.4) ∙ o))
+  step n rec i j v p l (inr (inr (inr (inr (inr (inl x)))))) o on = absurd (never (ap is_open (sym' x.4) ∙ o))
   step n rec i j v p l (inr (inr (inr (inr (inr (inr (inl x))))))) o on =
       let a = unrow x.2 in
       let b = unrow a.2 in
@@ -89,24 +92,24 @@ module _ (toks : List Tok) where
       let first = (token_derived {t = while_word} refl a.1).0 in
       let s : is_open x.0.1.1.1.1.0 ≡ true = ap is_open (sym' x.4) ∙ o in
       from_starts toks unlimited statement i (j + 1) (inr (inr (inr (inr (inr (inr (inr (inr (inl (tt, after a.1 (extend a.2 (λ k h e. rec k j x.0.1.1.1.1.0 p (omega (arith, first)) e s on))))))))))))
-  step n rec i j v p l (inr (inr (inr (inr (inr (inr (inr (inr (inr (inl x)))))))))) o on = let e = ap is_open (sym' x.4) ∙ o in absurd (cc)
+  step n rec i j v p l (inr (inr (inr (inr (inr (inr (inr (inr (inr (inl x)))))))))) o on = absurd (never (ap is_open (sym' x.4) ∙ o))
   step n rec i j v p l (inr (inr (inr (inr (inr (inr (inr (inr (inr (inr (inl x))))))))))) o on =
       let a = unrow x.2 in
       let first = (token_derived {t = for_word} refl a.1).0 in
       let s : is_open x.0.1.1.1.1.1.1.1.1.0 ≡ true = ap is_open (sym' x.4) ∙ o in
       from_starts toks unlimited statement i (j + 1) (inr (inr (inr (inr (inr (inr (inr (inr (inr (inr (inl (tt, after a.1 (extend a.2 (λ k h e. rec k j x.0.1.1.1.1.1.1.1.1.0 p (omega (arith, first)) e s on))))))))))))))
-  step n rec i j v p l (inr (inr (inr (inr (inr (inr (inr (inr (inr (inr (inr (inl x)))))))))))) o on = let e = ap is_open (sym' x.4) ∙ o in absurd (cc)
-  step n rec i j v p l (inr (inr (inr (inr (inr (inr (inr (inr (inr (inr (inr (inr (inl x))))))))))))) o on = let e = ap is_open (sym' x.4) ∙ o in absurd (cc)
-  step n rec i j v p l (inr (inr (inr (inr (inr (inr (inr (inr (inr (inr (inr (inr (inr (inl x)))))))))))))) o on = let e = ap is_open (sym' x.4) ∙ o in absurd (cc)
-  step n rec i j v p l (inr (inr (inr (inr (inr (inr (inr (inr (inr (inr (inr (inr (inr (inr (inl x))))))))))))))) o on = let e = ap is_open (sym' x.4) ∙ o in absurd (cc)
+  step n rec i j v p l (inr (inr (inr (inr (inr (inr (inr (inr (inr (inr (inr (inl x)))))))))))) o on = absurd (never (ap is_open (sym' x.4) ∙ o))
+  step n rec i j v p l (inr (inr (inr (inr (inr (inr (inr (inr (inr (inr (inr (inr (inl x))))))))))))) o on = absurd (never (ap is_open (sym' x.4) ∙ o))
+  step n rec i j v p l (inr (inr (inr (inr (inr (inr (inr (inr (inr (inr (inr (inr (inr (inl x)))))))))))))) o on = absurd (never (ap is_open (sym' x.4) ∙ o))
+  step n rec i j v p l (inr (inr (inr (inr (inr (inr (inr (inr (inr (inr (inr (inr (inr (inr (inl x))))))))))))))) o on = absurd (never (ap is_open (sym' x.4) ∙ o))
   step n rec i j v p l (inr (inr (inr (inr (inr (inr (inr (inr (inr (inr (inr (inr (inr (inr (inr (inl x)))))))))))))))) o on =
       let a = unrow x.2 in
       let first = (token_derived {t = par_word} refl a.1).0 in
       let s : is_open_branch x.0.1.1.1.1.1.1.1.1.1.1.1.1.1.1.0 ≡ true = ap is_open (sym' x.4) ∙ o in
       from_starts toks unlimited statement i (j + 1) (inr (inr (inr (inr (inr (inr (inr (inr (inr (inr (inr (inr (inr (inr (inr (inl (tt, after a.1 (extend a.2 (λ k h e. branch_goes n rec k j x.0.1.1.1.1.1.1.1.1.1.1.1.1.1.1.0 p (omega (arith, first)) e s on)))))))))))))))))))
-  step n rec i j v p l (inr (inr (inr (inr (inr (inr (inr (inr (inr (inr (inr (inr (inr (inr (inr (inr (inl x))))))))))))))))) o on = let e = ap is_open (sym' x.4) ∙ o in absurd (cc)
-  step n rec i j v p l (inr (inr (inr (inr (inr (inr (inr (inr (inr (inr (inr (inr (inr (inr (inr (inr (inr (inl x)))))))))))))))))) o on = let e = ap is_open (sym' x.4) ∙ o in absurd (cc)
-  step n rec i j v p l (inr (inr (inr (inr (inr (inr (inr (inr (inr (inr (inr (inr (inr (inr (inr (inr (inr (inr (inl x))))))))))))))))))) o on = let e = ap is_open (sym' x.4) ∙ o in absurd (cc)
+  step n rec i j v p l (inr (inr (inr (inr (inr (inr (inr (inr (inr (inr (inr (inr (inr (inr (inr (inr (inl x))))))))))))))))) o on = absurd (never (ap is_open (sym' x.4) ∙ o))
+  step n rec i j v p l (inr (inr (inr (inr (inr (inr (inr (inr (inr (inr (inr (inr (inr (inr (inr (inr (inr (inl x)))))))))))))))))) o on = absurd (never (ap is_open (sym' x.4) ∙ o))
+  step n rec i j v p l (inr (inr (inr (inr (inr (inr (inr (inr (inr (inr (inr (inr (inr (inr (inr (inr (inr (inr (inl x))))))))))))))))))) o on = absurd (never (ap is_open (sym' x.4) ∙ o))
   step n rec i j v p l (inr (inr (inr (inr (inr (inr (inr (inr (inr (inr (inr (inr (inr (inr (inr (inr (inr (inr (inr (x)))))))))))))))))))) o on = absurd x
 
   goes : (n : ℕ) → Goes n

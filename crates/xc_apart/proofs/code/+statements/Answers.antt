@@ -10,7 +10,7 @@ use Rattle.xc_kernel.specs.Plain as plain
 use Rattle.xc_apart.specs.Behind.{ClashesAt, ClashesBy, ClashesBehind}
 use Rattle.xc_apart.specs.Clashes.{Clashes}
 use Rattle.xc_apart.specs.Footprints.{Uses, both, uses_in, of_branches, of_cases, of_statements}
-use Rattle.xc_kernel.proofs.Firsts.{Goes, goes_end}
+use Rattle.xc_apart.proofs.Firsts.{Goes, goes_end}
 use Rattle.xc_apart.proofs.Clashing.{no_clash, statements_go, cases_go, branches_go, statements_more, cases_more, branches_next}
 use Rattle.xc_apart.proofs.FootprintSteps.{both_nothing, nothing_both, both_each}
 use Rattle.xc_apart.proofs.Steps.{drop_past}

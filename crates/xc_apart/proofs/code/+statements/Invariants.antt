@@ -5,7 +5,7 @@ use Rattle.xc_kernel.specs.Plain as plain
 use Rattle.xc_apart.specs.Behind.{ClashesBehind}
 use Rattle.xc_apart.specs.Clashes.{Clashes}
 use Rattle.xc_apart.specs.Footprints.{both, uses_in, of_branches, of_cases, of_statements}
-use Rattle.xc_kernel.proofs.Firsts.{Goes}
+use Rattle.xc_apart.proofs.Firsts.{Goes}
 use Rattle.xc_apart.proofs.code.+statements.Given as goal
 
 abbrev pub invariant-branches-loop-b : goal.invariant-branches-loop-b

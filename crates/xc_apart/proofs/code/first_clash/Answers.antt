@@ -7,7 +7,7 @@ use Rattle.xc_kernel.specs.Kernels.{root_of, statement_of}
 use Rattle.xc_kernel.specs.Plain as plain
 use Rattle.xc_apart.specs.Behind.{ClashesBy, ClashesBehind}
 use Rattle.xc_apart.specs.Footprints.{nothing, both, uses_in, of_statements}
-use Rattle.xc_kernel.proofs.Firsts.{Goes, goes_end}
+use Rattle.xc_apart.proofs.Firsts.{Goes, goes_end}
 use Rattle.xc_apart.proofs.Clashing.{branches_go, roots_next, least_par}
 use Rattle.xc_apart.proofs.Steps.{drop_past}
 use Rattle.xc_apart.proofs.code.first_clash.Goals as goal

@@ -3,7 +3,7 @@ use Rattle.xc_kernel.specs.Branches.{branches_of}
 use Rattle.xc_kernel.specs.Kernels.{root_of}
 use Rattle.xc_apart.specs.Behind.{ClashesBehind}
 use Rattle.xc_apart.specs.Footprints.{nothing, uses_in}
-use Rattle.xc_kernel.proofs.Firsts.{Goes}
+use Rattle.xc_apart.proofs.Firsts.{Goes}
 use Rattle.xc_apart.proofs.code.first_clash.Given as goal
 
 abbrev pub invariant-loop-root : goal.invariant-loop-root

@@ -1,17 +1,15 @@
-use Rattle.std.proofs.Common.{◌≡◌, ◌≤◌, Bool, List, refl, sym, subst}
+use Rattle.std.proofs.Common.{◌≡◌, ◌≤◌, Bool, List, sym, subst}
 use Rattle.xw_words.specs.declared.pos.Broken.{Broken}
 use Rattle.xc_tree.specs.declared.names.Named.{Named}
 use Rattle.xc_tree.specs.declared.tree.Tree.{Tree}
 use Rattle.xc_tree.specs.Checks as checks
 use Rattle.xc_tree.specs.Depth as depth
 use Rattle.xc_tree.specs.Derives.{deepest}
-use Rattle.xc_tree.specs.Names.Marks.{of_program}
 use Rattle.xc_tree.specs.Names.Rules as names
-use Rattle.xc_tree.specs.Names.Uses.{AreUses, declarations}
 use Rattle.xc_tree.specs.Plain.{Item}
 use Rattle.xc_tree.specs.Programs.{IsParsed}
 use Rattle.xc_tree.specs.Trees.{program_of}
-use Rattle.xc_tree.specs.Types.Named.{named_of}
+use Rattle.xc_tree.specs.Types.Named.{IsNamed, named_of}
 use Rattle.xc_tree.specs.Types.Sites.{unsigned_at}
 use Rattle.xc_kernel.specs.Sound.{IsTyped}
 use Rattle.xc_cases.proofs.texts.typed.Goals as goal
@@ -19,15 +17,14 @@ use Rattle.xc_cases.proofs.texts.typed.Goals as goal
 -- a parsed program that breaks no rule of names, with what its names mean
 record AreNamed (program : List Item) (named : Named) : Type 0 where
   parsed : IsParsed program
-  decls : named.decls ≡ declarations (of_program program)
-  uses : AreUses (of_program program) named.uses
+  is_named : IsNamed program (named_of named)
   unbroken : (b : Broken) → names.Breaks program b → ⊥
 
 -- where it breaks no rule of types and shapes either, it is typed by the types of its expressions
 typed_by : (named : Named) (types : List Bool) → AreNamed (program_of named.tree) named → types ≡ unsigned_at (named_of named) → ((b : Broken) → checks.Breaks (named_of named) b → ⊥) → IsTyped (program_of named.tree) (named_of named) types
 typed_by named types known are sound = record {
   parsed = known.parsed;
-  is_named = record { program_is = refl; decls = known.decls; uses = known.uses };
+  is_named = record { program_is = known.is_named.program_is; decls = known.is_named.decls; uses = known.is_named.uses };
   names = known.unbroken;
   types_and_shapes = sound;
   types_are = are;
@@ -49,11 +46,11 @@ shallow_too tree named same its_tree is shallow =
 pub returns-in-Ok-check-clause-typed : goal.returns-in-Ok-check-clause-typed
 returns-in-Ok-check-clause-typed c =
     typed_too c.in_ok-tree.tree c.in-Ok.named c.in-Ok-check.typed.named c.in-Ok-check.typed.unsigned_at
-    c.in-Ok.ensures.program c.in-Ok-check.ensures.named
-    (record { parsed = c.in_ok-tree.ensures.parsed; decls = c.in-Ok.ensures.decls; uses = c.in-Ok.ensures.uses; unbroken = c.in-Ok.ensures.unbroken })
+    c.in-Ok.ensures.tree c.in-Ok-check.ensures.named
+    (record { parsed = c.in_ok-tree.ensures.parsed; is_named = c.in-Ok.ensures.named; unbroken = c.in-Ok.ensures.unbroken })
     c.in-Ok-check.ensures.types c.in-Ok-check.ensures.unbroken
 
 -- src/texts.rt:20:1
 pub returns-in-Ok-check-clause-shallow : goal.returns-in-Ok-check-clause-shallow
 returns-in-Ok-check-clause-shallow c =
-    shallow_too c.in_ok-tree.tree c.in-Ok.named c.in-Ok-check.typed.named c.in-Ok.ensures.program c.in-Ok-check.ensures.named c.in_ok-tree.ensures.shallow
+    shallow_too c.in_ok-tree.tree c.in-Ok.named c.in-Ok-check.typed.named c.in-Ok.ensures.tree c.in-Ok-check.ensures.named c.in_ok-tree.ensures.shallow

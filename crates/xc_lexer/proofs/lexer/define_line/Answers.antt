@@ -5,7 +5,7 @@ use Rattle.xc_tree.specs.Bytes.{part}
 use Rattle.xc_tree.specs.HashLines.{ends, unclosed}
 use Rattle.xc_tree.specs.Pieces.{Numbers, number_faults, ending_faults, Piece}
 use Rattle.xc_lexer.specs.Lines.{TailIs}
-use Rattle.xc_lexer.specs.Errors.{IfBroken}
+use Rattle.xc_tree.specs.Refusals.{IfBroken}
 use Rattle.xc_lexer.specs.Steps.{stand, FirstOf}
 use Rattle.xc_lexer.proofs.Forms.{no_some}
 use Rattle.xc_lexer.proofs.Pieces.{each_append, each_map, number_after, From}

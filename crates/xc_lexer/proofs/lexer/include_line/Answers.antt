@@ -2,7 +2,7 @@ use Rattle.std.proofs.Common.{[], inl, refl, sym, ap, subst, length}
 use Rattle.xc_tree.specs.HashLines.{unclosed}
 use Rattle.xc_tree.specs.Pieces.{fault, go_on}
 use Rattle.xc_lexer.specs.Lines.{TailIs}
-use Rattle.xc_lexer.specs.Errors.{IfBroken}
+use Rattle.xc_tree.specs.Refusals.{IfBroken}
 use Rattle.xc_lexer.specs.Steps.{stand, FirstOf}
 use Rattle.xc_lexer.proofs.Outcomes.{hash_line, breaks}
 use Rattle.xc_lexer.proofs.lexer.include_line.Goals as goal

@@ -4,7 +4,8 @@ use Rattle.xc_tree.specs.Names.Rules.{Breaks}
 use Rattle.xc_tree.specs.Trees.{program_of, item_of}
 use Rattle.xc_tree.specs.Least.{IsLeastOf}
 use Rattle.xc_names.proofs.Bounds.{few_items, few_names}
-use Rattle.xc_names.proofs.Together.{no_rule, no_name}
+use Rattle.xc_tree.proofs.Leasts.{none_of}
+use Rattle.xc_names.proofs.Together.{no_name}
 use Rattle.xc_names.proofs.resolution.resolve.Goals as goal
 
 pub marks_of-requires : goal.marks_of-requires
@@ -27,4 +28,4 @@ uses-requires-clause-few c = rw (c.as_slice-in-None.ensures, c.in_ok-all.ensures
 pub uses-requires-clause-unbroken : goal.uses-requires-clause-unbroken
 uses-requires-clause-unbroken c =
     no_name (program_of c.args.tree) c.as_slice-in-None.result.now (c.as_slice-in-None.ensures ∙ c.in_ok-all.ensures.all)
-    (λ b. no_rule (program_of c.args.tree) b (subst (IsLeastOf (Breaks (program_of c.args.tree))) c.in-None.is c.in_ok-broken.ensures))
+    (none_of (Breaks (program_of c.args.tree)) (subst (IsLeastOf (Breaks (program_of c.args.tree))) c.in-None.is c.in_ok-broken.ensures))

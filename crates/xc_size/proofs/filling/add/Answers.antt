@@ -1,6 +1,9 @@
 use Rattle.std.proofs.Common.{◌≡◌, ◌<◌, ◌+◌, List, length, Option, get_or, subst, sym, ◌∙◌}
 use Rattle.xc_size.specs.declared.size.Size.{Size}
 use Rattle.xc_size.specs.Known.{AreKnown, AreSizesFrom}
+use Rattle.xc_tree.specs.Trees.{statement_of}
+use Rattle.xc_size.specs.Numbers.{number_of}
+use Rattle.xc_size.proofs.CalledParts.{statement}
 use Rattle.xc_size.proofs.Filled.{from_deeper, from_more}
 use Rattle.xc_size.proofs.filling.add.Goals as goal
 
@@ -18,5 +21,5 @@ returns-clause-right c = λ deep from.
     let known = c.knows.ensures c.if-not-knows.false in
     subst (λ (each : List (Option Size)). AreSizesFrom (record { all = c.args.sizes.now.all; names = c.args.sizes.now.names; each = each }) (deep + 1)) (sym c.set.ensures)
     (from_more c.args.sizes.now number c.index-as_slice-number.result c.function-size.result c.requires.functions is within
-    (subst (AreKnown c.args.sizes.now.each) (c.as_slice-2.ensures ∙ c.in_ok-callees.ensures) known)
+    (subst (AreKnown c.args.sizes.now.each) (c.as_slice-2.ensures ∙ c.in_ok-callees.ensures ∙ statement (number_of c.args.sizes.now.names) (statement_of c.index-as_slice-number.result.now.body)) known)
     (record { statements = c.function-size.ensures.statements; nodes = c.function-size.ensures.nodes; depth = c.function-size.ensures.depth }) deep from)

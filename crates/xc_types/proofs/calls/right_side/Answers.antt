@@ -12,10 +12,10 @@ returns-in_ok-judged-in-Call c =
     let n = named_of c.args.named.now in
     let around = around_of c.args.around.now in
     let called = option_copied c.function_of-called.result in
-    let number = ap (λ (k : ℕ). with_call around (option_map tree.head_of called) k c.in_ok-judged-in-Call.judged c.args.is_right_side c.in-Call.pos c.arguments.new.seen) c.len.ensures in
-    let whole = whole_call n c.args.seen.now around c.args.is_right_side (record { text = c.in-Call.name; pos = c.in-Call.pos }) c.in-Call.args called c.pass.new.self c.arguments.new.seen c.in_ok-judged-in-Call.judged
+    let number = ap (λ (k : ℕ). with_call around (option_map tree.head_of called) k c.in_ok-judged-in-Call.judged c.args.is_right_side c.in-Call.pos c.arguments.new.found) c.len.ensures in
+    let whole = whole_call n c.args.found.now around c.args.is_right_side (record { text = c.in-Call.name; pos = c.in-Call.pos }) c.in-Call.args called c.pass.new.self c.arguments.new.found c.in_ok-judged-in-Call.judged
     (c.function_of-called.ensures ∙ ap (function_of n) c.what_of.ensures)
     c.in_ok-pass-in-Call.ensures
-    (rw (sym c.params_of.ensures, sym c.as_slice.ensures) c.in_ok-judged-in-Call.ensures.seen)
+    (rw (sym c.params_of.ensures, sym c.as_slice.ensures) c.in_ok-judged-in-Call.ensures.found)
     (rw (sym c.params_of.ensures, sym c.as_slice.ensures) c.in_ok-judged-in-Call.ensures.judged) in
     rw c.in-Call.is (c.judge_call.ensures ∙ number ∙ whole)

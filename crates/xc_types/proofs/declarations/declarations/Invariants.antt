@@ -4,10 +4,10 @@ use Rattle.xc_tree.specs.Trees.{declaration_of}
 use Rattle.xc_tree.specs.Types.Named.{named_of}
 use Rattle.xc_tree.specs.Types.Sites as sites
 use Rattle.xc_types.specs.Around.{around_of}
-use Rattle.xc_types.specs.Seen.{saw}
+use Rattle.xc_types.specs.Findings.{saw}
 use Rattle.xc_types.proofs.declarations.declarations.Given as goal
 
 abbrev pub invariant-loop-d : goal.invariant-loop-d
 invariant-loop-d l =
-    saw l.initial.seen (marks.each marks.of_declaration (map declaration_of l.declared)) (sites.of_declarations (named_of l.named) (around_of l.around) l.initial.seen.names (map declaration_of l.declared))
-    ≡ saw l.seen (marks.each marks.of_declaration (map declaration_of (drop l.d-index l.declared))) (sites.of_declarations (named_of l.named) (around_of l.around) l.seen.names (map declaration_of (drop l.d-index l.declared)))
+    saw l.initial.found (marks.each marks.of_declaration (map declaration_of l.declared)) (sites.of_declarations (named_of l.named) (around_of l.around) l.initial.found.names (map declaration_of l.declared))
+    ≡ saw l.found (marks.each marks.of_declaration (map declaration_of (drop l.d-index l.declared))) (sites.of_declarations (named_of l.named) (around_of l.around) l.found.names (map declaration_of (drop l.d-index l.declared)))

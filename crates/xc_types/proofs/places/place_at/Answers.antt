@@ -1,12 +1,12 @@
 use Rattle.std.proofs.Common.{Bool, not, ap, ◌∙◌}
 use Rattle.xc_tree.specs.Trees as tree
 use Rattle.xc_tree.specs.Types.Named.{named_of}
-use Rattle.xc_types.specs.Seen.{with_broken}
+use Rattle.xc_types.specs.Findings.{with_broken}
 use Rattle.xc_types.proofs.Placings.{whole_place}
 use Rattle.xc_types.proofs.places.place_at.Goals as goal
 
 pub returns : goal.returns
 returns c =
     c.breaks_where.ensures
-    ∙ ap (λ (b : Bool). with_broken (not b) 508 c.args.place.now.first c.part.new.seen) c.has_form-is_well_formed.ensures
-    ∙ whole_place (named_of c.args.named.now) c.args.seen.now (tree.place_of c.args.place.now) c.part.new.seen c.in_ok-part.ensures
+    ∙ ap (λ (b : Bool). with_broken (not b) 508 c.args.place.now.first c.part.new.found) c.has_form-is_well_formed.ensures
+    ∙ whole_place (named_of c.args.named.now) c.args.found.now (tree.place_of c.args.place.now) c.part.new.found c.in_ok-part.ensures

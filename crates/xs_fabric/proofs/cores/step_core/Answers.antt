@@ -9,10 +9,6 @@ returns-then-core-ge-CORES-clause-event c =
     let four : length c.args.cores.now.items ≡ 4 = (let f = c.requires.four in omega (arith, f)) in
     λ L s of. no_core_step L s c.args.cores.now.items _ _ _ four (let far = c.if-core-ge-CORES.true in omega (arith, far))
 
-pub returns-then-thread-ge-THREADS-clause-event : goal.returns-then-thread-ge-THREADS-clause-event
-returns-then-thread-ge-THREADS-clause-event c =
-    λ L s of. no_thread_step L s c.args.cores.now.items _ _ _ (let far = c.if-thread-ge-THREADS.true in omega (arith, far))
-
 pub returns-then-take_turn-clause-event : goal.returns-then-take_turn-clause-event
 returns-then-take_turn-clause-event c =
     let cores = c.args.cores.now.items in

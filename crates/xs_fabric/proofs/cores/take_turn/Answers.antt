@@ -19,7 +19,7 @@ returns-in-Made-Some-clause-turn c =
 pub returns-in-Trapped-clause-turn : goal.returns-in-Trapped-clause-turn
 returns-in-Trapped-clause-turn c =
     turn_is _ _ _ _ _ _ (Trapped c.in-Trapped.kind c.in-Trapped.pos) c.in-Trapped.ensures.turn
-    (c.note-in-Trapped.ensures.items ∙ ap (λ n. c.args.trace.now.items ++ Fault n c.in-Trapped.pos c.in-Trapped.kind ∷ []) (ap (λ h. h.number) c.in-Trapped.ensures.home))
+    (c.note-in-Trapped.ensures.items ∙ ap (λ n. c.args.trace.now.items ++ Fault n c.in-Trapped.pos c.in-Trapped.kind ∷ []) (c.number-core.ensures ∙ ap (λ h. h.number) c.in-Trapped.ensures.home))
 
 pub returns-in-Paused-clause-turn : goal.returns-in-Paused-clause-turn
 returns-in-Paused-clause-turn c = turn_is _ _ _ _ _ _ Paused c.in-Paused.ensures.turn refl

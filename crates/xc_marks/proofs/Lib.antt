@@ -1,0 +1,4 @@
+pub mod Steps
+pub mod Bodies
+pub mod Lists
+pub mod Starts

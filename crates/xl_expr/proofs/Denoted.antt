@@ -1,0 +1,115 @@
+-- What the declared expressions and places say of measures and code.
+use Rattle.std.proofs.Common.{◌≡◌, ℕ, zero, suc, ◌+◌, ◌<◌, ◌≤◌, Bool, List, [], ◌∷◌, ◌++◌, length, get_or, Option, Some, None, sym, ap, ◌∙◌, arith, append_assoc, append-nil}
+use Rattle.std.specs.declared.boxed.Box.{Box}
+use Rattle.std.specs.declared.alloc.Global.{Global}
+use Rattle.xw_words.specs.declared.pos.Pos.{Pos}
+use Rattle.xc_kernel.specs.declared.statement.Kx.{Kx}
+use Rattle.xc_kernel.specs.declared.statement.Kx as E
+use Rattle.xc_kernel.specs.declared.statement.Place.{Place}
+use Rattle.xc_kernel.specs.declared.statement.Place as P
+use Rattle.xc_kernel.specs.Kernels.{expression_of, place_of}
+use Rattle.xc_kernel.proofs.Forms.{expression-Read, expression-Op, place-Word, place-Elem}
+use Rattle.xs_instr.specs.Lines.{Line}
+use Rattle.xl_expr.specs.declared.plan.VarPlan.{VarPlan}
+use Rattle.xl_expr.specs.Plans.{var_in}
+use Rattle.xs_instr.specs.declared.instr.Instr.{Instr}
+use Rattle.xl_expr.specs.declared.plan.VarAt.{VarAt}
+use Rattle.xl_expr.specs.Code.{at_pos, word_code, element_code, element_at_place, expression_code, place_code}
+use Rattle.xl_expr.specs.Measures.{nodes, nodes_of, nodes_at, depth, depth_of, depth_at}
+use Rattle.xl_expr.specs.Operands.{operands_of}
+use Rattle.xs_instr.specs.declared.instr.Reg.{Reg}
+use Rattle.xl_expr.specs.Stores.{store_code, word_store, element_store}
+use Rattle.xl_expr.proofs.StoreClause.{some_place}
+
+pub nodes_read : (x : Kx) (p : Place) → x ≡ E.Read p → nodes (expression_of x) ≡ nodes_at (place_of p)
+nodes_read x p e = ap (λ y. nodes (expression_of y)) e ∙ ap nodes (expression-Read p)
+
+pub depth_read : (x : Kx) (p : Place) → x ≡ E.Read p → depth (expression_of x) ≡ depth_at (place_of p)
+depth_read x p e = ap (λ y. depth (expression_of y)) e ∙ ap depth (expression-Read p)
+
+pub nodes_op : (x : Kx) (o : ℕ) (u : Bool) (es ops : List Kx) (pos : Pos) → x ≡ E.Op o u es pos → ops ≡ es → nodes (expression_of x) ≡ 1 + nodes_of (operands_of ops)
+nodes_op x o u es ops pos e f = ap (λ y. nodes (expression_of y)) e ∙ ap nodes (expression-Op o u es pos) ∙ ap (λ l. 1 + nodes_of (operands_of l)) (sym f)
+
+pub depth_op : (x : Kx) (o : ℕ) (u : Bool) (es ops : List Kx) (pos : Pos) → x ≡ E.Op o u es pos → ops ≡ es → depth (expression_of x) ≡ 1 + depth_of (operands_of ops)
+depth_op x o u es ops pos e f = ap (λ y. depth (expression_of y)) e ∙ ap depth (expression-Op o u es pos) ∙ ap (λ l. 1 + depth_of (operands_of l)) (sym f)
+
+pub nodes_elem : (p : Place) (v : ℕ) (i : Box Kx Global) (pos : Pos) (x : Kx) → p ≡ P.Elem v i pos → x ≡ i.value → nodes_at (place_of p) ≡ 1 + nodes (expression_of x)
+nodes_elem p v i pos x e f = ap (λ q. nodes_at (place_of q)) e ∙ ap nodes_at (place-Elem v i pos) ∙ ap (λ y. 1 + nodes (expression_of y)) (sym f)
+
+pub depth_elem : (p : Place) (v : ℕ) (i : Box Kx Global) (pos : Pos) (x : Kx) → p ≡ P.Elem v i pos → x ≡ i.value → depth_at (place_of p) ≡ 1 + depth (expression_of x)
+depth_elem p v i pos x e f = ap (λ q. depth_at (place_of q)) e ∙ ap depth_at (place-Elem v i pos) ∙ ap (λ y. 1 + depth (expression_of y)) (sym f)
+
+-- of the operands of an operation
+pub nodes_first : (xs : List Kx) (x : Kx) → 1 ≤ length xs → x ≡ get_or xs 0 x → nodes (expression_of x) ≤ nodes_of (operands_of xs)
+nodes_first [] x n e = absurd (omega arith)
+nodes_first (y ∷ xs) x n e = let h : nodes (expression_of x) ≡ nodes (expression_of y) = ap (λ z. nodes (expression_of z)) e in omega arith
+
+pub nodes_two : (xs : List Kx) (x y : Kx) → 2 ≤ length xs → x ≡ get_or xs 0 x → y ≡ get_or xs 1 y → nodes (expression_of x) + nodes (expression_of y) ≤ nodes_of (operands_of xs)
+nodes_two [] x y n e f = absurd (omega arith)
+nodes_two (z ∷ xs) x y n e f =
+    let h : nodes (expression_of x) ≡ nodes (expression_of z) = ap (λ w. nodes (expression_of w)) e in
+    let g = nodes_first xs y (omega arith) f in
+    omega arith
+
+pub nodes_three : (xs : List Kx) (x y z : Kx) → 3 ≤ length xs → x ≡ get_or xs 0 x → y ≡ get_or xs 1 y → z ≡ get_or xs 2 z → nodes (expression_of x) + nodes (expression_of y) + nodes (expression_of z) ≤ nodes_of (operands_of xs)
+nodes_three [] x y z n e f g = absurd (omega arith)
+nodes_three (w ∷ xs) x y z n e f g =
+    let h : nodes (expression_of x) ≡ nodes (expression_of w) = ap (λ w. nodes (expression_of w)) e in
+    let g = nodes_two xs y z (omega arith) f g in
+    omega arith
+
+pub depth_nth : (xs : List Kx) (i : ℕ) (x : Kx) → i < length xs → x ≡ get_or xs i x → depth (expression_of x) ≤ depth_of (operands_of xs)
+depth_nth [] i x n e = absurd (omega arith)
+depth_nth (y ∷ xs) zero x n e = let h : depth (expression_of x) ≡ depth (expression_of y) = ap (λ z. depth (expression_of z)) e in omega arith
+depth_nth (y ∷ xs) (suc i) x n e = let h = depth_nth xs i x (omega arith) e in omega arith
+
+-- a variable that the plan does not have
+pub no_word : (vars : List (Option VarPlan)) (p : Place) (v k here : ℕ) (last : Pos) (found : Option VarPlan) (ls : List Line) → p ≡ P.Word v → found ≡ None → found ≡ var_in vars v → ls ≡ ls ++ place_code vars (place_of p) k here last
+no_word vars p v k here last found ls e f g =
+    sym (append-nil ls)
+    ∙ ap (λ (o : Option VarPlan). ls ++ word_code o last) (sym f ∙ g)
+    ∙ ap (λ q. ls ++ place_code vars q k here last) (sym (place-Word v))
+    ∙ ap (λ q. ls ++ place_code vars (place_of q) k here last) (sym e)
+
+pub no_element : (vars : List (Option VarPlan)) (p : Place) (v : ℕ) (i : Box Kx Global) (pos : Pos) (k here : ℕ) (last : Pos) (found : Option VarPlan) (ls : List Line) → p ≡ P.Elem v i pos → found ≡ None → found ≡ var_in vars v → ls ≡ ls ++ place_code vars (place_of p) k here last
+no_element vars p v i pos k here last found ls e f g =
+    sym (append-nil ls)
+    ∙ ap (λ (o : Option VarPlan). ls ++ element_code o pos (expression_code vars (expression_of i.value)) k here last) (sym f ∙ g)
+    ∙ ap (λ q. ls ++ place_code vars q k here last) (sym (place-Elem v i pos))
+    ∙ ap (λ q. ls ++ place_code vars (place_of q) k here last) (sym e)
+
+-- an element, by what the plan has
+pub element_is : (vars : List (Option VarPlan)) (p : Place) (v : ℕ) (i : Box Kx Global) (pos : Pos) (k here : ℕ) (last : Pos) (result : Option VarPlan) (found : VarPlan) → p ≡ P.Elem v i pos → result ≡ Some found → result ≡ var_in vars v → place_code vars (place_of p) k here last ≡ element_code (Some found) pos (expression_code vars (expression_of i.value)) k here last
+element_is vars p v i pos k here last result found e f g =
+    ap (λ q. place_code vars (place_of q) k here last) e
+    ∙ ap (λ q. place_code vars q k here last) (place-Elem v i pos)
+    ∙ ap (λ (o : Option VarPlan). element_code o pos (expression_code vars (expression_of i.value)) k here last) (sym g ∙ f)
+
+-- an element's code, where its index's code and some instructions were emitted
+pub element_emitted : (vars : List (Option VarPlan)) (p : Place) (v : ℕ) (i : Box Kx Global) (pos : Pos) (k : ℕ) (last : Pos) (result : Option VarPlan) (found : VarPlan) (place : VarAt) (is : List Instr) (x : Kx) (old e1 e2 : List Line) → ((index : ℕ → ℕ → Pos → List Line) → element_at_place place found.words pos index k (length old) last ≡ index k (length old) last ++ at_pos pos is) → p ≡ P.Elem v i pos → result ≡ Some found → result ≡ var_in vars v → found.place ≡ place → x ≡ i.value → e1 ≡ old ++ expression_code vars (expression_of x) k (length old) last → e2 ≡ e1 ++ at_pos pos is → e2 ≡ old ++ place_code vars (place_of p) k (length old) last
+element_emitted vars p v i pos k last result found place is x old e1 e2 made p_is found_is known at_place x_is h1 h2 =
+    let index = expression_code vars (expression_of i.value) in
+    h2
+    ∙ ap (λ ls. ls ++ at_pos pos is) (h1 ∙ ap (λ y. old ++ expression_code vars (expression_of y) k (length old) last) x_is)
+    ∙ append_assoc old (index k (length old) last) (at_pos pos is)
+    ∙ ap (λ ls. old ++ ls) (sym (made index))
+    ∙ ap (λ (q : VarAt). old ++ element_at_place q found.words pos index k (length old) last) (sym at_place)
+    ∙ ap (λ ls. old ++ ls) (sym (element_is vars p v i pos k (length old) last result found p_is found_is known))
+
+-- stores
+pub nodes_some : (p : Place) → 1 ≤ nodes_at (place_of p)
+nodes_some p = some_place (place_of p)
+
+pub no_store : (vars : List (Option VarPlan)) (p : Place) (v : ℕ) (from : Reg) (here : ℕ) (last : Pos) (found : Option VarPlan) (ls : List Line) → p ≡ P.Word v → found ≡ None → found ≡ var_in vars v → ls ≡ ls ++ store_code vars (place_of p) from here last
+no_store vars p v from here last found ls e f g =
+    sym (append-nil ls)
+    ∙ ap (λ (o : Option VarPlan). ls ++ word_store o from last) (sym f ∙ g)
+    ∙ ap (λ q. ls ++ store_code vars q from here last) (sym (place-Word v))
+    ∙ ap (λ q. ls ++ store_code vars (place_of q) from here last) (sym e)
+
+pub no_element_store : (vars : List (Option VarPlan)) (p : Place) (v : ℕ) (i : Box Kx Global) (pos : Pos) (from : Reg) (here : ℕ) (last : Pos) (found : Option VarPlan) (ls : List Line) → p ≡ P.Elem v i pos → found ≡ None → found ≡ var_in vars v → ls ≡ ls ++ store_code vars (place_of p) from here last
+no_element_store vars p v i pos from here last found ls e f g =
+    sym (append-nil ls)
+    ∙ ap (λ (o : Option VarPlan). ls ++ element_store o from pos (λ n. expression_code vars (expression_of i.value) 1 n pos) here) (sym f ∙ g)
+    ∙ ap (λ q. ls ++ store_code vars q from here last) (sym (place-Elem v i pos))
+    ∙ ap (λ q. ls ++ store_code vars (place_of q) from here last) (sym e)

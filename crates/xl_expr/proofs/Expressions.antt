@@ -1,0 +1,50 @@
+-- An expression's code means its value.
+use Rattle.std.proofs.Common.{◌≡◌, ℕ, ◌+◌, ◌<◌, ◌≤◌, Bool, true, List, Option, refl, arith}
+use Rattle.xw_words.specs.declared.pos.Pos.{Pos}
+use Rattle.xs_instr.specs.declared.image.Code.{Code}
+use Rattle.xs_instr.specs.declared.instr.Instr.TheVariants.{Ldc}
+use Rattle.xs_instr.specs.declared.instr.Reg.TheVariants.{R0}
+use Rattle.xs_instr.specs.Registers.{reg_set}
+use Rattle.xc_kernel.specs.Plain as kernel
+use Rattle.xc_kernel.specs.Operators.{operator_at}
+use Rattle.xc_kernel.specs.Values.{Value, word}
+use Rattle.xc_kernel.specs.Eval.{Store, words_of, eval, eval_all, eval_place}
+use Rattle.xs_instr.specs.Lines.{Line}
+use Rattle.xs_instr.specs.OwnSteps.{temporary}
+use Rattle.xl_expr.specs.declared.plan.VarPlan.{VarPlan}
+use Rattle.xl_expr.specs.Plans.{var_in}
+use Rattle.xl_expr.specs.Measures.{nodes, nodes_of, nodes_at, depth, depth_of, depth_at}
+use Rattle.xl_expr.specs.Code.{expression_code, codes, place_code}
+use Rattle.xl_expr.specs.Works.{IsLaid, AreLaid, PlaceIsLaid}
+use Rattle.xl_expr.proofs.Runs.{keeps_r0, done, looser, one_on, by_quiet}
+use Rattle.xl_expr.proofs.Pieces.{Means}
+use Rattle.xl_expr.proofs.Operations.{AllMean, none, some, operation_means}
+use Rattle.xl_expr.proofs.Places.{word_means, element_means}
+
+module _ (code : Code) (relied : ℕ → Bool) (s : ℕ) (small : s + temporary ≤ 16384) (mine : (k : ℕ) → k < temporary → relied (s + k) ≡ true) (dp : ℕ) (first : List ℕ) (vars : List (Option VarPlan)) (store : Store) where
+  abbrev Piece_means : (ℕ → ℕ → Pos → List Line) → Value → ℕ → ℕ → Type 0
+  Piece_means = Means code relied s small mine dp first
+
+  number_means : (v : ℕ) → Piece_means (expression_code vars (kernel.number v)) (word v) 1 1
+  number_means v = record {
+    by = λ k pc last regs words st fits ready.
+        looser code relied s regs words pc (pc + 1) (pc + 1) k k (1 + 0) 7 (word v) refl (omega arith) (omega arith)
+        (one_on code relied s regs words (reg_set regs R0 v) words pc (pc + 1) (pc + 1) k 0 (word v) (by_quiet code relied s (Ldc R0 v) regs (reg_set regs R0 v) words pc (pc + 1) st.0 (record { row_is = λ h c t th. refl; no_event = refl }) (λ ws g. refl)) (keeps_r0 s k regs words v) (done code relied s (reg_set regs R0 v) words (pc + 1) (pc + 1) k 0 v refl refl));
+  }
+
+  mutual
+    pub expression_means : (x : kernel.Expression) → IsLaid vars relied s dp first store x → Piece_means (expression_code vars x) (eval store x) (depth x) (nodes x)
+    expression_means (kernel.number v) h = number_means v
+    expression_means (kernel.read p) h = place_means p h
+    expression_means (kernel.operation o u es pos) h =
+        operation_means code relied s small mine dp first (operator_at o) u pos (codes vars es) (eval_all store es) (depth_of es) (nodes_of es) (codes_mean es h)
+
+    codes_mean : (es : kernel.Operands) → AreLaid vars relied s dp first store es → AllMean code relied s small mine dp first (codes vars es) (eval_all store es) (depth_of es) (nodes_of es)
+    codes_mean kernel.no_operand h = none
+    codes_mean (kernel.more_operands e es) h =
+        some (expression_code vars e) (eval store e) (depth e) (nodes e) (codes vars es) (eval_all store es) (depth_of es) (nodes_of es) (expression_means e h.0) (codes_mean es h.1)
+
+    place_means : (p : kernel.Place) → PlaceIsLaid vars relied s dp first store p → Piece_means (place_code vars p) (eval_place store p) (depth_at p) (nodes_at p)
+    place_means (kernel.word v) h = word_means code relied s small mine dp first vars store (var_in vars v) (words_of store v) h
+    place_means (kernel.element v i pos) h =
+        element_means code relied s small mine dp first vars store (var_in vars v) (words_of store v) pos (expression_code vars i) (eval store i) (depth i) (nodes i) (expression_means i h.0) h.1

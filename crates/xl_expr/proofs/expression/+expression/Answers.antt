@@ -1,0 +1,151 @@
+use Rattle.std.proofs.Common.{◌+◌, ℕ, arith, ap, ◌∙◌, refl, List, [], ◌∷◌, length, ◌++◌}
+use Rattle.xc_kernel.specs.Kernels.{expression_of}
+use Rattle.xs_instr.specs.Lines.{Line, line, open_line}
+use Rattle.xs_instr.specs.declared.instr.Instr.TheVariants.{Brff, Brfu, Ldc, Lsu, Ecallf, Ldawdp, Ldwdp, Ldw, Stwsp, Ldwsp}
+use Rattle.xs_instr.specs.declared.instr.Reg.TheVariants.{R0, R11}
+use Rattle.xl_expr.specs.Code.{at_pos, made_truth, expression_code}
+use Rattle.xl_expr.specs.declared.plan.VarAt.TheVariants.{Near, Far}
+use Rattle.xl_expr.proofs.Sizes.{longer}
+use Rattle.xl_expr.proofs.Denoted.{nodes_read, depth_read, nodes_op, depth_op, nodes_elem, nodes_first, nodes_two, nodes_three, depth_nth, no_word, no_element, element_emitted}
+use Rattle.xl_expr.proofs.Emitted.{one_longer, two_longer, on_err, kept_emitted, short_emitted, short_extends, short_length, past_open, over_open, length4, choice_emitted, choice_extends}
+use Rattle.xl_expr.proofs.expression.+expression.Goals as goal
+
+pub emit_at-emit_place-requires : goal.emit_at-emit_place-requires
+emit_at-emit_place-requires t c =
+    let n = nodes_read c.args.x.now c.in-Read.place c.in-Read.is in
+    let d = depth_read c.args.x.now c.in-Read.place c.in-Read.is in
+    (omega (arith, d, c.decreases), (omega (arith, n, c.requires.room), omega (arith, d, c.requires.deep)))
+
+pub emit_at-emit_operation-requires : goal.emit_at-emit_operation-requires
+emit_at-emit_operation-requires t c =
+    let n = nodes_op c.args.x.now c.in-Op.symbol c.in-Op.unsigned c.in-Op.operands c.as_slice.result.now c.in-Op.pos c.in-Op.is c.as_slice.ensures in
+    let d = depth_op c.args.x.now c.in-Op.symbol c.in-Op.unsigned c.in-Op.operands c.as_slice.result.now c.in-Op.pos c.in-Op.is c.as_slice.ensures in
+    (omega (arith, d, c.decreases), (omega (arith, n, c.requires.room), omega (arith, d, c.requires.deep)))
+
+pub emit_operation-put_one_tail-requires : goal.emit_operation-put_one_tail-requires
+emit_operation-put_one_tail-requires t c =
+    let n = nodes_first c.args.operands.now c.only-item.result c.in-len1.len_at_least c.only-item.is in
+    let l = longer c.args.plan.now.vars (expression_of c.only-item.result) c.args.k (length c.args.e.now) c.args.last c.args.e.now c.emit_at.new.e c.in_ok-emit_at-in-len1.ensures.ok in
+    omega (arith, n, l, c.requires.room)
+
+pub emit_operation-emit_second-requires : goal.emit_operation-emit_second-requires
+emit_operation-emit_second-requires t c =
+    let some = c.in-len2.len_at_least in
+    let n = nodes_two c.args.operands.now c.first-item.result c.second-item.result some c.first-item.is c.second-item.is in
+    let d = depth_nth c.args.operands.now 1 c.second-item.result (omega (arith, some)) c.second-item.is in
+    let l = longer c.args.plan.now.vars (expression_of c.first-item.result) c.args.k (length c.args.e.now) c.args.last c.args.e.now c.emit_at-in-len2.new.e c.in_ok-emit_at-in-len2.ensures.ok in
+    (omega (arith, d, c.decreases), (omega (arith, n, l, c.requires.room), omega (arith, d, c.requires.deep)))
+
+pub emit_operation-emit_choice-requires : goal.emit_operation-emit_choice-requires
+emit_operation-emit_choice-requires t c =
+    let some = c.in-len3-up.len_at_least in
+    let n = nodes_three c.args.operands.now c.test-item.result c.second-item-2.result c.third-item.result some c.test-item.is c.second-item-2.is c.third-item.is in
+    let d = depth_nth c.args.operands.now 1 c.second-item-2.result (omega (arith, some)) c.second-item-2.is in
+    let e = depth_nth c.args.operands.now 2 c.third-item.result (omega (arith, some)) c.third-item.is in
+    let l = longer c.args.plan.now.vars (expression_of c.test-item.result) c.args.k (length c.args.e.now) c.args.last c.args.e.now c.emit_at-in-len3-up.new.e c.in_ok-emit_at-in-len3-up.ensures.ok in
+    (omega (arith, d, e, c.decreases), (omega (arith, n, l, c.requires.room), (omega (arith, d, c.requires.deep), omega (arith, e, c.requires.deep))))
+
+pub emit_place-put_all-requires : goal.emit_place-put_all-requires
+emit_place-put_all-requires t c =
+    let n = nodes_elem c.args.place.now c.in-Elem.v c.in-Elem.index c.in-Elem.pos c.deref.result.now c.in-Elem.is c.deref.ensures in
+    let l = longer c.args.plan.now.vars (expression_of c.deref.result.now) c.args.k (length c.args.e.now) c.args.last c.args.e.now c.emit_at.new.e c.in_ok-emit_at-in-Near.ensures.ok in
+    omega (arith, n, l, c.requires.room)
+
+pub emit_place-put_all-requires-in-Far : goal.emit_place-put_all-requires-in-Far
+emit_place-put_all-requires-in-Far t c =
+    let n = nodes_elem c.args.place.now c.in-Elem.v c.in-Elem.index c.in-Elem.pos c.deref-in-Far.result.now c.in-Elem.is c.deref-in-Far.ensures in
+    let l = longer c.args.plan.now.vars (expression_of c.deref-in-Far.result.now) c.args.k (length c.args.e.now) c.args.last c.args.e.now c.emit_at-in-Far.new.e c.in_ok-emit_at-in-Far.ensures.ok in
+    omega (arith, n, l, c.requires.room)
+
+pub emit_place-returns-in-None-clause-ok : goal.emit_place-returns-in-None-clause-ok
+emit_place-returns-in-None-clause-ok t c =
+    no_word c.args.plan.now.vars c.args.place.now c.in-Word.v c.args.k (length c.args.e.now) c.args.last c.placed.result c.args.e.now c.in-Word.is c.in-None.is c.placed.ensures
+
+pub emit_place-returns-in-None-placed-clause-ok : goal.emit_place-returns-in-None-placed-clause-ok
+emit_place-returns-in-None-placed-clause-ok t c =
+    no_element c.args.plan.now.vars c.args.place.now c.in-Elem.v c.in-Elem.index c.in-Elem.pos c.args.k (length c.args.e.now) c.args.last c.placed-in-Elem.result c.args.e.now c.in-Elem.is c.in-None-placed.is c.placed-in-Elem.ensures
+
+pub emit_place-returns-in_ok-put_all-in-Near-clause-ok : goal.emit_place-returns-in_ok-put_all-in-Near-clause-ok
+emit_place-returns-in_ok-put_all-in-Near-clause-ok t c =
+    element_emitted c.args.plan.now.vars c.args.place.now c.in-Elem.v c.in-Elem.index c.in-Elem.pos c.args.k c.args.last c.placed-in-Elem.result c.in-Some-placed.found (Near c.in-Near.n) (Ldc R11 c.in-Some-placed.found.words ∷ Lsu R11 R0 R11 ∷ Ecallf R11 ∷ Ldawdp R11 c.in-Near.n ∷ Ldw R0 R11 R0 ∷ []) c.deref.result.now c.args.e.now c.emit_at.new.e c.put_all.new.e (λ index. refl) c.in-Elem.is c.in-Some-placed.is c.placed-in-Elem.ensures c.in-Near.is c.deref.ensures c.in_ok-emit_at-in-Near.ensures.ok c.in_ok-put_all-in-Near.ensures.ok
+
+pub emit_place-returns-in_ok-put_all-in-Far-clause-ok : goal.emit_place-returns-in_ok-put_all-in-Far-clause-ok
+emit_place-returns-in_ok-put_all-in-Far-clause-ok t c =
+    element_emitted c.args.plan.now.vars c.args.place.now c.in-Elem.v c.in-Elem.index c.in-Elem.pos c.args.k c.args.last c.placed-in-Elem.result c.in-Some-placed.found (Far c.in-Far.n) (Ldc R11 c.in-Some-placed.found.words ∷ Lsu R11 R0 R11 ∷ Ecallf R11 ∷ Ldwdp R11 c.in-Far.n ∷ Ldw R0 R11 R0 ∷ []) c.deref-in-Far.result.now c.args.e.now c.emit_at-in-Far.new.e c.put_all-in-Far.new.e (λ index. refl) c.in-Elem.is c.in-Some-placed.is c.placed-in-Elem.ensures c.in-Far.is c.deref-in-Far.ensures c.in_ok-emit_at-in-Far.ensures.ok c.in_ok-put_all-in-Far.ensures.ok
+
+pub emit_second-put_all-requires-in_default : goal.emit_second-put_all-requires-in_default
+emit_second-put_all-requires-in_default t c =
+    let l = one_longer c.args.e.now c.put_all.new.e (line (Stwsp R0 c.args.k) c.args.pos) c.in_ok-put_all-in_default.ensures.ok in
+    let n = longer c.args.plan.now.vars (expression_of c.args.second.now) (c.args.k + 1) (length c.put_all.new.e) c.args.pos c.put_all.new.e c.emit_at.new.e c.in_ok-emit_at-in_default.ensures.ok in
+    omega (arith, l, n, c.requires.room)
+
+pub emit_second-put_after_main-requires : goal.emit_second-put_after_main-requires
+emit_second-put_after_main-requires t c =
+    let l = one_longer c.args.e.now c.put_all.new.e (line (Stwsp R0 c.args.k) c.args.pos) c.in_ok-put_all-in_default.ensures.ok in
+    let n = longer c.args.plan.now.vars (expression_of c.args.second.now) (c.args.k + 1) (length c.put_all.new.e) c.args.pos c.put_all.new.e c.emit_at.new.e c.in_ok-emit_at-in_default.ensures.ok in
+    let m = two_longer c.emit_at.new.e c.put_all-in_default.new.e (line (Ldwsp R11 c.args.k) c.args.pos) (line c.main_instr.result c.args.pos) c.in_ok-put_all-in_default-2.ensures.ok in
+    omega (arith, l, n, m, c.requires.room)
+
+pub emit_second-returns-in_ok-put_after_main-in_default : goal.emit_second-returns-in_ok-put_after_main-in_default
+emit_second-returns-in_ok-put_after_main-in_default t c = record {
+  ok =
+      kept_emitted c.args.operator c.args.unsigned c.args.pos c.args.k c.args.e.now c.put_all.new.e c.emit_at.new.e c.put_all-in_default.new.e c.put_after_main.new.e (λ n. expression_code c.args.plan.now.vars (expression_of c.args.second.now) (c.args.k + 1) n c.args.pos) c.in_default.not-Both c.in_default.not-Either c.in_ok-put_all-in_default.ensures.ok c.in_ok-emit_at-in_default.ensures.ok
+      (c.in_ok-put_all-in_default-2.ensures.ok ∙ ap (λ i. c.emit_at.new.e ++ at_pos c.args.pos (Ldwsp R11 c.args.k ∷ i ∷ [])) c.main_instr.ensures)
+      c.in_ok-put_after_main-in_default.ensures.ok;
+  refused = tt;
+}
+
+pub emit_short-put_all-requires : goal.emit_short-put_all-requires
+emit_short-put_all-requires t c =
+    let b : ℕ → List Line = λ n. expression_code c.args.plan.now.vars (expression_of c.args.second.now) (c.args.k + 1) n c.args.pos in
+    let l = one_longer c.args.e.now c.hole.new.self (open_line c.args.jump c.args.pos) c.in_ok-over.ensures.ok in
+    let n = longer c.args.plan.now.vars (expression_of c.args.second.now) (c.args.k + 1) (length c.hole.new.self) c.args.pos c.hole.new.self c.emit_at.new.e c.in_ok-emit_at.ensures.ok in
+    let m = short_length c.args.jump c.args.pos c.args.e.now c.hole.new.self c.emit_at.new.e b c.in_ok-over.over.index c.in_ok-over.ensures.index c.in_ok-over.ensures.ok c.in_ok-emit_at.ensures.ok c.land.new.self c.land.ensures in
+    omega (arith, l, n, m, c.requires.room)
+
+pub emit_short-returns-clause-ok : goal.emit_short-returns-clause-ok
+emit_short-returns-clause-ok t c =
+    let b : ℕ → List Line = λ n. expression_code c.args.plan.now.vars (expression_of c.args.second.now) (c.args.k + 1) n c.args.pos in
+    short_emitted c.args.jump c.args.pos c.args.e.now c.hole.new.self c.emit_at.new.e b c.in_ok-over.over.index c.in_ok-over.ensures.index c.in_ok-over.ensures.ok c.in_ok-emit_at.ensures.ok c.land.new.self c.put_all.new.e made_truth c.land.ensures c.in_ok-put_all.ensures.ok
+
+pub emit_short-returns-in_err-put_all-clause-refused : goal.emit_short-returns-in_err-put_all-clause-refused
+emit_short-returns-in_err-put_all-clause-refused t c =
+    let b : ℕ → List Line = λ n. expression_code c.args.plan.now.vars (expression_of c.args.second.now) (c.args.k + 1) n c.args.pos in
+    on_err _ _ (short_extends c.args.jump c.args.pos c.args.e.now c.hole.new.self c.emit_at.new.e b c.in_ok-over.over.index c.in_ok-over.ensures.index c.in_ok-over.ensures.ok c.in_ok-emit_at.ensures.ok c.land.new.self c.put_all.new.e c.land.ensures c.in_err-put_all.ensures.refused)
+
+pub emit_choice-hole-requires-2-clause-few : goal.emit_choice-hole-requires-2-clause-few
+emit_choice-hole-requires-2-clause-few t c =
+    let l = one_longer c.args.e.now c.hole.new.self (open_line (Brff R0 0) c.args.pos) c.in_ok-past.ensures.ok in
+    let n = longer c.args.plan.now.vars (expression_of c.args.second.now) (c.args.k + 1) (length c.hole.new.self) c.args.pos c.hole.new.self c.emit_at.new.e c.in_ok-emit_at.ensures.ok in
+    omega (arith, l, n, c.requires.room)
+
+pub emit_choice-land-requires : goal.emit_choice-land-requires
+emit_choice-land-requires t c =
+    let b : ℕ → List Line = λ n. expression_code c.args.plan.now.vars (expression_of c.args.second.now) (c.args.k + 1) n c.args.pos in
+    past_open c.args.pos c.args.e.now c.hole.new.self c.emit_at.new.e c.hole-2.new.self c.hole-2.new.self b c.in_ok-past.past.index c.in_ok-over.over.index c.in_ok-past.ensures.index c.in_ok-over.ensures.index c.in_ok-past.ensures.ok c.in_ok-emit_at.ensures.ok c.in_ok-over.ensures.ok
+
+pub emit_choice-emit_at-requires-2 : goal.emit_choice-emit_at-requires-2
+emit_choice-emit_at-requires-2 t c =
+    let b : ℕ → List Line = λ n. expression_code c.args.plan.now.vars (expression_of c.args.second.now) (c.args.k + 1) n c.args.pos in
+    let l = one_longer c.args.e.now c.hole.new.self (open_line (Brff R0 0) c.args.pos) c.in_ok-past.ensures.ok in
+    let n = longer c.args.plan.now.vars (expression_of c.args.second.now) (c.args.k + 1) (length c.hole.new.self) c.args.pos c.hole.new.self c.emit_at.new.e c.in_ok-emit_at.ensures.ok in
+    let m = one_longer c.emit_at.new.e c.hole-2.new.self (open_line (Brfu 0) c.args.pos) c.in_ok-over.ensures.ok in
+    let f = length4 c.args.pos c.args.e.now c.hole.new.self c.emit_at.new.e c.hole-2.new.self c.land.new.self b c.in_ok-past.past.index c.in_ok-over.over.index c.in_ok-past.ensures.index c.in_ok-over.ensures.index c.in_ok-past.ensures.ok c.in_ok-emit_at.ensures.ok c.in_ok-over.ensures.ok c.land.ensures in
+    (omega (arith, c.decreases), (omega (arith, l, n, m, f, c.requires.room), omega (arith, c.requires.deep_third)))
+
+pub emit_choice-returns-in_err-emit_at-2-clause-refused : goal.emit_choice-returns-in_err-emit_at-2-clause-refused
+emit_choice-returns-in_err-emit_at-2-clause-refused t c =
+    let b : ℕ → List Line = λ n. expression_code c.args.plan.now.vars (expression_of c.args.second.now) (c.args.k + 1) n c.args.pos in
+    on_err _ _ (choice_extends c.args.pos c.args.e.now c.hole.new.self c.emit_at.new.e c.hole-2.new.self c.land.new.self b c.in_ok-past.past.index c.in_ok-over.over.index c.in_ok-past.ensures.index c.in_ok-over.ensures.index c.in_ok-past.ensures.ok c.in_ok-emit_at.ensures.ok c.in_ok-over.ensures.ok c.land.ensures c.emit_at-2.new.e c.in_err-emit_at-2.ensures.refused)
+
+pub emit_choice-land-requires-2 : goal.emit_choice-land-requires-2
+emit_choice-land-requires-2 t c =
+    let b : ℕ → List Line = λ n. expression_code c.args.plan.now.vars (expression_of c.args.second.now) (c.args.k + 1) n c.args.pos in
+    let d : ℕ → List Line = λ n. expression_code c.args.plan.now.vars (expression_of c.args.third.now) (c.args.k + 1) n c.args.pos in
+    over_open c.args.pos c.args.e.now c.hole.new.self c.emit_at.new.e c.hole-2.new.self c.land.new.self b c.in_ok-past.past.index c.in_ok-over.over.index c.in_ok-past.ensures.index c.in_ok-over.ensures.index c.in_ok-past.ensures.ok c.in_ok-emit_at.ensures.ok c.in_ok-over.ensures.ok c.land.ensures c.emit_at-2.new.e d c.in_ok-emit_at-2.ensures.ok
+
+pub emit_choice-returns-clause-ok : goal.emit_choice-returns-clause-ok
+emit_choice-returns-clause-ok t c =
+    let b : ℕ → List Line = λ n. expression_code c.args.plan.now.vars (expression_of c.args.second.now) (c.args.k + 1) n c.args.pos in
+    let d : ℕ → List Line = λ n. expression_code c.args.plan.now.vars (expression_of c.args.third.now) (c.args.k + 1) n c.args.pos in
+    choice_emitted c.args.pos c.args.e.now c.hole.new.self c.emit_at.new.e c.hole-2.new.self c.land.new.self b c.in_ok-past.past.index c.in_ok-over.over.index c.in_ok-past.ensures.index c.in_ok-over.ensures.index c.in_ok-past.ensures.ok c.in_ok-emit_at.ensures.ok c.in_ok-over.ensures.ok c.land.ensures c.emit_at-2.new.e d c.in_ok-emit_at-2.ensures.ok c.land-2.new.self c.land-2.ensures

@@ -1,0 +1,342 @@
+ghost use Rattle.std.specs.Prelude.{◌≡◌, ◌+◌, ◌*◌, ◌<◌, ◌≤◌, ◌^◌, [], ◌∷◌, ◌++◌, length, map, OnOk, OnErr};
+ghost use Rattle.xc_kernel.specs.Kernels.{expression_of, place_of};
+ghost use Rattle.xs_instr.specs.Lines.{HasTarget, line, last_pos};
+ghost use Rattle.xl_expr.specs.Code.{at_pos, one_tail, negated, after_main, word_at_place, tested_index, moved_to, expression_code, place_code, operation_code, codes, code_to};
+ghost use Rattle.xs_instr.specs.Adds.{Adds};
+ghost use Rattle.xs_instr.specs.Extends.{Extends};
+ghost use Rattle.xl_expr.specs.Works.{Evaluates};
+ghost use Rattle.xl_expr.specs.Meant.{operator_meant};
+ghost use Rattle.xl_expr.specs.Measures.{nodes, nodes_of, nodes_at, depth, depth_of, depth_at};
+ghost use Rattle.xl_expr.specs.Operands.{operands_of};
+ghost use Rattle.xl_expr.specs.Parts.{second_code, short_code, choice_code};
+
+use crate::operators::{Operator, main_instr, operator_at};
+use crate::plan::{Plan, VarAt};
+use crate::puts::put_all;
+use xc_kernel::{Kx, Place};
+use xs_instr::{Emitter, Instr, Reg};
+use xw_words::{Memory, Pos};
+
+/// The code that gives an expression's word in a register. `evaluates` says what it does: wherever it stands from this index
+/// on, whatever other threads do in between, it comes to the next index with the word that the expression has in the
+/// register, or to where the next step traps with the expression's error, within 8 steps for each node.
+pub fn emit_expr(e: &mut Emitter, plan: &Plan, x: &Kx, to: Reg) -> Result<(), Memory>
+    requires room { length e.old + 8 * nodes (expression_of x.now) < 2 ^ 32 }
+    requires shallow { depth (expression_of x.now) ≤ 400 }
+    ensures size { OnOk result (length e.new ≤ length e.old + 8 * nodes (expression_of x.now)) }
+    ensures code { OnOk result (e.new
+        ≡ e.old ++ code_to plan.now.vars (expression_of x.now) to (length e.old) (last_pos e.old)) }
+    ensures evaluates { OnOk result
+        (Adds e.old e.new (Evaluates plan.now.vars (expression_of x.now) to (length e.old))) }
+    ensures refused { OnErr result (Extends e.old e.new) }
+{
+    let last = e.pos();
+    emit_at(e, plan, x, 0, last)?;
+    put_move(e, to, last)?;
+    Ok(())
+}
+
+/// Moves r0 to a register.
+fn put_move(e: &mut Emitter, to: Reg, pos: Pos) -> Result<(), Memory>
+    requires { length e.old + 1 < 2 ^ 32 }
+    ensures ok { OnOk result (e.new ≡ e.old ++ at_pos pos (moved_to to)) }
+    ensures refused { OnErr result (Extends e.old e.new) }
+{
+    match to {
+        Reg::R0 => Ok(()),
+        _ => {
+            put_all(e, &[Instr::Or(to, Reg::R0, Reg::R0)], pos)?;
+            Ok(())
+        }
+    }
+}
+
+/// The code that gives an expression's word in r0; the thread's temporary words from number `k` on serve it. An instruction
+/// without a place of its own has the place `last`.
+#[cycle(expression)]
+#[tactic(auto, using(xc_kernel::proofs::Forms::forms))]
+pub fn emit_at(e: &mut Emitter, plan: &Plan, x: &Kx, k: u32, last: Pos) -> Result<(), Memory>
+    requires room { length e.old + 8 * nodes (expression_of x.now) < 2 ^ 32 }
+    requires deep { k + depth (expression_of x.now) < 2 ^ 32 }
+    ensures ok { OnOk result (e.new ≡ e.old ++ expression_code plan.now.vars (expression_of x.now) k
+        (length e.old) last) }
+    ensures refused { OnErr result (Extends e.old e.new) }
+{
+    match x {
+        Kx::Num(value) => put_all(e, &[Instr::Ldc(Reg::R0, *value)], last),
+        Kx::Read(place) => emit_place(e, plan, place, k, last),
+        Kx::Op(symbol, unsigned, operands, pos) => {
+            let operator = operator_at(*symbol);
+            emit_operation(
+                e,
+                plan,
+                operator,
+                *unsigned,
+                operands.as_slice(),
+                *pos,
+                k,
+                last,
+            )
+        }
+    }
+}
+
+/// The code that reads a place.
+#[cycle(expression)]
+#[tactic(auto, using(xc_kernel::proofs::Forms::forms))]
+fn emit_place(e: &mut Emitter, plan: &Plan, place: &Place, k: u32, last: Pos) -> Result<(), Memory>
+    requires room { length e.old + 8 * nodes_at (place_of place.now) < 2 ^ 32 }
+    requires deep { k + depth_at (place_of place.now) < 2 ^ 32 }
+    ensures ok { OnOk result
+        (e.new ≡ e.old ++ place_code plan.now.vars (place_of place.now) k (length e.old) last) }
+    ensures refused { OnErr result (Extends e.old e.new) }
+{
+    match place {
+        Place::Word(v) => match plan.placed(*v) {
+            None => Ok(()),
+            Some(found) => put_word(e, found.place, last),
+        },
+        Place::Elem(v, index, pos) => match plan.placed(*v) {
+            None => Ok(()),
+            Some(found) => match found.place {
+                VarAt::Near(n) => {
+                    emit_at(e, plan, index, k, last)?;
+                    put_all(
+                        e,
+                        &[
+                            Instr::Ldc(Reg::R11, found.words),
+                            Instr::Lsu(Reg::R11, Reg::R0, Reg::R11),
+                            Instr::Ecallf(Reg::R11),
+                            Instr::Ldawdp(Reg::R11, n),
+                            Instr::Ldw(Reg::R0, Reg::R11, Reg::R0),
+                        ],
+                        *pos,
+                    )?;
+                    Ok(())
+                }
+                VarAt::Far(n) => {
+                    emit_at(e, plan, index, k, last)?;
+                    put_all(
+                        e,
+                        &[
+                            Instr::Ldc(Reg::R11, found.words),
+                            Instr::Lsu(Reg::R11, Reg::R0, Reg::R11),
+                            Instr::Ecallf(Reg::R11),
+                            Instr::Ldwdp(Reg::R11, n),
+                            Instr::Ldw(Reg::R0, Reg::R11, Reg::R0),
+                        ],
+                        *pos,
+                    )?;
+                    Ok(())
+                }
+                VarAt::Through(n) => put_all(
+                    e,
+                    &[
+                        Instr::Ldwdp(Reg::R11, n),
+                        Instr::Ldc(Reg::R0, 0),
+                        Instr::Ldw(Reg::R0, Reg::R11, Reg::R0),
+                    ],
+                    *pos,
+                ),
+            },
+        },
+    }
+}
+
+/// The code that reads a word where the plan has it.
+fn put_word(e: &mut Emitter, place: VarAt, pos: Pos) -> Result<(), Memory>
+    requires { length e.old + 3 < 2 ^ 32 }
+    ensures ok { OnOk result (e.new ≡ e.old ++ at_pos pos (word_at_place place)) }
+    ensures refused { OnErr result (Extends e.old e.new) }
+{
+    match place {
+        VarAt::Near(n) => put_all(e, &[Instr::Ldwdp(Reg::R0, n)], pos),
+        VarAt::Far(n) | VarAt::Through(n) => put_all(
+            e,
+            &[
+                Instr::Ldwdp(Reg::R11, n),
+                Instr::Ldc(Reg::R0, 0),
+                Instr::Ldw(Reg::R0, Reg::R11, Reg::R0),
+            ],
+            pos,
+        ),
+    }
+}
+
+/// What one operand's operator makes of r0.
+fn put_one_tail(e: &mut Emitter, operator: Operator, pos: Pos) -> Result<(), Memory>
+    requires { length e.old + 2 < 2 ^ 32 }
+    ensures ok { OnOk result (e.new ≡ e.old ++ at_pos pos (one_tail (operator_meant operator))) }
+    ensures refused { OnErr result (Extends e.old e.new) }
+{
+    match operator {
+        Operator::Minus => put_all(e, &[Instr::Neg(Reg::R0, Reg::R0)], pos),
+        Operator::Flip => put_all(e, &[Instr::Not(Reg::R0, Reg::R0)], pos),
+        Operator::NotTrue => put_negated(e, pos),
+        _ => Ok(()),
+    }
+}
+
+/// 1 where r0 is 0, and 0 where it is not.
+fn put_negated(e: &mut Emitter, pos: Pos) -> Result<(), Memory>
+    requires { length e.old + 2 < 2 ^ 32 }
+    ensures ok { OnOk result (e.new ≡ e.old ++ at_pos pos negated) }
+    ensures refused { OnErr result (Extends e.old e.new) }
+{
+    put_all(
+        e,
+        &[
+            Instr::Ldc(Reg::R11, 0),
+            Instr::Eq(Reg::R0, Reg::R0, Reg::R11),
+        ],
+        pos,
+    )
+}
+
+/// What follows the main instruction of two operands' operator.
+fn put_after_main(e: &mut Emitter, operator: Operator, pos: Pos) -> Result<(), Memory>
+    requires { length e.old + 2 < 2 ^ 32 }
+    ensures ok { OnOk result (e.new ≡ e.old ++ at_pos pos (after_main (operator_meant operator))) }
+    ensures refused { OnErr result (Extends e.old e.new) }
+{
+    match operator {
+        Operator::Differs | Operator::AtMost | Operator::AtLeast => put_negated(e, pos),
+        Operator::BelowLength => put_all(
+            e,
+            &[
+                Instr::Ecallf(Reg::R0),
+                Instr::Or(Reg::R0, Reg::R11, Reg::R11),
+            ],
+            pos,
+        ),
+        _ => Ok(()),
+    }
+}
+
+/// The code of an operation.
+#[cycle(expression)]
+fn emit_operation(
+    e: &mut Emitter,
+    plan: &Plan,
+    operator: Operator,
+    unsigned: bool,
+    operands: &[Kx],
+    pos: Pos,
+    k: u32,
+    last: Pos,
+) -> Result<(), Memory>
+    requires room { length e.old + 8 * (1 + nodes_of (operands_of operands.now)) < 2 ^ 32 }
+    requires deep { k + (1 + depth_of (operands_of operands.now)) < 2 ^ 32 }
+    ensures ok { OnOk result (e.new ≡ e.old ++ operation_code (operator_meant operator) unsigned pos
+        (codes plan.now.vars (operands_of operands.now)) k (length e.old) last) }
+    ensures refused { OnErr result (Extends e.old e.new) }
+{
+    match operands {
+        [] => put_all(e, &[Instr::Ldc(Reg::R0, 0)], pos),
+        [only] => {
+            emit_at(e, plan, only, k, last)?;
+            put_one_tail(e, operator, pos)
+        }
+        [first, second] => {
+            emit_at(e, plan, first, k, last)?;
+            emit_second(e, plan, operator, unsigned, second, pos, k)
+        }
+        [test, second, third, ..] => {
+            emit_at(e, plan, test, k, last)?;
+            emit_choice(e, plan, second, third, pos, k)
+        }
+    }
+}
+
+/// The code behind the first of two operands.
+#[cycle(expression)]
+fn emit_second(
+    e: &mut Emitter,
+    plan: &Plan,
+    operator: Operator,
+    unsigned: bool,
+    second: &Kx,
+    pos: Pos,
+    k: u32,
+) -> Result<(), Memory>
+    requires room { length e.old + 8 * (1 + nodes (expression_of second.now)) < 2 ^ 32 }
+    requires deep { k + (1 + depth (expression_of second.now)) < 2 ^ 32 }
+    ensures ok { OnOk result (e.new ≡ e.old ++ second_code plan.now.vars
+        (operator_meant operator) unsigned pos (expression_of second.now) k (length e.old)) }
+    ensures refused { OnErr result (Extends e.old e.new) }
+{
+    match operator {
+        Operator::Both => emit_short(e, plan, Instr::Brff(Reg::R0, 0), second, pos, k),
+        Operator::Either => emit_short(e, plan, Instr::Brft(Reg::R0, 0), second, pos, k),
+        _ => {
+            put_all(e, &[Instr::Stwsp(Reg::R0, k)], pos)?;
+            emit_at(e, plan, second, k + 1, pos)?;
+            put_all(
+                e,
+                &[Instr::Ldwsp(Reg::R11, k), main_instr(operator, unsigned)],
+                pos,
+            )?;
+            put_after_main(e, operator, pos)?;
+            Ok(())
+        }
+    }
+}
+
+/// The code behind the first operand of `&&` or `||`.
+#[cycle(expression)]
+fn emit_short(
+    e: &mut Emitter,
+    plan: &Plan,
+    jump: Instr,
+    second: &Kx,
+    pos: Pos,
+    k: u32,
+) -> Result<(), Memory>
+    requires target { HasTarget jump }
+    requires room { length e.old + 8 * (1 + nodes (expression_of second.now)) < 2 ^ 32 }
+    requires deep { k + (1 + depth (expression_of second.now)) < 2 ^ 32 }
+    ensures ok { OnOk result (e.new
+        ≡ e.old ++ short_code plan.now.vars jump pos (expression_of second.now) k (length e.old)) }
+    ensures refused { OnErr result (Extends e.old e.new) }
+{
+    let over = e.hole(jump, pos)?;
+    emit_at(e, plan, second, k + 1, pos)?;
+    e.land(over);
+    put_all(
+        e,
+        &[
+            Instr::Ldc(Reg::R11, 0),
+            Instr::Eq(Reg::R0, Reg::R0, Reg::R11),
+            Instr::Eq(Reg::R0, Reg::R0, Reg::R11),
+        ],
+        pos,
+    )?;
+    Ok(())
+}
+
+/// The code behind the test of `? :`.
+#[cycle(expression)]
+fn emit_choice(
+    e: &mut Emitter,
+    plan: &Plan,
+    second: &Kx,
+    third: &Kx,
+    pos: Pos,
+    k: u32,
+) -> Result<(), Memory>
+    requires room { length e.old + 8 * (1 + nodes (expression_of second.now) + nodes
+        (expression_of third.now)) < 2 ^ 32 }
+    requires deep_second { k + (1 + depth (expression_of second.now)) < 2 ^ 32 }
+    requires deep_third { k + (1 + depth (expression_of third.now)) < 2 ^ 32 }
+    ensures ok { OnOk result (e.new ≡ e.old ++ choice_code plan.now.vars pos
+        (expression_of second.now) (expression_of third.now) k (length e.old)) }
+    ensures refused { OnErr result (Extends e.old e.new) }
+{
+    let past = e.hole(Instr::Brff(Reg::R0, 0), pos)?;
+    emit_at(e, plan, second, k + 1, pos)?;
+    let over = e.hole(Instr::Brfu(0), pos)?;
+    e.land(past);
+    emit_at(e, plan, third, k + 1, pos)?;
+    e.land(over);
+    Ok(())
+}

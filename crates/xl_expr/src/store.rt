@@ -1,0 +1,152 @@
+ghost use Rattle.std.specs.Prelude.{◌≡◌, ◌+◌, ◌*◌, ◌<◌, ◌≤◌, ◌^◌, ◌∷◌, ◌++◌, length, OnOk, OnErr};
+ghost use Rattle.xc_kernel.specs.Kernels.{expression_of, place_of};
+ghost use Rattle.xs_instr.specs.declared.instr.Instr.TheVariants.{Stwsp};
+ghost use Rattle.xs_instr.specs.Lines.{line, last_pos};
+ghost use Rattle.xs_instr.specs.Adds.{Adds};
+ghost use Rattle.xl_expr.specs.Code.{at_pos, expression_code};
+ghost use Rattle.xs_instr.specs.Extends.{Extends};
+ghost use Rattle.xl_expr.specs.Measures.{nodes, nodes_at, depth, depth_at};
+ghost use Rattle.xl_expr.specs.Stores.{Stores, element_write, store_code, word_write};
+
+use crate::expression::emit_at;
+use crate::plan::{Plan, VarAt};
+use crate::puts::put_all;
+use xc_kernel::{Kx, Place};
+use xs_instr::{Emitter, Instr, Reg};
+use xw_words::{Memory, Pos};
+
+/// The code that writes a register's word to a place. `stores` says what it does: wherever it stands from this index on, and
+/// whatever other threads do in between, it comes to where its next step writes the word at the place's address, or where
+/// the next step traps with the error of the place's index, within 8 steps for each node, the write among them.
+pub fn emit_store(e: &mut Emitter, plan: &Plan, dst: &Place, from: Reg) -> Result<(), Memory>
+    requires room { length e.old + 8 * nodes_at (place_of dst.now) < 2 ^ 32 }
+    requires shallow { depth_at (place_of dst.now) ≤ 400 }
+    ensures size { OnOk result (length e.new ≤ length e.old + 8 * nodes_at (place_of dst.now)) }
+    ensures code { OnOk result (e.new ≡ e.old ++ store_code plan.now.vars (place_of dst.now) from
+        (length e.old) (last_pos e.old)) }
+    ensures stores { OnOk result
+        (Adds e.old e.new (Stores plan.now.vars (place_of dst.now) from (length e.old))) }
+    ensures refused { OnErr result (Extends e.old e.new) }
+{
+    let last = e.pos();
+    emit_write(e, plan, dst, from, last)?;
+    Ok(())
+}
+
+#[tactic(auto, using(xc_kernel::proofs::Forms::forms))]
+fn emit_write(e: &mut Emitter, plan: &Plan, dst: &Place, from: Reg, last: Pos) -> Result<(), Memory>
+    requires room { length e.old + 8 * nodes_at (place_of dst.now) < 2 ^ 32 }
+    requires shallow { depth_at (place_of dst.now) ≤ 400 }
+    ensures code { OnOk result
+        (e.new ≡ e.old ++ store_code plan.now.vars (place_of dst.now) from (length e.old) last) }
+    ensures refused { OnErr result (Extends e.old e.new) }
+{
+    match dst {
+        Place::Word(v) => match plan.placed(*v) {
+            None => Ok(()),
+            Some(found) => {
+                put_word_write(e, found.place, from, last)?;
+                Ok(())
+            }
+        },
+        Place::Elem(v, index, pos) => match plan.placed(*v) {
+            None => Ok(()),
+            Some(found) => match found.place {
+                VarAt::Near(n) => {
+                    emit_element_write(
+                        e,
+                        plan,
+                        index,
+                        found.words,
+                        Instr::Ldawdp(Reg::R11, n),
+                        from,
+                        *pos,
+                    )?;
+                    Ok(())
+                }
+                VarAt::Far(n) => {
+                    emit_element_write(
+                        e,
+                        plan,
+                        index,
+                        found.words,
+                        Instr::Ldwdp(Reg::R11, n),
+                        from,
+                        *pos,
+                    )?;
+                    Ok(())
+                }
+                VarAt::Through(n) => {
+                    put_all(
+                        e,
+                        &[
+                            Instr::Stwsp(from, 0),
+                            Instr::Ldwdp(Reg::R11, n),
+                            Instr::Ldc(Reg::R0, 0),
+                            Instr::Ldwsp(Reg::R10, 0),
+                            Instr::Stw(Reg::R10, Reg::R11, Reg::R0),
+                        ],
+                        *pos,
+                    )?;
+                    Ok(())
+                }
+            },
+        },
+    }
+}
+
+/// A register's word goes to a variable's, where the plan has it.
+fn put_word_write(e: &mut Emitter, place: VarAt, from: Reg, pos: Pos) -> Result<(), Memory>
+    requires { length e.old + 5 < 2 ^ 32 }
+    ensures code { OnOk result (e.new ≡ e.old ++ at_pos pos (word_write place from)) }
+    ensures refused { OnErr result (Extends e.old e.new) }
+{
+    match place {
+        VarAt::Near(n) => put_all(e, &[Instr::Stwdp(from, n)], pos),
+        VarAt::Far(n) | VarAt::Through(n) => put_all(
+            e,
+            &[
+                Instr::Stwsp(from, 0),
+                Instr::Ldwdp(Reg::R11, n),
+                Instr::Ldc(Reg::R0, 0),
+                Instr::Ldwsp(Reg::R10, 0),
+                Instr::Stw(Reg::R10, Reg::R11, Reg::R0),
+            ],
+            pos,
+        ),
+    }
+}
+
+/// A register's word goes to an element, after its index's test; `base` brings the array's first address to r11.
+fn emit_element_write(
+    e: &mut Emitter,
+    plan: &Plan,
+    index: &Kx,
+    words: u32,
+    base: Instr,
+    from: Reg,
+    pos: Pos,
+) -> Result<(), Memory>
+    requires room { length e.old + 8 * (1 + nodes (expression_of index.now)) < 2 ^ 32 }
+    requires shallow { depth (expression_of index.now) ≤ 400 }
+    ensures code { OnOk result (e.new ≡ e.old ++ line
+        (Stwsp from 0) pos ∷ (expression_code plan.now.vars (expression_of index.now) 1
+        (length e.old + 1) pos ++ at_pos pos (element_write base words))) }
+    ensures refused { OnErr result (Extends e.old e.new) }
+{
+    put_all(e, &[Instr::Stwsp(from, 0)], pos)?;
+    emit_at(e, plan, index, 1, pos)?;
+    put_all(
+        e,
+        &[
+            Instr::Ldc(Reg::R11, words),
+            Instr::Lsu(Reg::R11, Reg::R0, Reg::R11),
+            Instr::Ecallf(Reg::R11),
+            base,
+            Instr::Ldwsp(Reg::R10, 0),
+            Instr::Stw(Reg::R10, Reg::R11, Reg::R0),
+        ],
+        pos,
+    )?;
+    Ok(())
+}

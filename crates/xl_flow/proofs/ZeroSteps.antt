@@ -1,0 +1,39 @@
+-- The lines of the code that sets words to 0, one word after another.
+use Rattle.std.proofs.Common.{◌≡◌, ℕ, zero, suc, ◌+◌, ◌*◌, List, [], ◌++◌, Result, Ok, Err, OnErr, length, refl, sym, ap, ◌∙◌, arith, length-append, append_assoc, append-nil}
+use Rattle.xw_words.specs.declared.pos.Pos.{Pos}
+use Rattle.xs_instr.specs.declared.instr.Instr.{Instr}
+use Rattle.xs_instr.specs.Extends.{Extends}
+use Rattle.xs_instr.specs.Lines.{Line}
+use Rattle.xl_expr.specs.Code.{at_pos}
+use Rattle.xl_expr.proofs.Emitted.{at_pos-append}
+use Rattle.xl_flow.specs.Zeros.{far_write, near_write, writes}
+
+pub near-length : (pos : Pos) (n i : ℕ) → length (at_pos pos (writes (near_write n) i)) ≡ i
+near-length pos n zero = refl
+near-length pos n (suc i) =
+    omega (arith, ap length (at_pos-append pos (writes (near_write n) i) (near_write n i)), length-append (at_pos pos (writes (near_write n) i)) (at_pos pos (near_write n i)), near-length pos n i)
+
+pub far-length : (pos : Pos) (i : ℕ) → length (at_pos pos (writes far_write i)) ≡ 2 * i
+far-length pos zero = refl
+far-length pos (suc i) =
+    omega (arith, ap length (at_pos-append pos (writes far_write i) (far_write i)), length-append (at_pos pos (writes far_write i)) (at_pos pos (far_write i)), far-length pos i)
+
+-- one word more
+pub one_more : (write : ℕ → List Instr) (pos : Pos) (i : ℕ) (old e1 e2 : List Line) → e1 ≡ old ++ at_pos pos (writes write i) → e2 ≡ e1 ++ at_pos pos (write i) → e2 ≡ old ++ at_pos pos (writes write (i + 1))
+one_more write pos i old e1 e2 h g =
+    let next : suc i ≡ i + 1 = omega arith in
+    g
+    ∙ ap (λ ls. ls ++ at_pos pos (write i)) h
+    ∙ append_assoc old (at_pos pos (writes write i)) (at_pos pos (write i))
+    ∙ ap (λ ls. old ++ ls) (sym (at_pos-append pos (writes write i) (write i)))
+    ∙ ap (λ k. old ++ at_pos pos (writes write k)) next
+
+pub none_yet : (old : List Line) → old ≡ old ++ []
+none_yet old = sym (append-nil old)
+
+pub further : (old e1 e2 more : List Line) → e1 ≡ old ++ more → Extends e1 e2 → Extends old e2
+further old e1 e2 more h x = record { more = more ++ x.more; is = x.is ∙ ap (λ ls. ls ++ x.more) h ∙ append_assoc old more x.more }
+
+pub on_err : {A E P : Type 0} (r : Result A E) → P → OnErr r P
+on_err (Ok x) p = tt
+on_err (Err e) p = p

@@ -1,0 +1,3 @@
+pub mod Errors
+pub mod Forms
+pub mod Stimulus

@@ -1,0 +1,19 @@
+use Rattle.std.proofs.Common.{◌≡◌, ◌≤◌, ◌++◌, ◌∷◌, [], List, length, slice_set, refl, sym, subst, rules, arith}
+use Rattle.std.specs.Prelude.{nat_eq}
+use Rattle.xs_chanend.specs.Ends.{end_at, without_credits, without_first}
+use Rattle.xs_core.proofs.EndSteps.{sent_moves, taken_moves, send_room, take_room, word_long, byte_long, passed_long, passed_left}
+use Rattle.xs_core.proofs.end_rows.post_word.Goals as goal
+use Rattle.xs_core.specs.Room.{HasRoomAlong}
+use Rattle.xs_core.specs.Wired.{peer_at}
+use Rattle.xs_instr.specs.declared.state.ChanEnd.{ChanEnd}
+use Rattle.xs_instr.specs.declared.state.Moved.{Moved}
+use Rattle.xs_instr.specs.Ends.{credits_to, goes_by, tokens_to, word_tokens}
+
+pub returns : goal.returns
+returns c =
+    let left : c.spend.new.self ≡ slice_set c.args.state.now.ends c.args.e (without_credits (end_at c.args.state.now.ends c.args.e) 4) = search rules in
+    let enough : 4 ≤ (end_at c.args.state.now.ends c.args.e).credits = c.requires.fits in
+    let ends_is : c.go.new.ends ≡ (goes_by (slice_set c.args.state.now.ends c.args.e (without_credits (end_at c.args.state.now.ends c.args.e) 4)) (peer_at c.args.state.now.fixed.peers c.args.e).core c.args.state.now.ports.clock (tokens_to (peer_at c.args.state.now.fixed.peers c.args.e).end (word_tokens c.args.value)) (nat_eq (peer_at c.args.state.now.fixed.peers c.args.e).core c.args.state.now.ports.core)).ends = cc (left, c.go.ensures.ends, c.word_moves-moves.ensures, c.as_slice.ensures, c.core-here.ensures, c.clock-clock.ensures) in
+    let sent_is : c.go.new.outbox.items ≡ c.args.outbox.now.items ++ (goes_by (slice_set c.args.state.now.ends c.args.e (without_credits (end_at c.args.state.now.ends c.args.e) 4)) (peer_at c.args.state.now.fixed.peers c.args.e).core c.args.state.now.ports.clock (tokens_to (peer_at c.args.state.now.fixed.peers c.args.e).end (word_tokens c.args.value)) (nat_eq (peer_at c.args.state.now.fixed.peers c.args.e).core c.args.state.now.ports.core)).sent = cc (left, c.go.ensures.sent, c.word_moves-moves.ensures, c.as_slice.ensures, c.core-here.ensures, c.clock-clock.ensures) in
+    let all = sent_moves c.args.state.now c.requires.order c.args.e c.requires.there (word_tokens c.args.value) c.args.outbox.now c.go.new.outbox _ c.go.new.ends enough (omega arith) refl ends_is sent_is c.go.ensures.capacity in
+    record { moves = all }

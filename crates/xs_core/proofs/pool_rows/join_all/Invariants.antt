@@ -1,0 +1,7 @@
+use Rattle.std.proofs.Common.{◌≡◌}
+use Rattle.xs_core.proofs.Changed.{changed_to}
+use Rattle.xs_core.proofs.pool_rows.join_all.Given as goal
+use Rattle.xs_instr.specs.Pool.{is_tied, joined_by}
+
+abbrev pub invariant-loop-k : goal.invariant-loop-k
+invariant-loop-k l = l.threads ≡ changed_to (λ x. joined_by x (is_tied x l.n)) l.initial.threads l.k

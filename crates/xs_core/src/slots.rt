@@ -1,0 +1,130 @@
+// A thread's turn: what comes of it, and how it is taken.
+
+ghost use Rattle.std.specs.Prelude.{◌≡◌, ◌+◌, ◌<◌, ◌≤◌, ◌||◌, length, slice_get};
+ghost use Rattle.xs_core.specs.Order.{IsInOrder, KeepsHome};
+ghost use Rattle.xs_core.specs.Seen.{home_of, state_of, thread_at};
+ghost use Rattle.xs_core.specs.Slots.{IsTurn};
+ghost use Rattle.xs_core.specs.Turns.{meant, steps, Fits, MayGoOn};
+ghost use Rattle.xs_instr.specs.Did.{is_step};
+ghost use Rattle.xs_instr.specs.Slot.{instr_at, is_ready, pos_at, runs_on, slot, takes_events as takes_events_of};
+
+use crate::did::Did;
+use crate::ready::pick;
+use crate::rows::row;
+use crate::state::State;
+use crate::turn::Turn;
+use crate::{end_rows, event_rows, own_rows, pool_rows, port_rows};
+use circular_buffer::HeapCircularBuffer;
+use xs_instr::{Instr, Mode, Sent, Thread, Trap};
+use xw_words::Pos;
+
+/// What comes of the turn of thread `t`.
+pub fn decide(state: &State, t: u8) -> Turn
+    requires there { t < 8 }
+    requires order { IsInOrder state.now }
+    ensures means { meant (home_of state.now) (state_of state.now) t
+        (thread_at state.now.threads t) result ≡ slot (home_of state.now) (state_of state.now) t }
+    ensures steps { steps result ≡ is_ready (home_of state.now) (state_of state.now) t }
+    ensures fits { Fits (home_of state.now) (state_of state.now) t
+        (thread_at state.now.threads t) result }
+    ensures room { MayGoOn (thread_at state.now.threads t).pc result }
+{
+    let thread = &state.threads[t as usize];
+    match thread.mode {
+        Mode::Unused | Mode::Trapped => Turn::Idle,
+        Mode::Waiting => Turn::Paused,
+        Mode::Running => run(state, t, thread),
+    }
+}
+
+/// What comes of the turn of a running thread: an event, where it takes events and one is there, else its instruction.
+fn run(state: &State, t: u8, thread: &Thread) -> Turn
+    requires order { IsInOrder state.now }
+    ensures means { meant (home_of state.now) (state_of state.now) t thread.now result
+        ≡ runs_on (home_of state.now) (state_of state.now) t thread.now
+        (instr_at (home_of state.now) thread.now.pc) }
+    ensures steps { is_step (meant (home_of state.now) (state_of state.now) t thread.now result)
+        ≡ steps result }
+    ensures fits { Fits (home_of state.now) (state_of state.now) t thread.now result }
+    ensures room { MayGoOn thread.now.pc result }
+{
+    let instr = state
+        .fixed
+        .parts
+        .code
+        .instrs
+        .get(thread.pc as usize)
+        .copied();
+    if takes_events(thread, instr) {
+        if let Some(res) = pick(state, t) {
+            return Turn::Take(res);
+        }
+    }
+    match instr {
+        None => Turn::Trapped(Trap::Code),
+        Some(instr) => row(state, t, thread, instr),
+    }
+}
+
+/// Whether the thread stands where it takes events.
+pub fn takes_events(thread: &Thread, instr: Option<Instr>) -> bool
+    ensures { result ≡ takes_events_of thread.now instr }
+{
+    match instr {
+        Some(Instr::Waiteu) => true,
+        _ => thread.event_bit,
+    }
+}
+
+/// Thread `t` takes its turn.
+pub fn take(state: &mut State, outbox: &mut HeapCircularBuffer<Sent>, t: u8) -> Did
+    requires there { t < 8 }
+    requires order { IsInOrder state.old }
+    requires spare { length outbox.old.items + 4 ≤ outbox.old.capacity }
+    ensures turn { IsTurn (slot (home_of state.old) (state_of state.old) t) (home_of state.old)
+        (state_of state.old) t result (state_of state.new) outbox.old.items outbox.new.items }
+    ensures home { KeepsHome state.old state.new }
+    ensures order { IsInOrder state.new }
+    ensures few { length outbox.new.items ≤ length outbox.old.items + 4 }
+    ensures capacity { outbox.new.capacity ≡ outbox.old.capacity }
+{
+    match decide(state, t) {
+        Turn::Idle => Did::Idle,
+        Turn::Paused => Did::Paused,
+        Turn::Trapped(kind) => {
+            let pos = place_of(state, t);
+            state.threads[t as usize].mode = Mode::Trapped;
+            Did::Trapped(kind, pos)
+        }
+        Turn::Own(step) => {
+            own_rows::apply(&mut state.threads, &mut state.words, t, step);
+            Did::Made(None)
+        }
+        Turn::Pool(step) => {
+            pool_rows::apply(state, t, step);
+            Did::Made(None)
+        }
+        Turn::End(step) => Did::Made(end_rows::apply(state, outbox, t, step)),
+        Turn::Port(step) => Did::Made(port_rows::apply(state, t, step)),
+        Turn::Event(step) => {
+            event_rows::apply(state, t, step);
+            Did::Made(None)
+        }
+        Turn::Take(res) => {
+            event_rows::take(state, t, res);
+            Did::Made(None)
+        }
+    }
+}
+
+/// The place of the instruction of thread `t` in the text, or 0:0 past the code.
+fn place_of(state: &State, t: u8) -> Pos
+    requires { t < 8 }
+    ensures { result ≡ pos_at (home_of state.now) (slice_get state.now.threads t) }
+{
+    let pc = state.threads[t as usize].pc;
+    match state.fixed.parts.code.at.get(pc as usize) {
+        None => Pos { line: 0, col: 0 },
+        Some(pos) => *pos,
+    }
+}

@@ -1,0 +1,11 @@
+pub mod Sample
+pub mod Arithmetic
+pub mod Memory
+pub mod Flow
+pub mod Pools
+pub mod Threads
+pub mod Ends
+pub mod Ports
+pub mod Timers
+pub mod Events
+pub mod Turns
