@@ -21,12 +21,13 @@ pub enum Phase {
     Kernels,
     Sizes,
     Needs,
+    Apart,
     Messages,
 }
 
 impl Phase {
     /// In the order of the report.
-    pub const ALL: [Phase; 13] = [
+    pub const ALL: [Phase; 14] = [
         Phase::Tokens,
         Phase::Trees,
         Phase::Refusals,
@@ -39,6 +40,7 @@ impl Phase {
         Phase::Kernels,
         Phase::Sizes,
         Phase::Needs,
+        Phase::Apart,
         Phase::Messages,
     ];
 
@@ -57,6 +59,7 @@ impl Phase {
             Phase::Kernels => "kernels.txt",
             Phase::Sizes => "sizes.txt",
             Phase::Needs => "needs.txt",
+            Phase::Apart => "apart.txt",
             Phase::Messages => "messages.txt",
         }
     }
@@ -85,7 +88,7 @@ impl Phase {
             Phase::Forms => forms::put_form(page, alloc, text),
             Phase::Kernels => kernels::put_flattened(page, alloc, text),
             Phase::Sizes => kernels::put_size(page, alloc, text),
-            Phase::Needs => needs::put_needs(page, alloc, text),
+            Phase::Needs | Phase::Apart => needs::put_needs(page, alloc, text),
             Phase::Messages => messages::put_message(page, text),
         }
     }
