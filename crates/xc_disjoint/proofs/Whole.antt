@@ -5,19 +5,21 @@ use Rattle.std.proofs.lemmas.List.Elements.{Contains-append_right}
 use Rattle.xw_words.specs.declared.pos.Pos.{Pos}
 use Rattle.xw_words.specs.declared.pos.Broken.{Broken}
 use Rattle.xc_tree.specs.Lexes.{IsNotAfter}
-use Rattle.xc_tree.specs.Least.{IsLeastOf}
-use Rattle.xc_tree.proofs.Leasts.{of_same, none_broken}
+use Rattle.xc_tree.specs.Least.{IsLeastOf, first_of}
+use Rattle.xc_tree.proofs.Leasts.{either, of_same, none_broken}
 use Rattle.xc_kernel.specs.declared.kernel.PortUse.{PortUse}
 use Rattle.xc_kernel.specs.declared.statement.KRes.{KRes}
 use Rattle.xc_kernel.specs.declared.statement.KRes.TheVariants.{Port, Timer, Chan}
 use Rattle.xc_kernel.specs.Plain as kernel
 use Rattle.xc_kernel.specs.Branches.{all_pars}
 use Rattle.xc_apart.specs.Clashes.{Clashes}
+use Rattle.xc_sides.specs.Rules.{WithoutSides}
+use Rattle.xc_disjoint.specs.Disjoint.{NotApart, clash, without_sides}
 use Rattle.xc_disjoint.specs.Cores.{no_core}
 use Rattle.xc_disjoint.specs.Leasts.{first_among, IsBrokenBy}
 use Rattle.xc_disjoint.specs.Needs.{threads_on, ends_on, timers_on, words_on}
 use Rattle.xc_disjoint.specs.Places.{rule_if, rule_of_root, rule_of_port, rule_by_port, rule_of_resource, rule_of_use, first_in_roots}
-use Rattle.xc_disjoint.specs.Rules.{IsAbove, most_threads, most_ends, most_timers, most_words, NeedsMore, threads, ends, timers, words, HasNoCore, of_root, of_port, UsesElsewhere, Breaks, clash, needs, without_core, elsewhere}
+use Rattle.xc_disjoint.specs.Rules.{IsAbove, most_threads, most_ends, most_timers, most_words, NeedsMore, threads, ends, timers, words, HasNoCore, of_root, of_port, UsesElsewhere, Breaks, apart, needs, without_core, elsewhere}
 use Rattle.xc_kernel.specs.Uses as uses
 use Rattle.xc_kernel.specs.Uses.{Use}
 use Rattle.xc_disjoint.proofs.Firsts.{least_among, first_is, split}
@@ -27,6 +29,18 @@ some_same a b e = cc
 
 none_there : {A : Type 0} (x : A) → None ≡ Some x → ⊥
 none_there x e = cc
+
+-- branches don't keep apart by what they use, or by the sides of channels
+pub least_apart : (k : kernel.Kernel) (x y : Option Broken) → IsLeastOf (Clashes (all_pars k)) x → IsLeastOf (WithoutSides k) y → IsLeastOf (NotApart k) (first_of x y)
+least_apart k x y h g = of_same (λ b. Clashes (all_pars k) b ⊎ WithoutSides k b) (NotApart k) (first_of x y) to from (either (Clashes (all_pars k)) (WithoutSides k) x y h g)
+  where
+    to : (b : Broken) → Clashes (all_pars k) b ⊎ WithoutSides k b → NotApart k b
+    to b (inl h) = clash h
+    to b (inr h) = without_sides h
+
+    from : (b : Broken) → NotApart k b → Clashes (all_pars k) b ⊎ WithoutSides k b
+    from b (clash h) = inl h
+    from b (without_sides h) = inr h
 
 -- a use in some root breaks this rule
 pub record IsBrokenInRoots (ports : List PortUse) (rs : List kernel.Root) (b : Broken) : Type 0 where
@@ -67,7 +81,7 @@ broken_if false rule pos b e = absurd (none_there b e)
 module _ (k : kernel.Kernel) where
   -- the kinds of broken rules, as they are looked at
   abbrev IsAny : Broken → Type 0
-  IsAny b = (((Clashes (all_pars k) b ⊎ NeedsMore k b) ⊎ IsBrokenBy rule_of_root k.roots b) ⊎ IsBrokenBy rule_of_port k.ports b) ⊎ IsBrokenInRoots k.ports k.roots b
+  IsAny b = (((NotApart k b ⊎ NeedsMore k b) ⊎ IsBrokenBy rule_of_root k.roots b) ⊎ IsBrokenBy rule_of_port k.ports b) ⊎ IsBrokenInRoots k.ports k.roots b
 
   root_place : (b : Broken) → IsBrokenBy rule_of_root k.roots b → Breaks k b
   root_place b h =
@@ -112,7 +126,7 @@ module _ (k : kernel.Kernel) where
       by (Chan n) e g = absurd (none_there b (ap (rule_of_resource k.ports h.root.core h.broken.item.pos) (sym e) ∙ g))
 
   to_breaks : (b : Broken) → IsAny b → Breaks k b
-  to_breaks b (inl (inl (inl (inl h)))) = clash h
+  to_breaks b (inl (inl (inl (inl h)))) = apart h
   to_breaks b (inl (inl (inl (inr h)))) = needs h
   to_breaks b (inl (inl (inr h))) = root_place b h
   to_breaks b (inl (inr h)) = port_place b h
@@ -138,18 +152,18 @@ module _ (k : kernel.Kernel) where
           rw (h.elsewhere.resource, h.elsewhere.is_port, ne_eqb h.elsewhere.port.core h.root.core h.elsewhere.other_core, h.place) refl
 
   from_breaks : (b : Broken) → Breaks k b → IsAny b
-  from_breaks b (clash h) = inl (inl (inl (inl h)))
+  from_breaks b (apart h) = inl (inl (inl (inl h)))
   from_breaks b (needs h) = inl (inl (inl (inr h)))
   from_breaks b (without_core {pos = p} h) = place_any p h
   from_breaks b (elsewhere {pos = p} h) = use_any p h
 
   -- the first of all, by the first of what is needed
-  pub first_of_all : (best : Option Broken) → IsLeastOf (λ b. Clashes (all_pars k) b ⊎ NeedsMore k b) best → IsLeastOf (Breaks k) (first_in_roots k.ports (first_among rule_of_port (first_among rule_of_root best k.roots) k.ports) k.roots)
+  pub first_of_all : (best : Option Broken) → IsLeastOf (λ b. NotApart k b ⊎ NeedsMore k b) best → IsLeastOf (Breaks k) (first_in_roots k.ports (first_among rule_of_port (first_among rule_of_root best k.roots) k.ports) k.roots)
   first_of_all best h =
       of_same IsAny (Breaks k) (first_in_roots k.ports (first_among rule_of_port (first_among rule_of_root best k.roots) k.ports) k.roots) to_breaks from_breaks
-      (least_in_roots k.ports (λ b. ((Clashes (all_pars k) b ⊎ NeedsMore k b) ⊎ IsBrokenBy rule_of_root k.roots b) ⊎ IsBrokenBy rule_of_port k.ports b) (first_among rule_of_port (first_among rule_of_root best k.roots) k.ports) k.roots
-      (least_among rule_of_port (λ b. (Clashes (all_pars k) b ⊎ NeedsMore k b) ⊎ IsBrokenBy rule_of_root k.roots b) (first_among rule_of_root best k.roots) k.ports
-      (least_among rule_of_root (λ b. Clashes (all_pars k) b ⊎ NeedsMore k b) best k.roots h)))
+      (least_in_roots k.ports (λ b. ((NotApart k b ⊎ NeedsMore k b) ⊎ IsBrokenBy rule_of_root k.roots b) ⊎ IsBrokenBy rule_of_port k.ports b) (first_among rule_of_port (first_among rule_of_root best k.roots) k.ports) k.roots
+      (least_among rule_of_port (λ b. (NotApart k b ⊎ NeedsMore k b) ⊎ IsBrokenBy rule_of_root k.roots b) (first_among rule_of_root best k.roots) k.ports
+      (least_among rule_of_root (λ b. NotApart k b ⊎ NeedsMore k b) best k.roots h)))
 
   -- what a core needs too much of, in the order of the rules
 

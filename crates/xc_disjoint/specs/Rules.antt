@@ -5,8 +5,7 @@ use Rattle.xw_words.specs.declared.pos.Broken.{Broken}
 use Rattle.xc_kernel.specs.declared.kernel.PortUse.{PortUse}
 use Rattle.xc_kernel.specs.declared.statement.KRes.TheVariants.{Port}
 use Rattle.xc_kernel.specs.Plain as kernel
-use Rattle.xc_kernel.specs.Branches.{all_pars}
-use Rattle.xc_apart.specs.Clashes.{Clashes}
+use Rattle.xc_disjoint.specs.Disjoint.{NotApart}
 use Rattle.xc_disjoint.specs.Cores.{last_core, no_core}
 use Rattle.xc_kernel.specs.Uses as uses
 use Rattle.xc_kernel.specs.Uses.{Use}
@@ -62,7 +61,7 @@ pub data NeedsMore (k : kernel.Kernel) : Broken → Type 0 where
 -- One of the rules is broken, and where: branches don't keep apart; a core needs more than it has; a place gives no core, at the
 -- place; a port is used on another core than its own, at the use.
 pub data Breaks (k : kernel.Kernel) : Broken → Type 0 where
-  clash : {b : Broken} → Clashes (all_pars k) b → Breaks k b
+  apart : {b : Broken} → NotApart k b → Breaks k b
   needs : {b : Broken} → NeedsMore k b → Breaks k b
   without_core : {pos : Pos} → HasNoCore k pos → Breaks k (record { rule = 705; pos = pos })
   elsewhere : {pos : Pos} → UsesElsewhere k pos → Breaks k (record { rule = 706; pos = pos })

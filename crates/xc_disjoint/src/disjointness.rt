@@ -1,6 +1,7 @@
 ghost use Rattle.std.specs.Prelude.{◌≡◌, Some, IfErr, IfOk};
 ghost use Rattle.xw_words.specs.declared.pos.Broken.{Broken as Wrong};
 ghost use Rattle.xc_kernel.specs.Sound.{IsOfProgram};
+ghost use Rattle.xc_disjoint.specs.Disjoint.{NotApart};
 ghost use Rattle.xc_disjoint.specs.Rules.{Breaks, NeedsMore};
 ghost use Rattle.xc_kernel.specs.Kernels.{kernel_of};
 ghost use Rattle.xc_tree.specs.Least.{IsFirst, IsLeastOf};
@@ -13,6 +14,7 @@ use crate::ports::first_elsewhere;
 use std::alloc::Global;
 use xc_apart::first_clash;
 use xc_kernel::Kernel;
+use xc_sides::first_without_sides;
 use xc_tree::{Refusal, earlier};
 use xw_words::{Broken, Memory};
 
@@ -23,9 +25,11 @@ pub type DisErr = Refusal;
 /// no deeper than 200. The stack that it needs grows with the depth of the kernel.
 ///
 /// A kernel that breaks a rule is dropped, and of all rules that it breaks the error is the one of the least place, and there
-/// of the least number: 701 more than 8 threads are needed on a core; 702 more than 32 channel ends; 703 more than 10
-/// timers; 704 more than 16,384 words; 705 a place gives no core; 706 a port is used on a core other than its own. The other
-/// error is that memory could not be had; it drops the kernel too.
+/// of the least number: 601 a variable that a branch of a `par` changes is used in another; 602 a port is used in two; 603 three
+/// branches of the innermost `par` that holds all uses of a channel use it; 604 one alone does, or there is no such `par`; 605
+/// one of two holds a `par` with two that use it; 606 a timer is used in two; 701 more than 8 threads are needed on a core; 702
+/// more than 32 channel ends; 703 more than 10 timers; 704 more than 16,384 words; 705 a place gives no core; 706 a port is used
+/// on a core other than its own. The other error is that memory could not be had; it drops the kernel too.
 pub fn disjoint(alloc: Global, kernel: Kernel) -> Result<Checked, DisErr>
     requires { IsOfProgram (kernel_of kernel) }
     ensures kernel { IfOk result (λ checked. checked ≡ kernel) }
@@ -42,11 +46,20 @@ pub fn disjoint(alloc: Global, kernel: Kernel) -> Result<Checked, DisErr>
 fn first_broken(alloc: Global, kernel: &Kernel) -> Result<Option<Broken>, Memory>
     ensures { IfOk result (λ best. IsLeastOf (Breaks (kernel_of kernel.now)) best) }
 {
-    let clash = first_clash(alloc, kernel.roots.as_slice())?;
+    let apart = first_not_apart(alloc, kernel)?;
     let needs = broken_need(alloc, kernel)?;
-    let roots = first_of_roots(kernel.roots.as_slice(), earlier(clash, needs));
+    let roots = first_of_roots(kernel.roots.as_slice(), earlier(apart, needs));
     let places = first_of_ports(kernel.ports.as_slice(), roots);
     Ok(first_elsewhere(kernel.ports.as_slice(), kernel.roots.as_slice(), places))
+}
+
+/// The first of the rules by which branches don't keep apart.
+fn first_not_apart(alloc: Global, kernel: &Kernel) -> Result<Option<Broken>, Memory>
+    ensures { IfOk result (λ best. IsLeastOf (NotApart (kernel_of kernel.now)) best) }
+{
+    let clash = first_clash(alloc, kernel.roots.as_slice())?;
+    let sides = first_without_sides(alloc, kernel)?;
+    Ok(earlier(clash, sides))
 }
 
 /// The least of the rules by which a core needs more than it has, which all stand at main.

@@ -19,7 +19,8 @@ use Rattle.xc_kernel.specs.Uses.{Use, count_of}
 use Rattle.xc_kernel.specs.Pars as pars
 use Rattle.xc_kernel.specs.Branches.{all_pars, branch_at, pos_of, uses_in}
 use Rattle.xc_apart.specs.Clashes.{Clash, changed, used, of_port, of_timer, rule_against}
-use Rattle.xc_disjoint.specs.Disjoint.{IsUser, IsInnermost, NotApart, clash, third, one_sided, second_inside}
+use Rattle.xc_disjoint.specs.Disjoint.{NotApart, clash, without_sides}
+use Rattle.xc_sides.specs.Rules.{IsUser, IsInnermost, third, one_sided, second_inside}
 use Rattle.xc_meaning.proofs.Basics.{some_given, none_given, true_or_false, same_or_not}
 use Rattle.xc_laws.proofs.Unsided.{unused_statement, unused_statements, unused_branches, no_users}
 use Rattle.xc_laws.specs.Channels.{IsListed}
@@ -403,14 +404,14 @@ module _ (K : kernel.Kernel) (unbroken : (b : Broken) → NotApart K b → ⊥) 
 
     two_of : (bs : kernel.Branches) → IsInnermost K c bs → (n : ℕ) → users c bs ≡ n → n ≡ 2
     two_of bs h zero e = let z = none_users c bs e in let p = h.used in absurd (omega arith)
-    two_of bs h (suc zero) e = let d = the_channel K.channels c lt in absurd (unbroken (record { rule = 604; pos = d.0.pos }) (one_sided d.0 (record { c = c; bs = bs; innermost = h; alone = e; is_channel = d.1 })))
+    two_of bs h (suc zero) e = let d = the_channel K.channels c lt in absurd (unbroken (record { rule = 604; pos = d.0.pos }) (without_sides (one_sided d.0 (record { c = c; bs = bs; innermost = h; alone = e; is_channel = d.1 }))))
     two_of bs h (suc (suc zero)) e = refl
-    two_of bs h (suc (suc (suc n))) e = let b = user_at c bs 2 (omega arith) in absurd (unbroken (record { rule = 603; pos = pos_of b.0 }) (third b.0 (record { c = c; bs = bs; innermost = h; user = b.1 })))
+    two_of bs h (suc (suc (suc n))) e = let b = user_at c bs 2 (omega arith) in absurd (unbroken (record { rule = 603; pos = pos_of b.0 }) (without_sides (third b.0 (record { c = c; bs = bs; innermost = h; user = b.1 }))))
 
     not_more : (bs : kernel.Branches) → IsInnermost K c bs → users c bs ≡ 2 → (i : ℕ) (inner : kernel.Branches) → slice_get (pars.of_branches bs) i ≡ Some inner → (n : ℕ) → users c inner ≡ n → n ≤ 1
     not_more bs h two i inner e zero f = omega arith
     not_more bs h two i inner e (suc zero) f = omega arith
-    not_more bs h two i inner e (suc (suc n)) f = let b = user_at c inner 1 (omega arith) in absurd (unbroken (record { rule = 605; pos = pos_of b.0 }) (second_inside b.0 (record { c = c; bs = bs; innermost = h; both = two; place = i; inner = inner; inside = e; user = b.1 })))
+    not_more bs h two i inner e (suc (suc n)) f = let b = user_at c inner 1 (omega arith) in absurd (unbroken (record { rule = 605; pos = pos_of b.0 }) (without_sides (second_inside b.0 (record { c = c; bs = bs; innermost = h; both = two; place = i; inner = inner; inside = e; user = b.1 }))))
 
     good : (place : ℕ) (bs : kernel.Branches) → slice_get (all_pars K) place ≡ Some bs → IsGood c (uses_in c roots) positive bs
     good place bs e holds none =

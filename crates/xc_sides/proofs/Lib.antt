@@ -1,0 +1,6 @@
+pub mod UseSteps
+pub mod Entries
+pub mod Users
+pub mod Holding
+pub mod Settled
+pub mod Judging

@@ -1,0 +1,6 @@
+use Rattle.xc_sides.specs.Tables.{uses_in}
+use Rattle.xc_sides.proofs.Entries.{swapped}
+use Rattle.xc_sides.proofs.tables.larger_first.Goals as goal
+
+pub returns-then-len : goal.returns-then-len
+returns-then-len c = swapped (uses_in c.args.second) (uses_in c.args.first)

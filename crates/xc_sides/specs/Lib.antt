@@ -1,0 +1,4 @@
+pub mod Rules
+pub mod Uses
+pub mod Tables
+pub mod Judged

@@ -1,0 +1,70 @@
+ghost use Rattle.std.specs.Option.{option_copied};
+ghost use Rattle.std.specs.Prelude.{◌≡◌, map, IfOk};
+ghost use Rattle.xc_kernel.specs.Branches.{branches_of};
+ghost use Rattle.xc_kernel.specs.Kernels.{kernel_of, root_of};
+ghost use Rattle.xc_sides.specs.Judged.{rule_by as by_held, rule_of as rule_at};
+ghost use Rattle.xc_sides.specs.Rules.{WithoutSides};
+ghost use Rattle.xc_sides.specs.Tables.{uses_in};
+ghost use Rattle.xc_sides.specs.Uses.{no_shares, uses_of, with_branches};
+ghost use Rattle.xc_tree.specs.Least.{IsLeastOf};
+
+use crate::code::statements;
+use crate::tables::{ParTable, UseTable, entry_at};
+use crate::uses::{Held, Use};
+use std::alloc::Global;
+use xc_kernel::{Chan, Kernel, Root};
+use xc_tree::earlier;
+use xw_words::{Broken, Memory};
+
+/// The first of the rules 603 to 605 that the channels of a kernel break: in the innermost `par` that holds all uses of one,
+/// which may be that of the roots, three branches or more use it, or one alone, or one of two holds a `par` with two branches
+/// that use it. Want of memory leaves the kernel as it was. The stack that it needs grows with the depth of the kernel.
+pub fn first_without_sides(alloc: Global, kernel: &Kernel) -> Result<Option<Broken>, Memory>
+    ensures { IfOk result (λ first. IsLeastOf (WithoutSides (kernel_of kernel.now)) first) }
+{
+    let table = uses_of_roots(alloc, kernel.roots.as_slice())?;
+    let channels = kernel.chans.as_slice();
+    let mut best = None;
+    for at in 0..table.entries.len() {
+        let (channel, u) = entry_at(&table.entries, at);
+        best = earlier(best, rule_of(channels, channel, u));
+    }
+    Ok(best)
+}
+
+/// How the roots use channels, as the branches of one `par`.
+fn uses_of_roots(alloc: Global, roots: &[Root]) -> Result<UseTable, Memory>
+    ensures { IfOk result (λ table. uses_in table ≡ uses_of (with_branches no_shares (branches_of (map root_of roots.now)))) }
+{
+    let mut par = ParTable::new(alloc);
+    for root in roots {
+        let mut table = UseTable::new(alloc);
+        statements(alloc, &mut table, root.body.as_slice())?;
+        par.add(alloc, table, root.pos)?;
+    }
+    par.uses()
+}
+
+/// The rule that is broken by a channel that is used like this.
+fn rule_of(channels: &[Chan], channel: u32, u: Use) -> Option<Broken>
+    ensures { result ≡ rule_at channels.now channel u }
+{
+    rule_by(channels.get(channel as usize), u)
+}
+
+/// The same for one that is declared so.
+fn rule_by(declared: Option<&Chan>, u: Use) -> Option<Broken>
+    ensures { result ≡ by_held (option_copied declared.entry) u.held }
+{
+    match u.held {
+        Held::Apart => match declared {
+            None => None,
+            Some(channel) => Some(Broken {
+                rule: 604,
+                pos: channel.pos,
+            }),
+        },
+        Held::Two(inside) => inside,
+        Held::Many(third) => Some(third),
+    }
+}
