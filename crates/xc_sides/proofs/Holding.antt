@@ -235,10 +235,10 @@ module _ (c : ℕ) where
 
     used_par : (s : Share) → SharedBy bs (Some s) → UsedBy n whole (Some (use_of s))
     used_par (share.One u) k = (
-          k.1.0,
-          of_same (Seconds inner) (Seconds whole) u.second (λ x s. second_of_whole x (inl s)) (λ x s. ⊎_elim (λ g. g) (λ g. absurd (no_own k.0 x g)) (second_in_whole x s)) k.1.1,
-          lone_held u.held k.0 k.1.2,
-        )
+      k.1.0,
+      of_same (Seconds inner) (Seconds whole) u.second (λ x s. second_of_whole x (inl s)) (λ x s. ⊎_elim (λ g. g) (λ g. absurd (no_own k.0 x g)) (second_in_whole x s)) k.1.1,
+      lone_held u.held k.0 k.1.2,
+    )
     used_par (share.Two second inside) k =
         let l = users_below c bs in
         let two = k.0 in (
@@ -247,10 +247,10 @@ module _ (c : ℕ) where
           (bs, holds_itself (λ p h e. let m = k.1 p h in absurd (omega arith)), k.0, k.3),
         )
     used_par (share.Many third seconds) k = (
-          user_uses bs 2 k.1.0 k.1.1,
-          of_same (λ x. Seconds inner x ⊎ OwnSecond bs x) (Seconds whole) seconds second_of_whole second_in_whole k.2,
-          (bs, holds_itself (λ p h e. let m = k.0 p h in absurd (omega arith)), k.1.0, k.1.1, k.1.2),
-        )
+      user_uses bs 2 k.1.0 k.1.1,
+      of_same (λ x. Seconds inner x ⊎ OwnSecond bs x) (Seconds whole) seconds second_of_whole second_in_whole k.2,
+      (bs, holds_itself (λ p h e. let m = k.0 p h in absurd (omega arith)), k.1.0, k.1.1, k.1.2),
+    )
 
     -- the use in the whole `par`
     pub of_par : (s : Option Share) → Shared bs s → Fits n whole (option_map use_of s)
@@ -338,10 +338,12 @@ module _ (c : ℕ) where
           (users_unused z ∙ k.0, less_more z (omega arith) k.1, (k.2.0, user_first c front last 1 k.2.0 k.2.1, k.2.2), wide_seconds front_pars (pars.of_branches all) (wide_front z) inside k.3)
       not_used z (Some (share.Many third seconds)) k =
           let l = user_bound c front 2 k.1.0 k.1.1 in
-          let second = user_at c front 1 (omega arith) in
-          (less_more z (user_uses front 2 k.1.0 k.1.1) k.0, (k.1.0, user_first c front last 2 k.1.0 k.1.1, k.1.2),
-          of_same (λ x. Seconds front_pars x ⊎ OwnSecond front x) (λ x. Seconds (pars.of_branches all) x ⊎ OwnSecond all x) seconds (λ x h. second_to x (inl h))
-          (λ x h. ⊎_elim (λ y. y) (λ s. let a = g s.bs s.among in let b = user_uses s.bs 1 s.later s.user in absurd (omega arith)) (second_from second.0 second.1 x h)) k.2)
+          let second = user_at c front 1 (omega arith) in (
+            less_more z (user_uses front 2 k.1.0 k.1.1) k.0,
+            (k.1.0, user_first c front last 2 k.1.0 k.1.1, k.1.2),
+            of_same (λ x. Seconds front_pars x ⊎ OwnSecond front x) (λ x. Seconds (pars.of_branches all) x ⊎ OwnSecond all x) seconds (λ x h. second_to x (inl h))
+                (λ x h. ⊎_elim (λ y. y) (λ s. let a = g s.bs s.among in let b = user_uses s.bs 1 s.later s.user in absurd (omega arith)) (second_from second.0 second.1 x h)) k.2,
+          )
 
       is_used : (u : Use) → UsedBy m last_pars (Some u) → (s : Option Share) → SharedBy front s → SharedBy all (Some (with_use pos s u))
       is_used u h None k =
@@ -357,17 +359,21 @@ module _ (c : ℕ) where
           (omega arith, less_all h.0 k.1.0, (last, user_last c front last (used h.0) 1 k.0, refl), joined (λ ps. IsLeastOf (Seconds ps) (first_of w.second u.second)) (seconds_both front_pars last_pars w.second u.second k.1.1 h.1))
       is_used u h (Some (share.Two second inside)) k =
           let l = users_below c front in
-          let two = k.0 in
-          (less_all h.0 (omega arith), (last, user_last c front last (used h.0) 2 k.0, refl),
-          of_same (λ x. (Seconds front_pars x ⊎ OwnSecond front x) ⊎ Seconds last_pars x) (λ x. Seconds (pars.of_branches all) x ⊎ OwnSecond all x) (first_of (first_of inside (Some second)) u.second) second_to (second_from k.2.0 k.2.1)
-          (either (λ x. Seconds front_pars x ⊎ OwnSecond front x) (Seconds last_pars) (first_of inside (Some second)) u.second
-          (either (Seconds front_pars) (OwnSecond front) inside (Some second) k.3 (own_second front second k.2)) h.1))
+          let two = k.0 in (
+            less_all h.0 (omega arith),
+            (last, user_last c front last (used h.0) 2 k.0, refl),
+            of_same (λ x. (Seconds front_pars x ⊎ OwnSecond front x) ⊎ Seconds last_pars x) (λ x. Seconds (pars.of_branches all) x ⊎ OwnSecond all x) (first_of (first_of inside (Some second)) u.second) second_to (second_from k.2.0 k.2.1)
+                (either (λ x. Seconds front_pars x ⊎ OwnSecond front x) (Seconds last_pars) (first_of inside (Some second)) u.second
+                (either (Seconds front_pars) (OwnSecond front) inside (Some second) k.3 (own_second front second k.2)) h.1),
+          )
       is_used u h (Some (share.Many third seconds)) k =
           let l = user_bound c front 2 k.1.0 k.1.1 in
-          let second = user_at c front 1 (omega arith) in
-          (less_all h.0 (user_uses front 2 k.1.0 k.1.1), (k.1.0, user_first c front last 2 k.1.0 k.1.1, k.1.2),
-          of_same (λ x. (Seconds front_pars x ⊎ OwnSecond front x) ⊎ Seconds last_pars x) (λ x. Seconds (pars.of_branches all) x ⊎ OwnSecond all x) (first_of seconds u.second) second_to (second_from second.0 second.1)
-          (either (λ x. Seconds front_pars x ⊎ OwnSecond front x) (Seconds last_pars) seconds u.second k.2 h.1))
+          let second = user_at c front 1 (omega arith) in (
+            less_all h.0 (user_uses front 2 k.1.0 k.1.1),
+            (k.1.0, user_first c front last 2 k.1.0 k.1.1, k.1.2),
+            of_same (λ x. (Seconds front_pars x ⊎ OwnSecond front x) ⊎ Seconds last_pars x) (λ x. Seconds (pars.of_branches all) x ⊎ OwnSecond all x) (first_of seconds u.second) second_to (second_from second.0 second.1)
+                (either (λ x. Seconds front_pars x ⊎ OwnSecond front x) (Seconds last_pars) seconds u.second k.2 h.1),
+          )
 
     pub one_more : (s : Option Share) (u : Option Use) → Shared front s → Fits m last_pars u → Shared all (some_with pos s u)
     one_more s u h k = record { most = λ p x. let e = count_all in ⊎_elim (λ y. let q = h.most p y in omega arith) (λ y. let q = k.most p y in omega arith) (split p x); is = by u k.is }

@@ -42,6 +42,7 @@ module _ (c : ℕ) where
 
   mutual
     unfolding uses_of all_with no_shares
+
     of_statement : (s : kernel.Statement) → Fits c (count_of c (uses.of_statement s)) (pars.of_statement s) (own.of_statement s c)
     of_statement (kernel.set_zero v) = no_use
     of_statement (kernel.set p e) = no_use

@@ -21,7 +21,8 @@ const ONE_USE: Use = Use {
 #[cycle(channels)]
 #[tactic(auto, using(crate::proofs::UseSteps::steps))]
 pub fn statements(alloc: Global, table: &mut UseTable, ss: &[Kst]) -> Result<(), Memory>
-    ensures { OnOk result (uses_in table.new ≡ all_after (uses_in table.old) (uses.of_statements (plain.statements (map statement_of ss.now)))) }
+    ensures { OnOk result (uses_in table.new ≡ all_after (uses_in table.old)
+        (uses.of_statements (plain.statements (map statement_of ss.now)))) }
 {
     for s in ss {
         statement(alloc, table, s)?;
@@ -32,7 +33,8 @@ pub fn statements(alloc: Global, table: &mut UseTable, ss: &[Kst]) -> Result<(),
 #[cycle(channels)]
 #[tactic(auto, using(crate::proofs::UseSteps::steps))]
 fn statement(alloc: Global, table: &mut UseTable, s: &Kst) -> Result<(), Memory>
-    ensures { OnOk result (uses_in table.new ≡ all_after (uses_in table.old) (uses.of_statement (statement_of s.now))) }
+    ensures { OnOk result (uses_in table.new
+        ≡ all_after (uses_in table.old) (uses.of_statement (statement_of s.now))) }
 {
     match s {
         Kst::Zero(_) => Ok(()),
@@ -71,7 +73,8 @@ fn statement(alloc: Global, table: &mut UseTable, s: &Kst) -> Result<(), Memory>
 #[cycle(channels)]
 #[tactic(auto, using(crate::proofs::UseSteps::steps))]
 fn cases(alloc: Global, table: &mut UseTable, all: &[KCase]) -> Result<(), Memory>
-    ensures { OnOk result (uses_in table.new ≡ all_after (uses_in table.old) (uses.of_cases (plain.cases (map case_of all.now)))) }
+    ensures { OnOk result (uses_in table.new
+        ≡ all_after (uses_in table.old) (uses.of_cases (plain.cases (map case_of all.now)))) }
 {
     for c in all {
         case(alloc, table, c)?;
@@ -82,7 +85,8 @@ fn cases(alloc: Global, table: &mut UseTable, all: &[KCase]) -> Result<(), Memor
 #[cycle(channels)]
 #[tactic(auto, using(crate::proofs::UseSteps::steps))]
 fn case(alloc: Global, table: &mut UseTable, c: &KCase) -> Result<(), Memory>
-    ensures { OnOk result (uses_in table.new ≡ all_after (uses_in table.old) (uses.of_case (case_of c.now))) }
+    ensures { OnOk result
+        (uses_in table.new ≡ all_after (uses_in table.old) (uses.of_case (case_of c.now))) }
 {
     used(table, c.head.res)?;
     statements(alloc, table, c.body.as_slice())
@@ -92,7 +96,8 @@ fn case(alloc: Global, table: &mut UseTable, c: &KCase) -> Result<(), Memory>
 #[cycle(channels)]
 #[tactic(auto, using(crate::proofs::UseSteps::steps))]
 fn branches(alloc: Global, par: &mut ParTable, all: &[KBranch]) -> Result<(), Memory>
-    ensures { OnOk result (shares_in par.new ≡ uses.with_branches (shares_in par.old) (plain.branches (map branch_of all.now))) }
+    ensures { OnOk result (shares_in par.new
+        ≡ uses.with_branches (shares_in par.old) (plain.branches (map branch_of all.now))) }
 {
     for b in all {
         branch(alloc, par, b)?;
@@ -103,7 +108,8 @@ fn branches(alloc: Global, par: &mut ParTable, all: &[KBranch]) -> Result<(), Me
 #[cycle(channels)]
 #[tactic(auto, using(crate::proofs::UseSteps::steps))]
 fn branch(alloc: Global, par: &mut ParTable, b: &KBranch) -> Result<(), Memory>
-    ensures { OnOk result (shares_in par.new ≡ all_with b.now.pos (shares_in par.old) (uses.of_statements (plain.statements (map statement_of b.now.body)))) }
+    ensures { OnOk result (shares_in par.new ≡ all_with b.now.pos (shares_in par.old)
+        (uses.of_statements (plain.statements (map statement_of b.now.body)))) }
 {
     let mut table = UseTable::new(alloc);
     statements(alloc, &mut table, b.body.as_slice())?;
@@ -113,7 +119,8 @@ fn branch(alloc: Global, par: &mut ParTable, b: &KBranch) -> Result<(), Memory>
 /// Goes on behind a use.
 #[tactic(auto, using(crate::proofs::UseSteps::steps))]
 fn used(table: &mut UseTable, resource: KRes) -> Result<(), Memory>
-    ensures { OnOk result (uses_in table.new ≡ all_after (uses_in table.old) (uses.of_resource resource)) }
+    ensures { OnOk result
+        (uses_in table.new ≡ all_after (uses_in table.old) (uses.of_resource resource)) }
 {
     match resource {
         KRes::Port(_) => Ok(()),

@@ -34,7 +34,8 @@ pub fn first_without_sides(alloc: Global, kernel: &Kernel) -> Result<Option<Brok
 
 /// How the roots use channels, as the branches of one `par`.
 fn uses_of_roots(alloc: Global, roots: &[Root]) -> Result<UseTable, Memory>
-    ensures { IfOk result (λ table. uses_in table ≡ uses_of (with_branches no_shares (branches_of (map root_of roots.now)))) }
+    ensures { IfOk result (λ table. uses_in table
+        ≡ uses_of (with_branches no_shares (branches_of (map root_of roots.now)))) }
 {
     let mut par = ParTable::new(alloc);
     for root in roots {

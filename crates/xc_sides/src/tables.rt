@@ -28,7 +28,8 @@ impl UseTable {
 
     /// Goes on behind code that uses one channel like this.
     pub fn follow(&mut self, channel: u32, next: Use) -> Result<(), Memory>
-        ensures { OnOk result (uses_in self.new ≡ all_after (uses_in self.old) (only channel next)) }
+        ensures { OnOk result
+            (uses_in self.new ≡ all_after (uses_in self.old) (only channel next)) }
     {
         let joined = joined(self.entries.get(&channel), next);
         put(&mut self.entries, channel, joined)
@@ -76,7 +77,8 @@ impl ParTable {
 
     /// Goes on to one more branch. It goes through this branch's table only where that isn't far larger than the others.
     pub fn add(&mut self, alloc: Global, branch: UseTable, pos: Pos) -> Result<(), Memory>
-        ensures { OnOk result (shares_in self.new ≡ all_with pos (shares_in self.old) (uses_in branch)) }
+        ensures { OnOk result
+            (shares_in self.new ≡ all_with pos (shares_in self.old) (uses_in branch)) }
     {
         if branch.entries.len() / 2 <= self.largest.entries.len() {
             add_each(&mut self.shared, &self.largest, &branch, pos)
@@ -103,7 +105,8 @@ impl ParTable {
 
 /// Takes the uses in one branch of a `par` for those in the whole.
 fn settle(largest: &mut UseTable, shared: &IndexMap<u32, Share>) -> Result<(), Memory>
-    ensures { OnOk result (uses_in largest.new ≡ uses_of (with_ones (found shared.now.entries) (uses_in largest.old))) }
+    ensures { OnOk result (uses_in largest.new
+        ≡ uses_of (with_ones (found shared.now.entries) (uses_in largest.old))) }
 {
     for at in 0..shared.len() {
         let (channel, share) = entry_at(shared, at);
@@ -119,7 +122,8 @@ fn with_larger(
     branch: &UseTable,
     pos: Pos,
 ) -> Result<IndexMap<u32, Share>, Memory>
-    ensures { IfOk result (λ all. found all.entries ≡ updated pos (found shared.now.entries) (uses_in branch.now)) }
+    ensures { IfOk result
+        (λ all. found all.entries ≡ updated pos (found shared.now.entries) (uses_in branch.now)) }
 {
     let mut all = IndexMap::new(alloc);
     for at in 0..shared.len() {
@@ -146,7 +150,8 @@ fn add_each(
     branch: &UseTable,
     pos: Pos,
 ) -> Result<(), Memory>
-    ensures { OnOk result (with_ones (found shared.new.entries) (uses_in largest.now) ≡ all_with pos (with_ones (found shared.old.entries) (uses_in largest.now)) (uses_in branch.now)) }
+    ensures { OnOk result (with_ones (found shared.new.entries) (uses_in largest.now) ≡ all_with pos
+        (with_ones (found shared.old.entries) (uses_in largest.now)) (uses_in branch.now)) }
 {
     for at in 0..branch.entries.len() {
         let (channel, u) = entry_at(&branch.entries, at);
@@ -175,7 +180,8 @@ fn share_by(share: Option<&Share>, one: Option<&Use>) -> Option<Share>
 
 /// What the largest table says stands among what is shared too.
 fn spell_out(shared: &mut IndexMap<u32, Share>, largest: &UseTable) -> Result<(), Memory>
-    ensures { OnOk result (found shared.new.entries ≡ with_ones (found shared.old.entries) (uses_in largest.now)) }
+    ensures { OnOk result
+        (found shared.new.entries ≡ with_ones (found shared.old.entries) (uses_in largest.now)) }
 {
     for at in 0..largest.entries.len() {
         let (channel, u) = entry_at(&largest.entries, at);
@@ -205,7 +211,8 @@ fn joined(first: Option<&Use>, next: Use) -> Use
 
 /// Two tables, of which the first has no fewer entries than the second.
 fn larger_first(first: UseTable, second: UseTable) -> (UseTable, UseTable)
-    ensures { all_after (uses_in result.0) (uses_in result.1) ≡ all_after (uses_in first) (uses_in second) }
+    ensures { all_after (uses_in result.0) (uses_in result.1)
+        ≡ all_after (uses_in first) (uses_in second) }
 {
     if first.entries.len() < second.entries.len() {
         (second, first)
@@ -215,7 +222,8 @@ fn larger_first(first: UseTable, second: UseTable) -> (UseTable, UseTable)
 }
 
 fn put<V: Copy>(entries: &mut IndexMap<u32, V>, key: u32, value: V) -> Result<(), Memory>
-    ensures { OnOk result (found entries.new.entries ≡ with_entry (found entries.old.entries) key value) }
+    ensures { OnOk result
+        (found entries.new.entries ≡ with_entry (found entries.old.entries) key value) }
 {
     match entries.insert(key, value) {
         Ok(_) => Ok(()),

@@ -25,6 +25,6 @@ loop-at-preserved c =
     let es = c.in_ok-table.table.entries.entries in
     let e = c.entry_at-channel.result in
     rw c.earlier-best.ensures
-        (channel_go k es (c.in_ok-table.ensures ∙ ap (λ (rs : List Root). uses_of (with_branches no_shares (branches_of (map root_of rs)))) c.as_slice.ensures) c.len-at-end.ensures.unique c.loop-at.at e c.entry_at-channel.ensures c.loop-at.best c.rule_of.result
-        (c.rule_of.ensures ∙ ap (λ (xs : List Chan). rule_of xs e.0 e.1) c.as_slice-channels.ensures)
-        c.loop-at.invariant)
+    (channel_go k es (c.in_ok-table.ensures ∙ ap (λ (rs : List Root). uses_of (with_branches no_shares (branches_of (map root_of rs)))) c.as_slice.ensures) c.len-at-end.ensures.unique c.loop-at.at e c.entry_at-channel.ensures c.loop-at.best c.rule_of.result
+    (c.rule_of.ensures ∙ ap (λ (xs : List Chan). rule_of xs e.0 e.1) c.as_slice-channels.ensures)
+    c.loop-at.invariant)
