@@ -22,3 +22,4 @@ pub mod Here
 pub mod Copied
 pub mod Channels
 pub mod Threads
+pub mod Checked

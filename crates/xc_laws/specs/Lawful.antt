@@ -21,6 +21,7 @@ use Rattle.xc_meaning.specs.Uses.{by_item, by_items}
 use Rattle.xc_laws.specs.Frames.{AgreeOnItems}
 use Rattle.xc_meaning.specs.Outline.{Outlined}
 use Rattle.xc_disjoint.specs.Disjoint.{NotApart}
+use Rattle.xc_disjoint.specs.Checked.{IsChecked}
 use Rattle.xc_laws.specs.Channels.{IsListed, TransactionsListed}
 use Rattle.xw_words.specs.declared.pos.Broken.{Broken}
 use Rattle.xc_laws.specs.Every.{EveryItem}
@@ -217,6 +218,10 @@ abbrev pub AcceptedObey : Type 0
 AcceptedObey =
     (P : List tree.Item) (named : NamedProgram) (types : List Bool) → IsTyped P named types →
     (K : kernel.Kernel) → Copies P K → ((b : Broken) → NotApart K b → ⊥) → UsesOwnPorts K → Obeys K
+
+-- A kernel that is checked is so.
+abbrev pub CheckedObey : Type 0
+CheckedObey = (K : kernel.Kernel) → IsChecked K → Obeys K
 
 -- The transfers of a program's kernel go by channels of its list; so the kernel uses these alone where its transactions do.
 abbrev pub CopiesAreListed : Type 0

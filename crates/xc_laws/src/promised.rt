@@ -1,6 +1,6 @@
 //! The laws, as contracts of functions that do nothing.
 
-ghost use Rattle.xc_laws.specs.Lawful.{AcceptedObey, AloneInside, BranchesFit, BranchesStay, CopiesAreListed, CopiesArePlaced, EachGoesOn, EachHasSide, FootprintsShrink, InsideIsOwn, LawsAreKept, LawsBegin, LawsHold, ListedHolds, MarksStandOnce, NoneClash, OneOnEachSide, OthersAreLeft, PortsAreHere, ThreadsSuffice, TidyLawsHold, UnbrokenIsApart, UnbrokenIsSided};
+ghost use Rattle.xc_laws.specs.Lawful.{AcceptedObey, AloneInside, BranchesFit, BranchesStay, CheckedObey, CopiesAreListed, CopiesArePlaced, EachGoesOn, EachHasSide, FootprintsShrink, InsideIsOwn, LawsAreKept, LawsBegin, LawsHold, ListedHolds, MarksStandOnce, NoneClash, OneOnEachSide, OthersAreLeft, PortsAreHere, ThreadsSuffice, TidyLawsHold, UnbrokenIsApart, UnbrokenIsSided};
 
 /// The laws hold at the start of each kernel that obeys the rules, and each step keeps them.
 #[tactic(auto, using(crate::proofs::Always::laws_begin, crate::proofs::Always::laws_kept))]
@@ -87,11 +87,13 @@ pub fn unbroken_obeys()
 {}
 
 /// The kernel of a program that breaks no rule of names, types and shapes leaves blocks of the same branch and transaction alone. So
-/// such a kernel obeys, where it breaks none of the rules on what branches use together and uses ports of its roots' cores.
+/// such a kernel obeys, where it breaks none of the rules on what branches use together and uses ports of its roots' cores, and so
+/// does each kernel that is checked.
 pub fn accepted_obey()
     ensures placed { CopiesArePlaced }
     ensures ports { PortsAreHere }
     ensures obey { AcceptedObey }
+    ensures checked { CheckedObey }
 {}
 
 /// Where a kernel uses channels of its list alone, so do the branches of its runs; the kernel of a program does where its transactions

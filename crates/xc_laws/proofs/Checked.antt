@@ -1,0 +1,37 @@
+-- What a kernel is that is checked.
+use Rattle.std.proofs.Common.{◌≡◌, ⊎_elim, ℕ, zero, suc, List, [], ◌∷◌, Some, Contains, slice_get, refl, arith}
+use Rattle.xc_kernel.specs.declared.kernel.PortUse.{PortUse}
+use Rattle.xc_kernel.specs.declared.statement.KRes.TheVariants.{Port}
+use Rattle.xc_kernel.specs.Plain as kernel
+use Rattle.xc_kernel.specs.Uses as uses
+use Rattle.xc_kernel.specs.Uses.{Use}
+use Rattle.xc_disjoint.specs.Checked.{IsChecked}
+use Rattle.xc_disjoint.specs.Rules.{apart, elsewhere}
+use Rattle.xc_laws.specs.Lawful.{UsesOwnPorts, CheckedObey}
+use Rattle.xc_laws.proofs.Always.{accepted_obey}
+use Rattle.xc_meaning.proofs.Basics.{some_given, none_given, same_or_not}
+
+contains : {A : Type 0} (xs : List A) (i : ℕ) (a : A) → slice_get xs i ≡ Some a → Contains xs a
+contains [] i a e = none_given e
+contains (x ∷ xs) zero a e = (0, omega arith, some_given e)
+contains (x ∷ xs) (suc i) a e = let h = contains xs i a e in let l = h.1 in (suc h.0, omega arith, h.2)
+
+own_ports : (K : kernel.Kernel) → IsChecked K → UsesOwnPorts K
+own_ports K h = record { own = own }
+  where
+    own : (j : ℕ) (r : kernel.Root) → slice_get K.roots j ≡ Some r → (i : ℕ) (u : Use) → slice_get (uses.of_statements r.body) i ≡ Some u → (n : ℕ) → u.resource ≡ Port n → (p : PortUse) → slice_get K.ports n ≡ Some p → p.core ≡ r.core
+    own j r root i u there n is_port p port =
+        ⊎_elim (λ e. e)
+        (λ ne. absurd (h.unbroken (record { rule = 706; pos = u.pos }) (elsewhere (record {
+          root = r;
+          among = contains K.roots j r root;
+          used = u;
+          elsewhere = record { among = contains (uses.of_statements r.body) i u there; number = n; resource = is_port; port = p; is_port = port; other_core = ne };
+          place = refl;
+        }))))
+        (same_or_not p.core r.core)
+
+pub checked_obey : CheckedObey
+checked_obey K h =
+    accepted_obey h.of_program.program h.of_program.sound.named h.of_program.sound.types h.of_program.sound.typed K h.of_program.copies
+    (λ b g. h.unbroken b (apart g)) (own_ports K h)
