@@ -26,10 +26,11 @@ pub type DisErr = Refusal;
 ///
 /// A kernel that breaks a rule is dropped, and of all rules that it breaks the error is the one of the least place, and there
 /// of the least number: 601 a variable that a branch of a `par` changes is used in another; 602 a port is used in two; 603 three
-/// branches of the innermost `par` that holds all uses of a channel use it; 604 one alone does, or there is no such `par`; 605
-/// one of two holds a `par` with two that use it; 606 a timer is used in two; 701 more than 8 threads are needed on a core; 702
-/// more than 32 channel ends; 703 more than 10 timers; 704 more than 16,384 words; 705 a place gives no core; 706 a port is used
-/// on a core other than its own. The other error is that memory could not be had; it drops the kernel too.
+/// branches or more of the innermost `par` that holds all uses of a channel use it; 604 a channel is used, and one of these
+/// branches alone uses it, or there is no such `par`; 605 one of two holds a `par` with two that use it; 606 a timer is used in
+/// two; 701 more than 8 threads are needed on a core; 702 more than 32 channel ends; 703 more than 10 timers; 704 more than
+/// 16,384 words; 705 a place gives no core; 706 a port is used on a core other than its own. The other error is that memory
+/// could not be had; it drops the kernel too.
 pub fn disjoint(alloc: Global, kernel: Kernel) -> Result<Checked, DisErr>
     requires { IsOfProgram (kernel_of kernel) }
     ensures kernel { IfOk result (λ checked. checked ≡ kernel) }

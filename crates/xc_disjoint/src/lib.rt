@@ -1,5 +1,6 @@
-//! What a program needs of the device: threads, channel ends, timers, words, cores that are there, and ports on their own
-//! cores. A kernel that needs no more than there is comes back as one that is checked.
+//! Whether the branches of a program keep apart, and what it needs of the device: threads, channel ends, timers, words, cores
+//! that are there, and ports on their own cores. A kernel whose branches do, and that needs no more than there is, comes back
+//! as one that is checked.
 #![tactic(auto)]
 
 mod checked;

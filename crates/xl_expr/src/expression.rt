@@ -18,8 +18,11 @@ use xs_instr::{Emitter, Instr, Reg};
 use xw_words::{Memory, Pos};
 
 /// The code that gives an expression's word in a register. `evaluates` says what it does: wherever it stands from this index
-/// on, whatever other threads do in between, it comes to the next index with the word that the expression has in the
-/// register, or to where the next step traps with the expression's error, within 8 steps for each node.
+/// on, where the plan's layout holds, and whatever other threads do in between that leaves what this one relies on, it comes
+/// to the next index with the word that the expression has in the register, or to where the next step traps with the
+/// expression's error, within 8 steps for each node.
+///
+/// The one error is want of memory; the emitter then holds what it held, and perhaps further instructions behind it.
 pub fn emit_expr(e: &mut Emitter, plan: &Plan, x: &Kx, to: Reg) -> Result<(), Memory>
     requires room { length e.old + 8 * nodes (expression_of x.now) < 2 ^ 32 }
     requires shallow { depth (expression_of x.now) ≤ 400 }

@@ -6,6 +6,8 @@ use xs_instr::{Emitter, Instr};
 use xw_words::{Memory, Pos};
 
 /// Adds instructions at one place.
+///
+/// The one error is want of memory; the emitter then holds what it held, and perhaps further instructions behind it.
 pub fn put_all(e: &mut Emitter, instrs: &[Instr], pos: Pos) -> Result<(), Memory>
     requires { length e.old + length instrs.now < 2 ^ 32 }
     ensures ok { OnOk result (e.new ≡ e.old ++ at_pos pos instrs.now) }

@@ -15,9 +15,12 @@ use xc_kernel::{Kx, Place};
 use xs_instr::{Emitter, Instr, Reg};
 use xw_words::{Memory, Pos};
 
-/// The code that writes a register's word to a place. `stores` says what it does: wherever it stands from this index on, and
-/// whatever other threads do in between, it comes to where its next step writes the word at the place's address, or where
-/// the next step traps with the error of the place's index, within 8 steps for each node, the write among them.
+/// The code that writes a register's word to a place. `stores` says what it does: wherever it stands from this index on, where
+/// the plan's layout holds, and whatever other threads do in between that leaves what this one relies on, it comes to where
+/// its next step writes the word at the place's address, or where the next step traps with the error of the place's index,
+/// within 8 steps for each node, the write among them.
+///
+/// The one error is want of memory; the emitter then holds what it held, and perhaps further instructions behind it.
 pub fn emit_store(e: &mut Emitter, plan: &Plan, dst: &Place, from: Reg) -> Result<(), Memory>
     requires room { length e.old + 8 * nodes_at (place_of dst.now) < 2 ^ 32 }
     requires shallow { depth_at (place_of dst.now) ≤ 400 }

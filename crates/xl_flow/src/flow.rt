@@ -13,6 +13,8 @@ use xs_instr::{Emitter, Hole, Instr, Reg};
 use xw_words::{Memory, Pos};
 
 /// The code of an assignment: the right side's word, and then the write of it.
+///
+/// The one error is want of memory; the emitter then holds what it held, and perhaps further instructions behind it.
 pub fn emit_set(e: &mut Emitter, plan: &Plan, dst: &Place, x: &Kx) -> Result<(), Memory>
     requires room { length e.old + 8 * (nodes (expression_of x.now) + nodes_at (place_of dst.now))
         < 2 ^ 32 }
@@ -28,6 +30,8 @@ pub fn emit_set(e: &mut Emitter, plan: &Plan, dst: &Place, x: &Kx) -> Result<(),
 }
 
 /// The code of a test: the hole is taken where the expression's word is 0.
+///
+/// The one error is want of memory; the emitter then holds what it held, and perhaps further instructions behind it.
 pub fn emit_test(e: &mut Emitter, plan: &Plan, x: &Kx, pos: Pos) -> Result<Hole, Memory>
     requires room { length e.old + 8 * nodes (expression_of x.now) + 1 < 2 ^ 32 }
     requires shallow { depth (expression_of x.now) ≤ 400 }
@@ -41,6 +45,8 @@ pub fn emit_test(e: &mut Emitter, plan: &Plan, x: &Kx, pos: Pos) -> Result<Hole,
 }
 
 /// A jump forwards, whose target is open.
+///
+/// The one error is want of memory; the emitter then holds what it held, and perhaps further instructions behind it.
 pub fn emit_jump(e: &mut Emitter, pos: Pos) -> Result<Hole, Memory>
     requires { length e.old + 1 < 2 ^ 32 }
     ensures code { OnOk result (e.new ≡ e.old ++ open_line (Brfu 0) pos ∷ []) }
@@ -52,6 +58,8 @@ pub fn emit_jump(e: &mut Emitter, pos: Pos) -> Result<Hole, Memory>
 }
 
 /// A jump backwards.
+///
+/// The one error is want of memory; the emitter then holds what it held, and perhaps further instructions behind it.
 pub fn emit_back(e: &mut Emitter, to: u32, pos: Pos) -> Result<(), Memory>
     requires room { length e.old + 1 < 2 ^ 32 }
     requires behind { to ≤ length e.old }

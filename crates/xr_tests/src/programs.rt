@@ -1,10 +1,11 @@
 //! Every instruction through a core's slots, in programs made by hand; the values were worked out from the table.
 
-ghost use Rattle.std.specs.Prelude.{◌≡◌, [], ℕ};
-ghost use Rattle.xs_instr.specs.Valid.{IsGoodInstr};
+ghost use Rattle.std.specs.Prelude.{◌≡◌, [], ℕ, IfOk};
+ghost use Rattle.xs_instr.specs.Valid.{IsGoodInstr, IsGoodStim};
 
+use crate::ports::line;
 use crate::slots::{at_line, image_of, run_table};
-use std::alloc::Global;
+use std::alloc::{AllocError, Global};
 use std::process::Abort;
 use std::test::Fail;
 use xs_core::{Core, Did};
@@ -199,6 +200,51 @@ fn memory_and_flow(rt: HostRuntime) -> Result<(), Fail> {
         (0, 2, STEP),
         (0, 3, STEP),
         (0, 3, Did::Trapped(Trap::Address, at_line(26))),
+    ];
+    run_table(&rt, &mut core, &rows)?;
+    Ok(())
+}
+
+/// Words are stored by sp and by an address, and loaded by dp; a call backwards comes back, and its code leads backwards to the end.
+#[test]
+fn words_and_ways_back(rt: HostRuntime) -> Result<(), Fail> {
+    let alloc = rt.alloc();
+    let instrs = [
+        Instr::Entsp(0),
+        Instr::Retsp(0),
+        Instr::Freet,
+        Instr::Ldc(Reg::R1, 4),
+        Instr::Setsp(Reg::R1),
+        Instr::Ldc(Reg::R2, 41),
+        Instr::Stwsp(Reg::R2, 1),
+        Instr::Ldwdp(Reg::R3, 2),
+        Instr::Out(Reg::R0, Reg::R3),
+        Instr::Ldc(Reg::R4, 3),
+        Instr::Stw(Reg::R4, Reg::R5, Reg::R4),
+        Instr::Ldwdp(Reg::R3, 3),
+        Instr::Out(Reg::R0, Reg::R3),
+        Instr::Blrb(0),
+        Instr::Brbu(2),
+    ];
+    let image = image_of(alloc, &instrs, &PORTS, &[3])?;
+    let mut core = Core::new(alloc, &image, 0, &no_stim(alloc))?;
+    let rows = [
+        (0, 0, STEP),
+        (0, 0, STEP),
+        (0, 0, STEP),
+        (0, 0, STEP),
+        (0, 0, STEP),
+        (0, 0, out(0, 41)),
+        (0, 0, STEP),
+        (0, 0, STEP),
+        (0, 0, STEP),
+        (0, 0, out(0, 3)),
+        (0, 0, STEP),
+        (0, 0, STEP),
+        (0, 0, STEP),
+        (0, 0, STEP),
+        (0, 0, STEP),
+        (0, 0, Did::Idle),
     ];
     run_table(&rt, &mut core, &rows)?;
     Ok(())
@@ -468,6 +514,48 @@ fn ports_with_conditions_and_times(rt: HostRuntime) -> Result<(), Fail> {
         (1, 0, out(9, 9)),
         (1, 0, STEP),
         (0, 0, out(10, 9)),
+    ];
+    run_table(&rt, &mut core, &rows)?;
+    Ok(())
+}
+
+/// From tick 3 on the pins are 7.
+fn stim_at_3(alloc: Global) -> Result<Stim, AllocError>
+    ensures { IfOk result (λ stim. IsGoodStim stim) }
+{
+    let lines = vec![in alloc; line(3, 0, PORT_32A, 7)]?;
+    Ok(Stim {
+        lines: List::from_vec(lines),
+    })
+}
+
+/// An input waits until the stimulus makes the pins equal to its datum.
+#[test]
+fn input_by_a_stimulus(rt: HostRuntime) -> Result<(), Fail> {
+    let alloc = rt.alloc();
+    let instrs = [
+        Instr::Ldc(Reg::R1, 7),
+        Instr::Setd(Reg::R0, Reg::R1),
+        Instr::Setc(Reg::R0, Cond::Eq),
+        Instr::In(Reg::R2, Reg::R0),
+        Instr::Freet,
+    ];
+    let image = image_of(alloc, &instrs, &PORTS, &[0])?;
+    let mut core = Core::new(alloc, &image, 0, &stim_at_3(alloc)?)?;
+    let read = Did::Made(Some(Record::PortIn {
+        core: 0,
+        port: PORT_32A,
+        stamp: 3,
+        value: 7,
+    }));
+    let rows = [
+        (0, 0, STEP),
+        (0, 0, STEP),
+        (0, 0, STEP),
+        (2, 0, Did::Paused),
+        (1, 0, read),
+        (0, 0, STEP),
+        (0, 0, Did::Idle),
     ];
     run_table(&rt, &mut core, &rows)?;
     Ok(())

@@ -61,8 +61,8 @@ impl Core {
         Ok(Core { state, outbox })
     }
 
-    /// Makes room in the outbox for all that goes out in a window. `Err` is given where an allocation failed, and then
-    /// nothing changes.
+    /// Makes room in the outbox for 256 tokens and credits. `Err` is given where an allocation failed, and then nothing
+    /// changes.
     pub fn reserve_window(&mut self) -> Result<(), Memory>
         ensures room { OnOk result (256 ≤ self.new.spare) }
         ensures refused { OnErr result (self.new ≡ self.old) }

@@ -273,40 +273,49 @@ pub fn apply(state: &mut State, t: u8, step: PortStep) -> Option<Record>
         PortStep::Clock(d, n) => {
             let timer = state.timers.as_slice()[n as usize];
             let time = timer.latch.unwrap_or(state.ports.clock());
-            state.timers.set(
-                n as usize,
-                Timer {
-                    latch: None,
-                    ..timer
-                },
-            );
+            state.timers.set(n as usize, unlatched(timer));
             pass_with(&mut state.threads, t, d, time);
             None
         }
         PortStep::TimerCond(n, cond) => {
             let timer = state.timers.as_slice()[n as usize];
-            state.timers.set(
-                n as usize,
-                Timer {
-                    cond,
-                    latch: None,
-                    ..timer
-                },
-            );
+            state.timers.set(n as usize, with_cond(timer, cond));
             pass(&mut state.threads, t);
             None
         }
         PortStep::TimerData(n, value) => {
             let timer = state.timers.as_slice()[n as usize];
-            state.timers.set(
-                n as usize,
-                Timer {
-                    datum: value,
-                    ..timer
-                },
-            );
+            state.timers.set(n as usize, with_datum(timer, value));
             pass(&mut state.threads, t);
             None
         }
     }
+}
+
+/// The timer without a time that it holds.
+fn unlatched(timer: Timer) -> Timer
+    ensures { result ≡ record { cond = timer.cond; datum = timer.datum; latch = None } }
+{
+    Timer {
+        latch: None,
+        ..timer
+    }
+}
+
+/// The timer with another condition, and without a time that it holds.
+fn with_cond(timer: Timer, cond: Cond) -> Timer
+    ensures { result ≡ record { cond = cond; datum = timer.datum; latch = None } }
+{
+    Timer {
+        cond,
+        latch: None,
+        ..timer
+    }
+}
+
+/// The timer with another datum.
+fn with_datum(timer: Timer, datum: u32) -> Timer
+    ensures { result ≡ record { cond = timer.cond; datum = datum; latch = timer.latch } }
+{
+    Timer { datum, ..timer }
 }

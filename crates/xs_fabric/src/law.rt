@@ -19,7 +19,7 @@ pub fn lockstep_is_a_run()
         (events : Items Event) × (runs L s (boot L) events ≡ Some (lockstep L s n)) }
 {}
 
-/// After n rounds each clock is n.
+/// After n rounds each clock is n, for n below 2^32.
 pub fn clocks_count_rounds()
     ensures { (L : Image) (s : Stim) (n c : ℕ) (core : CoreState) → n < 2 ^ 32 →
         slice_get (lockstep L s n).cores c ≡ Some core → core.clock ≡ n }

@@ -21,7 +21,7 @@ pub enum Event {
     NotEnabled,
 }
 
-/// Four cores, and what they recorded so far. `room` is for how many records memory is reserved.
+/// Four cores, and what they recorded so far. Contracts see for how many records memory is reserved as `room_of`.
 #[derive(Drop)]
 pub struct Machine {
     cores: Vec<NearCore>,
@@ -32,8 +32,8 @@ pub struct Machine {
 impl Machine {
     ghost use Rattle.xs_fabric.specs.Seen.{IsBooted, IsEvent, IsRunOf, homes_of, room_of, state_of};
 
-    /// The machine of an image under a stimulus, as it starts; each channel of the image joins two ends of one core. It has no room for records yet. The one error is want of
-    /// memory.
+    /// The machine of an image under a stimulus, as it starts; each channel of the image joins two ends of one core. It has no
+    /// room for records yet. The one error is want of memory.
     pub fn boot(alloc: Global, image: &Image, stim: &Stim) -> Result<Machine, Memory>
         requires valid { Valid image.now }
         requires near { AreNear image.now.chans }
@@ -70,7 +70,7 @@ impl Machine {
         step_core(&mut self.cores, &mut self.trace, core, thread)
     }
 
-    /// A tick of a core's clock. Not enabled at its last value, and then nothing changes.
+    /// A tick of a core's clock. Not enabled at its last value, nor where there is no such core, and then nothing changes.
     pub fn tick(&mut self, core: u8) -> Event
         requires room { 1 ≤ room_of self.old }
         ensures event { (L : Image) (s : Stim) → IsRunOf L s self.old →
