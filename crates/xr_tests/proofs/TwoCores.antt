@@ -1,10 +1,15 @@
 -- An image of two cores can be run: core 0 with three ends, of which two are joined and one leads to core 1, which has one.
 use Rattle.std.proofs.Common.{◌≡◌, ◌<◌, ◌++◌, ℕ, zero, suc, Bool, true, false, List, [], ◌∷◌, refl, sym, ap, ◌∙◌, subst, inl, inr, arith}
-use Rattle.std.specs.Prelude.{nat_eq, ◌⊎◌}
+use Rattle.std.specs.Prelude.{nat_eq, replicate, ◌⊎◌}
+use Rattle.xs_core.specs.Deliver.{HasRoomAt, HasRoomFrom}
+use Rattle.xs_core.specs.Room.{Credits, Tokens}
 use Rattle.std.proofs.lemmas.Bool.{eqb-true}
 use Rattle.xs_instr.specs.declared.image.CoreImage.{CoreImage}
 use Rattle.xs_instr.specs.declared.image.Pair.{Pair}
-use Rattle.xs_instr.specs.Machine.{no_parts, parts_by, parts_in}
+use Rattle.xs_instr.specs.declared.image.Stim.{Stim}
+use Rattle.xs_instr.specs.declared.state.Moved.TheVariants.{Tok}
+use Rattle.xs_instr.specs.declared.state.Token.{Token}
+use Rattle.xs_instr.specs.Machine.{boot_core, boot_end, home_of, no_parts, parts_by, parts_in}
 use Rattle.xs_instr.specs.Valid.{AreGoodCores, IsGoodCore, IsThere, Valid, times_named}
 
 abbrev pub within : Pair
@@ -51,8 +56,20 @@ module _ (k l : CoreImage) (number : k.number ≡ 0) (ends : k.ends ≡ 3) (numb
     ];
   }
 
+  -- what leads to core 1 has room as the core starts
+  far_two : (s : Stim) (t : Token) → HasRoomFrom (home_of (record { cores = k ∷ l ∷ []; chans = within ∷ across ∷ [] }) s 0) (boot_core (parts_in (k ∷ l ∷ []) 0)).ends (Tok 2 t)
+  far_two s t =
+      subst (λ n. HasRoomAt (home_of (record { cores = k ∷ l ∷ []; chans = within ∷ across ∷ [] }) s 0) Tokens Credits (replicate n boot_end) 2) (sym at_zero)
+      (record { there = omega arith; room = omega arith })
+
 -- the same of lists that are made item by item
 pub valid_of : (k l : CoreImage) (cores : List CoreImage) (chans : List Pair) → k.number ≡ 0 → k.ends ≡ 3 → l.number ≡ 1 → l.ends ≡ 1 → IsGoodCore k → IsGoodCore l → cores ≡ k ∷ l ∷ [] → chans ≡ within ∷ across ∷ [] → Valid (record { cores = cores; chans = chans })
 valid_of k l cores chans n e n' e' good good' cs ps =
     subst (λ (x : List CoreImage). Valid (record { cores = x; chans = chans })) (sym cs)
     (subst (λ (x : List Pair). Valid (record { cores = k ∷ l ∷ []; chans = x })) (sym ps) (valid_two k l n e n' e' good good'))
+
+pub far_of : (k l : CoreImage) (cores : List CoreImage) (chans : List Pair) → k.number ≡ 0 → k.ends ≡ 3 → l.number ≡ 1 → l.ends ≡ 1 → cores ≡ k ∷ l ∷ [] → chans ≡ within ∷ across ∷ [] →
+    (s : Stim) (t : Token) → HasRoomFrom (home_of (record { cores = cores; chans = chans }) s 0) (boot_core (parts_in cores 0)).ends (Tok 2 t)
+far_of k l cores chans n e n' e' cs ps s t =
+    subst (λ (x : List CoreImage). HasRoomFrom (home_of (record { cores = x; chans = chans }) s 0) (boot_core (parts_in x 0)).ends (Tok 2 t)) (sym cs)
+    (subst (λ (x : List Pair). HasRoomFrom (home_of (record { cores = k ∷ l ∷ []; chans = x }) s 0) (boot_core (parts_in (k ∷ l ∷ []) 0)).ends (Tok 2 t)) (sym ps) (far_two k l n e n' e' s t))

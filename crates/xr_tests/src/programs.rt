@@ -4,7 +4,7 @@ ghost use Rattle.std.specs.Prelude.{◌≡◌, [], ℕ, IfOk};
 ghost use Rattle.xs_instr.specs.Valid.{IsGoodInstr, IsGoodStim};
 
 use crate::ports::line;
-use crate::slots::{at_line, image_of, run_table};
+use crate::slots::{at_line, core_with_token, image_of, run_table};
 use std::alloc::{AllocError, Global};
 use std::process::Abort;
 use std::test::Fail;
@@ -415,6 +415,33 @@ fn end_to_another_core(rt: HostRuntime) -> Result<(), Fail> {
         moved: Moved::Tok { end: 0, token },
     };
     assert_eq!(rt; core.take_sent(), Some(sent));
+    assert_eq!(rt; core.take_sent(), None);
+    Ok(())
+}
+
+/// A byte of core 1 is taken at the end that it came to, and its credit goes back.
+#[test]
+fn byte_of_another_core(rt: HostRuntime) -> Result<(), Fail> {
+    let alloc = rt.alloc();
+    let instrs = [
+        Instr::Ldc(Reg::R1, 0x202),
+        Instr::Int(Reg::R2, Reg::R1),
+        Instr::Out(Reg::R0, Reg::R2),
+    ];
+    let image = image_of(alloc, &instrs, &PORTS, &[0])?;
+    let token = Token {
+        control: false,
+        byte: 13,
+    };
+    let mut core = core_with_token(alloc, &image, &no_stim(alloc), token)?;
+    let rows = [(0, 0, STEP), (2, 0, STEP), (0, 0, out(2, 13))];
+    run_table(&rt, &mut core, &rows)?;
+    let credit = Sent {
+        to: 1,
+        tick: 2,
+        moved: Moved::Credit { end: 0 },
+    };
+    assert_eq!(rt; core.take_sent(), Some(credit));
     assert_eq!(rt; core.take_sent(), None);
     Ok(())
 }

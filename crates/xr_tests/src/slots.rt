@@ -1,14 +1,20 @@
 //! One core, booted from an image made by hand, slot by slot.
 
 ghost use Rattle.std.specs.Prelude.{◌≡◌, ◌≤◌, length, IfOk};
-ghost use Rattle.xs_instr.specs.Valid.{AreGoodInstrs, AreGoodPorts, AreIndices, IsGoodCore, Valid};
+ghost use Rattle.xs_core.specs.Deliver.{HasRoomFrom};
+ghost use Rattle.xs_instr.specs.declared.image.Stim.{Stim as Lines};
+ghost use Rattle.xs_instr.specs.declared.state.Moved.TheVariants.{Tok};
+ghost use Rattle.xs_instr.specs.declared.state.Token.{Token as Came};
+ghost use Rattle.xs_instr.specs.Machine.{boot_core, home_of, parts_in};
+ghost use Rattle.xs_instr.specs.Valid.{AreGoodInstrs, AreGoodPorts, AreIndices, IsGoodCore, IsGoodStim, Valid};
 
 use std::alloc::Global;
 use std::process::Abort;
 use std::test::Fail;
 use xs_core::{Core, Did};
 use xs_instr::{
-    Code, CoreImage, Dir, Image, Instr, Pair, PortDecl, Record, Reg, Sight, Stim, Trap,
+    Code, CoreImage, Dir, Image, Instr, Moved, Pair, PortDecl, Record, Reg, Sight, Stim, Token,
+    Trap,
 };
 use xw_words::{List, Memory, Pos};
 
@@ -101,6 +107,8 @@ pub fn image_of(
     requires few_roots { length roots.now ≤ 8 }
     requires roots { AreIndices (length instrs.now) roots.now }
     ensures valid { IfOk result (λ image. Valid image) }
+    ensures far { IfOk result (λ image. (s : Lines) (t : Came) → HasRoomFrom (home_of image s 0)
+        (boot_core (parts_in image.cores 0)).ends (Tok 2 t)) }
 {
     let first = core_of(alloc, 0, 3, instrs, ports, roots)?;
     let second = core_of(alloc, 1, 1, &[Instr::Freet], &[], &[0])?;
@@ -109,6 +117,23 @@ pub fn image_of(
     cores.push(second)?;
     let chans = listed(alloc, &CHANNELS)?;
     Ok(Image { cores, chans })
+}
+
+/// Core 0 of an image as it starts, to whose end 2 a token came from core 1.
+pub fn core_with_token(
+    alloc: Global,
+    image: &Image,
+    stim: &Stim,
+    token: Token,
+) -> Result<Core, Memory>
+    requires image { Valid image.now }
+    requires stim { IsGoodStim stim.now }
+    requires far { HasRoomFrom (home_of image.now stim.now 0)
+        (boot_core (parts_in image.now.cores 0)).ends (Tok 2 token) }
+{
+    let mut core = Core::new(alloc, image, 0, stim)?;
+    core.deliver(Moved::Tok { end: 2, token });
+    Ok(core)
 }
 
 /// Root 0 puts out 0x2b5 at time 100 and ends. Root 6 sets the time of port 5, which is not there. Root 8 gives back

@@ -1,5 +1,5 @@
 use Rattle.std.proofs.Common.{◌≡◌, ◌∙◌, ◌++◌, ◌∷◌, [], List, ap}
-use Rattle.xr_tests.proofs.TwoCores.{valid_of}
+use Rattle.xr_tests.proofs.TwoCores.{far_of, valid_of}
 use Rattle.xr_tests.proofs.slots.image_of.Goals as goal
 use Rattle.xs_instr.specs.declared.image.CoreImage.{CoreImage}
 
@@ -13,4 +13,6 @@ returns c =
       valid = valid_of first second c.push-2.new.self c.in_ok-chans.chans c.in_ok-first.ensures.number c.in_ok-first.ensures.ends
           c.in_ok-second.ensures.number c.in_ok-second.ensures.ends c.in_ok-first.ensures.good c.in_ok-second.ensures.good both
           c.in_ok-chans.ensures;
+      far = far_of first second c.push-2.new.self c.in_ok-chans.chans c.in_ok-first.ensures.number c.in_ok-first.ensures.ends
+          c.in_ok-second.ensures.number c.in_ok-second.ensures.ends both c.in_ok-chans.ensures;
     }
