@@ -100,8 +100,7 @@ fn decls(alloc: Global) -> Result<List<PortDecl>, AllocError>
     Ok(List::from_vec(v))
 }
 
-/// A line of a stimulus.
-pub fn line(tick: u32, core: u8, port: u8, value: u32) -> StimLine
+fn line(tick: u32, core: u8, port: u8, value: u32) -> StimLine
     ensures { result ≡ record { tick = tick; core = core; port = port; value = value } }
 {
     StimLine {
