@@ -1,11 +1,9 @@
-//! Instructions through a core's slots, in programs made by hand; the values were worked out from the table.
+//! What a core sends to another one and takes from it, in programs made by hand; the values were worked out from the table.
 
-ghost use Rattle.std.specs.Prelude.{◌≡◌, [], ℕ};
-ghost use Rattle.xs_instr.specs.Valid.{IsGoodInstr};
+ghost use Rattle.std.specs.Prelude.{◌≡◌, []};
 
 use crate::slots::{core_with_token, image_of, run_table};
 use std::alloc::Global;
-use std::process::Abort;
 use std::test::Fail;
 use xs_core::{Core, Did};
 use xs_instr::{Dir, Instr, Moved, PortDecl, Record, Reg, Sent, Stim, Token};
@@ -37,73 +35,6 @@ fn no_stim(alloc: Global) -> Stim
     Stim {
         lines: List::new(alloc),
     }
-}
-
-/// What the instruction leaves in r3, where r1 and r2 are a and b.
-fn leaves(
-    rt: &impl Abort,
-    alloc: Global,
-    instr: Instr,
-    a: u32,
-    b: u32,
-    want: u32,
-) -> Result<(), Fail>
-    requires { (size i : ℕ) → IsGoodInstr size i instr }
-{
-    let instrs = [
-        Instr::Ldc(Reg::R1, a),
-        Instr::Ldc(Reg::R2, b),
-        instr,
-        Instr::Ldc(Reg::R0, 0),
-        Instr::Out(Reg::R0, Reg::R3),
-    ];
-    let image = image_of(alloc, &instrs, &PORTS, &[0])?;
-    let mut core = Core::new(alloc, &image, 0, &no_stim(alloc))?;
-    let rows = [
-        (0, 0, STEP),
-        (0, 0, STEP),
-        (0, 0, STEP),
-        (0, 0, STEP),
-        (0, 0, out(0, want)),
-    ];
-    run_table(rt, &mut core, &rows)?;
-    Ok(())
-}
-
-#[test]
-fn values(rt: HostRuntime) -> Result<(), Fail> {
-    let alloc = rt.alloc();
-    let (d, a, b) = (Reg::R3, Reg::R1, Reg::R2);
-    leaves(&rt, alloc, Instr::Add(d, a, b), 7, 0xffff_ffff, 6)?;
-    leaves(&rt, alloc, Instr::Sub(d, a, b), 3, 5, 0xffff_fffe)?;
-    leaves(
-        &rt,
-        alloc,
-        Instr::Mul(d, a, b),
-        0x1_0001,
-        0x1_0001,
-        0x2_0001,
-    )?;
-    leaves(&rt, alloc, Instr::And(d, a, b), 12, 10, 8)?;
-    leaves(&rt, alloc, Instr::Or(d, a, b), 12, 10, 14)?;
-    leaves(&rt, alloc, Instr::Xor(d, a, b), 12, 10, 6)?;
-    leaves(&rt, alloc, Instr::Addi(d, a, 5), 0xffff_fffe, 0, 3)?;
-    leaves(&rt, alloc, Instr::Neg(d, a), 1, 0, 0xffff_ffff)?;
-    leaves(&rt, alloc, Instr::Not(d, a), 0xff, 0, 0xffff_ff00)?;
-    leaves(&rt, alloc, Instr::Eq(d, a, b), 4, 4, 1)?;
-    leaves(&rt, alloc, Instr::Lss(d, a, b), 0xffff_ffff, 1, 1)?;
-    leaves(&rt, alloc, Instr::Lsu(d, a, b), 0xffff_ffff, 1, 0)?;
-    leaves(&rt, alloc, Instr::Shl(d, a, b), 1, 31, 0x8000_0000)?;
-    leaves(&rt, alloc, Instr::Shr(d, a, b), 0x8000_0000, 31, 1)?;
-    leaves(
-        &rt,
-        alloc,
-        Instr::Ashr(d, a, b),
-        0x8000_0000,
-        40,
-        0xffff_ffff,
-    )?;
-    Ok(())
 }
 
 /// A byte for core 1 stands in the outbox, with the tick at which it went out.
