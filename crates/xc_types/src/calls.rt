@@ -48,7 +48,7 @@ pub fn right_side(
     match rhs {
         Rhs::Value(value) => part(found, named, value),
         Rhs::Call { name: _, pos, args } => {
-            let called = function_of(named, what_of(named, found.names));
+            let called = function_of(named, what_of(named, found.names.count()));
             found.pass()?;
             let judged = arguments(found, named, params_of(called), args.as_slice())?;
             judge_call(
@@ -161,7 +161,7 @@ fn arguments(
     let mut judged = Judged::new(found.alloc);
     for (i, arg) in args.iter().enumerate() {
         let parameter = parameter_at(params, i);
-        judged.judge(named, found.names, parameter, arg)?;
+        judged.judge(named, found.names.count(), parameter, arg)?;
         argument(found, named, parameter, &arg.value)?;
     }
     Ok(judged)

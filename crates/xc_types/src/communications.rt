@@ -18,9 +18,10 @@ use xw_words::{Memory, Pos};
 pub fn output(found: &mut Findings, named: &Named, send: &Send) -> Result<(), Memory>
     ensures { OnOk result (found.new ≡ after.output named.now send.now found.old) }
 {
-    let what = what_of(named, found.names);
+    let name = found.names.count();
+    let what = what_of(named, name);
     found.breaks_where(!takes_output(what), 410, send.pos);
-    found.names_channel(is_channel(what), declaration_of(named, found.names))?;
+    found.names_channel(is_channel(what), declaration_of(named, name))?;
     found.pass()?;
     time(found, named, is_port(what), &send.time)?;
     part(found, named, &send.value)?;
@@ -31,7 +32,7 @@ pub fn output(found: &mut Findings, named: &Named, send: &Send) -> Result<(), Me
 pub fn input(found: &mut Findings, named: &Named, head: &Head) -> Result<(), Memory>
     ensures { OnOk result (found.new ≡ after.input named.now head.now found.old) }
 {
-    let what = what_of(named, found.names);
+    let what = what_of(named, found.names.count());
     let is_port = is_port(what);
     input_name(found, named, head.pos)?;
     time(found, named, is_port, &head.time)?;
@@ -55,9 +56,10 @@ pub fn input_if_any(found: &mut Findings, named: &Named, head: &Option<Head>) ->
 fn input_name(found: &mut Findings, named: &Named, pos: Pos) -> Result<(), Memory>
     ensures { OnOk result (found.new ≡ past_input (named_of named.now) pos found.old) }
 {
-    let what = what_of(named, found.names);
+    let name = found.names.count();
+    let what = what_of(named, name);
     found.breaks_where(!gives_input(what), 411, pos);
-    found.names_channel(is_channel(what), declaration_of(named, found.names))?;
+    found.names_channel(is_channel(what), declaration_of(named, name))?;
     found.pass()
 }
 

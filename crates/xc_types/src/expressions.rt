@@ -34,7 +34,7 @@ fn word(found: &mut Findings, named: &Named, pos: Pos) -> Result<bool, Memory>
     ensures found { OnOk result (found.new ≡ after_word (named_of named.now) pos found.old) }
     ensures is_unsigned { IfOk result (λ u. u ≡ next_is_unsigned (named_of named.now) found.old) }
 {
-    let what = what_of(named, found.names);
+    let what = what_of(named, found.names.count());
     let is_unsigned = word_is_unsigned(what);
     found.breaks_where(!is_word(what), 401, pos);
     found.add_type(is_unsigned)?;
@@ -47,7 +47,7 @@ fn indexed(found: &mut Findings, named: &Named, pos: Pos) -> Result<bool, Memory
     ensures found { OnOk result (found.new ≡ after_indexed (named_of named.now) pos found.old) }
     ensures is_unsigned { IfOk result (λ u. u ≡ next_has_unsigned (named_of named.now) found.old) }
 {
-    let what = what_of(named, found.names);
+    let what = what_of(named, found.names.count());
     let is_unsigned = elements_are_unsigned(what);
     found.breaks_where(!is_array(what), 402, pos);
     found.add_type(is_unsigned)?;

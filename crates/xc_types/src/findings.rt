@@ -3,6 +3,7 @@ ghost use Rattle.xc_tree.specs.Shapes.Rules.{are_one as one};
 ghost use Rattle.xc_types.specs.Findings.{one_more_name, with_type, with_type_at, with_broken, with_channel, with_first};
 
 use crate::shapes::are_one;
+use crate::tally::Tally;
 use std::alloc::Global;
 use xc_tree::earlier;
 use xw_words::{Broken, List, Memory, Pos};
@@ -13,7 +14,7 @@ pub struct Findings {
     /// Where memory is taken.
     pub alloc: Global,
     /// How many names were passed.
-    pub names: usize,
+    pub names: Tally,
     /// For each node that was passed whether it is a word that is `unsigned`.
     pub types: List<bool>,
     /// The first of the broken rules.
@@ -32,7 +33,7 @@ impl Findings {
     {
         Findings {
             alloc,
-            names: 0,
+            names: Tally::new(alloc),
             types: List::new(alloc),
             best: None,
             channels: List::new(alloc),
@@ -44,8 +45,7 @@ impl Findings {
     pub fn pass(&mut self) -> Result<(), Memory>
         ensures { OnOk result (self.new ≡ one_more_name self.old) }
     {
-        self.names = self.names.checked_add(1).ok_or(Memory)?;
-        Ok(())
+        self.names.add_one()
     }
 
     /// Keeps a node's type, and gives the node's place among the nodes.

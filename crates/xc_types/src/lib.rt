@@ -18,5 +18,6 @@ mod places;
 mod program;
 mod shapes;
 mod statements;
+mod tally;
 
 pub use checking::{TypeErr, check};

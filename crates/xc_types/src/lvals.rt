@@ -14,7 +14,7 @@ pub fn lval(found: &mut Findings, named: &Named, e: &Expr) -> Result<(), Memory>
 {
     match &e.kind {
         Ex::Name(_) => {
-            let what = what_of(named, found.names);
+            let what = what_of(named, found.names.count());
             found.breaks_where(!is_word(what), 403, e.pos);
             found.breaks_where(is_index(what), 412, e.pos);
             found.add_type(word_is_unsigned(what))?;
@@ -31,7 +31,8 @@ pub fn whole(found: &mut Findings, named: &Named, e: &Expr) -> Result<(), Memory
 {
     match &e.kind {
         Ex::Name(_) => {
-            found.add_type(word_is_unsigned(what_of(named, found.names)))?;
+            let what = what_of(named, found.names.count());
+            found.add_type(word_is_unsigned(what))?;
             found.pass()
         }
         _ => part(found, named, e),

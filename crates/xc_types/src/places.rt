@@ -51,9 +51,9 @@ pub fn branch_place(
 fn place_at(found: &mut Findings, named: &Named, place: &At) -> Result<(), Memory>
     ensures { OnOk result (found.new ≡ after.place_at named.now place.now found.old) }
 {
-    let first = found.names;
+    let first = found.names.count();
     part(found, named, &place.value)?;
-    let is_well_formed = has_form(named, &place.value, first, found.names);
+    let is_well_formed = has_form(named, &place.value, first, found.names.count());
     found.breaks_where(!is_well_formed, 508, place.first);
     Ok(())
 }

@@ -1,0 +1,45 @@
+ghost use Rattle.std.specs.Prelude.{◌≡◌, ℕ, ◌+◌, length, OnOk};
+
+use std::alloc::Global;
+use std::marker::Model;
+use xw_words::Memory;
+
+/// A count that is kept as a list of nothing, so that memory alone bounds it. Contracts see the number.
+#[derive(Drop)]
+pub struct Tally {
+    marks: Vec<()>,
+}
+
+impl Model for Tally {
+    ghost Value = { ℕ };
+
+    ghost view = { λ t. length t.marks.items };
+}
+
+impl Tally {
+    /// None.
+    pub fn new(alloc: Global) -> Tally
+        ensures { result ≡ 0 }
+    {
+        Tally {
+            marks: Vec::new(alloc),
+        }
+    }
+
+    /// How many were counted.
+    pub fn count(&self) -> usize
+        ensures { result ≡ self.now }
+    {
+        self.marks.len()
+    }
+
+    /// Counts one more. The one error is want of memory, and leaves the count.
+    pub fn add_one(&mut self) -> Result<(), Memory>
+        ensures { OnOk result (self.new ≡ self.old + 1) }
+    {
+        match self.marks.push(()) {
+            Ok(()) => Ok(()),
+            Err(_) => Err(Memory),
+        }
+    }
+}
