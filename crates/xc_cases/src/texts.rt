@@ -4,7 +4,7 @@ ghost use Rattle.std.specs.Prelude.{◌≤◌, length, IfSome};
 ghost use Rattle.xc_kernel.specs.Sound.{IsTyped};
 ghost use Rattle.xc_tree.specs.Depth as depth;
 ghost use Rattle.xc_tree.specs.Derives.{deepest};
-ghost use Rattle.xc_tree.specs.Programs.{IsParsed};
+ghost use Rattle.xc_tree.specs.Programs.{IsParsed, IsRead};
 ghost use Rattle.xc_tree.specs.Trees.{program_of};
 ghost use Rattle.xc_tree.specs.Types.Named.{named_of};
 
@@ -42,6 +42,7 @@ pub fn typed(alloc: Global, text: &[u8]) -> Option<Typed>
 pub fn tree_of(alloc: Global, text: &[u8]) -> Option<Tree>
     requires { length text.now ≤ 4194304 }
     ensures parsed { IfSome result (λ tree. IsParsed (program_of tree)) }
+    ensures read { IfSome result (λ tree. IsRead (program_of tree)) }
     ensures shallow { IfSome result (λ tree. depth.of_program (program_of tree) ≤ deepest) }
 {
     let Ok(toks) = lex(alloc, text) else {

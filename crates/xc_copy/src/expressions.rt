@@ -190,7 +190,7 @@ fn choice(
 
 /// The place of an expression that can be assigned to. The one error is want of memory.
 pub fn place(alloc: Global, numbers: &Numbers, scope: &Scope, e: &Expr) -> Result<Place, Memory>
-    ensures { IfOk result (λ p. kernel.place_of p ≡ spec.place_in (numbering_of numbers.now)
+    ensures { IfOk result (λ p. kernel.place_of p ≡ spec.kernel_place (numbering_of numbers.now)
         (scope_of scope.now) (tree.expression_of e.now)) }
 {
     match &e.kind {

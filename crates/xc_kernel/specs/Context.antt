@@ -8,7 +8,7 @@ use Rattle.xc_kernel.specs.Paths.{Path, path_at, path_of_branch, path_of_turn}
 use Rattle.xc_kernel.specs.Numbering.{Numbering, variable_number, block_number}
 use Rattle.xc_kernel.specs.Scopes.{Scope, a_word, with_name}
 use Rattle.xc_kernel.specs.Programs.{Function}
-use Rattle.xc_kernel.specs.Expressions.{expression_in, place_in, word_of}
+use Rattle.xc_kernel.specs.Expressions.{expression_in, kernel_place, word_of}
 use Rattle.xc_kernel.specs.Copy.{Copy, no_copy, with_variable}
 
 pub record Context : Type 0 where
@@ -51,7 +51,7 @@ abbrev pub maybe_expression : Context → Scope → Option tree.Expression → O
 maybe_expression c scope e = option_map (expression c scope) e
 
 abbrev pub place : Context → Scope → tree.Expression → kernel.Place
-place c scope e = place_in c.numbering scope e
+place c scope e = kernel_place c.numbering scope e
 
 -- the word of a variable of this path
 abbrev pub word_at : Context → Path → kernel.Place

@@ -67,8 +67,8 @@ place_of_form n scope pos (tree.index text i) = kernel.element (array_number n (
 place_of_form n scope pos other = kernel.word 0
 
 -- the place of an expression that can be assigned to
-abbrev pub place_in : Numbering → Scope → tree.Expression → kernel.Place
-place_in n scope (tree.expression form pos) = place_of_form n scope pos form
+abbrev pub kernel_place : Numbering → Scope → tree.Expression → kernel.Place
+kernel_place n scope (tree.expression form pos) = place_of_form n scope pos form
 
 -- what `place op= e` stores, e being of the kernel: `place op (e)`, at the place of its operator
 abbrev pub updated : Numbering → Scope → tree.Expression → (symbol : ℕ) → Pos → Bool → kernel.Expression → kernel.Expression

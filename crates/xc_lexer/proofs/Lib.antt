@@ -4,5 +4,6 @@ pub mod Symbols
 pub mod Forms
 pub mod Pieces
 pub mod Rows
+pub mod Order
 pub mod Outcomes
 pub mod Extents

@@ -7,6 +7,7 @@ ghost use Rattle.xc_tree.specs.HashLines.{Include};
 ghost use Rattle.xc_tree.specs.Places.{pos_at};
 ghost use Rattle.xc_tree.specs.Least.{IsFirst};
 ghost use Rattle.xc_tree.specs.Lexes.{Lexes, Breaks};
+ghost use Rattle.xc_tree.specs.Programs.{Rise};
 ghost use Rattle.xc_tree.specs.Refusals.{IfBroken};
 ghost use Rattle.xc_lexer.specs.Lines.{DefineIs, TailIs};
 ghost use Rattle.xc_lexer.specs.Places.{IsPlace};
@@ -48,6 +49,7 @@ pub fn lex(alloc: Global, text: &[u8]) -> Result<List<Tok>, LexErr>
     requires short { length text.now ≤ 4194304 }
     ensures tokens { IfOk result (λ toks. Lexes text.now toks) }
     ensures only { IfOk result (λ toks. (v : List Tok) → Lexes text.now v → v ≡ toks) }
+    ensures rising { IfOk result Rise }
     ensures unbroken { IfOk result (λ toks. (b : Broken) → Breaks text.now b → ⊥) }
     ensures broken { IfErr result (λ e. IfBroken e (IsFirst (Breaks text.now))) }
     ensures none { IfErr result (λ e. IfBroken e (λ b. (v : List Tok) → Lexes text.now v → ⊥)) }

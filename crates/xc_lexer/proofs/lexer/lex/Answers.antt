@@ -2,6 +2,7 @@ use Rattle.std.proofs.Common.{true, refl, sym, subst, arith}
 use Rattle.xc_tree.specs.Places.{pos_behind}
 use Rattle.xc_tree.specs.Pieces.{Numbers, Stand}
 use Rattle.xc_tree.specs.Lexes.{beginning}
+use Rattle.xc_lexer.proofs.Order.{rise}
 use Rattle.xc_lexer.proofs.Outcomes.{broken_map}
 use Rattle.xc_lexer.proofs.Rows.{SoFar, start, lexes, tokens_one, tokens_unbroken, went_on, first_broken}
 use Rattle.xc_lexer.proofs.lexer.lex.Goals as goal
@@ -42,3 +43,8 @@ pub returns-clause-unbroken : goal.returns-clause-unbroken
 returns-clause-unbroken c = λ b h.
     let k = c.pieces.invariant in
     tokens_unbroken c.args.text.now c.pieces.toks b (lexes k.so_far k.place.short k.place.within (omega arith)) h
+
+pub returns-clause-rising : goal.returns-clause-rising
+returns-clause-rising c =
+    let k = c.pieces.invariant in
+    rise c.args.text.now c.pieces.toks (lexes k.so_far k.place.short k.place.within (omega arith))
