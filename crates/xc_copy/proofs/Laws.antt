@@ -18,3 +18,4 @@ pub mod Ports
 pub mod Walks
 pub mod Actions
 pub mod Loops
+pub mod Instances

@@ -7,7 +7,7 @@ use Rattle.xc_kernel.specs.Kernels.{expression_of, input_of}
 use Rattle.xc_kernel.specs.Plain as kernel
 use Rattle.xc_kernel.specs.Scopes.{Scope}
 use Rattle.xc_copy.specs.Copied.{copy_of}
-use Rattle.xc_copy.specs.declared.behind.Opened.{Opened}
+use Rattle.xc_copy.specs.declared.cases.Opened.{Opened}
 
 -- a case whose body is a block, or the `default`, before others; nothing stands in a `default` before its body
 abbrev pub case_by : Option Opened → Scope → (block : Copy) → Cased → Cased

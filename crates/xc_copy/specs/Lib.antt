@@ -4,6 +4,7 @@ pub mod Copied
 pub mod PathSets
 pub mod Numbers
 pub mod Heights
+pub mod Instances
 pub mod Functions
 pub mod Truths
 pub mod Contexts

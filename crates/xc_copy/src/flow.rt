@@ -23,6 +23,13 @@ use xc_kernel::{Kst, Kx};
 use xw_words::{List, Memory, Pos};
 
 impl<'p, 'a> Context<'p, 'a> {
+    /// A statement that leaves the block of this path.
+    pub fn leave(&self, path: &[u32]) -> Kst
+        ensures { kernel.statement_of result ≡ contexts.leave (context_of self.now) path.now }
+    {
+        Kst::Exit(self.numbers.block(path))
+    }
+
     /// The statements of a copy as the block of this path. The one error is want of memory.
     #[inline(never)]
     #[tactic(auto)]

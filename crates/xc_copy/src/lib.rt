@@ -1,7 +1,10 @@
 //! From the tree of a program to its kernel: each call is replaced by the called function's body over instances of its own.
 #![tactic(auto)]
 
-mod behind;
+mod assignments;
+mod branches;
+mod calls;
+mod cases;
 mod context;
 mod copied;
 mod declarations;
@@ -10,6 +13,7 @@ mod eval;
 mod expressions;
 mod flow;
 mod functions;
+mod loops;
 mod memory;
 mod numbering;
 mod numbers;
@@ -21,6 +25,8 @@ mod program;
 mod roots;
 mod scope;
 mod statements;
+mod surroundings;
 mod transfers;
+mod variables;
 
 pub use program::copy;

@@ -1,8 +1,9 @@
-ghost use Rattle.std.specs.Prelude.{◌≡◌, IfOk};
+ghost use Rattle.std.specs.Prelude.{◌≡◌, ◌<◌, ◌^◌, IfOk};
 ghost use Rattle.xc_kernel.specs.Numbering as spec;
 ghost use Rattle.xc_kernel.specs.Copy.{Copy, numbering_in};
 ghost use Rattle.xc_kernel.specs.Scopes.{Scope};
 ghost use Rattle.xc_copy.specs.Copied.{copy_of};
+ghost use Rattle.xc_copy.specs.Instances.{instance_count};
 ghost use Rattle.xc_copy.specs.Numbers.{numbering_of};
 
 use crate::copied::Copied;
@@ -30,8 +31,9 @@ impl Numbers {
         }
     }
 
-    /// Those that a copy makes. The one error is want of memory, or of numbers for more than 2^32 instances.
+    /// Those that a copy makes, fewer than 2^32. The one error is want of memory.
     pub fn of_copy(alloc: Global, copied: Copied) -> Result<Numbers, Memory>
+        requires few { (scope : Scope) → instance_count (copy_of copied scope) < 2 ^ 32 }
         ensures { IfOk result (λ numbers. (scope : Scope) → numbering_of numbers
             ≡ numbering_in (copy_of copied scope)) }
     {

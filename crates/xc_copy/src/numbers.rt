@@ -1,4 +1,4 @@
-ghost use Rattle.std.specs.Prelude.{◌≡◌, ◌<◌, ◌^◌, length, map, IfOk, OnOk, not};
+ghost use Rattle.std.specs.Prelude.{◌≡◌, ◌+◌, ◌<◌, ◌≤◌, ◌^◌, length, map, IfOk, OnOk, not};
 ghost use Rattle.xc_kernel.specs.Numbering.{path_of_variable, path_of_channel, path_of_timer, path_of_block};
 ghost use Rattle.xc_kernel.specs.Paths as spec_paths;
 ghost use Rattle.xc_kernel.specs.Paths.{Path, place_of_path, has_path, with_new};
@@ -59,8 +59,9 @@ pub struct Once<T> {
     pub paths: IndexSet<Vec<u32>>,
 }
 
-/// Each path of some instances once. The one error is want of memory, or of numbers for 2^32 instances and more.
+/// Each path of fewer than 2^32 instances once. The one error is want of memory.
 pub fn each_once<T: HasPath + Drop>(alloc: Global, seen: VecDeque<T>) -> Result<Once<T>, Memory>
+    requires few { length seen.items < 2 ^ 32 }
     ensures items { IfOk result
         (λ once. once.items.items ≡ spec_paths.each_once T.path_of seen.items) }
     ensures paths { IfOk result (λ once. paths_in once.paths ≡ map T.path_of once.items.items) }
@@ -75,7 +76,7 @@ pub fn each_once<T: HasPath + Drop>(alloc: Global, seen: VecDeque<T>) -> Result<
     Ok(once)
 }
 
-/// Keeps each instance whose path is new. The one error is want of memory, or of numbers for 2^32 instances and more.
+/// Keeps each instance whose path is new. The one error is want of memory.
 fn keep_all<T: HasPath + Drop>(
     alloc: Global,
     once: &mut Once<T>,
@@ -85,24 +86,24 @@ fn keep_all<T: HasPath + Drop>(
     ensures items { OnOk result
         (once.new.items.items ≡ spec_paths.with_all T.path_of once.old.items.items seen.items) }
     ensures paths { OnOk result (paths_in once.new.paths ≡ map T.path_of once.new.items.items) }
-    ensures few { OnOk result (length (paths_in once.new.paths) < 2 ^ 32) }
+    ensures few { OnOk result (length (paths_in once.new.paths)
+        ≤ length (paths_in once.old.paths) + length seen.items) }
 {
     'sights: while let Some(instance) = seen.pop_front() {
         keep(alloc, once, instance)?;
     }
-    match u32::try_from(once.paths.len()) {
-        Ok(_) => Ok(()),
-        Err(_) => Err(Memory),
-    }
+    Ok(())
 }
 
 /// Keeps an instance, if its path is new. The one error is want of memory.
-#[tactic(auto, using(crate::proofs::Laws::PathSets::kept_new, crate::proofs::Laws::PathSets::kept_known))]
+#[tactic(auto, using(crate::proofs::Laws::PathSets::kept_new, crate::proofs::Laws::PathSets::kept_known, crate::proofs::Laws::PathSets::one_more))]
 fn keep<T: HasPath + Drop>(alloc: Global, once: &mut Once<T>, instance: T) -> Result<(), Memory>
     requires { paths_in once.old.paths ≡ map T.path_of once.old.items.items }
     ensures items { OnOk result
         (once.new.items.items ≡ with_new T.path_of once.old.items.items instance) }
     ensures paths { OnOk result (paths_in once.new.paths ≡ map T.path_of once.new.items.items) }
+    ensures few { OnOk result
+        (length (paths_in once.new.paths) ≤ length (paths_in once.old.paths) + 1) }
 {
     if !add(alloc, &mut once.paths, instance.path())? {
         return Ok(());

@@ -71,6 +71,20 @@ impl<'a> Entered<'a> {
 }
 
 impl<'p, 'a> Context<'p, 'a> {
+    /// The names that each function knows. The one error is want of memory.
+    #[tactic(auto)]
+    pub fn scope_of_ports(&self, alloc: Global) -> Result<Scope<'a>, Memory>
+        ensures { IfOk result (λ scope. scope_of scope ≡ (context_of self.now).ports) }
+    {
+        let mut scope = Scope::new(alloc);
+        let mut left = self.ports.len();
+        'ports: while 0 < left {
+            left -= 1;
+            scope.declare(self.ports[left], Entity::Port(left as u32))?;
+        }
+        Ok(scope)
+    }
+
     /// All arguments of a call, from left to right; a function knows the ports and its parameters. The one error is want of
     /// memory.
     #[inline(never)]

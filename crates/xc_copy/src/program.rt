@@ -1,6 +1,9 @@
-ghost use Rattle.std.specs.Prelude.{◌≡◌, ◌<◌, [], ◌∷◌, ◌++◌, length, IfOk, OnOk, map, option_map};
+ghost use Rattle.std.specs.Prelude.{◌≡◌, ◌<◌, ◌≤◌, ◌^◌, [], ◌∷◌, ◌++◌, length, IfOk, OnOk, map, option_map};
 ghost use Rattle.xc_tree.specs.Trees.{program_of, item_of, port_of};
 ghost use Rattle.xc_kernel.specs.Copies.{Copies};
+ghost use Rattle.xc_kernel.specs.Counts.{statements_of};
+ghost use Rattle.xc_kernel.specs.Numbering.{no_numbering};
+ghost use Rattle.xc_kernel.specs.Size.{most_statements};
 ghost use Rattle.xw_words.specs.Tables.{place_in};
 ghost use Rattle.xw_words.specs.Ports.{identifiers};
 ghost use Rattle.xc_kernel.specs.Kernels.{kernel_of, root_of};
@@ -8,6 +11,7 @@ ghost use Rattle.xc_kernel.specs.Ports as ports_spec;
 ghost use Rattle.xc_kernel.specs.Programs as programs;
 ghost use Rattle.xc_copy.specs.Contexts.{ports_from};
 ghost use Rattle.xc_copy.specs.Functions.{function_of, functions_of};
+ghost use Rattle.xc_copy.specs.Instances.{instance_count};
 ghost use Rattle.xc_copy.specs.Numbers.{numbering_of};
 ghost use Rattle.xc_copy.specs.Ports.{names_among, names_of_ports};
 ghost use Rattle.xc_copy.specs.Roots.{numbering_by, rooted_by, rooted_of};
@@ -28,8 +32,10 @@ const MAIN: &[u8] = b"main";
 
 /// The kernel of a program: the program with each call replaced by its function's body over instances of its own. The tree is
 /// walked twice, for the instances and then for the statements, which mean instances by their places. The one error is want of
-/// memory, or of numbers for 2^32 instances of a kind.
+/// memory, or of numbers for 2^32 branches of a `par`.
 pub fn copy(alloc: Global, tree: &Tree) -> Result<Kernel, Memory>
+    requires small { statements_of (program_of tree.now) ≤ most_statements }
+    requires ports { length (programs.ports (program_of tree.now)) < 2 ^ 32 }
     ensures { IfOk result (λ k. Copies (program_of tree.now) (kernel_of k)) }
 {
     let functions = Functions::of_tree(alloc, tree);
@@ -48,6 +54,9 @@ fn walked<'a>(
     functions: &Functions<'a>,
     ports: &[&'a [u8]],
 ) -> Result<(Numbers, Rooted), Memory>
+    requires ports { length ports.now < 2 ^ 32 }
+    requires few { instance_count (rooted_by (functions_of functions.now)
+        (ports_from 0 ports.now) no_numbering).made < 2 ^ 32 }
     ensures numbers { IfOk result (λ r. numbering_of r.0
         ≡ numbering_by (functions_of functions.now) (ports_from 0 ports.now)) }
     ensures roots { IfOk result
@@ -68,6 +77,9 @@ fn numbered<'a>(
     functions: &Functions<'a>,
     ports: &[&'a [u8]],
 ) -> Result<Numbers, Memory>
+    requires ports { length ports.now < 2 ^ 32 }
+    requires few { instance_count (rooted_by (functions_of functions.now)
+        (ports_from 0 ports.now) no_numbering).made < 2 ^ 32 }
     ensures { IfOk result (λ numbers. numbering_of numbers
         ≡ numbering_by (functions_of functions.now) (ports_from 0 ports.now)) }
 {
@@ -113,6 +125,7 @@ fn rooted<'a>(
     ports: &[&'a [u8]],
     numbers: &Numbers,
 ) -> Result<Rooted, Memory>
+    requires ports { length ports.now < 2 ^ 32 }
     ensures { IfOk result (λ r. rooted_of r (rooted_by (functions_of functions.now)
         (ports_from 0 ports.now) (numbering_of numbers.now)).made.scope ≡ rooted_by
         (functions_of functions.now) (ports_from 0 ports.now) (numbering_of numbers.now)) }

@@ -1,13 +1,17 @@
--- The kernels of typed programs that are neither too large nor too deep are handed on.
-use Rattle.std.specs.Prelude.{◌≤◌, Bool, List}
+-- Typed programs that are neither too large nor too deep are copied, and their kernels are handed on.
+use Rattle.std.proofs.Common.{◌≤◌, ◌<◌, ◌^◌, ℕ, Bool, List, [], ◌∷◌, length, inl, arith}
+use Rattle.std.proofs.lemmas.Bool.{cases_lt}
 use Rattle.xc_tree.specs.Depth as depth
 use Rattle.xc_tree.specs.Derives.{deepest}
 use Rattle.xc_tree.specs.Plain as tree
 use Rattle.xc_tree.specs.Types.Named.{NamedProgram}
 use Rattle.xc_kernel.specs.Plain as kernel
+use Rattle.xc_kernel.specs.Counts.{statements_of}
+use Rattle.xc_kernel.specs.Programs.{ports}
 use Rattle.xc_kernel.specs.Copies.{Copies}
-use Rattle.xc_kernel.specs.Size.{IsTooLarge}
+use Rattle.xc_kernel.specs.Size.{IsTooLarge, most_statements}
 use Rattle.xc_kernel.specs.Sound.{IsOfProgram, IsTyped}
+use Rattle.xc_names.proofs.Bounds.{few_items, few_names}
 
 pub handed_on : {program : List tree.Item} {named : NamedProgram} {types : List Bool} {k : kernel.Kernel} →
     IsTyped program named types → depth.of_program program ≤ deepest → (IsTooLarge program → ⊥) → Copies program k → IsOfProgram k
@@ -17,3 +21,24 @@ handed_on {program} {named} {types} typed shallow small copies = record {
   shallow = shallow;
   copies = copies;
 }
+
+-- what isn't too large has few statements
+pub few_statements : {program : List tree.Item} → (IsTooLarge program → ⊥) → statements_of program ≤ most_statements
+few_statements {program} small = elim (cases_lt most_statements (statements_of program)) [
+  | inl h ↦ absurd (small (inl h))
+  | inr h ↦ h
+]
+
+ports_among : (items : List tree.Item) → length (ports items) ≤ length items
+ports_among [] = omega arith
+ports_among (tree.function head body ∷ items) = let h = ports_among items in omega (arith, h)
+ports_among (tree.port p ∷ items) = let h = ports_among items in omega (arith, h)
+
+-- what was read has fewer than 2^32 ports
+pub few_ports : {program : List tree.Item} {named : NamedProgram} {types : List Bool} → IsTyped program named types → length (ports program) < 2 ^ 32
+few_ports {program} typed =
+    let read = typed.read in
+    let all = few_names program (record { toks = read.toks; derived = read.derived; few = read.few }) in
+    let among = ports_among program in
+    let items = few_items program in
+    omega (arith, all, among, items)

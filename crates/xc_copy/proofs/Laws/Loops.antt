@@ -18,7 +18,7 @@ use Rattle.xc_kernel.specs.Statements.{statement_copy, statements_copy, maybe_co
 use Rattle.xw_words.specs.declared.memory.Memory.{Memory}
 use Rattle.xw_words.specs.declared.pos.Pos.{Pos}
 use Rattle.xc_copy.specs.Copied.{copy_of}
-use Rattle.xc_copy.specs.declared.behind.Opened.{Opened}
+use Rattle.xc_copy.specs.declared.cases.Opened.{Opened}
 use Rattle.xc_copy.specs.declared.copied.Copied.{Copied}
 use Rattle.xc_copy.specs.declared.parts.Cased.{Cased}
 use Rattle.xc_copy.specs.Cases.{case_by}

@@ -4,7 +4,7 @@ use Rattle.std.specs.Cmp.Lexicographic.{pointwise}
 use Rattle.std.specs.List.{list_any, position_or_len}
 use Rattle.std.proofs.lemmas.Cmp.{nat_list_eq_equiv}
 use Rattle.std.proofs.lemmas.List.Recursion.{is_position_or_len}
-use Rattle.std.proofs.lemmas.List.{map_push, length-map}
+use Rattle.std.proofs.lemmas.List.{length-append, map_push, length-map}
 use Rattle.std.specs.Vec.{vec_items}
 use Rattle.std.specs.declared.vec.Vec.{Vec}
 use Rattle.std.specs.declared.alloc.Global.{Global}
@@ -87,3 +87,11 @@ kept_new path_of xs x paths e h = ap (with_by xs x) (sym (has_mapped path_of xs 
 
 pub kept_known : {V : Type 0} (path_of : V → Path) (xs : List V) (x : V) (paths : List Path) → paths ≡ map path_of xs → has_path itself paths (path_of x) ≡ true → with_new path_of xs x ≡ xs
 kept_known path_of xs x paths e h = ap (with_by xs x) (sym (has_mapped path_of xs (path_of x)) ∙ ap (λ ps. has_path itself ps (path_of x)) (sym e) ∙ h)
+
+grown_by_one : {V : Type 0} (xs : List V) (x : V) (b : Bool) → length (with_by xs x b) ≤ length xs + 1
+grown_by_one xs x true = omega arith
+grown_by_one xs x false = let h = length-append xs (x ∷ []) in omega (arith, h)
+
+-- one path more at most
+pub one_more : {V : Type 0} (path_of : V → Path) (xs : List V) (x : V) → length (with_new path_of xs x) ≤ length xs + 1
+one_more path_of xs x = grown_by_one xs x (has_path path_of xs (path_of x))

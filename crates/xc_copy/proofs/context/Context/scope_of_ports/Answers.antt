@@ -14,10 +14,9 @@ ports-preserved c =
     let m = c.ports.left - 1 in
     let x = get_or names m (record { ref_ptr = (0, 0); now = [] }) in
     let inv = c.ports.invariant in
-    let below : m < length names = omega (arith, inv.0, c.ports-test.true) in
-    let number = c.in-Ok.ensures.1 in (
+    let below : m < length names = omega (arith, inv.0, c.ports-test.true) in (
       omega (arith, inv.0),
-      c.in_ok-declare-in-Ok.ensures ∙ (λ i. with_name (inv.1 i) x.now (a_port (number i)))
+      c.in_ok-declare.ensures ∙ (λ i. with_name (inv.1 i) x.now (a_port m))
           ∙ ports_step names c.ports.left m x (omega (arith, c.ports-test.true)) (get_or_itself names m (record { ref_ptr = (0, 0); now = [] }) below) below,
     )
 
