@@ -1,0 +1,15 @@
+pub mod TextScopes
+pub mod TextUses
+pub mod TextItems
+pub mod Resolved
+pub mod Stacks
+pub mod Shaped
+pub mod Walk
+pub mod Numbers
+pub mod Transferred
+pub mod Low
+pub mod Right
+pub mod Grammar
+pub mod Places
+pub mod Spread
+pub mod Twice
