@@ -13,3 +13,13 @@ pub mod Grammar
 pub mod Places
 pub mod Spread
 pub mod Twice
+pub mod Rising
+pub mod FineSites
+pub mod Outside
+pub mod Functions
+pub mod Instances
+pub mod Shallow
+pub mod Program
+pub mod Weaker
+pub mod Formed
+pub mod Merged

@@ -1,0 +1,14 @@
+use Rattle.xc_formed.proofs.Formed.{variables_right, operands_right, levels_few, transfers_right}
+use Rattle.xc_formed.proofs.promised.kernels_are_formed.Goals as goal
+
+pub returns-clause-variables : goal.returns-clause-variables
+returns-clause-variables c = variables_right
+
+pub returns-clause-operands : goal.returns-clause-operands
+returns-clause-operands c = operands_right
+
+pub returns-clause-levels : goal.returns-clause-levels
+returns-clause-levels c = levels_few
+
+pub returns-clause-transfers : goal.returns-clause-transfers
+returns-clause-transfers c = transfers_right
