@@ -23,3 +23,4 @@ pub mod Program
 pub mod Weaker
 pub mod Formed
 pub mod Merged
+pub mod Texts

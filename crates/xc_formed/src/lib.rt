@@ -5,4 +5,4 @@
 
 mod promised;
 
-pub use promised::{kernels_are_formed, names_resolve, no_instance_twice};
+pub use promised::{kernels_are_formed, names_resolve, no_instance_twice, tokens_rise};

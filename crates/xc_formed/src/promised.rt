@@ -1,11 +1,16 @@
 //! The laws, as contracts of functions that do nothing.
 
-ghost use Rattle.xc_formed.specs.Laws.{LevelsFew, NamesResolve, NoInstanceMerged, NoInstanceTwice, OperandsRight, TransfersRight, VariablesRight};
+ghost use Rattle.xc_formed.specs.Laws.{LevelsFew, NamesResolve, NoInstanceMerged, NoInstanceTwice, OperandsRight, TextsRise, TransfersRight, VariablesRight};
 
 /// Each name means what the stack of open scopes has for it.
 #[tactic(auto, using(crate::proofs::Resolved::names_resolve))]
 pub fn names_resolve()
     ensures { NamesResolve }
+{}
+
+/// The tokens of each text stand at rising places.
+pub fn tokens_rise()
+    ensures { TextsRise }
 {}
 
 /// In the copies of a program whose tokens stand at rising places no two instances have one path, so one path names one of them, and
