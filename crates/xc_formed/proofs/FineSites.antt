@@ -12,9 +12,9 @@ use Rattle.xc_tree.specs.Types.Rules.{broken_where, broken_unless, misfits, has_
 use Rattle.xc_tree.specs.Words.{timerafter_word}
 use Rattle.xc_tree.specs.Types.Sites.{Site, sites}
 use Rattle.xc_tree.specs.Types.Sites as site
-use Rattle.xc_tree.specs.Shapes.Around.{in_par_or_transaction, is_main}
+use Rattle.xc_tree.specs.Shapes.Around.{has_way_out, has_next_turn, in_transaction, in_par_or_transaction, is_main}
 use Rattle.xc_tree.specs.Shapes.Main.{place_branches, is_channels_par_return, statements_in}
-use Rattle.xc_tree.specs.Shapes.Rules.{rule_502, rule_504}
+use Rattle.xc_tree.specs.Shapes.Rules.{channels, are_one, rule_501, rule_502, rule_504, rule_505, rule_506}
 use Rattle.xc_tree.specs.Checks.{rules, rule, Breaks}
 use Rattle.xc_formed.proofs.Walk.{AllIn, AllFit, IsFine}
 
@@ -67,6 +67,13 @@ module _ (named : NamedProgram) (unbroken : (b : Broken) → Breaks named b → 
   fine_site (site.return around v p) h =
       (unless (agree v (is_some around.function.result)) p (never 408 rule_408 (7, omega arith, refl) (site.return around v p) h p),
       where_not (in_par_or_transaction around.holders) p (never 502 rule_502 (17, omega arith, refl) (site.return around v p) h p))
+  fine_site (site.transaction around within p) h =
+      (unless (are_one (channels within)) p (never 505 rule_505 (20, omega arith, refl) (site.transaction around within p) h p),
+      where_not (in_transaction around.holders) p (never 506 rule_506 (21, omega arith, refl) (site.transaction around within p) h p))
+  fine_site (site.par around p) h = where_not (in_transaction around.holders) p (never 506 rule_506 (21, omega arith, refl) (site.par around p) h p)
+  fine_site (site.select around cs p) h = where_not (in_transaction around.holders) p (never 506 rule_506 (21, omega arith, refl) (site.select around cs p) h p)
+  fine_site (site.break around p) h = unless (has_way_out around.holders) p (never 501 rule_501 (16, omega arith, refl) (site.break around p) h p)
+  fine_site (site.continue around p) h = unless (has_next_turn around.holders) p (never 501 rule_501 (16, omega arith, refl) (site.continue around p) h p)
   fine_site (site.function hd b) h = where_not (is_main hd && (place_branches (statements_in b) && not (is_channels_par_return (statements_in b)))) hd.name.pos (never 504 rule_504 (19, omega arith, refl) (site.function hd b) h hd.name.pos)
   fine_site other h = tt
 

@@ -4,6 +4,7 @@ pub mod TextItems
 pub mod Resolved
 pub mod Stacks
 pub mod Shaped
+pub mod Talks
 pub mod Walk
 pub mod Numbers
 pub mod Transferred

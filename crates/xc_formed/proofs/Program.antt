@@ -27,7 +27,7 @@ use Rattle.xc_meaning.specs.Texts.Called.{GoesWithin}
 use Rattle.xc_meaning.proofs.Recursion.End.{calls_end}
 use Rattle.xc_formed.specs.Stacks.{Frame, outer, found_in}
 use Rattle.xc_formed.specs.Standing.{head_of, Agrees, Stands, a_variable, whole_array, word_referred, element_referred, array_referred, the_channel, the_end, the_timer, the_port, port_given, the_index, the_function, none_there}
-use Rattle.xc_formed.specs.Each.{AnyNumber, EachRoot}
+use Rattle.xc_formed.specs.Each.{EachRoot}
 use Rattle.xc_formed.specs.Numbers.{IsListed}
 use Rattle.xc_formed.specs.Rising.{IsRising}
 use Rattle.xc_formed.proofs.Shaped.{Assigns, ShapedStatement, Deep}
@@ -40,7 +40,7 @@ use Rattle.xc_formed.proofs.Outside.{Among, bottom, decl_of_item, outer_item, fo
 use Rattle.xc_formed.proofs.Functions.{functions_right, right_named, outside_known}
 use Rattle.xc_formed.proofs.Instances.{program_variables, program_channels, program_timers}
 use Rattle.xc_formed.proofs.Transferred.{OutGoes, InGoes}
-use Rattle.xc_formed.proofs.Right.{IsShallow, IsShallowLval, Lower, IsRight, IsRightPlace, right_leaves}
+use Rattle.xc_formed.proofs.Right.{IsShallow, IsShallowLval, Lower, IsRight, IsRightPlace, IsOne, right_leaves}
 use Rattle.xc_formed.proofs.Shallow.{IsGrown, all_grown, grown_named, any_statement, body_shaped}
 use Rattle.xc_formed.proofs.Rising.{functions_differ}
 use Rattle.xc_formed.proofs.Twice.{program_differs}
@@ -112,11 +112,11 @@ module _ (P : List tree.Item) (n : NamedProgram) where
   num = numbering P
 
   abbrev Right : Frame → Function → Type 0
-  Right gs f = walk.FunctionRight n fs ps num IsShallow IsShallowLval Assigns (IsRight num) (Lower num) (IsRightPlace num) (IsListed num.variables) (OutGoes n fs ps num) (InGoes n fs ps num) AnyNumber gs f
+  Right gs f = walk.FunctionRight n fs ps num IsShallow IsShallowLval Assigns (IsRight num) (Lower num) (IsRightPlace num) (IsListed num.variables) (OutGoes n fs ps num) (InGoes n fs ps num) (IsOne num) gs f
 
   -- all code of roots is right
   abbrev pub RootsRight : List kernel.Root → Type 0
-  RootsRight rs = EachRoot (IsRight num) (IsRightPlace num) (IsListed num.variables) (OutGoes n fs ps num) (InGoes n fs ps num) AnyNumber rs
+  RootsRight rs = EachRoot (IsRight num) (IsRightPlace num) (IsListed num.variables) (OutGoes n fs ps num) (InGoes n fs ps num) (IsOne num) rs
 
   module _ (types : List Bool) (typed : IsTyped P n types) where
     abbrev gs : Frame
@@ -127,13 +127,13 @@ module _ (P : List tree.Item) (n : NamedProgram) where
     fine = subst (λ (items : List tree.Item). AllIn IsFine (site.of_items n 0 0 items)) typed.is_named.program_is (fine_sites n typed.types_and_shapes)
 
     all_right : AllIn (Right gs) fs
-    all_right = functions_right n fs ps num IsShallow IsShallowLval Assigns (IsRight num) (Lower num) (IsRightPlace num) (IsListed num.variables) (OutGoes n fs ps num) (InGoes n fs ps num) AnyNumber P 0 0 gs gs (outer_differ P n types typed) (bottom (λ t. refl)) (all_among gs gs (λ d a. a)) (names_resolve P n types typed) fine
+    all_right = functions_right n fs ps num IsShallow IsShallowLval Assigns (IsRight num) (Lower num) (IsRightPlace num) (IsListed num.variables) (OutGoes n fs ps num) (InGoes n fs ps num) (IsOne num) P 0 0 gs gs (outer_differ P n types typed) (bottom (λ t. refl)) (all_among gs gs (λ d a. a)) (names_resolve P n types typed) fine
 
     right_by_name : (t : List ℕ) (f : Function) → function_named fs t ≡ Some f → Right gs f
-    right_by_name t f e = right_named n fs ps num IsShallow IsShallowLval Assigns (IsRight num) (Lower num) (IsRightPlace num) (IsListed num.variables) (OutGoes n fs ps num) (InGoes n fs ps num) AnyNumber gs fs all_right t f e
+    right_by_name t f e = right_named n fs ps num IsShallow IsShallowLval Assigns (IsRight num) (Lower num) (IsRightPlace num) (IsListed num.variables) (OutGoes n fs ps num) (InGoes n fs ps num) (IsOne num) gs fs all_right t f e
 
     pub ports_are : Agrees n fs ps num (gs ∷ []) (scope_of_ports 0 (ports P))
-    ports_are t = outside_known n fs ps num IsShallow IsShallowLval Assigns (IsRight num) (Lower num) (IsRightPlace num) (IsListed num.variables) (OutGoes n fs ps num) (InGoes n fs ps num) AnyNumber P 0 0 (outer_differ P n types typed)
+    ports_are t = outside_known n fs ps num IsShallow IsShallowLval Assigns (IsRight num) (Lower num) (IsRightPlace num) (IsListed num.variables) (OutGoes n fs ps num) (InGoes n fs ps num) (IsOne num) P 0 0 (outer_differ P n types typed)
         (λ j x e. subst (λ (items : List tree.Item). slice_get items (0 + j) ≡ Some x) (sym typed.is_named.program_is) (subst (λ (u : ℕ). slice_get P u ≡ Some x) (zero_more j) e))
         (λ j p e. record { port = port_use p; there = subst (λ (u : ℕ). slice_get ps u ≡ Some (port_use p)) (zero_more j) (port_there (ports P) j p e); direction = refl }) t refl
 
@@ -200,7 +200,7 @@ module _ (P : List tree.Item) (n : NamedProgram) where
 
     module _ (rising : IsRising P) (low : depth.of_program P ≤ deepest) where
       abbrev Made : Type 0
-      Made = walk.Made n fs ps num IsShallow IsShallowLval Assigns (IsRight num) (Lower num) (IsRightPlace num) (IsListed num.variables) (OutGoes n fs ps num) (InGoes n fs ps num) AnyNumber (rooted P num).made
+      Made = walk.Made n fs ps num IsShallow IsShallowLval Assigns (IsRight num) (Lower num) (IsRightPlace num) (IsListed num.variables) (OutGoes n fs ps num) (InGoes n fs ps num) (IsOne num) (rooted P num).made
 
       made : Made
       made = record { variables = program_variables P (program_differs P num (functions_differ P rising)); channels = program_channels P; timers = program_timers P }
@@ -214,9 +214,9 @@ module _ (P : List tree.Item) (n : NamedProgram) where
           let m = has_main in
           let main = m.main in
           let r = right_by_name name_of_main main m.main_is in
-          let right_main : walk.MainRight n fs ps num IsShallow IsShallowLval Assigns (IsRight num) (Lower num) (IsRightPlace num) (IsListed num.variables) (OutGoes n fs ps num) (InGoes n fs ps num) AnyNumber (right_leaves n fs ps num) gs right_by_name (length fs) main = record { right = r; alone = m.alone; form = λ e. form_of _ _ _ r.form (in_main main m.alone (named_so fs name_of_main main m.main_is)) e } in
+          let right_main : walk.MainRight n fs ps num IsShallow IsShallowLval Assigns (IsRight num) (Lower num) (IsRightPlace num) (IsListed num.variables) (OutGoes n fs ps num) (InGoes n fs ps num) (IsOne num) (right_leaves n fs ps num) gs right_by_name (length fs) main = record { right = r; alone = m.alone; form = λ e. form_of _ _ _ r.form (in_main main m.alone (named_so fs name_of_main main m.main_is)) e } in
           let shaped = body_shaped fs grown (length fs) main (grown_named fs grown name_of_main main m.main_is) (any_statement (GoesWithin fs (length fs)) (calls_end P n types typed).each main.body) in
-          let all = subst (λ (o : Option Function). walk.Made n fs ps num IsShallow IsShallowLval Assigns (IsRight num) (Lower num) (IsRightPlace num) (IsListed num.variables) (OutGoes n fs ps num) (InGoes n fs ps num) AnyNumber (roots.roots_of (calls_of P) o (roots.context_of P num)).made) m.main_is made in
-          let good = walk.roots_well n fs ps num IsShallow IsShallowLval Assigns (IsRight num) (Lower num) (IsRightPlace num) (IsListed num.variables) (OutGoes n fs ps num) (InGoes n fs ps num) AnyNumber (right_leaves n fs ps num) gs right_by_name (length fs) main (roots.context_of P num) right_main shaped
+          let all = subst (λ (o : Option Function). walk.Made n fs ps num IsShallow IsShallowLval Assigns (IsRight num) (Lower num) (IsRightPlace num) (IsListed num.variables) (OutGoes n fs ps num) (InGoes n fs ps num) (IsOne num) (roots.roots_of (calls_of P) o (roots.context_of P num)).made) m.main_is made in
+          let good = walk.roots_well n fs ps num IsShallow IsShallowLval Assigns (IsRight num) (Lower num) (IsRightPlace num) (IsListed num.variables) (OutGoes n fs ps num) (InGoes n fs ps num) (IsOne num) (right_leaves n fs ps num) gs right_by_name (length fs) main (roots.context_of P num) right_main shaped
               (record { numbers = refl; functions_are = refl; ports_known = ports_are; known = ports_are }) all in
           subst (λ (o : Option Function). RootsRight (roots.roots_of (calls_of P) o (roots.context_of P num)).roots) (sym m.main_is) good

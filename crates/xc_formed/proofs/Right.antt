@@ -1,5 +1,5 @@
 -- What is right in all code of a typed program's kernel, by its parts: variables, operands, levels and transfers.
-use Rattle.std.proofs.Common.{◌≡◌, ℕ, ◌+◌, ◌≤◌, Bool, true, false, List, refl, arith}
+use Rattle.std.proofs.Common.{◌≡◌, ℕ, ◌+◌, ◌<◌, ◌≤◌, Bool, true, false, List, length, refl, arith}
 use Rattle.xw_words.specs.declared.pos.Pos.{Pos}
 use Rattle.xc_tree.specs.Plain as tree
 use Rattle.xc_tree.specs.Depth as depth
@@ -10,7 +10,6 @@ use Rattle.xc_kernel.specs.Plain as kernel
 use Rattle.xc_kernel.specs.Paths.{Path}
 use Rattle.xc_kernel.specs.Numbering.{Numbering}
 use Rattle.xc_kernel.specs.Programs.{Function}
-use Rattle.xc_formed.specs.Each.{AnyNumber}
 use Rattle.xc_formed.specs.Numbers.{IsListed, NumbersInExpression, NumbersInPlace}
 use Rattle.xc_formed.specs.Operands.{HasOperands, PlaceHasOperands}
 use Rattle.xc_formed.specs.Levels.{levels, most_levels, IsLow, IsLowPlace}
@@ -39,8 +38,11 @@ module _ (num : Numbering) where
   abbrev pub IsRightPlace : kernel.Place → Type 0
   IsRightPlace p = NumbersInPlace num.variables p × (PlaceHasOperands p × IsLowPlace p)
 
+  abbrev pub IsOne : ℕ → Type 0
+  IsOne c = c < length num.channels
+
 module _ (n : NamedProgram) (fs : List Function) (ps : List PortUse) (num : Numbering) where
-  pub right_leaves : Leaves n fs ps num IsShallow IsShallowLval Assigns (IsRight num) (Lower num) (IsRightPlace num) (IsListed num.variables) (OutGoes n fs ps num) (InGoes n fs ps num) AnyNumber
+  pub right_leaves : Leaves n fs ps num IsShallow IsShallowLval Assigns (IsRight num) (Lower num) (IsRightPlace num) (IsListed num.variables) (OutGoes n fs ps num) (InGoes n fs ps num) (IsOne num)
   right_leaves = record {
     weaker = λ e h. let l = h.1.1 in (h.0, (h.1.0, omega arith));
     ex = λ e k st scope a r g x. (expression_well n fs ps num st scope a e k r g, (has_operands num scope e x.0, (let d = x.1 in let l = few_levels num scope e in omega arith)));
@@ -55,6 +57,6 @@ module _ (n : NamedProgram) (fs : List Function) (ps : List PortUse) (num : Numb
     zero_in = λ path b h. record { variable = h.variable; there = h.there };
     going_out = out_leaf n fs ps num;
     coming_in = in_leaf n fs ps num;
-    transacting = λ k. tt;
+    transacting = λ path h. h;
     index_in = λ t i pos x. (x.0, (let d = x.1 in omega arith));
   }

@@ -17,13 +17,14 @@ use Rattle.xc_tree.specs.declared.names.Mark.TheVariants.{Closes, Uses}
 use Rattle.xc_tree.specs.Plain as tree
 use Rattle.xc_tree.specs.Names.Marks as marks
 use Rattle.xc_tree.specs.Types.Named.{NamedProgram, Name, name_at, what_of, what_at, past, function_of}
-use Rattle.xc_tree.specs.Types.Entities.{is_word, is_array, is_index, is_port, is_timer, takes_output, gives_input, agree, is_word_of, is_array_of, is_channel_of, is_port_of, same_direction}
+use Rattle.xc_tree.specs.Types.Entities.{is_channel, is_word, is_array, is_index, is_port, is_timer, takes_output, gives_input, agree, is_word_of, is_array_of, is_channel_of, is_port_of, same_direction}
 use Rattle.xc_tree.specs.Types.Calls.{Argument, given_by, given_form, arguments, fits, rest_of}
 use Rattle.xc_tree.specs.Types.Rules.{has_number, gives_word}
 use Rattle.xc_tree.specs.Words.{timerafter_word}
 use Rattle.xc_tree.specs.Types.Sites.{Site}
 use Rattle.xc_tree.specs.Types.Sites as site
-use Rattle.xc_tree.specs.Shapes.Around.{Around, a_block, an_if, a_loop, a_case, a_branch, a_transaction, Holder, inside, in_block_of, in_par_or_transaction, is_main}
+use Rattle.xc_tree.specs.Shapes.Around.{Around, a_block, an_if, a_loop, a_case, a_branch, a_transaction, Holder, inside, in_block_of, is_empty, has_way_out, has_next_turn, in_transaction, in_par_or_transaction, is_main}
+use Rattle.xc_tree.specs.Shapes.Rules.{channels, are_one}
 use Rattle.xc_kernel.specs.declared.kernel.Var.{Var}
 use Rattle.xc_kernel.specs.declared.kernel.Chan.{Chan}
 use Rattle.xc_kernel.specs.declared.kernel.Timer.{Timer}
@@ -31,7 +32,7 @@ use Rattle.xc_kernel.specs.declared.kernel.PortUse.{PortUse}
 use Rattle.xc_kernel.specs.Plain as kernel
 use Rattle.xc_tree.specs.Symbols.{bracket, equals}
 use Rattle.xc_kernel.specs.Paths.{Path, path_at, path_of_turn}
-use Rattle.xc_kernel.specs.Numbering.{Numbering, variable_number}
+use Rattle.xc_kernel.specs.Numbering.{Numbering, variable_number, channel_number}
 use Rattle.xc_kernel.specs.Scopes.{Scope, Entity, a_word, an_array, an_element, a_channel, a_timer, a_constant, entity_by, entity_of, with_name}
 use Rattle.xc_kernel.specs.Expressions.{word_of, expression_in, place_in, two_operands, updated}
 use Rattle.xc_kernel.specs.Programs.{Function, function_named}
@@ -40,8 +41,8 @@ use Rattle.xc_kernel.specs.Context.{Context, in_branch, in_loop, in_case, in_fun
 use Rattle.xc_kernel.specs.Parameters.{Passed, passed, all_passed, by_element, form_by_reference, by_name}
 use Rattle.xc_kernel.specs.Calls.{CopiesCall, result_copy, function_copy, path_of_call, path_of_result, called, call_by, right_copy, value_of, right_is_unsigned}
 use Rattle.xc_kernel.specs.Declarations.{initial_copy, kind_copy, declarations_copy}
-use Rattle.xc_kernel.specs.Transfers.{time_of, stamp_of, condition_of, output_of, input_of, target_of, target_copy, behind_target, input_names}
-use Rattle.xc_kernel.specs.Flow.{test_or_true, leave_unless, numbered_copy, replicated, case_scope}
+use Rattle.xc_kernel.specs.Transfers.{channel_of, time_of, stamp_of, condition_of, output_of, input_of, target_of, target_copy, behind_target, input_names}
+use Rattle.xc_kernel.specs.Flow.{first_of, test_or_true, leave_unless, numbered_copy, replicated, case_scope}
 use Rattle.xc_kernel.specs.Statements.{pos_of_branch, assign_by, return_copy, statement_copy, action_copy, maybe_copy, statements_copy, branch_copy, branches_copy, cases_copy, calls_copy}
 use Rattle.xc_tree.specs.Shapes.Main.{is_channel_kind, are_channels, is_return_at_most, is_channels_par_return, place_branches, places_branch, has_placed, is_placed, statements_in}
 use Rattle.xc_kernel.specs.Roots as roots
@@ -50,6 +51,7 @@ use Rattle.xc_formed.specs.Stacks.{Frame, Stack, decl_by, found, with_decl, afte
 use Rattle.xc_formed.specs.Standing.{HasVariable, HasChannel, HasTimer, head_of, Stands, a_variable, whole_array, word_referred, element_referred, array_referred, the_channel, the_end, the_timer, the_port, port_given, the_index, the_function, none_there, Agrees}
 use Rattle.xc_formed.specs.Each.{EachMaybe, EachPlace, EachCondition, EachOutput, EachInput, EachStatement, EachOf, EachCase, EachDefault, EachBranch, EachRoot}
 use Rattle.xc_formed.proofs.Shaped.{WaitsRight, ShapedArguments, ShapedRight, ShapedMaybeRight, ShapedMaybeExpression, ShapedTime, ShapedStamp, ShapedCondition, ShapedTarget, ShapedOutput, ShapedInput, ShapedKind, ShapedDeclarations, ShapedStatement, ShapedAction, ShapedMaybe, ShapedStatements, ShapedBranch, ShapedBranches, ShapedCases, OnlyValue, IsStepAtMost, Deep}
+use Rattle.xc_formed.proofs.Talks.{talks, talks_both, one_talks, silent_both, silent_expression, silent_lval, silent_right, silent_maybe_right, silent_maybe_expression, silent_declarations, output_talks, input_talks, CallsSilent, calls_silent, right_names_none, assign_names_none, return_names_none, declarations_name_none}
 use Rattle.xc_formed.proofs.TextScopes as scopes
 use Rattle.xc_formed.proofs.Stacks.{Quiet, silent, after_both, resolves_both, scope_ends, quiet_split, quiet_skip, quiet_after, quiet_both, quiet_optional, quiet_expression, quiet_argument, quiet_right, quiet_timing, quiet_condition, quiet_place}
 
@@ -80,6 +82,11 @@ IsFine (site.input x) = gives_input x.what ≡ true
 IsFine (site.time x p) = is_port x.what ≡ true
 IsFine (site.condition x p t) = (if nat_eq t timerafter_word then is_timer x.what else is_port x.what) ≡ true
 IsFine (site.return around v p) = (agree v (is_some around.function.result) ≡ true) × (in_par_or_transaction around.holders ≡ false)
+IsFine (site.break around p) = has_way_out around.holders ≡ true
+IsFine (site.continue around p) = has_next_turn around.holders ≡ true
+IsFine (site.transaction around within p) = (are_one (channels within) ≡ true) × (in_transaction around.holders ≡ false)
+IsFine (site.par around p) = in_transaction around.holders ≡ false
+IsFine (site.select around cs p) = in_transaction around.holders ≡ false
 IsFine (site.function h b) = (is_main h && (place_branches (statements_in b) && not (is_channels_par_return (statements_in b)))) ≡ false
 IsFine other = Unit {0}
 
@@ -125,7 +132,7 @@ module _ (n : NamedProgram) (fs : List Function) (ps : List PortUse) (num : Numb
       pub zero_in : (path : Path) (b : Bool) → HasVariable num path b → Z (variable_number num path)
       pub going_out : (c : Context) (scope : Scope) (o : tree.Output) (k : ℕ) (st : Stack) → c.numbering ≡ num → Known st scope → Resolves n k st (marks.of_output o) → AllIn IsFine (site.of_output n k o) → O (output_of c scope o)
       pub coming_in : (c : Context) (scope : Scope) (i : tree.Input) (k : ℕ) (st : Stack) → c.numbering ≡ num → Known st scope → Resolves n k st (marks.of_input i) → AllIn IsFine (site.of_input n k i) → WaitsRight i → I (input_of c scope i)
-      pub transacting : (k : ℕ) → T k
+      pub transacting : (path : Path) → HasChannel num path → T (channel_number num path)
       pub index_in : (t : List ℕ) (i : tree.Expression) (pos : Pos) → X (tree.expression (tree.index t i) pos) → X i
 
     abbrev Good : kernel.Statement → Type 0
@@ -505,7 +512,7 @@ module _ (n : NamedProgram) (fs : List Function) (ps : List PortUse) (num : Numb
       nothing_well : (c : Context) (scope : Scope) (st : Stack) (around : Around) → Sits c scope st around → Well st (Rattle.xc_kernel.specs.Copy.no_copy scope)
       nothing_well c scope st around s = record { code = tt; scope = s.known }
 
-      module _ (C : tree.Call → Type 0) (copies : CopiesCall) (calls_are : CallsWell C copies) where
+      module _ (C : tree.Call → Type 0) (copies : CopiesCall) (calls_are : CallsWell C copies) (mute : CallsSilent copies) where
         pub record RightWell (c : Context) (scope : Scope) (st : Stack) (is_right_side : Bool) (r : tree.RightSide) : Type 0 where
           pub well : Well st (right_copy copies c scope r)
           pub value : is_right_side ≡ true → F (value_of c scope r)
@@ -680,6 +687,67 @@ module _ (n : NamedProgram) (fs : List Function) (ps : List PortUse) (num : Numb
             (target_well c scope st around k3 i.target s r4.0 g4.0 x.1.1.1.0 mt,
             stamp_well c (behind_target c scope i) su around (past k3 (marks.of_target i.target)) y i.stamp sits r4.1 g4.1 x.1.1.1.1))))
 
+        -- what is heard in a part of a transaction: its copy names channels that are there, and one where the part communicates
+        record Heard (sites : List Site) (copy : Copy) : Type 0 where
+          pub each : AllIn (HasChannel num) copy.named
+          pub some : talks sites ≡ true → is_empty copy.named ≡ false
+
+        nothing_heard : (sites : List Site) (copy : Copy) → copy.named ≡ [] → talks sites ≡ false → Heard sites copy
+        nothing_heard sites copy e f = record { each = subst (AllIn (HasChannel num)) (sym e) tt; some = λ t. absurd (true≢false (sym t ∙ f)) }
+
+        left_empty : (xs ys : List Path) → is_empty xs ≡ false → is_empty (xs ++ ys) ≡ false
+        left_empty [] ys e = absurd (true≢false e)
+        left_empty (x ∷ xs) ys e = refl
+
+        right_empty : (xs ys : List Path) → is_empty ys ≡ false → is_empty (xs ++ ys) ≡ false
+        right_empty [] ys e = e
+        right_empty (x ∷ xs) ys e = refl
+
+        heard_both : (xs ys : List Site) (a b : Copy) → Heard xs a → Heard ys b → Heard (xs ++ ys) (joined a b)
+        heard_both xs ys a b h g = record { each = both (HasChannel num) a.named b.named h.each g.each; some = λ t. by (talks_both xs ys t) }
+          where
+            by : (talks xs ≡ true) ⊎ (talks ys ≡ true) → is_empty (a.named ++ b.named) ≡ false
+            by (inl t) = left_empty a.named b.named (h.some t)
+            by (inr t) = right_empty a.named b.named (g.some t)
+
+        -- parts that don't communicate before and behind
+        heard_behind : (xs ys : List Site) (copy : Copy) → talks xs ≡ false → Heard ys copy → Heard (xs ++ ys) copy
+        heard_behind xs ys copy e h = record { each = h.each; some = λ t. by (talks_both xs ys t) }
+          where
+            by : (talks xs ≡ true) ⊎ (talks ys ≡ true) → is_empty copy.named ≡ false
+            by (inl t) = absurd (true≢false (sym t ∙ e))
+            by (inr t) = h.some t
+
+        heard_before : (xs ys : List Site) (copy : Copy) → talks ys ≡ false → Heard xs copy → Heard (xs ++ ys) copy
+        heard_before xs ys copy e h = record { each = h.each; some = λ t. by (talks_both xs ys t) }
+          where
+            by : (talks xs ≡ true) ⊎ (talks ys ≡ true) → is_empty copy.named ≡ false
+            by (inl t) = h.some t
+            by (inr t) = absurd (true≢false (sym t ∙ e))
+
+        heard_same : (xs : List Site) (a b : Copy) → a.named ≡ b.named → Heard xs a → Heard xs b
+        heard_same xs a b e h = record { each = subst (AllIn (HasChannel num)) e h.each; some = λ t. subst (λ (ps : List Path). is_empty ps ≡ false) e (h.some t) }
+
+        -- the channel that a name stands for
+        channel_heard : (t : List ℕ) (w : Option What) (x : Entity) → Standing t w x → AllIn (HasChannel num) (channel_of x) × (is_channel w ≡ true → is_empty (channel_of x) ≡ false)
+        channel_heard t _ _ (the_channel h) = ((h, tt), λ e. refl)
+        channel_heard t _ _ (the_end h) = ((h, tt), λ e. refl)
+        channel_heard t _ _ (a_variable h) = (tt, λ e. no e)
+        channel_heard t _ _ (whole_array h) = (tt, λ e. no e)
+        channel_heard t _ _ (word_referred h) = (tt, λ e. no e)
+        channel_heard t _ _ (element_referred h g) = (tt, λ e. no e)
+        channel_heard t _ _ (array_referred h) = (tt, λ e. no e)
+        channel_heard t _ _ (the_timer h) = (tt, λ e. no e)
+        channel_heard t _ _ (the_port h) = (tt, λ e. no e)
+        channel_heard t _ _ (port_given h) = (tt, λ e. no e)
+        channel_heard t _ _ the_index = (tt, λ e. no e)
+        channel_heard t _ _ (the_function h) = (tt, λ e. no e)
+        channel_heard t _ _ none_there = (tt, λ e. no e)
+
+        first_heard : (ps : List Path) → AllIn (HasChannel num) ps → is_empty ps ≡ false → HasChannel num (first_of ps)
+        first_heard [] h e = absurd (true≢false e)
+        first_heard (p ∷ ps) h e = h.0
+
         -- statements
 
         loop_well : (c : Context) (path : Path) (test : kernel.Expression) (body more next : List kernel.Statement) → E test → AllIn Good body → AllIn Good more → AllIn Good next →
@@ -847,9 +915,118 @@ module _ (n : NamedProgram) (fs : List Function) (ps : List PortUse) (num : Numb
           action_well (tree.transaction is_master ss) pos close c scope st around k s r g x m =
               let r2 = resolves_both n k ([] ∷ st) (marks.of_statements ss) (Closes ∷ []) r in
               let cb = statements_copy copies ss c scope in
-              let w = statements_well ss c scope ([] ∷ st) (inside a_transaction around) k (with_names c scope scope st ([] ∷ st) around (inside a_transaction around) (inner_needs a_transaction around) (in_new st scope s.known) s) r2.0 g.1 x (record { variables = m.variables; channels = m.channels; timers = m.timers }) in
+              let mb : Made cb = record { variables = m.variables; channels = m.channels; timers = m.timers } in
+              let sb = with_names c scope scope st ([] ∷ st) around (inside a_transaction around) (inner_needs a_transaction around) (in_new st scope s.known) s in
+              let w = statements_well ss c scope ([] ∷ st) (inside a_transaction around) k sb r2.0 g.1 x mb in
+              let h = statements_heard ss c scope ([] ∷ st) (inside a_transaction around) k refl sb r2.0 g.1 x mb in
+              let on = leaves.transacting (first_of cb.named) (first_heard cb.named h.each (h.some (one_talks (site.of_statements n (inside a_transaction around) k ss) g.0.0))) in
               at_stack st _ (action_copy copies (tree.transaction is_master ss) pos close c scope) (sym (scope_ends st (marks.of_statements ss) (scopes.of_statements ss)))
-              (record { code = ((leaves.transacting _, as_statements cb.code w.code), tt); scope = s.known })
+              (record { code = ((subst (λ (q : Numbering). T (channel_number q (first_of cb.named))) (sym s.numbers) on, as_statements cb.code w.code), tt); scope = s.known })
+
+          -- a part of a transaction, which has no `par`, no `select` and no transaction
+          statement_heard : (t : tree.Statement) (c : Context) (scope : Scope) (st : Stack) (around : Around) (k : ℕ) → in_transaction around.holders ≡ true → Sits c scope st around → Resolves n k st (marks.of_statement t) → AllIn IsFine (site.of_statement n around k t) → ShapedStatement X V S C t → Made (statement_copy copies t c scope) → Heard (site.of_statement n around k t) (statement_copy copies t c scope)
+          statement_heard (tree.statement a pos close own) c scope st around k i s r g x m = action_heard a pos close c scope st around k i s r g x m
+
+          action_heard : (a : tree.Action) (pos close : Pos) (c : Context) (scope : Scope) (st : Stack) (around : Around) (k : ℕ) → in_transaction around.holders ≡ true → Sits c scope st around → Resolves n k st (marks.of_action a) → AllIn IsFine (site.of_action n around k pos a) → ShapedAction X V S C a → Made (action_copy copies a pos close c scope) → Heard (site.of_action n around k pos a) (action_copy copies a pos close c scope)
+          action_heard tree.empty pos close c scope st around k i s r g x m = nothing_heard [] _ refl refl
+          action_heard (tree.block ss) pos close c scope st around k i s r g x m =
+              let r2 = resolves_both n k ([] ∷ st) (marks.of_statements ss) (Closes ∷ []) r in
+              heard_same _ (statements_copy copies ss c scope) (action_copy copies (tree.block ss) pos close c scope) refl
+              (statements_heard ss c scope ([] ∷ st) (inside a_block around) k i (with_names c scope scope st ([] ∷ st) around (inside a_block around) (inner_needs a_block around) (in_new st scope s.known) s) r2.0 g x (record { variables = m.variables; channels = m.channels; timers = m.timers }))
+          action_heard (tree.declare ds) pos close c scope st around k i s r g x m = nothing_heard _ (action_copy copies (tree.declare ds) pos close c scope) (declarations_name_none copies mute c ds scope) (silent_declarations n around k ds)
+          action_heard (tree.assign to symbol spot e) pos close c scope st around k i s r g x m =
+              nothing_heard _ (action_copy copies (tree.assign to symbol spot e) pos close c scope) (assign_names_none copies mute c scope to symbol spot e (nat_eq symbol equals))
+              (silent_both (site.of_lval n k to) _ (silent_lval n k to) (silent_right n around (past k (marks.of_expression to)) true e))
+          action_heard (tree.step to symbol) pos close c scope st around k i s r g x m = nothing_heard _ (action_copy copies (tree.step to symbol) pos close c scope) refl (silent_lval n k to)
+          action_heard (tree.perform e) pos close c scope st around k i s r g x m = nothing_heard _ (action_copy copies (tree.perform e) pos close c scope) (right_names_none copies mute c scope e) (silent_right n around k false e)
+          action_heard (tree.output o) pos close c scope st around k i s r g x m =
+              let h = channel_heard o.name.text _ _ (standing st scope k o.name.text s.known r.0) in
+              record { each = h.0; some = λ t. h.1 (output_talks n k o t) }
+          action_heard (tree.input y) pos close c scope st around k i s r g x m =
+              let h = channel_heard y.name.text _ _ (standing st scope k y.name.text s.known r.0) in
+              record { each = h.0; some = λ t. h.1 (input_talks n k y t) }
+          action_heard (tree.if_then test a b) pos close c scope st around k i s r g x m =
+              let ca = statement_copy copies a c scope in
+              let k1 = past k (marks.of_expression test) in
+              let r1 = quiet_split n k st (marks.of_expression test) (marks.of_statement a ++ marks.of_maybe b) (quiet_expression test) r in
+              let r2 = resolves_both n k1 st (marks.of_statement a) (marks.of_maybe b) r1.1 in
+              let g1 = split IsFine (site.of_expression n k test) _ g in
+              let g2 = split IsFine (site.of_statement n (inside an_if around) k1 a) _ g1.1 in
+              let m2 = made_both ca (maybe_copy copies b c ca.scope) (record { variables = m.variables; channels = m.channels; timers = m.timers }) in
+              let su = after st (marks.of_statement a) in
+              let sa = with_names c scope scope st st around (inside an_if around) (inner_needs an_if around) s.known s in
+              let w = statement_well a c scope st (inside an_if around) k1 sa r2.0 g2.0 x.1.0 m2.0 in
+              let h = statement_heard a c scope st (inside an_if around) k1 i sa r2.0 g2.0 x.1.0 m2.0 in
+              let v = maybe_heard b c ca.scope su (inside an_if around) (past k1 (marks.of_statement a)) i (with_names c scope ca.scope st su around (inside an_if around) (inner_needs an_if around) w.scope s) r2.1 g2.1 x.1.1 m2.1 in
+              heard_behind (site.of_expression n k test) _ (action_copy copies (tree.if_then test a b) pos close c scope) (silent_expression n k test)
+              (heard_same _ (joined ca (maybe_copy copies b c ca.scope)) (action_copy copies (tree.if_then test a b) pos close c scope) refl (heard_both (site.of_statement n (inside an_if around) k1 a) _ ca (maybe_copy copies b c ca.scope) h v))
+          action_heard (tree.while_loop test body) pos close c scope st around k i s r g x m =
+              let k1 = past k (marks.of_expression test) in
+              let r1 = quiet_split n k st (marks.of_expression test) (marks.of_statement body) (quiet_expression test) r in
+              let g1 = split IsFine (site.of_expression n k test) _ g in
+              let h = statement_heard body (in_loop c pos) scope st (inside a_loop around) k1 i (sits_in c (in_loop c pos) scope scope st st around (inside a_loop around) refl refl refl refl (inner_needs a_loop around) s.known s) r1.1 g1.1 x.1 (record { variables = m.variables; channels = m.channels; timers = m.timers }) in
+              heard_behind (site.of_expression n k test) _ (action_copy copies (tree.while_loop test body) pos close c scope) (silent_expression n k test)
+              (heard_same _ (statement_copy copies body (in_loop c pos) scope) (action_copy copies (tree.while_loop test body) pos close c scope) refl h)
+          action_heard (tree.do_while body test) pos close c scope st around k i s r g x m =
+              let r1 = resolves_both n k st (marks.of_statement body) (marks.of_expression test) r in
+              let g1 = split IsFine (site.of_statement n (inside a_loop around) k body) _ g in
+              let h = statement_heard body (in_loop c pos) scope st (inside a_loop around) k i (sits_in c (in_loop c pos) scope scope st st around (inside a_loop around) refl refl refl refl (inner_needs a_loop around) s.known s) r1.0 g1.0 x.0 (record { variables = m.variables; channels = m.channels; timers = m.timers }) in
+              heard_before (site.of_statement n (inside a_loop around) k body) _ (action_copy copies (tree.do_while body test) pos close c scope) (silent_expression n (past k (marks.of_statement body)) test)
+              (heard_same _ (statement_copy copies body (in_loop c pos) scope) (action_copy copies (tree.do_while body test) pos close c scope) refl h)
+          action_heard (tree.for_loop first test next body) pos close c scope st around k i s r g x m =
+              let mt = marks.optional marks.of_expression test in
+              let all = marks.of_maybe first ++ (mt ++ (marks.of_maybe next ++ marks.of_statement body)) in
+              let r0 = (resolves_both n k ([] ∷ st) all (Closes ∷ []) r).0 in
+              let r1 = resolves_both n k ([] ∷ st) (marks.of_maybe first) (mt ++ (marks.of_maybe next ++ marks.of_statement body)) r0 in
+              let k1 = past k (marks.of_maybe first) in
+              let su = after ([] ∷ st) (marks.of_maybe first) in
+              let r2 = quiet_split n k1 su mt (marks.of_maybe next ++ marks.of_statement body) (quiet_optional marks.of_expression quiet_expression test) r1.1 in
+              let k2 = past k1 mt in
+              let r3 = quiet_split n k2 su (marks.of_maybe next) (marks.of_statement body) (step_quiet next x.1.1.0.1) r2.1 in
+              let k3 = past k2 (marks.of_maybe next) in
+              let g1 = split IsFine (site.of_maybe n around k first) _ g in
+              let g2 = split IsFine (site.optional (site.of_expression n k1) test) _ g1.1 in
+              let g3 = split IsFine (site.of_maybe n around k2 next) _ g2.1 in
+              let f = maybe_copy copies first c scope in
+              let cn = maybe_copy copies next c f.scope in
+              let cb = statement_copy copies body (in_loop c pos) f.scope in
+              let m0 : Made (joined f (joined cn cb)) = record { variables = m.variables; channels = m.channels; timers = m.timers } in
+              let m1 = made_both f (joined cn cb) m0 in
+              let m2 = made_both cn cb m1.1 in
+              let w = maybe_well first c scope ([] ∷ st) around k (with_names c scope scope st ([] ∷ st) around around (λ t. t) (in_new st scope s.known) s) r1.0 g1.0 x.0 m1.0 in
+              let sits = with_names c scope f.scope st su around around (λ t. t) w.scope s in
+              let inner = with_names c scope scope st ([] ∷ st) around around (λ t. t) (in_new st scope s.known) s in
+              let hf = maybe_heard first c scope ([] ∷ st) around k i inner r1.0 g1.0 x.0 m1.0 in
+              let hn = maybe_heard next c f.scope su around k2 i sits r3.0 g3.0 x.1.1.0.0 m2.0 in
+              let hb = statement_heard body (in_loop c pos) f.scope su (inside a_loop around) k3 i (sits_in c (in_loop c pos) scope f.scope st su around (inside a_loop around) refl refl refl refl (inner_needs a_loop around) w.scope s) r3.1 g3.1 x.1.1.1 m2.1 in
+              heard_same _ (joined f (joined cn cb)) (action_copy copies (tree.for_loop first test next body) pos close c scope) refl
+              (heard_both (site.of_maybe n around k first) _ f (joined cn cb) hf
+              (heard_behind (site.optional (site.of_expression n k1) test) _ (joined cn cb) (silent_maybe_expression n k1 test) (heard_both (site.of_maybe n around k2 next) (site.of_statement n (inside a_loop around) k3 body) cn cb hn hb)))
+          action_heard (tree.return_with e) pos close c scope st around k i s r g x m = nothing_heard _ (action_copy copies (tree.return_with e) pos close c scope) (return_names_none copies mute c scope e) (silent_maybe_right n around k e)
+          action_heard tree.break_out pos close c scope st around k i s r g x m = nothing_heard _ (action_copy copies tree.break_out pos close c scope) refl refl
+          action_heard tree.continue_on pos close c scope st around k i s r g x m = nothing_heard _ (action_copy copies tree.continue_on pos close c scope) refl refl
+          action_heard (tree.par bs) pos close c scope st around k i s r g x m = absurd (true≢false (sym i ∙ g.0))
+          action_heard (tree.replicated y a z from until b) pos close c scope st around k i s r g x m = absurd (true≢false (sym i ∙ g.0))
+          action_heard (tree.select cs) pos close c scope st around k i s r g x m = absurd (true≢false (sym i ∙ g.0))
+          action_heard (tree.transaction is_master ss) pos close c scope st around k i s r g x m = absurd (true≢false (sym i ∙ g.0.1))
+
+          maybe_heard : (t : tree.Maybe) (c : Context) (scope : Scope) (st : Stack) (around : Around) (k : ℕ) → in_transaction around.holders ≡ true → Sits c scope st around → Resolves n k st (marks.of_maybe t) → AllIn IsFine (site.of_maybe n around k t) → ShapedMaybe X V S C t → Made (maybe_copy copies t c scope) → Heard (site.of_maybe n around k t) (maybe_copy copies t c scope)
+          maybe_heard tree.absent c scope st around k i s r g x m = nothing_heard [] _ refl refl
+          maybe_heard (tree.present t) c scope st around k i s r g x m = statement_heard t c scope st around k i s r g x m
+
+          statements_heard : (ss : tree.Statements) (c : Context) (scope : Scope) (st : Stack) (around : Around) (k : ℕ) → in_transaction around.holders ≡ true → Sits c scope st around → Resolves n k st (marks.of_statements ss) → AllIn IsFine (site.of_statements n around k ss) → ShapedStatements X V S C ss → Made (statements_copy copies ss c scope) → Heard (site.of_statements n around k ss) (statements_copy copies ss c scope)
+          statements_heard tree.no_more c scope st around k i s r g x m = nothing_heard [] _ refl refl
+          statements_heard (tree.more t ss) c scope st around k i s r g x m =
+              let ct = statement_copy copies t c scope in
+              let k1 = past k (marks.of_statement t) in
+              let su = after st (marks.of_statement t) in
+              let r1 = resolves_both n k st (marks.of_statement t) (marks.of_statements ss) r in
+              let g1 = split IsFine (site.of_statement n around k t) _ g in
+              let m1 = made_both ct (statements_copy copies ss c ct.scope) m in
+              let w = statement_well t c scope st around k s r1.0 g1.0 x.0 m1.0 in
+              let h = statement_heard t c scope st around k i s r1.0 g1.0 x.0 m1.0 in
+              let v = statements_heard ss c ct.scope su around k1 i (with_names c scope ct.scope st su around around (λ t. t) w.scope s) r1.1 g1.1 x.1 m1.1 in
+              heard_both (site.of_statement n around k t) (site.of_statements n around k1 ss) ct (statements_copy copies ss c ct.scope) h v
 
           maybe_well : (t : tree.Maybe) (c : Context) (scope : Scope) (st : Stack) (around : Around) (k : ℕ) → Sits c scope st around → Resolves n k st (marks.of_maybe t) → AllIn IsFine (site.of_maybe n around k t) → ShapedMaybe X V S C t → Made (maybe_copy copies t c scope) → Well (after st (marks.of_maybe t)) (maybe_copy copies t c scope)
           maybe_well tree.absent c scope st around k s r g x m = nothing_well c scope st around s
@@ -988,7 +1165,7 @@ module _ (n : NamedProgram) (fs : List Function) (ps : List PortUse) (num : Numb
             none_some : (f : Function) → None ≡ Some f → ⊥
             none_some f q = cc
         calls_well (suc depth) call f e x c scope st around k s r g xs long fit m =
-            function_well (Deep X V S fs depth) (calls_copy depth) (calls_well depth) c scope st around k (path_of_call c call.called.pos) f call.arguments (rights call.called.text f e) (x f e) s r g xs long fit m
+            function_well (Deep X V S fs depth) (calls_copy depth) (calls_well depth) (calls_silent depth) c scope st around k (path_of_call c call.called.pos) f call.arguments (rights call.called.text f e) (x f e) s r g xs long fit m
 
         -- Roots.
 
@@ -1034,7 +1211,7 @@ module _ (n : NamedProgram) (fs : List Function) (ps : List PortUse) (num : Numb
               let g1 = split IsFine (site.optional (site.of_branch_place n around k) place) _ g in
               let d = record c { core = core_of scope place } in
               let ct = statement_copy calls t d scope in
-              let w = statement_well C calls (calls_well depth) t d scope st (inside a_branch around) (past k mp) (in_a_branch c (core_of scope place) scope st around s) r1.1 g1.1 x (record { variables = m.variables; channels = m.channels; timers = m.timers }) in
+              let w = statement_well C calls (calls_well depth) (calls_silent depth) t d scope st (inside a_branch around) (past k mp) (in_a_branch c (core_of scope place) scope st around s) r1.1 g1.1 x (record { variables = m.variables; channels = m.channels; timers = m.timers }) in
               record { code = (as_statements ct.code w.code, tt); known = subst (λ (z : Stack). Known z ct.scope) (sym (quiet_skip st mp (marks.of_statement t) q)) w.scope }
 
           branch_roots_well : (main : Pos) (bs : tree.Branches) (index : ℕ) (c : Context) (scope : Scope) (st : Stack) (around : Around) (k : ℕ) → Stays c scope st → Resolves n k st (marks.of_branches bs) → AllIn IsFine (site.of_branches n around k bs) → ShapedBranches X V S C bs → Made (roots.branch_roots calls main bs index c scope).made → RootsGood (roots.branch_roots calls main bs index c scope).roots
@@ -1158,7 +1335,7 @@ module _ (n : NamedProgram) (fs : List Function) (ps : List PortUse) (num : Numb
               let sits : Sits c c.ports (gs ∷ []) no_result = record { numbers = s.numbers; functions_are = s.functions_are; ports_known = s.ports_known; result_there = λ t. no t.1; known = s.known } in
               let fc = function_copy (statement_copy calls) c c.ports [] f [] in
               let long : length {A = tree.Argument} [] ≡ length f.head.params = sym (ap length r.alone) in
-              let w = function_well C calls (calls_well depth) c c.ports (gs ∷ []) no_result 0 [] f [] r.right x sits tt tt tt long tt (record { variables = m.variables; channels = m.channels; timers = m.timers }) in
+              let w = function_well C calls (calls_well depth) (calls_silent depth) c c.ports (gs ∷ []) no_result 0 [] f [] r.right x sits tt tt tt long tt (record { variables = m.variables; channels = m.channels; timers = m.timers }) in
               (as_statements fc.code w.well.code, tt)
 
           roots_by_well : (b : Bool) (f : Function) (c : Context) → roots.block_has_placed (roots.in_block f.body) ≡ b → MainRight f → ShapedStatement X V S C f.body → Stays c c.ports (gs ∷ []) → Made (roots.roots_by calls b f c).made → RootsGood (roots.roots_by calls b f c).roots

@@ -14,7 +14,7 @@ use Rattle.xc_kernel.specs.Sound.{IsTyped}
 use Rattle.xc_formed.specs.Numbers.{VariablesAreRight}
 use Rattle.xc_formed.specs.Operands.{OperandsAreRight}
 use Rattle.xc_formed.specs.Levels.{LevelsAreFew}
-use Rattle.xc_formed.specs.Transfers.{TransfersAreRight}
+use Rattle.xc_formed.specs.Transfers.{TransfersAreRight, TransactionsAreListed}
 use Rattle.xc_formed.specs.Rising.{TokensRise, IsRising}
 use Rattle.xc_formed.specs.Once.{NoneTwice}
 use Rattle.xc_formed.specs.Stacks.{Resolves, outer}
@@ -63,3 +63,6 @@ LevelsFew = OfEachKernel LevelsAreFew
 
 abbrev pub TransfersRight : Type 0
 TransfersRight = OfEachKernel TransfersAreRight
+
+abbrev pub TransactionsListed : Type 0
+TransactionsListed = OfEachKernel TransactionsAreListed

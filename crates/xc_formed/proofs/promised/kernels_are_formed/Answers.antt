@@ -1,4 +1,4 @@
-use Rattle.xc_formed.proofs.Formed.{variables_right, operands_right, levels_few, transfers_right}
+use Rattle.xc_formed.proofs.Formed.{variables_right, operands_right, levels_few, transfers_right, transactions_listed}
 use Rattle.xc_formed.proofs.promised.kernels_are_formed.Goals as goal
 
 pub returns-clause-variables : goal.returns-clause-variables
@@ -12,3 +12,6 @@ returns-clause-levels c = levels_few
 
 pub returns-clause-transfers : goal.returns-clause-transfers
 returns-clause-transfers c = transfers_right
+
+pub returns-clause-transactions : goal.returns-clause-transactions
+returns-clause-transactions c = transactions_listed
