@@ -13,11 +13,12 @@ use Rattle.xc_formed.specs.Numbers.{IsListed, NumbersInExpression, NumbersInPlac
 use Rattle.xc_formed.specs.Operands.{HasOperands, PlaceHasOperands, OperandsAreRight}
 use Rattle.xc_formed.specs.Levels.{IsLow, IsLowPlace, LevelsAreFew}
 use Rattle.xc_formed.specs.Transfers.{GoesOut, ComesIn, TransfersAreRight, TransactionsAreListed}
+use Rattle.xc_formed.specs.Exits.{ExitsAreInside}
 use Rattle.xc_formed.specs.Rising.{IsRising}
-use Rattle.xc_formed.specs.Laws.{VariablesRight, OperandsRight, LevelsFew, TransfersRight, TransactionsListed}
+use Rattle.xc_formed.specs.Laws.{VariablesRight, OperandsRight, LevelsFew, TransfersRight, TransactionsListed, ExitsInside}
 use Rattle.xc_formed.proofs.Right.{IsRight, IsRightPlace, IsOne}
 use Rattle.xc_formed.proofs.Weaker.{each_root}
-use Rattle.xc_formed.proofs.Program.{roots_right}
+use Rattle.xc_formed.proofs.Program.{roots_right, roots_leave}
 
 module _ (P : List tree.Item) (n : NamedProgram) (types : List Bool) (typed : IsTyped P n types) (rising : IsRising P) (low : depth.of_program P ≤ deepest) where
   abbrev K : kernel.Kernel
@@ -54,6 +55,10 @@ module _ (P : List tree.Item) (n : NamedProgram) (types : List Bool) (typed : Is
       each_root (IsRight (numbering P)) AnyExpression (IsRightPlace (numbering P)) AnyPlace (IsListed (numbering P).variables) AnyNumber (GoesOut K) AnyOutput (ComesIn K) AnyInput (IsOne (numbering P)) (IsChannel K)
       (λ e h. tt) (λ p h. tt) (λ v h. tt) (λ o h. tt) (λ i h. tt) (λ c h. h) K.roots all_right
 
+  exits : ExitsAreInside K
+  unfolding copy_of
+  exits = roots_leave P n types typed rising
+
 -- so of each kernel that is such a copy
 pub variables_right : VariablesRight
 variables_right P n types K typed rising low c = subst VariablesAreRight (sym c.is_copy) (variables P n types typed rising low)
@@ -69,3 +74,6 @@ transfers_right P n types K typed rising low c = subst TransfersAreRight (sym c.
 
 pub transactions_listed : TransactionsListed
 transactions_listed P n types K typed rising low c = subst TransactionsAreListed (sym c.is_copy) (transactions P n types typed rising low)
+
+pub exits_inside : ExitsInside
+exits_inside P n types K typed rising low c = subst ExitsAreInside (sym c.is_copy) (exits P n types typed rising low)

@@ -6,7 +6,7 @@ use Rattle.xc_kernel.specs.declared.kernel.Var.{Var}
 use Rattle.xc_kernel.specs.declared.kernel.Chan.{Chan}
 use Rattle.xc_kernel.specs.declared.kernel.Timer.{Timer}
 use Rattle.xc_kernel.specs.Paths.{Path, is_same, place_by, place_of_path, has_path, with_by, with_new, with_all}
-use Rattle.xc_kernel.specs.Numbering.{Numbering, path_of_variable, path_of_channel, path_of_timer}
+use Rattle.xc_kernel.specs.Numbering.{Numbering, path_of_variable, path_of_channel, path_of_timer, path_of_block}
 use Rattle.xc_kernel.specs.Copy.{Copy, numbering_in}
 use Rattle.xc_kernel.specs.Copies.{rooted, numbering}
 use Rattle.xc_kernel.proofs.Paths.{there_before, there_at_end}
@@ -137,6 +137,9 @@ module _ (copy : Copy) where
   pub timers_made : AllIn (λ (t : Timer). HasTimer own t.path) copy.timers
   timers_made = each_in path_of_timer (λ t. has_path path_of_timer own.timers t.path ≡ true) (λ t. HasTimer own t.path) copy.timers copy.timers (λ c i h. below path_of_timer own.timers c.path h) (λ x h. h) (all_there path_of_timer copy.timers [])
 
+  pub blocks_made : AllIn (λ (b : Path). has_path path_of_block own.blocks b ≡ true) copy.blocks
+  blocks_made = all_there path_of_block copy.blocks []
+
 -- of a program
 pub program_variables : (P : List tree.Item) → NoneTwice (rooted P (numbering P)).made → AllIn (λ (v : Var). HasVariable (numbering P) v.path v.array) (rooted P (numbering P)).made.variables
 program_variables P h = subst (λ (m : Numbering). AllIn (λ (v : Var). HasVariable m v.path v.array) (rooted P (numbering P)).made.variables) (numbering_is_own P (numbering P)) (variables_made (rooted P (numbering P)).made h)
@@ -146,3 +149,6 @@ program_channels P = subst (λ (m : Numbering). AllIn (λ (c : Chan). HasChannel
 
 pub program_timers : (P : List tree.Item) → AllIn (λ (t : Timer). HasTimer (numbering P) t.path) (rooted P (numbering P)).made.timers
 program_timers P = subst (λ (m : Numbering). AllIn (λ (t : Timer). HasTimer m t.path) (rooted P (numbering P)).made.timers) (numbering_is_own P (numbering P)) (timers_made (rooted P (numbering P)).made)
+
+pub program_blocks : (P : List tree.Item) → AllIn (λ (b : Path). has_path path_of_block (numbering P).blocks b ≡ true) (rooted P (numbering P)).made.blocks
+program_blocks P = subst (λ (m : Numbering). AllIn (λ (b : Path). has_path path_of_block m.blocks b ≡ true) (rooted P (numbering P)).made.blocks) (numbering_is_own P (numbering P)) (blocks_made (rooted P (numbering P)).made)

@@ -20,6 +20,7 @@ pub mod Outside
 pub mod Functions
 pub mod Instances
 pub mod Shallow
+pub mod Leaving
 pub mod Program
 pub mod Weaker
 pub mod Formed

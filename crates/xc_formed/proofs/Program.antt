@@ -28,6 +28,7 @@ use Rattle.xc_meaning.proofs.Recursion.End.{calls_end}
 use Rattle.xc_formed.specs.Stacks.{Frame, outer, found_in}
 use Rattle.xc_formed.specs.Standing.{head_of, Agrees, Stands, a_variable, whole_array, word_referred, element_referred, array_referred, the_channel, the_end, the_timer, the_port, port_given, the_index, the_function, none_there}
 use Rattle.xc_formed.specs.Each.{EachRoot}
+use Rattle.xc_formed.specs.Exits.{EachRootLeaves}
 use Rattle.xc_formed.specs.Numbers.{IsListed}
 use Rattle.xc_formed.specs.Rising.{IsRising}
 use Rattle.xc_formed.proofs.Shaped.{Assigns, ShapedStatement, Deep}
@@ -38,11 +39,12 @@ use Rattle.xc_formed.proofs.FineSites.{fine_sites}
 use Rattle.xc_formed.proofs.Resolved.{AllNew, names_resolve, outer_differ}
 use Rattle.xc_formed.proofs.Outside.{Among, bottom, decl_of_item, outer_item, found_there}
 use Rattle.xc_formed.proofs.Functions.{functions_right, right_named, outside_known}
-use Rattle.xc_formed.proofs.Instances.{program_variables, program_channels, program_timers}
+use Rattle.xc_formed.proofs.Instances.{program_variables, program_channels, program_timers, program_blocks}
 use Rattle.xc_formed.proofs.Transferred.{OutGoes, InGoes}
 use Rattle.xc_formed.proofs.Right.{IsShallow, IsShallowLval, Lower, IsRight, IsRightPlace, IsOne, right_leaves}
 use Rattle.xc_formed.proofs.Shallow.{IsGrown, all_grown, grown_named, any_statement, body_shaped}
 use Rattle.xc_formed.proofs.Rising.{functions_differ}
+use Rattle.xc_formed.proofs.Leaving.{IsFineOf, calls_good, roots_good}
 use Rattle.xc_formed.proofs.Twice.{program_differs}
 
 named_so : (xs : List Function) (t : List ℕ) (f : Function) → function_named xs t ≡ Some f → bytes_eq f.head.name.text t ≡ true
@@ -197,6 +199,15 @@ module _ (P : List tree.Item) (n : NamedProgram) where
         by : (o : Option Function) → main_of P ≡ o → HasMain
         by None e = absurd (never (λ k m. none_some m.head (main_head k m ∙ ap (option_map head_of) e)))
         by (Some f) e = with f e f.head.params refl
+
+    fine_by_name : (t : List ℕ) (f : Function) → function_named fs t ≡ Some f → IsFineOf n f
+    fine_by_name t f e = let r = right_by_name t f e in record { at = r.body_at; fine = r.fine }
+
+    -- what its roots leave are blocks around
+    pub roots_leave : IsRising P → EachRootLeaves (rooted P num).roots
+    roots_leave rising =
+        let d = program_differs P num (functions_differ P rising) in
+        roots_good n fs fine_by_name (calls_of P) (calls_good n fs fine_by_name (length fs)) (main_of P) (roots.context_of P num) refl (fine_by_name name_of_main) (record { differ = d.blocks; there = program_blocks P })
 
     module _ (rising : IsRising P) (low : depth.of_program P ≤ deepest) where
       abbrev Made : Type 0

@@ -15,6 +15,7 @@ use Rattle.xc_formed.specs.Numbers.{VariablesAreRight}
 use Rattle.xc_formed.specs.Operands.{OperandsAreRight}
 use Rattle.xc_formed.specs.Levels.{LevelsAreFew}
 use Rattle.xc_formed.specs.Transfers.{TransfersAreRight, TransactionsAreListed}
+use Rattle.xc_formed.specs.Exits.{ExitsAreInside}
 use Rattle.xc_formed.specs.Rising.{TokensRise, IsRising}
 use Rattle.xc_formed.specs.Once.{NoneTwice}
 use Rattle.xc_formed.specs.Stacks.{Resolves, outer}
@@ -66,3 +67,6 @@ TransfersRight = OfEachKernel TransfersAreRight
 
 abbrev pub TransactionsListed : Type 0
 TransactionsListed = OfEachKernel TransactionsAreListed
+
+abbrev pub ExitsInside : Type 0
+ExitsInside = OfEachKernel ExitsAreInside

@@ -1,6 +1,6 @@
 //! The laws, as contracts of functions that do nothing.
 
-ghost use Rattle.xc_formed.specs.Laws.{LevelsFew, NamesResolve, NoInstanceMerged, NoInstanceTwice, OperandsRight, TextsRise, TransactionsListed, TransfersRight, VariablesRight};
+ghost use Rattle.xc_formed.specs.Laws.{ExitsInside, LevelsFew, NamesResolve, NoInstanceMerged, NoInstanceTwice, OperandsRight, TextsRise, TransactionsListed, TransfersRight, VariablesRight};
 
 /// Each name means what the stack of open scopes has for it.
 #[tactic(auto, using(crate::proofs::Resolved::names_resolve))]
@@ -29,4 +29,5 @@ pub fn kernels_are_formed()
     ensures levels { LevelsFew }
     ensures transfers { TransfersRight }
     ensures transactions { TransactionsListed }
+    ensures exits { ExitsInside }
 {}

@@ -1,4 +1,4 @@
-use Rattle.xc_formed.proofs.Formed.{variables_right, operands_right, levels_few, transfers_right, transactions_listed}
+use Rattle.xc_formed.proofs.Formed.{variables_right, operands_right, levels_few, transfers_right, transactions_listed, exits_inside}
 use Rattle.xc_formed.proofs.promised.kernels_are_formed.Goals as goal
 
 pub returns-clause-variables : goal.returns-clause-variables
@@ -15,3 +15,6 @@ returns-clause-transfers c = transfers_right
 
 pub returns-clause-transactions : goal.returns-clause-transactions
 returns-clause-transactions c = transactions_listed
+
+pub returns-clause-exits : goal.returns-clause-exits
+returns-clause-exits c = exits_inside
