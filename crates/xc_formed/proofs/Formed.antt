@@ -15,7 +15,7 @@ use Rattle.xc_formed.specs.Levels.{IsLow, IsLowPlace, LevelsAreFew}
 use Rattle.xc_formed.specs.Transfers.{GoesOut, ComesIn, TransfersAreRight, TransactionsAreListed}
 use Rattle.xc_formed.specs.Exits.{ExitsAreInside}
 use Rattle.xc_formed.specs.Rising.{IsRising}
-use Rattle.xc_formed.specs.Laws.{VariablesRight, OperandsRight, LevelsFew, TransfersRight, TransactionsListed, ExitsInside}
+use Rattle.xc_formed.specs.Laws.{VariablesRight, OperandsRight, LevelsFew, TransfersRight, TransactionsListed, ExitsInside, KernelsWellFormed, KernelsOfProgramsWellFormed}
 use Rattle.xc_formed.proofs.Right.{IsRight, IsRightPlace, IsOne}
 use Rattle.xc_formed.proofs.Weaker.{each_root}
 use Rattle.xc_formed.proofs.Program.{roots_right, roots_leave}
@@ -77,3 +77,16 @@ transactions_listed P n types K typed rising low c = subst TransactionsAreListed
 
 pub exits_inside : ExitsInside
 exits_inside P n types K typed rising low c = subst ExitsAreInside (sym c.is_copy) (exits P n types typed rising low)
+
+pub well_formed : KernelsWellFormed
+well_formed P n types K typed rising low c = record {
+  variables = variables_right P n types K typed rising low c;
+  operands = operands_right P n types K typed rising low c;
+  levels = levels_few P n types K typed rising low c;
+  transfers = transfers_right P n types K typed rising low c;
+  transactions = transactions_listed P n types K typed rising low c;
+  exits = exits_inside P n types K typed rising low c;
+}
+
+pub of_programs : KernelsOfProgramsWellFormed
+of_programs K o rising = well_formed o.program o.sound.named o.sound.types K o.sound.typed rising o.shallow o.copies

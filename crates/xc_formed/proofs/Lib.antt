@@ -26,3 +26,4 @@ pub mod Weaker
 pub mod Formed
 pub mod Merged
 pub mod Texts
+pub mod KernelExamples

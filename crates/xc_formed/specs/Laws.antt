@@ -10,12 +10,13 @@ use Rattle.xc_tree.specs.Types.Named.{NamedProgram}
 use Rattle.xc_kernel.specs.Plain as kernel
 use Rattle.xc_kernel.specs.Numbering.{Numbering}
 use Rattle.xc_kernel.specs.Copies.{Copies, rooted, numbering}
-use Rattle.xc_kernel.specs.Sound.{IsTyped}
+use Rattle.xc_kernel.specs.Sound.{IsTyped, IsOfProgram}
 use Rattle.xc_formed.specs.Numbers.{VariablesAreRight}
 use Rattle.xc_formed.specs.Operands.{OperandsAreRight}
 use Rattle.xc_formed.specs.Levels.{LevelsAreFew}
 use Rattle.xc_formed.specs.Transfers.{TransfersAreRight, TransactionsAreListed}
 use Rattle.xc_formed.specs.Exits.{ExitsAreInside}
+use Rattle.xc_formed.specs.WellFormed.{IsWellFormed}
 use Rattle.xc_formed.specs.Rising.{TokensRise, IsRising}
 use Rattle.xc_formed.specs.Once.{NoneTwice}
 use Rattle.xc_formed.specs.Stacks.{Resolves, outer}
@@ -70,3 +71,11 @@ TransactionsListed = OfEachKernel TransactionsAreListed
 
 abbrev pub ExitsInside : Type 0
 ExitsInside = OfEachKernel ExitsAreInside
+
+-- So it is whole,
+abbrev pub KernelsWellFormed : Type 0
+KernelsWellFormed = OfEachKernel IsWellFormed
+
+-- and so is each kernel that is handed to the rules of needs, or kept as one that breaks none of them.
+abbrev pub KernelsOfProgramsWellFormed : Type 0
+KernelsOfProgramsWellFormed = (K : kernel.Kernel) (o : IsOfProgram K) → IsRising o.program → IsWellFormed K

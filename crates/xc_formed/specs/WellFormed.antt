@@ -5,7 +5,6 @@ use Rattle.xc_formed.specs.Operands.{OperandsAreRight}
 use Rattle.xc_formed.specs.Levels.{LevelsAreFew}
 use Rattle.xc_formed.specs.Transfers.{TransfersAreRight, TransactionsAreListed}
 use Rattle.xc_formed.specs.Exits.{ExitsAreInside}
-use Rattle.xc_formed.specs.Parts.{PartsAreFew}
 
 pub record IsWellFormed (k : kernel.Kernel) : Type 0 where
   -- each word is of a listed variable that is no array, and each element of one that is
@@ -20,5 +19,3 @@ pub record IsWellFormed (k : kernel.Kernel) : Type 0 where
   pub transactions : TransactionsAreListed k
   -- what is left is a block around, in the same branch and transaction, and no two blocks around one place have one number
   pub exits : ExitsAreInside k
-  -- there are at most 4,000,000 nodes of expressions, places, branches, cases and words to set to 0
-  pub parts : PartsAreFew k
