@@ -16,7 +16,7 @@ use Rattle.xc_tree.specs.Shapes.Around.{has_way_out, has_next_turn, in_transacti
 use Rattle.xc_tree.specs.Shapes.Main.{place_branches, is_channels_par_return, statements_in}
 use Rattle.xc_tree.specs.Shapes.Rules.{channels, are_one, rule_501, rule_502, rule_504, rule_505, rule_506}
 use Rattle.xc_tree.specs.Checks.{rules, rule, Breaks}
-use Rattle.xc_formed.proofs.Walk.{AllIn, AllFit, IsFine}
+use Rattle.xc_formed.proofs.Walk.Arguments.{AllIn, AllFit, IsFine}
 
 all_by_place : {A : Type 0} (P : A → Type 0) (xs : List A) → ((i : ℕ) (x : A) → slice_get xs i ≡ Some x → P x) → AllIn P xs
 all_by_place P [] k = tt
@@ -36,9 +36,10 @@ where_not true p h = absurd (h (0, omega arith, refl))
 
 all_fit : (given : List Argument) → ((p : Pos) → Contains (misfits given) p → ⊥) → AllFit given
 all_fit [] h = tt
-all_fit (a ∷ rest) h =
-    (unless (fits a.parameter a.given) a.first (λ c. h a.first (Contains-append_left (broken_unless (fits a.parameter a.given) a.first) (misfits rest) a.first c)),
-    all_fit rest (λ p c. h p (Contains-append_right (broken_unless (fits a.parameter a.given) a.first) (misfits rest) p c)))
+all_fit (a ∷ rest) h = (
+  unless (fits a.parameter a.given) a.first (λ c. h a.first (Contains-append_left (broken_unless (fits a.parameter a.given) a.first) (misfits rest) a.first c)),
+  all_fit rest (λ p c. h p (Contains-append_right (broken_unless (fits a.parameter a.given) a.first) (misfits rest) p c)),
+)
 
 gives_one : (r g : Bool) → (r && not g) ≡ false → r ≡ true → g ≡ true
 gives_one true true e q = refl
@@ -52,24 +53,32 @@ module _ (named : NamedProgram) (unbroken : (b : Broken) → Breaks named b → 
   fine_site : (s : Site) → Contains (sites named) s → IsFine s
   fine_site (site.word x) h = unless (is_word x.what) x.id.pos (never 401 rule_401 (0, omega arith, refl) (site.word x) h x.id.pos)
   fine_site (site.indexed x) h = unless (is_array x.what) x.id.pos (never 402 rule_402 (1, omega arith, refl) (site.indexed x) h x.id.pos)
-  fine_site (site.lval x) h =
-      (unless (is_word x.what) x.id.pos (never 403 rule_403 (2, omega arith, refl) (site.lval x) h x.id.pos),
-      where_not (is_index x.what) x.id.pos (never 412 rule_412 (11, omega arith, refl) (site.lval x) h x.id.pos))
-  fine_site (site.call around x meant given r) h =
-      (unless (is_some meant) x.id.pos (never 404 rule_404 (3, omega arith, refl) (site.call around x meant given r) h x.id.pos),
-      (unless (has_number meant given) x.id.pos (never 405 rule_405 (4, omega arith, refl) (site.call around x meant given r) h x.id.pos),
-      (all_fit given (never 406 rule_406 (5, omega arith, refl) (site.call around x meant given r) h),
-      gives_one r (gives_word meant) (where_not (r && not (gives_word meant)) x.id.pos (never 407 rule_407 (6, omega arith, refl) (site.call around x meant given r) h x.id.pos)))))
+  fine_site (site.lval x) h = (
+    unless (is_word x.what) x.id.pos (never 403 rule_403 (2, omega arith, refl) (site.lval x) h x.id.pos),
+    where_not (is_index x.what) x.id.pos (never 412 rule_412 (11, omega arith, refl) (site.lval x) h x.id.pos),
+  )
+  fine_site (site.call around x meant given r) h = (
+    unless (is_some meant) x.id.pos (never 404 rule_404 (3, omega arith, refl) (site.call around x meant given r) h x.id.pos),
+    (
+      unless (has_number meant given) x.id.pos (never 405 rule_405 (4, omega arith, refl) (site.call around x meant given r) h x.id.pos),
+      (
+        all_fit given (never 406 rule_406 (5, omega arith, refl) (site.call around x meant given r) h),
+        gives_one r (gives_word meant) (where_not (r && not (gives_word meant)) x.id.pos (never 407 rule_407 (6, omega arith, refl) (site.call around x meant given r) h x.id.pos)),
+      ),
+    ),
+  )
   fine_site (site.output x) h = unless (takes_output x.what) x.id.pos (never 410 rule_410 (9, omega arith, refl) (site.output x) h x.id.pos)
   fine_site (site.input x) h = unless (gives_input x.what) x.id.pos (never 411 rule_411 (10, omega arith, refl) (site.input x) h x.id.pos)
   fine_site (site.time x p) h = unless (is_port x.what) p (never 413 rule_413 (12, omega arith, refl) (site.time x p) h p)
   fine_site (site.condition x p t) h = unless (if nat_eq t timerafter_word then is_timer x.what else is_port x.what) p (never 414 rule_414 (13, omega arith, refl) (site.condition x p t) h p)
-  fine_site (site.return around v p) h =
-      (unless (agree v (is_some around.function.result)) p (never 408 rule_408 (7, omega arith, refl) (site.return around v p) h p),
-      where_not (in_par_or_transaction around.holders) p (never 502 rule_502 (17, omega arith, refl) (site.return around v p) h p))
-  fine_site (site.transaction around within p) h =
-      (unless (are_one (channels within)) p (never 505 rule_505 (20, omega arith, refl) (site.transaction around within p) h p),
-      where_not (in_transaction around.holders) p (never 506 rule_506 (21, omega arith, refl) (site.transaction around within p) h p))
+  fine_site (site.return around v p) h = (
+    unless (agree v (is_some around.function.result)) p (never 408 rule_408 (7, omega arith, refl) (site.return around v p) h p),
+    where_not (in_par_or_transaction around.holders) p (never 502 rule_502 (17, omega arith, refl) (site.return around v p) h p),
+  )
+  fine_site (site.transaction around within p) h = (
+    unless (are_one (channels within)) p (never 505 rule_505 (20, omega arith, refl) (site.transaction around within p) h p),
+    where_not (in_transaction around.holders) p (never 506 rule_506 (21, omega arith, refl) (site.transaction around within p) h p),
+  )
   fine_site (site.par around p) h = where_not (in_transaction around.holders) p (never 506 rule_506 (21, omega arith, refl) (site.par around p) h p)
   fine_site (site.select around cs p) h = where_not (in_transaction around.holders) p (never 506 rule_506 (21, omega arith, refl) (site.select around cs p) h p)
   fine_site (site.break around p) h = unless (has_way_out around.holders) p (never 501 rule_501 (16, omega arith, refl) (site.break around p) h p)

@@ -1,12 +1,11 @@
 -- The parts of what is right in a typed program's kernel, each by itself.
-use Rattle.std.proofs.Common.{◌≡◌, ℕ, ◌≤◌, List, Bool, refl, sym, subst}
+use Rattle.std.proofs.Common.{◌≤◌, List, Bool, sym, subst}
 use Rattle.xc_tree.specs.Plain as tree
 use Rattle.xc_tree.specs.Depth as depth
 use Rattle.xc_tree.specs.Derives.{deepest}
 use Rattle.xc_tree.specs.Types.Named.{NamedProgram}
 use Rattle.xc_kernel.specs.Plain as kernel
-use Rattle.xc_kernel.specs.Numbering.{Numbering}
-use Rattle.xc_kernel.specs.Copies.{Copies, rooted, numbering, copy_of}
+use Rattle.xc_kernel.specs.Copies.{numbering, copy_of}
 use Rattle.xc_kernel.specs.Sound.{IsTyped}
 use Rattle.xc_formed.specs.Each.{AnyExpression, AnyPlace, AnyNumber, AnyOutput, AnyInput, EachRoot}
 use Rattle.xc_formed.specs.Numbers.{IsListed, NumbersInExpression, NumbersInPlace, IsChannel, VariablesAreRight}

@@ -16,12 +16,12 @@ use Rattle.xc_kernel.specs.Programs.{Function, functions, ports, function_by, fu
 use Rattle.xc_kernel.specs.Ports.{scope_of_ports}
 use Rattle.xc_formed.specs.Stacks.{Frame, Stack, decl_by, found_in, after, Resolves, outer}
 use Rattle.xc_formed.specs.Standing.{HasPort, head_of, Stands, the_port, the_function, none_there}
-use Rattle.xc_formed.proofs.TextScopes as scopes
+use Rattle.xc_formed.proofs.Text.Scopes as scopes
 use Rattle.xc_formed.proofs.Stacks.{resolves_both, scope_ends, quiet_skip, quiet_optional, quiet_place}
 use Rattle.xc_formed.proofs.Resolved.{NotNamed, AllNew}
 use Rattle.xc_formed.proofs.Outside.{Alike, further, alike_resolves, Among, declared_again, decl_of_item, outer_item}
-use Rattle.xc_formed.proofs.Walk.{AllIn, split, IsFine}
-use Rattle.xc_formed.proofs.Walk as walk
+use Rattle.xc_formed.proofs.Walk.Arguments.{AllIn, split, IsFine}
+use Rattle.xc_formed.proofs.Walk.Arguments as walk
 
 module _ (n : NamedProgram) (fs : List Function) (ps : List PortUse) (num : Numbering) (X V : tree.Expression → Type 0) (S : ℕ → Type 0) (E F : kernel.Expression → Type 0) (L : kernel.Place → Type 0) (Z : ℕ → Type 0) (O : kernel.Output → Type 0) (I : kernel.Input → Type 0) (T : ℕ → Type 0) where
   abbrev pub Right : Frame → Function → Type 0
@@ -56,9 +56,10 @@ module _ (n : NamedProgram) (fs : List Function) (ps : List PortUse) (num : Numb
       let r3 = alike_resolves n inner (k + 1) ([] ∷ su) ([] ∷ gs ∷ []) (further alike1) r2 in
       let r4 = resolves_both n (k + 1) ([] ∷ gs ∷ []) mp (marks.of_body b) r3 in
       let g1 = split IsFine (site.of_item n k (tree.function h b)) _ g in
-      let g2 = split IsFine (site.each site.of_parameter h.params) _ g1.0.1 in
-      (record { params_at = k + 1; params_new = r4.0; body_at = past (k + 1) mp; resolves = r4.1; fine = g2.1; form = g1.0.0 },
-      functions_right items (i + 1) (past k ms) (d ∷ a) gs new alike1 am.1 (subst (λ (z : Stack). Resolves n (past k ms) z rest) q r1.1) g1.1)
+      let g2 = split IsFine (site.each site.of_parameter h.params) _ g1.0.1 in (
+        record { params_at = k + 1; params_new = r4.0; body_at = past (k + 1) mp; resolves = r4.1; fine = g2.1; form = g1.0.0 },
+        functions_right items (i + 1) (past k ms) (d ∷ a) gs new alike1 am.1 (subst (λ (z : Stack). Resolves n (past k ms) z rest) q r1.1) g1.1,
+      )
 
   right_by : (gs : Frame) (b : Bool) (g : Function) (o : Option Function) → Right gs g → ((f : Function) → o ≡ Some f → Right gs f) → (f : Function) → function_by b g o ≡ Some f → Right gs f
   right_by gs true g o h k f e = subst (Right gs) (some_same g f e) h

@@ -1,12 +1,12 @@
 -- What is derived has the shape that the grammar gives it: what is assigned to is a name or an element, each symbol of an expression
 -- has its operands, and an input waits for one thing at most.
-use Rattle.std.proofs.Common.{◌≡◌, ◌⊎◌, inl, inr, ℕ, zero, suc, Bool, true, false, List, [], ◌∷◌, map, slice_get, Option, None, Some, refl, subst, arith}
+use Rattle.std.proofs.Common.{◌≡◌, ◌⊎◌, inl, inr, ℕ, zero, suc, Bool, true, false, List, [], ◌∷◌, map, slice_get, Option, None, Some, refl, subst}
 use Rattle.xc_tree.specs.declared.token.Tok.{Tok}
 use Rattle.xc_tree.specs.declared.tree.Id.{Id}
 use Rattle.xc_tree.specs.Plain as plain
 use Rattle.xc_tree.specs.Symbols as symbols
 use Rattle.xc_tree.specs.Words.{pinseq_word, pinsneq_word, timerafter_word}
-use Rattle.xc_tree.specs.Symbol.{Symbol, sym, key, a_name, a_number, many, maybe, commas, program, item, portdecl, dir, place, place_value, head, result, word, params, param, body, block, block_item, decl, dv, initial, statement, closed, case_item, for_start, for_step, branch, case, guard, assign, assign_op, rhs, call, arguments, argument, lval, output, input, time, stamp, waits, test, dest, expr, level, operator, sign, atom, Marked, Waits, at_once, at_time, when_true, Declarator, a_word, an_array, Value, Values}
+use Rattle.xc_tree.specs.Symbol.{Symbol, sym, key, a_name, a_number, many, maybe, commas, program, item, body, block, block_item, decl, dv, initial, statement, closed, case_item, for_start, for_step, branch, case, guard, assign, assign_op, rhs, call, arguments, argument, lval, output, input, time, stamp, waits, test, dest, expr, level, operator, sign, atom, Marked, Waits, at_once, at_time, when_true, Declarator, a_word, an_array, Value, Values}
 use Rattle.xc_tree.specs.Grammar.{Rule, Extent, rules, kept, declared, named as kind_named, time_of, condition_of, one_of, by_level, or_none, operators}
 use Rattle.xc_tree.specs.Derives.{Room, extent, Derives, a_sym, a_key, named, counted, by_rule, Row, done, next}
 use Rattle.xc_kernel.specs.Operators.{operator_at}
@@ -218,9 +218,34 @@ abbrev TakesOne : ℕ → Type 0
 TakesOne o = takes (operator_at o) 1 ≡ true
 
 levels_take : AllOf (AllOf TakesTwo) by_level
-levels_take =
-    (tt, ((refl, (refl, (refl, tt))), ((refl, (refl, tt)), ((refl, (refl, tt)), ((refl, (refl, (refl, (refl, tt)))), ((refl, (refl, tt)), ((refl, tt), ((refl, tt), ((refl, tt),
-    ((refl, tt), ((refl, tt), tt)))))))))))
+levels_take = (
+  tt,
+  (
+    (refl, (refl, (refl, tt))),
+    (
+      (refl, (refl, tt)),
+      (
+        (refl, (refl, tt)),
+        (
+          (refl, (refl, (refl, (refl, tt)))),
+          (
+            (refl, (refl, tt)),
+            (
+              (refl, tt),
+              (
+                (refl, tt),
+                (
+                  (refl, tt),
+                  ((refl, tt), ((refl, tt), tt)),
+                ),
+              ),
+            ),
+          ),
+        ),
+      ),
+    ),
+  ),
+)
 
 abbrev assigners : List ℕ
 assigners =

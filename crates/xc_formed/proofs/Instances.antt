@@ -13,7 +13,7 @@ use Rattle.xc_kernel.proofs.Paths.{there_before, there_at_end}
 use Rattle.xc_kernel.proofs.Roots.{numbering_is_own}
 use Rattle.xc_formed.specs.Standing.{HasVariable, HasChannel, HasTimer}
 use Rattle.xc_formed.specs.Once.{NoneAt, PathsDiffer, NoneTwice}
-use Rattle.xc_formed.proofs.Walk.{AllIn}
+use Rattle.xc_formed.proofs.Walk.Arguments.{AllIn}
 
 module _ {V : Type 0} (path_of : V → Path) where
   abbrev pub In : V → List V → Type 0

@@ -1,7 +1,6 @@
 -- Kernels that are well formed, and kernels that aren't, each for one reason.
-use Rattle.std.proofs.Common.{◌≡◌, ◌⊎◌, inl, inr, ℕ, zero, suc, ◌+◌, ◌≤◌, Bool, true, false, List, [], ◌∷◌, Option, Some, None, refl, sym, ap, ◌∙◌, true≢false, arith}
+use Rattle.std.proofs.Common.{◌≡◌, inl, ℕ, zero, suc, ◌+◌, Bool, true, false, List, [], ◌∷◌, Option, Some, None, refl, sym, ap, ◌∙◌, true≢false, arith}
 use Rattle.xw_words.specs.declared.pos.Pos.{Pos}
-use Rattle.xc_tree.specs.declared.tree.TreeDir.{TreeDir}
 use Rattle.xc_tree.specs.declared.tree.TreeDir.TheVariants.{In, Out}
 use Rattle.xc_tree.specs.Symbols as symbols
 use Rattle.xc_tree.specs.Words.{pinseq_word, timerafter_word}
@@ -15,7 +14,7 @@ use Rattle.xc_formed.specs.Operands.{OperandsAreRight}
 use Rattle.xc_formed.specs.Levels.{levels, LevelsAreFew}
 use Rattle.xc_formed.specs.Transfers.{TransfersAreRight, TransactionsAreListed}
 use Rattle.xc_formed.specs.Exits.{ExitsAreInside}
-use Rattle.xc_formed.specs.Parts.{PartsAreFew, of_roots}
+use Rattle.xc_formed.specs.Parts.{of_roots}
 use Rattle.xc_formed.specs.WellFormed.{IsWellFormed}
 
 abbrev spot : Pos
@@ -83,24 +82,146 @@ good = with_code (
 -- it is well formed
 good_is : IsWellFormed good
 good_is = record {
-  variables =
-      ((record { variable = a_word; there = refl }, (record { variable = an_array; there = refl },
-      ((a_word_there, ((an_array_there, a_word_there), ((a_word_there, tt), tt))), ((((an_array_there, (an_array_there, tt))), a_word_there),
-      ((tt, (a_word_there, (a_word_there, a_word_there))), ((tt, (tt, (a_word_there, (tt, a_word_there)))), ((tt, (tt, (a_word_there, tt))), ((tt, (tt, (a_word_there, (tt, tt)))),
-      (((a_word_there, (((tt, (tt, tt)), tt), tt)), tt), ((tt, ((tt, (tt, (a_word_there, tt))), tt)), tt)))))))))), tt);
-  operands =
-      ((tt, (tt, ((tt, (refl, (tt, ((refl, (tt, tt)), tt)))), ((tt, tt), ((tt, (tt, (tt, tt))), ((tt, (tt, (tt, (tt, tt)))), ((tt, (tt, (tt, tt))), ((tt, (tt, (tt, (tt, tt)))),
-      (((tt, (((tt, (tt, tt)), tt), tt)), tt), ((tt, ((tt, (tt, (tt, tt))), tt)), tt)))))))))), tt);
-  levels =
-      ((tt, (tt, ((omega arith, omega arith), ((omega arith, omega arith), ((tt, (omega arith, (omega arith, omega arith))), ((tt, (tt, (omega arith, (tt, omega arith)))), ((tt, (tt, (omega arith, tt))), ((tt, (tt, (omega arith, (tt, tt)))),
-      (((omega arith, (((tt, (tt, tt)), tt), tt)), tt), ((tt, ((tt, (tt, (omega arith, tt))), tt)), tt)))))))))), tt);
-  transfers =
-      ((tt, (tt, ((tt, tt), ((tt, tt), ((record { port = driving; there = refl; direction = refl }, (tt, (tt, tt))), (((record { port = reading; there = refl; direction = refl }, (tt, inl refl)), (tt, (tt, (tt, tt)))),
-      (((omega arith, (tt, tt)), (tt, (tt, tt))), (((omega arith, (tt, (refl, tt))), (tt, (tt, (tt, tt)))),
-      (((tt, (((tt, (tt, tt)), tt), tt)), tt), ((tt, (((omega arith, (tt, tt)), (tt, (tt, tt))), tt)), tt)))))))))), tt);
-  transactions =
-      ((tt, (tt, ((tt, tt), ((tt, tt), ((tt, (tt, (tt, tt))), ((tt, (tt, (tt, (tt, tt)))), ((tt, (tt, (tt, tt))), ((tt, (tt, (tt, (tt, tt)))),
-      (((tt, (((tt, (tt, tt)), tt), tt)), tt), ((omega arith, ((tt, (tt, (tt, tt))), tt)), tt)))))))))), tt);
+  variables = (
+    (
+      record { variable = a_word; there = refl },
+      (
+        record { variable = an_array; there = refl },
+        (
+          (a_word_there, ((an_array_there, a_word_there), ((a_word_there, tt), tt))),
+          (
+            (((an_array_there, (an_array_there, tt))), a_word_there),
+            (
+              (tt, (a_word_there, (a_word_there, a_word_there))),
+              (
+                (tt, (tt, (a_word_there, (tt, a_word_there)))),
+                (
+                  (tt, (tt, (a_word_there, tt))),
+                  (
+                    (tt, (tt, (a_word_there, (tt, tt)))),
+                    (((a_word_there, (((tt, (tt, tt)), tt), tt)), tt), ((tt, ((tt, (tt, (a_word_there, tt))), tt)), tt)),
+                  ),
+                ),
+              ),
+            ),
+          ),
+        ),
+      ),
+    ),
+    tt,
+  );
+  operands = (
+    (
+      tt,
+      (
+        tt,
+        (
+          (tt, (refl, (tt, ((refl, (tt, tt)), tt)))),
+          (
+            (tt, tt),
+            (
+              (tt, (tt, (tt, tt))),
+              (
+                (tt, (tt, (tt, (tt, tt)))),
+                (
+                  (tt, (tt, (tt, tt))),
+                  (
+                    (tt, (tt, (tt, (tt, tt)))),
+                    (((tt, (((tt, (tt, tt)), tt), tt)), tt), ((tt, ((tt, (tt, (tt, tt))), tt)), tt)),
+                  ),
+                ),
+              ),
+            ),
+          ),
+        ),
+      ),
+    ),
+    tt,
+  );
+  levels = (
+    (
+      tt,
+      (
+        tt,
+        (
+          (omega arith, omega arith),
+          (
+            (omega arith, omega arith),
+            (
+              (tt, (omega arith, (omega arith, omega arith))),
+              (
+                (tt, (tt, (omega arith, (tt, omega arith)))),
+                (
+                  (tt, (tt, (omega arith, tt))),
+                  (
+                    (tt, (tt, (omega arith, (tt, tt)))),
+                    (((omega arith, (((tt, (tt, tt)), tt), tt)), tt), ((tt, ((tt, (tt, (omega arith, tt))), tt)), tt)),
+                  ),
+                ),
+              ),
+            ),
+          ),
+        ),
+      ),
+    ),
+    tt,
+  );
+  transfers = (
+    (
+      tt,
+      (
+        tt,
+        (
+          (tt, tt),
+          (
+            (tt, tt),
+            (
+              (record { port = driving; there = refl; direction = refl }, (tt, (tt, tt))),
+              (
+                ((record { port = reading; there = refl; direction = refl }, (tt, inl refl)), (tt, (tt, (tt, tt)))),
+                (
+                  ((omega arith, (tt, tt)), (tt, (tt, tt))),
+                  (
+                    ((omega arith, (tt, (refl, tt))), (tt, (tt, (tt, tt)))),
+                    (((tt, (((tt, (tt, tt)), tt), tt)), tt), ((tt, (((omega arith, (tt, tt)), (tt, (tt, tt))), tt)), tt)),
+                  ),
+                ),
+              ),
+            ),
+          ),
+        ),
+      ),
+    ),
+    tt,
+  );
+  transactions = (
+    (
+      tt,
+      (
+        tt,
+        (
+          (tt, tt),
+          (
+            (tt, tt),
+            (
+              (tt, (tt, (tt, tt))),
+              (
+                (tt, (tt, (tt, (tt, tt)))),
+                (
+                  (tt, (tt, (tt, tt))),
+                  (
+                    (tt, (tt, (tt, (tt, tt)))),
+                    (((tt, (((tt, (tt, tt)), tt), tt)), tt), ((omega arith, ((tt, (tt, (tt, tt))), tt)), tt)),
+                  ),
+                ),
+              ),
+            ),
+          ),
+        ),
+      ),
+    ),
+    tt,
+  );
   exits = ((tt, (tt, (tt, (tt, (tt, (tt, (tt, (tt, ((refl, ((((refl, (refl, (refl, tt))), tt), tt), tt)), ((tt, tt), tt)))))))))), tt);
 }
   where

@@ -1,5 +1,5 @@
 -- What a copy leaves are blocks around it in the same branch and transaction, and no block has the number of one around it.
-use Rattle.std.proofs.Common.{◌≡◌, ◌⊎◌, inl, inr, ℕ, zero, suc, ◌+◌, ◌-◌, Bool, true, false, ◌||◌, List, [], ◌∷◌, ◌++◌, length, Option, Some, None, slice_get, nat_eq, bytes_eq, refl, sym, ap, subst, ◌∙◌, true≢false, arith}
+use Rattle.std.proofs.Common.{◌≡◌, inl, inr, ℕ, zero, suc, ◌+◌, ◌-◌, Bool, true, false, ◌||◌, List, [], ◌∷◌, ◌++◌, Option, Some, None, slice_get, nat_eq, refl, sym, ap, subst, ◌∙◌, true≢false, arith}
 use Rattle.std.proofs.lemmas.Bool.Decides.{nat_tests}
 use Rattle.std.specs.Cmp.Lexicographic.{bytes_decides}
 use Rattle.xw_words.specs.declared.pos.Pos.{Pos}
@@ -18,14 +18,14 @@ use Rattle.xc_kernel.specs.Plain as kernel
 use Rattle.xc_kernel.specs.Paths.{Path, path_at, path_of_turn, has_path}
 use Rattle.xc_kernel.specs.Numbering.{Numbering, block_number, path_of_block}
 use Rattle.xc_kernel.specs.Scopes.{Scope, Entity, an_array, entity_of, a_constant, with_name}
-use Rattle.xc_kernel.specs.Programs.{Function, functions, function_named, name_of_main}
-use Rattle.xc_kernel.specs.Copy.{Copy, no_copy, one_statement, joined, in_scope_of, with_code, with_block, code_of}
-use Rattle.xc_kernel.specs.Context.{Context, in_branch, in_loop, in_case, in_function, block_at, leave, set_word, set_zero, place, expression, maybe_expression}
-use Rattle.xc_kernel.specs.Parameters.{Passed, passed, all_passed, by_element, form_by_reference, by_reference, by_name}
-use Rattle.xc_kernel.specs.Calls.{CopiesCall, instance_of, result_copy, as_block, body_copy, function_copy, path_of_call, called, call_by, right_copy, value_of}
+use Rattle.xc_kernel.specs.Programs.{Function, function_named}
+use Rattle.xc_kernel.specs.Copy.{Copy, no_copy, one_statement, joined, with_code, with_block, code_of}
+use Rattle.xc_kernel.specs.Context.{Context, in_branch, in_loop, in_case, in_function, leave, set_word, set_zero, place, expression, maybe_expression}
+use Rattle.xc_kernel.specs.Parameters.{passed, all_passed, by_element, form_by_reference, by_reference, by_name}
+use Rattle.xc_kernel.specs.Calls.{CopiesCall, result_copy, as_block, function_copy, path_of_call, called, call_by, right_copy, value_of}
 use Rattle.xc_kernel.specs.Declarations.{initial_copy, kind_copy, declarations_copy}
-use Rattle.xc_kernel.specs.Transfers.{input_names, target_copy}
-use Rattle.xc_kernel.specs.Flow.{test_or_true, turn, loop_at, leave_unless, Branched, numbered_copy, replicated, Cased, case_scope, case_body, case_made}
+use Rattle.xc_kernel.specs.Transfers.{target_copy}
+use Rattle.xc_kernel.specs.Flow.{test_or_true, turn, loop_at, leave_unless, Branched, numbered_copy, replicated, Cased, case_scope, case_body}
 use Rattle.xc_kernel.specs.Statements.{pos_of_branch, assign_by, return_copy, statement_copy, action_copy, maybe_copy, statements_copy, branch_copy, branches_copy, cases_copy, calls_copy}
 use Rattle.xc_kernel.specs.Roots as roots
 use Rattle.xc_kernel.specs.Ports.{core_of}
@@ -33,7 +33,7 @@ use Rattle.xc_formed.specs.Exits.{LeavesIn, AllLeaveIn, CasesLeaveIn, DefaultLea
 use Rattle.xc_formed.specs.Once.{NoneAt, PathsDiffer}
 use Rattle.xc_formed.proofs.Places.{In}
 use Rattle.xc_formed.proofs.Spread.{in_left, in_right}
-use Rattle.xc_formed.proofs.Walk.{AllIn, split, IsFine}
+use Rattle.xc_formed.proofs.Walk.Arguments.{AllIn, split, IsFine}
 use Rattle.xc_formed.proofs.Instances.{First, first}
 
 or_true_left : (a b : Bool) → a ≡ true → (a || b) ≡ true
@@ -260,9 +260,10 @@ module _ (n : NamedProgram) (fs : List Function) (fine_named : (t : List ℕ) (f
     numbered_good b c scope name zero index number e rec d around v = tt
     numbered_good b c scope name (suc count) index number e rec d around v =
         let one = branch_copy copies b (in_branch c index) (with_name scope name (a_constant number)) in
-        let rest = replicated (numbered_copy (branch_copy copies b) c scope name) (pos_of_branch b) scope count (index + 1) (number + 1) in
-        (rec (in_branch c index) (with_name scope name (a_constant number)) e (apart_left c.numbering one.blocks rest.made.blocks d) around (λ x i. v x (in_left x one.blocks rest.made.blocks i)),
-        numbered_good b c scope name count (index + 1) (number + 1) e rec (apart_right c.numbering one.blocks rest.made.blocks d) around (λ x i. v x (in_right x one.blocks rest.made.blocks i)))
+        let rest = replicated (numbered_copy (branch_copy copies b) c scope name) (pos_of_branch b) scope count (index + 1) (number + 1) in (
+          rec (in_branch c index) (with_name scope name (a_constant number)) e (apart_left c.numbering one.blocks rest.made.blocks d) around (λ x i. v x (in_left x one.blocks rest.made.blocks i)),
+          numbered_good b c scope name count (index + 1) (number + 1) e rec (apart_right c.numbering one.blocks rest.made.blocks d) around (λ x i. v x (in_right x one.blocks rest.made.blocks i)),
+        )
 
     abbrev GoodCases : Numbering → List ℕ → Cased → Type 0
     GoodCases q free s = Apart q s.made.blocks → (around : List ℕ) → Avoids q around s.made.blocks → CasesLeaveIn around free s.cases × DefaultLeavesIn around free s.otherwise
@@ -352,9 +353,10 @@ module _ (n : NamedProgram) (fs : List Function) (fine_named : (t : List ℕ) (f
       branches_good (tree.more_branches b bs) index c scope around k e g d ar v =
           let g1 = split IsFine (site.of_branch n around k b) _ g in
           let a = branch_copy copies b (in_branch c index) scope in
-          let rest = branches_copy copies bs (index + 1) c a.scope in
-          (branch_good b (in_branch c index) scope around k e g1.0 (apart_left c.numbering a.blocks rest.made.blocks d) ar (λ z i. v z (in_left z a.blocks rest.made.blocks i)),
-          branches_good bs (index + 1) c a.scope around (past k (marks.of_branch b)) e g1.1 (apart_right c.numbering a.blocks rest.made.blocks d) ar (λ z i. v z (in_right z a.blocks rest.made.blocks i)))
+          let rest = branches_copy copies bs (index + 1) c a.scope in (
+            branch_good b (in_branch c index) scope around k e g1.0 (apart_left c.numbering a.blocks rest.made.blocks d) ar (λ z i. v z (in_left z a.blocks rest.made.blocks i)),
+            branches_good bs (index + 1) c a.scope around (past k (marks.of_branch b)) e g1.1 (apart_right c.numbering a.blocks rest.made.blocks d) ar (λ z i. v z (in_right z a.blocks rest.made.blocks i)),
+          )
 
       cases_good : (cs : tree.Cases) (c : Context) (scope : Scope) (around : Around) (k : ℕ) (free : List ℕ) → c.functions ≡ fs → Fits c around free → AllIn IsFine (site.of_cases n around k cs) → GoodCases c.numbering free (cases_copy copies cs c scope)
       cases_good tree.no_case c scope around k free e h g d ar v = (tt, tt)

@@ -1,5 +1,5 @@
 -- The translations of expressions have their operands, and are hardly deeper than what they translate.
-use Rattle.std.proofs.Common.{◌≡◌, ℕ, ◌+◌, ◌≤◌, max, Bool, true, List, refl, arith}
+use Rattle.std.proofs.Common.{◌+◌, ◌≤◌, refl, arith}
 use Rattle.xw_words.specs.declared.pos.Pos.{Pos}
 use Rattle.xc_tree.specs.Plain as tree
 use Rattle.xc_tree.specs.Depth.{of_expression, of_form}

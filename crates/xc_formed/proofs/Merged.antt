@@ -1,15 +1,12 @@
 -- Where no two instances have one path, a list that has each path once has all of them.
-use Rattle.std.proofs.Common.{◌≡◌, Bool, true, false, ◌||◌, List, [], ◌∷◌, ◌++◌, refl, sym, ap, subst, ◌∙◌, true≢false, append_assoc}
+use Rattle.std.proofs.Common.{◌≡◌, Bool, true, false, ◌||◌, List, [], ◌∷◌, ◌++◌, refl, sym, ap, ◌∙◌, true≢false, append_assoc}
 use Rattle.std.specs.Cmp.Lexicographic.{bytes_decides}
-use Rattle.xc_tree.specs.Plain as tree
-use Rattle.xc_kernel.specs.Paths.{Path, is_same, has_path, with_by, with_new, with_all, each_once}
+use Rattle.xc_kernel.specs.Paths.{Path, is_same, has_path, with_by, with_all, each_once}
 use Rattle.xc_kernel.specs.Numbering.{Numbering, path_of_variable, path_of_channel, path_of_timer, path_of_block}
-use Rattle.xc_kernel.specs.Copy.{Copy, numbering_in}
 use Rattle.xc_kernel.specs.Copies.{rooted, numbering}
 use Rattle.xc_kernel.proofs.Roots.{numbering_is_own}
-use Rattle.xc_formed.specs.Once.{NoneAt, PathsDiffer, NoneTwice}
-use Rattle.xc_formed.specs.Rising.{IsRising}
-use Rattle.xc_formed.specs.Laws.{NoInstanceTwice, HasEach, NoInstanceMerged}
+use Rattle.xc_formed.specs.Once.{NoneAt, PathsDiffer}
+use Rattle.xc_formed.specs.Laws.{NoInstanceTwice, NoInstanceMerged}
 use Rattle.xc_formed.proofs.Rising.{functions_differ}
 use Rattle.xc_formed.proofs.Twice.{program_differs}
 

@@ -1,34 +1,26 @@
 -- The variables of expressions and places are right.
-use Rattle.std.proofs.Common.{◌≡◌, ℕ, ◌+◌, Bool, true, false, if◌then◌else◌, List, ◌++◌, length, Option, Some, None, nat_eq, option_map, is_some, refl, sym, ap, subst, ◌∙◌, true≢false}
+use Rattle.std.proofs.Common.{◌≡◌, ℕ, ◌+◌, Bool, true, false, List, ◌++◌, Option, sym, true≢false}
 use Rattle.xw_words.specs.declared.pos.Pos.{Pos}
-use Rattle.xc_tree.specs.declared.tree.TreeDir.{TreeDir}
 use Rattle.xc_tree.specs.declared.names.What.{What}
-use Rattle.xc_tree.specs.declared.names.What.TheVariants as what
 use Rattle.xc_tree.specs.Plain as tree
 use Rattle.xc_tree.specs.Names.Marks as marks
-use Rattle.xc_tree.specs.Types.Named.{NamedProgram, Name, name_at, past}
-use Rattle.xc_tree.specs.Types.Entities.{is_word, is_array, is_index, is_port, is_timer, takes_output, gives_input}
-use Rattle.xc_tree.specs.Words.{timerafter_word}
+use Rattle.xc_tree.specs.Types.Named.{NamedProgram, past}
+use Rattle.xc_tree.specs.Types.Entities.{is_word, is_array, is_index}
 use Rattle.xc_tree.specs.Types.Sites.{Site}
 use Rattle.xc_tree.specs.Types.Sites as site
 use Rattle.xc_kernel.specs.declared.kernel.PortUse.{PortUse}
-use Rattle.xc_kernel.specs.Plain as kernel
 use Rattle.xc_kernel.specs.Paths.{Path}
 use Rattle.xc_kernel.specs.Numbering.{Numbering, variable_number}
-use Rattle.xc_kernel.specs.Scopes.{Scope, Entity, entity_of}
+use Rattle.xc_kernel.specs.Scopes.{Scope, Entity}
 use Rattle.xc_kernel.specs.Expressions.{expression_in, place_in}
 use Rattle.xc_kernel.specs.Programs.{Function}
-use Rattle.xc_kernel.specs.Context.{Context}
-use Rattle.xc_kernel.specs.Transfers.{time_of, stamp_of, condition_of, output_of, input_of, behind_target}
 use Rattle.xc_formed.specs.Stacks.{Stack, Resolves}
-use Rattle.xc_formed.specs.Standing.{HasVariable, HasPort, Stands, a_variable, whole_array, word_referred, element_referred, array_referred, the_channel, the_end, the_timer, the_port, port_given, the_index, the_function, none_there, Agrees}
-use Rattle.xc_tree.specs.Types.Entities.{drives, reads}
-use Rattle.xc_kernel.specs.declared.statement.KRes.{KRes}
-use Rattle.xc_kernel.specs.Expressions.{place_of_entity, word_of_entity, array_number, resource_of, form_in}
+use Rattle.xc_formed.specs.Standing.{HasVariable, Stands, a_variable, whole_array, word_referred, element_referred, array_referred, the_channel, the_end, the_timer, the_port, port_given, the_index, the_function, none_there, Agrees}
+use Rattle.xc_kernel.specs.Expressions.{place_of_entity, word_of_entity, array_number, form_in}
 use Rattle.xc_formed.specs.Numbers.{IsVariable, NumbersInExpression, NumbersInPlace}
 use Rattle.xc_formed.proofs.Stacks.{quiet_split, quiet_expression}
 use Rattle.xc_formed.proofs.Shaped.{IsLval}
-use Rattle.xc_formed.proofs.Walk.{AllIn, split, IsFine, standing, Leaves}
+use Rattle.xc_formed.proofs.Walk.Arguments.{AllIn, split, IsFine, standing}
 
 pub no : {A : Type 0} → false ≡ true → A
 no e = absurd (true≢false (sym e))

@@ -1,7 +1,6 @@
 -- All code of a typed program's kernel is right.
-use Rattle.std.proofs.Common.{◌≡◌, ℕ, zero, suc, ◌+◌, ◌≤◌, ◌⊎◌, inl, inr, Bool, true, false, not, ◌&&◌, List, [], ◌∷◌, length, map, slice_get, bytes_eq, Option, Some, None, option_map, refl, sym, ap, subst, ◌∙◌, true≢false, arith}
+use Rattle.std.proofs.Common.{◌≡◌, ℕ, zero, suc, ◌+◌, ◌≤◌, inl, inr, Bool, true, false, not, ◌&&◌, List, [], ◌∷◌, length, map, slice_get, bytes_eq, Option, Some, None, option_map, refl, sym, ap, subst, ◌∙◌, true≢false, arith}
 use Rattle.std.proofs.lemmas.Slice.Eq.{bytes_eq-Decides}
-use Rattle.xw_words.specs.declared.pos.Pos.{Pos}
 use Rattle.xc_tree.specs.declared.tree.Param.{Param}
 use Rattle.xc_tree.specs.declared.names.Decl.{Decl}
 use Rattle.xc_tree.specs.declared.names.What.{What}
@@ -21,7 +20,7 @@ use Rattle.xc_kernel.specs.Scopes.{Entity, entity_of}
 use Rattle.xc_kernel.specs.Programs.{Function, functions, ports, main_of, function_by, function_named, name_of_main}
 use Rattle.xc_kernel.specs.Ports.{port_use, scope_of_ports}
 use Rattle.xc_kernel.specs.Roots as roots
-use Rattle.xc_kernel.specs.Copies.{Copies, calls_of, rooted, numbering, copy_of}
+use Rattle.xc_kernel.specs.Copies.{calls_of, rooted, numbering}
 use Rattle.xc_kernel.specs.Sound.{IsTyped}
 use Rattle.xc_meaning.specs.Texts.Called.{GoesWithin}
 use Rattle.xc_meaning.proofs.Recursion.End.{calls_end}
@@ -31,12 +30,13 @@ use Rattle.xc_formed.specs.Each.{EachRoot}
 use Rattle.xc_formed.specs.Exits.{EachRootLeaves}
 use Rattle.xc_formed.specs.Numbers.{IsListed}
 use Rattle.xc_formed.specs.Rising.{IsRising}
-use Rattle.xc_formed.proofs.Shaped.{Assigns, ShapedStatement, Deep}
+use Rattle.xc_formed.proofs.Shaped.{Assigns}
 use Rattle.xc_formed.proofs.Grammar.{AllOf, program_shaped}
-use Rattle.xc_formed.proofs.Walk.{AllIn, IsFine}
-use Rattle.xc_formed.proofs.Walk as walk
+use Rattle.xc_formed.proofs.Walk.Arguments.{AllIn, IsFine}
+use Rattle.xc_formed.proofs.Walk.Arguments as walk
+use Rattle.xc_formed.proofs.Walk.Roots as rooted_walk
 use Rattle.xc_formed.proofs.FineSites.{fine_sites}
-use Rattle.xc_formed.proofs.Resolved.{AllNew, names_resolve, outer_differ}
+use Rattle.xc_formed.proofs.Resolved.{names_resolve, outer_differ}
 use Rattle.xc_formed.proofs.Outside.{Among, bottom, decl_of_item, outer_item, found_there}
 use Rattle.xc_formed.proofs.Functions.{functions_right, right_named, outside_known}
 use Rattle.xc_formed.proofs.Instances.{program_variables, program_channels, program_timers, program_blocks}
@@ -225,9 +225,9 @@ module _ (P : List tree.Item) (n : NamedProgram) where
           let m = has_main in
           let main = m.main in
           let r = right_by_name name_of_main main m.main_is in
-          let right_main : walk.MainRight n fs ps num IsShallow IsShallowLval Assigns (IsRight num) (Lower num) (IsRightPlace num) (IsListed num.variables) (OutGoes n fs ps num) (InGoes n fs ps num) (IsOne num) (right_leaves n fs ps num) gs right_by_name (length fs) main = record { right = r; alone = m.alone; form = λ e. form_of _ _ _ r.form (in_main main m.alone (named_so fs name_of_main main m.main_is)) e } in
+          let right_main : rooted_walk.MainRight n fs ps num IsShallow IsShallowLval Assigns (IsRight num) (Lower num) (IsRightPlace num) (IsListed num.variables) (OutGoes n fs ps num) (InGoes n fs ps num) (IsOne num) (right_leaves n fs ps num) gs right_by_name (length fs) main = record { right = r; alone = m.alone; form = λ e. form_of _ _ _ r.form (in_main main m.alone (named_so fs name_of_main main m.main_is)) e } in
           let shaped = body_shaped fs grown (length fs) main (grown_named fs grown name_of_main main m.main_is) (any_statement (GoesWithin fs (length fs)) (calls_end P n types typed).each main.body) in
           let all = subst (λ (o : Option Function). walk.Made n fs ps num IsShallow IsShallowLval Assigns (IsRight num) (Lower num) (IsRightPlace num) (IsListed num.variables) (OutGoes n fs ps num) (InGoes n fs ps num) (IsOne num) (roots.roots_of (calls_of P) o (roots.context_of P num)).made) m.main_is made in
-          let good = walk.roots_well n fs ps num IsShallow IsShallowLval Assigns (IsRight num) (Lower num) (IsRightPlace num) (IsListed num.variables) (OutGoes n fs ps num) (InGoes n fs ps num) (IsOne num) (right_leaves n fs ps num) gs right_by_name (length fs) main (roots.context_of P num) right_main shaped
-              (record { numbers = refl; functions_are = refl; ports_known = ports_are; known = ports_are }) all in
+          let good = rooted_walk.roots_well n fs ps num IsShallow IsShallowLval Assigns (IsRight num) (Lower num) (IsRightPlace num) (IsListed num.variables) (OutGoes n fs ps num) (InGoes n fs ps num) (IsOne num) (right_leaves n fs ps num) gs right_by_name (length fs) main (roots.context_of P num) right_main shaped
+          (record { numbers = refl; functions_are = refl; ports_known = ports_are; known = ports_are }) all in
           subst (λ (o : Option Function). RootsRight (roots.roots_of (calls_of P) o (roots.context_of P num)).roots) (sym m.main_is) good

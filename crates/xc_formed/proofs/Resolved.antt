@@ -16,9 +16,9 @@ use Rattle.xc_tree.specs.Names.Uses.{Entries, AreUses, IsUse, none, past_begin, 
 use Rattle.xc_tree.specs.Types.Named.{NamedProgram, what_of, what_at, past}
 use Rattle.xc_kernel.specs.Sound.{IsTyped}
 use Rattle.xc_formed.specs.Stacks.{Frame, Stack, decl_by, found_in, found, IsFresh, IsNew, Resolves, outer}
-use Rattle.xc_formed.proofs.TextScopes as scopes
-use Rattle.xc_formed.proofs.TextScopes.{Inner, to_end_past}
-use Rattle.xc_formed.proofs.TextUses.{past_both, one_further, numbered, Entry, below_or_at, at_end, longer, next}
+use Rattle.xc_formed.proofs.Text.Scopes as scopes
+use Rattle.xc_formed.proofs.Text.Scopes.{Inner, to_end_past}
+use Rattle.xc_formed.proofs.Text.Uses.{past_both, one_further, numbered, Entry, below_or_at, at_end, longer, next}
 
 clash : {A : Type 0} (x : A) → None ≡ Some x → ⊥
 clash x e = cc
@@ -347,8 +347,8 @@ module _ (all : List Mark) where
           let k_in = complete d m.declared.decl m.declared.there seen (omega arith) in
           let short = in_range st k_in.level k_in.frame k_in.there in
           let there : found st i.text ≡ Some m.declared.decl =
-              find v i.text d m st (λ l. v + suc (to_end l ms)) k_in.level k_in.frame h k_in.there k_in.among k_in.ends (λ l less. omega arith)
-              (λ l less. let g = ends_differ ms j l k_in.level c less (omega arith) in omega arith) in
+          find v i.text d m st (λ l. v + suc (to_end l ms)) k_in.level k_in.frame h k_in.there k_in.among k_in.ends (λ l less. omega arith)
+          (λ l less. let g = ends_differ ms j l k_in.level c less (omega arith) in omega arith) in
           ap (what_at n) (ap (slice_get n.uses) (sym names_before) ∙ entry.entry) ∙ ap what_of (ap (λ (ds : List Decl). slice_get ds (number_of all d)) decls ∙ numbered all d m.declared.decl m.declared.there) ∙ ap what_of (sym there)
         where
           still : (entry.declaration ≤ v) ⊎ (end_of all entry.declaration ≡ length all) → Seen v entry.declaration
@@ -392,26 +392,29 @@ module _ (all : List Mark) where
       resolve (Declares x ∷ ms) v k j (f ∷ st) e names_before c long h complete =
           let d = dropped all v (Declares x) ms e in
           let own : end_of all v ≡ suc v + to_end 0 ms = own_end v (Declares x) ms e ∙ shift v (to_end 0 ms) in
-          let l0 = levels_on v (λ l. v + to_end l (Declares x ∷ ms)) (λ l. suc v + to_end l ms) (f ∷ st) (λ l. omega arith) h in
-          (is_new x ms v j f st e c long h,
-          resolve ms (suc v) (k + 1) j ((x ∷ f) ∷ st) d.1 (names_on v k (Declares x) d.0 names_before) c long
-          ((record { place = v; there = d.0; ends = own; seen = inl (omega arith) }, l0.0), l0.1)
-          (complete_declared v x (λ l. v + to_end l (Declares x ∷ ms)) (λ l. suc v + to_end l ms) f st d.0 own (λ l. omega arith) complete))
+          let l0 = levels_on v (λ l. v + to_end l (Declares x ∷ ms)) (λ l. suc v + to_end l ms) (f ∷ st) (λ l. omega arith) h in (
+            is_new x ms v j f st e c long h,
+            resolve ms (suc v) (k + 1) j ((x ∷ f) ∷ st) d.1 (names_on v k (Declares x) d.0 names_before) c long
+                ((record { place = v; there = d.0; ends = own; seen = inl (omega arith) }, l0.0), l0.1)
+                (complete_declared v x (λ l. v + to_end l (Declares x ∷ ms)) (λ l. suc v + to_end l ms) f st d.0 own (λ l. omega arith) complete),
+          )
         where
           shift : (a b : ℕ) → a + suc b ≡ suc a + b
           shift a b = omega arith
       resolve (Uses i ∷ ms) v k j st e names_before c long h complete =
-          let d = dropped all v (Uses i) ms e in
-          (use_is ms (Uses i) v k j i st d.0 (λ x q. absurd (cc)) names_before c long (each v i (inl d.0)) h complete,
-          resolve ms (suc v) (k + 1) j st d.1 (names_on v k (Uses i) d.0 names_before) c long
-          (levels_on v (λ l. v + to_end l (Uses i ∷ ms)) (λ l. suc v + to_end l ms) st (λ l. omega arith) h)
-          (complete_on v (Uses i) (λ l. v + to_end l (Uses i ∷ ms)) (λ l. suc v + to_end l ms) st d.0 (λ x q. absurd (cc)) (λ l. omega arith) complete))
+          let d = dropped all v (Uses i) ms e in (
+            use_is ms (Uses i) v k j i st d.0 (λ x q. absurd (cc)) names_before c long (each v i (inl d.0)) h complete,
+            resolve ms (suc v) (k + 1) j st d.1 (names_on v k (Uses i) d.0 names_before) c long
+                (levels_on v (λ l. v + to_end l (Uses i ∷ ms)) (λ l. suc v + to_end l ms) st (λ l. omega arith) h)
+                (complete_on v (Uses i) (λ l. v + to_end l (Uses i ∷ ms)) (λ l. suc v + to_end l ms) st d.0 (λ x q. absurd (cc)) (λ l. omega arith) complete),
+          )
       resolve (Calls i ∷ ms) v k j st e names_before c long h complete =
-          let d = dropped all v (Calls i) ms e in
-          (use_is ms (Calls i) v k j i st d.0 (λ x q. absurd (cc)) names_before c long (each v i (inr d.0)) h complete,
-          resolve ms (suc v) (k + 1) j st d.1 (names_on v k (Calls i) d.0 names_before) c long
-          (levels_on v (λ l. v + to_end l (Calls i ∷ ms)) (λ l. suc v + to_end l ms) st (λ l. omega arith) h)
-          (complete_on v (Calls i) (λ l. v + to_end l (Calls i ∷ ms)) (λ l. suc v + to_end l ms) st d.0 (λ x q. absurd (cc)) (λ l. omega arith) complete))
+          let d = dropped all v (Calls i) ms e in (
+            use_is ms (Calls i) v k j i st d.0 (λ x q. absurd (cc)) names_before c long (each v i (inr d.0)) h complete,
+            resolve ms (suc v) (k + 1) j st d.1 (names_on v k (Calls i) d.0 names_before) c long
+                (levels_on v (λ l. v + to_end l (Calls i ∷ ms)) (λ l. suc v + to_end l ms) st (λ l. omega arith) h)
+                (complete_on v (Calls i) (λ l. v + to_end l (Calls i ∷ ms)) (λ l. suc v + to_end l ms) st d.0 (λ x q. absurd (cc)) (λ l. omega arith) complete),
+          )
 
     shift_long : (v l w : ℕ) → v + suc l ≡ w → suc v + l ≡ w
     shift_long v l w e = omega arith

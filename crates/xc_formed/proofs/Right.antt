@@ -1,20 +1,18 @@
 -- What is right in all code of a typed program's kernel, by its parts: variables, operands, levels and transfers.
-use Rattle.std.proofs.Common.{◌≡◌, ℕ, ◌+◌, ◌<◌, ◌≤◌, Bool, true, false, List, length, refl, arith}
-use Rattle.xw_words.specs.declared.pos.Pos.{Pos}
+use Rattle.std.proofs.Common.{ℕ, ◌+◌, ◌<◌, ◌≤◌, false, List, length, refl, arith}
 use Rattle.xc_tree.specs.Plain as tree
 use Rattle.xc_tree.specs.Depth as depth
 use Rattle.xc_tree.specs.Derives.{deepest}
 use Rattle.xc_tree.specs.Types.Named.{NamedProgram}
 use Rattle.xc_kernel.specs.declared.kernel.PortUse.{PortUse}
 use Rattle.xc_kernel.specs.Plain as kernel
-use Rattle.xc_kernel.specs.Paths.{Path}
 use Rattle.xc_kernel.specs.Numbering.{Numbering}
 use Rattle.xc_kernel.specs.Programs.{Function}
 use Rattle.xc_formed.specs.Numbers.{IsListed, NumbersInExpression, NumbersInPlace}
 use Rattle.xc_formed.specs.Operands.{HasOperands, PlaceHasOperands}
-use Rattle.xc_formed.specs.Levels.{levels, most_levels, IsLow, IsLowPlace}
+use Rattle.xc_formed.specs.Levels.{levels, IsLow, IsLowPlace}
 use Rattle.xc_formed.proofs.Shaped.{IsLval, IsProper, Assigns}
-use Rattle.xc_formed.proofs.Walk.{Leaves}
+use Rattle.xc_formed.proofs.Walk.Arguments.{Leaves}
 use Rattle.xc_formed.proofs.Numbers.{listed, expression_well, lval_well, lval_read}
 use Rattle.xc_formed.proofs.Transferred.{OutGoes, InGoes, out_leaf, in_leaf}
 use Rattle.xc_formed.proofs.Low.{has_operands, few_levels, place_operands, place_levels}
@@ -47,9 +45,13 @@ module _ (n : NamedProgram) (fs : List Function) (ps : List PortUse) (num : Numb
     weaker = λ e h. let l = h.1.1 in (h.0, (h.1.0, omega arith));
     ex = λ e k st scope a r g x. (expression_well n fs ps num st scope a e k r g, (has_operands num scope e x.0, (let d = x.1 in let l = few_levels num scope e in omega arith)));
     lval = λ e k st scope a r g x. (lval_well n fs ps num st scope a e k r g x.0, (place_operands num scope e x.1.0, (let d = x.1.1 in let l = place_levels num scope e in omega arith)));
-    updating = λ e k st scope a r g x symbol y pos u v h.
-        ((lval_read n fs ps num st scope a e k r g x.0, (h.0, tt)), ((y, (has_operands num scope e x.1.0, (h.1.0, tt))),
-        (let d = x.1.1 in let l = few_levels num scope e in let b = h.1.1 in omega arith)));
+    updating = λ e k st scope a r g x symbol y pos u v h. (
+      (lval_read n fs ps num st scope a e k r g x.0, (h.0, tt)),
+      (
+        (y, (has_operands num scope e x.1.0, (h.1.0, tt))),
+        (let d = x.1.1 in let l = few_levels num scope e in let b = h.1.1 in omega arith),
+      ),
+    );
     testing = λ v h l pos. ((h.0, (tt, tt)), ((refl, (h.1.0, (tt, tt))), (let b = h.1.1 in omega arith)));
     one = (tt, (tt, omega arith));
     word = λ path h. (listed n fs ps num path false h, (tt, omega arith));

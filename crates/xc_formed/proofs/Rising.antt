@@ -1,20 +1,19 @@
 -- Where tokens rise, the places of a program by which paths are made differ: they are those of some tokens, in their order.
-use Rattle.std.proofs.Common.{◌≡◌, ◌⊎◌, inl, inr, ℕ, zero, suc, ◌+◌, ◌<◌, ◌≤◌, Bool, false, List, [], ◌∷◌, ◌++◌, length, map, slice_get, Option, None, Some, refl, sym as sym', ap, subst, ◌∙◌, arith}
+use Rattle.std.proofs.Common.{◌≡◌, inl, inr, ℕ, zero, suc, ◌+◌, ◌<◌, ◌≤◌, Bool, false, List, [], ◌∷◌, ◌++◌, length, map, slice_get, Option, None, Some, refl, sym as sym', ap, subst, ◌∙◌, arith}
 use Rattle.xw_words.specs.declared.pos.Pos.{Pos}
 use Rattle.xc_tree.specs.declared.token.Tok.{Tok}
-use Rattle.xc_tree.specs.declared.token.Kind.{Kind}
 use Rattle.xc_tree.specs.declared.tree.Id.{Id}
 use Rattle.xc_tree.specs.declared.tree.Param.{Param}
 use Rattle.xc_tree.specs.Plain as plain
 use Rattle.xc_tree.specs.Lexes.{IsBefore}
-use Rattle.xc_tree.specs.Symbol.{Symbol, sym, key, a_name, a_number, many, maybe, commas, program, item, portdecl, dir, place, head, params, param, body, block, block_item, decl, dv, initial, statement, closed, case_item, for_start, for_step, branch, case, assign, rhs, call, input, dest, Declarator, a_word, an_array, Value, Values}
+use Rattle.xc_tree.specs.Symbol.{Symbol, sym, key, a_name, a_number, many, maybe, commas, program, item, head, params, param, body, block, block_item, decl, dv, initial, statement, closed, case_item, for_start, for_step, branch, case, assign, rhs, call, input, dest, Declarator, a_word, an_array, Value, Values}
 use Rattle.xc_tree.specs.Grammar.{Rule, Extent, rules, kept, declared, named as kind_named}
-use Rattle.xc_tree.specs.Derives.{Room, On, Among, position, extent, Derives, a_sym, a_key, named, counted, by_rule, Row, done, next}
-use Rattle.xc_kernel.specs.Programs.{Function, functions}
+use Rattle.xc_tree.specs.Derives.{Room, Among, position, extent, Derives, a_sym, a_key, named, counted, by_rule, Row, done, next}
+use Rattle.xc_kernel.specs.Programs.{functions}
 use Rattle.xc_formed.specs.Rising.{TokensRise, IsRising}
-use Rattle.xc_formed.proofs.Places.{of_right, of_maybe_right, of_kind, of_declarations, of_target, of_maybe_input, of_statement, of_action, of_maybe, of_statements, of_branch, of_branches, of_case, of_cases, of_params, of_function, In, Differ, FunctionDiffers}
-use Rattle.xc_formed.proofs.Spread.{Halves, halves}
-use Rattle.xc_formed.proofs.Walk.{AllIn}
+use Rattle.xc_formed.proofs.Places.{of_right, of_maybe_right, of_declarations, of_target, of_statement, of_action, of_maybe, of_statements, of_branch, of_branches, of_case, of_cases, of_params, of_function, In, Differ, FunctionDiffers}
+use Rattle.xc_formed.proofs.Spread.{halves}
+use Rattle.xc_formed.proofs.Walk.Arguments.{AllIn}
 
 -- some of a list, in its order
 data Sub : List Pos → List Pos → Type 0 where
@@ -234,11 +233,14 @@ all_fit statement =
     (λ e x h p. record { at = p; some = drop (behind (of_statement x.1.1.1.1.0) _ _ (drop (front (of_statement x.1.1.1.1.1.1.0) []))) }) &
     (λ e x h p. record { at = p; some = keep_by _ _ _ _ h (front (of_statement x.1.1.1.1.0) []) }) &
     (λ e x h p. record { at = p; some = keep_by _ _ _ _ h (front (of_statement x.1.0) _) }) &
-    (λ e x h p. record { at = p; some = keep_by _ _ _ _ h
-        (subst (λ (l : List Pos). Sub (l ++ (of_maybe (plain.maybe x.1.1.1.1.1.1.0) ++ of_statement x.1.1.1.1.1.1.1.1.0)) (opt of_statement x.1.1.0 ++ (opt (λ y. []) x.1.1.1.1.0 ++ (opt of_statement x.1.1.1.1.1.1.0 ++ (of_statement x.1.1.1.1.1.1.1.1.0 ++ []))))) (sym' (maybe_is x.1.1.0))
-        (behind (opt of_statement x.1.1.0) _ _ (skip (opt (λ y. []) x.1.1.1.1.0) _ _
-        (subst (λ (l : List Pos). Sub (l ++ of_statement x.1.1.1.1.1.1.1.1.0) (opt of_statement x.1.1.1.1.1.1.0 ++ (of_statement x.1.1.1.1.1.1.1.1.0 ++ []))) (sym' (maybe_is x.1.1.1.1.1.1.0))
-        (behind (opt of_statement x.1.1.1.1.1.1.0) _ _ (front (of_statement x.1.1.1.1.1.1.1.1.0) [])))))) }) &
+    (λ e x h p. record {
+      at = p;
+      some = keep_by _ _ _ _ h
+          (subst (λ (l : List Pos). Sub (l ++ (of_maybe (plain.maybe x.1.1.1.1.1.1.0) ++ of_statement x.1.1.1.1.1.1.1.1.0)) (opt of_statement x.1.1.0 ++ (opt (λ y. []) x.1.1.1.1.0 ++ (opt of_statement x.1.1.1.1.1.1.0 ++ (of_statement x.1.1.1.1.1.1.1.1.0 ++ []))))) (sym' (maybe_is x.1.1.0))
+          (behind (opt of_statement x.1.1.0) _ _ (skip (opt (λ y. []) x.1.1.1.1.0) _ _
+          (subst (λ (l : List Pos). Sub (l ++ of_statement x.1.1.1.1.1.1.1.1.0) (opt of_statement x.1.1.1.1.1.1.0 ++ (of_statement x.1.1.1.1.1.1.1.1.0 ++ []))) (sym' (maybe_is x.1.1.1.1.1.1.0))
+          (behind (opt of_statement x.1.1.1.1.1.1.0) _ _ (front (of_statement x.1.1.1.1.1.1.1.1.0) []))))));
+    }) &
     (λ e x h p. record { at = p; some = drop (by_name _ _ _ (maybe_right_is x.1.0) (front (opt of_right x.1.0) [])) }) &
     (λ e x h p. record { at = p; some = no_item _ }) &
     (λ e x h p. record { at = p; some = no_item _ }) &
@@ -342,9 +344,10 @@ not_before_itself p (inr h) = let l = h.1 in omega arith
 module _ (toks : List Tok) (rise : TokensRise toks) where
   differ : (i j : ℕ) (ps : List Pos) → Ups toks i j ps → Differ ps
   differ i j [] u = tt
-  differ i j (p ∷ ps) u =
-      (subst (λ (q : Pos). 0 < q.line) u.0.place (rise.lines u.0.number u.0.token u.0.there),
-      ((λ h. clash h), differ (u.0.number + 1) j ps u.1))
+  differ i j (p ∷ ps) u = (
+    subst (λ (q : Pos). 0 < q.line) u.0.place (rise.lines u.0.number u.0.token u.0.there),
+    ((λ h. clash h), differ (u.0.number + 1) j ps u.1),
+  )
     where
       clash : In p ps → ⊥
       clash h =

@@ -1,10 +1,10 @@
 -- Instances whose paths go on from one path by differing places.
-use Rattle.std.proofs.Common.{◌≡◌, ◌⊎◌, inl, inr, ℕ, zero, suc, ◌<◌, ◌≤◌, ◌+◌, List, [], ◌∷◌, ◌++◌, refl, sym, ap, subst, ◌∙◌, arith, append_assoc}
+use Rattle.std.proofs.Common.{◌≡◌, inl, inr, ℕ, zero, suc, ◌<◌, ◌≤◌, ◌+◌, List, [], ◌∷◌, ◌++◌, refl, sym, ap, subst, ◌∙◌, arith, append_assoc}
 use Rattle.xw_words.specs.declared.pos.Pos.{Pos}
 use Rattle.xc_kernel.specs.Paths.{Path, path_at, path_of_branch}
 use Rattle.xc_formed.specs.Once.{NoneAt, PathsDiffer}
 use Rattle.xc_formed.proofs.Places.{In, Differ}
-use Rattle.xc_formed.proofs.Walk.{AllIn, both}
+use Rattle.xc_formed.proofs.Walk.Arguments.{AllIn, both}
 
 -- lists
 

@@ -1,5 +1,5 @@
 -- Which parts of a text communicate, and what their copies name.
-use Rattle.std.proofs.Common.{◌≡◌, ◌⊎◌, inl, inr, ℕ, zero, suc, Bool, true, false, ◌||◌, List, [], ◌∷◌, ◌++◌, Option, Some, None, refl, sym, ap, subst, ◌∙◌, true≢false}
+use Rattle.std.proofs.Common.{◌≡◌, ◌⊎◌, inl, inr, ℕ, zero, suc, Bool, true, false, ◌||◌, List, [], ◌∷◌, ◌++◌, Option, Some, None, refl, sym, ap, ◌∙◌, true≢false}
 use Rattle.xw_words.specs.declared.pos.Pos.{Pos}
 use Rattle.xc_tree.specs.declared.tree.Param.{Param}
 use Rattle.xc_tree.specs.declared.tree.ParamKind.{ParamKind}
@@ -16,7 +16,6 @@ use Rattle.xc_tree.specs.Shapes.Rules.{channels, are_one}
 use Rattle.xc_kernel.specs.Paths.{Path}
 use Rattle.xc_kernel.specs.Scopes.{Scope}
 use Rattle.xc_kernel.specs.Programs.{Function}
-use Rattle.xc_kernel.specs.Copy.{Copy}
 use Rattle.xc_kernel.specs.Context.{Context}
 use Rattle.xc_kernel.specs.Calls.{CopiesCall, right_copy, call_by, called}
 use Rattle.xc_kernel.specs.Declarations.{initial_copy, kind_copy, declarations_copy}

@@ -1,14 +1,13 @@
 -- The tokens of each text rise.
-use Rattle.std.proofs.Common.{◌≡◌, ◌⊎◌, inl, inr, ℕ, zero, suc, ◌+◌, ◌<◌, ◌≤◌, Bool, true, false, if◌then◌else◌, nat_eq, List, [], ◌∷◌, ◌++◌, length, map, take, slice_get, Option, Some, None, refl, sym, ap, subst, ◌∙◌, arith}
+use Rattle.std.proofs.Common.{◌≡◌, inl, inr, ℕ, zero, suc, ◌+◌, ◌<◌, ◌≤◌, Bool, true, false, if◌then◌else◌, nat_eq, List, [], ◌∷◌, ◌++◌, length, map, take, slice_get, Some, None, refl, sym, subst, ◌∙◌, arith}
 use Rattle.xw_words.specs.declared.pos.Pos.{Pos}
 use Rattle.xc_tree.specs.declared.token.Tok.{Tok}
 use Rattle.xc_tree.specs.declared.lexing.Start.{Start}
 use Rattle.xc_tree.specs.declared.lexing.Start.TheVariants.{End, Blank, LineEnd, LineComment, BlockComment, Hash, Letter, Digit, Other}
 use Rattle.xc_tree.specs.Places.{next_pos, pos_behind, pos_at}
 use Rattle.xc_tree.specs.Extents.{Extent, extents, Tiles, token_place, token_places}
-use Rattle.xc_tree.specs.Lexes.{Lexes, IsBefore}
+use Rattle.xc_tree.specs.Lexes.{IsBefore}
 use Rattle.xc_lexer.proofs.Extents.{pieces_tile, tokens_stand}
-use Rattle.xc_formed.specs.Rising.{TokensRise}
 use Rattle.xc_formed.specs.Laws.{TextsRise}
 
 -- places behind bytes

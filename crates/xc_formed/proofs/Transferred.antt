@@ -1,35 +1,31 @@
 -- Outputs and inputs go through what they can go through.
-use Rattle.std.proofs.Common.{◌≡◌, ◌⊎◌, inl, inr, ℕ, ◌+◌, Bool, true, false, if◌then◌else◌, List, ◌++◌, length, Option, Some, None, nat_eq, option_map, is_some, refl, sym, ap, subst, ◌∙◌, true≢false}
-use Rattle.xw_words.specs.declared.pos.Pos.{Pos}
+use Rattle.std.proofs.Common.{◌≡◌, ◌⊎◌, inl, inr, ℕ, ◌+◌, Bool, true, false, if◌then◌else◌, List, length, Option, Some, None, nat_eq, option_map, is_some, refl, sym, ap, subst, ◌∙◌, true≢false}
 use Rattle.xc_tree.specs.declared.tree.TreeDir.{TreeDir}
 use Rattle.xc_tree.specs.declared.names.What.{What}
 use Rattle.xc_tree.specs.declared.names.What.TheVariants as what
 use Rattle.xc_tree.specs.Plain as tree
 use Rattle.xc_tree.specs.Names.Marks as marks
 use Rattle.xc_tree.specs.Types.Named.{NamedProgram, Name, name_at, past}
-use Rattle.xc_tree.specs.Types.Entities.{is_word, is_array, is_index, is_port, is_timer, takes_output, gives_input}
+use Rattle.xc_tree.specs.Types.Entities.{is_port, is_timer, takes_output, gives_input}
 use Rattle.xc_tree.specs.Words.{pinseq_word, pinsneq_word, timerafter_word}
 use Rattle.xc_tree.specs.Types.Sites.{Site}
 use Rattle.xc_tree.specs.Types.Sites as site
 use Rattle.xc_kernel.specs.declared.kernel.PortUse.{PortUse}
 use Rattle.xc_kernel.specs.Plain as kernel
-use Rattle.xc_kernel.specs.Paths.{Path}
-use Rattle.xc_kernel.specs.Numbering.{Numbering, variable_number}
+use Rattle.xc_kernel.specs.Numbering.{Numbering}
 use Rattle.xc_kernel.specs.Scopes.{Scope, Entity, entity_of}
-use Rattle.xc_kernel.specs.Expressions.{expression_in, place_in}
 use Rattle.xc_kernel.specs.Programs.{Function}
 use Rattle.xc_kernel.specs.Context.{Context}
 use Rattle.xc_kernel.specs.Transfers.{time_of, stamp_of, condition_of, output_of, input_of, behind_target}
 use Rattle.xc_formed.specs.Stacks.{Stack, Resolves}
-use Rattle.xc_formed.specs.Standing.{HasVariable, HasPort, Stands, a_variable, whole_array, word_referred, element_referred, array_referred, the_channel, the_end, the_timer, the_port, port_given, the_index, the_function, none_there, Agrees}
+use Rattle.xc_formed.specs.Standing.{HasPort, Stands, a_variable, whole_array, word_referred, element_referred, array_referred, the_channel, the_end, the_timer, the_port, port_given, the_index, the_function, none_there, Agrees}
 use Rattle.xc_tree.specs.Types.Entities.{drives, reads}
 use Rattle.xc_kernel.specs.declared.statement.KRes.{KRes}
-use Rattle.xc_kernel.specs.Expressions.{place_of_entity, word_of_entity, array_number, resource_of, form_in}
+use Rattle.xc_kernel.specs.Expressions.{resource_of}
 use Rattle.xc_formed.specs.Transfers.{IsNothing, IsPort, can_drive, can_read, WaitsForOne, AsksForPins, AsksForTime, OutputGoes, InputComes}
-use Rattle.xc_formed.proofs.Stacks.{quiet_split, quiet_expression}
-use Rattle.xc_formed.proofs.Shaped.{AsksRight, Waits, WaitsRight}
+use Rattle.xc_formed.proofs.Shaped.{Waits, WaitsRight}
 use Rattle.xc_formed.proofs.Numbers.{no}
-use Rattle.xc_formed.proofs.Walk.{AllIn, split, IsFine, standing, Leaves}
+use Rattle.xc_formed.proofs.Walk.Arguments.{AllIn, split, IsFine, standing}
 
 module _ (n : NamedProgram) (fs : List Function) (ps : List PortUse) (num : Numbering) where
   abbrev Known : Stack → Scope → Type 0
@@ -178,4 +174,3 @@ module _ (n : NamedProgram) (fs : List Function) (ps : List PortUse) (num : Numb
       let g4 = split IsFine (site.of_target n k3 i.target) _ g3.1 in
       subst (λ (m : Numbering). InputComes ps (length num.channels) (length num.timers) (resource_of m (entity_of scope i.name.text)) (option_map (time_of c scope) i.time) (option_map (condition_of c scope) i.condition) (option_map (stamp_of c (behind_target c scope i)) i.stamp)) (sym e)
       (input_goes i.name.text _ _ (standing n fs ps num st scope k i.name.text a r.0) g.0 _ _ _ (time_fact (k + 1) y c scope i.time g2.0) (test_fact k2 y c scope i.condition g3.0) (asks_fact c scope i.time i.condition x) (stamp_fact _ y c (behind_target c scope i) i.stamp g4.1))
-

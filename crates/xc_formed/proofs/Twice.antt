@@ -1,5 +1,5 @@
 -- In the copy of a program whose places differ no two instances have one path.
-use Rattle.std.proofs.Common.{◌≡◌, ◌⊎◌, inl, inr, ℕ, zero, suc, ◌<◌, ◌+◌, ◌-◌, Bool, true, false, List, [], ◌∷◌, ◌++◌, length, Option, Some, None, bytes_eq, nat_eq, refl, sym, ap, subst, ◌∙◌, arith}
+use Rattle.std.proofs.Common.{◌≡◌, inl, inr, ℕ, zero, suc, ◌<◌, ◌+◌, ◌-◌, Bool, true, false, List, [], ◌∷◌, ◌++◌, length, Option, Some, None, bytes_eq, nat_eq, refl, sym, ap, subst}
 use Rattle.xw_words.specs.declared.pos.Pos.{Pos}
 use Rattle.xc_tree.specs.declared.tree.Param.{Param}
 use Rattle.xc_tree.specs.declared.tree.ParamKind.{ParamKind}
@@ -7,28 +7,26 @@ use Rattle.xc_tree.specs.declared.tree.ParamKind.TheVariants as param
 use Rattle.xc_tree.specs.Plain as tree
 use Rattle.xc_tree.specs.Symbols.{equals}
 use Rattle.xc_kernel.specs.declared.kernel.Var.{Var}
-use Rattle.xc_kernel.specs.declared.kernel.Chan.{Chan}
-use Rattle.xc_kernel.specs.declared.kernel.Timer.{Timer}
 use Rattle.xc_kernel.specs.Plain as kernel
 use Rattle.xc_kernel.specs.Paths.{Path, path_at, path_of_turn, path_of_branch}
 use Rattle.xc_kernel.specs.Numbering.{Numbering, path_of_variable, path_of_channel, path_of_timer, path_of_block}
-use Rattle.xc_kernel.specs.Scopes.{Scope, Entity, a_word, an_array, an_element, a_channel, a_timer, a_port, a_constant, nothing_known, entity_of, with_name}
+use Rattle.xc_kernel.specs.Scopes.{Scope, Entity, a_word, an_array, a_constant, entity_of, with_name}
 use Rattle.xc_kernel.specs.Programs.{Function, functions, function_by, function_named, main_of}
 use Rattle.xc_kernel.specs.Copy.{Copy, no_copy, one_statement, joined, in_scope_of, with_code, with_block, with_variable, code_of}
 use Rattle.xc_kernel.specs.Context.{Context, in_branch, in_loop, in_case, in_function, declares_word, array_variable, word_variable, maybe_expression}
 use Rattle.xc_kernel.specs.Parameters.{Passed, passed, all_passed, by_element, form_by_reference, by_reference, by_name}
-use Rattle.xc_kernel.specs.Calls.{CopiesCall, instance_of, result_copy, body_copy, function_copy, path_of_call, called, call_by, right_copy}
+use Rattle.xc_kernel.specs.Calls.{CopiesCall, instance_of, result_copy, function_copy, path_of_call, called, call_by, right_copy}
 use Rattle.xc_kernel.specs.Declarations.{initial_copy, kind_copy, declarations_copy}
 use Rattle.xc_kernel.specs.Transfers.{target_copy, input_names}
 use Rattle.xc_kernel.specs.Flow.{loop_at, turn, test_or_true, for_copy, numbered_copy, replicated, case_scope, case_made}
-use Rattle.xc_kernel.specs.Statements.{pos_of_branch, set_copy, assign_by, return_copy, statement_copy, action_copy, maybe_copy, statements_copy, branch_copy, branches_copy, cases_copy, calls_copy}
+use Rattle.xc_kernel.specs.Statements.{pos_of_branch, assign_by, return_copy, statement_copy, action_copy, maybe_copy, statements_copy, branch_copy, branches_copy, cases_copy, calls_copy}
 use Rattle.xc_kernel.specs.Roots as roots
 use Rattle.xc_kernel.specs.Ports.{core_of}
 use Rattle.xc_kernel.specs.Copies.{calls_of, rooted}
 use Rattle.xc_formed.specs.Once.{NoneTwice}
-use Rattle.xc_formed.proofs.Places.{In, Differ, FunctionDiffers, of_right, of_maybe_right, of_kind, of_declarations, of_target, of_maybe_input, of_statement, of_action, of_maybe, of_statements, of_branch, of_branches, of_case, of_cases, of_params, of_function}
-use Rattle.xc_formed.proofs.Spread.{in_left, in_right, Halves, halves, Spread, spread_none, spread_wider, spread_both, spread_branch, Numbered, numbered_none, numbered_next, numbered_spread, Within, spread_within, within_spread, own_within}
-use Rattle.xc_formed.proofs.Walk.{AllIn}
+use Rattle.xc_formed.proofs.Places.{In, Differ, FunctionDiffers, of_right, of_maybe_right, of_kind, of_declarations, of_target, of_statement, of_action, of_maybe, of_statements, of_branch, of_branches, of_cases, of_params}
+use Rattle.xc_formed.proofs.Spread.{in_left, in_right, halves, Spread, spread_none, spread_wider, spread_both, spread_branch, Numbered, numbered_none, numbered_next, numbered_spread, Within, spread_within, within_spread, own_within}
+use Rattle.xc_formed.proofs.Walk.Arguments.{AllIn}
 
 -- the instances of a copy are beneath a path by some places
 pub record Apart (p : Path) (ks : List Pos) (copy : Copy) : Type 0 where

@@ -11,7 +11,7 @@ use Rattle.xc_tree.specs.Names.Scopes.{to_end, end_of, DeclaresAt, IsWithin, Mea
 use Rattle.xc_tree.specs.Names.Rules.{Breaks302}
 use Rattle.xc_tree.specs.Names.Calls.{first_of}
 use Rattle.xc_kernel.specs.Programs.{Function, functions, function_named, function_by}
-use Rattle.xc_formed.proofs.TextScopes.{is_function, Inner, nothing, used, called, declared, scope, both, maybe, of_place, of_function, to_end_past}
+use Rattle.xc_formed.proofs.Text.Scopes.{is_function, Inner, nothing, used, called, declared, scope, both, maybe, of_place, of_function, to_end_past}
 
 clash : {A : Type 0} (x : A) → None ≡ Some x → ⊥
 clash x e = cc
