@@ -1,0 +1,26 @@
+use Rattle.xc_formed.proofs.Formed.{variables_right, operands_right, levels_few, transfers_right, transactions_listed, exits_inside, well_formed, of_programs}
+use Rattle.xc_formed.proofs.promised.kernels_are_formed.Goals as goal
+
+pub returns-clause-variables : goal.returns-clause-variables
+returns-clause-variables c = variables_right
+
+pub returns-clause-operands : goal.returns-clause-operands
+returns-clause-operands c = operands_right
+
+pub returns-clause-levels : goal.returns-clause-levels
+returns-clause-levels c = levels_few
+
+pub returns-clause-transfers : goal.returns-clause-transfers
+returns-clause-transfers c = transfers_right
+
+pub returns-clause-transactions : goal.returns-clause-transactions
+returns-clause-transactions c = transactions_listed
+
+pub returns-clause-exits : goal.returns-clause-exits
+returns-clause-exits c = exits_inside
+
+pub returns-clause-whole : goal.returns-clause-whole
+returns-clause-whole c = well_formed
+
+pub returns-clause-of_programs : goal.returns-clause-of_programs
+returns-clause-of_programs c = of_programs

@@ -1,0 +1,81 @@
+-- The laws.
+use Rattle.std.specs.Prelude.{◌≡◌, ℕ, ◌≤◌, List, [], ◌∷◌, Bool}
+use Rattle.xc_tree.specs.declared.token.Tok.{Tok}
+use Rattle.xc_tree.specs.Depth as depth
+use Rattle.xc_tree.specs.Derives.{deepest}
+use Rattle.xc_tree.specs.Lexes.{Lexes}
+use Rattle.xc_tree.specs.Plain as tree
+use Rattle.xc_tree.specs.Names.Marks as marks
+use Rattle.xc_tree.specs.Types.Named.{NamedProgram}
+use Rattle.xc_kernel.specs.Plain as kernel
+use Rattle.xc_kernel.specs.Numbering.{Numbering}
+use Rattle.xc_kernel.specs.Copies.{Copies, rooted, numbering}
+use Rattle.xc_kernel.specs.Sound.{IsTyped, IsOfProgram}
+use Rattle.xc_formed.specs.Numbers.{VariablesAreRight}
+use Rattle.xc_formed.specs.Operands.{OperandsAreRight}
+use Rattle.xc_formed.specs.Levels.{LevelsAreFew}
+use Rattle.xc_formed.specs.Transfers.{TransfersAreRight, TransactionsAreListed}
+use Rattle.xc_formed.specs.Exits.{ExitsAreInside}
+use Rattle.xc_formed.specs.WellFormed.{IsWellFormed}
+use Rattle.xc_formed.specs.Rising.{TokensRise, IsRising}
+use Rattle.xc_formed.specs.Once.{NoneTwice}
+use Rattle.xc_formed.specs.Stacks.{Resolves, outer}
+
+-- each name of a typed program means what the stack of open scopes has for it, where all that is declared outside of functions
+-- is known from the begin
+abbrev pub NamesResolve : Type 0
+NamesResolve =
+    (P : List tree.Item) (n : NamedProgram) (types : List Bool) → IsTyped P n types →
+    Resolves n 0 (outer 0 (marks.of_items 0 P) ∷ []) (marks.of_items 0 P)
+
+-- the tokens of each text rise
+abbrev pub TextsRise : Type 0
+TextsRise = (text : List ℕ) (toks : List Tok) → Lexes text toks → TokensRise toks
+
+-- In the copies of a program whose tokens rise no two variables, channels, timers or blocks have one path,
+abbrev pub NoInstanceTwice : Type 0
+NoInstanceTwice = (P : List tree.Item) (n : Numbering) → IsRising P → NoneTwice (rooted P n).made
+
+-- so the kernel's lists have all of them, in order.
+pub record HasEach (n : Numbering) (P : List tree.Item) : Type 0 where
+  pub variables : n.variables ≡ (rooted P n).made.variables
+  pub channels : n.channels ≡ (rooted P n).made.channels
+  pub timers : n.timers ≡ (rooted P n).made.timers
+  pub blocks : n.blocks ≡ (rooted P n).made.blocks
+
+abbrev pub NoInstanceMerged : Type 0
+NoInstanceMerged = (P : List tree.Item) → IsRising P → HasEach (numbering P) P
+
+-- This holds of the kernel of each program that breaks no rule of names, types and shapes, whose tokens rise, and whose tree no node
+-- is too deep in.
+abbrev pub OfEachKernel : (kernel.Kernel → Type 0) → Type 0
+OfEachKernel Holds =
+    (P : List tree.Item) (n : NamedProgram) (types : List Bool) (K : kernel.Kernel) →
+    IsTyped P n types → IsRising P → depth.of_program P ≤ deepest → Copies P K → Holds K
+
+-- The parts of what it means that such a kernel is well formed.
+abbrev pub VariablesRight : Type 0
+VariablesRight = OfEachKernel VariablesAreRight
+
+abbrev pub OperandsRight : Type 0
+OperandsRight = OfEachKernel OperandsAreRight
+
+abbrev pub LevelsFew : Type 0
+LevelsFew = OfEachKernel LevelsAreFew
+
+abbrev pub TransfersRight : Type 0
+TransfersRight = OfEachKernel TransfersAreRight
+
+abbrev pub TransactionsListed : Type 0
+TransactionsListed = OfEachKernel TransactionsAreListed
+
+abbrev pub ExitsInside : Type 0
+ExitsInside = OfEachKernel ExitsAreInside
+
+-- So it is whole,
+abbrev pub KernelsWellFormed : Type 0
+KernelsWellFormed = OfEachKernel IsWellFormed
+
+-- and so is each kernel that is handed to the rules of needs, or kept as one that breaks none of them.
+abbrev pub KernelsOfProgramsWellFormed : Type 0
+KernelsOfProgramsWellFormed = (K : kernel.Kernel) (o : IsOfProgram K) → IsRising o.program → IsWellFormed K

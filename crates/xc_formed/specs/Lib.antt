@@ -1,0 +1,13 @@
+pub mod Each
+pub mod Numbers
+pub mod Operands
+pub mod Levels
+pub mod Transfers
+pub mod Exits
+pub mod Parts
+pub mod Rising
+pub mod Once
+pub mod WellFormed
+pub mod Stacks
+pub mod Standing
+pub mod Laws

@@ -1,0 +1,56 @@
+-- What a name stands for in the copy of a program, against what the name is declared as.
+use Rattle.std.specs.Prelude.{◌≡◌, ℕ, ◌<◌, Bool, true, false, List, length, Option, Some, None, slice_get, option_map}
+use Rattle.xc_tree.specs.declared.tree.TreeDir.{TreeDir}
+use Rattle.xc_tree.specs.declared.names.What.{What}
+use Rattle.xc_tree.specs.declared.names.What.TheVariants as what
+use Rattle.xc_tree.specs.Plain as tree
+use Rattle.xc_tree.specs.Types.Named.{NamedProgram, what_of, function_of}
+use Rattle.xc_kernel.specs.declared.kernel.Var.{Var}
+use Rattle.xc_kernel.specs.declared.kernel.PortUse.{PortUse}
+use Rattle.xc_kernel.specs.Paths.{Path}
+use Rattle.xc_kernel.specs.Numbering.{Numbering, variable_number, channel_number, timer_number}
+use Rattle.xc_kernel.specs.Scopes.{Scope, Entity, a_word, an_array, an_element, a_channel, a_timer, a_port, a_constant, nothing_known, entity_of}
+use Rattle.xc_kernel.specs.Programs.{Function, function_named}
+use Rattle.xc_formed.specs.Stacks.{Stack, found}
+
+-- the variable of this path is in the kernel's list, an array or not
+pub record HasVariable (n : Numbering) (path : Path) (is_array : Bool) : Type 0 where
+  pub variable : Var
+  pub there : slice_get n.variables (variable_number n path) ≡ Some variable
+  pub array : variable.array ≡ is_array
+
+abbrev pub HasChannel : Numbering → Path → Type 0
+HasChannel n path = channel_number n path < length n.channels
+
+abbrev pub HasTimer : Numbering → Path → Type 0
+HasTimer n path = timer_number n path < length n.timers
+
+-- a port of this direction is in the kernel's list
+pub record HasPort (ps : List PortUse) (number : ℕ) (d : TreeDir) : Type 0 where
+  pub port : PortUse
+  pub there : slice_get ps number ≡ Some port
+  pub direction : port.dir ≡ d
+
+abbrev pub head_of : Function → tree.Head
+head_of f = f.head
+
+-- an instance of what is declared so
+pub data Stands (n : NamedProgram) (fs : List Function) (ps : List PortUse) (num : Numbering) (t : List ℕ) : Option What → Entity → Type 0 where
+  a_variable : {u : Bool} {path : Path} → HasVariable num path false → Stands n fs ps num t (Some (what.Word u)) (a_word path u)
+  whole_array : {u : Bool} {l m : ℕ} {path : Path} → HasVariable num path true → Stands n fs ps num t (Some (what.Array u l)) (an_array path m u)
+  word_referred : {u : Bool} {path : Path} → HasVariable num path false → Stands n fs ps num t (Some (what.Ref u)) (a_word path u)
+  element_referred : {u : Bool} {path index : Path} → HasVariable num path true → HasVariable num index false → Stands n fs ps num t (Some (what.Ref u)) (an_element path index u)
+  array_referred : {u : Bool} {l : Option ℕ} {m : ℕ} {path : Path} → HasVariable num path true → Stands n fs ps num t (Some (what.ArrayParam u l)) (an_array path m u)
+  the_channel : {s : Bool} {path : Path} → HasChannel num path → Stands n fs ps num t (Some (what.Chan s)) (a_channel path)
+  the_end : {s : Bool} {path : Path} → HasChannel num path → Stands n fs ps num t (Some (what.End s)) (a_channel path)
+  the_timer : {path : Path} → HasTimer num path → Stands n fs ps num t (Some what.Timer) (a_timer path)
+  the_port : {d : TreeDir} {number : ℕ} → HasPort ps number d → Stands n fs ps num t (Some (what.Port d)) (a_port number)
+  port_given : {d : TreeDir} {number : ℕ} → HasPort ps number d → Stands n fs ps num t (Some (what.PortParam d)) (a_port number)
+  the_index : {v : ℕ} → Stands n fs ps num t (Some what.Index) (a_constant v)
+  -- functions aren't among the names of the copy; one is found by its name among the functions
+  the_function : {g : ℕ} → function_of n (Some (what.Func g)) ≡ option_map head_of (function_named fs t) → Stands n fs ps num t (Some (what.Func g)) nothing_known
+  none_there : Stands n fs ps num t None nothing_known
+
+-- in the copy's scope each name stands for what the stack of the text's open scopes has for it
+abbrev pub Agrees : NamedProgram → List Function → List PortUse → Numbering → Stack → Scope → Type 0
+Agrees n fs ps num st scope = (t : List ℕ) → Stands n fs ps num t (what_of (found st t)) (entity_of scope t)

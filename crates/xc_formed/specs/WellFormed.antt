@@ -1,0 +1,21 @@
+-- Kernels that are well formed, so that they can be compiled.
+use Rattle.xc_kernel.specs.Plain as kernel
+use Rattle.xc_formed.specs.Numbers.{VariablesAreRight}
+use Rattle.xc_formed.specs.Operands.{OperandsAreRight}
+use Rattle.xc_formed.specs.Levels.{LevelsAreFew}
+use Rattle.xc_formed.specs.Transfers.{TransfersAreRight, TransactionsAreListed}
+use Rattle.xc_formed.specs.Exits.{ExitsAreInside}
+
+pub record IsWellFormed (k : kernel.Kernel) : Type 0 where
+  -- each word is of a listed variable that is no array, and each element of one that is
+  pub variables : VariablesAreRight k
+  -- each operation has as many operands as its symbol takes
+  pub operands : OperandsAreRight k
+  -- each expression is at most 400 levels deep
+  pub levels : LevelsAreFew k
+  -- each output and input goes through a listed port of its direction, timer or channel, and waits for what that can tell
+  pub transfers : TransfersAreRight k
+  -- each transaction is on a listed channel
+  pub transactions : TransactionsAreListed k
+  -- what is left is a block around, in the same branch and transaction, and no two blocks around one place have one number
+  pub exits : ExitsAreInside k

@@ -1,0 +1,35 @@
+//! The laws, as contracts of functions that do nothing.
+
+ghost use Rattle.xc_formed.specs.Laws.{ExitsInside, KernelsOfProgramsWellFormed, KernelsWellFormed, LevelsFew, NamesResolve, NoInstanceMerged, NoInstanceTwice, OperandsRight, TextsRise, TransactionsListed, TransfersRight, VariablesRight};
+
+/// Each name means what the stack of open scopes has for it.
+#[tactic(auto, using(crate::proofs::Resolved::names_resolve))]
+pub fn names_resolve()
+    ensures { NamesResolve }
+{}
+
+/// The tokens of each text stand at rising places.
+pub fn tokens_rise()
+    ensures { TextsRise }
+{}
+
+/// In the copies of a program whose tokens stand at rising places no two instances have one path, so one path names one of them, and
+/// the kernel's lists have them all.
+#[tactic(auto, using(crate::proofs::Merged::none_twice, crate::proofs::Merged::none_merged))]
+pub fn no_instance_twice()
+    ensures twice { NoInstanceTwice }
+    ensures merged { NoInstanceMerged }
+{}
+
+/// Each kernel is well formed: the kernel of a program that breaks no rule of names, types and shapes, whose tokens stand at rising
+/// places, and whose tree no node is too deep in.
+pub fn kernels_are_formed()
+    ensures variables { VariablesRight }
+    ensures operands { OperandsRight }
+    ensures levels { LevelsFew }
+    ensures transfers { TransfersRight }
+    ensures transactions { TransactionsListed }
+    ensures exits { ExitsInside }
+    ensures whole { KernelsWellFormed }
+    ensures of_programs { KernelsOfProgramsWellFormed }
+{}
