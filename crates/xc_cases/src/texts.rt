@@ -1,10 +1,10 @@
 //! What comes of a text before it is shown.
 
 ghost use Rattle.std.specs.Prelude.{◌≤◌, length, IfSome};
-ghost use Rattle.xc_kernel.specs.Sound.{IsTyped};
+ghost use Rattle.xc_kernel.specs.Sound.{IsOfText, IsTyped};
 ghost use Rattle.xc_tree.specs.Depth as depth;
 ghost use Rattle.xc_tree.specs.Derives.{deepest};
-ghost use Rattle.xc_tree.specs.Programs.{IsParsed, IsRead};
+ghost use Rattle.xc_tree.specs.Programs.{IsParsed};
 ghost use Rattle.xc_tree.specs.Trees.{program_of};
 ghost use Rattle.xc_tree.specs.Types.Named.{named_of};
 
@@ -39,10 +39,11 @@ pub fn typed(alloc: Global, text: &[u8]) -> Option<Typed>
 }
 
 /// The tree of a text, if it has one.
+#[tactic(auto, using(crate::proofs::Reading::of_text))]
 pub fn tree_of(alloc: Global, text: &[u8]) -> Option<Tree>
     requires { length text.now ≤ 4194304 }
     ensures parsed { IfSome result (λ tree. IsParsed (program_of tree)) }
-    ensures read { IfSome result (λ tree. IsRead (program_of tree)) }
+    ensures text { IfSome result (λ tree. IsOfText (program_of tree)) }
     ensures shallow { IfSome result (λ tree. depth.of_program (program_of tree) ≤ deepest) }
 {
     let Ok(toks) = lex(alloc, text) else {

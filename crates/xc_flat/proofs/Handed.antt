@@ -37,7 +37,7 @@ ports_among (tree.port p ∷ items) = let h = ports_among items in omega (arith,
 -- what was read has fewer than 2^32 ports
 pub few_ports : {program : List tree.Item} {named : NamedProgram} {types : List Bool} → IsTyped program named types → length (ports program) < 2 ^ 32
 few_ports {program} typed =
-    let read = typed.read in
+    let read = typed.text.read in
     let all = few_names program (record { toks = read.toks; derived = read.derived; few = read.few }) in
     let among = ports_among program in
     let items = few_items program in

@@ -7,23 +7,22 @@ use Rattle.xc_tree.specs.Depth as depth
 use Rattle.xc_tree.specs.Derives.{deepest}
 use Rattle.xc_tree.specs.Names.Rules as names
 use Rattle.xc_tree.specs.Plain.{Item}
-use Rattle.xc_tree.specs.Programs.{IsRead}
 use Rattle.xc_tree.specs.Trees.{program_of}
 use Rattle.xc_tree.specs.Types.Named.{IsNamed, named_of}
 use Rattle.xc_tree.specs.Types.Sites.{unsigned_at}
-use Rattle.xc_kernel.specs.Sound.{IsTyped}
+use Rattle.xc_kernel.specs.Sound.{IsOfText, IsTyped}
 use Rattle.xc_cases.proofs.texts.typed.Goals as goal
 
 -- a program that was read and breaks no rule of names, with what its names mean
 record AreNamed (program : List Item) (named : Named) : Type 0 where
-  read : IsRead program
+  text : IsOfText program
   is_named : IsNamed program (named_of named)
   unbroken : (b : Broken) → names.Breaks program b → ⊥
 
 -- where it breaks no rule of types and shapes either, it is typed by the types of its expressions
 typed_by : (named : Named) (types : List Bool) → AreNamed (program_of named.tree) named → types ≡ unsigned_at (named_of named) → ((b : Broken) → checks.Breaks (named_of named) b → ⊥) → IsTyped (program_of named.tree) (named_of named) types
 typed_by named types known are sound = record {
-  read = known.read;
+  text = known.text;
   is_named = known.is_named;
   names = known.unbroken;
   types_and_shapes = sound;
@@ -47,7 +46,7 @@ pub returns-in-Ok-check-clause-typed : goal.returns-in-Ok-check-clause-typed
 returns-in-Ok-check-clause-typed c =
     typed_too c.in_ok-tree.tree c.in-Ok.named c.in-Ok-check.typed.named c.in-Ok-check.typed.unsigned_at
     c.in-Ok.ensures.tree c.in-Ok-check.ensures.named
-    (record { read = c.in_ok-tree.ensures.read; is_named = c.in-Ok.ensures.named; unbroken = c.in-Ok.ensures.unbroken })
+    (record { text = c.in_ok-tree.ensures.text; is_named = c.in-Ok.ensures.named; unbroken = c.in-Ok.ensures.unbroken })
     c.in-Ok-check.ensures.types c.in-Ok-check.ensures.unbroken
 
 -- src/texts.rt:20:1
