@@ -31,7 +31,7 @@ use Rattle.xc_kernel.specs.Plain as kernel
 use Rattle.xc_tree.specs.Symbols.{bracket}
 use Rattle.xc_kernel.specs.Paths.{Path, path_at}
 use Rattle.xc_kernel.specs.Numbering.{Numbering, variable_number, channel_number}
-use Rattle.xc_kernel.specs.Scopes.{Scope, Entity, a_word, an_array, an_element, entity_by, entity_of, with_name}
+use Rattle.xc_kernel.specs.Scopes.{is_unsigned, Scope, Entity, a_word, an_array, an_element, entity_by, entity_of, with_name}
 use Rattle.xc_kernel.specs.Expressions.{word_of, expression_in, place_in, two_operands, updated}
 use Rattle.xc_kernel.specs.Programs.{Function, function_named}
 use Rattle.xc_kernel.specs.Copy.{Copy, joined, followed_by, with_code, code_of}
@@ -115,7 +115,8 @@ module _ (n : NamedProgram) (fs : List Function) (ps : List PortUse) (num : Numb
       pub weaker : (e : kernel.Expression) → F e → E e
       pub ex : (e : tree.Expression) (k : ℕ) (st : Stack) (scope : Scope) → Known st scope → Resolves n k st (marks.of_expression e) → AllIn IsFine (site.of_expression n k e) → X e → F (expression_in num scope e)
       pub lval : (e : tree.Expression) (k : ℕ) (st : Stack) (scope : Scope) → Known st scope → Resolves n k st (marks.of_expression e) → AllIn IsFine (site.of_lval n k e) → V e → L (place_in num scope e)
-      pub updating : (e : tree.Expression) (k : ℕ) (st : Stack) (scope : Scope) → Known st scope → Resolves n k st (marks.of_expression e) → AllIn IsFine (site.of_lval n k e) → V e → (symbol : ℕ) → S symbol → (pos : Pos) (u : Bool) (v : kernel.Expression) → F v → E (updated num scope e symbol pos u v)
+      pub updating : (e : tree.Expression) (k : ℕ) (st : Stack) (scope : Scope) → Known st scope → Resolves n k st (marks.of_expression e) → AllIn IsFine (site.of_lval n k e) → V e → (symbol : ℕ) → S symbol → (pos : Pos) (value : tree.Expression) (j : ℕ) → Resolves n j st (marks.of_expression value) → AllIn IsFine (site.of_expression n j value) → X value → E (updated num scope e symbol pos (is_unsigned scope value) (expression_in num scope value))
+      pub stepping : (e : tree.Expression) (k : ℕ) (st : Stack) (scope : Scope) → Known st scope → Resolves n k st (marks.of_expression e) → AllIn IsFine (site.of_lval n k e) → V e → (symbol : ℕ) → S symbol → (pos : Pos) → E (updated num scope e symbol pos false (kernel.number 1))
       pub testing : (v : kernel.Expression) → F v → (l : ℕ) (pos : Pos) → E (kernel.operation bracket true (two_operands v (kernel.number l)) pos)
       pub one : F (kernel.number 1)
       pub word : (path : Path) → HasVariable num path false → L (word_of num path)

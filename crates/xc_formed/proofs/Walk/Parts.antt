@@ -123,9 +123,8 @@ module _ (n : NamedProgram) (fs : List Function) (ps : List PortUse) (num : Numb
         assign_well c scope st around k to symbol pos (tree.value e) false s rs g v y x o m =
             let r2 = quiet_split n k st (marks.of_expression to) (marks.of_expression e) (quiet_expression to) rs in
             let g2 = split IsFine (site.of_lval n k to) _ g in
-            let low = leaves.ex e (past k (marks.of_expression to)) st scope s.known r2.1 g2.1 x in
             let up = subst (λ (q : Numbering). E (updated q scope to symbol pos (right_is_unsigned scope (tree.value e)) (expression_in q scope e))) (sym s.numbers)
-            (leaves.updating to k st scope s.known r2.0 g2.0 v symbol y pos (right_is_unsigned scope (tree.value e)) (expression_in num scope e) low) in
+            (leaves.updating to k st scope s.known r2.0 g2.0 v symbol y pos e (past k (marks.of_expression to)) r2.1 g2.1 x) in
             record { code = (((walk.lval_at n fs ps num X V S E F L Z O I T leaves gs) c scope st around k to s r2.0 g2.0 v, up), tt); scope = s.known }
         assign_well c scope st around k to symbol pos (tree.result call) false s rs g v y x o m = absurd o
 
@@ -133,7 +132,7 @@ module _ (n : NamedProgram) (fs : List Function) (ps : List PortUse) (num : Numb
         step_well c scope st around k to symbol pos s r g v y = (
           (
             (walk.lval_at n fs ps num X V S E F L Z O I T leaves gs) c scope st around k to s r g v,
-            subst (λ (q : Numbering). E (updated q scope to symbol pos false (kernel.number 1))) (sym s.numbers) (leaves.updating to k st scope s.known r g v symbol y pos false (kernel.number 1) leaves.one),
+            subst (λ (q : Numbering). E (updated q scope to symbol pos false (kernel.number 1))) (sym s.numbers) (leaves.stepping to k st scope s.known r g v symbol y pos),
           ),
           tt,
         )
