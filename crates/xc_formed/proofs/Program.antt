@@ -28,7 +28,6 @@ use Rattle.xc_formed.specs.Stacks.{Frame, outer, found_in}
 use Rattle.xc_formed.specs.Standing.{head_of, Agrees, Stands, a_variable, whole_array, word_referred, element_referred, array_referred, the_channel, the_end, the_timer, the_port, port_given, the_index, the_function, none_there}
 use Rattle.xc_formed.specs.Each.{EachRoot}
 use Rattle.xc_formed.specs.Exits.{EachRootLeaves}
-use Rattle.xc_formed.specs.Numbers.{IsListed}
 use Rattle.xc_formed.specs.Rising.{IsRising}
 use Rattle.xc_formed.proofs.Shaped.{Assigns}
 use Rattle.xc_formed.proofs.Grammar.{AllOf, program_shaped}
@@ -40,8 +39,7 @@ use Rattle.xc_formed.proofs.Resolved.{names_resolve, outer_differ}
 use Rattle.xc_formed.proofs.Outside.{Among, bottom, decl_of_item, outer_item, found_there}
 use Rattle.xc_formed.proofs.Functions.{functions_right, right_named, outside_known}
 use Rattle.xc_formed.proofs.Instances.{program_variables, program_channels, program_timers, program_blocks}
-use Rattle.xc_formed.proofs.Transferred.{OutGoes, InGoes}
-use Rattle.xc_formed.proofs.Right.{IsShallow, IsShallowLval, Lower, IsRight, IsRightPlace, IsOne, right_leaves}
+use Rattle.xc_formed.proofs.Right.{IsShallow, IsShallowLval}
 use Rattle.xc_formed.proofs.Shallow.{IsGrown, all_grown, grown_named, any_statement, body_shaped}
 use Rattle.xc_formed.proofs.Rising.{functions_differ}
 use Rattle.xc_formed.proofs.Leaving.{IsFineOf, calls_good, roots_good}
