@@ -37,7 +37,7 @@ use Rattle.xc_formed.proofs.Walk.Roots as rooted_walk
 use Rattle.xc_formed.proofs.FineSites.{fine_sites}
 use Rattle.xc_formed.proofs.Resolved.{names_resolve, outer_differ}
 use Rattle.xc_formed.proofs.Outside.{Among, bottom, decl_of_item, outer_item, found_there}
-use Rattle.xc_formed.proofs.Functions.{functions_right, right_named, outside_known}
+use Rattle.xc_formed.proofs.Functions.{functions_right, right_named, outside_known, outside_instance}
 use Rattle.xc_formed.proofs.Instances.{program_variables, program_channels, program_timers, program_blocks}
 use Rattle.xc_formed.proofs.Right.{IsShallow, IsShallowLval}
 use Rattle.xc_formed.proofs.Shallow.{IsGrown, all_grown, grown_named, any_statement, body_shaped}
@@ -134,9 +134,13 @@ module _ (P : List tree.Item) (n : NamedProgram) where
       right_by_name t f e = right_named n fs ps num IsShallow IsShallowLval Assigns E F L Z O I T gs fs all_right t f e
 
       pub ports_are : Agrees n fs ps num (gs ∷ []) (scope_of_ports 0 (ports P))
-      ports_are t = outside_known n fs ps num IsShallow IsShallowLval Assigns E F L Z O I T P 0 0 (outer_differ P n types typed)
-          (λ j x e. subst (λ (items : List tree.Item). slice_get items (0 + j) ≡ Some x) (sym typed.is_named.program_is) (subst (λ (u : ℕ). slice_get P u ≡ Some x) (zero_more j) e))
-          (λ j p e. record { port = port_use p; there = subst (λ (u : ℕ). slice_get ps u ≡ Some (port_use p)) (zero_more j) (port_there (ports P) j p e); direction = refl }) t refl
+      ports_are t = (
+        outside_known n fs ps num IsShallow IsShallowLval Assigns E F L Z O I T P 0 0 (outer_differ P n types typed)
+            (λ j x e. subst (λ (items : List tree.Item). slice_get items (0 + j) ≡ Some x) (sym typed.is_named.program_is) (subst (λ (u : ℕ). slice_get P u ≡ Some x) (zero_more j) e))
+            (λ j p e. record { port = port_use p; there = subst (λ (u : ℕ). slice_get ps u ≡ Some (port_use p)) (zero_more j) (port_there (ports P) j p e); direction = refl }) t refl,
+        outside_instance n fs ps num IsShallow IsShallowLval Assigns E F L Z O I T P 0 0
+            (λ j p e. (port_use p, subst (λ (u : ℕ). slice_get ps u ≡ Some (port_use p)) (zero_more j) (port_there (ports P) j p e), refl)) t,
+      )
 
       -- Main.
 
@@ -173,7 +177,7 @@ module _ (P : List tree.Item) (n : NamedProgram) where
       main_head k m =
           let d = decl_of_item (0 + k) (tree.function m.head m.body) in
           let at = found_there gs d name_of_main (outer_differ P n types typed) (item_among P 0 k (tree.function m.head m.body) m.there) ((bytes_eq-Decides m.head.name.text name_of_main).1 m.spelled) in
-          let found = subst (λ (w : Option What). FindsFunction name_of_main w) (ap what_of at) (finds name_of_main (what_of (found_in gs name_of_main None)) (entity_of (scope_of_ports 0 (ports P)) name_of_main) (ports_are name_of_main)) in
+          let found = subst (λ (w : Option What). FindsFunction name_of_main w) (ap what_of at) (finds name_of_main (what_of (found_in gs name_of_main None)) (entity_of (scope_of_ports 0 (ports P)) name_of_main) (ports_are name_of_main).0) in
           sym (ap head_of_item (ap (λ (items : List tree.Item). slice_get items (0 + k)) typed.is_named.program_is ∙ (ap (slice_get P) (sym (zero_more k)) ∙ m.there))) ∙ found
 
       pub has_main : HasMain
