@@ -1,10 +1,12 @@
 -- The parts of what is right in a typed program's kernel, each by itself.
-use Rattle.std.proofs.Common.{◌≤◌, List, Bool, sym, subst}
+use Rattle.std.proofs.Common.{◌≤◌, List, Bool, sym, subst, map}
 use Rattle.xc_tree.specs.Plain as tree
 use Rattle.xc_tree.specs.Depth as depth
 use Rattle.xc_tree.specs.Derives.{deepest}
 use Rattle.xc_tree.specs.Types.Named.{NamedProgram}
 use Rattle.xc_kernel.specs.Plain as kernel
+use Rattle.xc_kernel.specs.Programs.{functions, ports}
+use Rattle.xc_kernel.specs.Ports.{port_use}
 use Rattle.xc_kernel.specs.Copies.{numbering, copy_of}
 use Rattle.xc_kernel.specs.Sound.{IsTyped}
 use Rattle.xc_formed.specs.Each.{AnyExpression, AnyPlace, AnyNumber, AnyOutput, AnyInput, EachRoot}
@@ -15,7 +17,7 @@ use Rattle.xc_formed.specs.Transfers.{GoesOut, ComesIn, TransfersAreRight, Trans
 use Rattle.xc_formed.specs.Exits.{ExitsAreInside}
 use Rattle.xc_formed.specs.Rising.{IsRising}
 use Rattle.xc_formed.specs.Laws.{VariablesRight, OperandsRight, LevelsFew, TransfersRight, TransactionsListed, ExitsInside, KernelsWellFormed, KernelsOfProgramsWellFormed}
-use Rattle.xc_formed.proofs.Right.{IsRight, IsRightPlace, IsOne}
+use Rattle.xc_formed.proofs.Right.{Lower, IsRight, IsRightPlace, IsOne, right_leaves}
 use Rattle.xc_formed.proofs.Weaker.{each_root}
 use Rattle.xc_formed.proofs.Program.{roots_right, roots_leave}
 
@@ -25,7 +27,7 @@ module _ (P : List tree.Item) (n : NamedProgram) (types : List Bool) (typed : Is
 
   all_right : EachRoot (IsRight (numbering P)) (IsRightPlace (numbering P)) (IsListed (numbering P).variables) (GoesOut K) (ComesIn K) (IsOne (numbering P)) K.roots
   unfolding copy_of
-  all_right = roots_right P n types typed rising low
+  all_right = roots_right P n (IsRight (numbering P)) (Lower (numbering P)) (IsRightPlace (numbering P)) (IsListed (numbering P).variables) (GoesOut K) (ComesIn K) (IsOne (numbering P)) (right_leaves n (functions P) (map port_use (ports P)) (numbering P)) types typed rising low
 
   variables : VariablesAreRight K
   unfolding copy_of
@@ -56,7 +58,7 @@ module _ (P : List tree.Item) (n : NamedProgram) (types : List Bool) (typed : Is
 
   exits : ExitsAreInside K
   unfolding copy_of
-  exits = roots_leave P n types typed rising
+  exits = roots_leave P n (IsRight (numbering P)) (Lower (numbering P)) (IsRightPlace (numbering P)) (IsListed (numbering P).variables) (GoesOut K) (ComesIn K) (IsOne (numbering P)) (right_leaves n (functions P) (map port_use (ports P)) (numbering P)) types typed rising
 
 -- so of each kernel that is such a copy
 pub variables_right : VariablesRight

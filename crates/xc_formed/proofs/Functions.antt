@@ -1,6 +1,7 @@
 -- Each function of a typed program stands in the scope of what is declared outside of functions.
 use Rattle.std.proofs.Common.{◌≡◌, ℕ, suc, ◌+◌, Bool, true, false, List, [], ◌∷◌, ◌++◌, slice_get, bytes_eq, Option, None, Some, option_map, refl, sym, ap, subst, ◌∙◌, arith}
 use Rattle.std.proofs.lemmas.Slice.Eq.{bytes_eq-Decides}
+use Rattle.xw_words.specs.declared.pos.Pos.{Pos}
 use Rattle.xc_tree.specs.declared.names.Decl.{Decl}
 use Rattle.xc_tree.specs.declared.names.What.TheVariants as what
 use Rattle.xc_tree.specs.declared.names.Mark.TheVariants.{Closes, Declares}
@@ -15,7 +16,7 @@ use Rattle.xc_kernel.specs.Scopes.{Entity, a_port, nothing_known, entity_by, ent
 use Rattle.xc_kernel.specs.Programs.{Function, functions, ports, function_by, function_named}
 use Rattle.xc_kernel.specs.Ports.{scope_of_ports}
 use Rattle.xc_formed.specs.Stacks.{Frame, Stack, decl_by, found_in, after, Resolves, outer}
-use Rattle.xc_formed.specs.Standing.{HasPort, head_of, Stands, the_port, the_function, none_there}
+use Rattle.xc_formed.specs.Standing.{IsInstance, HasPort, head_of, Stands, the_port, the_function, none_there}
 use Rattle.xc_formed.proofs.Text.Scopes as scopes
 use Rattle.xc_formed.proofs.Stacks.{resolves_both, scope_ends, quiet_skip, quiet_optional, quiet_place}
 use Rattle.xc_formed.proofs.Resolved.{NotNamed, AllNew}
@@ -128,3 +129,33 @@ module _ (n : NamedProgram) (fs : List Function) (ps : List PortUse) (num : Numb
         where
           no_more : (a : ℕ) → a ≡ a + 0
           no_more a = omega arith
+
+  -- a port is that of its declaration
+  abbrev PortAt : ℕ → Pos → Type 0
+  PortAt number pos = (port : PortUse) × (slice_get ps number ≡ Some port) × (port.pos ≡ pos)
+
+  pub outside_instance : (items : List tree.Item) (i m : ℕ) → ((j : ℕ) (p : tree.Port) → slice_get (ports items) j ≡ Some p → PortAt (m + j) p.name.pos) →
+      (t : List ℕ) → IsInstance ps (found_in (outer 0 (marks.of_items i items)) t None) (entity_of (scope_of_ports m (ports items)) t)
+  outside_instance [] i m at_ports t = tt
+  outside_instance (tree.port p ∷ items) i m at_ports t =
+      subst (λ (ds : List Decl). IsInstance ps (found_in ds t None) (entity_of (scope_of_ports m (ports (tree.port p ∷ items))) t)) (sym (outer_item i (tree.port p) (marks.of_items (i + 1) items)))
+      (by (bytes_eq p.name.text t) (subst (λ (u : ℕ). PortAt u p.name.pos) (none m) (at_ports 0 p refl)) (outside_instance items (i + 1) (m + 1) (λ j x q. subst (λ (u : ℕ). PortAt u x.name.pos) (shift m j) (at_ports (suc j) x q)) t))
+    where
+      shift : (a b : ℕ) → a + suc b ≡ (a + 1) + b
+      shift a b = omega arith
+
+      none : (a : ℕ) → a + 0 ≡ a
+      none a = omega arith
+
+      by : (b : Bool) → PortAt m p.name.pos → IsInstance ps (found_in (outer 0 (marks.of_items (i + 1) items)) t None) (entity_of (scope_of_ports (m + 1) (ports items)) t) →
+          IsInstance ps (decl_by b (decl_of_item i (tree.port p)) (found_in (outer 0 (marks.of_items (i + 1) items)) t None)) (entity_by b (a_port m) (entity_of (scope_of_ports (m + 1) (ports items)) t))
+      by true h r = h
+      by false h r = r
+  outside_instance (tree.function h body ∷ items) i m at_ports t =
+      subst (λ (ds : List Decl). IsInstance ps (found_in ds t None) (entity_of (scope_of_ports m (ports items)) t)) (sym (outer_item i (tree.function h body) (marks.of_items (i + 1) items)))
+      (by (bytes_eq h.name.text t) (outside_instance items (i + 1) m at_ports t))
+    where
+      by : (b : Bool) → IsInstance ps (found_in (outer 0 (marks.of_items (i + 1) items)) t None) (entity_of (scope_of_ports m (ports items)) t) →
+          IsInstance ps (decl_by b (decl_of_item i (tree.function h body)) (found_in (outer 0 (marks.of_items (i + 1) items)) t None)) (entity_of (scope_of_ports m (ports items)) t)
+      by true r = tt
+      by false r = r

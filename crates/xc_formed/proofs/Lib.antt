@@ -24,4 +24,6 @@ pub mod Right
 pub mod Program
 pub mod Weaker
 pub mod Formed
+pub mod Gives
+pub mod Sourced
 pub mod KernelExamples

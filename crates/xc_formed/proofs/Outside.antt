@@ -3,7 +3,7 @@ use Rattle.std.proofs.Common.{◌≡◌, ℕ, suc, ◌+◌, ◌⊎◌, inl, inr,
 use Rattle.xc_tree.specs.declared.names.Decl.{Decl}
 use Rattle.xc_tree.specs.declared.names.Mark.{Mark}
 use Rattle.xc_tree.specs.declared.names.Mark.TheVariants.{Opens, Closes, Declares, Uses, Calls}
-use Rattle.xc_tree.specs.Types.Named.{NamedProgram, what_of}
+use Rattle.xc_tree.specs.Types.Named.{NamedProgram}
 use Rattle.std.proofs.lemmas.Slice.Eq.{bytes_eq-Decides}
 use Rattle.xc_tree.specs.declared.names.What.TheVariants as what
 use Rattle.xc_tree.specs.Plain as plain
@@ -50,8 +50,8 @@ alike_resolves n [] k st su a r = tt
 alike_resolves n (Opens ∷ ms) k st su a r = alike_resolves n ms k ([] ∷ st) ([] ∷ su) (further a) r
 alike_resolves n (Closes ∷ ms) k st su a r = alike_resolves n ms k (popped st) (popped su) (alike_popped st su a) r
 alike_resolves n (Declares d ∷ ms) k st su a r = (alike_new d.name.text st su a r.0, alike_resolves n ms (k + 1) (with_decl d st) (with_decl d su) (alike_declared d st su a) r.1)
-alike_resolves n (Uses i ∷ ms) k st su a r = (r.0 ∙ ap what_of (alike_found st su i.text a), alike_resolves n ms (k + 1) st su a r.1)
-alike_resolves n (Calls i ∷ ms) k st su a r = (r.0 ∙ ap what_of (alike_found st su i.text a), alike_resolves n ms (k + 1) st su a r.1)
+alike_resolves n (Uses i ∷ ms) k st su a r = (r.0 ∙ alike_found st su i.text a, alike_resolves n ms (k + 1) st su a r.1)
+alike_resolves n (Calls i ∷ ms) k st su a r = (r.0 ∙ alike_found st su i.text a, alike_resolves n ms (k + 1) st su a r.1)
 
 -- Names that differ.
 

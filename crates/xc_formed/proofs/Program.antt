@@ -28,7 +28,6 @@ use Rattle.xc_formed.specs.Stacks.{Frame, outer, found_in}
 use Rattle.xc_formed.specs.Standing.{head_of, Agrees, Stands, a_variable, whole_array, word_referred, element_referred, array_referred, the_channel, the_end, the_timer, the_port, port_given, the_index, the_function, none_there}
 use Rattle.xc_formed.specs.Each.{EachRoot}
 use Rattle.xc_formed.specs.Exits.{EachRootLeaves}
-use Rattle.xc_formed.specs.Numbers.{IsListed}
 use Rattle.xc_formed.specs.Rising.{IsRising}
 use Rattle.xc_formed.proofs.Shaped.{Assigns}
 use Rattle.xc_formed.proofs.Grammar.{AllOf, program_shaped}
@@ -38,10 +37,9 @@ use Rattle.xc_formed.proofs.Walk.Roots as rooted_walk
 use Rattle.xc_formed.proofs.FineSites.{fine_sites}
 use Rattle.xc_formed.proofs.Resolved.{names_resolve, outer_differ}
 use Rattle.xc_formed.proofs.Outside.{Among, bottom, decl_of_item, outer_item, found_there}
-use Rattle.xc_formed.proofs.Functions.{functions_right, right_named, outside_known}
+use Rattle.xc_formed.proofs.Functions.{functions_right, right_named, outside_known, outside_instance}
 use Rattle.xc_formed.proofs.Instances.{program_variables, program_channels, program_timers, program_blocks}
-use Rattle.xc_formed.proofs.Transferred.{OutGoes, InGoes}
-use Rattle.xc_formed.proofs.Right.{IsShallow, IsShallowLval, Lower, IsRight, IsRightPlace, IsOne, right_leaves}
+use Rattle.xc_formed.proofs.Right.{IsShallow, IsShallowLval}
 use Rattle.xc_formed.proofs.Shallow.{IsGrown, all_grown, grown_named, any_statement, body_shaped}
 use Rattle.xc_formed.proofs.Rising.{functions_differ}
 use Rattle.xc_formed.proofs.Leaving.{IsFineOf, calls_good, roots_good}
@@ -113,121 +111,126 @@ module _ (P : List tree.Item) (n : NamedProgram) where
   abbrev num : Numbering
   num = numbering P
 
-  abbrev Right : Frame → Function → Type 0
-  Right gs f = walk.FunctionRight n fs ps num IsShallow IsShallowLval Assigns (IsRight num) (Lower num) (IsRightPlace num) (IsListed num.variables) (OutGoes n fs ps num) (InGoes n fs ps num) (IsOne num) gs f
+  module _ (E F : kernel.Expression → Type 0) (L : kernel.Place → Type 0) (Z : ℕ → Type 0) (O : kernel.Output → Type 0) (I : kernel.Input → Type 0) (T : ℕ → Type 0) (leaves : walk.Leaves n fs ps num IsShallow IsShallowLval Assigns E F L Z O I T) where
+    abbrev Right : Frame → Function → Type 0
+    Right gs f = walk.FunctionRight n fs ps num IsShallow IsShallowLval Assigns E F L Z O I T gs f
 
-  -- all code of roots is right
-  abbrev pub RootsRight : List kernel.Root → Type 0
-  RootsRight rs = EachRoot (IsRight num) (IsRightPlace num) (IsListed num.variables) (OutGoes n fs ps num) (InGoes n fs ps num) (IsOne num) rs
+    -- all code of roots is right
+    abbrev pub RootsRight : List kernel.Root → Type 0
+    RootsRight rs = EachRoot E L Z O I T rs
 
-  module _ (types : List Bool) (typed : IsTyped P n types) where
-    abbrev gs : Frame
-    gs = outer 0 (marks.of_items 0 P)
+    module _ (types : List Bool) (typed : IsTyped P n types) where
+      abbrev gs : Frame
+      gs = outer 0 (marks.of_items 0 P)
 
-    fine : AllIn IsFine (site.of_items n 0 0 P)
-    unfolding site.sites
-    fine = subst (λ (items : List tree.Item). AllIn IsFine (site.of_items n 0 0 items)) typed.is_named.program_is (fine_sites n typed.types_and_shapes)
+      fine : AllIn IsFine (site.of_items n 0 0 P)
+      unfolding site.sites
+      fine = subst (λ (items : List tree.Item). AllIn IsFine (site.of_items n 0 0 items)) typed.is_named.program_is (fine_sites n typed.types_and_shapes)
 
-    all_right : AllIn (Right gs) fs
-    all_right = functions_right n fs ps num IsShallow IsShallowLval Assigns (IsRight num) (Lower num) (IsRightPlace num) (IsListed num.variables) (OutGoes n fs ps num) (InGoes n fs ps num) (IsOne num) P 0 0 gs gs (outer_differ P n types typed) (bottom (λ t. refl)) (all_among gs gs (λ d a. a)) (names_resolve P n types typed) fine
+      all_right : AllIn (Right gs) fs
+      all_right = functions_right n fs ps num IsShallow IsShallowLval Assigns E F L Z O I T P 0 0 gs gs (outer_differ P n types typed) (bottom (λ t. refl)) (all_among gs gs (λ d a. a)) (names_resolve P n types typed) fine
 
-    right_by_name : (t : List ℕ) (f : Function) → function_named fs t ≡ Some f → Right gs f
-    right_by_name t f e = right_named n fs ps num IsShallow IsShallowLval Assigns (IsRight num) (Lower num) (IsRightPlace num) (IsListed num.variables) (OutGoes n fs ps num) (InGoes n fs ps num) (IsOne num) gs fs all_right t f e
+      right_by_name : (t : List ℕ) (f : Function) → function_named fs t ≡ Some f → Right gs f
+      right_by_name t f e = right_named n fs ps num IsShallow IsShallowLval Assigns E F L Z O I T gs fs all_right t f e
 
-    pub ports_are : Agrees n fs ps num (gs ∷ []) (scope_of_ports 0 (ports P))
-    ports_are t = outside_known n fs ps num IsShallow IsShallowLval Assigns (IsRight num) (Lower num) (IsRightPlace num) (IsListed num.variables) (OutGoes n fs ps num) (InGoes n fs ps num) (IsOne num) P 0 0 (outer_differ P n types typed)
-        (λ j x e. subst (λ (items : List tree.Item). slice_get items (0 + j) ≡ Some x) (sym typed.is_named.program_is) (subst (λ (u : ℕ). slice_get P u ≡ Some x) (zero_more j) e))
-        (λ j p e. record { port = port_use p; there = subst (λ (u : ℕ). slice_get ps u ≡ Some (port_use p)) (zero_more j) (port_there (ports P) j p e); direction = refl }) t refl
+      pub ports_are : Agrees n fs ps num (gs ∷ []) (scope_of_ports 0 (ports P))
+      ports_are t = (
+        outside_known n fs ps num IsShallow IsShallowLval Assigns E F L Z O I T P 0 0 (outer_differ P n types typed)
+            (λ j x e. subst (λ (items : List tree.Item). slice_get items (0 + j) ≡ Some x) (sym typed.is_named.program_is) (subst (λ (u : ℕ). slice_get P u ≡ Some x) (zero_more j) e))
+            (λ j p e. record { port = port_use p; there = subst (λ (u : ℕ). slice_get ps u ≡ Some (port_use p)) (zero_more j) (port_there (ports P) j p e); direction = refl }) t refl,
+        outside_instance n fs ps num IsShallow IsShallowLval Assigns E F L Z O I T P 0 0
+            (λ j p e. (port_use p, subst (λ (u : ℕ). slice_get ps u ≡ Some (port_use p)) (zero_more j) (port_there (ports P) j p e), refl)) t,
+      )
 
-    -- Main.
+      -- Main.
 
-    -- what is found by the name of a main without parameters
-    pub record HasMain : Type 0 where
-      pub main : Function
-      pub main_is : main_of P ≡ Some main
-      pub alone : main.head.params ≡ []
+      -- what is found by the name of a main without parameters
+      pub record HasMain : Type 0 where
+        pub main : Function
+        pub main_is : main_of P ≡ Some main
+        pub alone : main.head.params ≡ []
 
-    -- a function that is declared is the one that is found by its name
-    FindsFunction : List ℕ → Option What → Type 0
-    FindsFunction t (Some (what.Func g)) = function_of n (Some (what.Func g)) ≡ option_map head_of (function_named fs t)
-    FindsFunction t other = Unit {0}
+      -- a function that is declared is the one that is found by its name
+      FindsFunction : List ℕ → Option What → Type 0
+      FindsFunction t (Some (what.Func g)) = function_of n (Some (what.Func g)) ≡ option_map head_of (function_named fs t)
+      FindsFunction t other = Unit {0}
 
-    finds : (t : List ℕ) (w : Option What) (e : Entity) → Stands n fs ps num t w e → FindsFunction t w
-    unfolding FindsFunction
-    finds t _ _ (the_function h) = h
-    finds t _ _ (a_variable h) = tt
-    finds t _ _ (whole_array h) = tt
-    finds t _ _ (word_referred h) = tt
-    finds t _ _ (element_referred h g) = tt
-    finds t _ _ (array_referred h) = tt
-    finds t _ _ (the_channel h) = tt
-    finds t _ _ (the_end h) = tt
-    finds t _ _ (the_timer h) = tt
-    finds t _ _ (the_port h) = tt
-    finds t _ _ (port_given h) = tt
-    finds t _ _ the_index = tt
-    finds t _ _ none_there = tt
+      finds : (t : List ℕ) (w : Option What) (e : Entity) → Stands n fs ps num t w e → FindsFunction t w
+      unfolding FindsFunction
+      finds t _ _ (the_function h) = h
+      finds t _ _ (a_variable h) = tt
+      finds t _ _ (whole_array h) = tt
+      finds t _ _ (word_referred h) = tt
+      finds t _ _ (element_referred h g) = tt
+      finds t _ _ (array_referred h) = tt
+      finds t _ _ (the_channel h) = tt
+      finds t _ _ (the_end h) = tt
+      finds t _ _ (the_timer h) = tt
+      finds t _ _ (the_port h) = tt
+      finds t _ _ (port_given h) = tt
+      finds t _ _ the_index = tt
+      finds t _ _ none_there = tt
 
-    -- so is a main without parameters
-    main_head : (k : ℕ) (m : names.IsMain P k) → Some m.head ≡ option_map head_of (main_of P)
-    unfolding FindsFunction
-    main_head k m =
-        let d = decl_of_item (0 + k) (tree.function m.head m.body) in
-        let at = found_there gs d name_of_main (outer_differ P n types typed) (item_among P 0 k (tree.function m.head m.body) m.there) ((bytes_eq-Decides m.head.name.text name_of_main).1 m.spelled) in
-        let found = subst (λ (w : Option What). FindsFunction name_of_main w) (ap what_of at) (finds name_of_main (what_of (found_in gs name_of_main None)) (entity_of (scope_of_ports 0 (ports P)) name_of_main) (ports_are name_of_main)) in
-        sym (ap head_of_item (ap (λ (items : List tree.Item). slice_get items (0 + k)) typed.is_named.program_is ∙ (ap (slice_get P) (sym (zero_more k)) ∙ m.there))) ∙ found
+      -- so is a main without parameters
+      main_head : (k : ℕ) (m : names.IsMain P k) → Some m.head ≡ option_map head_of (main_of P)
+      unfolding FindsFunction
+      main_head k m =
+          let d = decl_of_item (0 + k) (tree.function m.head m.body) in
+          let at = found_there gs d name_of_main (outer_differ P n types typed) (item_among P 0 k (tree.function m.head m.body) m.there) ((bytes_eq-Decides m.head.name.text name_of_main).1 m.spelled) in
+          let found = subst (λ (w : Option What). FindsFunction name_of_main w) (ap what_of at) (finds name_of_main (what_of (found_in gs name_of_main None)) (entity_of (scope_of_ports 0 (ports P)) name_of_main) (ports_are name_of_main).0) in
+          sym (ap head_of_item (ap (λ (items : List tree.Item). slice_get items (0 + k)) typed.is_named.program_is ∙ (ap (slice_get P) (sym (zero_more k)) ∙ m.there))) ∙ found
 
-    pub has_main : HasMain
-    has_main = by (main_of P) refl
-      where
-        none_some : (h : tree.Head) → Some h ≡ None → ⊥
-        none_some h q = cc
+      pub has_main : HasMain
+      has_main = by (main_of P) refl
+        where
+          none_some : (h : tree.Head) → Some h ≡ None → ⊥
+          none_some h q = cc
 
-        some_same : (a b : tree.Head) → Some a ≡ Some b → a ≡ b
-        some_same a b q = cc
+          some_same : (a b : tree.Head) → Some a ≡ Some b → a ≡ b
+          some_same a b q = cc
 
-        never : ((k : ℕ) → names.IsMain P k → ⊥) → ⊥
-        never f = typed.names _ (names.without_main (record { no_main = f; place = refl }))
+          never : ((k : ℕ) → names.IsMain P k → ⊥) → ⊥
+          never f = typed.names _ (names.without_main (record { no_main = f; place = refl }))
 
-        with : (f : Function) → main_of P ≡ Some f → (qs : List Param) → f.head.params ≡ qs → HasMain
-        with f e [] q = record { main = f; main_is = e; alone = q }
-        with f e (x ∷ qs) q = absurd (never (λ k m. parts x qs (sym m.without ∙ (ap (λ (h : tree.Head). h.params) (some_same m.head f.head (main_head k m ∙ ap (option_map head_of) e)) ∙ q))))
-          where
-            parts : (y : Param) (ys : List Param) → [] ≡ y ∷ ys → ⊥
-            parts y ys r = cc
+          with : (f : Function) → main_of P ≡ Some f → (qs : List Param) → f.head.params ≡ qs → HasMain
+          with f e [] q = record { main = f; main_is = e; alone = q }
+          with f e (x ∷ qs) q = absurd (never (λ k m. parts x qs (sym m.without ∙ (ap (λ (h : tree.Head). h.params) (some_same m.head f.head (main_head k m ∙ ap (option_map head_of) e)) ∙ q))))
+            where
+              parts : (y : Param) (ys : List Param) → [] ≡ y ∷ ys → ⊥
+              parts y ys r = cc
 
-        by : (o : Option Function) → main_of P ≡ o → HasMain
-        by None e = absurd (never (λ k m. none_some m.head (main_head k m ∙ ap (option_map head_of) e)))
-        by (Some f) e = with f e f.head.params refl
+          by : (o : Option Function) → main_of P ≡ o → HasMain
+          by None e = absurd (never (λ k m. none_some m.head (main_head k m ∙ ap (option_map head_of) e)))
+          by (Some f) e = with f e f.head.params refl
 
-    fine_by_name : (t : List ℕ) (f : Function) → function_named fs t ≡ Some f → IsFineOf n f
-    fine_by_name t f e = let r = right_by_name t f e in record { at = r.body_at; fine = r.fine }
+      fine_by_name : (t : List ℕ) (f : Function) → function_named fs t ≡ Some f → IsFineOf n f
+      fine_by_name t f e = let r = right_by_name t f e in record { at = r.body_at; fine = r.fine }
 
-    -- what its roots leave are blocks around
-    pub roots_leave : IsRising P → EachRootLeaves (rooted P num).roots
-    roots_leave rising =
-        let d = program_differs P num (functions_differ P rising) in
-        roots_good n fs fine_by_name (calls_of P) (calls_good n fs fine_by_name (length fs)) (main_of P) (roots.context_of P num) refl (fine_by_name name_of_main) (record { differ = d.blocks; there = program_blocks P })
+      -- what its roots leave are blocks around
+      pub roots_leave : IsRising P → EachRootLeaves (rooted P num).roots
+      roots_leave rising =
+          let d = program_differs P num (functions_differ P rising) in
+          roots_good n fs fine_by_name (calls_of P) (calls_good n fs fine_by_name (length fs)) (main_of P) (roots.context_of P num) refl (fine_by_name name_of_main) (record { differ = d.blocks; there = program_blocks P })
 
-    module _ (rising : IsRising P) (low : depth.of_program P ≤ deepest) where
-      abbrev Made : Type 0
-      Made = walk.Made n fs ps num IsShallow IsShallowLval Assigns (IsRight num) (Lower num) (IsRightPlace num) (IsListed num.variables) (OutGoes n fs ps num) (InGoes n fs ps num) (IsOne num) (rooted P num).made
+      module _ (rising : IsRising P) (low : depth.of_program P ≤ deepest) where
+        abbrev Made : Type 0
+        Made = walk.Made n fs ps num IsShallow IsShallowLval Assigns E F L Z O I T (rooted P num).made
 
-      made : Made
-      made = record { variables = program_variables P (program_differs P num (functions_differ P rising)); channels = program_channels P; timers = program_timers P }
+        made : Made
+        made = record { variables = program_variables P (program_differs P num (functions_differ P rising)); channels = program_channels P; timers = program_timers P }
 
-      grown : AllOf IsGrown fs
-      grown = all_grown P (program_shaped typed.parsed.toks _ 0 (length typed.parsed.toks) P typed.parsed.derived) low
+        grown : AllOf IsGrown fs
+        grown = all_grown P (program_shaped typed.parsed.toks _ 0 (length typed.parsed.toks) P typed.parsed.derived) low
 
-      -- all code of the kernel is right
-      pub roots_right : RootsRight (rooted P num).roots
-      roots_right =
-          let m = has_main in
-          let main = m.main in
-          let r = right_by_name name_of_main main m.main_is in
-          let right_main : rooted_walk.MainRight n fs ps num IsShallow IsShallowLval Assigns (IsRight num) (Lower num) (IsRightPlace num) (IsListed num.variables) (OutGoes n fs ps num) (InGoes n fs ps num) (IsOne num) (right_leaves n fs ps num) gs right_by_name (length fs) main = record { right = r; alone = m.alone; form = λ e. form_of _ _ _ r.form (in_main main m.alone (named_so fs name_of_main main m.main_is)) e } in
-          let shaped = body_shaped fs grown (length fs) main (grown_named fs grown name_of_main main m.main_is) (any_statement (GoesWithin fs (length fs)) (calls_end P n types typed).each main.body) in
-          let all = subst (λ (o : Option Function). walk.Made n fs ps num IsShallow IsShallowLval Assigns (IsRight num) (Lower num) (IsRightPlace num) (IsListed num.variables) (OutGoes n fs ps num) (InGoes n fs ps num) (IsOne num) (roots.roots_of (calls_of P) o (roots.context_of P num)).made) m.main_is made in
-          let good = rooted_walk.roots_well n fs ps num IsShallow IsShallowLval Assigns (IsRight num) (Lower num) (IsRightPlace num) (IsListed num.variables) (OutGoes n fs ps num) (InGoes n fs ps num) (IsOne num) (right_leaves n fs ps num) gs right_by_name (length fs) main (roots.context_of P num) right_main shaped
-          (record { numbers = refl; functions_are = refl; ports_known = ports_are; known = ports_are }) all in
-          subst (λ (o : Option Function). RootsRight (roots.roots_of (calls_of P) o (roots.context_of P num)).roots) (sym m.main_is) good
+        -- all code of the kernel is right
+        pub roots_right : RootsRight (rooted P num).roots
+        roots_right =
+            let m = has_main in
+            let main = m.main in
+            let r = right_by_name name_of_main main m.main_is in
+            let right_main : rooted_walk.MainRight n fs ps num IsShallow IsShallowLval Assigns E F L Z O I T leaves gs right_by_name (length fs) main = record { right = r; alone = m.alone; form = λ e. form_of _ _ _ r.form (in_main main m.alone (named_so fs name_of_main main m.main_is)) e } in
+            let shaped = body_shaped fs grown (length fs) main (grown_named fs grown name_of_main main m.main_is) (any_statement (GoesWithin fs (length fs)) (calls_end P n types typed).each main.body) in
+            let all = subst (λ (o : Option Function). walk.Made n fs ps num IsShallow IsShallowLval Assigns E F L Z O I T (roots.roots_of (calls_of P) o (roots.context_of P num)).made) m.main_is made in
+            let good = rooted_walk.roots_well n fs ps num IsShallow IsShallowLval Assigns E F L Z O I T leaves gs right_by_name (length fs) main (roots.context_of P num) right_main shaped
+            (record { numbers = refl; functions_are = refl; ports_known = ports_are; known = ports_are }) all in
+            subst (λ (o : Option Function). RootsRight (roots.roots_of (calls_of P) o (roots.context_of P num)).roots) (sym m.main_is) good

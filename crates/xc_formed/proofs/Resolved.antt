@@ -13,9 +13,9 @@ use Rattle.xc_tree.specs.Names.Marks as marks
 use Rattle.xc_tree.specs.Names.Scopes.{to_end, end_of, IsKnown, IsWithin, Means}
 use Rattle.xc_tree.specs.Names.Rules as names
 use Rattle.xc_tree.specs.Names.Uses.{Entries, AreUses, IsUse, none, past_begin, past_end, declared, used, declarations, number_of}
-use Rattle.xc_tree.specs.Types.Named.{NamedProgram, what_of, what_at, past}
+use Rattle.xc_tree.specs.Types.Named.{NamedProgram, past}
 use Rattle.xc_kernel.specs.Sound.{IsTyped}
-use Rattle.xc_formed.specs.Stacks.{Frame, Stack, decl_by, found_in, found, IsFresh, IsNew, Resolves, outer}
+use Rattle.xc_formed.specs.Stacks.{declared_at, Frame, Stack, decl_by, found_in, found, IsFresh, IsNew, Resolves, outer}
 use Rattle.xc_formed.proofs.Text.Scopes as scopes
 use Rattle.xc_formed.proofs.Text.Scopes.{Inner, to_end_past}
 use Rattle.xc_formed.proofs.Text.Uses.{past_both, one_further, numbered, Entry, below_or_at, at_end, longer, next}
@@ -338,7 +338,7 @@ module _ (all : List Mark) where
       in_range (y ∷ xs) (suc l) x e = let g = in_range xs l x e in omega arith
 
       use_is : (ms : List Mark) (m : Mark) (v k j : ℕ) (i : Id) (st : Stack) → slice_get all v ≡ Some m → ((x : Decl) → m ≡ Declares x → ⊥) → past 0 (take v all) ≡ k → Closing j ms → length st ≡ suc j → Entry all v i n.uses →
-          Levels v (λ l. v + suc (to_end l ms)) st → Complete v (λ l. v + suc (to_end l ms)) st → what_at n (slice_get n.uses k) ≡ what_of (found st i.text)
+          Levels v (λ l. v + suc (to_end l ms)) st → Complete v (λ l. v + suc (to_end l ms)) st → declared_at n (slice_get n.uses k) ≡ found st i.text
       use_is ms mark v k j i st at_v other names_before c long entry h complete =
           let d = entry.declaration in
           let m = entry.means in
@@ -349,7 +349,7 @@ module _ (all : List Mark) where
           let there : found st i.text ≡ Some m.declared.decl =
           find v i.text d m st (λ l. v + suc (to_end l ms)) k_in.level k_in.frame h k_in.there k_in.among k_in.ends (λ l less. omega arith)
           (λ l less. let g = ends_differ ms j l k_in.level c less (omega arith) in omega arith) in
-          ap (what_at n) (ap (slice_get n.uses) (sym names_before) ∙ entry.entry) ∙ ap what_of (ap (λ (ds : List Decl). slice_get ds (number_of all d)) decls ∙ numbered all d m.declared.decl m.declared.there) ∙ ap what_of (sym there)
+          ap (declared_at n) (ap (slice_get n.uses) (sym names_before) ∙ entry.entry) ∙ (ap (λ (ds : List Decl). slice_get ds (number_of all d)) decls ∙ numbered all d m.declared.decl m.declared.there) ∙ sym there
         where
           still : (entry.declaration ≤ v) ⊎ (end_of all entry.declaration ≡ length all) → Seen v entry.declaration
           still (inr g) = inr g

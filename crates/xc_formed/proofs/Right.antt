@@ -45,11 +45,18 @@ module _ (n : NamedProgram) (fs : List Function) (ps : List PortUse) (num : Numb
     weaker = λ e h. let l = h.1.1 in (h.0, (h.1.0, omega arith));
     ex = λ e k st scope a r g x. (expression_well n fs ps num st scope a e k r g, (has_operands num scope e x.0, (let d = x.1 in let l = few_levels num scope e in omega arith)));
     lval = λ e k st scope a r g x. (lval_well n fs ps num st scope a e k r g x.0, (place_operands num scope e x.1.0, (let d = x.1.1 in let l = place_levels num scope e in omega arith)));
-    updating = λ e k st scope a r g x symbol y pos u v h. (
-      (lval_read n fs ps num st scope a e k r g x.0, (h.0, tt)),
+    updating = λ e k st scope a r g x symbol y pos value j rv gv xv. (
+      (lval_read n fs ps num st scope a e k r g x.0, (expression_well n fs ps num st scope a value j rv gv, tt)),
       (
-        (y, (has_operands num scope e x.1.0, (h.1.0, tt))),
-        (let d = x.1.1 in let l = few_levels num scope e in let b = h.1.1 in omega arith),
+        (y, (has_operands num scope e x.1.0, (has_operands num scope value xv.0, tt))),
+        (let d = x.1.1 in let l = few_levels num scope e in let b = xv.1 in let m = few_levels num scope value in omega arith),
+      ),
+    );
+    stepping = λ e k st scope a r g x symbol y pos. (
+      (lval_read n fs ps num st scope a e k r g x.0, (tt, tt)),
+      (
+        (y, (has_operands num scope e x.1.0, (tt, tt))),
+        (let d = x.1.1 in let l = few_levels num scope e in omega arith),
       ),
     );
     testing = λ v h l pos. ((h.0, (tt, tt)), ((refl, (h.1.0, (tt, tt))), (let b = h.1.1 in omega arith)));

@@ -20,6 +20,8 @@ use Rattle.xc_formed.specs.WellFormed.{IsWellFormed}
 use Rattle.xc_formed.specs.Rising.{TokensRise, IsRising}
 use Rattle.xc_formed.specs.Once.{NoneTwice}
 use Rattle.xc_formed.specs.Stacks.{Resolves, outer}
+use Rattle.xc_formed.specs.Each.{AnyNumber, EachRoot}
+use Rattle.xc_formed.specs.Sources.{HasSource, PlaceHasSource, OutputHasSource, InputHasSource}
 
 -- each name of a typed program means what the stack of open scopes has for it, where all that is declared outside of functions
 -- is known from the begin
@@ -79,3 +81,11 @@ KernelsWellFormed = OfEachKernel IsWellFormed
 -- and so is each kernel that is handed to the rules of needs, or kept as one that breaks none of them.
 abbrev pub KernelsOfProgramsWellFormed : Type 0
 KernelsOfProgramsWellFormed = (K : kernel.Kernel) (o : IsOfProgram K) → IsRising o.program → IsWellFormed K
+
+-- Each expression and place of such a kernel comes from the text, where each name means what `uses` has for it and each operation has
+-- the type that `unsigned_at` tells, and each output and input goes through what its name stands for there.
+abbrev pub CodeHasSource : Type 0
+CodeHasSource =
+    (P : List tree.Item) (n : NamedProgram) (types : List Bool) (K : kernel.Kernel) →
+    IsTyped P n types → IsRising P → depth.of_program P ≤ deepest → Copies P K →
+    EachRoot (HasSource P n) (PlaceHasSource P n) AnyNumber (OutputHasSource P n) (InputHasSource P n) AnyNumber K.roots

@@ -10,4 +10,5 @@ pub mod Once
 pub mod WellFormed
 pub mod Stacks
 pub mod Standing
+pub mod Sources
 pub mod Laws

@@ -1,13 +1,15 @@
 -- What a name stands for in the copy of a program, against what the name is declared as.
 use Rattle.std.specs.Prelude.{◌≡◌, ℕ, ◌<◌, Bool, true, false, List, length, Option, Some, None, slice_get, option_map}
 use Rattle.xc_tree.specs.declared.tree.TreeDir.{TreeDir}
+use Rattle.xw_words.specs.declared.pos.Pos.{Pos}
+use Rattle.xc_tree.specs.declared.names.Decl.{Decl}
 use Rattle.xc_tree.specs.declared.names.What.{What}
 use Rattle.xc_tree.specs.declared.names.What.TheVariants as what
 use Rattle.xc_tree.specs.Plain as tree
 use Rattle.xc_tree.specs.Types.Named.{NamedProgram, what_of, function_of}
 use Rattle.xc_kernel.specs.declared.kernel.Var.{Var}
 use Rattle.xc_kernel.specs.declared.kernel.PortUse.{PortUse}
-use Rattle.xc_kernel.specs.Paths.{Path}
+use Rattle.xc_kernel.specs.Paths.{Path, path_at}
 use Rattle.xc_kernel.specs.Numbering.{Numbering, variable_number, channel_number, timer_number}
 use Rattle.xc_kernel.specs.Scopes.{Scope, Entity, a_word, an_array, an_element, a_channel, a_timer, a_port, a_constant, nothing_known, entity_of}
 use Rattle.xc_kernel.specs.Programs.{Function, function_named}
@@ -51,6 +53,45 @@ pub data Stands (n : NamedProgram) (fs : List Function) (ps : List PortUse) (num
   the_function : {g : ℕ} → function_of n (Some (what.Func g)) ≡ option_map head_of (function_named fs t) → Stands n fs ps num t (Some (what.Func g)) nothing_known
   none_there : Stands n fs ps num t None nothing_known
 
--- in the copy's scope each name stands for what the stack of the text's open scopes has for it
+-- an instance is named by the place where it is declared, behind some path
+abbrev pub EndsAt : Path → Pos → Type 0
+EndsAt path pos = (own : Path) × (path ≡ path_at own pos)
+
+abbrev pub IsWordAt : Pos → Entity → Type 0
+IsWordAt pos (a_word path u) = EndsAt path pos
+IsWordAt pos other = ⊥
+
+abbrev pub IsArrayAt : Pos → Entity → Type 0
+IsArrayAt pos (an_array path length u) = EndsAt path pos
+IsArrayAt pos other = ⊥
+
+abbrev pub IsChannelAt : Pos → Entity → Type 0
+IsChannelAt pos (a_channel path) = EndsAt path pos
+IsChannelAt pos other = ⊥
+
+abbrev pub IsTimerAt : Pos → Entity → Type 0
+IsTimerAt pos (a_timer path) = EndsAt path pos
+IsTimerAt pos other = ⊥
+
+abbrev pub IsPortAt : List PortUse → Pos → Entity → Type 0
+IsPortAt ps pos (a_port number) = (port : PortUse) × (slice_get ps number ≡ Some port) × (port.pos ≡ pos)
+IsPortAt ps pos other = ⊥
+
+-- what is declared at a place as this; a parameter by reference, for an array, an end or a port stands for what the call gives it
+abbrev pub InstanceOf : List PortUse → Pos → What → Entity → Type 0
+InstanceOf ps pos (what.Word u) x = IsWordAt pos x
+InstanceOf ps pos (what.Array u l) x = IsArrayAt pos x
+InstanceOf ps pos (what.Chan s) x = IsChannelAt pos x
+InstanceOf ps pos what.Timer x = IsTimerAt pos x
+InstanceOf ps pos (what.Port d) x = IsPortAt ps pos x
+InstanceOf ps pos other x = Unit {0}
+
+-- an instance of a declaration
+abbrev pub IsInstance : List PortUse → Option Decl → Entity → Type 0
+IsInstance ps None x = Unit {0}
+IsInstance ps (Some d) x = InstanceOf ps d.name.pos d.what x
+
+-- in the copy's scope each name stands for an instance of what the stack of the text's open scopes has for it
 abbrev pub Agrees : NamedProgram → List Function → List PortUse → Numbering → Stack → Scope → Type 0
-Agrees n fs ps num st scope = (t : List ℕ) → Stands n fs ps num t (what_of (found st t)) (entity_of scope t)
+Agrees n fs ps num st scope =
+    (t : List ℕ) → Stands n fs ps num t (what_of (found st t)) (entity_of scope t) × IsInstance ps (found st t) (entity_of scope t)

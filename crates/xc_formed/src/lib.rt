@@ -5,4 +5,6 @@
 
 mod promised;
 
-pub use promised::{kernels_are_formed, names_resolve, no_instance_twice, tokens_rise};
+pub use promised::{
+    code_comes_from_text, kernels_are_formed, names_resolve, no_instance_twice, tokens_rise,
+};

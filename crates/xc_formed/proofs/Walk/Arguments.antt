@@ -31,7 +31,7 @@ use Rattle.xc_kernel.specs.Plain as kernel
 use Rattle.xc_tree.specs.Symbols.{bracket}
 use Rattle.xc_kernel.specs.Paths.{Path, path_at}
 use Rattle.xc_kernel.specs.Numbering.{Numbering, variable_number, channel_number}
-use Rattle.xc_kernel.specs.Scopes.{Scope, Entity, a_word, an_array, an_element, entity_by, entity_of, with_name}
+use Rattle.xc_kernel.specs.Scopes.{is_unsigned, Scope, Entity, a_word, an_array, an_element, entity_by, entity_of, with_name}
 use Rattle.xc_kernel.specs.Expressions.{word_of, expression_in, place_in, two_operands, updated}
 use Rattle.xc_kernel.specs.Programs.{Function, function_named}
 use Rattle.xc_kernel.specs.Copy.{Copy, joined, followed_by, with_code, code_of}
@@ -40,8 +40,8 @@ use Rattle.xc_kernel.specs.Parameters.{Passed, passed, all_passed, by_element, f
 use Rattle.xc_kernel.specs.Calls.{CopiesCall}
 use Rattle.xc_kernel.specs.Transfers.{output_of, input_of}
 use Rattle.xc_tree.specs.Shapes.Main.{is_channels_par_return, place_branches, statements_in}
-use Rattle.xc_formed.specs.Stacks.{Frame, Stack, decl_by, found, with_decl, after, IsFresh, Resolves}
-use Rattle.xc_formed.specs.Standing.{HasVariable, HasChannel, HasTimer, head_of, Stands, a_variable, whole_array, word_referred, element_referred, array_referred, the_channel, the_end, the_timer, the_port, port_given, the_index, the_function, none_there, Agrees}
+use Rattle.xc_formed.specs.Stacks.{declared_at, Frame, Stack, decl_by, found, with_decl, after, IsFresh, Resolves}
+use Rattle.xc_formed.specs.Standing.{InstanceOf, IsInstance, HasVariable, HasChannel, HasTimer, head_of, Stands, a_variable, whole_array, word_referred, element_referred, array_referred, the_channel, the_end, the_timer, the_port, port_given, the_index, the_function, none_there, Agrees}
 use Rattle.xc_formed.specs.Each.{EachStatement, EachOf}
 use Rattle.xc_formed.proofs.Shaped.{WaitsRight, ShapedArguments}
 use Rattle.xc_formed.proofs.Stacks.{quiet_split, quiet_argument}
@@ -89,11 +89,18 @@ module _ (n : NamedProgram) (fs : List Function) (ps : List PortUse) (num : Numb
   Standing t w e = Stands n fs ps num t w e
 
   -- a name at its place in the text
-  pub standing : (st : Stack) (scope : Scope) (k : ℕ) (t : List ℕ) → Known st scope → what_at n (slice_get n.uses k) ≡ what_of (found st t) → Standing t (what_at n (slice_get n.uses k)) (entity_of scope t)
-  standing st scope k t a e = subst (λ (w : Option What). Standing t w (entity_of scope t)) (sym e) (a t)
+  pub standing : (st : Stack) (scope : Scope) (k : ℕ) (t : List ℕ) → Known st scope → declared_at n (slice_get n.uses k) ≡ found st t → Standing t (what_at n (slice_get n.uses k)) (entity_of scope t)
+  standing st scope k t a e = subst (λ (w : Option What). Standing t w (entity_of scope t)) (sym (meant (slice_get n.uses k) ∙ ap what_of e)) (a t).0
+    where
+      meant : (o : Option ℕ) → what_at n o ≡ what_of (declared_at n o)
+      meant None = refl
+      meant (Some d) = refl
 
   -- one more name
-  declared_by : (b : Bool) (t : List ℕ) (d : Decl) (o : Option Decl) (x y : Entity) → (b ≡ true → Standing t (Some d.what) x) → Standing t (what_of o) y → Standing t (what_of (decl_by b d o)) (entity_by b x y)
+  abbrev pub Stood : List ℕ → Option Decl → Entity → Type 0
+  Stood t o x = Standing t (what_of o) x × IsInstance ps o x
+
+  declared_by : (b : Bool) (t : List ℕ) (d : Decl) (o : Option Decl) (x y : Entity) → (b ≡ true → Stood t (Some d) x) → Stood t o y → Stood t (decl_by b d o) (entity_by b x y)
   declared_by true t d o x y h g = h refl
   declared_by false t d o x y h g = g
 
@@ -101,9 +108,9 @@ module _ (n : NamedProgram) (fs : List Function) (ps : List PortUse) (num : Numb
   abbrev StandsAlways : What → Entity → Type 0
   StandsAlways w x = (t : List ℕ) → Standing t (Some w) x
 
-  pub with_declared : (st : Stack) (scope : Scope) (d : Decl) (x : Entity) → StandsAlways d.what x → Known st scope → Known (with_decl d st) (with_name scope d.name.text x)
-  with_declared [] scope d x h a t = declared_by (bytes_eq d.name.text t) t d None x (entity_of scope t) (λ e. h t) (a t)
-  with_declared (f ∷ st) scope d x h a t = declared_by (bytes_eq d.name.text t) t d (found (f ∷ st) t) x (entity_of scope t) (λ e. h t) (a t)
+  pub with_declared : (st : Stack) (scope : Scope) (d : Decl) (x : Entity) → StandsAlways d.what x → IsInstance ps (Some d) x → Known st scope → Known (with_decl d st) (with_name scope d.name.text x)
+  with_declared [] scope d x h i a t = declared_by (bytes_eq d.name.text t) t d None x (entity_of scope t) (λ e. (h t, i)) (a t)
+  with_declared (f ∷ st) scope d x h i a t = declared_by (bytes_eq d.name.text t) t d (found (f ∷ st) t) x (entity_of scope t) (λ e. (h t, i)) (a t)
 
   -- a new scope
   pub in_new : (st : Stack) (scope : Scope) → Known st scope → Known ([] ∷ st) scope
@@ -115,7 +122,8 @@ module _ (n : NamedProgram) (fs : List Function) (ps : List PortUse) (num : Numb
       pub weaker : (e : kernel.Expression) → F e → E e
       pub ex : (e : tree.Expression) (k : ℕ) (st : Stack) (scope : Scope) → Known st scope → Resolves n k st (marks.of_expression e) → AllIn IsFine (site.of_expression n k e) → X e → F (expression_in num scope e)
       pub lval : (e : tree.Expression) (k : ℕ) (st : Stack) (scope : Scope) → Known st scope → Resolves n k st (marks.of_expression e) → AllIn IsFine (site.of_lval n k e) → V e → L (place_in num scope e)
-      pub updating : (e : tree.Expression) (k : ℕ) (st : Stack) (scope : Scope) → Known st scope → Resolves n k st (marks.of_expression e) → AllIn IsFine (site.of_lval n k e) → V e → (symbol : ℕ) → S symbol → (pos : Pos) (u : Bool) (v : kernel.Expression) → F v → E (updated num scope e symbol pos u v)
+      pub updating : (e : tree.Expression) (k : ℕ) (st : Stack) (scope : Scope) → Known st scope → Resolves n k st (marks.of_expression e) → AllIn IsFine (site.of_lval n k e) → V e → (symbol : ℕ) → S symbol → (pos : Pos) (value : tree.Expression) (j : ℕ) → Resolves n j st (marks.of_expression value) → AllIn IsFine (site.of_expression n j value) → X value → E (updated num scope e symbol pos (is_unsigned scope value) (expression_in num scope value))
+      pub stepping : (e : tree.Expression) (k : ℕ) (st : Stack) (scope : Scope) → Known st scope → Resolves n k st (marks.of_expression e) → AllIn IsFine (site.of_lval n k e) → V e → (symbol : ℕ) → S symbol → (pos : Pos) → E (updated num scope e symbol pos false (kernel.number 1))
       pub testing : (v : kernel.Expression) → F v → (l : ℕ) (pos : Pos) → E (kernel.operation bracket true (two_operands v (kernel.number l)) pos)
       pub one : F (kernel.number 1)
       pub word : (path : Path) → HasVariable num path false → L (word_of num path)
@@ -389,7 +397,7 @@ module _ (n : NamedProgram) (fs : List Function) (ps : List PortUse) (num : Numb
       element_given c scope own pos spot u i t _ _ q f none_there e made = no e
 
       module _ (c : Context) (scope : Scope) (st : Stack) (around : Around) (s : Sits c scope st around) where
-        stands_here : (k : ℕ) (t : List ℕ) → what_at n (slice_get n.uses k) ≡ what_of (found st t) → Standing t (what_at n (slice_get n.uses k)) (entity_of scope t)
+        stands_here : (k : ℕ) (t : List ℕ) → declared_at n (slice_get n.uses k) ≡ found st t → Standing t (what_at n (slice_get n.uses k)) (entity_of scope t)
         stands_here k t e = standing st scope k t s.known e
 
         reference_form : (own : Path) (pos : Pos) (u : Bool) (f : tree.Form) (p : Pos) (k : ℕ) → Resolves n k st (marks.of_form p f) → AllIn IsFine (site.of_lval n k (tree.expression f p)) → X (tree.expression f p) → fits (Some (param.Ref u)) (given_form n k p f) ≡ true → AllIn VariableMade (form_by_reference c scope own pos p f).variables → PassedWell (what.Ref u) (form_by_reference c scope own pos p f)
@@ -437,9 +445,17 @@ module _ (n : NamedProgram) (fs : List Function) (ps : List PortUse) (num : Numb
         passed_well own pos (param.Port d) (tree.expression f p) k r g x q made = port_form d f p k r q
 
         -- all of them, behind which the parameters are known
+        -- a parameter by value is a word of its own
+        passed_instance : (own : Path) (pos : Pos) (kind : ParamKind) (e : tree.Expression) → InstanceOf ps pos (marks.what_of_param kind) (passed c scope own pos kind e).entity
+        passed_instance own pos (param.Value u) e = (own, refl)
+        passed_instance own pos (param.Ref u) e = tt
+        passed_instance own pos (param.Array u l) e = tt
+        passed_instance own pos (param.End b) e = tt
+        passed_instance own pos (param.Port d) e = tt
+
         pub record AllPassed (qs : List Param) (copy : Copy) : Type 0 where
           pub code : AllIn Good copy.code
-          pub entities : (t : List ℕ) → Standing t (what_of (param_found qs t (found (gs ∷ []) t))) (entity_of copy.scope t)
+          pub entities : (t : List ℕ) → Stood t (param_found qs t (found (gs ∷ []) t)) (entity_of copy.scope t)
 
         fewer : (a b : ℕ) → suc a ≡ suc b → a ≡ b
         fewer a b e = omega arith
@@ -458,7 +474,7 @@ module _ (n : NamedProgram) (fs : List Function) (ps : List PortUse) (num : Numb
             let rest = all_passed_well C own qs args (past k (marks.of_argument a)) r2.1 g2.1 x.1 (fewer (length args) (length qs) long) fit.1 m2.1 in
             record {
               code = both Good (passed c scope own q.name.pos q.kind a.value).code (all_passed c scope own qs args).code p.code rest.code;
-              entities = λ t. declared_by (bytes_eq q.name.text t) t (decl_of q) (param_found qs t (found (gs ∷ []) t)) (passed c scope own q.name.pos q.kind a.value).entity (entity_of (all_passed c scope own qs args).scope t) (λ e. p.entity t) (rest.entities t);
+              entities = λ t. declared_by (bytes_eq q.name.text t) t (decl_of q) (param_found qs t (found (gs ∷ []) t)) (passed c scope own q.name.pos q.kind a.value).entity (entity_of (all_passed c scope own qs args).scope t) (λ e. (p.entity t, passed_instance own q.name.pos q.kind a.value)) (rest.entities t);
             }
 
         -- what the call of a function means, by what its name is declared as

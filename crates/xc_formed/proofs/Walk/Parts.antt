@@ -80,19 +80,19 @@ module _ (n : NamedProgram) (fs : List Function) (ps : List PortUse) (num : Numb
             let m2 = (walk.made_both n fs ps num X V S E F L Z O I T) (Rattle.xc_kernel.specs.Context.declares_word c name.text name.pos u scope) (initial_copy copies c path r inner) m in
             let h = m2.0.variables.0 in
             let su = with_decl d st in
-            let sits = (walk.with_names n fs ps num X V S E F L Z O I T leaves gs) c scope inner st su around around (λ t. t) ((walk.with_declared n fs ps num) st scope d (a_word path u) (λ t. a_variable h) s.known) s in
+            let sits = (walk.with_names n fs ps num X V S E F L Z O I T leaves gs) c scope inner st su around around (λ t. t) ((walk.with_declared n fs ps num) st scope d (a_word path u) (λ t. a_variable h) (c.path, refl) s.known) s in
             let w = initial_well c path r inner su around (k + 1) sits h rs.1 g x m2.1 in
             (walk.at_stack n fs ps num X V S E F L Z O I T) su _ (kind_copy copies c scope name.text name.pos (tree.word u r)) (sym (quiet_after su (marks.optional marks.of_right r) (quiet_optional marks.of_right quiet_right r))) (record { code = w.code; scope = w.scope })
         kind_well c scope st around k name (tree.array u l p) s rs g x m =
             let d : Decl = record { name = name; what = what.Array u l } in
             let path = path_at c.path name.pos in
-            record { code = ((walk.zero_at_path n fs ps num X V S E F L Z O I T leaves gs) c s.numbers path true m.variables.0, tt); scope = (walk.with_declared n fs ps num) st scope d (an_array path l u) (λ t. whole_array m.variables.0) s.known }
+            record { code = ((walk.zero_at_path n fs ps num X V S E F L Z O I T leaves gs) c s.numbers path true m.variables.0, tt); scope = (walk.with_declared n fs ps num) st scope d (an_array path l u) (λ t. whole_array m.variables.0) (c.path, refl) s.known }
         kind_well c scope st around k name (tree.channel b) s rs g x m =
             let d : Decl = record { name = name; what = what.Chan b } in
-            record { code = tt; scope = (walk.with_declared n fs ps num) st scope d (a_channel (path_at c.path name.pos)) (λ t. the_channel m.channels.0) s.known }
+            record { code = tt; scope = (walk.with_declared n fs ps num) st scope d (a_channel (path_at c.path name.pos)) (λ t. the_channel m.channels.0) (c.path, refl) s.known }
         kind_well c scope st around k name tree.timer s rs g x m =
             let d : Decl = record { name = name; what = what.Timer } in
-            record { code = tt; scope = (walk.with_declared n fs ps num) st scope d (a_timer (path_at c.path name.pos)) (λ t. the_timer m.timers.0) s.known }
+            record { code = tt; scope = (walk.with_declared n fs ps num) st scope d (a_timer (path_at c.path name.pos)) (λ t. the_timer m.timers.0) (c.path, refl) s.known }
 
         followed_well : (st su sv : Stack) (a : Copy) (next : Scope → Copy) → (walk.Made n fs ps num X V S E F L Z O I T) (followed_by a next) → ((walk.Made n fs ps num X V S E F L Z O I T) a → (walk.Well n fs ps num X V S E F L Z O I T) su a) → ((walk.Well n fs ps num X V S E F L Z O I T) su a → (walk.Made n fs ps num X V S E F L Z O I T) (next a.scope) → (walk.Well n fs ps num X V S E F L Z O I T) sv (next a.scope)) → (walk.Well n fs ps num X V S E F L Z O I T) sv (followed_by a next)
         followed_well st su sv a next m h g =
@@ -123,9 +123,8 @@ module _ (n : NamedProgram) (fs : List Function) (ps : List PortUse) (num : Numb
         assign_well c scope st around k to symbol pos (tree.value e) false s rs g v y x o m =
             let r2 = quiet_split n k st (marks.of_expression to) (marks.of_expression e) (quiet_expression to) rs in
             let g2 = split IsFine (site.of_lval n k to) _ g in
-            let low = leaves.ex e (past k (marks.of_expression to)) st scope s.known r2.1 g2.1 x in
             let up = subst (λ (q : Numbering). E (updated q scope to symbol pos (right_is_unsigned scope (tree.value e)) (expression_in q scope e))) (sym s.numbers)
-            (leaves.updating to k st scope s.known r2.0 g2.0 v symbol y pos (right_is_unsigned scope (tree.value e)) (expression_in num scope e) low) in
+            (leaves.updating to k st scope s.known r2.0 g2.0 v symbol y pos e (past k (marks.of_expression to)) r2.1 g2.1 x) in
             record { code = (((walk.lval_at n fs ps num X V S E F L Z O I T leaves gs) c scope st around k to s r2.0 g2.0 v, up), tt); scope = s.known }
         assign_well c scope st around k to symbol pos (tree.result call) false s rs g v y x o m = absurd o
 
@@ -133,7 +132,7 @@ module _ (n : NamedProgram) (fs : List Function) (ps : List PortUse) (num : Numb
         step_well c scope st around k to symbol pos s r g v y = (
           (
             (walk.lval_at n fs ps num X V S E F L Z O I T leaves gs) c scope st around k to s r g v,
-            subst (λ (q : Numbering). E (updated q scope to symbol pos false (kernel.number 1))) (sym s.numbers) (leaves.updating to k st scope s.known r g v symbol y pos false (kernel.number 1) leaves.one),
+            subst (λ (q : Numbering). E (updated q scope to symbol pos false (kernel.number 1))) (sym s.numbers) (leaves.stepping to k st scope s.known r g v symbol y pos),
           ),
           tt,
         )
@@ -181,7 +180,7 @@ module _ (n : NamedProgram) (fs : List Function) (ps : List PortUse) (num : Numb
         target_known : (c : Context) (scope : Scope) (st : Stack) (t : tree.Target) → (walk.Known n fs ps num) st scope → (walk.Made n fs ps num X V S E F L Z O I T) (target_copy c scope t) → (walk.Known n fs ps num) (after st (marks.of_target t)) (target_copy c scope t).scope
         target_known c scope st (tree.to e) a m = subst (λ (x : Stack). (walk.Known n fs ps num) x scope) (sym (quiet_after st (marks.of_expression e) (quiet_expression e))) a
         target_known c scope st tree.dropped a m = a
-        target_known c scope st (tree.fresh u name) a m = (walk.with_declared n fs ps num) st scope (record { name = name; what = what.Word u }) (a_word (path_at c.path name.pos) u) (λ t. a_variable m.variables.0) a
+        target_known c scope st (tree.fresh u name) a m = (walk.with_declared n fs ps num) st scope (record { name = name; what = what.Word u }) (a_word (path_at c.path name.pos) u) (λ t. a_variable m.variables.0) (c.path, refl) a
 
         target_well : (c : Context) (scope : Scope) (st : Stack) (around : Around) (k : ℕ) (t : tree.Target) → (walk.Sits n fs ps num X V S E F L Z O I T leaves gs) c scope st around → Resolves n k st (marks.of_target t) → AllIn IsFine (site.of_target n k t) → ShapedTarget X V S C t → (walk.Made n fs ps num X V S E F L Z O I T) (target_copy c scope t) → EachPlace E L Z O I T (target_of c scope t)
         target_well c scope st around k (tree.to e) s r g x m = (walk.lval_at n fs ps num X V S E F L Z O I T leaves gs) c scope st around k e s r g x
@@ -321,7 +320,7 @@ module _ (n : NamedProgram) (fs : List Function) (ps : List PortUse) (num : Numb
             let one = branch_copy copies b (in_branch c index) inner in
             let others = (replicated (numbered_copy (branch_copy copies b) c scope name.text) (pos_of_branch b) scope count (index + 1) (number + 1)).made in
             let k = (walk.made_both n fs ps num X V S E F L Z O I T) (with_code (Rattle.xc_kernel.specs.Copy.in_scope_of scope one) []) others m in
-            let known = (walk.with_declared n fs ps num) ([] ∷ st) scope d (a_constant number) (λ t. the_index) ((walk.in_new n fs ps num) st scope s.known) in
+            let known = (walk.with_declared n fs ps num) ([] ∷ st) scope d (a_constant number) (λ t. the_index) tt ((walk.in_new n fs ps num) st scope s.known) in
             let x = rec (in_branch c index) inner ((walk.sits_in n fs ps num X V S E F L Z O I T leaves gs) c (in_branch c index) scope inner st (with_decl d ([] ∷ st)) around around refl refl refl refl (λ t. t) known s) (record { variables = k.0.variables; channels = k.0.channels; timers = k.0.timers }) in
             let y = numbered_well b c scope name st around s count (index + 1) (number + 1) rec k.1 in
             record { code = ((walk.as_statements n fs ps num X V S E F L Z O I T) one.code x, y.code); known = y.known }

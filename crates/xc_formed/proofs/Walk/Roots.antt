@@ -108,7 +108,7 @@ module _ (n : NamedProgram) (fs : List Function) (ps : List PortUse) (num : Numb
               let a = roots.branch_root calls main b (in_branch c index) inner in
               let rest = roots.numbered_roots calls main b name.text c scope count (index + 1) (number + 1) in
               let m1 = (walk.made_both n fs ps num X V S E F L Z O I T) (roots.root_in_scope_of calls scope a).made rest.made m in
-              let known = (walk.with_declared n fs ps num) ([] ∷ st) scope d (a_constant number) (λ t. the_index) ((walk.in_new n fs ps num) st scope s.known) in
+              let known = (walk.with_declared n fs ps num) ([] ∷ st) scope d (a_constant number) (λ t. the_index) tt ((walk.in_new n fs ps num) st scope s.known) in
               let w = root_well main b (in_branch c index) inner (with_decl d ([] ∷ st)) around k (other_names c index scope inner st (with_decl d ([] ∷ st)) known s) r g x (record { variables = m1.0.variables; channels = m1.0.channels; timers = m1.0.timers }) in
               more_roots a.roots rest.roots w.code (numbered_roots_well main b name c scope st around k count (index + 1) (number + 1) s r g x m1.1)
 
@@ -122,7 +122,7 @@ module _ (n : NamedProgram) (fs : List Function) (ps : List PortUse) (num : Numb
                   (walk.Known n fs ps num) (after st (marks.of_declaration (record { kind = kind; name = d.name }) ++ marks.each marks.of_declaration ds)) (declarations_copy calls c ds (kind_copy calls c scope d.name.text d.name.pos kind).scope).scope
               by (tree.channel b) q mm rest =
                   let y : Decl = record { name = d.name; what = what.Chan b } in
-                  rest (with_decl y st) _ ((walk.with_declared n fs ps num) st scope y (a_channel (path_at c.path d.name.pos)) (λ t. the_channel mm.0.channels.0) a) mm.1
+                  rest (with_decl y st) _ ((walk.with_declared n fs ps num) st scope y (a_channel (path_at c.path d.name.pos)) (λ t. the_channel mm.0.channels.0) (c.path, refl) a) mm.1
               by (tree.word u r) q mm rest = (walk.no n fs ps num X V S E F L Z O I T leaves gs) q
               by (tree.array u l p) q mm rest = (walk.no n fs ps num X V S E F L Z O I T leaves gs) q
               by tree.timer q mm rest = (walk.no n fs ps num X V S E F L Z O I T leaves gs) q

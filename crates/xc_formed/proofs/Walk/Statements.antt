@@ -6,7 +6,7 @@ use Rattle.xc_tree.specs.declared.names.What.TheVariants as what
 use Rattle.xc_tree.specs.declared.names.Mark.TheVariants.{Closes, Uses}
 use Rattle.xc_tree.specs.Plain as tree
 use Rattle.xc_tree.specs.Names.Marks as marks
-use Rattle.xc_tree.specs.Types.Named.{NamedProgram, what_of, past}
+use Rattle.xc_tree.specs.Types.Named.{NamedProgram, past}
 use Rattle.xc_tree.specs.Types.Calls.{arguments}
 use Rattle.xc_tree.specs.Types.Sites.{Site}
 use Rattle.xc_tree.specs.Types.Sites as site
@@ -389,7 +389,7 @@ module _ (n : NamedProgram) (fs : List Function) (ps : List PortUse) (num : Numb
             let res = result_well c (path_at own f.head.name.pos) f.head.name.pos scope f.head.result s.numbers m1.0 in
             let pw = (walk.all_passed_well n fs ps num X V S E F L Z O I T leaves gs) c scope st around s C own f.head.params args k r g x long fit m2.0.variables in
             let su = after ([] ∷ gs ∷ []) (marks.each marks.of_param f.head.params) in
-            let known : (walk.Known n fs ps num) su cp.scope = λ t. subst (λ (o : Option Decl). (walk.Standing n fs ps num) t (what_of o) (entity_of cp.scope t)) (sym ((walk.params_found n fs ps num X V S E F L Z O I T leaves gs) f.head.params fr.params_at [] gs [] t fr.params_new)) (pw.entities t) in
+            let known : (walk.Known n fs ps num) su cp.scope = λ t. subst (λ (o : Option Decl). (walk.Stood n fs ps num) t o (entity_of cp.scope t)) (sym ((walk.params_found n fs ps num X V S E F L Z O I T leaves gs) f.head.params fr.params_at [] gs [] t fr.params_new)) (pw.entities t) in
             let sits : (walk.Sits n fs ps num X V S E F L Z O I T leaves gs) inner cp.scope su (in_block_of f.head) = record { numbers = s.numbers; functions_are = s.functions_are; ports_known = s.ports_known; result_there = λ t. res.1 t.1; known = known } in
             let bw = body_well f.head f.body inner cp.scope su fr.body_at sits fr.resolves fr.fine shaped m2.1 in
             record {
