@@ -17,6 +17,7 @@ use Rattle.xc_formed.specs.Transfers.{GoesOut, ComesIn, TransfersAreRight, Trans
 use Rattle.xc_formed.specs.Exits.{ExitsAreInside}
 use Rattle.xc_formed.specs.Rising.{IsRising}
 use Rattle.xc_formed.specs.Laws.{VariablesRight, OperandsRight, LevelsFew, TransfersRight, TransactionsListed, ExitsInside, KernelsWellFormed, KernelsOfProgramsWellFormed}
+use Rattle.xc_formed.proofs.Rising.{of_text}
 use Rattle.xc_formed.proofs.Right.{Lower, IsRight, IsRightPlace, IsOne, right_leaves}
 use Rattle.xc_formed.proofs.Weaker.{each_root}
 use Rattle.xc_formed.proofs.Program.{roots_right, roots_leave}
@@ -62,32 +63,32 @@ module _ (P : List tree.Item) (n : NamedProgram) (types : List Bool) (typed : Is
 
 -- so of each kernel that is such a copy
 pub variables_right : VariablesRight
-variables_right P n types K typed rising low c = subst VariablesAreRight (sym c.is_copy) (variables P n types typed rising low)
+variables_right P n types K typed low c = subst VariablesAreRight (sym c.is_copy) (variables P n types typed (of_text P typed.text) low)
 
 pub operands_right : OperandsRight
-operands_right P n types K typed rising low c = subst OperandsAreRight (sym c.is_copy) (operands P n types typed rising low)
+operands_right P n types K typed low c = subst OperandsAreRight (sym c.is_copy) (operands P n types typed (of_text P typed.text) low)
 
 pub levels_few : LevelsFew
-levels_few P n types K typed rising low c = subst LevelsAreFew (sym c.is_copy) (levels P n types typed rising low)
+levels_few P n types K typed low c = subst LevelsAreFew (sym c.is_copy) (levels P n types typed (of_text P typed.text) low)
 
 pub transfers_right : TransfersRight
-transfers_right P n types K typed rising low c = subst TransfersAreRight (sym c.is_copy) (transfers P n types typed rising low)
+transfers_right P n types K typed low c = subst TransfersAreRight (sym c.is_copy) (transfers P n types typed (of_text P typed.text) low)
 
 pub transactions_listed : TransactionsListed
-transactions_listed P n types K typed rising low c = subst TransactionsAreListed (sym c.is_copy) (transactions P n types typed rising low)
+transactions_listed P n types K typed low c = subst TransactionsAreListed (sym c.is_copy) (transactions P n types typed (of_text P typed.text) low)
 
 pub exits_inside : ExitsInside
-exits_inside P n types K typed rising low c = subst ExitsAreInside (sym c.is_copy) (exits P n types typed rising low)
+exits_inside P n types K typed low c = subst ExitsAreInside (sym c.is_copy) (exits P n types typed (of_text P typed.text) low)
 
 pub well_formed : KernelsWellFormed
-well_formed P n types K typed rising low c = record {
-  variables = variables_right P n types K typed rising low c;
-  operands = operands_right P n types K typed rising low c;
-  levels = levels_few P n types K typed rising low c;
-  transfers = transfers_right P n types K typed rising low c;
-  transactions = transactions_listed P n types K typed rising low c;
-  exits = exits_inside P n types K typed rising low c;
+well_formed P n types K typed low c = record {
+  variables = variables_right P n types K typed low c;
+  operands = operands_right P n types K typed low c;
+  levels = levels_few P n types K typed low c;
+  transfers = transfers_right P n types K typed low c;
+  transactions = transactions_listed P n types K typed low c;
+  exits = exits_inside P n types K typed low c;
 }
 
 pub of_programs : KernelsOfProgramsWellFormed
-of_programs K o rising = well_formed o.program o.sound.named o.sound.types K o.sound.typed rising o.shallow o.copies
+of_programs K o = well_formed o.program o.sound.named o.sound.types K o.sound.typed o.shallow o.copies

@@ -6,7 +6,7 @@ use Rattle.xc_tree.specs.Depth.{of_expression, of_form}
 use Rattle.xc_kernel.specs.Plain as kernel
 use Rattle.xc_kernel.specs.Numbering.{Numbering}
 use Rattle.xc_kernel.specs.Scopes.{Scope, Entity, a_word, an_array, an_element, a_channel, a_timer, a_port, a_constant, nothing_known, entity_of}
-use Rattle.xc_kernel.specs.Expressions.{expression_in, form_in, place_in, place_of_entity, word_of_entity}
+use Rattle.xc_kernel.specs.Expressions.{expression_in, form_in, kernel_place, place_of_entity, word_of_entity}
 use Rattle.xc_formed.specs.Operands.{HasOperands, PlaceHasOperands}
 use Rattle.xc_formed.specs.Levels.{levels, levels_below}
 use Rattle.xc_formed.proofs.Shaped.{IsProper, IsProperForm}
@@ -81,7 +81,7 @@ module _ (num : Numbering) where
       form_levels (tree.cast u a) p = let x = few_levels a in omega arith
 
     -- of places that are assigned to
-    pub place_operands : (e : tree.Expression) → IsProper e → PlaceHasOperands (place_in num scope e)
+    pub place_operands : (e : tree.Expression) → IsProper e → PlaceHasOperands (kernel_place num scope e)
     place_operands (tree.expression (tree.name t) p) h = entity_operands (entity_of scope t) p
     place_operands (tree.expression (tree.index t i) p) h = has_operands i h
     place_operands (tree.expression (tree.number v u) p) h = tt
@@ -90,7 +90,7 @@ module _ (num : Numbering) where
     place_operands (tree.expression (tree.choice q a b) p) h = tt
     place_operands (tree.expression (tree.cast u a) p) h = tt
 
-    pub place_levels : (e : tree.Expression) → levels (kernel.read (place_in num scope e)) ≤ of_expression e + 1
+    pub place_levels : (e : tree.Expression) → levels (kernel.read (kernel_place num scope e)) ≤ of_expression e + 1
     place_levels (tree.expression (tree.name t) p) = let a = entity_levels (entity_of scope t) p in omega arith
     place_levels (tree.expression (tree.index t i) p) = let a = few_levels i in omega arith
     place_levels (tree.expression (tree.number v u) p) = omega arith

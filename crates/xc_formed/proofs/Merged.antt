@@ -7,7 +7,7 @@ use Rattle.xc_kernel.specs.Copies.{rooted, numbering}
 use Rattle.xc_kernel.proofs.Roots.{numbering_is_own}
 use Rattle.xc_formed.specs.Once.{NoneAt, PathsDiffer}
 use Rattle.xc_formed.specs.Laws.{NoInstanceTwice, NoInstanceMerged}
-use Rattle.xc_formed.proofs.Rising.{functions_differ}
+use Rattle.xc_formed.proofs.Rising.{functions_differ, of_text}
 use Rattle.xc_formed.proofs.Twice.{program_differs}
 
 module _ {V : Type 0} (path_of : V → Path) where
@@ -61,12 +61,12 @@ module _ {V : Type 0} (path_of : V → Path) where
   each_is xs d = all_kept [] xs (nothing_known xs) d
 
 pub none_twice : NoInstanceTwice
-none_twice P n rising = program_differs P n (functions_differ P rising)
+none_twice P n text = program_differs P n (functions_differ P (of_text P text))
 
 pub none_merged : NoInstanceMerged
-none_merged P rising =
+none_merged P text =
     let own = numbering_is_own P (numbering P) in
-    let d = none_twice P (numbering P) rising in
+    let d = none_twice P (numbering P) text in
     let made = (rooted P (numbering P)).made in
     record {
       variables = ap (λ (m : Numbering). m.variables) (sym own) ∙ each_is path_of_variable made.variables d.variables;

@@ -12,7 +12,7 @@ use Rattle.xc_kernel.specs.declared.kernel.PortUse.{PortUse}
 use Rattle.xc_kernel.specs.Paths.{Path}
 use Rattle.xc_kernel.specs.Numbering.{Numbering, variable_number}
 use Rattle.xc_kernel.specs.Scopes.{Scope, Entity}
-use Rattle.xc_kernel.specs.Expressions.{expression_in, place_in}
+use Rattle.xc_kernel.specs.Expressions.{expression_in, kernel_place}
 use Rattle.xc_kernel.specs.Programs.{Function}
 use Rattle.xc_formed.specs.Stacks.{Stack, Resolves}
 use Rattle.xc_formed.specs.Standing.{HasVariable, Stands, a_variable, whole_array, word_referred, element_referred, array_referred, the_channel, the_end, the_timer, the_port, port_given, the_index, the_function, none_there, Agrees}
@@ -103,7 +103,7 @@ module _ (n : NamedProgram) (fs : List Function) (ps : List PortUse) (num : Numb
           (expression_well q k r1.0 g1.0, (expression_well a k1 r2.0 g2.0, (expression_well b (past k1 (marks.of_expression a)) r2.1 g2.1, tt)))
       form_well (tree.cast u a) p k r g = expression_well a k r g.1
 
-    pub lval_well : (e : tree.Expression) (k : ℕ) → Resolves n k st (marks.of_expression e) → AllIn IsFine (site.of_lval n k e) → IsLval e → NumbersInPlace num.variables (place_in num scope e)
+    pub lval_well : (e : tree.Expression) (k : ℕ) → Resolves n k st (marks.of_expression e) → AllIn IsFine (site.of_lval n k e) → IsLval e → NumbersInPlace num.variables (kernel_place num scope e)
     lval_well (tree.expression (tree.name t) p) k r g x = place_well t _ _ p (standing n fs ps num st scope k t known r.0) g.0.0 g.0.1
     lval_well (tree.expression (tree.index t i) p) k r g x = (array_well t _ _ (standing n fs ps num st scope k t known r.0) g.0, expression_well i (k + 1) r.1 g.1.1)
     lval_well (tree.expression (tree.number v u) p) k r g x = absurd x

@@ -220,7 +220,7 @@ module _ (P : List tree.Item) (n : NamedProgram) where
         made = record { variables = program_variables P (program_differs P num (functions_differ P rising)); channels = program_channels P; timers = program_timers P }
 
         grown : AllOf IsGrown fs
-        grown = all_grown P (program_shaped typed.parsed.toks _ 0 (length typed.parsed.toks) P typed.parsed.derived) low
+        grown = all_grown P (program_shaped typed.text.read.toks _ 0 (length typed.text.read.toks) P typed.text.read.derived) low
 
         -- all code of the kernel is right
         pub roots_right : RootsRight (rooted P num).roots

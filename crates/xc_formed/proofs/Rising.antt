@@ -10,6 +10,7 @@ use Rattle.xc_tree.specs.Symbol.{Symbol, sym, key, a_name, a_number, many, maybe
 use Rattle.xc_tree.specs.Grammar.{Rule, Extent, rules, kept, declared, named as kind_named}
 use Rattle.xc_tree.specs.Derives.{Room, Among, position, extent, Derives, a_sym, a_key, named, counted, by_rule, Row, done, next}
 use Rattle.xc_kernel.specs.Programs.{functions}
+use Rattle.xc_kernel.specs.Sound.{IsOfText}
 use Rattle.xc_formed.specs.Rising.{TokensRise, IsRising}
 use Rattle.xc_formed.proofs.Places.{of_right, of_maybe_right, of_declarations, of_target, of_statement, of_action, of_maybe, of_statements, of_branch, of_branches, of_case, of_cases, of_params, of_function, In, Differ, FunctionDiffers}
 use Rattle.xc_formed.proofs.Spread.{halves}
@@ -365,3 +366,12 @@ each_differs (plain.function h b ∷ items) d =
 -- the functions of a program whose tokens rise have differing places
 pub functions_differ : (P : List plain.Item) → IsRising P → AllIn FunctionDiffers (functions P)
 functions_differ P r = each_differs P (differ r.toks r.rise 0 (length r.toks) (flat of_item P) (ups r.derived (record { line = 0; col = 0 })))
+
+-- what was read from a text rises
+pub of_text : (P : List plain.Item) → IsOfText P → IsRising P
+of_text P text = record {
+  toks = text.read.toks;
+  derived = text.read.derived;
+  few = text.read.few;
+  rise = record { lines = text.lines; rise = λ i j t u h e f. text.read.rising i j t u e f h };
+}

@@ -16,13 +16,14 @@ use Rattle.xc_kernel.specs.Operators.{operator_at, operator_of}
 use Rattle.xc_kernel.specs.Types.{word_is_unsigned, elements_are_unsigned, operation_is_unsigned, result_is_unsigned, sign_is_unsigned}
 use Rattle.xc_kernel.specs.Numbering.{Numbering}
 use Rattle.xc_kernel.specs.Scopes.{Scope, Entity, entity_of, type_of_entity, is_unsigned}
-use Rattle.xc_kernel.specs.Expressions.{expression_in, form_in, place_in, two_operands, one_operand, array_number, resource_of}
+use Rattle.xc_kernel.specs.Expressions.{expression_in, form_in, kernel_place, two_operands, one_operand, array_number, resource_of}
 use Rattle.xc_kernel.specs.Programs.{Function, functions, ports}
 use Rattle.xc_kernel.specs.Ports.{port_use}
 use Rattle.xc_kernel.specs.Copies.{numbering, copy_of}
 use Rattle.xc_kernel.specs.Sound.{IsTyped}
 use Rattle.xc_formed.specs.Each.{AnyNumber, EachRoot}
 use Rattle.xc_formed.specs.Rising.{IsRising}
+use Rattle.xc_formed.proofs.Rising.{of_text}
 use Rattle.xc_formed.specs.Stacks.{Stack, Resolves}
 use Rattle.xc_formed.specs.Standing.{Stands, a_variable, whole_array, word_referred, element_referred, array_referred, the_channel, the_end, the_timer, the_port, port_given, the_index, the_function, none_there, Agrees}
 use Rattle.xc_formed.specs.Sources.{typed, typed_form, typed_place, Simple, copied, result, always, HasSource, simple, updated, stepped, tested, PlaceHasSource, placed, own, OutputHasSource, InputHasSource}
@@ -124,7 +125,7 @@ module _ (n : NamedProgram) (fs : List Function) (ps : List PortUse) (num : Numb
           ∙ two_same (λ (y z : kernel.Expression). kernel.operation Rattle.xc_tree.specs.Symbols.question u (kernel.more_operands (typed n num scope k q) (two_operands y z)) p) (expression_in num scope a) (expression_in num scope b) (typed n num scope k1 a) (typed n num scope k2 b) (typed_is a k1 r2.0 x.1.0) (typed_is b k2 r2.1 x.1.1))
       typed_form_is (tree.cast u a) p k r x = typed_is a k r x
 
-    pub typed_place_is : (e : tree.Expression) (k : ℕ) → Resolves n k st (marks.of_expression e) → IsLval e → IsProper e → place_in num scope e ≡ typed_place n num scope k e
+    pub typed_place_is : (e : tree.Expression) (k : ℕ) → Resolves n k st (marks.of_expression e) → IsLval e → IsProper e → kernel_place num scope e ≡ typed_place n num scope k e
     typed_place_is (tree.expression (tree.name t) p) k r l x = refl
     typed_place_is (tree.expression (tree.index t i) p) k r l x = ap (λ (y : kernel.Expression). kernel.element (array_number num (entity_of scope t)) y p) (typed_is i (k + 1) r.1 x)
     typed_place_is (tree.expression (tree.number v u) p) k r l x = absurd l
@@ -196,5 +197,5 @@ unfolding copy_of
 of_copy P n types t r l = roots_right P n (HasSource P n) (Simple P n) (PlaceHasSource P n) AnyNumber (OutputHasSource P n) (InputHasSource P n) AnyNumber (sources P n) types t r l
 
 pub code_has_source : CodeHasSource
-code_has_source P n types K typed rising low c =
-    subst (λ (k : kernel.Kernel). EachRoot (HasSource P n) (PlaceHasSource P n) AnyNumber (OutputHasSource P n) (InputHasSource P n) AnyNumber k.roots) (sym c.is_copy) (of_copy P n types typed rising low)
+code_has_source P n types K typed low c =
+    subst (λ (k : kernel.Kernel). EachRoot (HasSource P n) (PlaceHasSource P n) AnyNumber (OutputHasSource P n) (InputHasSource P n) AnyNumber k.roots) (sym c.is_copy) (of_copy P n types typed (of_text P typed.text) low)

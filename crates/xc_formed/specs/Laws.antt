@@ -10,14 +10,14 @@ use Rattle.xc_tree.specs.Types.Named.{NamedProgram}
 use Rattle.xc_kernel.specs.Plain as kernel
 use Rattle.xc_kernel.specs.Numbering.{Numbering}
 use Rattle.xc_kernel.specs.Copies.{Copies, rooted, numbering}
-use Rattle.xc_kernel.specs.Sound.{IsTyped, IsOfProgram}
+use Rattle.xc_kernel.specs.Sound.{IsOfText, IsTyped, IsOfProgram}
 use Rattle.xc_formed.specs.Numbers.{VariablesAreRight}
 use Rattle.xc_formed.specs.Operands.{OperandsAreRight}
 use Rattle.xc_formed.specs.Levels.{LevelsAreFew}
 use Rattle.xc_formed.specs.Transfers.{TransfersAreRight, TransactionsAreListed}
 use Rattle.xc_formed.specs.Exits.{ExitsAreInside}
 use Rattle.xc_formed.specs.WellFormed.{IsWellFormed}
-use Rattle.xc_formed.specs.Rising.{TokensRise, IsRising}
+use Rattle.xc_formed.specs.Rising.{TokensRise}
 use Rattle.xc_formed.specs.Once.{NoneTwice}
 use Rattle.xc_formed.specs.Stacks.{Resolves, outer}
 use Rattle.xc_formed.specs.Each.{AnyNumber, EachRoot}
@@ -34,9 +34,9 @@ NamesResolve =
 abbrev pub TextsRise : Type 0
 TextsRise = (text : List ℕ) (toks : List Tok) → Lexes text toks → TokensRise toks
 
--- In the copies of a program whose tokens rise no two variables, channels, timers or blocks have one path,
+-- In the copies of a program that was read from a text no two variables, channels, timers or blocks have one path,
 abbrev pub NoInstanceTwice : Type 0
-NoInstanceTwice = (P : List tree.Item) (n : Numbering) → IsRising P → NoneTwice (rooted P n).made
+NoInstanceTwice = (P : List tree.Item) (n : Numbering) → IsOfText P → NoneTwice (rooted P n).made
 
 -- so the kernel's lists have all of them, in order.
 pub record HasEach (n : Numbering) (P : List tree.Item) : Type 0 where
@@ -46,14 +46,13 @@ pub record HasEach (n : Numbering) (P : List tree.Item) : Type 0 where
   pub blocks : n.blocks ≡ (rooted P n).made.blocks
 
 abbrev pub NoInstanceMerged : Type 0
-NoInstanceMerged = (P : List tree.Item) → IsRising P → HasEach (numbering P) P
+NoInstanceMerged = (P : List tree.Item) → IsOfText P → HasEach (numbering P) P
 
--- This holds of the kernel of each program that breaks no rule of names, types and shapes, whose tokens rise, and whose tree no node
--- is too deep in.
+-- This holds of the kernel of each program that breaks no rule of names, types and shapes, and whose tree no node is too deep in.
 abbrev pub OfEachKernel : (kernel.Kernel → Type 0) → Type 0
 OfEachKernel Holds =
     (P : List tree.Item) (n : NamedProgram) (types : List Bool) (K : kernel.Kernel) →
-    IsTyped P n types → IsRising P → depth.of_program P ≤ deepest → Copies P K → Holds K
+    IsTyped P n types → depth.of_program P ≤ deepest → Copies P K → Holds K
 
 -- The parts of what it means that such a kernel is well formed.
 abbrev pub VariablesRight : Type 0
@@ -80,12 +79,12 @@ KernelsWellFormed = OfEachKernel IsWellFormed
 
 -- and so is each kernel that is handed to the rules of needs, or kept as one that breaks none of them.
 abbrev pub KernelsOfProgramsWellFormed : Type 0
-KernelsOfProgramsWellFormed = (K : kernel.Kernel) (o : IsOfProgram K) → IsRising o.program → IsWellFormed K
+KernelsOfProgramsWellFormed = (K : kernel.Kernel) → IsOfProgram K → IsWellFormed K
 
 -- Each expression and place of such a kernel comes from the text, where each name means what `uses` has for it and each operation has
 -- the type that `unsigned_at` tells, and each output and input goes through what its name stands for there.
 abbrev pub CodeHasSource : Type 0
 CodeHasSource =
     (P : List tree.Item) (n : NamedProgram) (types : List Bool) (K : kernel.Kernel) →
-    IsTyped P n types → IsRising P → depth.of_program P ≤ deepest → Copies P K →
+    IsTyped P n types → depth.of_program P ≤ deepest → Copies P K →
     EachRoot (HasSource P n) (PlaceHasSource P n) AnyNumber (OutputHasSource P n) (InputHasSource P n) AnyNumber K.roots

@@ -13,7 +13,7 @@ pub fn tokens_rise()
     ensures { TextsRise }
 {}
 
-/// In the copies of a program whose tokens stand at rising places no two instances have one path, so one path names one of them, and
+/// In the copies of a program that was read from a text no two instances have one path, so one path names one of them, and
 /// the kernel's lists have them all.
 #[tactic(auto, using(crate::proofs::Merged::none_twice, crate::proofs::Merged::none_merged))]
 pub fn no_instance_twice()
@@ -21,8 +21,8 @@ pub fn no_instance_twice()
     ensures merged { NoInstanceMerged }
 {}
 
-/// Each kernel is well formed: the kernel of a program that breaks no rule of names, types and shapes, whose tokens stand at rising
-/// places, and whose tree no node is too deep in.
+/// Each kernel is well formed: the kernel of a program that breaks no rule of names, types and shapes, and whose tree
+/// no node is too deep in.
 pub fn kernels_are_formed()
     ensures variables { VariablesRight }
     ensures operands { OperandsRight }

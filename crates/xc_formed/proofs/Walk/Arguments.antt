@@ -32,7 +32,7 @@ use Rattle.xc_tree.specs.Symbols.{bracket}
 use Rattle.xc_kernel.specs.Paths.{Path, path_at}
 use Rattle.xc_kernel.specs.Numbering.{Numbering, variable_number, channel_number}
 use Rattle.xc_kernel.specs.Scopes.{is_unsigned, Scope, Entity, a_word, an_array, an_element, entity_by, entity_of, with_name}
-use Rattle.xc_kernel.specs.Expressions.{word_of, expression_in, place_in, two_operands, updated}
+use Rattle.xc_kernel.specs.Expressions.{word_of, expression_in, kernel_place, two_operands, updated}
 use Rattle.xc_kernel.specs.Programs.{Function, function_named}
 use Rattle.xc_kernel.specs.Copy.{Copy, joined, followed_by, with_code, code_of}
 use Rattle.xc_kernel.specs.Context.{Context, expression, place}
@@ -121,7 +121,7 @@ module _ (n : NamedProgram) (fs : List Function) (ps : List PortUse) (num : Numb
     pub record Leaves : Type 0 where
       pub weaker : (e : kernel.Expression) → F e → E e
       pub ex : (e : tree.Expression) (k : ℕ) (st : Stack) (scope : Scope) → Known st scope → Resolves n k st (marks.of_expression e) → AllIn IsFine (site.of_expression n k e) → X e → F (expression_in num scope e)
-      pub lval : (e : tree.Expression) (k : ℕ) (st : Stack) (scope : Scope) → Known st scope → Resolves n k st (marks.of_expression e) → AllIn IsFine (site.of_lval n k e) → V e → L (place_in num scope e)
+      pub lval : (e : tree.Expression) (k : ℕ) (st : Stack) (scope : Scope) → Known st scope → Resolves n k st (marks.of_expression e) → AllIn IsFine (site.of_lval n k e) → V e → L (kernel_place num scope e)
       pub updating : (e : tree.Expression) (k : ℕ) (st : Stack) (scope : Scope) → Known st scope → Resolves n k st (marks.of_expression e) → AllIn IsFine (site.of_lval n k e) → V e → (symbol : ℕ) → S symbol → (pos : Pos) (value : tree.Expression) (j : ℕ) → Resolves n j st (marks.of_expression value) → AllIn IsFine (site.of_expression n j value) → X value → E (updated num scope e symbol pos (is_unsigned scope value) (expression_in num scope value))
       pub stepping : (e : tree.Expression) (k : ℕ) (st : Stack) (scope : Scope) → Known st scope → Resolves n k st (marks.of_expression e) → AllIn IsFine (site.of_lval n k e) → V e → (symbol : ℕ) → S symbol → (pos : Pos) → E (updated num scope e symbol pos false (kernel.number 1))
       pub testing : (v : kernel.Expression) → F v → (l : ℕ) (pos : Pos) → E (kernel.operation bracket true (two_operands v (kernel.number l)) pos)
@@ -225,7 +225,7 @@ module _ (n : NamedProgram) (fs : List Function) (ps : List PortUse) (num : Numb
       test_at c scope st around k e s r g x = leaves.weaker _ (ex_at c scope st around k e s r g x)
 
       pub lval_at : (c : Context) (scope : Scope) (st : Stack) (around : Around) (k : ℕ) (e : tree.Expression) → Sits c scope st around → Resolves n k st (marks.of_expression e) → AllIn IsFine (site.of_lval n k e) → V e → L (place c scope e)
-      lval_at c scope st around k e s r g x = subst (λ (m : Numbering). L (place_in m scope e)) (sym s.numbers) (leaves.lval e k st scope s.known r g x)
+      lval_at c scope st around k e s r g x = subst (λ (m : Numbering). L (kernel_place m scope e)) (sym s.numbers) (leaves.lval e k st scope s.known r g x)
 
       pub word_at_path : (c : Context) → c.numbering ≡ num → (path : Path) → HasVariable num path false → L (word_of c.numbering path)
       word_at_path c e path h = subst (λ (m : Numbering). L (word_of m path)) (sym e) (leaves.word path h)
