@@ -336,13 +336,9 @@ pub fn apply(state: &mut State, t: u8, step: PoolStep)
             join_all(&mut state.threads, n);
             put_next(&mut state.threads, t, thread);
         }
-        PoolStep::Wait => {
-            state.threads[t as usize].mode = Mode::Waiting;
-            state.threads[t as usize].pc += 1;
-        }
+        PoolStep::Wait => put_next(&mut state.threads, t, in_mode(thread, Mode::Waiting)),
         PoolStep::End => {
-            state.threads[t as usize].mode = Mode::Unused;
-            state.threads[t as usize].pc += 1;
+            put_next(&mut state.threads, t, in_mode(thread, Mode::Unused));
             state.roots = state.roots.saturating_sub(1);
         }
         PoolStep::Hold(d, n, name) => {
@@ -354,6 +350,13 @@ pub fn apply(state: &mut State, t: u8, step: PoolStep)
             pass(&mut state.threads, t);
         }
     }
+}
+
+/// The thread in another mode.
+fn in_mode(thread: Thread, mode: Mode) -> Thread
+    ensures { result ≡ record thread { mode = mode } }
+{
+    Thread { mode, ..thread }
 }
 
 /// A lock that nobody holds.
