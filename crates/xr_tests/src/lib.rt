@@ -15,11 +15,7 @@ mod pool;
 #[cfg(test)]
 mod ports;
 #[cfg(test)]
-mod programs;
-#[cfg(test)]
 mod registers;
-#[cfg(test)]
-mod slots;
 #[cfg(test)]
 mod stimuli;
 #[cfg(test)]

@@ -1,7 +1,7 @@
 //! The registers of a thread.
 
-use xs_instr::Reg;
-use xs_state::Regs;
+use xs_instr::{Reg, Regs};
+use xs_state::Registers;
 
 const ALL: [Reg; 16] = [
     Reg::R0,

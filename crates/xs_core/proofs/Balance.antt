@@ -3,16 +3,15 @@ use Rattle.std.proofs.Common.{◌≡◌, ◌<◌, ◌≤◌, ◌+◌, ◌-◌, �
 use Rattle.std.specs.Prelude.{slice_get, slice_set, nat_eq, ◌≢◌, ◌⊎◌}
 use Rattle.std.proofs.lemmas.Bool.{eqb-true}
 use Rattle.xs_core.proofs.Lists.{get_set, get_set_other}
-use Rattle.xs_core.proofs.Weights.{same_num, length_set, length_arrives, length_all_arrive, get_below, arrive, arrive_all, eq_itself, eq_not, weights_tokens, weights_tokens_here, weights_tokens_other, weights_credits, weights_credits_here, weights_credits_other}
+use Rattle.xs_core.proofs.Weights.{same_num, length_set, length_arrives, length_all_arrive, get_below, arrive, arrive_all, eq_itself, weights_tokens, weights_tokens_here, weights_tokens_other, weights_credits, weights_credits_here, weights_credits_other}
 use Rattle.xs_core.specs.declared.state.Peer.{Peer as PeerKept}
-use Rattle.xs_core.specs.Room.{Kind, Tokens, Credits, level, weights, weight, HasRoomAlong, HasRoomFor}
+use Rattle.xs_core.specs.Room.{Kind, Tokens, Credits, level, weights, HasRoomAlong}
 use Rattle.xs_core.specs.Wired.{IsWired, IsBalanced}
 use Rattle.xs_instr.specs.declared.image.Pair.{Pair}
 use Rattle.xs_instr.specs.declared.state.ChanEnd.{ChanEnd}
-use Rattle.xs_instr.specs.declared.state.Moved.{Moved}
 use Rattle.xs_instr.specs.declared.state.Moved.TheVariants.{Tok, Credit}
 use Rattle.xs_instr.specs.declared.state.Token.{Token}
-use Rattle.xs_instr.specs.Ends.{Gone, Peer, all_arrive, arrives, credits_to, goes_by, peer_of, tokens_to}
+use Rattle.xs_instr.specs.Ends.{Peer, all_arrive, arrives, credits_to, goes_by, peer_of, tokens_to}
 use Rattle.xw_words.specs.Words.{truth}
 
 -- tokens have room where they are few enough

@@ -1,5 +1,5 @@
 -- Bits, one after another; and what is picked by them.
-use Rattle.std.proofs.Common.{◌≡◌, ◌<◌, ◌≤◌, ◌+◌, ◌-◌, ◌*◌, ◌/◌, ◌%◌, ◌^◌, ℕ, zero, suc, Bool, true, false, List, [], ◌∷◌, Option, length, refl, ap, ◌∙◌, sym, arith, add-one}
+use Rattle.std.proofs.Common.{◌≡◌, ◌<◌, ◌≤◌, ◌+◌, ◌-◌, ◌*◌, ◌/◌, ◌%◌, ◌^◌, ℕ, zero, suc, Bool, true, false, List, [], ◌∷◌, length, refl, ap, ◌∙◌, sym, arith, add-one}
 use Rattle.std.specs.Prelude.{nat_eq, ◌&&◌}
 use Rattle.std.proofs.Math.Nat.{div-div-eq-div-mul, pow-succ'}
 use Rattle.std.proofs.Math.Pow.{pow_mono}
@@ -9,7 +9,6 @@ use Rattle.xs_event.specs.Watches.{HasAll}
 use Rattle.xs_event.specs.declared.ready.Ready.{Ready}
 use Rattle.xs_instr.specs.declared.state.Events.{Events}
 use Rattle.xs_instr.specs.declared.state.Watch.{Watch}
-use Rattle.xs_instr.specs.declared.state.Res.{Res}
 use Rattle.xs_instr.specs.Events.{Readiness, picked, picked_in, picked_by, port_picked, timer_picked, end_picked}
 use Rattle.xs_instr.specs.Resources.{is_num}
 use Rattle.xw_words.specs.Words.{truth}

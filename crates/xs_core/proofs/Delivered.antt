@@ -1,19 +1,18 @@
 -- What comes from another core, where it has room, leaves a core in order.
-use Rattle.std.proofs.Common.{◌≡◌, ◌<◌, ◌≤◌, ◌+◌, ℕ, Bool, true, false, List, length, refl, sym, ap, ◌∙◌, subst, inl, inr, arith}
+use Rattle.std.proofs.Common.{◌≡◌, ◌<◌, ◌≤◌, ◌+◌, ℕ, true, List, length, sym, ap, ◌∙◌, subst, inl, inr, arith}
 use Rattle.std.specs.Prelude.{slice_get, nat_eq, ◌⊎◌, ◌≢◌}
 use Rattle.xs_core.proofs.Weights.{arrive, eq_itself, eq_not, length_arrives, same_num}
 use Rattle.xs_core.specs.declared.state.Peer.{Peer as PeerKept}
 use Rattle.xs_core.specs.declared.state.State.{State}
 use Rattle.xs_core.specs.Deliver.{HasRoomFrom, level_if, level_near}
 use Rattle.xs_core.specs.Order.{IsInOrder}
-use Rattle.xs_core.specs.Room.{Kind, Tokens, Credits, level, weight}
+use Rattle.xs_core.specs.Room.{Kind, Tokens, Credits, level}
 use Rattle.xs_core.specs.Seen.{home_of}
 use Rattle.xs_core.specs.Wired.{IsBalanced, IsWired}
 use Rattle.xs_instr.specs.declared.image.Home.{Home}
 use Rattle.xs_instr.specs.declared.state.ChanEnd.{ChanEnd}
 use Rattle.xs_instr.specs.declared.state.Moved.{Moved}
 use Rattle.xs_instr.specs.declared.state.Moved.TheVariants.{Tok, Credit}
-use Rattle.xs_instr.specs.declared.state.Token.{Token}
 use Rattle.xs_instr.specs.Ends.{Peer, arrives, peer_of}
 use Rattle.xw_words.specs.Words.{truth}
 

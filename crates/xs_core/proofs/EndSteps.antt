@@ -1,6 +1,6 @@
 -- What sending and taking at an end of a core in order leaves.
-use Rattle.std.proofs.Common.{◌≡◌, ◌<◌, ◌≤◌, ◌+◌, ◌++◌, ℕ, zero, suc, Bool, true, false, List, [], ◌∷◌, Option, Some, None, length, take, refl, sym, ap, ◌∙◌, subst, arith, length-append}
-use Rattle.std.specs.Prelude.{slice_get, slice_set, nat_eq, ◌&&◌}
+use Rattle.std.proofs.Common.{◌≡◌, ◌<◌, ◌≤◌, ◌+◌, ◌++◌, ℕ, zero, suc, Bool, true, false, List, [], ◌∷◌, Option, Some, None, length, refl, sym, ap, ◌∙◌, subst, arith, length-append}
+use Rattle.std.specs.Prelude.{slice_get, slice_set, nat_eq}
 use Rattle.circular_buffer.specs.Buffer.{Buffer}
 use Rattle.xs_chanend.specs.declared.taken.Checked1.{Checked1}
 use Rattle.xs_chanend.specs.declared.taken.Checked1.TheVariants as checked
@@ -18,7 +18,7 @@ use Rattle.xs_instr.specs.declared.state.ChanEnd.{ChanEnd}
 use Rattle.xs_instr.specs.declared.state.Moved.{Moved}
 use Rattle.xs_instr.specs.declared.state.Sent.{Sent}
 use Rattle.xs_instr.specs.declared.state.Token.{Token}
-use Rattle.xs_instr.specs.Ends.{Gone, Peer, Taken, Word, Control, NotYet, Checked, Passed, Other, NotThere, all_sent, byte_by, check, check_by, credits_to, first_control, goes_by, peer_of, take_byte, take_word, tokens_go, tokens_taken, tokens_to, word_of, word_unless}
+use Rattle.xs_instr.specs.Ends.{Gone, Peer, NotYet, Passed, all_sent, check, credits_to, first_control, goes_by, peer_of, take_byte, take_word, tokens_go, tokens_taken, tokens_to, word_unless}
 use Rattle.xs_instr.specs.Machine.{boot_end}
 
 sent_length : (to tick : ℕ) (ms : List Moved) → length (all_sent to tick ms) ≡ length ms

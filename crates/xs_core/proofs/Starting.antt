@@ -1,5 +1,5 @@
 -- A core as it starts: its threads, its peers, and why it is in order.
-use Rattle.std.proofs.Common.{◌≡◌, ◌<◌, ◌≤◌, ◌+◌, ◌^◌, ℕ, zero, suc, Bool, true, false, List, [], ◌∷◌, ◌++◌, Some, None, length, replicate, slice_get, slice_set, get_or, refl, sym, ap, ◌∙◌, subst, inl, inr, arith, add-one, length-append}
+use Rattle.std.proofs.Common.{◌≡◌, ◌<◌, ◌≤◌, ◌+◌, ℕ, zero, suc, Bool, true, false, List, [], ◌∷◌, ◌++◌, Some, length, replicate, slice_get, slice_set, get_or, refl, sym, ap, ◌∙◌, subst, inl, inr, arith, add-one, length-append}
 use Rattle.std.specs.Prelude.{nat_eq, ◌⊎◌, ◌≢◌, IfOk, Result, Ok, Err}
 use Rattle.std.proofs.lemmas.List.{get_or_append_left, length-replicate}
 use Rattle.std.proofs.Math.Seq.{get_or-append_seam}
@@ -22,7 +22,7 @@ use Rattle.xs_instr.specs.declared.state.Thread.{Thread}
 use Rattle.xs_instr.specs.Ends.{Peer, peer_of}
 use Rattle.xs_instr.specs.Machine.{boot_core, boot_end, boot_threads, parts_by, parts_in, root_thread, unused_thread}
 use Rattle.xw_words.specs.declared.memory.Memory.{Memory}
-use Rattle.xs_instr.specs.Valid.{AreGoodCores, AreGoodInstrs, AreGoodPorts, IsThere, Valid}
+use Rattle.xs_instr.specs.Valid.{AreGoodCores, AreGoodPorts, Valid}
 
 -- of n threads those below place t are started
 abbrev pub started_to : List ℕ → ℕ → ℕ → List Thread

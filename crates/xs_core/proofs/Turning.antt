@@ -1,8 +1,7 @@
 -- Turns, from what is decided to what is left.
-use Rattle.std.proofs.Common.{◌≡◌, ◌<◌, ◌≤◌, ◌+◌, ◌^◌, ◌++◌, ℕ, zero, suc, Bool, true, false, List, [], ◌∷◌, Option, Some, None, length, refl, sym, ap, ◌∙◌, subst, arith, append-nil}
+use Rattle.std.proofs.Common.{◌≡◌, ◌<◌, ◌+◌, ◌^◌, ℕ, zero, suc, List, [], ◌∷◌, Option, Some, length, sym, subst, arith, append-nil}
 use Rattle.std.specs.Prelude.{slice_get}
 use Rattle.std.proofs.lemmas.Option.{slice_get_within}
-use Rattle.xs_core.specs.declared.did.Did.{Did as DidAnswer}
 use Rattle.xs_core.specs.declared.did.Did.TheVariants.{Made as DidMake}
 use Rattle.xs_core.specs.declared.state.State.{State}
 use Rattle.xs_core.specs.Ends.{IsSent}
@@ -11,7 +10,6 @@ use Rattle.xs_core.specs.Slots.{IsTurn}
 use Rattle.xs_core.specs.declared.turn.Turn.{Turn}
 use Rattle.xs_core.specs.declared.turn.Turn.TheVariants.{Own, Pool, End, Port, Event}
 use Rattle.xs_core.specs.Turns.{HasByte, IsMade, Keeps, MayGoOn}
-use Rattle.xs_core.specs.Wired.{IsBalanced, IsWired}
 use Rattle.xs_instr.specs.declared.image.Home.{Home}
 use Rattle.xs_instr.specs.declared.instr.Instr.{Instr}
 use Rattle.xs_instr.specs.declared.instr.Instr.TheVariants.{Outct, Chkct}

@@ -1,5 +1,5 @@
 -- Room for what comes from another core.
-use Rattle.std.specs.Prelude.{◌≡◌, ◌+◌, ◌<◌, ◌≤◌, ℕ, Bool, true, false, List, length, nat_eq, slice_get}
+use Rattle.std.specs.Prelude.{◌+◌, ◌<◌, ℕ, Bool, true, false, List, length, nat_eq, slice_get}
 use Rattle.xs_core.specs.Room.{Kind, Tokens, Credits, level}
 use Rattle.xs_instr.specs.declared.image.Home.{Home}
 use Rattle.xs_instr.specs.declared.state.ChanEnd.{ChanEnd}

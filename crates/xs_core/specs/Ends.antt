@@ -8,7 +8,7 @@ use Rattle.xs_instr.specs.declared.state.CoreState.{CoreState}
 use Rattle.xs_instr.specs.declared.state.Sent.{Sent}
 use Rattle.xs_instr.specs.declared.state.Thread.{Thread}
 use Rattle.xs_instr.specs.declared.trace.Record.{Record}
-use Rattle.xs_instr.specs.Did.{Did, told, Made, Paused, Traps, Idle}
+use Rattle.xs_instr.specs.Did.{Did, told, Made}
 use Rattle.xs_instr.specs.Ends.{Taken, Word, Control, NotYet, Passed, check, ins_byte, ins_control, outs, take_byte, take_word}
 use Rattle.xs_instr.specs.Resources.{AnEnd, on_end}
 use Rattle.xs_instr.specs.Rows.{gets_with, goes_with, in_row, out_row, put_ends}

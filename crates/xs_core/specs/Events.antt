@@ -1,5 +1,5 @@
 -- What a thread does with events.
-use Rattle.std.specs.Prelude.{ℕ, Bool, Option, Some, None}
+use Rattle.std.specs.Prelude.{ℕ, Option, Some, None}
 use Rattle.xs_core.specs.declared.event_rows.EventStep.{EventStep}
 use Rattle.xs_core.specs.declared.event_rows.EventStep.TheVariants.{Vector, Enable, Disable, Clear, Bit}
 use Rattle.xs_instr.specs.declared.state.CoreState.{CoreState}

@@ -1,5 +1,5 @@
 -- What holds of a core's ends at every moment, and what sending and taking leave.
-use Rattle.std.specs.Prelude.{◌≡◌, ◌+◌, ◌<◌, ◌≤◌, ◌^◌, ◌++◌, ℕ, List, length}
+use Rattle.std.specs.Prelude.{◌≡◌, ◌+◌, ◌<◌, ◌≤◌, ◌^◌, ◌++◌, List, length}
 use Rattle.circular_buffer.specs.Buffer.{Buffer}
 use Rattle.xs_core.specs.declared.state.State.{State}
 use Rattle.xs_core.specs.Wired.{IsWired, IsBalanced}

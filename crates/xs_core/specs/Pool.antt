@@ -1,5 +1,5 @@
 -- What a thread does with threads, synchronisers and locks.
-use Rattle.std.specs.Prelude.{◌≡◌, ◌<◌, ℕ, Bool, true, false, List, None, length}
+use Rattle.std.specs.Prelude.{◌≡◌, ◌<◌, ℕ, Bool, true, false, None, length}
 use Rattle.xs_core.specs.declared.pool_rows.PoolStep.{PoolStep}
 use Rattle.xs_core.specs.declared.pool_rows.PoolStep.TheVariants.{GetSync, GetLock, GetThread, FreeSync, FreeLock, SetPc, SetReg, Start, Join, Wait, End, Hold, GiveBack}
 use Rattle.xs_core.specs.Seen.{lock_at, thread_at}

@@ -2,8 +2,6 @@
 use Rattle.std.specs.Prelude.{ℕ, List, slice_index_or}
 use Rattle.xs_core.specs.declared.state.State.{State}
 use Rattle.xs_instr.specs.declared.image.Home.{Home}
-use Rattle.xs_instr.specs.declared.instr.Cond.TheVariants.{None as CondNone}
-use Rattle.xs_instr.specs.declared.image.Dir.TheVariants.{Both}
 use Rattle.xs_instr.specs.declared.state.CoreState.{CoreState}
 use Rattle.xs_instr.specs.declared.state.Lock.{Lock}
 use Rattle.xs_instr.specs.declared.state.Thread.{Thread}

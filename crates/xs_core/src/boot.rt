@@ -11,15 +11,14 @@ ghost use Rattle.xs_instr.specs.Machine.{boot_core, boot_threads, boot_timer, ho
 ghost use Rattle.xs_instr.specs.Pool.{lock_free};
 ghost use Rattle.xs_instr.specs.Valid.{Valid, IsGoodStim, AreGoodPorts};
 
-use crate::regs::zeros;
 use crate::state::{Fixed, LOCKS, Peer, State, THREADS};
 use std::alloc::Global;
 use xs_chanend::Ends;
 use xs_event::Events;
-use xs_instr::{Code, Cond, CoreImage, Image, Lock, Mode, Pair, Stim, Thread, Timer};
+use xs_instr::{Code, Cond, CoreImage, Image, Lock, Mode, Pair, Regs, Stim, Thread, Timer};
 use xs_pool::Pool;
 use xs_port::Ports;
-use xs_state::Ram;
+use xs_state::{Ram, Registers};
 use xw_words::{List, Memory};
 
 /// The parts of core `number` as it starts.
@@ -199,7 +198,7 @@ fn unused() -> Thread
     Thread {
         mode: Mode::Unused,
         pc: 0,
-        regs: zeros(),
+        regs: Regs::new(),
         event_bit: false,
         tie: None,
     }

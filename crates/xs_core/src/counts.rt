@@ -11,11 +11,11 @@ ghost use Rattle.xs_instr.specs.Slot.{is_ready};
 ghost use Rattle.xw_words.specs.Words.{truth};
 
 use crate::names::{Resource, look_up};
-use crate::regs::read;
 use crate::slots::{decide, takes_events};
 use crate::state::State;
 use crate::turn::Turn;
 use xs_instr::{Instr, Mode, Thread};
+use xs_state::Registers;
 
 /// How many threads a core has.
 const THREADS: u8 = 8;
@@ -123,8 +123,8 @@ fn is_at_port_or_timer(state: &State, thread: &Thread, instr: Option<Instr>) -> 
     ensures { result ≡ is_timed_instr (home_of state.now) thread.now instr }
 {
     match instr {
-        Some(Instr::In(_, r)) => is_timed_name(look_up(state.ports.core(), read(&thread.regs, r))),
-        Some(Instr::Out(r, _)) => is_timed_name(look_up(state.ports.core(), read(&thread.regs, r))),
+        Some(Instr::In(_, r)) => is_timed_name(look_up(state.ports.core(), thread.regs.get(r))),
+        Some(Instr::Out(r, _)) => is_timed_name(look_up(state.ports.core(), thread.regs.get(r))),
         _ => false,
     }
 }

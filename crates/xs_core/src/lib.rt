@@ -14,7 +14,6 @@ mod own_rows;
 mod pool_rows;
 mod port_rows;
 mod ready;
-mod regs;
 mod rows;
 mod slots;
 mod state;

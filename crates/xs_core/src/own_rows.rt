@@ -8,10 +8,9 @@ ghost use Rattle.xs_instr.specs.Memory.{address_at};
 ghost use Rattle.xs_instr.specs.Rows.{Own, own_row, sets_where, passes_by, jumps_by, loads_at, stores_at, enters, returns};
 ghost use Rattle.xw_words.specs.Words.{truth, word_difference};
 
-use crate::regs::{read, write};
 use crate::state::THREADS;
 use xs_instr::{Instr, Reg, Regs, Thread, Trap};
-use xs_state::Ram;
+use xs_state::{Ram, Registers};
 use xw_words::{ashr, div_s, div_u, less_s, rem_s, rem_u, shl, shr};
 
 /// What a thread does to its registers and the core's words.
@@ -42,20 +41,20 @@ pub fn step(thread: &Thread, words: &Ram, instr: Instr) -> Result<OwnStep, Trap>
 {
     let regs = &thread.regs;
     match instr {
-        Instr::Divs(d, a, b) => set_where(d, div_s(read(regs, a), read(regs, b))),
-        Instr::Rems(d, a, b) => set_where(d, rem_s(read(regs, a), read(regs, b))),
-        Instr::Divu(d, a, b) => set_where(d, div_u(read(regs, a), read(regs, b))),
-        Instr::Remu(d, a, b) => set_where(d, rem_u(read(regs, a), read(regs, b))),
-        Instr::Ecallf(a) => pass_where(read(regs, a) != 0),
-        Instr::Ecallt(a) => pass_where(read(regs, a) == 0),
+        Instr::Divs(d, a, b) => set_where(d, div_s(regs.get(a), regs.get(b))),
+        Instr::Rems(d, a, b) => set_where(d, rem_s(regs.get(a), regs.get(b))),
+        Instr::Divu(d, a, b) => set_where(d, div_u(regs.get(a), regs.get(b))),
+        Instr::Remu(d, a, b) => set_where(d, rem_u(regs.get(a), regs.get(b))),
+        Instr::Ecallf(a) => pass_where(regs.get(a) != 0),
+        Instr::Ecallt(a) => pass_where(regs.get(a) == 0),
         Instr::Ldwdp(d, n) => load(words, d, address(regs.dp, n)),
-        Instr::Stwdp(s, n) => store(words, read(regs, s), address(regs.dp, n)),
+        Instr::Stwdp(s, n) => store(words, regs.get(s), address(regs.dp, n)),
         Instr::Ldwsp(d, n) => load(words, d, address(regs.sp, n)),
-        Instr::Stwsp(s, n) => store(words, read(regs, s), address(regs.sp, n)),
-        Instr::Ldw(d, b, i) => load(words, d, address(read(regs, b), read(regs, i))),
-        Instr::Stw(s, b, i) => store(words, read(regs, s), address(read(regs, b), read(regs, i))),
-        Instr::Brft(a, k) | Instr::Brbt(a, k) => Ok(jump_where(k, read(regs, a) != 0)),
-        Instr::Brff(a, k) | Instr::Brbf(a, k) => Ok(jump_where(k, read(regs, a) == 0)),
+        Instr::Stwsp(s, n) => store(words, regs.get(s), address(regs.sp, n)),
+        Instr::Ldw(d, b, i) => load(words, d, address(regs.get(b), regs.get(i))),
+        Instr::Stw(s, b, i) => store(words, regs.get(s), address(regs.get(b), regs.get(i))),
+        Instr::Brft(a, k) | Instr::Brbt(a, k) => Ok(jump_where(k, regs.get(a) != 0)),
+        Instr::Brff(a, k) | Instr::Brbf(a, k) => Ok(jump_where(k, regs.get(a) == 0)),
         Instr::Brfu(k) | Instr::Brbu(k) => Ok(OwnStep::Jump(k)),
         Instr::Blrf(k) | Instr::Blrb(k) => Ok(OwnStep::Call(k)),
         Instr::Entsp(n) => enter(regs, words, n),
@@ -72,26 +71,26 @@ fn value(regs: &Regs, instr: Instr) -> OwnStep
     ensures fits { (own : Own) → OwnFits own result }
 {
     match instr {
-        Instr::Add(d, a, b) => OwnStep::Set(d, read(regs, a).wrapping_add(read(regs, b))),
-        Instr::Sub(d, a, b) => OwnStep::Set(d, read(regs, a).wrapping_sub(read(regs, b))),
-        Instr::Mul(d, a, b) => OwnStep::Set(d, read(regs, a).wrapping_mul(read(regs, b))),
-        Instr::And(d, a, b) => OwnStep::Set(d, read(regs, a) & read(regs, b)),
-        Instr::Or(d, a, b) => OwnStep::Set(d, read(regs, a) | read(regs, b)),
-        Instr::Xor(d, a, b) => OwnStep::Set(d, read(regs, a) ^ read(regs, b)),
-        Instr::Addi(d, a, n) => OwnStep::Set(d, read(regs, a).wrapping_add(n)),
-        Instr::Neg(d, a) => OwnStep::Set(d, read(regs, a).wrapping_neg()),
-        Instr::Not(d, a) => OwnStep::Set(d, !read(regs, a)),
-        Instr::Eq(d, a, b) => OwnStep::Set(d, one_if(read(regs, a) == read(regs, b))),
-        Instr::Lss(d, a, b) => OwnStep::Set(d, one_if(less_s(read(regs, a), read(regs, b)))),
-        Instr::Lsu(d, a, b) => OwnStep::Set(d, one_if(read(regs, a) < read(regs, b))),
-        Instr::Shl(d, a, b) => OwnStep::Set(d, shl(read(regs, a), read(regs, b))),
-        Instr::Shr(d, a, b) => OwnStep::Set(d, shr(read(regs, a), read(regs, b))),
-        Instr::Ashr(d, a, b) => OwnStep::Set(d, ashr(read(regs, a), read(regs, b))),
+        Instr::Add(d, a, b) => OwnStep::Set(d, regs.get(a).wrapping_add(regs.get(b))),
+        Instr::Sub(d, a, b) => OwnStep::Set(d, regs.get(a).wrapping_sub(regs.get(b))),
+        Instr::Mul(d, a, b) => OwnStep::Set(d, regs.get(a).wrapping_mul(regs.get(b))),
+        Instr::And(d, a, b) => OwnStep::Set(d, regs.get(a) & regs.get(b)),
+        Instr::Or(d, a, b) => OwnStep::Set(d, regs.get(a) | regs.get(b)),
+        Instr::Xor(d, a, b) => OwnStep::Set(d, regs.get(a) ^ regs.get(b)),
+        Instr::Addi(d, a, n) => OwnStep::Set(d, regs.get(a).wrapping_add(n)),
+        Instr::Neg(d, a) => OwnStep::Set(d, regs.get(a).wrapping_neg()),
+        Instr::Not(d, a) => OwnStep::Set(d, !regs.get(a)),
+        Instr::Eq(d, a, b) => OwnStep::Set(d, one_if(regs.get(a) == regs.get(b))),
+        Instr::Lss(d, a, b) => OwnStep::Set(d, one_if(less_s(regs.get(a), regs.get(b)))),
+        Instr::Lsu(d, a, b) => OwnStep::Set(d, one_if(regs.get(a) < regs.get(b))),
+        Instr::Shl(d, a, b) => OwnStep::Set(d, shl(regs.get(a), regs.get(b))),
+        Instr::Shr(d, a, b) => OwnStep::Set(d, shr(regs.get(a), regs.get(b))),
+        Instr::Ashr(d, a, b) => OwnStep::Set(d, ashr(regs.get(a), regs.get(b))),
         Instr::Ldc(d, n) => OwnStep::Set(d, n),
         Instr::Ldawdp(d, n) => OwnStep::Set(d, address(regs.dp, n)),
         Instr::Ldawsp(d, n) => OwnStep::Set(d, address(regs.sp, n)),
-        Instr::Setdp(s) => OwnStep::Set(Reg::Dp, read(regs, s)),
-        Instr::Setsp(s) => OwnStep::Set(Reg::Sp, read(regs, s)),
+        Instr::Setdp(s) => OwnStep::Set(Reg::Dp, regs.get(s)),
+        Instr::Setsp(s) => OwnStep::Set(Reg::Sp, regs.get(s)),
         _ => unreachable!(),
     }
 }
@@ -210,7 +209,7 @@ pub fn apply(threads: &mut [Thread; THREADS], words: &mut Ram, t: u8, step: OwnS
     match step {
         OwnStep::Pass => thread.pc = next,
         OwnStep::Set(d, value) => {
-            write(&mut thread.regs, d, value);
+            thread.regs.set(d, value);
             thread.pc = next;
         }
         OwnStep::Jump(k) => thread.pc = k,

@@ -15,12 +15,12 @@ ghost use Rattle.xs_instr.specs.Resources.{ALock, ASync, AThread, name_of, on_sy
 ghost use Rattle.xs_instr.specs.Rows.{free_row, gets_with, goes_with, in_row, out_row, put_threads, wait_row, end_row};
 
 use crate::names::Resource;
-use crate::regs::{write, zeros};
 use crate::state::{LOCKS, State, THREADS};
 use crate::threads::{pass, pass_with, put_next, put_with};
 use crate::turn::Turn;
-use xs_instr::{Lock, Mode, Reg, Thread, Trap};
+use xs_instr::{Lock, Mode, Reg, Regs, Thread, Trap};
 use xs_pool::{Pool, PoolKind};
+use xs_state::Registers;
 
 /// What a thread does with threads, synchronisers and locks, which are meant by their numbers.
 #[derive(Clone, Copy)]
@@ -325,7 +325,7 @@ pub fn apply(state: &mut State, t: u8, step: PoolStep)
             put_next(&mut state.threads, t, thread);
         }
         PoolStep::SetReg(n, r, value) => {
-            write(&mut state.threads[n as usize].regs, r, value);
+            state.threads[n as usize].regs.set(r, value);
             put_next(&mut state.threads, t, thread);
         }
         PoolStep::Start(n) => {
@@ -336,13 +336,9 @@ pub fn apply(state: &mut State, t: u8, step: PoolStep)
             join_all(&mut state.threads, n);
             put_next(&mut state.threads, t, thread);
         }
-        PoolStep::Wait => {
-            state.threads[t as usize].mode = Mode::Waiting;
-            state.threads[t as usize].pc += 1;
-        }
+        PoolStep::Wait => put_next(&mut state.threads, t, in_mode(thread, Mode::Waiting)),
         PoolStep::End => {
-            state.threads[t as usize].mode = Mode::Unused;
-            state.threads[t as usize].pc += 1;
+            put_next(&mut state.threads, t, in_mode(thread, Mode::Unused));
             state.roots = state.roots.saturating_sub(1);
         }
         PoolStep::Hold(d, n, name) => {
@@ -354,6 +350,13 @@ pub fn apply(state: &mut State, t: u8, step: PoolStep)
             pass(&mut state.threads, t);
         }
     }
+}
+
+/// The thread in another mode.
+fn in_mode(thread: Thread, mode: Mode) -> Thread
+    ensures { result ≡ record thread { mode = mode } }
+{
+    Thread { mode, ..thread }
 }
 
 /// A lock that nobody holds.
@@ -441,7 +444,7 @@ fn tie(threads: &mut [Thread; THREADS], place: u8, n: u8)
     let thread = &mut threads[place as usize];
     thread.mode = Mode::Waiting;
     thread.pc = 0;
-    thread.regs = zeros();
+    thread.regs = Regs::new();
     thread.tie = Some(n);
 }
 

@@ -5,6 +5,7 @@ ghost use Rattle.xs_core.specs.Ports.{port_did, PortFits};
 ghost use Rattle.xs_core.specs.Names.{meant_by};
 ghost use Rattle.xs_core.specs.Seen.{home_of, state_of, thread_at};
 ghost use Rattle.xs_core.specs.Turns.{meant, steps, Fits, IsMade, Keeps};
+ghost use Rattle.xs_instr.specs.declared.trace.Record.TheVariants.{PortIn, PortOut};
 ghost use Rattle.xs_instr.specs.Did.{is_step, told};
 ghost use Rattle.xs_instr.specs.Ports.{can_send, can_receive, port_time_set, port_stamp};
 ghost use Rattle.xs_instr.specs.Resources.{APort, ATimer, on_port};
@@ -235,25 +236,15 @@ pub fn apply(state: &mut State, t: u8, step: PortStep) -> Option<Record>
     match step {
         PortStep::Drive(p, value) => {
             let id = state.ports.decl(p).port;
-            let PortGot { value, stamp } = state.ports.drive(p, value)?;
+            let got = state.ports.drive(p, value)?;
             pass(&mut state.threads, t);
-            Some(Record::PortOut {
-                core: state.ports.core(),
-                port: id,
-                stamp,
-                value,
-            })
+            Some(output(state.ports.core(), id, got))
         }
         PortStep::Read(d, p) => {
             let id = state.ports.decl(p).port;
-            let PortGot { value, stamp } = state.ports.read(p)?;
-            pass_with(&mut state.threads, t, d, value);
-            Some(Record::PortIn {
-                core: state.ports.core(),
-                port: id,
-                stamp,
-                value,
-            })
+            let got = state.ports.read(p)?;
+            pass_with(&mut state.threads, t, d, got.value);
+            Some(input(state.ports.core(), id, got))
         }
         PortStep::PortCond(p, cond) => {
             state.ports.set_cond(p, cond);
@@ -289,6 +280,30 @@ pub fn apply(state: &mut State, t: u8, step: PortStep) -> Option<Record>
             pass(&mut state.threads, t);
             None
         }
+    }
+}
+
+/// The record of an output.
+fn output(core: u8, port: u8, got: PortGot) -> Record
+    ensures { result ≡ PortOut core port got.stamp got.value }
+{
+    Record::PortOut {
+        core,
+        port,
+        stamp: got.stamp,
+        value: got.value,
+    }
+}
+
+/// The record of an input.
+fn input(core: u8, port: u8, got: PortGot) -> Record
+    ensures { result ≡ PortIn core port got.stamp got.value }
+{
+    Record::PortIn {
+        core,
+        port,
+        stamp: got.stamp,
+        value: got.value,
     }
 }
 

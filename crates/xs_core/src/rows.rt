@@ -14,11 +14,11 @@ ghost use Rattle.xs_instr.specs.Rows.{cond_row, data_row, free_row, get_row, in_
 use crate::event_rows::EventStep;
 use crate::names::{Resource, look_up};
 use crate::pool_rows::PoolStep;
-use crate::regs::read;
 use crate::state::State;
 use crate::turn::Turn;
 use crate::{end_rows, event_rows, own_rows, pool_rows, port_rows};
 use xs_instr::{Cond, GetKind, Instr, Reg, Thread, Token, Trap};
+use xs_state::Registers;
 
 /// What comes of a thread's instruction.
 pub fn row(state: &State, t: u8, thread: &Thread, instr: Instr) -> Turn
@@ -33,44 +33,36 @@ pub fn row(state: &State, t: u8, thread: &Thread, instr: Instr) -> Turn
     let core = state.ports.core();
     match instr {
         Instr::Getr(d, kind) => get(d, kind),
-        Instr::Freer(r) => free(state, look_up(core, read(regs, r))),
-        Instr::Getst(d, r) => pool_rows::get_thread(state, d, look_up(core, read(regs, r))),
-        Instr::Tinitpc(x, k) => pool_rows::set_pc(state, look_up(core, read(regs, x)), k),
+        Instr::Freer(r) => free(state, look_up(core, regs.get(r))),
+        Instr::Getst(d, r) => pool_rows::get_thread(state, d, look_up(core, regs.get(r))),
+        Instr::Tinitpc(x, k) => pool_rows::set_pc(state, look_up(core, regs.get(x)), k),
         Instr::Tinitdp(x, s) => {
-            pool_rows::set_reg(state, look_up(core, read(regs, x)), Reg::Dp, read(regs, s))
+            pool_rows::set_reg(state, look_up(core, regs.get(x)), Reg::Dp, regs.get(s))
         }
         Instr::Tinitsp(x, s) => {
-            pool_rows::set_reg(state, look_up(core, read(regs, x)), Reg::Sp, read(regs, s))
+            pool_rows::set_reg(state, look_up(core, regs.get(x)), Reg::Sp, regs.get(s))
         }
-        Instr::Msync(r) => pool_rows::start(state, look_up(core, read(regs, r))),
+        Instr::Msync(r) => pool_rows::start(state, look_up(core, regs.get(r))),
         Instr::Ssync => pool_rows::wait(thread),
-        Instr::Mjoin(r) => pool_rows::join(state, look_up(core, read(regs, r))),
+        Instr::Mjoin(r) => pool_rows::join(state, look_up(core, regs.get(r))),
         Instr::Freet => pool_rows::end(thread),
-        Instr::Out(r, s) => out(state, t, look_up(core, read(regs, r)), read(regs, s)),
+        Instr::Out(r, s) => out(state, t, look_up(core, regs.get(r)), regs.get(s)),
         Instr::Outt(r, s) => {
-            end_rows::send_token(
-                state,
-                look_up(core, read(regs, r)),
-                data_token(read(regs, s)),
-            )
+            end_rows::send_token(state, look_up(core, regs.get(r)), data_token(regs.get(s)))
         }
         Instr::Outct(r, n) => {
-            end_rows::send_token(state, look_up(core, read(regs, r)), control_token(n))
+            end_rows::send_token(state, look_up(core, regs.get(r)), control_token(n))
         }
-        Instr::In(d, r) => input(state, d, look_up(core, read(regs, r)), read(regs, r)),
-        Instr::Int(d, r) => end_rows::take_byte(state, d, look_up(core, read(regs, r))),
-        Instr::Chkct(r, n) => end_rows::take_control(state, look_up(core, read(regs, r)), n as u8),
-        Instr::Setc(r, cond) => set_cond(state, look_up(core, read(regs, r)), cond),
-        Instr::Setd(r, s) => set_data(state, look_up(core, read(regs, r)), read(regs, s)),
-        Instr::Setpt(r, s) => port_rows::set_time(
-            state,
-            look_up(core, read(regs, r)),
-            read(regs, s),
-        ),
-        Instr::Getts(d, r) => port_rows::stamp(state, d, look_up(core, read(regs, r))),
-        Instr::Setv(r, k) => event_rows::set_vector(state, look_up(core, read(regs, r)), k),
-        Instr::Eeu(r) => event_rows::enable(state, look_up(core, read(regs, r))),
-        Instr::Edu(r) => event_rows::disable(state, look_up(core, read(regs, r))),
+        Instr::In(d, r) => input(state, d, look_up(core, regs.get(r)), regs.get(r)),
+        Instr::Int(d, r) => end_rows::take_byte(state, d, look_up(core, regs.get(r))),
+        Instr::Chkct(r, n) => end_rows::take_control(state, look_up(core, regs.get(r)), n as u8),
+        Instr::Setc(r, cond) => set_cond(state, look_up(core, regs.get(r)), cond),
+        Instr::Setd(r, s) => set_data(state, look_up(core, regs.get(r)), regs.get(s)),
+        Instr::Setpt(r, s) => port_rows::set_time(state, look_up(core, regs.get(r)), regs.get(s)),
+        Instr::Getts(d, r) => port_rows::stamp(state, d, look_up(core, regs.get(r))),
+        Instr::Setv(r, k) => event_rows::set_vector(state, look_up(core, regs.get(r)), k),
+        Instr::Eeu(r) => event_rows::enable(state, look_up(core, regs.get(r))),
+        Instr::Edu(r) => event_rows::disable(state, look_up(core, regs.get(r))),
         Instr::Clre => Turn::Event(EventStep::Clear),
         Instr::Waiteu => Turn::Paused,
         Instr::Setsr(n) => event_rows::set_bit(thread, n),

@@ -4,9 +4,9 @@ ghost use Rattle.std.specs.Prelude.{◌≡◌, ◌+◌, ◌<◌, ◌^◌, slice_
 ghost use Rattle.xs_core.specs.Seen.{thread_at};
 ghost use Rattle.xs_instr.specs.Registers.{reg_set};
 
-use crate::regs::write;
 use crate::state::THREADS;
 use xs_instr::{Reg, Thread};
+use xs_state::Registers;
 
 /// On to the next instruction.
 pub fn pass(threads: &mut [Thread; THREADS], t: u8)
@@ -27,7 +27,7 @@ pub fn pass_with(threads: &mut [Thread; THREADS], t: u8, d: Reg, value: u32)
 {
     let thread = &mut threads[t as usize];
     thread.pc += 1;
-    write(&mut thread.regs, d, value);
+    thread.regs.set(d, value);
 }
 
 /// Puts a thread back at its next instruction.
@@ -51,6 +51,6 @@ pub fn put_with(threads: &mut [Thread; THREADS], t: u8, thread: Thread, d: Reg, 
 {
     let mut next = thread;
     next.pc += 1;
-    write(&mut next.regs, d, value);
+    next.regs.set(d, value);
     threads[t as usize] = next;
 }

@@ -5,4 +5,4 @@ mod ram;
 mod regs;
 
 pub use ram::Ram;
-pub use regs::Regs;
+pub use regs::Registers;

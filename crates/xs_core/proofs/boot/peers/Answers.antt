@@ -1,7 +1,5 @@
-use Rattle.std.proofs.Common.{subst, sym}
 use Rattle.xs_core.proofs.boot.peers.Goals as goal
 use Rattle.xs_core.proofs.Starting.{no_peers, one_peer_more}
-use Rattle.xs_core.specs.Wired.{ArePeers}
 
 pub loop-end-init : goal.loop-end-init
 loop-end-init c = rw c.new-peers.ensures (no_peers c.args.pairs.now c.args.core)

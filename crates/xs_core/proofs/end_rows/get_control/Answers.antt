@@ -1,13 +1,10 @@
-use Rattle.std.proofs.Common.{◌≡◌, ◌∙◌, ◌≤◌, ◌++◌, ◌∷◌, [], List, length, slice_set, refl, sym, subst, rules, arith}
+use Rattle.std.proofs.Common.{◌≡◌, ◌∙◌, ◌≤◌, ◌++◌, length, slice_set, refl, arith}
 use Rattle.std.specs.Prelude.{nat_eq}
-use Rattle.xs_chanend.specs.Ends.{end_at, without_credits, without_first}
-use Rattle.xs_core.proofs.EndSteps.{sent_moves, taken_moves, send_room, take_room, word_long, byte_long, passed_long, passed_left}
+use Rattle.xs_chanend.specs.Ends.{end_at, without_first}
+use Rattle.xs_core.proofs.EndSteps.{taken_moves, passed_long, passed_left}
 use Rattle.xs_core.proofs.end_rows.get_control.Goals as goal
-use Rattle.xs_core.specs.Room.{HasRoomAlong}
 use Rattle.xs_core.specs.Wired.{peer_at}
-use Rattle.xs_instr.specs.declared.state.ChanEnd.{ChanEnd}
-use Rattle.xs_instr.specs.declared.state.Moved.{Moved}
-use Rattle.xs_instr.specs.Ends.{credits_to, goes_by, tokens_to, word_tokens}
+use Rattle.xs_instr.specs.Ends.{credits_to, goes_by}
 
 pub returns : goal.returns
 returns c =

@@ -1,4 +1,4 @@
-use Rattle.std.proofs.Common.{◌≡◌, ◌∙◌, ◌<◌, ap, arith, length, slice_set}
+use Rattle.std.proofs.Common.{◌∙◌, ap, arith, slice_set}
 use Rattle.xs_core.proofs.Changed.{changed_next}
 use Rattle.xs_core.proofs.pool_rows.start_all.Goals as goal
 use Rattle.xs_instr.specs.Machine.{unused_thread}

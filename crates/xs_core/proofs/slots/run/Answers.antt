@@ -1,4 +1,4 @@
-use Rattle.std.proofs.Common.{◌≡◌, ◌+◌, ◌<◌, ◌^◌, Some, slice_get, rules}
+use Rattle.std.proofs.Common.{◌≡◌, Some, slice_get, rules}
 use Rattle.xs_core.proofs.Turning.{goes_on, has_byte, may_go_on}
 use Rattle.xs_core.proofs.slots.run.Goals as goal
 

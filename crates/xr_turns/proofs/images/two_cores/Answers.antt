@@ -1,6 +1,6 @@
-use Rattle.std.proofs.Common.{◌≡◌, ◌∙◌, ◌++◌, ◌∷◌, [], List, ap}
-use Rattle.xr_tests.proofs.TwoCores.{far_of, valid_of}
-use Rattle.xr_tests.proofs.slots.image_of.Goals as goal
+use Rattle.std.proofs.Common.{◌∙◌, ◌++◌, ◌∷◌, [], List, ap}
+use Rattle.xr_turns.proofs.TwoCores.{far_of, valid_of}
+use Rattle.xr_turns.proofs.images.two_cores.Goals as goal
 use Rattle.xs_instr.specs.declared.image.CoreImage.{CoreImage}
 
 pub returns : goal.returns

@@ -1,22 +1,17 @@
 -- An image of two cores can be run: core 0 with three ends, of which two are joined and one leads to core 1, which has one.
-use Rattle.std.proofs.Common.{◌≡◌, ◌<◌, ◌++◌, ℕ, zero, suc, Bool, true, false, List, [], ◌∷◌, refl, sym, ap, ◌∙◌, subst, inl, inr, arith}
+use Rattle.std.proofs.Common.{◌≡◌, ◌<◌, ℕ, zero, suc, Bool, true, false, List, [], ◌∷◌, refl, sym, ap, ◌∙◌, subst, inl, inr, arith}
 use Rattle.std.specs.Prelude.{nat_eq, replicate, ◌⊎◌}
 use Rattle.xs_core.specs.Deliver.{HasRoomAt, HasRoomFrom}
 use Rattle.xs_core.specs.Room.{Credits, Tokens}
 use Rattle.std.proofs.lemmas.Bool.{eqb-true}
 use Rattle.xs_instr.specs.declared.image.CoreImage.{CoreImage}
+use Rattle.xr_turns.specs.Channels.{across, within}
 use Rattle.xs_instr.specs.declared.image.Pair.{Pair}
 use Rattle.xs_instr.specs.declared.image.Stim.{Stim}
 use Rattle.xs_instr.specs.declared.state.Moved.TheVariants.{Tok}
 use Rattle.xs_instr.specs.declared.state.Token.{Token}
 use Rattle.xs_instr.specs.Machine.{boot_core, boot_end, home_of, no_parts, parts_by, parts_in}
-use Rattle.xs_instr.specs.Valid.{AreGoodCores, IsGoodCore, IsThere, Valid, times_named}
-
-abbrev pub within : Pair
-within = record { core = 0; end = 0; peer_core = 0; peer_end = 1 }
-
-abbrev pub across : Pair
-across = record { core = 0; end = 2; peer_core = 1; peer_end = 0 }
+use Rattle.xs_instr.specs.Valid.{IsGoodCore, IsThere, Valid, times_named}
 
 module _ (k l : CoreImage) (number : k.number ≡ 0) (ends : k.ends ≡ 3) (number' : l.number ≡ 1) (ends' : l.ends ≡ 1) where
   at_zero : (parts_in (k ∷ l ∷ []) 0).ends ≡ 3
