@@ -17,6 +17,8 @@ use Rattle.xl_expr.specs.declared.plan.ResAt.{ResAt}
 use Rattle.xl_expr.specs.declared.plan.ResAt.TheVariants.{Fixed, Held}
 use Rattle.xl_expr.specs.Code.{at_pos}
 use Rattle.xl_expr.specs.Identifiers.{Identifies, IsIdentifier, Named, identifier_instrs}
+use Rattle.xl_expr.specs.Targets.{AreAimed}
+use Rattle.xl_expr.proofs.GoodCode.{plain_aimed}
 use Rattle.xl_expr.proofs.Lists.{word_by_same}
 use Rattle.xl_expr.proofs.Runs.{by_quiet}
 use Rattle.xl_expr.proofs.Ways.{own, Fits, Way, way_leads}
@@ -70,3 +72,7 @@ pub code_identifies : (place : ResAt) (pc : ℕ) (pos : Pos) → Identifies plac
 code_identifies place pc pos = record {
   by = λ home relied s t name thread a st at_work is. identifies home relied s t name pc pos thread a at_work place st is;
 }
+
+pub identifier_aimed : (place : ResAt) (pc : ℕ) (pos : Pos) → AreAimed pc (at_pos pos (identifier_instrs place))
+identifier_aimed (Fixed id) pc pos = plain_aimed pos (identifier_instrs (Fixed id)) pc ((λ size n. tt), tt)
+identifier_aimed (Held n j) pc pos = plain_aimed pos (identifier_instrs (Held n j)) pc ((λ size i. tt), ((λ size i. tt), tt))

@@ -9,3 +9,4 @@ pub mod Stores
 pub mod Frames
 pub mod Leads
 pub mod Identifiers
+pub mod Targets

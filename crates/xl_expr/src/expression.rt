@@ -4,6 +4,7 @@ ghost use Rattle.xs_instr.specs.Lines.{HasTarget, line, last_pos};
 ghost use Rattle.xl_expr.specs.Code.{at_pos, one_tail, negated, after_main, word_at_place, tested_index, moved_to, expression_code, place_code, operation_code, codes, code_to};
 ghost use Rattle.xs_instr.specs.Adds.{Adds};
 ghost use Rattle.xs_instr.specs.Extends.{Extends};
+ghost use Rattle.xl_expr.specs.Targets.{AreAimed};
 ghost use Rattle.xl_expr.specs.Works.{Evaluates};
 ghost use Rattle.xl_expr.specs.Meant.{operator_meant};
 ghost use Rattle.xl_expr.specs.Measures.{nodes, nodes_of, nodes_at, depth, depth_of, depth_at};
@@ -31,6 +32,7 @@ pub fn emit_expr(e: &mut Emitter, plan: &Plan, x: &Kx, to: Reg) -> Result<(), Me
         ≡ e.old ++ code_to plan.now.vars (expression_of x.now) to (length e.old) (last_pos e.old)) }
     ensures evaluates { OnOk result
         (Adds e.old e.new (Evaluates plan.now.vars (expression_of x.now) to (length e.old))) }
+    ensures aimed { OnOk result (Adds e.old e.new (AreAimed (length e.old))) }
     ensures refused { OnErr result (Extends e.old e.new) }
 {
     let last = e.pos();

@@ -1,6 +1,7 @@
 ghost use Rattle.std.specs.Prelude.{◌≡◌, ◌+◌, ◌<◌, ◌≤◌, ◌^◌, ◌++◌, length, OnOk, OnErr};
 ghost use Rattle.xl_expr.specs.Code.{at_pos};
 ghost use Rattle.xl_expr.specs.Identifiers.{Identifies, identifier_instrs};
+ghost use Rattle.xl_expr.specs.Targets.{AreAimed};
 ghost use Rattle.xs_instr.specs.Adds.{Adds};
 ghost use Rattle.xs_instr.specs.Extends.{Extends};
 
@@ -17,6 +18,7 @@ pub fn emit_identifier(e: &mut Emitter, place: ResAt, pos: Pos) -> Result<(), Me
     requires { length e.old + 2 < 2 ^ 32 }
     ensures size { OnOk result (length e.new ≤ length e.old + 2) }
     ensures identifies { OnOk result (Adds e.old e.new (Identifies place (length e.old))) }
+    ensures aimed { OnOk result (Adds e.old e.new (AreAimed (length e.old))) }
     ensures refused { OnErr result (Extends e.old e.new) }
 {
     put_identifier(e, place, pos)?;

@@ -1,4 +1,5 @@
 ghost use Rattle.std.specs.Prelude.{◌≡◌, ◌+◌, ◌<◌, ◌^◌, [], ◌∷◌, ◌++◌, length, OnOk, OnErr};
+ghost use Rattle.xl_expr.specs.Targets.{AreAimed};
 ghost use Rattle.xl_par.specs.Roots.{EndsRoot};
 ghost use Rattle.xs_instr.specs.Adds.{Adds};
 ghost use Rattle.xs_instr.specs.Extends.{Extends};
@@ -16,6 +17,7 @@ pub fn end_root(e: &mut Emitter, pos: Pos) -> Result<(), Memory>
     requires { length e.old + 1 < 2 ^ 32 }
     ensures code { OnOk result (e.new ≡ e.old ++ line Freet pos ∷ []) }
     ensures ends { OnOk result (Adds e.old e.new (EndsRoot (length e.old))) }
+    ensures aimed { OnOk result (Adds e.old e.new (AreAimed (length e.old))) }
     ensures refused { OnErr result (Extends e.old e.new) }
 {
     e.put(Instr::Freet, pos)?;

@@ -24,6 +24,8 @@ use Rattle.xl_expr.specs.declared.plan.ResAt.{ResAt}
 use Rattle.xl_expr.specs.Code.{at_pos}
 use Rattle.xl_expr.specs.Identifiers.{Identifies, IsIdentifier, Named}
 use Rattle.xl_expr.specs.Stores.{is_working}
+use Rattle.xl_expr.specs.Targets.{AreAimed}
+use Rattle.xl_expr.proofs.GoodCode.{plain_aimed}
 use Rattle.xl_expr.proofs.Lists.{stand_front, stand_back}
 use Rattle.xl_expr.proofs.Ways.{at_pc, turn_row}
 use Rattle.xl_expr.proofs.Wider.{leads_more, then_leads}
@@ -99,3 +101,7 @@ transfers place is_timed pos pc ls identifies = record {
 -- what isn't in the plan has no code, and no layout has it
 pub nothing_transfers : (is_timed : Bool) (pos : Pos) (pc : ℕ) (ls : List Line) → Transfers None is_timed pos pc ls
 nothing_transfers is_timed pos pc ls = record { by = λ home relied s t p port thread time a st at_work timed holds stands. absurd stands.name_is }
+
+pub transfer_aimed : (is_timed : Bool) (pos : Pos) (pc : ℕ) → AreAimed pc (at_pos pos (transfer_instrs is_timed))
+transfer_aimed true pos pc = plain_aimed pos (transfer_instrs true) pc ((λ size n. tt), ((λ size n. tt), ((λ size n. tt), tt)))
+transfer_aimed false pos pc = plain_aimed pos (transfer_instrs false) pc ((λ size n. tt), ((λ size n. tt), tt))

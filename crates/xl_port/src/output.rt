@@ -2,6 +2,7 @@ ghost use Rattle.std.specs.Prelude.{◌≡◌, ◌+◌, ◌*◌, ◌<◌, ◌≤
 ghost use Rattle.xc_kernel.specs.Kernels.{expression_of, output_of};
 ghost use Rattle.xl_expr.specs.Code.{at_pos};
 ghost use Rattle.xl_expr.specs.Plans.{resource_in};
+ghost use Rattle.xl_expr.specs.Targets.{AreAimed};
 ghost use Rattle.xl_port.specs.Outputs.{Outputs, TimeEvaluates, Transfers, output_depth, output_nodes, time_depth, time_nodes, transfer_instrs};
 ghost use Rattle.xs_instr.specs.Adds.{Adds};
 ghost use Rattle.xs_instr.specs.Extends.{Extends};
@@ -25,6 +26,7 @@ pub fn emit_port_out(e: &mut Emitter, plan: &Plan, o: &KOut) -> Result<(), Memor
         (length e.new ≤ length e.old + 8 * output_nodes (output_of o.now) + 5) }
     ensures outputs { OnOk result
         (Adds e.old e.new (Outputs plan.now (output_of o.now) (length e.old))) }
+    ensures aimed { OnOk result (Adds e.old e.new (AreAimed (length e.old))) }
     ensures refused { OnErr result (Extends e.old e.new) }
 {
     emit_time(e, plan, &o.time)?;
@@ -41,6 +43,7 @@ fn emit_time(e: &mut Emitter, plan: &Plan, time: &Option<Kx>) -> Result<(), Memo
         (length e.new ≤ length e.old + 8 * time_nodes (option_map expression_of time.now)) }
     ensures adds { OnOk result (Adds e.old e.new
         (TimeEvaluates plan.now.vars (option_map expression_of time.now) (length e.old))) }
+    ensures aimed { OnOk result (Adds e.old e.new (AreAimed (length e.old))) }
     ensures refused { OnErr result (Extends e.old e.new) }
 {
     match time {
@@ -64,6 +67,7 @@ fn emit_transfer(
     ensures size { OnOk result (length e.new ≤ length e.old + 5) }
     ensures adds { OnOk result (Adds e.old e.new
         (Transfers (resource_in plan.now.ports plan.now.timers port) is_timed pos (length e.old))) }
+    ensures aimed { OnOk result (Adds e.old e.new (AreAimed (length e.old))) }
     ensures refused { OnErr result (Extends e.old e.new) }
 {
     match plan.res(port) {

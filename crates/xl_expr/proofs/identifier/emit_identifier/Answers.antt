@@ -1,7 +1,7 @@
 use Rattle.std.proofs.Common.{ap, length, length-append, arith}
 use Rattle.xl_expr.specs.Code.{at_pos}
 use Rattle.xl_expr.specs.Identifiers.{identifier_instrs}
-use Rattle.xl_expr.proofs.Identified.{at_most_two, code_identifies}
+use Rattle.xl_expr.proofs.Identified.{at_most_two, code_identifies, identifier_aimed}
 use Rattle.xl_expr.proofs.identifier.emit_identifier.Goals as goal
 
 pub returns-clause-size : goal.returns-clause-size
@@ -14,4 +14,11 @@ returns-clause-identifies c = record {
   lines = at_pos c.args.pos (identifier_instrs c.args.place);
   is = c.in_ok-put_identifier.ensures.code;
   so = code_identifies c.args.place (length c.args.e.now) c.args.pos;
+}
+
+pub returns-clause-aimed : goal.returns-clause-aimed
+returns-clause-aimed c = record {
+  lines = at_pos c.args.pos (identifier_instrs c.args.place);
+  is = c.in_ok-put_identifier.ensures.code;
+  so = identifier_aimed c.args.place (length c.args.e.now) c.args.pos;
 }
