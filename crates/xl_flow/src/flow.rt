@@ -21,6 +21,8 @@ pub fn emit_set(e: &mut Emitter, plan: &Plan, dst: &Place, x: &Kx) -> Result<(),
         < 2 ^ 32 }
     requires shallow { depth (expression_of x.now) ≤ 400 }
     requires shallow_place { depth_at (place_of dst.now) ≤ 400 }
+    ensures size { OnOk result (length e.new
+        ≤ length e.old + 8 * (nodes (expression_of x.now) + nodes_at (place_of dst.now))) }
     ensures sets { OnOk result (Adds e.old e.new
         (Sets plan.now.vars (place_of dst.now) (expression_of x.now) (length e.old))) }
     ensures aimed { OnOk result (Adds e.old e.new (AreAimed (length e.old))) }
@@ -37,6 +39,8 @@ pub fn emit_set(e: &mut Emitter, plan: &Plan, dst: &Place, x: &Kx) -> Result<(),
 pub fn emit_test(e: &mut Emitter, plan: &Plan, x: &Kx, pos: Pos) -> Result<Hole, Memory>
     requires room { length e.old + 8 * nodes (expression_of x.now) + 1 < 2 ^ 32 }
     requires shallow { depth (expression_of x.now) ≤ 400 }
+    ensures size { OnOk result
+        (length e.new ≤ length e.old + 8 * nodes (expression_of x.now) + 1) }
     ensures tests { IfOk result (λ hole. AddsTest e.old e.new hole.index pos
         (Tests plan.now.vars (expression_of x.now) (length e.old) pos)) }
     ensures aimed { IfOk result

@@ -19,6 +19,7 @@ use xw_words::{Memory, Pos};
 /// The one error is want of memory; the emitter then holds what it held, and perhaps further instructions behind it.
 pub fn emit_zero(e: &mut Emitter, plan: &Plan, v: u32) -> Result<(), Memory>
     requires room { length e.old + room_of (var_in plan.now.vars v) < 2 ^ 32 }
+    ensures size { OnOk result (length e.new ≤ length e.old + room_of (var_in plan.now.vars v)) }
     ensures code { OnOk result (e.new ≡ e.old ++ zero_code plan.now.vars v (last_pos e.old)) }
     ensures zeroes { OnOk result (Adds e.old e.new (Zeroes plan.now.vars v (length e.old))) }
     ensures aimed { OnOk result (Adds e.old e.new (AreAimed (length e.old))) }

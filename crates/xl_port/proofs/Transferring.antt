@@ -1,5 +1,5 @@
 -- The code that puts a word out on a port.
-use Rattle.std.proofs.Common.{◌≡◌, ℕ, ◌+◌, Bool, true, false, List, ◌++◌, length, Option, Some, None, refl, ap, ◌∙◌, subst, arith, length-append}
+use Rattle.std.proofs.Common.{◌≤◌, ◌∷◌, [], ◌≡◌, ℕ, ◌+◌, Bool, true, false, List, ◌++◌, length, Option, Some, None, refl, ap, ◌∙◌, subst, arith, append_assoc, length-append}
 use Rattle.std.specs.Prelude.{slice_get}
 use Rattle.std.specs.Option.{is_some}
 use Rattle.xw_words.specs.declared.pos.Pos.{Pos}
@@ -29,7 +29,7 @@ use Rattle.xl_expr.proofs.GoodCode.{plain_aimed}
 use Rattle.xl_expr.proofs.Lists.{stand_front, stand_back}
 use Rattle.xl_expr.proofs.Ways.{at_pc, turn_row}
 use Rattle.xl_expr.proofs.Wider.{leads_more, then_leads}
-use Rattle.xl_port.specs.Outputs.{HoldsTime, Transfers, ValueOutcome, set_for, transfer_instrs}
+use Rattle.xl_port.specs.Outputs.{HoldsTime, Transfers, ValueOutcome, set_for, transfer_instrs, setting_instrs}
 use Rattle.xl_port.specs.PortSteps.{KeptPort, PortStep, WithinPort}
 use Rattle.xl_port.proofs.PortTurns.{Stands, beside_port, out_row_is, port_leads, setc_row, setpt_row, stands_kept}
 
@@ -105,3 +105,11 @@ nothing_transfers is_timed pos pc ls = record { by = λ home relied s t p port t
 pub transfer_aimed : (is_timed : Bool) (pos : Pos) (pc : ℕ) → AreAimed pc (at_pos pos (transfer_instrs is_timed))
 transfer_aimed true pos pc = plain_aimed pos (transfer_instrs true) pc ((λ size n. tt), ((λ size n. tt), ((λ size n. tt), tt)))
 transfer_aimed false pos pc = plain_aimed pos (transfer_instrs false) pc ((λ size n. tt), ((λ size n. tt), tt))
+
+pub setting_longer : (is_timed : Bool) (pos : Pos) (old new : List Line) → new ≡ old ++ at_pos pos (setting_instrs is_timed) → length new ≤ length old + 2
+setting_longer true pos old new h = omega (arith, ap length h, length-append old (at_pos pos (setting_instrs true)))
+setting_longer false pos old new h = omega (arith, ap length h, length-append old (at_pos pos (setting_instrs false)))
+
+pub transfer_joined : (is_timed : Bool) (pos : Pos) (old e1 e2 : List Line) → e1 ≡ old ++ at_pos pos (setting_instrs is_timed) → e2 ≡ e1 ++ at_pos pos (Out R11 R0 ∷ []) → e2 ≡ old ++ at_pos pos (transfer_instrs is_timed)
+transfer_joined true pos old e1 e2 h g = g ∙ ap (λ ls. ls ++ at_pos pos (Out R11 R0 ∷ [])) h ∙ append_assoc old (at_pos pos (setting_instrs true)) (at_pos pos (Out R11 R0 ∷ []))
+transfer_joined false pos old e1 e2 h g = g ∙ ap (λ ls. ls ++ at_pos pos (Out R11 R0 ∷ [])) h ∙ append_assoc old (at_pos pos (setting_instrs false)) (at_pos pos (Out R11 R0 ∷ []))

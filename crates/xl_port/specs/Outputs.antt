@@ -50,7 +50,12 @@ output_nodes o = time_nodes o.time + nodes o.value
 abbrev pub output_depth : kernel.Output → ℕ
 output_depth o = max (time_depth o.time) (depth o.value)
 
--- the port named in r11 is cleared of condition, latch and time, its time is set to r10's word where there is one, and r0 goes out
+-- the port named in r11 is cleared of condition, latch and time, and its time is set to r10's word where there is one
+abbrev pub setting_instrs : (is_timed : Bool) → List Instr
+setting_instrs true = Setc R11 NoCond ∷ Setpt R11 R10 ∷ []
+setting_instrs false = Setc R11 NoCond ∷ []
+
+-- and then r0 goes out
 abbrev pub transfer_instrs : (is_timed : Bool) → List Instr
 transfer_instrs true = Setc R11 NoCond ∷ Setpt R11 R10 ∷ Out R11 R0 ∷ []
 transfer_instrs false = Setc R11 NoCond ∷ Out R11 R0 ∷ []

@@ -3,7 +3,7 @@ ghost use Rattle.xc_kernel.specs.Kernels.{expression_of, output_of};
 ghost use Rattle.xl_expr.specs.Code.{at_pos};
 ghost use Rattle.xl_expr.specs.Plans.{resource_in};
 ghost use Rattle.xl_expr.specs.Targets.{AreAimed};
-ghost use Rattle.xl_port.specs.Outputs.{Outputs, TimeEvaluates, Transfers, output_depth, output_nodes, time_depth, time_nodes, transfer_instrs};
+ghost use Rattle.xl_port.specs.Outputs.{Outputs, TimeEvaluates, Transfers, output_depth, output_nodes, setting_instrs, time_depth, time_nodes, transfer_instrs};
 ghost use Rattle.xs_instr.specs.Adds.{Adds};
 ghost use Rattle.xs_instr.specs.Extends.{Extends};
 
@@ -85,24 +85,21 @@ fn put_transfer(e: &mut Emitter, is_timed: bool, pos: Pos) -> Result<(), Memory>
     ensures code { OnOk result (e.new ≡ e.old ++ at_pos pos (transfer_instrs is_timed)) }
     ensures refused { OnErr result (Extends e.old e.new) }
 {
+    put_setting(e, is_timed, pos)?;
+    put_all(e, &[Instr::Out(Reg::R11, Reg::R0)], pos)?;
+    Ok(())
+}
+
+/// The port named in r11 is cleared of what was set, and its time is set to r10 where it has one.
+fn put_setting(e: &mut Emitter, is_timed: bool, pos: Pos) -> Result<(), Memory>
+    requires { length e.old + 2 < 2 ^ 32 }
+    ensures code { OnOk result (e.new ≡ e.old ++ at_pos pos (setting_instrs is_timed)) }
+    ensures refused { OnErr result (Extends e.old e.new) }
+{
+    let clearing = Instr::Setc(Reg::R11, Cond::None);
     if is_timed {
-        put_all(
-            e,
-            &[
-                Instr::Setc(Reg::R11, Cond::None),
-                Instr::Setpt(Reg::R11, Reg::R10),
-                Instr::Out(Reg::R11, Reg::R0),
-            ],
-            pos,
-        )
+        put_all(e, &[clearing, Instr::Setpt(Reg::R11, Reg::R10)], pos)
     } else {
-        put_all(
-            e,
-            &[
-                Instr::Setc(Reg::R11, Cond::None),
-                Instr::Out(Reg::R11, Reg::R0),
-            ],
-            pos,
-        )
+        put_all(e, &[clearing], pos)
     }
 }
