@@ -12,9 +12,11 @@ use Rattle.xs_instr.specs.Slot.{slot}
 
 -- the core once a root has ended
 abbrev pub root_ended : CoreState → ℕ → Thread → CoreState
-root_ended core t thread = record (with_thread core t (record thread { mode = Unused; pc = thread.pc + 1 })) { roots = core.roots - 1 }
+root_ended core t thread =
+    record (with_thread core t (record thread { mode = Unused; pc = thread.pc + 1 })) { roots = core.roots - 1 }
 
--- The lines end a root: wherever they stand, the next step of an untied thread at index pc leaves the thread unused, and one root fewer.
+-- The lines end a root: wherever they stand, the next step of an untied thread at index pc leaves the thread unused, and one root
+-- fewer.
 pub record EndsRoot (pc : ℕ) (lines : List Line) : Type 0 where
   pub by : (home : Home) (t : ℕ) (thread : Thread) (a : CoreState) →
       StandAt home.parts.code pc lines → RunsAt t pc thread a → thread.tie ≡ None →

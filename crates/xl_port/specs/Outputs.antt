@@ -12,6 +12,7 @@ use Rattle.xs_instr.specs.declared.state.CoreState.{CoreState}
 use Rattle.xs_instr.specs.declared.state.Port.{Port}
 use Rattle.xs_instr.specs.declared.state.Regs.{Regs}
 use Rattle.xs_instr.specs.declared.state.Thread.{Thread}
+use Rattle.xs_instr.specs.declared.trace.Record.{Record}
 use Rattle.xs_instr.specs.declared.trace.Record.TheVariants.{PortOut}
 use Rattle.xs_instr.specs.Did.{Made, Paused}
 use Rattle.xs_instr.specs.Lines.{Line}
@@ -79,16 +80,33 @@ abbrev pub ResourceIs : (ℕ → Bool) → (s dp : ℕ) → List ℕ → Option 
 ResourceIs relied s dp words None name = ⊥
 ResourceIs relied s dp words (Some place) name = IsIdentifier relied s dp words place name
 
-pub record PortStands (home : Home) (relied : ℕ → Bool) (s dp : ℕ) (place : Option ResAt) (p : ℕ) (port : Port) (a : CoreState) : Type 0 where
+pub record PortStands
+    (home : Home) (relied : ℕ → Bool) (s dp : ℕ) (place : Option ResAt)
+    (p : ℕ) (port : Port) (a : CoreState) : Type 0 where
   pub name : ℕ
   pub name_is : ResourceIs relied s dp a.words place name
   pub names : named home.number name ≡ APort p
   pub there : slice_get a.ports p ≡ Some port
   pub sends : can_send port.decl.dir ≡ true
 
+-- whether the port's counter is the time, if there is one
+abbrev pub is_due : (time : Option ℕ) → CoreState → Bool
+is_due time core = time_meets (time_of time) (counter core.clock)
+
+-- the core once a word went out on port p, and thread t went on
+abbrev pub gone_out : CoreState → (t p : ℕ) → Thread → Port → CoreState
+gone_out core t p thread port =
+    put_ports (with_thread core t thread) (slice_set core.ports p (moved_at port (counter core.clock)))
+
+-- the record of it
+abbrev pub out_record : Home → CoreState → (v : ℕ) → Port → Record
+out_record home core v port = PortOut home.number port.decl.port (counter core.clock) (low_bits v port.decl.port)
+
 -- The thread's next step puts v out on port p and goes on to pc, once the port's counter is the time, if there is one, and pauses till
 -- then. Its registers but r0, r10 and r11 are as they were, and so are all words that it relies on but its temporary ones.
-pub record PutsOut (home : Home) (relied : ℕ → Bool) (s t : ℕ) (thread : Thread) (old : List ℕ) (p : ℕ) (port : Port) (pos : Pos) (pc : ℕ) (time : Option ℕ) (v : ℕ) (b : CoreState) : Type 0 where
+pub record PutsOut
+    (home : Home) (relied : ℕ → Bool) (s t : ℕ) (thread : Thread) (old : List ℕ)
+    (p : ℕ) (port : Port) (pos : Pos) (pc : ℕ) (time : Option ℕ) (v : ℕ) (b : CoreState) : Type 0 where
   pub index : ℕ
   pub regs : Regs
   pub here : slice_get b.threads t ≡ Some (record thread { pc = index; regs = regs })
@@ -96,17 +114,20 @@ pub record PutsOut (home : Home) (relied : ℕ → Bool) (s t : ℕ) (thread : T
   pub others : (r : Reg) → is_working r ≡ false → reg_get regs r ≡ reg_get thread.regs r
   pub words : (w : ℕ) → relied w ≡ true → IsApart s w → slice_get b.words w ≡ slice_get old w
   pub port_is : slice_get b.ports p ≡ Some (set_for time port)
-  pub waits : time_meets (time_of time) (counter b.clock) ≡ false → slot home b t ≡ Paused
-  pub goes : time_meets (time_of time) (counter b.clock) ≡ true →
+  pub waits : is_due time b ≡ false → slot home b t ≡ Paused
+  pub goes : is_due time b ≡ true →
       slot home b t ≡ Made
-      (put_ports (with_thread b t (record thread { pc = pc; regs = regs })) (slice_set b.ports p (moved_at (set_for time port) (counter b.clock))))
-      (Some (PortOut home.number port.decl.port (counter b.clock) (low_bits v port.decl.port)))
+      (gone_out b t p (record thread { pc = pc; regs = regs }) (set_for time port))
+      (Some (out_record home b v port))
       []
 
 -- where an output's code leads: the time's error comes first, then the value's
-module _ (home : Home) (relied : ℕ → Bool) (s t : ℕ) (thread : Thread) (old : List ℕ) (p : ℕ) (port : Port) (pos : Pos) (pc : ℕ) where
+module _
+    (home : Home) (relied : ℕ → Bool) (s t : ℕ) (thread : Thread) (old : List ℕ)
+    (p : ℕ) (port : Port) (pos : Pos) (pc : ℕ) where
   abbrev pub ValueOutcome : (time : Option ℕ) → Value → CoreState → Type 0
-  ValueOutcome time (word v) b = (c : CoreState) → KeptPort relied t p b c → PutsOut home relied s t thread old p port pos pc time v c
+  ValueOutcome time (word v) b =
+      (c : CoreState) → KeptPort relied t p b c → PutsOut home relied s t thread old p port pos pc time v c
   ValueOutcome time (error kind at_pos') b = (c : CoreState) → KeptPort relied t p b c → Errs home t kind at_pos' c
 
   abbrev pub OutputOutcome : (time : Option Value) → Value → CoreState → Type 0
@@ -124,7 +145,8 @@ pub record Outputs (plan : Plan) (o : kernel.Output) (pc : ℕ) (lines : List Li
       IsLaid plan.vars relied s thread.regs.dp a.words store o.value →
       PortStands home relied s thread.regs.dp (resource_in plan.ports plan.timers o.resource) p port a →
       WithinPort home relied (IsApart s) t p
-      (OutputOutcome home relied s t thread a.words p port o.pos (pc + length lines) (option_map (eval store) o.time) (eval store o.value))
+      (OutputOutcome home relied s t thread a.words p port o.pos (pc + length lines)
+      (option_map (eval store) o.time) (eval store o.value))
       (8 * output_nodes o + 4) a
 
 -- the parts of that code
