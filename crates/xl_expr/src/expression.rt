@@ -303,9 +303,9 @@ fn emit_short(
         ≡ e.old ++ short_code plan.now.vars jump pos (expression_of second.now) k (length e.old)) }
     ensures refused { OnErr result (Extends e.old e.new) }
 {
-    let over = e.hole(jump, pos)?;
+    let skip = e.hole(jump, pos)?;
     emit_at(e, plan, second, k + 1, pos)?;
-    e.land(over);
+    e.land(skip);
     put_all(
         e,
         &[

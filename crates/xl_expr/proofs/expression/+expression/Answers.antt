@@ -98,20 +98,20 @@ emit_second-returns-in_ok-put_after_main-in_default t c = record {
 pub emit_short-put_all-requires : goal.emit_short-put_all-requires
 emit_short-put_all-requires t c =
     let b : ℕ → List Line = λ n. expression_code c.args.plan.now.vars (expression_of c.args.second.now) (c.args.k + 1) n c.args.pos in
-    let l = one_longer c.args.e.now c.hole.new.self (open_line c.args.jump c.args.pos) c.in_ok-over.ensures.ok in
+    let l = one_longer c.args.e.now c.hole.new.self (open_line c.args.jump c.args.pos) c.in_ok-skip.ensures.ok in
     let n = longer c.args.plan.now.vars (expression_of c.args.second.now) (c.args.k + 1) (length c.hole.new.self) c.args.pos c.hole.new.self c.emit_at.new.e c.in_ok-emit_at.ensures.ok in
-    let m = short_length c.args.jump c.args.pos c.args.e.now c.hole.new.self c.emit_at.new.e b c.in_ok-over.over.index c.in_ok-over.ensures.index c.in_ok-over.ensures.ok c.in_ok-emit_at.ensures.ok c.land.new.self c.land.ensures in
+    let m = short_length c.args.jump c.args.pos c.args.e.now c.hole.new.self c.emit_at.new.e b c.in_ok-skip.skip.index c.in_ok-skip.ensures.index c.in_ok-skip.ensures.ok c.in_ok-emit_at.ensures.ok c.land.new.self c.land.ensures in
     omega (arith, l, n, m, c.requires.room)
 
 pub emit_short-returns-clause-ok : goal.emit_short-returns-clause-ok
 emit_short-returns-clause-ok t c =
     let b : ℕ → List Line = λ n. expression_code c.args.plan.now.vars (expression_of c.args.second.now) (c.args.k + 1) n c.args.pos in
-    short_emitted c.args.jump c.args.pos c.args.e.now c.hole.new.self c.emit_at.new.e b c.in_ok-over.over.index c.in_ok-over.ensures.index c.in_ok-over.ensures.ok c.in_ok-emit_at.ensures.ok c.land.new.self c.put_all.new.e made_truth c.land.ensures c.in_ok-put_all.ensures.ok
+    short_emitted c.args.jump c.args.pos c.args.e.now c.hole.new.self c.emit_at.new.e b c.in_ok-skip.skip.index c.in_ok-skip.ensures.index c.in_ok-skip.ensures.ok c.in_ok-emit_at.ensures.ok c.land.new.self c.put_all.new.e made_truth c.land.ensures c.in_ok-put_all.ensures.ok
 
 pub emit_short-returns-in_err-put_all-clause-refused : goal.emit_short-returns-in_err-put_all-clause-refused
 emit_short-returns-in_err-put_all-clause-refused t c =
     let b : ℕ → List Line = λ n. expression_code c.args.plan.now.vars (expression_of c.args.second.now) (c.args.k + 1) n c.args.pos in
-    on_err _ _ (short_extends c.args.jump c.args.pos c.args.e.now c.hole.new.self c.emit_at.new.e b c.in_ok-over.over.index c.in_ok-over.ensures.index c.in_ok-over.ensures.ok c.in_ok-emit_at.ensures.ok c.land.new.self c.put_all.new.e c.land.ensures c.in_err-put_all.ensures.refused)
+    on_err _ _ (short_extends c.args.jump c.args.pos c.args.e.now c.hole.new.self c.emit_at.new.e b c.in_ok-skip.skip.index c.in_ok-skip.ensures.index c.in_ok-skip.ensures.ok c.in_ok-emit_at.ensures.ok c.land.new.self c.put_all.new.e c.land.ensures c.in_err-put_all.ensures.refused)
 
 pub emit_choice-hole-requires-2-clause-few : goal.emit_choice-hole-requires-2-clause-few
 emit_choice-hole-requires-2-clause-few t c =
