@@ -1,41 +1,42 @@
 -- The targets of an expression's code lie ahead, and in the code that it stands in.
-use Rattle.std.proofs.Common.{◌≡◌, ℕ, ◌+◌, ◌<◌, Bool, true, false, List, [], ◌∷◌, ◌++◌, length, Option, Some, None, subst, arith, length-append}
+use Rattle.std.proofs.Common.{sym, append-nil, refl, suc, map, ◌≡◌, ℕ, ◌+◌, ◌<◌, Bool, true, false, List, [], ◌∷◌, ◌++◌, length, Option, Some, None, subst, arith, length-append}
 use Rattle.xw_words.specs.declared.pos.Pos.{Pos}
 use Rattle.xs_instr.specs.declared.instr.Instr.{Instr}
 use Rattle.xs_instr.specs.declared.instr.Instr.TheVariants.{Brff, Brfu, Ldc, Lsu, Ecallf, Ldawdp, Ldwdp, Ldw, Stwsp}
 use Rattle.xs_instr.specs.declared.instr.Reg.{Reg}
 use Rattle.xs_instr.specs.declared.instr.Reg.TheVariants.{R0, R11}
-use Rattle.xs_instr.specs.Valid.{IsGoodInstr}
+use Rattle.xs_instr.specs.Adds.{Adds}
+use Rattle.xs_instr.specs.Valid.{AreGoodInstrs, IsGoodInstr}
 use Rattle.xc_kernel.specs.Plain as kernel
 use Rattle.xc_kernel.specs.Operators as operator
 use Rattle.xc_kernel.specs.Operators.{Operator, operator_at}
-use Rattle.xs_instr.specs.Lines.{Line, line}
+use Rattle.xs_instr.specs.Lines.{HasNoHole, Line, instr_of, line}
 use Rattle.xl_expr.specs.declared.plan.VarAt.{VarAt}
 use Rattle.xl_expr.specs.declared.plan.VarAt.TheVariants.{Near, Far, Through}
 use Rattle.xl_expr.specs.declared.plan.VarPlan.{VarPlan}
 use Rattle.xl_expr.specs.Plans.{var_in}
+use Rattle.xl_expr.specs.Targets.{AreAimed, AreGoodLines}
 use Rattle.xl_expr.specs.Code.{at_pos, one_tail, main_instr, after_main, between, behind, operation_code, word_code, word_at_place, element_code, element_at_place, expression_code, codes, place_code, moved_to, code_to}
 use Rattle.xl_expr.specs.Stores.{word_write, word_store, element_write, element_store_at, element_store, store_code}
-
--- each instruction is good where it stands
-abbrev pub AreGoodLines : ℕ → ℕ → List Line → Type 0
-AreGoodLines size i [] = Unit {0}
-AreGoodLines size i (l ∷ ls) = IsGoodInstr size i l.instr × AreGoodLines size (i + 1) ls
 
 pub good_append : (size i : ℕ) (a b : List Line) → AreGoodLines size i a → AreGoodLines size (i + length a) b → AreGoodLines size i (a ++ b)
 good_append size i [] b h g = let e : i + 0 ≡ i = omega arith in subst (λ n. AreGoodLines size n b) e g
 good_append size i (l ∷ a) b h g =
     let e : i + length (l ∷ a) ≡ i + 1 + length a = omega arith in
-    (h.0, good_append size (i + 1) a b h.1 (subst (λ n. AreGoodLines size n b) e g))
+    (h.0, h.1, good_append size (i + 1) a b h.2 (subst (λ n. AreGoodLines size n b) e g))
 
 -- instructions that are good anywhere
-abbrev ArePlain : List Instr → Type 0
+abbrev pub ArePlain : List Instr → Type 0
 ArePlain [] = Unit {0}
 ArePlain (i ∷ is) = ((size n : ℕ) → IsGoodInstr size n i) × ArePlain is
 
-plain_good : (pos : Pos) (is : List Instr) → ArePlain is → (size n : ℕ) → AreGoodLines size n (at_pos pos is)
+pub plain_good : (pos : Pos) (is : List Instr) → ArePlain is → (size n : ℕ) → AreGoodLines size n (at_pos pos is)
 plain_good pos [] h size n = tt
-plain_good pos (i ∷ is) h size n = (h.0 size n, plain_good pos is h.1 size (n + 1))
+plain_good pos (i ∷ is) h size n = (h.0 size n, refl, plain_good pos is h.1 size (n + 1))
+
+pub plain_append : (is js : List Instr) → ArePlain is → ArePlain js → ArePlain (is ++ js)
+plain_append [] js h g = g
+plain_append (i ∷ is) js h g = (h.0, plain_append is js h.1 g)
 
 main_plain : (o : Operator) (u : Bool) → (size n : ℕ) → IsGoodInstr size n (main_instr o u)
 main_plain operator.divide true = λ size n. tt
@@ -85,7 +86,7 @@ data AllGood : List (ℕ → ℕ → Pos → List Line) → Type 0 where
   some : (p : ℕ → ℕ → Pos → List Line) (ps : List (ℕ → ℕ → Pos → List Line)) (here : IsGood p) (rest : AllGood ps) → AllGood (p ∷ ps)
 
 operation_good : (o : Operator) (u : Bool) (pos : Pos) (ps : List (ℕ → ℕ → Pos → List Line)) → AllGood ps → IsGood (operation_code o u pos ps)
-operation_good o u pos ps none = record { by = λ size k here last h. (tt, tt) }
+operation_good o u pos ps none = record { by = λ size k here last h. (tt, refl, tt) }
 operation_good o u pos ps (some a ps' ga none) = record {
   by = λ size k here last h.
       let ca = a k here last in
@@ -102,7 +103,7 @@ operation_good o u pos ps (some a ps' ga (some b ps'' gb none)) = record {
       let l1 = length-append (ca ++ (m ∷ cb)) tail in
       let l2 = length-append ca (m ∷ cb) in
       good_append size here (ca ++ (m ∷ cb)) tail
-      (good_append size here ca (m ∷ cb) (ga.by size k here last (omega (arith, h, l1, l2))) (between_good o k target size (here + length ca) (omega arith) (omega (arith, h, l1, l2)), gb.by size (k + 1) (here + length ca + 1) pos (omega (arith, h, l1, l2))))
+      (good_append size here ca (m ∷ cb) (ga.by size k here last (omega (arith, h, l1, l2))) (between_good o k target size (here + length ca) (omega arith) (omega (arith, h, l1, l2)), refl, gb.by size (k + 1) (here + length ca + 1) pos (omega (arith, h, l1, l2))))
       (plain_good pos (behind o u k) (behind_plain o u k) size (here + length (ca ++ (m ∷ cb))));
 }
 operation_good o u pos ps (some a ps' ga (some b ps'' gb (some d ps3 gd rest))) = record {
@@ -117,7 +118,7 @@ operation_good o u pos ps (some a ps' ga (some b ps'' gb (some d ps3 gd rest))) 
       let l1 = length-append ca (l ∷ (cb ++ (m ∷ cd))) in
       let l2 = length-append cb (m ∷ cd) in
       good_append size here ca (l ∷ (cb ++ (m ∷ cd))) (ga.by size k here last (omega (arith, h, l1, l2)))
-      ((omega arith, omega (arith, h, l1, l2)), good_append size (here + length ca + 1) cb (m ∷ cd) (gb.by size (k + 1) (here + length ca + 1) pos (omega (arith, h, l1, l2))) ((omega arith, omega (arith, h, l1, l2)), gd.by size (k + 1) (p2 + 1) pos (omega (arith, h, l1, l2))));
+      ((omega arith, omega (arith, h, l1, l2)), refl, good_append size (here + length ca + 1) cb (m ∷ cd) (gb.by size (k + 1) (here + length ca + 1) pos (omega (arith, h, l1, l2))) ((omega arith, omega (arith, h, l1, l2)), refl, gd.by size (k + 1) (p2 + 1) pos (omega (arith, h, l1, l2))));
 }
 
 word_plain : (place : VarAt) → ArePlain (word_at_place place)
@@ -139,11 +140,11 @@ element_good (Some found) pos i g = at_place found.place
     at_place : (place : VarAt) → IsGood (element_at_place place found.words pos i)
     at_place (Near n) = behind_index (Ldc R11 found.words ∷ Lsu R11 R0 R11 ∷ Ecallf R11 ∷ Ldawdp R11 n ∷ Ldw R0 R11 R0 ∷ []) ((λ size n. tt), ((λ size n. tt), ((λ size n. tt), ((λ size n. tt), ((λ size n. tt), tt)))))
     at_place (Far n) = behind_index (Ldc R11 found.words ∷ Lsu R11 R0 R11 ∷ Ecallf R11 ∷ Ldwdp R11 n ∷ Ldw R0 R11 R0 ∷ []) ((λ size n. tt), ((λ size n. tt), ((λ size n. tt), ((λ size n. tt), ((λ size n. tt), tt)))))
-    at_place (Through n) = record { by = λ size k here last h. (tt, (tt, (tt, tt))) }
+    at_place (Through n) = record { by = λ size k here last h. (tt, refl, (tt, refl, (tt, refl, tt))) }
 
 mutual
   pub code_good : (vars : List (Option VarPlan)) (x : kernel.Expression) → IsGood (expression_code vars x)
-  code_good vars (kernel.number v) = record { by = λ size k here last h. (tt, tt) }
+  code_good vars (kernel.number v) = record { by = λ size k here last h. (tt, refl, tt) }
   code_good vars (kernel.read p) = place_good vars p
   code_good vars (kernel.operation o u es pos) = operation_good (operator_at o) u pos (codes vars es) (codes_good vars es)
 
@@ -190,13 +191,44 @@ store_good vars (kernel.element v i pos) from size here last h = of_element (var
     behind_index : (is : List Instr) → ArePlain is → here + length (line (Stwsp from 0) pos ∷ (ci ++ at_pos pos is)) < size → AreGoodLines size here (line (Stwsp from 0) pos ∷ (ci ++ at_pos pos is))
     behind_index is p g =
         let l = length-append ci (at_pos pos is) in
-        (tt, good_append size (here + 1) ci (at_pos pos is) ((code_good vars i).by size 1 (here + 1) pos (omega (arith, g, l))) (plain_good pos is p size (here + 1 + length ci)))
+        (tt, refl, good_append size (here + 1) ci (at_pos pos is) ((code_good vars i).by size 1 (here + 1) pos (omega (arith, g, l))) (plain_good pos is p size (here + 1 + length ci)))
 
     at_place : (place : VarAt) (words : ℕ) → here + length (element_store_at place words from pos (λ n. expression_code vars i 1 n pos) here) < size → AreGoodLines size here (element_store_at place words from pos (λ n. expression_code vars i 1 n pos) here)
     at_place (Near n) words g = behind_index (element_write (Ldawdp R11 n) words) ((λ size n. tt), ((λ size n. tt), ((λ size n. tt), ((λ size n. tt), ((λ size n. tt), ((λ size n. tt), tt)))))) g
     at_place (Far n) words g = behind_index (element_write (Ldwdp R11 n) words) ((λ size n. tt), ((λ size n. tt), ((λ size n. tt), ((λ size n. tt), ((λ size n. tt), ((λ size n. tt), tt)))))) g
-    at_place (Through n) words g = (tt, (tt, (tt, (tt, (tt, tt)))))
+    at_place (Through n) words g = (tt, refl, (tt, refl, (tt, refl, (tt, refl, (tt, refl, tt)))))
 
     of_element : (found : Option VarPlan) → here + length (element_store found from pos (λ n. expression_code vars i 1 n pos) here) < size → AreGoodLines size here (element_store found from pos (λ n. expression_code vars i 1 n pos) here)
     of_element None g = tt
     of_element (Some found) g = at_place found.place found.words g
+
+-- lines behind lines
+pub aimed_append : (pc : ℕ) (ls ms : List Line) → AreAimed pc ls → AreAimed (pc + length ls) ms → AreAimed pc (ls ++ ms)
+aimed_append pc ls ms h g = record {
+  by = λ size e.
+      let l = length-append ls ms in
+      good_append size pc ls ms (h.by size (omega (arith, e, l))) (g.by size (omega (arith, e, l)));
+}
+
+pub plain_aimed : (pos : Pos) (is : List Instr) (pc : ℕ) → ArePlain is → AreAimed pc (at_pos pos is)
+plain_aimed pos is pc h = record { by = λ size e. plain_good pos is h size pc }
+
+pub code_aimed : (vars : List (Option VarPlan)) (x : kernel.Expression) (to : Reg) (pc : ℕ) (last : Pos) → AreAimed pc (code_to vars x to pc last)
+code_aimed vars x to pc last = record { by = λ size e. code_to_good vars x to size pc last e }
+
+pub store_aimed : (vars : List (Option VarPlan)) (p : kernel.Place) (from : Reg) (pc : ℕ) (last : Pos) → AreAimed pc (store_code vars p from pc last)
+store_aimed vars p from pc last = record { by = λ size e. store_good vars p from size pc last e }
+
+pub nothing_aimed : (old : List Line) → Adds old old (AreAimed (length old))
+nothing_aimed old = record { lines = []; is = sym (append-nil old); so = record { by = λ size e. tt } }
+
+-- what good lines are for the emitter and for an image
+pub good_closed : (size i : ℕ) (ls : List Line) → AreGoodLines size i ls → HasNoHole ls
+good_closed size i [] h = tt
+good_closed size i (l ∷ ls) h = (h.1, good_closed size (i + 1) ls h.2)
+
+pub good_instrs : (size i : ℕ) (ls : List Line) → AreGoodLines size i ls → AreGoodInstrs size i (map instr_of ls)
+good_instrs size i [] h = tt
+good_instrs size i (l ∷ ls) h =
+    let e : i + 1 ≡ suc i = omega arith in
+    (h.0, subst (λ n. AreGoodInstrs size n (map instr_of ls)) e (good_instrs size (i + 1) ls h.2))

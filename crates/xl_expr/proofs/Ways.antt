@@ -82,15 +82,18 @@ module _ (code : Code) (relied : ℕ → Bool) (leaves : ℕ → Type 0) where
 
   module _ (home : Home) (t : ℕ) (thread : Thread) (runs : thread.mode ≡ Running) (quiet : thread.event_bit ≡ false) (code_is : home.parts.code ≡ code) where
     -- the thread's turn is the row of its instruction
+    pub turn_row : (b : CoreState) (pc : ℕ) (regs : Regs) (i : Instr) → slice_get b.threads t ≡ Some (at_pc thread pc regs) → slice_get code.instrs pc ≡ Some i → is_waiteu (Some i) ≡ false → slot home b t ≡ row home b t (at_pc thread pc regs) i
+    turn_row b pc regs i here stands no_event =
+        let th = at_pc thread pc regs in
+        ap (turn_at home b t) here
+        ∙ ap (turn_of home b t th) runs
+        ∙ ap (runs_on home b t th) (ap (λ (k : Code). slice_get k.instrs pc) code_is ∙ stands)
+        ∙ ap (λ (e : Bool). event_or_row home b t th (Some i) (pick_where home b t (e || is_waiteu (Some i)))) quiet
+        ∙ ap (λ (e : Bool). event_or_row home b t th (Some i) (pick_where home b t e)) no_event
+
     pub turn_is : (b : CoreState) (o : Own) (i : Instr) → Fits t thread o b → slice_get code.instrs o.pc ≡ Some i → IsPlain i → slot home b t ≡ told (put_own b t (at_pc thread o.pc o.regs)) (own_row (own o.pc o.regs b.words) i)
     turn_is b o i f stands plain =
-        let th = at_pc thread o.pc o.regs in
-        ap (turn_at home b t) f.here
-        ∙ ap (turn_of home b t th) runs
-        ∙ ap (runs_on home b t th) (ap (λ (k : Code). slice_get k.instrs o.pc) code_is ∙ stands)
-        ∙ ap (λ (e : Bool). event_or_row home b t th (Some i) (pick_where home b t (e || is_waiteu (Some i)))) quiet
-        ∙ ap (λ (e : Bool). event_or_row home b t th (Some i) (pick_where home b t e)) plain.no_event
-        ∙ plain.row_is home b t th
+        turn_row b o.pc o.regs i f.here stands plain.no_event ∙ plain.row_is home b t (at_pc thread o.pc o.regs)
 
     pub way_leads : (Q : CoreState → Type 0) (n most : ℕ) (o o' : Own) → n ≤ most → Way n o o' → ((b : CoreState) → Fits t thread o' b → Q b) → (a : CoreState) → Fits t thread o a → Within home relied leaves t Q most a
     way_leads Q zero zero o o' le h q a f = q a (subst (λ x. Fits t thread x a) h f)

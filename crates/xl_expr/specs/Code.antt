@@ -132,10 +132,14 @@ word_code (Some found) last = at_pos last (word_at_place found.place)
 abbrev pub tested_index : ℕ → List Instr
 tested_index words = Ldc R11 words ∷ Lsu R11 R0 R11 ∷ Ecallf R11 ∷ []
 
+-- and then the element to r0, by the instruction that brings that address
+abbrev pub element_read : Instr → ℕ → List Instr
+element_read base words = tested_index words ++ base ∷ Ldw R0 R11 R0 ∷ []
+
 -- an element comes to r0, by its index's piece
 abbrev pub element_at_place : VarAt → ℕ → Pos → Piece → Piece
-element_at_place (Near n) words pos index k here last = index k here last ++ at_pos pos (Ldc R11 words ∷ Lsu R11 R0 R11 ∷ Ecallf R11 ∷ Ldawdp R11 n ∷ Ldw R0 R11 R0 ∷ [])
-element_at_place (Far n) words pos index k here last = index k here last ++ at_pos pos (Ldc R11 words ∷ Lsu R11 R0 R11 ∷ Ecallf R11 ∷ Ldwdp R11 n ∷ Ldw R0 R11 R0 ∷ [])
+element_at_place (Near n) words pos index k here last = index k here last ++ at_pos pos (element_read (Ldawdp R11 n) words)
+element_at_place (Far n) words pos index k here last = index k here last ++ at_pos pos (element_read (Ldwdp R11 n) words)
 element_at_place (Through n) words pos index k here last = at_pos pos (Ldwdp R11 n ∷ Ldc R0 0 ∷ Ldw R0 R11 R0 ∷ [])
 
 abbrev pub element_code : Option VarPlan → Pos → Piece → Piece

@@ -7,3 +7,6 @@ pub mod Operands
 pub mod Parts
 pub mod Stores
 pub mod Frames
+pub mod Leads
+pub mod Identifiers
+pub mod Targets

@@ -1,9 +1,10 @@
 ghost use Rattle.std.specs.Prelude.{◌≡◌, ◌+◌, ◌*◌, ◌<◌, ◌≤◌, ◌^◌, [], ◌∷◌, ◌++◌, length, map, OnOk, OnErr};
 ghost use Rattle.xc_kernel.specs.Kernels.{expression_of, place_of};
 ghost use Rattle.xs_instr.specs.Lines.{HasTarget, line, last_pos};
-ghost use Rattle.xl_expr.specs.Code.{at_pos, one_tail, negated, after_main, word_at_place, tested_index, moved_to, expression_code, place_code, operation_code, codes, code_to};
+ghost use Rattle.xl_expr.specs.Code.{at_pos, one_tail, negated, after_main, word_at_place, element_read, moved_to, expression_code, place_code, operation_code, codes, code_to};
 ghost use Rattle.xs_instr.specs.Adds.{Adds};
 ghost use Rattle.xs_instr.specs.Extends.{Extends};
+ghost use Rattle.xl_expr.specs.Targets.{AreAimed};
 ghost use Rattle.xl_expr.specs.Works.{Evaluates};
 ghost use Rattle.xl_expr.specs.Meant.{operator_meant};
 ghost use Rattle.xl_expr.specs.Measures.{nodes, nodes_of, nodes_at, depth, depth_of, depth_at};
@@ -31,6 +32,7 @@ pub fn emit_expr(e: &mut Emitter, plan: &Plan, x: &Kx, to: Reg) -> Result<(), Me
         ≡ e.old ++ code_to plan.now.vars (expression_of x.now) to (length e.old) (last_pos e.old)) }
     ensures evaluates { OnOk result
         (Adds e.old e.new (Evaluates plan.now.vars (expression_of x.now) to (length e.old))) }
+    ensures aimed { OnOk result (Adds e.old e.new (AreAimed (length e.old))) }
     ensures refused { OnErr result (Extends e.old e.new) }
 {
     let last = e.pos();
@@ -104,32 +106,12 @@ fn emit_place(e: &mut Emitter, plan: &Plan, place: &Place, k: u32, last: Pos) ->
             Some(found) => match found.place {
                 VarAt::Near(n) => {
                     emit_at(e, plan, index, k, last)?;
-                    put_all(
-                        e,
-                        &[
-                            Instr::Ldc(Reg::R11, found.words),
-                            Instr::Lsu(Reg::R11, Reg::R0, Reg::R11),
-                            Instr::Ecallf(Reg::R11),
-                            Instr::Ldawdp(Reg::R11, n),
-                            Instr::Ldw(Reg::R0, Reg::R11, Reg::R0),
-                        ],
-                        *pos,
-                    )?;
+                    put_element(e, found.words, Instr::Ldawdp(Reg::R11, n), *pos)?;
                     Ok(())
                 }
                 VarAt::Far(n) => {
                     emit_at(e, plan, index, k, last)?;
-                    put_all(
-                        e,
-                        &[
-                            Instr::Ldc(Reg::R11, found.words),
-                            Instr::Lsu(Reg::R11, Reg::R0, Reg::R11),
-                            Instr::Ecallf(Reg::R11),
-                            Instr::Ldwdp(Reg::R11, n),
-                            Instr::Ldw(Reg::R0, Reg::R11, Reg::R0),
-                        ],
-                        *pos,
-                    )?;
+                    put_element(e, found.words, Instr::Ldwdp(Reg::R11, n), *pos)?;
                     Ok(())
                 }
                 VarAt::Through(n) => put_all(
@@ -164,6 +146,25 @@ fn put_word(e: &mut Emitter, place: VarAt, pos: Pos) -> Result<(), Memory>
             pos,
         ),
     }
+}
+
+/// What reads an element, by its index in r0, after the index's test; `base` brings the array's first address to r11.
+fn put_element(e: &mut Emitter, words: u32, base: Instr, pos: Pos) -> Result<(), Memory>
+    requires { length e.old + 5 < 2 ^ 32 }
+    ensures ok { OnOk result (e.new ≡ e.old ++ at_pos pos (element_read base words)) }
+    ensures refused { OnErr result (Extends e.old e.new) }
+{
+    put_all(
+        e,
+        &[
+            Instr::Ldc(Reg::R11, words),
+            Instr::Lsu(Reg::R11, Reg::R0, Reg::R11),
+            Instr::Ecallf(Reg::R11),
+            base,
+            Instr::Ldw(Reg::R0, Reg::R11, Reg::R0),
+        ],
+        pos,
+    )
 }
 
 /// What one operand's operator makes of r0.
@@ -302,9 +303,9 @@ fn emit_short(
         ≡ e.old ++ short_code plan.now.vars jump pos (expression_of second.now) k (length e.old)) }
     ensures refused { OnErr result (Extends e.old e.new) }
 {
-    let over = e.hole(jump, pos)?;
+    let skip = e.hole(jump, pos)?;
     emit_at(e, plan, second, k + 1, pos)?;
-    e.land(over);
+    e.land(skip);
     put_all(
         e,
         &[

@@ -6,6 +6,7 @@ ghost use Rattle.xs_instr.specs.Adds.{Adds};
 ghost use Rattle.xl_expr.specs.Code.{at_pos, expression_code};
 ghost use Rattle.xs_instr.specs.Extends.{Extends};
 ghost use Rattle.xl_expr.specs.Measures.{nodes, nodes_at, depth, depth_at};
+ghost use Rattle.xl_expr.specs.Targets.{AreAimed};
 ghost use Rattle.xl_expr.specs.Stores.{Stores, element_write, store_code, word_write};
 
 use crate::expression::emit_at;
@@ -29,6 +30,7 @@ pub fn emit_store(e: &mut Emitter, plan: &Plan, dst: &Place, from: Reg) -> Resul
         (length e.old) (last_pos e.old)) }
     ensures stores { OnOk result
         (Adds e.old e.new (Stores plan.now.vars (place_of dst.now) from (length e.old))) }
+    ensures aimed { OnOk result (Adds e.old e.new (AreAimed (length e.old))) }
     ensures refused { OnErr result (Extends e.old e.new) }
 {
     let last = e.pos();

@@ -1,9 +1,10 @@
 -- What the code that sets a variable's words to 0 does.
-use Rattle.std.proofs.Common.{◌≡◌, ℕ, ◌+◌, ◌*◌, ◌/◌, ◌%◌, ◌^◌, ◌<◌, Bool, true, false, List, ◌∷◌, length, Option, Some, refl, sym, ap, ◌∙◌, subst, arith}
+use Rattle.std.proofs.Common.{zero, suc, None, ◌≡◌, ℕ, ◌+◌, ◌*◌, ◌/◌, ◌%◌, ◌^◌, ◌<◌, Bool, true, false, List, ◌∷◌, length, Option, Some, refl, sym, ap, ◌∙◌, subst, arith}
 use Rattle.std.specs.Prelude.{nat_eq, slice_get}
 use Rattle.xw_words.specs.declared.pos.Pos.{Pos}
 use Rattle.xs_instr.specs.declared.image.Code.{Code}
 use Rattle.xs_instr.specs.declared.image.Home.{Home}
+use Rattle.xs_instr.specs.declared.instr.Instr.{Instr}
 use Rattle.xs_instr.specs.declared.instr.Instr.TheVariants.{Ldc, Ldwdp, Stwdp, Stw}
 use Rattle.xs_instr.specs.declared.instr.Reg.{Reg}
 use Rattle.xs_instr.specs.declared.instr.Reg.TheVariants.{R0, R10, R11}
@@ -19,6 +20,9 @@ use Rattle.xl_expr.specs.declared.plan.VarAt.TheVariants.{Near, Far, Through}
 use Rattle.xl_expr.specs.declared.plan.VarPlan.{VarPlan}
 use Rattle.xl_expr.specs.Code.{at_pos}
 use Rattle.xl_expr.specs.Stores.{is_working}
+use Rattle.xl_expr.specs.Plans.{var_in}
+use Rattle.xl_expr.specs.Targets.{AreAimed}
+use Rattle.xl_expr.proofs.GoodCode.{ArePlain, plain_append, plain_aimed}
 use Rattle.xl_expr.proofs.Lists.{word_by_same}
 use Rattle.xl_expr.proofs.Ways.{own, Fits, Way, way_on, way_leads}
 use Rattle.xl_flow.specs.Zeros.{IsOutside, StandsFrom, WordsStand, Zeroed, Zeroes, far_write, near_write, words_set, writes, zero_code, zero_instrs, zero_of}
@@ -184,3 +188,20 @@ code_zeroes vars v pc last = record {
       subst (λ ls. Within home relied (IsOutside base words) t (Zeroed relied t thread a.words base words (pc + length ls)) (2 * words + 2) a) (sym e)
       (leads home relied t base found.words pc last thread a found.place at_work (subst (StandAt home.parts.code pc) e st) from stand);
 }
+
+-- none of its instructions has a target
+writes_plain : (write : ℕ → List Instr) → ((i : ℕ) → ArePlain (write i)) → (words : ℕ) → ArePlain (writes write words)
+writes_plain write each zero = tt
+writes_plain write each (suc i) = plain_append (writes write i) (write i) (writes_plain write each i) (each i)
+
+instrs_plain : (place : VarAt) (words : ℕ) → ArePlain (zero_instrs place words)
+instrs_plain (Near n) words = ((λ size i. tt), writes_plain (near_write n) (λ i. ((λ size j. tt), tt)) words)
+instrs_plain (Far n) words = ((λ size i. tt), ((λ size i. tt), writes_plain far_write (λ i. ((λ size j. tt), ((λ size j. tt), tt))) words))
+instrs_plain (Through n) words = ((λ size i. tt), ((λ size i. tt), writes_plain far_write (λ i. ((λ size j. tt), ((λ size j. tt), tt))) 1))
+
+pub zero_aimed : (vars : List (Option VarPlan)) (v pc : ℕ) (last : Pos) → AreAimed pc (zero_code vars v last)
+zero_aimed vars v pc last = of (var_in vars v)
+  where
+    of : (found : Option VarPlan) → AreAimed pc (zero_of found last)
+    of None = record { by = λ size e. tt }
+    of (Some found) = plain_aimed last (zero_instrs found.place found.words) pc (instrs_plain found.place found.words)

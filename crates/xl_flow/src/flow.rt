@@ -5,6 +5,7 @@ ghost use Rattle.xs_instr.specs.Lines.{line, open_line};
 ghost use Rattle.xs_instr.specs.Adds.{Adds};
 ghost use Rattle.xs_instr.specs.Extends.{Extends};
 ghost use Rattle.xl_expr.specs.Measures.{nodes, nodes_at, depth, depth_at};
+ghost use Rattle.xl_expr.specs.Targets.{AreAimed};
 ghost use Rattle.xl_flow.specs.Flow.{AddsTest, Sets, Tests};
 
 use xc_kernel::{Kx, Place};
@@ -20,8 +21,11 @@ pub fn emit_set(e: &mut Emitter, plan: &Plan, dst: &Place, x: &Kx) -> Result<(),
         < 2 ^ 32 }
     requires shallow { depth (expression_of x.now) ≤ 400 }
     requires shallow_place { depth_at (place_of dst.now) ≤ 400 }
+    ensures size { OnOk result (length e.new
+        ≤ length e.old + 8 * (nodes (expression_of x.now) + nodes_at (place_of dst.now))) }
     ensures sets { OnOk result (Adds e.old e.new
         (Sets plan.now.vars (place_of dst.now) (expression_of x.now) (length e.old))) }
+    ensures aimed { OnOk result (Adds e.old e.new (AreAimed (length e.old))) }
     ensures refused { OnErr result (Extends e.old e.new) }
 {
     emit_expr(e, plan, x, Reg::R0)?;
@@ -35,8 +39,12 @@ pub fn emit_set(e: &mut Emitter, plan: &Plan, dst: &Place, x: &Kx) -> Result<(),
 pub fn emit_test(e: &mut Emitter, plan: &Plan, x: &Kx, pos: Pos) -> Result<Hole, Memory>
     requires room { length e.old + 8 * nodes (expression_of x.now) + 1 < 2 ^ 32 }
     requires shallow { depth (expression_of x.now) ≤ 400 }
+    ensures size { OnOk result
+        (length e.new ≤ length e.old + 8 * nodes (expression_of x.now) + 1) }
     ensures tests { IfOk result (λ hole. AddsTest e.old e.new hole.index pos
         (Tests plan.now.vars (expression_of x.now) (length e.old) pos)) }
+    ensures aimed { IfOk result
+        (λ hole. AddsTest e.old e.new hole.index pos (AreAimed (length e.old))) }
     ensures refused { OnErr result (Extends e.old e.new) }
 {
     emit_expr(e, plan, x, Reg::R0)?;

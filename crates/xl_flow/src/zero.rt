@@ -1,6 +1,7 @@
 ghost use Rattle.std.specs.Prelude.{◌≡◌, ◌+◌, ◌*◌, ◌<◌, ◌≤◌, ◌^◌, ◌++◌, length, OnOk, OnErr};
 ghost use Rattle.xl_expr.specs.Code.{at_pos};
 ghost use Rattle.xl_expr.specs.Plans.{var_in};
+ghost use Rattle.xl_expr.specs.Targets.{AreAimed};
 ghost use Rattle.xl_flow.specs.Zeros.{Zeroes, far_write, near_write, room_of, writes, zero_code};
 ghost use Rattle.xs_instr.specs.Adds.{Adds};
 ghost use Rattle.xs_instr.specs.Extends.{Extends};
@@ -18,8 +19,10 @@ use xw_words::{Memory, Pos};
 /// The one error is want of memory; the emitter then holds what it held, and perhaps further instructions behind it.
 pub fn emit_zero(e: &mut Emitter, plan: &Plan, v: u32) -> Result<(), Memory>
     requires room { length e.old + room_of (var_in plan.now.vars v) < 2 ^ 32 }
+    ensures size { OnOk result (length e.new ≤ length e.old + room_of (var_in plan.now.vars v)) }
     ensures code { OnOk result (e.new ≡ e.old ++ zero_code plan.now.vars v (last_pos e.old)) }
     ensures zeroes { OnOk result (Adds e.old e.new (Zeroes plan.now.vars v (length e.old))) }
+    ensures aimed { OnOk result (Adds e.old e.new (AreAimed (length e.old))) }
     ensures refused { OnErr result (Extends e.old e.new) }
 {
     let last = e.pos();

@@ -45,14 +45,14 @@ emit_operation-emit_choice-requires t c =
     let l = longer c.args.plan.now.vars (expression_of c.test-item.result) c.args.k (length c.args.e.now) c.args.last c.args.e.now c.emit_at-in-len3-up.new.e c.in_ok-emit_at-in-len3-up.ensures.ok in
     (omega (arith, d, e, c.decreases), (omega (arith, n, l, c.requires.room), (omega (arith, d, c.requires.deep), omega (arith, e, c.requires.deep))))
 
-pub emit_place-put_all-requires : goal.emit_place-put_all-requires
-emit_place-put_all-requires t c =
+pub emit_place-put_element-requires : goal.emit_place-put_element-requires
+emit_place-put_element-requires t c =
     let n = nodes_elem c.args.place.now c.in-Elem.v c.in-Elem.index c.in-Elem.pos c.deref.result.now c.in-Elem.is c.deref.ensures in
     let l = longer c.args.plan.now.vars (expression_of c.deref.result.now) c.args.k (length c.args.e.now) c.args.last c.args.e.now c.emit_at.new.e c.in_ok-emit_at-in-Near.ensures.ok in
     omega (arith, n, l, c.requires.room)
 
-pub emit_place-put_all-requires-in-Far : goal.emit_place-put_all-requires-in-Far
-emit_place-put_all-requires-in-Far t c =
+pub emit_place-put_element-requires-in-Far : goal.emit_place-put_element-requires-in-Far
+emit_place-put_element-requires-in-Far t c =
     let n = nodes_elem c.args.place.now c.in-Elem.v c.in-Elem.index c.in-Elem.pos c.deref-in-Far.result.now c.in-Elem.is c.deref-in-Far.ensures in
     let l = longer c.args.plan.now.vars (expression_of c.deref-in-Far.result.now) c.args.k (length c.args.e.now) c.args.last c.args.e.now c.emit_at-in-Far.new.e c.in_ok-emit_at-in-Far.ensures.ok in
     omega (arith, n, l, c.requires.room)
@@ -65,13 +65,13 @@ pub emit_place-returns-in-None-placed-clause-ok : goal.emit_place-returns-in-Non
 emit_place-returns-in-None-placed-clause-ok t c =
     no_element c.args.plan.now.vars c.args.place.now c.in-Elem.v c.in-Elem.index c.in-Elem.pos c.args.k (length c.args.e.now) c.args.last c.placed-in-Elem.result c.args.e.now c.in-Elem.is c.in-None-placed.is c.placed-in-Elem.ensures
 
-pub emit_place-returns-in_ok-put_all-in-Near-clause-ok : goal.emit_place-returns-in_ok-put_all-in-Near-clause-ok
-emit_place-returns-in_ok-put_all-in-Near-clause-ok t c =
-    element_emitted c.args.plan.now.vars c.args.place.now c.in-Elem.v c.in-Elem.index c.in-Elem.pos c.args.k c.args.last c.placed-in-Elem.result c.in-Some-placed.found (Near c.in-Near.n) (Ldc R11 c.in-Some-placed.found.words ∷ Lsu R11 R0 R11 ∷ Ecallf R11 ∷ Ldawdp R11 c.in-Near.n ∷ Ldw R0 R11 R0 ∷ []) c.deref.result.now c.args.e.now c.emit_at.new.e c.put_all.new.e (λ index. refl) c.in-Elem.is c.in-Some-placed.is c.placed-in-Elem.ensures c.in-Near.is c.deref.ensures c.in_ok-emit_at-in-Near.ensures.ok c.in_ok-put_all-in-Near.ensures.ok
+pub emit_place-returns-in_ok-put_element-in-Near-clause-ok : goal.emit_place-returns-in_ok-put_element-in-Near-clause-ok
+emit_place-returns-in_ok-put_element-in-Near-clause-ok t c =
+    element_emitted c.args.plan.now.vars c.args.place.now c.in-Elem.v c.in-Elem.index c.in-Elem.pos c.args.k c.args.last c.placed-in-Elem.result c.in-Some-placed.found (Near c.in-Near.n) (Ldc R11 c.in-Some-placed.found.words ∷ Lsu R11 R0 R11 ∷ Ecallf R11 ∷ Ldawdp R11 c.in-Near.n ∷ Ldw R0 R11 R0 ∷ []) c.deref.result.now c.args.e.now c.emit_at.new.e c.put_element.new.e (λ index. refl) c.in-Elem.is c.in-Some-placed.is c.placed-in-Elem.ensures c.in-Near.is c.deref.ensures c.in_ok-emit_at-in-Near.ensures.ok c.in_ok-put_element-in-Near.ensures.ok
 
-pub emit_place-returns-in_ok-put_all-in-Far-clause-ok : goal.emit_place-returns-in_ok-put_all-in-Far-clause-ok
-emit_place-returns-in_ok-put_all-in-Far-clause-ok t c =
-    element_emitted c.args.plan.now.vars c.args.place.now c.in-Elem.v c.in-Elem.index c.in-Elem.pos c.args.k c.args.last c.placed-in-Elem.result c.in-Some-placed.found (Far c.in-Far.n) (Ldc R11 c.in-Some-placed.found.words ∷ Lsu R11 R0 R11 ∷ Ecallf R11 ∷ Ldwdp R11 c.in-Far.n ∷ Ldw R0 R11 R0 ∷ []) c.deref-in-Far.result.now c.args.e.now c.emit_at-in-Far.new.e c.put_all-in-Far.new.e (λ index. refl) c.in-Elem.is c.in-Some-placed.is c.placed-in-Elem.ensures c.in-Far.is c.deref-in-Far.ensures c.in_ok-emit_at-in-Far.ensures.ok c.in_ok-put_all-in-Far.ensures.ok
+pub emit_place-returns-in_ok-put_element-in-Far-clause-ok : goal.emit_place-returns-in_ok-put_element-in-Far-clause-ok
+emit_place-returns-in_ok-put_element-in-Far-clause-ok t c =
+    element_emitted c.args.plan.now.vars c.args.place.now c.in-Elem.v c.in-Elem.index c.in-Elem.pos c.args.k c.args.last c.placed-in-Elem.result c.in-Some-placed.found (Far c.in-Far.n) (Ldc R11 c.in-Some-placed.found.words ∷ Lsu R11 R0 R11 ∷ Ecallf R11 ∷ Ldwdp R11 c.in-Far.n ∷ Ldw R0 R11 R0 ∷ []) c.deref-in-Far.result.now c.args.e.now c.emit_at-in-Far.new.e c.put_element-in-Far.new.e (λ index. refl) c.in-Elem.is c.in-Some-placed.is c.placed-in-Elem.ensures c.in-Far.is c.deref-in-Far.ensures c.in_ok-emit_at-in-Far.ensures.ok c.in_ok-put_element-in-Far.ensures.ok
 
 pub emit_second-put_all-requires-in_default : goal.emit_second-put_all-requires-in_default
 emit_second-put_all-requires-in_default t c =
@@ -98,20 +98,20 @@ emit_second-returns-in_ok-put_after_main-in_default t c = record {
 pub emit_short-put_all-requires : goal.emit_short-put_all-requires
 emit_short-put_all-requires t c =
     let b : ℕ → List Line = λ n. expression_code c.args.plan.now.vars (expression_of c.args.second.now) (c.args.k + 1) n c.args.pos in
-    let l = one_longer c.args.e.now c.hole.new.self (open_line c.args.jump c.args.pos) c.in_ok-over.ensures.ok in
+    let l = one_longer c.args.e.now c.hole.new.self (open_line c.args.jump c.args.pos) c.in_ok-skip.ensures.ok in
     let n = longer c.args.plan.now.vars (expression_of c.args.second.now) (c.args.k + 1) (length c.hole.new.self) c.args.pos c.hole.new.self c.emit_at.new.e c.in_ok-emit_at.ensures.ok in
-    let m = short_length c.args.jump c.args.pos c.args.e.now c.hole.new.self c.emit_at.new.e b c.in_ok-over.over.index c.in_ok-over.ensures.index c.in_ok-over.ensures.ok c.in_ok-emit_at.ensures.ok c.land.new.self c.land.ensures in
+    let m = short_length c.args.jump c.args.pos c.args.e.now c.hole.new.self c.emit_at.new.e b c.in_ok-skip.skip.index c.in_ok-skip.ensures.index c.in_ok-skip.ensures.ok c.in_ok-emit_at.ensures.ok c.land.new.self c.land.ensures in
     omega (arith, l, n, m, c.requires.room)
 
 pub emit_short-returns-clause-ok : goal.emit_short-returns-clause-ok
 emit_short-returns-clause-ok t c =
     let b : ℕ → List Line = λ n. expression_code c.args.plan.now.vars (expression_of c.args.second.now) (c.args.k + 1) n c.args.pos in
-    short_emitted c.args.jump c.args.pos c.args.e.now c.hole.new.self c.emit_at.new.e b c.in_ok-over.over.index c.in_ok-over.ensures.index c.in_ok-over.ensures.ok c.in_ok-emit_at.ensures.ok c.land.new.self c.put_all.new.e made_truth c.land.ensures c.in_ok-put_all.ensures.ok
+    short_emitted c.args.jump c.args.pos c.args.e.now c.hole.new.self c.emit_at.new.e b c.in_ok-skip.skip.index c.in_ok-skip.ensures.index c.in_ok-skip.ensures.ok c.in_ok-emit_at.ensures.ok c.land.new.self c.put_all.new.e made_truth c.land.ensures c.in_ok-put_all.ensures.ok
 
 pub emit_short-returns-in_err-put_all-clause-refused : goal.emit_short-returns-in_err-put_all-clause-refused
 emit_short-returns-in_err-put_all-clause-refused t c =
     let b : ℕ → List Line = λ n. expression_code c.args.plan.now.vars (expression_of c.args.second.now) (c.args.k + 1) n c.args.pos in
-    on_err _ _ (short_extends c.args.jump c.args.pos c.args.e.now c.hole.new.self c.emit_at.new.e b c.in_ok-over.over.index c.in_ok-over.ensures.index c.in_ok-over.ensures.ok c.in_ok-emit_at.ensures.ok c.land.new.self c.put_all.new.e c.land.ensures c.in_err-put_all.ensures.refused)
+    on_err _ _ (short_extends c.args.jump c.args.pos c.args.e.now c.hole.new.self c.emit_at.new.e b c.in_ok-skip.skip.index c.in_ok-skip.ensures.index c.in_ok-skip.ensures.ok c.in_ok-emit_at.ensures.ok c.land.new.self c.put_all.new.e c.land.ensures c.in_err-put_all.ensures.refused)
 
 pub emit_choice-hole-requires-2-clause-few : goal.emit_choice-hole-requires-2-clause-few
 emit_choice-hole-requires-2-clause-few t c =

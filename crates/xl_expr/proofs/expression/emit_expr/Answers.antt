@@ -3,6 +3,7 @@ use Rattle.xc_kernel.specs.Kernels.{expression_of}
 use Rattle.xl_expr.specs.Code.{at_pos, code_to, expression_code, moved_to}
 use Rattle.xl_expr.specs.Measures.{depth}
 use Rattle.xl_expr.proofs.Evaluates.{code_evaluates, some_nodes}
+use Rattle.xl_expr.proofs.GoodCode.{code_aimed}
 use Rattle.xl_expr.proofs.Sizes.{longer, moved_longer}
 use Rattle.xl_expr.proofs.expression.emit_expr.Goals as goal
 
@@ -34,4 +35,19 @@ returns-clause-evaluates c =
           ∙ ap (λ ls. ls ++ at_pos last (moved_to c.args.to)) c.in_ok-emit_at.ensures.ok
           ∙ append_assoc c.args.e.now (expression_code vars x 0 here last) (at_pos last (moved_to c.args.to));
       so = code_evaluates vars x c.args.to here last shallow;
+    }
+
+pub returns-clause-aimed : goal.returns-clause-aimed
+returns-clause-aimed c =
+    let vars = c.args.plan.now.vars in
+    let x = expression_of c.args.x.now in
+    let here = length c.args.e.now in
+    let last = c.pos-last.result in
+    record {
+      lines = code_to vars x c.args.to here last;
+      is =
+          c.in_ok-put_move.ensures.ok
+          ∙ ap (λ ls. ls ++ at_pos last (moved_to c.args.to)) c.in_ok-emit_at.ensures.ok
+          ∙ append_assoc c.args.e.now (expression_code vars x 0 here last) (at_pos last (moved_to c.args.to));
+      so = code_aimed vars x c.args.to here last;
     }

@@ -2,6 +2,8 @@ use Rattle.std.proofs.Common.{◌++◌, ◌∙◌, ap, subst, length, length-app
 use Rattle.xc_kernel.specs.Kernels.{expression_of, place_of}
 use Rattle.xs_instr.specs.declared.instr.Reg.TheVariants.{R0}
 use Rattle.xl_expr.specs.Stores.{Stores}
+use Rattle.xl_expr.specs.Targets.{AreAimed}
+use Rattle.xl_expr.proofs.GoodCode.{aimed_append}
 use Rattle.xl_flow.proofs.Joined.{joined_sets}
 use Rattle.xl_flow.proofs.flow.emit_set.Goals as goal
 
@@ -17,4 +19,15 @@ returns-clause-sets c =
       lines = ev.lines ++ st.lines;
       is = st.is ∙ ap (λ ls. ls ++ st.lines) ev.is ∙ append_assoc c.args.e.now ev.lines st.lines;
       so = joined_sets vars place (expression_of c.args.x.now) (length c.args.e.now) ev.lines st.lines ev.so so;
+    }
+
+pub returns-clause-aimed : goal.returns-clause-aimed
+returns-clause-aimed c =
+    let first = c.in_ok-emit_expr.ensures.aimed in
+    let second = c.in_ok-emit_store.ensures.aimed in
+    let at_end = ap length first.is ∙ length-append c.args.e.now first.lines in
+    record {
+      lines = first.lines ++ second.lines;
+      is = second.is ∙ ap (λ ls. ls ++ second.lines) first.is ∙ append_assoc c.args.e.now first.lines second.lines;
+      so = aimed_append (length c.args.e.now) first.lines second.lines first.so (subst (λ n. AreAimed n second.lines) at_end second.so);
     }

@@ -16,3 +16,14 @@ returns-clause-tests c =
       index = c.in_ok-hole.ensures.index ∙ ap length ev.is ∙ length-append c.args.e.now ev.lines;
       so = tested c.args.plan.now.vars (expression_of c.args.x.now) (length c.args.e.now) c.args.pos ev.lines ev.so;
     }
+
+pub returns-clause-aimed : goal.returns-clause-aimed
+returns-clause-aimed c =
+    let first = c.in_ok-emit_expr.ensures.aimed in
+    let hole = open_line (Brff R0 0) c.args.pos ∷ [] in
+    record {
+      lines = first.lines;
+      is = c.in_ok-hole.ensures.ok ∙ ap (λ ls. ls ++ hole) first.is ∙ append_assoc c.args.e.now first.lines hole;
+      index = c.in_ok-hole.ensures.index ∙ ap length first.is ∙ length-append c.args.e.now first.lines;
+      so = first.so;
+    }

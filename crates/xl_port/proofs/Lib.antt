@@ -1,0 +1,3 @@
+pub mod PortTurns
+pub mod Transferring
+pub mod Outputting

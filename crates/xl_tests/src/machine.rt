@@ -1,0 +1,213 @@
+//! Code on a core.
+
+ghost use Rattle.std.specs.Prelude.{◌≡◌, ℕ, ◌+◌, ◌<◌, ◌≤◌, ◌^◌, length, IfOk, OnOk};
+ghost use Rattle.xc_kernel.specs.Kernels.{expression_of};
+ghost use Rattle.xl_expr.specs.Measures.{depth, nodes};
+ghost use Rattle.xl_expr.specs.Targets.{AreAimed};
+ghost use Rattle.xs_instr.specs.Valid.{AreGoodInstrs, IsGoodCore, IsGoodInstr, Valid};
+
+use std::alloc::Global;
+use xc_kernel::Kx;
+use xl_expr::{Plan, emit_expr};
+use xs_core::{Core, Did};
+use xs_instr::{Code, CoreImage, Dir, Emitter, Image, Instr, PortDecl, Record, Reg, Stim, Trap};
+use xw_words::{List, Memory, Pos};
+
+/// Port 32A, by its identifier's place among all ports.
+const PORT_32A: u8 = 28;
+
+/// The words of the core.
+const WORDS: u32 = 1024;
+
+/// Where the temporary words begin.
+const STACK: u32 = 4 * 400;
+
+/// The most steps of a run.
+const MOST_STEPS: u32 = 10_000;
+
+/// The place of the instructions that no piece emits.
+const START: Pos = Pos { line: 1, col: 1 };
+
+/// How a run ends.
+#[derive(Clone, Copy, PartialEq, Eq, Debug)]
+pub enum End {
+    /// The first word that goes out, and the port's counter then.
+    Out(u16, u32),
+    Trapped(Trap, Pos),
+    Stopped,
+}
+
+/// How the run of code ends that has these words at dp + 4n, evaluates an expression to r5, and puts it out.
+pub fn end_of(alloc: Global, words: &[(u32, u32)], plan: &Plan, x: &Kx) -> Result<End, Memory>
+    requires words { length words.now ≤ 100 }
+    requires nodes { nodes (expression_of x.now) ≤ 1000 }
+    requires depth { depth (expression_of x.now) ≤ 400 }
+{
+    let e = begun(alloc, words)?;
+    let code = put_out(e, plan, x)?;
+    run(alloc, code)
+}
+
+/// A plan that has nothing.
+pub fn no_plan(alloc: Global) -> Plan {
+    Plan {
+        vars: List::new(alloc),
+        ports: List::new(alloc),
+        timers: List::new(alloc),
+        ends: List::new(alloc),
+    }
+}
+
+/// The code that sets sp, and the words at dp + 4n.
+pub fn begun(alloc: Global, words: &[(u32, u32)]) -> Result<Emitter, Memory>
+    requires { length words.now ≤ 100 }
+    ensures aimed { IfOk result (λ e. AreAimed 0 e) }
+    ensures few { IfOk result (λ e. length e ≤ 202) }
+{
+    let mut e = Emitter::new(alloc);
+    add(&mut e, Instr::Ldc(Reg::R0, STACK))?;
+    add(&mut e, Instr::Setsp(Reg::R0))?;
+    for word in words {
+        add(&mut e, Instr::Ldc(Reg::R0, word.1))?;
+        add(&mut e, Instr::Stwdp(Reg::R0, word.0))?;
+    }
+    Ok(e)
+}
+
+/// The code that puts out the word of an expression.
+pub fn put_out(e: Emitter, plan: &Plan, x: &Kx) -> Result<Code, Memory>
+    requires few { length e ≤ 30000 }
+    requires aimed { AreAimed 0 e }
+    requires nodes { nodes (expression_of x.now) ≤ 1000 }
+    requires depth { depth (expression_of x.now) ≤ 400 }
+    ensures good { IfOk result (λ code. AreGoodInstrs (length code.instrs) 0 code.instrs) }
+    ensures places { IfOk result (λ code. length code.«at» ≡ length code.instrs) }
+    ensures some { IfOk result (λ code. 1 ≤ length code.instrs) }
+    ensures few { IfOk result (λ code. length code.instrs < 2 ^ 32) }
+{
+    let mut e = e;
+    add_expression(&mut e, plan, x, Reg::R5)?;
+    add(&mut e, Instr::Ldc(Reg::R11, 0))?;
+    add(&mut e, Instr::Out(Reg::R11, Reg::R5))?;
+    finished(e)
+}
+
+/// An instruction without a target.
+pub fn add(e: &mut Emitter, instr: Instr) -> Result<(), Memory>
+    requires few { length e.old + 1 < 2 ^ 32 }
+    requires aimed { AreAimed 0 e.old }
+    requires plain { (size n : ℕ) → IsGoodInstr size n instr }
+    ensures aimed { OnOk result (AreAimed 0 e.new) }
+    ensures length { OnOk result (length e.new ≡ length e.old + 1) }
+{
+    e.put(instr, START)?;
+    Ok(())
+}
+
+/// An expression's code.
+pub fn add_expression(e: &mut Emitter, plan: &Plan, x: &Kx, to: Reg) -> Result<(), Memory>
+    requires few { length e.old ≤ 30000 }
+    requires aimed { AreAimed 0 e.old }
+    requires nodes { nodes (expression_of x.now) ≤ 1000 }
+    requires depth { depth (expression_of x.now) ≤ 400 }
+    ensures aimed { OnOk result (AreAimed 0 e.new) }
+    ensures length { OnOk result (length e.new ≤ length e.old + 8000) }
+{
+    emit_expr(e, plan, x, to)?;
+    Ok(())
+}
+
+/// The code, with the end of its root.
+pub fn finished(e: Emitter) -> Result<Code, Memory>
+    requires few { length e + 1 < 2 ^ 32 }
+    requires aimed { AreAimed 0 e }
+    ensures good { IfOk result (λ code. AreGoodInstrs (length code.instrs) 0 code.instrs) }
+    ensures places { IfOk result (λ code. length code.«at» ≡ length code.instrs) }
+    ensures few { IfOk result (λ code. length code.instrs ≡ length e + 1) }
+{
+    let mut e = e;
+    e.put(Instr::Freet, START)?;
+    Ok(e.finish())
+}
+
+/// How a run of this code ends, on a core with port 32A.
+pub fn run(alloc: Global, code: Code) -> Result<End, Memory>
+    requires good { AreGoodInstrs (length code.instrs) 0 code.instrs }
+    requires places { length code.«at» ≡ length code.instrs }
+    requires some { 1 ≤ length code.instrs }
+    requires few { length code.instrs < 2 ^ 32 }
+{
+    let image = image_of(alloc, code)?;
+    let stim = Stim {
+        lines: List::new(alloc),
+    };
+    let mut core = Core::new(alloc, &image, 0, &stim)?;
+    end_of_run(&mut core)
+}
+
+/// How a core's run ends. A tick passes at each pause.
+fn end_of_run(core: &mut Core) -> Result<End, Memory> {
+    'steps: for _step in 0..MOST_STEPS {
+        core.reserve_window()?;
+        match core.slot(0) {
+            Did::Made(None) => {}
+            Did::Made(Some(Record::PortOut { stamp, value, .. })) => {
+                return Ok(End::Out(stamp, value));
+            }
+            Did::Paused => wait(core),
+            Did::Trapped(trap, pos) => return Ok(End::Trapped(trap, pos)),
+            _ => return Ok(End::Stopped),
+        }
+    }
+    Ok(End::Stopped)
+}
+
+fn wait(core: &mut Core) {
+    if core.clock() < u32::MAX {
+        core.tick();
+    }
+}
+
+/// An image of core 0 with this code.
+fn image_of(alloc: Global, code: Code) -> Result<Image, Memory>
+    requires good { AreGoodInstrs (length code.instrs) 0 code.instrs }
+    requires places { length code.«at» ≡ length code.instrs }
+    requires some { 1 ≤ length code.instrs }
+    requires few { length code.instrs < 2 ^ 32 }
+    ensures valid { IfOk result Valid }
+{
+    let core = one_core(alloc, code)?;
+    let mut cores = List::new(alloc);
+    cores.push(core)?;
+    Ok(Image {
+        cores,
+        chans: List::new(alloc),
+    })
+}
+
+fn one_core(alloc: Global, code: Code) -> Result<CoreImage, Memory>
+    requires good { AreGoodInstrs (length code.instrs) 0 code.instrs }
+    requires places { length code.«at» ≡ length code.instrs }
+    requires some { 1 ≤ length code.instrs }
+    requires few { length code.instrs < 2 ^ 32 }
+    ensures number { IfOk result (λ core. core.number ≡ 0) }
+    ensures ends { IfOk result (λ core. core.ends ≡ 0) }
+    ensures good { IfOk result IsGoodCore }
+{
+    let mut ports = List::new(alloc);
+    ports.push(PortDecl {
+        port: PORT_32A,
+        dir: Dir::Both,
+    })?;
+    let mut roots = List::new(alloc);
+    roots.push(0)?;
+    Ok(CoreImage {
+        number: 0,
+        words: WORDS,
+        timers: 0,
+        ends: 0,
+        ports,
+        roots,
+        code,
+    })
+}
