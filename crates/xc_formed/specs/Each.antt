@@ -18,8 +18,8 @@ AnyOutput o = Unit {0}
 abbrev pub AnyInput : kernel.Input → Type 0
 AnyInput i = Unit {0}
 
--- E of each expression, L of each place, Z of each variable that is set to zero, O of each output, I of each input, and T of the
--- channel of each transaction
+-- E of each expression, L of each place, Z of each variable that is set to zero, O of each output,
+-- I of each input, and T of the channel of each transaction
 module _ (E : kernel.Expression → Type 0) (L : kernel.Place → Type 0) (Z : ℕ → Type 0) (O : kernel.Output → Type 0) (I : kernel.Input → Type 0) (T : ℕ → Type 0) where
   abbrev pub EachMaybe : Option kernel.Expression → Type 0
   EachMaybe None = Unit {0}
@@ -37,7 +37,9 @@ module _ (E : kernel.Expression → Type 0) (L : kernel.Place → Type 0) (Z : �
   EachOutput o = O o × (EachMaybe o.time × (E o.value × EachPlace o.stamp))
 
   abbrev pub EachInput : kernel.Input → Type 0
-  EachInput i = I i × (EachMaybe i.time × (EachCondition i.condition × (EachPlace i.target × EachPlace i.stamp)))
+  EachInput i =
+      I i
+      × (EachMaybe i.time × (EachCondition i.condition × (EachPlace i.target × EachPlace i.stamp)))
 
   abbrev mutual
     pub EachStatement : kernel.Statement → Type 0
@@ -59,7 +61,8 @@ module _ (E : kernel.Expression → Type 0) (L : kernel.Place → Type 0) (Z : �
 
     pub EachCase : kernel.Cases → Type 0
     EachCase kernel.no_case = Unit {0}
-    EachCase (kernel.more_cases (kernel.case guard i a) cs) = (EachMaybe guard × (EachInput i × EachOf a)) × EachCase cs
+    EachCase (kernel.more_cases (kernel.case guard i a) cs) =
+        (EachMaybe guard × (EachInput i × EachOf a)) × EachCase cs
 
     pub EachDefault : kernel.Default → Type 0
     EachDefault kernel.no_default = Unit {0}

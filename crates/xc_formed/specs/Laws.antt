@@ -23,8 +23,8 @@ use Rattle.xc_formed.specs.Stacks.{Resolves, outer}
 use Rattle.xc_formed.specs.Each.{AnyNumber, EachRoot}
 use Rattle.xc_formed.specs.Sources.{HasSource, PlaceHasSource, OutputHasSource, InputHasSource}
 
--- each name of a typed program means what the stack of open scopes has for it, where all that is declared outside of functions
--- is known from the begin
+-- each name of a typed program means what the stack of open scopes has for it, where all that is
+-- declared outside of functions is known from the begin
 abbrev pub NamesResolve : Type 0
 NamesResolve =
     (P : List tree.Item) (n : NamedProgram) (types : List Bool) → IsTyped P n types →
@@ -34,7 +34,8 @@ NamesResolve =
 abbrev pub TextsRise : Type 0
 TextsRise = (text : List ℕ) (toks : List Tok) → Lexes text toks → TokensRise toks
 
--- In the copies of a program that was read from a text no two variables, channels, timers or blocks have one path,
+-- In the copies of a program that was read from a text no two variables, channels, timers or blocks have
+-- one path,
 abbrev pub NoInstanceTwice : Type 0
 NoInstanceTwice = (P : List tree.Item) (n : Numbering) → IsOfText P → NoneTwice (rooted P n).made
 
@@ -48,7 +49,8 @@ pub record HasEach (n : Numbering) (P : List tree.Item) : Type 0 where
 abbrev pub NoInstanceMerged : Type 0
 NoInstanceMerged = (P : List tree.Item) → IsOfText P → HasEach (numbering P) P
 
--- This holds of the kernel of each program that breaks no rule of names, types and shapes, and whose tree no node is too deep in.
+-- This holds of the kernel of each program that breaks no rule of names, types and shapes, whose
+-- tokens rise, and whose tree no node is too deep in.
 abbrev pub OfEachKernel : (kernel.Kernel → Type 0) → Type 0
 OfEachKernel Holds =
     (P : List tree.Item) (n : NamedProgram) (types : List Bool) (K : kernel.Kernel) →
@@ -77,12 +79,15 @@ ExitsInside = OfEachKernel ExitsAreInside
 abbrev pub KernelsWellFormed : Type 0
 KernelsWellFormed = OfEachKernel IsWellFormed
 
--- and so is each kernel that is handed to the rules of needs, or kept as one that breaks none of them.
+-- and so is each kernel that is handed to the rules of needs, or kept as one that breaks none of
+-- them.
 abbrev pub KernelsOfProgramsWellFormed : Type 0
-KernelsOfProgramsWellFormed = (K : kernel.Kernel) → IsOfProgram K → IsWellFormed K
+KernelsOfProgramsWellFormed =
+    (K : kernel.Kernel) → IsOfProgram K → IsWellFormed K
 
--- Each expression and place of such a kernel comes from the text, where each name means what `uses` has for it and each operation has
--- the type that `unsigned_at` tells, and each output and input goes through what its name stands for there.
+-- Each expression and place of such a kernel comes from the text, where each name means what `uses`
+-- has for it and each operation has the type that `unsigned_at` tells, and each output and input
+-- goes through what its name stands for there.
 abbrev pub CodeHasSource : Type 0
 CodeHasSource =
     (P : List tree.Item) (n : NamedProgram) (types : List Bool) (K : kernel.Kernel) →

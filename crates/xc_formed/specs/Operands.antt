@@ -24,7 +24,8 @@ abbrev mutual
   pub HasOperands : kernel.Expression → Type 0
   HasOperands (kernel.number v) = Unit {0}
   HasOperands (kernel.read place) = PlaceHasOperands place
-  HasOperands (kernel.operation symbol is_unsigned es pos) = (takes (operator_at symbol) (count es) ≡ true) × AllHaveOperands es
+  HasOperands (kernel.operation symbol is_unsigned es pos) =
+      (takes (operator_at symbol) (count es) ≡ true) × AllHaveOperands es
 
   pub AllHaveOperands : kernel.Operands → Type 0
   AllHaveOperands kernel.no_operand = Unit {0}
@@ -36,4 +37,5 @@ abbrev mutual
 
 -- so does each in all code of a kernel
 abbrev pub OperandsAreRight : kernel.Kernel → Type 0
-OperandsAreRight k = EachRoot HasOperands PlaceHasOperands AnyNumber AnyOutput AnyInput AnyNumber k.roots
+OperandsAreRight k =
+    EachRoot HasOperands PlaceHasOperands AnyNumber AnyOutput AnyInput AnyNumber k.roots

@@ -34,7 +34,8 @@ abbrev pub of_output : kernel.Output → ℕ
 of_output o = of_maybe o.time + of_expression o.value + of_some_place o.stamp
 
 abbrev pub of_input : kernel.Input → ℕ
-of_input i = of_maybe i.time + of_condition i.condition + of_some_place i.target + of_some_place i.stamp
+of_input i =
+    of_maybe i.time + of_condition i.condition + of_some_place i.target + of_some_place i.stamp
 
 -- the words of a variable
 abbrev pub words_of : Option Var → ℕ
@@ -64,7 +65,8 @@ module _ (vs : List Var) where
     -- a case is 1, and so is a `default` and a branch
     pub of_cases : kernel.Cases → ℕ
     of_cases kernel.no_case = 0
-    of_cases (kernel.more_cases (kernel.case guard i a) cs) = of_maybe guard + of_input i + of_statements a + 1 + of_cases cs
+    of_cases (kernel.more_cases (kernel.case guard i a) cs) =
+        of_maybe guard + of_input i + of_statements a + 1 + of_cases cs
 
     pub of_default : kernel.Default → ℕ
     of_default kernel.no_default = 0
@@ -72,7 +74,8 @@ module _ (vs : List Var) where
 
     pub of_branches : kernel.Branches → ℕ
     of_branches kernel.no_branch = 0
-    of_branches (kernel.more_branches (kernel.branch a pos) bs) = of_statements a + 1 + of_branches bs
+    of_branches (kernel.more_branches (kernel.branch a pos) bs) =
+        of_statements a + 1 + of_branches bs
 
   abbrev pub of_roots : List kernel.Root → ℕ
   of_roots [] = 0

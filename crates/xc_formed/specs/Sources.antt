@@ -1,5 +1,5 @@
--- The parts of the text that a kernel's parts come from: there each name means what `uses` has for it, and each operation has the type
--- that `unsigned_at` tells.
+-- The parts of the text that a kernel's parts come from: there each name means what `uses` has for
+-- it, and each operation has the type that `unsigned_at` tells.
 use Rattle.std.specs.Prelude.{◌≡◌, ℕ, ◌+◌, true, false, ◌||◌, List, map}
 use Rattle.xw_words.specs.declared.pos.Pos.{Pos}
 use Rattle.xc_tree.specs.Symbols.{question, bracket}
@@ -20,8 +20,8 @@ use Rattle.xc_kernel.specs.Copies.{numbering}
 use Rattle.xc_formed.specs.Stacks.{Stack, Resolves}
 use Rattle.xc_formed.specs.Standing.{HasVariable, Agrees}
 
--- The kernel's expression for one of the text, before which the text has k names: its names stand for these entities, and its operations
--- have the types of their operands in the text.
+-- The kernel's expression for one of the text, before which the text has k names: its names stand
+-- for these entities, and its operations have the types of their operands in the text.
 module _ (n : NamedProgram) (num : Numbering) (scope : Scope) where
   abbrev mutual
     pub typed : ℕ → tree.Expression → kernel.Expression
@@ -30,8 +30,10 @@ module _ (n : NamedProgram) (num : Numbering) (scope : Scope) where
     pub typed_form : ℕ → Pos → tree.Form → kernel.Expression
     typed_form k pos (tree.number v u) = kernel.number v
     typed_form k pos (tree.name text) = word_of_entity num pos (entity_of scope text)
-    typed_form k pos (tree.index text i) = kernel.read (kernel.element (array_number num (entity_of scope text)) (typed (k + 1) i) pos)
-    typed_form k pos (tree.unary symbol a) = kernel.operation symbol (is_unsigned n k a) (one_operand (typed k a)) pos
+    typed_form k pos (tree.index text i) =
+        kernel.read (kernel.element (array_number num (entity_of scope text)) (typed (k + 1) i) pos)
+    typed_form k pos (tree.unary symbol a) =
+        kernel.operation symbol (is_unsigned n k a) (one_operand (typed k a)) pos
     typed_form k pos (tree.binary symbol a b) =
         kernel.operation symbol (operation_is_unsigned (operator_at symbol) (is_unsigned n k a) (is_unsigned n (past k (marks.of_expression a)) b))
         (two_operands (typed k a) (typed (past k (marks.of_expression a)) b)) pos
@@ -44,12 +46,15 @@ module _ (n : NamedProgram) (num : Numbering) (scope : Scope) where
 
   -- the kernel's place for one that can be assigned to
   abbrev pub typed_place : ℕ → tree.Expression → kernel.Place
-  typed_place k (tree.expression (tree.name text) pos) = place_of_entity num pos (entity_of scope text)
-  typed_place k (tree.expression (tree.index text i) pos) = kernel.element (array_number num (entity_of scope text)) (typed (k + 1) i) pos
+  typed_place k (tree.expression (tree.name text) pos) =
+      place_of_entity num pos (entity_of scope text)
+  typed_place k (tree.expression (tree.index text i) pos) =
+      kernel.element (array_number num (entity_of scope text)) (typed (k + 1) i) pos
   typed_place k other = kernel.word 0
 
 module _ (P : List tree.Item) (n : NamedProgram) where
-  -- where a part of the text is copied: in the copy's scope each name stands for an instance of what the open scopes have for it
+  -- where a part of the text is copied: in the copy's scope each name stands for an instance of
+  -- what the open scopes have for it
   pub record Where : Type 0 where
     pub stack : Stack
     pub scope : Scope
@@ -93,7 +98,8 @@ module _ (P : List tree.Item) (n : NamedProgram) where
     pub variable : HasVariable (numbering P) path false
     pub is : p ≡ word_of (numbering P) path
 
-  -- what is no operation of the copy's own: an expression of the text, a call's result, or the 1 of a loop without a test
+  -- what is no operation of the copy's own: an expression of the text, a call's result, or the 1 of
+  -- a loop without a test
   pub data Simple : kernel.Expression → Type 0 where
     copied : {x : kernel.Expression} → IsCopied x → Simple x
     result : {p : kernel.Place} → IsResult p → Simple (kernel.read p)
@@ -104,9 +110,11 @@ module _ (P : List tree.Item) (n : NamedProgram) where
     simple : {x : kernel.Expression} → Simple x → HasSource x
     updated : {x : kernel.Expression} → IsUpdated x → HasSource x
     stepped : {x : kernel.Expression} → IsStepped x → HasSource x
-    tested : {x : kernel.Expression} {length : ℕ} {pos : Pos} → Simple x → HasSource (kernel.operation bracket true (two_operands x (kernel.number length)) pos)
+    tested : {x : kernel.Expression} {length : ℕ} {pos : Pos} → Simple x →
+        HasSource (kernel.operation bracket true (two_operands x (kernel.number length)) pos)
 
-  -- a place of the text, or a word of the copy's own: a declared name's, a parameter's or a result's
+  -- a place of the text, or a word of the copy's own: a declared name's, a parameter's or a
+  -- result's
   pub record IsCopiedPlace (p : kernel.Place) : Type 0 where
     pub there : Where
     pub text : tree.Expression

@@ -38,19 +38,30 @@ head_of f = f.head
 
 -- an instance of what is declared so
 pub data Stands (n : NamedProgram) (fs : List Function) (ps : List PortUse) (num : Numbering) (t : List ℕ) : Option What → Entity → Type 0 where
-  a_variable : {u : Bool} {path : Path} → HasVariable num path false → Stands n fs ps num t (Some (what.Word u)) (a_word path u)
-  whole_array : {u : Bool} {l m : ℕ} {path : Path} → HasVariable num path true → Stands n fs ps num t (Some (what.Array u l)) (an_array path m u)
-  word_referred : {u : Bool} {path : Path} → HasVariable num path false → Stands n fs ps num t (Some (what.Ref u)) (a_word path u)
-  element_referred : {u : Bool} {path index : Path} → HasVariable num path true → HasVariable num index false → Stands n fs ps num t (Some (what.Ref u)) (an_element path index u)
-  array_referred : {u : Bool} {l : Option ℕ} {m : ℕ} {path : Path} → HasVariable num path true → Stands n fs ps num t (Some (what.ArrayParam u l)) (an_array path m u)
-  the_channel : {s : Bool} {path : Path} → HasChannel num path → Stands n fs ps num t (Some (what.Chan s)) (a_channel path)
-  the_end : {s : Bool} {path : Path} → HasChannel num path → Stands n fs ps num t (Some (what.End s)) (a_channel path)
-  the_timer : {path : Path} → HasTimer num path → Stands n fs ps num t (Some what.Timer) (a_timer path)
-  the_port : {d : TreeDir} {number : ℕ} → HasPort ps number d → Stands n fs ps num t (Some (what.Port d)) (a_port number)
-  port_given : {d : TreeDir} {number : ℕ} → HasPort ps number d → Stands n fs ps num t (Some (what.PortParam d)) (a_port number)
+  a_variable : {u : Bool} {path : Path} → HasVariable num path false →
+      Stands n fs ps num t (Some (what.Word u)) (a_word path u)
+  whole_array : {u : Bool} {l m : ℕ} {path : Path} → HasVariable num path true →
+      Stands n fs ps num t (Some (what.Array u l)) (an_array path m u)
+  word_referred : {u : Bool} {path : Path} → HasVariable num path false →
+      Stands n fs ps num t (Some (what.Ref u)) (a_word path u)
+  element_referred : {u : Bool} {path index : Path} → HasVariable num path true → HasVariable num index false →
+      Stands n fs ps num t (Some (what.Ref u)) (an_element path index u)
+  array_referred : {u : Bool} {l : Option ℕ} {m : ℕ} {path : Path} → HasVariable num path true →
+      Stands n fs ps num t (Some (what.ArrayParam u l)) (an_array path m u)
+  the_channel : {s : Bool} {path : Path} → HasChannel num path →
+      Stands n fs ps num t (Some (what.Chan s)) (a_channel path)
+  the_end : {s : Bool} {path : Path} → HasChannel num path →
+      Stands n fs ps num t (Some (what.End s)) (a_channel path)
+  the_timer : {path : Path} → HasTimer num path →
+      Stands n fs ps num t (Some what.Timer) (a_timer path)
+  the_port : {d : TreeDir} {number : ℕ} → HasPort ps number d →
+      Stands n fs ps num t (Some (what.Port d)) (a_port number)
+  port_given : {d : TreeDir} {number : ℕ} → HasPort ps number d →
+      Stands n fs ps num t (Some (what.PortParam d)) (a_port number)
   the_index : {v : ℕ} → Stands n fs ps num t (Some what.Index) (a_constant v)
   -- functions aren't among the names of the copy; one is found by its name among the functions
-  the_function : {g : ℕ} → function_of n (Some (what.Func g)) ≡ option_map head_of (function_named fs t) → Stands n fs ps num t (Some (what.Func g)) nothing_known
+  the_function : {g : ℕ} → function_of n (Some (what.Func g)) ≡ option_map head_of (function_named fs t) →
+      Stands n fs ps num t (Some (what.Func g)) nothing_known
   none_there : Stands n fs ps num t None nothing_known
 
 -- an instance is named by the place where it is declared, behind some path
@@ -74,10 +85,12 @@ IsTimerAt pos (a_timer path) = EndsAt path pos
 IsTimerAt pos other = ⊥
 
 abbrev pub IsPortAt : List PortUse → Pos → Entity → Type 0
-IsPortAt ps pos (a_port number) = (port : PortUse) × (slice_get ps number ≡ Some port) × (port.pos ≡ pos)
+IsPortAt ps pos (a_port number) =
+    (port : PortUse) × (slice_get ps number ≡ Some port) × (port.pos ≡ pos)
 IsPortAt ps pos other = ⊥
 
--- what is declared at a place as this; a parameter by reference, for an array, an end or a port stands for what the call gives it
+-- what is declared at a place as this; a parameter by reference, for an array, an end or a port
+-- stands for what the call gives it
 abbrev pub InstanceOf : List PortUse → Pos → What → Entity → Type 0
 InstanceOf ps pos (what.Word u) x = IsWordAt pos x
 InstanceOf ps pos (what.Array u l) x = IsArrayAt pos x
@@ -91,7 +104,8 @@ abbrev pub IsInstance : List PortUse → Option Decl → Entity → Type 0
 IsInstance ps None x = Unit {0}
 IsInstance ps (Some d) x = InstanceOf ps d.name.pos d.what x
 
--- in the copy's scope each name stands for an instance of what the stack of the text's open scopes has for it
+-- in the copy's scope each name stands for an instance of what the stack of the text's open scopes
+-- has for it
 abbrev pub Agrees : NamedProgram → List Function → List PortUse → Numbering → Stack → Scope → Type 0
 Agrees n fs ps num st scope =
     (t : List ℕ) → Stands n fs ps num t (what_of (found st t)) (entity_of scope t) × IsInstance ps (found st t) (entity_of scope t)

@@ -1,4 +1,5 @@
--- Outputs, inputs and transactions by what they go through: a port with its direction, a timer or a channel, and what they may wait for.
+-- Outputs, inputs and transactions by what they go through: a port with its direction, a timer or a
+-- channel, and what they may wait for.
 use Rattle.std.specs.Prelude.{◌≡◌, ◌⊎◌, ℕ, ◌<◌, Bool, true, List, length, Option, Some, None, slice_get}
 use Rattle.xc_tree.specs.Types.Entities.{drives, reads}
 use Rattle.xc_tree.specs.Words.{pinseq_word, pinsneq_word, timerafter_word}
@@ -47,23 +48,30 @@ module _ (ps : List PortUse) (channels timers : ℕ) where
   OutputGoes (Timer t) time stamp = ⊥
   OutputGoes (Chan c) time stamp = (c < channels) × (IsNothing time × IsNothing stamp)
 
-  -- an input comes from a port that reads, at a time, on pins or at once; from a timer, after a time or at once, with no stamp; or
-  -- from a channel, at once and with no stamp
-  abbrev pub InputComes : KRes → Option kernel.Expression → Option kernel.Condition → Option kernel.Place → Type 0
-  InputComes (Port p) time condition stamp = IsPort ps p can_read × (WaitsForOne time condition × AsksForPins condition)
-  InputComes (Timer t) time condition stamp = (t < timers) × (IsNothing time × (AsksForTime condition × IsNothing stamp))
-  InputComes (Chan c) time condition stamp = (c < channels) × (IsNothing time × (IsNothing condition × IsNothing stamp))
+  -- an input comes from a port that reads, at a time, on pins or at once; from a timer, after a
+  -- time or at once, with no stamp; or from a channel, at once and with no stamp
+  abbrev pub InputComes : KRes → Option kernel.Expression → Option kernel.Condition → Option kernel.Place →
+      Type 0
+  InputComes (Port p) time condition stamp =
+      IsPort ps p can_read × (WaitsForOne time condition × AsksForPins condition)
+  InputComes (Timer t) time condition stamp =
+      (t < timers) × (IsNothing time × (AsksForTime condition × IsNothing stamp))
+  InputComes (Chan c) time condition stamp =
+      (c < channels) × (IsNothing time × (IsNothing condition × IsNothing stamp))
 
 abbrev pub GoesOut : kernel.Kernel → kernel.Output → Type 0
 GoesOut k o = OutputGoes k.ports (length k.channels) (length k.timers) o.resource o.time o.stamp
 
 abbrev pub ComesIn : kernel.Kernel → kernel.Input → Type 0
-ComesIn k i = InputComes k.ports (length k.channels) (length k.timers) i.resource i.time i.condition i.stamp
+ComesIn k i =
+    InputComes k.ports (length k.channels) (length k.timers) i.resource i.time i.condition i.stamp
 
 -- all outputs and inputs of a kernel are so
 abbrev pub TransfersAreRight : kernel.Kernel → Type 0
-TransfersAreRight k = EachRoot AnyExpression AnyPlace AnyNumber (GoesOut k) (ComesIn k) AnyNumber k.roots
+TransfersAreRight k =
+    EachRoot AnyExpression AnyPlace AnyNumber (GoesOut k) (ComesIn k) AnyNumber k.roots
 
 -- each transaction is on a channel of the kernel
 abbrev pub TransactionsAreListed : kernel.Kernel → Type 0
-TransactionsAreListed k = EachRoot AnyExpression AnyPlace AnyNumber AnyOutput AnyInput (IsChannel k) k.roots
+TransactionsAreListed k =
+    EachRoot AnyExpression AnyPlace AnyNumber AnyOutput AnyInput (IsChannel k) k.roots

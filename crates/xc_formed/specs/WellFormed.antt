@@ -13,9 +13,11 @@ pub record IsWellFormed (k : kernel.Kernel) : Type 0 where
   pub operands : OperandsAreRight k
   -- each expression is at most 400 levels deep
   pub levels : LevelsAreFew k
-  -- each output and input goes through a listed port of its direction, timer or channel, and waits for what that can tell
+  -- each output and input goes through a listed port of its direction, timer or channel, and waits
+  -- for what that can tell
   pub transfers : TransfersAreRight k
   -- each transaction is on a listed channel
   pub transactions : TransactionsAreListed k
-  -- what is left is a block around, in the same branch and transaction, and no two blocks around one place have one number
+  -- what is left is a block around, in the same branch and transaction, and no two blocks around
+  -- one place have one number
   pub exits : ExitsAreInside k

@@ -13,16 +13,16 @@ pub fn tokens_rise()
     ensures { TextsRise }
 {}
 
-/// In the copies of a program that was read from a text no two instances have one path, so one path names one of them, and
-/// the kernel's lists have them all.
+/// In the copies of a program that was read from a text no two instances have one path,
+/// so one path names one of them, and the kernel's lists have them all.
 #[tactic(auto, using(crate::proofs::Merged::none_twice, crate::proofs::Merged::none_merged))]
 pub fn no_instance_twice()
     ensures twice { NoInstanceTwice }
     ensures merged { NoInstanceMerged }
 {}
 
-/// Each kernel is well formed: the kernel of a program that breaks no rule of names, types and shapes, and whose tree
-/// no node is too deep in.
+/// Each kernel is well formed: the kernel of a program that breaks no rule of names, types and
+/// shapes, whose tokens stand at rising places, and whose tree no node is too deep in.
 pub fn kernels_are_formed()
     ensures variables { VariablesRight }
     ensures operands { OperandsRight }
@@ -34,8 +34,8 @@ pub fn kernels_are_formed()
     ensures of_programs { KernelsOfProgramsWellFormed }
 {}
 
-/// The code of such a kernel comes from the text: its names stand for instances of what they mean there, and its operations have the
-/// types that they have there.
+/// The code of such a kernel comes from the text: its names stand for instances of what they mean
+/// there, and its operations have the types that they have there.
 pub fn code_comes_from_text()
     ensures { CodeHasSource }
 {}
