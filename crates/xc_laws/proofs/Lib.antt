@@ -23,3 +23,4 @@ pub mod Copied
 pub mod Channels
 pub mod Threads
 pub mod Checked
+pub mod Formed
