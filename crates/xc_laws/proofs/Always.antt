@@ -170,16 +170,18 @@ lively {m} {A} e h = subst (λ n. IfLively n A) e h
 tidy_step : (K : kernel.Kernel) (s : Stim) (x y : World) → Moved K s x y → Lawful K x → Tidy x → Tidy y
 tidy_step K s x y m h t = record { placed = placed_kept IsFresh AreUnused K s x t.placed m; alone = alone_kept IsFresh K s x h.kernels t.placed t.alone m }
 
-tidy_along : (K : kernel.Kernel) (s : Stim) (ms : List Action) (o : Option World) (y : World) → ((x : World) → o ≡ Some x → Lawful K x × Tidy x) → acts_all K s o ms ≡ Some y → Tidy y
-tidy_along K s ms None y h e = none_given e
-tidy_along K s [] (Some x) y h e = (h y e).1
-tidy_along K s (m ∷ ms) (Some x) y h e =
+-- what each step keeps beside the laws holds along a run
+pub along : (T : World → Type 0) (K : kernel.Kernel) (s : Stim) → ((x y : World) → Moved K s x y → Lawful K x → T x → T y) →
+    (ms : List Action) (o : Option World) (y : World) → ((x : World) → o ≡ Some x → Lawful K x × T x) → acts_all K s o ms ≡ Some y → T y
+along T K s kept ms None y h e = none_given e
+along T K s kept [] (Some x) y h e = (h y e).1
+along T K s kept (m ∷ ms) (Some x) y h e =
     let g = h x refl in
-    tidy_along K s ms (acts K s x m) y (λ z f. (laws_kept K s x z m f g.0, tidy_step K s x z (moved K s x (no_text K s x g.0.kernels) m f) g.0 g.1)) e
+    along T K s kept ms (acts K s x m) y (λ z f. (laws_kept K s x z m f g.0, kept x z (moved K s x (no_text K s x g.0.kernels) m f) g.0 g.1)) e
 
 pub tidy_laws_hold : TidyLawsHold
 tidy_laws_hold K s ms x k t e =
-    tidy_along K s ms (Some (kernel_start K)) x
+    along Tidy K s (tidy_step K s) ms (Some (kernel_start K)) x
     (λ z f. (subst (Lawful K) (some_given f) (laws_begin K k), subst Tidy (some_given f) (record { placed = placed_begins IsFresh AreUnused K t.placed; alone = alone_begins IsFresh K t.placed }))) e
 
 pub inside_is_own : InsideIsOwn
@@ -187,13 +189,13 @@ inside_is_own x h n b e em c u =
     let w = lively em (h.alone.each n b e) in
     ⊎_elim inl (λ v. inr (w.unused c v)) (among_append c (ends_of b.items) w.outer (subst (λ i. IsTrue (is_among c i)) w.is u))
 
-once_behind : (front rest : List Item) (k : ℕ) → PlacedItems IsFresh AreUnused (front ++ mark k ∷ rest) → is_among k (marks_of rest) ≡ false
+once_behind : (front rest : List Item) (k : ℕ) → PlacedItems IsFresh AnyInside (front ++ mark k ∷ rest) → is_among k (marks_of rest) ≡ false
 once_behind [] rest k h = h.0
 once_behind (item ∷ front) rest k h = once_behind front rest k h.1
 
 pub marks_stand_once : MarksStandOnce
 marks_stand_once x h n b e em front rest k ei =
-    let w = lively em (h.placed.each n b e) in once_behind front rest k (subst (PlacedItems IsFresh AreUnused) ei w.placed)
+    let w = lively em (h.placed.each n b e) in once_behind front rest k (subst (PlacedItems IsFresh AnyInside) ei w.placed)
 
 -- where a transaction's end is among items, they use its channel
 ends_use : (c : ℕ) (items : List Item) → IsTrue (is_among c (ends_of items)) → IsTrue (by_items (channel c) items)

@@ -1,5 +1,5 @@
 -- What a kernel is that is checked.
-use Rattle.std.proofs.Common.{◌≡◌, ⊎_elim, ℕ, zero, suc, List, [], ◌∷◌, Some, Contains, slice_get, refl, arith}
+use Rattle.std.proofs.Common.{◌≡◌, subst, ⊎_elim, ℕ, zero, suc, List, [], ◌∷◌, Some, Contains, slice_get, refl, arith}
 use Rattle.xc_kernel.specs.declared.kernel.PortUse.{PortUse}
 use Rattle.xc_kernel.specs.declared.statement.KRes.TheVariants.{Port}
 use Rattle.xc_kernel.specs.Plain as kernel
@@ -7,8 +7,16 @@ use Rattle.xc_kernel.specs.Uses as uses
 use Rattle.xc_kernel.specs.Uses.{Use}
 use Rattle.xc_disjoint.specs.Checked.{IsChecked}
 use Rattle.xc_disjoint.specs.Rules.{apart, elsewhere}
-use Rattle.xc_laws.specs.Lawful.{UsesOwnPorts, CheckedObey}
-use Rattle.xc_laws.proofs.Always.{accepted_obey}
+use Rattle.xs_instr.specs.declared.image.Stim.{Stim}
+use Rattle.xc_meaning.specs.Runs.{kernel_start}
+use Rattle.xc_meaning.specs.States.Worlds.{World}
+use Rattle.xc_formed.proofs.Formed.{of_programs}
+use Rattle.xc_laws.specs.Placed.{IsFresh, AnyInside}
+use Rattle.xc_laws.specs.Lawful.{UsesOwnPorts, CheckedObey, Fresh, FreshHolds, KernelsAreListed, CheckedListed, Lawful}
+use Rattle.xc_laws.proofs.Always.{accepted_obey, along, laws_begin, listed_holds}
+use Rattle.xc_laws.proofs.Channels.{copies_are_listed}
+use Rattle.xc_laws.proofs.Formed.{fresh_blocks, transactions_listed}
+use Rattle.xc_laws.proofs.Placed.{placed_kept, placed_begins}
 use Rattle.xc_meaning.proofs.Basics.{some_given, none_given, same_or_not}
 
 contains : {A : Type 0} (xs : List A) (i : ℕ) (a : A) → slice_get xs i ≡ Some a → Contains xs a
@@ -35,3 +43,16 @@ pub checked_obey : CheckedObey
 checked_obey K h =
     accepted_obey h.of_program.program h.of_program.sound.named h.of_program.sound.types h.of_program.sound.typed K h.of_program.copies
     (λ b g. h.unbroken b (apart g)) (own_ports K h)
+
+-- its blocks are fresh in each state of its runs
+pub fresh_holds : FreshHolds
+fresh_holds K s ms x k e =
+    along Fresh K s (λ a b m h t. record { placed = placed_kept IsFresh AnyInside K s a t.placed m }) ms (Some (kernel_start K)) x
+    (λ z f. (subst (Lawful K) (some_given f) (laws_begin K (checked_obey K k)), subst Fresh (some_given f) (record { placed = placed_begins IsFresh AnyInside K (fresh_blocks K (of_programs K k.of_program).exits) }))) e
+
+-- and its channels are listed
+pub kernels_are_listed : KernelsAreListed
+kernels_are_listed K o = copies_are_listed o.program K o.copies (transactions_listed K (of_programs K o).transactions)
+
+pub checked_listed : CheckedListed
+checked_listed K s ms x k e = listed_holds K s ms x (checked_obey K k) (kernels_are_listed K k.of_program) e

@@ -7,7 +7,7 @@ use Rattle.xc_kernel.specs.declared.kernel.PortUse.{PortUse}
 use Rattle.xc_kernel.specs.declared.statement.KRes.TheVariants.{Port}
 use Rattle.xc_kernel.specs.Plain as kernel
 use Rattle.xc_kernel.specs.Copies.{copy_of, Copies}
-use Rattle.xc_kernel.specs.Sound.{IsTyped}
+use Rattle.xc_kernel.specs.Sound.{IsOfProgram, IsTyped}
 use Rattle.xc_kernel.specs.Uses as uses
 use Rattle.xc_kernel.specs.Uses.{Use}
 use Rattle.xc_meaning.specs.States.Channels.{Side}
@@ -22,7 +22,7 @@ use Rattle.xc_laws.specs.Frames.{AgreeOnItems}
 use Rattle.xc_meaning.specs.Outline.{Outlined}
 use Rattle.xc_disjoint.specs.Disjoint.{NotApart}
 use Rattle.xc_disjoint.specs.Checked.{IsChecked}
-use Rattle.xc_laws.specs.Channels.{IsListed, TransactionsListed}
+use Rattle.xc_laws.specs.Channels.{IsListed}
 use Rattle.xw_words.specs.declared.pos.Broken.{Broken}
 use Rattle.xc_laws.specs.Every.{EveryItem}
 use Rattle.xc_laws.specs.Each.{EachItem, EachBranch}
@@ -95,10 +95,18 @@ InsideIsOwn =
     (x : World) → Tidy x → (n : ℕ) (b : Branch) → slice_get x.branches n ≡ Some b → b.mode ≡ runs → (c : ℕ) → IsTrue (is_among c b.inside) →
     IsTrue (is_among c (ends_of b.items)) ⊎ (IsTrue (by_items (channel c) b.items) → ⊥)
 
--- The mark of a block stands once among the items of a branch.
+-- No block has the number of one around it, in what is left of each branch.
+pub record Fresh (x : World) : Type 0 where
+  pub placed : EachPlaced IsFresh AnyInside x.branches
+
+-- This is so in each state of a checked kernel's runs.
+abbrev pub FreshHolds : Type 0
+FreshHolds = (K : kernel.Kernel) (s : Stim) (ms : List Action) (x : World) → IsChecked K → kernel_run K s ms ≡ Some x → Fresh x
+
+-- So the mark of a block stands once among the items of a branch.
 abbrev pub MarksStandOnce : Type 0
 MarksStandOnce =
-    (x : World) → Tidy x → (n : ℕ) (b : Branch) → slice_get x.branches n ≡ Some b → b.mode ≡ runs →
+    (x : World) → Fresh x → (n : ℕ) (b : Branch) → slice_get x.branches n ≡ Some b → b.mode ≡ runs →
     (front rest : List Item) (k : ℕ) → b.items ≡ front ++ mark k ∷ rest → is_among k (marks_of rest) ≡ false
 
 -- a channel is one of the kernel's
@@ -223,6 +231,10 @@ AcceptedObey =
 abbrev pub CheckedObey : Type 0
 CheckedObey = (K : kernel.Kernel) → IsChecked K → Obeys K
 
--- The transfers of a program's kernel go by channels of its list; so the kernel uses these alone where its transactions do.
-abbrev pub CopiesAreListed : Type 0
-CopiesAreListed = (P : List tree.Item) (K : kernel.Kernel) → Copies P K → TransactionsListed K → IsListed K
+-- The kernel of a program uses channels of its list alone,
+abbrev pub KernelsAreListed : Type 0
+KernelsAreListed = (K : kernel.Kernel) → IsOfProgram K → IsListed K
+
+-- and so do the branches of its runs, where it is checked.
+abbrev pub CheckedListed : Type 0
+CheckedListed = (K : kernel.Kernel) (s : Stim) (ms : List Action) (x : World) → IsChecked K → kernel_run K s ms ≡ Some x → EachItem (ListedAt K) x.branches

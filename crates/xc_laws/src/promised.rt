@@ -1,6 +1,6 @@
 //! The laws, as contracts of functions that do nothing.
 
-ghost use Rattle.xc_laws.specs.Lawful.{AcceptedObey, AloneInside, BranchesFit, BranchesStay, CheckedObey, CopiesAreListed, CopiesArePlaced, EachGoesOn, EachHasSide, FootprintsShrink, InsideIsOwn, LawsAreKept, LawsBegin, LawsHold, ListedHolds, MarksStandOnce, NoneClash, OneOnEachSide, OthersAreLeft, PortsAreHere, ThreadsSuffice, TidyLawsHold, UnbrokenIsApart, UnbrokenIsSided};
+ghost use Rattle.xc_laws.specs.Lawful.{AcceptedObey, AloneInside, BranchesFit, BranchesStay, CheckedListed, CheckedObey, CopiesArePlaced, EachGoesOn, EachHasSide, FootprintsShrink, FreshHolds, InsideIsOwn, KernelsAreListed, LawsAreKept, LawsBegin, LawsHold, ListedHolds, MarksStandOnce, NoneClash, OneOnEachSide, OthersAreLeft, PortsAreHere, ThreadsSuffice, TidyLawsHold, UnbrokenIsApart, UnbrokenIsSided};
 
 /// The laws hold at the start of each kernel that obeys the rules, and each step keeps them.
 #[tactic(auto, using(crate::proofs::Always::laws_begin, crate::proofs::Always::laws_kept))]
@@ -33,12 +33,17 @@ pub fn each_has_side()
     ensures { EachHasSide }
 {}
 
-/// Where no block has the number of one around it and no `par` uses a channel of a transaction around it, each state of a run is tidy:
-/// the mark of a block stands once, and a branch that runs stands in a transaction whose end is among its items or uses nothing of
-/// the transaction's channel.
+/// In the runs of a checked kernel no block has the number of one around it, so the mark of a block stands once among the items of a
+/// branch.
+pub fn marks_stand_once()
+    ensures of_runs { FreshHolds }
+    ensures once { MarksStandOnce }
+{}
+
+/// Where besides no `par` uses a channel of a transaction around it, each state of a run is tidy: a branch that runs stands in a
+/// transaction whose end is among its items or uses nothing of the transaction's channel.
 pub fn tidy_laws_hold()
     ensures of_runs { TidyLawsHold }
-    ensures marks { MarksStandOnce }
     ensures inside { InsideIsOwn }
 {}
 
@@ -96,9 +101,10 @@ pub fn accepted_obey()
     ensures checked { CheckedObey }
 {}
 
-/// Where a kernel uses channels of its list alone, so do the branches of its runs; the kernel of a program does where its transactions
-/// do.
+/// Where a kernel uses channels of its list alone, so do the branches of its runs. The kernel of a program does, and so do the runs of
+/// each that is checked.
 pub fn listed_holds()
     ensures of_runs { ListedHolds }
-    ensures of_copies { CopiesAreListed }
+    ensures of_programs { KernelsAreListed }
+    ensures checked { CheckedListed }
 {}
