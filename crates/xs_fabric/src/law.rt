@@ -1,5 +1,5 @@
 ghost use Rattle.std.specs.Prelude.{◌≡◌, ◌≢◌, ◌<◌, ◌^◌, ◌≤◌, ◌+◌, ◌++◌, ℕ, List as Items, length, ◌∷◌, Some, slice_get};
-ghost use Rattle.xs_fabric.specs.Lockstep.{due_from, lockstep};
+ghost use Rattle.xs_fabric.specs.Lockstep.{due_from, events_in, lockstep, rounds_at};
 ghost use Rattle.xs_fabric.specs.Rooms.{AllHaveRoom};
 ghost use Rattle.xs_core.specs.Room.{Tokens, Credits, total, ends_of, HasRoom};
 ghost use Rattle.xs_instr.specs.Ends.{peer_of};
@@ -18,6 +18,12 @@ ghost use Rattle.xs_instr.specs.declared.trace.Record.{Record};
 pub fn lockstep_is_a_run()
     ensures { (L : Image) (s : Stim) (n : ℕ) →
         (events : Items Event) × (runs L s (boot L) events ≡ Some (lockstep L s n)) }
+{}
+
+/// From any machine a round is a list of events, each enabled where it stands, and as many as `Machine::round` answers.
+pub fn round_counts_its_events()
+    ensures { (L : Image) (s : Stim) (m : Machine) → (events : Items Event) ×
+        (runs L s m events ≡ Some (rounds_at L s m 4)) × (length events ≡ events_in L s m 4) }
 {}
 
 /// After n rounds each clock is n, for n below 2^32.

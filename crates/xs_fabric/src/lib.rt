@@ -12,6 +12,7 @@ mod turn;
 
 pub use law::{
     clocks_count_rounds, due_items_have_room, first_item_has_room, links_hold_at_most_512,
-    lockstep_is_a_run, pairs_count_eight, ready_is_as_said, step_keeps_others,
+    lockstep_is_a_run, pairs_count_eight, ready_is_as_said, round_counts_its_events,
+    step_keeps_others,
 };
 pub use machine::{Event, Machine};
