@@ -1,4 +1,3 @@
-mod NearImage
 mod Completes
 mod Decides
 mod Dues

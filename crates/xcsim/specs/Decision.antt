@@ -1,7 +1,6 @@
 -- What is due, of the values that the program holds.
 use Rattle.std.specs.Prelude.{ℕ, List, [], None}
 use Rattle.xs_instr.specs.Valid.{Valid}
-use Rattle.xs_fabric.specs.Seen.{state_of}
 use Rattle.xcsim.specs.declared.decide.Decision.{Decision}
 use Rattle.xcsim.specs.declared.decide.Printed.{Printed}
 use Rattle.xcsim.specs.declared.decide.Printed.TheVariants.{Nothing, Accepted, Code, Whole}
@@ -24,7 +23,7 @@ abbrev pub printed_text : Printed → List ℕ
 printed_text Nothing = []
 printed_text Accepted = accepted_line
 printed_text (Code L) = code_section L
-printed_text (Whole L run) = run_output L (state_of run.machine).trace run.end
+printed_text (Whole L run) = run_output L run.machine.state.trace run.end
 
 -- what is due can be written
 abbrev pub IsPrintable : Printed → Type 0

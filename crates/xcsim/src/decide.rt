@@ -2,7 +2,6 @@
 
 ghost use Rattle.std.specs.Prelude.{◌≡◌, ◌≤◌, ◌<◌, ◌^◌, length, map, string_bytes, IfOk};
 ghost use Rattle.xs_instr.specs.Valid.{Valid};
-ghost use Rattle.xs_fabric.specs.Seen.{state_of};
 ghost use Rattle.xc_built.specs.Program.{IsWellFormed};
 ghost use Rattle.xr_match.specs.Code.{IsCodeOf};
 ghost use Rattle.xr_match.specs.Implements.{Implements};
@@ -101,7 +100,7 @@ fn compile_and_run(alloc: Global, program: &Program, ticks: u32) -> Result<(Imag
     ensures valid { IfOk result (λ r. Valid r.0) }
     ensures code { IfOk result (λ r. IsCodeOf program.now r.0) }
     ensures lockstep { IfOk result (λ r.
-        IsLockstep r.0 no_stim ticks (state_of r.1.machine).trace r.1.end r.1.trapped) }
+        IsLockstep r.0 no_stim ticks r.1.machine.state.trace r.1.end r.1.trapped) }
 {
     let image = compile(alloc, program)?;
     let stim = Stim {

@@ -1,8 +1,6 @@
 ghost use Rattle.std.specs.Prelude.{◌≡◌, IfOk};
 ghost use Rattle.xs_instr.specs.Valid.{IsGoodStim, Valid};
 ghost use Rattle.xcsim.specs.Runs.{IsLockstep};
-ghost use Rattle.xs_fabric.specs.Near.{AreNear};
-ghost use Rattle.xs_fabric.specs.Seen.{state_of};
 
 use std::alloc::Global;
 use xs_fabric::Machine;
@@ -20,13 +18,12 @@ pub struct Run {
     pub trapped: bool,
 }
 
-/// Runs an image, whose channels each join two ends of one core, in lockstep under a stimulus, for so many rounds from the start.
+/// Runs an image in lockstep under a stimulus, for so many rounds from the start.
 pub fn run_lockstep(alloc: Global, image: &Image, stim: &Stim, rounds: u32) -> Result<Run, Memory>
     requires valid { Valid image.now }
-    requires near { AreNear image.now.chans }
     requires stim { IsGoodStim stim.now }
     ensures { IfOk result (λ run.
-        IsLockstep image.now stim.now rounds (state_of run.machine).trace run.end run.trapped) }
+        IsLockstep image.now stim.now rounds run.machine.state.trace run.end run.trapped) }
 {
     let mut machine = Machine::boot(alloc, image, stim)?;
     for _round in 0..rounds {

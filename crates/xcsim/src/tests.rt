@@ -1,7 +1,6 @@
 // The worked rows: whole calls over files and sinks in memory, with all bytes of both sinks.
 
 ghost use Rattle.std.specs.Prelude.{◌≤◌, length, IfOk};
-ghost use Rattle.xs_fabric.specs.Near.{AreNear};
 ghost use Rattle.xs_instr.specs.Valid.{Valid};
 
 use crate::front::read_text;
@@ -379,7 +378,6 @@ fn keeps_limits(rt: HostRuntime) -> Result<(), Fail> {
 fn compiled(alloc: Global, text: &[u8]) -> Result<Image, Fail>
     requires { length text.now ≤ 4194304 }
     ensures valid { IfOk result (λ image. Valid image) }
-    ensures near { IfOk result (λ image. AreNear image.chans) }
 {
     let program = read_text(alloc, text)?;
     let image = compile(alloc, &program)?;

@@ -6,9 +6,8 @@ use Rattle.std.proofs.Math.Seq.{map-set_same}
 use Rattle.std.proofs.lemmas.Option.{slice_get-map, same_Some, get_or_from_slice_get}
 use Rattle.xs_instr.specs.declared.image.Image.{Image}
 use Rattle.xs_instr.specs.declared.image.Stim.{Stim}
-use Rattle.xs_instr.specs.declared.state.CoreState.{CoreState}
 use Rattle.xs_instr.specs.Machine.{home_of}
-use Rattle.xs_fabric.specs.Near.{Known as Core}
+use Rattle.xs_core.specs.Core.{Seen as Core}
 use Rattle.xs_fabric.specs.Seen.{home_in, homes, state_in}
 
 home_among : (L : Image) (s : Stim) (i : ℕ) → i < 4 → slice_get (homes L s) i ≡ Some (home_of L s i)

@@ -30,7 +30,7 @@ use Rattle.xs_core.proofs.Lists.{get_set, get_set_other}
 use Rattle.xs_core.proofs.Weights.{same_num, get_below, length_set}
 
 -- the clock after a turn
-abbrev clock_after : CoreState → Did CoreState → ℕ
+abbrev pub clock_after : CoreState → Did CoreState → ℕ
 clock_after core (Made left made sent) = left.clock
 clock_after core Paused = core.clock
 clock_after core (Traps kind) = core.clock
@@ -132,7 +132,7 @@ module _ (home : Home) (core : CoreState) (t : ℕ) (thread : Thread) where
   turn_of_clock Unused = refl
   turn_of_clock Trapped = refl
 
-slot_clock : (home : Home) (core : CoreState) (t : ℕ) → clock_after core (slot home core t) ≡ core.clock
+pub slot_clock : (home : Home) (core : CoreState) (t : ℕ) → clock_after core (slot home core t) ≡ core.clock
 slot_clock home core t = go (slice_get core.threads t)
   where
     go : (o : Option Thread) → clock_after core (turn_at home core t o) ≡ core.clock
@@ -156,12 +156,12 @@ turn_clock home p t = go (slot home p.core t) (slot_clock home p.core t)
     go Paused h = refl
     go Idle h = refl
 
-turns_clock : (home : Home) (p : Part) (n : ℕ) → (turns home p n).core.clock ≡ p.core.clock
+pub turns_clock : (home : Home) (p : Part) (n : ℕ) → (turns home p n).core.clock ≡ p.core.clock
 unfolding turns
 turns_clock home p zero = refl
 turns_clock home p (suc n) = turn_clock home (turns home p n) n ∙ turns_clock home p n
 
-came_clock : (core : CoreState) (items : List Item) → (all_came core items).clock ≡ core.clock
+pub came_clock : (core : CoreState) (items : List Item) → (all_came core items).clock ≡ core.clock
 came_clock core [] = refl
 came_clock core (i ∷ items) = came_clock (came core i.moved) items
 
@@ -169,7 +169,7 @@ part_clock : (home : Home) (m : Machine) (c : ℕ) (core : CoreState) → (part_
 unfolding part_at core_round
 part_clock home m c core = turns_clock home _ 8 ∙ came_clock core (due_from m.links c core.clock 4)
 
-tick_clock : (core : CoreState) → core.clock + 1 < 2 ^ 32 → (tick_once core).clock ≡ core.clock + 1
+pub tick_clock : (core : CoreState) → core.clock + 1 < 2 ^ 32 → (tick_once core).clock ≡ core.clock + 1
 tick_clock core h = go (nat_lt core.clock last_clock) refl
   where
     go : (b : Bool) → nat_lt core.clock last_clock ≡ b → (tick_if core b).clock ≡ core.clock + 1
@@ -222,7 +222,7 @@ unfolding rounds_at
 rounds_clock L s m n zero small h = λ c core e. ((λ lt. let no : ⊥ = omega arith in absurd no), (λ le. h c core e))
 rounds_clock L s m n (suc b) small h = round_clock L s (rounds_at L s m b) b n small (rounds_clock L s m n b small h)
 
-four_cores : (L : Image) (s : Stim) (m : Machine) (b : ℕ) → length (rounds_at L s m b).cores ≡ length m.cores
+pub four_cores : (L : Image) (s : Stim) (m : Machine) (b : ℕ) → length (rounds_at L s m b).cores ≡ length m.cores
 unfolding rounds_at round_at
 four_cores L s m zero = refl
 four_cores L s m (suc b) = go (slice_get (rounds_at L s m b).cores b) ∙ four_cores L s m b

@@ -1,18 +1,25 @@
-mod Among
-mod Clocks
-mod Ends
-mod Idles
-mod Links
-mod LockstepLeads
-mod Others
-mod Quiet
-mod Rounds
-mod Rows
-mod Sound
-mod Stepped
-mod Steps
-mod Taken
-mod Together
-mod Turns
-mod Unsent
-mod Ways
+pub mod AllRounds
+pub mod Among
+pub mod Clocks
+pub mod Coming
+pub mod Deliveries
+pub mod Dues
+pub mod Ends
+pub mod Events
+pub mod FourPeers
+pub mod Idles
+pub mod Links
+pub mod LockstepLeads
+pub mod OneRound
+pub mod Others
+pub mod Places
+pub mod Rows
+pub mod Running
+pub mod Sendings
+pub mod Sound
+pub mod Stepped
+pub mod Steps
+pub mod Taken
+pub mod Turned
+pub mod Turns
+pub mod Ways

@@ -19,7 +19,7 @@ pub record Keeps (m m' : Machine) (c : ℕ) : Type 0 where
   pub links : (a b : ℕ) → c ≢ a → link_of m'.links a b ≡ link_of m.links a b
   pub trace : (more : List Record) × (m'.trace ≡ m.trace ++ more)
 
-put_row : (links : Links) (c d a b : ℕ) (x : List Item) → c ≢ a → link_of (link_put links c d x) a b ≡ link_of links a b
+pub put_row : (links : Links) (c d a b : ℕ) (x : List Item) → c ≢ a → link_of (link_put links c d x) a b ≡ link_of links a b
 put_row links c d a b x n = go (slice_get links c)
   where
     go : (o : Option (List (List Item))) → link_of (link_put_in links c d x o) a b ≡ link_of links a b

@@ -53,7 +53,7 @@ end_there L valid m sound c e h =
     let within : e < length core.0.ends = omega (arith, size, h) in
     subst (λ o. e < length (ends_in o)) (sym core.1) within
 
-way_least : (k : Kind) (e : ℕ) (links : Links) (a b n : ℕ) → a < n → items_weight k e (link_of links a b) ≤ on_way k e links b n
+pub way_least : (k : Kind) (e : ℕ) (links : Links) (a b n : ℕ) → a < n → items_weight k e (link_of links a b) ≤ on_way k e links b n
 way_least k e links a b zero h = omega arith
 way_least k e links a b (suc n) h = go (same_num a n) (λ lt. way_least k e links a b n lt)
   where
@@ -63,14 +63,14 @@ way_least k e links a b (suc n) h = go (same_num a n) (λ lt. way_least k e link
         omega (arith, s)
     go (inr m) rest = let lt : a < n = omega arith in let r = rest lt in omega (arith, r)
 
-row_below : (links : Links) (a b : ℕ) (i : Item) (rest : List Item) → Square links → link_of links a b ≡ i ∷ rest → a < 4
+pub row_below : (links : Links) (a b : ℕ) (i : Item) (rest : List Item) → Square links → link_of links a b ≡ i ∷ rest → a < 4
 row_below links a b i rest q h = go (slice_get links a) refl
   where
     go : (o : Option (List (List Item))) → slice_get links a ≡ o → a < 4
     go None g = let none : [] ≡ i ∷ rest = ap (λ o. link_in o b) (sym g) ∙ h in cc
     go (Some out) g = let lt = get_below links a out g in let rows = q.rows in omega (arith, lt, rows)
 
-weight_target : (e : ℕ) → truth (nat_eq e e) ≡ 1
+pub weight_target : (e : ℕ) → truth (nat_eq e e) ≡ 1
 weight_target e = ap truth (eq_itself e)
 
 -- the end of a link's first item has room for it

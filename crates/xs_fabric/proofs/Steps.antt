@@ -1,5 +1,5 @@
 -- A step keeps the counts of each pair of ends.
-use Rattle.std.proofs.Common.{◌≡◌, ◌<◌, ◌+◌, ℕ, zero, suc, Bool, true, false, List, [], ◌∷◌, ◌++◌, Some, length, refl, sym, ap, ◌∙◌, inl, inr, subst, arith}
+use Rattle.std.proofs.Common.{◌≡◌, ◌<◌, ◌+◌, ℕ, zero, suc, Bool, true, false, List, [], ◌∷◌, ◌++◌, Some, length, sym, ap, ◌∙◌, inl, inr, subst, arith}
 use Rattle.std.proofs.lemmas.Bool.{eqb-true}
 use Rattle.std.specs.Prelude.{slice_get, slice_set, nat_eq, ◌≢◌, ◌⊎◌}
 use Rattle.xs_instr.specs.declared.image.Image.{Image}
@@ -14,11 +14,10 @@ use Rattle.xs_instr.specs.Machine.{Machine, link_of, link_put, on_links}
 use Rattle.xs_instr.specs.Valid.{Valid, IsThere}
 use Rattle.xs_core.specs.Room.{Kind, Tokens, Credits, weights, level, ends_in, ends_of, total}
 use Rattle.xs_fabric.proofs.Links.{Links}
-use Rattle.xs_core.proofs.Weights.{same_num, arrive_all, eq_itself, eq_not}
+use Rattle.xs_core.proofs.Weights.{same_num, arrive_all}
 use Rattle.xs_fabric.proofs.Ways.{Square, square_put, way_sent, way_sent_other}
 use Rattle.xs_core.proofs.Peers.{peer, peer_there, peer_twice}
 use Rattle.xs_fabric.proofs.Sound.{Sound, AllThere, AreBound, target, peer_at, machine, bound_put, ends_new, ends_old}
-use Rattle.xw_words.specs.Words.{truth}
 
 -- what one of two counts loses at (c, e), the other gains at (d, f)
 pub record Shifts (L : Image) (m m' : Machine) (k j : Kind) (c e d f n : ℕ) : Type 0 where

@@ -1,8 +1,11 @@
 pub mod Changes
 pub mod EndWord
+pub mod Inside
+pub mod Kept
 pub mod Lockstep
-pub mod Near
-pub mod NearInside
-pub mod Parts
+pub mod OnLinks
+pub mod Rooms
+pub mod Rounds
+pub mod Runs
 pub mod Seen
 pub mod Totals

@@ -1,8 +1,9 @@
-ghost use Rattle.std.specs.Prelude.{◌≡◌, ◌≢◌, ◌<◌, ◌^◌, ◌+◌, ◌++◌, ℕ, List as Items, ◌∷◌, Some, slice_get};
-ghost use Rattle.xs_fabric.specs.Lockstep.{lockstep};
+ghost use Rattle.std.specs.Prelude.{◌≡◌, ◌≢◌, ◌<◌, ◌^◌, ◌≤◌, ◌+◌, ◌++◌, ℕ, List as Items, length, ◌∷◌, Some, slice_get};
+ghost use Rattle.xs_fabric.specs.Lockstep.{due_from, events_in, lockstep, rounds_at};
+ghost use Rattle.xs_fabric.specs.Rooms.{AllHaveRoom};
 ghost use Rattle.xs_core.specs.Room.{Tokens, Credits, total, ends_of, HasRoom};
 ghost use Rattle.xs_instr.specs.Ends.{peer_of};
-ghost use Rattle.xs_instr.specs.Machine.{Event, Machine, Step, boot, does, link_of, runs};
+ghost use Rattle.xs_instr.specs.Machine.{Event, Machine, Step, boot, does, home_of, link_of, runs};
 ghost use Rattle.xs_instr.specs.Slot.{is_ready, is_ready_by_words};
 ghost use Rattle.xs_instr.specs.Valid.{Valid, IsThere};
 ghost use Rattle.xs_instr.specs.declared.image.Home.{Home};
@@ -17,6 +18,12 @@ ghost use Rattle.xs_instr.specs.declared.trace.Record.{Record};
 pub fn lockstep_is_a_run()
     ensures { (L : Image) (s : Stim) (n : ℕ) →
         (events : Items Event) × (runs L s (boot L) events ≡ Some (lockstep L s n)) }
+{}
+
+/// From any machine a round is a list of events, each enabled where it stands, and as many as `Machine::round` answers.
+pub fn round_counts_its_events()
+    ensures { (L : Image) (s : Stim) (m : Machine) → (events : Items Event) ×
+        (runs L s m events ≡ Some (rounds_at L s m 4)) × (length events ≡ events_in L s m 4) }
 {}
 
 /// After n rounds each clock is n, for n below 2^32.
@@ -54,4 +61,19 @@ pub fn first_item_has_room()
     ensures { (L : Image) (s : Stim) (events : Items Event) (m : Machine) (a b : ℕ) (i : Item)
         (rest : Items Item) → Valid L → runs L s (boot L) events ≡ Some m → link_of m.links a b
         ≡ i ∷ rest → HasRoom (ends_of m b) i.moved }
+{}
+
+/// In each run of a valid image a link holds at most 512 items, so that it has a place for each: of the 32 ends of the core
+/// to which it leads, each has at most 8 tokens and 8 credits on their way.
+pub fn links_hold_at_most_512()
+    ensures { (L : Image) (s : Stim) (events : Items Event) (m : Machine) (a b : ℕ) → Valid L →
+        runs L s (boot L) events ≡ Some m → length (link_of m.links a b) ≤ 512 }
+{}
+
+/// In each run of a valid image what is due at a core, whatever its clock, has room, one item after the other, as
+/// `Core::deliver` asks it.
+pub fn due_items_have_room()
+    ensures { (L : Image) (s : Stim) (events : Items Event) (m : Machine) (c clock : ℕ)
+        (core : CoreState) → Valid L → runs L s (boot L) events ≡ Some m → slice_get m.cores c
+        ≡ Some core → AllHaveRoom (home_of L s c) core (due_from m.links c clock 4) }
 {}

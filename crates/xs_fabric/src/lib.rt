@@ -1,14 +1,18 @@
-//! The machine: four cores and what they recorded, event by event and round by round.
+//! The machine: four cores, the links between them and what they recorded, event by event and round by round.
 #![tactic(auto)]
 
 mod cores;
+mod delivery;
 mod law;
+mod link;
 mod machine;
-mod near;
+mod round;
 mod totals;
+mod turn;
 
 pub use law::{
-    clocks_count_rounds, first_item_has_room, lockstep_is_a_run, pairs_count_eight,
-    ready_is_as_said, step_keeps_others,
+    clocks_count_rounds, due_items_have_room, first_item_has_room, links_hold_at_most_512,
+    lockstep_is_a_run, pairs_count_eight, ready_is_as_said, round_counts_its_events,
+    step_keeps_others,
 };
 pub use machine::{Event, Machine};

@@ -1,14 +1,15 @@
 // Sums over the cores, from which the end of a run is read.
 
-ghost use Rattle.std.specs.Prelude.{◌≡◌, ◌+◌, List as Items, length, map, true};
+ghost use Rattle.std.specs.Prelude.{◌≡◌, ◌+◌, List as Items, length, map};
 ghost use Rattle.xs_instr.specs.declared.image.Image.{Image};
 ghost use Rattle.xs_instr.specs.declared.image.Stim.{Stim};
 ghost use Rattle.xs_instr.specs.declared.trace.Record.{Record};
 ghost use Rattle.xs_fabric.specs.EndWord.{end_word, sights};
+ghost use Rattle.xs_fabric.specs.Rounds.{Links};
 ghost use Rattle.xs_fabric.specs.Seen.{home_in, homes, together};
 ghost use Rattle.xs_fabric.specs.Totals.{seen_as};
 
-use crate::near::NearCore;
+use xs_core::Core;
 use xs_instr::EndWord;
 
 /// How many roots of the four cores haven't ended, and how many threads are in use, are trapped, are ready, and wait on a
@@ -23,10 +24,11 @@ pub struct Totals {
 }
 
 /// The sums over the four cores.
-pub fn sum_of_sights(cores: &[NearCore]) -> Totals
+pub fn sum_of_sights(cores: &[Core]) -> Totals
     requires { length cores.now ≡ 4 }
-    ensures { (L : Image) (s : Stim) (trace : Items Record) → map home_in cores.now ≡ homes L s →
-        seen_as result ≡ sights L s (together cores.now trace) 4 }
+    ensures { (L : Image) (s : Stim) (links : Links) (trace : Items Record) →
+        map home_in cores.now ≡ homes L s →
+        seen_as result ≡ sights L s (together cores.now links trace) 4 }
 {
     let a = cores[0].sight();
     let b = cores[1].sight();
@@ -47,21 +49,17 @@ fn sum(a: u32, b: u32, c: u32, d: u32) -> u64
     a as u64 + b as u64 + c as u64 + d as u64
 }
 
-/// How a run ends in which nothing is on its way.
-pub fn word_of(all: Totals) -> EndWord
-    ensures { result ≡ end_word (seen_as all) true }
+/// How a run ends: by the sums over the four cores, and whether nothing is on its way between them.
+pub fn word_of(all: Totals, no_items: bool) -> EndWord
+    ensures { result ≡ end_word (seen_as all) no_items }
 {
     if all.roots == 0 {
-        return EndWord::Finished;
+        EndWord::Finished
+    } else if all.used == all.trapped {
+        EndWord::Trapped
+    } else if no_items && all.ready == 0 && all.timed == 0 {
+        EndWord::Stuck
+    } else {
+        EndWord::Stopped
     }
-    if all.used == all.trapped {
-        return EndWord::Trapped;
-    }
-    if all.ready != 0 {
-        return EndWord::Stopped;
-    }
-    if all.timed != 0 {
-        return EndWord::Stopped;
-    }
-    EndWord::Stuck
 }

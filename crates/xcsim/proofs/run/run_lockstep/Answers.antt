@@ -1,5 +1,5 @@
-use Rattle.std.proofs.Common.{◌∙◌}
-use Rattle.xs_fabric.specs.Seen.{state_of}
+use Rattle.std.proofs.Common.{ap, ◌∙◌}
+use Rattle.xs_fabric.specs.Seen.{Running}
 use Rattle.xcsim.proofs.Rounds.{next_round, no_round}
 use Rattle.xcsim.proofs.run.run_lockstep.Goals as goal
 
@@ -7,15 +7,15 @@ pub loop-round-init : goal.loop-round-init
 loop-round-init c =
     let machine = c.in_ok-machine.machine in
     let booted = c.in_ok-machine.ensures.booted in
-    record { of = booted.of; state = no_round c.args.image.now c.args.stim.now (state_of machine) booted.state }
+    record { of = booted.of; state = no_round c.args.image.now c.args.stim.now machine.state booted.state }
 
 pub loop-round-preserved : goal.loop-round-preserved
 loop-round-preserved c =
     let L = c.args.image.now in
     let s = c.args.stim.now in
     let inv = c.loop-round.invariant in
-    let of = c.in_ok-reserve.ensures.run ∙ inv.of in
+    let of = ap (λ (m : Running). m.homes) c.in_ok-reserve.ensures.rest ∙ inv.of in
     record {
       of = c.round.ensures.run ∙ of;
-      state = next_round L s (state_of c.reserve.new.self) (state_of c.round.new.self) c.loop-round._round (c.in_ok-reserve.ensures.state ∙ inv.state) (c.round.ensures.state L s of);
+      state = next_round L s c.reserve.new.self.state c.round.new.self.state c.loop-round._round (ap (λ (m : Running). m.state) c.in_ok-reserve.ensures.rest ∙ inv.state) (c.round.ensures.state L s of);
     }

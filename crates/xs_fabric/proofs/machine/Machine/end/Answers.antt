@@ -1,10 +1,15 @@
-use Rattle.std.proofs.Common.{true, ap, ◌∙◌}
-use Rattle.xs_fabric.specs.EndWord.{end_of, end_word}
+use Rattle.std.proofs.Common.{ap, ◌∙◌}
+use Rattle.xs_fabric.specs.EndWord.{end_of, end_word, sights}
+use Rattle.xs_fabric.specs.Seen.{Running, together}
 use Rattle.xs_fabric.proofs.Ends.{sums}
 use Rattle.xs_fabric.proofs.machine.Machine.end.Goals as goal
 
 pub returns : goal.returns
 unfolding end_of
 returns c =
-    λ L s of. c.word_of.ensures
-    ∙ ap (λ all. end_word all true) (sums L s c.sum_of_sights.result c.as_slice.result.now c.args.self.now.cores.items c.args.self.now.trace.items c.as_slice.ensures.value (c.sum_of_sights.ensures L s c.args.self.now.trace.items) of)
+    let m = c.self.inside in
+    λ L s of.
+    c.word_of.ensures
+    ∙ ap (λ all. end_word all c.are_empty.result) (sums L s c.sum_of_sights.result c.as_slice.result.now m.cores.items m.links m.trace.items c.as_slice.ensures.value (c.sum_of_sights.ensures L s m.links m.trace.items) (ap (λ (v : Running). v.homes) c.self.view_is ∙ of))
+    ∙ ap (end_word (sights L s (together m.cores.items m.links m.trace.items) 4)) c.are_empty.ensures
+    ∙ ap (λ (v : Running). end_of L s v.state) c.self.view_is

@@ -1,0 +1,2 @@
+mod FourCores
+mod TwoOfFour

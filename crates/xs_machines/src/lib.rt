@@ -1,0 +1,7 @@
+//! Tests of machines of several cores, made from images by hand. The crate has nothing for others to use.
+#![tactic(auto)]
+
+#[cfg(test)]
+mod images;
+#[cfg(test)]
+mod runs;
