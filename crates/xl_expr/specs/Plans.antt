@@ -21,12 +21,12 @@ abbrev pub at_of : Option VarPlan → Option VarAt
 at_of None = None
 at_of (Some found) = Some found.place
 
-abbrev pub place_in : List (Option ResAt) → ℕ → Option ResAt
-place_in places p = joined (slice_get places p)
+abbrev pub resource_at : List (Option ResAt) → ℕ → Option ResAt
+resource_at places p = joined (slice_get places p)
 
 abbrev pub resource_in : List (Option ResAt) → List (Option ResAt) → KRes → Option ResAt
-resource_in ports timers (Port p) = place_in ports p
-resource_in ports timers (Timer t) = place_in timers t
+resource_in ports timers (Port p) = resource_at ports p
+resource_in ports timers (Timer t) = resource_at timers t
 resource_in ports timers (Chan c) = None
 
 abbrev pub end_in : List ResAt → ℕ → Option ResAt

@@ -1,5 +1,5 @@
 ghost use Rattle.std.specs.Prelude.{◌≡◌};
-ghost use Rattle.xl_expr.specs.Plans.{var_in, place_in, at_of, end_in, resource_in};
+ghost use Rattle.xl_expr.specs.Plans.{var_in, resource_at, at_of, end_in, resource_in};
 
 use xc_kernel::KRes;
 use xw_words::List;
