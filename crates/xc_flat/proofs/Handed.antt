@@ -1,5 +1,5 @@
 -- Typed programs that are neither too large nor too deep are copied, and their kernels are handed on.
-use Rattle.std.proofs.Common.{◌≤◌, ◌<◌, ◌^◌, ℕ, Bool, List, [], ◌∷◌, length, inl, arith}
+use Rattle.std.proofs.Common.{◌≤◌, ◌<◌, ◌^◌, ℕ, Bool, List, [], ◌∷◌, length, inl, inr, arith}
 use Rattle.std.proofs.lemmas.Bool.{cases_lt}
 use Rattle.xc_tree.specs.Depth as depth
 use Rattle.xc_tree.specs.Derives.{deepest}
@@ -23,8 +23,8 @@ handed_on {program} {named} {types} typed shallow small copies = record {
 }
 
 -- what isn't too large has few statements
-pub few_statements : {program : List tree.Item} → (IsTooLarge program → ⊥) → statements_of program ≤ most_statements
-few_statements {program} small = elim (cases_lt most_statements (statements_of program)) [
+pub few_statements : (program : List tree.Item) → (IsTooLarge program → ⊥) → statements_of program ≤ most_statements
+few_statements program small = elim (cases_lt most_statements (statements_of program)) [
   | inl h ↦ absurd (small (inl h))
   | inr h ↦ h
 ]

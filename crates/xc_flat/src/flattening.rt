@@ -24,7 +24,7 @@ pub type FlatErr = Refusal;
 /// A program with all its copies that has more than 100,000 statements, more than 1,000,000 nodes of expressions or a depth
 /// above 1,000 breaks rule 509 at main's name. That is seen before anything is copied. The other error is that memory could
 /// not be had. The stack that it needs grows with the depth of the kernel.
-#[tactic(auto, using(crate::proofs::Handed::handed_on, crate::proofs::Handed::few_statements, crate::proofs::Handed::few_ports))]
+#[tactic(auto, using(crate::proofs::Handed::handed_on, crate::proofs::Handed::few_statements))]
 pub fn flatten(alloc: Global, typed: &Typed) -> Result<Kernel, FlatErr>
     requires typed { IsTyped (program_of typed.now.named.tree)
         (named_of typed.now.named) typed.now.unsigned_at }

@@ -1,0 +1,5 @@
+use Rattle.xc_flat.proofs.Handed.{few_ports}
+use Rattle.xc_flat.proofs.flattening.flatten.Goals as goal
+
+pub copy-requires-clause-ports : goal.copy-requires-clause-ports
+copy-requires-clause-ports c = few_ports c.requires.typed
