@@ -39,7 +39,6 @@ pub fn typed(alloc: Global, text: &[u8]) -> Option<Typed>
 }
 
 /// The tree of a text, if it has one.
-#[tactic(auto, using(crate::proofs::Reading::of_text))]
 pub fn tree_of(alloc: Global, text: &[u8]) -> Option<Tree>
     requires { length text.now ≤ 4194304 }
     ensures parsed { IfSome result (λ tree. IsParsed (program_of tree)) }
