@@ -1,5 +1,5 @@
 -- What a kernel is that is checked.
-use Rattle.std.proofs.Common.{◌≡◌, subst, ⊎_elim, ℕ, zero, suc, List, [], ◌∷◌, Some, Contains, slice_get, refl, arith}
+use Rattle.std.proofs.Common.{◌≡◌, subst, ⊎_elim, ℕ, zero, suc, List, [], ◌∷◌, length, Some, Contains, slice_get, refl, ap, arith}
 use Rattle.xc_kernel.specs.declared.kernel.PortUse.{PortUse}
 use Rattle.xc_kernel.specs.declared.statement.KRes.TheVariants.{Port}
 use Rattle.xc_kernel.specs.Plain as kernel
@@ -7,16 +7,18 @@ use Rattle.xc_kernel.specs.Uses as uses
 use Rattle.xc_kernel.specs.Uses.{Use}
 use Rattle.xc_disjoint.specs.Checked.{IsChecked}
 use Rattle.xc_disjoint.specs.Rules.{apart, elsewhere}
-use Rattle.xs_instr.specs.declared.image.Stim.{Stim}
 use Rattle.xc_meaning.specs.Runs.{kernel_start}
+use Rattle.xc_meaning.specs.States.Branches.{runs, Branch}
 use Rattle.xc_meaning.specs.States.Worlds.{World}
 use Rattle.xc_formed.proofs.Formed.{of_programs}
-use Rattle.xc_laws.specs.Placed.{IsFresh, AnyInside}
-use Rattle.xc_laws.specs.Lawful.{UsesOwnPorts, CheckedObey, Fresh, FreshHolds, KernelsAreListed, CheckedListed, Lawful}
-use Rattle.xc_laws.proofs.Always.{accepted_obey, along, laws_begin, listed_holds}
+use Rattle.xc_laws.specs.Placed.{IsFresh, AnyInside, ends_of, IfLively}
+use Rattle.xc_laws.specs.Nested.{StandsInside, EachInside}
+use Rattle.xc_laws.specs.Lawful.{UsesOwnPorts, CheckedObey, Fresh, FreshHolds, InsideHolds, EndsAreBehind, InnermostEnds, KernelsAreListed, CheckedListed, Lawful}
+use Rattle.xc_laws.proofs.Always.{accepted_obey, along, laws_begin, laws_hold, listed_holds}
 use Rattle.xc_laws.proofs.Channels.{copies_are_listed}
 use Rattle.xc_laws.proofs.Formed.{fresh_blocks, transactions_listed}
 use Rattle.xc_laws.proofs.Placed.{placed_kept, placed_begins}
+use Rattle.xc_laws.proofs.Nested.{inside_kept, inside_begins, end_is_behind, innermost_of}
 use Rattle.xc_meaning.proofs.Basics.{some_given, none_given, same_or_not}
 
 contains : {A : Type 0} (xs : List A) (i : ℕ) (a : A) → slice_get xs i ≡ Some a → Contains xs a
@@ -49,6 +51,24 @@ pub fresh_holds : FreshHolds
 fresh_holds K s ms x k e =
     along Fresh K s (λ a b m h t. record { placed = placed_kept IsFresh AnyInside K s a t.placed m }) ms (Some (kernel_start K)) x
     (λ z f. (subst (Lawful K) (some_given f) (laws_begin K (checked_obey K k)), subst Fresh (some_given f) (record { placed = placed_begins IsFresh AnyInside K (fresh_blocks K (of_programs K k.of_program).exits) }))) e
+
+-- each branch stands in the transactions whose ends are its own and in those of the one that waits for it
+pub inside_holds : InsideHolds
+inside_holds K s ms x k e =
+    along (λ w. EachInside (length K.roots) w.branches) K s (λ a b m h t. inside_kept K s a (length K.roots) h.forest h.placed t m) ms (Some (kernel_start K)) x
+    (λ z f. (subst (Lawful K) (some_given f) (laws_begin K (checked_obey K k)), subst (λ w. EachInside (length K.roots) w.branches) (some_given f) (inside_begins K (checked_obey K k).placed))) e
+
+stands_running : (K : kernel.Kernel) (x : World) → EachInside (length K.roots) x.branches → (n : ℕ) (b : Branch) → slice_get x.branches n ≡ Some b → b.mode ≡ runs → StandsInside (length K.roots) x.branches n b
+stands_running K x h n b e em = subst (λ m. IfLively m (StandsInside (length K.roots) x.branches n b)) em (h.each n b e)
+
+pub ends_are_behind : EndsAreBehind
+ends_are_behind K s ms x k e n b is em c u =
+    let h = inside_holds K s ms x k e in
+    end_is_behind (length K.roots) x.branches (laws_hold K s ms x (checked_obey K k) e).forest h n b (stands_running K x h n b is em) c u
+
+pub innermost_ends : InnermostEnds
+innermost_ends K s ms x k e n b is em c is_master pos rest ei =
+    innermost_of (length K.roots) x.branches n b rest c (stands_running K x (inside_holds K s ms x k e) n b is em) (ap ends_of ei)
 
 -- and its channels are listed
 pub kernels_are_listed : KernelsAreListed

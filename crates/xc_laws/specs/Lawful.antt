@@ -23,6 +23,7 @@ use Rattle.xc_meaning.specs.Outline.{Outlined}
 use Rattle.xc_disjoint.specs.Disjoint.{NotApart}
 use Rattle.xc_disjoint.specs.Checked.{IsChecked}
 use Rattle.xc_laws.specs.Channels.{IsListed}
+use Rattle.xw_words.specs.declared.pos.Pos.{Pos}
 use Rattle.xw_words.specs.declared.pos.Broken.{Broken}
 use Rattle.xc_laws.specs.Every.{EveryItem}
 use Rattle.xc_laws.specs.Each.{EachItem, EachBranch}
@@ -31,6 +32,7 @@ use Rattle.xc_laws.specs.Rules.{AnyThing, AnyPar, AnyTransaction, AllApart, AreA
 use Rattle.xc_laws.specs.Sided.{SidedAt, Differ, OtherSides, IsSided}
 use Rattle.xc_laws.specs.Needs.{HasBudget, taken_on, needed_on, AreOnce, IsIn, TakesOn, total_of, takes_at, RootCores}
 use Rattle.xc_laws.specs.Placed.{AnyBlock, AnyInside, IsFresh, AreUnused, marks_of, ends_of, open_of, EndsWell, EachPlaced, EachAlone, IsPlaced}
+use Rattle.xc_laws.specs.Nested.{EachInside, EndIsBehind}
 use Rattle.xc_laws.specs.Cores.{UsesHere, IsHere, Grows}
 
 -- what the rules promise of a kernel
@@ -108,6 +110,30 @@ abbrev pub MarksStandOnce : Type 0
 MarksStandOnce =
     (x : World) → Fresh x → (n : ℕ) (b : Branch) → slice_get x.branches n ≡ Some b → b.mode ≡ runs →
     (front rest : List Item) (k : ℕ) → b.items ≡ front ++ mark k ∷ rest → is_among k (marks_of rest) ≡ false
+
+-- In each state of a checked kernel's runs each branch that runs or waits stands in the transactions whose ends are among its items,
+-- and in those in which the one stands that waits for it.
+abbrev pub InsideHolds : Type 0
+InsideHolds =
+    (K : kernel.Kernel) (s : Stim) (ms : List Action) (x : World) → IsChecked K →
+    kernel_run K s ms ≡ Some x → EachInside (length K.roots) x.branches
+
+-- So the end of each transaction in which a branch stands is among its items, or among those of a branch above it.
+abbrev pub EndsAreBehind : Type 0
+EndsAreBehind =
+    (K : kernel.Kernel) (s : Stim) (ms : List Action) (x : World) → IsChecked K →
+    kernel_run K s ms ≡ Some x →
+    (n : ℕ) (b : Branch) → slice_get x.branches n ≡ Some b → b.mode ≡ runs →
+    (c : ℕ) → IsTrue (is_among c b.inside) → EndIsBehind x.branches c n b
+
+-- And what a branch ends next is the innermost transaction in which it stands.
+abbrev pub InnermostEnds : Type 0
+InnermostEnds =
+    (K : kernel.Kernel) (s : Stim) (ms : List Action) (x : World) → IsChecked K →
+    kernel_run K s ms ≡ Some x →
+    (n : ℕ) (b : Branch) → slice_get x.branches n ≡ Some b → b.mode ≡ runs →
+    (c : ℕ) (is_master : Bool) (pos : Pos) (rest : List Item) →
+    b.items ≡ transaction_end c is_master pos ∷ rest → (outer : List ℕ) × (b.inside ≡ c ∷ outer)
 
 -- a channel is one of the kernel's
 abbrev pub Listed : kernel.Kernel → Thing → Type 0
