@@ -1,5 +1,5 @@
 -- What a kernel is that is checked.
-use Rattle.std.proofs.Common.{◌≡◌, subst, ⊎_elim, ℕ, zero, suc, List, [], ◌∷◌, length, Some, Contains, slice_get, refl, ap, arith}
+use Rattle.std.proofs.Common.{◌≡◌, inl, inr, subst, ⊎_elim, ℕ, zero, suc, ◌<◌, IsTrue, List, [], ◌∷◌, length, Some, Contains, slice_get, refl, sym, ap, ◌∙◌, arith}
 use Rattle.xc_kernel.specs.declared.kernel.PortUse.{PortUse}
 use Rattle.xc_kernel.specs.declared.statement.KRes.TheVariants.{Port}
 use Rattle.xc_kernel.specs.Plain as kernel
@@ -8,17 +8,22 @@ use Rattle.xc_kernel.specs.Uses.{Use}
 use Rattle.xc_disjoint.specs.Checked.{IsChecked}
 use Rattle.xc_disjoint.specs.Rules.{apart, elsewhere}
 use Rattle.xc_meaning.specs.Runs.{kernel_start}
-use Rattle.xc_meaning.specs.States.Branches.{runs, Branch}
+use Rattle.xc_meaning.specs.States.Branches.{runs, Branch, side_of}
+use Rattle.xc_meaning.specs.Settings.Channels.{is_among}
+use Rattle.xc_kernel.specs.Things.{channel}
 use Rattle.xc_meaning.specs.States.Worlds.{World}
 use Rattle.xc_formed.proofs.Formed.{of_programs}
 use Rattle.xc_laws.specs.Placed.{IsFresh, AnyInside, ends_of, IfLively}
 use Rattle.xc_laws.specs.Nested.{StandsInside, EachInside}
-use Rattle.xc_laws.specs.Lawful.{UsesOwnPorts, CheckedObey, Fresh, FreshHolds, InsideHolds, EndsAreBehind, InnermostEnds, KernelsAreListed, CheckedListed, Lawful}
-use Rattle.xc_laws.proofs.Always.{accepted_obey, along, laws_begin, laws_hold, listed_holds}
+use Rattle.xc_laws.specs.Rules.{AnyPar, AnyTransaction}
+use Rattle.xc_laws.specs.Lawful.{UsesOwnPorts, CheckedObey, Fresh, FreshHolds, InsideHolds, EndsAreBehind, InnermostEnds, UsersAreInside, Listed, KernelsAreListed, CheckedListed, Lawful}
+use Rattle.xc_laws.proofs.Always.{accepted_obey, ends_use, differ_not, along, laws_begin, laws_hold, listed_holds}
 use Rattle.xc_laws.proofs.Channels.{copies_are_listed}
 use Rattle.xc_laws.proofs.Formed.{fresh_blocks, transactions_listed}
 use Rattle.xc_laws.proofs.Placed.{placed_kept, placed_begins}
-use Rattle.xc_laws.proofs.Nested.{inside_kept, inside_begins, end_is_behind, innermost_of}
+use Rattle.xc_laws.proofs.Nested.{inside_kept, inside_begins, end_is_behind, innermost_of, ends_inside, above_stands, all_below}
+use Rattle.xc_laws.proofs.Trees.{running_waits_not, above_waits}
+use Rattle.xc_laws.proofs.Links.{items_have}
 use Rattle.xc_meaning.proofs.Basics.{some_given, none_given, same_or_not}
 
 contains : {A : Type 0} (xs : List A) (i : ℕ) (a : A) → slice_get xs i ≡ Some a → Contains xs a
@@ -76,3 +81,23 @@ kernels_are_listed K o = copies_are_listed o.program K o.copies (transactions_li
 
 pub checked_listed : CheckedListed
 checked_listed K s ms x k e = listed_holds K s ms x (checked_obey K k) (kernels_are_listed K k.of_program) e
+
+-- while a transaction's end is among a branch's items, who uses the channel on its side stands in the transaction
+pub users_are_inside : UsersAreInside
+users_are_inside K s ms x k e m n b d ib id em c u es v =
+    let lawful = laws_hold K s ms x (checked_obey K k) e in
+    let h = inside_holds K s ms x k e in
+    let lt : c < length K.channels = items_have (Listed K) AnyPar AnyTransaction (channel c) d.items ((checked_listed K s ms x k e).all n d id) v in
+    let stands = stands_running K x h n d id em in
+    ⊎_elim
+    (λ q. let same : b ≡ d = some_given (sym ib ∙ ap (slice_get x.branches) (sym q) ∙ id) in
+    (inl q, ends_inside (length K.roots) x.branches n d c stands (subst (λ z. IsTrue (is_among c (ends_of z.items))) same u)))
+    (λ ne. ⊎_elim
+    (λ a. let above = above_stands (length K.roots) x.branches lawful.forest h c m n b a ib in
+    (inr a, all_below (length K.roots) x.branches lawful.forest h c m n b d a ib stands (ends_inside (length K.roots) x.branches m b c above u)))
+    (λ r. ⊎_elim
+    (λ a. running_waits_not em (above_waits x.branches n m d id a))
+    (λ o. absurd (differ_not (side_of b c) (side_of d c) es (o.differ (ends_use c b.items u) v)))
+    r)
+    ((lawful.other_sides c lt).pair m n b d ib id (λ q. ne (sym q))))
+    (same_or_not n m)

@@ -1,6 +1,6 @@
 -- Each branch that runs or waits stands in the transactions whose ends are among its items, and in
 -- those in which the one stands that waits for it.
-use Rattle.std.proofs.Common.{◌≡◌, ◌≢◌, ⊎_elim, ℕ, zero, suc, ◌+◌, ◌<◌, IsTrue, List, [], ◌∷◌, ◌++◌, length, Some, slice_get, slice_set, refl, sym, ap, subst, ◌∙◌, append-nil, arith}
+use Rattle.std.proofs.Common.{◌≡◌, ◌≢◌, ⊎_elim, ℕ, zero, suc, ◌+◌, ◌<◌, IsTrue, List, [], ◌∷◌, ◌++◌, length, Some, slice_get, slice_set, nat_eq, refl, sym, ap, subst, ◌∙◌, append-nil, true≢false, arith}
 use Rattle.xs_instr.specs.declared.image.Stim.{Stim}
 use Rattle.xc_kernel.specs.Plain as kernel
 use Rattle.xc_meaning.specs.States.Items.{Item, does, ends, todo}
@@ -13,12 +13,12 @@ use Rattle.xc_meaning.specs.Settings.Par.{all_done}
 use Rattle.xc_meaning.specs.Runs.{step_of, kernel_start}
 use Rattle.xc_meaning.specs.Outline.{Becomes, goes, enters, exits, errs, ends_it, makes, Moved, ticked, stepped, joined}
 use Rattle.xc_kernel.specs.Branches.{branches_of}
-use Rattle.xc_laws.specs.Tree.{IsChild, directly, IsWaiting, IsForest}
+use Rattle.xc_laws.specs.Tree.{IsChild, Above, directly, further, IsWaiting, IsForest}
 use Rattle.xc_laws.specs.Placed.{AnyBlock, AnyInside, ends_of, IfLively, WellPlaced, EachPlaced, IsPlaced}
 use Rattle.xc_laws.specs.Nested.{StandsInside, as_root, as_child, EachInside, EndIsBehind, its_own, above}
-use Rattle.xc_meaning.proofs.Basics.{some_given, none_given, same_or_not}
+use Rattle.xc_meaning.proofs.Basics.{some_given, none_given, same_or_not, or_left, or_right, or_cases}
 use Rattle.xc_laws.proofs.Lookups.{Behind, itself, there, new, behind, within, at_itself, at_other, born}
-use Rattle.xc_laws.proofs.Trees.{waiting_is, running_waits_not, above_child, child_there, made_length}
+use Rattle.xc_laws.proofs.Trees.{waiting_is, running_waits_not, above_first, above_child, child_there, made_length}
 use Rattle.xc_laws.proofs.Pairs.{done_at}
 use Rattle.xc_laws.proofs.Starts.{start_at}
 use Rattle.xc_laws.proofs.Uses.{child_at}
@@ -210,3 +210,39 @@ module _ (roots : ℕ) (bs : List Branch) (f : IsForest roots bs) (h : EachInsid
 pub innermost_of : (roots : ℕ) (bs : List Branch) (n : ℕ) (b : Branch) (items : List Item) (c : ℕ) → StandsInside roots bs n b → ends_of b.items ≡ c ∷ ends_of items → (outer : List ℕ) × (b.inside ≡ c ∷ outer)
 innermost_of roots bs n b items c (as_root lt e) q = (ends_of items, e ∙ q)
 innermost_of roots bs n b items c (as_child m p ch ep e) q = (ends_of items ++ p.inside, e ∙ ap (λ z. z ++ p.inside) q)
+
+-- A branch stands in each transaction in which one above it stands.
+among_front : (c : ℕ) (xs ys : List ℕ) → IsTrue (is_among c xs) → IsTrue (is_among c (xs ++ ys))
+among_front c [] ys u = absurd (true≢false (sym u))
+among_front c (x ∷ xs) ys u = ⊎_elim (λ v. or_left (nat_eq c x) _ v) (λ v. or_right (nat_eq c x) _ (among_front c xs ys v)) (or_cases _ _ u)
+
+among_back : (c : ℕ) (xs ys : List ℕ) → IsTrue (is_among c ys) → IsTrue (is_among c (xs ++ ys))
+among_back c [] ys u = u
+among_back c (x ∷ xs) ys u = or_right (nat_eq c x) _ (among_back c xs ys u)
+
+-- in each whose end is among its items, too
+pub ends_inside : (roots : ℕ) (bs : List Branch) (n : ℕ) (b : Branch) (c : ℕ) → StandsInside roots bs n b → IsTrue (is_among c (ends_of b.items)) → IsTrue (is_among c b.inside)
+ends_inside roots bs n b c (as_root lt e) u = subst (λ i. IsTrue (is_among c i)) (sym e) u
+ends_inside roots bs n b c (as_child m p ch ep e) u = subst (λ i. IsTrue (is_among c i)) (sym e) (among_front c (ends_of b.items) p.inside u)
+
+module _ (roots : ℕ) (bs : List Branch) (f : IsForest roots bs) (h : EachInside roots bs) (c : ℕ) where
+  one_below : (m n : ℕ) (p b : Branch) → IsChild bs m n → slice_get bs m ≡ Some p → StandsInside roots bs n b → IsTrue (is_among c p.inside) → IsTrue (is_among c b.inside)
+  one_below m n p b ch ep (as_root lt e) u =
+      let g = f.family m n ch.parent ch.from ch.count ch.is ch.waiting in
+      let l = g.1 in
+      let k = ch.least in
+      absurd (omega arith)
+  one_below m n p b ch ep (as_child l q dh eq e) u =
+      let same : l ≡ m = f.one_parent l m n dh ch in
+      let is : q ≡ p = some_given (sym eq ∙ ap (slice_get bs) same ∙ ep) in
+      subst (λ i. IsTrue (is_among c i)) (sym e) (among_back c (ends_of b.items) q.inside (subst (λ d. IsTrue (is_among c d.inside)) (sym is) u))
+
+  pub above_stands : (m n : ℕ) (p : Branch) → Above bs m n → slice_get bs m ≡ Some p → StandsInside roots bs m p
+  above_stands m n p (directly ch) ep = waiting_stands roots bs f h m n p ch ep
+  above_stands m n p (further {k = k} ch a) ep = waiting_stands roots bs f h m k p ch ep
+
+  pub all_below : (m n : ℕ) (p b : Branch) → Above bs m n → slice_get bs m ≡ Some p → StandsInside roots bs n b → IsTrue (is_among c p.inside) → IsTrue (is_among c b.inside)
+  all_below m n p b (directly ch) ep s u = one_below m n p b ch ep s u
+  all_below m n p b (further {k = k} ch a) ep s u =
+      let q = above_first bs a in
+      all_below k n q.0 b a q.1 s (one_below m k p q.0 ch ep (above_stands k n q.0 a q.1) u)

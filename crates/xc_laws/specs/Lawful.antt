@@ -27,7 +27,7 @@ use Rattle.xw_words.specs.declared.pos.Pos.{Pos}
 use Rattle.xw_words.specs.declared.pos.Broken.{Broken}
 use Rattle.xc_laws.specs.Every.{EveryItem}
 use Rattle.xc_laws.specs.Each.{EachItem, EachBranch}
-use Rattle.xc_laws.specs.Tree.{IsWaiting, IsForest, Unrelated}
+use Rattle.xc_laws.specs.Tree.{Above, IsWaiting, IsForest, Unrelated}
 use Rattle.xc_laws.specs.Rules.{AnyThing, AnyPar, AnyTransaction, AllApart, AreApart, IsApart}
 use Rattle.xc_laws.specs.Sided.{SidedAt, Differ, OtherSides, IsSided}
 use Rattle.xc_laws.specs.Needs.{HasBudget, taken_on, needed_on, AreOnce, IsIn, TakesOn, total_of, takes_at, RootCores}
@@ -134,6 +134,17 @@ InnermostEnds =
     (n : ℕ) (b : Branch) → slice_get x.branches n ≡ Some b → b.mode ≡ runs →
     (c : ℕ) (is_master : Bool) (pos : Pos) (rest : List Item) →
     b.items ≡ transaction_end c is_master pos ∷ rest → (outer : List ℕ) × (b.inside ≡ c ∷ outer)
+
+-- While a transaction's end is among the items of a branch, each running branch that uses the channel on the same side stands in the
+-- transaction: it is the branch itself, or one below it.
+abbrev pub UsersAreInside : Type 0
+UsersAreInside =
+    (K : kernel.Kernel) (s : Stim) (ms : List Action) (x : World) → IsChecked K →
+    kernel_run K s ms ≡ Some x →
+    (m n : ℕ) (b d : Branch) → slice_get x.branches m ≡ Some b → slice_get x.branches n ≡ Some d → d.mode ≡ runs →
+    (c : ℕ) → IsTrue (is_among c (ends_of b.items)) → side_of b c ≡ side_of d c →
+    IsTrue (by_items (channel c) d.items) →
+    ((n ≡ m) ⊎ Above x.branches m n) × IsTrue (is_among c d.inside)
 
 -- a channel is one of the kernel's
 abbrev pub Listed : kernel.Kernel → Thing → Type 0
