@@ -111,14 +111,15 @@ MarksStandOnce =
     (x : World) → Fresh x → (n : ℕ) (b : Branch) → slice_get x.branches n ≡ Some b → b.mode ≡ runs →
     (front rest : List Item) (k : ℕ) → b.items ≡ front ++ mark k ∷ rest → is_among k (marks_of rest) ≡ false
 
--- In each state of a checked kernel's runs each branch that runs or waits stands in the transactions whose ends are among its items,
--- and in those in which the one stands that waits for it.
+-- In each state of a checked kernel's runs each branch that runs or waits stands in the transactions
+-- whose ends are among its items, and in those in which the one stands that waits for it.
 abbrev pub InsideHolds : Type 0
 InsideHolds =
     (K : kernel.Kernel) (s : Stim) (ms : List Action) (x : World) → IsChecked K →
     kernel_run K s ms ≡ Some x → EachInside (length K.roots) x.branches
 
--- So the end of each transaction in which a branch stands is among its items, or among those of a branch above it.
+-- So the end of each transaction in which a branch stands is among its items, or among those of a
+-- branch above it.
 abbrev pub EndsAreBehind : Type 0
 EndsAreBehind =
     (K : kernel.Kernel) (s : Stim) (ms : List Action) (x : World) → IsChecked K →
@@ -135,13 +136,14 @@ InnermostEnds =
     (c : ℕ) (is_master : Bool) (pos : Pos) (rest : List Item) →
     b.items ≡ transaction_end c is_master pos ∷ rest → (outer : List ℕ) × (b.inside ≡ c ∷ outer)
 
--- While a transaction's end is among the items of a branch, each running branch that uses the channel on the same side stands in the
--- transaction: it is the branch itself, or one below it.
+-- While a transaction's end is among the items of a branch, each running branch that uses the channel
+-- on the same side stands in the transaction: it is the branch itself, or one below it.
 abbrev pub UsersAreInside : Type 0
 UsersAreInside =
     (K : kernel.Kernel) (s : Stim) (ms : List Action) (x : World) → IsChecked K →
     kernel_run K s ms ≡ Some x →
-    (m n : ℕ) (b d : Branch) → slice_get x.branches m ≡ Some b → slice_get x.branches n ≡ Some d → d.mode ≡ runs →
+    (m n : ℕ) (b d : Branch) → slice_get x.branches m ≡ Some b →
+    slice_get x.branches n ≡ Some d → d.mode ≡ runs →
     (c : ℕ) → IsTrue (is_among c (ends_of b.items)) → side_of b c ≡ side_of d c →
     IsTrue (by_items (channel c) d.items) →
     ((n ≡ m) ⊎ Above x.branches m n) × IsTrue (is_among c d.inside)

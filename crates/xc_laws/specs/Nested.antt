@@ -14,9 +14,11 @@ pub data StandsInside (roots : ℕ) (bs : List Branch) (n : ℕ) (b : Branch) : 
 
 -- so does each branch that runs or waits
 pub record EachInside (roots : ℕ) (bs : List Branch) : Type 0 where
-  pub each : (n : ℕ) (b : Branch) → slice_get bs n ≡ Some b → IfLively b.mode (StandsInside roots bs n b)
+  pub each : (n : ℕ) (b : Branch) → slice_get bs n ≡ Some b →
+      IfLively b.mode (StandsInside roots bs n b)
 
--- The end of a transaction on this channel is among the branch's items, or among those of one above it.
+-- The end of a transaction on this channel is among the branch's items, or among those of one above
+-- it.
 pub data EndIsBehind (bs : List Branch) (c n : ℕ) (b : Branch) : Type 0 where
   its_own : IsTrue (is_among c (ends_of b.items)) → EndIsBehind bs c n b
   above : (m : ℕ) (p : Branch) → Above bs m n → slice_get bs m ≡ Some p →
