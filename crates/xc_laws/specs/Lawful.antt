@@ -118,8 +118,8 @@ InsideHolds =
     (K : kernel.Kernel) (s : Stim) (ms : List Action) (x : World) → IsChecked K →
     kernel_run K s ms ≡ Some x → EachInside (length K.roots) x.branches
 
--- So the end of each transaction in which a branch stands is among its items, or among those of a
--- branch above it.
+-- So the end of each transaction in which a running branch stands is among its items, or among those
+-- of a branch above it.
 abbrev pub EndsAreBehind : Type 0
 EndsAreBehind =
     (K : kernel.Kernel) (s : Stim) (ms : List Action) (x : World) → IsChecked K →
@@ -127,7 +127,7 @@ EndsAreBehind =
     (n : ℕ) (b : Branch) → slice_get x.branches n ≡ Some b → b.mode ≡ runs →
     (c : ℕ) → IsTrue (is_among c b.inside) → EndIsBehind x.branches c n b
 
--- And what a branch ends next is the innermost transaction in which it stands.
+-- And what a running branch ends next is the innermost transaction in which it stands.
 abbrev pub InnermostEnds : Type 0
 InnermostEnds =
     (K : kernel.Kernel) (s : Stim) (ms : List Action) (x : World) → IsChecked K →

@@ -41,10 +41,10 @@ pub fn marks_stand_once()
 {}
 
 /// In the runs of a checked kernel each branch that runs or waits stands in the transactions whose
-/// ends are among its items, and in those in which the one stands that waits for it. So the end of
-/// each of its transactions is among its items or among those of a branch above it, what it ends
-/// next is the innermost, and a running branch that uses the channel on the same side stands in the
-/// transaction too.
+/// ends are among its items, and in those in which the one stands that waits for it. So where a
+/// branch runs, the end of each of its transactions is among its items or among those of a branch
+/// above it, and what it ends next is the innermost. While an end is among the items of a branch,
+/// each running branch that uses the channel on the same side stands in the transaction too.
 pub fn ends_stand_behind()
     ensures of_runs { InsideHolds }
     ensures behind { EndsAreBehind }
