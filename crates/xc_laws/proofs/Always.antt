@@ -198,7 +198,7 @@ marks_stand_once x h n b e em front rest k ei =
     let w = lively em (h.placed.each n b e) in once_behind front rest k (subst (PlacedItems IsFresh AnyInside) ei w.placed)
 
 -- where a transaction's end is among items, they use its channel
-ends_use : (c : ℕ) (items : List Item) → IsTrue (is_among c (ends_of items)) → IsTrue (by_items (channel c) items)
+pub ends_use : (c : ℕ) (items : List Item) → IsTrue (is_among c (ends_of items)) → IsTrue (by_items (channel c) items)
 ends_use c [] u = absurd (true≢false (sym u))
 ends_use c (transaction_end d is_master pos ∷ rest) u = ⊎_elim (λ v. or_left _ _ v) (λ v. or_right (nat_eq c d) _ (ends_use c rest v)) (or_cases _ _ u)
 ends_use c (does s ∷ rest) u = or_right (Rattle.xc_kernel.specs.Things.by_statement (channel c) s) _ (ends_use c rest u)
@@ -210,7 +210,7 @@ ends_use c (chooses choices otherwise ∷ rest) u = or_right (Rattle.xc_meaning.
 ends_use c (fixed i v counter ∷ rest) u = or_right (Rattle.xc_kernel.specs.Things.by_input (channel c) i) _ (ends_use c rest u)
 ends_use c (ends ∷ rest) u = ends_use c rest u
 
-differ_not : (a b : Option Side) → a ≡ b → Differ a b → ⊥
+pub differ_not : (a b : Option Side) → a ≡ b → Differ a b → ⊥
 differ_not a b e d = never_same b (subst (λ o. Differ o b) e d)
   where
     never_same : (b : Option Side) → Differ b b → ⊥

@@ -14,6 +14,7 @@ pub mod Sides
 pub mod Begins
 pub mod Needs
 pub mod Placed
+pub mod Nested
 pub mod Cores
 pub mod Always
 pub mod Unbroken

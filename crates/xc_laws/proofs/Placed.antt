@@ -30,7 +30,7 @@ use Rattle.xc_laws.proofs.Lookups.{born}
 use Rattle.xc_laws.specs.Lawful.{KernelsAt}
 use Rattle.xc_laws.proofs.Uses.{IsKernels, becomes_uses, made_uses, child_at, todo_uses, code_uses}
 
-lively_runs : (m : Mode) (A : Type 0) → m ≡ runs → A → IfLively m A
+pub lively_runs : (m : Mode) (A : Type 0) → m ≡ runs → A → IfLively m A
 lively_runs m A e h = subst (λ n. IfLively n A) (sym e) h
 
 pub among_append : (c : ℕ) (xs ys : List ℕ) → IsTrue (is_among c (xs ++ ys)) → IsTrue (is_among c xs) ⊎ IsTrue (is_among c ys)
@@ -122,9 +122,9 @@ module _ (B : ℕ → List ℕ → Type 0) (A : List ℕ → kernel.Branches →
       subst (λ a. (PlacedStatements B A) a (open_of items) (ends_of items) ss) (sym k.marks) (subst (λ a. (PlacedStatements B A) (marks_of rest) a (ends_of items) ss) (sym k.opened) (subst (λ a. (PlacedStatements B A) (marks_of rest) (open_of rest) a ss) (sym k.ends) h))
 
   -- what a step leaves of well placed items
-  record Stays (item : Item) (rest items : List Item) : Type 0 where
-    fine : Fine items
-    ends : ends_of items ≡ ends_of (item ∷ rest)
+  pub record Stays (item : Item) (rest items : List Item) : Type 0 where
+    pub fine : Fine items
+    pub ends : ends_of items ≡ ends_of (item ∷ rest)
 
   by_same : {item : Item} {rest items : List Item} → SameBehind items rest → ends_of (item ∷ rest) ≡ ends_of rest → Stays item rest items
   by_same k e = record { fine = fine_of k; ends = k.ends ∙ sym e }
@@ -149,7 +149,7 @@ module _ (B : ℕ → List ℕ → Type 0) (A : List ℕ → kernel.Branches →
     placed_default kernel.no_default h = tt
     placed_default (kernel.default ss) h = h
 
-  left_stays : (rest : List Item) (item : Item) (items : List Item) → Leaves rest item items → (PlacedItems B A) (item ∷ rest) → EndsWell (item ∷ rest) → Stays item rest items
+  pub left_stays : (rest : List Item) (item : Item) (items : List Item) → Leaves rest item items → (PlacedItems B A) (item ∷ rest) → EndsWell (item ∷ rest) → Stays item rest items
   left_stays rest item items (passed one p) h g = passed_stays one rest p h g
   left_stays rest item items (sent o v) h g = by_same (placed_storing o.stamp v rest (record { placed = h.1; ended = g })) refl
   left_stays rest item items (offered o c pos e) h g = record { fine = record { placed = (tt, h.1); ended = g }; ends = refl }
@@ -189,32 +189,32 @@ module _ (B : ℕ → List ℕ → Type 0) (A : List ℕ → kernel.Branches →
       record { fine = record { placed = (tt, k.placed); ended = k.ended }; ends = k.ends }
   left_stays rest item items (defaulted choices body) h g = by_same (placed_body body rest h.0.1 (record { placed = h.1; ended = g })) refl
 
-  record Entered (item : Item) (rest : List Item) (c : ℕ) (items : List Item) : Type 0 where
-    fine : Fine items
-    ends : ends_of items ≡ c ∷ ends_of (item ∷ rest)
+  pub record Entered (item : Item) (rest : List Item) (c : ℕ) (items : List Item) : Type 0 where
+    pub fine : Fine items
+    pub ends : ends_of items ≡ c ∷ ends_of (item ∷ rest)
 
-  entered_stays : (rest : List Item) (item : Item) (c : ℕ) (items : List Item) → Enters rest item c items → (PlacedItems B A) (item ∷ rest) → EndsWell (item ∷ rest) → Entered item rest c items
+  pub entered_stays : (rest : List Item) (item : Item) (c : ℕ) (items : List Item) → Enters rest item c items → (PlacedItems B A) (item ∷ rest) → EndsWell (item ∷ rest) → Entered item rest c items
   entered_stays rest item c items (outline.Enters.as_master d ss start close) h g =
       let k = placed_todo ss (transaction_end d true close ∷ rest) h.0 (record { placed = (tt, h.1); ended = g }) in record { fine = record { placed = (tt, k.placed); ended = k.ended }; ends = k.ends }
   entered_stays rest item c items (outline.Enters.as_slave d ss start close) h g =
       let k = placed_todo ss (transaction_end d false close ∷ rest) h.0 (record { placed = (tt, h.1); ended = g }) in record { fine = fine_of k; ends = k.ends }
 
-  record Exited (item : Item) (rest : List Item) (items : List Item) : Type 0 where
-    channel : ℕ
-    fine : Fine items
-    ends : channel ∷ ends_of items ≡ ends_of (item ∷ rest)
+  pub record Exited (item : Item) (rest : List Item) (items : List Item) : Type 0 where
+    pub channel : ℕ
+    pub fine : Fine items
+    pub ends : channel ∷ ends_of items ≡ ends_of (item ∷ rest)
 
-  exited_stays : (rest : List Item) (item : Item) (items : List Item) → Exits rest item items → (PlacedItems B A) (item ∷ rest) → EndsWell (item ∷ rest) → Exited item rest items
+  pub exited_stays : (rest : List Item) (item : Item) (items : List Item) → Exits rest item items → (PlacedItems B A) (item ∷ rest) → EndsWell (item ∷ rest) → Exited item rest items
   exited_stays rest item items (outline.Exits.as_master c pos) h g = record { channel = c; fine = record { placed = (tt, h.1); ended = g }; ends = refl }
   exited_stays rest item items (outline.Exits.as_slave c pos) h g = record { channel = c; fine = record { placed = h.1; ended = g }; ends = refl }
 
   -- Branches.
 
   module _ (s : Setting) (item : Item) (now : Branch) (more : List Branch) (h : (WellPlaced B A) s.branch) (ei : s.branch.items ≡ item ∷ s.rest) where
-    its_placed : (PlacedItems B A) (item ∷ s.rest)
+    pub its_placed : (PlacedItems B A) (item ∷ s.rest)
     its_placed = subst (PlacedItems B A) ei h.placed
 
-    its_ended : EndsWell (item ∷ s.rest)
+    pub its_ended : EndsWell (item ∷ s.rest)
     its_ended = subst EndsWell ei h.ended
 
     its_inside : s.branch.inside ≡ ends_of (item ∷ s.rest) ++ h.inside.outer
@@ -223,13 +223,13 @@ module _ (B : ℕ → List ℕ → Type 0) (A : List ℕ → kernel.Branches →
     placed_now : Fine now.items → now.inside ≡ ends_of now.items ++ h.inside.outer → (WellPlaced B A) now
     placed_now f e = record { placed = f.placed; ended = f.ended; inside = record { outer = h.inside.outer; is = e } }
 
-  placed_begun : (bs : kernel.Branches) (j : ℕ) (ss : kernel.Statements) → code_at bs j ≡ Some ss → (PlacedBranches B A) bs → (PlacedStatements B A) [] [] [] ss
+  pub placed_begun : (bs : kernel.Branches) (j : ℕ) (ss : kernel.Statements) → code_at bs j ≡ Some ss → (PlacedBranches B A) bs → (PlacedStatements B A) [] [] [] ss
   placed_begun kernel.no_branch j ss e h = none_given e
   placed_begun (kernel.more_branches (kernel.branch a pos) bs) zero ss e h = subst ((PlacedStatements B A) [] [] []) (some_given e) h.0
   placed_begun (kernel.more_branches (kernel.branch a pos) bs) (suc j) ss e h = placed_begun bs j ss e h.1
 
   -- what a new branch has to do
-  begins_placed : (ss : kernel.Statements) → (PlacedStatements B A) [] [] [] ss → SameBehind (todo ss (ends ∷ [])) (ends ∷ [])
+  pub begins_placed : (ss : kernel.Statements) → (PlacedStatements B A) [] [] [] ss → SameBehind (todo ss (ends ∷ [])) (ends ∷ [])
   begins_placed ss h = placed_todo ss (ends ∷ []) h (record { placed = (tt, tt); ended = tt })
 
   -- by the transactions that it stood in

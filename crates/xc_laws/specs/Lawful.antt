@@ -23,14 +23,16 @@ use Rattle.xc_meaning.specs.Outline.{Outlined}
 use Rattle.xc_disjoint.specs.Disjoint.{NotApart}
 use Rattle.xc_disjoint.specs.Checked.{IsChecked}
 use Rattle.xc_laws.specs.Channels.{IsListed}
+use Rattle.xw_words.specs.declared.pos.Pos.{Pos}
 use Rattle.xw_words.specs.declared.pos.Broken.{Broken}
 use Rattle.xc_laws.specs.Every.{EveryItem}
 use Rattle.xc_laws.specs.Each.{EachItem, EachBranch}
-use Rattle.xc_laws.specs.Tree.{IsWaiting, IsForest, Unrelated}
+use Rattle.xc_laws.specs.Tree.{Above, IsWaiting, IsForest, Unrelated}
 use Rattle.xc_laws.specs.Rules.{AnyThing, AnyPar, AnyTransaction, AllApart, AreApart, IsApart}
 use Rattle.xc_laws.specs.Sided.{SidedAt, Differ, OtherSides, IsSided}
 use Rattle.xc_laws.specs.Needs.{HasBudget, taken_on, needed_on, AreOnce, IsIn, TakesOn, total_of, takes_at, RootCores}
 use Rattle.xc_laws.specs.Placed.{AnyBlock, AnyInside, IsFresh, AreUnused, marks_of, ends_of, open_of, EndsWell, EachPlaced, EachAlone, IsPlaced}
+use Rattle.xc_laws.specs.Nested.{EachInside, EndIsBehind}
 use Rattle.xc_laws.specs.Cores.{UsesHere, IsHere, Grows}
 
 -- what the rules promise of a kernel
@@ -108,6 +110,43 @@ abbrev pub MarksStandOnce : Type 0
 MarksStandOnce =
     (x : World) → Fresh x → (n : ℕ) (b : Branch) → slice_get x.branches n ≡ Some b → b.mode ≡ runs →
     (front rest : List Item) (k : ℕ) → b.items ≡ front ++ mark k ∷ rest → is_among k (marks_of rest) ≡ false
+
+-- In each state of a checked kernel's runs each branch that runs or waits stands in the transactions
+-- whose ends are among its items, and in those in which the one stands that waits for it.
+abbrev pub InsideHolds : Type 0
+InsideHolds =
+    (K : kernel.Kernel) (s : Stim) (ms : List Action) (x : World) → IsChecked K →
+    kernel_run K s ms ≡ Some x → EachInside (length K.roots) x.branches
+
+-- So the end of each transaction in which a running branch stands is among its items, or among those
+-- of a branch above it.
+abbrev pub EndsAreBehind : Type 0
+EndsAreBehind =
+    (K : kernel.Kernel) (s : Stim) (ms : List Action) (x : World) → IsChecked K →
+    kernel_run K s ms ≡ Some x →
+    (n : ℕ) (b : Branch) → slice_get x.branches n ≡ Some b → b.mode ≡ runs →
+    (c : ℕ) → IsTrue (is_among c b.inside) → EndIsBehind x.branches c n b
+
+-- And what a running branch ends next is the innermost transaction in which it stands.
+abbrev pub InnermostEnds : Type 0
+InnermostEnds =
+    (K : kernel.Kernel) (s : Stim) (ms : List Action) (x : World) → IsChecked K →
+    kernel_run K s ms ≡ Some x →
+    (n : ℕ) (b : Branch) → slice_get x.branches n ≡ Some b → b.mode ≡ runs →
+    (c : ℕ) (is_master : Bool) (pos : Pos) (rest : List Item) →
+    b.items ≡ transaction_end c is_master pos ∷ rest → (outer : List ℕ) × (b.inside ≡ c ∷ outer)
+
+-- While a transaction's end is among the items of a branch, each running branch that uses the channel
+-- on the same side stands in the transaction: it is the branch itself, or one below it.
+abbrev pub UsersAreInside : Type 0
+UsersAreInside =
+    (K : kernel.Kernel) (s : Stim) (ms : List Action) (x : World) → IsChecked K →
+    kernel_run K s ms ≡ Some x →
+    (m n : ℕ) (b d : Branch) → slice_get x.branches m ≡ Some b →
+    slice_get x.branches n ≡ Some d → d.mode ≡ runs →
+    (c : ℕ) → IsTrue (is_among c (ends_of b.items)) → side_of b c ≡ side_of d c →
+    IsTrue (by_items (channel c) d.items) →
+    ((n ≡ m) ⊎ Above x.branches m n) × IsTrue (is_among c d.inside)
 
 -- a channel is one of the kernel's
 abbrev pub Listed : kernel.Kernel → Thing → Type 0

@@ -5,6 +5,7 @@ pub mod Rules
 pub mod Sided
 pub mod Needs
 pub mod Placed
+pub mod Nested
 pub mod Cores
 pub mod Lawful
 pub mod Frames

@@ -1,6 +1,6 @@
 //! The laws, as contracts of functions that do nothing.
 
-ghost use Rattle.xc_laws.specs.Lawful.{AcceptedObey, AloneInside, BranchesFit, BranchesStay, CheckedListed, CheckedObey, CopiesArePlaced, EachGoesOn, EachHasSide, FootprintsShrink, FreshHolds, InsideIsOwn, KernelsAreListed, LawsAreKept, LawsBegin, LawsHold, ListedHolds, MarksStandOnce, NoneClash, OneOnEachSide, OthersAreLeft, PortsAreHere, ThreadsSuffice, TidyLawsHold, UnbrokenIsApart, UnbrokenIsSided};
+ghost use Rattle.xc_laws.specs.Lawful.{AcceptedObey, AloneInside, BranchesFit, BranchesStay, CheckedListed, CheckedObey, CopiesArePlaced, EachGoesOn, EachHasSide, EndsAreBehind, FootprintsShrink, FreshHolds, InnermostEnds, InsideHolds, InsideIsOwn, KernelsAreListed, LawsAreKept, LawsBegin, LawsHold, ListedHolds, MarksStandOnce, NoneClash, OneOnEachSide, OthersAreLeft, PortsAreHere, ThreadsSuffice, TidyLawsHold, UnbrokenIsApart, UnbrokenIsSided, UsersAreInside};
 
 /// The laws hold at the start of each kernel that obeys the rules, and each step keeps them.
 #[tactic(auto, using(crate::proofs::Always::laws_begin, crate::proofs::Always::laws_kept))]
@@ -38,6 +38,18 @@ pub fn each_has_side()
 pub fn marks_stand_once()
     ensures of_runs { FreshHolds }
     ensures once { MarksStandOnce }
+{}
+
+/// In the runs of a checked kernel each branch that runs or waits stands in the transactions whose
+/// ends are among its items, and in those in which the one stands that waits for it. So where a
+/// branch runs, the end of each of its transactions is among its items or among those of a branch
+/// above it, and what it ends next is the innermost. While an end is among the items of a branch,
+/// each running branch that uses the channel on the same side stands in the transaction too.
+pub fn ends_stand_behind()
+    ensures of_runs { InsideHolds }
+    ensures behind { EndsAreBehind }
+    ensures innermost { InnermostEnds }
+    ensures users { UsersAreInside }
 {}
 
 /// Where besides no `par` uses a channel of a transaction around it, each state of a run is tidy: a branch that runs stands in a
