@@ -6,6 +6,8 @@ pub mod Functions
 pub mod FineSites
 pub mod Shaped
 pub mod Grammar
+pub mod Strays
+pub mod Leaks
 pub mod Shallow
 pub mod Talks
 pub mod Walk

@@ -15,8 +15,8 @@ pub record IsListed (vs : List Var) (number : ℕ) : Type 0 where
   pub variable : Var
   pub there : slice_get vs number ≡ Some variable
 
--- a word is that of a variable that is no array, and an element that of one that is
-module _ (vs : List Var) where
+-- V of the variable of each word, which is no array, and of each element, which is one
+module _ (V : (number : ℕ) (is_array : Bool) → Type 0) where
   abbrev mutual
     pub NumbersInExpression : kernel.Expression → Type 0
     NumbersInExpression (kernel.number v) = Unit {0}
@@ -28,13 +28,14 @@ module _ (vs : List Var) where
     NumbersInOperands (kernel.more_operands e es) = NumbersInExpression e × NumbersInOperands es
 
     pub NumbersInPlace : kernel.Place → Type 0
-    NumbersInPlace (kernel.word v) = IsVariable vs v false
-    NumbersInPlace (kernel.element v i pos) = IsVariable vs v true × NumbersInExpression i
+    NumbersInPlace (kernel.word v) = V v false
+    NumbersInPlace (kernel.element v i pos) = V v true × NumbersInExpression i
 
--- so is it in all code of a kernel
+-- in all code of a kernel a word is that of a variable that is no array, and an element that of one
+-- that is
 abbrev pub VariablesAreRight : kernel.Kernel → Type 0
 VariablesAreRight k =
-    EachRoot (NumbersInExpression k.variables) (NumbersInPlace k.variables) (IsListed k.variables) AnyOutput AnyInput AnyNumber k.roots
+    EachRoot (NumbersInExpression (IsVariable k.variables)) (NumbersInPlace (IsVariable k.variables)) (IsListed k.variables) AnyOutput AnyInput AnyNumber k.roots
 
 -- a channel of a kernel
 abbrev pub IsChannel : kernel.Kernel → ℕ → Type 0
