@@ -16,11 +16,13 @@ use Rattle.xc_formed.specs.Operands.{HasOperands, PlaceHasOperands, OperandsAreR
 use Rattle.xc_formed.specs.Levels.{IsLow, IsLowPlace, LevelsAreFew}
 use Rattle.xc_formed.specs.Transfers.{GoesOut, ComesIn, TransfersAreRight, TransactionsAreListed}
 use Rattle.xc_formed.specs.Exits.{ExitsAreInside}
+use Rattle.xc_formed.specs.Cores.{CoresAreRight}
 use Rattle.xc_formed.specs.Rising.{IsRising}
-use Rattle.xc_formed.specs.Laws.{VariablesRight, OperandsRight, LevelsFew, TransfersRight, TransactionsListed, ExitsInside, KernelsWellFormed, KernelsOfProgramsWellFormed}
+use Rattle.xc_formed.specs.Laws.{VariablesRight, OperandsRight, LevelsFew, TransfersRight, TransactionsListed, ExitsInside, CoresRight, KernelsWellFormed, KernelsOfProgramsWellFormed}
 use Rattle.xc_formed.proofs.Rising.{of_text}
 use Rattle.xc_formed.proofs.Right.{Lower, IsRight, IsRightPlace, IsOne, right_leaves}
 use Rattle.xc_formed.proofs.Weaker.{each_root}
+use Rattle.xc_formed.proofs.Cores as cores
 use Rattle.xc_formed.proofs.Program.{roots_alike, roots_leave_alike}
 
 module _ (P : List tree.Item) (n : NamedProgram) (types : List Bool) (typed : IsTyped P n types) (rising : IsRising P) (low : depth.of_program P ≤ deepest) where
@@ -81,6 +83,9 @@ transactions_listed P n types K typed low c = subst TransactionsAreListed (sym c
 pub exits_inside : ExitsInside
 exits_inside P n types K typed low c = subst ExitsAreInside (sym c.is_copy) (exits P n types typed (of_text P typed.text) low)
 
+pub cores_right : CoresRight
+cores_right P n types K typed low c = subst CoresAreRight (sym c.is_copy) (cores.cores_right P n types typed (of_text P typed.text) low)
+
 pub well_formed : KernelsWellFormed
 well_formed P n types K typed low c = record {
   variables = variables_right P n types K typed low c;
@@ -89,6 +94,7 @@ well_formed P n types K typed low c = record {
   transfers = transfers_right P n types K typed low c;
   transactions = transactions_listed P n types K typed low c;
   exits = exits_inside P n types K typed low c;
+  cores = cores_right P n types K typed low c;
 }
 
 pub of_programs : KernelsOfProgramsWellFormed

@@ -24,6 +24,7 @@ pub mod Transferred
 pub mod Low
 pub mod Right
 pub mod Program
+pub mod Cores
 pub mod Weaker
 pub mod Formed
 pub mod Gives

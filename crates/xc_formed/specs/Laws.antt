@@ -16,6 +16,7 @@ use Rattle.xc_formed.specs.Operands.{OperandsAreRight}
 use Rattle.xc_formed.specs.Levels.{LevelsAreFew}
 use Rattle.xc_formed.specs.Transfers.{TransfersAreRight, TransactionsAreListed}
 use Rattle.xc_formed.specs.Exits.{ExitsAreInside}
+use Rattle.xc_formed.specs.Cores.{CoresAreRight}
 use Rattle.xc_formed.specs.WellFormed.{IsWellFormed}
 use Rattle.xc_formed.specs.Rising.{TokensRise}
 use Rattle.xc_formed.specs.Once.{NoneTwice}
@@ -74,6 +75,9 @@ TransactionsListed = OfEachKernel TransactionsAreListed
 
 abbrev pub ExitsInside : Type 0
 ExitsInside = OfEachKernel ExitsAreInside
+
+abbrev pub CoresRight : Type 0
+CoresRight = OfEachKernel CoresAreRight
 
 -- So it is whole,
 abbrev pub KernelsWellFormed : Type 0

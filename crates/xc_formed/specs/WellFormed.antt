@@ -5,6 +5,7 @@ use Rattle.xc_formed.specs.Operands.{OperandsAreRight}
 use Rattle.xc_formed.specs.Levels.{LevelsAreFew}
 use Rattle.xc_formed.specs.Transfers.{TransfersAreRight, TransactionsAreListed}
 use Rattle.xc_formed.specs.Exits.{ExitsAreInside}
+use Rattle.xc_formed.specs.Cores.{CoresAreRight}
 
 pub record IsWellFormed (k : kernel.Kernel) : Type 0 where
   -- each word is of a listed variable that is no array, and each element of one that is
@@ -21,3 +22,6 @@ pub record IsWellFormed (k : kernel.Kernel) : Type 0 where
   -- what is left is a block around, in the same branch and transaction, and no two blocks around
   -- one place have one number
   pub exits : ExitsAreInside k
+  -- each timer that a root uses is on the root's core, and so is each variable that no root on
+  -- another core changes
+  pub cores : CoresAreRight k
