@@ -18,11 +18,12 @@ use Rattle.xc_formed.specs.Transfers.{GoesOut, ComesIn, TransfersAreRight, Trans
 use Rattle.xc_formed.specs.Exits.{ExitsAreInside}
 use Rattle.xc_formed.specs.Cores.{CoresAreRight}
 use Rattle.xc_formed.specs.Rising.{IsRising}
-use Rattle.xc_formed.specs.Laws.{VariablesRight, OperandsRight, LevelsFew, TransfersRight, TransactionsListed, ExitsInside, CoresRight, KernelsWellFormed, KernelsOfProgramsWellFormed}
+use Rattle.xc_formed.specs.Laws.{VariablesRight, OperandsRight, LevelsFew, TransfersRight, TransactionsListed, ExitsInside, CoresRight, CoresOwn, KernelsWellFormed, KernelsOfProgramsWellFormed}
 use Rattle.xc_formed.proofs.Rising.{of_text}
 use Rattle.xc_formed.proofs.Right.{Lower, IsRight, IsRightPlace, IsOne, right_leaves}
 use Rattle.xc_formed.proofs.Weaker.{each_root}
 use Rattle.xc_formed.proofs.Cores as cores
+use Rattle.xc_formed.proofs.Own.{own}
 use Rattle.xc_formed.proofs.Program.{roots_alike, roots_leave_alike}
 
 module _ (P : List tree.Item) (n : NamedProgram) (types : List Bool) (typed : IsTyped P n types) (rising : IsRising P) (low : depth.of_program P ≤ deepest) where
@@ -99,3 +100,6 @@ well_formed P n types K typed low c = record {
 
 pub of_programs : KernelsOfProgramsWellFormed
 of_programs K o = well_formed o.program o.sound.named o.sound.types K o.sound.typed o.shallow o.copies
+
+pub cores_own : CoresOwn
+cores_own K h apart = own K apart h.cores

@@ -25,6 +25,7 @@ pub mod Low
 pub mod Right
 pub mod Program
 pub mod Cores
+pub mod Own
 pub mod Weaker
 pub mod Formed
 pub mod Gives

@@ -50,3 +50,19 @@ EachUseOn k V =
 -- another core changes
 abbrev pub CoresAreRight : kernel.Kernel → Type 0
 CoresAreRight k = EachUseOn k (VariableOn k.variables k.roots)
+
+-- the variable of this number is on this core
+pub record IsOn (vs : List Var) (core number : ℕ) : Type 0 where
+  pub variable : Var
+  pub there : slice_get vs number ≡ Some variable
+  pub place : variable.core ≡ core
+
+-- no variable that a root changes is used by a root on another core
+abbrev pub RootsKeepApart : kernel.Kernel → Type 0
+RootsKeepApart k =
+    (a b : kernel.Root) (v : ℕ) → Contains k.roots a → Contains k.roots b →
+    by_statements (change v) a.body ≡ true → by_statements (variable v) b.body ≡ true → a.core ≡ b.core
+
+-- each variable and each timer that a root uses is on the root's core
+abbrev pub CoresAreOwn : kernel.Kernel → Type 0
+CoresAreOwn k = EachUseOn k (IsOn k.variables)
