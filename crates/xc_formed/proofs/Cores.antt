@@ -1,5 +1,5 @@
 -- What a root uses is on its core.
-use Rattle.std.proofs.Common.{◌≡◌, ◌≤◌, inl, inr, ℕ, suc, ◌+◌, Bool, true, List, [], ◌∷◌, map, Contains, Option, Some, slice_get, refl, ap, subst, ◌∙◌, arith}
+use Rattle.std.proofs.Common.{◌≡◌, ◌≤◌, inl, inr, ℕ, suc, ◌+◌, Bool, true, false, List, [], ◌∷◌, map, Contains, Option, Some, slice_get, refl, ap, subst, ◌∙◌, arith}
 use Rattle.xc_tree.specs.Plain as tree
 use Rattle.xc_tree.specs.Depth as depth
 use Rattle.xc_tree.specs.Derives.{deepest}
@@ -41,8 +41,8 @@ module _ (n : NamedProgram) (fs : List Function) (ps : List PortUse) (num : Numb
     abbrev On : ℕ → Bool → Type 0
     On v is_array = VariableOn num.variables rs here v
 
-    on : (path : Path) (b : Bool) → HasVariable num (PathOn here) path b → On (variable_number num path) b
-    on path b h = h.holds
+    on : (path : Path) (b : Bool) (words : ℕ) → (b ≡ false → words ≡ 1) → HasVariable num (PathOn here) path b words → On (variable_number num path) b
+    on path b words one h = h.holds
 
     resource_on : (t : List ℕ) (w : Option What) (x : Entity) → Stands n fs ps num (PathOn here) (TimerPathOn here) t w x → ResourceOn num.timers here (resource_of num x)
     resource_on t _ _ (the_timer h) = h.1
@@ -70,7 +70,7 @@ module _ (n : NamedProgram) (fs : List Function) (ps : List PortUse) (num : Numb
       one = tt;
       word = λ path h. h.holds;
       read_word = λ path h. h.holds;
-      zero_in = λ path b h. h.holds;
+      zero_in = λ path b words h. h.holds;
       going_out = λ c scope o k st e a r g. subst (λ (m : Numbering). ResourceOn num.timers here (resource_of m (entity_of scope o.name.text))) (Rattle.std.proofs.Common.sym e) (resource_on o.name.text _ _ (a o.name.text).0);
       coming_in = λ c scope i k st e a r g x. subst (λ (m : Numbering). ResourceOn num.timers here (resource_of m (entity_of scope i.name.text))) (Rattle.std.proofs.Common.sym e) (resource_on i.name.text _ _ (a i.name.text).0);
       transacting = λ path h. tt;

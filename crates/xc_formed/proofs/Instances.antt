@@ -136,9 +136,9 @@ module _ (copy : Copy) where
   own = numbering_in copy
 
   module _ (H J : ℕ → Path → Type 0) where
-    pub variables_made : ((v : Var) → IsAt path_of_variable own.variables v → H v.core v.path) → NoneTwice copy → AllIn (λ (v : Var). HasVariable own (H v.core) v.path v.array) copy.variables
-    variables_made holds differ = all_also path_of_variable (IsAt path_of_variable own.variables) (λ (v : Var). HasVariable own (H v.core) v.path v.array) copy.variables
-        (λ v e. record { variable = v; there = e; array = refl; holds = holds v e }) (each_listed path_of_variable copy.variables differ.variables)
+    pub variables_made : ((v : Var) → IsAt path_of_variable own.variables v → H v.core v.path) → NoneTwice copy → AllIn (λ (v : Var). HasVariable own (H v.core) v.path v.array v.words) copy.variables
+    variables_made holds differ = all_also path_of_variable (IsAt path_of_variable own.variables) (λ (v : Var). HasVariable own (H v.core) v.path v.array v.words) copy.variables
+        (λ v e. record { variable = v; there = e; array = refl; long = refl; holds = holds v e }) (each_listed path_of_variable copy.variables differ.variables)
 
     pub timers_made : ((t : Timer) → IsAt path_of_timer own.timers t → J t.core t.path) → NoneTwice copy → AllIn (λ (t : Timer). HasTimer own (J t.core) t.path) copy.timers
     timers_made holds differ = both_of copy.timers (all_also path_of_timer (λ t. has_path path_of_timer own.timers t.path ≡ true) (λ t. timer_number own t.path < length own.timers) copy.timers (λ t h. below path_of_timer own.timers t.path h) (all_there path_of_timer copy.timers [])) (each_listed path_of_timer copy.timers differ.timers)
@@ -154,9 +154,9 @@ module _ (copy : Copy) where
   blocks_made = all_there path_of_block copy.blocks []
 
 -- of a program
-pub program_variables : (P : List tree.Item) (H J : ℕ → Path → Type 0) → ((v : Var) → IsAt path_of_variable (numbering P).variables v → H v.core v.path) → NoneTwice (rooted P (numbering P)).made → AllIn (λ (v : Var). HasVariable (numbering P) (H v.core) v.path v.array) (rooted P (numbering P)).made.variables
+pub program_variables : (P : List tree.Item) (H J : ℕ → Path → Type 0) → ((v : Var) → IsAt path_of_variable (numbering P).variables v → H v.core v.path) → NoneTwice (rooted P (numbering P)).made → AllIn (λ (v : Var). HasVariable (numbering P) (H v.core) v.path v.array v.words) (rooted P (numbering P)).made.variables
 program_variables P H J =
-    subst (λ (m : Numbering). ((v : Var) → IsAt path_of_variable m.variables v → H v.core v.path) → NoneTwice (rooted P (numbering P)).made → AllIn (λ (v : Var). HasVariable m (H v.core) v.path v.array) (rooted P (numbering P)).made.variables) (numbering_is_own P (numbering P))
+    subst (λ (m : Numbering). ((v : Var) → IsAt path_of_variable m.variables v → H v.core v.path) → NoneTwice (rooted P (numbering P)).made → AllIn (λ (v : Var). HasVariable m (H v.core) v.path v.array v.words) (rooted P (numbering P)).made.variables) (numbering_is_own P (numbering P))
     (variables_made (rooted P (numbering P)).made H J)
 
 pub program_channels : (P : List tree.Item) → AllIn (λ (c : Chan). HasChannel (numbering P) c.path) (rooted P (numbering P)).made.channels

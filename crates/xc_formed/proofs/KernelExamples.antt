@@ -265,13 +265,13 @@ good_is = record {
     array_on = record { variable = an_array; there = refl; place = inl refl }
 
     a_word_there : Rattle.xc_formed.specs.Numbers.IsVariable (a_word ∷ an_array ∷ []) 0 false
-    a_word_there = record { variable = a_word; there = refl; array = refl }
+    a_word_there = record { variable = a_word; there = refl; array = refl; one_word = λ e. refl }
 
     an_array_there : Rattle.xc_formed.specs.Numbers.IsVariable (a_word ∷ an_array ∷ []) 1 true
-    an_array_there = record { variable = an_array; there = refl; array = refl }
+    an_array_there = record { variable = an_array; there = refl; array = refl; one_word = λ e. absurd (true≢false e) }
 
--- it has 37 parts: 5 words that are set to 0, each node, a reading and its place being two, and the root
-good_parts : of_roots good.variables good.roots ≡ 37
+-- it has 25 parts: 5 words that are set to 0, each node, a reading and its place being one, and the root
+good_parts : of_roots good.variables good.roots ≡ 25
 good_parts = refl
 
 some_array : (v w : Var) (b : Bool) → Some v ≡ Some w → w.array ≡ b → v.array ≡ b
@@ -292,6 +292,16 @@ element_of_word h = true≢false (sym (some_array a_word h.0.0.0.0.variable true
 
 not_listed : VariablesAreRight (with_code (kernel.set_zero 2 ∷ [])) → ⊥
 not_listed h = none_there h.0.0.variable h.0.0.there
+
+-- a word of a variable that is no array and has two words
+abbrev two_words : Var
+two_words = record a_word { words = 2 }
+
+word_of_two : VariablesAreRight (record (with_code (kernel.set (kernel.word 0) (kernel.number 1) ∷ [])) { variables = two_words ∷ [] }) → ⊥
+word_of_two h = let e : ◌≡◌ {A = ℕ} 2 1 = ap (λ (v : Var). v.words) (some_same two_words h.0.0.0.variable h.0.0.0.there) ∙ h.0.0.0.one_word refl in absurd (omega arith)
+  where
+    some_same : (a c : Var) → Some a ≡ Some c → a ≡ c
+    some_same a c q = cc
 
 -- three operands of a `+`, two of a `!`, and an operation by no operator
 three_added : OperandsAreRight (with_code (kernel.set (kernel.word 0) (operation symbols.plus (kernel.more_operands x (two x x))) ∷ [])) → ⊥

@@ -1,5 +1,5 @@
 -- The variables of expressions and places are right.
-use Rattle.std.proofs.Common.{◌≡◌, ℕ, ◌+◌, Bool, true, false, List, ◌++◌, Option, sym, true≢false}
+use Rattle.std.proofs.Common.{◌≡◌, ℕ, ◌+◌, Bool, true, false, List, ◌++◌, Option, refl, sym, true≢false}
 use Rattle.xw_words.specs.declared.pos.Pos.{Pos}
 use Rattle.xc_tree.specs.declared.names.What.{What}
 use Rattle.xc_tree.specs.Plain as tree
@@ -25,7 +25,7 @@ use Rattle.xc_formed.proofs.Walk.Arguments.{AllIn, split, IsFine, standing}
 pub no : {A : Type 0} → false ≡ true → A
 no e = absurd (true≢false (sym e))
 
-module _ (n : NamedProgram) (fs : List Function) (ps : List PortUse) (num : Numbering) (H J : ℕ → Path → Type 0) (here : ℕ) (W : ℕ → Bool → Type 0) (listed : (path : Path) (b : Bool) → HasVariable num (H here) path b → W (variable_number num path) b) where
+module _ (n : NamedProgram) (fs : List Function) (ps : List PortUse) (num : Numbering) (H J : ℕ → Path → Type 0) (here : ℕ) (W : ℕ → Bool → Type 0) (listed : (path : Path) (b : Bool) (words : ℕ) → (b ≡ false → words ≡ 1) → HasVariable num (H here) path b words → W (variable_number num path) b) where
   abbrev Known : Stack → Scope → Type 0
   Known st scope = Agrees n fs ps num (H here) (J here) st scope
 
@@ -34,9 +34,9 @@ module _ (n : NamedProgram) (fs : List Function) (ps : List PortUse) (num : Numb
 
 
   pub word_well : (t : List ℕ) (w : Option What) (x : Entity) (pos : Pos) → Standing t w x → is_word w ≡ true → NumbersInExpression W (word_of_entity num pos x)
-  word_well t _ _ pos (a_variable {path = path} h) e = listed path false h
-  word_well t _ _ pos (word_referred {path = path} h) e = listed path false h
-  word_well t _ _ pos (element_referred {path = path} {index = index} h g) e = (listed path true h, listed index false g)
+  word_well t _ _ pos (a_variable {path = path} h) e = listed path false 1 (λ q. refl) h
+  word_well t _ _ pos (word_referred {path = path} h) e = listed path false 1 (λ q. refl) h
+  word_well t _ _ pos (element_referred {m = m} {path = path} {index = index} h g) e = (listed path true m (λ q. absurd (true≢false q)) h, listed index false 1 (λ q. refl) g)
   word_well t _ _ pos the_index e = tt
   word_well t _ _ pos (whole_array h) e = no e
   word_well t _ _ pos (array_referred h) e = no e
@@ -49,9 +49,9 @@ module _ (n : NamedProgram) (fs : List Function) (ps : List PortUse) (num : Numb
   word_well t _ _ pos none_there e = no e
 
   pub place_well : (t : List ℕ) (w : Option What) (x : Entity) (pos : Pos) → Standing t w x → is_word w ≡ true → is_index w ≡ false → NumbersInPlace W (place_of_entity num pos x)
-  place_well t _ _ pos (a_variable {path = path} h) e i = listed path false h
-  place_well t _ _ pos (word_referred {path = path} h) e i = listed path false h
-  place_well t _ _ pos (element_referred {path = path} {index = index} h g) e i = (listed path true h, listed index false g)
+  place_well t _ _ pos (a_variable {path = path} h) e i = listed path false 1 (λ q. refl) h
+  place_well t _ _ pos (word_referred {path = path} h) e i = listed path false 1 (λ q. refl) h
+  place_well t _ _ pos (element_referred {m = m} {path = path} {index = index} h g) e i = (listed path true m (λ q. absurd (true≢false q)) h, listed index false 1 (λ q. refl) g)
   place_well t _ _ pos the_index e i = absurd (true≢false i)
   place_well t _ _ pos (whole_array h) e i = no e
   place_well t _ _ pos (array_referred h) e i = no e
@@ -64,8 +64,8 @@ module _ (n : NamedProgram) (fs : List Function) (ps : List PortUse) (num : Numb
   place_well t _ _ pos none_there e i = no e
 
   pub array_well : (t : List ℕ) (w : Option What) (x : Entity) → Standing t w x → is_array w ≡ true → W (array_number num x) true
-  array_well t _ _ (whole_array {path = path} h) e = listed path true h
-  array_well t _ _ (array_referred {path = path} h) e = listed path true h
+  array_well t _ _ (whole_array {m = m} {path = path} h) e = listed path true m (λ q. absurd (true≢false q)) h
+  array_well t _ _ (array_referred {m = m} {path = path} h) e = listed path true m (λ q. absurd (true≢false q)) h
   array_well t _ _ (a_variable h) e = no e
   array_well t _ _ (word_referred h) e = no e
   array_well t _ _ (element_referred h g) e = no e

@@ -1,5 +1,5 @@
 -- What is right in all code of a typed program's kernel, by its parts: variables, operands, levels and transfers.
-use Rattle.std.proofs.Common.{ℕ, Bool, ◌+◌, ◌<◌, ◌≤◌, false, List, length, refl, arith}
+use Rattle.std.proofs.Common.{◌≡◌, ◌∙◌, ℕ, Bool, ◌+◌, ◌<◌, ◌≤◌, false, List, length, refl, arith}
 use Rattle.xc_tree.specs.Plain as tree
 use Rattle.xc_tree.specs.Depth as depth
 use Rattle.xc_tree.specs.Derives.{deepest}
@@ -42,8 +42,8 @@ module _ (num : Numbering) where
   IsOne c = c < length num.channels
 
 module _ (n : NamedProgram) (fs : List Function) (ps : List PortUse) (num : Numbering) (H J : ℕ → Path → Type 0) (here : ℕ) where
-  listed : (path : Path) (b : Bool) → HasVariable num (H here) path b → IsVariable num.variables (variable_number num path) b
-  listed path b h = record { variable = h.variable; there = h.there; array = h.array }
+  listed : (path : Path) (b : Bool) (words : ℕ) → (b ≡ false → words ≡ 1) → HasVariable num (H here) path b words → IsVariable num.variables (variable_number num path) b
+  listed path b words one h = record { variable = h.variable; there = h.there; array = h.array; one_word = λ e. h.long ∙ one e }
 
   pub right_leaves : Leaves n fs ps num H J here IsShallow IsShallowLval Assigns (IsRight num) (Lower num) (IsRightPlace num) (IsListed num.variables) (OutGoes n fs ps num H J here) (InGoes n fs ps num H J here) (IsOne num)
   right_leaves = record {
@@ -66,9 +66,9 @@ module _ (n : NamedProgram) (fs : List Function) (ps : List PortUse) (num : Numb
     );
     testing = λ v h l pos. ((h.0, (tt, tt)), ((refl, (h.1.0, (tt, tt))), (let b = h.1.1 in omega arith)));
     one = (tt, (tt, omega arith));
-    word = λ path h. (listed path false h, (tt, omega arith));
-    read_word = λ path h. (listed path false h, (tt, omega arith));
-    zero_in = λ path b h. record { variable = h.variable; there = h.there };
+    word = λ path h. (listed path false 1 (λ e. refl) h, (tt, omega arith));
+    read_word = λ path h. (listed path false 1 (λ e. refl) h, (tt, omega arith));
+    zero_in = λ path b words h. record { variable = h.variable; there = h.there };
     going_out = out_leaf n fs ps num H J here;
     coming_in = in_leaf n fs ps num H J here;
     transacting = λ path h. h;

@@ -183,7 +183,7 @@ module _ (P : List tree.Item) (n : NamedProgram) where
     one = always;
     word = λ path h. own (record { path = path; variable = h; is = refl });
     read_word = λ path h. result (record { path = path; variable = h; is = refl });
-    zero_in = λ path b h. tt;
+    zero_in = λ path b words h. tt;
     going_out = λ c scope o k st e a r g. record { there = record { stack = st; scope = scope; agrees = a }; text = o; names = k; resolves = r; is = ap (λ (m : Numbering). resource_of m (entity_of scope o.name.text)) e };
     coming_in = λ c scope i k st e a r g x. record { there = record { stack = st; scope = scope; agrees = a }; text = i; names = k; resolves = r; is = ap (λ (m : Numbering). resource_of m (entity_of scope i.name.text)) e };
     transacting = λ path h. tt;

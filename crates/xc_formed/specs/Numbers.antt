@@ -4,11 +4,12 @@ use Rattle.xc_kernel.specs.declared.kernel.Var.{Var}
 use Rattle.xc_kernel.specs.Plain as kernel
 use Rattle.xc_formed.specs.Each.{AnyNumber, AnyOutput, AnyInput, EachRoot}
 
--- a variable of a list, an array or not
+-- a variable of a list: an array, or one word
 pub record IsVariable (vs : List Var) (number : ℕ) (is_array : Bool) : Type 0 where
   pub variable : Var
   pub there : slice_get vs number ≡ Some variable
   pub array : variable.array ≡ is_array
+  pub one_word : is_array ≡ false → variable.words ≡ 1
 
 -- a variable of a list, whichever of both
 pub record IsListed (vs : List Var) (number : ℕ) : Type 0 where
@@ -31,8 +32,8 @@ module _ (V : (number : ℕ) (is_array : Bool) → Type 0) where
     NumbersInPlace (kernel.word v) = V v false
     NumbersInPlace (kernel.element v i pos) = V v true × NumbersInExpression i
 
--- in all code of a kernel a word is that of a variable that is no array, and an element that of one
--- that is
+-- in all code of a kernel a word is that of a variable of one word that is no array, and an element
+-- that of an array
 abbrev pub VariablesAreRight : kernel.Kernel → Type 0
 VariablesAreRight k =
     EachRoot (NumbersInExpression (IsVariable k.variables)) (NumbersInPlace (IsVariable k.variables)) (IsListed k.variables) AnyOutput AnyInput AnyNumber k.roots

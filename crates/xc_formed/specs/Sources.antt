@@ -95,7 +95,7 @@ module _ (P : List tree.Item) (n : NamedProgram) where
   -- a word of a call's own: its result
   pub record IsResult (p : kernel.Place) : Type 0 where
     pub path : Path
-    pub variable : HasVariable (numbering P) AnyPath path false
+    pub variable : HasVariable (numbering P) AnyPath path false 1
     pub is : p ≡ word_of (numbering P) path
 
   -- what is no operation of the copy's own: an expression of the text, a call's result, or the 1 of

@@ -19,11 +19,13 @@ use Rattle.xc_formed.specs.Stacks.{Stack, found}
 abbrev pub AnyPath : Path → Type 0
 AnyPath path = Unit {0}
 
--- the variable of this path is in the kernel's list, an array or not, and this holds of its path
-pub record HasVariable (n : Numbering) (H : Path → Type 0) (path : Path) (is_array : Bool) : Type 0 where
+-- the variable of this path is in the kernel's list, an array or not, of so many words, and this
+-- holds of its path
+pub record HasVariable (n : Numbering) (H : Path → Type 0) (path : Path) (is_array : Bool) (words : ℕ) : Type 0 where
   pub variable : Var
   pub there : slice_get n.variables (variable_number n path) ≡ Some variable
   pub array : variable.array ≡ is_array
+  pub long : variable.words ≡ words
   pub holds : H path
 
 abbrev pub HasChannel : Numbering → Path → Type 0
@@ -42,17 +44,17 @@ pub record HasPort (ps : List PortUse) (number : ℕ) (d : TreeDir) : Type 0 whe
 abbrev pub head_of : Function → tree.Head
 head_of f = f.head
 
--- an instance of what is declared so, where H holds of each variable's path and J of each timer's
+-- an instance of what is declared so, an array with the length that it has, where H holds of each variable's path and J of each timer's
 pub data Stands (n : NamedProgram) (fs : List Function) (ps : List PortUse) (num : Numbering) (H J : Path → Type 0) (t : List ℕ) : Option What → Entity → Type 0 where
-  a_variable : {u : Bool} {path : Path} → HasVariable num H path false →
+  a_variable : {u : Bool} {path : Path} → HasVariable num H path false 1 →
       Stands n fs ps num H J t (Some (what.Word u)) (a_word path u)
-  whole_array : {u : Bool} {l m : ℕ} {path : Path} → HasVariable num H path true →
+  whole_array : {u : Bool} {l m : ℕ} {path : Path} → HasVariable num H path true m →
       Stands n fs ps num H J t (Some (what.Array u l)) (an_array path m u)
-  word_referred : {u : Bool} {path : Path} → HasVariable num H path false →
+  word_referred : {u : Bool} {path : Path} → HasVariable num H path false 1 →
       Stands n fs ps num H J t (Some (what.Ref u)) (a_word path u)
-  element_referred : {u : Bool} {path index : Path} → HasVariable num H path true → HasVariable num H index false →
+  element_referred : {u : Bool} {m : ℕ} {path index : Path} → HasVariable num H path true m → HasVariable num H index false 1 →
       Stands n fs ps num H J t (Some (what.Ref u)) (an_element path index u)
-  array_referred : {u : Bool} {l : Option ℕ} {m : ℕ} {path : Path} → HasVariable num H path true →
+  array_referred : {u : Bool} {l : Option ℕ} {m : ℕ} {path : Path} → HasVariable num H path true m →
       Stands n fs ps num H J t (Some (what.ArrayParam u l)) (an_array path m u)
   the_channel : {s : Bool} {path : Path} → HasChannel num path →
       Stands n fs ps num H J t (Some (what.Chan s)) (a_channel path)

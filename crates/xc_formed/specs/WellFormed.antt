@@ -8,7 +8,7 @@ use Rattle.xc_formed.specs.Exits.{ExitsAreInside}
 use Rattle.xc_formed.specs.Cores.{CoresAreRight}
 
 pub record IsWellFormed (k : kernel.Kernel) : Type 0 where
-  -- each word is of a listed variable that is no array, and each element of one that is
+  -- each word is of a listed variable of one word that is no array, and each element of an array
   pub variables : VariablesAreRight k
   -- each operation has as many operands as its symbol takes
   pub operands : OperandsAreRight k

@@ -97,8 +97,8 @@ module _ (n : NamedProgram) (fs : List Function) (ps : List PortUse) (num : Numb
       meant (Some d) = refl
 
   -- an instance on this core
-  pub own_variable : (core : ℕ) (path : Path) (b : Bool) → core ≡ here → HasVariable num (H core) path b → HasVariable num (H here) path b
-  own_variable core path b e h = subst (λ (k : ℕ). HasVariable num (H k) path b) e h
+  pub own_variable : (core : ℕ) (path : Path) (b : Bool) (words : ℕ) → core ≡ here → HasVariable num (H core) path b words → HasVariable num (H here) path b words
+  own_variable core path b words e h = subst (λ (k : ℕ). HasVariable num (H k) path b words) e h
 
   pub own_timer : (core : ℕ) (path : Path) → core ≡ here → HasTimer num (J core) path → HasTimer num (J here) path
   own_timer core path e h = subst (λ (k : ℕ). HasTimer num (J k) path) e h
@@ -133,9 +133,9 @@ module _ (n : NamedProgram) (fs : List Function) (ps : List PortUse) (num : Numb
       pub stepping : (e : tree.Expression) (k : ℕ) (st : Stack) (scope : Scope) → Known st scope → Resolves n k st (marks.of_expression e) → AllIn IsFine (site.of_lval n k e) → V e → (symbol : ℕ) → S symbol → (pos : Pos) → E (updated num scope e symbol pos false (kernel.number 1))
       pub testing : (v : kernel.Expression) → F v → (l : ℕ) (pos : Pos) → E (kernel.operation bracket true (two_operands v (kernel.number l)) pos)
       pub one : F (kernel.number 1)
-      pub word : (path : Path) → HasVariable num (H here) path false → L (word_of num path)
-      pub read_word : (path : Path) → HasVariable num (H here) path false → F (kernel.read (word_of num path))
-      pub zero_in : (path : Path) (b : Bool) → HasVariable num (H here) path b → Z (variable_number num path)
+      pub word : (path : Path) → HasVariable num (H here) path false 1 → L (word_of num path)
+      pub read_word : (path : Path) → HasVariable num (H here) path false 1 → F (kernel.read (word_of num path))
+      pub zero_in : (path : Path) (b : Bool) (words : ℕ) → HasVariable num (H here) path b words → Z (variable_number num path)
       pub going_out : (c : Context) (scope : Scope) (o : tree.Output) (k : ℕ) (st : Stack) → c.numbering ≡ num → Known st scope → Resolves n k st (marks.of_output o) → AllIn IsFine (site.of_output n k o) → O (output_of c scope o)
       pub coming_in : (c : Context) (scope : Scope) (i : tree.Input) (k : ℕ) (st : Stack) → c.numbering ≡ num → Known st scope → Resolves n k st (marks.of_input i) → AllIn IsFine (site.of_input n k i) → WaitsRight i → I (input_of c scope i)
       pub transacting : (path : Path) → HasChannel num path → T (channel_number num path)
@@ -149,7 +149,7 @@ module _ (n : NamedProgram) (fs : List Function) (ps : List PortUse) (num : Numb
     as_statements (x ∷ xs) h = (h.0, as_statements xs h.1)
 
     abbrev VariableMade : Var → Type 0
-    VariableMade v = HasVariable num (H v.core) v.path v.array
+    VariableMade v = HasVariable num (H v.core) v.path v.array v.words
 
     abbrev ChannelMade : Chan → Type 0
     ChannelMade c = HasChannel num c.path
@@ -209,7 +209,7 @@ module _ (n : NamedProgram) (fs : List Function) (ps : List PortUse) (num : Numb
         pub core_is : c.core ≡ here
         pub functions_are : c.functions ≡ fs
         pub ports_known : Known (gs ∷ []) c.ports
-        pub result_there : NeedsResult around → HasVariable num (H here) c.result false
+        pub result_there : NeedsResult around → HasVariable num (H here) c.result false 1
         pub known : Known st scope
 
       pub sits_in : (c d : Context) (scope other : Scope) (st su : Stack) (around near : Around) → d.numbering ≡ c.numbering → d.functions ≡ c.functions → d.ports ≡ c.ports → d.result ≡ c.result → d.core ≡ c.core → (NeedsResult near → NeedsResult around) → Known su other → Sits c scope st around → Sits d other su near
@@ -218,7 +218,7 @@ module _ (n : NamedProgram) (fs : List Function) (ps : List PortUse) (num : Numb
         core_is = i ∙ s.core_is;
         functions_are = f ∙ s.functions_are;
         ports_known = subst (λ (x : Scope). Known (gs ∷ []) x) (sym g) s.ports_known;
-        result_there = λ r. subst (λ (p : Path). HasVariable num (H here) p false) (sym h) (s.result_there (q r));
+        result_there = λ r. subst (λ (p : Path). HasVariable num (H here) p false 1) (sym h) (s.result_there (q r));
         known = a;
       }
 
@@ -236,14 +236,14 @@ module _ (n : NamedProgram) (fs : List Function) (ps : List PortUse) (num : Numb
       pub lval_at : (c : Context) (scope : Scope) (st : Stack) (around : Around) (k : ℕ) (e : tree.Expression) → Sits c scope st around → Resolves n k st (marks.of_expression e) → AllIn IsFine (site.of_lval n k e) → V e → L (place c scope e)
       lval_at c scope st around k e s r g x = subst (λ (m : Numbering). L (kernel_place m scope e)) (sym s.numbers) (leaves.lval e k st scope s.known r g x)
 
-      pub word_at_path : (c : Context) → c.numbering ≡ num → (path : Path) → HasVariable num (H here) path false → L (word_of c.numbering path)
+      pub word_at_path : (c : Context) → c.numbering ≡ num → (path : Path) → HasVariable num (H here) path false 1 → L (word_of c.numbering path)
       word_at_path c e path h = subst (λ (m : Numbering). L (word_of m path)) (sym e) (leaves.word path h)
 
-      pub read_at_path : (c : Context) → c.numbering ≡ num → (path : Path) → HasVariable num (H here) path false → F (kernel.read (word_of c.numbering path))
+      pub read_at_path : (c : Context) → c.numbering ≡ num → (path : Path) → HasVariable num (H here) path false 1 → F (kernel.read (word_of c.numbering path))
       read_at_path c e path h = subst (λ (m : Numbering). F (kernel.read (word_of m path))) (sym e) (leaves.read_word path h)
 
-      pub zero_at_path : (c : Context) → c.numbering ≡ num → (path : Path) (b : Bool) → HasVariable num (H here) path b → Z (variable_number c.numbering path)
-      zero_at_path c e path b h = subst (λ (m : Numbering). Z (variable_number m path)) (sym e) (leaves.zero_in path b h)
+      pub zero_at_path : (c : Context) → c.numbering ≡ num → (path : Path) (b : Bool) (words : ℕ) → HasVariable num (H here) path b words → Z (variable_number c.numbering path)
+      zero_at_path c e path b words h = subst (λ (m : Numbering). Z (variable_number m path)) (sym e) (leaves.zero_in path b words h)
 
       -- Parameters.
 
@@ -385,11 +385,11 @@ module _ (n : NamedProgram) (fs : List Function) (ps : List PortUse) (num : Numb
 
       -- an element whose index is tested and stored
       element_given : (c : Context) (scope : Scope) (own : Path) (pos spot : Pos) (u : Bool) (i : tree.Expression) (t : List ℕ) (w : Option What) (x : Entity) → c.numbering ≡ num → c.core ≡ here → F (expression c scope i) → Standing t w x → is_array_of u w ≡ true → AllIn VariableMade (by_element c scope own pos i spot x).variables → PassedWell (what.Ref u) (by_element c scope own pos i spot x)
-      element_given c scope own pos spot u i t _ _ q on f (whole_array {u = v} {m = m} {path = path} h) e made = let own_index = own_variable c.core (path_at own pos) false on made.0 in record {
+      element_given c scope own pos spot u i t _ _ q on f (whole_array {u = v} {m = m} {path = path} h) e made = let own_index = own_variable c.core (path_at own pos) false 1 on made.0 in record {
         code = ((word_at_path c q (path_at own pos) own_index, leaves.testing (expression c scope i) f m spot), tt);
         entity = λ s. subst (λ (b : Bool). Standing s (Some (what.Ref u)) (an_element path (path_at own pos) b)) (sym (agree_same u v (and_right true (agree u v) e))) (element_referred h own_index);
       }
-      element_given c scope own pos spot u i t _ _ q on f (array_referred {u = v} {m = m} {path = path} h) e made = let own_index = own_variable c.core (path_at own pos) false on made.0 in record {
+      element_given c scope own pos spot u i t _ _ q on f (array_referred {u = v} {m = m} {path = path} h) e made = let own_index = own_variable c.core (path_at own pos) false 1 on made.0 in record {
         code = ((word_at_path c q (path_at own pos) own_index, leaves.testing (expression c scope i) f m spot), tt);
         entity = λ s. subst (λ (b : Bool). Standing s (Some (what.Ref u)) (an_element path (path_at own pos) b)) (sym (agree_same u v (and_right true (agree u v) e))) (element_referred h own_index);
       }
@@ -448,7 +448,7 @@ module _ (n : NamedProgram) (fs : List Function) (ps : List PortUse) (num : Numb
 
         passed_well : (own : Path) (pos : Pos) (kind : ParamKind) (e : tree.Expression) (k : ℕ) → Resolves n k st (marks.of_expression e) → AllIn IsFine (site.of_argument n k (Some kind) e) → X e → fits (Some kind) (given_by n k e) ≡ true → AllIn VariableMade (passed c scope own pos kind e).variables → PassedWell (marks.what_of_param kind) (passed c scope own pos kind e)
         passed_well own pos (param.Value u) e k r g x q made =
-            let h = own_variable c.core (path_at own pos) false s.core_is made.0 in
+            let h = own_variable c.core (path_at own pos) false 1 s.core_is made.0 in
             record { code = ((word_at_path c s.numbers (path_at own pos) h, test_at c scope st around k e s r g x), tt); entity = λ t. a_variable h }
         passed_well own pos (param.Ref u) (tree.expression f p) k r g x q made = reference_form own pos u f p k r g x q made
         passed_well own pos (param.Array u l) (tree.expression f p) k r g x q made = array_form u l f p k r q
@@ -516,7 +516,7 @@ module _ (n : NamedProgram) (fs : List Function) (ps : List PortUse) (num : Numb
       -- the copy of a call, whose result is there where the function has one
       pub record CallWell (st : Stack) (own : Path) (f : Function) (copy : Copy) : Type 0 where
         pub well : Well st copy
-        pub result : is_some f.head.result ≡ true → HasVariable num (H here) (path_at own f.head.name.pos) false
+        pub result : is_some f.head.result ≡ true → HasVariable num (H here) (path_at own f.head.name.pos) false 1
 
       abbrev pub CallsWell : (tree.Call → Type 0) → CopiesCall → Type 0
       CallsWell C copies = (call : tree.Call) (f : Function) → function_named fs call.called.text ≡ Some f → C call → (c : Context) (scope : Scope) (st : Stack) (around : Around) (k : ℕ) → Sits c scope st around →

@@ -65,8 +65,8 @@ module _ (n : NamedProgram) (fs : List Function) (ps : List PortUse) (num : Numb
             (subst (λ (o : Option Function). (walk.CallFacts n fs ps num H J here X V S E F L Z O I T leaves gs) (k + 1) call.arguments b (option_map head_of o)) (sym e) facts) x.0 x.1 m in
             record { well = w.0; value = w.1 }
 
-        initial_well : (c : Context) (path : Path) (r : Option tree.RightSide) (scope : Scope) (st : Stack) (around : Around) (k : ℕ) → (walk.Sits n fs ps num H J here X V S E F L Z O I T leaves gs) c scope st around → HasVariable num (H here) path false → Resolves n k st (marks.optional marks.of_right r) → AllIn IsFine (site.optional (site.of_right n around k true) r) → ShapedMaybeRight X V S C r → (walk.Made n fs ps num H J here X V S E F L Z O I T) (initial_copy copies c path r scope) → (walk.Well n fs ps num H J here X V S E F L Z O I T) st (initial_copy copies c path r scope)
-        initial_well c path None scope st around k s h r g x m = record { code = ((walk.zero_at_path n fs ps num H J here X V S E F L Z O I T leaves gs) c s.numbers path false h, tt); scope = s.known }
+        initial_well : (c : Context) (path : Path) (r : Option tree.RightSide) (scope : Scope) (st : Stack) (around : Around) (k : ℕ) → (walk.Sits n fs ps num H J here X V S E F L Z O I T leaves gs) c scope st around → HasVariable num (H here) path false 1 → Resolves n k st (marks.optional marks.of_right r) → AllIn IsFine (site.optional (site.of_right n around k true) r) → ShapedMaybeRight X V S C r → (walk.Made n fs ps num H J here X V S E F L Z O I T) (initial_copy copies c path r scope) → (walk.Well n fs ps num H J here X V S E F L Z O I T) st (initial_copy copies c path r scope)
+        initial_well c path None scope st around k s h r g x m = record { code = ((walk.zero_at_path n fs ps num H J here X V S E F L Z O I T leaves gs) c s.numbers path false 1 h, tt); scope = s.known }
         initial_well c path (Some e) scope st around k s h r g x m =
             let w = right_well c scope st around k true e s r g x ((walk.made_both n fs ps num H J here X V S E F L Z O I T) (right_copy copies c scope e) _ m).0 in
             record { code = both (walk.Good n fs ps num H J here X V S E F L Z O I T) (right_copy copies c scope e).code _ w.well.code (((walk.word_at_path n fs ps num H J here X V S E F L Z O I T leaves gs) c s.numbers path h, leaves.weaker _ (w.value refl)), tt); scope = s.known }
@@ -78,7 +78,7 @@ module _ (n : NamedProgram) (fs : List Function) (ps : List PortUse) (num : Numb
             let path = path_at c.path name.pos in
             let inner = with_name scope name.text (a_word path u) in
             let m2 = (walk.made_both n fs ps num H J here X V S E F L Z O I T) (Rattle.xc_kernel.specs.Context.declares_word c name.text name.pos u scope) (initial_copy copies c path r inner) m in
-            let h = (walk.own_variable n fs ps num H J here) c.core path false s.core_is m2.0.variables.0 in
+            let h = (walk.own_variable n fs ps num H J here) c.core path false 1 s.core_is m2.0.variables.0 in
             let su = with_decl d st in
             let sits = (walk.with_names n fs ps num H J here X V S E F L Z O I T leaves gs) c scope inner st su around around (λ t. t) ((walk.with_declared n fs ps num H J here) st scope d (a_word path u) (λ t. a_variable h) (c.path, refl) s.known) s in
             let w = initial_well c path r inner su around (k + 1) sits h rs.1 g x m2.1 in
@@ -86,8 +86,8 @@ module _ (n : NamedProgram) (fs : List Function) (ps : List PortUse) (num : Numb
         kind_well c scope st around k name (tree.array u l p) s rs g x m =
             let d : Decl = record { name = name; what = what.Array u l } in
             let path = path_at c.path name.pos in
-            let h = (walk.own_variable n fs ps num H J here) c.core path true s.core_is m.variables.0 in
-            record { code = ((walk.zero_at_path n fs ps num H J here X V S E F L Z O I T leaves gs) c s.numbers path true h, tt); scope = (walk.with_declared n fs ps num H J here) st scope d (an_array path l u) (λ t. whole_array h) (c.path, refl) s.known }
+            let h = (walk.own_variable n fs ps num H J here) c.core path true l s.core_is m.variables.0 in
+            record { code = ((walk.zero_at_path n fs ps num H J here X V S E F L Z O I T leaves gs) c s.numbers path true l h, tt); scope = (walk.with_declared n fs ps num H J here) st scope d (an_array path l u) (λ t. whole_array h) (c.path, refl) s.known }
         kind_well c scope st around k name (tree.channel b) s rs g x m =
             let d : Decl = record { name = name; what = what.Chan b } in
             record { code = tt; scope = (walk.with_declared n fs ps num H J here) st scope d (a_channel (path_at c.path name.pos)) (λ t. the_channel m.channels.0) (c.path, refl) s.known }
@@ -139,7 +139,7 @@ module _ (n : NamedProgram) (fs : List Function) (ps : List PortUse) (num : Numb
         )
 
         -- a `return`
-        result_is : (c : Context) (scope : Scope) (st : Stack) (around : Around) → (walk.Sits n fs ps num H J here X V S E F L Z O I T leaves gs) c scope st around → agree true (is_some around.function.result) ≡ true → in_par_or_transaction around.holders ≡ false → HasVariable num (H here) c.result false
+        result_is : (c : Context) (scope : Scope) (st : Stack) (around : Around) → (walk.Sits n fs ps num H J here X V S E F L Z O I T leaves gs) c scope st around → agree true (is_some around.function.result) ≡ true → in_par_or_transaction around.holders ≡ false → HasVariable num (H here) c.result false 1
         result_is c scope st around s e f = s.result_there (f, e)
 
         pub return_well : (c : Context) (scope : Scope) (st : Stack) (around : Around) (k : ℕ) (r : Option tree.RightSide) → (walk.Sits n fs ps num H J here X V S E F L Z O I T leaves gs) c scope st around → Resolves n k st (marks.optional marks.of_right r) → (agree (is_some r) (is_some around.function.result) ≡ true) × (in_par_or_transaction around.holders ≡ false) → AllIn IsFine (site.optional (site.of_right n around k true) r) → ShapedMaybeRight X V S C r → (walk.Made n fs ps num H J here X V S E F L Z O I T) (return_copy copies c scope r) → (walk.Well n fs ps num H J here X V S E F L Z O I T) st (return_copy copies c scope r)
@@ -181,12 +181,12 @@ module _ (n : NamedProgram) (fs : List Function) (ps : List PortUse) (num : Numb
         target_known : (c : Context) (scope : Scope) (st : Stack) (t : tree.Target) → c.core ≡ here → (walk.Known n fs ps num H J here) st scope → (walk.Made n fs ps num H J here X V S E F L Z O I T) (target_copy c scope t) → (walk.Known n fs ps num H J here) (after st (marks.of_target t)) (target_copy c scope t).scope
         target_known c scope st (tree.to e) on a m = subst (λ (x : Stack). (walk.Known n fs ps num H J here) x scope) (sym (quiet_after st (marks.of_expression e) (quiet_expression e))) a
         target_known c scope st tree.dropped on a m = a
-        target_known c scope st (tree.fresh u name) on a m = (walk.with_declared n fs ps num H J here) st scope (record { name = name; what = what.Word u }) (a_word (path_at c.path name.pos) u) (λ t. a_variable ((walk.own_variable n fs ps num H J here) c.core (path_at c.path name.pos) false on m.variables.0)) (c.path, refl) a
+        target_known c scope st (tree.fresh u name) on a m = (walk.with_declared n fs ps num H J here) st scope (record { name = name; what = what.Word u }) (a_word (path_at c.path name.pos) u) (λ t. a_variable ((walk.own_variable n fs ps num H J here) c.core (path_at c.path name.pos) false 1 on m.variables.0)) (c.path, refl) a
 
         target_well : (c : Context) (scope : Scope) (st : Stack) (around : Around) (k : ℕ) (t : tree.Target) → (walk.Sits n fs ps num H J here X V S E F L Z O I T leaves gs) c scope st around → Resolves n k st (marks.of_target t) → AllIn IsFine (site.of_target n k t) → ShapedTarget X V S C t → (walk.Made n fs ps num H J here X V S E F L Z O I T) (target_copy c scope t) → EachPlace E L Z O I T (target_of c scope t)
         target_well c scope st around k (tree.to e) s r g x m = (walk.lval_at n fs ps num H J here X V S E F L Z O I T leaves gs) c scope st around k e s r g x
         target_well c scope st around k tree.dropped s r g x m = tt
-        target_well c scope st around k (tree.fresh u name) s r g x m = (walk.word_at_path n fs ps num H J here X V S E F L Z O I T leaves gs) c s.numbers (path_at c.path name.pos) ((walk.own_variable n fs ps num H J here) c.core (path_at c.path name.pos) false s.core_is m.variables.0)
+        target_well c scope st around k (tree.fresh u name) s r g x m = (walk.word_at_path n fs ps num H J here X V S E F L Z O I T leaves gs) c s.numbers (path_at c.path name.pos) ((walk.own_variable n fs ps num H J here) c.core (path_at c.path name.pos) false 1 s.core_is m.variables.0)
 
         input_stack : (st : Stack) (i : tree.Input) → after (after st (marks.of_target i.target)) (marks.optional marks.of_timing i.stamp) ≡ after st (marks.of_target i.target)
         input_stack st i = quiet_after _ (marks.optional marks.of_timing i.stamp) (quiet_optional marks.of_timing quiet_timing i.stamp)

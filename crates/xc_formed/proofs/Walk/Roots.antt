@@ -65,11 +65,11 @@ module _ (n : NamedProgram) (fs : List Function) (ps : List PortUse) (num : Numb
   paths_of t _ _ none_there = tt
 
   stands_with : (t : List ℕ) (w : Option What) (x : Entity) → OnPaths G K x → Stands n fs ps num H J t w x → Stands n fs ps num G K t w x
-  stands_with t _ _ k (a_variable h) = a_variable (record { variable = h.variable; there = h.there; array = h.array; holds = k })
-  stands_with t _ _ k (whole_array h) = whole_array (record { variable = h.variable; there = h.there; array = h.array; holds = k })
-  stands_with t _ _ k (word_referred h) = word_referred (record { variable = h.variable; there = h.there; array = h.array; holds = k })
-  stands_with t _ _ k (element_referred h g) = element_referred (record { variable = h.variable; there = h.there; array = h.array; holds = k.0 }) (record { variable = g.variable; there = g.there; array = g.array; holds = k.1 })
-  stands_with t _ _ k (array_referred h) = array_referred (record { variable = h.variable; there = h.there; array = h.array; holds = k })
+  stands_with t _ _ k (a_variable h) = a_variable (record { variable = h.variable; there = h.there; array = h.array; long = h.long; holds = k })
+  stands_with t _ _ k (whole_array h) = whole_array (record { variable = h.variable; there = h.there; array = h.array; long = h.long; holds = k })
+  stands_with t _ _ k (word_referred h) = word_referred (record { variable = h.variable; there = h.there; array = h.array; long = h.long; holds = k })
+  stands_with t _ _ k (element_referred h g) = element_referred (record { variable = h.variable; there = h.there; array = h.array; long = h.long; holds = k.0 }) (record { variable = g.variable; there = g.there; array = g.array; long = g.long; holds = k.1 })
+  stands_with t _ _ k (array_referred h) = array_referred (record { variable = h.variable; there = h.there; array = h.array; long = h.long; holds = k })
   stands_with t _ _ k (the_channel h) = the_channel h
   stands_with t _ _ k (the_end h) = the_end h
   stands_with t _ _ k (the_timer h) = the_timer (h.0, k)

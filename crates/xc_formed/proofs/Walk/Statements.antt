@@ -371,11 +371,11 @@ module _ (n : NamedProgram) (fs : List Function) (ps : List PortUse) (num : Numb
         body_well h (tree.statement (tree.select cs) p close own) c scope st k s r g x m = (statement_well (tree.statement (tree.select cs) p close own) c scope st (in_block_of h) k s r g x m).code
         body_well h (tree.statement (tree.transaction is_master ss) p close own) c scope st k s r g x m = (statement_well (tree.statement (tree.transaction is_master ss) p close own) c scope st (in_block_of h) k s r g x m).code
 
-        result_well : (c : Context) (path : Path) (pos : Pos) (scope : Scope) (o : Option Bool) → c.numbering ≡ num → c.core ≡ here → (walk.Made n fs ps num H J here X V S E F L Z O I T) (result_copy c path pos scope o) → AllIn (walk.Good n fs ps num H J here X V S E F L Z O I T) (result_copy c path pos scope o).code × (is_some o ≡ true → HasVariable num (H here) path false)
+        result_well : (c : Context) (path : Path) (pos : Pos) (scope : Scope) (o : Option Bool) → c.numbering ≡ num → c.core ≡ here → (walk.Made n fs ps num H J here X V S E F L Z O I T) (result_copy c path pos scope o) → AllIn (walk.Good n fs ps num H J here X V S E F L Z O I T) (result_copy c path pos scope o).code × (is_some o ≡ true → HasVariable num (H here) path false 1)
         result_well c path pos scope None e on m = (tt, λ t. (walk.no n fs ps num H J here X V S E F L Z O I T leaves gs) t)
         result_well c path pos scope (Some u) e on m =
-            let h = (walk.own_variable n fs ps num H J here) c.core path false on m.variables.0 in
-            (((walk.zero_at_path n fs ps num H J here X V S E F L Z O I T leaves gs) c e path false h, tt), λ t. h)
+            let h = (walk.own_variable n fs ps num H J here) c.core path false 1 on m.variables.0 in
+            (((walk.zero_at_path n fs ps num H J here X V S E F L Z O I T leaves gs) c e path false 1 h, tt), λ t. h)
 
         pub function_well : (c : Context) (scope : Scope) (st : Stack) (around : Around) (k : ℕ) (own : Path) (f : Function) (args : List tree.Argument) → (walk.FunctionRight n fs ps num H J here X V S E F L Z O I T) gs f → ShapedStatement X V S C f.body → (walk.Sits n fs ps num H J here X V S E F L Z O I T leaves gs) c scope st around →
             Resolves n k st (marks.each marks.of_argument args) → AllIn IsFine (site.of_arguments n k f.head.params args) → ShapedArguments X V S C args → length args ≡ length f.head.params → AllFit (arguments n k f.head.params args) →
