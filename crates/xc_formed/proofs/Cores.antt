@@ -66,7 +66,7 @@ module _ (n : NamedProgram) (fs : List Function) (ps : List PortUse) (num : Numb
       lval = λ e k st scope a r g x. lval_well n fs ps num PathOn TimerPathOn here On on st scope a e k r g x.0;
       updating = λ e k st scope a r g x symbol y pos value j rv gv xv. (lval_read n fs ps num PathOn TimerPathOn here On on st scope a e k r g x.0, (expression_well n fs ps num PathOn TimerPathOn here On on st scope a value j rv gv, tt));
       stepping = λ e k st scope a r g x symbol y pos. (lval_read n fs ps num PathOn TimerPathOn here On on st scope a e k r g x.0, (tt, tt));
-      testing = λ v h l pos. (h, (tt, tt));
+      testing = λ v h path l array pos. (h, (tt, tt));
       one = tt;
       word = λ path h. h.holds;
       read_word = λ path h. h.holds;

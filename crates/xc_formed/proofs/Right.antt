@@ -64,7 +64,7 @@ module _ (n : NamedProgram) (fs : List Function) (ps : List PortUse) (num : Numb
         (let d = x.1.1 in let l = few_levels num scope e in omega arith),
       ),
     );
-    testing = λ v h l pos. ((h.0, (tt, tt)), ((refl, (h.1.0, (tt, tt))), (let b = h.1.1 in omega arith)));
+    testing = λ v h path l array pos. ((h.0, (tt, tt)), ((refl, (h.1.0, (tt, tt))), (let b = h.1.1 in omega arith)));
     one = (tt, (tt, omega arith));
     word = λ path h. (listed path false 1 (λ e. refl) h, (tt, omega arith));
     read_word = λ path h. (listed path false 1 (λ e. refl) h, (tt, omega arith));

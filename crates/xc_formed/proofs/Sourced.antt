@@ -179,7 +179,7 @@ module _ (P : List tree.Item) (n : NamedProgram) where
       pos = pos;
       is = updated_is n fs ps num (λ k. AnyPath) (λ k. AnyPath) here st scope a e k (operator_of symbol) pos false false (kernel.number 1) (kernel.number 1) r x.1.0 refl refl;
     });
-    testing = λ v h l pos. tested h;
+    testing = λ v h path l array pos. tested array h;
     one = always;
     word = λ path h. own (record { path = path; variable = h; is = refl });
     read_word = λ path h. result (record { path = path; variable = h; is = refl });

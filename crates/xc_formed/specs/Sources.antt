@@ -105,12 +105,14 @@ module _ (P : List tree.Item) (n : NamedProgram) where
     result : {p : kernel.Place} → IsResult p → Simple (kernel.read p)
     always : Simple (kernel.number 1)
 
-  -- and these: `op=`, a step, and the test of an index that stands alone
+  -- and these: `op=`, a step, and the test of an index that stands alone, against the words of an
+  -- array
   pub data HasSource : kernel.Expression → Type 0 where
     simple : {x : kernel.Expression} → Simple x → HasSource x
     updated : {x : kernel.Expression} → IsUpdated x → HasSource x
     stepped : {x : kernel.Expression} → IsStepped x → HasSource x
-    tested : {x : kernel.Expression} {length : ℕ} {pos : Pos} → Simple x →
+    tested : {x : kernel.Expression} {path : Path} {length : ℕ} {pos : Pos} →
+        HasVariable (numbering P) AnyPath path true length → Simple x →
         HasSource (kernel.operation bracket true (two_operands x (kernel.number length)) pos)
 
   -- a place of the text, or a word of the copy's own: a declared name's, a parameter's or a

@@ -131,7 +131,7 @@ module _ (n : NamedProgram) (fs : List Function) (ps : List PortUse) (num : Numb
       pub lval : (e : tree.Expression) (k : ℕ) (st : Stack) (scope : Scope) → Known st scope → Resolves n k st (marks.of_expression e) → AllIn IsFine (site.of_lval n k e) → V e → L (kernel_place num scope e)
       pub updating : (e : tree.Expression) (k : ℕ) (st : Stack) (scope : Scope) → Known st scope → Resolves n k st (marks.of_expression e) → AllIn IsFine (site.of_lval n k e) → V e → (symbol : ℕ) → S symbol → (pos : Pos) (value : tree.Expression) (j : ℕ) → Resolves n j st (marks.of_expression value) → AllIn IsFine (site.of_expression n j value) → X value → E (updated num scope e symbol pos (is_unsigned scope value) (expression_in num scope value))
       pub stepping : (e : tree.Expression) (k : ℕ) (st : Stack) (scope : Scope) → Known st scope → Resolves n k st (marks.of_expression e) → AllIn IsFine (site.of_lval n k e) → V e → (symbol : ℕ) → S symbol → (pos : Pos) → E (updated num scope e symbol pos false (kernel.number 1))
-      pub testing : (v : kernel.Expression) → F v → (l : ℕ) (pos : Pos) → E (kernel.operation bracket true (two_operands v (kernel.number l)) pos)
+      pub testing : (v : kernel.Expression) → F v → (path : Path) (l : ℕ) → HasVariable num (H here) path true l → (pos : Pos) → E (kernel.operation bracket true (two_operands v (kernel.number l)) pos)
       pub one : F (kernel.number 1)
       pub word : (path : Path) → HasVariable num (H here) path false 1 → L (word_of num path)
       pub read_word : (path : Path) → HasVariable num (H here) path false 1 → F (kernel.read (word_of num path))
@@ -386,11 +386,11 @@ module _ (n : NamedProgram) (fs : List Function) (ps : List PortUse) (num : Numb
       -- an element whose index is tested and stored
       element_given : (c : Context) (scope : Scope) (own : Path) (pos spot : Pos) (u : Bool) (i : tree.Expression) (t : List ℕ) (w : Option What) (x : Entity) → c.numbering ≡ num → c.core ≡ here → F (expression c scope i) → Standing t w x → is_array_of u w ≡ true → AllIn VariableMade (by_element c scope own pos i spot x).variables → PassedWell (what.Ref u) (by_element c scope own pos i spot x)
       element_given c scope own pos spot u i t _ _ q on f (whole_array {u = v} {m = m} {path = path} h) e made = let own_index = own_variable c.core (path_at own pos) false 1 on made.0 in record {
-        code = ((word_at_path c q (path_at own pos) own_index, leaves.testing (expression c scope i) f m spot), tt);
+        code = ((word_at_path c q (path_at own pos) own_index, leaves.testing (expression c scope i) f path m h spot), tt);
         entity = λ s. subst (λ (b : Bool). Standing s (Some (what.Ref u)) (an_element path (path_at own pos) b)) (sym (agree_same u v (and_right true (agree u v) e))) (element_referred h own_index);
       }
       element_given c scope own pos spot u i t _ _ q on f (array_referred {u = v} {m = m} {path = path} h) e made = let own_index = own_variable c.core (path_at own pos) false 1 on made.0 in record {
-        code = ((word_at_path c q (path_at own pos) own_index, leaves.testing (expression c scope i) f m spot), tt);
+        code = ((word_at_path c q (path_at own pos) own_index, leaves.testing (expression c scope i) f path m h spot), tt);
         entity = λ s. subst (λ (b : Bool). Standing s (Some (what.Ref u)) (an_element path (path_at own pos) b)) (sym (agree_same u v (and_right true (agree u v) e))) (element_referred h own_index);
       }
       element_given c scope own pos spot u i t _ _ q on f (a_variable h) e made = no e
