@@ -5,13 +5,10 @@ use Rattle.xc_tree.specs.Depth as depth
 use Rattle.xc_tree.specs.Derives.{deepest}
 use Rattle.xc_tree.specs.declared.names.What.{What}
 use Rattle.xc_tree.specs.Types.Named.{NamedProgram}
-use Rattle.xc_kernel.specs.declared.kernel.Var.{Var}
-use Rattle.xc_kernel.specs.declared.kernel.Timer.{Timer}
 use Rattle.xc_kernel.specs.declared.kernel.PortUse.{PortUse}
 use Rattle.xc_kernel.specs.Plain as kernel
 use Rattle.xc_kernel.specs.Paths.{Path}
-use Rattle.xc_kernel.specs.Numbering.{Numbering, variable_number, timer_number, path_of_variable, path_of_timer}
-use Rattle.xc_kernel.specs.Things.{change, by_statements}
+use Rattle.xc_kernel.specs.Numbering.{Numbering, variable_number, timer_number}
 use Rattle.xc_kernel.specs.Scopes.{Entity, entity_of}
 use Rattle.xc_kernel.specs.Expressions.{resource_of}
 use Rattle.xc_kernel.specs.Programs.{Function, functions, ports}
@@ -20,14 +17,13 @@ use Rattle.xc_kernel.specs.Copies.{rooted, numbering, copy_of}
 use Rattle.xc_kernel.specs.Sound.{IsTyped}
 use Rattle.xc_formed.specs.Each.{AnyNumber}
 use Rattle.xc_formed.specs.Numbers.{NumbersInExpression, NumbersInPlace}
-use Rattle.xc_formed.specs.Cores.{IsChangedOn, VariableOn, TimerOn, ResourceOn, OutputOn, InputOn, CoresAreRight}
+use Rattle.xc_formed.specs.Cores.{VariableOn, TimerOn, ResourceOn, OutputOn, InputOn, CoresAreRight}
 use Rattle.xc_formed.specs.Rising.{IsRising}
 use Rattle.xc_formed.specs.Standing.{HasVariable, Stands, a_variable, whole_array, word_referred, element_referred, array_referred, the_channel, the_end, the_timer, the_port, port_given, the_index, the_function, none_there}
 use Rattle.xc_formed.proofs.Shaped.{Assigns}
 use Rattle.xc_formed.proofs.Right.{IsShallow, IsShallowLval}
 use Rattle.xc_formed.proofs.Numbers.{expression_well, lval_well, lval_read}
-use Rattle.xc_formed.proofs.Instances.{IsAt}
-use Rattle.xc_formed.proofs.Walk.Arguments.{AllIn, Leaves, standing}
+use Rattle.xc_formed.proofs.Walk.Arguments.{AllIn, Leaves}
 use Rattle.xc_formed.proofs.Program.{roots_right}
 
 module _ (n : NamedProgram) (fs : List Function) (ps : List PortUse) (num : Numbering) (rs : List kernel.Root) where

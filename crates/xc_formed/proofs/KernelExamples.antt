@@ -15,7 +15,7 @@ use Rattle.xc_formed.specs.Operands.{OperandsAreRight}
 use Rattle.xc_formed.specs.Levels.{levels, LevelsAreFew}
 use Rattle.xc_formed.specs.Transfers.{TransfersAreRight, TransactionsAreListed}
 use Rattle.xc_formed.specs.Exits.{ExitsAreInside}
-use Rattle.xc_formed.specs.Cores.{IsChangedOn, VariableOn, CoresAreRight}
+use Rattle.xc_formed.specs.Cores.{VariableOn, CoresAreRight}
 use Rattle.xc_formed.specs.Parts.{of_roots}
 use Rattle.xc_formed.specs.WellFormed.{IsWellFormed}
 

@@ -1,5 +1,5 @@
 -- The names behind a statement without declarations are those before it, and words that it inputs.
-use Rattle.std.proofs.Common.{◌≡◌, ℕ, zero, suc, ◌+◌, ◌-◌, Bool, true, false, ◌||◌, List, [], ◌∷◌, ◌⊎◌, inl, inr, Option, Some, None, nat_eq, bytes_eq, refl, sym, ap, subst, ◌∙◌, true≢false, arith}
+use Rattle.std.proofs.Common.{◌≡◌, ℕ, zero, suc, ◌+◌, ◌-◌, Bool, true, false, ◌||◌, List, ◌⊎◌, inl, inr, Option, Some, None, nat_eq, bytes_eq, refl, sym, ap, subst, ◌∙◌, true≢false, arith}
 use Rattle.std.proofs.lemmas.Bool.Decides.{nat_tests}
 use Rattle.xw_words.specs.declared.pos.Pos.{Pos}
 use Rattle.xc_tree.specs.Plain as tree
@@ -9,7 +9,7 @@ use Rattle.xc_kernel.specs.Paths.{path_at, path_of_turn}
 use Rattle.xc_kernel.specs.Numbering.{Numbering, variable_number, block_number}
 use Rattle.xc_kernel.specs.Programs.{Function}
 use Rattle.xc_kernel.specs.Scopes.{Scope, Entity, a_word, entity_by, entity_of}
-use Rattle.xc_kernel.specs.Things.{Thing, change, by_statements, by_branches, by_resource, by_some_expression, by_condition, by_some_target, by_expression, by_input}
+use Rattle.xc_kernel.specs.Things.{change, by_statements, by_branches, by_resource, by_some_expression, by_condition, by_expression, by_input}
 use Rattle.xc_kernel.specs.Copy.{Copy}
 use Rattle.xc_kernel.specs.Context.{Context, in_branch, in_loop, expression}
 use Rattle.xc_kernel.specs.Calls.{CopiesCall, called, call_by, right_copy}

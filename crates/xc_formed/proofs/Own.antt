@@ -1,13 +1,12 @@
 -- Where roots keep apart, each variable that a root uses is on the root's core.
-use Rattle.std.proofs.Common.{◌≡◌, inl, inr, ℕ, suc, Bool, true, false, ◌||◌, List, [], ◌∷◌, Contains, Option, Some, None, nat_eq, refl, sym, ⊎_elim, ◌∙◌, true≢false, arith}
+use Rattle.std.proofs.Common.{◌≡◌, ℕ, suc, Bool, true, false, ◌||◌, List, [], ◌∷◌, Contains, Option, Some, None, nat_eq, refl, sym, ⊎_elim, ◌∙◌, true≢false, arith}
 use Rattle.std.proofs.lemmas.Bool.Decides.{nat_tests}
 use Rattle.xc_kernel.specs.declared.kernel.Timer.{Timer}
-use Rattle.xc_kernel.specs.declared.kernel.Var.{Var}
 use Rattle.xc_kernel.specs.Plain as kernel
 use Rattle.xc_kernel.specs.Things.{variable, by_expression, by_operands, by_place, by_target, by_some_target, by_some_expression, by_condition, by_output, by_input, by_statement, by_statements, by_case, by_cases, by_default, by_branches, by_resource}
 use Rattle.xc_formed.specs.Each.{AnyNumber, EachMaybe, EachPlace, EachCondition, EachOutput, EachInput, EachStatement, EachOf, EachCase, EachDefault, EachBranch, EachRootOn}
 use Rattle.xc_formed.specs.Numbers.{NumbersInExpression, NumbersInOperands, NumbersInPlace}
-use Rattle.xc_formed.specs.Cores.{VariableOn, OutputOn, InputOn, IsOn, EachUseOn, RootsKeepApart, CoresAreRight, CoresAreOwn}
+use Rattle.xc_formed.specs.Cores.{VariableOn, OutputOn, InputOn, IsOn, RootsKeepApart, CoresAreRight, CoresAreOwn}
 
 orl : (a b : Bool) → a ≡ true → (a || b) ≡ true
 orl true b e = refl

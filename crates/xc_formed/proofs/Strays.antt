@@ -1,8 +1,8 @@
 -- Where a statement stands in a branch, an `if` or a loop, no declaration stands: so the grammar has it.
-use Rattle.std.proofs.Common.{◌≡◌, ℕ, zero, suc, List, [], ◌∷◌, Option, None, Some, slice_get, refl, subst, bytes_eq, Bool, true, false}
+use Rattle.std.proofs.Common.{◌≡◌, ℕ, zero, suc, List, [], ◌∷◌, Option, None, Some, slice_get, subst, bytes_eq, Bool, true, false}
 use Rattle.xc_tree.specs.declared.token.Tok.{Tok}
 use Rattle.xc_tree.specs.Plain as plain
-use Rattle.xc_tree.specs.Symbol.{Symbol, sym, key, a_name, a_number, many, maybe, commas, program, item, body, block, block_item, decl, statement, closed, branch, assign, Value, Values}
+use Rattle.xc_tree.specs.Symbol.{Symbol, sym, key, a_name, a_number, many, maybe, program, item, body, block, block_item, decl, statement, closed, branch, assign, Value, Values}
 use Rattle.xc_tree.specs.Grammar.{Rule, Extent, rules, kept}
 use Rattle.xc_tree.specs.Derives.{Room, extent, Derives, a_sym, a_key, named, counted, by_rule, Row, done, next}
 use Rattle.xc_kernel.specs.Programs.{Function, functions, function_by, function_named}
