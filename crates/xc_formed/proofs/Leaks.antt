@@ -171,7 +171,7 @@ module _ (copies : CopiesCall) (keep : CallsKeep copies) where
         by : Leaks c.numbering scope (statement_copy copies a (in_loop c pos) scope) t → Leaks c.numbering scope (action_copy copies (tree.do_while a test) pos close c scope) t
         by (inl e) = inl e
         by (inr e) = inr (in_a_loop c.numbering (block_number c.numbering (path_at c.path pos)) (block_number c.numbering (path_of_turn (path_at c.path pos))) (kernel.number 1) (kernel.statements (statement_copy copies a (in_loop c pos) scope).code)
-              (kernel.more (leave_unless c (path_at c.path pos) (expression c (statement_copy copies a (in_loop c pos) scope).scope test)) kernel.no_more) (entity_of (statement_copy copies a (in_loop c pos) scope).scope t) e)
+            (kernel.more (leave_unless c (path_at c.path pos) (expression c (statement_copy copies a (in_loop c pos) scope).scope test)) kernel.no_more) (entity_of (statement_copy copies a (in_loop c pos) scope).scope t) e)
     action_leaks (tree.for_loop first test next a) h pos close c scope t = inl refl
     action_leaks (tree.return_with r) h pos close c scope t = inl (same scope (return_copy copies c scope r).scope t (return_keeps c scope r))
     action_leaks tree.break_out h pos close c scope t = inl refl

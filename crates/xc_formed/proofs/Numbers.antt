@@ -32,7 +32,6 @@ module _ (n : NamedProgram) (fs : List Function) (ps : List PortUse) (num : Numb
   abbrev Standing : List ℕ → Option What → Entity → Type 0
   Standing t w e = Stands n fs ps num (H here) (J here) t w e
 
-
   pub word_well : (t : List ℕ) (w : Option What) (x : Entity) (pos : Pos) → Standing t w x → is_word w ≡ true → NumbersInExpression W (word_of_entity num pos x)
   word_well t _ _ pos (a_variable {path = path} h) e = listed path false 1 (λ q. refl) h
   word_well t _ _ pos (word_referred {path = path} h) e = listed path false 1 (λ q. refl) h

@@ -43,7 +43,8 @@ InputOn ts core i = ResourceOn ts core i.resource
 -- V of the core and the number of each variable that a root uses, and each timer on the root's core
 abbrev pub EachUseOn : kernel.Kernel → (ℕ → ℕ → Type 0) → Type 0
 EachUseOn k V =
-    EachRootOn (λ core. NumbersInExpression (λ v is_array. V core v)) (λ core. NumbersInPlace (λ v is_array. V core v)) V
+    EachRootOn (λ core. NumbersInExpression (λ v is_array. V core v))
+    (λ core. NumbersInPlace (λ v is_array. V core v)) V
     (OutputOn k.timers) (InputOn k.timers) (λ core. AnyNumber) k.roots
 
 -- each timer that a root uses is on the root's core, and so is each variable that no root on
@@ -61,7 +62,8 @@ pub record IsOn (vs : List Var) (core number : ℕ) : Type 0 where
 abbrev pub RootsKeepApart : kernel.Kernel → Type 0
 RootsKeepApart k =
     (a b : kernel.Root) (v : ℕ) → Contains k.roots a → Contains k.roots b →
-    by_statements (change v) a.body ≡ true → by_statements (variable v) b.body ≡ true → a.core ≡ b.core
+    by_statements (change v) a.body ≡ true → by_statements (variable v) b.body ≡ true →
+    a.core ≡ b.core
 
 -- each variable and each timer that a root uses is on the root's core
 abbrev pub CoresAreOwn : kernel.Kernel → Type 0

@@ -44,7 +44,8 @@ pub record HasPort (ps : List PortUse) (number : ℕ) (d : TreeDir) : Type 0 whe
 abbrev pub head_of : Function → tree.Head
 head_of f = f.head
 
--- an instance of what is declared so, an array with the length that it has, where H holds of each variable's path and J of each timer's
+-- an instance of what is declared so, an array with its variable's words as its length, where H holds
+-- of each variable's path and J of each timer's
 pub data Stands (n : NamedProgram) (fs : List Function) (ps : List PortUse) (num : Numbering) (H J : Path → Type 0) (t : List ℕ) : Option What → Entity → Type 0 where
   a_variable : {u : Bool} {path : Path} → HasVariable num H path false 1 →
       Stands n fs ps num H J t (Some (what.Word u)) (a_word path u)
@@ -52,7 +53,8 @@ pub data Stands (n : NamedProgram) (fs : List Function) (ps : List PortUse) (num
       Stands n fs ps num H J t (Some (what.Array u l)) (an_array path m u)
   word_referred : {u : Bool} {path : Path} → HasVariable num H path false 1 →
       Stands n fs ps num H J t (Some (what.Ref u)) (a_word path u)
-  element_referred : {u : Bool} {m : ℕ} {path index : Path} → HasVariable num H path true m → HasVariable num H index false 1 →
+  element_referred : {u : Bool} {m : ℕ} {path index : Path} →
+      HasVariable num H path true m → HasVariable num H index false 1 →
       Stands n fs ps num H J t (Some (what.Ref u)) (an_element path index u)
   array_referred : {u : Bool} {l : Option ℕ} {m : ℕ} {path : Path} → HasVariable num H path true m →
       Stands n fs ps num H J t (Some (what.ArrayParam u l)) (an_array path m u)

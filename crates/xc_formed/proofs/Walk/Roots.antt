@@ -166,8 +166,7 @@ module _ (n : NamedProgram) (fs : List Function) (ps : List PortUse) (num : Numb
               let d = record c { core = here } in
               let ct = statement_copy calls t d scope in
               let mh = m here in
-              let w = (statement.statement_well n fs ps num H J here X V S (E here) (F here) (L here) (Z here) (O here) (I here) (T here) (leaves here) gs) C calls ((statement.calls_well n fs ps num H J here X V S (E here) (F here) (L here) (Z here) (O here) (I here) (T here) (leaves here) gs (rights here)) depth) (calls_silent depth) t d scope st (inside a_branch around) (past k mp) (in_a_branch c here scope st around s) r1.1 g1.1 x (record { variables = mh.variables; channels = mh.channels; timers = mh.timers }) in
-              (
+              let w = (statement.statement_well n fs ps num H J here X V S (E here) (F here) (L here) (Z here) (O here) (I here) (T here) (leaves here) gs) C calls ((statement.calls_well n fs ps num H J here X V S (E here) (F here) (L here) (Z here) (O here) (I here) (T here) (leaves here) gs (rights here)) depth) (calls_silent depth) t d scope st (inside a_branch around) (past k mp) (in_a_branch c here scope st around s) r1.1 g1.1 x (record { variables = mh.variables; channels = mh.channels; timers = mh.timers }) in (
                 ((walk.as_statements n fs ps num H J here X V S (E here) (F here) (L here) (Z here) (O here) (I here) (T here)) ct.code w.code, tt),
                 λ a z. subst (λ (su : Stack). Known su ct.scope) (sym (quiet_skip st mp (marks.of_statement t) q))
                     (known_behind _ a.0 scope ct st (after st (marks.of_statement t)) (λ u. subst (λ (e : Numbering). Leaks e scope ct u) s.numbers (statement_leaks calls (calls_keep depth) t z d scope u)) s.known w.scope),
