@@ -10,17 +10,21 @@ use Rattle.xc_kernel.specs.Ports.{port_use}
 use Rattle.xc_kernel.specs.Copies.{numbering, copy_of}
 use Rattle.xc_kernel.specs.Sound.{IsTyped}
 use Rattle.xc_formed.specs.Each.{AnyExpression, AnyPlace, AnyNumber, AnyOutput, AnyInput, EachRoot}
-use Rattle.xc_formed.specs.Numbers.{IsListed, NumbersInExpression, NumbersInPlace, IsChannel, VariablesAreRight}
+use Rattle.xc_formed.specs.Numbers.{IsVariable, IsListed, NumbersInExpression, NumbersInPlace, IsChannel, VariablesAreRight}
+use Rattle.xc_formed.specs.Standing.{AnyPath}
 use Rattle.xc_formed.specs.Operands.{HasOperands, PlaceHasOperands, OperandsAreRight}
 use Rattle.xc_formed.specs.Levels.{IsLow, IsLowPlace, LevelsAreFew}
 use Rattle.xc_formed.specs.Transfers.{GoesOut, ComesIn, TransfersAreRight, TransactionsAreListed}
 use Rattle.xc_formed.specs.Exits.{ExitsAreInside}
+use Rattle.xc_formed.specs.Cores.{CoresAreRight}
 use Rattle.xc_formed.specs.Rising.{IsRising}
-use Rattle.xc_formed.specs.Laws.{VariablesRight, OperandsRight, LevelsFew, TransfersRight, TransactionsListed, ExitsInside, KernelsWellFormed, KernelsOfProgramsWellFormed}
+use Rattle.xc_formed.specs.Laws.{VariablesRight, OperandsRight, LevelsFew, TransfersRight, TransactionsListed, ExitsInside, CoresRight, CoresOwn, KernelsWellFormed, KernelsOfProgramsWellFormed}
 use Rattle.xc_formed.proofs.Rising.{of_text}
 use Rattle.xc_formed.proofs.Right.{Lower, IsRight, IsRightPlace, IsOne, right_leaves}
 use Rattle.xc_formed.proofs.Weaker.{each_root}
-use Rattle.xc_formed.proofs.Program.{roots_right, roots_leave}
+use Rattle.xc_formed.proofs.Cores as cores
+use Rattle.xc_formed.proofs.Own.{own}
+use Rattle.xc_formed.proofs.Program.{roots_alike, roots_leave_alike}
 
 module _ (P : List tree.Item) (n : NamedProgram) (types : List Bool) (typed : IsTyped P n types) (rising : IsRising P) (low : depth.of_program P ≤ deepest) where
   abbrev K : kernel.Kernel
@@ -28,12 +32,12 @@ module _ (P : List tree.Item) (n : NamedProgram) (types : List Bool) (typed : Is
 
   all_right : EachRoot (IsRight (numbering P)) (IsRightPlace (numbering P)) (IsListed (numbering P).variables) (GoesOut K) (ComesIn K) (IsOne (numbering P)) K.roots
   unfolding copy_of
-  all_right = roots_right P n (IsRight (numbering P)) (Lower (numbering P)) (IsRightPlace (numbering P)) (IsListed (numbering P).variables) (GoesOut K) (ComesIn K) (IsOne (numbering P)) (right_leaves n (functions P) (map port_use (ports P)) (numbering P)) types typed rising low
+  all_right = roots_alike P n (IsRight (numbering P)) (Lower (numbering P)) (IsRightPlace (numbering P)) (IsListed (numbering P).variables) (GoesOut K) (ComesIn K) (IsOne (numbering P)) (right_leaves n (functions P) (map port_use (ports P)) (numbering P) (λ k. AnyPath) (λ k. AnyPath)) types typed rising low
 
   variables : VariablesAreRight K
   unfolding copy_of
   variables =
-      each_root (IsRight (numbering P)) (NumbersInExpression K.variables) (IsRightPlace (numbering P)) (NumbersInPlace K.variables) (IsListed K.variables) (IsListed K.variables) (GoesOut K) AnyOutput (ComesIn K) AnyInput (IsOne (numbering P)) AnyNumber
+      each_root (IsRight (numbering P)) (NumbersInExpression (IsVariable K.variables)) (IsRightPlace (numbering P)) (NumbersInPlace (IsVariable K.variables)) (IsListed K.variables) (IsListed K.variables) (GoesOut K) AnyOutput (ComesIn K) AnyInput (IsOne (numbering P)) AnyNumber
       (λ e h. h.0) (λ p h. h.0) (λ v h. h) (λ o h. tt) (λ i h. tt) (λ c h. tt) K.roots all_right
 
   operands : OperandsAreRight K
@@ -59,7 +63,7 @@ module _ (P : List tree.Item) (n : NamedProgram) (types : List Bool) (typed : Is
 
   exits : ExitsAreInside K
   unfolding copy_of
-  exits = roots_leave P n (IsRight (numbering P)) (Lower (numbering P)) (IsRightPlace (numbering P)) (IsListed (numbering P).variables) (GoesOut K) (ComesIn K) (IsOne (numbering P)) (right_leaves n (functions P) (map port_use (ports P)) (numbering P)) types typed rising
+  exits = roots_leave_alike P n (IsRight (numbering P)) (Lower (numbering P)) (IsRightPlace (numbering P)) (IsListed (numbering P).variables) (GoesOut K) (ComesIn K) (IsOne (numbering P)) (right_leaves n (functions P) (map port_use (ports P)) (numbering P) (λ k. AnyPath) (λ k. AnyPath)) types typed rising
 
 -- so of each kernel that is such a copy
 pub variables_right : VariablesRight
@@ -80,6 +84,9 @@ transactions_listed P n types K typed low c = subst TransactionsAreListed (sym c
 pub exits_inside : ExitsInside
 exits_inside P n types K typed low c = subst ExitsAreInside (sym c.is_copy) (exits P n types typed (of_text P typed.text) low)
 
+pub cores_right : CoresRight
+cores_right P n types K typed low c = subst CoresAreRight (sym c.is_copy) (cores.cores_right P n types typed (of_text P typed.text) low)
+
 pub well_formed : KernelsWellFormed
 well_formed P n types K typed low c = record {
   variables = variables_right P n types K typed low c;
@@ -88,7 +95,11 @@ well_formed P n types K typed low c = record {
   transfers = transfers_right P n types K typed low c;
   transactions = transactions_listed P n types K typed low c;
   exits = exits_inside P n types K typed low c;
+  cores = cores_right P n types K typed low c;
 }
 
 pub of_programs : KernelsOfProgramsWellFormed
 of_programs K o = well_formed o.program o.sound.named o.sound.types K o.sound.typed o.shallow o.copies
+
+pub cores_own : CoresOwn
+cores_own K h apart = own K apart h.cores

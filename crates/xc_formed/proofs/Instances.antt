@@ -1,12 +1,12 @@
 -- The instances that a program's roots make are in the kernel's lists.
-use Rattle.std.proofs.Common.{◌≡◌, suc, ◌<◌, ◌⊎◌, inl, inr, Bool, true, false, ◌||◌, List, [], ◌∷◌, ◌++◌, length, slice_get, Some, refl, sym, ap, subst, ◌∙◌, true≢false, arith}
+use Rattle.std.proofs.Common.{◌≡◌, ℕ, suc, ◌<◌, ◌⊎◌, inl, inr, Bool, true, false, ◌||◌, List, [], ◌∷◌, ◌++◌, length, slice_get, Some, refl, sym, ap, subst, ◌∙◌, true≢false, arith}
 use Rattle.xc_tree.specs.Plain as tree
 use Rattle.std.specs.Cmp.Lexicographic.{bytes_decides}
 use Rattle.xc_kernel.specs.declared.kernel.Var.{Var}
 use Rattle.xc_kernel.specs.declared.kernel.Chan.{Chan}
 use Rattle.xc_kernel.specs.declared.kernel.Timer.{Timer}
 use Rattle.xc_kernel.specs.Paths.{Path, is_same, place_by, place_of_path, has_path, with_by, with_new, with_all}
-use Rattle.xc_kernel.specs.Numbering.{Numbering, path_of_variable, path_of_channel, path_of_timer, path_of_block}
+use Rattle.xc_kernel.specs.Numbering.{Numbering, timer_number, path_of_variable, path_of_channel, path_of_timer, path_of_block}
 use Rattle.xc_kernel.specs.Copy.{Copy, numbering_in}
 use Rattle.xc_kernel.specs.Copies.{rooted, numbering}
 use Rattle.xc_kernel.proofs.Paths.{there_before, there_at_end}
@@ -109,46 +109,63 @@ module _ {V : Type 0} (path_of : V → Path) where
   one_instance (z ∷ xs) d x y (inr i) (inl q) e = absurd (none_in (path_of z) xs x d.0 i (e ∙ sym (ap path_of q)))
   one_instance (z ∷ xs) d x y (inr i) (inr j) e = one_instance xs d.1 x y i j e
 
+  -- each instance is listed at the place of its path
+  pub each_listed : (xs : List V) → PathsDiffer path_of xs → AllIn (λ x. slice_get (with_all path_of [] xs) (place_of_path path_of (with_all path_of [] xs) (path_of x)) ≡ Some x) xs
+  each_listed xs differ = each_in (λ x. has_path path_of (with_all path_of [] xs) (path_of x) ≡ true) (λ x. slice_get (with_all path_of [] xs) (place_of_path path_of (with_all path_of [] xs) (path_of x)) ≡ Some x) xs xs make (λ x h. h) (all_there xs [])
+    where
+      make : (x : V) → In x xs → has_path path_of (with_all path_of [] xs) (path_of x) ≡ true → slice_get (with_all path_of [] xs) (place_of_path path_of (with_all path_of [] xs) (path_of x)) ≡ Some x
+      make x i h = by (first (with_all path_of [] xs) (path_of x) h)
+        where
+          among : (y : V) → In y [] ⊎ In y xs → In y xs
+          among y (inl g) = absurd g
+          among y (inr g) = g
+
+          by : First (with_all path_of [] xs) (path_of x) → slice_get (with_all path_of [] xs) (place_of_path path_of (with_all path_of [] xs) (path_of x)) ≡ Some x
+          by f = f.there ∙ ap (λ (y : V). Some y) (one_instance xs differ f.instance x (among f.instance (in_all xs [] f.instance f.among)) i ((bytes_decides (path_of f.instance) (path_of x)).0 f.same))
+
+  -- what is listed is there
+  abbrev pub IsAt : List V → V → Type 0
+  IsAt ys x = slice_get ys (place_of_path path_of ys (path_of x)) ≡ Some x
+
+  pub all_also : (P Q : V → Type 0) (xs : List V) → ((x : V) → P x → Q x) → AllIn P xs → AllIn Q xs
+  all_also P Q [] f h = tt
+  all_also P Q (x ∷ xs) f h = (f x h.0, all_also P Q xs f h.1)
+
 module _ (copy : Copy) where
   abbrev own : Numbering
   own = numbering_in copy
 
-  pub variables_made : NoneTwice copy → AllIn (λ (v : Var). HasVariable own v.path v.array) copy.variables
-  variables_made differ = each_in path_of_variable (λ v. has_path path_of_variable own.variables v.path ≡ true) (λ v. HasVariable own v.path v.array) copy.variables copy.variables make (λ x h. h) (all_there path_of_variable copy.variables [])
-    where
-      make : (v : Var) → In path_of_variable v copy.variables → has_path path_of_variable own.variables v.path ≡ true → HasVariable own v.path v.array
-      make v i h = by (first path_of_variable own.variables v.path h)
-        where
-          among : (w : Var) → In path_of_variable w [] ⊎ In path_of_variable w copy.variables → In path_of_variable w copy.variables
-          among w (inl g) = absurd g
-          among w (inr g) = g
+  module _ (H J : ℕ → Path → Type 0) where
+    pub variables_made : ((v : Var) → IsAt path_of_variable own.variables v → H v.core v.path) → NoneTwice copy → AllIn (λ (v : Var). HasVariable own (H v.core) v.path v.array v.words) copy.variables
+    variables_made holds differ = all_also path_of_variable (IsAt path_of_variable own.variables) (λ (v : Var). HasVariable own (H v.core) v.path v.array v.words) copy.variables
+        (λ v e. record { variable = v; there = e; array = refl; long = refl; holds = holds v e }) (each_listed path_of_variable copy.variables differ.variables)
 
-          by : First path_of_variable own.variables v.path → HasVariable own v.path v.array
-          by f = record {
-            variable = f.instance;
-            there = f.there;
-            array = ap (λ (w : Var). w.array) (one_instance path_of_variable copy.variables differ.variables f.instance v
-                (among f.instance (in_all path_of_variable copy.variables [] f.instance f.among)) i ((bytes_decides f.instance.path v.path).0 f.same));
-          }
+    pub timers_made : ((t : Timer) → IsAt path_of_timer own.timers t → J t.core t.path) → NoneTwice copy → AllIn (λ (t : Timer). HasTimer own (J t.core) t.path) copy.timers
+    timers_made holds differ = both_of copy.timers (all_also path_of_timer (λ t. has_path path_of_timer own.timers t.path ≡ true) (λ t. timer_number own t.path < length own.timers) copy.timers (λ t h. below path_of_timer own.timers t.path h) (all_there path_of_timer copy.timers [])) (each_listed path_of_timer copy.timers differ.timers)
+      where
+        both_of : (ts : List Timer) → AllIn (λ t. timer_number own t.path < length own.timers) ts → AllIn (IsAt path_of_timer own.timers) ts → AllIn (λ (t : Timer). HasTimer own (J t.core) t.path) ts
+        both_of [] h g = tt
+        both_of (t ∷ ts) h g = ((h.0, holds t g.0), both_of ts h.1 g.1)
 
   pub channels_made : AllIn (λ (c : Chan). HasChannel own c.path) copy.channels
   channels_made = each_in path_of_channel (λ c. has_path path_of_channel own.channels c.path ≡ true) (λ c. HasChannel own c.path) copy.channels copy.channels (λ c i h. below path_of_channel own.channels c.path h) (λ x h. h) (all_there path_of_channel copy.channels [])
-
-  pub timers_made : AllIn (λ (t : Timer). HasTimer own t.path) copy.timers
-  timers_made = each_in path_of_timer (λ t. has_path path_of_timer own.timers t.path ≡ true) (λ t. HasTimer own t.path) copy.timers copy.timers (λ c i h. below path_of_timer own.timers c.path h) (λ x h. h) (all_there path_of_timer copy.timers [])
 
   pub blocks_made : AllIn (λ (b : Path). has_path path_of_block own.blocks b ≡ true) copy.blocks
   blocks_made = all_there path_of_block copy.blocks []
 
 -- of a program
-pub program_variables : (P : List tree.Item) → NoneTwice (rooted P (numbering P)).made → AllIn (λ (v : Var). HasVariable (numbering P) v.path v.array) (rooted P (numbering P)).made.variables
-program_variables P h = subst (λ (m : Numbering). AllIn (λ (v : Var). HasVariable m v.path v.array) (rooted P (numbering P)).made.variables) (numbering_is_own P (numbering P)) (variables_made (rooted P (numbering P)).made h)
+pub program_variables : (P : List tree.Item) (H J : ℕ → Path → Type 0) → ((v : Var) → IsAt path_of_variable (numbering P).variables v → H v.core v.path) → NoneTwice (rooted P (numbering P)).made → AllIn (λ (v : Var). HasVariable (numbering P) (H v.core) v.path v.array v.words) (rooted P (numbering P)).made.variables
+program_variables P H J =
+    subst (λ (m : Numbering). ((v : Var) → IsAt path_of_variable m.variables v → H v.core v.path) → NoneTwice (rooted P (numbering P)).made → AllIn (λ (v : Var). HasVariable m (H v.core) v.path v.array v.words) (rooted P (numbering P)).made.variables) (numbering_is_own P (numbering P))
+    (variables_made (rooted P (numbering P)).made H J)
 
 pub program_channels : (P : List tree.Item) → AllIn (λ (c : Chan). HasChannel (numbering P) c.path) (rooted P (numbering P)).made.channels
 program_channels P = subst (λ (m : Numbering). AllIn (λ (c : Chan). HasChannel m c.path) (rooted P (numbering P)).made.channels) (numbering_is_own P (numbering P)) (channels_made (rooted P (numbering P)).made)
 
-pub program_timers : (P : List tree.Item) → AllIn (λ (t : Timer). HasTimer (numbering P) t.path) (rooted P (numbering P)).made.timers
-program_timers P = subst (λ (m : Numbering). AllIn (λ (t : Timer). HasTimer m t.path) (rooted P (numbering P)).made.timers) (numbering_is_own P (numbering P)) (timers_made (rooted P (numbering P)).made)
+pub program_timers : (P : List tree.Item) (H J : ℕ → Path → Type 0) → ((t : Timer) → IsAt path_of_timer (numbering P).timers t → J t.core t.path) → NoneTwice (rooted P (numbering P)).made → AllIn (λ (t : Timer). HasTimer (numbering P) (J t.core) t.path) (rooted P (numbering P)).made.timers
+program_timers P H J =
+    subst (λ (m : Numbering). ((t : Timer) → IsAt path_of_timer m.timers t → J t.core t.path) → NoneTwice (rooted P (numbering P)).made → AllIn (λ (t : Timer). HasTimer m (J t.core) t.path) (rooted P (numbering P)).made.timers) (numbering_is_own P (numbering P))
+    (timers_made (rooted P (numbering P)).made H J)
 
 pub program_blocks : (P : List tree.Item) → AllIn (λ (b : Path). has_path path_of_block (numbering P).blocks b ≡ true) (rooted P (numbering P)).made.blocks
 program_blocks P = subst (λ (m : Numbering). AllIn (λ (b : Path). has_path path_of_block m.blocks b ≡ true) (rooted P (numbering P)).made.blocks) (numbering_is_own P (numbering P)) (blocks_made (rooted P (numbering P)).made)

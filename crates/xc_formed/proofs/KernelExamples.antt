@@ -1,10 +1,11 @@
 -- Kernels that are well formed, and kernels that aren't, each for one reason.
-use Rattle.std.proofs.Common.{◌≡◌, inl, ℕ, zero, suc, ◌+◌, Bool, true, false, List, [], ◌∷◌, Option, Some, None, refl, sym, ap, ◌∙◌, true≢false, arith}
+use Rattle.std.proofs.Common.{◌≡◌, inl, inr, Contains, ⊎_elim, ℕ, zero, suc, ◌+◌, Bool, true, false, List, [], ◌∷◌, Option, Some, None, refl, sym, ap, ◌∙◌, true≢false, arith}
 use Rattle.xw_words.specs.declared.pos.Pos.{Pos}
 use Rattle.xc_tree.specs.declared.tree.TreeDir.TheVariants.{In, Out}
 use Rattle.xc_tree.specs.Symbols as symbols
 use Rattle.xc_tree.specs.Words.{pinseq_word, timerafter_word}
 use Rattle.xc_kernel.specs.declared.kernel.Var.{Var}
+use Rattle.xc_kernel.specs.declared.kernel.Timer.{Timer as KernelTimer}
 use Rattle.xc_kernel.specs.declared.kernel.PortUse.{PortUse}
 use Rattle.xc_kernel.specs.declared.statement.KRes.{KRes}
 use Rattle.xc_kernel.specs.declared.statement.KRes.TheVariants.{Port, Timer, Chan}
@@ -14,6 +15,7 @@ use Rattle.xc_formed.specs.Operands.{OperandsAreRight}
 use Rattle.xc_formed.specs.Levels.{levels, LevelsAreFew}
 use Rattle.xc_formed.specs.Transfers.{TransfersAreRight, TransactionsAreListed}
 use Rattle.xc_formed.specs.Exits.{ExitsAreInside}
+use Rattle.xc_formed.specs.Cores.{VariableOn, CoresAreRight}
 use Rattle.xc_formed.specs.Parts.{of_roots}
 use Rattle.xc_formed.specs.WellFormed.{IsWellFormed}
 
@@ -27,6 +29,9 @@ a_word = record { words = 1; array = false; counted = true; core = 0; path = 1 �
 abbrev an_array : Var
 an_array = record { words = 4; array = true; counted = true; core = 0; path = 1 ∷ 2 ∷ []; pos = spot }
 
+abbrev a_timer : KernelTimer
+a_timer = record { core = 0; path = 1 ∷ 4 ∷ []; pos = spot }
+
 abbrev reading : PortUse
 reading = record { id = 0; dir = In; core = 0; place = spot; pos = spot }
 
@@ -38,7 +43,7 @@ with_code code = record {
   roots = record { core = 0; place = spot; body = kernel.statements code; pos = spot } ∷ [];
   variables = a_word ∷ an_array ∷ [];
   channels = record { streaming = false; path = 1 ∷ 3 ∷ []; pos = spot } ∷ [];
-  timers = record { core = 0; path = 1 ∷ 4 ∷ []; pos = spot } ∷ [];
+  timers = a_timer ∷ [];
   ports = reading ∷ driving ∷ [];
   instances = [];
   main = spot;
@@ -223,16 +228,50 @@ good_is = record {
     tt,
   );
   exits = ((tt, (tt, (tt, (tt, (tt, (tt, (tt, (tt, ((refl, ((((refl, (refl, (refl, tt))), tt), tt), tt)), ((tt, tt), tt)))))))))), tt);
+  cores = (
+    (
+      word_on,
+      (
+        array_on,
+        (
+          (word_on, ((array_on, word_on), ((word_on, tt), tt))),
+          (
+            (((array_on, (array_on, tt))), word_on),
+            (
+              (tt, (word_on, (word_on, word_on))),
+              (
+                (tt, (tt, (word_on, (tt, word_on)))),
+                (
+                  (tt, (tt, (word_on, tt))),
+                  (
+                    (record { timer = a_timer; there = refl; place = refl }, (tt, (word_on, (tt, tt)))),
+                    (((word_on, (((tt, (tt, tt)), tt), tt)), tt), ((tt, ((tt, (tt, (word_on, tt))), tt)), tt)),
+                  ),
+                ),
+              ),
+            ),
+          ),
+        ),
+      ),
+    ),
+    tt,
+  );
 }
   where
+    word_on : VariableOn (a_word ∷ an_array ∷ []) good.roots 0 0
+    word_on = record { variable = a_word; there = refl; place = inl refl }
+
+    array_on : VariableOn (a_word ∷ an_array ∷ []) good.roots 0 1
+    array_on = record { variable = an_array; there = refl; place = inl refl }
+
     a_word_there : Rattle.xc_formed.specs.Numbers.IsVariable (a_word ∷ an_array ∷ []) 0 false
-    a_word_there = record { variable = a_word; there = refl; array = refl }
+    a_word_there = record { variable = a_word; there = refl; array = refl; one_word = λ e. refl }
 
     an_array_there : Rattle.xc_formed.specs.Numbers.IsVariable (a_word ∷ an_array ∷ []) 1 true
-    an_array_there = record { variable = an_array; there = refl; array = refl }
+    an_array_there = record { variable = an_array; there = refl; array = refl; one_word = λ e. absurd (true≢false e) }
 
--- it has 37 parts: 5 words that are set to 0, each node, a reading and its place being two, and the root
-good_parts : of_roots good.variables good.roots ≡ 37
+-- it has 25 parts: 5 words that are set to 0, each node, a reading and its place being one, and the root
+good_parts : of_roots good.variables good.roots ≡ 25
 good_parts = refl
 
 some_array : (v w : Var) (b : Bool) → Some v ≡ Some w → w.array ≡ b → v.array ≡ b
@@ -253,6 +292,16 @@ element_of_word h = true≢false (sym (some_array a_word h.0.0.0.0.variable true
 
 not_listed : VariablesAreRight (with_code (kernel.set_zero 2 ∷ [])) → ⊥
 not_listed h = none_there h.0.0.variable h.0.0.there
+
+-- a word of a variable that is no array and has two words
+abbrev two_words : Var
+two_words = record a_word { words = 2 }
+
+word_of_two : VariablesAreRight (record (with_code (kernel.set (kernel.word 0) (kernel.number 1) ∷ [])) { variables = two_words ∷ [] }) → ⊥
+word_of_two h = let e : ◌≡◌ {A = ℕ} 2 1 = ap (λ (v : Var). v.words) (some_same two_words h.0.0.0.variable h.0.0.0.there) ∙ h.0.0.0.one_word refl in absurd (omega arith)
+  where
+    some_same : (a c : Var) → Some a ≡ Some c → a ≡ c
+    some_same a c q = cc
 
 -- three operands of a `+`, two of a `!`, and an operation by no operator
 three_added : OperandsAreRight (with_code (kernel.set (kernel.word 0) (operation symbols.plus (kernel.more_operands x (two x x))) ∷ [])) → ⊥
@@ -337,3 +386,45 @@ in_its_branch h = true≢false h.0.0.1.0.0.0.0
 -- two blocks of one number, one behind the other, are well placed
 one_behind_another : ExitsAreInside (with_code (kernel.block 0 kernel.no_more ∷ kernel.block 0 kernel.no_more ∷ []))
 one_behind_another = (((refl, tt), ((refl, tt), tt)), tt)
+
+-- a root of this core and these statements
+abbrev root_on : ℕ → List kernel.Statement → kernel.Root
+root_on core code = record { core = core; place = spot; body = kernel.statements code; pos = spot }
+
+-- a word on core 1, and a timer there
+abbrev far_word : Var
+far_word = record a_word { core = 1 }
+
+abbrev far_timer : KernelTimer
+far_timer = record a_timer { core = 1 }
+
+abbrev with_far : List kernel.Root → kernel.Kernel
+with_far rs = record (with_code []) { roots = rs; variables = far_word ∷ []; timers = far_timer ∷ [] }
+
+-- a root on core 0 that uses the word, where no root on core 1 changes it
+word_elsewhere : CoresAreRight (with_far (root_on 0 (kernel.set_zero 0 ∷ []) ∷ [])) → ⊥
+word_elsewhere h = ⊎_elim (λ e. here (ap (λ (v : Var). v.core) (some_same far_word h.0.0.variable h.0.0.there) ∙ e)) (λ c. changed c.root c.among (c.there ∙ sym (ap (λ (v : Var). v.core) (some_same far_word h.0.0.variable h.0.0.there)))) h.0.0.place
+  where
+    some_same : (a c : Var) → Some a ≡ Some c → a ≡ c
+    some_same a c q = cc
+
+    here : ◌≡◌ {A = ℕ} 1 0 → ⊥
+    here e = absurd (omega arith)
+
+    changed : (r : kernel.Root) → Contains (root_on 0 (kernel.set_zero 0 ∷ []) ∷ []) r → r.core ≡ 1 → ⊥
+    changed r (zero, l, e) q = here (sym (ap (λ (y : kernel.Root). y.core) e ∙ q))
+    changed r (suc i, l, e) q = absurd (omega arith)
+
+-- the word that a root on core 1 inputs, and a later one on core 0 uses: the other rules of a kernel refuse it
+word_of_another : CoresAreRight (with_far (root_on 1 (kernel.set_zero 0 ∷ []) ∷ root_on 0 (kernel.set_zero 0 ∷ []) ∷ []))
+word_of_another = (
+  (record { variable = far_word; there = refl; place = inl refl }, tt),
+  ((record { variable = far_word; there = refl; place = inr (record { root = root_on 1 (kernel.set_zero 0 ∷ []); among = (0, omega arith, refl); there = refl; changes = refl }) }, tt), tt),
+)
+
+-- a timer of core 1 that a root on core 0 uses
+timer_elsewhere : CoresAreRight (with_far (root_on 0 (come (Timer 0) None None None ∷ []) ∷ [])) → ⊥
+timer_elsewhere h = let e : ◌≡◌ {A = ℕ} 1 0 = ap (λ (t : KernelTimer). t.core) (some_same far_timer h.0.0.0.timer h.0.0.0.there) ∙ h.0.0.0.place in absurd (omega arith)
+  where
+    some_same : (a c : KernelTimer) → Some a ≡ Some c → a ≡ c
+    some_same a c q = cc

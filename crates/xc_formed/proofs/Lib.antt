@@ -6,6 +6,8 @@ pub mod Functions
 pub mod FineSites
 pub mod Shaped
 pub mod Grammar
+pub mod Strays
+pub mod Leaks
 pub mod Shallow
 pub mod Talks
 pub mod Walk
@@ -22,6 +24,8 @@ pub mod Transferred
 pub mod Low
 pub mod Right
 pub mod Program
+pub mod Cores
+pub mod Own
 pub mod Weaker
 pub mod Formed
 pub mod Gives

@@ -1,5 +1,5 @@
 -- The variables of expressions and places are right.
-use Rattle.std.proofs.Common.{◌≡◌, ℕ, ◌+◌, Bool, true, false, List, ◌++◌, Option, sym, true≢false}
+use Rattle.std.proofs.Common.{◌≡◌, ℕ, ◌+◌, Bool, true, false, List, ◌++◌, Option, refl, sym, true≢false}
 use Rattle.xw_words.specs.declared.pos.Pos.{Pos}
 use Rattle.xc_tree.specs.declared.names.What.{What}
 use Rattle.xc_tree.specs.Plain as tree
@@ -17,7 +17,7 @@ use Rattle.xc_kernel.specs.Programs.{Function}
 use Rattle.xc_formed.specs.Stacks.{Stack, Resolves}
 use Rattle.xc_formed.specs.Standing.{HasVariable, Stands, a_variable, whole_array, word_referred, element_referred, array_referred, the_channel, the_end, the_timer, the_port, port_given, the_index, the_function, none_there, Agrees}
 use Rattle.xc_kernel.specs.Expressions.{place_of_entity, word_of_entity, array_number, form_in}
-use Rattle.xc_formed.specs.Numbers.{IsVariable, NumbersInExpression, NumbersInPlace}
+use Rattle.xc_formed.specs.Numbers.{NumbersInExpression, NumbersInPlace}
 use Rattle.xc_formed.proofs.Stacks.{quiet_split, quiet_expression}
 use Rattle.xc_formed.proofs.Shaped.{IsLval}
 use Rattle.xc_formed.proofs.Walk.Arguments.{AllIn, split, IsFine, standing}
@@ -25,20 +25,17 @@ use Rattle.xc_formed.proofs.Walk.Arguments.{AllIn, split, IsFine, standing}
 pub no : {A : Type 0} → false ≡ true → A
 no e = absurd (true≢false (sym e))
 
-module _ (n : NamedProgram) (fs : List Function) (ps : List PortUse) (num : Numbering) where
+module _ (n : NamedProgram) (fs : List Function) (ps : List PortUse) (num : Numbering) (H J : ℕ → Path → Type 0) (here : ℕ) (W : ℕ → Bool → Type 0) (listed : (path : Path) (b : Bool) (words : ℕ) → (b ≡ false → words ≡ 1) → HasVariable num (H here) path b words → W (variable_number num path) b) where
   abbrev Known : Stack → Scope → Type 0
-  Known st scope = Agrees n fs ps num st scope
+  Known st scope = Agrees n fs ps num (H here) (J here) st scope
 
   abbrev Standing : List ℕ → Option What → Entity → Type 0
-  Standing t w e = Stands n fs ps num t w e
+  Standing t w e = Stands n fs ps num (H here) (J here) t w e
 
-  pub listed : (path : Path) (b : Bool) → HasVariable num path b → IsVariable num.variables (variable_number num path) b
-  listed path b h = record { variable = h.variable; there = h.there; array = h.array }
-
-  pub word_well : (t : List ℕ) (w : Option What) (x : Entity) (pos : Pos) → Standing t w x → is_word w ≡ true → NumbersInExpression num.variables (word_of_entity num pos x)
-  word_well t _ _ pos (a_variable {path = path} h) e = listed path false h
-  word_well t _ _ pos (word_referred {path = path} h) e = listed path false h
-  word_well t _ _ pos (element_referred {path = path} {index = index} h g) e = (listed path true h, listed index false g)
+  pub word_well : (t : List ℕ) (w : Option What) (x : Entity) (pos : Pos) → Standing t w x → is_word w ≡ true → NumbersInExpression W (word_of_entity num pos x)
+  word_well t _ _ pos (a_variable {path = path} h) e = listed path false 1 (λ q. refl) h
+  word_well t _ _ pos (word_referred {path = path} h) e = listed path false 1 (λ q. refl) h
+  word_well t _ _ pos (element_referred {m = m} {path = path} {index = index} h g) e = (listed path true m (λ q. absurd (true≢false q)) h, listed index false 1 (λ q. refl) g)
   word_well t _ _ pos the_index e = tt
   word_well t _ _ pos (whole_array h) e = no e
   word_well t _ _ pos (array_referred h) e = no e
@@ -50,10 +47,10 @@ module _ (n : NamedProgram) (fs : List Function) (ps : List PortUse) (num : Numb
   word_well t _ _ pos (the_function h) e = no e
   word_well t _ _ pos none_there e = no e
 
-  pub place_well : (t : List ℕ) (w : Option What) (x : Entity) (pos : Pos) → Standing t w x → is_word w ≡ true → is_index w ≡ false → NumbersInPlace num.variables (place_of_entity num pos x)
-  place_well t _ _ pos (a_variable {path = path} h) e i = listed path false h
-  place_well t _ _ pos (word_referred {path = path} h) e i = listed path false h
-  place_well t _ _ pos (element_referred {path = path} {index = index} h g) e i = (listed path true h, listed index false g)
+  pub place_well : (t : List ℕ) (w : Option What) (x : Entity) (pos : Pos) → Standing t w x → is_word w ≡ true → is_index w ≡ false → NumbersInPlace W (place_of_entity num pos x)
+  place_well t _ _ pos (a_variable {path = path} h) e i = listed path false 1 (λ q. refl) h
+  place_well t _ _ pos (word_referred {path = path} h) e i = listed path false 1 (λ q. refl) h
+  place_well t _ _ pos (element_referred {m = m} {path = path} {index = index} h g) e i = (listed path true m (λ q. absurd (true≢false q)) h, listed index false 1 (λ q. refl) g)
   place_well t _ _ pos the_index e i = absurd (true≢false i)
   place_well t _ _ pos (whole_array h) e i = no e
   place_well t _ _ pos (array_referred h) e i = no e
@@ -65,9 +62,9 @@ module _ (n : NamedProgram) (fs : List Function) (ps : List PortUse) (num : Numb
   place_well t _ _ pos (the_function h) e i = no e
   place_well t _ _ pos none_there e i = no e
 
-  pub array_well : (t : List ℕ) (w : Option What) (x : Entity) → Standing t w x → is_array w ≡ true → IsVariable num.variables (array_number num x) true
-  array_well t _ _ (whole_array {path = path} h) e = listed path true h
-  array_well t _ _ (array_referred {path = path} h) e = listed path true h
+  pub array_well : (t : List ℕ) (w : Option What) (x : Entity) → Standing t w x → is_array w ≡ true → W (array_number num x) true
+  array_well t _ _ (whole_array {m = m} {path = path} h) e = listed path true m (λ q. absurd (true≢false q)) h
+  array_well t _ _ (array_referred {m = m} {path = path} h) e = listed path true m (λ q. absurd (true≢false q)) h
   array_well t _ _ (a_variable h) e = no e
   array_well t _ _ (word_referred h) e = no e
   array_well t _ _ (element_referred h g) e = no e
@@ -82,13 +79,13 @@ module _ (n : NamedProgram) (fs : List Function) (ps : List PortUse) (num : Numb
 
   module _ (st : Stack) (scope : Scope) (known : Known st scope) where
     mutual
-      pub expression_well : (e : tree.Expression) (k : ℕ) → Resolves n k st (marks.of_expression e) → AllIn IsFine (site.of_expression n k e) → NumbersInExpression num.variables (expression_in num scope e)
+      pub expression_well : (e : tree.Expression) (k : ℕ) → Resolves n k st (marks.of_expression e) → AllIn IsFine (site.of_expression n k e) → NumbersInExpression W (expression_in num scope e)
       expression_well (tree.expression f p) k r g = form_well f p k r g
 
-      form_well : (f : tree.Form) (p : Pos) (k : ℕ) → Resolves n k st (marks.of_form p f) → AllIn IsFine (site.of_form n k p f) → NumbersInExpression num.variables (form_in num scope p f)
+      form_well : (f : tree.Form) (p : Pos) (k : ℕ) → Resolves n k st (marks.of_form p f) → AllIn IsFine (site.of_form n k p f) → NumbersInExpression W (form_in num scope p f)
       form_well (tree.number v u) p k r g = tt
-      form_well (tree.name t) p k r g = word_well t _ _ p (standing n fs ps num st scope k t known r.0) g.0
-      form_well (tree.index t i) p k r g = (array_well t _ _ (standing n fs ps num st scope k t known r.0) g.0, expression_well i (k + 1) r.1 g.1.1)
+      form_well (tree.name t) p k r g = word_well t _ _ p (standing n fs ps num H J here st scope k t known r.0) g.0
+      form_well (tree.index t i) p k r g = (array_well t _ _ (standing n fs ps num H J here st scope k t known r.0) g.0, expression_well i (k + 1) r.1 g.1.1)
       form_well (tree.unary o a) p k r g = (expression_well a k r g.1, tt)
       form_well (tree.binary o a b) p k r g =
           let r1 = quiet_split n k st (marks.of_expression a) (marks.of_expression b) (quiet_expression a) r in
@@ -103,9 +100,9 @@ module _ (n : NamedProgram) (fs : List Function) (ps : List PortUse) (num : Numb
           (expression_well q k r1.0 g1.0, (expression_well a k1 r2.0 g2.0, (expression_well b (past k1 (marks.of_expression a)) r2.1 g2.1, tt)))
       form_well (tree.cast u a) p k r g = expression_well a k r g.1
 
-    pub lval_well : (e : tree.Expression) (k : ℕ) → Resolves n k st (marks.of_expression e) → AllIn IsFine (site.of_lval n k e) → IsLval e → NumbersInPlace num.variables (kernel_place num scope e)
-    lval_well (tree.expression (tree.name t) p) k r g x = place_well t _ _ p (standing n fs ps num st scope k t known r.0) g.0.0 g.0.1
-    lval_well (tree.expression (tree.index t i) p) k r g x = (array_well t _ _ (standing n fs ps num st scope k t known r.0) g.0, expression_well i (k + 1) r.1 g.1.1)
+    pub lval_well : (e : tree.Expression) (k : ℕ) → Resolves n k st (marks.of_expression e) → AllIn IsFine (site.of_lval n k e) → IsLval e → NumbersInPlace W (kernel_place num scope e)
+    lval_well (tree.expression (tree.name t) p) k r g x = place_well t _ _ p (standing n fs ps num H J here st scope k t known r.0) g.0.0 g.0.1
+    lval_well (tree.expression (tree.index t i) p) k r g x = (array_well t _ _ (standing n fs ps num H J here st scope k t known r.0) g.0, expression_well i (k + 1) r.1 g.1.1)
     lval_well (tree.expression (tree.number v u) p) k r g x = absurd x
     lval_well (tree.expression (tree.unary o a) p) k r g x = absurd x
     lval_well (tree.expression (tree.binary o a b) p) k r g x = absurd x
@@ -113,9 +110,9 @@ module _ (n : NamedProgram) (fs : List Function) (ps : List PortUse) (num : Numb
     lval_well (tree.expression (tree.cast u a) p) k r g x = absurd x
 
     -- what stands at a place that can be assigned to
-    pub lval_read : (e : tree.Expression) (k : ℕ) → Resolves n k st (marks.of_expression e) → AllIn IsFine (site.of_lval n k e) → IsLval e → NumbersInExpression num.variables (expression_in num scope e)
-    lval_read (tree.expression (tree.name t) p) k r g x = word_well t _ _ p (standing n fs ps num st scope k t known r.0) g.0.0
-    lval_read (tree.expression (tree.index t i) p) k r g x = (array_well t _ _ (standing n fs ps num st scope k t known r.0) g.0, expression_well i (k + 1) r.1 g.1.1)
+    pub lval_read : (e : tree.Expression) (k : ℕ) → Resolves n k st (marks.of_expression e) → AllIn IsFine (site.of_lval n k e) → IsLval e → NumbersInExpression W (expression_in num scope e)
+    lval_read (tree.expression (tree.name t) p) k r g x = word_well t _ _ p (standing n fs ps num H J here st scope k t known r.0) g.0.0
+    lval_read (tree.expression (tree.index t i) p) k r g x = (array_well t _ _ (standing n fs ps num H J here st scope k t known r.0) g.0, expression_well i (k + 1) r.1 g.1.1)
     lval_read (tree.expression (tree.number v u) p) k r g x = absurd x
     lval_read (tree.expression (tree.unary o a) p) k r g x = absurd x
     lval_read (tree.expression (tree.binary o a b) p) k r g x = absurd x

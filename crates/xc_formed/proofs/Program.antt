@@ -15,7 +15,12 @@ use Rattle.xc_tree.specs.Types.Sites as site
 use Rattle.xc_tree.specs.Shapes.Around.{is_main, is_empty}
 use Rattle.xc_kernel.specs.declared.kernel.PortUse.{PortUse}
 use Rattle.xc_kernel.specs.Plain as kernel
-use Rattle.xc_kernel.specs.Numbering.{Numbering}
+use Rattle.xc_kernel.specs.declared.kernel.Var.{Var}
+use Rattle.xc_kernel.specs.declared.kernel.Timer.{Timer}
+use Rattle.xc_kernel.specs.Paths.{Path}
+use Rattle.xc_kernel.specs.Things.{change, by_statements}
+use Rattle.xc_kernel.specs.Copy.{Copy}
+use Rattle.xc_kernel.specs.Numbering.{Numbering, variable_number, path_of_variable, path_of_timer}
 use Rattle.xc_kernel.specs.Scopes.{Entity, entity_of}
 use Rattle.xc_kernel.specs.Programs.{Function, functions, ports, main_of, function_by, function_named, name_of_main}
 use Rattle.xc_kernel.specs.Ports.{port_use, scope_of_ports}
@@ -25,8 +30,8 @@ use Rattle.xc_kernel.specs.Sound.{IsTyped}
 use Rattle.xc_meaning.specs.Texts.Called.{GoesWithin}
 use Rattle.xc_meaning.proofs.Recursion.End.{calls_end}
 use Rattle.xc_formed.specs.Stacks.{Frame, outer, found_in}
-use Rattle.xc_formed.specs.Standing.{head_of, Agrees, Stands, a_variable, whole_array, word_referred, element_referred, array_referred, the_channel, the_end, the_timer, the_port, port_given, the_index, the_function, none_there}
-use Rattle.xc_formed.specs.Each.{EachRoot}
+use Rattle.xc_formed.specs.Standing.{AnyPath, head_of, Agrees, Stands, a_variable, whole_array, word_referred, element_referred, array_referred, the_channel, the_end, the_timer, the_port, port_given, the_index, the_function, none_there}
+use Rattle.xc_formed.specs.Each.{EachRoot, EachRootOn}
 use Rattle.xc_formed.specs.Exits.{EachRootLeaves}
 use Rattle.xc_formed.specs.Rising.{IsRising}
 use Rattle.xc_formed.proofs.Shaped.{Assigns}
@@ -38,8 +43,9 @@ use Rattle.xc_formed.proofs.FineSites.{fine_sites}
 use Rattle.xc_formed.proofs.Resolved.{names_resolve, outer_differ}
 use Rattle.xc_formed.proofs.Outside.{Among, bottom, decl_of_item, outer_item, found_there}
 use Rattle.xc_formed.proofs.Functions.{functions_right, right_named, outside_known, outside_instance}
-use Rattle.xc_formed.proofs.Instances.{program_variables, program_channels, program_timers, program_blocks}
+use Rattle.xc_formed.proofs.Instances.{IsAt, program_variables, program_channels, program_timers, program_blocks}
 use Rattle.xc_formed.proofs.Right.{IsShallow, IsShallowLval}
+use Rattle.xc_formed.proofs.Strays.{functions_stand, stand_named}
 use Rattle.xc_formed.proofs.Shallow.{IsGrown, all_grown, grown_named, any_statement, body_shaped}
 use Rattle.xc_formed.proofs.Rising.{functions_differ}
 use Rattle.xc_formed.proofs.Leaving.{IsFineOf, calls_good, roots_good}
@@ -111,13 +117,13 @@ module _ (P : List tree.Item) (n : NamedProgram) where
   abbrev num : Numbering
   num = numbering P
 
-  module _ (E F : kernel.Expression → Type 0) (L : kernel.Place → Type 0) (Z : ℕ → Type 0) (O : kernel.Output → Type 0) (I : kernel.Input → Type 0) (T : ℕ → Type 0) (leaves : walk.Leaves n fs ps num IsShallow IsShallowLval Assigns E F L Z O I T) where
-    abbrev Right : Frame → Function → Type 0
-    Right gs f = walk.FunctionRight n fs ps num IsShallow IsShallowLval Assigns E F L Z O I T gs f
+  module _ (H J : ℕ → Path → Type 0) (E F : ℕ → kernel.Expression → Type 0) (L : ℕ → kernel.Place → Type 0) (Z : ℕ → ℕ → Type 0) (O : ℕ → kernel.Output → Type 0) (I : ℕ → kernel.Input → Type 0) (T : ℕ → ℕ → Type 0) (leaves : (here : ℕ) → walk.Leaves n fs ps num H J here IsShallow IsShallowLval Assigns (E here) (F here) (L here) (Z here) (O here) (I here) (T here)) where
+    abbrev Right : ℕ → Frame → Function → Type 0
+    Right here gs f = walk.FunctionRight n fs ps num H J here IsShallow IsShallowLval Assigns (E here) (F here) (L here) (Z here) (O here) (I here) (T here) gs f
 
     -- all code of roots is right
     abbrev pub RootsRight : List kernel.Root → Type 0
-    RootsRight rs = EachRoot E L Z O I T rs
+    RootsRight rs = EachRootOn E L Z O I T rs
 
     module _ (types : List Bool) (typed : IsTyped P n types) where
       abbrev gs : Frame
@@ -127,18 +133,18 @@ module _ (P : List tree.Item) (n : NamedProgram) where
       unfolding site.sites
       fine = subst (λ (items : List tree.Item). AllIn IsFine (site.of_items n 0 0 items)) typed.is_named.program_is (fine_sites n typed.types_and_shapes)
 
-      all_right : AllIn (Right gs) fs
-      all_right = functions_right n fs ps num IsShallow IsShallowLval Assigns E F L Z O I T P 0 0 gs gs (outer_differ P n types typed) (bottom (λ t. refl)) (all_among gs gs (λ d a. a)) (names_resolve P n types typed) fine
+      all_right : (here : ℕ) → AllIn (Right here gs) fs
+      all_right here = functions_right n fs ps num H J here IsShallow IsShallowLval Assigns (E here) (F here) (L here) (Z here) (O here) (I here) (T here) P 0 0 gs gs (outer_differ P n types typed) (bottom (λ t. refl)) (all_among gs gs (λ d a. a)) (names_resolve P n types typed) fine
 
-      right_by_name : (t : List ℕ) (f : Function) → function_named fs t ≡ Some f → Right gs f
-      right_by_name t f e = right_named n fs ps num IsShallow IsShallowLval Assigns E F L Z O I T gs fs all_right t f e
+      right_by_name : (here : ℕ) (t : List ℕ) (f : Function) → function_named fs t ≡ Some f → Right here gs f
+      right_by_name here t f e = right_named n fs ps num H J here IsShallow IsShallowLval Assigns (E here) (F here) (L here) (Z here) (O here) (I here) (T here) gs fs (all_right here) t f e
 
-      pub ports_are : Agrees n fs ps num (gs ∷ []) (scope_of_ports 0 (ports P))
-      ports_are t = (
-        outside_known n fs ps num IsShallow IsShallowLval Assigns E F L Z O I T P 0 0 (outer_differ P n types typed)
+      pub ports_are : (here : ℕ) → Agrees n fs ps num (H here) (J here) (gs ∷ []) (scope_of_ports 0 (ports P))
+      ports_are here t = (
+        outside_known n fs ps num H J here IsShallow IsShallowLval Assigns (E here) (F here) (L here) (Z here) (O here) (I here) (T here) P 0 0 (outer_differ P n types typed)
             (λ j x e. subst (λ (items : List tree.Item). slice_get items (0 + j) ≡ Some x) (sym typed.is_named.program_is) (subst (λ (u : ℕ). slice_get P u ≡ Some x) (zero_more j) e))
             (λ j p e. record { port = port_use p; there = subst (λ (u : ℕ). slice_get ps u ≡ Some (port_use p)) (zero_more j) (port_there (ports P) j p e); direction = refl }) t refl,
-        outside_instance n fs ps num IsShallow IsShallowLval Assigns E F L Z O I T P 0 0
+        outside_instance n fs ps num H J here IsShallow IsShallowLval Assigns (E here) (F here) (L here) (Z here) (O here) (I here) (T here) P 0 0
             (λ j p e. (port_use p, subst (λ (u : ℕ). slice_get ps u ≡ Some (port_use p)) (zero_more j) (port_there (ports P) j p e), refl)) t,
       )
 
@@ -155,7 +161,7 @@ module _ (P : List tree.Item) (n : NamedProgram) where
       FindsFunction t (Some (what.Func g)) = function_of n (Some (what.Func g)) ≡ option_map head_of (function_named fs t)
       FindsFunction t other = Unit {0}
 
-      finds : (t : List ℕ) (w : Option What) (e : Entity) → Stands n fs ps num t w e → FindsFunction t w
+      finds : (t : List ℕ) (w : Option What) (e : Entity) → Stands n fs ps num (H 0) (J 0) t w e → FindsFunction t w
       unfolding FindsFunction
       finds t _ _ (the_function h) = h
       finds t _ _ (a_variable h) = tt
@@ -177,7 +183,7 @@ module _ (P : List tree.Item) (n : NamedProgram) where
       main_head k m =
           let d = decl_of_item (0 + k) (tree.function m.head m.body) in
           let at = found_there gs d name_of_main (outer_differ P n types typed) (item_among P 0 k (tree.function m.head m.body) m.there) ((bytes_eq-Decides m.head.name.text name_of_main).1 m.spelled) in
-          let found = subst (λ (w : Option What). FindsFunction name_of_main w) (ap what_of at) (finds name_of_main (what_of (found_in gs name_of_main None)) (entity_of (scope_of_ports 0 (ports P)) name_of_main) (ports_are name_of_main).0) in
+          let found = subst (λ (w : Option What). FindsFunction name_of_main w) (ap what_of at) (finds name_of_main (what_of (found_in gs name_of_main None)) (entity_of (scope_of_ports 0 (ports P)) name_of_main) (ports_are 0 name_of_main).0) in
           sym (ap head_of_item (ap (λ (items : List tree.Item). slice_get items (0 + k)) typed.is_named.program_is ∙ (ap (slice_get P) (sym (zero_more k)) ∙ m.there))) ∙ found
 
       pub has_main : HasMain
@@ -204,7 +210,7 @@ module _ (P : List tree.Item) (n : NamedProgram) where
           by (Some f) e = with f e f.head.params refl
 
       fine_by_name : (t : List ℕ) (f : Function) → function_named fs t ≡ Some f → IsFineOf n f
-      fine_by_name t f e = let r = right_by_name t f e in record { at = r.body_at; fine = r.fine }
+      fine_by_name t f e = let r = right_by_name 0 t f e in record { at = r.body_at; fine = r.fine }
 
       -- what its roots leave are blocks around
       pub roots_leave : IsRising P → EachRootLeaves (rooted P num).roots
@@ -212,12 +218,16 @@ module _ (P : List tree.Item) (n : NamedProgram) where
           let d = program_differs P num (functions_differ P rising) in
           roots_good n fs fine_by_name (calls_of P) (calls_good n fs fine_by_name (length fs)) (main_of P) (roots.context_of P num) refl (fine_by_name name_of_main) (record { differ = d.blocks; there = program_blocks P })
 
-      module _ (rising : IsRising P) (low : depth.of_program P ≤ deepest) where
-        abbrev Made : Type 0
-        Made = walk.Made n fs ps num IsShallow IsShallowLval Assigns E F L Z O I T (rooted P num).made
+      -- this holds of what is listed, of each root, and of what a root changes
+      module _ (rising : IsRising P) (low : depth.of_program P ≤ deepest) (of_variable : (v : Var) → IsAt path_of_variable num.variables v → H v.core v.path) (of_timer : (t : Timer) → IsAt path_of_timer num.timers t → J t.core t.path)
+          (A : kernel.Root → Type 0) (all_roots : AllIn A (rooted P num).roots) (may : (r : kernel.Root) → A r → (path : Path) → H r.core path → by_statements (change (variable_number num path)) r.body ≡ true → (here : ℕ) → H here path) where
+        abbrev MadeBy : Copy → Type 0
+        MadeBy copy = (here : ℕ) → walk.Made n fs ps num H J here IsShallow IsShallowLval Assigns (E here) (F here) (L here) (Z here) (O here) (I here) (T here) copy
 
-        made : Made
-        made = record { variables = program_variables P (program_differs P num (functions_differ P rising)); channels = program_channels P; timers = program_timers P }
+        made : MadeBy (rooted P num).made
+        made here =
+            let d = program_differs P num (functions_differ P rising) in
+            record { variables = program_variables P H J of_variable d; channels = program_channels P; timers = program_timers P H J of_timer d }
 
         grown : AllOf IsGrown fs
         grown = all_grown P (program_shaped typed.text.read.toks _ 0 (length typed.text.read.toks) P typed.text.read.derived) low
@@ -227,10 +237,32 @@ module _ (P : List tree.Item) (n : NamedProgram) where
         roots_right =
             let m = has_main in
             let main = m.main in
-            let r = right_by_name name_of_main main m.main_is in
-            let right_main : rooted_walk.MainRight n fs ps num IsShallow IsShallowLval Assigns E F L Z O I T leaves gs right_by_name (length fs) main = record { right = r; alone = m.alone; form = λ e. form_of _ _ _ r.form (in_main main m.alone (named_so fs name_of_main main m.main_is)) e } in
+            let r = right_by_name 0 name_of_main main m.main_is in
+            let right_main : rooted_walk.MainRight n fs ps num H J IsShallow IsShallowLval Assigns E F L Z O I T leaves gs right_by_name A may (length fs) main = record {
+              right = λ here. right_by_name here name_of_main main m.main_is;
+              alone = m.alone;
+              stands = stand_named fs (functions_stand typed.text.read.toks _ 0 (length typed.text.read.toks) P typed.text.read.derived) name_of_main main m.main_is;
+              form = λ e. form_of _ _ _ r.form (in_main main m.alone (named_so fs name_of_main main m.main_is)) e;
+            } in
             let shaped = body_shaped fs grown (length fs) main (grown_named fs grown name_of_main main m.main_is) (any_statement (GoesWithin fs (length fs)) (calls_end P n types typed).each main.body) in
-            let all = subst (λ (o : Option Function). walk.Made n fs ps num IsShallow IsShallowLval Assigns E F L Z O I T (roots.roots_of (calls_of P) o (roots.context_of P num)).made) m.main_is made in
-            let good = rooted_walk.roots_well n fs ps num IsShallow IsShallowLval Assigns E F L Z O I T leaves gs right_by_name (length fs) main (roots.context_of P num) right_main shaped
-            (record { numbers = refl; functions_are = refl; ports_known = ports_are; known = ports_are }) all in
+            let all = subst (λ (o : Option Function). MadeBy (roots.roots_of (calls_of P) o (roots.context_of P num)).made) m.main_is made in
+            let a = subst (λ (o : Option Function). AllIn A (roots.roots_of (calls_of P) o (roots.context_of P num)).roots) m.main_is all_roots in
+            let good = rooted_walk.roots_well n fs ps num H J IsShallow IsShallowLval Assigns E F L Z O I T leaves gs right_by_name A may (length fs) main (roots.context_of P num) refl right_main shaped
+            (record { numbers = refl; functions_are = refl; ports_known = ports_are; known = ports_are }) all a in
             subst (λ (o : Option Function). RootsRight (roots.roots_of (calls_of P) o (roots.context_of P num)).roots) (sym m.main_is) good
+
+  -- what is the same on all cores
+  module _ (E F : kernel.Expression → Type 0) (L : kernel.Place → Type 0) (Z : ℕ → Type 0) (O : kernel.Output → Type 0) (I : kernel.Input → Type 0) (T : ℕ → Type 0) (leaves : (here : ℕ) → walk.Leaves n fs ps num (λ k. AnyPath) (λ k. AnyPath) here IsShallow IsShallowLval Assigns E F L Z O I T) where
+    alike : (rs : List kernel.Root) → EachRootOn (λ k. E) (λ k. L) (λ k. Z) (λ k. O) (λ k. I) (λ k. T) rs → EachRoot E L Z O I T rs
+    alike [] h = tt
+    alike (r ∷ rs) h = (h.0, alike rs h.1)
+
+    any : (rs : List kernel.Root) → AllIn (λ r. Unit {0}) rs
+    any [] = tt
+    any (r ∷ rs) = (tt, any rs)
+
+    pub roots_alike : (types : List Bool) → IsTyped P n types → IsRising P → depth.of_program P ≤ deepest → EachRoot E L Z O I T (rooted P num).roots
+    roots_alike types typed rising low = alike (rooted P num).roots (roots_right (λ k. AnyPath) (λ k. AnyPath) (λ k. E) (λ k. F) (λ k. L) (λ k. Z) (λ k. O) (λ k. I) (λ k. T) leaves types typed rising low (λ v e. tt) (λ t e. tt) (λ r. Unit {0}) (any (rooted P num).roots) (λ r a path h e here. tt))
+
+    pub roots_leave_alike : (types : List Bool) → IsTyped P n types → IsRising P → EachRootLeaves (rooted P num).roots
+    roots_leave_alike types typed rising = roots_leave (λ k. AnyPath) (λ k. AnyPath) (λ k. E) (λ k. F) (λ k. L) (λ k. Z) (λ k. O) (λ k. I) (λ k. T) leaves types typed rising

@@ -14,6 +14,7 @@ use Rattle.xc_kernel.specs.declared.kernel.PortUse.{PortUse}
 use Rattle.xc_kernel.specs.Plain as kernel
 use Rattle.xc_kernel.specs.Operators.{operator_at, operator_of}
 use Rattle.xc_kernel.specs.Types.{word_is_unsigned, elements_are_unsigned, operation_is_unsigned, result_is_unsigned, sign_is_unsigned}
+use Rattle.xc_kernel.specs.Paths.{Path}
 use Rattle.xc_kernel.specs.Numbering.{Numbering}
 use Rattle.xc_kernel.specs.Scopes.{Scope, Entity, entity_of, type_of_entity, is_unsigned}
 use Rattle.xc_kernel.specs.Expressions.{expression_in, form_in, kernel_place, two_operands, one_operand, array_number, resource_of}
@@ -25,7 +26,7 @@ use Rattle.xc_formed.specs.Each.{AnyNumber, EachRoot}
 use Rattle.xc_formed.specs.Rising.{IsRising}
 use Rattle.xc_formed.proofs.Rising.{of_text}
 use Rattle.xc_formed.specs.Stacks.{Stack, Resolves}
-use Rattle.xc_formed.specs.Standing.{Stands, a_variable, whole_array, word_referred, element_referred, array_referred, the_channel, the_end, the_timer, the_port, port_given, the_index, the_function, none_there, Agrees}
+use Rattle.xc_formed.specs.Standing.{AnyPath, Stands, a_variable, whole_array, word_referred, element_referred, array_referred, the_channel, the_end, the_timer, the_port, port_given, the_index, the_function, none_there, Agrees}
 use Rattle.xc_formed.specs.Sources.{typed, typed_form, typed_place, Simple, copied, result, always, HasSource, simple, updated, stepped, tested, PlaceHasSource, placed, own, OutputHasSource, InputHasSource}
 use Rattle.xc_formed.specs.Laws.{CodeHasSource}
 use Rattle.xc_formed.proofs.Shaped.{IsLval, IsProper, IsProperForm, Assigns}
@@ -33,11 +34,11 @@ use Rattle.xc_formed.proofs.Stacks.{quiet_split, quiet_expression}
 use Rattle.xc_formed.proofs.Gives.{of_one, of_two}
 use Rattle.xc_formed.proofs.Right.{IsShallow, IsShallowLval}
 use Rattle.xc_formed.proofs.Walk.Arguments.{standing, Leaves}
-use Rattle.xc_formed.proofs.Program.{roots_right}
+use Rattle.xc_formed.proofs.Program.{roots_alike}
 
-module _ (n : NamedProgram) (fs : List Function) (ps : List PortUse) (num : Numbering) where
+module _ (n : NamedProgram) (fs : List Function) (ps : List PortUse) (num : Numbering) (H J : ℕ → Path → Type 0) (here : ℕ) where
   -- what stands for a name has its type
-  word_type : (t : List ℕ) (w : Option What) (x : Entity) → Stands n fs ps num t w x → word_is_unsigned (type_of_entity x) ≡ entities.word_is_unsigned w
+  word_type : (t : List ℕ) (w : Option What) (x : Entity) → Stands n fs ps num (H here) (J here) t w x → word_is_unsigned (type_of_entity x) ≡ entities.word_is_unsigned w
   word_type t _ _ (a_variable h) = refl
   word_type t _ _ (whole_array h) = refl
   word_type t _ _ (word_referred h) = refl
@@ -52,7 +53,7 @@ module _ (n : NamedProgram) (fs : List Function) (ps : List PortUse) (num : Numb
   word_type t _ _ (the_function h) = refl
   word_type t _ _ none_there = refl
 
-  array_type : (t : List ℕ) (w : Option What) (x : Entity) → Stands n fs ps num t w x → elements_are_unsigned (type_of_entity x) ≡ entities.elements_are_unsigned w
+  array_type : (t : List ℕ) (w : Option What) (x : Entity) → Stands n fs ps num (H here) (J here) t w x → elements_are_unsigned (type_of_entity x) ≡ entities.elements_are_unsigned w
   array_type t _ _ (a_variable h) = refl
   array_type t _ _ (whole_array h) = refl
   array_type t _ _ (word_referred h) = refl
@@ -70,7 +71,7 @@ module _ (n : NamedProgram) (fs : List Function) (ps : List PortUse) (num : Numb
   two_same : {A B : Type 0} (f : A → A → B) (a b c d : A) → a ≡ c → b ≡ d → f a b ≡ f c d
   two_same f a b c d e g = ap (λ x. f x b) e ∙ ap (f c) g
 
-  module _ (st : Stack) (scope : Scope) (known : Agrees n fs ps num st scope) where
+  module _ (st : Stack) (scope : Scope) (known : Agrees n fs ps num (H here) (J here) st scope) where
     -- the type of an expression
     mutual
       pub type_is : (e : tree.Expression) (k : ℕ) → Resolves n k st (marks.of_expression e) → IsProper e → is_unsigned scope e ≡ words.is_unsigned n k e
@@ -78,8 +79,8 @@ module _ (n : NamedProgram) (fs : List Function) (ps : List PortUse) (num : Numb
 
       form_type : (f : tree.Form) (p : Pos) (k : ℕ) → Resolves n k st (marks.of_form p f) → IsProperForm f → is_unsigned scope (tree.expression f p) ≡ words.form_is_unsigned n k f
       form_type (tree.number v u) p k r x = refl
-      form_type (tree.name t) p k r x = word_type t _ _ (standing n fs ps num st scope k t known r.0)
-      form_type (tree.index t i) p k r x = array_type t _ _ (standing n fs ps num st scope k t known r.0)
+      form_type (tree.name t) p k r x = word_type t _ _ (standing n fs ps num H J here st scope k t known r.0)
+      form_type (tree.index t i) p k r x = array_type t _ _ (standing n fs ps num H J here st scope k t known r.0)
       form_type (tree.unary o a) p k r x = ap (sign_is_unsigned (operator_at o)) (type_is a k r x.1) ∙ of_one o (words.is_unsigned n k a) x.0
       form_type (tree.binary o a b) p k r x =
           let r1 = quiet_split n k st (marks.of_expression a) (marks.of_expression b) (quiet_expression a) r in
@@ -152,11 +153,11 @@ module _ (P : List tree.Item) (n : NamedProgram) where
   abbrev num : Numbering
   num = numbering P
 
-  sources : Leaves n fs ps num IsShallow IsShallowLval Assigns (HasSource P n) (Simple P n) (PlaceHasSource P n) AnyNumber (OutputHasSource P n) (InputHasSource P n) AnyNumber
-  sources = record {
+  sources : (here : ℕ) → Leaves n fs ps num (λ k. AnyPath) (λ k. AnyPath) here IsShallow IsShallowLval Assigns (HasSource P n) (Simple P n) (PlaceHasSource P n) AnyNumber (OutputHasSource P n) (InputHasSource P n) AnyNumber
+  sources here = record {
     weaker = λ e h. simple h;
-    ex = λ e k st scope a r g x. copied (record { there = record { stack = st; scope = scope; agrees = a }; text = e; names = k; resolves = r; is = typed_is n fs ps num st scope a e k r x.0 });
-    lval = λ e k st scope a r g x. placed (record { there = record { stack = st; scope = scope; agrees = a }; text = e; names = k; resolves = r; is = typed_place_is n fs ps num st scope a e k r x.0 x.1.0 });
+    ex = λ e k st scope a r g x. copied (record { there = record { stack = st; scope = scope; agrees = a }; text = e; names = k; resolves = r; is = typed_is n fs ps num (λ k. AnyPath) (λ k. AnyPath) here st scope a e k r x.0 });
+    lval = λ e k st scope a r g x. placed (record { there = record { stack = st; scope = scope; agrees = a }; text = e; names = k; resolves = r; is = typed_place_is n fs ps num (λ k. AnyPath) (λ k. AnyPath) here st scope a e k r x.0 x.1.0 });
     updating = λ e k st scope a r g x symbol y pos value j rv gv xv. updated (record {
       there = record { stack = st; scope = scope; agrees = a };
       to = e;
@@ -167,7 +168,7 @@ module _ (P : List tree.Item) (n : NamedProgram) where
       value_resolves = rv;
       symbol = symbol;
       pos = pos;
-      is = updated_is n fs ps num st scope a e k (operator_of symbol) pos (is_unsigned scope value) (words.is_unsigned n j value) (expression_in num scope value) (typed n num scope j value) r x.1.0 (type_is n fs ps num st scope a value j rv xv.0) (typed_is n fs ps num st scope a value j rv xv.0);
+      is = updated_is n fs ps num (λ k. AnyPath) (λ k. AnyPath) here st scope a e k (operator_of symbol) pos (is_unsigned scope value) (words.is_unsigned n j value) (expression_in num scope value) (typed n num scope j value) r x.1.0 (type_is n fs ps num (λ k. AnyPath) (λ k. AnyPath) here st scope a value j rv xv.0) (typed_is n fs ps num (λ k. AnyPath) (λ k. AnyPath) here st scope a value j rv xv.0);
     });
     stepping = λ e k st scope a r g x symbol y pos. stepped (record {
       there = record { stack = st; scope = scope; agrees = a };
@@ -176,13 +177,13 @@ module _ (P : List tree.Item) (n : NamedProgram) where
       resolves = r;
       symbol = symbol;
       pos = pos;
-      is = updated_is n fs ps num st scope a e k (operator_of symbol) pos false false (kernel.number 1) (kernel.number 1) r x.1.0 refl refl;
+      is = updated_is n fs ps num (λ k. AnyPath) (λ k. AnyPath) here st scope a e k (operator_of symbol) pos false false (kernel.number 1) (kernel.number 1) r x.1.0 refl refl;
     });
-    testing = λ v h l pos. tested h;
+    testing = λ v h path l array pos. tested array h;
     one = always;
     word = λ path h. own (record { path = path; variable = h; is = refl });
     read_word = λ path h. result (record { path = path; variable = h; is = refl });
-    zero_in = λ path b h. tt;
+    zero_in = λ path b words h. tt;
     going_out = λ c scope o k st e a r g. record { there = record { stack = st; scope = scope; agrees = a }; text = o; names = k; resolves = r; is = ap (λ (m : Numbering). resource_of m (entity_of scope o.name.text)) e };
     coming_in = λ c scope i k st e a r g x. record { there = record { stack = st; scope = scope; agrees = a }; text = i; names = k; resolves = r; is = ap (λ (m : Numbering). resource_of m (entity_of scope i.name.text)) e };
     transacting = λ path h. tt;
@@ -194,7 +195,7 @@ module _ (P : List tree.Item) (n : NamedProgram) where
 
 of_copy : (P : List tree.Item) (n : NamedProgram) (types : List Bool) → IsTyped P n types → IsRising P → depth.of_program P ≤ deepest → EachRoot (HasSource P n) (PlaceHasSource P n) AnyNumber (OutputHasSource P n) (InputHasSource P n) AnyNumber (copy_of P).roots
 unfolding copy_of
-of_copy P n types t r l = roots_right P n (HasSource P n) (Simple P n) (PlaceHasSource P n) AnyNumber (OutputHasSource P n) (InputHasSource P n) AnyNumber (sources P n) types t r l
+of_copy P n types t r l = roots_alike P n (HasSource P n) (Simple P n) (PlaceHasSource P n) AnyNumber (OutputHasSource P n) (InputHasSource P n) AnyNumber (sources P n) types t r l
 
 pub code_has_source : CodeHasSource
 code_has_source P n types K typed low c =

@@ -12,6 +12,7 @@ use Rattle.xc_tree.specs.Types.Sites.{Site}
 use Rattle.xc_tree.specs.Types.Sites as site
 use Rattle.xc_kernel.specs.declared.kernel.PortUse.{PortUse}
 use Rattle.xc_kernel.specs.Plain as kernel
+use Rattle.xc_kernel.specs.Paths.{Path}
 use Rattle.xc_kernel.specs.Numbering.{Numbering}
 use Rattle.xc_kernel.specs.Scopes.{Scope, Entity, entity_of}
 use Rattle.xc_kernel.specs.Programs.{Function}
@@ -27,12 +28,12 @@ use Rattle.xc_formed.proofs.Shaped.{Waits, WaitsRight}
 use Rattle.xc_formed.proofs.Numbers.{no}
 use Rattle.xc_formed.proofs.Walk.Arguments.{AllIn, split, IsFine, standing}
 
-module _ (n : NamedProgram) (fs : List Function) (ps : List PortUse) (num : Numbering) where
+module _ (n : NamedProgram) (fs : List Function) (ps : List PortUse) (num : Numbering) (H J : ℕ → Path → Type 0) (here : ℕ) where
   abbrev Known : Stack → Scope → Type 0
-  Known st scope = Agrees n fs ps num st scope
+  Known st scope = Agrees n fs ps num (H here) (J here) st scope
 
   abbrev Standing : List ℕ → Option What → Entity → Type 0
-  Standing t w e = Stands n fs ps num t w e
+  Standing t w e = Stands n fs ps num (H here) (J here) t w e
 
   none_by : {A : Type 0} (o : Option A) → (is_some o ≡ true → false ≡ true) → IsNothing o
   none_by None h = tt
@@ -122,7 +123,7 @@ module _ (n : NamedProgram) (fs : List Function) (ps : List PortUse) (num : Numb
   input_goes t _ _ (port_given {d = d} {number = number} h) e time c stamp f q k g = (port_reads number d h e, (waits_one time c k, pins (Some (what.PortParam d)) time c refl q k))
   input_goes t _ _ (the_channel {s = b} h) e time c stamp f q k g = (h, (none_by time f, (no_test (Some (what.Chan b)) c refl refl q, none_by stamp g)))
   input_goes t _ _ (the_end {s = b} h) e time c stamp f q k g = (h, (none_by time f, (no_test (Some (what.End b)) c refl refl q, none_by stamp g)))
-  input_goes t _ _ (the_timer h) e time c stamp f q k g = (h, (none_by time f, (after_time (Some what.Timer) time c refl q k, none_by stamp g)))
+  input_goes t _ _ (the_timer h) e time c stamp f q k g = (h.0, (none_by time f, (after_time (Some what.Timer) time c refl q k, none_by stamp g)))
   input_goes t _ _ (a_variable h) e time c stamp f q k g = no e
   input_goes t _ _ (whole_array h) e time c stamp f q k g = no e
   input_goes t _ _ (word_referred h) e time c stamp f q k g = no e
@@ -162,7 +163,7 @@ module _ (n : NamedProgram) (fs : List Function) (ps : List PortUse) (num : Numb
       let k2 = past (k + 1) (marks.optional marks.of_timing o.time) in
       let g3 = split IsFine (site.of_expression n k2 o.value) _ g2.1 in
       subst (λ (m : Numbering). OutputGoes ps (length num.channels) (length num.timers) (resource_of m (entity_of scope o.name.text)) (option_map (time_of c scope) o.time) (option_map (stamp_of c scope) o.stamp)) (sym e)
-      (output_goes o.name.text _ _ (standing n fs ps num st scope k o.name.text a r.0) g.0 _ _ (time_fact (k + 1) y c scope o.time g2.0) (stamp_fact _ y c scope o.stamp g3.1))
+      (output_goes o.name.text _ _ (standing n fs ps num H J here st scope k o.name.text a r.0) g.0 _ _ (time_fact (k + 1) y c scope o.time g2.0) (stamp_fact _ y c scope o.stamp g3.1))
 
   pub in_leaf : (c : Context) (scope : Scope) (i : tree.Input) (k : ℕ) (st : Stack) → c.numbering ≡ num → Known st scope → Resolves n k st (marks.of_input i) → AllIn IsFine (site.of_input n k i) → WaitsRight i → InGoes (input_of c scope i)
   in_leaf c scope i k st e a r g x =
@@ -173,4 +174,4 @@ module _ (n : NamedProgram) (fs : List Function) (ps : List PortUse) (num : Numb
       let k3 = past k2 (marks.optional marks.of_condition i.condition) in
       let g4 = split IsFine (site.of_target n k3 i.target) _ g3.1 in
       subst (λ (m : Numbering). InputComes ps (length num.channels) (length num.timers) (resource_of m (entity_of scope i.name.text)) (option_map (time_of c scope) i.time) (option_map (condition_of c scope) i.condition) (option_map (stamp_of c (behind_target c scope i)) i.stamp)) (sym e)
-      (input_goes i.name.text _ _ (standing n fs ps num st scope k i.name.text a r.0) g.0 _ _ _ (time_fact (k + 1) y c scope i.time g2.0) (test_fact k2 y c scope i.condition g3.0) (asks_fact c scope i.time i.condition x) (stamp_fact _ y c (behind_target c scope i) i.stamp g4.1))
+      (input_goes i.name.text _ _ (standing n fs ps num H J here st scope k i.name.text a r.0) g.0 _ _ _ (time_fact (k + 1) y c scope i.time g2.0) (test_fact k2 y c scope i.condition g3.0) (asks_fact c scope i.time i.condition x) (stamp_fact _ y c (behind_target c scope i) i.stamp g4.1))

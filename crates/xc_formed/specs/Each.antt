@@ -75,3 +75,10 @@ module _ (E : kernel.Expression → Type 0) (L : kernel.Place → Type 0) (Z : �
   abbrev pub EachRoot : List kernel.Root → Type 0
   EachRoot [] = Unit {0}
   EachRoot (r ∷ rs) = EachOf r.body × EachRoot rs
+
+-- so of each root by its core
+module _ (E : ℕ → kernel.Expression → Type 0) (L : ℕ → kernel.Place → Type 0) (Z : ℕ → ℕ → Type 0) (O : ℕ → kernel.Output → Type 0) (I : ℕ → kernel.Input → Type 0) (T : ℕ → ℕ → Type 0) where
+  abbrev pub EachRootOn : List kernel.Root → Type 0
+  EachRootOn [] = Unit {0}
+  EachRootOn (r ∷ rs) =
+      EachOf (E r.core) (L r.core) (Z r.core) (O r.core) (I r.core) (T r.core) r.body × EachRootOn rs

@@ -16,6 +16,7 @@ use Rattle.xc_formed.specs.Operands.{OperandsAreRight}
 use Rattle.xc_formed.specs.Levels.{LevelsAreFew}
 use Rattle.xc_formed.specs.Transfers.{TransfersAreRight, TransactionsAreListed}
 use Rattle.xc_formed.specs.Exits.{ExitsAreInside}
+use Rattle.xc_formed.specs.Cores.{CoresAreRight, RootsKeepApart, CoresAreOwn}
 use Rattle.xc_formed.specs.WellFormed.{IsWellFormed}
 use Rattle.xc_formed.specs.Rising.{TokensRise}
 use Rattle.xc_formed.specs.Once.{NoneTwice}
@@ -75,6 +76,9 @@ TransactionsListed = OfEachKernel TransactionsAreListed
 abbrev pub ExitsInside : Type 0
 ExitsInside = OfEachKernel ExitsAreInside
 
+abbrev pub CoresRight : Type 0
+CoresRight = OfEachKernel CoresAreRight
+
 -- So it is whole,
 abbrev pub KernelsWellFormed : Type 0
 KernelsWellFormed = OfEachKernel IsWellFormed
@@ -84,6 +88,11 @@ KernelsWellFormed = OfEachKernel IsWellFormed
 abbrev pub KernelsOfProgramsWellFormed : Type 0
 KernelsOfProgramsWellFormed =
     (K : kernel.Kernel) → IsOfProgram K → IsWellFormed K
+
+-- Where no variable that a root changes is used by a root on another core, all that a root uses is on
+-- the root's core.
+abbrev pub CoresOwn : Type 0
+CoresOwn = (K : kernel.Kernel) → IsWellFormed K → RootsKeepApart K → CoresAreOwn K
 
 -- Each expression and place of such a kernel comes from the text, where each name means what `uses`
 -- has for it and each operation has the type that `unsigned_at` tells, and each output and input

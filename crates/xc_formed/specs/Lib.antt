@@ -4,6 +4,7 @@ pub mod Operands
 pub mod Levels
 pub mod Transfers
 pub mod Exits
+pub mod Cores
 pub mod Parts
 pub mod Rising
 pub mod Once

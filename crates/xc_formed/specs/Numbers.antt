@@ -4,19 +4,20 @@ use Rattle.xc_kernel.specs.declared.kernel.Var.{Var}
 use Rattle.xc_kernel.specs.Plain as kernel
 use Rattle.xc_formed.specs.Each.{AnyNumber, AnyOutput, AnyInput, EachRoot}
 
--- a variable of a list, an array or not
+-- a variable of a list: an array, or one word
 pub record IsVariable (vs : List Var) (number : ℕ) (is_array : Bool) : Type 0 where
   pub variable : Var
   pub there : slice_get vs number ≡ Some variable
   pub array : variable.array ≡ is_array
+  pub one_word : is_array ≡ false → variable.words ≡ 1
 
 -- a variable of a list, whichever of both
 pub record IsListed (vs : List Var) (number : ℕ) : Type 0 where
   pub variable : Var
   pub there : slice_get vs number ≡ Some variable
 
--- a word is that of a variable that is no array, and an element that of one that is
-module _ (vs : List Var) where
+-- V of the variable of each word, which is no array, and of each element, which is one
+module _ (V : (number : ℕ) (is_array : Bool) → Type 0) where
   abbrev mutual
     pub NumbersInExpression : kernel.Expression → Type 0
     NumbersInExpression (kernel.number v) = Unit {0}
@@ -28,13 +29,14 @@ module _ (vs : List Var) where
     NumbersInOperands (kernel.more_operands e es) = NumbersInExpression e × NumbersInOperands es
 
     pub NumbersInPlace : kernel.Place → Type 0
-    NumbersInPlace (kernel.word v) = IsVariable vs v false
-    NumbersInPlace (kernel.element v i pos) = IsVariable vs v true × NumbersInExpression i
+    NumbersInPlace (kernel.word v) = V v false
+    NumbersInPlace (kernel.element v i pos) = V v true × NumbersInExpression i
 
--- so is it in all code of a kernel
+-- in all code of a kernel a word is that of a variable of one word that is no array, and an element
+-- that of an array
 abbrev pub VariablesAreRight : kernel.Kernel → Type 0
 VariablesAreRight k =
-    EachRoot (NumbersInExpression k.variables) (NumbersInPlace k.variables) (IsListed k.variables) AnyOutput AnyInput AnyNumber k.roots
+    EachRoot (NumbersInExpression (IsVariable k.variables)) (NumbersInPlace (IsVariable k.variables)) (IsListed k.variables) AnyOutput AnyInput AnyNumber k.roots
 
 -- a channel of a kernel
 abbrev pub IsChannel : kernel.Kernel → ℕ → Type 0

@@ -3,10 +3,11 @@ use Rattle.std.specs.Prelude.{ℕ, ◌+◌, ◌≤◌, List, [], ◌∷◌, Opti
 use Rattle.xc_kernel.specs.declared.kernel.Var.{Var}
 use Rattle.xc_kernel.specs.Plain as kernel
 
+-- a reading and its place are one
 abbrev mutual
   pub of_expression : kernel.Expression → ℕ
   of_expression (kernel.number v) = 1
-  of_expression (kernel.read place) = of_place place + 1
+  of_expression (kernel.read place) = of_place place
   of_expression (kernel.operation symbol is_unsigned es pos) = of_operands es + 1
 
   pub of_operands : kernel.Operands → ℕ

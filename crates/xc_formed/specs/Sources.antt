@@ -18,7 +18,7 @@ use Rattle.xc_kernel.specs.Programs.{functions, ports}
 use Rattle.xc_kernel.specs.Ports.{port_use}
 use Rattle.xc_kernel.specs.Copies.{numbering}
 use Rattle.xc_formed.specs.Stacks.{Stack, Resolves}
-use Rattle.xc_formed.specs.Standing.{HasVariable, Agrees}
+use Rattle.xc_formed.specs.Standing.{AnyPath, HasVariable, Agrees}
 
 -- The kernel's expression for one of the text, before which the text has k names: its names stand
 -- for these entities, and its operations have the types of their operands in the text.
@@ -58,7 +58,7 @@ module _ (P : List tree.Item) (n : NamedProgram) where
   pub record Where : Type 0 where
     pub stack : Stack
     pub scope : Scope
-    pub agrees : Agrees n (functions P) (map port_use (ports P)) (numbering P) stack scope
+    pub agrees : Agrees n (functions P) (map port_use (ports P)) (numbering P) AnyPath AnyPath stack scope
 
   -- an expression of the text, whose names mean there what `uses` has for them
   pub record IsCopied (x : kernel.Expression) : Type 0 where
@@ -95,7 +95,7 @@ module _ (P : List tree.Item) (n : NamedProgram) where
   -- a word of a call's own: its result
   pub record IsResult (p : kernel.Place) : Type 0 where
     pub path : Path
-    pub variable : HasVariable (numbering P) path false
+    pub variable : HasVariable (numbering P) AnyPath path false 1
     pub is : p ≡ word_of (numbering P) path
 
   -- what is no operation of the copy's own: an expression of the text, a call's result, or the 1 of
@@ -105,12 +105,14 @@ module _ (P : List tree.Item) (n : NamedProgram) where
     result : {p : kernel.Place} → IsResult p → Simple (kernel.read p)
     always : Simple (kernel.number 1)
 
-  -- and these: `op=`, a step, and the test of an index that stands alone
+  -- and these: `op=`, a step, and the test of an index that stands alone, against the words of an
+  -- array
   pub data HasSource : kernel.Expression → Type 0 where
     simple : {x : kernel.Expression} → Simple x → HasSource x
     updated : {x : kernel.Expression} → IsUpdated x → HasSource x
     stepped : {x : kernel.Expression} → IsStepped x → HasSource x
-    tested : {x : kernel.Expression} {length : ℕ} {pos : Pos} → Simple x →
+    tested : {x : kernel.Expression} {path : Path} {length : ℕ} {pos : Pos} →
+        HasVariable (numbering P) AnyPath path true length → Simple x →
         HasSource (kernel.operation bracket true (two_operands x (kernel.number length)) pos)
 
   -- a place of the text, or a word of the copy's own: a declared name's, a parameter's or a

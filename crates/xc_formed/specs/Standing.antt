@@ -15,17 +15,25 @@ use Rattle.xc_kernel.specs.Scopes.{Scope, Entity, a_word, an_array, an_element, 
 use Rattle.xc_kernel.specs.Programs.{Function, function_named}
 use Rattle.xc_formed.specs.Stacks.{Stack, found}
 
--- the variable of this path is in the kernel's list, an array or not
-pub record HasVariable (n : Numbering) (path : Path) (is_array : Bool) : Type 0 where
+-- nothing is asked of a path
+abbrev pub AnyPath : Path → Type 0
+AnyPath path = Unit {0}
+
+-- the variable of this path is in the kernel's list, an array or not, of so many words, and this
+-- holds of its path
+pub record HasVariable (n : Numbering) (H : Path → Type 0) (path : Path) (is_array : Bool) (words : ℕ) : Type 0 where
   pub variable : Var
   pub there : slice_get n.variables (variable_number n path) ≡ Some variable
   pub array : variable.array ≡ is_array
+  pub long : variable.words ≡ words
+  pub holds : H path
 
 abbrev pub HasChannel : Numbering → Path → Type 0
 HasChannel n path = channel_number n path < length n.channels
 
-abbrev pub HasTimer : Numbering → Path → Type 0
-HasTimer n path = timer_number n path < length n.timers
+-- so is a timer of this path, and this holds of it
+abbrev pub HasTimer : Numbering → (Path → Type 0) → Path → Type 0
+HasTimer n J path = (timer_number n path < length n.timers) × J path
 
 -- a port of this direction is in the kernel's list
 pub record HasPort (ps : List PortUse) (number : ℕ) (d : TreeDir) : Type 0 where
@@ -36,33 +44,35 @@ pub record HasPort (ps : List PortUse) (number : ℕ) (d : TreeDir) : Type 0 whe
 abbrev pub head_of : Function → tree.Head
 head_of f = f.head
 
--- an instance of what is declared so
-pub data Stands (n : NamedProgram) (fs : List Function) (ps : List PortUse) (num : Numbering) (t : List ℕ) : Option What → Entity → Type 0 where
-  a_variable : {u : Bool} {path : Path} → HasVariable num path false →
-      Stands n fs ps num t (Some (what.Word u)) (a_word path u)
-  whole_array : {u : Bool} {l m : ℕ} {path : Path} → HasVariable num path true →
-      Stands n fs ps num t (Some (what.Array u l)) (an_array path m u)
-  word_referred : {u : Bool} {path : Path} → HasVariable num path false →
-      Stands n fs ps num t (Some (what.Ref u)) (a_word path u)
-  element_referred : {u : Bool} {path index : Path} → HasVariable num path true → HasVariable num index false →
-      Stands n fs ps num t (Some (what.Ref u)) (an_element path index u)
-  array_referred : {u : Bool} {l : Option ℕ} {m : ℕ} {path : Path} → HasVariable num path true →
-      Stands n fs ps num t (Some (what.ArrayParam u l)) (an_array path m u)
+-- an instance of what is declared so, an array with its variable's words as its length, where H holds
+-- of each variable's path and J of each timer's
+pub data Stands (n : NamedProgram) (fs : List Function) (ps : List PortUse) (num : Numbering) (H J : Path → Type 0) (t : List ℕ) : Option What → Entity → Type 0 where
+  a_variable : {u : Bool} {path : Path} → HasVariable num H path false 1 →
+      Stands n fs ps num H J t (Some (what.Word u)) (a_word path u)
+  whole_array : {u : Bool} {l m : ℕ} {path : Path} → HasVariable num H path true m →
+      Stands n fs ps num H J t (Some (what.Array u l)) (an_array path m u)
+  word_referred : {u : Bool} {path : Path} → HasVariable num H path false 1 →
+      Stands n fs ps num H J t (Some (what.Ref u)) (a_word path u)
+  element_referred : {u : Bool} {m : ℕ} {path index : Path} →
+      HasVariable num H path true m → HasVariable num H index false 1 →
+      Stands n fs ps num H J t (Some (what.Ref u)) (an_element path index u)
+  array_referred : {u : Bool} {l : Option ℕ} {m : ℕ} {path : Path} → HasVariable num H path true m →
+      Stands n fs ps num H J t (Some (what.ArrayParam u l)) (an_array path m u)
   the_channel : {s : Bool} {path : Path} → HasChannel num path →
-      Stands n fs ps num t (Some (what.Chan s)) (a_channel path)
+      Stands n fs ps num H J t (Some (what.Chan s)) (a_channel path)
   the_end : {s : Bool} {path : Path} → HasChannel num path →
-      Stands n fs ps num t (Some (what.End s)) (a_channel path)
-  the_timer : {path : Path} → HasTimer num path →
-      Stands n fs ps num t (Some what.Timer) (a_timer path)
+      Stands n fs ps num H J t (Some (what.End s)) (a_channel path)
+  the_timer : {path : Path} → HasTimer num J path →
+      Stands n fs ps num H J t (Some what.Timer) (a_timer path)
   the_port : {d : TreeDir} {number : ℕ} → HasPort ps number d →
-      Stands n fs ps num t (Some (what.Port d)) (a_port number)
+      Stands n fs ps num H J t (Some (what.Port d)) (a_port number)
   port_given : {d : TreeDir} {number : ℕ} → HasPort ps number d →
-      Stands n fs ps num t (Some (what.PortParam d)) (a_port number)
-  the_index : {v : ℕ} → Stands n fs ps num t (Some what.Index) (a_constant v)
+      Stands n fs ps num H J t (Some (what.PortParam d)) (a_port number)
+  the_index : {v : ℕ} → Stands n fs ps num H J t (Some what.Index) (a_constant v)
   -- functions aren't among the names of the copy; one is found by its name among the functions
   the_function : {g : ℕ} → function_of n (Some (what.Func g)) ≡ option_map head_of (function_named fs t) →
-      Stands n fs ps num t (Some (what.Func g)) nothing_known
-  none_there : Stands n fs ps num t None nothing_known
+      Stands n fs ps num H J t (Some (what.Func g)) nothing_known
+  none_there : Stands n fs ps num H J t None nothing_known
 
 -- an instance is named by the place where it is declared, behind some path
 abbrev pub EndsAt : Path → Pos → Type 0
@@ -106,6 +116,6 @@ IsInstance ps (Some d) x = InstanceOf ps d.name.pos d.what x
 
 -- in the copy's scope each name stands for an instance of what the stack of the text's open scopes
 -- has for it
-abbrev pub Agrees : NamedProgram → List Function → List PortUse → Numbering → Stack → Scope → Type 0
-Agrees n fs ps num st scope =
-    (t : List ℕ) → Stands n fs ps num t (what_of (found st t)) (entity_of scope t) × IsInstance ps (found st t) (entity_of scope t)
+abbrev pub Agrees : NamedProgram → List Function → List PortUse → Numbering → (H J : Path → Type 0) → Stack → Scope → Type 0
+Agrees n fs ps num H J st scope =
+    (t : List ℕ) → Stands n fs ps num H J t (what_of (found st t)) (entity_of scope t) × IsInstance ps (found st t) (entity_of scope t)

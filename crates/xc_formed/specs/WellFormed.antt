@@ -5,9 +5,10 @@ use Rattle.xc_formed.specs.Operands.{OperandsAreRight}
 use Rattle.xc_formed.specs.Levels.{LevelsAreFew}
 use Rattle.xc_formed.specs.Transfers.{TransfersAreRight, TransactionsAreListed}
 use Rattle.xc_formed.specs.Exits.{ExitsAreInside}
+use Rattle.xc_formed.specs.Cores.{CoresAreRight}
 
 pub record IsWellFormed (k : kernel.Kernel) : Type 0 where
-  -- each word is of a listed variable that is no array, and each element of one that is
+  -- each word is of a listed variable of one word that is no array, and each element of an array
   pub variables : VariablesAreRight k
   -- each operation has as many operands as its symbol takes
   pub operands : OperandsAreRight k
@@ -21,3 +22,6 @@ pub record IsWellFormed (k : kernel.Kernel) : Type 0 where
   -- what is left is a block around, in the same branch and transaction, and no two blocks around
   -- one place have one number
   pub exits : ExitsAreInside k
+  -- each timer that a root uses is on the root's core, and so is each variable that no root on
+  -- another core changes
+  pub cores : CoresAreRight k

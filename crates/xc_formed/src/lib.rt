@@ -1,6 +1,6 @@
 //! Each program's kernel is well formed: its numbers lie in its lists, its operations have their
-//! operands, its transfers go through what they can go through, and its exits stand inside their
-//! blocks. And each name of a copy stands for the instance of what the name is declared as.
+//! operands, its transfers go through what they can go through, its exits stand inside their
+//! blocks, and its roots use what is on their cores. And each name of a copy stands for the instance of what the name is declared as.
 #![tactic(auto)]
 
 mod promised;

@@ -1,6 +1,6 @@
 //! The laws, as contracts of functions that do nothing.
 
-ghost use Rattle.xc_formed.specs.Laws.{CodeHasSource, ExitsInside, KernelsOfProgramsWellFormed, KernelsWellFormed, LevelsFew, NamesResolve, NoInstanceMerged, NoInstanceTwice, OperandsRight, TextsRise, TransactionsListed, TransfersRight, VariablesRight};
+ghost use Rattle.xc_formed.specs.Laws.{CodeHasSource, CoresOwn, CoresRight, ExitsInside, KernelsOfProgramsWellFormed, KernelsWellFormed, LevelsFew, NamesResolve, NoInstanceMerged, NoInstanceTwice, OperandsRight, TextsRise, TransactionsListed, TransfersRight, VariablesRight};
 
 /// Each name means what the stack of open scopes has for it.
 #[tactic(auto, using(crate::proofs::Resolved::names_resolve))]
@@ -30,8 +30,10 @@ pub fn kernels_are_formed()
     ensures transfers { TransfersRight }
     ensures transactions { TransactionsListed }
     ensures exits { ExitsInside }
+    ensures cores { CoresRight }
     ensures whole { KernelsWellFormed }
     ensures of_programs { KernelsOfProgramsWellFormed }
+    ensures own { CoresOwn }
 {}
 
 /// The code of such a kernel comes from the text: its names stand for instances of what they mean

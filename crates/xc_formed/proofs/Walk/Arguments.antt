@@ -81,12 +81,12 @@ IsFine (site.select around cs p) = in_transaction around.holders ≡ false
 IsFine (site.function h b) = (is_main h && (place_branches (statements_in b) && not (is_channels_par_return (statements_in b)))) ≡ false
 IsFine other = Unit {0}
 
-module _ (n : NamedProgram) (fs : List Function) (ps : List PortUse) (num : Numbering) where
+module _ (n : NamedProgram) (fs : List Function) (ps : List PortUse) (num : Numbering) (H J : ℕ → Path → Type 0) (here : ℕ) where
   abbrev pub Known : Stack → Scope → Type 0
-  Known st scope = Agrees n fs ps num st scope
+  Known st scope = Agrees n fs ps num (H here) (J here) st scope
 
   abbrev pub Standing : List ℕ → Option What → Entity → Type 0
-  Standing t w e = Stands n fs ps num t w e
+  Standing t w e = Stands n fs ps num (H here) (J here) t w e
 
   -- a name at its place in the text
   pub standing : (st : Stack) (scope : Scope) (k : ℕ) (t : List ℕ) → Known st scope → declared_at n (slice_get n.uses k) ≡ found st t → Standing t (what_at n (slice_get n.uses k)) (entity_of scope t)
@@ -95,6 +95,13 @@ module _ (n : NamedProgram) (fs : List Function) (ps : List PortUse) (num : Numb
       meant : (o : Option ℕ) → what_at n o ≡ what_of (declared_at n o)
       meant None = refl
       meant (Some d) = refl
+
+  -- an instance on this core
+  pub own_variable : (core : ℕ) (path : Path) (b : Bool) (words : ℕ) → core ≡ here → HasVariable num (H core) path b words → HasVariable num (H here) path b words
+  own_variable core path b words e h = subst (λ (k : ℕ). HasVariable num (H k) path b words) e h
+
+  pub own_timer : (core : ℕ) (path : Path) → core ≡ here → HasTimer num (J core) path → HasTimer num (J here) path
+  own_timer core path e h = subst (λ (k : ℕ). HasTimer num (J k) path) e h
 
   -- one more name
   abbrev pub Stood : List ℕ → Option Decl → Entity → Type 0
@@ -124,11 +131,11 @@ module _ (n : NamedProgram) (fs : List Function) (ps : List PortUse) (num : Numb
       pub lval : (e : tree.Expression) (k : ℕ) (st : Stack) (scope : Scope) → Known st scope → Resolves n k st (marks.of_expression e) → AllIn IsFine (site.of_lval n k e) → V e → L (kernel_place num scope e)
       pub updating : (e : tree.Expression) (k : ℕ) (st : Stack) (scope : Scope) → Known st scope → Resolves n k st (marks.of_expression e) → AllIn IsFine (site.of_lval n k e) → V e → (symbol : ℕ) → S symbol → (pos : Pos) (value : tree.Expression) (j : ℕ) → Resolves n j st (marks.of_expression value) → AllIn IsFine (site.of_expression n j value) → X value → E (updated num scope e symbol pos (is_unsigned scope value) (expression_in num scope value))
       pub stepping : (e : tree.Expression) (k : ℕ) (st : Stack) (scope : Scope) → Known st scope → Resolves n k st (marks.of_expression e) → AllIn IsFine (site.of_lval n k e) → V e → (symbol : ℕ) → S symbol → (pos : Pos) → E (updated num scope e symbol pos false (kernel.number 1))
-      pub testing : (v : kernel.Expression) → F v → (l : ℕ) (pos : Pos) → E (kernel.operation bracket true (two_operands v (kernel.number l)) pos)
+      pub testing : (v : kernel.Expression) → F v → (path : Path) (l : ℕ) → HasVariable num (H here) path true l → (pos : Pos) → E (kernel.operation bracket true (two_operands v (kernel.number l)) pos)
       pub one : F (kernel.number 1)
-      pub word : (path : Path) → HasVariable num path false → L (word_of num path)
-      pub read_word : (path : Path) → HasVariable num path false → F (kernel.read (word_of num path))
-      pub zero_in : (path : Path) (b : Bool) → HasVariable num path b → Z (variable_number num path)
+      pub word : (path : Path) → HasVariable num (H here) path false 1 → L (word_of num path)
+      pub read_word : (path : Path) → HasVariable num (H here) path false 1 → F (kernel.read (word_of num path))
+      pub zero_in : (path : Path) (b : Bool) (words : ℕ) → HasVariable num (H here) path b words → Z (variable_number num path)
       pub going_out : (c : Context) (scope : Scope) (o : tree.Output) (k : ℕ) (st : Stack) → c.numbering ≡ num → Known st scope → Resolves n k st (marks.of_output o) → AllIn IsFine (site.of_output n k o) → O (output_of c scope o)
       pub coming_in : (c : Context) (scope : Scope) (i : tree.Input) (k : ℕ) (st : Stack) → c.numbering ≡ num → Known st scope → Resolves n k st (marks.of_input i) → AllIn IsFine (site.of_input n k i) → WaitsRight i → I (input_of c scope i)
       pub transacting : (path : Path) → HasChannel num path → T (channel_number num path)
@@ -142,13 +149,13 @@ module _ (n : NamedProgram) (fs : List Function) (ps : List PortUse) (num : Numb
     as_statements (x ∷ xs) h = (h.0, as_statements xs h.1)
 
     abbrev VariableMade : Var → Type 0
-    VariableMade v = HasVariable num v.path v.array
+    VariableMade v = HasVariable num (H v.core) v.path v.array v.words
 
     abbrev ChannelMade : Chan → Type 0
     ChannelMade c = HasChannel num c.path
 
     abbrev TimerMade : Timer → Type 0
-    TimerMade t = HasTimer num t.path
+    TimerMade t = HasTimer num (J t.core) t.path
 
     -- the instances of a copy are in the kernel's lists
     pub record Made (copy : Copy) : Type 0 where
@@ -199,23 +206,25 @@ module _ (n : NamedProgram) (fs : List Function) (ps : List PortUse) (num : Numb
       -- where a statement stands
       pub record Sits (c : Context) (scope : Scope) (st : Stack) (around : Around) : Type 0 where
         pub numbers : c.numbering ≡ num
+        pub core_is : c.core ≡ here
         pub functions_are : c.functions ≡ fs
         pub ports_known : Known (gs ∷ []) c.ports
-        pub result_there : NeedsResult around → HasVariable num c.result false
+        pub result_there : NeedsResult around → HasVariable num (H here) c.result false 1
         pub known : Known st scope
 
-      pub sits_in : (c d : Context) (scope other : Scope) (st su : Stack) (around near : Around) → d.numbering ≡ c.numbering → d.functions ≡ c.functions → d.ports ≡ c.ports → d.result ≡ c.result → (NeedsResult near → NeedsResult around) → Known su other → Sits c scope st around → Sits d other su near
-      sits_in c d scope other st su around near e f g h q a s = record {
+      pub sits_in : (c d : Context) (scope other : Scope) (st su : Stack) (around near : Around) → d.numbering ≡ c.numbering → d.functions ≡ c.functions → d.ports ≡ c.ports → d.result ≡ c.result → d.core ≡ c.core → (NeedsResult near → NeedsResult around) → Known su other → Sits c scope st around → Sits d other su near
+      sits_in c d scope other st su around near e f g h i q a s = record {
         numbers = e ∙ s.numbers;
+        core_is = i ∙ s.core_is;
         functions_are = f ∙ s.functions_are;
         ports_known = subst (λ (x : Scope). Known (gs ∷ []) x) (sym g) s.ports_known;
-        result_there = λ r. subst (λ (p : Path). HasVariable num p false) (sym h) (s.result_there (q r));
+        result_there = λ r. subst (λ (p : Path). HasVariable num (H here) p false 1) (sym h) (s.result_there (q r));
         known = a;
       }
 
       -- the same place with other names, or inside something
       pub with_names : (c : Context) (scope other : Scope) (st su : Stack) (around near : Around) → (NeedsResult near → NeedsResult around) → Known su other → Sits c scope st around → Sits c other su near
-      with_names c scope other st su around near q a s = sits_in c c scope other st su around near refl refl refl refl q a s
+      with_names c scope other st su around near q a s = sits_in c c scope other st su around near refl refl refl refl refl q a s
 
       -- expressions and places here
       pub ex_at : (c : Context) (scope : Scope) (st : Stack) (around : Around) (k : ℕ) (e : tree.Expression) → Sits c scope st around → Resolves n k st (marks.of_expression e) → AllIn IsFine (site.of_expression n k e) → X e → F (expression c scope e)
@@ -227,14 +236,14 @@ module _ (n : NamedProgram) (fs : List Function) (ps : List PortUse) (num : Numb
       pub lval_at : (c : Context) (scope : Scope) (st : Stack) (around : Around) (k : ℕ) (e : tree.Expression) → Sits c scope st around → Resolves n k st (marks.of_expression e) → AllIn IsFine (site.of_lval n k e) → V e → L (place c scope e)
       lval_at c scope st around k e s r g x = subst (λ (m : Numbering). L (kernel_place m scope e)) (sym s.numbers) (leaves.lval e k st scope s.known r g x)
 
-      pub word_at_path : (c : Context) → c.numbering ≡ num → (path : Path) → HasVariable num path false → L (word_of c.numbering path)
+      pub word_at_path : (c : Context) → c.numbering ≡ num → (path : Path) → HasVariable num (H here) path false 1 → L (word_of c.numbering path)
       word_at_path c e path h = subst (λ (m : Numbering). L (word_of m path)) (sym e) (leaves.word path h)
 
-      pub read_at_path : (c : Context) → c.numbering ≡ num → (path : Path) → HasVariable num path false → F (kernel.read (word_of c.numbering path))
+      pub read_at_path : (c : Context) → c.numbering ≡ num → (path : Path) → HasVariable num (H here) path false 1 → F (kernel.read (word_of c.numbering path))
       read_at_path c e path h = subst (λ (m : Numbering). F (kernel.read (word_of m path))) (sym e) (leaves.read_word path h)
 
-      pub zero_at_path : (c : Context) → c.numbering ≡ num → (path : Path) (b : Bool) → HasVariable num path b → Z (variable_number c.numbering path)
-      zero_at_path c e path b h = subst (λ (m : Numbering). Z (variable_number m path)) (sym e) (leaves.zero_in path b h)
+      pub zero_at_path : (c : Context) → c.numbering ≡ num → (path : Path) (b : Bool) (words : ℕ) → HasVariable num (H here) path b words → Z (variable_number c.numbering path)
+      zero_at_path c e path b words h = subst (λ (m : Numbering). Z (variable_number m path)) (sym e) (leaves.zero_in path b words h)
 
       -- Parameters.
 
@@ -375,26 +384,26 @@ module _ (n : NamedProgram) (fs : List Function) (ps : List PortUse) (num : Numb
       given_port d t _ _ none_there e s = no e
 
       -- an element whose index is tested and stored
-      element_given : (c : Context) (scope : Scope) (own : Path) (pos spot : Pos) (u : Bool) (i : tree.Expression) (t : List ℕ) (w : Option What) (x : Entity) → c.numbering ≡ num → F (expression c scope i) → Standing t w x → is_array_of u w ≡ true → AllIn VariableMade (by_element c scope own pos i spot x).variables → PassedWell (what.Ref u) (by_element c scope own pos i spot x)
-      element_given c scope own pos spot u i t _ _ q f (whole_array {u = v} {m = m} {path = path} h) e made = record {
-        code = ((word_at_path c q (path_at own pos) made.0, leaves.testing (expression c scope i) f m spot), tt);
-        entity = λ s. subst (λ (b : Bool). Standing s (Some (what.Ref u)) (an_element path (path_at own pos) b)) (sym (agree_same u v (and_right true (agree u v) e))) (element_referred h made.0);
+      element_given : (c : Context) (scope : Scope) (own : Path) (pos spot : Pos) (u : Bool) (i : tree.Expression) (t : List ℕ) (w : Option What) (x : Entity) → c.numbering ≡ num → c.core ≡ here → F (expression c scope i) → Standing t w x → is_array_of u w ≡ true → AllIn VariableMade (by_element c scope own pos i spot x).variables → PassedWell (what.Ref u) (by_element c scope own pos i spot x)
+      element_given c scope own pos spot u i t _ _ q on f (whole_array {u = v} {m = m} {path = path} h) e made = let own_index = own_variable c.core (path_at own pos) false 1 on made.0 in record {
+        code = ((word_at_path c q (path_at own pos) own_index, leaves.testing (expression c scope i) f path m h spot), tt);
+        entity = λ s. subst (λ (b : Bool). Standing s (Some (what.Ref u)) (an_element path (path_at own pos) b)) (sym (agree_same u v (and_right true (agree u v) e))) (element_referred h own_index);
       }
-      element_given c scope own pos spot u i t _ _ q f (array_referred {u = v} {m = m} {path = path} h) e made = record {
-        code = ((word_at_path c q (path_at own pos) made.0, leaves.testing (expression c scope i) f m spot), tt);
-        entity = λ s. subst (λ (b : Bool). Standing s (Some (what.Ref u)) (an_element path (path_at own pos) b)) (sym (agree_same u v (and_right true (agree u v) e))) (element_referred h made.0);
+      element_given c scope own pos spot u i t _ _ q on f (array_referred {u = v} {m = m} {path = path} h) e made = let own_index = own_variable c.core (path_at own pos) false 1 on made.0 in record {
+        code = ((word_at_path c q (path_at own pos) own_index, leaves.testing (expression c scope i) f path m h spot), tt);
+        entity = λ s. subst (λ (b : Bool). Standing s (Some (what.Ref u)) (an_element path (path_at own pos) b)) (sym (agree_same u v (and_right true (agree u v) e))) (element_referred h own_index);
       }
-      element_given c scope own pos spot u i t _ _ q f (a_variable h) e made = no e
-      element_given c scope own pos spot u i t _ _ q f (word_referred h) e made = no e
-      element_given c scope own pos spot u i t _ _ q f (element_referred h g) e made = no e
-      element_given c scope own pos spot u i t _ _ q f the_index e made = no e
-      element_given c scope own pos spot u i t _ _ q f (the_channel h) e made = no e
-      element_given c scope own pos spot u i t _ _ q f (the_end h) e made = no e
-      element_given c scope own pos spot u i t _ _ q f (the_timer h) e made = no e
-      element_given c scope own pos spot u i t _ _ q f (the_port h) e made = no e
-      element_given c scope own pos spot u i t _ _ q f (port_given h) e made = no e
-      element_given c scope own pos spot u i t _ _ q f (the_function h) e made = no e
-      element_given c scope own pos spot u i t _ _ q f none_there e made = no e
+      element_given c scope own pos spot u i t _ _ q on f (a_variable h) e made = no e
+      element_given c scope own pos spot u i t _ _ q on f (word_referred h) e made = no e
+      element_given c scope own pos spot u i t _ _ q on f (element_referred h g) e made = no e
+      element_given c scope own pos spot u i t _ _ q on f the_index e made = no e
+      element_given c scope own pos spot u i t _ _ q on f (the_channel h) e made = no e
+      element_given c scope own pos spot u i t _ _ q on f (the_end h) e made = no e
+      element_given c scope own pos spot u i t _ _ q on f (the_timer h) e made = no e
+      element_given c scope own pos spot u i t _ _ q on f (the_port h) e made = no e
+      element_given c scope own pos spot u i t _ _ q on f (port_given h) e made = no e
+      element_given c scope own pos spot u i t _ _ q on f (the_function h) e made = no e
+      element_given c scope own pos spot u i t _ _ q on f none_there e made = no e
 
       module _ (c : Context) (scope : Scope) (st : Stack) (around : Around) (s : Sits c scope st around) where
         stands_here : (k : ℕ) (t : List ℕ) → declared_at n (slice_get n.uses k) ≡ found st t → Standing t (what_at n (slice_get n.uses k)) (entity_of scope t)
@@ -403,7 +412,7 @@ module _ (n : NamedProgram) (fs : List Function) (ps : List PortUse) (num : Numb
         reference_form : (own : Path) (pos : Pos) (u : Bool) (f : tree.Form) (p : Pos) (k : ℕ) → Resolves n k st (marks.of_form p f) → AllIn IsFine (site.of_lval n k (tree.expression f p)) → X (tree.expression f p) → fits (Some (param.Ref u)) (given_form n k p f) ≡ true → AllIn VariableMade (form_by_reference c scope own pos p f).variables → PassedWell (what.Ref u) (form_by_reference c scope own pos p f)
         reference_form own pos u (tree.name t) p k r g x e made = record { code = tt; entity = reference_given u t _ _ (stands_here k t r.0) e g.0.1 }
         reference_form own pos u (tree.index t i) p k r g x e made =
-            element_given c scope own pos p u i t _ _ s.numbers (ex_at c scope st around (k + 1) i s r.1 g.1.1 (leaves.index_in t i p x)) (stands_here k t r.0) e made
+            element_given c scope own pos p u i t _ _ s.numbers s.core_is (ex_at c scope st around (k + 1) i s r.1 g.1.1 (leaves.index_in t i p x)) (stands_here k t r.0) e made
         reference_form own pos u (tree.number v b) p k r g x e made = no e
         reference_form own pos u (tree.unary o a) p k r g x e made = no e
         reference_form own pos u (tree.binary o a b) p k r g x e made = no e
@@ -438,7 +447,9 @@ module _ (n : NamedProgram) (fs : List Function) (ps : List PortUse) (num : Numb
         port_form d (tree.cast u a) p k r e = no e
 
         passed_well : (own : Path) (pos : Pos) (kind : ParamKind) (e : tree.Expression) (k : ℕ) → Resolves n k st (marks.of_expression e) → AllIn IsFine (site.of_argument n k (Some kind) e) → X e → fits (Some kind) (given_by n k e) ≡ true → AllIn VariableMade (passed c scope own pos kind e).variables → PassedWell (marks.what_of_param kind) (passed c scope own pos kind e)
-        passed_well own pos (param.Value u) e k r g x q made = record { code = ((word_at_path c s.numbers (path_at own pos) made.0, test_at c scope st around k e s r g x), tt); entity = λ t. a_variable made.0 }
+        passed_well own pos (param.Value u) e k r g x q made =
+            let h = own_variable c.core (path_at own pos) false 1 s.core_is made.0 in
+            record { code = ((word_at_path c s.numbers (path_at own pos) h, test_at c scope st around k e s r g x), tt); entity = λ t. a_variable h }
         passed_well own pos (param.Ref u) (tree.expression f p) k r g x q made = reference_form own pos u f p k r g x q made
         passed_well own pos (param.Array u l) (tree.expression f p) k r g x q made = array_form u l f p k r q
         passed_well own pos (param.End b) (tree.expression f p) k r g x q made = end_form b f p k r q
@@ -505,7 +516,7 @@ module _ (n : NamedProgram) (fs : List Function) (ps : List PortUse) (num : Numb
       -- the copy of a call, whose result is there where the function has one
       pub record CallWell (st : Stack) (own : Path) (f : Function) (copy : Copy) : Type 0 where
         pub well : Well st copy
-        pub result : is_some f.head.result ≡ true → HasVariable num (path_at own f.head.name.pos) false
+        pub result : is_some f.head.result ≡ true → HasVariable num (H here) (path_at own f.head.name.pos) false 1
 
       abbrev pub CallsWell : (tree.Call → Type 0) → CopiesCall → Type 0
       CallsWell C copies = (call : tree.Call) (f : Function) → function_named fs call.called.text ≡ Some f → C call → (c : Context) (scope : Scope) (st : Stack) (around : Around) (k : ℕ) → Sits c scope st around →

@@ -1,4 +1,4 @@
-use Rattle.xc_formed.proofs.Formed.{variables_right, operands_right, levels_few, transfers_right, transactions_listed, exits_inside, well_formed, of_programs}
+use Rattle.xc_formed.proofs.Formed.{variables_right, operands_right, levels_few, transfers_right, transactions_listed, exits_inside, cores_right, well_formed, of_programs, cores_own}
 use Rattle.xc_formed.proofs.promised.kernels_are_formed.Goals as goal
 
 pub returns-clause-variables : goal.returns-clause-variables
@@ -19,8 +19,14 @@ returns-clause-transactions c = transactions_listed
 pub returns-clause-exits : goal.returns-clause-exits
 returns-clause-exits c = exits_inside
 
+pub returns-clause-cores : goal.returns-clause-cores
+returns-clause-cores c = cores_right
+
 pub returns-clause-whole : goal.returns-clause-whole
 returns-clause-whole c = well_formed
 
 pub returns-clause-of_programs : goal.returns-clause-of_programs
 returns-clause-of_programs c = of_programs
+
+pub returns-clause-own : goal.returns-clause-own
+returns-clause-own c = cores_own
