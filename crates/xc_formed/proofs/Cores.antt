@@ -46,7 +46,7 @@ module _ (n : NamedProgram) (fs : List Function) (ps : List PortUse) (num : Numb
     resource_on t _ _ (whole_array h) = tt
     resource_on t _ _ (word_referred h) = tt
     resource_on t _ _ (element_referred h g) = tt
-    resource_on t _ _ (array_referred h) = tt
+    resource_on t _ _ (array_referred told h) = tt
     resource_on t _ _ (the_channel h) = tt
     resource_on t _ _ (the_end h) = tt
     resource_on t _ _ (the_port h) = tt

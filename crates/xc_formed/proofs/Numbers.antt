@@ -38,7 +38,7 @@ module _ (n : NamedProgram) (fs : List Function) (ps : List PortUse) (num : Numb
   word_well t _ _ pos (element_referred {m = m} {path = path} {index = index} h g) e = (listed path true m (λ q. absurd (true≢false q)) h, listed index false 1 (λ q. refl) g)
   word_well t _ _ pos the_index e = tt
   word_well t _ _ pos (whole_array h) e = no e
-  word_well t _ _ pos (array_referred h) e = no e
+  word_well t _ _ pos (array_referred told h) e = no e
   word_well t _ _ pos (the_channel h) e = no e
   word_well t _ _ pos (the_end h) e = no e
   word_well t _ _ pos (the_timer h) e = no e
@@ -53,7 +53,7 @@ module _ (n : NamedProgram) (fs : List Function) (ps : List PortUse) (num : Numb
   place_well t _ _ pos (element_referred {m = m} {path = path} {index = index} h g) e i = (listed path true m (λ q. absurd (true≢false q)) h, listed index false 1 (λ q. refl) g)
   place_well t _ _ pos the_index e i = absurd (true≢false i)
   place_well t _ _ pos (whole_array h) e i = no e
-  place_well t _ _ pos (array_referred h) e i = no e
+  place_well t _ _ pos (array_referred told h) e i = no e
   place_well t _ _ pos (the_channel h) e i = no e
   place_well t _ _ pos (the_end h) e i = no e
   place_well t _ _ pos (the_timer h) e i = no e
@@ -63,8 +63,8 @@ module _ (n : NamedProgram) (fs : List Function) (ps : List PortUse) (num : Numb
   place_well t _ _ pos none_there e i = no e
 
   pub array_well : (t : List ℕ) (w : Option What) (x : Entity) → Standing t w x → is_array w ≡ true → W (array_number num x) true
-  array_well t _ _ (whole_array {m = m} {path = path} h) e = listed path true m (λ q. absurd (true≢false q)) h
-  array_well t _ _ (array_referred {m = m} {path = path} h) e = listed path true m (λ q. absurd (true≢false q)) h
+  array_well t _ _ (whole_array {l = m} {path = path} h) e = listed path true m (λ q. absurd (true≢false q)) h
+  array_well t _ _ (array_referred {m = m} {path = path} told h) e = listed path true m (λ q. absurd (true≢false q)) h
   array_well t _ _ (a_variable h) e = no e
   array_well t _ _ (word_referred h) e = no e
   array_well t _ _ (element_referred h g) e = no e

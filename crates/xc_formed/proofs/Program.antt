@@ -168,7 +168,7 @@ module _ (P : List tree.Item) (n : NamedProgram) where
       finds t _ _ (whole_array h) = tt
       finds t _ _ (word_referred h) = tt
       finds t _ _ (element_referred h g) = tt
-      finds t _ _ (array_referred h) = tt
+      finds t _ _ (array_referred told h) = tt
       finds t _ _ (the_channel h) = tt
       finds t _ _ (the_end h) = tt
       finds t _ _ (the_timer h) = tt

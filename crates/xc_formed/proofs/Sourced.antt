@@ -43,7 +43,7 @@ module _ (n : NamedProgram) (fs : List Function) (ps : List PortUse) (num : Numb
   word_type t _ _ (whole_array h) = refl
   word_type t _ _ (word_referred h) = refl
   word_type t _ _ (element_referred h g) = refl
-  word_type t _ _ (array_referred h) = refl
+  word_type t _ _ (array_referred told h) = refl
   word_type t _ _ (the_channel h) = refl
   word_type t _ _ (the_end h) = refl
   word_type t _ _ (the_timer h) = refl
@@ -58,7 +58,7 @@ module _ (n : NamedProgram) (fs : List Function) (ps : List PortUse) (num : Numb
   array_type t _ _ (whole_array h) = refl
   array_type t _ _ (word_referred h) = refl
   array_type t _ _ (element_referred h g) = refl
-  array_type t _ _ (array_referred h) = refl
+  array_type t _ _ (array_referred told h) = refl
   array_type t _ _ (the_channel h) = refl
   array_type t _ _ (the_end h) = refl
   array_type t _ _ (the_timer h) = refl

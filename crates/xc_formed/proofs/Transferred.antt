@@ -57,7 +57,7 @@ module _ (n : NamedProgram) (fs : List Function) (ps : List PortUse) (num : Numb
   output_goes t _ _ (whole_array h) e time stamp f g = no e
   output_goes t _ _ (word_referred h) e time stamp f g = no e
   output_goes t _ _ (element_referred h i) e time stamp f g = no e
-  output_goes t _ _ (array_referred h) e time stamp f g = no e
+  output_goes t _ _ (array_referred told h) e time stamp f g = no e
   output_goes t _ _ (the_timer h) e time stamp f g = no e
   output_goes t _ _ the_index e time stamp f g = no e
   output_goes t _ _ (the_function h) e time stamp f g = no e
@@ -128,7 +128,7 @@ module _ (n : NamedProgram) (fs : List Function) (ps : List PortUse) (num : Numb
   input_goes t _ _ (whole_array h) e time c stamp f q k g = no e
   input_goes t _ _ (word_referred h) e time c stamp f q k g = no e
   input_goes t _ _ (element_referred h i) e time c stamp f q k g = no e
-  input_goes t _ _ (array_referred h) e time c stamp f q k g = no e
+  input_goes t _ _ (array_referred told h) e time c stamp f q k g = no e
   input_goes t _ _ the_index e time c stamp f q k g = no e
   input_goes t _ _ (the_function h) e time c stamp f q k g = no e
   input_goes t _ _ none_there e time c stamp f q k g = no e

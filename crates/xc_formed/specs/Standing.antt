@@ -44,19 +44,24 @@ pub record HasPort (ps : List PortUse) (number : ℕ) (d : TreeDir) : Type 0 whe
 abbrev pub head_of : Function → tree.Head
 head_of f = f.head
 
--- an instance of what is declared so, an array with its variable's words as its length, where H holds
--- of each variable's path and J of each timer's
+-- a length is this, where it is told
+abbrev pub IsTold : Option ℕ → ℕ → Type 0
+IsTold None m = Unit {0}
+IsTold (Some l) m = l ≡ m
+
+-- an instance of what is declared so, an array with its variable's words as its length, which is the
+-- declared one where one is told; H holds of each variable's path and J of each timer's
 pub data Stands (n : NamedProgram) (fs : List Function) (ps : List PortUse) (num : Numbering) (H J : Path → Type 0) (t : List ℕ) : Option What → Entity → Type 0 where
   a_variable : {u : Bool} {path : Path} → HasVariable num H path false 1 →
       Stands n fs ps num H J t (Some (what.Word u)) (a_word path u)
-  whole_array : {u : Bool} {l m : ℕ} {path : Path} → HasVariable num H path true m →
-      Stands n fs ps num H J t (Some (what.Array u l)) (an_array path m u)
+  whole_array : {u : Bool} {l : ℕ} {path : Path} → HasVariable num H path true l →
+      Stands n fs ps num H J t (Some (what.Array u l)) (an_array path l u)
   word_referred : {u : Bool} {path : Path} → HasVariable num H path false 1 →
       Stands n fs ps num H J t (Some (what.Ref u)) (a_word path u)
   element_referred : {u : Bool} {m : ℕ} {path index : Path} →
       HasVariable num H path true m → HasVariable num H index false 1 →
       Stands n fs ps num H J t (Some (what.Ref u)) (an_element path index u)
-  array_referred : {u : Bool} {l : Option ℕ} {m : ℕ} {path : Path} → HasVariable num H path true m →
+  array_referred : {u : Bool} {l : Option ℕ} {m : ℕ} {path : Path} → IsTold l m → HasVariable num H path true m →
       Stands n fs ps num H J t (Some (what.ArrayParam u l)) (an_array path m u)
   the_channel : {s : Bool} {path : Path} → HasChannel num path →
       Stands n fs ps num H J t (Some (what.Chan s)) (a_channel path)

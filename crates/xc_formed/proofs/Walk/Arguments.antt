@@ -15,7 +15,7 @@ use Rattle.xc_tree.specs.declared.names.What.TheVariants as what
 use Rattle.xc_tree.specs.Plain as tree
 use Rattle.xc_tree.specs.Names.Marks as marks
 use Rattle.xc_tree.specs.Types.Named.{NamedProgram, what_of, what_at, past, function_of}
-use Rattle.xc_tree.specs.Types.Entities.{is_word, is_array, is_index, is_port, is_timer, takes_output, gives_input, agree, is_word_of, is_array_of, is_channel_of, is_port_of, same_direction}
+use Rattle.xc_tree.specs.Types.Entities.{is_word, is_array, is_index, is_port, is_timer, takes_output, gives_input, agree, is_word_of, is_array_of, is_channel_of, is_port_of, same_direction, length_of, length_does}
 use Rattle.xc_tree.specs.Types.Calls.{Argument, given_by, given_form, arguments, fits, rest_of}
 use Rattle.xc_tree.specs.Types.Rules.{has_number, gives_word}
 use Rattle.xc_tree.specs.Words.{timerafter_word}
@@ -41,7 +41,7 @@ use Rattle.xc_kernel.specs.Calls.{CopiesCall}
 use Rattle.xc_kernel.specs.Transfers.{output_of, input_of}
 use Rattle.xc_tree.specs.Shapes.Main.{is_channels_par_return, place_branches, statements_in}
 use Rattle.xc_formed.specs.Stacks.{declared_at, Frame, Stack, decl_by, found, with_decl, after, IsFresh, Resolves}
-use Rattle.xc_formed.specs.Standing.{InstanceOf, IsInstance, HasVariable, HasChannel, HasTimer, head_of, Stands, a_variable, whole_array, word_referred, element_referred, array_referred, the_channel, the_end, the_timer, the_port, port_given, the_index, the_function, none_there, Agrees}
+use Rattle.xc_formed.specs.Standing.{InstanceOf, IsInstance, IsTold, HasVariable, HasChannel, HasTimer, head_of, Stands, a_variable, whole_array, word_referred, element_referred, array_referred, the_channel, the_end, the_timer, the_port, port_given, the_index, the_function, none_there, Agrees}
 use Rattle.xc_formed.specs.Each.{EachStatement, EachOf}
 use Rattle.xc_formed.proofs.Shaped.{WaitsRight, ShapedArguments}
 use Rattle.xc_formed.proofs.Stacks.{quiet_split, quiet_argument}
@@ -328,8 +328,8 @@ module _ (n : NamedProgram) (fs : List Function) (ps : List PortUse) (num : Numb
       reference_given u t _ _ (word_referred {u = v} {path = path} h) e i s = subst (λ (b : Bool). Standing s (Some (what.Ref u)) (a_word path b)) (sym (agree_same u v (and_right true (agree u v) e))) (word_referred h)
       reference_given u t _ _ (element_referred {u = v} {path = path} {index = index} h g) e i s = subst (λ (b : Bool). Standing s (Some (what.Ref u)) (an_element path index b)) (sym (agree_same u v (and_right true (agree u v) e))) (element_referred h g)
       reference_given u t _ _ the_index e i s = absurd (true≢false i)
-      reference_given u t _ _ (whole_array {u = v} {m = m} {path = path} h) e i s = no e
-      reference_given u t _ _ (array_referred {u = v} {m = m} {path = path} h) e i s = no e
+      reference_given u t _ _ (whole_array {u = v} {l = m} {path = path} h) e i s = no e
+      reference_given u t _ _ (array_referred {u = v} {m = m} {path = path} told h) e i s = no e
       reference_given u t _ _ (the_channel h) e i s = no e
       reference_given u t _ _ (the_end h) e i s = no e
       reference_given u t _ _ (the_timer h) e i s = no e
@@ -338,26 +338,38 @@ module _ (n : NamedProgram) (fs : List Function) (ps : List PortUse) (num : Numb
       reference_given u t _ _ (the_function h) e i s = no e
       reference_given u t _ _ none_there e i s = no e
 
-      array_given : (u : Bool) (l : Option ℕ) (t : List ℕ) (w : Option What) (x : Entity) → Standing t w x → is_array_of u w ≡ true → StandsAlways (what.ArrayParam u l) x
-      array_given u l t _ _ (whole_array {u = v} {m = m} {path = path} h) e s = subst (λ (b : Bool). Standing s (Some (what.ArrayParam u l)) (an_array path m b)) (sym (agree_same u v (and_right true (agree u v) e))) (array_referred h)
-      array_given u l t _ _ (array_referred {u = v} {m = m} {path = path} h) e s = subst (λ (b : Bool). Standing s (Some (what.ArrayParam u l)) (an_array path m b)) (sym (agree_same u v (and_right true (agree u v) e))) (array_referred h)
-      array_given u l t _ _ (a_variable {u = v} {path = path} h) e s = no e
-      array_given u l t _ _ (word_referred {u = v} {path = path} h) e s = no e
-      array_given u l t _ _ (element_referred {u = v} {path = path} {index = index} h g) e s = no e
-      array_given u l t _ _ the_index e s = no e
-      array_given u l t _ _ (the_channel h) e s = no e
-      array_given u l t _ _ (the_end h) e s = no e
-      array_given u l t _ _ (the_timer h) e s = no e
-      array_given u l t _ _ (the_port h) e s = no e
-      array_given u l t _ _ (port_given h) e s = no e
-      array_given u l t _ _ (the_function h) e s = no e
-      array_given u l t _ _ none_there e s = no e
+      equal_numbers : (x y : ℕ) → nat_eq x y ≡ true → x ≡ y
+      equal_numbers x y e = grind (arith, nat_tests)
+
+      told_by : (l : Option ℕ) (m : ℕ) → length_does l (Some m) ≡ true → IsTold l m
+      told_by None m e = tt
+      told_by (Some n) m e = equal_numbers n m e
+
+      told_again : (l k : Option ℕ) (m : ℕ) → length_does l k ≡ true → IsTold k m → IsTold l m
+      told_again None k m e h = tt
+      told_again (Some n) None m e h = no e
+      told_again (Some n) (Some j) m e h = equal_numbers n j e ∙ h
+
+      array_given : (u : Bool) (l : Option ℕ) (t : List ℕ) (w : Option What) (x : Entity) → Standing t w x → is_array_of u w ≡ true → length_does l (length_of w) ≡ true → StandsAlways (what.ArrayParam u l) x
+      array_given u l t _ _ (whole_array {u = v} {l = m} {path = path} h) e long s = subst (λ (b : Bool). Standing s (Some (what.ArrayParam u l)) (an_array path m b)) (sym (agree_same u v (and_right true (agree u v) e))) (array_referred (told_by l m long) h)
+      array_given u l t _ _ (array_referred {u = v} {l = k} {m = m} {path = path} told h) e long s = subst (λ (b : Bool). Standing s (Some (what.ArrayParam u l)) (an_array path m b)) (sym (agree_same u v (and_right true (agree u v) e))) (array_referred (told_again l k m long told) h)
+      array_given u l t _ _ (a_variable {u = v} {path = path} h) e long s = no e
+      array_given u l t _ _ (word_referred {u = v} {path = path} h) e long s = no e
+      array_given u l t _ _ (element_referred {u = v} {path = path} {index = index} h g) e long s = no e
+      array_given u l t _ _ the_index e long s = no e
+      array_given u l t _ _ (the_channel h) e long s = no e
+      array_given u l t _ _ (the_end h) e long s = no e
+      array_given u l t _ _ (the_timer h) e long s = no e
+      array_given u l t _ _ (the_port h) e long s = no e
+      array_given u l t _ _ (port_given h) e long s = no e
+      array_given u l t _ _ (the_function h) e long s = no e
+      array_given u l t _ _ none_there e long s = no e
 
       end_given : (st : Bool) (t : List ℕ) (w : Option What) (x : Entity) → Standing t w x → is_channel_of st w ≡ true → StandsAlways (what.End st) x
       end_given st t _ _ (the_channel h) e s = the_end h
       end_given st t _ _ (the_end h) e s = the_end h
-      end_given st t _ _ (whole_array {u = v} {m = m} {path = path} h) e s = no e
-      end_given st t _ _ (array_referred {u = v} {m = m} {path = path} h) e s = no e
+      end_given st t _ _ (whole_array {u = v} {l = m} {path = path} h) e s = no e
+      end_given st t _ _ (array_referred {u = v} {m = m} {path = path} told h) e s = no e
       end_given st t _ _ (a_variable {u = v} {path = path} h) e s = no e
       end_given st t _ _ (word_referred {u = v} {path = path} h) e s = no e
       end_given st t _ _ (element_referred {u = v} {path = path} {index = index} h g) e s = no e
@@ -373,8 +385,8 @@ module _ (n : NamedProgram) (fs : List Function) (ps : List PortUse) (num : Numb
       given_port d t _ _ (port_given {d = f} h) e s = port_given (record { port = h.port; there = h.there; direction = h.direction ∙ direction_same d f e })
       given_port d t _ _ (the_channel h) e s = no e
       given_port d t _ _ (the_end h) e s = no e
-      given_port d t _ _ (whole_array {u = v} {m = m} {path = path} h) e s = no e
-      given_port d t _ _ (array_referred {u = v} {m = m} {path = path} h) e s = no e
+      given_port d t _ _ (whole_array {u = v} {l = m} {path = path} h) e s = no e
+      given_port d t _ _ (array_referred {u = v} {m = m} {path = path} told h) e s = no e
       given_port d t _ _ (a_variable {u = v} {path = path} h) e s = no e
       given_port d t _ _ (word_referred {u = v} {path = path} h) e s = no e
       given_port d t _ _ (element_referred {u = v} {path = path} {index = index} h g) e s = no e
@@ -385,11 +397,11 @@ module _ (n : NamedProgram) (fs : List Function) (ps : List PortUse) (num : Numb
 
       -- an element whose index is tested and stored
       element_given : (c : Context) (scope : Scope) (own : Path) (pos spot : Pos) (u : Bool) (i : tree.Expression) (t : List ℕ) (w : Option What) (x : Entity) → c.numbering ≡ num → c.core ≡ here → F (expression c scope i) → Standing t w x → is_array_of u w ≡ true → AllIn VariableMade (by_element c scope own pos i spot x).variables → PassedWell (what.Ref u) (by_element c scope own pos i spot x)
-      element_given c scope own pos spot u i t _ _ q on f (whole_array {u = v} {m = m} {path = path} h) e made = let own_index = own_variable c.core (path_at own pos) false 1 on made.0 in record {
+      element_given c scope own pos spot u i t _ _ q on f (whole_array {u = v} {l = m} {path = path} h) e made = let own_index = own_variable c.core (path_at own pos) false 1 on made.0 in record {
         code = ((word_at_path c q (path_at own pos) own_index, leaves.testing (expression c scope i) f path m h spot), tt);
         entity = λ s. subst (λ (b : Bool). Standing s (Some (what.Ref u)) (an_element path (path_at own pos) b)) (sym (agree_same u v (and_right true (agree u v) e))) (element_referred h own_index);
       }
-      element_given c scope own pos spot u i t _ _ q on f (array_referred {u = v} {m = m} {path = path} h) e made = let own_index = own_variable c.core (path_at own pos) false 1 on made.0 in record {
+      element_given c scope own pos spot u i t _ _ q on f (array_referred {u = v} {m = m} {path = path} told h) e made = let own_index = own_variable c.core (path_at own pos) false 1 on made.0 in record {
         code = ((word_at_path c q (path_at own pos) own_index, leaves.testing (expression c scope i) f path m h spot), tt);
         entity = λ s. subst (λ (b : Bool). Standing s (Some (what.Ref u)) (an_element path (path_at own pos) b)) (sym (agree_same u v (and_right true (agree u v) e))) (element_referred h own_index);
       }
@@ -420,7 +432,7 @@ module _ (n : NamedProgram) (fs : List Function) (ps : List PortUse) (num : Numb
         reference_form own pos u (tree.cast b a) p k r g x e made = no e
 
         array_form : (u : Bool) (l : Option (ℕ × Pos)) (f : tree.Form) (p : Pos) (k : ℕ) → Resolves n k st (marks.of_form p f) → fits (Some (param.Array u l)) (given_form n k p f) ≡ true → PassedWell (what.ArrayParam u (marks.length_of l)) (by_name scope (tree.expression f p))
-        array_form u l (tree.name t) p k r e = record { code = tt; entity = array_given u (marks.length_of l) t _ _ (stands_here k t r.0) (and_left _ _ e) }
+        array_form u l (tree.name t) p k r e = record { code = tt; entity = array_given u (marks.length_of l) t _ _ (stands_here k t r.0) (and_left _ _ e) (and_right _ _ e) }
         array_form u l (tree.index t i) p k r e = no e
         array_form u l (tree.number v b) p k r e = no e
         array_form u l (tree.unary o a) p k r e = no e
@@ -495,7 +507,7 @@ module _ (n : NamedProgram) (fs : List Function) (ps : List PortUse) (num : Numb
         function_there t _ _ (whole_array h) e = no e
         function_there t _ _ (word_referred h) e = no e
         function_there t _ _ (element_referred h g) e = no e
-        function_there t _ _ (array_referred h) e = no e
+        function_there t _ _ (array_referred told h) e = no e
         function_there t _ _ (the_channel h) e = no e
         function_there t _ _ (the_end h) e = no e
         function_there t _ _ (the_timer h) e = no e

@@ -277,7 +277,7 @@ module _ (n : NamedProgram) (fs : List Function) (ps : List PortUse) (num : Numb
         channel_heard t _ _ (whole_array h) = (tt, λ e. (walk.no n fs ps num H J here X V S E F L Z O I T leaves gs) e)
         channel_heard t _ _ (word_referred h) = (tt, λ e. (walk.no n fs ps num H J here X V S E F L Z O I T leaves gs) e)
         channel_heard t _ _ (element_referred h g) = (tt, λ e. (walk.no n fs ps num H J here X V S E F L Z O I T leaves gs) e)
-        channel_heard t _ _ (array_referred h) = (tt, λ e. (walk.no n fs ps num H J here X V S E F L Z O I T leaves gs) e)
+        channel_heard t _ _ (array_referred told h) = (tt, λ e. (walk.no n fs ps num H J here X V S E F L Z O I T leaves gs) e)
         channel_heard t _ _ (the_timer h) = (tt, λ e. (walk.no n fs ps num H J here X V S E F L Z O I T leaves gs) e)
         channel_heard t _ _ (the_port h) = (tt, λ e. (walk.no n fs ps num H J here X V S E F L Z O I T leaves gs) e)
         channel_heard t _ _ (port_given h) = (tt, λ e. (walk.no n fs ps num H J here X V S E F L Z O I T leaves gs) e)

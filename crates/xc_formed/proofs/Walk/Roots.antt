@@ -54,7 +54,7 @@ module _ (n : NamedProgram) (fs : List Function) (ps : List PortUse) (num : Numb
   paths_of t _ _ (whole_array h) = h.holds
   paths_of t _ _ (word_referred h) = h.holds
   paths_of t _ _ (element_referred h g) = (h.holds, g.holds)
-  paths_of t _ _ (array_referred h) = h.holds
+  paths_of t _ _ (array_referred told h) = h.holds
   paths_of t _ _ (the_channel h) = tt
   paths_of t _ _ (the_end h) = tt
   paths_of t _ _ (the_timer h) = h.1
@@ -69,7 +69,7 @@ module _ (n : NamedProgram) (fs : List Function) (ps : List PortUse) (num : Numb
   stands_with t _ _ k (whole_array h) = whole_array (record { variable = h.variable; there = h.there; array = h.array; long = h.long; holds = k })
   stands_with t _ _ k (word_referred h) = word_referred (record { variable = h.variable; there = h.there; array = h.array; long = h.long; holds = k })
   stands_with t _ _ k (element_referred h g) = element_referred (record { variable = h.variable; there = h.there; array = h.array; long = h.long; holds = k.0 }) (record { variable = g.variable; there = g.there; array = g.array; long = g.long; holds = k.1 })
-  stands_with t _ _ k (array_referred h) = array_referred (record { variable = h.variable; there = h.there; array = h.array; long = h.long; holds = k })
+  stands_with t _ _ k (array_referred told h) = array_referred told (record { variable = h.variable; there = h.there; array = h.array; long = h.long; holds = k })
   stands_with t _ _ k (the_channel h) = the_channel h
   stands_with t _ _ k (the_end h) = the_end h
   stands_with t _ _ k (the_timer h) = the_timer (h.0, k)
