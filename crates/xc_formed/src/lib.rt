@@ -1,6 +1,7 @@
 //! Each program's kernel is well formed: its numbers lie in its lists, its operations have their
 //! operands, its transfers go through what they can go through, its exits stand inside their
-//! blocks, and its roots use what is on their cores. And each name of a copy stands for the instance of what the name is declared as.
+//! blocks, and its roots use timers of their cores and, where they keep apart, variables of their
+//! cores. And each name of a copy stands for an instance of what the name is declared as.
 #![tactic(auto)]
 
 mod promised;
