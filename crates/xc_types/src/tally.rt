@@ -4,10 +4,10 @@ use std::alloc::Global;
 use std::marker::Model;
 use xw_words::Memory;
 
-/// A count that is kept as a list of nothing, so that memory alone bounds it. Contracts see the number.
+/// A count that takes a byte for each that is counted, so that nothing but memory bounds it. Contracts see the number.
 #[derive(Drop)]
 pub struct Tally {
-    marks: Vec<()>,
+    marks: Vec<u8>,
 }
 
 impl Model for Tally {
@@ -37,7 +37,7 @@ impl Tally {
     pub fn add_one(&mut self) -> Result<(), Memory>
         ensures { OnOk result (self.new ≡ self.old + 1) }
     {
-        match self.marks.push(()) {
+        match self.marks.push(0) {
             Ok(()) => Ok(()),
             Err(_) => Err(Memory),
         }
