@@ -5,10 +5,10 @@ use Rattle.xw_words.specs.declared.pos.Pos.{Pos}
 use Rattle.xs_instr.specs.declared.instr.Instr.{Instr}
 use Rattle.xs_instr.specs.declared.instr.Instr.TheVariants.{Ldwsp, Stwsp, Brff, Brfu}
 use Rattle.xs_instr.specs.declared.instr.Reg.TheVariants.{R0, R11}
-use Rattle.xs_instr.specs.Lines.{Line, line, open_line, aimed, with_target, IsOpen, IsOpenLine, landed, landed_at}
+use Rattle.xs_instr.specs.Lines.{Line, line, open_line, aimed, with_target, IsOpen, IsOpenLine, landed, landed_at, at_pos}
 use Rattle.xc_kernel.specs.declared.operators.Operator.{Operator}
 use Rattle.xc_kernel.specs.declared.operators.Operator.TheVariants.{Both, Either}
-use Rattle.xl_expr.specs.Code.{at_pos, after_main, main_instr, between, behind}
+use Rattle.xl_expr.specs.Code.{after_main, main_instr, between, behind}
 use Rattle.xs_instr.specs.Extends.{Extends}
 use Rattle.xc_kernel.specs.Meant.{operator_meant}
 use Rattle.xl_expr.specs.Parts.{aimed_code, either_code}

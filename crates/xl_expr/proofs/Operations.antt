@@ -11,9 +11,9 @@ use Rattle.xs_instr.specs.Rows.{jumps_by}
 use Rattle.xc_kernel.specs.Values.{Value, word, error, applied, of_one, with_second, and_then, or_else, choice, truth_of, is_true}
 use Rattle.xc_kernel.specs.Operators as operator
 use Rattle.xc_kernel.specs.Operators.{Operator}
-use Rattle.xs_instr.specs.Lines.{Line, line}
+use Rattle.xs_instr.specs.Lines.{Line, line, at_pos}
 use Rattle.xs_instr.specs.OwnSteps.{StandAt, temporary}
-use Rattle.xl_expr.specs.Code.{at_pos, one_tail, operation_code}
+use Rattle.xl_expr.specs.Code.{one_tail, operation_code}
 use Rattle.xl_expr.proofs.Lists.{stand_front, stand_back}
 use Rattle.xl_expr.proofs.Ways.{own, IsPlain}
 use Rattle.xl_expr.proofs.Runs.{Runs, Keeps, Ready, ready_kept, keeps_all, keeps_r0, done, looser, one_on, by_quiet}

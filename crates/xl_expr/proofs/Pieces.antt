@@ -14,9 +14,9 @@ use Rattle.xs_instr.specs.Registers.{reg_set}
 use Rattle.xs_instr.specs.Rows.{own_row, jumps_by}
 use Rattle.xc_kernel.specs.Values.{Value, word, error, of_two, of_both, truth_of}
 use Rattle.xc_kernel.specs.Operators.{Operator}
-use Rattle.xs_instr.specs.Lines.{Line, line}
+use Rattle.xs_instr.specs.Lines.{Line, line, at_pos}
 use Rattle.xs_instr.specs.OwnSteps.{StandAt, temporary}
-use Rattle.xl_expr.specs.Code.{at_pos, two_tail, made_truth, chained}
+use Rattle.xl_expr.specs.Code.{two_tail, made_truth, chained}
 use Rattle.xl_expr.proofs.Lists.{get_set_same, get_set_other, stand_front, stand_back}
 use Rattle.xl_expr.proofs.Ways.{own, IsPlain}
 use Rattle.xl_expr.proofs.Runs.{Runs, Keeps, Ready, IsSaved, ready_kept, keeps_all, keeps_r11, stopped, looser, one_on, run_on, by_quiet, by_save, by_restore}

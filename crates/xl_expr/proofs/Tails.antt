@@ -1,5 +1,6 @@
 -- Instructions on r0 and r11 alone: what each operator makes of two words.
 use Rattle.std.proofs.Common.{◌≡◌, ℕ, ◌+◌, ◌≤◌, Bool, true, false, List, [], ◌∷◌, length, Option, Some, None, refl, subst, arith}
+use Rattle.xs_instr.specs.Lines.{at_pos}
 use Rattle.std.specs.Prelude.{not, nat_eq, nat_lt, bit_or}
 use Rattle.std.specs.Int.Bits.{or_self}
 use Rattle.xw_words.specs.declared.pos.Pos.{Pos}
@@ -21,7 +22,7 @@ use Rattle.xs_instr.specs.OwnSteps.{IsApart, StandAt}
 use Rattle.xc_kernel.specs.Values.{Value, word, error, ErrorKind, arithmetic, index, of_one, of_two, divided, tested_by}
 use Rattle.xc_kernel.specs.Operators as operator
 use Rattle.xc_kernel.specs.Operators.{Operator}
-use Rattle.xl_expr.specs.Code.{at_pos, negated, made_truth, one_tail, two_tail}
+use Rattle.xl_expr.specs.Code.{negated, made_truth, one_tail, two_tail}
 use Rattle.xl_expr.specs.Works.{is_scratch, trap_of}
 use Rattle.xl_expr.proofs.Ways.{own, Agree, IsPlain}
 use Rattle.xl_expr.proofs.Runs.{Runs, Keeps, r0_alone, r11_alone, done, looser, one_on, by_quiet}

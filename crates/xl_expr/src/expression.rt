@@ -1,7 +1,7 @@
 ghost use Rattle.std.specs.Prelude.{◌≡◌, ◌+◌, ◌*◌, ◌<◌, ◌≤◌, ◌^◌, [], ◌∷◌, ◌++◌, length, map, OnOk, OnErr};
 ghost use Rattle.xc_kernel.specs.Kernels.{expression_of, place_of};
-ghost use Rattle.xs_instr.specs.Lines.{HasTarget, line, last_pos};
-ghost use Rattle.xl_expr.specs.Code.{at_pos, one_tail, negated, after_main, word_at_place, element_read, moved_to, expression_code, place_code, operation_code, codes, code_to};
+ghost use Rattle.xs_instr.specs.Lines.{HasTarget, line, last_pos, at_pos};
+ghost use Rattle.xl_expr.specs.Code.{one_tail, negated, after_main, word_at_place, element_read, moved_to, expression_code, place_code, operation_code, codes, code_to};
 ghost use Rattle.xs_instr.specs.Adds.{Adds};
 ghost use Rattle.xs_instr.specs.Extends.{Extends};
 ghost use Rattle.xl_expr.specs.Targets.{AreAimed};
@@ -13,7 +13,6 @@ ghost use Rattle.xl_expr.specs.Parts.{second_code, short_code, choice_code};
 
 use crate::operators::main_instr;
 use crate::plan::{Plan, VarAt};
-use crate::puts::put_all;
 use xc_kernel::{Kx, Operator, Place, operator_at};
 use xs_instr::{Emitter, Instr, Reg};
 use xw_words::{Memory, Pos};
@@ -50,7 +49,7 @@ fn put_move(e: &mut Emitter, to: Reg, pos: Pos) -> Result<(), Memory>
     match to {
         Reg::R0 => Ok(()),
         _ => {
-            put_all(e, &[Instr::Or(to, Reg::R0, Reg::R0)], pos)?;
+            e.put_all(&[Instr::Or(to, Reg::R0, Reg::R0)], pos)?;
             Ok(())
         }
     }
@@ -68,7 +67,7 @@ pub fn emit_at(e: &mut Emitter, plan: &Plan, x: &Kx, k: u32, last: Pos) -> Resul
     ensures refused { OnErr result (Extends e.old e.new) }
 {
     match x {
-        Kx::Num(value) => put_all(e, &[Instr::Ldc(Reg::R0, *value)], last),
+        Kx::Num(value) => e.put_all(&[Instr::Ldc(Reg::R0, *value)], last),
         Kx::Read(place) => emit_place(e, plan, place, k, last),
         Kx::Op(symbol, unsigned, operands, pos) => {
             let operator = operator_at(*symbol);
@@ -114,8 +113,7 @@ fn emit_place(e: &mut Emitter, plan: &Plan, place: &Place, k: u32, last: Pos) ->
                     put_element(e, found.words, Instr::Ldwdp(Reg::R11, n), *pos)?;
                     Ok(())
                 }
-                VarAt::Through(n) => put_all(
-                    e,
+                VarAt::Through(n) => e.put_all(
                     &[
                         Instr::Ldwdp(Reg::R11, n),
                         Instr::Ldc(Reg::R0, 0),
@@ -135,9 +133,8 @@ fn put_word(e: &mut Emitter, place: VarAt, pos: Pos) -> Result<(), Memory>
     ensures refused { OnErr result (Extends e.old e.new) }
 {
     match place {
-        VarAt::Near(n) => put_all(e, &[Instr::Ldwdp(Reg::R0, n)], pos),
-        VarAt::Far(n) | VarAt::Through(n) => put_all(
-            e,
+        VarAt::Near(n) => e.put_all(&[Instr::Ldwdp(Reg::R0, n)], pos),
+        VarAt::Far(n) | VarAt::Through(n) => e.put_all(
             &[
                 Instr::Ldwdp(Reg::R11, n),
                 Instr::Ldc(Reg::R0, 0),
@@ -154,8 +151,7 @@ fn put_element(e: &mut Emitter, words: u32, base: Instr, pos: Pos) -> Result<(),
     ensures ok { OnOk result (e.new ≡ e.old ++ at_pos pos (element_read base words)) }
     ensures refused { OnErr result (Extends e.old e.new) }
 {
-    put_all(
-        e,
+    e.put_all(
         &[
             Instr::Ldc(Reg::R11, words),
             Instr::Lsu(Reg::R11, Reg::R0, Reg::R11),
@@ -174,8 +170,8 @@ fn put_one_tail(e: &mut Emitter, operator: Operator, pos: Pos) -> Result<(), Mem
     ensures refused { OnErr result (Extends e.old e.new) }
 {
     match operator {
-        Operator::Minus => put_all(e, &[Instr::Neg(Reg::R0, Reg::R0)], pos),
-        Operator::Flip => put_all(e, &[Instr::Not(Reg::R0, Reg::R0)], pos),
+        Operator::Minus => e.put_all(&[Instr::Neg(Reg::R0, Reg::R0)], pos),
+        Operator::Flip => e.put_all(&[Instr::Not(Reg::R0, Reg::R0)], pos),
         Operator::NotTrue => put_negated(e, pos),
         _ => Ok(()),
     }
@@ -187,8 +183,7 @@ fn put_negated(e: &mut Emitter, pos: Pos) -> Result<(), Memory>
     ensures ok { OnOk result (e.new ≡ e.old ++ at_pos pos negated) }
     ensures refused { OnErr result (Extends e.old e.new) }
 {
-    put_all(
-        e,
+    e.put_all(
         &[
             Instr::Ldc(Reg::R11, 0),
             Instr::Eq(Reg::R0, Reg::R0, Reg::R11),
@@ -205,8 +200,7 @@ fn put_after_main(e: &mut Emitter, operator: Operator, pos: Pos) -> Result<(), M
 {
     match operator {
         Operator::Differs | Operator::AtMost | Operator::AtLeast => put_negated(e, pos),
-        Operator::BelowLength => put_all(
-            e,
+        Operator::BelowLength => e.put_all(
             &[
                 Instr::Ecallf(Reg::R0),
                 Instr::Or(Reg::R0, Reg::R11, Reg::R11),
@@ -236,7 +230,7 @@ fn emit_operation(
     ensures refused { OnErr result (Extends e.old e.new) }
 {
     match operands {
-        [] => put_all(e, &[Instr::Ldc(Reg::R0, 0)], pos),
+        [] => e.put_all(&[Instr::Ldc(Reg::R0, 0)], pos),
         [only] => {
             emit_at(e, plan, only, k, last)?;
             put_one_tail(e, operator, pos)
@@ -273,10 +267,9 @@ fn emit_second(
         Operator::Both => emit_short(e, plan, Instr::Brff(Reg::R0, 0), second, pos, k),
         Operator::Either => emit_short(e, plan, Instr::Brft(Reg::R0, 0), second, pos, k),
         _ => {
-            put_all(e, &[Instr::Stwsp(Reg::R0, k)], pos)?;
+            e.put_all(&[Instr::Stwsp(Reg::R0, k)], pos)?;
             emit_at(e, plan, second, k + 1, pos)?;
-            put_all(
-                e,
+            e.put_all(
                 &[Instr::Ldwsp(Reg::R11, k), main_instr(operator, unsigned)],
                 pos,
             )?;
@@ -306,8 +299,7 @@ fn emit_short(
     let skip = e.hole(jump, pos)?;
     emit_at(e, plan, second, k + 1, pos)?;
     e.land(skip);
-    put_all(
-        e,
+    e.put_all(
         &[
             Instr::Ldc(Reg::R11, 0),
             Instr::Eq(Reg::R0, Reg::R0, Reg::R11),

@@ -1,9 +1,9 @@
 use Rattle.std.proofs.Common.{◌+◌, ℕ, arith, ap, ◌∙◌, refl, List, [], ◌∷◌, length, ◌++◌}
 use Rattle.xc_kernel.specs.Kernels.{expression_of}
-use Rattle.xs_instr.specs.Lines.{Line, line, open_line}
+use Rattle.xs_instr.specs.Lines.{Line, line, open_line, at_pos}
 use Rattle.xs_instr.specs.declared.instr.Instr.TheVariants.{Brff, Brfu, Ldc, Lsu, Ecallf, Ldawdp, Ldwdp, Ldw, Stwsp, Ldwsp}
 use Rattle.xs_instr.specs.declared.instr.Reg.TheVariants.{R0, R11}
-use Rattle.xl_expr.specs.Code.{at_pos, made_truth, expression_code}
+use Rattle.xl_expr.specs.Code.{made_truth, expression_code}
 use Rattle.xl_expr.specs.declared.plan.VarAt.TheVariants.{Near, Far}
 use Rattle.xl_expr.proofs.Sizes.{longer}
 use Rattle.xl_expr.proofs.Denoted.{nodes_read, depth_read, nodes_op, depth_op, nodes_elem, nodes_first, nodes_two, nodes_three, depth_nth, no_word, no_element, element_emitted}

@@ -1,6 +1,7 @@
 use Rattle.std.proofs.Common.{◌≤◌, ◌++◌, ◌∙◌, ap, arith, length, append_assoc}
+use Rattle.xs_instr.specs.Lines.{at_pos}
 use Rattle.xc_kernel.specs.Kernels.{expression_of}
-use Rattle.xl_expr.specs.Code.{at_pos, code_to, expression_code, moved_to}
+use Rattle.xl_expr.specs.Code.{code_to, expression_code, moved_to}
 use Rattle.xl_expr.specs.Measures.{depth}
 use Rattle.xl_expr.proofs.Evaluates.{code_evaluates, some_nodes}
 use Rattle.xl_expr.proofs.GoodCode.{code_aimed}
