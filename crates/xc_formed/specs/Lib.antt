@@ -12,4 +12,5 @@ pub mod WellFormed
 pub mod Stacks
 pub mod Standing
 pub mod Sources
+pub mod Words
 pub mod Laws

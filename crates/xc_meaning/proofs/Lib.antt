@@ -12,5 +12,6 @@ mod LawExamples
 pub mod Simulation
 pub mod Recursion
 pub mod Basics
+pub mod Words
 pub mod Outlines
 pub mod Moved
