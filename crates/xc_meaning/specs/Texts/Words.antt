@@ -12,7 +12,9 @@ use Rattle.xc_kernel.specs.Values.{Value, word, error, tested, applied}
 use Rattle.xc_kernel.specs.Eval.{Store, words_of, element_at, eval}
 use Rattle.xc_kernel.specs.Paths.{Path}
 use Rattle.xc_kernel.specs.Numbering.{Numbering, variable_number}
-use Rattle.xc_kernel.specs.Scopes.{Scope, Entity, a_word, an_array, an_element, a_constant, entity_of}
+use Rattle.xc_kernel.specs.Scopes.{Scope, Entity, a_word, an_array, an_element, a_constant, entity_of, is_unsigned}
+use Rattle.xc_kernel.specs.Context.{Context}
+use Rattle.xc_meaning.specs.Settings.Stores.{Spot}
 
 -- the variable of the array that a name stands for; no typed text has another name before `[`
 abbrev pub array_variable : Numbering → Entity → ℕ
@@ -24,12 +26,7 @@ abbrev pub index_below : (length : ℕ) → Pos → Value → Value
 index_below length pos (word i) = tested i length pos
 index_below length pos (error kind at) = error kind at
 
--- where a word is stored: in a variable, at an index, which may be an error
-pub record Spot : Type 0 where
-  pub variable : ℕ
-  pub index : Value
-
--- in the word of a variable that is no array, or in an element
+-- where a word is stored: in a variable that is no array, or in an element of one
 abbrev pub word_spot : (variable : ℕ) → Spot
 word_spot variable = record { variable = variable; index = word 0 }
 
@@ -108,3 +105,17 @@ module _ (unsigned : ℕ → tree.Expression → Bool) (num : Numbering) (scope 
 
   abbrev pub spot : ℕ → tree.Expression → Spot
   spot k (tree.expression form pos) = spot_of_form k pos form
+
+-- Where a statement stands the types are those of what names stand for.
+
+abbrev pub types_in : Scope → ℕ → tree.Expression → Bool
+types_in scope k e = is_unsigned scope e
+
+abbrev pub value_in : Context → Scope → Store → tree.Expression → Value
+value_in c scope store e = value (types_in scope) c.numbering scope store 0 e
+
+abbrev pub updated_in : Context → Scope → Store → tree.Expression → (symbol : ℕ) → Pos → Bool → Value → Value
+updated_in c scope store to symbol pos is_unsigned v = updated_value (types_in scope) c.numbering scope store 0 to symbol pos is_unsigned v
+
+abbrev pub spot_in : Context → Scope → Store → tree.Expression → Spot
+spot_in c scope store e = spot (types_in scope) c.numbering scope store 0 e
