@@ -31,6 +31,7 @@ pub mod Formed
 pub mod Gives
 pub mod Sourced
 pub mod Worded
+pub mod Given
 pub mod Few
 pub mod FewRoots
 pub mod KernelExamples

@@ -23,13 +23,13 @@ use Rattle.xc_kernel.specs.Parameters.{index_test}
 use Rattle.xc_kernel.specs.Programs.{Function, functions, ports}
 use Rattle.xc_kernel.specs.Ports.{port_use}
 use Rattle.xc_kernel.specs.Copies.{numbering}
-use Rattle.xc_meaning.specs.Texts.Words.{array_variable, index_below, Spot, spot_of_place, value, value_of_form, updated_value, index_value, spot}
+use Rattle.xc_meaning.specs.Texts.Words.{array_variable, index_below, spot_of_place, value, value_of_form, updated_value, index_value, spot}
 use Rattle.xc_meaning.proofs.Words.{entity_value, entity_spot, element_is, array_spot}
 use Rattle.xc_formed.specs.Operands.{IsProper}
 use Rattle.xc_formed.specs.Stacks.{Resolves, found}
 use Rattle.xc_formed.specs.Standing.{AnyPath, HasVariable, Stands, a_variable, whole_array, word_referred, element_referred, array_referred, the_channel, the_end, the_timer, the_port, port_given, the_index, the_function, none_there}
 use Rattle.xc_formed.specs.Sources.{typed, typed_form, typed_place, Where}
-use Rattle.xc_formed.specs.Words.{HasWords, StandsHere, WordsKept, UpdatesKept, StepsKept, SpotsKept, IndicesKept}
+use Rattle.xc_formed.specs.Words.{HasWords, StandsHere, WordsKept, UpdatesKept, StepsKept, SpotsKept}
 use Rattle.xc_formed.proofs.Sourced as sourced
 
 -- of what is translated by the types of the text
@@ -115,7 +115,7 @@ module _ (P : List tree.Item) (n : NamedProgram) (there : Where P n) (store : St
   below_is (word i) l pos = refl
   below_is (error kind at) l pos = refl
 
-  keeps_index : HasWords num store → (c : Context) → c.numbering ≡ num → (k : ℕ) (pos : Pos) (name : List ℕ) (i : tree.Expression) → StandsHere P n there store k (tree.expression (tree.index name i) pos) →
+  pub keeps_index : HasWords num store → (c : Context) → c.numbering ≡ num → (k : ℕ) (pos : Pos) (name : List ℕ) (i : tree.Expression) → StandsHere P n there store k (tree.expression (tree.index name i) pos) →
       (array : Path) (l : ℕ) (u : Bool) → entity_of scope name ≡ an_array array l u → eval store (index_test c scope i l pos) ≡ index_value (words.is_unsigned n) num scope store k pos name i
   keeps_index words_are c e k pos name i h array l u is =
       let v = subst LongAs is (long_as name (what_of (found there.stack name)) (entity_of scope name) (there.agrees name).0) in
@@ -136,6 +136,3 @@ steps_kept P n there store k to symbol pos h = keeps_updated P n there store k t
 
 pub spots_kept : SpotsKept
 spots_kept P n there store = keeps_spot P n there store
-
-pub indices_kept : IndicesKept
-indices_kept P n there store = keeps_index P n there store

@@ -13,4 +13,5 @@ pub mod Stacks
 pub mod Standing
 pub mod Sources
 pub mod Words
+pub mod Given
 pub mod Laws

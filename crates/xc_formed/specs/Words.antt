@@ -1,6 +1,6 @@
--- The kernel's expressions have the words that the expressions of the text have, or their errors, wherever in a typed program these
--- stand, and whatever words the variables have.
-use Rattle.std.specs.Prelude.{◌≡◌, ℕ, ◌+◌, Bool, false, List, length, Some, slice_get}
+-- The kernel's expressions have the words that the expressions of the text have, or their errors, wherever in a program these stand,
+-- and whatever words the variables have.
+use Rattle.std.specs.Prelude.{◌≡◌, ℕ, Bool, false, List, length, Some, slice_get}
 use Rattle.xw_words.specs.declared.pos.Pos.{Pos}
 use Rattle.xc_tree.specs.Names.Marks as marks
 use Rattle.xc_tree.specs.Plain as tree
@@ -10,16 +10,13 @@ use Rattle.xc_kernel.specs.declared.kernel.Var.{Var}
 use Rattle.xc_kernel.specs.Plain as kernel
 use Rattle.xc_kernel.specs.Values.{Value, word}
 use Rattle.xc_kernel.specs.Eval.{Store, words_of, eval}
-use Rattle.xc_kernel.specs.Paths.{Path}
 use Rattle.xc_kernel.specs.Numbering.{Numbering}
-use Rattle.xc_kernel.specs.Scopes.{Scope, an_array, entity_of, is_unsigned}
+use Rattle.xc_kernel.specs.Scopes.{Scope, is_unsigned}
 use Rattle.xc_kernel.specs.Expressions.{expression_in, kernel_place, updated}
-use Rattle.xc_kernel.specs.Context.{Context}
-use Rattle.xc_kernel.specs.Parameters.{index_test}
 use Rattle.xc_kernel.specs.Copies.{numbering}
-use Rattle.xc_kernel.specs.Sound.{IsTyped}
+use Rattle.xc_meaning.specs.Settings.Stores.{Spot}
 use Rattle.xc_meaning.specs.Texts.Words as text
-use Rattle.xc_meaning.specs.Texts.Words.{Spot, spot_of_place}
+use Rattle.xc_meaning.specs.Texts.Words.{spot_of_place}
 use Rattle.xc_formed.specs.Operands.{IsProper}
 use Rattle.xc_formed.specs.Stacks.{Resolves}
 use Rattle.xc_formed.specs.Sources.{Where}
@@ -69,19 +66,11 @@ module _ (P : List tree.Item) (n : NamedProgram) (there : Where P n) (store : St
       (k : ℕ) (to : tree.Expression) (symbol : ℕ) (pos : Pos) → StandsHere k to →
       eval store (updated num scope to symbol pos false (kernel.number 1)) ≡ UpdatedBy k to symbol pos false (word 1)
 
-  -- what is assigned to is stored there,
+  -- and what is assigned to is stored where the text says.
   abbrev pub KeepsSpot : Type 0
   KeepsSpot = (k : ℕ) (e : tree.Expression) → StandsHere k e → spot_of_place store (kernel_place num scope e) ≡ SpotOf k e
 
-  -- and the index of an element that is given to an `&` parameter is tested against the words of that very array.
-  abbrev pub KeepsIndex : Type 0
-  KeepsIndex =
-      HasWords num store → (c : Context) → c.numbering ≡ num → (k : ℕ) (pos : Pos) (name : List ℕ) (i : tree.Expression) →
-      StandsHere k (tree.expression (tree.index name i) pos) →
-      (array : Path) (length : ℕ) (u : Bool) → entity_of scope name ≡ an_array array length u →
-      eval store (index_test c scope i length pos) ≡ text.index_value (words.is_unsigned n) num scope store k pos name i
-
--- wherever in a typed program, and whatever words its variables have
+-- wherever in a program, and whatever words its variables have
 abbrev pub AtEachPlace : ((P : List tree.Item) (n : NamedProgram) → Where P n → Store → Type 0) → Type 0
 AtEachPlace Holds = (P : List tree.Item) (n : NamedProgram) (there : Where P n) (store : Store) → Holds P n there store
 
@@ -96,6 +85,3 @@ StepsKept = AtEachPlace KeepsStep
 
 abbrev pub SpotsKept : Type 0
 SpotsKept = AtEachPlace KeepsSpot
-
-abbrev pub IndicesKept : Type 0
-IndicesKept = AtEachPlace KeepsIndex

@@ -1,7 +1,8 @@
 //! The laws, as contracts of functions that do nothing.
 
 ghost use Rattle.xc_formed.specs.Laws.{CodeHasSource, CoresOwn, CoresRight, ExitsInside, KernelsOfProgramsWellFormed, KernelsWellFormed, LevelsFew, NamesResolve, NoInstanceMerged, NoInstanceTwice, OperandsRight, PartsFew, TextsRise, TransactionsListed, TransfersRight, VariablesRight};
-ghost use Rattle.xc_formed.specs.Words.{IndicesKept, SpotsKept, StepsKept, UpdatesKept, WordsKept};
+ghost use Rattle.xc_formed.specs.Given.{EachByItsOwn, ElementsGiven, NamesGiven, ResultIsReturned, ValuesGiven};
+ghost use Rattle.xc_formed.specs.Words.{SpotsKept, StepsKept, UpdatesKept, WordsKept};
 
 /// Each name means what the stack of open scopes has for it.
 #[tactic(auto, using(crate::proofs::Resolved::names_resolve))]
@@ -47,12 +48,22 @@ pub fn code_comes_from_text()
 
 /// The kernel's expression for one of the text has the word of that one or its error, wherever in
 /// the program it stands and whatever words the variables have; so has that of an assigning
-/// operator and of a step. What is assigned to is stored where the text says, and an index is
-/// tested against the words of its own array.
+/// operator and of a step. What is assigned to is stored where the text says.
 pub fn expressions_keep_their_word()
     ensures words { WordsKept }
     ensures updates { UpdatesKept }
     ensures steps { StepsKept }
     ensures places { SpotsKept }
-    ensures indices { IndicesKept }
+{}
+
+/// A parameter stands for what the argument at its own place gives it: one by value for a variable
+/// that holds the argument's word, an `&` parameter for an element of the argument's array, whose
+/// index is tested against that array's words, and each other one for what is named. What a call
+/// gives is read from where its function's `return` stores it.
+pub fn parameters_stand_for_arguments()
+    ensures values { ValuesGiven }
+    ensures elements { ElementsGiven }
+    ensures names { NamesGiven }
+    ensures each { EachByItsOwn }
+    ensures results { ResultIsReturned }
 {}

@@ -1,4 +1,4 @@
-use Rattle.xc_formed.proofs.Worded.{words_kept, updates_kept, steps_kept, spots_kept, indices_kept}
+use Rattle.xc_formed.proofs.Worded.{words_kept, updates_kept, steps_kept, spots_kept}
 use Rattle.xc_formed.proofs.promised.expressions_keep_their_word.Goals as goal
 
 pub returns-clause-words : goal.returns-clause-words
@@ -12,6 +12,3 @@ returns-clause-steps c = steps_kept
 
 pub returns-clause-places : goal.returns-clause-places
 returns-clause-places c = spots_kept
-
-pub returns-clause-indices : goal.returns-clause-indices
-returns-clause-indices c = indices_kept
