@@ -32,6 +32,7 @@ pub mod Gives
 pub mod Sourced
 pub mod Worded
 pub mod Given
+pub mod Stored
 pub mod Few
 pub mod FewRoots
 pub mod KernelExamples

@@ -14,4 +14,5 @@ pub mod Standing
 pub mod Sources
 pub mod Words
 pub mod Given
+pub mod Stored
 pub mod Laws

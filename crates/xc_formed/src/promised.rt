@@ -2,6 +2,7 @@
 
 ghost use Rattle.xc_formed.specs.Laws.{CodeHasSource, CoresOwn, CoresRight, ExitsInside, KernelsOfProgramsWellFormed, KernelsWellFormed, LevelsFew, NamesResolve, NoInstanceMerged, NoInstanceTwice, OperandsRight, PartsFew, TextsRise, TransactionsListed, TransfersRight, VariablesRight};
 ghost use Rattle.xc_formed.specs.Given.{EachByItsOwn, ElementsGiven, NamesGiven, ResultIsReturned, ValuesGiven};
+ghost use Rattle.xc_formed.specs.Stored.{FreshTargetsKept, InputStampsKept, NoneStored, OutputStampsKept, TargetsKept};
 ghost use Rattle.xc_formed.specs.Words.{SpotsKept, StepsKept, UpdatesKept, WordsKept};
 
 /// Each name means what the stack of open scopes has for it.
@@ -66,4 +67,14 @@ pub fn parameters_stand_for_arguments()
     ensures names { NamesGiven }
     ensures each { EachByItsOwn }
     ensures results { ResultIsReturned }
+{}
+
+/// An input's word is stored at what its target is, or in the variable that the target declares,
+/// and the counter of a transfer at its stamp; what isn't told in the text isn't stored.
+pub fn transfers_store_where_told()
+    ensures targets { TargetsKept }
+    ensures fresh_targets { FreshTargetsKept }
+    ensures stamps_of_inputs { InputStampsKept }
+    ensures stamps_of_outputs { OutputStampsKept }
+    ensures nothing_else { NoneStored }
 {}
