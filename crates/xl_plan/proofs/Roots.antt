@@ -12,7 +12,7 @@ use Rattle.xc_formed.specs.Numbers.{NumbersInExpression, NumbersInPlace}
 use Rattle.xc_formed.specs.Cores.{IsOn, RootsKeepApart, OutputOn, InputOn, CoresAreOwn}
 use Rattle.xc_formed.proofs.Formed.{of_programs, cores_own}
 use Rattle.xl_plan.proofs.Lists.{some_given, none_given, contained_at}
-use Rattle.xl_plan.proofs.Used.{in_statements}
+use Rattle.xl_plan.proofs.Used.{variable_used}
 
 root_branch : (rs : List kernel.Root) (i : ℕ) (r : kernel.Root) → slice_get rs i ≡ Some r → branch_at (branches_of rs) i ≡ Some (kernel.branch r.body r.pos)
 root_branch [] i r e = absurd (none_given e)
@@ -90,4 +90,4 @@ module _ (k : kernel.Kernel) (checked : IsChecked k) where
   pub used_here : (r : kernel.Root) (v : ℕ) → Contains k.roots r → by_statements (variable v) r.body ≡ true → IsOn k.variables r.core v
   used_here r v c u =
       let at = contained_at k.roots r c in
-      in_statements (IsOn k.variables r.core) v (OutputOn k.timers r.core) (InputOn k.timers r.core) AnyNumber r.body (at_root k.roots at.0 r own at.1) u
+      variable_used (IsOn k.variables r.core) v (OutputOn k.timers r.core) (InputOn k.timers r.core) AnyNumber r.body (at_root k.roots at.0 r own at.1) u
