@@ -63,6 +63,13 @@ depth_nth [] i x n e = absurd (omega arith)
 depth_nth (y ∷ xs) zero x n e = let h : depth (expression_of x) ≡ depth (expression_of y) = ap (λ z. depth (expression_of z)) e in omega arith
 depth_nth (y ∷ xs) (suc i) x n e = let h = depth_nth xs i x (omega arith) e in omega arith
 
+-- two operands
+pub two_operands : (xs : List Kx) (x y : Kx) → 2 ≤ length xs → length xs < 3 → x ≡ get_or xs 0 x → y ≡ get_or xs 1 y → xs ≡ x ∷ y ∷ []
+two_operands [] x y n m e f = absurd (omega arith)
+two_operands (a ∷ []) x y n m e f = absurd (omega arith)
+two_operands (a ∷ b ∷ []) x y n m e f = ap (λ (z : Kx). z ∷ b ∷ []) (sym e) ∙ ap (λ (z : Kx). x ∷ z ∷ []) (sym f)
+two_operands (a ∷ b ∷ c ∷ xs) x y n m e f = absurd (omega arith)
+
 -- a variable that the plan does not have
 pub no_word : (vars : List (Option VarPlan)) (p : Place) (v k here : ℕ) (last : Pos) (found : Option VarPlan) (ls : List Line) → p ≡ P.Word v → found ≡ None → found ≡ var_in vars v → ls ≡ ls ++ place_code vars (place_of p) k here last
 no_word vars p v k here last found ls e f g =

@@ -1,5 +1,6 @@
 -- An expression's code means its value.
-use Rattle.std.proofs.Common.{◌≡◌, ℕ, ◌+◌, ◌<◌, ◌≤◌, Bool, true, List, Option, refl, arith}
+use Rattle.std.proofs.Common.{◌≡◌, ℕ, ◌+◌, ◌<◌, ◌≤◌, Bool, true, List, Option, Some, None, refl, arith}
+use Rattle.std.specs.Prelude.{slice_index}
 use Rattle.xw_words.specs.declared.pos.Pos.{Pos}
 use Rattle.xs_instr.specs.declared.image.Code.{Code}
 use Rattle.xs_instr.specs.declared.instr.Instr.TheVariants.{Ldc}
@@ -11,14 +12,16 @@ use Rattle.xc_kernel.specs.Values.{Value, word}
 use Rattle.xc_kernel.specs.Eval.{Store, words_of, eval, eval_all, eval_place}
 use Rattle.xs_instr.specs.Lines.{Line}
 use Rattle.xs_instr.specs.OwnSteps.{temporary}
+use Rattle.xl_expr.specs.declared.plan.VarAt.{VarAt}
+use Rattle.xl_expr.specs.declared.plan.VarAt.TheVariants.{Near, Far, Through}
 use Rattle.xl_expr.specs.declared.plan.VarPlan.{VarPlan}
 use Rattle.xl_expr.specs.Plans.{var_in}
 use Rattle.xl_expr.specs.Measures.{nodes, nodes_of, nodes_at, depth, depth_of, depth_at}
-use Rattle.xl_expr.specs.Code.{expression_code, codes, place_code}
-use Rattle.xl_expr.specs.Works.{IsLaid, AreLaid, PlaceIsLaid}
+use Rattle.xl_expr.specs.Code.{near_word, direct_word, direct_place, direct_of, operand_of, expression_code, codes, place_code}
+use Rattle.xl_expr.specs.Works.{WordStands, WordIsLaid, IsLaid, AreLaid, PlaceIsLaid}
 use Rattle.xl_expr.proofs.Runs.{keeps_r0, done, looser, one_on, by_quiet}
 use Rattle.xl_expr.proofs.Pieces.{Means}
-use Rattle.xl_expr.proofs.Operations.{AllMean, none, some, operation_means}
+use Rattle.xl_expr.proofs.Operations.{HasDirect, AllMean, none, some, operation_means}
 use Rattle.xl_expr.proofs.Places.{word_means, element_means}
 
 module _ (code : Code) (relied : ℕ → Bool) (s : ℕ) (small : s + temporary ≤ 16384) (mine : (k : ℕ) → k < temporary → relied (s + k) ≡ true) (dp : ℕ) (first : List ℕ) (vars : List (Option VarPlan)) (store : Store) where
@@ -32,6 +35,25 @@ module _ (code : Code) (relied : ℕ → Bool) (s : ℕ) (small : s + temporary 
         (one_on code relied s regs words (reg_set regs R0 v) words pc (pc + 1) (pc + 1) k 0 (word v) (by_quiet code relied s (Ldc R0 v) regs (reg_set regs R0 v) words pc (pc + 1) st.0 (record { row_is = λ h c t th. refl; no_event = refl }) (λ ws g. refl)) (keeps_r0 s k regs words v) (done code relied s (reg_set regs R0 v) words (pc + 1) (pc + 1) k 0 v refl refl));
   }
 
+  -- what one instruction may bring of an expression is its word
+  near_means : (place : VarAt) (x : ℕ) → WordStands vars relied s dp first store place x → HasDirect code relied s small mine dp first (near_word place) (word x)
+  near_means (Near n) x h = (x, refl, h)
+  near_means (Far n) x h = tt
+  near_means (Through n) x h = tt
+
+  word_direct : (found : Option VarPlan) (xs : List ℕ) → WordIsLaid vars relied s dp first store found xs → HasDirect code relied s small mine dp first (direct_word found) (word (slice_index xs 0))
+  word_direct None xs h = tt
+  word_direct (Some found) xs h = near_means found.place (slice_index xs 0) h
+
+  place_direct : (p : kernel.Place) → PlaceIsLaid vars relied s dp first store p → HasDirect code relied s small mine dp first (direct_place vars p) (eval_place store p)
+  place_direct (kernel.word v) h = word_direct (var_in vars v) (words_of store v) h
+  place_direct (kernel.element v i pos) h = tt
+
+  pub direct_means : (x : kernel.Expression) → IsLaid vars relied s dp first store x → HasDirect code relied s small mine dp first (direct_of vars x) (eval store x)
+  direct_means (kernel.number v) h = (v, refl, refl)
+  direct_means (kernel.read p) h = place_direct p h
+  direct_means (kernel.operation o u es pos) h = tt
+
   mutual
     pub expression_means : (x : kernel.Expression) → IsLaid vars relied s dp first store x → Piece_means (expression_code vars x) (eval store x) (depth x) (nodes x)
     expression_means (kernel.number v) h = number_means v
@@ -42,7 +64,7 @@ module _ (code : Code) (relied : ℕ → Bool) (s : ℕ) (small : s + temporary 
     codes_mean : (es : kernel.Operands) → AreLaid vars relied s dp first store es → AllMean code relied s small mine dp first (codes vars es) (eval_all store es) (depth_of es) (nodes_of es)
     codes_mean kernel.no_operand h = none
     codes_mean (kernel.more_operands e es) h =
-        some (expression_code vars e) (eval store e) (depth e) (nodes e) (codes vars es) (eval_all store es) (depth_of es) (nodes_of es) (expression_means e h.0) (codes_mean es h.1)
+        some (operand_of vars e) (eval store e) (depth e) (nodes e) (codes vars es) (eval_all store es) (depth_of es) (nodes_of es) (expression_means e h.0) (direct_means e h.0) (codes_mean es h.1)
 
     place_means : (p : kernel.Place) → PlaceIsLaid vars relied s dp first store p → Piece_means (place_code vars p) (eval_place store p) (depth_at p) (nodes_at p)
     place_means (kernel.word v) h = word_means code relied s small mine dp first vars store (var_in vars v) (words_of store v) h
