@@ -9,12 +9,12 @@ use Rattle.xc_kernel.specs.declared.statement.Place.{Place}
 use Rattle.xc_kernel.specs.declared.statement.Place as P
 use Rattle.xc_kernel.specs.Kernels.{expression_of, place_of}
 use Rattle.xc_kernel.proofs.Forms.{expression-Read, expression-Op, place-Word, place-Elem}
-use Rattle.xs_instr.specs.Lines.{Line}
+use Rattle.xs_instr.specs.Lines.{Line, at_pos}
 use Rattle.xl_expr.specs.declared.plan.VarPlan.{VarPlan}
 use Rattle.xl_expr.specs.Plans.{var_in}
 use Rattle.xs_instr.specs.declared.instr.Instr.{Instr}
 use Rattle.xl_expr.specs.declared.plan.VarAt.{VarAt}
-use Rattle.xl_expr.specs.Code.{at_pos, word_code, element_code, element_at_place, expression_code, place_code}
+use Rattle.xl_expr.specs.Code.{word_code, element_code, element_at_place, expression_code, place_code}
 use Rattle.xl_expr.specs.Measures.{nodes, nodes_of, nodes_at, depth, depth_of, depth_at}
 use Rattle.xl_expr.specs.Operands.{operands_of}
 use Rattle.xs_instr.specs.declared.instr.Reg.{Reg}

@@ -6,10 +6,10 @@ use Rattle.xs_instr.specs.declared.instr.Instr.{Instr}
 use Rattle.xs_instr.specs.declared.instr.Instr.TheVariants.{Ldwsp, Stwsp, Brff, Brfu}
 use Rattle.xs_instr.specs.declared.instr.Reg.{Reg}
 use Rattle.xs_instr.specs.declared.instr.Reg.TheVariants.{R0, R11}
-use Rattle.xs_instr.specs.Lines.{Line, line, open_line, aimed, with_target, IsOpen, IsOpenLine, landed, landed_at}
+use Rattle.xs_instr.specs.Lines.{Line, line, open_line, aimed, with_target, IsOpen, IsOpenLine, landed, landed_at, at_pos}
 use Rattle.xc_kernel.specs.Operators as operator
 use Rattle.xl_expr.specs.declared.direct_operand.Direct.{Direct}
-use Rattle.xl_expr.specs.Code.{at_pos, after_main, main_instr, two_tail, brought, direct_tail}
+use Rattle.xl_expr.specs.Code.{after_main, main_instr, two_tail, brought, direct_tail}
 use Rattle.xs_instr.specs.Extends.{Extends}
 use Rattle.xl_expr.specs.Parts.{aimed_code, either_code}
 

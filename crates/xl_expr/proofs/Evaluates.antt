@@ -16,11 +16,11 @@ use Rattle.xs_instr.specs.Registers.{reg_get, reg_set}
 use Rattle.xc_kernel.specs.Plain as kernel
 use Rattle.xc_kernel.specs.Values.{Value, word, error}
 use Rattle.xc_kernel.specs.Eval.{Store, eval}
-use Rattle.xs_instr.specs.Lines.{Line}
+use Rattle.xs_instr.specs.Lines.{Line, at_pos}
 use Rattle.xs_instr.specs.OwnSteps.{HasRoom, IsApart, RunsAt, StandAt, Within, temporary}
 use Rattle.xl_expr.specs.declared.plan.VarPlan.{VarPlan}
 use Rattle.xl_expr.specs.Measures.{nodes, depth}
-use Rattle.xl_expr.specs.Code.{at_pos, direct_of, expression_code, code_by, code_to}
+use Rattle.xl_expr.specs.Code.{direct_of, expression_code, code_by, code_to}
 use Rattle.xl_expr.specs.declared.direct_operand.Direct.{Direct}
 use Rattle.xl_expr.specs.Works.{IsLaid, Gives, Outcome, Evaluates, same_reg, is_scratch}
 use Rattle.xl_expr.proofs.Lists.{stand_front, stand_back}

@@ -10,7 +10,7 @@ use Rattle.xs_instr.specs.Valid.{AreGoodInstrs, IsGoodInstr}
 use Rattle.xc_kernel.specs.Plain as kernel
 use Rattle.xc_kernel.specs.Operators as operator
 use Rattle.xc_kernel.specs.Operators.{Operator, operator_at}
-use Rattle.xs_instr.specs.Lines.{HasNoHole, Line, instr_of, line}
+use Rattle.xs_instr.specs.Lines.{HasNoHole, Line, instr_of, line, at_pos}
 use Rattle.xl_expr.specs.declared.plan.VarAt.{VarAt}
 use Rattle.xl_expr.specs.declared.plan.VarAt.TheVariants.{Near, Far, Through}
 use Rattle.xl_expr.specs.declared.plan.VarPlan.{VarPlan}
@@ -18,7 +18,7 @@ use Rattle.xl_expr.specs.declared.direct_operand.Direct.{Direct}
 use Rattle.xl_expr.specs.declared.direct_operand.Direct.TheVariants.{Number, Word}
 use Rattle.xl_expr.specs.Plans.{var_in}
 use Rattle.xl_expr.specs.Targets.{AreAimed, AreGoodLines}
-use Rattle.xl_expr.specs.Code.{Operand, at_pos, one_tail, made_truth, main_instr, after_main, two_tail, brought, added, added_to, direct_tail, chained, joined_code, two_code, operation_code, direct_of, operand_of, code_by, word_code, word_at_place, element_code, element_at_place, expression_code, codes, place_code, moved_to, code_to}
+use Rattle.xl_expr.specs.Code.{Operand, one_tail, made_truth, main_instr, after_main, two_tail, brought, added, added_to, direct_tail, chained, joined_code, two_code, operation_code, direct_of, operand_of, code_by, word_code, word_at_place, element_code, element_at_place, expression_code, codes, place_code, moved_to, code_to}
 use Rattle.xl_expr.specs.Stores.{word_write, word_store, element_write, element_store_at, element_store, store_code}
 
 pub good_append : (size i : ℕ) (a b : List Line) → AreGoodLines size i a → AreGoodLines size (i + length a) b → AreGoodLines size i (a ++ b)

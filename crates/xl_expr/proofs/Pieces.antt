@@ -18,9 +18,9 @@ use Rattle.xs_instr.specs.Memory.{address_at, word_at}
 use Rattle.xc_kernel.specs.Values.{Value, word, error, of_two, of_both, truth_of}
 use Rattle.xc_kernel.specs.Operators as operator
 use Rattle.xc_kernel.specs.Operators.{Operator}
-use Rattle.xs_instr.specs.Lines.{Line, line}
+use Rattle.xs_instr.specs.Lines.{Line, line, at_pos}
 use Rattle.xs_instr.specs.OwnSteps.{IsApart, IsWord, StandAt, temporary}
-use Rattle.xl_expr.specs.Code.{at_pos, two_tail, made_truth, brought, added, added_to, direct_tail, kept_code, short_code}
+use Rattle.xl_expr.specs.Code.{two_tail, made_truth, brought, added, added_to, direct_tail, kept_code, short_code}
 use Rattle.xl_expr.specs.declared.direct_operand.Direct.{Direct}
 use Rattle.xl_expr.specs.declared.direct_operand.Direct.TheVariants.{Number, Word}
 use Rattle.xl_expr.proofs.Lists.{get_set_same, get_set_other, stand_front, stand_back}

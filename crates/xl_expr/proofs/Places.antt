@@ -18,12 +18,12 @@ use Rattle.xs_instr.specs.Rows.{own_row, loads, passes_by}
 use Rattle.xc_kernel.specs.Values.{Value, word, error, tested}
 use Rattle.xc_kernel.specs.Values.{tested_by as tested_by'}
 use Rattle.xc_kernel.specs.Eval.{Store, element_by, element_at}
-use Rattle.xs_instr.specs.Lines.{Line}
+use Rattle.xs_instr.specs.Lines.{Line, at_pos}
 use Rattle.xs_instr.specs.OwnSteps.{IsApart, IsWord, StandAt, temporary}
 use Rattle.xl_expr.specs.declared.plan.VarAt.{VarAt}
 use Rattle.xl_expr.specs.declared.plan.VarAt.TheVariants.{Near, Far, Through}
 use Rattle.xl_expr.specs.declared.plan.VarPlan.{VarPlan}
-use Rattle.xl_expr.specs.Code.{at_pos, tested_index, word_at_place, word_code, element_at_place, element_code}
+use Rattle.xl_expr.specs.Code.{tested_index, word_at_place, word_code, element_at_place, element_code}
 use Rattle.xl_expr.specs.Works.{StandFrom, WordStands, ArrayStands, WordIsLaid, ArrayIsLaid}
 use Rattle.xl_expr.proofs.Lists.{stand_front, stand_back}
 use Rattle.xl_expr.proofs.Ways.{own, IsPlain, Sure}

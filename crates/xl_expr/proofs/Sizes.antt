@@ -8,13 +8,13 @@ use Rattle.xs_instr.specs.declared.instr.Reg.TheVariants.{R0, R11}
 use Rattle.xc_kernel.specs.Plain as kernel
 use Rattle.xc_kernel.specs.Operators as operator
 use Rattle.xc_kernel.specs.Operators.{Operator, operator_at}
-use Rattle.xs_instr.specs.Lines.{Line, line}
+use Rattle.xs_instr.specs.Lines.{Line, line, at_pos}
 use Rattle.xl_expr.specs.declared.plan.VarAt.{VarAt}
 use Rattle.xl_expr.specs.declared.plan.VarAt.TheVariants.{Near, Far, Through}
 use Rattle.xl_expr.specs.declared.plan.VarPlan.{VarPlan}
 use Rattle.xl_expr.specs.Plans.{var_in}
 use Rattle.xl_expr.specs.Measures.{nodes, nodes_of, nodes_at}
-use Rattle.xl_expr.specs.Code.{Operand, at_pos, one_tail, two_tail, made_truth, added, added_to, direct_tail, chained, joined_code, two_code, operation_code, word_code, word_at_place, element_code, element_at_place, direct_of, operand_of, expression_code, codes, place_code, moved_to, code_by, code_to}
+use Rattle.xl_expr.specs.Code.{Operand, one_tail, two_tail, made_truth, added, added_to, direct_tail, chained, joined_code, two_code, operation_code, word_code, word_at_place, element_code, element_at_place, direct_of, operand_of, expression_code, codes, place_code, moved_to, code_by, code_to}
 use Rattle.xl_expr.specs.declared.direct_operand.Direct.{Direct}
 use Rattle.xl_expr.specs.Stores.{word_write, word_store, element_write, element_store_at, element_store, store_code}
 use Rattle.xl_expr.proofs.Pieces.{length-at_pos}

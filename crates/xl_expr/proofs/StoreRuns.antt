@@ -18,14 +18,14 @@ use Rattle.xs_instr.specs.Rows.{own_row, stores, stores_at}
 use Rattle.xc_kernel.specs.Plain as kernel
 use Rattle.xc_kernel.specs.Values.{Value, word, error, tested, tested_by}
 use Rattle.xc_kernel.specs.Eval.{Store, words_of, eval}
-use Rattle.xs_instr.specs.Lines.{Line, line}
+use Rattle.xs_instr.specs.Lines.{Line, line, at_pos}
 use Rattle.xs_instr.specs.OwnSteps.{IsApart, IsWord, StandAt, temporary}
 use Rattle.xl_expr.specs.declared.plan.VarAt.{VarAt}
 use Rattle.xl_expr.specs.declared.plan.VarAt.TheVariants.{Near, Far, Through}
 use Rattle.xl_expr.specs.declared.plan.VarPlan.{VarPlan}
 use Rattle.xl_expr.specs.Plans.{var_in}
 use Rattle.xl_expr.specs.Measures.{nodes, nodes_at, depth, depth_at}
-use Rattle.xl_expr.specs.Code.{at_pos, tested_index, expression_code}
+use Rattle.xl_expr.specs.Code.{tested_index, expression_code}
 use Rattle.xl_expr.specs.Stores.{write, word_write, word_store, element_write, element_store_at, element_store, store_code, tested_value, index_in, WordAt, ElementAt, OfWord, OfElement, IsAddress, is_working}
 use Rattle.xl_expr.specs.Works.{StandFrom, WordStands, ArrayStands, WordIsLaid, ArrayIsLaid, PlaceIsLaid, is_scratch, same_reg}
 use Rattle.xl_expr.proofs.Lists.{get_set_same, get_set_other, stand_front, stand_back}

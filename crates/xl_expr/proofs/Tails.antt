@@ -21,7 +21,8 @@ use Rattle.xs_instr.specs.OwnSteps.{IsApart, StandAt}
 use Rattle.xc_kernel.specs.Values.{Value, word, error, ErrorKind, arithmetic, index, of_one, of_two, divided, tested_by}
 use Rattle.xc_kernel.specs.Operators as operator
 use Rattle.xc_kernel.specs.Operators.{Operator}
-use Rattle.xl_expr.specs.Code.{at_pos, negated, made_truth, one_tail, two_tail, direct_tail}
+use Rattle.xs_instr.specs.Lines.{at_pos}
+use Rattle.xl_expr.specs.Code.{negated, made_truth, one_tail, two_tail, direct_tail}
 use Rattle.xl_expr.specs.declared.direct_operand.Direct.{Direct}
 use Rattle.xl_expr.specs.Works.{is_scratch, trap_of}
 use Rattle.xl_expr.proofs.Ways.{own, Agree, IsPlain}

@@ -10,7 +10,7 @@ use Rattle.xs_instr.specs.declared.instr.Reg.TheVariants.{R0, R11}
 use Rattle.xc_kernel.specs.Plain as kernel
 use Rattle.xc_kernel.specs.Operators as operator
 use Rattle.xc_kernel.specs.Operators.{Operator, operator_at}
-use Rattle.xs_instr.specs.Lines.{Line, line}
+use Rattle.xs_instr.specs.Lines.{Line, line, at_pos}
 use Rattle.xl_expr.specs.declared.direct_operand.Direct.{Direct}
 use Rattle.xl_expr.specs.declared.direct_operand.Direct.TheVariants.{Number, Word}
 use Rattle.xl_expr.specs.declared.plan.VarAt.{VarAt}
@@ -21,11 +21,6 @@ use Rattle.xl_expr.specs.Plans.{var_in}
 -- code by depth, index and the last place
 abbrev pub Piece : Type 0
 Piece = ℕ → ℕ → Pos → List Line
-
--- all at one place
-abbrev pub at_pos : Pos → List Instr → List Line
-at_pos pos [] = []
-at_pos pos (i ∷ is) = line i pos ∷ at_pos pos is
 
 -- 1 where r0 is 0, and 0 where it is not
 abbrev pub negated : List Instr

@@ -6,9 +6,9 @@ use Rattle.xs_instr.specs.declared.instr.Instr.TheVariants.{Brff, Brfu, Ldwsp, S
 use Rattle.xs_instr.specs.declared.instr.Reg.TheVariants.{R0, R11}
 use Rattle.xc_kernel.specs.Plain as kernel
 use Rattle.xc_kernel.specs.Operators.{Operator}
-use Rattle.xs_instr.specs.Lines.{Line, line, with_target}
+use Rattle.xs_instr.specs.Lines.{Line, line, with_target, at_pos}
 use Rattle.xl_expr.specs.declared.plan.VarPlan.{VarPlan}
-use Rattle.xl_expr.specs.Code.{at_pos, made_truth, two_tail, expression_code}
+use Rattle.xl_expr.specs.Code.{made_truth, two_tail, expression_code}
 
 -- an instruction that may aim behind a second operand's code, that code, and what follows
 abbrev pub aimed_code : (ℕ → Instr) → Pos → (ℕ → List Line) → List Instr → ℕ → List Line

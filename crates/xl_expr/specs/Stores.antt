@@ -17,14 +17,14 @@ use Rattle.xs_instr.specs.Slot.{slot}
 use Rattle.xc_kernel.specs.Plain as kernel
 use Rattle.xc_kernel.specs.Values.{Value, word, error, tested}
 use Rattle.xc_kernel.specs.Eval.{Store, words_of, eval}
-use Rattle.xs_instr.specs.Lines.{Line, line}
+use Rattle.xs_instr.specs.Lines.{Line, line, at_pos}
 use Rattle.xs_instr.specs.OwnSteps.{HasRoom, IsApart, IsWord, Kept, RunsAt, StandAt, Within}
 use Rattle.xl_expr.specs.declared.plan.VarAt.{VarAt}
 use Rattle.xl_expr.specs.declared.plan.VarAt.TheVariants.{Near, Far, Through}
 use Rattle.xl_expr.specs.declared.plan.VarPlan.{VarPlan}
 use Rattle.xl_expr.specs.Plans.{var_in}
 use Rattle.xl_expr.specs.Measures.{nodes_at}
-use Rattle.xl_expr.specs.Code.{at_pos, tested_index, expression_code}
+use Rattle.xl_expr.specs.Code.{tested_index, expression_code}
 use Rattle.xl_expr.specs.Works.{PlaceIsLaid, Errs}
 
 -- a word in r10 is written to the address r11 + 4 r0

@@ -1,8 +1,8 @@
 ghost use Rattle.std.specs.Prelude.{◌≡◌, ◌+◌, ◌*◌, ◌<◌, ◌≤◌, ◌^◌, [], ◌∷◌, ◌++◌, length, map, OnOk, OnErr};
 ghost use Rattle.xc_kernel.specs.Kernels.{expression_of, place_of};
-ghost use Rattle.xs_instr.specs.Lines.{HasTarget, line, last_pos};
+ghost use Rattle.xs_instr.specs.Lines.{HasTarget, line, last_pos, at_pos};
 ghost use Rattle.xl_expr.specs.Code as spec;
-ghost use Rattle.xl_expr.specs.Code.{at_pos, one_tail, negated, after_main, index_if, direct_tail, operand_of, word_at_place, element_read, moved_to, expression_code, place_code, two_code, joined_code, operation_code, codes, code_to};
+ghost use Rattle.xl_expr.specs.Code.{one_tail, negated, after_main, index_if, direct_tail, operand_of, word_at_place, element_read, moved_to, expression_code, place_code, two_code, joined_code, operation_code, codes, code_to};
 ghost use Rattle.xs_instr.specs.Adds.{Adds};
 ghost use Rattle.xs_instr.specs.Extends.{Extends};
 ghost use Rattle.xl_expr.specs.Targets.{AreAimed};
@@ -15,7 +15,6 @@ ghost use Rattle.xl_expr.specs.Parts.{kept_behind, short_behind, choice_code};
 use crate::direct_operand::{Direct, added, added_to, brought, direct_of};
 use crate::operators::{Operator, main_instr, operator_at};
 use crate::plan::{Plan, VarAt};
-use crate::puts::put_all;
 use xc_kernel::{Kx, Place};
 use xs_instr::{Emitter, Instr, Reg};
 use xw_words::{Memory, Pos};
@@ -51,7 +50,7 @@ fn emit_to(e: &mut Emitter, plan: &Plan, x: &Kx, to: Reg, last: Pos) -> Result<(
     ensures refused { OnErr result (Extends e.old e.new) }
 {
     match direct_of(plan, x) {
-        Some(operand) => put_all(e, &[brought(operand, to)], last),
+        Some(operand) => e.put_all(&[brought(operand, to)], last),
         None => {
             emit_at(e, plan, x, 0, last)?;
             put_move(e, to, last)
@@ -68,7 +67,7 @@ fn put_move(e: &mut Emitter, to: Reg, pos: Pos) -> Result<(), Memory>
     match to {
         Reg::R0 => Ok(()),
         _ => {
-            put_all(e, &[Instr::Or(to, Reg::R0, Reg::R0)], pos)?;
+            e.put_all(&[Instr::Or(to, Reg::R0, Reg::R0)], pos)?;
             Ok(())
         }
     }
@@ -86,7 +85,7 @@ pub fn emit_at(e: &mut Emitter, plan: &Plan, x: &Kx, k: u32, last: Pos) -> Resul
     ensures refused { OnErr result (Extends e.old e.new) }
 {
     match x {
-        Kx::Num(value) => put_all(e, &[Instr::Ldc(Reg::R0, *value)], last),
+        Kx::Num(value) => e.put_all(&[Instr::Ldc(Reg::R0, *value)], last),
         Kx::Read(place) => emit_place(e, plan, place, k, last),
         Kx::Op(symbol, unsigned, operands, pos) => {
             let operator = operator_at(*symbol);
@@ -132,8 +131,7 @@ fn emit_place(e: &mut Emitter, plan: &Plan, place: &Place, k: u32, last: Pos) ->
                     put_element(e, found.words, Instr::Ldwdp(Reg::R11, n), *pos)?;
                     Ok(())
                 }
-                VarAt::Through(n) => put_all(
-                    e,
+                VarAt::Through(n) => e.put_all(
                     &[
                         Instr::Ldwdp(Reg::R11, n),
                         Instr::Ldc(Reg::R0, 0),
@@ -153,9 +151,8 @@ fn put_word(e: &mut Emitter, place: VarAt, pos: Pos) -> Result<(), Memory>
     ensures refused { OnErr result (Extends e.old e.new) }
 {
     match place {
-        VarAt::Near(n) => put_all(e, &[Instr::Ldwdp(Reg::R0, n)], pos),
-        VarAt::Far(n) | VarAt::Through(n) => put_all(
-            e,
+        VarAt::Near(n) => e.put_all(&[Instr::Ldwdp(Reg::R0, n)], pos),
+        VarAt::Far(n) | VarAt::Through(n) => e.put_all(
             &[
                 Instr::Ldwdp(Reg::R11, n),
                 Instr::Ldc(Reg::R0, 0),
@@ -172,8 +169,7 @@ fn put_element(e: &mut Emitter, words: u32, base: Instr, pos: Pos) -> Result<(),
     ensures ok { OnOk result (e.new ≡ e.old ++ at_pos pos (element_read base words)) }
     ensures refused { OnErr result (Extends e.old e.new) }
 {
-    put_all(
-        e,
+    e.put_all(
         &[
             Instr::Ldc(Reg::R11, words),
             Instr::Lsu(Reg::R11, Reg::R0, Reg::R11),
@@ -192,8 +188,8 @@ fn put_one_tail(e: &mut Emitter, operator: Operator, pos: Pos) -> Result<(), Mem
     ensures refused { OnErr result (Extends e.old e.new) }
 {
     match operator {
-        Operator::Minus => put_all(e, &[Instr::Neg(Reg::R0, Reg::R0)], pos),
-        Operator::Flip => put_all(e, &[Instr::Not(Reg::R0, Reg::R0)], pos),
+        Operator::Minus => e.put_all(&[Instr::Neg(Reg::R0, Reg::R0)], pos),
+        Operator::Flip => e.put_all(&[Instr::Not(Reg::R0, Reg::R0)], pos),
         Operator::NotTrue => put_negated(e, pos),
         _ => Ok(()),
     }
@@ -205,8 +201,7 @@ fn put_negated(e: &mut Emitter, pos: Pos) -> Result<(), Memory>
     ensures ok { OnOk result (e.new ≡ e.old ++ at_pos pos negated) }
     ensures refused { OnErr result (Extends e.old e.new) }
 {
-    put_all(
-        e,
+    e.put_all(
         &[
             Instr::Ldc(Reg::R11, 0),
             Instr::Eq(Reg::R0, Reg::R0, Reg::R11),
@@ -241,9 +236,8 @@ fn put_index_if(e: &mut Emitter, index: Reg, test: Reg, pos: Pos) -> Result<(), 
     ensures refused { OnErr result (Extends e.old e.new) }
 {
     match index {
-        Reg::R0 => put_all(e, &[Instr::Ecallf(test)], pos),
-        _ => put_all(
-            e,
+        Reg::R0 => e.put_all(&[Instr::Ecallf(test)], pos),
+        _ => e.put_all(
             &[Instr::Ecallf(test), Instr::Or(Reg::R0, index, index)],
             pos,
         ),
@@ -267,10 +261,9 @@ fn put_direct_tail(
     ensures refused { OnErr result (Extends e.old e.new) }
 {
     match sum {
-        Some(n) => put_all(e, &[Instr::Addi(Reg::R0, Reg::R0, n)], pos),
+        Some(n) => e.put_all(&[Instr::Addi(Reg::R0, Reg::R0, n)], pos),
         None => {
-            put_all(
-                e,
+            e.put_all(
                 &[
                     brought(operand, Reg::R11),
                     main_instr(operator, unsigned, a, b),
@@ -301,7 +294,7 @@ fn emit_operation(
     ensures refused { OnErr result (Extends e.old e.new) }
 {
     match operands {
-        [] => put_all(e, &[Instr::Ldc(Reg::R0, 0)], pos),
+        [] => e.put_all(&[Instr::Ldc(Reg::R0, 0)], pos),
         [only] => {
             emit_at(e, plan, only, k, last)?;
             put_one_tail(e, operator, pos)
@@ -408,10 +401,9 @@ fn emit_kept(
         (operator_meant operator) unsigned pos (expression_of second.now) k (length e.old)) }
     ensures refused { OnErr result (Extends e.old e.new) }
 {
-    put_all(e, &[Instr::Stwsp(Reg::R0, k)], pos)?;
+    e.put_all(&[Instr::Stwsp(Reg::R0, k)], pos)?;
     emit_at(e, plan, second, k + 1, pos)?;
-    put_all(
-        e,
+    e.put_all(
         &[
             Instr::Ldwsp(Reg::R11, k),
             main_instr(operator, unsigned, Reg::R11, Reg::R0),
@@ -442,8 +434,7 @@ fn emit_short(
     let skip = e.hole(jump, pos)?;
     emit_at(e, plan, second, k + 1, pos)?;
     e.land(skip);
-    put_all(
-        e,
+    e.put_all(
         &[
             Instr::Ldc(Reg::R11, 0),
             Instr::Eq(Reg::R0, Reg::R0, Reg::R11),

@@ -1,9 +1,9 @@
 ghost use Rattle.std.specs.Prelude.{◌≡◌, ◌+◌, ◌*◌, ◌<◌, ◌≤◌, ◌^◌, ◌∷◌, ◌++◌, length, OnOk, OnErr};
 ghost use Rattle.xc_kernel.specs.Kernels.{expression_of, place_of};
 ghost use Rattle.xs_instr.specs.declared.instr.Instr.TheVariants.{Stwsp};
-ghost use Rattle.xs_instr.specs.Lines.{line, last_pos};
+ghost use Rattle.xs_instr.specs.Lines.{line, last_pos, at_pos};
 ghost use Rattle.xs_instr.specs.Adds.{Adds};
-ghost use Rattle.xl_expr.specs.Code.{at_pos, expression_code};
+ghost use Rattle.xl_expr.specs.Code.{expression_code};
 ghost use Rattle.xs_instr.specs.Extends.{Extends};
 ghost use Rattle.xl_expr.specs.Measures.{nodes, nodes_at, depth, depth_at};
 ghost use Rattle.xl_expr.specs.Targets.{AreAimed};
@@ -11,7 +11,6 @@ ghost use Rattle.xl_expr.specs.Stores.{Stores, element_write, store_code, word_w
 
 use crate::expression::emit_at;
 use crate::plan::{Plan, VarAt};
-use crate::puts::put_all;
 use xc_kernel::{Kx, Place};
 use xs_instr::{Emitter, Instr, Reg};
 use xw_words::{Memory, Pos};
@@ -82,8 +81,7 @@ fn emit_write(e: &mut Emitter, plan: &Plan, dst: &Place, from: Reg, last: Pos) -
                     Ok(())
                 }
                 VarAt::Through(n) => {
-                    put_all(
-                        e,
+                    e.put_all(
                         &[
                             Instr::Stwsp(from, 0),
                             Instr::Ldwdp(Reg::R11, n),
@@ -107,9 +105,8 @@ fn put_word_write(e: &mut Emitter, place: VarAt, from: Reg, pos: Pos) -> Result<
     ensures refused { OnErr result (Extends e.old e.new) }
 {
     match place {
-        VarAt::Near(n) => put_all(e, &[Instr::Stwdp(from, n)], pos),
-        VarAt::Far(n) | VarAt::Through(n) => put_all(
-            e,
+        VarAt::Near(n) => e.put_all(&[Instr::Stwdp(from, n)], pos),
+        VarAt::Far(n) | VarAt::Through(n) => e.put_all(
             &[
                 Instr::Stwsp(from, 0),
                 Instr::Ldwdp(Reg::R11, n),
@@ -139,10 +136,9 @@ fn emit_element_write(
         (length e.old + 1) pos ++ at_pos pos (element_write base words))) }
     ensures refused { OnErr result (Extends e.old e.new) }
 {
-    put_all(e, &[Instr::Stwsp(from, 0)], pos)?;
+    e.put_all(&[Instr::Stwsp(from, 0)], pos)?;
     emit_at(e, plan, index, 1, pos)?;
-    put_all(
-        e,
+    e.put_all(
         &[
             Instr::Ldc(Reg::R11, words),
             Instr::Lsu(Reg::R11, Reg::R0, Reg::R11),

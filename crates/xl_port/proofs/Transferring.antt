@@ -13,7 +13,7 @@ use Rattle.xs_instr.specs.declared.state.Port.{Port}
 use Rattle.xs_instr.specs.declared.state.Regs.{Regs}
 use Rattle.xs_instr.specs.declared.state.Thread.{Thread}
 use Rattle.xs_instr.specs.Did.{told}
-use Rattle.xs_instr.specs.Lines.{Line}
+use Rattle.xs_instr.specs.Lines.{Line, at_pos}
 use Rattle.xs_instr.specs.OwnSteps.{IsApart, RunsAt, StandAt}
 use Rattle.xs_instr.specs.Ports.{can_send, counter, drives_by}
 use Rattle.xs_instr.specs.Registers.{reg_get, reg_set}
@@ -21,7 +21,6 @@ use Rattle.xs_instr.specs.Resources.{APort, named}
 use Rattle.xs_instr.specs.Rows.{goes_with, put_ports}
 use Rattle.xc_kernel.specs.Values.{word}
 use Rattle.xl_expr.specs.declared.plan.ResAt.{ResAt}
-use Rattle.xl_expr.specs.Code.{at_pos}
 use Rattle.xl_expr.specs.Identifiers.{Identifies, IsIdentifier, Named}
 use Rattle.xl_expr.specs.Stores.{is_working}
 use Rattle.xl_expr.specs.Targets.{AreAimed}

@@ -68,10 +68,17 @@ impl Core {
         ensures refused { OnErr result (self.new ≡ self.old) }
         ensures rest { self.new ≡ record self.old { spare = self.new.spare } }
     {
-        if self.outbox.capacity() - self.outbox.len() < WINDOW {
+        if self.spare() < WINDOW {
             self.outbox.resize(self.outbox.len() + WINDOW)?;
         }
         Ok(())
+    }
+
+    /// For how many tokens and credits there is room in the outbox.
+    pub fn spare(&self) -> usize
+        ensures { result ≡ self.now.spare }
+    {
+        self.outbox.capacity() - self.outbox.len()
     }
 
     /// The core's number.

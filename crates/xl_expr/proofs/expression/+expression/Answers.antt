@@ -86,15 +86,15 @@ emit_place-returns-in_ok-put_element-in-Far-clause-ok t c =
 
 pub emit_kept-put_all-requires-2 : goal.emit_kept-put_all-requires-2
 emit_kept-put_all-requires-2 t c =
-    let l = one_longer c.args.e.now c.put_all.new.e (line (Stwsp R0 c.args.k) c.args.pos) c.in_ok-put_all.ensures.ok in
-    let n = longer c.args.plan.now.vars (expression_of c.args.second.now) (c.args.k + 1) (length c.put_all.new.e) c.args.pos c.put_all.new.e c.emit_at.new.e c.in_ok-emit_at.ensures.ok in
+    let l = one_longer c.args.e.now c.put_all.new.self (line (Stwsp R0 c.args.k) c.args.pos) c.in_ok-put_all.ensures.ok in
+    let n = longer c.args.plan.now.vars (expression_of c.args.second.now) (c.args.k + 1) (length c.put_all.new.self) c.args.pos c.put_all.new.self c.emit_at.new.e c.in_ok-emit_at.ensures.ok in
     omega (arith, l, n, c.requires.room)
 
 pub emit_kept-put_after_main-requires : goal.emit_kept-put_after_main-requires
 emit_kept-put_after_main-requires t c =
-    let l = one_longer c.args.e.now c.put_all.new.e (line (Stwsp R0 c.args.k) c.args.pos) c.in_ok-put_all.ensures.ok in
-    let n = longer c.args.plan.now.vars (expression_of c.args.second.now) (c.args.k + 1) (length c.put_all.new.e) c.args.pos c.put_all.new.e c.emit_at.new.e c.in_ok-emit_at.ensures.ok in
-    let m = two_longer c.emit_at.new.e c.put_all-2.new.e (line (Ldwsp R11 c.args.k) c.args.pos) (line c.main_instr.result c.args.pos) c.in_ok-put_all-2.ensures.ok in
+    let l = one_longer c.args.e.now c.put_all.new.self (line (Stwsp R0 c.args.k) c.args.pos) c.in_ok-put_all.ensures.ok in
+    let n = longer c.args.plan.now.vars (expression_of c.args.second.now) (c.args.k + 1) (length c.put_all.new.self) c.args.pos c.put_all.new.self c.emit_at.new.e c.in_ok-emit_at.ensures.ok in
+    let m = two_longer c.emit_at.new.e c.put_all-2.new.self (line (Ldwsp R11 c.args.k) c.args.pos) (line c.main_instr.result c.args.pos) c.in_ok-put_all-2.ensures.ok in
     omega (arith, l, n, m, c.requires.room)
 
 pub emit_joined-put_direct_tail-requires : goal.emit_joined-put_direct_tail-requires
@@ -138,12 +138,12 @@ emit_short-put_all-requires t c =
 pub emit_short-returns-clause-ok : goal.emit_short-returns-clause-ok
 emit_short-returns-clause-ok t c =
     let b : ℕ → List Line = λ n. expression_code c.args.plan.now.vars (expression_of c.args.second.now) (c.args.k + 1) n c.args.pos in
-    short_emitted c.args.jump c.args.pos c.args.e.now c.hole.new.self c.emit_at.new.e b c.in_ok-skip.skip.index c.in_ok-skip.ensures.index c.in_ok-skip.ensures.ok c.in_ok-emit_at.ensures.ok c.land.new.self c.put_all.new.e made_truth c.land.ensures c.in_ok-put_all.ensures.ok
+    short_emitted c.args.jump c.args.pos c.args.e.now c.hole.new.self c.emit_at.new.e b c.in_ok-skip.skip.index c.in_ok-skip.ensures.index c.in_ok-skip.ensures.ok c.in_ok-emit_at.ensures.ok c.land.new.self c.put_all.new.self made_truth c.land.ensures c.in_ok-put_all.ensures.ok
 
 pub emit_short-returns-in_err-put_all-clause-refused : goal.emit_short-returns-in_err-put_all-clause-refused
 emit_short-returns-in_err-put_all-clause-refused t c =
     let b : ℕ → List Line = λ n. expression_code c.args.plan.now.vars (expression_of c.args.second.now) (c.args.k + 1) n c.args.pos in
-    on_err _ _ (short_extends c.args.jump c.args.pos c.args.e.now c.hole.new.self c.emit_at.new.e b c.in_ok-skip.skip.index c.in_ok-skip.ensures.index c.in_ok-skip.ensures.ok c.in_ok-emit_at.ensures.ok c.land.new.self c.put_all.new.e c.land.ensures c.in_err-put_all.ensures.refused)
+    on_err _ _ (short_extends c.args.jump c.args.pos c.args.e.now c.hole.new.self c.emit_at.new.e b c.in_ok-skip.skip.index c.in_ok-skip.ensures.index c.in_ok-skip.ensures.ok c.in_ok-emit_at.ensures.ok c.land.new.self c.put_all.new.self c.land.ensures c.in_err-put_all.ensures.refused)
 
 pub emit_choice-hole-requires-2-clause-few : goal.emit_choice-hole-requires-2-clause-few
 emit_choice-hole-requires-2-clause-few t c =

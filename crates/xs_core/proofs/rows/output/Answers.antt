@@ -1,4 +1,4 @@
-use Rattle.xs_core.proofs.rows.out.Goals as goal
+use Rattle.xs_core.proofs.rows.output.Goals as goal
 
 pub returns-in-Port-clause-fits : goal.returns-in-Port-clause-fits
 returns-in-Port-clause-fits c = c.drive.ensures.fits c.args.t

@@ -2,8 +2,7 @@
 use Rattle.std.proofs.Common.{◌≡◌, ℕ, zero, suc, ◌+◌, ◌<◌, ◌≤◌, List, [], ◌∷◌, ◌++◌, length, take, get_or, refl, sym, ap, ◌∙◌, arith, append_assoc, add-one}
 use Rattle.xw_words.specs.declared.pos.Pos.{Pos}
 use Rattle.xs_instr.specs.declared.instr.Instr.{Instr}
-use Rattle.xs_instr.specs.Lines.{Line, line}
-use Rattle.xl_expr.specs.Code.{at_pos}
+use Rattle.xs_instr.specs.Lines.{Line, line, at_pos}
 
 at_pos-suc : (pos : Pos) (is : List Instr) (n : ℕ) (d : Instr) → n < length is → at_pos pos (take (suc n) is) ≡ at_pos pos (take n is) ++ line (get_or is n d) pos ∷ []
 at_pos-suc pos [] n d h = absurd (omega arith)
