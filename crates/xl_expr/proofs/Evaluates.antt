@@ -1,7 +1,6 @@
 -- The code of an expression gives its word in a register, on a core, whatever other threads do.
-use Rattle.std.proofs.Common.{◌≡◌, ℕ, ◌+◌, ◌*◌, ◌≤◌, inl, inr, Bool, false, List, [], ◌∷◌, ◌++◌, length, Option, Some, None, refl, sym, ap, ◌∙◌, subst, arith, get_or, length-append, suc, zero}
+use Rattle.std.proofs.Common.{◌≡◌, ℕ, ◌+◌, ◌*◌, ◌≤◌, inl, inr, Bool, false, List, [], ◌∷◌, ◌++◌, length, Option, Some, None, refl, sym, ap, ◌∙◌, subst, arith, length-append, suc, zero}
 use Rattle.std.specs.Prelude.{slice_get, bit_or}
-use Rattle.std.proofs.lemmas.Option.{slice_get-get_or, slice_get_within}
 use Rattle.std.specs.Int.Bits.{or_self}
 use Rattle.xw_words.specs.declared.pos.Pos.{Pos}
 use Rattle.xs_instr.specs.declared.image.Code.{Code}
@@ -23,7 +22,7 @@ use Rattle.xl_expr.specs.Measures.{nodes, depth}
 use Rattle.xl_expr.specs.Code.{direct_of, expression_code, code_by, code_to}
 use Rattle.xl_expr.specs.declared.direct_operand.Direct.{Direct}
 use Rattle.xl_expr.specs.Works.{IsLaid, Gives, Outcome, Evaluates, same_reg, is_scratch}
-use Rattle.xl_expr.proofs.Lists.{stand_front, stand_back}
+use Rattle.xl_expr.proofs.Lists.{stand_front, stand_back, room_kept}
 use Rattle.xl_expr.proofs.Ways.{own, Agree, way_on, Fits, way_leads, fails_errs}
 use Rattle.xl_expr.proofs.Runs.{Runs, Ready, by_quiet, IsSaved}
 use Rattle.xl_expr.proofs.Registers.{reg_same, reg_other}
@@ -73,11 +72,7 @@ module _ (home : Home) (relied : ℕ → Bool) (s t : ℕ) (thread : Thread) (a 
 
   -- at the end of a way the thread stands so
   last_there : (words' : List ℕ) → length words' ≡ length a.words → (b : CoreState) → Agree my_code relied (IsApart s) words' b.words → s + temporary ≤ length b.words
-  last_there words' size b agree =
-      let w = room.within in
-      let there = slice_get-get_or words' (s + 511) 0 (omega arith) in
-      let last = slice_get_within b.words (s + 511) (get_or words' (s + 511) 0) (agree.by (s + 511) (room.relied_on 511 (omega arith)) ∙ there) in
-      omega arith
+  last_there words' size b agree = let w = room.within in room_kept relied s room.relied_on words' b.words (omega arith) agree.by
 
   gives_by : (to : Reg) (pc' v : ℕ) (regs' : Regs) (words' : List ℕ) → length words' ≡ length a.words → reg_get regs' to ≡ v → ((r : Reg) → is_scratch r ≡ false → same_reg r to ≡ false → reg_get regs' r ≡ reg_get thread.regs r) → ((w : ℕ) → IsApart s w → slice_get words' w ≡ slice_get a.words w) → (b : CoreState) → Fits my_code relied (IsApart s) t thread (own pc' regs' words') b → Gives relied s t thread a.words to pc' v b
   gives_by to pc' v regs' words' size value others same b f = record { regs = regs'; within = last_there words' size b f.words; here = f.here; value = value; others = others; words = λ w r h. f.words.by w r ∙ same w h }

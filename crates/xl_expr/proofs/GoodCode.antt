@@ -2,7 +2,7 @@
 use Rattle.std.proofs.Common.{sym, append-nil, refl, suc, map, ◌≡◌, ℕ, ◌+◌, ◌<◌, Bool, true, false, List, [], ◌∷◌, ◌++◌, length, Option, Some, None, subst, arith, length-append}
 use Rattle.xw_words.specs.declared.pos.Pos.{Pos}
 use Rattle.xs_instr.specs.declared.instr.Instr.{Instr}
-use Rattle.xs_instr.specs.declared.instr.Instr.TheVariants.{Brff, Brft, Brfu, Ldwsp, Ldc, Lsu, Ecallf, Ldawdp, Ldwdp, Ldw, Stwsp}
+use Rattle.xs_instr.specs.declared.instr.Instr.TheVariants.{Brff, Brft, Brfu, Ldwsp, Ldawdp, Ldwdp, Stwsp}
 use Rattle.xs_instr.specs.declared.instr.Reg.{Reg}
 use Rattle.xs_instr.specs.declared.instr.Reg.TheVariants.{R0, R11}
 use Rattle.xs_instr.specs.Adds.{Adds}
@@ -18,7 +18,7 @@ use Rattle.xl_expr.specs.declared.direct_operand.Direct.{Direct}
 use Rattle.xl_expr.specs.declared.direct_operand.Direct.TheVariants.{Number, Word}
 use Rattle.xl_expr.specs.Plans.{var_in}
 use Rattle.xl_expr.specs.Targets.{AreAimed, AreGoodLines}
-use Rattle.xl_expr.specs.Code.{Operand, one_tail, made_truth, main_instr, after_main, two_tail, brought, added, added_to, direct_tail, chained, joined_code, two_code, operation_code, direct_of, operand_of, code_by, word_code, word_at_place, element_code, element_at_place, expression_code, codes, place_code, moved_to, code_to}
+use Rattle.xl_expr.specs.Code.{Operand, one_tail, made_truth, main_instr, after_main, two_tail, brought, added, added_to, direct_tail, chained, joined_code, two_code, operation_code, direct_of, operand_of, code_by, word_code, word_at_place, fixed_index, element_read, element_code, element_at_place, expression_code, codes, place_code, moved_to, code_to}
 use Rattle.xl_expr.specs.Stores.{word_write, word_store, element_write, element_store_at, element_store, store_code}
 
 pub good_append : (size i : ℕ) (a b : List Line) → AreGoodLines size i a → AreGoodLines size (i + length a) b → AreGoodLines size i (a ++ b)
@@ -146,14 +146,16 @@ word_plain (Near n) = ((λ size n. tt), tt)
 word_plain (Far n) = ((λ size n. tt), ((λ size n. tt), ((λ size n. tt), tt)))
 word_plain (Through n) = ((λ size n. tt), ((λ size n. tt), ((λ size n. tt), tt)))
 
-element_good : (found : Option VarPlan) (pos : Pos) (i : ℕ → ℕ → Pos → List Line) → IsGood i → IsGood (element_code found pos i)
-element_good None pos i g = record { by = λ size k here last h. tt }
-element_good (Some found) pos i g = at_place found.place
+element_good : (found : Option VarPlan) (x : kernel.Expression) (pos : Pos) (i : ℕ → ℕ → Pos → List Line) → IsGood i → IsGood (element_code found x pos i)
+element_good None x pos i g = record { by = λ size k here last h. tt }
+element_good (Some found) x pos i g = at_place found.place (fixed_index x found.words)
   where
-    at_place : (place : VarAt) → IsGood (element_at_place place found.words pos i)
-    at_place (Near n) = behind_good i g pos (Ldc R11 found.words ∷ Lsu R11 R0 R11 ∷ Ecallf R11 ∷ Ldawdp R11 n ∷ Ldw R0 R11 R0 ∷ []) ((λ size n. tt), ((λ size n. tt), ((λ size n. tt), ((λ size n. tt), ((λ size n. tt), tt)))))
-    at_place (Far n) = behind_good i g pos (Ldc R11 found.words ∷ Lsu R11 R0 R11 ∷ Ecallf R11 ∷ Ldwdp R11 n ∷ Ldw R0 R11 R0 ∷ []) ((λ size n. tt), ((λ size n. tt), ((λ size n. tt), ((λ size n. tt), ((λ size n. tt), tt)))))
-    at_place (Through n) = record { by = λ size k here last h. (tt, refl, (tt, refl, (tt, refl, tt))) }
+    at_place : (place : VarAt) (fixed : Option ℕ) → IsGood (element_at_place place found.words fixed pos i)
+    at_place (Near n) (Some j) = record { by = λ size k here last h. (tt, refl, tt) }
+    at_place (Near n) None = behind_good i g pos (element_read (Ldawdp R11 n) found.words) ((λ size n. tt), ((λ size n. tt), ((λ size n. tt), ((λ size n. tt), ((λ size n. tt), tt)))))
+    at_place (Far n) (Some j) = record { by = λ size k here last h. (tt, refl, (tt, refl, (tt, refl, tt))) }
+    at_place (Far n) None = behind_good i g pos (element_read (Ldwdp R11 n) found.words) ((λ size n. tt), ((λ size n. tt), ((λ size n. tt), ((λ size n. tt), ((λ size n. tt), tt)))))
+    at_place (Through n) fixed = record { by = λ size k here last h. (tt, refl, (tt, refl, (tt, refl, tt))) }
 
 mutual
   pub code_good : (vars : List (Option VarPlan)) (x : kernel.Expression) → IsGood (expression_code vars x)
@@ -171,7 +173,7 @@ mutual
       word_at : (found : Option VarPlan) → IsGood (λ k here last. word_code found last)
       word_at None = record { by = λ size k here last h. tt }
       word_at (Some found) = record { by = λ size k here last h. plain_good last (word_at_place found.place) (word_plain found.place) size here }
-  place_good vars (kernel.element v i pos) = element_good (var_in vars v) pos (expression_code vars i) (code_good vars i)
+  place_good vars (kernel.element v i pos) = element_good (var_in vars v) i pos (expression_code vars i) (code_good vars i)
 
 -- with the move to a register
 pub code_to_good : (vars : List (Option VarPlan)) (x : kernel.Expression) (to : Reg) (size here : ℕ) (last : Pos) → here + length (code_to vars x to here last) < size → AreGoodLines size here (code_to vars x to here last)
@@ -210,14 +212,16 @@ store_good vars (kernel.element v i pos) from size here last h = of_element (var
         let l = length-append ci (at_pos pos is) in
         (tt, refl, good_append size (here + 1) ci (at_pos pos is) ((code_good vars i).by size 1 (here + 1) pos (omega (arith, g, l))) (plain_good pos is p size (here + 1 + length ci)))
 
-    at_place : (place : VarAt) (words : ℕ) → here + length (element_store_at place words from pos (λ n. expression_code vars i 1 n pos) here) < size → AreGoodLines size here (element_store_at place words from pos (λ n. expression_code vars i 1 n pos) here)
-    at_place (Near n) words g = behind_index (element_write (Ldawdp R11 n) words) ((λ size n. tt), ((λ size n. tt), ((λ size n. tt), ((λ size n. tt), ((λ size n. tt), ((λ size n. tt), tt)))))) g
-    at_place (Far n) words g = behind_index (element_write (Ldwdp R11 n) words) ((λ size n. tt), ((λ size n. tt), ((λ size n. tt), ((λ size n. tt), ((λ size n. tt), ((λ size n. tt), tt)))))) g
-    at_place (Through n) words g = (tt, refl, (tt, refl, (tt, refl, (tt, refl, (tt, refl, tt)))))
+    at_place : (place : VarAt) (words : ℕ) (fixed : Option ℕ) → here + length (element_store_at place words fixed from pos (λ n. expression_code vars i 1 n pos) here) < size → AreGoodLines size here (element_store_at place words fixed from pos (λ n. expression_code vars i 1 n pos) here)
+    at_place (Near n) words (Some j) g = (tt, refl, tt)
+    at_place (Near n) words None g = behind_index (element_write (Ldawdp R11 n) words) ((λ size n. tt), ((λ size n. tt), ((λ size n. tt), ((λ size n. tt), ((λ size n. tt), ((λ size n. tt), tt)))))) g
+    at_place (Far n) words (Some j) g = (tt, refl, (tt, refl, (tt, refl, (tt, refl, (tt, refl, tt)))))
+    at_place (Far n) words None g = behind_index (element_write (Ldwdp R11 n) words) ((λ size n. tt), ((λ size n. tt), ((λ size n. tt), ((λ size n. tt), ((λ size n. tt), ((λ size n. tt), tt)))))) g
+    at_place (Through n) words fixed g = (tt, refl, (tt, refl, (tt, refl, (tt, refl, (tt, refl, tt)))))
 
-    of_element : (found : Option VarPlan) → here + length (element_store found from pos (λ n. expression_code vars i 1 n pos) here) < size → AreGoodLines size here (element_store found from pos (λ n. expression_code vars i 1 n pos) here)
+    of_element : (found : Option VarPlan) → here + length (element_store found i from pos (λ n. expression_code vars i 1 n pos) here) < size → AreGoodLines size here (element_store found i from pos (λ n. expression_code vars i 1 n pos) here)
     of_element None g = tt
-    of_element (Some found) g = at_place found.place found.words g
+    of_element (Some found) g = at_place found.place found.words (fixed_index i found.words) g
 
 -- lines behind lines
 pub aimed_append : (pc : ℕ) (ls ms : List Line) → AreAimed pc ls → AreAimed (pc + length ls) ms → AreAimed pc (ls ++ ms)

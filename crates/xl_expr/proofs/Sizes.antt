@@ -2,7 +2,7 @@
 use Rattle.std.proofs.Common.{◌≡◌, ℕ, ◌+◌, ◌*◌, ◌≤◌, Bool, List, [], ◌∷◌, ◌++◌, length, Option, Some, None, ap, arith, length-append}
 use Rattle.xw_words.specs.declared.pos.Pos.{Pos}
 use Rattle.xs_instr.specs.declared.instr.Instr.{Instr}
-use Rattle.xs_instr.specs.declared.instr.Instr.TheVariants.{Brff, Brft, Brfu, Ldwsp, Stwsp, Ldc, Lsu, Ecallf, Ldawdp, Ldwdp, Ldw}
+use Rattle.xs_instr.specs.declared.instr.Instr.TheVariants.{Brff, Brft, Brfu, Ldwsp, Stwsp, Ldawdp, Ldwdp}
 use Rattle.xs_instr.specs.declared.instr.Reg.{Reg}
 use Rattle.xs_instr.specs.declared.instr.Reg.TheVariants.{R0, R11}
 use Rattle.xc_kernel.specs.Plain as kernel
@@ -14,9 +14,9 @@ use Rattle.xl_expr.specs.declared.plan.VarAt.TheVariants.{Near, Far, Through}
 use Rattle.xl_expr.specs.declared.plan.VarPlan.{VarPlan}
 use Rattle.xl_expr.specs.Plans.{var_in}
 use Rattle.xl_expr.specs.Measures.{nodes, nodes_of, nodes_at}
-use Rattle.xl_expr.specs.Code.{Operand, one_tail, two_tail, made_truth, added, added_to, direct_tail, chained, joined_code, two_code, operation_code, word_code, word_at_place, element_code, element_at_place, direct_of, operand_of, expression_code, codes, place_code, moved_to, code_by, code_to}
+use Rattle.xl_expr.specs.Code.{Operand, one_tail, two_tail, made_truth, added, added_to, direct_tail, chained, joined_code, two_code, operation_code, word_code, word_at_place, fixed_index, element_read, element_code, element_at_place, direct_of, operand_of, expression_code, codes, place_code, moved_to, code_by, code_to}
 use Rattle.xl_expr.specs.declared.direct_operand.Direct.{Direct}
-use Rattle.xl_expr.specs.Stores.{word_write, word_store, element_write, element_store_at, element_store, store_code}
+use Rattle.xl_expr.specs.Stores.{word_write, word_store, indexed_write, element_write, element_store_at, element_store, store_code}
 use Rattle.xl_expr.proofs.Pieces.{length-at_pos}
 use Rattle.xl_expr.proofs.Tails.{one_few, two_few, direct_few}
 use Rattle.xl_expr.proofs.Evaluates.{some_nodes}
@@ -69,14 +69,16 @@ word_short (Near n) last = omega arith
 word_short (Far n) last = omega arith
 word_short (Through n) last = omega arith
 
-element_short : (found : Option VarPlan) (pos : Pos) (i : ℕ → ℕ → Pos → List Line) (n : ℕ) → IsShort i n → IsShort (element_code found pos i) (1 + n)
-element_short None pos i n h = record { by = λ k here last. omega arith }
-element_short (Some found) pos i n h = at_place found.place
+element_short : (found : Option VarPlan) (x : kernel.Expression) (pos : Pos) (i : ℕ → ℕ → Pos → List Line) (n : ℕ) → IsShort i n → IsShort (element_code found x pos i) (1 + n)
+element_short None x pos i n h = record { by = λ k here last. omega arith }
+element_short (Some found) x pos i n h = at_place found.place (fixed_index x found.words)
   where
-    at_place : (place : VarAt) → IsShort (element_at_place place found.words pos i) (1 + n)
-    at_place (Near m) = record { by = λ k here last. omega (arith, h.by k here last, length-append (i k here last) (at_pos pos (Ldc R11 found.words ∷ Lsu R11 R0 R11 ∷ Ecallf R11 ∷ Ldawdp R11 m ∷ Ldw R0 R11 R0 ∷ []))) }
-    at_place (Far m) = record { by = λ k here last. omega (arith, h.by k here last, length-append (i k here last) (at_pos pos (Ldc R11 found.words ∷ Lsu R11 R0 R11 ∷ Ecallf R11 ∷ Ldwdp R11 m ∷ Ldw R0 R11 R0 ∷ []))) }
-    at_place (Through m) = record { by = λ k here last. omega arith }
+    at_place : (place : VarAt) (fixed : Option ℕ) → IsShort (element_at_place place found.words fixed pos i) (1 + n)
+    at_place (Near m) (Some j) = record { by = λ k here last. omega arith }
+    at_place (Near m) None = behind_short i n h n (omega arith) pos (element_read (Ldawdp R11 m) found.words) (omega arith)
+    at_place (Far m) (Some j) = record { by = λ k here last. omega arith }
+    at_place (Far m) None = behind_short i n h n (omega arith) pos (element_read (Ldwdp R11 m) found.words) (omega arith)
+    at_place (Through m) fixed = record { by = λ k here last. omega arith }
 
 mutual
   pub code_short : (vars : List (Option VarPlan)) (x : kernel.Expression) → IsShort (expression_code vars x) (nodes x)
@@ -94,7 +96,7 @@ mutual
       word_at : (found : Option VarPlan) → IsShort (λ k here last. word_code found last) 1
       word_at None = record { by = λ k here last. omega arith }
       word_at (Some found) = record { by = λ k here last. word_short found.place last }
-  place_short vars (kernel.element v i pos) = element_short (var_in vars v) pos (expression_code vars i) (nodes i) (code_short vars i)
+  place_short vars (kernel.element v i pos) = element_short (var_in vars v) i pos (expression_code vars i) (nodes i) (code_short vars i)
 
 -- so lines that an expression's code follows are not many more
 pub longer : (vars : List (Option VarPlan)) (x : kernel.Expression) (k here : ℕ) (last : Pos) (old new : List Line) → new ≡ old ++ expression_code vars x k here last → length new ≤ length old + 7 * nodes x
@@ -135,14 +137,19 @@ store_few vars (kernel.element v i pos) from here last = of_element (var_in vars
     ci : List Line
     ci = expression_code vars i 1 (here + 1) pos
 
-    at_place : (place : VarAt) (words : ℕ) → length (element_store_at place words from pos (λ n. expression_code vars i 1 n pos) here) ≤ 8 * (1 + nodes i)
-    at_place (Near n) words = omega (arith, (code_short vars i).by 1 (here + 1) pos, length-append ci (at_pos pos (element_write (Ldawdp R11 n) words)))
-    at_place (Far n) words = omega (arith, (code_short vars i).by 1 (here + 1) pos, length-append ci (at_pos pos (element_write (Ldwdp R11 n) words)))
-    at_place (Through n) words = omega arith
+    indexed : (base : Instr) (words : ℕ) → length (indexed_write base words from pos (λ n. expression_code vars i 1 n pos) here) ≤ 8 * (1 + nodes i)
+    indexed base words = omega (arith, (code_short vars i).by 1 (here + 1) pos, length-append ci (at_pos pos (element_write base words)))
 
-    of_element : (found : Option VarPlan) → length (element_store found from pos (λ n. expression_code vars i 1 n pos) here) ≤ 8 * (1 + nodes i)
+    at_place : (place : VarAt) (words : ℕ) (fixed : Option ℕ) → length (element_store_at place words fixed from pos (λ n. expression_code vars i 1 n pos) here) ≤ 8 * (1 + nodes i)
+    at_place (Near n) words (Some j) = omega arith
+    at_place (Near n) words None = indexed (Ldawdp R11 n) words
+    at_place (Far n) words (Some j) = omega arith
+    at_place (Far n) words None = indexed (Ldwdp R11 n) words
+    at_place (Through n) words fixed = omega arith
+
+    of_element : (found : Option VarPlan) → length (element_store found i from pos (λ n. expression_code vars i 1 n pos) here) ≤ 8 * (1 + nodes i)
     of_element None = omega arith
-    of_element (Some found) = at_place found.place found.words
+    of_element (Some found) = at_place found.place found.words (fixed_index i found.words)
 
 pub stored_longer : (vars : List (Option VarPlan)) (p : kernel.Place) (from : Reg) (here : ℕ) (last : Pos) (old new : List Line) → new ≡ old ++ store_code vars p from here last → length new ≤ length old + 8 * nodes_at p
 stored_longer vars p from here last old new e =

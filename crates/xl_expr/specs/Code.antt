@@ -1,6 +1,6 @@
 -- The code of an expression, whose word comes to r0. The words from sp + 4k on serve as temporary ones, the code stands from
 -- index `here` on, and an instruction without a place of its own has the place `last`.
-use Rattle.std.specs.Prelude.{ℕ, ◌+◌, Bool, true, false, List, [], ◌∷◌, ◌++◌, length, Option, Some, None}
+use Rattle.std.specs.Prelude.{ℕ, ◌+◌, ◌%◌, ◌^◌, nat_lt, Bool, true, false, List, [], ◌∷◌, ◌++◌, length, Option, Some, None}
 use Rattle.xw_words.specs.declared.pos.Pos.{Pos}
 use Rattle.xw_words.specs.Words.{word_negative}
 use Rattle.xs_instr.specs.declared.instr.Instr.{Instr}
@@ -154,33 +154,49 @@ operation_code o u pos (a ∷ b ∷ c ∷ rest) k here last =
     let cc = c.piece (k + 1) (here + length ca + 1 + length cb + 1) pos in
     ca ++ (line (Brff R0 (here + length ca + 1 + length cb + 1)) pos ∷ (cb ++ (line (Brfu (here + length ca + 1 + length cb + 1 + length cc)) pos ∷ cc)))
 
+-- the word at 4i behind the address that the word at dp + 4n holds comes to r0
+abbrev pub held_word : (n i : ℕ) → List Instr
+held_word n i = Ldwdp R11 n ∷ Ldc R0 i ∷ Ldw R0 R11 R0 ∷ []
+
 -- the word of a variable comes to r0
 abbrev pub word_at_place : VarAt → List Instr
 word_at_place (Near n) = Ldwdp R0 n ∷ []
-word_at_place (Far n) = Ldwdp R11 n ∷ Ldc R0 0 ∷ Ldw R0 R11 R0 ∷ []
-word_at_place (Through n) = Ldwdp R11 n ∷ Ldc R0 0 ∷ Ldw R0 R11 R0 ∷ []
+word_at_place (Far n) = held_word n 0
+word_at_place (Through n) = held_word n 0
 
 abbrev pub word_code : Option VarPlan → Pos → List Line
 word_code None last = []
 word_code (Some found) last = at_pos last (word_at_place found.place)
 
--- an index in r0 is tested, and the address of the array's first word comes to r11
+-- `fixed_index`, by cases
+abbrev pub where_below : ℕ → Bool → Option ℕ
+where_below i true = Some i
+where_below i false = None
+
+-- an index that needs no test: a number below the length
+abbrev pub fixed_index : kernel.Expression → (length : ℕ) → Option ℕ
+fixed_index (kernel.number i) words = where_below i (nat_lt i words)
+fixed_index other words = None
+
+-- an index in r0 is tested
 abbrev pub tested_index : ℕ → List Instr
 tested_index words = Ldc R11 words ∷ Lsu R11 R0 R11 ∷ Ecallf R11 ∷ []
 
--- and then the element to r0, by the instruction that brings that address
+-- and then the element goes to r0, by the instruction that brings the address of the array's first word to r11
 abbrev pub element_read : Instr → ℕ → List Instr
 element_read base words = tested_index words ++ base ∷ Ldw R0 R11 R0 ∷ []
 
--- an element comes to r0, by its index's piece
-abbrev pub element_at_place : VarAt → ℕ → Pos → Piece → Piece
-element_at_place (Near n) words pos index k here last = index k here last ++ at_pos pos (element_read (Ldawdp R11 n) words)
-element_at_place (Far n) words pos index k here last = index k here last ++ at_pos pos (element_read (Ldwdp R11 n) words)
-element_at_place (Through n) words pos index k here last = at_pos pos (Ldwdp R11 n ∷ Ldc R0 0 ∷ Ldw R0 R11 R0 ∷ [])
+-- an element comes to r0, at an index that needs no test or by its index's piece
+abbrev pub element_at_place : VarAt → (words : ℕ) → (fixed : Option ℕ) → Pos → Piece → Piece
+element_at_place (Near n) words (Some i) pos index k here last = line (Ldwdp R0 ((n + i) % 2 ^ 32)) pos ∷ []
+element_at_place (Near n) words None pos index k here last = index k here last ++ at_pos pos (element_read (Ldawdp R11 n) words)
+element_at_place (Far n) words (Some i) pos index k here last = at_pos pos (held_word n i)
+element_at_place (Far n) words None pos index k here last = index k here last ++ at_pos pos (element_read (Ldwdp R11 n) words)
+element_at_place (Through n) words fixed pos index k here last = at_pos pos (held_word n 0)
 
-abbrev pub element_code : Option VarPlan → Pos → Piece → Piece
-element_code None pos index k here last = []
-element_code (Some found) pos index k here last = element_at_place found.place found.words pos index k here last
+abbrev pub element_code : Option VarPlan → kernel.Expression → Pos → Piece → Piece
+element_code None i pos index k here last = []
+element_code (Some found) i pos index k here last = element_at_place found.place found.words (fixed_index i found.words) pos index k here last
 
 -- how one instruction brings an expression's word to a register, where one does
 abbrev pub near_word : VarAt → Option Direct
@@ -191,9 +207,19 @@ abbrev pub direct_word : Option VarPlan → Option Direct
 direct_word None = None
 direct_word (Some found) = near_word found.place
 
+abbrev pub near_element : VarAt → (fixed : Option ℕ) → Option Direct
+near_element (Near n) (Some i) = Some (Word ((n + i) % 2 ^ 32))
+near_element (Near n) None = None
+near_element (Far n) fixed = None
+near_element (Through n) fixed = None
+
+abbrev pub direct_element : Option VarPlan → (index : kernel.Expression) → Option Direct
+direct_element None i = None
+direct_element (Some found) i = near_element found.place (fixed_index i found.words)
+
 abbrev pub direct_place : List (Option VarPlan) → kernel.Place → Option Direct
 direct_place vars (kernel.word v) = direct_word (var_in vars v)
-direct_place vars (kernel.element v i pos) = None
+direct_place vars (kernel.element v i pos) = direct_element (var_in vars v) i
 
 abbrev pub direct_of : List (Option VarPlan) → kernel.Expression → Option Direct
 direct_of vars (kernel.number v) = Some (Number v)
@@ -212,7 +238,7 @@ abbrev mutual
 
   pub place_code : List (Option VarPlan) → kernel.Place → ℕ → ℕ → Pos → List Line
   place_code vars (kernel.word v) k here last = word_code (var_in vars v) last
-  place_code vars (kernel.element v i pos) k here last = element_code (var_in vars v) pos (expression_code vars i) k here last
+  place_code vars (kernel.element v i pos) k here last = element_code (var_in vars v) i pos (expression_code vars i) k here last
 
 abbrev pub operand_of : List (Option VarPlan) → kernel.Expression → Operand
 operand_of vars e = record { piece = expression_code vars e; direct = direct_of vars e }

@@ -1,4 +1,4 @@
-ghost use Rattle.std.specs.Prelude.{◌≡◌};
+ghost use Rattle.std.specs.Prelude.{◌≡◌, nat_lt};
 ghost use Rattle.xc_kernel.specs.Kernels.{expression_of, place_of};
 ghost use Rattle.xl_expr.specs.Code as code;
 ghost use Rattle.xl_expr.specs.Plans.{var_in};
@@ -44,8 +44,40 @@ fn direct_place(plan: &Plan, place: &Place) -> Option<Direct>
 {
     match place {
         Place::Word(v) => direct_word(plan, *v),
-        Place::Elem(_, _, _) => None,
+        Place::Elem(v, index, _) => direct_element(plan, *v, index),
     }
+}
+
+fn direct_element(plan: &Plan, v: u32, index: &Kx) -> Option<Direct>
+    ensures { result ≡ code.direct_element (var_in plan.now.vars v) (expression_of index.now) }
+{
+    match plan.placed(v) {
+        None => None,
+        Some(found) => match fixed_index(index, found.words) {
+            None => None,
+            Some(i) => match found.place {
+                VarAt::Near(n) => Some(Direct::Word(n.wrapping_add(i))),
+                VarAt::Far(_) | VarAt::Through(_) => None,
+            },
+        },
+    }
+}
+
+/// An index that needs no test: a number below the length.
+#[tactic(auto, using(xc_kernel::proofs::Forms::forms))]
+pub fn fixed_index(index: &Kx, words: u32) -> Option<u32>
+    ensures { result ≡ code.fixed_index (expression_of index.now) words }
+{
+    match index {
+        Kx::Num(i) => where_below(*i, words),
+        Kx::Read(_) | Kx::Op(_, _, _, _) => None,
+    }
+}
+
+fn where_below(i: u32, words: u32) -> Option<u32>
+    ensures { result ≡ code.where_below i (nat_lt i words) }
+{
+    if i < words { Some(i) } else { None }
 }
 
 fn direct_word(plan: &Plan, v: u32) -> Option<Direct>

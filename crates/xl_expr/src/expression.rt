@@ -1,8 +1,8 @@
-ghost use Rattle.std.specs.Prelude.{◌≡◌, ◌+◌, ◌*◌, ◌<◌, ◌≤◌, ◌^◌, [], ◌∷◌, ◌++◌, length, map, OnOk, OnErr};
+ghost use Rattle.std.specs.Prelude.{◌≡◌, ◌+◌, ◌*◌, ◌<◌, ◌≤◌, ◌^◌, [], ◌∷◌, ◌++◌, length, map, OnOk, OnErr, Some};
 ghost use Rattle.xc_kernel.specs.Kernels.{expression_of, place_of};
 ghost use Rattle.xs_instr.specs.Lines.{HasTarget, line, last_pos, at_pos};
 ghost use Rattle.xl_expr.specs.Code as spec;
-ghost use Rattle.xl_expr.specs.Code.{one_tail, negated, after_main, index_if, direct_tail, operand_of, word_at_place, element_read, moved_to, expression_code, place_code, two_code, joined_code, operation_code, codes, code_to};
+ghost use Rattle.xl_expr.specs.Code.{one_tail, negated, after_main, index_if, direct_tail, operand_of, held_word, word_at_place, element_read, element_code, moved_to, expression_code, place_code, two_code, joined_code, operation_code, codes, code_to};
 ghost use Rattle.xs_instr.specs.Adds.{Adds};
 ghost use Rattle.xs_instr.specs.Extends.{Extends};
 ghost use Rattle.xl_expr.specs.Targets.{AreAimed};
@@ -12,9 +12,9 @@ ghost use Rattle.xl_expr.specs.Measures.{nodes, nodes_of, nodes_at, depth, depth
 ghost use Rattle.xl_expr.specs.Operands.{operands_of};
 ghost use Rattle.xl_expr.specs.Parts.{kept_behind, short_behind, choice_code};
 
-use crate::direct_operand::{Direct, added, added_to, brought, direct_of};
+use crate::direct_operand::{Direct, added, added_to, brought, direct_of, fixed_index};
 use crate::operators::{Operator, main_instr, operator_at};
-use crate::plan::{Plan, VarAt};
+use crate::plan::{Plan, VarAt, VarPlan};
 use xc_kernel::{Kx, Place};
 use xs_instr::{Emitter, Instr, Reg};
 use xw_words::{Memory, Pos};
@@ -120,28 +120,57 @@ fn emit_place(e: &mut Emitter, plan: &Plan, place: &Place, k: u32, last: Pos) ->
         },
         Place::Elem(v, index, pos) => match plan.placed(*v) {
             None => Ok(()),
-            Some(found) => match found.place {
-                VarAt::Near(n) => {
-                    emit_at(e, plan, index, k, last)?;
-                    put_element(e, found.words, Instr::Ldawdp(Reg::R11, n), *pos)?;
-                    Ok(())
-                }
-                VarAt::Far(n) => {
-                    emit_at(e, plan, index, k, last)?;
-                    put_element(e, found.words, Instr::Ldwdp(Reg::R11, n), *pos)?;
-                    Ok(())
-                }
-                VarAt::Through(n) => e.put_all(
-                    &[
-                        Instr::Ldwdp(Reg::R11, n),
-                        Instr::Ldc(Reg::R0, 0),
-                        Instr::Ldw(Reg::R0, Reg::R11, Reg::R0),
-                    ],
-                    *pos,
-                ),
-            },
+            Some(found) => emit_element(e, plan, found, index, *pos, k, last),
         },
     }
+}
+
+/// The code that reads an element of a variable.
+#[cycle(expression)]
+fn emit_element(
+    e: &mut Emitter,
+    plan: &Plan,
+    found: VarPlan,
+    index: &Kx,
+    pos: Pos,
+    k: u32,
+    last: Pos,
+) -> Result<(), Memory>
+    requires room { length e.old + 8 * (1 + nodes (expression_of index.now)) < 2 ^ 32 }
+    requires deep { k + (1 + depth (expression_of index.now)) < 2 ^ 32 }
+    ensures ok { OnOk result (e.new ≡ e.old ++ element_code (Some found) (expression_of index.now) pos
+        (expression_code plan.now.vars (expression_of index.now)) k (length e.old) last) }
+    ensures refused { OnErr result (Extends e.old e.new) }
+{
+    match (found.place, fixed_index(index, found.words)) {
+        (VarAt::Near(n), Some(i)) => e.put_all(&[Instr::Ldwdp(Reg::R0, n.wrapping_add(i))], pos),
+        (VarAt::Near(n), None) => {
+            emit_at(e, plan, index, k, last)?;
+            put_element(e, found.words, Instr::Ldawdp(Reg::R11, n), pos)
+        }
+        (VarAt::Far(n), Some(i)) => put_held(e, n, i, pos),
+        (VarAt::Far(n), None) => {
+            emit_at(e, plan, index, k, last)?;
+            put_element(e, found.words, Instr::Ldwdp(Reg::R11, n), pos)
+        }
+        (VarAt::Through(n), _) => put_held(e, n, 0, pos),
+    }
+}
+
+/// The word at 4i behind the address that the word at dp + 4n holds comes to r0.
+fn put_held(e: &mut Emitter, n: u32, i: u32, pos: Pos) -> Result<(), Memory>
+    requires { length e.old + 3 < 2 ^ 32 }
+    ensures ok { OnOk result (e.new ≡ e.old ++ at_pos pos (held_word n i)) }
+    ensures refused { OnErr result (Extends e.old e.new) }
+{
+    e.put_all(
+        &[
+            Instr::Ldwdp(Reg::R11, n),
+            Instr::Ldc(Reg::R0, i),
+            Instr::Ldw(Reg::R0, Reg::R11, Reg::R0),
+        ],
+        pos,
+    )
 }
 
 /// The code that reads a word where the plan has it.
@@ -152,14 +181,7 @@ fn put_word(e: &mut Emitter, place: VarAt, pos: Pos) -> Result<(), Memory>
 {
     match place {
         VarAt::Near(n) => e.put_all(&[Instr::Ldwdp(Reg::R0, n)], pos),
-        VarAt::Far(n) | VarAt::Through(n) => e.put_all(
-            &[
-                Instr::Ldwdp(Reg::R11, n),
-                Instr::Ldc(Reg::R0, 0),
-                Instr::Ldw(Reg::R0, Reg::R11, Reg::R0),
-            ],
-            pos,
-        ),
+        VarAt::Far(n) | VarAt::Through(n) => put_held(e, n, 0, pos),
     }
 }
 

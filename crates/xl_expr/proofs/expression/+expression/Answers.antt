@@ -1,16 +1,15 @@
-use Rattle.std.proofs.Common.{◌≡◌, ◌+◌, ℕ, arith, sym, subst, refl, List, [], ◌∷◌, length, ◌++◌}
+use Rattle.std.proofs.Common.{◌≡◌, ◌+◌, ℕ, arith, sym, subst, List, length, ◌++◌}
 use Rattle.std.specs.Prelude.{OnOk}
 use Rattle.xc_kernel.specs.declared.statement.Kx.{Kx}
 use Rattle.xc_kernel.specs.Kernels.{expression_of}
 use Rattle.xs_instr.specs.Lines.{Line, line, open_line}
-use Rattle.xs_instr.specs.declared.instr.Instr.TheVariants.{Brff, Brfu, Ldc, Lsu, Ecallf, Ldawdp, Ldwdp, Ldw, Stwsp, Ldwsp}
+use Rattle.xs_instr.specs.declared.instr.Instr.TheVariants.{Brff, Brfu, Stwsp, Ldwsp}
 use Rattle.xs_instr.specs.declared.instr.Reg.TheVariants.{R0, R11}
 use Rattle.xl_expr.specs.Code.{made_truth, codes, expression_code, operation_code}
 use Rattle.xl_expr.specs.Meant.{operator_meant}
 use Rattle.xl_expr.specs.Operands.{operands_of}
-use Rattle.xl_expr.specs.declared.plan.VarAt.TheVariants.{Near, Far}
 use Rattle.xl_expr.proofs.Sizes.{longer}
-use Rattle.xl_expr.proofs.Denoted.{nodes_read, depth_read, nodes_op, depth_op, nodes_elem, nodes_first, nodes_two, nodes_three, depth_nth, two_operands, no_word, no_element, element_emitted}
+use Rattle.xl_expr.proofs.Denoted.{nodes_read, depth_read, nodes_op, depth_op, nodes_elem, nodes_first, nodes_two, nodes_three, depth_nth, two_operands, no_word, no_element, depth_elem}
 use Rattle.xl_expr.proofs.Emitted.{one_longer, two_longer, on_err, short_emitted, short_extends, short_length, past_open, over_open, length4, choice_emitted, choice_extends}
 use Rattle.xl_expr.proofs.expression.+expression.Goals as goal
 
@@ -56,18 +55,6 @@ emit_operation-emit_choice-requires t c =
     let l = longer c.args.plan.now.vars (expression_of c.test-item.result) c.args.k (length c.args.e.now) c.args.last c.args.e.now c.emit_at-in-len3-up.new.e c.in_ok-emit_at-in-len3-up.ensures.ok in
     (omega (arith, d, e, c.decreases), (omega (arith, n, l, c.requires.room), (omega (arith, d, c.requires.deep), omega (arith, e, c.requires.deep))))
 
-pub emit_place-put_element-requires : goal.emit_place-put_element-requires
-emit_place-put_element-requires t c =
-    let n = nodes_elem c.args.place.now c.in-Elem.v c.in-Elem.index c.in-Elem.pos c.deref.result.now c.in-Elem.is c.deref.ensures in
-    let l = longer c.args.plan.now.vars (expression_of c.deref.result.now) c.args.k (length c.args.e.now) c.args.last c.args.e.now c.emit_at.new.e c.in_ok-emit_at-in-Near.ensures.ok in
-    omega (arith, n, l, c.requires.room)
-
-pub emit_place-put_element-requires-in-Far : goal.emit_place-put_element-requires-in-Far
-emit_place-put_element-requires-in-Far t c =
-    let n = nodes_elem c.args.place.now c.in-Elem.v c.in-Elem.index c.in-Elem.pos c.deref-in-Far.result.now c.in-Elem.is c.deref-in-Far.ensures in
-    let l = longer c.args.plan.now.vars (expression_of c.deref-in-Far.result.now) c.args.k (length c.args.e.now) c.args.last c.args.e.now c.emit_at-in-Far.new.e c.in_ok-emit_at-in-Far.ensures.ok in
-    omega (arith, n, l, c.requires.room)
-
 pub emit_place-returns-in-None-clause-ok : goal.emit_place-returns-in-None-clause-ok
 emit_place-returns-in-None-clause-ok t c =
     no_word c.args.plan.now.vars c.args.place.now c.in-Word.v c.args.k (length c.args.e.now) c.args.last c.placed.result c.args.e.now c.in-Word.is c.in-None.is c.placed.ensures
@@ -76,13 +63,21 @@ pub emit_place-returns-in-None-placed-clause-ok : goal.emit_place-returns-in-Non
 emit_place-returns-in-None-placed-clause-ok t c =
     no_element c.args.plan.now.vars c.args.place.now c.in-Elem.v c.in-Elem.index c.in-Elem.pos c.args.k (length c.args.e.now) c.args.last c.placed-in-Elem.result c.args.e.now c.in-Elem.is c.in-None-placed.is c.placed-in-Elem.ensures
 
-pub emit_place-returns-in_ok-put_element-in-Near-clause-ok : goal.emit_place-returns-in_ok-put_element-in-Near-clause-ok
-emit_place-returns-in_ok-put_element-in-Near-clause-ok t c =
-    element_emitted c.args.plan.now.vars c.args.place.now c.in-Elem.v c.in-Elem.index c.in-Elem.pos c.args.k c.args.last c.placed-in-Elem.result c.in-Some-placed.found (Near c.in-Near.n) (Ldc R11 c.in-Some-placed.found.words ∷ Lsu R11 R0 R11 ∷ Ecallf R11 ∷ Ldawdp R11 c.in-Near.n ∷ Ldw R0 R11 R0 ∷ []) c.deref.result.now c.args.e.now c.emit_at.new.e c.put_element.new.e (λ index. refl) c.in-Elem.is c.in-Some-placed.is c.placed-in-Elem.ensures c.in-Near.is c.deref.ensures c.in_ok-emit_at-in-Near.ensures.ok c.in_ok-put_element-in-Near.ensures.ok
+pub emit_place-emit_element-requires : goal.emit_place-emit_element-requires
+emit_place-emit_element-requires t c =
+    let n = nodes_elem c.args.place.now c.in-Elem.v c.in-Elem.index c.in-Elem.pos c.deref.result.now c.in-Elem.is c.deref.ensures in
+    let d = depth_elem c.args.place.now c.in-Elem.v c.in-Elem.index c.in-Elem.pos c.deref.result.now c.in-Elem.is c.deref.ensures in
+    (omega (arith, d, c.decreases), (omega (arith, n, c.requires.room), omega (arith, d, c.requires.deep)))
 
-pub emit_place-returns-in_ok-put_element-in-Far-clause-ok : goal.emit_place-returns-in_ok-put_element-in-Far-clause-ok
-emit_place-returns-in_ok-put_element-in-Far-clause-ok t c =
-    element_emitted c.args.plan.now.vars c.args.place.now c.in-Elem.v c.in-Elem.index c.in-Elem.pos c.args.k c.args.last c.placed-in-Elem.result c.in-Some-placed.found (Far c.in-Far.n) (Ldc R11 c.in-Some-placed.found.words ∷ Lsu R11 R0 R11 ∷ Ecallf R11 ∷ Ldwdp R11 c.in-Far.n ∷ Ldw R0 R11 R0 ∷ []) c.deref-in-Far.result.now c.args.e.now c.emit_at-in-Far.new.e c.put_element-in-Far.new.e (λ index. refl) c.in-Elem.is c.in-Some-placed.is c.placed-in-Elem.ensures c.in-Far.is c.deref-in-Far.ensures c.in_ok-emit_at-in-Far.ensures.ok c.in_ok-put_element-in-Far.ensures.ok
+pub emit_element-put_element-requires : goal.emit_element-put_element-requires
+emit_element-put_element-requires t c =
+    let l = longer c.args.plan.now.vars (expression_of c.args.index.now) c.args.k (length c.args.e.now) c.args.last c.args.e.now c.emit_at.new.e c.in_ok-emit_at-in-Near-None.ensures.ok in
+    omega (arith, l, c.requires.room)
+
+pub emit_element-put_element-requires-in-Far-None : goal.emit_element-put_element-requires-in-Far-None
+emit_element-put_element-requires-in-Far-None t c =
+    let l = longer c.args.plan.now.vars (expression_of c.args.index.now) c.args.k (length c.args.e.now) c.args.last c.args.e.now c.emit_at-in-Far-None.new.e c.in_ok-emit_at-in-Far-None.ensures.ok in
+    omega (arith, l, c.requires.room)
 
 pub emit_kept-put_all-requires-2 : goal.emit_kept-put_all-requires-2
 emit_kept-put_all-requires-2 t c =

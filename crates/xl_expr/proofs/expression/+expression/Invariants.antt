@@ -10,6 +10,9 @@ decreases-emit_at l = 8 * depth (expression_of l.x.now) + 1
 abbrev pub decreases-emit_place : goal.decreases-emit_place
 decreases-emit_place l = 8 * depth_at (place_of l.place.now)
 
+abbrev pub decreases-emit_element : goal.decreases-emit_element
+decreases-emit_element l = 8 * depth (expression_of l.index.now) + 4
+
 abbrev pub decreases-emit_operation : goal.decreases-emit_operation
 decreases-emit_operation l = 8 * depth_of (operands_of l.operands.now) + 8
 

@@ -4,7 +4,7 @@ use Rattle.xc_kernel.specs.Kernels.{expression_of}
 use Rattle.xs_instr.specs.Lines.{line}
 use Rattle.xl_expr.proofs.Emitted.{one_longer}
 use Rattle.xl_expr.proofs.Sizes.{longer}
-use Rattle.xl_expr.proofs.store.emit_element_write.Goals as goal
+use Rattle.xl_expr.proofs.store.emit_indexed_write.Goals as goal
 
 pub put_all-requires-2 : goal.put_all-requires-2
 put_all-requires-2 c =
