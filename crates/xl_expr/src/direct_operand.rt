@@ -2,11 +2,10 @@ ghost use Rattle.std.specs.Prelude.{◌≡◌, nat_lt};
 ghost use Rattle.xc_kernel.specs.Kernels.{expression_of, place_of};
 ghost use Rattle.xl_expr.specs.Code as code;
 ghost use Rattle.xl_expr.specs.Plans.{var_in};
-ghost use Rattle.xl_expr.specs.Meant.{operator_meant};
+ghost use Rattle.xc_kernel.specs.Meant.{operator_meant};
 
-use crate::operators::Operator;
 use crate::plan::{Plan, VarAt};
-use xc_kernel::{Kx, Place};
+use xc_kernel::{Kx, Operator, Place};
 use xs_instr::{Instr, Reg};
 
 /// An operand whose word one instruction brings to a register: a number, or the word at dp + 4n.

@@ -7,15 +7,15 @@ ghost use Rattle.xs_instr.specs.Adds.{Adds};
 ghost use Rattle.xs_instr.specs.Extends.{Extends};
 ghost use Rattle.xl_expr.specs.Targets.{AreAimed};
 ghost use Rattle.xl_expr.specs.Works.{Evaluates};
-ghost use Rattle.xl_expr.specs.Meant.{operator_meant};
+ghost use Rattle.xc_kernel.specs.Meant.{operator_meant};
 ghost use Rattle.xl_expr.specs.Measures.{nodes, nodes_of, nodes_at, depth, depth_of, depth_at};
 ghost use Rattle.xl_expr.specs.Operands.{operands_of};
 ghost use Rattle.xl_expr.specs.Parts.{kept_behind, short_behind, choice_code};
 
 use crate::direct_operand::{Direct, added, added_to, brought, direct_of, fixed_index};
-use crate::operators::{Operator, main_instr, operator_at};
+use crate::operators::main_instr;
 use crate::plan::{Plan, VarAt, VarPlan};
-use xc_kernel::{Kx, Place};
+use xc_kernel::{Kx, Operator, Place, operator_at};
 use xs_instr::{Emitter, Instr, Reg};
 use xw_words::{Memory, Pos};
 

@@ -6,7 +6,7 @@ use Rattle.xs_instr.specs.Lines.{Line, line, open_line}
 use Rattle.xs_instr.specs.declared.instr.Instr.TheVariants.{Brff, Brfu, Stwsp, Ldwsp}
 use Rattle.xs_instr.specs.declared.instr.Reg.TheVariants.{R0, R11}
 use Rattle.xl_expr.specs.Code.{made_truth, codes, expression_code, operation_code}
-use Rattle.xl_expr.specs.Meant.{operator_meant}
+use Rattle.xc_kernel.specs.Meant.{operator_meant}
 use Rattle.xl_expr.specs.Operands.{operands_of}
 use Rattle.xl_expr.proofs.Sizes.{longer}
 use Rattle.xl_expr.proofs.Denoted.{nodes_read, depth_read, nodes_op, depth_op, nodes_elem, nodes_first, nodes_two, nodes_three, depth_nth, two_operands, no_word, no_element, depth_elem}
