@@ -136,7 +136,8 @@ impl Core {
         self.state.ports.tick(clock);
     }
 
-    /// A token or a credit of another core comes to its end, which has room for it.
+    /// A token or a credit of another core comes to its end, which has room for it beside all that a peer on this core may
+    /// still send.
     pub fn deliver(&mut self, moved: Moved)
         requires { HasRoomFrom self.old.home self.old.state.ends moved }
         ensures { self.new ≡ record self.old { state = came self.old.state moved } }
@@ -156,7 +157,8 @@ impl Core {
         self.outbox.pop_front()
     }
 
-    /// How many roots have not ended, and how many threads are in use, halted, ready, and waiting on a port or timer.
+    /// How many roots have not ended, and how many threads are in use, halted, ready, and waiting on a port or timer, also by
+    /// an event that is enabled.
     pub fn sight(&self) -> Sight
         ensures { result ≡ sight self.now.home self.now.state }
     {
