@@ -7,12 +7,14 @@ use Rattle.xs_instr.specs.declared.instr.Reg.TheVariants.{R0}
 use Rattle.xs_instr.specs.Extends.{Extends}
 use Rattle.xs_instr.specs.Lines.{Line, line, open_line, IsOpen, landed, last_or, last_pos}
 use Rattle.xc_kernel.specs.Plain as kernel
+use Rattle.xc_kernel.specs.declared.statement.Kst.{Kst}
 use Rattle.xl_expr.specs.declared.plan.VarPlan.{VarPlan}
 use Rattle.xl_expr.specs.Targets.{AreAimed}
 use Rattle.xl_flow.specs.Flow.{AddsTest, Tests}
 use Rattle.xl_walk.specs.declared.walk.Leaving.{Leaving}
+use Rattle.xl_walk.specs.Built.{statements_of}
 use Rattle.xl_walk.specs.Cells.{Cell, known, behind, leaves, line_of}
-use Rattle.xl_walk.specs.Emits.{Coded, Emitted, Sides}
+use Rattle.xl_walk.specs.Emits.{Branching, Coded, Emitted, OneSide, TwoSides}
 use Rattle.xl_walk.proofs.Parts.{emitted_length, emitted_last, leaves_append, leaves_behind, lines_append, lines_known, lines_length}
 use Rattle.xl_walk.proofs.Seams.{extends_by, last_added, lands_at, next_length, open_at}
 
@@ -33,6 +35,64 @@ module _ (e0 e1 t : List Line) (last : Pos) (h : e1 ≡ e0 ++ (t ++ open_line (B
 
   pub test_last : last_pos e1 ≡ last
   test_last = last_added (e0 ++ t) e1 (open_line (Brff R0 0) last ∷ []) test_front
+
+-- one side
+
+module _
+    (vars : List (Option VarPlan)) (x : kernel.Expression) (First : Coded)
+    (e0 e1 e2 : List Line) (left0 left1 : List Leaving) (past : ℕ) (last : Pos)
+    (at_1 : AddsTest e0 e1 past last (Tests vars x (length e0) last))
+    (aims : AddsTest e0 e1 past last (AreAimed (length e0)))
+    (at_2 : Emitted First e1 e2 left0 left1)
+    where
+  one_past : past ≡ length (e0 ++ at_1.lines)
+  one_past = at_1.index ∙ sym (length-append e0 at_1.lines)
+
+  one_is : e2 ≡ (e0 ++ at_1.lines) ++ open_line (Brff R0 0) last ∷ map line_of at_2.cells
+  one_is = at_2.lines ∙ ap (λ ls. ls ++ map line_of at_2.cells) (test_front e0 e1 at_1.lines last at_1.is) ∙ append_assoc (e0 ++ at_1.lines) (open_line (Brff R0 0) last ∷ []) (map line_of at_2.cells)
+
+  pub one_open : IsOpen e2 past
+  one_open = subst (λ ls. IsOpen ls past) (sym one_is) (open_at (e0 ++ at_1.lines) (map line_of at_2.cells) (Brff R0 0) last past one_past)
+
+  one_length : length e2 ≡ length e0 + length at_1.lines + 1 + length at_2.cells
+  one_length = let l = test_length e0 e1 at_1.lines last at_1.is in let m = emitted_length First e1 e2 left0 left1 at_2 in omega arith
+
+  abbrev one_cells : List Cell
+  one_cells = map known at_1.lines ++ (known (line (Brff R0 (length e2)) last) ∷ at_2.cells)
+
+  pub one_side_emitted : (e3 : List Line) → e3 ≡ landed e2 past (length e2) → last ≡ last_pos e0 → Emitted (OneSide vars x First) e0 e3 left0 left1
+  one_side_emitted e3 at_3 last_is =
+      record {
+        cells = one_cells;
+        lines =
+            at_3
+            ∙ ap (λ ls. landed ls past (length e2)) one_is
+            ∙ lands_at (e0 ++ at_1.lines) (map line_of at_2.cells) (Brff R0 0) last past (length e2) one_past
+            ∙ append_assoc e0 at_1.lines (line (Brff R0 (length e2)) last ∷ map line_of at_2.cells)
+            ∙ ap (λ ls. e0 ++ (ls ++ line (Brff R0 (length e2)) last ∷ map line_of at_2.cells)) (sym (lines_known at_1.lines))
+            ∙ ap (λ ls. e0 ++ ls) (sym (lines_append (map known at_1.lines) (known (line (Brff R0 (length e2)) last) ∷ at_2.cells)));
+        leaving_ones =
+            at_2.leaving_ones
+            ∙ ap (λ k. left0 ++ leaves at_2.cells k) (test_length e0 e1 at_1.lines last at_1.is)
+            ∙ ap (λ l. left0 ++ l) (sym (leaves_behind at_1.lines (known (line (Brff R0 (length e2)) last) ∷ at_2.cells) (length e0)));
+        so = subst (λ p. OneSide vars x First p (length e0) one_cells) last_is (record {
+          test = at_1.lines;
+          first = at_2.cells;
+          end = length e2;
+          end_is = one_length;
+          is = refl;
+          tests = at_1.so;
+          aimed = test_aimed e0 e1 past last (Tests vars x (length e0) last) (AreAimed (length e0)) at_1 aims aims.so;
+          first_is = subst (λ p. First p (length e0 + length at_1.lines + 1) at_2.cells) (test_last e0 e1 at_1.lines last at_1.is) (subst (λ k. First (last_pos e1) k at_2.cells) (test_length e0 e1 at_1.lines last at_1.is) at_2.so);
+        });
+      }
+
+-- there is a second side
+pub branch_two : (ss : List Kst) (vars : List (Option VarPlan)) (x : kernel.Expression) (First Second : Coded) → 0 < length ss → (last : Pos) (pc : ℕ) (cells : List Cell) → TwoSides vars x First Second last pc cells → Branching (statements_of ss) vars x First Second last pc cells
+branch_two [] vars x First Second some last pc cells h = absurd (omega arith)
+branch_two (s ∷ ss) vars x First Second some last pc cells h = h
+
+-- two sides
 
 module _
     (vars : List (Option VarPlan)) (x : kernel.Expression) (First Second : Coded)
@@ -150,13 +210,13 @@ module _
             ∙ ap (λ l. left0 ++ l) (sym (leaves_append at_2.cells (known (line (Brfu (length e5)) (behind last at_2.cells)) ∷ at_5.cells) (length e0 + length at_1.lines + 1)))
             ∙ ap (λ l. left0 ++ l) (sym (leaves_behind at_1.lines (known (line (Brff R0 (length e3)) last) ∷ (at_2.cells ++ (known (line (Brfu (length e5)) (behind last at_2.cells)) ∷ at_5.cells))) (length e0)))
 
-        pub sides_emitted : last ≡ last_pos e0 → Emitted (Sides vars x First Second) e0 e6 left0 left2
+        pub sides_emitted : last ≡ last_pos e0 → Emitted (TwoSides vars x First Second) e0 e6 left0 left2
         sides_emitted last_is =
             record {
               cells = cells;
               lines = e6_is;
               leaving_ones = cells_leaves;
-              so = subst (λ p. Sides vars x First Second p (length e0) cells) last_is (record {
+              so = subst (λ p. TwoSides vars x First Second p (length e0) cells) last_is (record {
                 test = at_1.lines;
                 first = at_2.cells;
                 second = at_5.cells;
