@@ -5,12 +5,12 @@ use Rattle.std.proofs.lemmas.Bool.{cases_eq, ne_eqb}
 use Rattle.std.proofs.lemmas.List.{length-map}
 use Rattle.xw_words.specs.declared.pos.Pos.{Pos}
 use Rattle.xc_tree.specs.Types.Words.{is_among}
-use Rattle.xs_instr.specs.declared.instr.Instr.TheVariants.{Brff, Brfu, Brbu, Freet}
+use Rattle.xs_instr.specs.declared.instr.Instr.TheVariants.{Brff, Brfu, Brbu}
 use Rattle.xs_instr.specs.declared.instr.Reg.TheVariants.{R0}
 use Rattle.xs_instr.specs.Lines.{Line, line}
 use Rattle.xc_kernel.specs.Plain as kernel
 use Rattle.xl_expr.specs.declared.plan.Plan.{Plan}
-use Rattle.xl_expr.specs.Targets.{AreAimed, AreGoodLines}
+use Rattle.xl_expr.specs.Targets.{AreGoodLines}
 use Rattle.xl_walk.specs.Cells.{Cell, known, leaving, behind, closed, closed_by, line_of}
 use Rattle.xl_walk.specs.Emits.{AllEmit, AreLines, Branching, Coded, Emits, OneSide, TwoSides}
 use Rattle.xl_walk.specs.Inside.{AreGoodCells, AreInside, IsInside}

@@ -1,4 +1,4 @@
-use Rattle.std.proofs.Common.{arith, ◌≡◌, ◌+◌, ◌*◌, ◌<◌, ◌≤◌, ◌^◌, [], ◌∷◌, ◌++◌, length, drop, take, sym, ap, ◌∙◌, subst, length-append}
+use Rattle.std.proofs.Common.{arith, ◌≡◌, ◌+◌, ◌<◌, ◌^◌, [], ◌∷◌, ◌++◌, length, drop, take, sym, ap, ◌∙◌, subst, length-append}
 use Rattle.std.proofs.Math.ListN.{drop_of_length-le}
 use Rattle.xc_kernel.specs.Kernels.{expression_of, output_of, place_of, statement_of}
 use Rattle.xc_kernel.specs.Plain as kernel
