@@ -5,25 +5,25 @@ ghost use Rattle.xl_expr.specs.Code as code;
 use xc_kernel::Operator;
 use xs_instr::{Instr, Reg};
 
-/// The instruction that makes r0 of two words in r11 and r0.
-pub fn main_instr(operator: Operator, unsigned: bool) -> Instr
-    ensures { result ≡ code.main_instr (operator_meant operator) unsigned }
+/// The instruction that makes of the words in two registers that in r0; the test of an index gives its truth in the second one.
+pub fn main_instr(operator: Operator, unsigned: bool, a: Reg, b: Reg) -> Instr
+    ensures { result ≡ code.main_instr (operator_meant operator) unsigned a b }
 {
     match operator {
-        Operator::Plus => Instr::Add(Reg::R0, Reg::R11, Reg::R0),
-        Operator::Minus => Instr::Sub(Reg::R0, Reg::R11, Reg::R0),
-        Operator::Times => Instr::Mul(Reg::R0, Reg::R11, Reg::R0),
-        Operator::Divide => quotient_instr(unsigned),
-        Operator::Remainder => remainder_instr(unsigned),
-        Operator::BitAnd => Instr::And(Reg::R0, Reg::R11, Reg::R0),
-        Operator::BitOr => Instr::Or(Reg::R0, Reg::R11, Reg::R0),
-        Operator::BitXor => Instr::Xor(Reg::R0, Reg::R11, Reg::R0),
-        Operator::ShiftUp => Instr::Shl(Reg::R0, Reg::R11, Reg::R0),
-        Operator::ShiftDown => shift_instr(unsigned),
-        Operator::Equal | Operator::Differs => Instr::Eq(Reg::R0, Reg::R11, Reg::R0),
-        Operator::Less | Operator::AtLeast => less_instr(unsigned, Reg::R11, Reg::R0),
-        Operator::Greater | Operator::AtMost => less_instr(unsigned, Reg::R0, Reg::R11),
-        Operator::BelowLength => Instr::Lsu(Reg::R0, Reg::R11, Reg::R0),
+        Operator::Plus => Instr::Add(Reg::R0, a, b),
+        Operator::Minus => Instr::Sub(Reg::R0, a, b),
+        Operator::Times => Instr::Mul(Reg::R0, a, b),
+        Operator::Divide => quotient_instr(unsigned, a, b),
+        Operator::Remainder => remainder_instr(unsigned, a, b),
+        Operator::BitAnd => Instr::And(Reg::R0, a, b),
+        Operator::BitOr => Instr::Or(Reg::R0, a, b),
+        Operator::BitXor => Instr::Xor(Reg::R0, a, b),
+        Operator::ShiftUp => Instr::Shl(Reg::R0, a, b),
+        Operator::ShiftDown => shift_instr(unsigned, a, b),
+        Operator::Equal | Operator::Differs => Instr::Eq(Reg::R0, a, b),
+        Operator::Less | Operator::AtLeast => less_instr(unsigned, a, b),
+        Operator::Greater | Operator::AtMost => less_instr(unsigned, b, a),
+        Operator::BelowLength => Instr::Lsu(b, a, b),
         Operator::Choose
         | Operator::Flip
         | Operator::NotTrue
@@ -33,33 +33,33 @@ pub fn main_instr(operator: Operator, unsigned: bool) -> Instr
     }
 }
 
-fn quotient_instr(unsigned: bool) -> Instr
-    ensures { result ≡ code.quotient_instr unsigned }
+fn quotient_instr(unsigned: bool, a: Reg, b: Reg) -> Instr
+    ensures { result ≡ code.quotient_instr unsigned a b }
 {
     if unsigned {
-        Instr::Divu(Reg::R0, Reg::R11, Reg::R0)
+        Instr::Divu(Reg::R0, a, b)
     } else {
-        Instr::Divs(Reg::R0, Reg::R11, Reg::R0)
+        Instr::Divs(Reg::R0, a, b)
     }
 }
 
-fn remainder_instr(unsigned: bool) -> Instr
-    ensures { result ≡ code.remainder_instr unsigned }
+fn remainder_instr(unsigned: bool, a: Reg, b: Reg) -> Instr
+    ensures { result ≡ code.remainder_instr unsigned a b }
 {
     if unsigned {
-        Instr::Remu(Reg::R0, Reg::R11, Reg::R0)
+        Instr::Remu(Reg::R0, a, b)
     } else {
-        Instr::Rems(Reg::R0, Reg::R11, Reg::R0)
+        Instr::Rems(Reg::R0, a, b)
     }
 }
 
-fn shift_instr(unsigned: bool) -> Instr
-    ensures { result ≡ code.shift_instr unsigned }
+fn shift_instr(unsigned: bool, a: Reg, b: Reg) -> Instr
+    ensures { result ≡ code.shift_instr unsigned a b }
 {
     if unsigned {
-        Instr::Shr(Reg::R0, Reg::R11, Reg::R0)
+        Instr::Shr(Reg::R0, a, b)
     } else {
-        Instr::Ashr(Reg::R0, Reg::R11, Reg::R0)
+        Instr::Ashr(Reg::R0, a, b)
     }
 }
 
