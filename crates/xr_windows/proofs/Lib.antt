@@ -1,0 +1,10 @@
+pub mod Due
+pub mod EightTicks
+pub mod Empty
+pub mod Ends
+pub mod Merged
+pub mod PartNext
+pub mod Rooms
+pub mod SentTicks
+pub mod Shifts
+pub mod Stands

@@ -1,0 +1,5 @@
+pub mod Alone
+pub mod Ending
+pub mod Merge
+pub mod Pending
+pub mod Windows
