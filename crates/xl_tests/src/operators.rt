@@ -7,6 +7,7 @@ ghost use Rattle.xl_expr.specs.Measures.{depth, nodes};
 use crate::expressions::{number, one, two};
 use crate::machine::{End, end_of, no_plan};
 use std::alloc::Global;
+use std::process::Abort;
 use std::test::Fail;
 use xc_kernel::Kx;
 use xc_tree::symbols::{
@@ -225,17 +226,33 @@ fn end_of_one(alloc: Global, symbol: u8, a: u32) -> Result<End, Memory> {
     end_of(alloc, &[], &no_plan(alloc), &x)
 }
 
+/// However two operands are written, their evaluation ends so.
+fn all_end(
+    rt: &impl Abort,
+    alloc: Global,
+    symbol: u8,
+    is_unsigned: bool,
+    (a, b): (u32, u32),
+    end: End,
+) -> Result<(), Fail> {
+    for written in ALL_WRITTEN {
+        let made = end_of_two(alloc, symbol, is_unsigned, a, b, written)?;
+        assert_eq!(rt; made, end, "{symbol} {is_unsigned} {a} {b} {written:?}");
+    }
+    Ok(())
+}
+
 #[test]
 fn gives_words_of_two(rt: HostRuntime) -> Result<(), Fail> {
     for (symbol, is_unsigned, a, b, word) in WORDS_OF_TWO {
-        for written in ALL_WRITTEN {
-            let end = end_of_two(rt.alloc(), symbol, is_unsigned, a, b, written)?;
-            assert_eq!(rt;
-                end,
-                End::Out(0, word),
-                "{symbol} {is_unsigned} {a} {b} {written:?}"
-            );
-        }
+        all_end(
+            &rt,
+            rt.alloc(),
+            symbol,
+            is_unsigned,
+            (a, b),
+            End::Out(0, word),
+        )?;
     }
     Ok(())
 }
@@ -243,14 +260,14 @@ fn gives_words_of_two(rt: HostRuntime) -> Result<(), Fail> {
 #[test]
 fn errs_of_two(rt: HostRuntime) -> Result<(), Fail> {
     for (symbol, is_unsigned, a, b, trap) in ERRORS_OF_TWO {
-        for written in ALL_WRITTEN {
-            let end = end_of_two(rt.alloc(), symbol, is_unsigned, a, b, written)?;
-            assert_eq!(rt;
-                end,
-                End::Trapped(trap, AT),
-                "{symbol} {is_unsigned} {a} {b} {written:?}"
-            );
-        }
+        all_end(
+            &rt,
+            rt.alloc(),
+            symbol,
+            is_unsigned,
+            (a, b),
+            End::Trapped(trap, AT),
+        )?;
     }
     Ok(())
 }
