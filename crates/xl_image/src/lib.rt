@@ -4,4 +4,4 @@
 
 mod law;
 
-pub use law::roots_stand;
+pub use law::{exits_lead, roots_stand};
