@@ -12,4 +12,8 @@ pub mod WellFormed
 pub mod Stacks
 pub mod Standing
 pub mod Sources
+pub mod Words
+pub mod Given
+pub mod Stored
+pub mod Left
 pub mod Laws

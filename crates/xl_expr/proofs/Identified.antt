@@ -1,5 +1,6 @@
 -- What the code of an identifier does.
 use Rattle.std.proofs.Common.{◌≡◌, ℕ, ◌+◌, ◌*◌, ◌/◌, ◌%◌, ◌^◌, ◌≤◌, Bool, length, Some, refl, sym, ap, ◌∙◌, arith}
+use Rattle.xs_instr.specs.Lines.{at_pos}
 use Rattle.std.specs.Prelude.{nat_eq}
 use Rattle.xw_words.specs.declared.pos.Pos.{Pos}
 use Rattle.xs_instr.specs.declared.image.Code.{Code}
@@ -15,7 +16,6 @@ use Rattle.xs_instr.specs.Registers.{reg_set}
 use Rattle.xs_instr.specs.Rows.{loads}
 use Rattle.xl_expr.specs.declared.plan.ResAt.{ResAt}
 use Rattle.xl_expr.specs.declared.plan.ResAt.TheVariants.{Fixed, Held}
-use Rattle.xl_expr.specs.Code.{at_pos}
 use Rattle.xl_expr.specs.Identifiers.{Identifies, IsIdentifier, Named, identifier_instrs}
 use Rattle.xl_expr.specs.Targets.{AreAimed}
 use Rattle.xl_expr.proofs.GoodCode.{plain_aimed}

@@ -1,12 +1,11 @@
 ghost use Rattle.std.specs.Prelude.{◌≡◌, ◌+◌, ◌<◌, ◌≤◌, ◌^◌, ◌++◌, length, OnOk, OnErr};
-ghost use Rattle.xl_expr.specs.Code.{at_pos};
+ghost use Rattle.xs_instr.specs.Lines.{at_pos};
 ghost use Rattle.xl_expr.specs.Identifiers.{Identifies, identifier_instrs};
 ghost use Rattle.xl_expr.specs.Targets.{AreAimed};
 ghost use Rattle.xs_instr.specs.Adds.{Adds};
 ghost use Rattle.xs_instr.specs.Extends.{Extends};
 
 use crate::plan::ResAt;
-use crate::puts::put_all;
 use xs_instr::{Emitter, Instr, Reg};
 use xw_words::{Memory, Pos};
 
@@ -31,9 +30,8 @@ fn put_identifier(e: &mut Emitter, place: ResAt, pos: Pos) -> Result<(), Memory>
     ensures refused { OnErr result (Extends e.old e.new) }
 {
     match place {
-        ResAt::Fixed(id) => put_all(e, &[Instr::Ldc(Reg::R11, id)], pos),
-        ResAt::Held(n, j) => put_all(
-            e,
+        ResAt::Fixed(id) => e.put_all(&[Instr::Ldc(Reg::R11, id)], pos),
+        ResAt::Held(n, j) => e.put_all(
             &[
                 Instr::Ldwdp(Reg::R11, n),
                 Instr::Addi(Reg::R11, Reg::R11, j.wrapping_mul(256)),

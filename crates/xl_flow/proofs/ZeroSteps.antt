@@ -3,11 +3,10 @@ use Rattle.std.proofs.Common.{◌≡◌, ℕ, zero, suc, ◌+◌, ◌*◌, ◌�
 use Rattle.xw_words.specs.declared.pos.Pos.{Pos}
 use Rattle.xs_instr.specs.declared.instr.Instr.{Instr}
 use Rattle.xs_instr.specs.Extends.{Extends}
-use Rattle.xs_instr.specs.Lines.{Line}
+use Rattle.xs_instr.specs.Lines.{Line, at_pos}
 use Rattle.xl_expr.specs.declared.plan.VarAt.{VarAt}
 use Rattle.xl_expr.specs.declared.plan.VarAt.TheVariants.{Near, Far, Through}
 use Rattle.xl_expr.specs.declared.plan.VarPlan.{VarPlan}
-use Rattle.xl_expr.specs.Code.{at_pos}
 use Rattle.xl_expr.proofs.Emitted.{at_pos-append}
 use Rattle.xl_flow.specs.Zeros.{far_write, near_write, room_of, words_set, writes, zero_instrs, zero_of}
 

@@ -1,5 +1,6 @@
 -- The words of a variable are set to 0, one after another.
 use Rattle.std.proofs.Common.{◌≡◌, ℕ, zero, suc, ◌+◌, ◌*◌, ◌/◌, ◌%◌, ◌<◌, ◌≤◌, ◌≢◌, Bool, true, false, List, length, Some, refl, sym, ap, ◌∙◌, subst, ⊎_elim, arith, length-append}
+use Rattle.xs_instr.specs.Lines.{at_pos}
 use Rattle.std.specs.Prelude.{nat_eq, slice_get}
 use Rattle.std.proofs.lemmas.Bool.{cases_eq}
 use Rattle.xw_words.specs.declared.pos.Pos.{Pos}
@@ -10,7 +11,6 @@ use Rattle.xs_instr.specs.Did.{makes}
 use Rattle.xs_instr.specs.Memory.{word_at, word_by, word_put}
 use Rattle.xs_instr.specs.OwnSteps.{StandAt}
 use Rattle.xs_instr.specs.Rows.{own_row, stores, stores_at}
-use Rattle.xl_expr.specs.Code.{at_pos}
 use Rattle.xl_expr.proofs.Emitted.{at_pos-append}
 use Rattle.xl_expr.proofs.Lists.{get_set_same, get_set_other, get_set_both, stand_front, stand_back, word_by_same}
 use Rattle.xl_expr.proofs.Ways.{own, Agree, IsPlain, Sure, Way, way_on}

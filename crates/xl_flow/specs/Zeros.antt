@@ -9,14 +9,13 @@ use Rattle.xs_instr.specs.declared.instr.Reg.TheVariants.{R0, R10, R11}
 use Rattle.xs_instr.specs.declared.state.CoreState.{CoreState}
 use Rattle.xs_instr.specs.declared.state.Regs.{Regs}
 use Rattle.xs_instr.specs.declared.state.Thread.{Thread}
-use Rattle.xs_instr.specs.Lines.{Line}
+use Rattle.xs_instr.specs.Lines.{Line, at_pos}
 use Rattle.xs_instr.specs.Memory.{address_at, word_at}
 use Rattle.xs_instr.specs.OwnSteps.{RunsAt, StandAt, Within}
 use Rattle.xs_instr.specs.Registers.{reg_get}
 use Rattle.xl_expr.specs.declared.plan.VarAt.{VarAt}
 use Rattle.xl_expr.specs.declared.plan.VarAt.TheVariants.{Near, Far, Through}
 use Rattle.xl_expr.specs.declared.plan.VarPlan.{VarPlan}
-use Rattle.xl_expr.specs.Code.{at_pos}
 use Rattle.xl_expr.specs.Plans.{var_in}
 use Rattle.xl_expr.specs.Stores.{is_working}
 

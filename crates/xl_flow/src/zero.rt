@@ -1,13 +1,12 @@
 ghost use Rattle.std.specs.Prelude.{◌≡◌, ◌+◌, ◌*◌, ◌<◌, ◌≤◌, ◌^◌, ◌++◌, length, OnOk, OnErr};
-ghost use Rattle.xl_expr.specs.Code.{at_pos};
 ghost use Rattle.xl_expr.specs.Plans.{var_in};
 ghost use Rattle.xl_expr.specs.Targets.{AreAimed};
 ghost use Rattle.xl_flow.specs.Zeros.{Zeroes, far_write, near_write, room_of, writes, zero_code};
 ghost use Rattle.xs_instr.specs.Adds.{Adds};
 ghost use Rattle.xs_instr.specs.Extends.{Extends};
-ghost use Rattle.xs_instr.specs.Lines.{last_pos};
+ghost use Rattle.xs_instr.specs.Lines.{last_pos, at_pos};
 
-use xl_expr::{Plan, VarAt, put_all};
+use xl_expr::{Plan, VarAt};
 use xs_instr::{Emitter, Instr, Reg};
 use xw_words::{Memory, Pos};
 
@@ -40,25 +39,17 @@ fn put_zero(e: &mut Emitter, plan: &Plan, v: u32, last: Pos) -> Result<(), Memor
         None => Ok(()),
         Some(found) => match found.place {
             VarAt::Near(n) => {
-                put_all(e, &[Instr::Ldc(Reg::R0, 0)], last)?;
+                e.put_all(&[Instr::Ldc(Reg::R0, 0)], last)?;
                 put_near_writes(e, n, found.words, last)?;
                 Ok(())
             }
             VarAt::Far(n) => {
-                put_all(
-                    e,
-                    &[Instr::Ldc(Reg::R0, 0), Instr::Ldwdp(Reg::R11, n)],
-                    last,
-                )?;
+                e.put_all(&[Instr::Ldc(Reg::R0, 0), Instr::Ldwdp(Reg::R11, n)], last)?;
                 put_far_writes(e, found.words, last)?;
                 Ok(())
             }
             VarAt::Through(n) => {
-                put_all(
-                    e,
-                    &[Instr::Ldc(Reg::R0, 0), Instr::Ldwdp(Reg::R11, n)],
-                    last,
-                )?;
+                e.put_all(&[Instr::Ldc(Reg::R0, 0), Instr::Ldwdp(Reg::R11, n)], last)?;
                 put_far_writes(e, 1, last)?;
                 Ok(())
             }
@@ -73,7 +64,7 @@ fn put_near_writes(e: &mut Emitter, n: u32, words: u32, pos: Pos) -> Result<(), 
     ensures refused { OnErr result (Extends e.old e.new) }
 {
     'words: for i in 0..words {
-        put_all(e, &[Instr::Stwdp(Reg::R0, n.wrapping_add(i))], pos)?;
+        e.put_all(&[Instr::Stwdp(Reg::R0, n.wrapping_add(i))], pos)?;
     }
     Ok(())
 }
@@ -85,8 +76,7 @@ fn put_far_writes(e: &mut Emitter, words: u32, pos: Pos) -> Result<(), Memory>
     ensures refused { OnErr result (Extends e.old e.new) }
 {
     'words: for i in 0..words {
-        put_all(
-            e,
+        e.put_all(
             &[
                 Instr::Ldc(Reg::R10, i),
                 Instr::Stw(Reg::R0, Reg::R11, Reg::R10),

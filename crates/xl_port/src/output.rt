@@ -1,6 +1,6 @@
 ghost use Rattle.std.specs.Prelude.{◌≡◌, ◌+◌, ◌*◌, ◌<◌, ◌≤◌, ◌^◌, ◌++◌, length, option_map, Option, None, OnOk, OnErr};
+ghost use Rattle.xs_instr.specs.Lines.{at_pos};
 ghost use Rattle.xc_kernel.specs.Kernels.{expression_of, output_of};
-ghost use Rattle.xl_expr.specs.Code.{at_pos};
 ghost use Rattle.xl_expr.specs.Plans.{resource_in};
 ghost use Rattle.xl_expr.specs.Targets.{AreAimed};
 ghost use Rattle.xl_port.specs.Outputs.{Outputs, TimeEvaluates, Transfers, output_depth, output_nodes, setting_instrs, time_depth, time_nodes, transfer_instrs};
@@ -8,7 +8,7 @@ ghost use Rattle.xs_instr.specs.Adds.{Adds};
 ghost use Rattle.xs_instr.specs.Extends.{Extends};
 
 use xc_kernel::{KOut, KRes, Kx};
-use xl_expr::{Plan, emit_expr, emit_identifier, put_all};
+use xl_expr::{Plan, emit_expr, emit_identifier};
 use xs_instr::{Cond, Emitter, Instr, Reg};
 use xw_words::{Memory, Pos};
 
@@ -86,7 +86,7 @@ fn put_transfer(e: &mut Emitter, is_timed: bool, pos: Pos) -> Result<(), Memory>
     ensures refused { OnErr result (Extends e.old e.new) }
 {
     put_setting(e, is_timed, pos)?;
-    put_all(e, &[Instr::Out(Reg::R11, Reg::R0)], pos)?;
+    e.put_all(&[Instr::Out(Reg::R11, Reg::R0)], pos)?;
     Ok(())
 }
 
@@ -98,8 +98,8 @@ fn put_setting(e: &mut Emitter, is_timed: bool, pos: Pos) -> Result<(), Memory>
 {
     let clearing = Instr::Setc(Reg::R11, Cond::None);
     if is_timed {
-        put_all(e, &[clearing, Instr::Setpt(Reg::R11, Reg::R10)], pos)
+        e.put_all(&[clearing, Instr::Setpt(Reg::R11, Reg::R10)], pos)
     } else {
-        put_all(e, &[clearing], pos)
+        e.put_all(&[clearing], pos)
     }
 }

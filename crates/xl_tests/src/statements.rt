@@ -12,8 +12,10 @@ ghost use Rattle.xs_instr.specs.Valid.{AreGoodInstrs};
 
 use crate::expressions::{number, variable};
 use crate::machine::{End, begun, finished, put_out, run};
-use crate::places::{FAR_ARRAY, FAR_WORD, MEMORY, NEAR_ARRAY, NEAR_WORD, ONE_ELEMENT, plan, read};
-use std::alloc::{AllocError, Global};
+use crate::places::{
+    FAR_ARRAY, FAR_WORD, MEMORY, NEAR_ARRAY, NEAR_WORD, ONE_ELEMENT, index_of, plan, read,
+};
+use std::alloc::Global;
 use std::process::Abort;
 use std::test::Fail;
 use xc_kernel::{KOut, KRes, Kx, Place};
@@ -85,13 +87,16 @@ const OUTPUTS: [(u32, Option<u32>, u32, End); 5] = [
 ];
 
 #[tactic(auto, using(xc_kernel::proofs::Forms::forms))]
-fn place(alloc: Global, v: u32, index: Option<u32>) -> Result<Place, AllocError>
-    ensures nodes { IfOk result (λ place. nodes_at (place_of place) ≤ 2) }
-    ensures depth { IfOk result (λ place. depth_at (place_of place) ≤ 2) }
+fn place(alloc: Global, v: u32, index: Option<u32>, is_sum: bool) -> Result<Place, Fail>
+    ensures nodes { IfOk result (λ place. nodes_at (place_of place) ≤ 4) }
+    ensures depth { IfOk result (λ place. depth_at (place_of place) ≤ 3) }
 {
     match index {
         None => Ok(Place::Word(v)),
-        Some(index) => Ok(Place::Elem(v, Box::new(alloc, Kx::Num(index))?, NAME)),
+        Some(i) => {
+            let index = Box::new(alloc, index_of(alloc, i, is_sum)?)?;
+            Ok(Place::Elem(v, index, NAME))
+        }
     }
 }
 
@@ -172,9 +177,10 @@ fn end_of_set(
     plan: &Plan,
     dst: (u32, Option<u32>),
     from: (u32, Option<u32>),
+    is_sum: bool,
 ) -> Result<End, Fail> {
-    let dst = place(alloc, dst.0, dst.1)?;
-    let x = read(alloc, from.0, from.1)?;
+    let dst = place(alloc, dst.0, dst.1, is_sum)?;
+    let x = read(alloc, from.0, from.1, is_sum)?;
     let mut e = begun(alloc, &MEMORY)?;
     add_set(&mut e, plan, &dst, &number(55))?;
     Ok(run(alloc, put_out(e, plan, &x)?)?)
@@ -188,7 +194,7 @@ fn end_of_zero(
     v: u32,
     from: (u32, Option<u32>),
 ) -> Result<End, Fail> {
-    let x = read(alloc, from.0, from.1)?;
+    let x = read(alloc, from.0, from.1, false)?;
     let mut e = begun(alloc, &MEMORY)?;
     assert!(rt; is_short(plan, v));
     add_zero(&mut e, plan, v)?;
@@ -200,7 +206,10 @@ fn assigns(rt: HostRuntime) -> Result<(), Fail> {
     let alloc = rt.alloc();
     let plan = plan(alloc)?;
     for (i, (dst, from, end)) in SETS.iter().enumerate() {
-        assert_eq!(rt; end_of_set(alloc, &plan, *dst, *from)?, *end, "{i}");
+        for is_sum in [false, true] {
+            let made = end_of_set(alloc, &plan, *dst, *from, is_sum)?;
+            assert_eq!(rt; made, *end, "{i} {is_sum}");
+        }
     }
     Ok(())
 }

@@ -16,6 +16,12 @@ use xw_words::Memory;
 /// How many threads a core has.
 const THREADS: u8 = 8;
 
+/// How many tokens and credits a turn sends at most.
+const MOST_SENT: usize = 4;
+
+/// For how many there is room once it was asked for.
+const WINDOW: usize = 256;
+
 /// A core of an image as it starts. Where it is core 0 and a token is given, this came to its end 2 from core 1.
 pub fn core_with(
     alloc: Global,
@@ -49,12 +55,31 @@ pub fn advance(core: &mut Core, ticks: u32) {
     }
 }
 
-/// What a thread's turn gives.
+/// What a thread's turn gives. Room is made in the outbox where there is too little for a turn.
 pub fn turn(core: &mut Core, thread: u8) -> Result<Did, Memory>
     requires { thread < 8 }
 {
-    core.reserve_window()?;
+    if core.spare() < MOST_SENT {
+        core.reserve_window()?;
+    }
     Ok(core.slot(thread))
+}
+
+/// Asks for room in the outbox, and tells whether the core is otherwise as it was: with room for a window where it was
+/// given, and with the room that it had where memory was wanting.
+fn reserve(core: &mut Core) -> &'static str {
+    let sight = core.sight();
+    let clock = core.clock();
+    let spare = core.spare();
+    let is_right = match core.reserve_window() {
+        Ok(()) => core.spare() >= WINDOW,
+        Err(_) => core.spare() == spare,
+    };
+    if is_right && core.sight() == sight && core.clock() == clock {
+        "as it was"
+    } else {
+        "changed"
+    }
 }
 
 /// What comes of what is asked: a thread's turn, by its number, or one of the core's other calls.
@@ -68,6 +93,7 @@ pub fn answer(alloc: Global, core: &mut Core, asked: &str) -> Result<String, Tro
         "clock" => format!(in alloc; "{}", core.clock())?,
         "number" => format!(in alloc; "{}", core.number())?,
         "threads" => format!(in alloc; "{}", core.thread_count())?,
+        "reserve" => String::from_str(alloc, reserve(core))?,
         _ => turn_of(alloc, core, asked)?,
     };
     Ok(answer)

@@ -118,29 +118,11 @@ fn part_of(alloc: Global, cores: &[CoreImage], number: u8) -> Result<CoreImage, 
 {
     for part in cores {
         if part.number == number {
-            let copy = copied(alloc, part)?;
+            let copy = part.copy(alloc)?;
             return Ok(copy);
         }
     }
     Ok(no_part(alloc, number))
-}
-
-fn copied(alloc: Global, part: &CoreImage) -> Result<CoreImage, Memory>
-    ensures { IfOk result (λ copy. copy ≡ part.now) }
-{
-    let ports = part.ports.copy(alloc)?;
-    let roots = part.roots.copy(alloc)?;
-    let instrs = part.code.instrs.copy(alloc)?;
-    let at = part.code.at.copy(alloc)?;
-    Ok(CoreImage {
-        number: part.number,
-        words: part.words,
-        timers: part.timers,
-        ends: part.ends,
-        ports,
-        roots,
-        code: Code { instrs, at },
-    })
 }
 
 /// The part of a core that the image doesn't hold.

@@ -68,10 +68,17 @@ impl Core {
         ensures refused { OnErr result (self.new ≡ self.old) }
         ensures rest { self.new ≡ record self.old { spare = self.new.spare } }
     {
-        if self.outbox.capacity() - self.outbox.len() < WINDOW {
+        if self.spare() < WINDOW {
             self.outbox.resize(self.outbox.len() + WINDOW)?;
         }
         Ok(())
+    }
+
+    /// For how many tokens and credits there is room in the outbox.
+    pub fn spare(&self) -> usize
+        ensures { result ≡ self.now.spare }
+    {
+        self.outbox.capacity() - self.outbox.len()
     }
 
     /// The core's number.
@@ -129,7 +136,8 @@ impl Core {
         self.state.ports.tick(clock);
     }
 
-    /// A token or a credit of another core comes to its end, which has room for it.
+    /// A token or a credit of another core comes to its end, which has room for it beside all that a peer on this core may
+    /// still send.
     pub fn deliver(&mut self, moved: Moved)
         requires { HasRoomFrom self.old.home self.old.state.ends moved }
         ensures { self.new ≡ record self.old { state = came self.old.state moved } }
@@ -149,7 +157,8 @@ impl Core {
         self.outbox.pop_front()
     }
 
-    /// How many roots have not ended, and how many threads are in use, halted, ready, and waiting on a port or timer.
+    /// How many roots have not ended, and how many threads are in use, halted, ready, and waiting on a port or timer, also by
+    /// an event that is enabled.
     pub fn sight(&self) -> Sight
         ensures { result ≡ sight self.now.home self.now.state }
     {

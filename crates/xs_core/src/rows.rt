@@ -46,7 +46,7 @@ pub fn row(state: &State, t: u8, thread: &Thread, instr: Instr) -> Turn
         Instr::Ssync => pool_rows::wait(thread),
         Instr::Mjoin(r) => pool_rows::join(state, look_up(core, regs.get(r))),
         Instr::Freet => pool_rows::end(thread),
-        Instr::Out(r, s) => out(state, t, look_up(core, regs.get(r)), regs.get(s)),
+        Instr::Out(r, s) => output(state, t, look_up(core, regs.get(r)), regs.get(s)),
         Instr::Outt(r, s) => {
             end_rows::send_token(state, look_up(core, regs.get(r)), data_token(regs.get(s)))
         }
@@ -117,7 +117,7 @@ fn free(state: &State, name: Resource) -> Turn
 }
 
 /// OUT, by what is named.
-fn out(state: &State, t: u8, name: Resource, value: u32) -> Turn
+fn output(state: &State, t: u8, name: Resource, value: u32) -> Turn
     ensures means { (x : Thread) → meant (home_of state.now) (state_of state.now) t x result
         ≡ out_row (home_of state.now) (state_of state.now) t x value (meant_by name) }
     ensures steps { (x : Thread) →

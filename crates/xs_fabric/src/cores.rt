@@ -10,6 +10,7 @@ ghost use Rattle.xs_fabric.specs.Kept.{AreIdle, IsRunning};
 ghost use Rattle.xs_fabric.specs.Rooms.{FirstHasRoom, IsIdle};
 ghost use Rattle.xs_fabric.specs.Rounds.{Links as LinksOf};
 ghost use Rattle.xs_fabric.specs.Seen.{IsEvent, answer_of, home_in, homes, state_in, together};
+ghost use Rattle.xs_fabric.specs.declared.machine.Event.TheVariants.{NotEnabled};
 
 use crate::link::{Links, take};
 use crate::machine::Event;
@@ -72,6 +73,7 @@ pub fn step_core(
     ensures idle { AreIdle cores.new.items }
     ensures len { vec_len trace.new ≤ vec_len trace.old + 1 }
     ensures capacity { vec_capacity trace.old ≤ vec_capacity trace.new }
+    ensures none { result ≡ NotEnabled → trace.new ≡ trace.old }
 {
     if core >= CORES {
         return Event::NotEnabled;

@@ -5,6 +5,7 @@ ghost use Rattle.xs_instr.specs.Machine.{Move, Step, Tick, does};
 ghost use Rattle.xs_instr.specs.Valid.{Valid, IsGoodStim};
 ghost use Rattle.xs_instr.specs.declared.image.Image.{Image};
 ghost use Rattle.xs_instr.specs.declared.image.Stim.{Stim};
+ghost use Rattle.xs_fabric.specs.declared.machine.Event.TheVariants.{NotEnabled};
 ghost use Rattle.xs_fabric.specs.EndWord.{end_of, has_trap};
 ghost use Rattle.xs_fabric.specs.Lockstep.{events_in, rounds_at};
 
@@ -55,6 +56,7 @@ impl Machine {
         requires valid { Valid image.now }
         requires stim { IsGoodStim stim.now }
         ensures booted { IfOk result (λ machine. IsBooted image.now stim.now machine) }
+        ensures room { IfOk result (λ machine. machine.room ≡ 0) }
     {
         let cores = boot_cores(alloc, image, stim)?;
         let links = no_links(alloc)?;
@@ -68,6 +70,7 @@ impl Machine {
     /// Makes room for `n` records. The one error is want of memory, and then nothing changes.
     pub fn reserve(&mut self, n: u32) -> Result<(), Memory>
         ensures room { OnOk result (n ≤ self.new.room) }
+        ensures no_less { self.old.room ≤ self.new.room }
         ensures refused { OnErr result (self.new ≡ self.old) }
         ensures rest { self.new ≡ record self.old { room = self.new.room } }
     {
@@ -83,6 +86,7 @@ impl Machine {
             IsEvent (does L s self.old.state (Step core thread)) self.old.state result self.new.state }
         ensures run { self.new.homes ≡ self.old.homes }
         ensures room { self.old.room ≤ self.new.room + 1 }
+        ensures same_room { result ≡ NotEnabled → self.new.room ≡ self.old.room }
     {
         step_core(
             &mut self.cores,

@@ -1,6 +1,6 @@
 // A thread's turn, and what a core sends.
 
-ghost use Rattle.std.specs.Prelude.{◌≡◌, ◌<◌, ◌≤◌, ◌+◌, ◌++◌, [], ◌∷◌, length, vec_len, vec_capacity};
+ghost use Rattle.std.specs.Prelude.{◌≡◌, false, ◌<◌, ◌≤◌, ◌+◌, ◌++◌, [], ◌∷◌, length, vec_len, vec_capacity};
 ghost use Rattle.xs_instr.specs.Machine.{on_links};
 ghost use Rattle.xs_instr.specs.Slot.{is_ready};
 ghost use Rattle.xs_fabric.specs.Lockstep.{turn};
@@ -35,6 +35,7 @@ pub fn take_turn(core: &mut Core, trace: &mut Vec<Record>, thread: u8) -> bool
         ≡ core.old.spare + length core.old.outbox }
     ensures len { vec_len trace.new ≤ vec_len trace.old + 1 }
     ensures capacity { vec_capacity trace.old ≤ vec_capacity trace.new }
+    ensures none { result ≡ false → trace.new ≡ trace.old }
 {
     match core.slot(thread) {
         Did::Made(None) => true,

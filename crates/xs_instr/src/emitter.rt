@@ -1,5 +1,6 @@
 ghost use Rattle.std.specs.Prelude.{◌≡◌, ◌+◌, ◌<◌, ◌^◌, true, false, [], ◌∷◌, ◌++◌, length, map, IfOk, OnOk, OnErr};
-ghost use Rattle.xs_instr.specs.Lines.{IsOpen, HasTarget, HasNoHole, line, open_line, landed, last_pos, instr_of, pos_of, with_target};
+ghost use Rattle.xs_instr.specs.Extends.{Extends};
+ghost use Rattle.xs_instr.specs.Lines.{at_pos, IsOpen, HasTarget, HasNoHole, line, open_line, landed, last_pos, instr_of, pos_of, with_target};
 
 use crate::image::Code;
 use crate::instr::Instr;
@@ -81,6 +82,19 @@ impl Emitter {
             false,
         )?;
         Ok(index)
+    }
+
+    /// Adds instructions at one place. The one error is want of memory; the emitter then holds what it held, and perhaps some of
+    /// them behind it.
+    pub fn put_all(&mut self, instrs: &[Instr], pos: Pos) -> Result<(), Memory>
+        requires { length self.old + length instrs.now < 2 ^ 32 }
+        ensures ok { OnOk result (self.new ≡ self.old ++ at_pos pos instrs.now) }
+        ensures refused { OnErr result (Extends self.old self.new) }
+    {
+        for instr in instrs {
+            self.put(*instr, pos)?;
+        }
+        Ok(())
     }
 
     /// Adds an instruction whose target is open. The one error is want of memory, which changes nothing.

@@ -1,5 +1,5 @@
 use Rattle.std.proofs.Common.{ap, length, length-append, arith}
-use Rattle.xl_expr.specs.Code.{at_pos}
+use Rattle.xs_instr.specs.Lines.{at_pos}
 use Rattle.xl_expr.specs.Identifiers.{identifier_instrs}
 use Rattle.xl_expr.proofs.Identified.{at_most_two, code_identifies, identifier_aimed}
 use Rattle.xl_expr.proofs.identifier.emit_identifier.Goals as goal

@@ -1,5 +1,5 @@
 use Rattle.std.proofs.Common.{◌≡◌, ◌++◌}
-use Rattle.xl_expr.specs.Code.{at_pos}
+use Rattle.xs_instr.specs.Lines.{at_pos}
 use Rattle.xl_flow.specs.Zeros.{far_write, writes}
 use Rattle.xl_flow.proofs.zero.put_far_writes.Given as goal
 

@@ -1,5 +1,5 @@
 use Rattle.std.proofs.Common.{ap, arith, length, length-append}
-use Rattle.xl_expr.specs.Code.{at_pos}
+use Rattle.xs_instr.specs.Lines.{at_pos}
 use Rattle.xl_flow.specs.Zeros.{near_write, writes}
 use Rattle.xl_flow.proofs.ZeroSteps.{further, near-length, none_yet, on_err, one_more}
 use Rattle.xl_flow.proofs.zero.put_near_writes.Goals as goal

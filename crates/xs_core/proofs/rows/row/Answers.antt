@@ -32,7 +32,7 @@ pub returns-in-Freet-clause-fits : goal.returns-in-Freet-clause-fits
 returns-in-Freet-clause-fits c = c.end.ensures.fits (home_of c.args.state.now) (state_of c.args.state.now) c.args.t
 
 pub returns-in-Out-clause-fits : goal.returns-in-Out-clause-fits
-returns-in-Out-clause-fits c = c.out.ensures.fits c.args.thread.now
+returns-in-Out-clause-fits c = c.output.ensures.fits c.args.thread.now
 
 pub returns-in-Outt-clause-fits : goal.returns-in-Outt-clause-fits
 returns-in-Outt-clause-fits c = c.send_token.ensures.fits c.args.t c.args.thread.now
