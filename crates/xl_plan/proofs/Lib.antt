@@ -8,3 +8,5 @@ pub mod Numbered
 pub mod Sizes
 pub mod Promised
 pub mod Examples
+pub mod PortPlaces
+pub mod PortsDiffer

@@ -11,6 +11,7 @@ use Rattle.xl_plan.specs.Layout.{words_here, first_temporary, places_from, core_
 use Rattle.xl_plan.specs.Planned.{HasVariables, HasNoOther, HasUsedVariables, HasUsedPorts, HasUsedTimers, StandBelow, NoneShare, NoneIsTemporary, HasPorts, HasTimers}
 use Rattle.xl_plan.proofs.Laid.{none_share}
 use Rattle.xl_plan.proofs.Promised.{has_variables, has_no_other, has_used_variables, has_used_ports, has_used_timers, stand_below, none_is_temporary, ports_have_numbers, numbers_listed, timers_have_numbers}
+use Rattle.xl_plan.proofs.PortsDiffer.{ports_apart}
 use Rattle.xl_plan.proofs.Sizes.{few_variable_words}
 use Rattle.xl_plan.proofs.layout.plan.Goals as goal
 
@@ -82,3 +83,6 @@ returns-clause-used_timers c =
 
 pub returns-clause-listed : goal.returns-clause-listed
 returns-clause-listed c = numbers_listed (kernel_of c.args.checked.now) c.args.core
+
+pub returns-clause-differ : goal.returns-clause-differ
+returns-clause-differ c = ports_apart (kernel_of c.args.checked.now) c.args.core c.requires c.kernel-kernel.ensures.accepted.of_program
