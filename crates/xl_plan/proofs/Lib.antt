@@ -10,3 +10,4 @@ pub mod Promised
 pub mod Examples
 pub mod PortPlaces
 pub mod PortsDiffer
+pub mod FewPorts

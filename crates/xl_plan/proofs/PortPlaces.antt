@@ -8,7 +8,7 @@ use Rattle.xc_tree.specs.declared.names.Decl.{Decl}
 use Rattle.xc_tree.specs.declared.names.Mark.{Mark}
 use Rattle.xc_tree.specs.declared.names.Mark.TheVariants.{Opens, Closes, Declares, Uses, Calls}
 use Rattle.xc_tree.specs.Plain as tree
-use Rattle.xc_tree.specs.Checks.{Breaks, rule, rules}
+use Rattle.xc_tree.specs.Checks.{Breaks, rule}
 use Rattle.xc_tree.specs.Names.Marks as marks
 use Rattle.xc_tree.specs.Names.Ports.{once, both, by_sign, by_operator, place_number, form_number, core_at}
 use Rattle.xc_tree.specs.Names.Ports as names
@@ -22,7 +22,7 @@ use Rattle.xc_tree.specs.Types.Sites.{Site}
 use Rattle.xc_tree.specs.Types.Sites as site
 use Rattle.xc_tree.specs.Types.Words.{is_among}
 use Rattle.xc_kernel.specs.Eval.{eval}
-use Rattle.xc_kernel.specs.Expressions.{expression_in, form_in, eval_in}
+use Rattle.xc_kernel.specs.Expressions.{form_in, eval_in}
 use Rattle.xc_kernel.specs.Numbering.{no_numbering}
 use Rattle.xc_kernel.specs.Operators as operator
 use Rattle.xc_kernel.specs.Operators.{operator_at}
@@ -31,7 +31,7 @@ use Rattle.xc_kernel.specs.Scopes.{is_unsigned}
 use Rattle.xc_kernel.specs.Types.{operation_is_unsigned}
 use Rattle.xc_kernel.specs.Values.{Value, word, applied}
 use Rattle.xc_formed.specs.Stacks.{Frame, Stack, decl_by, declared_at, found, found_in, Resolves, after, outer}
-use Rattle.xc_formed.proofs.Outside.{Alike, further, bottom, alike_resolves, Among, declared_again, decl_of_item, outer_item}
+use Rattle.xc_formed.proofs.Outside.{Alike, alike_resolves, Among, declared_again, decl_of_item, outer_item}
 use Rattle.xc_formed.proofs.Resolved.{AllNew}
 use Rattle.xc_formed.proofs.Stacks.{resolves_both, scope_ends, quiet_split, quiet_skip, quiet_optional, quiet_expression, quiet_place}
 use Rattle.xc_formed.proofs.Text.Scopes as scopes

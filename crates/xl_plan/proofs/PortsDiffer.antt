@@ -1,5 +1,5 @@
 -- The ports of a core of a checked kernel have differing identifiers.
-use Rattle.std.proofs.Common.{◌≡◌, ◌≢◌, ◌≤◌, ◌<◌, inl, inr, ℕ, zero, suc, ◌+◌, Bool, true, false, cond, if◌then◌else◌, List, [], ◌∷◌, length, map, filter, Contains, Option, None, Some, slice_get, slice_index_or, bytes_eq, nat_eq, refl, sym, ap, subst, ◌∙◌, true≢false, arith}
+use Rattle.std.proofs.Common.{◌≡◌, ◌≢◌, ◌≤◌, ◌<◌, inl, inr, ℕ, zero, suc, ◌+◌, Bool, true, false, cond, if◌then◌else◌, List, [], ◌∷◌, length, map, Contains, Option, None, Some, slice_get, slice_index_or, bytes_eq, nat_eq, refl, sym, ap, subst, ◌∙◌, true≢false, arith}
 use Rattle.std.proofs.lemmas.Slice.Eq.{bytes_eq-Decides}
 use Rattle.xw_words.specs.Ports.{identifiers, port_count}
 use Rattle.xw_words.specs.Tables.{place_from, place_in}
@@ -15,7 +15,7 @@ use Rattle.xc_tree.specs.Types.Sites as site
 use Rattle.xc_kernel.specs.declared.kernel.PortUse.{PortUse}
 use Rattle.xc_kernel.specs.Plain as kernel
 use Rattle.xc_kernel.specs.Programs.{ports}
-use Rattle.xc_kernel.specs.Ports.{core_of, port_at, port_use}
+use Rattle.xc_kernel.specs.Ports.{port_at, port_use}
 use Rattle.xc_kernel.specs.Copies.{copy_of}
 use Rattle.xc_kernel.specs.Sound.{IsOfProgram, IsTyped}
 use Rattle.xc_formed.specs.Stacks.{Frame, outer}

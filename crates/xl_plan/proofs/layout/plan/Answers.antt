@@ -61,7 +61,7 @@ pub returns-clause-ports : goal.returns-clause-ports
 returns-clause-ports c =
     let is : c.in_ok-ports.ports ≡ identifiers_from core_of_port c.args.core (name_of c.args.core 0 0) c.args.checked.now.ports =
     c.in_ok-ports.ensures ∙ ap (λ (ps : List PortUse). identifiers_from core_of_port c.args.core (name_of c.args.core 0 0) ps) (c.as_slice-2.ensures ∙ ap (λ (k : Kernel). k.ports) c.kernel-kernel.ensures.kernel) in
-    subst (λ (places : List (Option ResAt)). HasPorts (kernel_of c.args.checked.now) c.args.core places) (sym is) (ports_have_numbers (kernel_of c.args.checked.now) c.args.core c.requires)
+    subst (λ (places : List (Option ResAt)). HasPorts (kernel_of c.args.checked.now) c.args.core places) (sym is) (ports_have_numbers (kernel_of c.args.checked.now) c.args.core c.kernel-kernel.ensures.accepted c.requires)
 
 pub returns-clause-timers : goal.returns-clause-timers
 returns-clause-timers c =
@@ -73,7 +73,7 @@ pub returns-clause-used_ports : goal.returns-clause-used_ports
 returns-clause-used_ports c =
     let is : c.in_ok-ports.ports ≡ identifiers_from core_of_port c.args.core (name_of c.args.core 0 0) c.args.checked.now.ports =
     c.in_ok-ports.ensures ∙ ap (λ (ps : List PortUse). identifiers_from core_of_port c.args.core (name_of c.args.core 0 0) ps) (c.as_slice-2.ensures ∙ ap (λ (k : Kernel). k.ports) c.kernel-kernel.ensures.kernel) in
-    subst (λ (places : List (Option ResAt)). HasUsedPorts (kernel_of c.args.checked.now) c.args.core places) (sym is) (has_used_ports (kernel_of c.args.checked.now) c.args.core c.kernel-kernel.ensures.accepted _ (ports_have_numbers (kernel_of c.args.checked.now) c.args.core c.requires))
+    subst (λ (places : List (Option ResAt)). HasUsedPorts (kernel_of c.args.checked.now) c.args.core places) (sym is) (has_used_ports (kernel_of c.args.checked.now) c.args.core c.kernel-kernel.ensures.accepted _ (ports_have_numbers (kernel_of c.args.checked.now) c.args.core c.kernel-kernel.ensures.accepted c.requires))
 
 pub returns-clause-used_timers : goal.returns-clause-used_timers
 returns-clause-used_timers c =
