@@ -1,6 +1,6 @@
 // One core of a run, window by window.
 
-ghost use Rattle.std.specs.Prelude.{◌≡◌, ◌<◌, ◌≤◌, ◌+◌, [], IfOk, OnOk, OnErr, vec_len, vec_capacity};
+ghost use Rattle.std.specs.Prelude.{◌≡◌, ◌<◌, ◌≤◌, ◌+◌, [], IfOk, OnOk, OnErr, nat_eq, vec_len, vec_capacity};
 ghost use Rattle.xr_windows.specs.Parts.{IsPartOf, IsStart, state_of};
 ghost use Rattle.xr_windows.specs.Pending.{has_item, pending};
 ghost use Rattle.xr_windows.specs.Sending.{batches_from, batches_to};
@@ -108,6 +108,13 @@ impl Part {
         self.records.as_slice()
     }
 
+    /// The core's number.
+    pub fn number(&self) -> u8
+        ensures { result ≡ self.now.home.number }
+    {
+        self.core.number()
+    }
+
     /// For how many ticks the run goes.
     pub fn ticks(&self) -> u32
         ensures { result ≡ self.now.ticks }
@@ -120,6 +127,14 @@ impl Part {
         ensures { result ≡ self.now.ran }
     {
         self.ran
+    }
+
+    /// Whether it has run its last window.
+    pub fn is_done(&self) -> bool
+        requires { self.now.ticks ≤ 200000 }
+        ensures { result ≡ nat_eq self.now.ran (windows_of self.now.ticks) }
+    {
+        self.ran == (self.ticks + WINDOW - 1) / WINDOW
     }
 
     /// How many of the core's roots have not ended, and how many of its threads are so.
