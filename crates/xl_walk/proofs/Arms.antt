@@ -1,0 +1,20 @@
+-- A statement whose code is one piece.
+use Rattle.std.proofs.Common.{◌≡◌, ℕ, List, length, Result, Ok, Err, OnOk, OnErr, sym, subst}
+use Rattle.xw_words.specs.declared.pos.Pos.{Pos}
+use Rattle.xc_kernel.specs.Plain as kernel
+use Rattle.xs_instr.specs.Adds.{Adds}
+use Rattle.xs_instr.specs.Lines.{Line}
+use Rattle.xl_expr.specs.declared.plan.Plan.{Plan}
+use Rattle.xl_expr.specs.Targets.{AreAimed}
+use Rattle.xl_walk.specs.declared.walk.Leaving.{Leaving}
+use Rattle.xl_walk.specs.Cells.{Cell}
+use Rattle.xl_walk.specs.Emits.{AreLines, Emits, Emitted}
+use Rattle.xl_walk.proofs.Parts.{emitted_as, piece_emitted}
+
+pub on_err : {A B : Type 0} (r : Result A B) (P : Type 0) → P → OnErr r P
+on_err (Ok x) P h = tt
+on_err (Err x) P h = h
+
+pub piece_emits : {A B : Type 0} (r : Result A B) (plan : Plan) (s s' : kernel.Statement) (P : ℕ → List Line → Type 0) (old new : List Line) (left : List Leaving) → s ≡ s' → ((last : Pos) (pc : ℕ) (cells : List Cell) → AreLines P last pc cells → Emits plan s' last pc cells) → OnOk r (Adds old new (P (length old))) → OnOk r (Adds old new (AreAimed (length old))) → OnOk r (Emitted (Emits plan s) old new left left)
+piece_emits (Ok x) plan s s' P old new left is f h g = subst (λ t. Emitted (Emits plan t) old new left left) (sym is) (emitted_as (AreLines P) (Emits plan s') old new left left f (piece_emitted P old new left h g))
+piece_emits (Err x) plan s s' P old new left is f h g = tt

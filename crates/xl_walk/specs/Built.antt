@@ -1,0 +1,75 @@
+-- The statements whose code is built so far, and how much code they have.
+use Rattle.std.specs.Prelude.{◌≡◌, ℕ, ◌+◌, ◌*◌, ◌≤◌, List, map, Option, None}
+use Rattle.xc_kernel.specs.declared.statement.KRes.{KRes}
+use Rattle.xc_kernel.specs.declared.statement.KRes.TheVariants.{Port, Timer, Chan}
+use Rattle.xc_kernel.specs.declared.statement.Kst.{Kst}
+use Rattle.xc_kernel.specs.Kernels.{statement_of}
+use Rattle.xc_kernel.specs.Plain as kernel
+use Rattle.xl_expr.specs.declared.plan.VarPlan.{VarPlan}
+use Rattle.xl_expr.specs.Measures.{nodes, nodes_at, depth, depth_at}
+use Rattle.xl_expr.specs.Plans.{var_in}
+use Rattle.xl_flow.specs.Zeros.{room_of}
+use Rattle.xl_port.specs.Outputs.{output_depth, output_nodes}
+
+-- the statements that a list stands for
+abbrev pub statements_of : List Kst → kernel.Statements
+statements_of ss = kernel.statements (map statement_of ss)
+
+abbrev pub IsPort : KRes → Type 0
+IsPort (Port p) = Unit {0}
+IsPort (Timer t) = ⊥
+IsPort (Chan c) = ⊥
+
+-- no input, no `select`, no `par`, no transaction, and each output goes to a port and has no stamp
+abbrev mutual
+  pub IsBuilt : kernel.Statement → Type 0
+  IsBuilt (kernel.set_zero v) = Unit {0}
+  IsBuilt (kernel.set place x) = Unit {0}
+  IsBuilt (kernel.output o) = IsPort o.resource × (o.stamp ≡ None)
+  IsBuilt (kernel.input i) = ⊥
+  IsBuilt (kernel.if_then x a b) = AreBuilt a × AreBuilt b
+  IsBuilt (kernel.loop x a b) = AreBuilt a × AreBuilt b
+  IsBuilt (kernel.block n a) = AreBuilt a
+  IsBuilt (kernel.exit n) = Unit {0}
+  IsBuilt (kernel.select cs d pos) = ⊥
+  IsBuilt (kernel.par bs) = ⊥
+  IsBuilt (kernel.transaction c is_master a start close) = ⊥
+
+  pub AreBuilt : kernel.Statements → Type 0
+  AreBuilt kernel.no_more = Unit {0}
+  AreBuilt (kernel.more s ss) = IsBuilt s × AreBuilt ss
+
+-- the most levels of an expression or place
+abbrev pub most_levels : ℕ
+most_levels = 400
+
+-- each expression and place is shallow; of what isn't built nothing is said
+abbrev mutual
+  pub IsShallow : kernel.Statement → Type 0
+  IsShallow (kernel.set place x) = (depth_at place ≤ most_levels) × (depth x ≤ most_levels)
+  IsShallow (kernel.output o) = output_depth o ≤ most_levels
+  IsShallow (kernel.if_then x a b) = (depth x ≤ most_levels) × AreShallow a × AreShallow b
+  IsShallow (kernel.loop x a b) = (depth x ≤ most_levels) × AreShallow a × AreShallow b
+  IsShallow (kernel.block n a) = AreShallow a
+  IsShallow other = Unit {0}
+
+  pub AreShallow : kernel.Statements → Type 0
+  AreShallow kernel.no_more = Unit {0}
+  AreShallow (kernel.more s ss) = IsShallow s × AreShallow ss
+
+-- the most instructions that a statement has, by where the variables stand
+module _ (vars : List (Option VarPlan)) where
+  abbrev mutual
+    pub most : kernel.Statement → ℕ
+    most (kernel.set_zero v) = room_of (var_in vars v)
+    most (kernel.set place x) = 8 * (nodes x + nodes_at place)
+    most (kernel.output o) = 8 * output_nodes o + 5
+    most (kernel.if_then x a b) = 8 * nodes x + most_of_all a + most_of_all b + 2
+    most (kernel.loop x a b) = 8 * nodes x + most_of_all a + most_of_all b + 2
+    most (kernel.block n a) = most_of_all a
+    most (kernel.exit n) = 1
+    most other = 0
+
+    pub most_of_all : kernel.Statements → ℕ
+    most_of_all kernel.no_more = 0
+    most_of_all (kernel.more s ss) = most s + most_of_all ss

@@ -1,0 +1,97 @@
+-- The code of statements: which cells a statement has, by the place of the instruction in front and the index of the first cell.
+use Rattle.std.specs.Prelude.{◌≡◌, ℕ, ◌+◌, List, [], ◌∷◌, ◌++◌, length, map, Option}
+use Rattle.xw_words.specs.declared.pos.Pos.{Pos}
+use Rattle.xs_instr.specs.declared.instr.Instr.TheVariants.{Brff, Brfu, Brbu}
+use Rattle.xs_instr.specs.declared.instr.Reg.TheVariants.{R0}
+use Rattle.xs_instr.specs.Lines.{Line, line, last_pos}
+use Rattle.xc_kernel.specs.Plain as kernel
+use Rattle.xl_expr.specs.declared.plan.Plan.{Plan}
+use Rattle.xl_expr.specs.declared.plan.VarPlan.{VarPlan}
+use Rattle.xl_expr.specs.Targets.{AreAimed}
+use Rattle.xl_flow.specs.Flow.{Sets, Tests}
+use Rattle.xl_flow.specs.Zeros.{Zeroes}
+use Rattle.xl_port.specs.Outputs.{Outputs}
+use Rattle.xl_walk.specs.declared.walk.Leaving.{Leaving}
+use Rattle.xl_walk.specs.Cells.{Cell, known, leaving, behind, closed, leaves, line_of}
+
+-- the cells of some code, by the place in front and the first index
+abbrev pub Coded : Type 1
+Coded = Pos → ℕ → List Cell → Type 0
+
+-- lines of which P holds, that stand from an index on
+pub record AreLines (P : ℕ → List Line → Type 0) (last : Pos) (pc : ℕ) (cells : List Cell) : Type 0 where
+  pub lines : List Line
+  pub is : cells ≡ map known lines
+  pub so : P pc lines
+  pub aimed : AreAimed pc lines
+
+-- one after the other
+pub record Follow (First Rest : Coded) (last : Pos) (pc : ℕ) (cells : List Cell) : Type 0 where
+  pub first : List Cell
+  pub rest : List Cell
+  pub is : cells ≡ first ++ rest
+  pub first_is : First last pc first
+  pub rest_is : Rest (behind last first) (pc + length first) rest
+
+-- A test that goes to the second side where its word is 0, the first side, a jump past the second side, and the second side.
+pub record Sides
+    (vars : List (Option VarPlan)) (x : kernel.Expression) (First Second : Coded)
+    (last : Pos) (pc : ℕ) (cells : List Cell) : Type 0 where
+  pub test : List Line
+  pub first : List Cell
+  pub second : List Cell
+  pub other : ℕ
+  pub end : ℕ
+  pub other_is : other ≡ pc + length test + 1 + length first + 1
+  pub end_is : end ≡ other + length second
+  pub is : cells ≡ map known test ++ (known (line (Brff R0 other) last)
+      ∷ (first ++ (known (line (Brfu end) (behind last first)) ∷ second)))
+  pub tests : Tests vars x pc last test
+  pub aimed : AreAimed pc test
+  pub first_is : First last (pc + length test + 1) first
+  pub second_is : Second (behind last first) other second
+
+-- A test that leaves the loop where its word is 0, the body, what follows each turn, and a jump back to the test.
+pub record Turns
+    (vars : List (Option VarPlan)) (x : kernel.Expression) (Body Next : Coded)
+    (last : Pos) (pc : ℕ) (cells : List Cell) : Type 0 where
+  pub test : List Line
+  pub body : List Cell
+  pub next : List Cell
+  pub end : ℕ
+  pub end_is : end ≡ pc + length test + 1 + length body + length next + 1
+  pub is : cells ≡ map known test ++ (known (line (Brff R0 end) last)
+      ∷ (body ++ (next ++ known (line (Brbu pc) (behind (behind last body) next)) ∷ [])))
+  pub tests : Tests vars x pc last test
+  pub aimed : AreAimed pc test
+  pub body_is : Body last (pc + length test + 1) body
+  pub next_is : Next (behind last body) (pc + length test + 1 + length body) next
+
+-- what stands in block n, with the jumps to its end
+pub record Closes (n : ℕ) (Inside : Coded) (last : Pos) (pc : ℕ) (cells : List Cell) : Type 0 where
+  pub inside : List Cell
+  pub is : cells ≡ map (closed n (pc + length inside)) inside
+  pub inside_is : Inside last pc inside
+
+module _ (plan : Plan) where
+  abbrev mutual
+    pub Emits : kernel.Statement → Coded
+    Emits (kernel.set_zero v) last pc cells = AreLines (Zeroes plan.vars v) last pc cells
+    Emits (kernel.set place x) last pc cells = AreLines (Sets plan.vars place x) last pc cells
+    Emits (kernel.output o) last pc cells = AreLines (Outputs plan o) last pc cells
+    Emits (kernel.if_then x a b) last pc cells = Sides plan.vars x (AllEmit a) (AllEmit b) last pc cells
+    Emits (kernel.loop x a b) last pc cells = Turns plan.vars x (AllEmit a) (AllEmit b) last pc cells
+    Emits (kernel.block n a) last pc cells = Closes n (AllEmit a) last pc cells
+    Emits (kernel.exit n) last pc cells = cells ≡ leaving n last ∷ []
+    Emits other last pc cells = ⊥
+
+    pub AllEmit : kernel.Statements → Coded
+    AllEmit kernel.no_more last pc cells = cells ≡ []
+    AllEmit (kernel.more s ss) last pc cells = Follow (Emits s) (AllEmit ss) last pc cells
+
+-- Such code was added to the lines, and its jumps out of blocks to those that are open.
+pub record Emitted (Code : Coded) (old new : List Line) (before after : List Leaving) : Type 0 where
+  pub cells : List Cell
+  pub lines : new ≡ old ++ map line_of cells
+  pub leaving_ones : after ≡ before ++ leaves cells (length old)
+  pub so : Code (last_pos old) (length old) cells

@@ -1,0 +1,4 @@
+pub mod Cells
+pub mod Built
+pub mod Emits
+pub mod Landing
