@@ -1,0 +1,98 @@
+-- How the words of a core are laid out: its variables from word 0 on, one behind the other in the kernel's order; and behind all the words
+-- that its instances and its variables need, the temporary words of its threads, one thread's behind the other's. Its ports and its timers
+-- have numbers, each kind by itself in the kernel's order.
+use Rattle.std.specs.Prelude.{ℕ, ◌+◌, ◌*◌, ◌%◌, ◌^◌, Bool, true, false, List, [], ◌∷◌, Option, Some, None, nat_eq, slice_get, take, sum_by}
+use Rattle.xw_words.specs.Words.{word_sum}
+use Rattle.xc_kernel.specs.declared.kernel.PortUse.{PortUse}
+use Rattle.xc_kernel.specs.declared.kernel.Timer.{Timer}
+use Rattle.xc_kernel.specs.declared.kernel.Var.{Var}
+use Rattle.xc_kernel.specs.Plain as kernel
+use Rattle.xs_instr.specs.Resources.{name_of}
+use Rattle.xl_expr.specs.declared.plan.ResAt.{ResAt}
+use Rattle.xl_expr.specs.declared.plan.ResAt.TheVariants.{Fixed}
+use Rattle.xl_expr.specs.declared.plan.VarAt.TheVariants.{Near}
+use Rattle.xl_expr.specs.declared.plan.VarPlan.{VarPlan}
+use Rattle.xc_disjoint.specs.Cores.{on_core}
+use Rattle.xc_disjoint.specs.Needs.{words_of_instance, words_of_thread, words_of_variable}
+
+-- the words of a variable that is on the core
+abbrev pub words_here : (core : ℕ) → Var → ℕ
+words_here core v = on_core core v.core v.words
+
+-- the word where the variable of this number begins: behind the words of the core's variables before it
+abbrev pub word_of : (core : ℕ) → List Var → (number : ℕ) → ℕ
+word_of core vs number = sum_by (words_here core) (take number vs)
+
+-- the word where the temporary words of the core's threads begin: behind those that its instances and its variables need
+abbrev pub first_temporary : kernel.Kernel → (core : ℕ) → ℕ
+first_temporary k core =
+    sum_by (words_of_instance core) k.instances + sum_by (words_of_variable core) k.variables
+
+-- the word where those of the thread of this number begin
+abbrev pub temporary_of : kernel.Kernel → (core thread : ℕ) → ℕ
+temporary_of k core thread = first_temporary k core + words_of_thread * thread
+
+-- the core of a port, and of a timer
+abbrev pub core_of_port : PortUse → ℕ
+core_of_port p = p.core
+
+abbrev pub core_of_timer : Timer → ℕ
+core_of_timer t = t.core
+
+-- the number that something has on its core, among such things: how many of those before it are there
+abbrev pub number_on : {X : Type 0} → (core_of : X → ℕ) → (core : ℕ) → List X → (place : ℕ) → ℕ
+number_on core_of core xs place = sum_by (λ x. on_core core (core_of x) 1) (take place xs)
+
+abbrev pub port_number : (core : ℕ) → List PortUse → (place : ℕ) → ℕ
+port_number core ps place = number_on core_of_port core ps place
+
+abbrev pub timer_number : (core : ℕ) → List Timer → (place : ℕ) → ℕ
+timer_number core ts place = number_on core_of_timer core ts place
+
+-- Where things stand, one by one.
+
+-- a place of so many words that begins at a word, where it is one of the core's
+abbrev pub place_if : Bool → (word words : ℕ) → Option VarPlan
+place_if true word words = Some (record { place = Near word; words = words })
+place_if false word words = None
+
+abbrev pub place_of : (core word : ℕ) → Var → Option VarPlan
+place_of core word v = place_if (nat_eq v.core core) word v.words
+
+-- the places of variables, of which the core's first begins at a word
+abbrev pub places_from : (core word : ℕ) → List Var → List (Option VarPlan)
+places_from core word [] = []
+places_from core word (v ∷ vs) = place_of core word v ∷ places_from core (word + words_here core v) vs
+
+-- an identifier, where it is one of the core's
+abbrev pub identifier_if : Bool → (identifier : ℕ) → Option ResAt
+identifier_if true identifier = Some (Fixed identifier)
+identifier_if false identifier = None
+
+-- the identifier of what stands at a place among such things, by its number
+abbrev pub named_by : {X : Type 0} → (name : ℕ → ℕ) → (core_of : X → ℕ) → (core : ℕ) → List X → (place : ℕ) → Option X → Option ResAt
+named_by name core_of core xs place None = None
+named_by name core_of core xs place (Some x) =
+    identifier_if (nat_eq (core_of x) core) (name (number_on core_of core xs place))
+
+-- the identifiers of a core's port and timer of a number; the first is a word, which it also is without the remainder where there are
+-- fewer than 2 ^ 16 such ports
+abbrev pub port_name : (core number : ℕ) → ℕ
+port_name core number = name_of core number 0 % 2 ^ 32
+
+abbrev pub timer_name : (core number : ℕ) → ℕ
+timer_name core number = name_of core number 1
+
+-- those of the port and of the timer at a place, where they are on the core
+abbrev pub port_at : (core : ℕ) → List PortUse → (place : ℕ) → Option ResAt
+port_at core ps place = named_by (port_name core) core_of_port core ps place (slice_get ps place)
+
+abbrev pub timer_at : (core : ℕ) → List Timer → (place : ℕ) → Option ResAt
+timer_at core ts place = named_by (timer_name core) core_of_timer core ts place (slice_get ts place)
+
+-- the identifiers of things, of which the core's first has this one; the numbers of two that follow each other are apart by 2 ^ 8
+abbrev pub identifiers_from : {X : Type 0} → (core_of : X → ℕ) → (core identifier : ℕ) → List X → List (Option ResAt)
+identifiers_from core_of core identifier [] = []
+identifiers_from core_of core identifier (x ∷ xs) =
+    identifier_if (nat_eq (core_of x) core) identifier
+    ∷ identifiers_from core_of core (word_sum identifier (on_core core (core_of x) 256)) xs

@@ -1,0 +1,45 @@
+ghost use Rattle.std.specs.Prelude.{◌≡◌, ◌≤◌, [], IfOk, OnOk};
+ghost use Rattle.xc_disjoint.specs.Cores.{last_core};
+ghost use Rattle.xc_kernel.specs.Kernels.{kernel_of};
+ghost use Rattle.xl_plan.specs.Layout.{first_temporary};
+ghost use Rattle.xl_plan.specs.Planned.{HasNoOther, HasPorts, HasTimers, HasUsed, HasVariables, NoneIsTemporary, NoneShare, NumbersAreListed, StandBelow};
+
+use crate::resources::{port_identifiers, timer_identifiers};
+use crate::variables::variable_places;
+use std::alloc::Global;
+use xc_disjoint::Checked;
+use xl_expr::Plan;
+use xw_words::{List, Memory};
+
+/// Where the variables, ports and timers of a core stand: the variables from word 0 on, one behind the other in the kernel's order, below the
+/// temporary words of all threads; the ports and timers by the identifiers of their numbers, which go by the kernel's order too. There is no
+/// channel end yet.
+///
+/// It takes time and memory for each of the kernel's variables, ports and timers once. The one error is want of memory.
+pub fn plan(alloc: Global, checked: &Checked, core: u8) -> Result<Plan, Memory>
+    requires { core ≤ last_core }
+    ensures variables { IfOk result
+        (λ plan. HasVariables (kernel_of checked.now) core plan.vars) }
+    ensures no_other { IfOk result (λ plan. HasNoOther (kernel_of checked.now) core plan.vars) }
+    ensures used { IfOk result (λ plan. HasUsed (kernel_of checked.now) core plan.vars) }
+    ensures below { IfOk result
+        (λ plan. StandBelow (first_temporary (kernel_of checked.now) core) plan.vars) }
+    ensures apart { IfOk result (λ plan. NoneShare plan.vars) }
+    ensures not_temporary { IfOk result
+        (λ plan. NoneIsTemporary (kernel_of checked.now) core plan.vars) }
+    ensures ports { IfOk result (λ plan. HasPorts (kernel_of checked.now) core plan.ports) }
+    ensures timers { IfOk result (λ plan. HasTimers (kernel_of checked.now) core plan.timers) }
+    ensures listed { OnOk result (NumbersAreListed (kernel_of checked.now) core) }
+    ensures ends { IfOk result (λ plan. plan.ends ≡ []) }
+{
+    let kernel = checked.kernel();
+    let vars = variable_places(alloc, kernel.vars.as_slice(), core)?;
+    let ports = port_identifiers(alloc, kernel.ports.as_slice(), core)?;
+    let timers = timer_identifiers(alloc, kernel.timers.as_slice(), core)?;
+    Ok(Plan {
+        vars,
+        ports,
+        timers,
+        ends: List::new(alloc),
+    })
+}

@@ -1,0 +1,10 @@
+//! Plans: where the variables, ports and timers of a core stand, and the temporary words of its threads.
+#![tactic(auto)]
+
+mod layout;
+mod resources;
+mod temporary;
+mod variables;
+
+pub use layout::plan;
+pub use temporary::temporary_words;
