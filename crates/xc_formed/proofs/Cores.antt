@@ -76,7 +76,7 @@ module _ (n : NamedProgram) (fs : List Function) (ps : List PortUse) (num : Numb
         index_low : (t : List ℕ) (i : tree.Expression) (pos : Rattle.xw_words.specs.declared.pos.Pos.Pos) → depth.of_expression (tree.expression (tree.index t i) pos) ≤ deepest → depth.of_expression i ≤ deepest
         index_low t i pos d = omega arith
 
-each_contained : (rs all : List kernel.Root) → ((r : kernel.Root) → Contains rs r → Contains all r) → AllIn (Contains all) rs
+pub each_contained : (rs all : List kernel.Root) → ((r : kernel.Root) → Contains rs r → Contains all r) → AllIn (Contains all) rs
 each_contained [] all f = tt
 each_contained (r ∷ rs) all f = (f r (0, omega arith, refl), each_contained rs all (λ x h. f x (let l = h.1 in (suc h.0, omega arith, h.2))))
 

@@ -10,8 +10,8 @@ use Rattle.xc_tree.specs.Symbol.{Symbol, sym, key, a_name, a_number, many, maybe
 use Rattle.xc_tree.specs.Grammar.{Rule, Extent, rules, kept, declared, named as kind_named, time_of, condition_of, one_of, by_level, or_none, operators}
 use Rattle.xc_tree.specs.Derives.{Room, extent, Derives, a_sym, a_key, named, counted, by_rule, Row, done, next}
 use Rattle.xc_kernel.specs.Operators.{operator_at}
-use Rattle.xc_formed.specs.Operands.{takes}
-use Rattle.xc_formed.proofs.Shaped.{IsProper, IsProperLval, Assigns, AnyCall, AsksRight, ShapedArguments, ShapedRight, ShapedMaybeRight, ShapedMaybeExpression, ShapedTime, ShapedStamp, ShapedTarget, ShapedOutput, ShapedInput, ShapedMaybeInput, ShapedDeclarations, ShapedStatement, ShapedAction, ShapedMaybe, ShapedStatements, ShapedBranch, ShapedBranches, ShapedCases, OnlyValue, IsStep, IsStepAtMost}
+use Rattle.xc_formed.specs.Operands.{takes, IsProper}
+use Rattle.xc_formed.proofs.Shaped.{IsProperLval, Assigns, AnyCall, AsksRight, ShapedArguments, ShapedRight, ShapedMaybeRight, ShapedMaybeExpression, ShapedTime, ShapedStamp, ShapedTarget, ShapedOutput, ShapedInput, ShapedMaybeInput, ShapedDeclarations, ShapedStatement, ShapedAction, ShapedMaybe, ShapedStatements, ShapedBranch, ShapedBranches, ShapedCases, OnlyValue, IsStep, IsStepAtMost}
 
 abbrev pub AllOf : {V : Type 0} → (V → Type 0) → List V → Type 0
 AllOf P [] = Unit {0}

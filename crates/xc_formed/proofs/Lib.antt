@@ -30,4 +30,9 @@ pub mod Weaker
 pub mod Formed
 pub mod Gives
 pub mod Sourced
+pub mod Worded
+pub mod Given
+pub mod Stored
+pub mod Few
+pub mod FewRoots
 pub mod KernelExamples

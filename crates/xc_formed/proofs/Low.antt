@@ -7,9 +7,8 @@ use Rattle.xc_kernel.specs.Plain as kernel
 use Rattle.xc_kernel.specs.Numbering.{Numbering}
 use Rattle.xc_kernel.specs.Scopes.{Scope, Entity, a_word, an_array, an_element, a_channel, a_timer, a_port, a_constant, nothing_known, entity_of}
 use Rattle.xc_kernel.specs.Expressions.{expression_in, form_in, kernel_place, place_of_entity, word_of_entity}
-use Rattle.xc_formed.specs.Operands.{HasOperands, PlaceHasOperands}
+use Rattle.xc_formed.specs.Operands.{HasOperands, PlaceHasOperands, IsProper, IsProperForm}
 use Rattle.xc_formed.specs.Levels.{levels, levels_below}
-use Rattle.xc_formed.proofs.Shaped.{IsProper, IsProperForm}
 
 module _ (num : Numbering) where
   -- of what a name stands for

@@ -11,9 +11,9 @@ use Rattle.xc_kernel.specs.Numbering.{Numbering, variable_number}
 use Rattle.xc_kernel.specs.Programs.{Function}
 use Rattle.xc_formed.specs.Numbers.{IsVariable, IsListed, NumbersInExpression, NumbersInPlace}
 use Rattle.xc_formed.specs.Standing.{HasVariable}
-use Rattle.xc_formed.specs.Operands.{HasOperands, PlaceHasOperands}
+use Rattle.xc_formed.specs.Operands.{HasOperands, PlaceHasOperands, IsProper}
 use Rattle.xc_formed.specs.Levels.{levels, IsLow, IsLowPlace}
-use Rattle.xc_formed.proofs.Shaped.{IsLval, IsProper, Assigns}
+use Rattle.xc_formed.proofs.Shaped.{IsLval, Assigns}
 use Rattle.xc_formed.proofs.Walk.Arguments.{Leaves}
 use Rattle.xc_formed.proofs.Numbers.{expression_well, lval_well, lval_read}
 use Rattle.xc_formed.proofs.Transferred.{OutGoes, InGoes, out_leaf, in_leaf}

@@ -5,7 +5,8 @@ use Rattle.xc_tree.specs.Depth as depth
 use Rattle.xc_tree.specs.Derives.{deepest}
 use Rattle.xc_kernel.specs.Programs.{Function, functions, function_by, function_named}
 use Rattle.xc_meaning.specs.Texts.Called.{EachRight, EachMaybeRight, EachKind, EachName, EachCall, EachIn, EachMaybe, EachOf, EachOne, EachBranch, EachCase, EachInFunction, GoesWithin}
-use Rattle.xc_formed.proofs.Shaped.{IsProper, IsProperLval, Assigns, AnyCall, ShapedArguments, ShapedRight, ShapedMaybeRight, ShapedMaybeExpression, ShapedTime, ShapedStamp, ShapedCondition, ShapedTarget, ShapedOutput, ShapedInput, ShapedMaybeInput, ShapedKind, ShapedDeclarations, ShapedStatement, ShapedAction, ShapedMaybe, ShapedStatements, ShapedBranch, ShapedBranches, ShapedCases, OnlyValue, IsStepAtMost, Deep}
+use Rattle.xc_formed.specs.Operands.{IsProper}
+use Rattle.xc_formed.proofs.Shaped.{IsProperLval, Assigns, AnyCall, ShapedArguments, ShapedRight, ShapedMaybeRight, ShapedMaybeExpression, ShapedTime, ShapedStamp, ShapedCondition, ShapedTarget, ShapedOutput, ShapedInput, ShapedMaybeInput, ShapedKind, ShapedDeclarations, ShapedStatement, ShapedAction, ShapedMaybe, ShapedStatements, ShapedBranch, ShapedBranches, ShapedCases, OnlyValue, IsStepAtMost, Deep}
 use Rattle.xc_formed.proofs.Grammar.{AllOf, Shape, ItemShape}
 use Rattle.xc_formed.proofs.Right.{IsShallow, IsShallowLval}
 

@@ -5,7 +5,7 @@ use Rattle.xc_tree.specs.Plain as tree
 use Rattle.xc_tree.specs.Symbols.{equals}
 use Rattle.xc_tree.specs.Words.{pinseq_word, pinsneq_word, timerafter_word}
 use Rattle.xc_kernel.specs.Operators.{operator_at, operator_of}
-use Rattle.xc_formed.specs.Operands.{takes}
+use Rattle.xc_formed.specs.Operands.{takes, IsProper}
 use Rattle.xc_kernel.specs.Programs.{Function, function_named}
 
 -- what can be assigned to is a name or an element
@@ -13,20 +13,6 @@ abbrev pub IsLval : tree.Expression → Type 0
 IsLval (tree.expression (tree.name t) p) = Unit {0}
 IsLval (tree.expression (tree.index t i) p) = Unit {0}
 IsLval other = ⊥
-
--- each symbol of an expression takes the operands that it has
-abbrev mutual
-  pub IsProper : tree.Expression → Type 0
-  IsProper (tree.expression form pos) = IsProperForm form
-
-  pub IsProperForm : tree.Form → Type 0
-  IsProperForm (tree.number value is_unsigned) = Unit {0}
-  IsProperForm (tree.name text) = Unit {0}
-  IsProperForm (tree.index text i) = IsProper i
-  IsProperForm (tree.unary symbol a) = (takes (operator_at symbol) 1 ≡ true) × IsProper a
-  IsProperForm (tree.binary symbol a b) = (takes (operator_at symbol) 2 ≡ true) × (IsProper a × IsProper b)
-  IsProperForm (tree.choice test a b) = IsProper test × (IsProper a × IsProper b)
-  IsProperForm (tree.cast is_unsigned a) = IsProper a
 
 -- what can be assigned to, with a proper index
 abbrev pub IsProperLval : tree.Expression → Type 0

@@ -22,6 +22,7 @@ use Rattle.xc_kernel.specs.Programs.{Function, functions, ports}
 use Rattle.xc_kernel.specs.Ports.{port_use}
 use Rattle.xc_kernel.specs.Copies.{numbering, copy_of}
 use Rattle.xc_kernel.specs.Sound.{IsTyped}
+use Rattle.xc_formed.specs.Operands.{IsProper, IsProperForm}
 use Rattle.xc_formed.specs.Each.{AnyNumber, EachRoot}
 use Rattle.xc_formed.specs.Rising.{IsRising}
 use Rattle.xc_formed.proofs.Rising.{of_text}
@@ -29,7 +30,7 @@ use Rattle.xc_formed.specs.Stacks.{Stack, Resolves}
 use Rattle.xc_formed.specs.Standing.{AnyPath, Stands, a_variable, whole_array, word_referred, element_referred, array_referred, the_channel, the_end, the_timer, the_port, port_given, the_index, the_function, none_there, Agrees}
 use Rattle.xc_formed.specs.Sources.{typed, typed_form, typed_place, Simple, copied, result, always, HasSource, simple, updated, stepped, tested, PlaceHasSource, placed, own, OutputHasSource, InputHasSource}
 use Rattle.xc_formed.specs.Laws.{CodeHasSource}
-use Rattle.xc_formed.proofs.Shaped.{IsLval, IsProper, IsProperForm, Assigns}
+use Rattle.xc_formed.proofs.Shaped.{IsLval, Assigns}
 use Rattle.xc_formed.proofs.Stacks.{quiet_split, quiet_expression}
 use Rattle.xc_formed.proofs.Gives.{of_one, of_two}
 use Rattle.xc_formed.proofs.Right.{IsShallow, IsShallowLval}

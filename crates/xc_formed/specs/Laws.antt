@@ -11,6 +11,7 @@ use Rattle.xc_kernel.specs.Plain as kernel
 use Rattle.xc_kernel.specs.Numbering.{Numbering}
 use Rattle.xc_kernel.specs.Copies.{Copies, rooted, numbering}
 use Rattle.xc_kernel.specs.Sound.{IsOfText, IsTyped, IsOfProgram}
+use Rattle.xc_disjoint.specs.Checked.{IsChecked}
 use Rattle.xc_formed.specs.Numbers.{VariablesAreRight}
 use Rattle.xc_formed.specs.Operands.{OperandsAreRight}
 use Rattle.xc_formed.specs.Levels.{LevelsAreFew}
@@ -18,6 +19,7 @@ use Rattle.xc_formed.specs.Transfers.{TransfersAreRight, TransactionsAreListed}
 use Rattle.xc_formed.specs.Exits.{ExitsAreInside}
 use Rattle.xc_formed.specs.Cores.{CoresAreRight, RootsKeepApart, CoresAreOwn}
 use Rattle.xc_formed.specs.WellFormed.{IsWellFormed}
+use Rattle.xc_formed.specs.Parts.{PartsAreFew}
 use Rattle.xc_formed.specs.Rising.{TokensRise}
 use Rattle.xc_formed.specs.Once.{NoneTwice}
 use Rattle.xc_formed.specs.Stacks.{Resolves, outer}
@@ -93,6 +95,10 @@ KernelsOfProgramsWellFormed =
 -- the root's core.
 abbrev pub CoresOwn : Type 0
 CoresOwn = (K : kernel.Kernel) → IsWellFormed K → RootsKeepApart K → CoresAreOwn K
+
+-- A kernel that breaks no rule has at most 4,000,000 parts.
+abbrev pub PartsFew : Type 0
+PartsFew = (K : kernel.Kernel) → IsChecked K → PartsAreFew K
 
 -- Each expression and place of such a kernel comes from the text, where each name means what `uses`
 -- has for it and each operation has the type that `unsigned_at` tells, and each output and input

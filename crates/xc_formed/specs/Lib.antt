@@ -12,4 +12,7 @@ pub mod WellFormed
 pub mod Stacks
 pub mod Standing
 pub mod Sources
+pub mod Words
+pub mod Given
+pub mod Stored
 pub mod Laws

@@ -1,5 +1,6 @@
 -- Operations that have as many operands as their symbols take.
 use Rattle.std.specs.Prelude.{◌≡◌, ℕ, suc, Bool, true, false, ◌||◌, nat_eq}
+use Rattle.xc_tree.specs.Plain as tree
 use Rattle.xc_kernel.specs.Operators as operator
 use Rattle.xc_kernel.specs.Operators.{Operator, operator_at}
 use Rattle.xc_kernel.specs.Plain as kernel
@@ -39,3 +40,17 @@ abbrev mutual
 abbrev pub OperandsAreRight : kernel.Kernel → Type 0
 OperandsAreRight k =
     EachRoot HasOperands PlaceHasOperands AnyNumber AnyOutput AnyInput AnyNumber k.roots
+
+-- so does each in an expression of a text
+abbrev mutual
+  pub IsProper : tree.Expression → Type 0
+  IsProper (tree.expression form pos) = IsProperForm form
+
+  pub IsProperForm : tree.Form → Type 0
+  IsProperForm (tree.number value is_unsigned) = Unit {0}
+  IsProperForm (tree.name text) = Unit {0}
+  IsProperForm (tree.index text i) = IsProper i
+  IsProperForm (tree.unary symbol a) = (takes (operator_at symbol) 1 ≡ true) × IsProper a
+  IsProperForm (tree.binary symbol a b) = (takes (operator_at symbol) 2 ≡ true) × (IsProper a × IsProper b)
+  IsProperForm (tree.choice test a b) = IsProper test × (IsProper a × IsProper b)
+  IsProperForm (tree.cast is_unsigned a) = IsProper a

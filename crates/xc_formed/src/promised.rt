@@ -1,6 +1,9 @@
 //! The laws, as contracts of functions that do nothing.
 
-ghost use Rattle.xc_formed.specs.Laws.{CodeHasSource, CoresOwn, CoresRight, ExitsInside, KernelsOfProgramsWellFormed, KernelsWellFormed, LevelsFew, NamesResolve, NoInstanceMerged, NoInstanceTwice, OperandsRight, TextsRise, TransactionsListed, TransfersRight, VariablesRight};
+ghost use Rattle.xc_formed.specs.Laws.{CodeHasSource, CoresOwn, CoresRight, ExitsInside, KernelsOfProgramsWellFormed, KernelsWellFormed, LevelsFew, NamesResolve, NoInstanceMerged, NoInstanceTwice, OperandsRight, PartsFew, TextsRise, TransactionsListed, TransfersRight, VariablesRight};
+ghost use Rattle.xc_formed.specs.Given.{EachByItsOwn, ElementsGiven, NamesGiven, ResultIsReturned, ValuesGiven};
+ghost use Rattle.xc_formed.specs.Stored.{FreshTargetsKept, InputStampsKept, NoneStored, OutputStampsKept, TargetsKept};
+ghost use Rattle.xc_formed.specs.Words.{SpotsKept, StepsKept, UpdatesKept, WordsKept};
 
 /// Each name means what the stack of open scopes has for it.
 #[tactic(auto, using(crate::proofs::Resolved::names_resolve))]
@@ -22,7 +25,8 @@ pub fn no_instance_twice()
 {}
 
 /// Each kernel is well formed: the kernel of a program that breaks no rule of names, types and
-/// shapes, whose tokens stand at rising places, and whose tree no node is too deep in.
+/// shapes, whose tokens stand at rising places, and whose tree no node is too deep in. One that
+/// breaks no rule of its own has at most 4,000,000 parts.
 pub fn kernels_are_formed()
     ensures variables { VariablesRight }
     ensures operands { OperandsRight }
@@ -34,10 +38,43 @@ pub fn kernels_are_formed()
     ensures whole { KernelsWellFormed }
     ensures of_programs { KernelsOfProgramsWellFormed }
     ensures own { CoresOwn }
+    ensures few { PartsFew }
 {}
 
 /// The code of such a kernel comes from the text: its names stand for instances of what they mean
 /// there, and its operations have the types that they have there.
 pub fn code_comes_from_text()
     ensures { CodeHasSource }
+{}
+
+/// The kernel's expression for one of the text has the word of that one or its error, wherever in
+/// the program it stands and whatever words the variables have; so has that of an assigning
+/// operator and of a step. What is assigned to is stored where the text says.
+pub fn expressions_keep_their_word()
+    ensures words { WordsKept }
+    ensures updates { UpdatesKept }
+    ensures steps { StepsKept }
+    ensures places { SpotsKept }
+{}
+
+/// A parameter stands for what the argument at its own place gives it: one by value for a variable
+/// that holds the argument's word, an `&` parameter for an element of the argument's array, whose
+/// index is tested against that array's words, and each other one for what is named. What a call
+/// gives is read from where its function's `return` stores it.
+pub fn parameters_stand_for_arguments()
+    ensures values { ValuesGiven }
+    ensures elements { ElementsGiven }
+    ensures names { NamesGiven }
+    ensures each { EachByItsOwn }
+    ensures results { ResultIsReturned }
+{}
+
+/// An input's word is stored at what its target is, or in the variable that the target declares,
+/// and the counter of a transfer at its stamp; what isn't told in the text isn't stored.
+pub fn transfers_store_where_told()
+    ensures targets { TargetsKept }
+    ensures fresh_targets { FreshTargetsKept }
+    ensures stamps_of_inputs { InputStampsKept }
+    ensures stamps_of_outputs { OutputStampsKept }
+    ensures nothing_else { NoneStored }
 {}

@@ -13,13 +13,13 @@ use Rattle.xc_meaning.specs.States.Branches.{runs, ended, Branch}
 use Rattle.xc_meaning.specs.States.Worlds.{World, Action, go, with_word}
 use Rattle.xc_meaning.specs.Settings.Setting.{Setting, goes_to, kind_of, with_value}
 use Rattle.xc_meaning.specs.Settings.Stores.{stored}
-use Rattle.xc_meaning.specs.Settings.Flow.{items_by, from_mark_by, items_from_mark}
+use Rattle.xc_meaning.specs.Settings.Flow.{items_by, from_mark_by, items_from_mark, chooses_side}
 use Rattle.xc_meaning.specs.Texts.Copied.{behind, block_in}
-use Rattle.xc_meaning.specs.Texts.Loops.{turn_context, test_in, loop_mark, turn_item, turn_items}
+use Rattle.xc_meaning.specs.Texts.Loops.{turn_context, loop_mark, turn_item, turn_items}
 use Rattle.xc_meaning.specs.Texts.Statements.{returns_word, says_item}
 use Rattle.xc_meaning.specs.Runs.{does_item, step_of, does_first, goes_by, goes, acts, acts_all}
 use Rattle.xc_kernel.specs.Paths.{path_at}
-use Rattle.xc_meaning.proofs.Simulation.KernelItems.{kernel_items, loop_of, do_test, do_loop_of, of_mark}
+use Rattle.xc_meaning.proofs.Simulation.KernelItems.{kernel_items, loop_of, do_test, do_loop_of, of_mark, test_in}
 use Rattle.xc_meaning.proofs.Simulation.Mixed.{Ahead, mixed_items, mixed_branch, mixed_branches, mixed, ahead_at, with_ahead, mixed_set, mixed_get}
 use Rattle.xc_meaning.proofs.Simulation.Alike.{goes_to_by, errs_alike, tests_alike}
 use Rattle.xc_meaning.proofs.Simulation.Par.{with_ahead_length}
@@ -29,6 +29,7 @@ use Rattle.xc_meaning.proofs.Simulation.Sound.{Begins, SoundItem, SoundBefore, S
 use Rattle.xc_meaning.proofs.Simulation.Plain.{kernel_item, plain_items, plain_alike}
 use Rattle.xc_meaning.proofs.Simulation.Settle.{of_turn_item, of_turn}
 use Rattle.xc_meaning.proofs.Simulation.Beside.{Leads, in_loop, in_do, in_turn, leaving, Running, Stands, Beside, stand_at, here_is, moved, beside_after, beside_moved}
+use Rattle.xc_meaning.proofs.TextWords.{test_is}
 
 pub some_given : {A : Type 0} {a b : A} → Some a ≡ Some b → a ≡ b
 some_given e = cc
@@ -210,7 +211,9 @@ module _ (fs : List Function) (end : AllEnd fs) (K : kernel.Kernel) (stim : Stim
           let sound' : SoundItems fs (says (again_do l) ∷ rest) = subst (λ j. SoundItems fs (says j ∷ rest)) is sound in
           by_value l rest em ei' sound' (eval y.store (test_in l.context (behind l.body (turn_context l) l.scope) l.test))
           (sym (kernel_goes (does (do_test l)) (do_behind l rest em ei' sound') em (ek ∙ ap (λ j. kernel_items (says j ∷ rest)) is)) ∙ hk)
-          (text_goes (says (again_do l)) rest em ei')
+          (text_goes (says (again_do l)) rest em ei'
+          ∙ ap (λ v. with_value (step_before rest) v (λ w. Some (goes_to (step_before rest) (items_by (is_true w) (do_left l rest em ei' sound') rest))))
+          (sym (test_is l.context (behind l.body (turn_context l) l.scope) y.store l.test)))
       follow_meets i rest ei ek sound (returns_it c value coded stepped) =
           returned_by c rest (eval y.store value) em sound.2
           (sym (kernel_goes _ (does (leave c c.returns) ∷ kernel_items rest) em (ek ∙ coded)) ∙ hk)
@@ -230,6 +233,7 @@ module _ (fs : List Function) (end : AllEnd fs) (K : kernel.Kernel) (stim : Stim
           let its : SoundItems fs (says i ∷ rest) = subst (SoundItems fs) et sound in
           both rest (says_item (step_before rest) i) (does_item (kernel_step (loop_mark l ∷ kernel_items rest)) (does (loop_of l))) (text_goes (says i) rest em et)
           (tests_alike h.ahead before (step_before rest) (test_in l.context l.scope l.test) _ _ (turn_items l (loop_mark l ∷ rest)) (loop_mark l ∷ rest) (of_turn l (loop_mark l ∷ rest)) refl
+          ∙ ap (λ v. option_map (mixed (with_ahead h.ahead n None)) (chooses_side (step_before rest) v (turn_items l (loop_mark l ∷ rest)) (loop_mark l ∷ rest))) (test_is l.context l.scope y.store l.test)
           ∙ sym (ap (option_map (mixed (with_ahead h.ahead n None))) (stepped (step_before rest))))
           (sym (kernel_goes (does (loop_of l)) (loop_mark l ∷ kernel_items rest) em (ek ∙ eq)) ∙ hk)
           (keeps_says fs (step_before rest) its.2 i its.0 its.1)

@@ -1,5 +1,5 @@
 -- The items of a kernel that the items of a text stand for.
-use Rattle.std.proofs.Common.{◌≡◌, ℕ, Bool, true, false, List, [], ◌∷◌, ◌++◌, map, option_map, nat_eq, refl, sym, ◌∙◌, ap, append-nil}
+use Rattle.std.proofs.Common.{◌≡◌, ℕ, Bool, true, false, List, [], ◌∷◌, ◌++◌, map, Option, option_map, nat_eq, refl, sym, ◌∙◌, ap, append-nil}
 use Rattle.xw_words.specs.declared.pos.Pos.{Pos}
 use Rattle.xc_tree.specs.declared.tree.Param.{Param}
 use Rattle.xc_tree.specs.Plain as tree
@@ -8,18 +8,22 @@ use Rattle.xc_kernel.specs.Paths.{Path, path_at}
 use Rattle.xc_kernel.specs.Scopes.{Scope}
 use Rattle.xc_kernel.specs.Programs.{Function}
 use Rattle.xc_kernel.specs.Copy.{Copy, joined, code_of}
-use Rattle.xc_kernel.specs.Context.{Context, in_function, set_word, leave, block_at}
+use Rattle.xc_kernel.specs.Context.{Context, in_function, maybe_expression, set_word, leave, block_at}
 use Rattle.xc_kernel.specs.Parameters.{passed, all_passed}
 use Rattle.xc_kernel.specs.Calls.{body_copy}
 use Rattle.xc_kernel.specs.Declarations.{declaration_copy, declarations_copy}
-use Rattle.xc_kernel.specs.Flow.{turn, leave_unless}
+use Rattle.xc_kernel.specs.Flow.{turn, leave_unless, test_or_true}
 use Rattle.xc_kernel.specs.Statements.{statement_copy, maybe_copy, statements_copy}
 use Rattle.xc_meaning.specs.States.Items.{Loop, TextItem, statement, name, bound, body, first_test, again, again_do, returned, Body, of_kernel, of_text, Choice, Item, does, says, stores, mark, awaits, transaction_end, chooses, fixed, ends, todo, body_items}
 use Rattle.xc_meaning.specs.Settings.Flow.{from_mark_by, items_from_mark}
 use Rattle.xc_meaning.specs.Texts.Copied.{calls_in, behind, behind_name, code_in}
 use Rattle.xc_meaning.specs.Texts.Items.{name_items, statement_items, maybe_items, statements_items, only, as_body, body_item}
 use Rattle.xc_meaning.specs.Texts.Calls.{passing_items, parameter_items, call_items}
-use Rattle.xc_meaning.specs.Texts.Loops.{turn_context, test_in}
+use Rattle.xc_meaning.specs.Texts.Loops.{turn_context}
+
+-- the kernel's test of a loop
+abbrev pub test_in : Context → Scope → Option tree.Expression → kernel.Expression
+test_in c scope test = test_or_true (maybe_expression c scope test)
 
 -- the path of a loop's block, and the copy of its body
 abbrev pub loop_path : Loop → Path

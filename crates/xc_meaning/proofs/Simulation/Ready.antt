@@ -21,7 +21,7 @@ use Rattle.xc_kernel.specs.Flow.{numbered_copy, replicated}
 use Rattle.xc_kernel.specs.Statements.{pos_of_branch, assign_by, branch_copy, branches_copy, cases_copy, maybe_copy, statements_copy}
 use Rattle.xc_meaning.specs.States.Items.{Loop, TextItem, statement, name, bound, body, first_test, again_do, returned, Item, does, says, stores, mark, awaits, transaction_end, chooses, fixed, ends, todo}
 use Rattle.xc_meaning.specs.States.Worlds.{World, with_zeros}
-use Rattle.xc_meaning.specs.Settings.Setting.{Setting, goes_to}
+use Rattle.xc_meaning.specs.Settings.Setting.{Setting, goes_to, with_value}
 use Rattle.xc_meaning.specs.Settings.Par.{makes}
 use Rattle.xc_meaning.specs.Settings.Select.{begins_select}
 use Rattle.xc_meaning.specs.Settings.Kernel.{does_statement}
@@ -31,13 +31,15 @@ use Rattle.xc_meaning.specs.Texts.Calls.{passing_items, parameter_items, call_it
 use Rattle.xc_meaning.specs.Texts.Loops.{for_loop, while_loop, tests_first, begins_do}
 use Rattle.xc_meaning.specs.Texts.Par.{branches_begun, copies_begun}
 use Rattle.xc_meaning.specs.Texts.Select.{text_enabled, text_default}
-use Rattle.xc_meaning.specs.Texts.Statements.{assigns_by, returns_value, says_item}
+use Rattle.xc_meaning.specs.Texts.Statements.{assigns_by, returns_value, says_item, returns_word}
 use Rattle.xc_meaning.proofs.Simulation.KernelItems.{loop_path, loop_of, do_loop_of, kernel_items, todo_all, of_names, of_statement, of_maybe, of_statements, call_code, of_call}
 use Rattle.xc_meaning.proofs.Simulation.Mixed.{Ahead, mixed, with_ahead, mixed_step}
 use Rattle.xc_meaning.proofs.Simulation.Alike.{goes_to_by, assigned_alike, zeroed_alike, tests_alike, leaves_alike, opens_alike, outputs_to_alike, inputs_from_alike}
 use Rattle.xc_meaning.proofs.Simulation.Select.{enabled_alike, default_alike, begins_alike}
 use Rattle.xc_meaning.proofs.Simulation.Par.{branches_alike, copies_alike, makes_alike}
 use Rattle.xc_meaning.proofs.Simulation.Calls.{AllEnd, call_code_is, no_call_code}
+use Rattle.xc_meaning.proofs.TextWords.{assigned_is, word_is, place_is, right_is, update_is, outputs_is, inputs_is}
+use Rattle.xc_meaning.specs.Settings.Flow.{chooses_side}
 
 abbrev pub with_rest : Setting → List Item → Setting
 with_rest s rest = record s { rest = rest }
@@ -178,7 +180,10 @@ module _ (fs : List Function) (end : AllEnd fs) where
   settle_kind n (tree.word u (Some (tree.value e))) c scope rest fine h =
       let inner : Scope = (declares_word c n.text n.pos u scope).scope in
       settled _ rest (same (set_word c (path_at c.path n.pos) (expression c inner e)) (kernel_items rest) refl
-      (record { step = λ os items s fits. assigned_alike os items (with_rest s rest) (word_at c (path_at c.path n.pos)) (expression c inner e) }))
+      (record {
+        step = λ os items s fits. assigned_alike os items (with_rest s rest) (word_at c (path_at c.path n.pos)) (expression c inner e)
+            ∙ ap (option_map (after os s)) (assigned_is (with_rest s rest) (word_at c (path_at c.path n.pos)) (expression c inner e) _ _ refl (word_is c inner s.world.store e));
+      }))
   settle_kind n (tree.word u (Some (tree.result call))) c scope rest fine h =
       let inner : Scope = (declares_word c n.text n.pos u scope).scope in
       let stored : kernel.Statement = set_word c (path_at c.path n.pos) (value_of c inner (tree.result call)) in
@@ -205,6 +210,7 @@ module _ (fs : List Function) (end : AllEnd fs) where
       (λ j. todo (code_of (assign_by (calls_in c) c scope to symbol sign (tree.value e) (eb j))) (kernel_items rest))
       (record {
         step = λ os items s fits. assigned_alike os items (with_rest s rest) (place c scope to) (expression c scope e)
+            ∙ ap (option_map (after os s)) (assigned_is (with_rest s rest) (place c scope to) (expression c scope e) _ _ (place_is c scope s.world.store to) (word_is c scope s.world.store e))
             ∙ sym (ap (λ b. option_map (after os s) (assigns_by b (with_rest s rest) c scope to symbol sign (tree.value e))) eb);
       }))
   settle_assign to symbol sign (tree.result call) pos close own c scope rest true eb fine h =
@@ -219,6 +225,8 @@ module _ (fs : List Function) (end : AllEnd fs) where
       (λ j. todo (code_of (assign_by (calls_in c) c scope to symbol sign r (eb j))) (kernel_items rest))
       (record {
         step = λ os items s fits. assigned_alike os items (with_rest s rest) (place c scope to) value
+            ∙ ap (option_map (after os s)) (assigned_is (with_rest s rest) (place c scope to) value _ _ (place_is c scope s.world.store to)
+            (update_is c scope s.world.store to symbol sign (right_is_unsigned scope r) (value_of c scope r) _ (right_is c scope s.world.store r)))
             ∙ sym (ap (λ b. option_map (after os s) (assigns_by b (with_rest s rest) c scope to symbol sign r)) eb);
       }))
 
@@ -236,20 +244,31 @@ module _ (fs : List Function) (end : AllEnd fs) where
     settle_action (tree.step to symbol) pos close own c scope rest fine h =
         let value : kernel.Expression = updated c.numbering scope to symbol pos false (kernel.number 1) in
         settled _ rest (same (kernel.set (place c scope to) value) (kernel_items rest) refl
-        (record { step = λ os items s fits. assigned_alike os items (with_rest s rest) (place c scope to) value }))
+        (record {
+          step = λ os items s fits. assigned_alike os items (with_rest s rest) (place c scope to) value
+              ∙ ap (option_map (after os s)) (assigned_is (with_rest s rest) (place c scope to) value _ _ (place_is c scope s.world.store to)
+              (update_is c scope s.world.store to symbol pos false (kernel.number 1) _ refl));
+        }))
     settle_action (tree.perform (tree.value e)) pos close own c scope rest fine h = settles_by _ rest rest (record { same_items = refl; step = λ s. refl }) h
     settle_action (tree.perform (tree.result call)) pos close own c scope rest fine h = settle_call fs end _ rest rest c scope call fine refl (λ s. refl) h
     settle_action (tree.output o) pos close own c scope rest fine h =
         settled _ rest (same (kernel.output (output_of c scope o)) (kernel_items rest) refl
-        (record { step = λ os items s fits. outputs_to_alike os items (with_rest s rest) (output_of c scope o) (output_of c scope o).resource }))
+        (record {
+          step = λ os items s fits. outputs_to_alike os items (with_rest s rest) (output_of c scope o) (output_of c scope o).resource
+              ∙ ap (option_map (after os s)) (outputs_is (with_rest s rest) c scope o (output_of c scope o).resource);
+        }))
     settle_action (tree.input input) pos close own c scope rest fine h =
         settled _ rest (same (kernel.input (input_of c scope input)) (kernel_items rest) refl
-        (record { step = λ os items s fits. inputs_from_alike os items (with_rest s rest) (input_of c scope input) (input_of c scope input).resource }))
+        (record {
+          step = λ os items s fits. inputs_from_alike os items (with_rest s rest) (input_of c scope input) (input_of c scope input).resource
+              ∙ ap (option_map (after os s)) (inputs_is (with_rest s rest) c scope input (input_of c scope input).resource);
+        }))
     settle_action (tree.if_then test a b) pos close own c scope rest fine h =
         settled _ rest (same _ (kernel_items rest) refl
         (record {
           step = λ os items s fits. tests_alike os items (with_rest s rest) (expression c scope test) _ _ (statement_items a c scope rest) (maybe_items b c (behind a c scope) rest)
-              (of_statement a c scope rest) (of_maybe b c (behind a c scope) rest);
+              (of_statement a c scope rest) (of_maybe b c (behind a c scope) rest)
+              ∙ ap (λ v. option_map (after os s) (chooses_side (with_rest s rest) v (statement_items a c scope rest) (maybe_items b c (behind a c scope) rest))) (word_is c scope s.world.store test);
         }))
     settle_action (tree.while_loop test inner) pos close own c scope rest fine h = settled _ rest (loops (while_loop test inner pos c scope) refl (λ s. refl))
     settle_action (tree.do_while inner test) pos close own c scope rest fine h = settled _ rest (does_loop (while_loop test inner pos c scope) refl (λ s. refl))
@@ -264,7 +283,7 @@ module _ (fs : List Function) (end : AllEnd fs) where
     settle_action (tree.return_with None) pos close own c scope rest fine h =
         settled _ rest (same (leave c c.returns) (kernel_items rest) refl (record { step = λ os items s fits. leaves_alike os items (with_rest s rest) (block_in c c.returns) }))
     settle_action (tree.return_with (Some (tree.value e))) pos close own c scope rest fine h =
-        settled _ rest (returns_it c (expression c scope e) refl (λ s. refl))
+        settled _ rest (returns_it c (expression c scope e) refl (λ s. ap (λ v. with_value (with_rest s rest) v (returns_word (with_rest s rest) c)) (sym (word_is c scope s.world.store e))))
     settle_action (tree.return_with (Some (tree.result call))) pos close own c scope rest fine h =
         let value : kernel.Expression = value_of c scope (tree.result call) in
         settle_call fs end _ rest (says (returned value c) ∷ rest) c scope call fine

@@ -18,6 +18,7 @@ use Rattle.xc_meaning.specs.Settings.Time.{Timing, passes, fails, timing, clock_
 use Rattle.xc_meaning.specs.Settings.Select.{Enabled, these, wrong, same_resource, unless_same, elsewhere, before_others, timed_case, case_by, guarded_case, guard_value, and_case, enabled, default_of, begins_select, is_ready, resource_is_ready, none_ready, input_taken, takes_case, takes, takes_default}
 use Rattle.xc_meaning.specs.Texts.Copied.{calls_in}
 use Rattle.xc_meaning.specs.Texts.Select.{case_body, text_enabled, text_default}
+use Rattle.xc_meaning.proofs.TextWords.{guard_is, timing_is}
 use Rattle.xc_meaning.proofs.Simulation.KernelItems.{kernel_body, kernel_choice, kernel_items, of_body}
 use Rattle.xc_meaning.proofs.Simulation.Mixed.{Ahead, mixed, with_ahead, mixed_step}
 use Rattle.xc_meaning.proofs.Simulation.Alike.{goes_to_alike, goes_to_by, errs_alike, port_alike, timer_alike, only_if_same}
@@ -62,7 +63,10 @@ enabled_alike store c scope tree.no_case = refl
 enabled_alike store c scope (tree.more_cases (tree.case pos guard None ss) cs) = enabled_alike store c scope cs
 enabled_alike store c scope (tree.more_cases (tree.case pos guard (Some input) ss) cs) =
     ap (and_case store (maybe_expression c scope guard) (input_of c scope input) (kernel_body (case_body c scope pos (Some input) ss))) (enabled_alike store c scope cs)
-    ∙ and_case_alike store (maybe_expression c scope guard) (input_of c scope input) (case_body c scope pos (Some input) ss) (text_enabled store c scope cs)
+    ∙ (and_case_alike store (maybe_expression c scope guard) (input_of c scope input) (case_body c scope pos (Some input) ss) (text_enabled store c scope cs)
+    ∙ λ i. kernel_enabled (guarded_case (guard_is c scope store guard i)
+    (timed_case (input_of c scope input) (case_body c scope pos (Some input) ss) (text_enabled store c scope cs) (timing_is c scope store input.time input.condition i))
+    (text_enabled store c scope cs)))
 
 pub default_alike : (c : Context) (scope : Scope) (cs : tree.Cases) → default_of (cases_copy (calls_in c) cs c scope).otherwise ≡ option_map kernel_body (text_default c scope cs)
 default_alike c scope tree.no_case = refl

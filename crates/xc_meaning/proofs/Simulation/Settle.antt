@@ -1,16 +1,18 @@
 -- All sound items settle.
-use Rattle.std.proofs.Common.{◌≡◌, List, [], ◌∷◌, refl, ◌∙◌, ap}
+use Rattle.std.proofs.Common.{◌≡◌, List, [], ◌∷◌, option_map, refl, ◌∙◌, ap}
 use Rattle.xc_tree.specs.Plain as tree
 use Rattle.xc_kernel.specs.Programs.{Function}
 use Rattle.xc_kernel.specs.Flow.{turn}
 use Rattle.xc_meaning.specs.States.Items.{Loop, TextItem, statement, name, bound, body, first_test, again, again_do, returned, Item, does, says, stores, mark, awaits, transaction_end, chooses, fixed, ends, todo}
+use Rattle.xc_meaning.specs.Settings.Flow.{chooses_side}
 use Rattle.xc_meaning.specs.Texts.Items.{maybe_items}
-use Rattle.xc_meaning.specs.Texts.Loops.{turn_context, test_in, turn_item, turn_items}
+use Rattle.xc_meaning.specs.Texts.Loops.{turn_context, turn_item, turn_items}
 use Rattle.xc_kernel.specs.Paths.{path_of_turn}
-use Rattle.xc_meaning.proofs.Simulation.KernelItems.{loop_path, loop_body, loop_of, kernel_items, of_maybe, of_statement_body}
+use Rattle.xc_meaning.proofs.Simulation.KernelItems.{test_in, loop_path, loop_body, loop_of, kernel_items, of_maybe, of_statement_body}
 use Rattle.xc_meaning.proofs.Simulation.Alike.{tests_alike}
+use Rattle.xc_meaning.proofs.TextWords.{test_is}
 use Rattle.xc_meaning.proofs.Simulation.Calls.{AllEnd}
-use Rattle.xc_meaning.proofs.Simulation.Ready.{with_rest, same, loops, repeats, returns_it, nothing, Settles, settled, settled_plain, settles_by, body_meets, settle_name, settle_action}
+use Rattle.xc_meaning.proofs.Simulation.Ready.{with_rest, after, same, loops, repeats, returns_it, nothing, Settles, settled, settled_plain, settles_by, body_meets, settle_name, settle_action}
 use Rattle.xc_meaning.proofs.Simulation.Sound.{SoundItem, SoundItems}
 
 -- a turn of a kernel's loop is what a turn of the text's stands for
@@ -31,7 +33,10 @@ module _ (fs : List Function) (end : AllEnd fs) where
   settle_text (first_test l) rest fine h = settled (first_test l) rest (loops l refl (λ s. refl))
   settle_text (again l) rest fine h =
       settled (again l) rest (same (loop_of l) (kernel_items rest) refl
-      (record { step = λ os items s fits. tests_alike os items (with_rest s rest) (test_in l.context l.scope l.test) _ _ (turn_items l rest) rest (of_turn l rest) refl }))
+      (record {
+        step = λ os items s fits. tests_alike os items (with_rest s rest) (test_in l.context l.scope l.test) _ _ (turn_items l rest) rest (of_turn l rest) refl
+            ∙ ap (λ v. option_map (after os s) (chooses_side (with_rest s rest) v (turn_items l rest) rest)) (test_is l.context l.scope s.world.store l.test);
+      }))
   settle_text (again_do l) rest fine h = settled (again_do l) rest (repeats l refl)
   settle_text (returned e c) rest fine h = settled (returned e c) rest (returns_it c e refl (λ s. refl))
 

@@ -1,6 +1,6 @@
 -- Sound states: each item of a text stands in a program of the same functions, and the test of a `do` in front of its mark. Steps
 -- keep states sound.
-use Rattle.std.proofs.Common.{◌≡◌, ℕ, zero, suc, ◌+◌, ◌-◌, Bool, true, false, List, [], ◌∷◌, ◌++◌, length, Option, Some, None, slice_get, slice_set, nat_eq, refl, sym, append-nil}
+use Rattle.std.proofs.Common.{subst, ◌≡◌, ℕ, zero, suc, ◌+◌, ◌-◌, Bool, true, false, List, [], ◌∷◌, ◌++◌, length, Option, Some, None, slice_get, slice_set, nat_eq, refl, sym, append-nil}
 use Rattle.xw_words.specs.declared.pos.Pos.{Pos}
 use Rattle.xs_instr.specs.declared.trace.Trap.{Trap}
 use Rattle.xs_instr.specs.declared.trace.Trap.TheVariants.{Mismatch}
@@ -27,8 +27,8 @@ use Rattle.xc_meaning.specs.States.Items.{Loop, TextItem, statement, name, bound
 use Rattle.xc_meaning.specs.States.Branches.{Branch, waits, side_of}
 use Rattle.xc_meaning.specs.States.Worlds.{World, only_if}
 use Rattle.xc_meaning.specs.Settings.Setting.{Setting, becomes, goes_to, errs, kind_of, with_value}
-use Rattle.xc_meaning.specs.Settings.Stores.{stored, assigned}
-use Rattle.xc_meaning.specs.Settings.Flow.{items_by, tests, from_mark_by, items_from_mark, leaves}
+use Rattle.xc_meaning.specs.Settings.Stores.{stored, assigned, Spot, assigned_at}
+use Rattle.xc_meaning.specs.Settings.Flow.{items_by, tests, from_mark_by, items_from_mark, leaves, chooses_side}
 use Rattle.xc_meaning.specs.Settings.Par.{Begun, all_begun, children, makes}
 use Rattle.xc_meaning.specs.Settings.Channels.{Manner, plain, inside, manner_of, parcel_at, has_room, outputs, inputs_parcel, awaits_parcel, awaits_answer}
 use Rattle.xc_meaning.specs.Settings.Transactions as transaction
@@ -39,10 +39,14 @@ use Rattle.xc_meaning.specs.Settings.Kernel.{does_statement}
 use Rattle.xc_meaning.specs.Texts.Copied.{behind, behind_name, behind_branch, block_in}
 use Rattle.xc_meaning.specs.Texts.Items.{name_items, statement_items, maybe_items, statements_items}
 use Rattle.xc_meaning.specs.Texts.Calls.{passing_items, parameter_items, call_items, with_result, begins_call, calls, stores_right}
-use Rattle.xc_meaning.specs.Texts.Loops.{turn_context, test_in, loop_mark, turn_item, turn_items, tests_first, while_loop}
+use Rattle.xc_meaning.specs.Texts.Loops.{turn_context, loop_mark, turn_item, turn_items, tests_first, while_loop, test_value}
 use Rattle.xc_meaning.specs.Texts.Par.{branches_begun, copies_begun, branch_begun}
-use Rattle.xc_meaning.specs.Texts.Select.{case_body, text_enabled, text_default}
+use Rattle.xc_meaning.specs.Texts.Select.{case_body, text_enabled, text_default, guard_in}
 use Rattle.xc_meaning.specs.Texts.Statements.{assigns_by, returns_word, returns_value, says_item, does_action}
+use Rattle.xc_meaning.specs.Texts.Transfers.{timing_in, outputs_text, inputs_text}
+use Rattle.xc_meaning.specs.Texts.Words.{value_in, spot_in, word_spot}
+use Rattle.xc_meaning.proofs.TextWords.{outputs_is, inputs_is}
+use Rattle.xc_kernel.specs.Numbering.{variable_number}
 
 -- items that begin with one
 pub record Begins (item : Item) (items : List Item) : Type 0 where
@@ -250,12 +254,18 @@ module _ (fs : List Function) where
     pub keeps_assigned : (place : kernel.Place) (e : kernel.Expression) → Keeps s (assigned s place e)
     keeps_assigned place e = keeps_value s (eval s.world.store e) _ (keeps_stored place)
 
+    pub keeps_assigned_at : (spot : Spot) (v : Value) → Keeps s (assigned_at s spot v)
+    keeps_assigned_at spot v = keeps_value s v _ (λ w. keeps_value s spot.index _ (λ i. keeps_goes s s.rest hr))
+
     keeps_items : (b : Bool) (held other : List Item) → SoundItems held → SoundItems other → Kept s (goes_to s (items_by b held other))
     keeps_items true held other h g = keeps_goes s held h
     keeps_items false held other h g = keeps_goes s other g
 
+    pub keeps_side_by : (v : Value) (held other : List Item) → SoundItems held → SoundItems other → Keeps s (chooses_side s v held other)
+    keeps_side_by v held other h g = keeps_value s v _ (λ w. keeps_items (is_true w) held other h g)
+
     pub keeps_tests : (test : kernel.Expression) (held other : List Item) → SoundItems held → SoundItems other → Keeps s (tests s test held other)
-    keeps_tests test held other h g = keeps_value s (eval s.world.store test) _ (λ v. keeps_items (is_true v) held other h g)
+    keeps_tests test held other h g = keeps_side_by (eval s.world.store test) held other h g
 
     pub keeps_leaves : (n : ℕ) → Keeps s (leaves s n)
     keeps_leaves n = keeps_goes s (items_from_mark n s.rest) (sound_from_mark n s.rest hr)
@@ -335,6 +345,13 @@ module _ (fs : List Function) where
         keeps_timing s (timing s.world.store input.time input.condition) _ (λ when. keeps_if s (timer_may_pass s when) _ (keeps_goes s _ (sound_storing input.target _ s.rest hr)))
     keeps_inputs input (Chan c) = keeps_side s (side_of s.branch c) _ (λ side. keeps_input c input.target input.pos side (manner_of s c) (parcel_at s c side))
 
+    -- those of a text
+    pub keeps_outputs_text : (c : Context) (scope : Scope) (o : tree.Output) (r : KRes) → Keeps s (outputs_text s c scope o r)
+    keeps_outputs_text c scope o r = subst (Keeps s) (outputs_is s c scope o r) (keeps_outputs (output_of c scope o) r)
+
+    pub keeps_inputs_text : (c : Context) (scope : Scope) (i : tree.Input) (r : KRes) → Keeps s (inputs_text s c scope i r)
+    keeps_inputs_text c scope input r = subst (Keeps s) (inputs_is s c scope input r) (keeps_inputs (input_of c scope input) r)
+
     pub keeps_fixed : (i : kernel.Input) (v counter : ℕ) (r : KRes) → Keeps s (inputs_fixed s i v counter r)
     keeps_fixed input v counter (Port p) = keeps_goes s _ (sound_two input.target input.stamp v counter)
     keeps_fixed input v counter (Timer t) = keeps_goes s _ (sound_storing input.target v s.rest hr)
@@ -399,7 +416,8 @@ module _ (fs : List Function) where
   sound_text_enabled store c scope tree.no_case fine = tt
   sound_text_enabled store c scope (tree.more_cases (tree.case pos guard None ss) cs) fine = sound_text_enabled store c scope cs fine
   sound_text_enabled store c scope (tree.more_cases (tree.case pos guard (Some input) ss) cs) fine =
-      sound_and_case store (maybe_expression c scope guard) (input_of c scope input) (case_body c scope pos (Some input) ss) (text_enabled store c scope cs) fine (sound_text_enabled store c scope cs fine)
+      sound_guarded (guard_in c scope store guard) (timed_case (input_of c scope input) (case_body c scope pos (Some input) ss) (text_enabled store c scope cs) (timing_in c scope store input.time input.condition)) (text_enabled store c scope cs)
+      (sound_timed (input_of c scope input) (case_body c scope pos (Some input) ss) (text_enabled store c scope cs) (timing_in c scope store input.time input.condition) fine (sound_text_enabled store c scope cs fine)) (sound_text_enabled store c scope cs fine)
 
   sound_default : (d : kernel.Default) → SoundDefault (default_of d)
   sound_default kernel.no_default = tt
@@ -454,51 +472,54 @@ module _ (fs : List Function) where
     keeps_calls : (c : Context) (scope : Scope) (call : tree.Call) (left : List Item) → c.functions ≡ fs → SoundItems left → Keeps s (calls s c scope call left)
     keeps_calls c scope call left fine h = keeps_called c scope call.called.pos call.arguments left (called c call) fine h
 
-    keeps_right : (c : Context) (scope : Scope) (place : kernel.Place) (r : tree.RightSide) → c.functions ≡ fs → Keeps s (stores_right s c scope place r)
-    keeps_right c scope place (tree.value e) fine = keeps_assigned s hr place (expression c scope e)
-    keeps_right c scope place (tree.result call) fine = keeps_calls c scope call (does (kernel.set place (value_of c scope (tree.result call))) ∷ s.rest) fine hr
+    keeps_right : (c : Context) (scope : Scope) (spot : Spot) (place : kernel.Place) (r : tree.RightSide) → c.functions ≡ fs → Keeps s (stores_right s c scope spot place r)
+    keeps_right c scope spot place (tree.value e) fine = keeps_assigned_at s hr spot (value_in c scope s.world.store e)
+    keeps_right c scope spot place (tree.result call) fine = keeps_calls c scope call (does (kernel.set place (value_of c scope (tree.result call))) ∷ s.rest) fine hr
 
     keeps_declares : (d : tree.Declaration) (k : tree.Kind) (c : Context) (scope : Scope) → c.functions ≡ fs → Keeps s (Rattle.xc_meaning.specs.Texts.Declarations.declares_kind s c scope d k)
     keeps_declares d (tree.word u None) c scope fine = keeps_goes s s.rest hr
-    keeps_declares d (tree.word u (Some r)) c scope fine = keeps_right c (declares_word c d.name.text d.name.pos u scope).scope (word_at c (path_at c.path d.name.pos)) r fine
+    keeps_declares d (tree.word u (Some r)) c scope fine = keeps_right c (declares_word c d.name.text d.name.pos u scope).scope (word_spot (variable_number c.numbering (path_at c.path d.name.pos))) (word_at c (path_at c.path d.name.pos)) r fine
     keeps_declares d (tree.array u length at) c scope fine = keeps_goes s s.rest hr
     keeps_declares d (tree.channel is_streaming) c scope fine = keeps_goes s s.rest hr
     keeps_declares d tree.timer c scope fine = keeps_goes s s.rest hr
 
     keeps_assigns : (b : Bool) (c : Context) (scope : Scope) (to : tree.Expression) (symbol : ℕ) (sign : Pos) (r : tree.RightSide) → c.functions ≡ fs → Keeps s (assigns_by b s c scope to symbol sign r)
-    keeps_assigns true c scope to symbol sign r fine = keeps_right c scope (place c scope to) r fine
-    keeps_assigns false c scope to symbol sign r fine = keeps_assigned s hr (place c scope to) (updated c.numbering scope to symbol sign (right_is_unsigned scope r) (value_of c scope r))
+    keeps_assigns true c scope to symbol sign r fine = keeps_right c scope (spot_in c scope s.world.store to) (place c scope to) r fine
+    keeps_assigns false c scope to symbol sign r fine = keeps_assigned_at s hr (spot_in c scope s.world.store to) _
 
     sound_turns : (l : Loop) (rest : List Item) → l.context.functions ≡ fs → SoundItems rest → SoundItems (turn_items l rest)
     sound_turns l rest fine h = (fine, tt, sound_maybe l.next l.context l.scope (says (again l) ∷ rest) fine (fine, tt, h))
 
     keeps_tests_first : (l : Loop) → l.context.functions ≡ fs → Keeps s (tests_first s l)
     keeps_tests_first l fine =
-        keeps_tests s hr (test_in l.context l.scope l.test) (turn_items l (loop_mark l ∷ s.rest)) (loop_mark l ∷ s.rest) (sound_turns l (loop_mark l ∷ s.rest) fine hr) hr
+        keeps_side_by s hr (test_value l.context l.scope s.world.store l.test) (turn_items l (loop_mark l ∷ s.rest)) (loop_mark l ∷ s.rest) (sound_turns l (loop_mark l ∷ s.rest) fine hr) hr
+
+    keeps_returned : (c : Context) (v : Value) → Keeps s (with_value s v (returns_word s c))
+    keeps_returned c v =
+        keeps_value s v (returns_word s c)
+        (λ v. keeps_stored (record s { rest = items_from_mark (block_in c c.returns) s.rest }) (sound_from_mark (block_in c c.returns) s.rest hr) (word_at c c.result) v)
 
     pub keeps_returns : (c : Context) (e : kernel.Expression) → Keeps s (returns_value s c e)
-    keeps_returns c e =
-        keeps_value s (eval s.world.store e) (returns_word s c)
-        (λ v. keeps_stored (record s { rest = items_from_mark (block_in c c.returns) s.rest }) (sound_from_mark (block_in c c.returns) s.rest hr) (word_at c c.result) v)
+    keeps_returns c e = keeps_returned c (eval s.world.store e)
 
     keeps_action : (a : tree.Action) (pos close : Pos) (c : Context) (scope : Scope) → c.functions ≡ fs → Keeps s (does_action s c scope pos close a)
     keeps_action tree.empty pos close c scope fine = keeps_goes s s.rest hr
     keeps_action (tree.block ss) pos close c scope fine = keeps_goes s _ (sound_statements ss c scope s.rest fine hr)
     keeps_action (tree.declare ds) pos close c scope fine = keeps_goes s _ (sound_names ds c scope s.rest fine hr)
     keeps_action (tree.assign to symbol sign r) pos close c scope fine = keeps_assigns (nat_eq symbol equals) c scope to symbol sign r fine
-    keeps_action (tree.step to symbol) pos close c scope fine = keeps_assigned s hr (place c scope to) (updated c.numbering scope to symbol pos false (kernel.number 1))
+    keeps_action (tree.step to symbol) pos close c scope fine = keeps_assigned_at s hr (spot_in c scope s.world.store to) _
     keeps_action (tree.perform (tree.value e)) pos close c scope fine = keeps_goes s s.rest hr
     keeps_action (tree.perform (tree.result call)) pos close c scope fine = keeps_calls c scope call s.rest fine hr
-    keeps_action (tree.output o) pos close c scope fine = keeps_outputs s hr (output_of c scope o) (output_of c scope o).resource
-    keeps_action (tree.input input) pos close c scope fine = keeps_inputs s hr (input_of c scope input) (input_of c scope input).resource
+    keeps_action (tree.output o) pos close c scope fine = keeps_outputs_text s hr c scope o (output_of c scope o).resource
+    keeps_action (tree.input input) pos close c scope fine = keeps_inputs_text s hr c scope input (input_of c scope input).resource
     keeps_action (tree.if_then test a b) pos close c scope fine =
-        keeps_tests s hr (expression c scope test) (statement_items a c scope s.rest) (maybe_items b c (behind a c scope) s.rest) (sound_statement a c scope s.rest fine hr) (sound_maybe b c (behind a c scope) s.rest fine hr)
+        keeps_side_by s hr (value_in c scope s.world.store test) (statement_items a c scope s.rest) (maybe_items b c (behind a c scope) s.rest) (sound_statement a c scope s.rest fine hr) (sound_maybe b c (behind a c scope) s.rest fine hr)
     keeps_action (tree.while_loop test inner) pos close c scope fine = keeps_tests_first (while_loop test inner pos c scope) fine
     keeps_action (tree.do_while inner test) pos close c scope fine = keeps_goes s _ (fine, tt, (fine, record { behind = s.rest; is = refl }, hr))
     keeps_action (tree.for_loop first test next inner) pos close c scope fine = keeps_goes s _ (sound_maybe first c scope _ fine (fine, tt, hr))
     keeps_action (tree.return_with None) pos close c scope fine = keeps_leaves s hr _
     keeps_action (tree.return_with (Some (tree.value e))) pos close c scope fine =
-        keeps_returns c (expression c scope e)
+        keeps_returned c (value_in c scope s.world.store e)
     keeps_action (tree.return_with (Some (tree.result call))) pos close c scope fine = keeps_calls c scope call _ fine (tt, tt, hr)
     keeps_action tree.break_out pos close c scope fine = keeps_leaves s hr _
     keeps_action tree.continue_on pos close c scope fine = keeps_leaves s hr _
@@ -513,6 +534,6 @@ module _ (fs : List Function) where
     keeps_says bound fine before = keeps_goes s s.rest hr
     keeps_says (body block ss c scope) fine before = keeps_goes s _ (sound_statements ss c scope _ fine hr)
     keeps_says (first_test l) fine before = keeps_tests_first l fine
-    keeps_says (again l) fine before = keeps_tests s hr (test_in l.context l.scope l.test) (turn_items l s.rest) s.rest (sound_turns l s.rest fine hr) hr
-    keeps_says (again_do l) fine before = keeps_tests s hr (test_in l.context (behind l.body (turn_context l) l.scope) l.test) (turn_item l ∷ says (again_do l) ∷ s.rest) s.rest (fine, tt, (fine, before, hr)) hr
+    keeps_says (again l) fine before = keeps_side_by s hr (test_value l.context l.scope s.world.store l.test) (turn_items l s.rest) s.rest (sound_turns l s.rest fine hr) hr
+    keeps_says (again_do l) fine before = keeps_side_by s hr (test_value l.context (behind l.body (turn_context l) l.scope) s.world.store l.test) (turn_item l ∷ says (again_do l) ∷ s.rest) s.rest (fine, tt, (fine, before, hr)) hr
     keeps_says (returned e c) fine before = keeps_returns c e

@@ -1,19 +1,23 @@
 -- Tests, loops, and blocks that are left.
 use Rattle.std.specs.Prelude.{ℕ, Bool, true, false, List, [], ◌∷◌, Option, Some, nat_eq}
 use Rattle.xc_kernel.specs.Plain as kernel
-use Rattle.xc_kernel.specs.Values.{is_true}
+use Rattle.xc_kernel.specs.Values.{Value, is_true}
+use Rattle.xc_kernel.specs.Eval.{eval}
 use Rattle.xc_meaning.specs.States.Items.{Item, does, mark, todo}
 use Rattle.xc_meaning.specs.States.Worlds.{World}
-use Rattle.xc_meaning.specs.Settings.Setting.{Setting, goes_to, with_word_of}
+use Rattle.xc_meaning.specs.Settings.Setting.{Setting, goes_to, with_value}
 
 -- by whether a test holds
 abbrev pub items_by : Bool → (held other : List Item) → List Item
 items_by true held other = held
 items_by false held other = other
 
--- the items of the side that a test chooses are left
+-- the items of the side that a test's value chooses are left
+abbrev pub chooses_side : Setting → Value → (held other : List Item) → Option World
+chooses_side s v held other = with_value s v (λ w. Some (goes_to s (items_by (is_true w) held other)))
+
 abbrev pub tests : Setting → kernel.Expression → (held other : List Item) → Option World
-tests s test held other = with_word_of s test (λ v. Some (goes_to s (items_by (is_true v) held other)))
+tests s test held other = chooses_side s (eval s.world.store test) held other
 
 -- one turn of a kernel's loop, and the loop again
 abbrev pub turn_items : kernel.Expression → (body next : kernel.Statements) → List Item → List Item

@@ -1,7 +1,7 @@
 -- Words are stored.
 use Rattle.std.specs.Prelude.{ℕ, length, Option, Some}
 use Rattle.xc_kernel.specs.Plain as kernel
-use Rattle.xc_kernel.specs.Values.{tested}
+use Rattle.xc_kernel.specs.Values.{Value, tested}
 use Rattle.xc_kernel.specs.Eval.{words_of}
 use Rattle.xc_meaning.specs.States.Worlds.{World, with_word, with_zeros}
 use Rattle.xc_meaning.specs.Settings.Setting.{Setting, goes_on, with_value, with_word_of}
@@ -10,7 +10,20 @@ use Rattle.xc_meaning.specs.Settings.Setting.{Setting, goes_on, with_value, with
 abbrev pub stored_in : Setting → (variable : ℕ) → ℕ → (index : ℕ) → Option World
 stored_in s variable v i = Some (with_word (goes_on s) variable i v)
 
--- a word is stored at a place; the index of an element is evaluated now, and tested
+-- where a word is stored: in a variable, at an index, which may be an error
+pub record Spot : Type 0 where
+  pub variable : ℕ
+  pub index : Value
+
+-- a word is stored there
+abbrev pub stored_at : Setting → Spot → ℕ → Option World
+stored_at s spot v = with_value s spot.index (stored_in s spot.variable v)
+
+-- a value is stored there; what it errs by comes first
+abbrev pub assigned_at : Setting → Spot → Value → Option World
+assigned_at s spot v = with_value s v (stored_at s spot)
+
+-- a word is stored at a place of the kernel; the index of an element is evaluated now, and tested
 abbrev pub stored : Setting → kernel.Place → ℕ → Option World
 stored s (kernel.word variable) v = stored_in s variable v 0
 stored s (kernel.element variable index pos) v =

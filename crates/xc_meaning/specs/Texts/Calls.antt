@@ -8,13 +8,14 @@ use Rattle.xc_kernel.specs.Paths.{Path}
 use Rattle.xc_kernel.specs.Numbering.{variable_number}
 use Rattle.xc_kernel.specs.Scopes.{Scope}
 use Rattle.xc_kernel.specs.Programs.{Function}
-use Rattle.xc_kernel.specs.Context.{Context, in_function, expression}
+use Rattle.xc_kernel.specs.Context.{Context, in_function}
 use Rattle.xc_kernel.specs.Parameters.{passed, all_passed}
 use Rattle.xc_kernel.specs.Calls.{path_of_call, path_of_result, called, value_of}
 use Rattle.xc_meaning.specs.States.Items.{bound, Item, does, says, todo}
 use Rattle.xc_meaning.specs.States.Worlds.{World, with_zeros}
 use Rattle.xc_meaning.specs.Settings.Setting.{Setting, goes_to}
-use Rattle.xc_meaning.specs.Settings.Stores.{assigned}
+use Rattle.xc_meaning.specs.Settings.Stores.{Spot, assigned_at}
+use Rattle.xc_meaning.specs.Texts.Words.{value_in}
 use Rattle.xc_meaning.specs.Texts.Items.{body_item}
 
 -- a parameter: what is stored for it, or it stands for its argument
@@ -51,8 +52,8 @@ begins_call s c scope pos args rest (Some f) =
 abbrev pub calls : Setting → Context → Scope → tree.Call → List Item → Option World
 calls s c scope call rest = begins_call s c scope call.called.pos call.arguments rest (called c call)
 
--- the right side's value is stored at a place, or the result of its call once that is done
-abbrev pub stores_right : Setting → Context → Scope → kernel.Place → tree.RightSide → Option World
-stores_right s c scope place (tree.value e) = assigned s place (expression c scope e)
-stores_right s c scope place (tree.result call) =
+-- the right side's value is stored at a spot, or the result of its call once that is done, at its place
+abbrev pub stores_right : Setting → Context → Scope → Spot → kernel.Place → tree.RightSide → Option World
+stores_right s c scope spot place (tree.value e) = assigned_at s spot (value_in c scope s.world.store e)
+stores_right s c scope spot place (tree.result call) =
     calls s c scope call (does (kernel.set place (value_of c scope (tree.result call))) ∷ s.rest)

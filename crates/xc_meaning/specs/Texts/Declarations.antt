@@ -8,12 +8,13 @@ use Rattle.xc_kernel.specs.Context.{Context, word_at, declares_word}
 use Rattle.xc_meaning.specs.States.Worlds.{World}
 use Rattle.xc_meaning.specs.Settings.Setting.{Setting, goes_on}
 use Rattle.xc_meaning.specs.Settings.Stores.{zeroed}
+use Rattle.xc_meaning.specs.Texts.Words.{word_spot}
 use Rattle.xc_meaning.specs.Texts.Calls.{stores_right}
 
 -- a variable of this path begins
 abbrev pub begins_word : Setting → Context → Scope → Path → Option tree.RightSide → Option World
 begins_word s c scope path None = zeroed s (variable_number c.numbering path)
-begins_word s c scope path (Some r) = stores_right s c scope (word_at c path) r
+begins_word s c scope path (Some r) = stores_right s c scope (word_spot (variable_number c.numbering path)) (word_at c path) r
 
 -- by what is declared; a word's initialiser knows the word itself, and a channel or timer has no words
 abbrev pub declares_kind : Setting → Context → Scope → tree.Declaration → tree.Kind → Option World

@@ -1,16 +1,17 @@
 -- Loops. A loop's block, which `break` leaves, ends behind it; each turn is a body, whose block `continue` leaves.
-use Rattle.std.specs.Prelude.{List, ◌∷◌, Option, Some}
+use Rattle.std.specs.Prelude.{List, ◌∷◌, Option, Some, None}
 use Rattle.xw_words.specs.declared.pos.Pos.{Pos}
 use Rattle.xc_tree.specs.Plain as tree
-use Rattle.xc_kernel.specs.Plain as kernel
 use Rattle.xc_kernel.specs.Paths.{path_at, path_of_turn}
 use Rattle.xc_kernel.specs.Scopes.{Scope}
-use Rattle.xc_kernel.specs.Context.{Context, in_loop, maybe_expression}
-use Rattle.xc_kernel.specs.Flow.{test_or_true}
+use Rattle.xc_kernel.specs.Context.{Context, in_loop}
+use Rattle.xc_kernel.specs.Values.{Value, word}
+use Rattle.xc_kernel.specs.Eval.{Store}
 use Rattle.xc_meaning.specs.States.Items.{Loop, first_test, again, again_do, Item, says, mark}
 use Rattle.xc_meaning.specs.States.Worlds.{World}
 use Rattle.xc_meaning.specs.Settings.Setting.{Setting, goes_to}
-use Rattle.xc_meaning.specs.Settings.Flow.{tests}
+use Rattle.xc_meaning.specs.Settings.Flow.{chooses_side}
+use Rattle.xc_meaning.specs.Texts.Words.{value_in}
 use Rattle.xc_meaning.specs.Texts.Copied.{behind, block_in}
 use Rattle.xc_meaning.specs.Texts.Items.{maybe_items, body_item}
 
@@ -30,17 +31,19 @@ loop_mark l = mark (block_in l.context (path_at l.context.path l.pos))
 abbrev pub turn_items : Loop → List Item → List Item
 turn_items l rest = turn_item l ∷ maybe_items l.next l.context l.scope (says (again l) ∷ rest)
 
-abbrev pub test_in : Context → Scope → Option tree.Expression → kernel.Expression
-test_in c scope test = test_or_true (maybe_expression c scope test)
+-- the value of a test; without one a loop goes on for ever
+abbrev pub test_value : Context → Scope → Store → Option tree.Expression → Value
+test_value c scope store None = word 1
+test_value c scope store (Some e) = value_in c scope store e
 
 -- the test of a `while` or `for`, with these items behind the loop
 abbrev pub tests_loop : Setting → Loop → List Item → Option World
-tests_loop s l rest = tests s (test_in l.context l.scope l.test) (turn_items l rest) rest
+tests_loop s l rest = chooses_side s (test_value l.context l.scope s.world.store l.test) (turn_items l rest) rest
 
 -- the test of a `do`, which knows the names behind the body
 abbrev pub tests_do : Setting → Loop → Option World
 tests_do s l =
-    tests s (test_in l.context (behind l.body (turn_context l) l.scope) l.test) (turn_item l ∷ says (again_do l) ∷ s.rest) s.rest
+    chooses_side s (test_value l.context (behind l.body (turn_context l) l.scope) s.world.store l.test) (turn_item l ∷ says (again_do l) ∷ s.rest) s.rest
 
 -- the first test of a `while` or `for`
 abbrev pub tests_first : Setting → Loop → Option World

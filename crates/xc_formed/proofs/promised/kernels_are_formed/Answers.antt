@@ -1,4 +1,5 @@
 use Rattle.xc_formed.proofs.Formed.{variables_right, operands_right, levels_few, transfers_right, transactions_listed, exits_inside, cores_right, well_formed, of_programs, cores_own}
+use Rattle.xc_formed.proofs.FewRoots.{parts_are_few}
 use Rattle.xc_formed.proofs.promised.kernels_are_formed.Goals as goal
 
 pub returns-clause-variables : goal.returns-clause-variables
@@ -30,3 +31,6 @@ returns-clause-of_programs c = of_programs
 
 pub returns-clause-own : goal.returns-clause-own
 returns-clause-own c = cores_own
+
+pub returns-clause-few : goal.returns-clause-few
+returns-clause-few c = parts_are_few
