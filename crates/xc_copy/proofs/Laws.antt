@@ -7,6 +7,7 @@ pub mod Operators
 pub mod Expressions
 pub mod Flow
 pub mod Parameters
+pub mod Unknown
 pub mod Transfers
 pub mod Growth
 pub mod Parts

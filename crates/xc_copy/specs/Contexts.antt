@@ -3,9 +3,15 @@ use Rattle.std.specs.Prelude.{ℕ, ◌+◌, List, [], ◌∷◌}
 use Rattle.std.specs.Borrow.{Bor}
 use Rattle.xc_kernel.specs.Scopes.{Scope, a_port, with_name}
 use Rattle.xc_kernel.specs.Context as spec
-use Rattle.xc_copy.specs.Functions.{functions_of}
+use Rattle.xc_kernel.specs.Programs.{Function}
+use Rattle.xc_copy.specs.Functions.{functions_among}
 use Rattle.xc_copy.specs.Numbers.{numbering_of}
 use Rattle.xc_copy.specs.declared.context.Context.{Context}
+use Rattle.xc_copy.specs.declared.functions.Functions.{Functions}
+
+-- the functions, in the order of the text
+abbrev pub functions_of : Functions → List Function
+functions_of fs = functions_among fs.all.items
 
 -- the names of ports, which have the numbers from n on
 abbrev pub ports_from : ℕ → List (Bor (List ℕ)) → Scope

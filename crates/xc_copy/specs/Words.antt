@@ -1,37 +1,8 @@
--- The words of values, and the operators that give them.
+-- The words of values.
 use Rattle.std.specs.Prelude.{ℕ, Option, Some, None}
-use Rattle.xc_kernel.specs.Operators as spec
 use Rattle.xc_kernel.specs.Values.{Value, word, error}
-use Rattle.xc_copy.specs.declared.eval.Operator.{Operator}
-use Rattle.xc_copy.specs.declared.eval.Operator.TheVariants.{BelowLength, Choose, BitAnd, BitOr, BitXor, Flip, NotTrue, Plus, Minus, Times, Divide, Remainder, Less, Greater, Equal, Differs, AtMost, AtLeast, Both, Either, ShiftUp, ShiftDown, NoOperator}
 
 -- the word that a value is, if it is one
 abbrev pub word_in : Value → Option ℕ
 word_in (word v) = Some v
 word_in (error kind pos) = None
-
--- the operator that one stands for
-abbrev pub operator_meant : Operator → spec.Operator
-operator_meant BelowLength = spec.below_length
-operator_meant Choose = spec.choose
-operator_meant BitAnd = spec.bit_and
-operator_meant BitOr = spec.bit_or
-operator_meant BitXor = spec.bit_xor
-operator_meant Flip = spec.flip
-operator_meant NotTrue = spec.not_true
-operator_meant Plus = spec.plus
-operator_meant Minus = spec.minus
-operator_meant Times = spec.times
-operator_meant Divide = spec.divide
-operator_meant Remainder = spec.remainder
-operator_meant Less = spec.less
-operator_meant Greater = spec.greater
-operator_meant Equal = spec.equal
-operator_meant Differs = spec.differs
-operator_meant AtMost = spec.at_most
-operator_meant AtLeast = spec.at_least
-operator_meant Both = spec.both
-operator_meant Either = spec.either
-operator_meant ShiftUp = spec.shift_up
-operator_meant ShiftDown = spec.shift_down
-operator_meant NoOperator = spec.no_operator

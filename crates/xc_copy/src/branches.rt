@@ -5,7 +5,6 @@ ghost use Rattle.xc_tree.specs.Trees as tree;
 ghost use Rattle.xc_tree.specs.Plain as plain;
 ghost use Rattle.xc_kernel.specs.Context as contexts;
 ghost use Rattle.xc_kernel.specs.Flow as flow;
-ghost use Rattle.xc_kernel.specs.Paths as paths;
 ghost use Rattle.xc_kernel.specs.Statements as spec;
 ghost use Rattle.xc_copy.specs.Contexts.{context_of};
 ghost use Rattle.xc_copy.specs.Copied.{copy_of};
@@ -19,7 +18,7 @@ use crate::paths::path_of_branch;
 use crate::scope::{Entity, Scope};
 use std::alloc::Global;
 use xc_tree::{Branch, Id};
-use xw_words::{List, Memory};
+use xw_words::Memory;
 
 // Calls are copied at most `calls` deep.
 impl<'p, 'a> Context<'p, 'a> {
@@ -62,7 +61,7 @@ impl<'p, 'a> Context<'p, 'a> {
             ≡ spec.branch_copy (spec.calls_copy calls) (tree.branch_of b.now)
             (contexts.in_branch (context_of self.now) index) (scope_of scope.old)) }
     {
-        let path = self.branch_path(alloc, index)?;
+        let path = path_of_branch(alloc, self.path, index)?;
         let copied = (&*self)
             .in_branch(path.as_slice())
             .statement(alloc, calls, &b.body, scope)?;
@@ -120,15 +119,5 @@ impl<'p, 'a> Context<'p, 'a> {
         let copied = self.branch(alloc, calls, index as usize, b, scope)?;
         scope.leave(known);
         Ok(copied)
-    }
-
-    /// The path of a branch. The one error is want of memory, or of numbers for 2^32 branches.
-    pub fn branch_path(&self, alloc: Global, index: usize) -> Result<List<u32>, Memory>
-        ensures { IfOk result (λ path. path ≡ paths.path_of_branch self.now.path.now index) }
-    {
-        match u32::try_from(index) {
-            Ok(index) => path_of_branch(alloc, self.path, index),
-            Err(_) => Err(Memory),
-        }
     }
 }

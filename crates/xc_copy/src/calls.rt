@@ -3,7 +3,7 @@
 //! What is put together once the walk has come back is no step of the walk, and stands out of line: a chain of calls holds the
 //! frames of all its steps at once, so they are to be small.
 
-ghost use Rattle.std.specs.Prelude.{◌≡◌, ◌≤◌, ◌-◌, IfOk, map, false};
+ghost use Rattle.std.specs.Prelude.{◌≡◌, ◌<◌, ◌≤◌, ◌-◌, ◌^◌, IfOk, length, map, false};
 ghost use Rattle.xc_tree.specs.Trees as tree;
 ghost use Rattle.xc_kernel.specs.Calls as calls_spec;
 ghost use Rattle.xc_kernel.specs.Context as contexts;
@@ -41,8 +41,9 @@ impl<'p, 'a> Context<'p, 'a> {
         args: &'a [Arg],
         scope: &Scope<'a>,
     ) -> Result<Copied, Memory>
-        requires { height
+        requires height { height
             (tree.statement_of function.now.body) ≤ deepest self.now.functions.now.all.items }
+        requires parameters { length function.now.params < 2 ^ 32 }
         ensures { IfOk result (λ copied. copy_of copied (scope_of scope.now)
             ≡ spec.calls_copy calls (context_of self.now) (scope_of scope.now)
             (function_of function.now) pos (map tree.argument_of args.now)) }
@@ -66,8 +67,9 @@ impl<'p, 'a> Context<'p, 'a> {
         args: &'a [Arg],
         scope: &Scope<'a>,
     ) -> Result<Copied, Memory>
-        requires { height
+        requires height { height
             (tree.statement_of function.now.body) ≤ deepest self.now.functions.now.all.items }
+        requires parameters { length function.now.params < 2 ^ 32 }
         ensures { IfOk result
             (λ copied. copy_of copied (scope_of scope.now) ≡ calls_spec.function_copy
             (spec.statement_copy (spec.calls_copy calls)) (context_of self.now) (scope_of
@@ -91,7 +93,7 @@ impl<'p, 'a> Context<'p, 'a> {
     }
 
     /// A call, by the copies of its arguments and of its function's body: its instance and its result stand before them. The
-    /// one error is want of memory, or of numbers for 2^32 parameters.
+    /// one error is want of memory.
     #[inline(never)]
     pub fn around_body(
         &self,
@@ -102,6 +104,7 @@ impl<'p, 'a> Context<'p, 'a> {
         passed: Copied,
         body: Result<Copied, Memory>,
     ) -> Result<Copied, Memory>
+        requires parameters { length function.now.params < 2 ^ 32 }
         ensures { IfOk result (λ copied. (entered inner behind : Names) (whole : copies.Copy) →
             IfOk body (λ b. copy_of b inner ≡ whole) → copy_of copied behind
             ≡ copies.in_scope_of behind (calls_spec.naming_none (copies.joined
@@ -123,16 +126,14 @@ impl<'p, 'a> Context<'p, 'a> {
         Ok(copied.naming_none(alloc))
     }
 
-    /// An instance of a function, on the core of the call. The one error is want of memory, or of numbers for 2^32 parameters.
+    /// An instance of a function, on the core of the call. The one error is want of memory.
     #[inline(never)]
     pub fn instance(&self, alloc: Global, function: &FuncItem) -> Result<Copied, Memory>
+        requires parameters { length function.now.params < 2 ^ 32 }
         ensures { IfOk result (λ copied. (behind : Names) → copy_of copied behind
             ≡ calls_spec.instance_of (context_of self.now) (function_of function.now) behind) }
     {
-        let params = match u32::try_from(function.params.len()) {
-            Ok(params) => params,
-            Err(_) => return Err(Memory),
-        };
+        let params = function.params.len() as u32;
         let copied = Copied::nothing(alloc).and_instance(Inst {
             core: self.core,
             params,

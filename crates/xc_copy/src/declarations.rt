@@ -2,8 +2,11 @@
 
 ghost use Rattle.std.specs.Prelude.{◌≡◌, ◌-◌, IfOk, map, option_map};
 ghost use Rattle.xc_tree.specs.Trees as tree;
+ghost use Rattle.xc_kernel.specs.Context as contexts;
+ghost use Rattle.xc_kernel.specs.Copy as copies;
 ghost use Rattle.xc_kernel.specs.Declarations as declarations;
 ghost use Rattle.xc_kernel.specs.Paths as paths;
+ghost use Rattle.xc_kernel.specs.Scopes.{Scope as Names};
 ghost use Rattle.xc_kernel.specs.Statements as spec;
 ghost use Rattle.xc_copy.specs.Contexts.{context_of};
 ghost use Rattle.xc_copy.specs.Copied.{copy_of};
@@ -121,11 +124,27 @@ impl<'p, 'a> Context<'p, 'a> {
             (paths.path_at self.now.path.now pos) unsigned words) }
     {
         let path = path_at(alloc, self.path, pos)?;
-        let variable = self.array_variable(alloc, words, path.as_slice(), pos);
-        let zeroed = Copied::one_statement(alloc, self.set_zero(path.as_slice()));
+        let zeroed = self.zeroed_array(alloc, words, path.as_slice(), pos);
         let declared = scope.declare(name, Entity::Array(path, words, unsigned));
-        let made = both(zeroed, variable);
-        let (_, (zeroed, variable)) = both(declared, made)?;
+        let (_, copied) = both(declared, zeroed)?;
+        Ok(copied)
+    }
+
+    /// The copy of the array of this path, whose words become 0. The one error is want of memory.
+    fn zeroed_array(
+        &self,
+        alloc: Global,
+        words: u32,
+        path: &[u32],
+        pos: Pos,
+    ) -> Result<Copied, Memory>
+        ensures { IfOk result
+            (λ copied. (behind : Names) → copy_of copied behind ≡ copies.with_variable
+            (copies.one_statement behind (contexts.set_zero (context_of self.now) path.now))
+            (contexts.array_variable (context_of self.now) words path.now pos)) }
+    {
+        let variable = self.array_variable(alloc, words, path, pos)?;
+        let zeroed = Copied::one_statement(alloc, self.set_zero(path))?;
         let copied = zeroed.and_variable(variable)?;
         Ok(copied)
     }

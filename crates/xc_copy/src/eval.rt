@@ -3,84 +3,13 @@ ghost use Rattle.xw_words.specs.declared.pos.Pos.{Pos};
 ghost use Rattle.xw_words.specs.Words as words;
 ghost use Rattle.xc_kernel.specs.Kernels as kernel;
 ghost use Rattle.xc_kernel.specs.Eval as spec;
-ghost use Rattle.xc_kernel.specs.Operators as operators;
 ghost use Rattle.xc_kernel.specs.Plain as plain;
 ghost use Rattle.xc_kernel.specs.Values as values;
-ghost use Rattle.xc_copy.specs.Words.{operator_meant, word_in};
+ghost use Rattle.xc_kernel.specs.Meant.{operator_meant};
+ghost use Rattle.xc_copy.specs.Words.{word_in};
 
-use xc_kernel::{Kx, Place};
+use xc_kernel::{Kx, Operator, Place, operator_at};
 use xw_words::{ashr, div_s, div_u, less_s, rem_s, rem_u, shl, shr};
-
-/// What a symbol does to the words of its operands.
-#[derive(Clone, Copy)]
-enum Operator {
-    /// `[`: the test of an index against a length.
-    BelowLength,
-    /// `? :`
-    Choose,
-    BitAnd,
-    BitOr,
-    BitXor,
-    Flip,
-    NotTrue,
-    Plus,
-    Minus,
-    Times,
-    Divide,
-    Remainder,
-    Less,
-    Greater,
-    Equal,
-    Differs,
-    AtMost,
-    AtLeast,
-    /// `&&`
-    Both,
-    /// `||`
-    Either,
-    ShiftUp,
-    ShiftDown,
-    NoOperator,
-}
-
-/// In the order of the symbols.
-const OPERATORS: [Operator; 35] = [
-    Operator::NoOperator,
-    Operator::NoOperator,
-    Operator::NoOperator,
-    Operator::NoOperator,
-    Operator::BelowLength,
-    Operator::NoOperator,
-    Operator::NoOperator,
-    Operator::NoOperator,
-    Operator::NoOperator,
-    Operator::Choose,
-    Operator::BitAnd,
-    Operator::BitOr,
-    Operator::BitXor,
-    Operator::Flip,
-    Operator::NotTrue,
-    Operator::Plus,
-    Operator::Minus,
-    Operator::Times,
-    Operator::Divide,
-    Operator::Remainder,
-    Operator::Less,
-    Operator::Greater,
-    Operator::NoOperator,
-    Operator::NoOperator,
-    Operator::NoOperator,
-    Operator::NoOperator,
-    Operator::NoOperator,
-    Operator::Equal,
-    Operator::Differs,
-    Operator::AtMost,
-    Operator::AtLeast,
-    Operator::Both,
-    Operator::Either,
-    Operator::ShiftUp,
-    Operator::ShiftDown,
-];
 
 /// The word that an expression has where no variable has words, or `None` for an error.
 #[cycle(eval)]
@@ -125,18 +54,6 @@ fn eval_operation(operator: Operator, unsigned: bool, operands: &[Kx]) -> Option
                 eval(third)
             }
         }
-    }
-}
-
-/// The operator of a symbol.
-fn operator_at(symbol: u8) -> Operator
-    ensures { operator_meant result ≡ operators.operator_at symbol }
-{
-    let place = usize::from(symbol);
-    if place < OPERATORS.len() {
-        OPERATORS[place]
-    } else {
-        Operator::NoOperator
     }
 }
 

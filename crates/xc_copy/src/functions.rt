@@ -1,8 +1,9 @@
-ghost use Rattle.std.specs.Prelude.{◌≡◌, ◌≤◌, [], ◌∷◌, ◌++◌, length, IfOk, OnOk, option_map};
+ghost use Rattle.std.specs.Prelude.{◌≡◌, ◌<◌, ◌≤◌, ◌^◌, [], ◌∷◌, ◌++◌, length, IfOk, OnOk, option_map};
+ghost use Rattle.std.specs.List.{All};
 ghost use Rattle.std.specs.Option.{IfSome};
 ghost use Rattle.xc_tree.specs.Trees.{program_of, item_of, statement_of};
 ghost use Rattle.xc_kernel.specs.Programs as spec;
-ghost use Rattle.xc_copy.specs.Functions.{function_of, functions_among, functions_of, deepest};
+ghost use Rattle.xc_copy.specs.Functions.{HasFewParameters, function_of, functions_among, deepest};
 ghost use Rattle.xc_copy.specs.Heights.{height};
 
 use std::alloc::Global;
@@ -13,14 +14,16 @@ use xw_words::Memory;
 #[derive(Drop)]
 pub struct Functions<'a> {
     all: Vec<&'a FuncItem>,
+    ghost few_parameters: { All HasFewParameters (functions_among all.items) },
 }
 
 impl<'a> Functions<'a> {
     #[tactic(auto, using(crate::proofs::Laws::Functions::functions_step))]
     /// Those of a tree. The one error is want of memory.
     pub fn of_tree(alloc: Global, tree: &'a Tree) -> Result<Functions<'a>, Memory>
-        ensures { IfOk result
-            (λ functions. functions_of functions ≡ spec.functions (program_of tree.now)) }
+        requires parameters { All HasFewParameters (spec.functions (program_of tree.now)) }
+        ensures { IfOk result (λ functions.
+            functions_among functions.all.items ≡ spec.functions (program_of tree.now)) }
     {
         let mut all = Vec::new(alloc);
         for item in tree.items.as_slice() {
@@ -31,7 +34,7 @@ impl<'a> Functions<'a> {
 
     /// How many there are.
     pub fn len(&self) -> usize
-        ensures { result ≡ length (functions_of self.now) }
+        ensures { result ≡ length (functions_among self.now.all.items) }
     {
         self.all.len()
     }
@@ -40,9 +43,10 @@ impl<'a> Functions<'a> {
     /// The first function of a name, if there is one.
     pub fn named(&self, name: &[u8]) -> Option<&'a FuncItem>
         ensures function { option_map (λ f. function_of f.now) result
-            ≡ spec.function_named (functions_of self.now) name.now }
+            ≡ spec.function_named (functions_among self.now.all.items) name.now }
         ensures depth { IfSome result
             (λ f. height (statement_of f.now.body) ≤ deepest self.now.all.items) }
+        ensures parameters { IfSome result (λ f. length f.now.params < 2 ^ 32) }
     {
         for function in &self.all {
             if function.name.text.as_slice() == name {

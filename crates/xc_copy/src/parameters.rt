@@ -183,11 +183,7 @@ impl<'p, 'a> Context<'p, 'a> {
                     self.by_element(alloc, scope, own, pos, index, argument.pos, array)
                 }
             },
-            Ex::Num(_, _) => stands_for(alloc, None),
-            Ex::Un(_, _) => stands_for(alloc, None),
-            Ex::Bin(_, _, _) => stands_for(alloc, None),
-            Ex::Cond(_, _, _) => stands_for(alloc, None),
-            Ex::Cast(_, _) => stands_for(alloc, None),
+            _ => stands_for(alloc, None),
         }
     }
 
@@ -222,13 +218,7 @@ impl<'p, 'a> Context<'p, 'a> {
                     entity: Entity::Element(array, own, *unsigned),
                 })
             }
-            Entity::Word(_, _) => stands_for(alloc, None),
-            Entity::Element(_, _, _) => stands_for(alloc, None),
-            Entity::Channel(_) => stands_for(alloc, None),
-            Entity::Timer(_) => stands_for(alloc, None),
-            Entity::Port(_) => stands_for(alloc, None),
-            Entity::Constant(_) => stands_for(alloc, None),
-            Entity::Unknown => stands_for(alloc, None),
+            _ => stands_for(alloc, None),
         }
     }
 
@@ -281,12 +271,7 @@ fn by_name(alloc: Global, scope: &Scope, argument: &Expr) -> Result<Handed, Memo
 {
     match &argument.kind {
         Ex::Name(name) => stands_for(alloc, scope.entity(name.as_slice())),
-        Ex::Num(_, _) => stands_for(alloc, None),
-        Ex::Index(_, _) => stands_for(alloc, None),
-        Ex::Un(_, _) => stands_for(alloc, None),
-        Ex::Bin(_, _, _) => stands_for(alloc, None),
-        Ex::Cond(_, _, _) => stands_for(alloc, None),
-        Ex::Cast(_, _) => stands_for(alloc, None),
+        _ => stands_for(alloc, None),
     }
 }
 

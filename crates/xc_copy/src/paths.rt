@@ -4,6 +4,9 @@ ghost use Rattle.xc_kernel.specs.Paths as spec;
 use std::alloc::{AllocError, Global};
 use xw_words::{List, Memory, Pos};
 
+/// How many words there are.
+const WORDS: usize = 1 << 32;
+
 /// The path from an instance to what is called or declared in it at a place. The one error is want of memory.
 pub fn path_at(alloc: Global, path: &[u32], pos: Pos) -> Result<List<u32>, Memory>
     ensures { IfOk result (λ longer. longer ≡ spec.path_at path.now pos) }
@@ -12,11 +15,13 @@ pub fn path_at(alloc: Global, path: &[u32], pos: Pos) -> Result<List<u32>, Memor
     Ok(longer)
 }
 
-/// The path from an instance to a branch of a `par` in it. The one error is want of memory.
-pub fn path_of_branch(alloc: Global, path: &[u32], index: u32) -> Result<List<u32>, Memory>
+/// The path from an instance to a branch of a `par` in it, by the branch's index. The one error is want of memory.
+pub fn path_of_branch(alloc: Global, path: &[u32], index: usize) -> Result<List<u32>, Memory>
     ensures { IfOk result (λ longer. longer ≡ spec.path_of_branch path.now index) }
 {
-    let longer = extended(alloc, path, &[0, index])?;
+    let low = (index % WORDS) as u32;
+    let high = (index / WORDS) as u32;
+    let longer = extended(alloc, path, &[0, low, 0, high])?;
     Ok(longer)
 }
 

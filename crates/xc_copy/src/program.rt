@@ -1,4 +1,5 @@
 ghost use Rattle.std.specs.Prelude.{◌≡◌, ◌<◌, ◌≤◌, ◌^◌, [], ◌∷◌, ◌++◌, length, IfOk, OnOk, map, option_map};
+ghost use Rattle.std.specs.List.{All};
 ghost use Rattle.xc_tree.specs.Trees.{program_of, item_of, port_of};
 ghost use Rattle.xc_kernel.specs.Copies.{Copies};
 ghost use Rattle.xc_kernel.specs.Counts.{statements_of};
@@ -9,8 +10,8 @@ ghost use Rattle.xw_words.specs.Ports.{identifiers};
 ghost use Rattle.xc_kernel.specs.Kernels.{kernel_of, root_of};
 ghost use Rattle.xc_kernel.specs.Ports as ports_spec;
 ghost use Rattle.xc_kernel.specs.Programs as programs;
-ghost use Rattle.xc_copy.specs.Contexts.{ports_from};
-ghost use Rattle.xc_copy.specs.Functions.{function_of, functions_of};
+ghost use Rattle.xc_copy.specs.Contexts.{functions_of, ports_from};
+ghost use Rattle.xc_copy.specs.Functions.{HasFewParameters, function_of};
 ghost use Rattle.xc_copy.specs.Instances.{instance_count};
 ghost use Rattle.xc_copy.specs.Numbers.{numbering_of};
 ghost use Rattle.xc_copy.specs.Ports.{names_among, names_of_ports};
@@ -32,10 +33,11 @@ const MAIN: &[u8] = b"main";
 
 /// The kernel of a program: the program with each call replaced by its function's body over instances of its own. The tree is
 /// walked twice, for the instances and then for the statements, which mean instances by their places. The one error is want of
-/// memory, or of numbers for 2^32 branches of a `par`.
+/// memory.
 pub fn copy(alloc: Global, tree: &Tree) -> Result<Kernel, Memory>
     requires small { statements_of (program_of tree.now) ≤ most_statements }
     requires ports { length (programs.ports (program_of tree.now)) < 2 ^ 32 }
+    requires parameters { All HasFewParameters (programs.functions (program_of tree.now)) }
     ensures { IfOk result (λ k. Copies (program_of tree.now) (kernel_of k)) }
 {
     let functions = Functions::of_tree(alloc, tree);

@@ -1,4 +1,4 @@
-ghost use Rattle.std.specs.Prelude.{◌≡◌, ◌≤◌, ◌-◌, [], IfOk, OnOk, map, option_map};
+ghost use Rattle.std.specs.Prelude.{◌≡◌, ◌<◌, ◌≤◌, ◌-◌, ◌^◌, [], length, IfOk, OnOk, map, option_map};
 ghost use Rattle.xc_tree.specs.Plain as plain;
 ghost use Rattle.xc_tree.specs.Trees as tree;
 ghost use Rattle.xc_tree.specs.declared.tree.Stmt.{out-Stmt};
@@ -89,16 +89,16 @@ impl Rooted {
 }
 
 impl<'p, 'a> Context<'p, 'a> {
-    /// The roots of a program by its main, where that is there. The one error is want of memory, or of numbers for more than
-    /// 2^32 of a kind.
+    /// The roots of a program by its main, where that is there. The one error is want of memory.
     pub fn roots(
         &self,
         alloc: Global,
         calls: usize,
         main: Option<&'a FuncItem>,
     ) -> Result<Rooted, Memory>
-        requires { IfSome main (λ f.
+        requires height { IfSome main (λ f.
             height (tree.statement_of f.now.body) ≤ deepest self.now.functions.now.all.items) }
+        requires parameters { IfSome main (λ f. length f.now.params < 2 ^ 32) }
         ensures { IfOk result (λ r. rooted_of r (spec.roots_of (calls_copy calls)
             (option_map (λ f. function_of f.now) main.entry) (context_of self.now)).made.scope
             ≡ spec.roots_of (calls_copy calls) (option_map (λ f. function_of f.now) main.entry)
@@ -120,8 +120,9 @@ impl<'p, 'a> Context<'p, 'a> {
         calls: usize,
         main: &'a FuncItem,
     ) -> Result<Rooted, Memory>
-        requires { height
+        requires height { height
             (tree.statement_of main.now.body) ≤ deepest self.now.functions.now.all.items }
+        requires parameters { length main.now.params < 2 ^ 32 }
         ensures { IfOk result (λ r. rooted_of r (spec.roots_of (calls_copy calls)
             (Some (function_of main.now)) (context_of self.now)).made.scope ≡ spec.roots_of
             (calls_copy calls) (Some (function_of main.now)) (context_of self.now)) }
@@ -137,8 +138,9 @@ impl<'p, 'a> Context<'p, 'a> {
 
     /// Main as the one root, by the empty path. The one error is as for `roots`.
     fn main_root(&self, alloc: Global, calls: usize, main: &'a FuncItem) -> Result<Rooted, Memory>
-        requires { height
+        requires height { height
             (tree.statement_of main.now.body) ≤ deepest self.now.functions.now.all.items }
+        requires parameters { length main.now.params < 2 ^ 32 }
         ensures { IfOk result (λ r. rooted_of r (context_of self.now).ports
             ≡ spec.main_root (calls_copy calls) (function_of main.now) (context_of self.now)) }
     {
@@ -159,6 +161,7 @@ impl<'p, 'a> Context<'p, 'a> {
         calls: usize,
         main: &'a FuncItem,
     ) -> Result<Rooted, Memory>
+        requires parameters { length main.now.params < 2 ^ 32 }
         ensures { IfOk result (λ r. rooted_of r (spec.placed_roots (calls_copy calls)
             (function_of main.now) (context_of self.now)).made.scope
             ≡ spec.placed_roots (calls_copy calls) (function_of main.now) (context_of self.now)) }
@@ -242,7 +245,7 @@ impl<'p, 'a> Context<'p, 'a> {
             main (plain.branches (map tree.branch_of bs.now)) 0 (context_of self.now))) }
     {
         for (index, b) in bs.iter().enumerate() {
-            let path = self.branch_path(alloc, index)?;
+            let path = path_of_branch(alloc, self.path, index)?;
             (&*self)
                 .in_branch(path.as_slice())
                 .branch_root(alloc, calls, main, b, rooted, scope)?;
@@ -270,7 +273,7 @@ impl<'p, 'a> Context<'p, 'a> {
     {
         let known = scope.len();
         for number in from..until {
-            let path = path_of_branch(alloc, self.path, number - from)?;
+            let path = path_of_branch(alloc, self.path, (number - from) as usize)?;
             scope.declare(name.text.as_slice(), Entity::Constant(number))?;
             (&*self)
                 .in_branch(path.as_slice())

@@ -24,7 +24,7 @@ use xw_words::{Memory, Pos};
 
 // Calls are copied at most `calls` deep.
 impl<'p, 'a> Context<'p, 'a> {
-    /// The copy of a statement. The one error is want of memory, or of numbers for more than 2^32 of a kind.
+    /// The copy of a statement. The one error is want of memory.
     #[cycle(statement)]
     pub fn statement(
         &self,

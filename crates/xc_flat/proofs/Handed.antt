@@ -1,17 +1,23 @@
 -- Typed programs that are neither too large nor too deep are copied, and their kernels are handed on.
-use Rattle.std.proofs.Common.{◌≤◌, ◌<◌, ◌^◌, ℕ, Bool, List, [], ◌∷◌, length, inl, inr, arith}
+use Rattle.std.proofs.Common.{◌≤◌, ◌<◌, ◌+◌, ◌^◌, ℕ, Bool, List, [], ◌∷◌, ◌++◌, length, inl, inr, arith}
 use Rattle.std.proofs.lemmas.Bool.{cases_lt}
+use Rattle.std.specs.List.{All}
 use Rattle.xc_tree.specs.Depth as depth
 use Rattle.xc_tree.specs.Derives.{deepest}
+use Rattle.xc_tree.specs.Names.Marks.{each, of_body, of_item, of_items, of_param, of_program}
+use Rattle.xc_tree.specs.declared.names.Mark.TheVariants.{Closes}
+use Rattle.xc_tree.specs.declared.tree.Param.{Param}
 use Rattle.xc_tree.specs.Plain as tree
 use Rattle.xc_tree.specs.Types.Named.{NamedProgram}
 use Rattle.xc_kernel.specs.Plain as kernel
 use Rattle.xc_kernel.specs.Counts.{statements_of}
-use Rattle.xc_kernel.specs.Programs.{ports}
+use Rattle.xc_kernel.specs.Programs.{functions, ports}
 use Rattle.xc_kernel.specs.Copies.{Copies}
 use Rattle.xc_kernel.specs.Size.{IsTooLarge, most_statements}
 use Rattle.xc_kernel.specs.Sound.{IsOfProgram, IsTyped}
+use Rattle.xc_copy.specs.Functions.{HasFewParameters}
 use Rattle.xc_names.proofs.Bounds.{few_items, few_names}
+use Rattle.xc_names.proofs.Declared.{count, count_append}
 
 pub handed_on : {program : List tree.Item} {named : NamedProgram} {types : List Bool} {k : kernel.Kernel} →
     IsTyped program named types → depth.of_program program ≤ deepest → (IsTooLarge program → ⊥) → Copies program k → IsOfProgram k
@@ -42,3 +48,28 @@ few_ports {program} typed =
     let among = ports_among program in
     let items = few_items program in
     omega (arith, all, among, items)
+
+-- a name for each parameter
+params_count : (ps : List Param) → length ps ≤ count (each of_param ps)
+params_count [] = omega arith
+params_count (p ∷ ps) = let h = params_count ps in omega (arith, h)
+
+-- the parameters of each function are among the names of the items
+few_each : (k : ℕ) (items : List tree.Item) → count (of_items k items) < 2 ^ 32 → All HasFewParameters (functions items)
+few_each k [] h = tt
+few_each k (tree.port p ∷ items) h =
+    let e = count_append (of_item k (tree.port p)) (of_items (k + 1) items) in
+    few_each (k + 1) items (omega (arith, e, h))
+few_each k (tree.function head body ∷ items) h =
+    let e = count_append (of_item k (tree.function head body)) (of_items (k + 1) items) in
+    let inside = count_append (each of_param head.params ++ of_body body) (Closes ∷ []) in
+    let own = count_append (each of_param head.params) (of_body body) in
+    let params = params_count head.params in
+    (omega (arith, e, inside, own, params, h), few_each (k + 1) items (omega (arith, e, h)))
+
+-- what was read has no function of 2^32 parameters
+pub few_parameters : {program : List tree.Item} {named : NamedProgram} {types : List Bool} → IsTyped program named types → All HasFewParameters (functions program)
+unfolding of_program
+few_parameters {program} typed =
+    let read = typed.text.read in
+    few_each 0 program (few_names program (record { toks = read.toks; derived = read.derived; few = read.few }))

@@ -33,6 +33,7 @@ pub mod Sourced
 pub mod Worded
 pub mod Given
 pub mod Stored
+pub mod Left
 pub mod Few
 pub mod FewRoots
 pub mod KernelExamples

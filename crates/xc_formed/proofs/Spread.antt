@@ -1,5 +1,6 @@
 -- Instances whose paths go on from one path by differing places.
-use Rattle.std.proofs.Common.{◌≡◌, inl, inr, ℕ, zero, suc, ◌<◌, ◌≤◌, ◌+◌, List, [], ◌∷◌, ◌++◌, refl, sym, ap, subst, ◌∙◌, arith, append_assoc}
+use Rattle.std.proofs.Common.{◌≡◌, inl, inr, ℕ, zero, suc, ◌<◌, ◌≤◌, ◌+◌, ◌*◌, ◌^◌, ◌%◌, ◌/◌, List, [], ◌∷◌, ◌++◌, refl, sym, ap, subst, ◌∙◌, arith, append_assoc}
+use Rattle.std.proofs.Math.Nat.{mod-add-div}
 use Rattle.xw_words.specs.declared.pos.Pos.{Pos}
 use Rattle.xc_kernel.specs.Paths.{Path, path_at, path_of_branch}
 use Rattle.xc_formed.specs.Once.{NoneAt, PathsDiffer}
@@ -81,6 +82,19 @@ pub more_behind : (p x : Path) → 0 < 1 → p ≡ p ++ x → x ≡ []
 more_behind [] x t e = sym e
 more_behind (a ∷ p) x t e = more_behind p x t (tail_same a a p (p ++ x) e)
 
+-- what a branch's index adds to a path
+abbrev of_index : ℕ → Path
+of_index i = 0 ∷ i % 2 ^ 32 ∷ 0 ∷ i / 2 ^ 32 ∷ []
+
+-- no two indices add the same
+one_index : (i j : ℕ) (x y : Path) → of_index i ++ x ≡ of_index j ++ y → i ≡ j
+one_index i j x y e =
+    let behind = tail_same 0 0 (i % 2 ^ 32 ∷ 0 ∷ i / 2 ^ 32 ∷ x) (j % 2 ^ 32 ∷ 0 ∷ j / 2 ^ 32 ∷ y) e in
+    let low = head_same (i % 2 ^ 32) (j % 2 ^ 32) (0 ∷ i / 2 ^ 32 ∷ x) (0 ∷ j / 2 ^ 32 ∷ y) behind in
+    let rest = tail_same (i % 2 ^ 32) (j % 2 ^ 32) (0 ∷ i / 2 ^ 32 ∷ x) (0 ∷ j / 2 ^ 32 ∷ y) behind in
+    let high = head_same (i / 2 ^ 32) (j / 2 ^ 32) x y (tail_same 0 0 (i / 2 ^ 32 ∷ x) (j / 2 ^ 32 ∷ y) rest) in
+    sym (mod-add-div i (2 ^ 32)) ∙ ((λ t. low t + 2 ^ 32 * high t) ∙ mod-add-div j (2 ^ 32))
+
 -- a path that goes on from p by one of some places
 pub record Beneath (p : Path) (ks : List Pos) (x : Path) : Type 0 where
   pub rest : Path
@@ -139,7 +153,7 @@ module _ {V : Type 0} (path_of : V → Path) where
 
   -- in a branch
   in_branch : (p : Path) (i : ℕ) (ks : List Pos) (x : Path) → Beneath (path_of_branch p i) ks x → Beneath p ks x
-  in_branch p i ks x b = record { rest = 0 ∷ i ∷ b.rest; is = b.is ∙ append_assoc p (0 ∷ i ∷ []) b.rest; key = b.key; among = b.among; place = b.place }
+  in_branch p i ks x b = record { rest = of_index i ++ b.rest; is = b.is ∙ append_assoc p (of_index i) b.rest; key = b.key; among = b.among; place = b.place }
 
   pub spread_branch : (p : Path) (i : ℕ) (ks : List Pos) (xs : List V) → Spread (path_of_branch p i) ks xs → Spread p ks xs
   spread_branch p i ks xs s = record { beneath = weaker (λ v. Beneath (path_of_branch p i) ks (path_of v)) (λ v. Beneath p ks (path_of v)) xs (λ v b. in_branch p i ks (path_of v) b) s.beneath; differ = s.differ }
@@ -159,8 +173,7 @@ module _ {V : Type 0} (path_of : V → Path) where
 
   two_indices : (p : Path) (i j : ℕ) (ks : List Pos) (x y : Path) → Beneath (path_of_branch p i) ks x → Beneath (path_of_branch p j) ks y → y ≡ x → i ≡ j
   two_indices p i j ks x y a b e =
-      let same = behind_same p (0 ∷ i ∷ a.rest) (0 ∷ j ∷ b.rest) (sym (append_assoc p (0 ∷ i ∷ []) a.rest) ∙ (sym a.is ∙ (sym e ∙ (b.is ∙ append_assoc p (0 ∷ j ∷ []) b.rest)))) in
-      head_same i j a.rest b.rest (tail_same 0 0 (i ∷ a.rest) (j ∷ b.rest) same)
+      one_index i j a.rest b.rest (behind_same p (of_index i ++ a.rest) (of_index j ++ b.rest) (sym (append_assoc p (of_index i) a.rest) ∙ (sym a.is ∙ (sym e ∙ (b.is ∙ append_assoc p (of_index j) b.rest)))))
 
   pub numbered_next : (p : Path) (from : ℕ) (ks : List Pos) (xs ys : List V) → Spread (path_of_branch p from) ks xs → Numbered p (from + 1) ks ys → Numbered p from ks (xs ++ ys)
   numbered_next p from ks xs ys s t = record {

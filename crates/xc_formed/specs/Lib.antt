@@ -15,4 +15,5 @@ pub mod Sources
 pub mod Words
 pub mod Given
 pub mod Stored
+pub mod Left
 pub mod Laws

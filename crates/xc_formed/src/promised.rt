@@ -2,6 +2,7 @@
 
 ghost use Rattle.xc_formed.specs.Laws.{CodeHasSource, CoresOwn, CoresRight, ExitsInside, KernelsOfProgramsWellFormed, KernelsWellFormed, LevelsFew, NamesResolve, NoInstanceMerged, NoInstanceTwice, OperandsRight, PartsFew, TextsRise, TransactionsListed, TransfersRight, VariablesRight};
 ghost use Rattle.xc_formed.specs.Given.{EachByItsOwn, ElementsGiven, NamesGiven, ResultIsReturned, ValuesGiven};
+ghost use Rattle.xc_formed.specs.Left.{CaseIsLeft, DoIsLeft, ForIsLeft, FunctionIsLeft, WhileIsLeft};
 ghost use Rattle.xc_formed.specs.Stored.{FreshTargetsKept, InputStampsKept, NoneStored, OutputStampsKept, TargetsKept};
 ghost use Rattle.xc_formed.specs.Words.{SpotsKept, StepsKept, UpdatesKept, WordsKept};
 
@@ -77,4 +78,14 @@ pub fn transfers_store_where_told()
     ensures stamps_of_inputs { InputStampsKept }
     ensures stamps_of_outputs { OutputStampsKept }
     ensures nothing_else { NoneStored }
+{}
+
+/// `break` leaves the block around its loop or the body of its case, `continue` the block around
+/// the body of its loop, and `return` the body of its function.
+pub fn blocks_are_left()
+    ensures whiles { WhileIsLeft }
+    ensures dos { DoIsLeft }
+    ensures fors { ForIsLeft }
+    ensures cases { CaseIsLeft }
+    ensures functions { FunctionIsLeft }
 {}

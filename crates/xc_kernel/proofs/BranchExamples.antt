@@ -35,7 +35,7 @@ placed =
 
 -- the path of the call
 abbrev here : List ℕ
-here = 0 ∷ 0 ∷ 3 ∷ 32 ∷ []
+here = 0 ∷ 0 ∷ 0 ∷ 0 ∷ 3 ∷ 32 ∷ []
 
 abbrev placed_kernel : kernel.Kernel
 placed_kernel = record {
@@ -44,7 +44,7 @@ placed_kernel = record {
       ∷ root 1 (at 3 52) (take (Chan 0) (Some (kernel.word 1)) 3 57 ∷ []) 3 57
       ∷ root 3 (at 3 80) (put (Port 0) (word_in 1) 3 89 ∷ []) 3 89
       ∷ [];
-  variables = variable false 0 (here ++ 2 ∷ 26 ∷ []) 2 26 ∷ variable true 1 (0 ∷ 1 ∷ 3 ∷ 66 ∷ []) 3 66 ∷ [];
+  variables = variable false 0 (here ++ 2 ∷ 26 ∷ []) 2 26 ∷ variable true 1 (0 ∷ 1 ∷ 0 ∷ 0 ∷ 3 ∷ 66 ∷ []) 3 66 ∷ [];
   channels = channel (3 ∷ 23 ∷ []) 3 23 ∷ [];
   timers = timer (here ++ 2 ∷ 37 ∷ []) 2 37 ∷ [];
   ports = record { id = 0; dir = Out; core = 1; place = at 1 9; pos = at 1 23 } ∷ [];
@@ -74,7 +74,7 @@ numbered_kernel = record {
       root 1 (at 1 54) (set_word 0 (on_two 17 true (kernel.number 1) (kernel.number 2) 1 76) ∷ []) 1 59
       ∷ root 2 (at 1 54) (set_word 1 (on_two 17 true (kernel.number 2) (kernel.number 2) 1 76) ∷ []) 1 59
       ∷ [];
-  variables = variable true 1 (0 ∷ 0 ∷ 1 ∷ 70 ∷ []) 1 70 ∷ variable true 2 (0 ∷ 1 ∷ 1 ∷ 70 ∷ []) 1 70 ∷ [];
+  variables = variable true 1 (0 ∷ 0 ∷ 0 ∷ 0 ∷ 1 ∷ 70 ∷ []) 1 70 ∷ variable true 2 (0 ∷ 1 ∷ 0 ∷ 0 ∷ 1 ∷ 70 ∷ []) 1 70 ∷ [];
   channels = [];
   timers = [];
   ports = [];
@@ -111,10 +111,10 @@ abbrev replicated_kernel : kernel.Kernel
 replicated_kernel = record {
   roots = root 0 (at 2 6) (block 0 (par (branch_of 0 1 1 5 ∷ branch_of 2 2 3 6 ∷ []) ∷ par [] ∷ []) ∷ []) 2 6 ∷ [];
   variables =
-      variable false 0 (0 ∷ 0 ∷ 2 ∷ 47 ∷ 1 ∷ 12 ∷ []) 1 12
-      ∷ variable true 0 (0 ∷ 0 ∷ 2 ∷ 47 ∷ 1 ∷ 21 ∷ []) 1 21
-      ∷ variable false 0 (0 ∷ 1 ∷ 2 ∷ 47 ∷ 1 ∷ 12 ∷ []) 1 12
-      ∷ variable true 0 (0 ∷ 1 ∷ 2 ∷ 47 ∷ 1 ∷ 21 ∷ []) 1 21
+      variable false 0 (0 ∷ 0 ∷ 0 ∷ 0 ∷ 2 ∷ 47 ∷ 1 ∷ 12 ∷ []) 1 12
+      ∷ variable true 0 (0 ∷ 0 ∷ 0 ∷ 0 ∷ 2 ∷ 47 ∷ 1 ∷ 21 ∷ []) 1 21
+      ∷ variable false 0 (0 ∷ 1 ∷ 0 ∷ 0 ∷ 2 ∷ 47 ∷ 1 ∷ 12 ∷ []) 1 12
+      ∷ variable true 0 (0 ∷ 1 ∷ 0 ∷ 0 ∷ 2 ∷ 47 ∷ 1 ∷ 21 ∷ []) 1 21
       ∷ [];
   channels = [];
   timers = [];

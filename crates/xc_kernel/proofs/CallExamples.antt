@@ -41,7 +41,7 @@ parameters =
 
 -- the path of the call
 abbrev here : List ℕ
-here = 0 ∷ 0 ∷ 5 ∷ 53 ∷ []
+here = 0 ∷ 0 ∷ 0 ∷ 0 ∷ 5 ∷ 53 ∷ []
 
 -- the body of `all`: r is x, and e the tested element
 abbrev body_of_all : List kernel.Statement
@@ -82,7 +82,7 @@ parameters_kernel = record {
       ∷ variable false 0 (here ++ 2 ∷ 5 ∷ []) 2 5
       ∷ variable false 0 (here ++ 2 ∷ 13 ∷ []) 2 13
       ∷ variable false 0 (here ++ 2 ∷ 29 ∷ []) 2 29
-      ∷ variable true 0 (0 ∷ 1 ∷ 5 ∷ 92 ∷ []) 5 92
+      ∷ variable true 0 (0 ∷ 1 ∷ 0 ∷ 0 ∷ 5 ∷ 92 ∷ []) 5 92
       ∷ [];
   channels = channel (5 ∷ 23 ∷ []) 5 23 ∷ [];
   timers = [];

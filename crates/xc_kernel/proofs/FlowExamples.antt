@@ -176,7 +176,7 @@ transaction =
 
 -- the paths of the two calls
 abbrev talk : List ℕ
-talk = 0 ∷ 0 ∷ 3 ∷ 41 ∷ []
+talk = 0 ∷ 0 ∷ 0 ∷ 0 ∷ 3 ∷ 41 ∷ []
 
 abbrev wait : List ℕ
 wait = talk ++ 2 ∷ 33 ∷ []

@@ -1,5 +1,6 @@
 pub mod Forms
 pub mod Paths
+pub mod Tables
 pub mod Instances
 pub mod Roots
 pub mod Written

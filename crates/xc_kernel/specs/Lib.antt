@@ -1,6 +1,7 @@
 pub mod Plain
 pub mod Kernels
 pub mod Operators
+pub mod Meant
 pub mod Types
 pub mod Values
 pub mod Eval

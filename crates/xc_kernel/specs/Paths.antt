@@ -1,6 +1,6 @@
 -- Paths. A path names an instance: the places of the calls and the indices of the branches that lead to it, and the place
 -- where it is declared.
-use Rattle.std.specs.Prelude.{ℕ, suc, Bool, true, false, List, [], ◌∷◌, ◌++◌, ◌||◌, nat_eq}
+use Rattle.std.specs.Prelude.{ℕ, suc, ◌^◌, ◌%◌, ◌/◌, Bool, true, false, List, [], ◌∷◌, ◌++◌, ◌||◌, nat_eq}
 use Rattle.std.specs.Cmp.Lexicographic.{pointwise}
 use Rattle.xw_words.specs.declared.pos.Pos.{Pos}
 
@@ -11,9 +11,10 @@ Path = List ℕ
 abbrev pub path_at : Path → Pos → Path
 path_at path pos = path ++ pos.line ∷ pos.col ∷ []
 
--- from an instance to a branch of a `par` in it; no line has the number 0
+-- from an instance to a branch of a `par` in it, by the two words of the branch's index, the low one first; no line has the
+-- number 0
 abbrev pub path_of_branch : Path → ℕ → Path
-path_of_branch path index = path ++ 0 ∷ index ∷ []
+path_of_branch path index = path ++ 0 ∷ index % 2 ^ 32 ∷ 0 ∷ index / 2 ^ 32 ∷ []
 
 -- from the block that `break` leaves to the one in it that `continue` leaves
 abbrev pub path_of_turn : Path → Path

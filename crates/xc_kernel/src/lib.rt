@@ -4,7 +4,9 @@
 #![tactic(auto)]
 
 mod kernel;
+mod operators;
 mod statement;
 
 pub use kernel::{Chan, Inst, Kernel, PortUse, Root, Timer, Var};
+pub use operators::{Operator, operator_at};
 pub use statement::{KBranch, KCase, KHead, KOut, KRes, KSelect, Kst, Kx, Place};

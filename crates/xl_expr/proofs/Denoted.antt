@@ -1,5 +1,5 @@
 -- What the declared expressions and places say of measures and code.
-use Rattle.std.proofs.Common.{◌≡◌, ℕ, zero, suc, ◌+◌, ◌<◌, ◌≤◌, Bool, List, [], ◌∷◌, ◌++◌, length, get_or, Option, Some, None, sym, ap, ◌∙◌, arith, append_assoc, append-nil}
+use Rattle.std.proofs.Common.{◌≡◌, ℕ, zero, suc, ◌+◌, ◌<◌, ◌≤◌, Bool, List, [], ◌∷◌, ◌++◌, length, get_or, Option, None, sym, ap, ◌∙◌, arith, append-nil}
 use Rattle.std.specs.declared.boxed.Box.{Box}
 use Rattle.std.specs.declared.alloc.Global.{Global}
 use Rattle.xw_words.specs.declared.pos.Pos.{Pos}
@@ -9,12 +9,10 @@ use Rattle.xc_kernel.specs.declared.statement.Place.{Place}
 use Rattle.xc_kernel.specs.declared.statement.Place as P
 use Rattle.xc_kernel.specs.Kernels.{expression_of, place_of}
 use Rattle.xc_kernel.proofs.Forms.{expression-Read, expression-Op, place-Word, place-Elem}
-use Rattle.xs_instr.specs.Lines.{Line, at_pos}
+use Rattle.xs_instr.specs.Lines.{Line}
 use Rattle.xl_expr.specs.declared.plan.VarPlan.{VarPlan}
 use Rattle.xl_expr.specs.Plans.{var_in}
-use Rattle.xs_instr.specs.declared.instr.Instr.{Instr}
-use Rattle.xl_expr.specs.declared.plan.VarAt.{VarAt}
-use Rattle.xl_expr.specs.Code.{word_code, element_code, element_at_place, expression_code, place_code}
+use Rattle.xl_expr.specs.Code.{word_code, element_code, expression_code, place_code}
 use Rattle.xl_expr.specs.Measures.{nodes, nodes_of, nodes_at, depth, depth_of, depth_at}
 use Rattle.xl_expr.specs.Operands.{operands_of}
 use Rattle.xs_instr.specs.declared.instr.Reg.{Reg}
@@ -63,6 +61,13 @@ depth_nth [] i x n e = absurd (omega arith)
 depth_nth (y ∷ xs) zero x n e = let h : depth (expression_of x) ≡ depth (expression_of y) = ap (λ z. depth (expression_of z)) e in omega arith
 depth_nth (y ∷ xs) (suc i) x n e = let h = depth_nth xs i x (omega arith) e in omega arith
 
+-- two operands
+pub two_operands : (xs : List Kx) (x y : Kx) → 2 ≤ length xs → length xs < 3 → x ≡ get_or xs 0 x → y ≡ get_or xs 1 y → xs ≡ x ∷ y ∷ []
+two_operands [] x y n m e f = absurd (omega arith)
+two_operands (a ∷ []) x y n m e f = absurd (omega arith)
+two_operands (a ∷ b ∷ []) x y n m e f = ap (λ (z : Kx). z ∷ b ∷ []) (sym e) ∙ ap (λ (z : Kx). x ∷ z ∷ []) (sym f)
+two_operands (a ∷ b ∷ c ∷ xs) x y n m e f = absurd (omega arith)
+
 -- a variable that the plan does not have
 pub no_word : (vars : List (Option VarPlan)) (p : Place) (v k here : ℕ) (last : Pos) (found : Option VarPlan) (ls : List Line) → p ≡ P.Word v → found ≡ None → found ≡ var_in vars v → ls ≡ ls ++ place_code vars (place_of p) k here last
 no_word vars p v k here last found ls e f g =
@@ -74,27 +79,9 @@ no_word vars p v k here last found ls e f g =
 pub no_element : (vars : List (Option VarPlan)) (p : Place) (v : ℕ) (i : Box Kx Global) (pos : Pos) (k here : ℕ) (last : Pos) (found : Option VarPlan) (ls : List Line) → p ≡ P.Elem v i pos → found ≡ None → found ≡ var_in vars v → ls ≡ ls ++ place_code vars (place_of p) k here last
 no_element vars p v i pos k here last found ls e f g =
     sym (append-nil ls)
-    ∙ ap (λ (o : Option VarPlan). ls ++ element_code o pos (expression_code vars (expression_of i.value)) k here last) (sym f ∙ g)
+    ∙ ap (λ (o : Option VarPlan). ls ++ element_code o (expression_of i.value) pos (expression_code vars (expression_of i.value)) k here last) (sym f ∙ g)
     ∙ ap (λ q. ls ++ place_code vars q k here last) (sym (place-Elem v i pos))
     ∙ ap (λ q. ls ++ place_code vars (place_of q) k here last) (sym e)
-
--- an element, by what the plan has
-pub element_is : (vars : List (Option VarPlan)) (p : Place) (v : ℕ) (i : Box Kx Global) (pos : Pos) (k here : ℕ) (last : Pos) (result : Option VarPlan) (found : VarPlan) → p ≡ P.Elem v i pos → result ≡ Some found → result ≡ var_in vars v → place_code vars (place_of p) k here last ≡ element_code (Some found) pos (expression_code vars (expression_of i.value)) k here last
-element_is vars p v i pos k here last result found e f g =
-    ap (λ q. place_code vars (place_of q) k here last) e
-    ∙ ap (λ q. place_code vars q k here last) (place-Elem v i pos)
-    ∙ ap (λ (o : Option VarPlan). element_code o pos (expression_code vars (expression_of i.value)) k here last) (sym g ∙ f)
-
--- an element's code, where its index's code and some instructions were emitted
-pub element_emitted : (vars : List (Option VarPlan)) (p : Place) (v : ℕ) (i : Box Kx Global) (pos : Pos) (k : ℕ) (last : Pos) (result : Option VarPlan) (found : VarPlan) (place : VarAt) (is : List Instr) (x : Kx) (old e1 e2 : List Line) → ((index : ℕ → ℕ → Pos → List Line) → element_at_place place found.words pos index k (length old) last ≡ index k (length old) last ++ at_pos pos is) → p ≡ P.Elem v i pos → result ≡ Some found → result ≡ var_in vars v → found.place ≡ place → x ≡ i.value → e1 ≡ old ++ expression_code vars (expression_of x) k (length old) last → e2 ≡ e1 ++ at_pos pos is → e2 ≡ old ++ place_code vars (place_of p) k (length old) last
-element_emitted vars p v i pos k last result found place is x old e1 e2 made p_is found_is known at_place x_is h1 h2 =
-    let index = expression_code vars (expression_of i.value) in
-    h2
-    ∙ ap (λ ls. ls ++ at_pos pos is) (h1 ∙ ap (λ y. old ++ expression_code vars (expression_of y) k (length old) last) x_is)
-    ∙ append_assoc old (index k (length old) last) (at_pos pos is)
-    ∙ ap (λ ls. old ++ ls) (sym (made index))
-    ∙ ap (λ (q : VarAt). old ++ element_at_place q found.words pos index k (length old) last) (sym at_place)
-    ∙ ap (λ ls. old ++ ls) (sym (element_is vars p v i pos k (length old) last result found p_is found_is known))
 
 -- stores
 pub nodes_some : (p : Place) → 1 ≤ nodes_at (place_of p)
@@ -110,6 +97,6 @@ no_store vars p v from here last found ls e f g =
 pub no_element_store : (vars : List (Option VarPlan)) (p : Place) (v : ℕ) (i : Box Kx Global) (pos : Pos) (from : Reg) (here : ℕ) (last : Pos) (found : Option VarPlan) (ls : List Line) → p ≡ P.Elem v i pos → found ≡ None → found ≡ var_in vars v → ls ≡ ls ++ store_code vars (place_of p) from here last
 no_element_store vars p v i pos from here last found ls e f g =
     sym (append-nil ls)
-    ∙ ap (λ (o : Option VarPlan). ls ++ element_store o from pos (λ n. expression_code vars (expression_of i.value) 1 n pos) here) (sym f ∙ g)
+    ∙ ap (λ (o : Option VarPlan). ls ++ element_store o (expression_of i.value) from pos (λ n. expression_code vars (expression_of i.value) 1 n pos) here) (sym f ∙ g)
     ∙ ap (λ q. ls ++ store_code vars q from here last) (sym (place-Elem v i pos))
     ∙ ap (λ q. ls ++ store_code vars (place_of q) from here last) (sym e)

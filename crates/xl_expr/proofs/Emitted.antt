@@ -1,16 +1,16 @@
 -- Pieces that are emitted one after another, and holes that land.
-use Rattle.std.proofs.Common.{◌≡◌, ℕ, ◌+◌, Bool, List, [], ◌∷◌, ◌++◌, length, Option, Some, Result, Ok, Err, refl, sym, ap, ◌∙◌, subst, arith, append_assoc, length-append}
+use Rattle.std.proofs.Common.{◌≡◌, ℕ, ◌+◌, Bool, List, [], ◌∷◌, ◌++◌, length, Option, Some, None, Result, Ok, Err, refl, sym, ap, ◌∙◌, subst, arith, append_assoc, length-append}
 use Rattle.std.specs.Prelude.{slice_get, slice_set, OnErr}
 use Rattle.xw_words.specs.declared.pos.Pos.{Pos}
 use Rattle.xs_instr.specs.declared.instr.Instr.{Instr}
 use Rattle.xs_instr.specs.declared.instr.Instr.TheVariants.{Ldwsp, Stwsp, Brff, Brfu}
+use Rattle.xs_instr.specs.declared.instr.Reg.{Reg}
 use Rattle.xs_instr.specs.declared.instr.Reg.TheVariants.{R0, R11}
 use Rattle.xs_instr.specs.Lines.{Line, line, open_line, aimed, with_target, IsOpen, IsOpenLine, landed, landed_at, at_pos}
-use Rattle.xl_expr.specs.declared.operators.Operator.{Operator}
-use Rattle.xl_expr.specs.declared.operators.Operator.TheVariants.{Both, Either}
-use Rattle.xl_expr.specs.Code.{after_main, main_instr, between, behind}
+use Rattle.xc_kernel.specs.Operators as operator
+use Rattle.xl_expr.specs.declared.direct_operand.Direct.{Direct}
+use Rattle.xl_expr.specs.Code.{after_main, main_instr, two_tail, brought, direct_tail}
 use Rattle.xs_instr.specs.Extends.{Extends}
-use Rattle.xl_expr.specs.Meant.{operator_meant}
 use Rattle.xl_expr.specs.Parts.{aimed_code, either_code}
 
 pub at_pos-append : (pos : Pos) (a b : List Instr) → at_pos pos (a ++ b) ≡ at_pos pos a ++ at_pos pos b
@@ -63,31 +63,23 @@ then_code old e1 e2 c f h g =
     ∙ append_assoc old c (f (length old + length c))
 
 -- the code behind the first of two operands: kept
-pub kept_emitted : (o : Operator) (u : Bool) (pos : Pos) (k : ℕ) (old e1 e2 e3 e4 : List Line) (b : ℕ → List Line) → (o ≡ Both → ⊥) → (o ≡ Either → ⊥) → e1 ≡ old ++ line (Stwsp R0 k) pos ∷ [] → e2 ≡ e1 ++ b (length e1) → e3 ≡ e2 ++ at_pos pos (Ldwsp R11 k ∷ main_instr (operator_meant o) u ∷ []) → e4 ≡ e3 ++ at_pos pos (after_main (operator_meant o)) → e4 ≡ old ++ aimed_code (between (operator_meant o) k) pos b (behind (operator_meant o) u k) (length old)
-kept_emitted Both u pos k old e1 e2 e3 e4 b no_both no_either h1 h2 h3 h4 = absurd (no_both refl)
-kept_emitted Either u pos k old e1 e2 e3 e4 b no_both no_either h1 h2 h3 h4 = absurd (no_either refl)
-kept_emitted o u pos k old e1 e2 e3 e4 b no_both no_either h1 h2 h3 h4 = all
-  where
-    two : List Instr
-    two = Ldwsp R11 k ∷ main_instr (operator_meant o) u ∷ []
+pub kept_emitted : (o : operator.Operator) (u : Bool) (pos : Pos) (k : ℕ) (old e1 e2 e3 e4 : List Line) (b : ℕ → List Line) → e1 ≡ old ++ line (Stwsp R0 k) pos ∷ [] → e2 ≡ e1 ++ b (length e1) → e3 ≡ e2 ++ at_pos pos (Ldwsp R11 k ∷ main_instr o u R11 R0 ∷ []) → e4 ≡ e3 ++ at_pos pos (after_main o R11 R0) → e4 ≡ old ++ aimed_code (λ target. Stwsp R0 k) pos b (Ldwsp R11 k ∷ two_tail o u R11 R0) (length old)
+kept_emitted o u pos k old e1 e2 e3 e4 b h1 h2 h3 h4 =
+    let two = Ldwsp R11 k ∷ main_instr o u R11 R0 ∷ [] in
+    let rest = after_main o R11 R0 in
+    let l = line (Stwsp R0 k) pos in
+    let cb = b (length old + 1) in
+    h4
+    ∙ ap (λ x. x ++ at_pos pos rest) h3
+    ∙ append_assoc e2 (at_pos pos two) (at_pos pos rest)
+    ∙ ap (λ x. e2 ++ x) (sym (at_pos-append pos two rest))
+    ∙ ap (λ x. x ++ at_pos pos (two ++ rest)) (behind_line old e1 e2 l b h1 h2)
+    ∙ append_assoc old (l ∷ cb) (at_pos pos (two ++ rest))
 
-    rest : List Instr
-    rest = after_main (operator_meant o)
-
-    l : Line
-    l = line (Stwsp R0 k) pos
-
-    cb : List Line
-    cb = b (length old + 1)
-
-    all : e4 ≡ old ++ ((l ∷ cb) ++ at_pos pos (two ++ rest))
-    all =
-        h4
-        ∙ ap (λ x. x ++ at_pos pos rest) h3
-        ∙ append_assoc e2 (at_pos pos two) (at_pos pos rest)
-        ∙ ap (λ x. e2 ++ x) (sym (at_pos-append pos two rest))
-        ∙ ap (λ x. x ++ at_pos pos (two ++ rest)) (behind_line old e1 e2 l b h1 h2)
-        ∙ append_assoc old (l ∷ cb) (at_pos pos (two ++ rest))
+-- a direct operand's tail, by its two parts
+pub tail_emitted : (o : operator.Operator) (u : Bool) (pos : Pos) (d : Direct) (a b : Reg) (old e1 e2 : List Line) → e1 ≡ old ++ at_pos pos (brought d R11 ∷ main_instr o u a b ∷ []) → e2 ≡ e1 ++ at_pos pos (after_main o a b) → e2 ≡ old ++ at_pos pos (direct_tail o u d None a b)
+tail_emitted o u pos d a b old e1 e2 h1 h2 =
+    h2 ∙ ap (λ x. x ++ at_pos pos (after_main o a b)) h1 ∙ append_assoc old (at_pos pos (brought d R11 ∷ main_instr o u a b ∷ [])) (at_pos pos (after_main o a b))
 
 -- the code behind the first operand of `&&` or `||`
 module _ (jump : Instr) (pos : Pos) (old e1 e2 : List Line) (b : ℕ → List Line) (h : ℕ) (h_is : h ≡ length old) (h1 : e1 ≡ old ++ open_line jump pos ∷ []) (h2 : e2 ≡ e1 ++ b (length e1)) where

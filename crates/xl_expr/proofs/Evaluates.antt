@@ -1,7 +1,6 @@
 -- The code of an expression gives its word in a register, on a core, whatever other threads do.
-use Rattle.std.proofs.Common.{◌≡◌, ℕ, ◌+◌, ◌*◌, ◌≤◌, inl, inr, Bool, false, List, [], ◌∷◌, ◌++◌, length, Option, Some, refl, ap, ◌∙◌, subst, arith, get_or, length-append, suc, zero}
+use Rattle.std.proofs.Common.{◌≡◌, ℕ, ◌+◌, ◌*◌, ◌≤◌, inl, inr, Bool, false, List, [], ◌∷◌, ◌++◌, length, Option, Some, None, refl, sym, ap, ◌∙◌, subst, arith, length-append, suc, zero}
 use Rattle.std.specs.Prelude.{slice_get, bit_or}
-use Rattle.std.proofs.lemmas.Option.{slice_get-get_or, slice_get_within}
 use Rattle.std.specs.Int.Bits.{or_self}
 use Rattle.xw_words.specs.declared.pos.Pos.{Pos}
 use Rattle.xs_instr.specs.declared.image.Code.{Code}
@@ -20,13 +19,16 @@ use Rattle.xs_instr.specs.Lines.{Line, at_pos}
 use Rattle.xs_instr.specs.OwnSteps.{HasRoom, IsApart, RunsAt, StandAt, Within, temporary}
 use Rattle.xl_expr.specs.declared.plan.VarPlan.{VarPlan}
 use Rattle.xl_expr.specs.Measures.{nodes, depth}
-use Rattle.xl_expr.specs.Code.{expression_code, code_to}
+use Rattle.xl_expr.specs.Code.{direct_of, expression_code, code_by, code_to}
+use Rattle.xl_expr.specs.declared.direct_operand.Direct.{Direct}
 use Rattle.xl_expr.specs.Works.{IsLaid, Gives, Outcome, Evaluates, same_reg, is_scratch}
-use Rattle.xl_expr.proofs.Lists.{stand_front, stand_back}
+use Rattle.xl_expr.proofs.Lists.{stand_front, stand_back, room_kept}
 use Rattle.xl_expr.proofs.Ways.{own, Agree, way_on, Fits, way_leads, fails_errs}
 use Rattle.xl_expr.proofs.Runs.{Runs, Ready, by_quiet, IsSaved}
 use Rattle.xl_expr.proofs.Registers.{reg_same, reg_other}
-use Rattle.xl_expr.proofs.Expressions.{expression_means}
+use Rattle.xl_expr.proofs.Pieces.{brings}
+use Rattle.xl_expr.proofs.Operations.{HasDirect}
+use Rattle.xl_expr.proofs.Expressions.{direct_means, expression_means}
 
 pub some_nodes : (x : kernel.Expression) → 1 ≤ nodes x
 some_nodes (kernel.number v) = omega arith
@@ -70,11 +72,7 @@ module _ (home : Home) (relied : ℕ → Bool) (s t : ℕ) (thread : Thread) (a 
 
   -- at the end of a way the thread stands so
   last_there : (words' : List ℕ) → length words' ≡ length a.words → (b : CoreState) → Agree my_code relied (IsApart s) words' b.words → s + temporary ≤ length b.words
-  last_there words' size b agree =
-      let w = room.within in
-      let there = slice_get-get_or words' (s + 511) 0 (omega arith) in
-      let last = slice_get_within b.words (s + 511) (get_or words' (s + 511) 0) (agree.by (s + 511) (room.relied_on 511 (omega arith)) ∙ there) in
-      omega arith
+  last_there words' size b agree = let w = room.within in room_kept relied s room.relied_on words' b.words (omega arith) agree.by
 
   gives_by : (to : Reg) (pc' v : ℕ) (regs' : Regs) (words' : List ℕ) → length words' ≡ length a.words → reg_get regs' to ≡ v → ((r : Reg) → is_scratch r ≡ false → same_reg r to ≡ false → reg_get regs' r ≡ reg_get thread.regs r) → ((w : ℕ) → IsApart s w → slice_get words' w ≡ slice_get a.words w) → (b : CoreState) → Fits my_code relied (IsApart s) t thread (own pc' regs' words') b → Gives relied s t thread a.words to pc' v b
   gives_by to pc' v regs' words' size value others same b f = record { regs = regs'; within = last_there words' size b f.words; here = f.here; value = value; others = others; words = λ w r h. f.words.by w r ∙ same w h }
@@ -121,13 +119,28 @@ module _ (home : Home) (relied : ℕ → Bool) (s t : ℕ) (thread : Thread) (a 
         reaches_on to (pc + length ls + 1) (pc + length (ls ++ tail)) (7 * nodes x + 1) (8 * nodes x) (end_is tail) (omega arith)
         (moves to (pc + length ls) (7 * nodes x) last (eval store x) (stand_back my_code pc ls tail st) (runs_here (stand_front my_code pc ls tail st)))
 
-    pub to_register : (to : Reg) → StandAt my_code pc (code_to vars x to pc last) → Reaches to (pc + length (code_to vars x to pc last)) (8 * nodes x) (eval store x)
-    to_register R0 st =
+    -- by the whole code
+    by_code : (to : Reg) → StandAt my_code pc (code_by None vars x to pc last) → Reaches to (pc + length (code_by None vars x to pc last)) (8 * nodes x) (eval store x)
+    by_code R0 st =
         let ls = expression_code vars x 0 pc last in
         let some = some_nodes x in
         reaches_on R0 (pc + length ls) (pc + length (ls ++ [])) (7 * nodes x + 1) (8 * nodes x) (omega (arith, end_is [])) (omega arith)
         (stays (pc + length ls) (7 * nodes x) (eval store x) (runs_here (stand_front my_code pc ls [] st)))
-    to_register other st = moved other st
+    by_code other st = moved other st
+
+    -- or by one instruction
+    by_direct : (to : Reg) (direct : Option Direct) → HasDirect my_code relied s small room.relied_on thread.regs.dp a.words direct (eval store x) → StandAt my_code pc (code_by direct vars x to pc last) → Reaches to (pc + length (code_by direct vars x to pc last)) (8 * nodes x) (eval store x)
+    by_direct to (Some d) h st =
+        let v = h.0 in
+        let regs1 = reg_set thread.regs to v in
+        let sure = brings my_code relied s small room.relied_on thread.regs.dp a.words d v to thread.regs a.words pc h.2 st.0 ready in
+        let some = some_nodes x in
+        subst (Reaches to (pc + 1) (8 * nodes x)) (sym h.1)
+        (way_leads my_code relied (IsApart s) home t thread at_work.runs at_work.no_events refl _ 1 (8 * nodes x) (own pc thread.regs a.words) (own (pc + 1) regs1 a.words) (omega arith) (own (pc + 1) regs1 a.words, sure, refl) (gives_by to (pc + 1) v regs1 a.words refl (reg_same thread.regs to v) (λ q e ne. reg_other thread.regs to q v ne) (λ w h. refl)) a starts)
+    by_direct to None h st = by_code to st
+
+    pub to_register : (to : Reg) → StandAt my_code pc (code_to vars x to pc last) → Reaches to (pc + length (code_to vars x to pc last)) (8 * nodes x) (eval store x)
+    to_register to st = by_direct to (direct_of vars x) (direct_means my_code relied s small room.relied_on thread.regs.dp a.words vars store x laid) st
 
 -- the public clause, from the code alone
 pub code_evaluates : (vars : List (Option VarPlan)) (x : kernel.Expression) (to : Reg) (pc : ℕ) (last : Pos) → depth x ≤ temporary → Evaluates vars x to pc (code_to vars x to pc last)

@@ -53,10 +53,10 @@ all w = true
 abbrev store : Store
 store = (7 ∷ []) ∷ []
 
-example : Within home all (IsApart 1) 0 (Outcome home all 1 0 thread words R3 6 (word 9)) 24 core
+example : Within home all (IsApart 1) 0 (Outcome home all 1 0 thread words R3 3 (word 9)) 24 core
 example =
     (code_evaluates vars x_and_two R3 0 there (omega arith)).by home all 1 0 thread store core
-    (refl, refl, (refl, refl, (refl, refl, (refl, refl, (refl, refl, (refl, refl, tt))))))
+    (refl, refl, (refl, refl, (refl, refl, tt)))
     (record { here = refl; pc_is = refl; runs = refl; no_events = refl })
     (record { sp_is = refl; small = omega arith; within = omega arith; relied_on = λ k h. refl })
     (record { there = refl; relied_on = refl; apart = inl (omega arith) }, (tt, tt))

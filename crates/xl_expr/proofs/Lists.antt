@@ -1,11 +1,12 @@
 -- Reading a list after one item was written, and code that stands in a listing.
-use Rattle.std.proofs.Common.{◌≡◌, ℕ, zero, suc, ◌+◌, ◌/◌, ◌≢◌, Bool, true, false, List, [], ◌∷◌, ◌++◌, length, Some, refl, sym, ap, ◌∙◌, subst, ⊎_elim, arith}
+use Rattle.std.proofs.Common.{◌≡◌, ℕ, zero, suc, ◌+◌, ◌/◌, ◌<◌, ◌≤◌, ◌≢◌, Bool, true, false, List, [], ◌∷◌, ◌++◌, length, Some, refl, sym, ap, ◌∙◌, subst, ⊎_elim, get_or, arith}
 use Rattle.std.proofs.lemmas.Bool.{cases_eq}
 use Rattle.std.specs.Prelude.{slice_get, slice_set}
+use Rattle.std.proofs.lemmas.Option.{slice_get-get_or, slice_get_within}
 use Rattle.xs_instr.specs.declared.image.Code.{Code}
 use Rattle.xs_instr.specs.Memory.{word_by}
 use Rattle.xs_instr.specs.Lines.{Line}
-use Rattle.xs_instr.specs.OwnSteps.{StandAt}
+use Rattle.xs_instr.specs.OwnSteps.{StandAt, temporary}
 
 pub get_set_same : {X : Type 0} (xs : List X) (i : ℕ) (x y : X) → slice_get xs i ≡ Some x → slice_get (slice_set xs i y) i ≡ Some y
 get_set_same [] i x y h = cc
@@ -39,3 +40,11 @@ stand_back code pc [] b h = let e : pc ≡ pc + 0 = omega arith in subst (λ n. 
 stand_back code pc (i ∷ a) b h =
     let e : pc + 1 + length a ≡ pc + length (i ∷ a) = omega arith in
     subst (λ n. StandAt code n b) e (stand_back code (pc + 1) a b h.2)
+
+-- the temporary words are there still where the words that are relied on are
+pub room_kept : (relied : ℕ → Bool) (s : ℕ) → ((k : ℕ) → k < temporary → relied (s + k) ≡ true) → (xs ys : List ℕ) → s + temporary ≤ length xs → ((w : ℕ) → relied w ≡ true → slice_get ys w ≡ slice_get xs w) → s + temporary ≤ length ys
+room_kept relied s mine xs ys room same =
+    let x = get_or xs (s + 511) 0 in
+    let there : slice_get xs (s + 511) ≡ Some x = slice_get-get_or xs (s + 511) 0 (omega arith) in
+    let last = slice_get_within ys (s + 511) x (same (s + 511) (mine 511 (omega arith)) ∙ there) in
+    omega arith

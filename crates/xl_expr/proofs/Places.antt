@@ -1,5 +1,5 @@
 -- Reading words and elements.
-use Rattle.std.proofs.Common.{◌≡◌, ℕ, ◌+◌, ◌*◌, ◌<◌, ◌≤◌, Bool, true, false, List, [], ◌∷◌, ◌++◌, length, Option, Some, None, refl, sym, ap, ◌∙◌, subst, arith, length-append}
+use Rattle.std.proofs.Common.{◌≡◌, ℕ, ◌+◌, ◌*◌, ◌%◌, ◌^◌, ◌<◌, ◌≤◌, Bool, true, false, List, [], ◌∷◌, ◌++◌, length, Option, Some, None, refl, sym, ap, ◌∙◌, subst, arith, length-append}
 use Rattle.std.specs.Prelude.{slice_get, slice_index, not, nat_eq, nat_lt}
 use Rattle.std.proofs.lemmas.Bool.{ltb-true, lt-ltb}
 use Rattle.std.proofs.lemmas.Option.{slice_get-get_or, get_or_from_slice_get, slice_get_within}
@@ -15,6 +15,7 @@ use Rattle.xs_instr.specs.Did.{makes}
 use Rattle.xs_instr.specs.Memory.{address_at, word_at}
 use Rattle.xs_instr.specs.Registers.{reg_set}
 use Rattle.xs_instr.specs.Rows.{own_row, loads, passes_by}
+use Rattle.xc_kernel.specs.Plain as kernel
 use Rattle.xc_kernel.specs.Values.{Value, word, error, tested}
 use Rattle.xc_kernel.specs.Values.{tested_by as tested_by'}
 use Rattle.xc_kernel.specs.Eval.{Store, element_by, element_at}
@@ -23,7 +24,7 @@ use Rattle.xs_instr.specs.OwnSteps.{IsApart, IsWord, StandAt, temporary}
 use Rattle.xl_expr.specs.declared.plan.VarAt.{VarAt}
 use Rattle.xl_expr.specs.declared.plan.VarAt.TheVariants.{Near, Far, Through}
 use Rattle.xl_expr.specs.declared.plan.VarPlan.{VarPlan}
-use Rattle.xl_expr.specs.Code.{tested_index, word_at_place, word_code, element_at_place, element_code}
+use Rattle.xl_expr.specs.Code.{fixed_index, held_word, tested_index, word_at_place, word_code, element_at_place, element_code}
 use Rattle.xl_expr.specs.Works.{StandFrom, WordStands, ArrayStands, WordIsLaid, ArrayIsLaid}
 use Rattle.xl_expr.proofs.Lists.{stand_front, stand_back}
 use Rattle.xl_expr.proofs.Ways.{own, IsPlain, Sure}
@@ -67,21 +68,28 @@ module _ (code : Code) (relied : ℕ → Bool) (s : ℕ) (small : s + temporary 
       ∙ ap (loads (own pc regs ws) R0) (word_there code relied s dp first regs words (address_at base i) x ready h ws g))
 
   -- a word at an address that a word of dp's holds
-  held_by : (n base x : ℕ) (pos : Pos) (k pc : ℕ) (regs : Regs) (words : List ℕ) → StandAt code pc (at_pos pos (Ldwdp R11 n ∷ Ldc R0 0 ∷ Ldw R0 R11 R0 ∷ [])) → Is_ready regs words → IsWord relied s first (address_at dp n) base → IsWord relied s first (address_at base 0) x → Run regs words pc (pc + 3) k 7 (word x)
-  held_by n base x pos k pc regs words st ready h g =
+  held_by : (n base i x : ℕ) (pos : Pos) (k pc : ℕ) (regs : Regs) (words : List ℕ) → StandAt code pc (at_pos pos (held_word n i)) → Is_ready regs words → IsWord relied s first (address_at dp n) base → IsWord relied s first (address_at base i) x → Run regs words pc (pc + 3) k 7 (word x)
+  held_by n base i x pos k pc regs words st ready h g =
       let regs1 = reg_set regs R11 base in
-      let regs2 = reg_set regs1 R0 0 in
+      let regs2 = reg_set regs1 R0 i in
       let regs3 = reg_set regs2 R0 x in
       let keeps1 = keeps_r11 s k regs words base in
-      let keeps2 = keeps_r0 s k regs1 words 0 in
+      let keeps2 = keeps_r0 s k regs1 words i in
       let keeps3 = keeps_r0 s k regs2 words x in
       let ready1 = ready_kept code relied s dp first k regs words regs1 words ready keeps1 in
       let ready2 = ready_kept code relied s dp first k regs1 words regs2 words ready1 keeps2 in
       looser code relied s regs words pc (pc + 3) (pc + 3) k k (1 + (1 + (1 + 0))) 7 (word x) refl (omega arith) (omega arith)
       (one_on code relied s regs words regs1 words pc (pc + 1) (pc + 3) k (1 + (1 + 0)) (word x) (by_near R11 regs words pc n base st.0 ready h) keeps1
-      (one_on code relied s regs1 words regs2 words (pc + 1) (pc + 1 + 1) (pc + 3) k (1 + 0) (word x) (by_quiet code relied s (Ldc R0 0) regs1 regs2 words (pc + 1) (pc + 1 + 1) st.2.0 (plain_ldc R0 0) (λ ws q. refl)) keeps2
-      (one_on code relied s regs2 words regs3 words (pc + 1 + 1) (pc + 1 + 1 + 1) (pc + 3) k 0 (word x) (by_element regs2 words (pc + 1 + 1) base 0 x st.2.2.0 ready2 refl refl g) keeps3
+      (one_on code relied s regs1 words regs2 words (pc + 1) (pc + 1 + 1) (pc + 3) k (1 + 0) (word x) (by_quiet code relied s (Ldc R0 i) regs1 regs2 words (pc + 1) (pc + 1 + 1) st.2.0 (plain_ldc R0 i) (λ ws q. refl)) keeps2
+      (one_on code relied s regs2 words regs3 words (pc + 1 + 1) (pc + 1 + 1 + 1) (pc + 3) k 0 (word x) (by_element regs2 words (pc + 1 + 1) base i x st.2.2.0 ready2 refl refl g) keeps3
       (done code relied s regs3 words (pc + 1 + 1 + 1) (pc + 3) k 0 x (omega arith) refl))))
+
+  -- a word of dp's comes to r0
+  near_by : (n x k pc : ℕ) (regs : Regs) (words : List ℕ) → slice_get code.instrs pc ≡ Some (Ldwdp R0 n) → Is_ready regs words → IsWord relied s first (address_at dp n) x → Run regs words pc (pc + 1) k 7 (word x)
+  near_by n x k pc regs words stands ready h =
+      let regs1 = reg_set regs R0 x in
+      looser code relied s regs words pc (pc + 1) (pc + 1) k k (1 + 0) 7 (word x) refl (omega arith) (omega arith)
+      (one_on code relied s regs words regs1 words pc (pc + 1) (pc + 1) k 0 (word x) (by_near R0 regs words pc n x stands ready h) (keeps_r0 s k regs words x) (done code relied s regs1 words (pc + 1) (pc + 1) k 0 x refl refl))
 
   -- the word of a variable
   pub word_means : (found : Option VarPlan) (xs : List ℕ) → WordIsLaid vars relied s dp first store found xs → Piece_means (λ k here last. word_code found last) (word (slice_index xs 0)) 1 1
@@ -89,13 +97,9 @@ module _ (code : Code) (relied : ℕ → Bool) (s : ℕ) (small : s + temporary 
   word_means (Some found) xs h = record { by = λ k pc last regs words st fits ready. at_place found.place h k pc last regs words st ready }
     where
       at_place : (place : VarAt) → WordStands vars relied s dp first store place (slice_index xs 0) → (k pc : ℕ) (last : Pos) (regs : Regs) (words : List ℕ) → StandAt code pc (at_pos last (word_at_place place)) → Is_ready regs words → Run regs words pc (pc + length (at_pos last (word_at_place place))) k 7 (word (slice_index xs 0))
-      at_place (Near n) h k pc last regs words st ready =
-          let x = slice_index xs 0 in
-          let regs1 = reg_set regs R0 x in
-          looser code relied s regs words pc (pc + 1) (pc + 1) k k (1 + 0) 7 (word x) refl (omega arith) (omega arith)
-          (one_on code relied s regs words regs1 words pc (pc + 1) (pc + 1) k 0 (word x) (by_near R0 regs words pc n x st.0 ready h) (keeps_r0 s k regs words x) (done code relied s regs1 words (pc + 1) (pc + 1) k 0 x refl refl))
-      at_place (Far n) h k pc last regs words st ready = held_by n h.0 (slice_index xs 0) last k pc regs words st ready h.1 h.2
-      at_place (Through n) h k pc last regs words st ready = held_by n h.0 (slice_index xs 0) last k pc regs words st ready h.1 h.2
+      at_place (Near n) h k pc last regs words st ready = near_by n (slice_index xs 0) k pc regs words st.0 ready h
+      at_place (Far n) h k pc last regs words st ready = held_by n h.0 0 (slice_index xs 0) last k pc regs words st ready h.1 h.2
+      at_place (Through n) h k pc last regs words st ready = held_by n h.0 0 (slice_index xs 0) last k pc regs words st ready h.1 h.2
 
   -- an index in r0 is tested
   pub index_tested : (len : ℕ) (pos : Pos) (i k pc : ℕ) (regs : Regs) (words : List ℕ) → StandAt code pc (at_pos pos (tested_index len)) → regs.r0 ≡ i → Run regs words pc (pc + 3) k 3 (tested i len pos)
@@ -192,27 +196,57 @@ module _ (code : Code) (relied : ℕ → Bool) (s : ℕ) (small : s + temporary 
         is (word i) = refl
         is (error kind p) = refl
 
-  -- an element of an array
-  pub element_means : (found : Option VarPlan) (xs : List ℕ) (pos : Pos) (pi : ℕ → ℕ → Pos → List Line) (vi : Value) (di ni : ℕ) → Piece_means pi vi di ni → ArrayIsLaid vars relied s dp first store found xs vi → Piece_means (element_code found pos pi) (element_at xs pos vi) (1 + di) (1 + ni)
-  element_means None xs pos pi vi di ni mi h = absurd h
-  element_means (Some found) xs pos pi vi di ni mi h = at_place found.place h.1
-    where
-      lengths : (place : VarAt) → Piece_means (element_at_place place (length xs) pos pi) (element_at xs pos vi) (1 + di) (1 + ni) → Piece_means (element_at_place place found.words pos pi) (element_at xs pos vi) (1 + di) (1 + ni)
-      lengths place m = subst (λ n. Piece_means (element_at_place place n pos pi) (element_at xs pos vi) (1 + di) (1 + ni)) (sym h.0) m
+  -- an element at an index that is known
+  known_element : (xs : List ℕ) (pos : Pos) (vi : Value) (j : ℕ) → vi ≡ word j → j < length xs → element_at xs pos vi ≡ word (slice_index xs j)
+  known_element xs pos vi j e lt = ap (element_at xs pos) e ∙ ap (element_by xs pos j) (lt-ltb j (length xs) lt)
 
-      at_place : (place : VarAt) → ArrayStands vars relied s dp first store place xs vi → Piece_means (element_at_place place found.words pos pi) (element_at xs pos vi) (1 + di) (1 + ni)
-      at_place (Near n) g =
+  -- the address of a word of an array near dp
+  pub near_address : (n i : ℕ) → address_at (address_at dp n) i ≡ address_at dp ((n + i) % 2 ^ 32)
+  near_address n i = omega arith
+
+  -- an element of an array
+  pub element_means : (found : Option VarPlan) (xs : List ℕ) (i : kernel.Expression) (pos : Pos) (pi : ℕ → ℕ → Pos → List Line) (vi : Value) (di ni : ℕ) → Piece_means pi vi di ni → ((len j : ℕ) → fixed_index i len ≡ Some j → (vi ≡ word j) × (j < len)) → ArrayIsLaid vars relied s dp first store found xs vi → Piece_means (element_code found i pos pi) (element_at xs pos vi) (1 + di) (1 + ni)
+  element_means None xs i pos pi vi di ni mi known h = absurd h
+  element_means (Some found) xs i pos pi vi di ni mi known h = at_place found.place (fixed_index i found.words) refl h.1
+    where
+      lengths : (place : VarAt) → Piece_means (element_at_place place (length xs) None pos pi) (element_at xs pos vi) (1 + di) (1 + ni) → Piece_means (element_at_place place found.words None pos pi) (element_at xs pos vi) (1 + di) (1 + ni)
+      lengths place m = subst (λ n. Piece_means (element_at_place place n None pos pi) (element_at xs pos vi) (1 + di) (1 + ni)) (sym h.0) m
+
+      within : (j : ℕ) → fixed_index i found.words ≡ Some j → j < length xs
+      within j e = let lt = (known found.words j e).1 in let l = h.0 in omega arith
+
+      value_is : (j : ℕ) → fixed_index i found.words ≡ Some j → word (slice_index xs j) ≡ element_at xs pos vi
+      value_is j e = sym (known_element xs pos vi j (known found.words j e).0 (within j e))
+
+      there : (j : ℕ) → fixed_index i found.words ≡ Some j → slice_get xs j ≡ Some (slice_index xs j)
+      there j e = slice_get-get_or xs j 0 (within j e)
+
+      at_place : (place : VarAt) (fixed : Option ℕ) → fixed_index i found.words ≡ fixed → ArrayStands vars relied s dp first store place xs vi → Piece_means (element_at_place place found.words fixed pos pi) (element_at xs pos vi) (1 + di) (1 + ni)
+      at_place (Near n) (Some j) e g = record {
+        by = λ k pc last regs words st fits ready.
+            let x = slice_index xs j in
+            subst (Run regs words pc (pc + 1) k (7 * (1 + ni))) (value_is j e)
+            (looser code relied s regs words pc (pc + 1) (pc + 1) k k 7 (7 * (1 + ni)) (word x) refl (omega arith) (omega arith)
+            (near_by ((n + j) % 2 ^ 32) x k pc regs words st.0 ready (subst (λ p. IsWord relied s first p x) (near_address n j) (g j x (there j e)))));
+      }
+      at_place (Near n) None e g =
           lengths (Near n) (tested_means (Ldawdp R11 n) (address_at dp n) (λ regs words pc st ready. by_quiet code relied s (Ldawdp R11 n) regs (reg_set regs R11 (address_at dp n)) words pc (pc + 1) st (record { row_is = λ h c t th. refl; no_event = refl }) (λ ws q. ap (λ p. makes (own (pc + 1) (reg_set regs R11 (address_at p n)) ws)) ready.dp_is)) xs pos pi vi di ni mi g)
-      at_place (Far n) g =
+      at_place (Far n) (Some j) e g = record {
+        by = λ k pc last regs words st fits ready.
+            let x = slice_index xs j in
+            subst (Run regs words pc (pc + 3) k (7 * (1 + ni))) (value_is j e)
+            (looser code relied s regs words pc (pc + 3) (pc + 3) k k 7 (7 * (1 + ni)) (word x) refl (omega arith) (omega arith) (held_by n g.0 j x pos k pc regs words st ready g.1 (g.2 j x (there j e))));
+      }
+      at_place (Far n) None e g =
           lengths (Far n) (tested_means (Ldwdp R11 n) g.0 (λ regs words pc st ready. by_near R11 regs words pc n g.0 st ready g.1) xs pos pi vi di ni mi g.2)
-      at_place (Through n) g =
+      at_place (Through n) fixed e g =
           let j = g.0 in
           let base = g.1 in
           let x = g.2 in
-          let within = slice_get_within xs j x g.4 in
-          let known : element_at xs pos (word j) ≡ word x = ap (element_by xs pos j) (lt-ltb j (length xs) within) ∙ ap word (get_or_from_slice_get xs j x 0 g.4) in
+          let is_within = slice_get_within xs j x g.4 in
+          let value : element_at xs pos (word j) ≡ word x = ap (element_by xs pos j) (lt-ltb j (length xs) is_within) ∙ ap word (get_or_from_slice_get xs j x 0 g.4) in
           record {
             by = λ k pc last regs words st fits ready.
-                subst (Run regs words pc (pc + 3) k (7 * (1 + ni))) (sym (ap (element_at xs pos) g.3 ∙ known))
-                (looser code relied s regs words pc (pc + 3) (pc + 3) k k 7 (7 * (1 + ni)) (word x) refl (omega arith) (omega arith) (held_by n base x pos k pc regs words st ready g.5 g.6));
+                subst (Run regs words pc (pc + 3) k (7 * (1 + ni))) (sym (ap (element_at xs pos) g.3 ∙ value))
+                (looser code relied s regs words pc (pc + 3) (pc + 3) k k 7 (7 * (1 + ni)) (word x) refl (omega arith) (omega arith) (held_by n base 0 x pos k pc regs words st ready g.5 g.6));
           }

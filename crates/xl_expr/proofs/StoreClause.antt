@@ -16,6 +16,7 @@ use Rattle.xl_expr.specs.declared.plan.VarPlan.{VarPlan}
 use Rattle.xl_expr.specs.Measures.{nodes_at, depth_at}
 use Rattle.xl_expr.specs.Stores.{store_code, index_in, IsAddress, Writes, StoreOutcome, Stores}
 use Rattle.xl_expr.proofs.Ways.{own, Fits, at_pc, fits_kept, turn_is, way_leads, fails_errs}
+use Rattle.xl_expr.proofs.Lists.{room_kept}
 use Rattle.xl_expr.proofs.Evaluates.{small, starts, ready}
 use Rattle.xl_expr.proofs.StoreRuns.{WriteRuns, Writing, place_writes}
 
@@ -35,6 +36,7 @@ module _ (home : Home) (relied : ℕ → Bool) (s t : ℕ) (thread : Thread) (a 
         regs = w.regs';
         here = fc.here;
         others = w.leaves.others;
+        within = let r = room.within in let size = w.leaves.size in room_kept relied s room.relied_on w.words' c.words (omega arith) fc.words.by;
         words = λ x r h. fc.words.by x r ∙ w.leaves.same x h;
         made = turn_is home.parts.code relied (IsApart s) home t thread at_work.runs at_work.no_events refl c (own w.index w.regs' w.words') w.instr fc w.stands w.plain ∙ ap (told (put_own c t (at_pc thread w.index w.regs'))) (w.turn c.words fc.words);
       }

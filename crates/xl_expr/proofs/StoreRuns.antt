@@ -1,5 +1,5 @@
 -- A register's word is written to a place.
-use Rattle.std.proofs.Common.{◌≡◌, ℕ, ◌+◌, ◌-◌, ◌*◌, ◌<◌, ◌≤◌, inl, inr, Bool, true, false, List, [], ◌∷◌, ◌++◌, length, Option, Some, None, refl, sym, ap, ◌∙◌, subst, arith, get_or, length-append}
+use Rattle.std.proofs.Common.{◌≡◌, ℕ, ◌+◌, ◌-◌, ◌*◌, ◌%◌, ◌^◌, ◌<◌, ◌≤◌, inl, inr, Bool, true, false, List, [], ◌∷◌, length, Option, Some, None, refl, sym, ap, ◌∙◌, subst, arith, get_or, length-append}
 use Rattle.std.specs.Prelude.{slice_get, slice_set, slice_index, nat_lt}
 use Rattle.std.proofs.lemmas.Bool.{ltb-true, lt-ltb}
 use Rattle.std.proofs.lemmas.List.{length-set}
@@ -7,7 +7,7 @@ use Rattle.std.proofs.lemmas.Option.{slice_get-get_or, slice_get_within}
 use Rattle.xw_words.specs.declared.pos.Pos.{Pos}
 use Rattle.xs_instr.specs.declared.image.Code.{Code}
 use Rattle.xs_instr.specs.declared.instr.Instr.{Instr}
-use Rattle.xs_instr.specs.declared.instr.Instr.TheVariants.{Ldc, Ldwdp, Stwdp, Ldawdp, Ldwsp, Stwsp}
+use Rattle.xs_instr.specs.declared.instr.Instr.TheVariants.{Ldc, Ldwdp, Stwdp, Ldawdp, Ldwsp}
 use Rattle.xs_instr.specs.declared.instr.Reg.{Reg}
 use Rattle.xs_instr.specs.declared.instr.Reg.TheVariants.{R0, R10, R11}
 use Rattle.xs_instr.specs.declared.state.Regs.{Regs}
@@ -18,23 +18,23 @@ use Rattle.xs_instr.specs.Rows.{own_row, stores, stores_at}
 use Rattle.xc_kernel.specs.Plain as kernel
 use Rattle.xc_kernel.specs.Values.{Value, word, error, tested, tested_by}
 use Rattle.xc_kernel.specs.Eval.{Store, words_of, eval}
-use Rattle.xs_instr.specs.Lines.{Line, line, at_pos}
+use Rattle.xs_instr.specs.Lines.{Line, at_pos}
 use Rattle.xs_instr.specs.OwnSteps.{IsApart, IsWord, StandAt, temporary}
 use Rattle.xl_expr.specs.declared.plan.VarAt.{VarAt}
 use Rattle.xl_expr.specs.declared.plan.VarAt.TheVariants.{Near, Far, Through}
 use Rattle.xl_expr.specs.declared.plan.VarPlan.{VarPlan}
 use Rattle.xl_expr.specs.Plans.{var_in}
 use Rattle.xl_expr.specs.Measures.{nodes, nodes_at, depth, depth_at}
-use Rattle.xl_expr.specs.Code.{tested_index, expression_code}
-use Rattle.xl_expr.specs.Stores.{write, word_write, word_store, element_write, element_store_at, element_store, store_code, tested_value, index_in, WordAt, ElementAt, OfWord, OfElement, IsAddress, is_working}
+use Rattle.xl_expr.specs.Code.{fixed_index, tested_index, expression_code}
+use Rattle.xl_expr.specs.Stores.{write, held_write, indexed_write, word_write, word_store, element_write, element_store_at, element_store, store_code, tested_value, index_in, WordAt, ElementAt, OfWord, OfElement, IsAddress, is_working}
 use Rattle.xl_expr.specs.Works.{StandFrom, WordStands, ArrayStands, WordIsLaid, ArrayIsLaid, PlaceIsLaid, is_scratch, same_reg}
 use Rattle.xl_expr.proofs.Lists.{get_set_same, get_set_other, stand_front, stand_back}
 use Rattle.xl_expr.proofs.Ways.{own, Agree, IsPlain, Sure, Way, way_on}
 use Rattle.xl_expr.proofs.Runs.{Runs, Stops, Keeps, Ready, IsSaved, ready_kept, keeps_r0, keeps_r11, stopped, by_quiet, by_save, by_restore, word_there}
 use Rattle.xl_expr.proofs.Registers.{reg_other}
 use Rattle.xl_expr.proofs.Pieces.{bound, Means, value_on}
-use Rattle.xl_expr.proofs.Places.{by_near, index_tested}
-use Rattle.xl_expr.proofs.Expressions.{expression_means}
+use Rattle.xl_expr.proofs.Places.{by_near, near_address, index_tested}
+use Rattle.xl_expr.proofs.Expressions.{fixed_known, expression_means}
 
 -- a register that the code leaves is none of r0, r10 and r11
 working_scratch : (r : Reg) → is_working r ≡ false → is_scratch r ≡ false
@@ -64,13 +64,14 @@ module _ (code : Code) (relied : ℕ → Bool) (s : ℕ) (small : s + temporary 
   -- what is left but r0, r10, r11 and the temporary words
   pub record Leaves (regs : Regs) (words : List ℕ) (regs' : Regs) (words' : List ℕ) : Type 0 where
     pub others : (r : Reg) → is_working r ≡ false → reg_get regs' r ≡ reg_get regs r
+    pub size : length words' ≡ length words
     pub same : (w : ℕ) → IsApart s w → slice_get words' w ≡ slice_get words w
 
   leaves_twice : (r1 : Regs) (w1 : List ℕ) (r2 : Regs) (w2 : List ℕ) (r3 : Regs) (w3 : List ℕ) → Leaves r1 w1 r2 w2 → Leaves r2 w2 r3 w3 → Leaves r1 w1 r3 w3
-  leaves_twice r1 w1 r2 w2 r3 w3 h g = record { others = λ r e. g.others r e ∙ h.others r e; same = λ w e. g.same w e ∙ h.same w e }
+  leaves_twice r1 w1 r2 w2 r3 w3 h g = record { others = λ r e. g.others r e ∙ h.others r e; size = g.size ∙ h.size; same = λ w e. g.same w e ∙ h.same w e }
 
   kept_leaves : (k : ℕ) (r1 : Regs) (w1 : List ℕ) (r2 : Regs) (w2 : List ℕ) → Keeps s k r1 w1 r2 w2 → Leaves r1 w1 r2 w2
-  kept_leaves k r1 w1 r2 w2 h = record { others = λ r e. h.others r (working_scratch r e); same = λ w e. h.same w (saved w e) }
+  kept_leaves k r1 w1 r2 w2 h = record { others = λ r e. h.others r (working_scratch r e); size = h.size; same = λ w e. h.same w (saved w e) }
     where
       saved : (w : ℕ) → IsApart s w → IsSaved s k w
       saved w (inl g) = inl (omega arith)
@@ -144,7 +145,7 @@ module _ (code : Code) (relied : ℕ → Bool) (s : ℕ) (small : s + temporary 
       let others1 : (r : Reg) → is_working r ≡ false → reg_get regs1 r ≡ reg_get regs r = λ r e. reg_other regs R10 r v (working_r10 r e) in
       let ready1 : Is_ready regs1 words = record { sp_is = ready.sp_is; dp_is = ready.dp_is; within = ready.within; same = ready.same } in
       let e : pc + 1 + 1 ≡ pc + 2 = omega arith in
-      write_after regs words regs1 words pc (pc + 1) (pc + 2) 0 v (address_at base i) (by_restore code relied s small mine R10 dp first regs words pc 0 v st.0 (omega arith) ready saved) (record { others = others1; same = λ w h. refl })
+      write_after regs words regs1 words pc (pc + 1) (pc + 2) 0 v (address_at base i) (by_restore code relied s small mine R10 dp first regs words pc 0 v st.0 (omega arith) ready saved) (record { others = others1; size = refl; same = λ w h. refl })
       (record {
         count = 0;
         few = omega arith;
@@ -160,7 +161,7 @@ module _ (code : Code) (relied : ℕ → Bool) (s : ℕ) (small : s + temporary 
             ∙ ap (λ j. stores_at (own (pc + 1) regs1 ws) v (address_at base j)) i_is
             ∙ ap (stores (own (pc + 1) regs1 ws) v (address_at base i)) (word_there code relied s dp first regs1 words (address_at base i) old ready1 there ws g)
             ∙ ap (λ p. makes (own p regs1 (word_put ws (address_at base i) v))) e;
-        leaves = record { others = λ r h. refl; same = λ w h. refl };
+        leaves = record { others = λ r h. refl; size = refl; same = λ w h. refl };
       })
 
   -- the word is kept first
@@ -177,8 +178,8 @@ module _ (code : Code) (relied : ℕ → Bool) (s : ℕ) (small : s + temporary 
       get_set_same words (s + 0) (get_or words (s + 0) 0) (reg_get regs from) (slice_get-get_or words (s + 0) 0 (omega arith))
 
   -- through an address that a word of dp's holds
-  held_write : (from : Reg) (pos : Pos) (n base old pc : ℕ) (regs : Regs) (words : List ℕ) → StandAt code pc (at_pos pos (Stwsp from 0 ∷ Ldwdp R11 n ∷ Ldc R0 0 ∷ Ldwsp R10 0 ∷ write ∷ [])) → Is_ready regs words → IsWord relied s first (address_at dp n) base → IsWord relied s first (address_at base 0) old → Writing regs words pc (pc + 5) 4 (reg_get regs from) (address_at base 0)
-  held_write from pos n base old pc regs words st ready h g =
+  held_writes : (from : Reg) (pos : Pos) (n base i old pc : ℕ) (regs : Regs) (words : List ℕ) → StandAt code pc (at_pos pos (held_write n i from)) → Is_ready regs words → IsWord relied s first (address_at dp n) base → IsWord relied s first (address_at base i) old → Writing regs words pc (pc + 5) 4 (reg_get regs from) (address_at base i)
+  held_writes from pos n base i old pc regs words st ready h g =
       let v = reg_get regs from in
       let words1 = slice_set words (s + 0) v in
       let keeps1 = saves from regs words in
@@ -186,15 +187,33 @@ module _ (code : Code) (relied : ℕ → Bool) (s : ℕ) (small : s + temporary 
       let regs2 = reg_set regs R11 base in
       let keeps2 = keeps_r11 s 0 regs words1 base in
       let ready2 = ready_kept code relied s dp first 0 regs words1 regs2 words1 ready1 keeps2 in
-      let regs3 = reg_set regs2 R0 0 in
-      let keeps3 = keeps_r0 s 0 regs2 words1 0 in
+      let regs3 = reg_set regs2 R0 i in
+      let keeps3 = keeps_r0 s 0 regs2 words1 i in
       let ready3 = ready_kept code relied s dp first 0 regs2 words1 regs3 words1 ready2 keeps3 in
       let e : pc + 1 + 1 + 1 + 2 ≡ pc + 5 = omega arith in
-      subst (λ p. Writing regs words pc p 4 v (address_at base 0)) e
-      (write_after regs words regs words1 pc (pc + 1) (pc + 1 + 1 + 1 + 2) 3 v (address_at base 0) (by_save code relied s small mine from dp first regs words pc 0 st.0 (omega arith) ready) (kept_leaves 0 regs words regs words1 keeps1)
-      (write_after regs words1 regs2 words1 (pc + 1) (pc + 1 + 1) (pc + 1 + 1 + 1 + 2) 2 v (address_at base 0) (by_near code relied s small mine dp first vars store R11 regs words1 (pc + 1) n base st.2.0 ready1 h) (kept_leaves 0 regs words1 regs2 words1 keeps2)
-      (write_after regs2 words1 regs3 words1 (pc + 1 + 1) (pc + 1 + 1 + 1) (pc + 1 + 1 + 1 + 2) 1 v (address_at base 0) (by_quiet code relied s (Ldc R0 0) regs2 regs3 words1 (pc + 1 + 1) (pc + 1 + 1 + 1) st.2.2.0 (record { row_is = λ h c t th. refl; no_event = refl }) (λ ws q. refl)) (kept_leaves 0 regs2 words1 regs3 words1 keeps3)
-      (restored pos regs3 words1 (pc + 1 + 1 + 1) base 0 v old st.2.2.2 ready3 (saved_there from regs words ready) refl refl g))))
+      subst (λ p. Writing regs words pc p 4 v (address_at base i)) e
+      (write_after regs words regs words1 pc (pc + 1) (pc + 1 + 1 + 1 + 2) 3 v (address_at base i) (by_save code relied s small mine from dp first regs words pc 0 st.0 (omega arith) ready) (kept_leaves 0 regs words regs words1 keeps1)
+      (write_after regs words1 regs2 words1 (pc + 1) (pc + 1 + 1) (pc + 1 + 1 + 1 + 2) 2 v (address_at base i) (by_near code relied s small mine dp first vars store R11 regs words1 (pc + 1) n base st.2.0 ready1 h) (kept_leaves 0 regs words1 regs2 words1 keeps2)
+      (write_after regs2 words1 regs3 words1 (pc + 1 + 1) (pc + 1 + 1 + 1) (pc + 1 + 1 + 1 + 2) 1 v (address_at base i) (by_quiet code relied s (Ldc R0 i) regs2 regs3 words1 (pc + 1 + 1) (pc + 1 + 1 + 1) st.2.2.0 (record { row_is = λ h c t th. refl; no_event = refl }) (λ ws q. refl)) (kept_leaves 0 regs2 words1 regs3 words1 keeps3)
+      (restored pos regs3 words1 (pc + 1 + 1 + 1) base i v old st.2.2.2 ready3 (saved_there from regs words ready) refl refl g))))
+
+  -- to a word of dp's
+  near_writes : (from : Reg) (n old pc : ℕ) (regs : Regs) (words : List ℕ) → slice_get code.instrs pc ≡ Some (Stwdp from n) → Is_ready regs words → IsWord relied s first (address_at dp n) old → Writing regs words pc (pc + 1) 0 (reg_get regs from) (address_at dp n)
+  near_writes from n old pc regs words stands ready g = record {
+    count = 0;
+    few = omega arith;
+    index = pc;
+    regs' = regs;
+    words' = words;
+    way = refl;
+    instr = Stwdp from n;
+    stands = stands;
+    plain = plain_stwdp from n;
+    turn = λ ws q.
+        ap (λ p. stores_at (own pc regs ws) (reg_get regs from) (address_at p n)) ready.dp_is
+        ∙ ap (stores (own pc regs ws) (reg_get regs from) (address_at dp n)) (word_there code relied s dp first regs words (address_at dp n) old ready g ws q);
+    leaves = record { others = λ r e. refl; size = refl; same = λ w e. refl };
+  }
 
   -- to a variable's word
   word_writes : (found : Option VarPlan) (xs : List ℕ) (from : Reg) (last : Pos) (pc : ℕ) (regs : Regs) (words : List ℕ) → WordIsLaid vars relied s dp first store found xs → StandAt code pc (word_store found from last) → Is_ready regs words → (address : ℕ) × OfWord vars relied s dp first found address × Writing regs words pc (pc + length (word_store found from last)) 4 (reg_get regs from) address
@@ -202,32 +221,14 @@ module _ (code : Code) (relied : ℕ → Bool) (s : ℕ) (small : s + temporary 
   word_writes (Some found) xs from last pc regs words h st ready = at_place found.place h st
     where
       at_place : (place : VarAt) → WordStands vars relied s dp first store place (slice_index xs 0) → StandAt code pc (at_pos last (word_write place from)) → (address : ℕ) × WordAt vars relied s dp first place address × Writing regs words pc (pc + length (at_pos last (word_write place from))) 4 (reg_get regs from) address
-      at_place (Near n) g st' = (
-        address_at dp n,
-        refl,
-        record {
-          count = 0;
-          few = omega arith;
-          index = pc;
-          regs' = regs;
-          words' = words;
-          way = refl;
-          instr = Stwdp from n;
-          stands = st'.0;
-          plain = plain_stwdp from n;
-          turn = λ ws q.
-              ap (λ p. stores_at (own pc regs ws) (reg_get regs from) (address_at p n)) ready.dp_is
-              ∙ ap (stores (own pc regs ws) (reg_get regs from) (address_at dp n)) (word_there code relied s dp first regs words (address_at dp n) (slice_index xs 0) ready g ws q);
-          leaves = record { others = λ r e. refl; same = λ w e. refl };
-        },
-      )
-      at_place (Far n) g st' = (address_at g.0 0, (g.0, g.1, refl), held_write from last n g.0 (slice_index xs 0) pc regs words st' ready g.1 g.2)
-      at_place (Through n) g st' = (address_at g.0 0, (g.0, g.1, refl), held_write from last n g.0 (slice_index xs 0) pc regs words st' ready g.1 g.2)
+      at_place (Near n) g st' = (address_at dp n, refl, more_steps regs words pc (pc + 1) 0 4 (reg_get regs from) (address_at dp n) (omega arith) (near_writes from n (slice_index xs 0) pc regs words st'.0 ready g))
+      at_place (Far n) g st' = (address_at g.0 0, (g.0, g.1, refl), held_writes from last n g.0 0 (slice_index xs 0) pc regs words st' ready g.1 g.2)
+      at_place (Through n) g st' = (address_at g.0 0, (g.0, g.1, refl), held_writes from last n g.0 0 (slice_index xs 0) pc regs words st' ready g.1 g.2)
 
   -- to an element, whose base comes to r11 by one instruction
   module _ (bi : Instr) (base : ℕ) (sets_base : (regs : Regs) (words : List ℕ) (pc : ℕ) → slice_get code.instrs pc ≡ Some bi → Is_ready regs words → Sure code relied (IsApart s) (own pc regs words) (own (pc + 1) (reg_set regs R11 base) words)) (len : ℕ) (xs : List ℕ) (len_is : len ≡ length xs) (from : Reg) (pos : Pos) (pi : ℕ → ℕ → Pos → List Line) (vi : Value) (di ni : ℕ) (mi : Means code relied s small mine dp first pi vi di ni) (stand : StandFrom vars relied s dp first store base xs) (P : ℕ → ℕ → Type 0) (is_address : (i : ℕ) → P i (address_at base i)) where
     abbrev all_lines : ℕ → List Line
-    all_lines here = line (Stwsp from 0) pos ∷ (pi 1 (here + 1) pos ++ at_pos pos (element_write bi len))
+    all_lines here = indexed_write bi len from pos (λ n. pi 1 n pos) here
 
     element_writes : (pc : ℕ) (regs : Regs) (words : List ℕ) → StandAt code pc (all_lines pc) → 1 + di ≤ temporary → Is_ready regs words → WriteRuns P regs words pc (pc + length (all_lines pc)) (1 + (7 * ni + 3 + 2)) (reg_get regs from) (tested_value (length xs) pos vi)
     element_writes pc regs words st fits ready =
@@ -295,20 +296,37 @@ module _ (code : Code) (relied : ℕ → Bool) (s : ℕ) (small : s + temporary 
             )
 
   -- to an element of an array
-  array_writes : (found : Option VarPlan) (xs : List ℕ) (from : Reg) (pos : Pos) (pi : ℕ → ℕ → Pos → List Line) (vi : Value) (di ni : ℕ) → Means code relied s small mine dp first pi vi di ni → ArrayIsLaid vars relied s dp first store found xs vi → (pc : ℕ) (regs : Regs) (words : List ℕ) → StandAt code pc (element_store found from pos (λ n. pi 1 n pos) pc) → 1 + di ≤ temporary → Is_ready regs words → WriteRuns (OfElement vars relied s dp first found) regs words pc (pc + length (element_store found from pos (λ n. pi 1 n pos) pc)) (1 + (7 * ni + 3 + 2)) (reg_get regs from) (tested_value (length xs) pos vi)
-  array_writes None xs from pos pi vi di ni mi h pc regs words st fits ready = absurd h
-  array_writes (Some found) xs from pos pi vi di ni mi h pc regs words st fits ready = at_place found.place h.1 st
+  array_writes : (found : Option VarPlan) (xs : List ℕ) (i : kernel.Expression) (from : Reg) (pos : Pos) (pi : ℕ → ℕ → Pos → List Line) (vi : Value) (di ni : ℕ) → Means code relied s small mine dp first pi vi di ni → ((len j : ℕ) → fixed_index i len ≡ Some j → (vi ≡ word j) × (j < len)) → ArrayIsLaid vars relied s dp first store found xs vi → (pc : ℕ) (regs : Regs) (words : List ℕ) → StandAt code pc (element_store found i from pos (λ n. pi 1 n pos) pc) → 1 + di ≤ temporary → Is_ready regs words → WriteRuns (OfElement vars relied s dp first found) regs words pc (pc + length (element_store found i from pos (λ n. pi 1 n pos) pc)) (1 + (7 * ni + 3 + 2)) (reg_get regs from) (tested_value (length xs) pos vi)
+  array_writes None xs i from pos pi vi di ni mi known h pc regs words st fits ready = absurd h
+  array_writes (Some found) xs i from pos pi vi di ni mi known h pc regs words st fits ready = at_place found.place (fixed_index i found.words) refl h.1 st
     where
-      at_place : (place : VarAt) → ArrayStands vars relied s dp first store place xs vi → StandAt code pc (element_store_at place found.words from pos (λ n. pi 1 n pos) pc) → WriteRuns (ElementAt vars relied s dp first place) regs words pc (pc + length (element_store_at place found.words from pos (λ n. pi 1 n pos) pc)) (1 + (7 * ni + 3 + 2)) (reg_get regs from) (tested_value (length xs) pos vi)
-      at_place (Near n) g st' =
+      v : ℕ
+      v = reg_get regs from
+
+      within : (j : ℕ) → fixed_index i found.words ≡ Some j → j < length xs
+      within j e = let lt = (known found.words j e).1 in let l = h.0 in omega arith
+
+      tested_at : (j : ℕ) → vi ≡ word j → j < length xs → word j ≡ tested_value (length xs) pos vi
+      tested_at j e lt = sym (ap (tested_value (length xs) pos) e ∙ ap (tested_by j pos) (lt-ltb j (length xs) lt))
+
+      at_place : (place : VarAt) (fixed : Option ℕ) → fixed_index i found.words ≡ fixed → ArrayStands vars relied s dp first store place xs vi → StandAt code pc (element_store_at place found.words fixed from pos (λ n. pi 1 n pos) pc) → WriteRuns (ElementAt vars relied s dp first place) regs words pc (pc + length (element_store_at place found.words fixed from pos (λ n. pi 1 n pos) pc)) (1 + (7 * ni + 3 + 2)) v (tested_value (length xs) pos vi)
+      at_place (Near n) (Some j) e g st' =
+          let n' = (n + j) % 2 ^ 32 in
+          let x = slice_index xs j in
+          let there = subst (λ p. IsWord relied s first p x) (near_address code relied s small mine dp first vars store n j) (g j x (slice_get-get_or xs j 0 (within j e))) in
+          subst (WriteRuns (ElementAt vars relied s dp first (Near n)) regs words pc (pc + 1) (1 + (7 * ni + 3 + 2)) v) (tested_at j (known found.words j e).0 (within j e))
+          (address_at dp n', sym (near_address code relied s small mine dp first vars store n j), more_steps regs words pc (pc + 1) 0 (1 + (7 * ni + 3 + 2)) v (address_at dp n') (omega arith) (near_writes from n' x pc regs words st'.0 ready there))
+      at_place (Near n) None e g st' =
           element_writes (Ldawdp R11 n) (address_at dp n) (λ regs words pc st ready. by_quiet code relied s (Ldawdp R11 n) regs (reg_set regs R11 (address_at dp n)) words pc (pc + 1) st (record { row_is = λ h c t th. refl; no_event = refl }) (λ ws q. ap (λ p. makes (own (pc + 1) (reg_set regs R11 (address_at p n)) ws)) ready.dp_is)) found.words xs h.0 from pos pi vi di ni mi g (ElementAt vars relied s dp first (Near n)) (λ i. refl) pc regs words st' fits ready
-      at_place (Far n) g st' =
+      at_place (Far n) (Some j) e g st' =
+          let x = slice_index xs j in
+          subst (WriteRuns (ElementAt vars relied s dp first (Far n)) regs words pc (pc + 5) (1 + (7 * ni + 3 + 2)) v) (tested_at j (known found.words j e).0 (within j e))
+          (address_at g.0 j, (g.0, g.1, refl), more_steps regs words pc (pc + 5) 4 (1 + (7 * ni + 3 + 2)) v (address_at g.0 j) (omega arith) (held_writes from pos n g.0 j x pc regs words st' ready g.1 (g.2 j x (slice_get-get_or xs j 0 (within j e)))))
+      at_place (Far n) None e g st' =
           element_writes (Ldwdp R11 n) g.0 (λ regs words pc st ready. by_near code relied s small mine dp first vars store R11 regs words pc n g.0 st ready g.1) found.words xs h.0 from pos pi vi di ni mi g.2 (ElementAt vars relied s dp first (Far n)) (λ i. (g.0, g.1, refl)) pc regs words st' fits ready
-      at_place (Through n) g st' =
-          let within = slice_get_within xs g.0 g.2 g.4 in
-          let known : tested_value (length xs) pos vi ≡ word g.0 = ap (tested_value (length xs) pos) g.3 ∙ ap (tested_by g.0 pos) (lt-ltb g.0 (length xs) within) in
-          let w = held_write from pos n g.1 g.2 pc regs words st' ready g.5 g.6 in
-          subst (WriteRuns (ElementAt vars relied s dp first (Through n)) regs words pc (pc + 5) (1 + (7 * ni + 3 + 2)) (reg_get regs from)) (sym known) (address_at g.1 0, (g.1, g.5, refl), more_steps regs words pc (pc + 5) 4 (1 + (7 * ni + 3 + 2)) (reg_get regs from) (address_at g.1 0) (omega arith) w)
+      at_place (Through n) fixed e g st' =
+          subst (WriteRuns (ElementAt vars relied s dp first (Through n)) regs words pc (pc + 5) (1 + (7 * ni + 3 + 2)) v) (tested_at g.0 g.3 (slice_get_within xs g.0 g.2 g.4))
+          (address_at g.1 0, (g.1, g.5, refl), more_steps regs words pc (pc + 5) 4 (1 + (7 * ni + 3 + 2)) v (address_at g.1 0) (omega arith) (held_writes from pos n g.1 0 g.2 pc regs words st' ready g.5 g.6))
 
   -- to a place
   pub place_writes : (place : kernel.Place) (from : Reg) (last : Pos) (pc : ℕ) (regs : Regs) (words : List ℕ) → PlaceIsLaid vars relied s dp first store place → StandAt code pc (store_code vars place from pc last) → depth_at place ≤ temporary → Is_ready regs words → WriteRuns (IsAddress vars relied s dp first place) regs words pc (pc + length (store_code vars place from pc last)) (8 * nodes_at place - 1) (reg_get regs from) (index_in store place)
@@ -316,7 +334,7 @@ module _ (code : Code) (relied : ℕ → Bool) (s : ℕ) (small : s + temporary 
       let w = word_writes (var_in vars v) (words_of store v) from last pc regs words h st ready in
       (w.0, w.1, more_steps regs words pc (pc + length (word_store (var_in vars v) from last)) 4 7 (reg_get regs from) w.0 (omega arith) w.2)
   place_writes (kernel.element v i pos) from last pc regs words h st fits ready =
-      more (index_in store (kernel.element v i pos)) (array_writes (var_in vars v) (words_of store v) from pos (expression_code vars i) (eval store i) (depth i) (nodes i) (expression_means code relied s small mine dp first vars store i h.0) h.1 pc regs words st fits ready)
+      more (index_in store (kernel.element v i pos)) (array_writes (var_in vars v) (words_of store v) i from pos (expression_code vars i) (eval store i) (depth i) (nodes i) (expression_means code relied s small mine dp first vars store i h.0) (fixed_known code relied s small mine dp first vars store i) h.1 pc regs words st fits ready)
     where
       more : (val : Value) → WriteRuns (OfElement vars relied s dp first (var_in vars v)) regs words pc (pc + length (store_code vars (kernel.element v i pos) from pc last)) (1 + (7 * nodes i + 3 + 2)) (reg_get regs from) val → WriteRuns (OfElement vars relied s dp first (var_in vars v)) regs words pc (pc + length (store_code vars (kernel.element v i pos) from pc last)) (8 * (1 + nodes i) - 1) (reg_get regs from) val
       more (word j) w = (w.0, w.1, more_steps regs words pc (pc + length (store_code vars (kernel.element v i pos) from pc last)) (1 + (7 * nodes i + 3 + 2)) (8 * (1 + nodes i) - 1) (reg_get regs from) w.0 (omega arith) w.2)

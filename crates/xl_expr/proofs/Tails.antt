@@ -1,14 +1,13 @@
 -- Instructions on r0 and r11 alone: what each operator makes of two words.
 use Rattle.std.proofs.Common.{◌≡◌, ℕ, ◌+◌, ◌≤◌, Bool, true, false, List, [], ◌∷◌, length, Option, Some, None, refl, subst, arith}
-use Rattle.xs_instr.specs.Lines.{at_pos}
 use Rattle.std.specs.Prelude.{not, nat_eq, nat_lt, bit_or}
 use Rattle.std.specs.Int.Bits.{or_self}
 use Rattle.xw_words.specs.declared.pos.Pos.{Pos}
-use Rattle.xw_words.specs.Words.{truth, div_s, div_u, rem_s, rem_u, signed_less}
+use Rattle.xw_words.specs.Words.{truth, word_sum, div_s, div_u, rem_s, rem_u, signed_less}
 use Rattle.xs_instr.specs.declared.image.Code.{Code}
 use Rattle.xs_instr.specs.declared.image.Home.{Home}
 use Rattle.xs_instr.specs.declared.instr.Instr.{Instr}
-use Rattle.xs_instr.specs.declared.instr.Instr.TheVariants.{Add, Sub, Mul, And, Or, Xor, Neg, Not, Eq, Lss, Lsu, Shl, Shr, Ashr, Divs, Rems, Divu, Remu, Ecallf, Ldc}
+use Rattle.xs_instr.specs.declared.instr.Instr.TheVariants.{Add, Addi, Sub, Mul, And, Or, Xor, Neg, Not, Eq, Lss, Lsu, Shl, Shr, Ashr, Divs, Rems, Divu, Remu, Ecallf, Ldc}
 use Rattle.xs_instr.specs.declared.instr.Reg.{Reg}
 use Rattle.xs_instr.specs.declared.instr.Reg.TheVariants.{R0, R11}
 use Rattle.xs_instr.specs.declared.state.CoreState.{CoreState}
@@ -22,7 +21,9 @@ use Rattle.xs_instr.specs.OwnSteps.{IsApart, StandAt}
 use Rattle.xc_kernel.specs.Values.{Value, word, error, ErrorKind, arithmetic, index, of_one, of_two, divided, tested_by}
 use Rattle.xc_kernel.specs.Operators as operator
 use Rattle.xc_kernel.specs.Operators.{Operator}
-use Rattle.xl_expr.specs.Code.{negated, made_truth, one_tail, two_tail}
+use Rattle.xs_instr.specs.Lines.{at_pos}
+use Rattle.xl_expr.specs.Code.{negated, made_truth, one_tail, two_tail, direct_tail}
+use Rattle.xl_expr.specs.declared.direct_operand.Direct.{Direct}
 use Rattle.xl_expr.specs.Works.{is_scratch, trap_of}
 use Rattle.xl_expr.proofs.Ways.{own, Agree, IsPlain}
 use Rattle.xl_expr.proofs.Runs.{Runs, Keeps, r0_alone, r11_alone, done, looser, one_on, by_quiet}
@@ -92,43 +93,71 @@ module _ (pos : Pos) where
   divided_tail i regs p (Some v) turn = last0 i regs v p turn
   divided_tail i regs p None turn = traps i [] regs arithmetic p turn
 
-  -- an index is given where its test holds
+  plain_ecallf : (test : Reg) → IsPlain (Ecallf test)
+  plain_ecallf test = plain (Ecallf test) (λ h c t th. refl) refl
+
+  -- an index is given where its test holds: it is in r0 and the test in r11
+  tested_there : (regs : Regs) (b : Bool) → Tail pos (Ecallf R11 ∷ []) (reg_set regs R11 (truth b)) (tested_by regs.r0 pos b)
+  tested_there regs true =
+      goes (Ecallf R11) [] (reg_set regs R11 1) (reg_set regs R11 1) _ (plain_ecallf R11) (λ pc ws. refl) (λ r e. refl) (ends (reg_set regs R11 1) regs.r0 refl)
+  tested_there regs false = traps (Ecallf R11) [] (reg_set regs R11 0) index (plain_ecallf R11) (λ pc ws. refl)
+
+  index_in_r0 : (u : Bool) (regs : Regs) → Tail pos (two_tail operator.below_length u R0 R11) regs (of_two operator.below_length u pos regs.r0 regs.r11)
+  index_in_r0 u regs =
+      set11 (Lsu R11 R0 R11) (Ecallf R11 ∷ []) regs (truth (nat_lt regs.r0 regs.r11)) _ (plain (Lsu R11 R0 R11) (λ h c t th. refl) refl) (λ pc ws. refl) (tested_there regs (nat_lt regs.r0 regs.r11))
+
+  -- or the other way round
   tested_tail : (regs : Regs) (b : Bool) → Tail pos (Ecallf R0 ∷ Or R0 R11 R11 ∷ []) (reg_set regs R0 (truth b)) (tested_by (bit_or regs.r11 regs.r11) pos b)
   tested_tail regs true =
-      goes (Ecallf R0) (Or R0 R11 R11 ∷ []) (reg_set regs R0 1) (reg_set regs R0 1) _ (plain (Ecallf R0) (λ h c t th. refl) refl) (λ pc ws. refl) (λ r e. refl)
+      goes (Ecallf R0) (Or R0 R11 R11 ∷ []) (reg_set regs R0 1) (reg_set regs R0 1) _ (plain_ecallf R0) (λ pc ws. refl) (λ r e. refl)
       (last0 (Or R0 R11 R11) (reg_set regs R0 1) (bit_or regs.r11 regs.r11) (plain (Or R0 R11 R11) (λ h c t th. refl) refl) (λ pc ws. refl))
-  tested_tail regs false = traps (Ecallf R0) (Or R0 R11 R11 ∷ []) (reg_set regs R0 0) index (plain (Ecallf R0) (λ h c t th. refl) refl) (λ pc ws. refl)
+  tested_tail regs false = traps (Ecallf R0) (Or R0 R11 R11 ∷ []) (reg_set regs R0 0) index (plain_ecallf R0) (λ pc ws. refl)
 
-  -- of the words in r11 and r0
-  pub two_runs : (o : Operator) (u : Bool) (regs : Regs) → Tail pos (two_tail o u) regs (of_two o u pos regs.r11 regs.r0)
-  two_runs operator.plus u regs = last0 (Add R0 R11 R0) regs _ (plain (Add R0 R11 R0) (λ h c t th. refl) refl) (λ pc ws. refl)
-  two_runs operator.minus u regs = last0 (Sub R0 R11 R0) regs _ (plain (Sub R0 R11 R0) (λ h c t th. refl) refl) (λ pc ws. refl)
-  two_runs operator.times u regs = last0 (Mul R0 R11 R0) regs _ (plain (Mul R0 R11 R0) (λ h c t th. refl) refl) (λ pc ws. refl)
-  two_runs operator.divide true regs = divided_tail (Divu R0 R11 R0) regs (plain (Divu R0 R11 R0) (λ h c t th. refl) refl) (div_u regs.r11 regs.r0) (λ pc ws. refl)
-  two_runs operator.divide false regs = divided_tail (Divs R0 R11 R0) regs (plain (Divs R0 R11 R0) (λ h c t th. refl) refl) (div_s regs.r11 regs.r0) (λ pc ws. refl)
-  two_runs operator.remainder true regs = divided_tail (Remu R0 R11 R0) regs (plain (Remu R0 R11 R0) (λ h c t th. refl) refl) (rem_u regs.r11 regs.r0) (λ pc ws. refl)
-  two_runs operator.remainder false regs = divided_tail (Rems R0 R11 R0) regs (plain (Rems R0 R11 R0) (λ h c t th. refl) refl) (rem_s regs.r11 regs.r0) (λ pc ws. refl)
-  two_runs operator.bit_and u regs = last0 (And R0 R11 R0) regs _ (plain (And R0 R11 R0) (λ h c t th. refl) refl) (λ pc ws. refl)
-  two_runs operator.bit_or u regs = last0 (Or R0 R11 R0) regs _ (plain (Or R0 R11 R0) (λ h c t th. refl) refl) (λ pc ws. refl)
-  two_runs operator.bit_xor u regs = last0 (Xor R0 R11 R0) regs _ (plain (Xor R0 R11 R0) (λ h c t th. refl) refl) (λ pc ws. refl)
-  two_runs operator.shift_up u regs = last0 (Shl R0 R11 R0) regs _ (plain (Shl R0 R11 R0) (λ h c t th. refl) refl) (λ pc ws. refl)
-  two_runs operator.shift_down true regs = last0 (Shr R0 R11 R0) regs _ (plain (Shr R0 R11 R0) (λ h c t th. refl) refl) (λ pc ws. refl)
-  two_runs operator.shift_down false regs = last0 (Ashr R0 R11 R0) regs _ (plain (Ashr R0 R11 R0) (λ h c t th. refl) refl) (λ pc ws. refl)
-  two_runs operator.equal u regs = last0 (Eq R0 R11 R0) regs _ (eq_plain R0 R11 R0) (λ pc ws. refl)
-  two_runs operator.differs u regs = turned (Eq R0 R11 R0) regs (nat_eq regs.r11 regs.r0) (eq_plain R0 R11 R0) (λ pc ws. refl)
-  two_runs operator.less true regs = last0 (Lsu R0 R11 R0) regs _ (plain (Lsu R0 R11 R0) (λ h c t th. refl) refl) (λ pc ws. refl)
-  two_runs operator.less false regs = last0 (Lss R0 R11 R0) regs _ (plain (Lss R0 R11 R0) (λ h c t th. refl) refl) (λ pc ws. refl)
-  two_runs operator.greater true regs = last0 (Lsu R0 R0 R11) regs _ (plain (Lsu R0 R0 R11) (λ h c t th. refl) refl) (λ pc ws. refl)
-  two_runs operator.greater false regs = last0 (Lss R0 R0 R11) regs _ (plain (Lss R0 R0 R11) (λ h c t th. refl) refl) (λ pc ws. refl)
-  two_runs operator.at_most true regs = turned (Lsu R0 R0 R11) regs (nat_lt regs.r0 regs.r11) (plain (Lsu R0 R0 R11) (λ h c t th. refl) refl) (λ pc ws. refl)
-  two_runs operator.at_most false regs = turned (Lss R0 R0 R11) regs (signed_less regs.r0 regs.r11) (plain (Lss R0 R0 R11) (λ h c t th. refl) refl) (λ pc ws. refl)
-  two_runs operator.at_least true regs = turned (Lsu R0 R11 R0) regs (nat_lt regs.r11 regs.r0) (plain (Lsu R0 R11 R0) (λ h c t th. refl) refl) (λ pc ws. refl)
-  two_runs operator.at_least false regs = turned (Lss R0 R11 R0) regs (signed_less regs.r11 regs.r0) (plain (Lss R0 R11 R0) (λ h c t th. refl) refl) (λ pc ws. refl)
-  two_runs operator.below_length u regs =
+  index_in_r11 : (u : Bool) (regs : Regs) → Tail pos (two_tail operator.below_length u R11 R0) regs (of_two operator.below_length u pos regs.r11 regs.r0)
+  index_in_r11 u regs =
       let b = nat_lt regs.r11 regs.r0 in
       set0 (Lsu R0 R11 R0) (Ecallf R0 ∷ Or R0 R11 R11 ∷ []) regs (truth b) _ (plain (Lsu R0 R11 R0) (λ h c t th. refl) refl) (λ pc ws. refl)
       (subst (λ n. Tail pos (Ecallf R0 ∷ Or R0 R11 R11 ∷ []) (reg_set regs R0 (truth b)) (tested_by n pos b)) (or_self regs.r11) (tested_tail regs b))
-  two_runs other u regs = last0 (Ldc R0 0) regs 0 (ldc_plain R0 0) (λ pc ws. refl)
+
+  -- of the words in two registers, where the test of an index is known to go so
+  module _ (a b : Reg) (index_runs : (u : Bool) (regs : Regs) → Tail pos (two_tail operator.below_length u a b) regs (of_two operator.below_length u pos (reg_get regs a) (reg_get regs b))) where
+    two_runs : (o : Operator) (u : Bool) (regs : Regs) → Tail pos (two_tail o u a b) regs (of_two o u pos (reg_get regs a) (reg_get regs b))
+    two_runs operator.plus u regs = last0 (Add R0 a b) regs _ (plain (Add R0 a b) (λ h c t th. refl) refl) (λ pc ws. refl)
+    two_runs operator.minus u regs = last0 (Sub R0 a b) regs _ (plain (Sub R0 a b) (λ h c t th. refl) refl) (λ pc ws. refl)
+    two_runs operator.times u regs = last0 (Mul R0 a b) regs _ (plain (Mul R0 a b) (λ h c t th. refl) refl) (λ pc ws. refl)
+    two_runs operator.divide true regs = divided_tail (Divu R0 a b) regs (plain (Divu R0 a b) (λ h c t th. refl) refl) (div_u (reg_get regs a) (reg_get regs b)) (λ pc ws. refl)
+    two_runs operator.divide false regs = divided_tail (Divs R0 a b) regs (plain (Divs R0 a b) (λ h c t th. refl) refl) (div_s (reg_get regs a) (reg_get regs b)) (λ pc ws. refl)
+    two_runs operator.remainder true regs = divided_tail (Remu R0 a b) regs (plain (Remu R0 a b) (λ h c t th. refl) refl) (rem_u (reg_get regs a) (reg_get regs b)) (λ pc ws. refl)
+    two_runs operator.remainder false regs = divided_tail (Rems R0 a b) regs (plain (Rems R0 a b) (λ h c t th. refl) refl) (rem_s (reg_get regs a) (reg_get regs b)) (λ pc ws. refl)
+    two_runs operator.bit_and u regs = last0 (And R0 a b) regs _ (plain (And R0 a b) (λ h c t th. refl) refl) (λ pc ws. refl)
+    two_runs operator.bit_or u regs = last0 (Or R0 a b) regs _ (plain (Or R0 a b) (λ h c t th. refl) refl) (λ pc ws. refl)
+    two_runs operator.bit_xor u regs = last0 (Xor R0 a b) regs _ (plain (Xor R0 a b) (λ h c t th. refl) refl) (λ pc ws. refl)
+    two_runs operator.shift_up u regs = last0 (Shl R0 a b) regs _ (plain (Shl R0 a b) (λ h c t th. refl) refl) (λ pc ws. refl)
+    two_runs operator.shift_down true regs = last0 (Shr R0 a b) regs _ (plain (Shr R0 a b) (λ h c t th. refl) refl) (λ pc ws. refl)
+    two_runs operator.shift_down false regs = last0 (Ashr R0 a b) regs _ (plain (Ashr R0 a b) (λ h c t th. refl) refl) (λ pc ws. refl)
+    two_runs operator.equal u regs = last0 (Eq R0 a b) regs _ (eq_plain R0 a b) (λ pc ws. refl)
+    two_runs operator.differs u regs = turned (Eq R0 a b) regs (nat_eq (reg_get regs a) (reg_get regs b)) (eq_plain R0 a b) (λ pc ws. refl)
+    two_runs operator.less true regs = last0 (Lsu R0 a b) regs _ (plain (Lsu R0 a b) (λ h c t th. refl) refl) (λ pc ws. refl)
+    two_runs operator.less false regs = last0 (Lss R0 a b) regs _ (plain (Lss R0 a b) (λ h c t th. refl) refl) (λ pc ws. refl)
+    two_runs operator.greater true regs = last0 (Lsu R0 b a) regs _ (plain (Lsu R0 b a) (λ h c t th. refl) refl) (λ pc ws. refl)
+    two_runs operator.greater false regs = last0 (Lss R0 b a) regs _ (plain (Lss R0 b a) (λ h c t th. refl) refl) (λ pc ws. refl)
+    two_runs operator.at_most true regs = turned (Lsu R0 b a) regs (nat_lt (reg_get regs b) (reg_get regs a)) (plain (Lsu R0 b a) (λ h c t th. refl) refl) (λ pc ws. refl)
+    two_runs operator.at_most false regs = turned (Lss R0 b a) regs (signed_less (reg_get regs b) (reg_get regs a)) (plain (Lss R0 b a) (λ h c t th. refl) refl) (λ pc ws. refl)
+    two_runs operator.at_least true regs = turned (Lsu R0 a b) regs (nat_lt (reg_get regs a) (reg_get regs b)) (plain (Lsu R0 a b) (λ h c t th. refl) refl) (λ pc ws. refl)
+    two_runs operator.at_least false regs = turned (Lss R0 a b) regs (signed_less (reg_get regs a) (reg_get regs b)) (plain (Lss R0 a b) (λ h c t th. refl) refl) (λ pc ws. refl)
+    two_runs operator.below_length u regs = index_runs u regs
+    two_runs other u regs = last0 (Ldc R0 0) regs 0 (ldc_plain R0 0) (λ pc ws. refl)
+
+  -- the first word in r11 and the second one in r0, and the other way round
+  pub kept_runs : (o : Operator) (u : Bool) (regs : Regs) → Tail pos (two_tail o u R11 R0) regs (of_two o u pos regs.r11 regs.r0)
+  kept_runs = two_runs R11 R0 index_in_r11
+
+  pub straight_runs : (o : Operator) (u : Bool) (regs : Regs) → Tail pos (two_tail o u R0 R11) regs (of_two o u pos regs.r0 regs.r11)
+  straight_runs = two_runs R0 R11 index_in_r0
+
+  -- a number is added to the word in r0
+  pub added_runs : (n : ℕ) (regs : Regs) → Tail pos (Addi R0 R0 n ∷ []) regs (word (word_sum regs.r0 n))
+  added_runs n regs = last0 (Addi R0 R0 n) regs (word_sum regs.r0 n) (plain (Addi R0 R0 n) (λ h c t th. refl) refl) (λ pc ws. refl)
 
   -- of the word in r0
   pub one_runs : (o : Operator) (regs : Regs) → Tail pos (one_tail o) regs (of_one o regs.r0)
@@ -138,12 +167,17 @@ module _ (pos : Pos) where
   one_runs other regs = ends regs regs.r0 refl
 
   -- how many there are
-  pub two_few : (o : Operator) (u : Bool) → length (two_tail o u) ≤ 3
-  two_few operator.differs u = omega arith
-  two_few operator.at_most u = omega arith
-  two_few operator.at_least u = omega arith
-  two_few operator.below_length u = omega arith
-  two_few other u = omega arith
+  pub two_few : (o : Operator) (u : Bool) (a b : Reg) → length (two_tail o u a b) ≤ 3
+  two_few operator.differs u a b = omega arith
+  two_few operator.at_most u a b = omega arith
+  two_few operator.at_least u a b = omega arith
+  two_few operator.below_length u R0 b = omega arith
+  two_few operator.below_length u other b = omega arith
+  two_few other u a b = omega arith
+
+  pub direct_few : (o : Operator) (u : Bool) (d : Direct) (sum : Option ℕ) (a b : Reg) → length (direct_tail o u d sum a b) ≤ 4
+  direct_few o u d (Some n) a b = omega arith
+  direct_few o u d None a b = let f = two_few o u a b in omega arith
 
   pub one_few : (o : Operator) → length (one_tail o) ≤ 2
   one_few operator.minus = omega arith

@@ -2,7 +2,6 @@ pub mod Plans
 pub mod Measures
 pub mod Code
 pub mod Works
-pub mod Meant
 pub mod Operands
 pub mod Parts
 pub mod Stores

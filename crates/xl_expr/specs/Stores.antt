@@ -1,5 +1,5 @@
 -- Where a place's word stands, and the code that writes it.
-use Rattle.std.specs.Prelude.{◌≡◌, ℕ, ◌+◌, ◌-◌, ◌*◌, Bool, true, false, List, [], ◌∷◌, ◌++◌, length, Option, Some, None, slice_get}
+use Rattle.std.specs.Prelude.{◌≡◌, ℕ, ◌+◌, ◌-◌, ◌*◌, ◌%◌, ◌^◌, ◌≤◌, Bool, true, false, List, [], ◌∷◌, ◌++◌, length, Option, Some, None, slice_get}
 use Rattle.xw_words.specs.declared.pos.Pos.{Pos}
 use Rattle.xs_instr.specs.declared.image.Home.{Home}
 use Rattle.xs_instr.specs.declared.instr.Instr.{Instr}
@@ -18,52 +18,56 @@ use Rattle.xc_kernel.specs.Plain as kernel
 use Rattle.xc_kernel.specs.Values.{Value, word, error, tested}
 use Rattle.xc_kernel.specs.Eval.{Store, words_of, eval}
 use Rattle.xs_instr.specs.Lines.{Line, line, at_pos}
-use Rattle.xs_instr.specs.OwnSteps.{HasRoom, IsApart, IsWord, Kept, RunsAt, StandAt, Within}
+use Rattle.xs_instr.specs.OwnSteps.{HasRoom, IsApart, IsWord, Kept, RunsAt, StandAt, Within, temporary}
 use Rattle.xl_expr.specs.declared.plan.VarAt.{VarAt}
 use Rattle.xl_expr.specs.declared.plan.VarAt.TheVariants.{Near, Far, Through}
 use Rattle.xl_expr.specs.declared.plan.VarPlan.{VarPlan}
 use Rattle.xl_expr.specs.Plans.{var_in}
 use Rattle.xl_expr.specs.Measures.{nodes_at}
-use Rattle.xl_expr.specs.Code.{tested_index, expression_code}
+use Rattle.xl_expr.specs.Code.{fixed_index, tested_index, expression_code}
 use Rattle.xl_expr.specs.Works.{PlaceIsLaid, Errs}
 
 -- a word in r10 is written to the address r11 + 4 r0
 abbrev pub write : Instr
 write = Stw R10 R11 R0
 
+-- a register's word goes to the word at 4i behind the address that the word at dp + 4n holds
+abbrev pub held_write : (n i : ℕ) → Reg → List Instr
+held_write n i from = Stwsp from 0 ∷ Ldwdp R11 n ∷ Ldc R0 i ∷ Ldwsp R10 0 ∷ write ∷ []
+
 -- a register's word goes to a variable's
 abbrev pub word_write : VarAt → Reg → List Instr
 word_write (Near n) from = Stwdp from n ∷ []
-word_write (Far n) from = Stwsp from 0 ∷ Ldwdp R11 n ∷ Ldc R0 0 ∷ Ldwsp R10 0 ∷ write ∷ []
-word_write (Through n) from = Stwsp from 0 ∷ Ldwdp R11 n ∷ Ldc R0 0 ∷ Ldwsp R10 0 ∷ write ∷ []
+word_write (Far n) from = held_write n 0 from
+word_write (Through n) from = held_write n 0 from
 
 abbrev pub word_store : Option VarPlan → Reg → Pos → List Line
 word_store None from last = []
 word_store (Some found) from last = at_pos last (word_write found.place from)
 
--- an array's first address comes to r11
-abbrev pub base_instr : VarAt → Instr
-base_instr (Near n) = Ldawdp R11 n
-base_instr (Far n) = Ldwdp R11 n
-base_instr (Through n) = Ldwdp R11 n
-
 -- behind the index's code
 abbrev pub element_write : Instr → ℕ → List Instr
 element_write base words = tested_index words ++ base ∷ Ldwsp R10 0 ∷ write ∷ []
 
--- and to an element, by its index's code
-abbrev pub element_store_at : VarAt → ℕ → Reg → Pos → (ℕ → List Line) → ℕ → List Line
-element_store_at (Near n) words from pos index here = line (Stwsp from 0) pos ∷ (index (here + 1) ++ at_pos pos (element_write (Ldawdp R11 n) words))
-element_store_at (Far n) words from pos index here = line (Stwsp from 0) pos ∷ (index (here + 1) ++ at_pos pos (element_write (Ldwdp R11 n) words))
-element_store_at (Through n) words from pos index here = at_pos pos (Stwsp from 0 ∷ Ldwdp R11 n ∷ Ldc R0 0 ∷ Ldwsp R10 0 ∷ write ∷ [])
+-- to an element, by its index's code, after which an instruction brings the address of the array's first word to r11
+abbrev pub indexed_write : Instr → ℕ → Reg → Pos → (ℕ → List Line) → ℕ → List Line
+indexed_write base words from pos index here = line (Stwsp from 0) pos ∷ (index (here + 1) ++ at_pos pos (element_write base words))
 
-abbrev pub element_store : Option VarPlan → Reg → Pos → (ℕ → List Line) → ℕ → List Line
-element_store None from pos index here = []
-element_store (Some found) from pos index here = element_store_at found.place found.words from pos index here
+-- and at an index that needs no test, or by its code
+abbrev pub element_store_at : VarAt → (words : ℕ) → (fixed : Option ℕ) → Reg → Pos → (ℕ → List Line) → ℕ → List Line
+element_store_at (Near n) words (Some i) from pos index here = at_pos pos (Stwdp from ((n + i) % 2 ^ 32) ∷ [])
+element_store_at (Near n) words None from pos index here = indexed_write (Ldawdp R11 n) words from pos index here
+element_store_at (Far n) words (Some i) from pos index here = at_pos pos (held_write n i from)
+element_store_at (Far n) words None from pos index here = indexed_write (Ldwdp R11 n) words from pos index here
+element_store_at (Through n) words fixed from pos index here = at_pos pos (held_write n 0 from)
+
+abbrev pub element_store : Option VarPlan → kernel.Expression → Reg → Pos → (ℕ → List Line) → ℕ → List Line
+element_store None i from pos index here = []
+element_store (Some found) i from pos index here = element_store_at found.place found.words (fixed_index i found.words) from pos index here
 
 abbrev pub store_code : List (Option VarPlan) → kernel.Place → Reg → ℕ → Pos → List Line
 store_code vars (kernel.word v) from here last = word_store (var_in vars v) from last
-store_code vars (kernel.element v i pos) from here last = element_store (var_in vars v) from pos (λ n. expression_code vars i 1 n pos) here
+store_code vars (kernel.element v i pos) from here last = element_store (var_in vars v) i from pos (λ n. expression_code vars i 1 n pos) here
 
 -- the index of a place's word in its variable, or the error
 abbrev pub tested_value : ℕ → Pos → Value → Value
@@ -105,13 +109,14 @@ is_working R10 = true
 is_working R11 = true
 is_working _ = false
 
--- thread t's next step writes v at the address and goes on to an index; its registers but r0, r10 and r11 are as they were, and so
--- are all words that it relies on but its temporary ones
+-- thread t's next step writes v at the address and goes on to an index; its temporary words are there, its registers but r0, r10 and r11 are
+-- as they were, and so are all words that it relies on but its temporary ones
 pub record Writes (home : Home) (relied : ℕ → Bool) (s t : ℕ) (thread : Thread) (old : List ℕ) (address v pc : ℕ) (b : CoreState) : Type 0 where
   pub index : ℕ
   pub regs : Regs
   pub here : slice_get b.threads t ≡ Some (record thread { pc = index; regs = regs })
   pub others : (r : Reg) → is_working r ≡ false → reg_get regs r ≡ reg_get thread.regs r
+  pub within : s + temporary ≤ length b.words
   pub words : (w : ℕ) → relied w ≡ true → IsApart s w → slice_get b.words w ≡ slice_get old w
   pub made : slot home b t ≡ makes (put_own b t (record thread { pc = index; regs = regs }) (record { pc = pc; regs = regs; words = word_put b.words address v }))
 

@@ -1,19 +1,21 @@
-ghost use Rattle.std.specs.Prelude.{◌≡◌, ◌+◌, ◌*◌, ◌<◌, ◌≤◌, ◌^◌, [], ◌∷◌, ◌++◌, length, map, OnOk, OnErr};
+ghost use Rattle.std.specs.Prelude.{◌≡◌, ◌+◌, ◌*◌, ◌<◌, ◌≤◌, ◌^◌, [], ◌∷◌, ◌++◌, length, map, OnOk, OnErr, Some};
 ghost use Rattle.xc_kernel.specs.Kernels.{expression_of, place_of};
 ghost use Rattle.xs_instr.specs.Lines.{HasTarget, line, last_pos, at_pos};
-ghost use Rattle.xl_expr.specs.Code.{one_tail, negated, after_main, word_at_place, element_read, moved_to, expression_code, place_code, operation_code, codes, code_to};
+ghost use Rattle.xl_expr.specs.Code as spec;
+ghost use Rattle.xl_expr.specs.Code.{one_tail, negated, after_main, index_if, direct_tail, operand_of, held_word, word_at_place, element_read, element_code, moved_to, expression_code, place_code, two_code, joined_code, operation_code, codes, code_to};
 ghost use Rattle.xs_instr.specs.Adds.{Adds};
 ghost use Rattle.xs_instr.specs.Extends.{Extends};
 ghost use Rattle.xl_expr.specs.Targets.{AreAimed};
 ghost use Rattle.xl_expr.specs.Works.{Evaluates};
-ghost use Rattle.xl_expr.specs.Meant.{operator_meant};
+ghost use Rattle.xc_kernel.specs.Meant.{operator_meant};
 ghost use Rattle.xl_expr.specs.Measures.{nodes, nodes_of, nodes_at, depth, depth_of, depth_at};
 ghost use Rattle.xl_expr.specs.Operands.{operands_of};
-ghost use Rattle.xl_expr.specs.Parts.{second_code, short_code, choice_code};
+ghost use Rattle.xl_expr.specs.Parts.{kept_behind, short_behind, choice_code};
 
-use crate::operators::{Operator, main_instr, operator_at};
-use crate::plan::{Plan, VarAt};
-use xc_kernel::{Kx, Place};
+use crate::direct_operand::{Direct, added, added_to, brought, direct_of, fixed_index};
+use crate::operators::main_instr;
+use crate::plan::{Plan, VarAt, VarPlan};
+use xc_kernel::{Kx, Operator, Place, operator_at};
 use xs_instr::{Emitter, Instr, Reg};
 use xw_words::{Memory, Pos};
 
@@ -35,9 +37,25 @@ pub fn emit_expr(e: &mut Emitter, plan: &Plan, x: &Kx, to: Reg) -> Result<(), Me
     ensures refused { OnErr result (Extends e.old e.new) }
 {
     let last = e.pos();
-    emit_at(e, plan, x, 0, last)?;
-    put_move(e, to, last)?;
+    emit_to(e, plan, x, to, last)?;
     Ok(())
+}
+
+/// The same, where an instruction without a place of its own has the place `last`.
+fn emit_to(e: &mut Emitter, plan: &Plan, x: &Kx, to: Reg, last: Pos) -> Result<(), Memory>
+    requires room { length e.old + 8 * nodes (expression_of x.now) < 2 ^ 32 }
+    requires shallow { depth (expression_of x.now) ≤ 400 }
+    ensures code { OnOk result (e.new
+        ≡ e.old ++ code_to plan.now.vars (expression_of x.now) to (length e.old) last) }
+    ensures refused { OnErr result (Extends e.old e.new) }
+{
+    match direct_of(plan, x) {
+        Some(operand) => e.put_all(&[brought(operand, to)], last),
+        None => {
+            emit_at(e, plan, x, 0, last)?;
+            put_move(e, to, last)
+        }
+    }
 }
 
 /// Moves r0 to a register.
@@ -102,28 +120,57 @@ fn emit_place(e: &mut Emitter, plan: &Plan, place: &Place, k: u32, last: Pos) ->
         },
         Place::Elem(v, index, pos) => match plan.placed(*v) {
             None => Ok(()),
-            Some(found) => match found.place {
-                VarAt::Near(n) => {
-                    emit_at(e, plan, index, k, last)?;
-                    put_element(e, found.words, Instr::Ldawdp(Reg::R11, n), *pos)?;
-                    Ok(())
-                }
-                VarAt::Far(n) => {
-                    emit_at(e, plan, index, k, last)?;
-                    put_element(e, found.words, Instr::Ldwdp(Reg::R11, n), *pos)?;
-                    Ok(())
-                }
-                VarAt::Through(n) => e.put_all(
-                    &[
-                        Instr::Ldwdp(Reg::R11, n),
-                        Instr::Ldc(Reg::R0, 0),
-                        Instr::Ldw(Reg::R0, Reg::R11, Reg::R0),
-                    ],
-                    *pos,
-                ),
-            },
+            Some(found) => emit_element(e, plan, found, index, *pos, k, last),
         },
     }
+}
+
+/// The code that reads an element of a variable.
+#[cycle(expression)]
+fn emit_element(
+    e: &mut Emitter,
+    plan: &Plan,
+    found: VarPlan,
+    index: &Kx,
+    pos: Pos,
+    k: u32,
+    last: Pos,
+) -> Result<(), Memory>
+    requires room { length e.old + 8 * (1 + nodes (expression_of index.now)) < 2 ^ 32 }
+    requires deep { k + (1 + depth (expression_of index.now)) < 2 ^ 32 }
+    ensures ok { OnOk result (e.new ≡ e.old ++ element_code (Some found) (expression_of index.now) pos
+        (expression_code plan.now.vars (expression_of index.now)) k (length e.old) last) }
+    ensures refused { OnErr result (Extends e.old e.new) }
+{
+    match (found.place, fixed_index(index, found.words)) {
+        (VarAt::Near(n), Some(i)) => e.put_all(&[Instr::Ldwdp(Reg::R0, n.wrapping_add(i))], pos),
+        (VarAt::Near(n), None) => {
+            emit_at(e, plan, index, k, last)?;
+            put_element(e, found.words, Instr::Ldawdp(Reg::R11, n), pos)
+        }
+        (VarAt::Far(n), Some(i)) => put_held(e, n, i, pos),
+        (VarAt::Far(n), None) => {
+            emit_at(e, plan, index, k, last)?;
+            put_element(e, found.words, Instr::Ldwdp(Reg::R11, n), pos)
+        }
+        (VarAt::Through(n), _) => put_held(e, n, 0, pos),
+    }
+}
+
+/// The word at 4i behind the address that the word at dp + 4n holds comes to r0.
+fn put_held(e: &mut Emitter, n: u32, i: u32, pos: Pos) -> Result<(), Memory>
+    requires { length e.old + 3 < 2 ^ 32 }
+    ensures ok { OnOk result (e.new ≡ e.old ++ at_pos pos (held_word n i)) }
+    ensures refused { OnErr result (Extends e.old e.new) }
+{
+    e.put_all(
+        &[
+            Instr::Ldwdp(Reg::R11, n),
+            Instr::Ldc(Reg::R0, i),
+            Instr::Ldw(Reg::R0, Reg::R11, Reg::R0),
+        ],
+        pos,
+    )
 }
 
 /// The code that reads a word where the plan has it.
@@ -134,14 +181,7 @@ fn put_word(e: &mut Emitter, place: VarAt, pos: Pos) -> Result<(), Memory>
 {
     match place {
         VarAt::Near(n) => e.put_all(&[Instr::Ldwdp(Reg::R0, n)], pos),
-        VarAt::Far(n) | VarAt::Through(n) => e.put_all(
-            &[
-                Instr::Ldwdp(Reg::R11, n),
-                Instr::Ldc(Reg::R0, 0),
-                Instr::Ldw(Reg::R0, Reg::R11, Reg::R0),
-            ],
-            pos,
-        ),
+        VarAt::Far(n) | VarAt::Through(n) => put_held(e, n, 0, pos),
     }
 }
 
@@ -193,21 +233,67 @@ fn put_negated(e: &mut Emitter, pos: Pos) -> Result<(), Memory>
 }
 
 /// What follows the main instruction of two operands' operator.
-fn put_after_main(e: &mut Emitter, operator: Operator, pos: Pos) -> Result<(), Memory>
+fn put_after_main(
+    e: &mut Emitter,
+    operator: Operator,
+    a: Reg,
+    b: Reg,
+    pos: Pos,
+) -> Result<(), Memory>
     requires { length e.old + 2 < 2 ^ 32 }
-    ensures ok { OnOk result (e.new ≡ e.old ++ at_pos pos (after_main (operator_meant operator))) }
+    ensures ok { OnOk result (e.new ≡ e.old ++ at_pos pos (after_main (operator_meant operator) a b)) }
     ensures refused { OnErr result (Extends e.old e.new) }
 {
     match operator {
         Operator::Differs | Operator::AtMost | Operator::AtLeast => put_negated(e, pos),
-        Operator::BelowLength => e.put_all(
-            &[
-                Instr::Ecallf(Reg::R0),
-                Instr::Or(Reg::R0, Reg::R11, Reg::R11),
-            ],
+        Operator::BelowLength => put_index_if(e, a, b, pos),
+        _ => Ok(()),
+    }
+}
+
+/// An index goes to r0, if its test holds.
+fn put_index_if(e: &mut Emitter, index: Reg, test: Reg, pos: Pos) -> Result<(), Memory>
+    requires { length e.old + 2 < 2 ^ 32 }
+    ensures ok { OnOk result (e.new ≡ e.old ++ at_pos pos (index_if index test)) }
+    ensures refused { OnErr result (Extends e.old e.new) }
+{
+    match index {
+        Reg::R0 => e.put_all(&[Instr::Ecallf(test)], pos),
+        _ => e.put_all(
+            &[Instr::Ecallf(test), Instr::Or(Reg::R0, index, index)],
             pos,
         ),
-        _ => Ok(()),
+    }
+}
+
+/// A direct operand and the word in r0 make that in r0; in their order they go to two registers, unless one is added as it is.
+fn put_direct_tail(
+    e: &mut Emitter,
+    operator: Operator,
+    unsigned: bool,
+    operand: Direct,
+    sum: Option<u32>,
+    a: Reg,
+    b: Reg,
+    pos: Pos,
+) -> Result<(), Memory>
+    requires { length e.old + 4 < 2 ^ 32 }
+    ensures ok { OnOk result (e.new ≡ e.old ++ at_pos pos
+        (direct_tail (operator_meant operator) unsigned operand sum a b)) }
+    ensures refused { OnErr result (Extends e.old e.new) }
+{
+    match sum {
+        Some(n) => e.put_all(&[Instr::Addi(Reg::R0, Reg::R0, n)], pos),
+        None => {
+            e.put_all(
+                &[
+                    brought(operand, Reg::R11),
+                    main_instr(operator, unsigned, a, b),
+                ],
+                pos,
+            )?;
+            put_after_main(e, operator, a, b, pos)
+        }
     }
 }
 
@@ -235,10 +321,7 @@ fn emit_operation(
             emit_at(e, plan, only, k, last)?;
             put_one_tail(e, operator, pos)
         }
-        [first, second] => {
-            emit_at(e, plan, first, k, last)?;
-            emit_second(e, plan, operator, unsigned, second, pos, k)
-        }
+        [first, second] => emit_two(e, plan, operator, unsigned, first, second, pos, k, last),
         [test, second, third, ..] => {
             emit_at(e, plan, test, k, last)?;
             emit_choice(e, plan, second, third, pos, k)
@@ -246,9 +329,86 @@ fn emit_operation(
     }
 }
 
-/// The code behind the first of two operands.
+/// The code of an operation with two operands.
 #[cycle(expression)]
-fn emit_second(
+fn emit_two(
+    e: &mut Emitter,
+    plan: &Plan,
+    operator: Operator,
+    unsigned: bool,
+    first: &Kx,
+    second: &Kx,
+    pos: Pos,
+    k: u32,
+    last: Pos,
+) -> Result<(), Memory>
+    requires room { length e.old + 8 * (1 + nodes (expression_of first.now) + nodes
+        (expression_of second.now)) < 2 ^ 32 }
+    requires deep_first { k + (1 + depth (expression_of first.now)) < 2 ^ 32 }
+    requires deep_second { k + (1 + depth (expression_of second.now)) < 2 ^ 32 }
+    ensures ok { OnOk result (e.new ≡ e.old ++ two_code (operator_meant operator) unsigned pos
+        (operand_of plan.now.vars (expression_of first.now))
+        (operand_of plan.now.vars (expression_of second.now)) k (length e.old) last) }
+    ensures refused { OnErr result (Extends e.old e.new) }
+{
+    match operator {
+        Operator::Both => {
+            emit_at(e, plan, first, k, last)?;
+            emit_short(e, plan, Instr::Brff(Reg::R0, 0), second, pos, k)
+        }
+        Operator::Either => {
+            emit_at(e, plan, first, k, last)?;
+            emit_short(e, plan, Instr::Brft(Reg::R0, 0), second, pos, k)
+        }
+        _ => emit_joined(e, plan, operator, unsigned, first, second, pos, k, last),
+    }
+}
+
+/// The code of an operation of both operands' words, of which one may be direct.
+#[cycle(expression)]
+fn emit_joined(
+    e: &mut Emitter,
+    plan: &Plan,
+    operator: Operator,
+    unsigned: bool,
+    first: &Kx,
+    second: &Kx,
+    pos: Pos,
+    k: u32,
+    last: Pos,
+) -> Result<(), Memory>
+    requires room { length e.old + 8 * (1 + nodes (expression_of first.now) + nodes
+        (expression_of second.now)) < 2 ^ 32 }
+    requires deep_first { k + (1 + depth (expression_of first.now)) < 2 ^ 32 }
+    requires deep_second { k + (1 + depth (expression_of second.now)) < 2 ^ 32 }
+    ensures ok { OnOk result (e.new ≡ e.old ++ joined_code (operator_meant operator) unsigned pos
+        (expression_code plan.now.vars (expression_of first.now))
+        (expression_code plan.now.vars (expression_of second.now))
+        (spec.direct_of plan.now.vars (expression_of first.now))
+        (spec.direct_of plan.now.vars (expression_of second.now)) k (length e.old) last) }
+    ensures refused { OnErr result (Extends e.old e.new) }
+{
+    match (direct_of(plan, first), direct_of(plan, second)) {
+        (_, Some(operand)) => {
+            emit_at(e, plan, first, k, last)?;
+            let sum = added(operator, operand);
+            put_direct_tail(e, operator, unsigned, operand, sum, Reg::R0, Reg::R11, pos)
+        }
+        (Some(operand), None) => {
+            emit_at(e, plan, second, k, last)?;
+            let sum = added_to(operator, operand);
+            put_direct_tail(e, operator, unsigned, operand, sum, Reg::R11, Reg::R0, pos)
+        }
+        (None, None) => {
+            emit_at(e, plan, first, k, last)?;
+            emit_kept(e, plan, operator, unsigned, second, pos, k)
+        }
+    }
+}
+
+/// The code behind the first of two operands, whose word is kept while the second one's is found.
+#[cycle(expression)]
+fn emit_kept(
     e: &mut Emitter,
     plan: &Plan,
     operator: Operator,
@@ -259,24 +419,21 @@ fn emit_second(
 ) -> Result<(), Memory>
     requires room { length e.old + 8 * (1 + nodes (expression_of second.now)) < 2 ^ 32 }
     requires deep { k + (1 + depth (expression_of second.now)) < 2 ^ 32 }
-    ensures ok { OnOk result (e.new ≡ e.old ++ second_code plan.now.vars
+    ensures ok { OnOk result (e.new ≡ e.old ++ kept_behind plan.now.vars
         (operator_meant operator) unsigned pos (expression_of second.now) k (length e.old)) }
     ensures refused { OnErr result (Extends e.old e.new) }
 {
-    match operator {
-        Operator::Both => emit_short(e, plan, Instr::Brff(Reg::R0, 0), second, pos, k),
-        Operator::Either => emit_short(e, plan, Instr::Brft(Reg::R0, 0), second, pos, k),
-        _ => {
-            e.put_all(&[Instr::Stwsp(Reg::R0, k)], pos)?;
-            emit_at(e, plan, second, k + 1, pos)?;
-            e.put_all(
-                &[Instr::Ldwsp(Reg::R11, k), main_instr(operator, unsigned)],
-                pos,
-            )?;
-            put_after_main(e, operator, pos)?;
-            Ok(())
-        }
-    }
+    e.put_all(&[Instr::Stwsp(Reg::R0, k)], pos)?;
+    emit_at(e, plan, second, k + 1, pos)?;
+    e.put_all(
+        &[
+            Instr::Ldwsp(Reg::R11, k),
+            main_instr(operator, unsigned, Reg::R11, Reg::R0),
+        ],
+        pos,
+    )?;
+    put_after_main(e, operator, Reg::R11, Reg::R0, pos)?;
+    Ok(())
 }
 
 /// The code behind the first operand of `&&` or `||`.
@@ -293,7 +450,7 @@ fn emit_short(
     requires room { length e.old + 8 * (1 + nodes (expression_of second.now)) < 2 ^ 32 }
     requires deep { k + (1 + depth (expression_of second.now)) < 2 ^ 32 }
     ensures ok { OnOk result (e.new
-        ≡ e.old ++ short_code plan.now.vars jump pos (expression_of second.now) k (length e.old)) }
+        ≡ e.old ++ short_behind plan.now.vars jump pos (expression_of second.now) k (length e.old)) }
     ensures refused { OnErr result (Extends e.old e.new) }
 {
     let skip = e.hole(jump, pos)?;

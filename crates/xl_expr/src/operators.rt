@@ -1,112 +1,29 @@
 ghost use Rattle.std.specs.Prelude.{◌≡◌};
-ghost use Rattle.xc_kernel.specs.Operators as operators;
-ghost use Rattle.xl_expr.specs.Meant.{operator_meant};
+ghost use Rattle.xc_kernel.specs.Meant.{operator_meant};
 ghost use Rattle.xl_expr.specs.Code as code;
 
+use xc_kernel::Operator;
 use xs_instr::{Instr, Reg};
 
-/// What a symbol does to the words of its operands.
-#[derive(Clone, Copy)]
-pub enum Operator {
-    /// `[`: the test of an index against a length.
-    BelowLength,
-    /// `? :`
-    Choose,
-    BitAnd,
-    BitOr,
-    BitXor,
-    Flip,
-    NotTrue,
-    Plus,
-    Minus,
-    Times,
-    Divide,
-    Remainder,
-    Less,
-    Greater,
-    Equal,
-    Differs,
-    AtMost,
-    AtLeast,
-    /// `&&`
-    Both,
-    /// `||`
-    Either,
-    ShiftUp,
-    ShiftDown,
-    NoOperator,
-}
-
-/// In the order of the symbols.
-const OPERATORS: [Operator; 35] = [
-    Operator::NoOperator,
-    Operator::NoOperator,
-    Operator::NoOperator,
-    Operator::NoOperator,
-    Operator::BelowLength,
-    Operator::NoOperator,
-    Operator::NoOperator,
-    Operator::NoOperator,
-    Operator::NoOperator,
-    Operator::Choose,
-    Operator::BitAnd,
-    Operator::BitOr,
-    Operator::BitXor,
-    Operator::Flip,
-    Operator::NotTrue,
-    Operator::Plus,
-    Operator::Minus,
-    Operator::Times,
-    Operator::Divide,
-    Operator::Remainder,
-    Operator::Less,
-    Operator::Greater,
-    Operator::NoOperator,
-    Operator::NoOperator,
-    Operator::NoOperator,
-    Operator::NoOperator,
-    Operator::NoOperator,
-    Operator::Equal,
-    Operator::Differs,
-    Operator::AtMost,
-    Operator::AtLeast,
-    Operator::Both,
-    Operator::Either,
-    Operator::ShiftUp,
-    Operator::ShiftDown,
-];
-
-/// The operator of a symbol.
-pub fn operator_at(symbol: u8) -> Operator
-    ensures { operator_meant result ≡ operators.operator_at symbol }
-{
-    let place = usize::from(symbol);
-    if place < OPERATORS.len() {
-        OPERATORS[place]
-    } else {
-        Operator::NoOperator
-    }
-}
-
-/// The instruction that makes r0 of two words in r11 and r0.
-pub fn main_instr(operator: Operator, unsigned: bool) -> Instr
-    ensures { result ≡ code.main_instr (operator_meant operator) unsigned }
+/// The instruction that makes of the words in two registers that in r0; the test of an index gives its truth in the second one.
+pub fn main_instr(operator: Operator, unsigned: bool, a: Reg, b: Reg) -> Instr
+    ensures { result ≡ code.main_instr (operator_meant operator) unsigned a b }
 {
     match operator {
-        Operator::Plus => Instr::Add(Reg::R0, Reg::R11, Reg::R0),
-        Operator::Minus => Instr::Sub(Reg::R0, Reg::R11, Reg::R0),
-        Operator::Times => Instr::Mul(Reg::R0, Reg::R11, Reg::R0),
-        Operator::Divide => quotient_instr(unsigned),
-        Operator::Remainder => remainder_instr(unsigned),
-        Operator::BitAnd => Instr::And(Reg::R0, Reg::R11, Reg::R0),
-        Operator::BitOr => Instr::Or(Reg::R0, Reg::R11, Reg::R0),
-        Operator::BitXor => Instr::Xor(Reg::R0, Reg::R11, Reg::R0),
-        Operator::ShiftUp => Instr::Shl(Reg::R0, Reg::R11, Reg::R0),
-        Operator::ShiftDown => shift_instr(unsigned),
-        Operator::Equal | Operator::Differs => Instr::Eq(Reg::R0, Reg::R11, Reg::R0),
-        Operator::Less | Operator::AtLeast => less_instr(unsigned, Reg::R11, Reg::R0),
-        Operator::Greater | Operator::AtMost => less_instr(unsigned, Reg::R0, Reg::R11),
-        Operator::BelowLength => Instr::Lsu(Reg::R0, Reg::R11, Reg::R0),
+        Operator::Plus => Instr::Add(Reg::R0, a, b),
+        Operator::Minus => Instr::Sub(Reg::R0, a, b),
+        Operator::Times => Instr::Mul(Reg::R0, a, b),
+        Operator::Divide => quotient_instr(unsigned, a, b),
+        Operator::Remainder => remainder_instr(unsigned, a, b),
+        Operator::BitAnd => Instr::And(Reg::R0, a, b),
+        Operator::BitOr => Instr::Or(Reg::R0, a, b),
+        Operator::BitXor => Instr::Xor(Reg::R0, a, b),
+        Operator::ShiftUp => Instr::Shl(Reg::R0, a, b),
+        Operator::ShiftDown => shift_instr(unsigned, a, b),
+        Operator::Equal | Operator::Differs => Instr::Eq(Reg::R0, a, b),
+        Operator::Less | Operator::AtLeast => less_instr(unsigned, a, b),
+        Operator::Greater | Operator::AtMost => less_instr(unsigned, b, a),
+        Operator::BelowLength => Instr::Lsu(b, a, b),
         Operator::Choose
         | Operator::Flip
         | Operator::NotTrue
@@ -116,33 +33,33 @@ pub fn main_instr(operator: Operator, unsigned: bool) -> Instr
     }
 }
 
-fn quotient_instr(unsigned: bool) -> Instr
-    ensures { result ≡ code.quotient_instr unsigned }
+fn quotient_instr(unsigned: bool, a: Reg, b: Reg) -> Instr
+    ensures { result ≡ code.quotient_instr unsigned a b }
 {
     if unsigned {
-        Instr::Divu(Reg::R0, Reg::R11, Reg::R0)
+        Instr::Divu(Reg::R0, a, b)
     } else {
-        Instr::Divs(Reg::R0, Reg::R11, Reg::R0)
+        Instr::Divs(Reg::R0, a, b)
     }
 }
 
-fn remainder_instr(unsigned: bool) -> Instr
-    ensures { result ≡ code.remainder_instr unsigned }
+fn remainder_instr(unsigned: bool, a: Reg, b: Reg) -> Instr
+    ensures { result ≡ code.remainder_instr unsigned a b }
 {
     if unsigned {
-        Instr::Remu(Reg::R0, Reg::R11, Reg::R0)
+        Instr::Remu(Reg::R0, a, b)
     } else {
-        Instr::Rems(Reg::R0, Reg::R11, Reg::R0)
+        Instr::Rems(Reg::R0, a, b)
     }
 }
 
-fn shift_instr(unsigned: bool) -> Instr
-    ensures { result ≡ code.shift_instr unsigned }
+fn shift_instr(unsigned: bool, a: Reg, b: Reg) -> Instr
+    ensures { result ≡ code.shift_instr unsigned a b }
 {
     if unsigned {
-        Instr::Shr(Reg::R0, Reg::R11, Reg::R0)
+        Instr::Shr(Reg::R0, a, b)
     } else {
-        Instr::Ashr(Reg::R0, Reg::R11, Reg::R0)
+        Instr::Ashr(Reg::R0, a, b)
     }
 }
 

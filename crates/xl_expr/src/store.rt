@@ -1,16 +1,16 @@
-ghost use Rattle.std.specs.Prelude.{◌≡◌, ◌+◌, ◌*◌, ◌<◌, ◌≤◌, ◌^◌, ◌∷◌, ◌++◌, length, OnOk, OnErr};
+ghost use Rattle.std.specs.Prelude.{◌≡◌, ◌+◌, ◌*◌, ◌<◌, ◌≤◌, ◌^◌, ◌++◌, length, OnOk, OnErr, Some};
 ghost use Rattle.xc_kernel.specs.Kernels.{expression_of, place_of};
-ghost use Rattle.xs_instr.specs.declared.instr.Instr.TheVariants.{Stwsp};
-ghost use Rattle.xs_instr.specs.Lines.{line, last_pos, at_pos};
+ghost use Rattle.xs_instr.specs.Lines.{last_pos, at_pos};
 ghost use Rattle.xs_instr.specs.Adds.{Adds};
 ghost use Rattle.xl_expr.specs.Code.{expression_code};
 ghost use Rattle.xs_instr.specs.Extends.{Extends};
 ghost use Rattle.xl_expr.specs.Measures.{nodes, nodes_at, depth, depth_at};
 ghost use Rattle.xl_expr.specs.Targets.{AreAimed};
-ghost use Rattle.xl_expr.specs.Stores.{Stores, element_write, store_code, word_write};
+ghost use Rattle.xl_expr.specs.Stores.{Stores, element_store, held_write, indexed_write, store_code, word_write};
 
+use crate::direct_operand::fixed_index;
 use crate::expression::emit_at;
-use crate::plan::{Plan, VarAt};
+use crate::plan::{Plan, VarAt, VarPlan};
 use xc_kernel::{Kx, Place};
 use xs_instr::{Emitter, Instr, Reg};
 use xw_words::{Memory, Pos};
@@ -55,45 +55,7 @@ fn emit_write(e: &mut Emitter, plan: &Plan, dst: &Place, from: Reg, last: Pos) -
         },
         Place::Elem(v, index, pos) => match plan.placed(*v) {
             None => Ok(()),
-            Some(found) => match found.place {
-                VarAt::Near(n) => {
-                    emit_element_write(
-                        e,
-                        plan,
-                        index,
-                        found.words,
-                        Instr::Ldawdp(Reg::R11, n),
-                        from,
-                        *pos,
-                    )?;
-                    Ok(())
-                }
-                VarAt::Far(n) => {
-                    emit_element_write(
-                        e,
-                        plan,
-                        index,
-                        found.words,
-                        Instr::Ldwdp(Reg::R11, n),
-                        from,
-                        *pos,
-                    )?;
-                    Ok(())
-                }
-                VarAt::Through(n) => {
-                    e.put_all(
-                        &[
-                            Instr::Stwsp(from, 0),
-                            Instr::Ldwdp(Reg::R11, n),
-                            Instr::Ldc(Reg::R0, 0),
-                            Instr::Ldwsp(Reg::R10, 0),
-                            Instr::Stw(Reg::R10, Reg::R11, Reg::R0),
-                        ],
-                        *pos,
-                    )?;
-                    Ok(())
-                }
-            },
+            Some(found) => emit_element_write(e, plan, found, index, from, *pos),
         },
     }
 }
@@ -106,21 +68,60 @@ fn put_word_write(e: &mut Emitter, place: VarAt, from: Reg, pos: Pos) -> Result<
 {
     match place {
         VarAt::Near(n) => e.put_all(&[Instr::Stwdp(from, n)], pos),
-        VarAt::Far(n) | VarAt::Through(n) => e.put_all(
-            &[
-                Instr::Stwsp(from, 0),
-                Instr::Ldwdp(Reg::R11, n),
-                Instr::Ldc(Reg::R0, 0),
-                Instr::Ldwsp(Reg::R10, 0),
-                Instr::Stw(Reg::R10, Reg::R11, Reg::R0),
-            ],
-            pos,
-        ),
+        VarAt::Far(n) | VarAt::Through(n) => put_held_write(e, n, 0, from, pos),
+    }
+}
+
+/// A register's word goes to the word at 4i behind the address that the word at dp + 4n holds.
+fn put_held_write(e: &mut Emitter, n: u32, i: u32, from: Reg, pos: Pos) -> Result<(), Memory>
+    requires { length e.old + 5 < 2 ^ 32 }
+    ensures code { OnOk result (e.new ≡ e.old ++ at_pos pos (held_write n i from)) }
+    ensures refused { OnErr result (Extends e.old e.new) }
+{
+    e.put_all(
+        &[
+            Instr::Stwsp(from, 0),
+            Instr::Ldwdp(Reg::R11, n),
+            Instr::Ldc(Reg::R0, i),
+            Instr::Ldwsp(Reg::R10, 0),
+            Instr::Stw(Reg::R10, Reg::R11, Reg::R0),
+        ],
+        pos,
+    )
+}
+
+/// A register's word goes to an element of a variable.
+fn emit_element_write(
+    e: &mut Emitter,
+    plan: &Plan,
+    found: VarPlan,
+    index: &Kx,
+    from: Reg,
+    pos: Pos,
+) -> Result<(), Memory>
+    requires room { length e.old + 8 * (1 + nodes (expression_of index.now)) < 2 ^ 32 }
+    requires shallow { depth (expression_of index.now) ≤ 400 }
+    ensures code { OnOk result (e.new ≡ e.old ++ element_store (Some found) (expression_of index.now)
+        from pos (λ n. expression_code plan.now.vars (expression_of index.now) 1 n pos) (length e.old)) }
+    ensures refused { OnErr result (Extends e.old e.new) }
+{
+    match (found.place, fixed_index(index, found.words)) {
+        (VarAt::Near(n), Some(i)) => e.put_all(&[Instr::Stwdp(from, n.wrapping_add(i))], pos),
+        (VarAt::Near(n), None) => {
+            let base = Instr::Ldawdp(Reg::R11, n);
+            emit_indexed_write(e, plan, index, found.words, base, from, pos)
+        }
+        (VarAt::Far(n), Some(i)) => put_held_write(e, n, i, from, pos),
+        (VarAt::Far(n), None) => {
+            let base = Instr::Ldwdp(Reg::R11, n);
+            emit_indexed_write(e, plan, index, found.words, base, from, pos)
+        }
+        (VarAt::Through(n), _) => put_held_write(e, n, 0, from, pos),
     }
 }
 
 /// A register's word goes to an element, after its index's test; `base` brings the array's first address to r11.
-fn emit_element_write(
+fn emit_indexed_write(
     e: &mut Emitter,
     plan: &Plan,
     index: &Kx,
@@ -131,9 +132,8 @@ fn emit_element_write(
 ) -> Result<(), Memory>
     requires room { length e.old + 8 * (1 + nodes (expression_of index.now)) < 2 ^ 32 }
     requires shallow { depth (expression_of index.now) ≤ 400 }
-    ensures code { OnOk result (e.new ≡ e.old ++ line
-        (Stwsp from 0) pos ∷ (expression_code plan.now.vars (expression_of index.now) 1
-        (length e.old + 1) pos ++ at_pos pos (element_write base words))) }
+    ensures code { OnOk result (e.new ≡ e.old ++ indexed_write base words from pos
+        (λ n. expression_code plan.now.vars (expression_of index.now) 1 n pos) (length e.old)) }
     ensures refused { OnErr result (Extends e.old e.new) }
 {
     e.put_all(&[Instr::Stwsp(from, 0)], pos)?;

@@ -20,7 +20,7 @@ use Rattle.xl_expr.specs.declared.plan.VarPlan.{VarPlan}
 use Rattle.xl_expr.specs.Measures.{nodes, nodes_at}
 use Rattle.xl_expr.specs.Stores.{StoreOutcome, Stores, Writes, IsAddress, index_in, is_working}
 use Rattle.xl_expr.specs.Works.{IsLaid, PlaceIsLaid, Gives, Outcome, Evaluates, is_scratch, same_reg}
-use Rattle.xl_expr.proofs.Lists.{stand_front, stand_back}
+use Rattle.xl_expr.proofs.Lists.{stand_front, stand_back, room_kept}
 use Rattle.xl_expr.proofs.Ways.{own, IsPlain, Fits, turn_is}
 use Rattle.xl_expr.proofs.Evaluates.{within_more, then_within}
 use Rattle.xl_expr.proofs.Lasting.{place_lasts, address_lasts}
@@ -79,6 +79,7 @@ module _ (vars : List (Option VarPlan)) (place : kernel.Place) (x : kernel.Expre
           regs = w.regs;
           here = w.here;
           others = λ r e. w.others r e ∙ g.others r (working_scratch r e) (scratch_r0 r (working_scratch r e));
+          within = w.within;
           words = λ n r e. w.words n r e ∙ g.words n r e;
           made = w.made;
         } in
@@ -121,6 +122,7 @@ module _ (vars : List (Option VarPlan)) (x : kernel.Expression) (pc : ℕ) (plac
           regs = g.regs;
           here = here;
           others = λ r e. g.others r e (scratch_r0 r e);
+          within = room_kept relied s room.relied_on b.words c.words g.within k.words;
           words = λ w r e. k.words w r ∙ g.words w r e;
           made =
               turn_is home.parts.code relied (IsApart s) home t thread at_work.runs at_work.no_events refl c o (Brff R0 target) fits behind.0 plain

@@ -1,5 +1,5 @@
 -- What the code of an assignment and of a test does.
-use Rattle.std.specs.Prelude.{◌≡◌, ℕ, ◌+◌, ◌-◌, ◌*◌, Bool, true, false, List, [], ◌∷◌, ◌++◌, length, Option, Some, slice_get, nat_eq}
+use Rattle.std.specs.Prelude.{◌≡◌, ℕ, ◌+◌, ◌-◌, ◌*◌, ◌≤◌, Bool, true, false, List, [], ◌∷◌, ◌++◌, length, Option, Some, slice_get, nat_eq}
 use Rattle.xw_words.specs.declared.pos.Pos.{Pos}
 use Rattle.xs_instr.specs.declared.image.Home.{Home}
 use Rattle.xs_instr.specs.declared.instr.Instr.TheVariants.{Brff}
@@ -16,7 +16,7 @@ use Rattle.xc_kernel.specs.Plain as kernel
 use Rattle.xc_kernel.specs.Values.{Value, word, error}
 use Rattle.xc_kernel.specs.Eval.{Store, eval}
 use Rattle.xs_instr.specs.Lines.{Line, line, open_line}
-use Rattle.xs_instr.specs.OwnSteps.{HasRoom, IsApart, Kept, RunsAt, StandAt, Within}
+use Rattle.xs_instr.specs.OwnSteps.{HasRoom, IsApart, Kept, RunsAt, StandAt, Within, temporary}
 use Rattle.xl_expr.specs.declared.plan.VarPlan.{VarPlan}
 use Rattle.xl_expr.specs.Measures.{nodes, nodes_at}
 use Rattle.xl_expr.specs.Stores.{StoreOutcome, index_in}
@@ -32,12 +32,14 @@ SetOutcome vars home relied s t thread old place pc (error kind pos) i b = (c : 
 pub record Sets (vars : List (Option VarPlan)) (place : kernel.Place) (x : kernel.Expression) (pc : ℕ) (lines : List Line) : Type 0 where
   pub by : (home : Home) (relied : ℕ → Bool) (s t : ℕ) (thread : Thread) (store : Store) (a : CoreState) → StandAt home.parts.code pc lines → RunsAt t pc thread a → HasRoom relied s thread.regs a.words → IsLaid vars relied s thread.regs.dp a.words store x → PlaceIsLaid vars relied s thread.regs.dp a.words store place → Within home relied (IsApart s) t (SetOutcome vars home relied s t thread a.words place (pc + length lines) (eval store x) (index_in store place)) (8 * nodes x + (8 * nodes_at place - 1)) a
 
--- thread t's next step goes to an index and changes nothing else; until here only r0, r11 and its temporary words were changed
+-- thread t's next step goes to an index and changes nothing else; until here only r0, r11 and its temporary words, which are there, were
+-- changed
 pub record Branches (home : Home) (relied : ℕ → Bool) (s t : ℕ) (thread : Thread) (old : List ℕ) (pc : ℕ) (b : CoreState) : Type 0 where
   pub index : ℕ
   pub regs : Regs
   pub here : slice_get b.threads t ≡ Some (record thread { pc = index; regs = regs })
   pub others : (r : Reg) → is_scratch r ≡ false → reg_get regs r ≡ reg_get thread.regs r
+  pub within : s + temporary ≤ length b.words
   pub words : (w : ℕ) → relied w ≡ true → IsApart s w → slice_get b.words w ≡ slice_get old w
   pub made : slot home b t ≡ makes (put_own b t (record thread { pc = index; regs = regs }) (record { pc = pc; regs = regs; words = b.words }))
 

@@ -2,7 +2,9 @@ pub mod Lists
 pub mod Fits
 pub mod Used
 pub mod Roots
+pub mod UsedResources
 pub mod Laid
 pub mod Numbered
 pub mod Sizes
 pub mod Promised
+pub mod Examples

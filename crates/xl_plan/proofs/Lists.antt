@@ -1,7 +1,7 @@
 -- Sums over the first items of lists.
 use Rattle.std.proofs.Common.{◌≡◌, ℕ, zero, suc, ◌+◌, ◌<◌, ◌≤◌, List, [], ◌∷◌, Contains, Some, None, slice_get, sum_by, take, ap, ◌∙◌, arith}
 use Rattle.std.proofs.lemmas.List.Sums.{sum_by-cons}
-use Rattle.std.proofs.lemmas.Option.{slice_get-get_or}
+use Rattle.std.proofs.lemmas.Option.{slice_get-get_or, slice_get_within, get_or_from_slice_get}
 
 pub some_given : {A : Type 0} {a b : A} → Some a ≡ Some b → a ≡ b
 some_given e = cc
@@ -12,6 +12,9 @@ none_given e = cc
 -- an item of a list has a place there
 pub contained_at : {A : Type 0} (xs : List A) (x : A) → Contains xs x → (i : ℕ) × (slice_get xs i ≡ Some x)
 contained_at xs x h = let lt = h.1 in (h.0, slice_get-get_or xs h.0 x lt ∙ ap (λ y. Some y) h.2)
+
+pub contains_at : {A : Type 0} (xs : List A) (i : ℕ) (x : A) → slice_get xs i ≡ Some x → Contains xs x
+contains_at xs i x e = (i, slice_get_within xs i x e, get_or_from_slice_get xs i x x e)
 
 module _ {X : Type 0} (f : X → ℕ) where
   -- an item's own is within the sum over all, and within the sum over those before a later place

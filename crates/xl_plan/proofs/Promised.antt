@@ -1,18 +1,21 @@
 -- What the plan of a core promises, of the places and identifiers that it has.
-use Rattle.std.proofs.Common.{◌≡◌, inl, ℕ, ◌+◌, ◌≤◌, List, Option, Some, ap, ◌∙◌, arith}
+use Rattle.std.proofs.Common.{◌≡◌, inl, ℕ, ◌+◌, ◌≤◌, List, Option, Some, nat_eq, slice_get, true, ap, ◌∙◌, arith}
 use Rattle.xc_kernel.specs.Plain as kernel
 use Rattle.xc_disjoint.specs.Checked.{IsChecked}
 use Rattle.xc_disjoint.specs.Cores.{last_core}
 use Rattle.xc_formed.specs.Cores.{IsOn}
 use Rattle.xs_instr.specs.Resources.{name_of}
+use Rattle.xl_expr.specs.declared.plan.ResAt.{ResAt}
+use Rattle.xl_expr.specs.declared.plan.ResAt.TheVariants.{Fixed}
 use Rattle.xl_expr.specs.declared.plan.VarAt.TheVariants.{Near}
 use Rattle.xl_expr.specs.declared.plan.VarPlan.{VarPlan}
 use Rattle.xl_expr.specs.Plans.{var_in}
-use Rattle.xl_plan.specs.Layout.{word_of, first_temporary, places_from, core_of_port, core_of_timer, identifiers_from, port_name, timer_name}
-use Rattle.xl_plan.specs.Planned.{HasVariables, HasNoOther, HasUsed, StandBelow, NoneIsTemporary, HasPorts, HasTimers, NumbersAreListed}
+use Rattle.xl_plan.specs.Layout.{word_of, first_temporary, places_from, core_of_port, core_of_timer, number_on, identifier_if, named_by, identifiers_from, port_name, timer_name}
+use Rattle.xl_plan.specs.Planned.{HasVariables, HasNoOther, HasUsedVariables, HasUsedPorts, HasUsedTimers, StandBelow, NoneIsTemporary, HasPorts, HasTimers, NumbersAreListed}
 use Rattle.xl_plan.proofs.Laid.{Stands, placed_from, stands_from, all_below}
 use Rattle.xl_plan.proofs.Numbered.{named_all, listed}
-use Rattle.xl_plan.proofs.Roots.{used_here}
+use Rattle.xl_plan.proofs.UsedResources.{port_used, timer_used}
+use Rattle.xl_plan.proofs.Roots.{variable_here}
 use Rattle.xl_plan.proofs.Sizes.{variables_fit, port_names, timer_names, first_small}
 
 module _ (k : kernel.Kernel) (core : ℕ) where
@@ -37,8 +40,8 @@ module _ (k : kernel.Kernel) (core : ℕ) where
   numbers_listed p x e here = listed core_of_port core k.ports p x e here
 
   module _ (checked : IsChecked k) where
-    pub has_used : HasUsed k core places
-    has_used r v among here uses = by (used_here k checked r v among uses)
+    pub has_used_variables : HasUsedVariables k core places
+    has_used_variables r v among here uses = by (variable_here k checked r v among uses)
       where
         by : IsOn k.variables r.core v → (found : VarPlan) × (var_in places v ≡ Some found)
         by h = (record { place = Near (word_of core k.variables v); words = h.variable.words }, has_variables v h.variable h.there (h.place ∙ here))
@@ -56,3 +59,19 @@ module _ (k : kernel.Kernel) (core : ℕ) where
 
     pub timers_have_numbers : core ≤ last_core → HasTimers k core (identifiers_from core_of_timer core (name_of core 0 1) k.timers)
     timers_have_numbers is_core t = named_all core_of_timer core (name_of core 0 1) (timer_name core) k.timers t (first_small core 1 is_core (omega arith)) (timer_names k core checked is_core)
+
+    identifier_there : {X : Type 0} (name : ℕ → ℕ) (core_of : X → ℕ) (xs : List X) (p : ℕ) (x : X) (y : Option X) → y ≡ Some x → core_of x ≡ core → (found : ResAt) × (named_by name core_of core xs p y ≡ Some found)
+    identifier_there name core_of xs p x y e here =
+        (Fixed (name (number_on core_of core xs p)), ap (named_by name core_of core xs p) e ∙ ap (λ b. identifier_if b (name (number_on core_of core xs p))) (let q : nat_eq (core_of x) core ≡ true = grind arith in q))
+
+    pub has_used_ports : (places : List (Option ResAt)) → HasPorts k core places → HasUsedPorts k core places
+    has_used_ports all has r p among here uses =
+        let x = port_used k checked r among p uses in
+        let i = identifier_there (port_name core) core_of_port k.ports p x.0 (slice_get k.ports p) x.1 (x.2 ∙ here) in
+        (i.0, has p ∙ i.1)
+
+    pub has_used_timers : (places : List (Option ResAt)) → HasTimers k core places → HasUsedTimers k core places
+    has_used_timers all has r t among here uses =
+        let x = timer_used k checked r among t uses in
+        let i = identifier_there (timer_name core) core_of_timer k.timers t x.timer (slice_get k.timers t) x.there (x.place ∙ here) in
+        (i.0, has t ∙ i.1)

@@ -1,4 +1,4 @@
--- What the roots of a checked kernel use is on their cores.
+-- The variables that the roots of a checked kernel use are on their cores.
 use Rattle.std.proofs.Common.{◌≡◌, ◌≢◌, ◌⊎◌, ⊎_elim, ℕ, zero, suc, ◌<◌, true, List, [], ◌∷◌, Contains, Some, slice_get, refl, sym, ap, subst, ◌∙◌, arith}
 use Rattle.xc_kernel.specs.Plain as kernel
 use Rattle.xc_kernel.specs.Things.{variable, change, by_statements}
@@ -86,8 +86,9 @@ module _ (k : kernel.Kernel) (checked : IsChecked k) where
   at_root (q ∷ rs) zero r h e = subst Own (some_given e) h.0
   at_root (q ∷ rs) (suc i) r h e = at_root rs i r h.1 e
 
-  -- what a root uses is on its core
-  pub used_here : (r : kernel.Root) (v : ℕ) → Contains k.roots r → by_statements (variable v) r.body ≡ true → IsOn k.variables r.core v
-  used_here r v c u =
-      let at = contained_at k.roots r c in
-      variable_used (IsOn k.variables r.core) v (OutputOn k.timers r.core) (InputOn k.timers r.core) AnyNumber r.body (at_root k.roots at.0 r own at.1) u
+  pub own_at : (r : kernel.Root) → Contains k.roots r → Own r
+  own_at r among = let at = contained_at k.roots r among in at_root k.roots at.0 r own at.1
+
+  -- a variable that a root uses is on its core
+  pub variable_here : (r : kernel.Root) (v : ℕ) → Contains k.roots r → by_statements (variable v) r.body ≡ true → IsOn k.variables r.core v
+  variable_here r v among u = variable_used (IsOn k.variables r.core) v (OutputOn k.timers r.core) (InputOn k.timers r.core) AnyNumber r.body (own_at r among) u

@@ -3,7 +3,7 @@ use Rattle.std.specs.Prelude.{◌≡◌, ℕ, ◌+◌, ◌<◌, ◌≤◌, true,
 use Rattle.xc_kernel.specs.declared.kernel.PortUse.{PortUse}
 use Rattle.xc_kernel.specs.declared.kernel.Var.{Var}
 use Rattle.xc_kernel.specs.Plain as kernel
-use Rattle.xc_kernel.specs.Things.{variable, by_statements}
+use Rattle.xc_kernel.specs.Things.{variable, port, timer, by_statements}
 use Rattle.xc_formed.specs.Cores.{IsOn}
 use Rattle.xs_instr.specs.OwnSteps.{IsApart}
 use Rattle.xl_expr.specs.declared.plan.ResAt.{ResAt}
@@ -25,8 +25,8 @@ HasNoOther k core vars =
     (v : ℕ) (found : VarPlan) → var_in vars v ≡ Some found → IsOn k.variables core v
 
 -- each variable that a root on the core uses is there
-abbrev pub HasUsed : kernel.Kernel → (core : ℕ) → List (Option VarPlan) → Type 0
-HasUsed k core vars =
+abbrev pub HasUsedVariables : kernel.Kernel → (core : ℕ) → List (Option VarPlan) → Type 0
+HasUsedVariables k core vars =
     (r : kernel.Root) (v : ℕ) → Contains k.roots r → r.core ≡ core → by_statements (variable v) r.body ≡ true →
     (found : VarPlan) × (var_in vars v ≡ Some found)
 
@@ -57,6 +57,17 @@ HasPorts k core places = (p : ℕ) → resource_at places p ≡ port_at core k.p
 -- each timer of the core has the identifier of its number there, and no other timer has one
 abbrev pub HasTimers : kernel.Kernel → (core : ℕ) → List (Option ResAt) → Type 0
 HasTimers k core places = (t : ℕ) → resource_at places t ≡ timer_at core k.timers t
+
+-- each port, and each timer, that a root on the core uses has an identifier
+abbrev pub HasUsedPorts : kernel.Kernel → (core : ℕ) → List (Option ResAt) → Type 0
+HasUsedPorts k core places =
+    (r : kernel.Root) (p : ℕ) → Contains k.roots r → r.core ≡ core → by_statements (port p) r.body ≡ true →
+    (found : ResAt) × (resource_at places p ≡ Some found)
+
+abbrev pub HasUsedTimers : kernel.Kernel → (core : ℕ) → List (Option ResAt) → Type 0
+HasUsedTimers k core places =
+    (r : kernel.Root) (t : ℕ) → Contains k.roots r → r.core ≡ core → by_statements (timer t) r.body ≡ true →
+    (found : ResAt) × (resource_at places t ≡ Some found)
 
 -- a port's number is its place among the core's ports
 abbrev pub NumbersAreListed : kernel.Kernel → (core : ℕ) → Type 0

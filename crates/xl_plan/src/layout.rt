@@ -2,7 +2,7 @@ ghost use Rattle.std.specs.Prelude.{◌≡◌, ◌≤◌, [], IfOk, OnOk};
 ghost use Rattle.xc_disjoint.specs.Cores.{last_core};
 ghost use Rattle.xc_kernel.specs.Kernels.{kernel_of};
 ghost use Rattle.xl_plan.specs.Layout.{first_temporary};
-ghost use Rattle.xl_plan.specs.Planned.{HasNoOther, HasPorts, HasTimers, HasUsed, HasVariables, NoneIsTemporary, NoneShare, NumbersAreListed, StandBelow};
+ghost use Rattle.xl_plan.specs.Planned.{HasNoOther, HasPorts, HasTimers, HasUsedPorts, HasUsedTimers, HasUsedVariables, HasVariables, NoneIsTemporary, NoneShare, NumbersAreListed, StandBelow};
 
 use crate::resources::{port_identifiers, timer_identifiers};
 use crate::variables::variable_places;
@@ -21,7 +21,8 @@ pub fn plan(alloc: Global, checked: &Checked, core: u8) -> Result<Plan, Memory>
     ensures variables { IfOk result
         (λ plan. HasVariables (kernel_of checked.now) core plan.vars) }
     ensures no_other { IfOk result (λ plan. HasNoOther (kernel_of checked.now) core plan.vars) }
-    ensures used { IfOk result (λ plan. HasUsed (kernel_of checked.now) core plan.vars) }
+    ensures used_variables { IfOk result
+        (λ plan. HasUsedVariables (kernel_of checked.now) core plan.vars) }
     ensures below { IfOk result
         (λ plan. StandBelow (first_temporary (kernel_of checked.now) core) plan.vars) }
     ensures apart { IfOk result (λ plan. NoneShare plan.vars) }
@@ -29,6 +30,10 @@ pub fn plan(alloc: Global, checked: &Checked, core: u8) -> Result<Plan, Memory>
         (λ plan. NoneIsTemporary (kernel_of checked.now) core plan.vars) }
     ensures ports { IfOk result (λ plan. HasPorts (kernel_of checked.now) core plan.ports) }
     ensures timers { IfOk result (λ plan. HasTimers (kernel_of checked.now) core plan.timers) }
+    ensures used_ports { IfOk result
+        (λ plan. HasUsedPorts (kernel_of checked.now) core plan.ports) }
+    ensures used_timers { IfOk result
+        (λ plan. HasUsedTimers (kernel_of checked.now) core plan.timers) }
     ensures listed { OnOk result (NumbersAreListed (kernel_of checked.now) core) }
     ensures ends { IfOk result (λ plan. plan.ends ≡ []) }
 {

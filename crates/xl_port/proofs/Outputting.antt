@@ -110,6 +110,7 @@ module _ (home : Home) (relied : ℕ → Bool) (s t p : ℕ) (port : Port) (thre
         here = w.here;
         place = w.place;
         others = λ r n. w.others r n ∙ k.others r n;
+        within = w.within;
         words = λ n r l. w.words n r l ∙ k.words n r l;
         port_is = w.port_is;
         waits = w.waits;
@@ -138,7 +139,7 @@ module _ (home : Home) (relied : ℕ → Bool) (s t p : ℕ) (port : Port) (thre
         (ValueOutcome home relied s t (at_pc thread pc2 gives.regs) b.words p port pos pc_end time (word gives.regs.r0))
         (ValueOutcome home relied s t thread a0.words p port pos pc_end time (word v))
         (said_before pos time v pc2 pc_end gives.regs b k2 gives.value) 4 b
-        (tr.by home relied s t p port (at_pc thread pc2 gives.regs) time b (stand_back home.parts.code pc ls ms st) k2.runs timed (holds_still time pc pc2 v regs a b gives holds) (stands_since place pc2 gives.regs b stands k2))
+        (tr.by home relied s t p port (at_pc thread pc2 gives.regs) time b (stand_back home.parts.code pc ls ms st) k2.runs k2.room timed (holds_still time pc pc2 v regs a b gives holds) (stands_since place pc2 gives.regs b stands k2))
 
     pub value_leads : WithinPort home relied (IsApart s) t p (ValueOutcome home relied s t thread a0.words p port pos pc_end time (eval store x)) (8 * nodes x + 4) a
     value_leads =

@@ -49,13 +49,13 @@ module _ (home : Home) (relied : ℕ → Bool) (s t p : ℕ) (thread : Thread) (
   pub record Stands (pc : ℕ) (regs : Regs) (port : Port) (b : CoreState) : Type 0 where
     pub here : slice_get b.threads t ≡ Some (at_pc thread pc regs)
     pub port_is : slice_get b.ports p ≡ Some port
-    pub words : (w : ℕ) → relied w ≡ true → IsApart s w → slice_get b.words w ≡ slice_get old w
+    pub words : (w : ℕ) → relied w ≡ true → slice_get b.words w ≡ slice_get old w
 
   pub stands_kept : (pc : ℕ) (regs : Regs) (port : Port) (b c : CoreState) → Stands pc regs port b → KeptPort relied t p b c → Stands pc regs port c
   stands_kept pc regs port b c h k = record {
     here = k.own.thread ∙ h.here;
     port_is = k.port ∙ h.port_is;
-    words = λ w r a. k.own.words w r ∙ h.words w r a;
+    words = λ w r. k.own.words w r ∙ h.words w r;
   }
 
   -- one step that sets the port

@@ -14,7 +14,7 @@ use Rattle.xs_instr.specs.declared.state.Regs.{Regs}
 use Rattle.xs_instr.specs.declared.state.Thread.{Thread}
 use Rattle.xs_instr.specs.Did.{told}
 use Rattle.xs_instr.specs.Lines.{Line, at_pos}
-use Rattle.xs_instr.specs.OwnSteps.{IsApart, RunsAt, StandAt}
+use Rattle.xs_instr.specs.OwnSteps.{HasRoom, IsApart, RunsAt, StandAt}
 use Rattle.xs_instr.specs.Ports.{can_send, counter, drives_by}
 use Rattle.xs_instr.specs.Registers.{reg_get, reg_set}
 use Rattle.xs_instr.specs.Resources.{APort, named}
@@ -25,7 +25,7 @@ use Rattle.xl_expr.specs.Identifiers.{Identifies, IsIdentifier, Named}
 use Rattle.xl_expr.specs.Stores.{is_working}
 use Rattle.xl_expr.specs.Targets.{AreAimed}
 use Rattle.xl_expr.proofs.GoodCode.{plain_aimed}
-use Rattle.xl_expr.proofs.Lists.{stand_front, stand_back}
+use Rattle.xl_expr.proofs.Lists.{stand_front, stand_back, room_kept}
 use Rattle.xl_expr.proofs.Ways.{at_pc, turn_row}
 use Rattle.xl_expr.proofs.Wider.{leads_more, then_leads}
 use Rattle.xl_port.specs.Outputs.{HoldsTime, Transfers, ValueOutcome, set_for, transfer_instrs, setting_instrs}
@@ -36,7 +36,7 @@ other_r11 : (regs : Regs) (v : ℕ) (r : Reg) → is_working r ≡ false → reg
 other_r11 regs v R11 h = cc
 other_r11 regs v other h = refl
 
-module _ (home : Home) (relied : ℕ → Bool) (s t p : ℕ) (port : Port) (pos : Pos) (thread : Thread) (pc : ℕ) (a : CoreState) (at_work : RunsAt t pc thread a) (name : ℕ) (names : named home.number name ≡ APort p) (sends : can_send port.decl.dir ≡ true) where
+module _ (home : Home) (relied : ℕ → Bool) (s t p : ℕ) (port : Port) (pos : Pos) (thread : Thread) (pc : ℕ) (a : CoreState) (at_work : RunsAt t pc thread a) (room : HasRoom relied s thread.regs a.words) (name : ℕ) (names : named home.number name ≡ APort p) (sends : can_send port.decl.dir ≡ true) where
   abbrev StandsAt : ℕ → Regs → Port → CoreState → Type 0
   StandsAt = Stands home relied s t p thread at_work.runs at_work.no_events a.words
 
@@ -60,7 +60,8 @@ module _ (home : Home) (relied : ℕ → Bool) (s t p : ℕ) (port : Port) (pos 
         here = sc.here;
         place = place;
         others = λ r w. other_r11 thread.regs name r w;
-        words = sc.words;
+        within = room_kept relied s room.relied_on a.words c.words room.within sc.words;
+        words = λ w r l. sc.words w r;
         port_is = sc.port_is;
         waits = λ m. turn ∙ ap (λ z. told (goes_with put_ports c t th) (drives_by home (counter c.clock) thread.regs.r0 c.ports p (set_for time port) z)) m;
         goes = λ m. turn ∙ ap (λ z. told (goes_with put_ports c t th) (drives_by home (counter c.clock) thread.regs.r0 c.ports p (set_for time port) z)) m;
@@ -88,18 +89,18 @@ module _ (home : Home) (relied : ℕ → Bool) (s t p : ℕ) (port : Port) (pos 
       let first = beside_port home relied (IsApart s) t p (Some port) (Named relied t thread a.words name pc1) 2 a there (identifies.by home relied s t name thread a (stand_front home.parts.code pc ls tail st) at_work is) in
       subst (λ q. WithinPort home relied (IsApart s) t p (PutsOutAt q time) 4 a) e
       (then_leads (KeptPort relied t p) (PortStep home (IsApart s) t p) (λ b. Named relied t thread a.words name pc1 b × (slice_get b.ports p ≡ Some port)) (PutsOutAt (pc1 + length tail) time) 2 2 a first
-      (λ b g. from_named time pc1 holds (stand_back home.parts.code pc ls tail st) b (record { here = g.0.here; port_is = g.1; words = λ w r l. g.0.words w r })))
+      (λ b g. from_named time pc1 holds (stand_back home.parts.code pc ls tail st) b (record { here = g.0.here; port_is = g.1; words = g.0.words })))
 
 pub transfers : (place : ResAt) (is_timed : Bool) (pos : Pos) (pc : ℕ) (ls : List Line) → Identifies place pc ls → Transfers (Some place) is_timed pos pc (ls ++ at_pos pos (transfer_instrs is_timed))
 transfers place is_timed pos pc ls identifies = record {
-  by = λ home relied s t p port thread time a st at_work timed holds stands.
+  by = λ home relied s t p port thread time a st at_work room timed holds stands.
       subst (λ z. StandAt home.parts.code pc (ls ++ at_pos pos (transfer_instrs z)) → WithinPort home relied (IsApart s) t p (ValueOutcome home relied s t thread a.words p port pos (pc + length (ls ++ at_pos pos (transfer_instrs z))) time (word thread.regs.r0)) 4 a) timed
-      (transfer_leads home relied s t p port pos thread pc a at_work stands.name stands.names stands.sends place time ls identifies stands.name_is holds stands.there) st;
+      (transfer_leads home relied s t p port pos thread pc a at_work room stands.name stands.names stands.sends place time ls identifies stands.name_is holds stands.there) st;
 }
 
 -- what isn't in the plan has no code, and no layout has it
 pub nothing_transfers : (is_timed : Bool) (pos : Pos) (pc : ℕ) (ls : List Line) → Transfers None is_timed pos pc ls
-nothing_transfers is_timed pos pc ls = record { by = λ home relied s t p port thread time a st at_work timed holds stands. absurd stands.name_is }
+nothing_transfers is_timed pos pc ls = record { by = λ home relied s t p port thread time a st at_work room timed holds stands. absurd stands.name_is }
 
 pub transfer_aimed : (is_timed : Bool) (pos : Pos) (pc : ℕ) → AreAimed pc (at_pos pos (transfer_instrs is_timed))
 transfer_aimed true pos pc = plain_aimed pos (transfer_instrs true) pc ((λ size n. tt), ((λ size n. tt), ((λ size n. tt), tt)))

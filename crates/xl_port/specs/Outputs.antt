@@ -1,5 +1,5 @@
 -- What the code of an output does.
-use Rattle.std.specs.Prelude.{◌≡◌, ℕ, ◌+◌, ◌*◌, ◌%◌, ◌^◌, Bool, true, false, List, [], ◌∷◌, length, max, Option, Some, None, option_map, slice_get, slice_set}
+use Rattle.std.specs.Prelude.{◌≡◌, ℕ, ◌+◌, ◌*◌, ◌%◌, ◌^◌, ◌≤◌, Bool, true, false, List, [], ◌∷◌, length, max, Option, Some, None, option_map, slice_get, slice_set}
 use Rattle.std.specs.Option.{is_some}
 use Rattle.xw_words.specs.declared.pos.Pos.{Pos}
 use Rattle.xs_instr.specs.declared.image.Home.{Home}
@@ -16,7 +16,7 @@ use Rattle.xs_instr.specs.declared.trace.Record.{Record}
 use Rattle.xs_instr.specs.declared.trace.Record.TheVariants.{PortOut}
 use Rattle.xs_instr.specs.Did.{Made, Paused}
 use Rattle.xs_instr.specs.Lines.{Line}
-use Rattle.xs_instr.specs.OwnSteps.{HasRoom, IsApart, RunsAt, StandAt}
+use Rattle.xs_instr.specs.OwnSteps.{HasRoom, IsApart, RunsAt, StandAt, temporary}
 use Rattle.xs_instr.specs.Ports.{can_send, counter, low_bits, moved_at, time_meets}
 use Rattle.xs_instr.specs.Registers.{reg_get}
 use Rattle.xs_instr.specs.Resources.{APort, named}
@@ -103,7 +103,8 @@ abbrev pub out_record : Home → CoreState → (v : ℕ) → Port → Record
 out_record home core v port = PortOut home.number port.decl.port (counter core.clock) (low_bits v port.decl.port)
 
 -- The thread's next step puts v out on port p and goes on to pc, once the port's counter is the time, if there is one, and pauses till
--- then. Its registers but r0, r10 and r11 are as they were, and so are all words that it relies on but its temporary ones.
+-- then. Its temporary words are there, its registers but r0, r10 and r11 are as they were, and so are all words that it relies on but
+-- its temporary ones.
 pub record PutsOut
     (home : Home) (relied : ℕ → Bool) (s t : ℕ) (thread : Thread) (old : List ℕ)
     (p : ℕ) (port : Port) (pos : Pos) (pc : ℕ) (time : Option ℕ) (v : ℕ) (b : CoreState) : Type 0 where
@@ -112,6 +113,7 @@ pub record PutsOut
   pub here : slice_get b.threads t ≡ Some (record thread { pc = index; regs = regs })
   pub place : slice_get home.parts.code.«at» index ≡ Some pos
   pub others : (r : Reg) → is_working r ≡ false → reg_get regs r ≡ reg_get thread.regs r
+  pub within : s + temporary ≤ length b.words
   pub words : (w : ℕ) → relied w ≡ true → IsApart s w → slice_get b.words w ≡ slice_get old w
   pub port_is : slice_get b.ports p ≡ Some (set_for time port)
   pub waits : is_due time b ≡ false → slot home b t ≡ Paused
@@ -164,7 +166,8 @@ HoldsTime (Some time) regs = regs.r10 ≡ time
 -- The lines put r0's word out on a port, at the time in r10 where it has one.
 pub record Transfers (place : Option ResAt) (is_timed : Bool) (pos : Pos) (pc : ℕ) (lines : List Line) : Type 0 where
   pub by : (home : Home) (relied : ℕ → Bool) (s t p : ℕ) (port : Port) (thread : Thread) (time : Option ℕ) (a : CoreState) →
-      StandAt home.parts.code pc lines → RunsAt t pc thread a → is_some time ≡ is_timed → HoldsTime time thread.regs →
+      StandAt home.parts.code pc lines → RunsAt t pc thread a → HasRoom relied s thread.regs a.words →
+      is_some time ≡ is_timed → HoldsTime time thread.regs →
       PortStands home relied s thread.regs.dp place p port a →
       WithinPort home relied (IsApart s) t p
       (ValueOutcome home relied s t thread a.words p port pos (pc + length lines) time (word thread.regs.r0))

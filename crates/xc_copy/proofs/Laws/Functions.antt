@@ -1,13 +1,14 @@
 -- The functions of a program, one behind the other.
-use Rattle.std.proofs.Common.{◌≡◌, ℕ, suc, zero, ◌+◌, ◌<◌, ◌≤◌, Bool, true, false, List, [], ◌∷◌, ◌++◌, length, drop, get_or, map, bytes_eq, arith, refl, ap, sym, ◌∙◌}
+use Rattle.std.proofs.Common.{◌≡◌, ℕ, suc, zero, ◌+◌, ◌<◌, ◌≤◌, Bool, true, false, List, [], ◌∷◌, ◌++◌, length, drop, get_or, map, bytes_eq, arith, refl, ap, sym, subst, ◌∙◌}
 use Rattle.std.specs.Borrow.{Bor}
+use Rattle.std.specs.List.{All}
 use Rattle.xc_tree.specs.Plain as tree
 use Rattle.xc_tree.specs.Trees.{item_of}
 use Rattle.xc_tree.specs.declared.tree.Item.{Item}
 use Rattle.xc_tree.specs.declared.tree.FuncItem.{FuncItem}
 use Rattle.xc_kernel.specs.Programs.{functions, function_named, function_by}
 use Rattle.xc_copy.proofs.Laws.Lists.{drop_item}
-use Rattle.xc_copy.specs.Functions.{function_of, functions_among, deepest}
+use Rattle.xc_copy.specs.Functions.{HasFewParameters, function_of, functions_among, deepest}
 
 functions_cons : (i : tree.Item) (items : List tree.Item) → functions (i ∷ items) ≡ functions (i ∷ []) ++ functions items
 functions_cons (tree.function head body) items = refl
@@ -26,3 +27,9 @@ named_step fs i f name e h =
 
 pub deepest_step : (fs : List (Bor FuncItem)) (i : ℕ) (f : Bor FuncItem) → f ≡ get_or fs i f → i < length fs → deepest (drop i fs) ≡ deepest (f ∷ drop (i + 1) fs)
 deepest_step fs i f e h = ap deepest (drop_item fs i f e h)
+
+-- the function at a place has few parameters, where all have
+pub few_at : (fs : List (Bor FuncItem)) (i : ℕ) (f : Bor FuncItem) → All HasFewParameters (functions_among fs) → f ≡ get_or fs i f → i < length fs → HasFewParameters (function_of f.now)
+few_at [] i f few e h = absurd (omega (arith, h))
+few_at (x ∷ fs) zero f few e h = subst (λ (g : Bor FuncItem). HasFewParameters (function_of g.now)) (sym e) (few 0 (function_of f.now) (omega arith))
+few_at (x ∷ fs) (suc i) f few e h = few_at fs i f (λ k d l. few (suc k) d (omega (arith, l))) e (omega (arith, h))

@@ -1,7 +1,6 @@
 use Rattle.std.proofs.Common.{[], ap, ◌∙◌}
 use Rattle.xc_kernel.specs.Copy.{numbering_in}
-use Rattle.xc_copy.specs.Contexts.{ports_from}
-use Rattle.xc_copy.specs.Functions.{functions_of}
+use Rattle.xc_copy.specs.Contexts.{functions_of, ports_from}
 use Rattle.xc_copy.specs.Roots.{rooted_by}
 use Rattle.xc_copy.proofs.program.numbered.Goals as goal
 

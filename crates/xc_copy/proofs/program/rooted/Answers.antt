@@ -3,8 +3,8 @@ use Rattle.std.specs.Option.{option_map}
 use Rattle.xc_kernel.specs.Context.{Context}
 use Rattle.xc_kernel.specs.Roots as spec
 use Rattle.xc_kernel.specs.Statements.{calls_copy}
-use Rattle.xc_copy.specs.Contexts.{ports_from}
-use Rattle.xc_copy.specs.Functions.{function_of, functions_of}
+use Rattle.xc_copy.specs.Contexts.{functions_of, ports_from}
+use Rattle.xc_copy.specs.Functions.{function_of}
 use Rattle.xc_copy.specs.Numbers.{numbering_of}
 use Rattle.xc_copy.specs.Roots.{rooted_of}
 use Rattle.xc_copy.proofs.program.rooted.Goals as goal

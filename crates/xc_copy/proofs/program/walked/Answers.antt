@@ -1,6 +1,5 @@
 use Rattle.std.proofs.Common.{ap, ◌∙◌}
-use Rattle.xc_copy.specs.Contexts.{ports_from}
-use Rattle.xc_copy.specs.Functions.{functions_of}
+use Rattle.xc_copy.specs.Contexts.{functions_of, ports_from}
 use Rattle.xc_copy.specs.Numbers.{numbering_of}
 use Rattle.xc_copy.specs.Roots.{numbering_by, rooted_by}
 use Rattle.xc_copy.proofs.program.walked.Goals as goal

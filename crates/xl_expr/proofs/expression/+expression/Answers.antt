@@ -1,13 +1,16 @@
-use Rattle.std.proofs.Common.{◌+◌, ℕ, arith, ap, ◌∙◌, refl, List, [], ◌∷◌, length, ◌++◌}
+use Rattle.std.proofs.Common.{◌≡◌, ◌+◌, ℕ, arith, sym, subst, List, length, ◌++◌}
+use Rattle.std.specs.Prelude.{OnOk}
+use Rattle.xc_kernel.specs.declared.statement.Kx.{Kx}
 use Rattle.xc_kernel.specs.Kernels.{expression_of}
-use Rattle.xs_instr.specs.Lines.{Line, line, open_line, at_pos}
-use Rattle.xs_instr.specs.declared.instr.Instr.TheVariants.{Brff, Brfu, Ldc, Lsu, Ecallf, Ldawdp, Ldwdp, Ldw, Stwsp, Ldwsp}
+use Rattle.xs_instr.specs.Lines.{Line, line, open_line}
+use Rattle.xs_instr.specs.declared.instr.Instr.TheVariants.{Brff, Brfu, Stwsp, Ldwsp}
 use Rattle.xs_instr.specs.declared.instr.Reg.TheVariants.{R0, R11}
-use Rattle.xl_expr.specs.Code.{made_truth, expression_code}
-use Rattle.xl_expr.specs.declared.plan.VarAt.TheVariants.{Near, Far}
+use Rattle.xl_expr.specs.Code.{made_truth, codes, expression_code, operation_code}
+use Rattle.xc_kernel.specs.Meant.{operator_meant}
+use Rattle.xl_expr.specs.Operands.{operands_of}
 use Rattle.xl_expr.proofs.Sizes.{longer}
-use Rattle.xl_expr.proofs.Denoted.{nodes_read, depth_read, nodes_op, depth_op, nodes_elem, nodes_first, nodes_two, nodes_three, depth_nth, no_word, no_element, element_emitted}
-use Rattle.xl_expr.proofs.Emitted.{one_longer, two_longer, on_err, kept_emitted, short_emitted, short_extends, short_length, past_open, over_open, length4, choice_emitted, choice_extends}
+use Rattle.xl_expr.proofs.Denoted.{nodes_read, depth_read, nodes_op, depth_op, nodes_elem, nodes_first, nodes_two, nodes_three, depth_nth, two_operands, no_word, no_element, depth_elem}
+use Rattle.xl_expr.proofs.Emitted.{one_longer, two_longer, on_err, short_emitted, short_extends, short_length, past_open, over_open, length4, choice_emitted, choice_extends}
 use Rattle.xl_expr.proofs.expression.+expression.Goals as goal
 
 pub emit_at-emit_place-requires : goal.emit_at-emit_place-requires
@@ -28,13 +31,20 @@ emit_operation-put_one_tail-requires t c =
     let l = longer c.args.plan.now.vars (expression_of c.only-item.result) c.args.k (length c.args.e.now) c.args.last c.args.e.now c.emit_at.new.e c.in_ok-emit_at-in-len1.ensures.ok in
     omega (arith, n, l, c.requires.room)
 
-pub emit_operation-emit_second-requires : goal.emit_operation-emit_second-requires
-emit_operation-emit_second-requires t c =
+pub emit_operation-emit_two-requires : goal.emit_operation-emit_two-requires
+emit_operation-emit_two-requires t c =
     let some = c.in-len2.len_at_least in
     let n = nodes_two c.args.operands.now c.first-item.result c.second-item.result some c.first-item.is c.second-item.is in
-    let d = depth_nth c.args.operands.now 1 c.second-item.result (omega (arith, some)) c.second-item.is in
-    let l = longer c.args.plan.now.vars (expression_of c.first-item.result) c.args.k (length c.args.e.now) c.args.last c.args.e.now c.emit_at-in-len2.new.e c.in_ok-emit_at-in-len2.ensures.ok in
-    (omega (arith, d, c.decreases), (omega (arith, n, l, c.requires.room), omega (arith, d, c.requires.deep)))
+    let d = depth_nth c.args.operands.now 0 c.first-item.result (omega (arith, some)) c.first-item.is in
+    let e = depth_nth c.args.operands.now 1 c.second-item.result (omega (arith, some)) c.second-item.is in
+    (omega (arith, d, e, c.decreases), (omega (arith, n, c.requires.room), (omega (arith, d, c.requires.deep), omega (arith, e, c.requires.deep))))
+
+pub emit_operation-returns-in-len2-clause-ok : goal.emit_operation-returns-in-len2-clause-ok
+emit_operation-returns-in-len2-clause-ok t c =
+    let x = c.first-item.result in
+    let y = c.second-item.result in
+    subst (λ (xs : List Kx). OnOk c.emit_two.result (c.emit_two.new.e ≡ c.args.e.now ++ operation_code (operator_meant c.args.operator) c.args.unsigned c.args.pos (codes c.args.plan.now.vars (operands_of xs)) c.args.k (length c.args.e.now) c.args.last))
+    (sym (two_operands c.args.operands.now x y c.in-len2.len_at_least c.in-len2.len_below c.first-item.is c.second-item.is)) c.emit_two.ensures.ok
 
 pub emit_operation-emit_choice-requires : goal.emit_operation-emit_choice-requires
 emit_operation-emit_choice-requires t c =
@@ -45,18 +55,6 @@ emit_operation-emit_choice-requires t c =
     let l = longer c.args.plan.now.vars (expression_of c.test-item.result) c.args.k (length c.args.e.now) c.args.last c.args.e.now c.emit_at-in-len3-up.new.e c.in_ok-emit_at-in-len3-up.ensures.ok in
     (omega (arith, d, e, c.decreases), (omega (arith, n, l, c.requires.room), (omega (arith, d, c.requires.deep), omega (arith, e, c.requires.deep))))
 
-pub emit_place-put_element-requires : goal.emit_place-put_element-requires
-emit_place-put_element-requires t c =
-    let n = nodes_elem c.args.place.now c.in-Elem.v c.in-Elem.index c.in-Elem.pos c.deref.result.now c.in-Elem.is c.deref.ensures in
-    let l = longer c.args.plan.now.vars (expression_of c.deref.result.now) c.args.k (length c.args.e.now) c.args.last c.args.e.now c.emit_at.new.e c.in_ok-emit_at-in-Near.ensures.ok in
-    omega (arith, n, l, c.requires.room)
-
-pub emit_place-put_element-requires-in-Far : goal.emit_place-put_element-requires-in-Far
-emit_place-put_element-requires-in-Far t c =
-    let n = nodes_elem c.args.place.now c.in-Elem.v c.in-Elem.index c.in-Elem.pos c.deref-in-Far.result.now c.in-Elem.is c.deref-in-Far.ensures in
-    let l = longer c.args.plan.now.vars (expression_of c.deref-in-Far.result.now) c.args.k (length c.args.e.now) c.args.last c.args.e.now c.emit_at-in-Far.new.e c.in_ok-emit_at-in-Far.ensures.ok in
-    omega (arith, n, l, c.requires.room)
-
 pub emit_place-returns-in-None-clause-ok : goal.emit_place-returns-in-None-clause-ok
 emit_place-returns-in-None-clause-ok t c =
     no_word c.args.plan.now.vars c.args.place.now c.in-Word.v c.args.k (length c.args.e.now) c.args.last c.placed.result c.args.e.now c.in-Word.is c.in-None.is c.placed.ensures
@@ -65,35 +63,64 @@ pub emit_place-returns-in-None-placed-clause-ok : goal.emit_place-returns-in-Non
 emit_place-returns-in-None-placed-clause-ok t c =
     no_element c.args.plan.now.vars c.args.place.now c.in-Elem.v c.in-Elem.index c.in-Elem.pos c.args.k (length c.args.e.now) c.args.last c.placed-in-Elem.result c.args.e.now c.in-Elem.is c.in-None-placed.is c.placed-in-Elem.ensures
 
-pub emit_place-returns-in_ok-put_element-in-Near-clause-ok : goal.emit_place-returns-in_ok-put_element-in-Near-clause-ok
-emit_place-returns-in_ok-put_element-in-Near-clause-ok t c =
-    element_emitted c.args.plan.now.vars c.args.place.now c.in-Elem.v c.in-Elem.index c.in-Elem.pos c.args.k c.args.last c.placed-in-Elem.result c.in-Some-placed.found (Near c.in-Near.n) (Ldc R11 c.in-Some-placed.found.words ∷ Lsu R11 R0 R11 ∷ Ecallf R11 ∷ Ldawdp R11 c.in-Near.n ∷ Ldw R0 R11 R0 ∷ []) c.deref.result.now c.args.e.now c.emit_at.new.e c.put_element.new.e (λ index. refl) c.in-Elem.is c.in-Some-placed.is c.placed-in-Elem.ensures c.in-Near.is c.deref.ensures c.in_ok-emit_at-in-Near.ensures.ok c.in_ok-put_element-in-Near.ensures.ok
+pub emit_place-emit_element-requires : goal.emit_place-emit_element-requires
+emit_place-emit_element-requires t c =
+    let n = nodes_elem c.args.place.now c.in-Elem.v c.in-Elem.index c.in-Elem.pos c.deref.result.now c.in-Elem.is c.deref.ensures in
+    let d = depth_elem c.args.place.now c.in-Elem.v c.in-Elem.index c.in-Elem.pos c.deref.result.now c.in-Elem.is c.deref.ensures in
+    (omega (arith, d, c.decreases), (omega (arith, n, c.requires.room), omega (arith, d, c.requires.deep)))
 
-pub emit_place-returns-in_ok-put_element-in-Far-clause-ok : goal.emit_place-returns-in_ok-put_element-in-Far-clause-ok
-emit_place-returns-in_ok-put_element-in-Far-clause-ok t c =
-    element_emitted c.args.plan.now.vars c.args.place.now c.in-Elem.v c.in-Elem.index c.in-Elem.pos c.args.k c.args.last c.placed-in-Elem.result c.in-Some-placed.found (Far c.in-Far.n) (Ldc R11 c.in-Some-placed.found.words ∷ Lsu R11 R0 R11 ∷ Ecallf R11 ∷ Ldwdp R11 c.in-Far.n ∷ Ldw R0 R11 R0 ∷ []) c.deref-in-Far.result.now c.args.e.now c.emit_at-in-Far.new.e c.put_element-in-Far.new.e (λ index. refl) c.in-Elem.is c.in-Some-placed.is c.placed-in-Elem.ensures c.in-Far.is c.deref-in-Far.ensures c.in_ok-emit_at-in-Far.ensures.ok c.in_ok-put_element-in-Far.ensures.ok
+pub emit_element-put_element-requires : goal.emit_element-put_element-requires
+emit_element-put_element-requires t c =
+    let l = longer c.args.plan.now.vars (expression_of c.args.index.now) c.args.k (length c.args.e.now) c.args.last c.args.e.now c.emit_at.new.e c.in_ok-emit_at-in-Near-None.ensures.ok in
+    omega (arith, l, c.requires.room)
 
-pub emit_second-put_all-requires-in_default : goal.emit_second-put_all-requires-in_default
-emit_second-put_all-requires-in_default t c =
-    let l = one_longer c.args.e.now c.put_all.new.e (line (Stwsp R0 c.args.k) c.args.pos) c.in_ok-put_all-in_default.ensures.ok in
-    let n = longer c.args.plan.now.vars (expression_of c.args.second.now) (c.args.k + 1) (length c.put_all.new.e) c.args.pos c.put_all.new.e c.emit_at.new.e c.in_ok-emit_at-in_default.ensures.ok in
+pub emit_element-put_element-requires-in-Far-None : goal.emit_element-put_element-requires-in-Far-None
+emit_element-put_element-requires-in-Far-None t c =
+    let l = longer c.args.plan.now.vars (expression_of c.args.index.now) c.args.k (length c.args.e.now) c.args.last c.args.e.now c.emit_at-in-Far-None.new.e c.in_ok-emit_at-in-Far-None.ensures.ok in
+    omega (arith, l, c.requires.room)
+
+pub emit_kept-put_all-requires-2 : goal.emit_kept-put_all-requires-2
+emit_kept-put_all-requires-2 t c =
+    let l = one_longer c.args.e.now c.put_all.new.self (line (Stwsp R0 c.args.k) c.args.pos) c.in_ok-put_all.ensures.ok in
+    let n = longer c.args.plan.now.vars (expression_of c.args.second.now) (c.args.k + 1) (length c.put_all.new.self) c.args.pos c.put_all.new.self c.emit_at.new.e c.in_ok-emit_at.ensures.ok in
     omega (arith, l, n, c.requires.room)
 
-pub emit_second-put_after_main-requires : goal.emit_second-put_after_main-requires
-emit_second-put_after_main-requires t c =
-    let l = one_longer c.args.e.now c.put_all.new.e (line (Stwsp R0 c.args.k) c.args.pos) c.in_ok-put_all-in_default.ensures.ok in
-    let n = longer c.args.plan.now.vars (expression_of c.args.second.now) (c.args.k + 1) (length c.put_all.new.e) c.args.pos c.put_all.new.e c.emit_at.new.e c.in_ok-emit_at-in_default.ensures.ok in
-    let m = two_longer c.emit_at.new.e c.put_all-in_default.new.e (line (Ldwsp R11 c.args.k) c.args.pos) (line c.main_instr.result c.args.pos) c.in_ok-put_all-in_default-2.ensures.ok in
+pub emit_kept-put_after_main-requires : goal.emit_kept-put_after_main-requires
+emit_kept-put_after_main-requires t c =
+    let l = one_longer c.args.e.now c.put_all.new.self (line (Stwsp R0 c.args.k) c.args.pos) c.in_ok-put_all.ensures.ok in
+    let n = longer c.args.plan.now.vars (expression_of c.args.second.now) (c.args.k + 1) (length c.put_all.new.self) c.args.pos c.put_all.new.self c.emit_at.new.e c.in_ok-emit_at.ensures.ok in
+    let m = two_longer c.emit_at.new.e c.put_all-2.new.self (line (Ldwsp R11 c.args.k) c.args.pos) (line c.main_instr.result c.args.pos) c.in_ok-put_all-2.ensures.ok in
     omega (arith, l, n, m, c.requires.room)
 
-pub emit_second-returns-in_ok-put_after_main-in_default : goal.emit_second-returns-in_ok-put_after_main-in_default
-emit_second-returns-in_ok-put_after_main-in_default t c = record {
-  ok =
-      kept_emitted c.args.operator c.args.unsigned c.args.pos c.args.k c.args.e.now c.put_all.new.e c.emit_at.new.e c.put_all-in_default.new.e c.put_after_main.new.e (λ n. expression_code c.args.plan.now.vars (expression_of c.args.second.now) (c.args.k + 1) n c.args.pos) c.in_default.not-Both c.in_default.not-Either c.in_ok-put_all-in_default.ensures.ok c.in_ok-emit_at-in_default.ensures.ok
-      (c.in_ok-put_all-in_default-2.ensures.ok ∙ ap (λ i. c.emit_at.new.e ++ at_pos c.args.pos (Ldwsp R11 c.args.k ∷ i ∷ [])) c.main_instr.ensures)
-      c.in_ok-put_after_main-in_default.ensures.ok;
-  refused = tt;
-}
+pub emit_joined-put_direct_tail-requires : goal.emit_joined-put_direct_tail-requires
+emit_joined-put_direct_tail-requires t c =
+    let x = expression_of c.args.first.now in
+    let l = longer c.args.plan.now.vars x c.args.k (length c.args.e.now) c.args.last c.args.e.now c.emit_at.new.e c.in_ok-emit_at-in_default-Some.ensures.ok in
+    omega (arith, l, c.requires.room)
+
+pub emit_joined-put_direct_tail-requires-in-Some-None : goal.emit_joined-put_direct_tail-requires-in-Some-None
+emit_joined-put_direct_tail-requires-in-Some-None t c =
+    let x = expression_of c.args.second.now in
+    let l = longer c.args.plan.now.vars x c.args.k (length c.args.e.now) c.args.last c.args.e.now c.emit_at-in-Some-None.new.e c.in_ok-emit_at-in-Some-None.ensures.ok in
+    omega (arith, l, c.requires.room)
+
+pub emit_joined-emit_kept-requires : goal.emit_joined-emit_kept-requires
+emit_joined-emit_kept-requires t c =
+    let x = expression_of c.args.first.now in
+    let l = longer c.args.plan.now.vars x c.args.k (length c.args.e.now) c.args.last c.args.e.now c.emit_at-in-None-None.new.e c.in_ok-emit_at-in-None-None.ensures.ok in
+    (omega (arith, c.decreases), (omega (arith, l, c.requires.room), omega (arith, c.requires.deep_second)))
+
+pub emit_two-emit_short-requires : goal.emit_two-emit_short-requires
+emit_two-emit_short-requires t c =
+    let x = expression_of c.args.first.now in
+    let l = longer c.args.plan.now.vars x c.args.k (length c.args.e.now) c.args.last c.args.e.now c.emit_at.new.e c.in_ok-emit_at-in-Both.ensures.ok in
+    (omega (arith, c.decreases), (tt, (omega (arith, l, c.requires.room), omega (arith, c.requires.deep_second))))
+
+pub emit_two-emit_short-requires-in-Either : goal.emit_two-emit_short-requires-in-Either
+emit_two-emit_short-requires-in-Either t c =
+    let x = expression_of c.args.first.now in
+    let l = longer c.args.plan.now.vars x c.args.k (length c.args.e.now) c.args.last c.args.e.now c.emit_at-in-Either.new.e c.in_ok-emit_at-in-Either.ensures.ok in
+    (omega (arith, c.decreases), (tt, (omega (arith, l, c.requires.room), omega (arith, c.requires.deep_second))))
 
 pub emit_short-put_all-requires : goal.emit_short-put_all-requires
 emit_short-put_all-requires t c =
@@ -106,12 +133,12 @@ emit_short-put_all-requires t c =
 pub emit_short-returns-clause-ok : goal.emit_short-returns-clause-ok
 emit_short-returns-clause-ok t c =
     let b : ℕ → List Line = λ n. expression_code c.args.plan.now.vars (expression_of c.args.second.now) (c.args.k + 1) n c.args.pos in
-    short_emitted c.args.jump c.args.pos c.args.e.now c.hole.new.self c.emit_at.new.e b c.in_ok-skip.skip.index c.in_ok-skip.ensures.index c.in_ok-skip.ensures.ok c.in_ok-emit_at.ensures.ok c.land.new.self c.put_all.new.e made_truth c.land.ensures c.in_ok-put_all.ensures.ok
+    short_emitted c.args.jump c.args.pos c.args.e.now c.hole.new.self c.emit_at.new.e b c.in_ok-skip.skip.index c.in_ok-skip.ensures.index c.in_ok-skip.ensures.ok c.in_ok-emit_at.ensures.ok c.land.new.self c.put_all.new.self made_truth c.land.ensures c.in_ok-put_all.ensures.ok
 
 pub emit_short-returns-in_err-put_all-clause-refused : goal.emit_short-returns-in_err-put_all-clause-refused
 emit_short-returns-in_err-put_all-clause-refused t c =
     let b : ℕ → List Line = λ n. expression_code c.args.plan.now.vars (expression_of c.args.second.now) (c.args.k + 1) n c.args.pos in
-    on_err _ _ (short_extends c.args.jump c.args.pos c.args.e.now c.hole.new.self c.emit_at.new.e b c.in_ok-skip.skip.index c.in_ok-skip.ensures.index c.in_ok-skip.ensures.ok c.in_ok-emit_at.ensures.ok c.land.new.self c.put_all.new.e c.land.ensures c.in_err-put_all.ensures.refused)
+    on_err _ _ (short_extends c.args.jump c.args.pos c.args.e.now c.hole.new.self c.emit_at.new.e b c.in_ok-skip.skip.index c.in_ok-skip.ensures.index c.in_ok-skip.ensures.ok c.in_ok-emit_at.ensures.ok c.land.new.self c.put_all.new.self c.land.ensures c.in_err-put_all.ensures.refused)
 
 pub emit_choice-hole-requires-2-clause-few : goal.emit_choice-hole-requires-2-clause-few
 emit_choice-hole-requires-2-clause-few t c =

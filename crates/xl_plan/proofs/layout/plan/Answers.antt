@@ -8,9 +8,9 @@ use Rattle.xs_instr.specs.Resources.{name_of}
 use Rattle.xl_expr.specs.declared.plan.ResAt.{ResAt}
 use Rattle.xl_expr.specs.declared.plan.VarPlan.{VarPlan}
 use Rattle.xl_plan.specs.Layout.{words_here, first_temporary, places_from, core_of_port, core_of_timer, identifiers_from}
-use Rattle.xl_plan.specs.Planned.{HasVariables, HasNoOther, HasUsed, StandBelow, NoneShare, NoneIsTemporary, HasPorts, HasTimers}
+use Rattle.xl_plan.specs.Planned.{HasVariables, HasNoOther, HasUsedVariables, HasUsedPorts, HasUsedTimers, StandBelow, NoneShare, NoneIsTemporary, HasPorts, HasTimers}
 use Rattle.xl_plan.proofs.Laid.{none_share}
-use Rattle.xl_plan.proofs.Promised.{has_variables, has_no_other, has_used, stand_below, none_is_temporary, ports_have_numbers, numbers_listed, timers_have_numbers}
+use Rattle.xl_plan.proofs.Promised.{has_variables, has_no_other, has_used_variables, has_used_ports, has_used_timers, stand_below, none_is_temporary, ports_have_numbers, numbers_listed, timers_have_numbers}
 use Rattle.xl_plan.proofs.Sizes.{few_variable_words}
 use Rattle.xl_plan.proofs.layout.plan.Goals as goal
 
@@ -32,11 +32,11 @@ returns-clause-no_other c =
     c.in_ok-vars.ensures ∙ ap (λ (vs : List Var). places_from c.args.core 0 vs) (c.as_slice.ensures ∙ ap (λ (k : Kernel). k.vars) c.kernel-kernel.ensures.kernel) in
     subst (λ (vars : List (Option VarPlan)). HasNoOther (kernel_of c.args.checked.now) c.args.core vars) (sym is) (has_no_other (kernel_of c.args.checked.now) c.args.core)
 
-pub returns-clause-used : goal.returns-clause-used
-returns-clause-used c =
+pub returns-clause-used_variables : goal.returns-clause-used_variables
+returns-clause-used_variables c =
     let is : c.in_ok-vars.vars ≡ places_from c.args.core 0 c.args.checked.now.vars =
     c.in_ok-vars.ensures ∙ ap (λ (vs : List Var). places_from c.args.core 0 vs) (c.as_slice.ensures ∙ ap (λ (k : Kernel). k.vars) c.kernel-kernel.ensures.kernel) in
-    subst (λ (vars : List (Option VarPlan)). HasUsed (kernel_of c.args.checked.now) c.args.core vars) (sym is) (has_used (kernel_of c.args.checked.now) c.args.core c.kernel-kernel.ensures.accepted)
+    subst (λ (vars : List (Option VarPlan)). HasUsedVariables (kernel_of c.args.checked.now) c.args.core vars) (sym is) (has_used_variables (kernel_of c.args.checked.now) c.args.core c.kernel-kernel.ensures.accepted)
 
 pub returns-clause-below : goal.returns-clause-below
 returns-clause-below c =
@@ -67,6 +67,18 @@ returns-clause-timers c =
     let is : c.in_ok-timers.timers ≡ identifiers_from core_of_timer c.args.core (name_of c.args.core 0 1) c.args.checked.now.timers =
     c.in_ok-timers.ensures ∙ ap (λ (ts : List Timer). identifiers_from core_of_timer c.args.core (name_of c.args.core 0 1) ts) (c.as_slice-3.ensures ∙ ap (λ (k : Kernel). k.timers) c.kernel-kernel.ensures.kernel) in
     subst (λ (places : List (Option ResAt)). HasTimers (kernel_of c.args.checked.now) c.args.core places) (sym is) (timers_have_numbers (kernel_of c.args.checked.now) c.args.core c.kernel-kernel.ensures.accepted c.requires)
+
+pub returns-clause-used_ports : goal.returns-clause-used_ports
+returns-clause-used_ports c =
+    let is : c.in_ok-ports.ports ≡ identifiers_from core_of_port c.args.core (name_of c.args.core 0 0) c.args.checked.now.ports =
+    c.in_ok-ports.ensures ∙ ap (λ (ps : List PortUse). identifiers_from core_of_port c.args.core (name_of c.args.core 0 0) ps) (c.as_slice-2.ensures ∙ ap (λ (k : Kernel). k.ports) c.kernel-kernel.ensures.kernel) in
+    subst (λ (places : List (Option ResAt)). HasUsedPorts (kernel_of c.args.checked.now) c.args.core places) (sym is) (has_used_ports (kernel_of c.args.checked.now) c.args.core c.kernel-kernel.ensures.accepted _ (ports_have_numbers (kernel_of c.args.checked.now) c.args.core c.requires))
+
+pub returns-clause-used_timers : goal.returns-clause-used_timers
+returns-clause-used_timers c =
+    let is : c.in_ok-timers.timers ≡ identifiers_from core_of_timer c.args.core (name_of c.args.core 0 1) c.args.checked.now.timers =
+    c.in_ok-timers.ensures ∙ ap (λ (ts : List Timer). identifiers_from core_of_timer c.args.core (name_of c.args.core 0 1) ts) (c.as_slice-3.ensures ∙ ap (λ (k : Kernel). k.timers) c.kernel-kernel.ensures.kernel) in
+    subst (λ (places : List (Option ResAt)). HasUsedTimers (kernel_of c.args.checked.now) c.args.core places) (sym is) (has_used_timers (kernel_of c.args.checked.now) c.args.core c.kernel-kernel.ensures.accepted _ (timers_have_numbers (kernel_of c.args.checked.now) c.args.core c.kernel-kernel.ensures.accepted c.requires))
 
 pub returns-clause-listed : goal.returns-clause-listed
 returns-clause-listed c = numbers_listed (kernel_of c.args.checked.now) c.args.core

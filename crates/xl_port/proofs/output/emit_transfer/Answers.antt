@@ -1,5 +1,5 @@
 use Rattle.std.proofs.Common.{◌+◌, ◌++◌, ◌∙◌, ap, length, append_assoc, subst, sym}
-use Rattle.xl_expr.specs.Code.{at_pos}
+use Rattle.xs_instr.specs.Lines.{at_pos}
 use Rattle.xl_port.specs.Outputs.{Transfers, transfer_instrs}
 use Rattle.xl_expr.proofs.GoodCode.{aimed_append, nothing_aimed}
 use Rattle.xl_port.proofs.Transferring.{transfer_aimed, transfers}

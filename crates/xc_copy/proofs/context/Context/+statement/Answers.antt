@@ -362,7 +362,7 @@ right-returns-in-Some t c =
 
 pub right-call-requires : goal.right-call-requires
 right-call-requires t c =
-    (down c.args.calls (deepest c.args.self.now.functions.now.all.items) (deepest c.args.self.now.functions.now.all.items) 0 3 0 2 c.decreases refl (omega arith), c.in-Some.ensures.depth)
+    (down c.args.calls (deepest c.args.self.now.functions.now.all.items) (deepest c.args.self.now.functions.now.all.items) 0 3 0 2 c.decreases refl (omega arith), (c.in-Some.ensures.depth, c.in-Some.ensures.parameters))
 
 pub call-returns-then-calls-eq0 : goal.call-returns-then-calls-eq0
 call-returns-then-calls-eq0 t c =
@@ -387,7 +387,7 @@ call-returns t c =
 pub call-function-requires : goal.call-function-requires
 call-function-requires t c =
     let d = deepest c.args.self.now.functions.now.all.items in
-    (enters_below c.args.calls d d 0 2 1 c.decreases refl c.if-calls-eq0.false (omega arith), c.requires)
+    (enters_below c.args.calls d d 0 2 1 c.decreases refl c.if-calls-eq0.false (omega arith), (c.requires.height, c.requires.parameters))
 
 pub function-returns : goal.function-returns
 function-returns t c =
@@ -410,7 +410,7 @@ function-returns t c =
 
 pub function-statement-body-requires : goal.function-statement-body-requires
 function-statement-body-requires t c =
-    (down c.args.calls (deepest c.args.self.now.functions.now.all.items) (deepest c.in_function.result.functions.now.all.items) (deepest c.args.self.now.functions.now.all.items) 1 (heights.height (tree.statement_of c.args.function.now.body)) 0 c.decreases (ap (λ f. deepest f.now.all.items) c.in_function.ensures.functions) (omega (arith, c.requires)), tt)
+    (down c.args.calls (deepest c.args.self.now.functions.now.all.items) (deepest c.in_function.result.functions.now.all.items) (deepest c.args.self.now.functions.now.all.items) 1 (heights.height (tree.statement_of c.args.function.now.body)) 0 c.decreases (ap (λ f. deepest f.now.all.items) c.in_function.ensures.functions) (omega (arith, c.requires.height)), tt)
 
 pub choice-returns : goal.choice-returns
 choice-returns t c =

@@ -6,6 +6,7 @@ use Rattle.xc_kernel.specs.Parameters as spec
 use Rattle.xc_kernel.specs.Scopes as scopes
 use Rattle.xc_copy.specs.Contexts.{context_of}
 use Rattle.xc_copy.proofs.Laws.Parameters.{handed_as}
+use Rattle.xc_copy.proofs.Laws.Unknown.{handed_as_well, no_array}
 use Rattle.xc_copy.specs.Scopes.{entity_meant, scope_of}
 use Rattle.xc_copy.proofs.context.Context.by_element.Goals as goal
 
@@ -24,3 +25,7 @@ returns-in_ok-array-in-Array-2 c =
       copy = λ behind. stored behind ∙ λ i. copies.with_variable (copies.one_statement behind (contexts.set_word here (slice i) (test i))) (contexts.word_variable here false (slice i) c.args.pos);
       entity = λ i. scopes.an_element ((ap (λ p. p.0) kept ∙ array) i) ((ap (λ p. p.1) kept ∙ own) i) c.in-Array.unsigned;
     })
+
+pub returns-in_default : goal.returns-in_default
+returns-in_default c =
+    handed_as_well c.stands_for.result (no_array (context_of c.args.self.now) c.args.own.now c.args.pos (scope_of c.args.scope.now) (tree.expression_of c.args.index.now) c.args.array_pos c.args.array.now c.in_default.not-Array) c.stands_for.ensures

@@ -4,4 +4,4 @@ use Rattle.xc_copy.proofs.context.Context.instance.Goals as goal
 pub returns : goal.returns
 returns c = λ behind.
     c.in_ok-copied.ensures behind
-    ∙ λ i. record (c.nothing.ensures behind i) { instances = (c.nothing.ensures behind i).instances ++ record { core = c.args.self.now.core; params = (c.in-Ok.ensures.1 ∙ c.len.ensures) i } ∷ [] }
+    ∙ λ i. record (c.nothing.ensures behind i) { instances = (c.nothing.ensures behind i).instances ++ record { core = c.args.self.now.core; params = c.len-params.ensures i } ∷ [] }

@@ -1,8 +1,8 @@
 -- The operator at a place of the table, and past it.
 use Rattle.std.proofs.Common.{◌≡◌, ℕ, zero, suc, ◌<◌, ◌≤◌, List, [], ◌∷◌, length, map, get_or, arith, refl}
 use Rattle.xc_kernel.specs.Operators.{no_operator}
-use Rattle.xl_expr.specs.Meant.{operator_meant}
-use Rattle.xl_expr.specs.declared.operators.Operator.{Operator}
+use Rattle.xc_kernel.specs.Meant.{operator_meant}
+use Rattle.xc_kernel.specs.declared.operators.Operator.{Operator}
 
 pub operator_there : (xs : List Operator) (i : ℕ) (d : Operator) → i < length xs → operator_meant (get_or xs i d) ≡ get_or (map operator_meant xs) i no_operator
 operator_there [] i d h = absurd (omega (arith, h))

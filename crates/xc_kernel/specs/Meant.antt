@@ -1,7 +1,7 @@
--- The operators of the code, as those of the kernel.
+-- The operators of the code, as those of the definitions.
 use Rattle.xc_kernel.specs.Operators as spec
-use Rattle.xl_expr.specs.declared.operators.Operator.{Operator}
-use Rattle.xl_expr.specs.declared.operators.Operator.TheVariants.{BelowLength, Choose, BitAnd, BitOr, BitXor, Flip, NotTrue, Plus, Minus, Times, Divide, Remainder, Less, Greater, Equal, Differs, AtMost, AtLeast, Both, Either, ShiftUp, ShiftDown, NoOperator}
+use Rattle.xc_kernel.specs.declared.operators.Operator.{Operator}
+use Rattle.xc_kernel.specs.declared.operators.Operator.TheVariants.{BelowLength, Choose, BitAnd, BitOr, BitXor, Flip, NotTrue, Plus, Minus, Times, Divide, Remainder, Less, Greater, Equal, Differs, AtMost, AtLeast, Both, Either, ShiftUp, ShiftDown, NoOperator}
 
 -- the operator that one stands for
 abbrev pub operator_meant : Operator → spec.Operator

@@ -1,9 +1,9 @@
 use Rattle.std.proofs.Common.{arith, ap, sym, ◌∙◌, get_or}
 use Rattle.xc_kernel.specs.Operators.{operators, no_operator}
-use Rattle.xl_expr.specs.declared.operators.TheConstants.{OPERATORS}
-use Rattle.xl_expr.specs.declared.operators.Operator.TheVariants.{BelowLength}
-use Rattle.xl_expr.proofs.Tables.{operator_there, operator_past}
-use Rattle.xl_expr.proofs.operators.operator_at.Goals as goal
+use Rattle.xc_kernel.specs.declared.operators.TheConstants.{OPERATORS}
+use Rattle.xc_kernel.specs.declared.operators.Operator.TheVariants.{BelowLength}
+use Rattle.xc_kernel.proofs.Tables.{operator_there, operator_past}
+use Rattle.xc_kernel.proofs.operators.operator_at.Goals as goal
 
 pub returns-then-place-lt35 : goal.returns-then-place-lt35
 returns-then-place-lt35 c = operator_there OPERATORS c.from-place.result BelowLength c.if-place-lt35.true ∙ ap (λ i. get_or operators i no_operator) c.from-place.ensures

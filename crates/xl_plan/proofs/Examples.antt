@@ -1,0 +1,96 @@
+-- Three kernels, laid out by hand.
+use Rattle.std.proofs.Common.{◌≡◌, ℕ, Bool, true, false, List, [], ◌∷◌, Option, Some, None, refl}
+use Rattle.xw_words.specs.declared.pos.Pos.{Pos}
+use Rattle.xc_tree.specs.declared.tree.TreeDir.TheVariants.{Out}
+use Rattle.xc_kernel.specs.declared.kernel.Inst.{Inst}
+use Rattle.xc_kernel.specs.declared.kernel.PortUse.{PortUse}
+use Rattle.xc_kernel.specs.declared.kernel.Var.{Var}
+use Rattle.xc_kernel.specs.Plain as kernel
+use Rattle.xc_disjoint.specs.Needs.{words_on}
+use Rattle.xl_expr.specs.declared.plan.ResAt.TheVariants.{Fixed}
+use Rattle.xl_expr.specs.declared.plan.VarAt.TheVariants.{Near}
+use Rattle.xl_expr.specs.declared.plan.VarPlan.{VarPlan}
+use Rattle.xl_plan.specs.Layout.{temporary_of, places_from, port_at}
+
+pos : Pos
+pos = record { line = 1; col = 1 }
+
+abbrev variable : (core words : ℕ) (counted : Bool) → Var
+variable core words counted = record { words = words; array = false; counted = counted; core = core; path = []; pos = pos }
+
+abbrev near : (word words : ℕ) → Option VarPlan
+near word words = Some (record { place = Near word; words = words })
+
+abbrev root : (core : ℕ) → kernel.Root
+root core = record { core = core; place = pos; body = kernel.no_more; pos = pos }
+
+abbrev port : (core id : ℕ) → PortUse
+port core id = record { id = id; dir = Out; core = core; place = pos; pos = pos }
+
+abbrev kernel_of : List kernel.Root → List Var → List Inst → kernel.Kernel
+kernel_of roots variables instances = record { roots = roots; variables = variables; channels = []; timers = []; ports = []; instances = instances; main = pos }
+
+-- One core: main has a word and 16 words, and calls a function of two parameters with a result.
+one_core : kernel.Kernel
+one_core = kernel_of (root 0 ∷ []) (variable 0 1 true ∷ variable 0 16 true ∷ variable 0 1 false ∷ variable 0 1 false ∷ variable 0 1 false ∷ []) (record { core = 0; params = 0 } ∷ record { core = 0; params = 2 } ∷ [])
+
+one_core_stands : places_from 0 0 one_core.variables ≡ near 0 1 ∷ near 1 16 ∷ near 17 1 ∷ near 18 1 ∷ near 19 1 ∷ []
+unfolding one_core
+one_core_stands = refl
+
+-- 4 and 6 words of instances, 17 of variables
+one_core_temporary : temporary_of one_core 0 0 ≡ 27
+unfolding one_core
+one_core_temporary = refl
+
+one_core_words : words_on one_core 0 ≡ 539
+unfolding one_core
+one_core_words = refl
+
+-- Two cores: what one has is nothing to the other. Core 1 has two roots.
+two_cores : kernel.Kernel
+two_cores = kernel_of (root 0 ∷ root 1 ∷ root 1 ∷ []) (variable 0 1 true ∷ variable 1 4 true ∷ variable 0 8 true ∷ variable 1 2 true ∷ []) (record { core = 0; params = 0 } ∷ record { core = 1; params = 1 } ∷ [])
+
+core_0_stands : places_from 0 0 two_cores.variables ≡ near 0 1 ∷ None ∷ near 1 8 ∷ None ∷ []
+unfolding two_cores
+core_0_stands = refl
+
+core_1_stands : places_from 1 0 two_cores.variables ≡ None ∷ near 0 4 ∷ None ∷ near 4 2 ∷ []
+unfolding two_cores
+core_1_stands = refl
+
+-- 5 words of the instance and 6 of variables, and the second root's stand behind the first one's
+core_1_first : temporary_of two_cores 1 0 ≡ 11
+unfolding two_cores
+core_1_first = refl
+
+core_1_second : temporary_of two_cores 1 1 ≡ 523
+unfolding two_cores
+core_1_second = refl
+
+core_1_words : words_on two_cores 1 ≡ 1035
+unfolding two_cores
+core_1_words = refl
+
+-- The far border: a word behind an array, and then the temporary words fill the core.
+full : kernel.Kernel
+full = kernel_of (root 3 ∷ []) (variable 3 15867 true ∷ variable 3 1 true ∷ []) (record { core = 3; params = 0 } ∷ [])
+
+full_stands : places_from 3 0 full.variables ≡ near 0 15867 ∷ near 15867 1 ∷ []
+unfolding full
+full_stands = refl
+
+full_temporary : temporary_of full 3 0 ≡ 15872
+unfolding full
+full_temporary = refl
+
+full_words : words_on full 3 ≡ 16384
+unfolding full
+full_words = refl
+
+-- the second port of core 1 is number 1 there, and core 0's has no identifier on it
+second_port : port_at 1 (port 1 0 ∷ port 0 0 ∷ port 1 5 ∷ []) 2 ≡ Some (Fixed 16777472)
+second_port = refl
+
+other_port : port_at 1 (port 1 0 ∷ port 0 0 ∷ port 1 5 ∷ []) 1 ≡ None
+other_port = refl
