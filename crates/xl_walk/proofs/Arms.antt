@@ -8,7 +8,7 @@ use Rattle.xl_expr.specs.declared.plan.Plan.{Plan}
 use Rattle.xl_expr.specs.Targets.{AreAimed}
 use Rattle.xl_walk.specs.declared.walk.Leaving.{Leaving}
 use Rattle.xl_walk.specs.Cells.{Cell}
-use Rattle.xl_walk.specs.Emits.{AreLines, Emits, Emitted}
+use Rattle.xl_walk.specs.Emits.{AreLines, Coded, Emits, Emitted}
 use Rattle.xl_walk.proofs.Parts.{emitted_as, piece_emitted}
 
 pub on_err : {A B : Type 0} (r : Result A B) (P : Type 0) → P → OnErr r P
@@ -18,3 +18,7 @@ on_err (Err x) P h = h
 pub piece_emits : {A B : Type 0} (r : Result A B) (plan : Plan) (s s' : kernel.Statement) (P : ℕ → List Line → Type 0) (old new : List Line) (left : List Leaving) → s ≡ s' → ((last : Pos) (pc : ℕ) (cells : List Cell) → AreLines P last pc cells → Emits plan s' last pc cells) → OnOk r (Adds old new (P (length old))) → OnOk r (Adds old new (AreAimed (length old))) → OnOk r (Emitted (Emits plan s) old new left left)
 piece_emits (Ok x) plan s s' P old new left is f h g = subst (λ t. Emitted (Emits plan t) old new left left) (sym is) (emitted_as (AreLines P) (Emits plan s') old new left left f (piece_emitted P old new left h g))
 piece_emits (Err x) plan s s' P old new left is f h g = tt
+
+pub ok_as : {A B : Type 0} (r : Result A B) (P Q : Coded) (old new : List Line) (before after : List Leaving) → ((last : Pos) (pc : ℕ) (cells : List Cell) → P last pc cells → Q last pc cells) → OnOk r (Emitted P old new before after) → OnOk r (Emitted Q old new before after)
+ok_as (Ok x) P Q old new before after f h = emitted_as P Q old new before after f h
+ok_as (Err x) P Q old new before after f h = tt

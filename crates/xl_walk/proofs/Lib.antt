@@ -6,3 +6,6 @@ pub mod Sides
 pub mod Turns
 pub mod Walks
 pub mod Arms
+pub mod Inside
+pub mod Ending
+pub mod Stands

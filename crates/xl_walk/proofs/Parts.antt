@@ -1,9 +1,9 @@
 -- Cells that were emitted: their lines, and the jumps among them.
-use Rattle.std.proofs.Common.{◌≡◌, ℕ, ◌+◌, List, [], ◌∷◌, ◌++◌, length, map, refl, sym, ap, ◌∙◌, subst, arith, append_assoc, append-nil, length-append}
+use Rattle.std.proofs.Common.{◌≡◌, ℕ, ◌+◌, List, [], ◌∷◌, ◌++◌, length, map, refl, sym, ap, ◌∙◌, subst, arith, append-nil, length-append}
 use Rattle.std.proofs.lemmas.List.{length-map, append_cancel_left}
 use Rattle.xw_words.specs.declared.pos.Pos.{Pos}
 use Rattle.xs_instr.specs.Adds.{Adds}
-use Rattle.xs_instr.specs.Lines.{Line, last_or, last_pos}
+use Rattle.xs_instr.specs.Lines.{Line, last_pos}
 use Rattle.xl_expr.specs.Targets.{AreAimed}
 use Rattle.xl_walk.specs.declared.walk.Leaving.{Leaving}
 use Rattle.xl_walk.specs.Cells.{Cell, known, leaving, behind, leaves, line_of}

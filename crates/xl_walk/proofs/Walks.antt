@@ -1,17 +1,15 @@
 -- One statement after another.
-use Rattle.std.proofs.Common.{◌≡◌, ℕ, zero, suc, ◌+◌, ◌*◌, ◌<◌, ◌≤◌, add-one, drop-cons, List, [], ◌∷◌, ◌++◌, length, map, drop, get_or, refl, sym, ap, ◌∙◌, subst, arith, append_assoc, append-nil, length-append}
-use Rattle.xw_words.specs.declared.pos.Pos.{Pos}
+use Rattle.std.proofs.Common.{◌≡◌, ℕ, zero, suc, ◌+◌, ◌*◌, ◌<◌, ◌≤◌, add-one, drop-cons, List, [], ◌∷◌, ◌++◌, length, map, drop, get_or, refl, sym, ap, ◌∙◌, subst, arith, append_assoc, append-nil}
 use Rattle.xc_kernel.specs.Plain as kernel
 use Rattle.xc_kernel.specs.declared.statement.Kst.{Kst}
 use Rattle.xc_kernel.specs.Kernels.{statement_of}
-use Rattle.xs_instr.specs.Lines.{Line, last_or, last_pos}
+use Rattle.xs_instr.specs.Lines.{Line, last_pos}
 use Rattle.xl_expr.specs.declared.plan.Plan.{Plan}
 use Rattle.xl_walk.specs.declared.walk.Leaving.{Leaving}
 use Rattle.xl_walk.specs.Built.{AreBuilt, AreShallow, most, most_of_all, statements_of}
-use Rattle.xl_walk.specs.Cells.{Cell, behind, leaves, line_of}
-use Rattle.xl_walk.specs.Emits.{AllEmit, Coded, Emits, Emitted, Follow}
+use Rattle.xl_walk.specs.Cells.{Cell, leaves, line_of}
+use Rattle.xl_walk.specs.Emits.{AllEmit, Emits, Emitted}
 use Rattle.xl_walk.proofs.Parts.{emitted_last, emitted_length, leaves_append, lines_append, lines_length}
-use Rattle.xl_walk.proofs.Seams.{last_append}
 
 -- how much is to be walked
 abbrev mutual

@@ -34,7 +34,7 @@ pub record Follow (First Rest : Coded) (last : Pos) (pc : ℕ) (cells : List Cel
   pub rest_is : Rest (behind last first) (pc + length first) rest
 
 -- A test that goes to the second side where its word is 0, the first side, a jump past the second side, and the second side.
-pub record Sides
+pub record TwoSides
     (vars : List (Option VarPlan)) (x : kernel.Expression) (First Second : Coded)
     (last : Pos) (pc : ℕ) (cells : List Cell) : Type 0 where
   pub test : List Line
@@ -50,6 +50,25 @@ pub record Sides
   pub aimed : AreAimed pc test
   pub first_is : First last (pc + length test + 1) first
   pub second_is : Second (behind last first) other second
+
+-- A test that goes past the one side where its word is 0, and that side.
+pub record OneSide
+    (vars : List (Option VarPlan)) (x : kernel.Expression) (First : Coded)
+    (last : Pos) (pc : ℕ) (cells : List Cell) : Type 0 where
+  pub test : List Line
+  pub first : List Cell
+  pub end : ℕ
+  pub end_is : end ≡ pc + length test + 1 + length first
+  pub is : cells ≡ map known test ++ (known (line (Brff R0 end) last) ∷ first)
+  pub tests : Tests vars x pc last test
+  pub aimed : AreAimed pc test
+  pub first_is : First last (pc + length test + 1) first
+
+-- past an empty second side there is no jump
+abbrev pub Branching :
+    (second : kernel.Statements) → List (Option VarPlan) → kernel.Expression → (First Second : Coded) → Coded
+Branching kernel.no_more vars x First Second last pc cells = OneSide vars x First last pc cells
+Branching (kernel.more s ss) vars x First Second last pc cells = TwoSides vars x First Second last pc cells
 
 -- A test that leaves the loop where its word is 0, the body, what follows each turn, and a jump back to the test.
 pub record Turns
@@ -79,7 +98,7 @@ module _ (plan : Plan) where
     Emits (kernel.set_zero v) last pc cells = AreLines (Zeroes plan.vars v) last pc cells
     Emits (kernel.set place x) last pc cells = AreLines (Sets plan.vars place x) last pc cells
     Emits (kernel.output o) last pc cells = AreLines (Outputs plan o) last pc cells
-    Emits (kernel.if_then x a b) last pc cells = Sides plan.vars x (AllEmit a) (AllEmit b) last pc cells
+    Emits (kernel.if_then x a b) last pc cells = Branching b plan.vars x (AllEmit a) (AllEmit b) last pc cells
     Emits (kernel.loop x a b) last pc cells = Turns plan.vars x (AllEmit a) (AllEmit b) last pc cells
     Emits (kernel.block n a) last pc cells = Closes n (AllEmit a) last pc cells
     Emits (kernel.exit n) last pc cells = cells ≡ leaving n last ∷ []

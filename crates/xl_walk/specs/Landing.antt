@@ -1,5 +1,5 @@
 -- The jumps out of a block land where it ends.
-use Rattle.std.specs.Prelude.{◌≡◌, ℕ, Bool, true, false, List, [], ◌∷◌, length, nat_eq}
+use Rattle.std.specs.Prelude.{ℕ, Bool, true, false, List, [], ◌∷◌, nat_eq}
 use Rattle.xs_instr.specs.Lines.{Line, IsOpen, landed}
 use Rattle.xl_walk.specs.declared.walk.Leaving.{Leaving}
 

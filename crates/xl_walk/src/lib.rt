@@ -1,6 +1,8 @@
 //! The code of statements: a walk that calls the pieces of code, and what stands where.
 #![tactic(auto)]
 
+mod root;
 mod walk;
 
+pub use root::{emit_root, roots_stand};
 pub use walk::{Leaving, emit_statements};

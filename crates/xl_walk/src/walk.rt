@@ -5,7 +5,7 @@ ghost use Rattle.xs_instr.specs.Lines.{last_pos};
 ghost use Rattle.xl_expr.specs.Measures.{depth, nodes};
 ghost use Rattle.xl_walk.specs.Built.{AreBuilt, AreShallow, IsBuilt, IsShallow, most, most_levels, most_of_all, statements_of};
 ghost use Rattle.xl_walk.specs.Cells.{leaving};
-ghost use Rattle.xl_walk.specs.Emits.{AllEmit, Closes, Emits, Emitted, Sides, Turns};
+ghost use Rattle.xl_walk.specs.Emits.{AllEmit, Branching, Closes, Emits, Emitted, OneSide, Turns, TwoSides};
 ghost use Rattle.xl_walk.specs.Landing.{Closable, closed_lines, others_leaving};
 
 use std::alloc::Global;
@@ -123,7 +123,67 @@ fn emit_if(
         + most_of_all plan.now.vars (statements_of first.now)
         + most_of_all plan.now.vars (statements_of second.now) + 2 < 2 ^ 32 }
     ensures code { OnOk result (Emitted
-        (Sides plan.now.vars (expression_of test.now)
+        (Branching (statements_of second.now) plan.now.vars (expression_of test.now)
+        (AllEmit plan.now (statements_of first.now)) (AllEmit plan.now (statements_of second.now)))
+        e.old e.new left.old.items left.new.items) }
+    ensures size { OnOk result (length e.new ≤ length e.old + 8 * nodes (expression_of test.now)
+        + most_of_all plan.now.vars (statements_of first.now)
+        + most_of_all plan.now.vars (statements_of second.now) + 2) }
+    ensures refused { OnErr result (Extends e.old e.new) }
+{
+    if second.len() == 0 {
+        emit_one_side(e, plan, test, first, left)
+    } else {
+        emit_two_sides(e, plan, test, first, second, left)
+    }
+}
+
+#[cycle(statement)]
+fn emit_one_side(
+    e: &mut Emitter,
+    plan: &Plan,
+    test: &Kx,
+    first: &[Kst],
+    left: &mut Vec<Leaving>,
+) -> Result<(), Memory>
+    requires built { AreBuilt (statements_of first.now) }
+    requires shallow { depth (expression_of test.now) ≤ most_levels }
+    requires shallow_first { AreShallow (statements_of first.now) }
+    requires room { length e.old + 8 * nodes (expression_of test.now)
+        + most_of_all plan.now.vars (statements_of first.now) + 1 < 2 ^ 32 }
+    ensures code { OnOk result (Emitted
+        (OneSide plan.now.vars (expression_of test.now) (AllEmit plan.now (statements_of first.now)))
+        e.old e.new left.old.items left.new.items) }
+    ensures size { OnOk result (length e.new ≤ length e.old + 8 * nodes (expression_of test.now)
+        + most_of_all plan.now.vars (statements_of first.now) + 1) }
+    ensures refused { OnErr result (Extends e.old e.new) }
+{
+    let last = e.pos();
+    let past = emit_test(e, plan, test, last)?;
+    emit_all(e, plan, first, left)?;
+    e.land(past);
+    Ok(())
+}
+
+#[cycle(statement)]
+fn emit_two_sides(
+    e: &mut Emitter,
+    plan: &Plan,
+    test: &Kx,
+    first: &[Kst],
+    second: &[Kst],
+    left: &mut Vec<Leaving>,
+) -> Result<(), Memory>
+    requires built { AreBuilt (statements_of first.now) }
+    requires built_second { AreBuilt (statements_of second.now) }
+    requires shallow { depth (expression_of test.now) ≤ most_levels }
+    requires shallow_first { AreShallow (statements_of first.now) }
+    requires shallow_second { AreShallow (statements_of second.now) }
+    requires room { length e.old + 8 * nodes (expression_of test.now)
+        + most_of_all plan.now.vars (statements_of first.now)
+        + most_of_all plan.now.vars (statements_of second.now) + 2 < 2 ^ 32 }
+    ensures code { OnOk result (Emitted
+        (TwoSides plan.now.vars (expression_of test.now)
         (AllEmit plan.now (statements_of first.now)) (AllEmit plan.now (statements_of second.now)))
         e.old e.new left.old.items left.new.items) }
     ensures size { OnOk result (length e.new ≤ length e.old + 8 * nodes (expression_of test.now)

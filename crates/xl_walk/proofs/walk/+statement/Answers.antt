@@ -1,4 +1,4 @@
-use Rattle.std.proofs.Common.{arith, ◌≡◌, ◌+◌, ◌*◌, ◌<◌, ◌≤◌, ◌^◌, [], ◌∷◌, ◌++◌, length, drop, take, sym, ap, ◌∙◌, subst, length-append}
+use Rattle.std.proofs.Common.{arith, ◌≡◌, ◌+◌, ◌<◌, ◌^◌, [], ◌∷◌, ◌++◌, length, drop, take, sym, ap, ◌∙◌, subst, length-append}
 use Rattle.std.proofs.Math.ListN.{drop_of_length-le}
 use Rattle.xc_kernel.specs.Kernels.{expression_of, output_of, place_of, statement_of}
 use Rattle.xc_kernel.specs.Plain as kernel
@@ -10,12 +10,12 @@ use Rattle.xl_flow.specs.Flow.{Sets}
 use Rattle.xl_flow.specs.Zeros.{Zeroes}
 use Rattle.xl_port.specs.Outputs.{Outputs}
 use Rattle.xl_walk.specs.Built.{IsBuilt, IsShallow, most, statements_of}
-use Rattle.xl_walk.specs.Emits.{AllEmit}
+use Rattle.xl_walk.specs.Emits.{AllEmit, Branching, TwoSides}
 use Rattle.xl_walk.specs.Landing.{others_leaving}
-use Rattle.xl_walk.proofs.Arms.{on_err, piece_emits}
+use Rattle.xl_walk.proofs.Arms.{ok_as, on_err, piece_emits}
 use Rattle.xl_walk.proofs.Blocks.{block_emitted, block_extends, block_open, block_size}
 use Rattle.xl_walk.proofs.Seams.{extends_by, extends_on}
-use Rattle.xl_walk.proofs.Sides.{extends_4, length_4, over_open, past_open, sides_emitted}
+use Rattle.xl_walk.proofs.Sides.{branch_two, extends_4, length_4, one_open, one_side_emitted, over_open, past_open, sides_emitted}
 use Rattle.xl_walk.proofs.Turns.{out_open, turns_emitted}
 use Rattle.xl_walk.proofs.Walks.{Walked, lighter, statements_at, walk_begins, walk_ends, walk_goes_on, weight}
 use Rattle.xl_walk.proofs.walk.+statement.Goals as goal
@@ -42,33 +42,55 @@ emit_all-loop-statement-preserved t c =
     let h = subst (λ p. Walked c.args.plan.now (statements_of ss) p c.args.e.now c.loop-statement.e c.args.left.now.items c.loop-statement.left.items) (statements_at ss i x c.statement-item.is c.loop-statement-test.true) c.loop-statement.invariant in
     walk_goes_on c.args.plan.now (statements_of ss) (statements_of (drop (i + 1) ss)) (statement_of x) c.args.e.now c.loop-statement.e c.emit_one.new.e c.args.left.now.items c.loop-statement.left.items c.emit_one.new.left.items h c.in_ok-emit_one.ensures.code c.in_ok-emit_one.ensures.size
 
--- two sides
+-- one side
 
-pub emit_if-emit_all-requires : goal.emit_if-emit_all-requires
-emit_if-emit_all-requires t c =
+pub emit_one_side-emit_all-requires : goal.emit_one_side-emit_all-requires
+emit_one_side-emit_all-requires t c =
     (omega (arith, c.decreases), (c.requires.built, (c.requires.shallow_first, omega (arith, c.in_ok-past.ensures.size, c.requires.room))))
 
-pub emit_if-land-requires : goal.emit_if-land-requires
-emit_if-land-requires t c =
+pub emit_one_side-land-requires : goal.emit_one_side-land-requires
+emit_one_side-land-requires t c =
+    one_open c.args.plan.now.vars (expression_of c.args.test.now) (AllEmit c.args.plan.now (statements_of c.args.first.now)) c.args.e.now c.emit_test.new.e c.emit_all.new.e c.args.left.now.items c.emit_all.new.left.items c.in_ok-past.past.index c.pos-last.result c.in_ok-past.ensures.tests c.in_ok-past.ensures.aimed c.in_ok-emit_all.ensures.code
+
+pub emit_one_side-returns-clause-code : goal.emit_one_side-returns-clause-code
+emit_one_side-returns-clause-code t c =
+    one_side_emitted c.args.plan.now.vars (expression_of c.args.test.now) (AllEmit c.args.plan.now (statements_of c.args.first.now)) c.args.e.now c.emit_test.new.e c.emit_all.new.e c.args.left.now.items c.emit_all.new.left.items c.in_ok-past.past.index c.pos-last.result c.in_ok-past.ensures.tests c.in_ok-past.ensures.aimed c.in_ok-emit_all.ensures.code c.land.new.self c.land.ensures c.pos-last.ensures
+
+-- two sides
+
+pub emit_if-returns-else-second-eq0-clause-code : goal.emit_if-returns-else-second-eq0-clause-code
+emit_if-returns-else-second-eq0-clause-code t c =
+    let vars = c.args.plan.now.vars in
+    let x = expression_of c.args.test.now in
+    let a = AllEmit c.args.plan.now (statements_of c.args.first.now) in
+    let b = AllEmit c.args.plan.now (statements_of c.args.second.now) in
+    ok_as c.emit_two_sides.result (TwoSides vars x a b) (Branching (statements_of c.args.second.now) vars x a b) c.args.e.now c.emit_two_sides.new.e c.args.left.now.items c.emit_two_sides.new.left.items (branch_two c.args.second.now vars x a b (omega (arith, c.if-second-eq0.false))) c.emit_two_sides.ensures.code
+
+pub emit_two_sides-emit_all-requires : goal.emit_two_sides-emit_all-requires
+emit_two_sides-emit_all-requires t c =
+    (omega (arith, c.decreases), (c.requires.built, (c.requires.shallow_first, omega (arith, c.in_ok-past.ensures.size, c.requires.room))))
+
+pub emit_two_sides-land-requires : goal.emit_two_sides-land-requires
+emit_two_sides-land-requires t c =
     past_open c.args.plan.now.vars (expression_of c.args.test.now) (AllEmit c.args.plan.now (statements_of c.args.first.now)) (AllEmit c.args.plan.now (statements_of c.args.second.now)) c.args.e.now c.emit_test.new.e c.emit_all.new.e c.emit_jump.new.e c.args.e.now c.args.left.now.items c.emit_all.new.left.items c.in_ok-past.past.index c.in_ok-over.over.index c.pos-last.result c.in_ok-past.ensures.tests c.in_ok-past.ensures.aimed c.in_ok-emit_all.ensures.code (c.in_ok-over.ensures.code ∙ ap (λ p. c.emit_all.new.e ++ open_line (Brfu 0) p ∷ []) c.pos-last-2.ensures) c.in_ok-over.ensures.index
 
-pub emit_if-emit_all-requires-2 : goal.emit_if-emit_all-requires-2
-emit_if-emit_all-requires-2 t c =
+pub emit_two_sides-emit_all-requires-2 : goal.emit_two_sides-emit_all-requires-2
+emit_two_sides-emit_all-requires-2 t c =
     let same = length_4 c.args.plan.now.vars (expression_of c.args.test.now) (AllEmit c.args.plan.now (statements_of c.args.first.now)) (AllEmit c.args.plan.now (statements_of c.args.second.now)) c.args.e.now c.emit_test.new.e c.emit_all.new.e c.emit_jump.new.e c.land.new.self c.args.left.now.items c.emit_all.new.left.items c.in_ok-past.past.index c.in_ok-over.over.index c.pos-last.result c.in_ok-past.ensures.tests c.in_ok-past.ensures.aimed c.in_ok-emit_all.ensures.code (c.in_ok-over.ensures.code ∙ ap (λ p. c.emit_all.new.e ++ open_line (Brfu 0) p ∷ []) c.pos-last-2.ensures) c.in_ok-over.ensures.index c.land.ensures in
     let jump = ap length c.in_ok-over.ensures.code ∙ length-append c.emit_all.new.e (open_line (Brfu 0) c.pos-last-2.result ∷ []) in
     (omega (arith, c.decreases), (c.requires.built_second, (c.requires.shallow_second, omega (arith, same, jump, c.in_ok-emit_all.ensures.size, c.in_ok-past.ensures.size, c.requires.room))))
 
-pub emit_if-returns-in_err-emit_all-2-clause-refused : goal.emit_if-returns-in_err-emit_all-2-clause-refused
-emit_if-returns-in_err-emit_all-2-clause-refused t c =
+pub emit_two_sides-returns-in_err-emit_all-2-clause-refused : goal.emit_two_sides-returns-in_err-emit_all-2-clause-refused
+emit_two_sides-returns-in_err-emit_all-2-clause-refused t c =
     on_err c.from_residual-in_err-emit_all-2.result (Extends c.args.e.now c.emit_all-2.new.e)
     (extends_on c.args.e.now c.land.new.self c.emit_all-2.new.e (extends_4 c.args.plan.now.vars (expression_of c.args.test.now) (AllEmit c.args.plan.now (statements_of c.args.first.now)) (AllEmit c.args.plan.now (statements_of c.args.second.now)) c.args.e.now c.emit_test.new.e c.emit_all.new.e c.emit_jump.new.e c.land.new.self c.args.left.now.items c.emit_all.new.left.items c.in_ok-past.past.index c.in_ok-over.over.index c.pos-last.result c.in_ok-past.ensures.tests c.in_ok-past.ensures.aimed c.in_ok-emit_all.ensures.code (c.in_ok-over.ensures.code ∙ ap (λ p. c.emit_all.new.e ++ open_line (Brfu 0) p ∷ []) c.pos-last-2.ensures) c.in_ok-over.ensures.index c.land.ensures) c.in_err-emit_all-2.ensures.refused)
 
-pub emit_if-land-requires-2 : goal.emit_if-land-requires-2
-emit_if-land-requires-2 t c =
+pub emit_two_sides-land-requires-2 : goal.emit_two_sides-land-requires-2
+emit_two_sides-land-requires-2 t c =
     over_open c.args.plan.now.vars (expression_of c.args.test.now) (AllEmit c.args.plan.now (statements_of c.args.first.now)) (AllEmit c.args.plan.now (statements_of c.args.second.now)) c.args.e.now c.emit_test.new.e c.emit_all.new.e c.emit_jump.new.e c.land.new.self c.args.left.now.items c.emit_all.new.left.items c.in_ok-past.past.index c.in_ok-over.over.index c.pos-last.result c.in_ok-past.ensures.tests c.in_ok-past.ensures.aimed c.in_ok-emit_all.ensures.code (c.in_ok-over.ensures.code ∙ ap (λ p. c.emit_all.new.e ++ open_line (Brfu 0) p ∷ []) c.pos-last-2.ensures) c.in_ok-over.ensures.index c.land.ensures c.emit_all-2.new.e c.emit_all-2.new.left.items c.in_ok-emit_all-2.ensures.code
 
-pub emit_if-returns-clause-code : goal.emit_if-returns-clause-code
-emit_if-returns-clause-code t c =
+pub emit_two_sides-returns-clause-code : goal.emit_two_sides-returns-clause-code
+emit_two_sides-returns-clause-code t c =
     sides_emitted c.args.plan.now.vars (expression_of c.args.test.now) (AllEmit c.args.plan.now (statements_of c.args.first.now)) (AllEmit c.args.plan.now (statements_of c.args.second.now)) c.args.e.now c.emit_test.new.e c.emit_all.new.e c.emit_jump.new.e c.land.new.self c.args.left.now.items c.emit_all.new.left.items c.in_ok-past.past.index c.in_ok-over.over.index c.pos-last.result c.in_ok-past.ensures.tests c.in_ok-past.ensures.aimed c.in_ok-emit_all.ensures.code (c.in_ok-over.ensures.code ∙ ap (λ p. c.emit_all.new.e ++ open_line (Brfu 0) p ∷ []) c.pos-last-2.ensures) c.in_ok-over.ensures.index c.land.ensures c.emit_all-2.new.e c.emit_all-2.new.left.items c.in_ok-emit_all-2.ensures.code c.land-2.new.self c.land-2.ensures c.pos-last.ensures
 
 -- a loop

@@ -17,7 +17,13 @@ abbrev pub decreases-emit_block : goal.decreases-emit_block
 decreases-emit_block l = 2 * weights (statements_of l.inside.now) + 1
 
 abbrev pub decreases-emit_if : goal.decreases-emit_if
-decreases-emit_if l = 2 * (weights (statements_of l.first.now) + weights (statements_of l.second.now)) + 1
+decreases-emit_if l = 2 * (weights (statements_of l.first.now) + weights (statements_of l.second.now)) + 2
+
+abbrev pub decreases-emit_one_side : goal.decreases-emit_one_side
+decreases-emit_one_side l = 2 * weights (statements_of l.first.now) + 1
+
+abbrev pub decreases-emit_two_sides : goal.decreases-emit_two_sides
+decreases-emit_two_sides l = 2 * (weights (statements_of l.first.now) + weights (statements_of l.second.now)) + 1
 
 abbrev pub decreases-emit_loop : goal.decreases-emit_loop
 decreases-emit_loop l = 2 * (weights (statements_of l.body.now) + weights (statements_of l.next.now)) + 1

@@ -1,0 +1,137 @@
+-- The cells of statements may stand in code that goes on behind them, and jump to the ends of blocks around them alone.
+use Rattle.std.proofs.Common.{◌≡◌, ℕ, ◌+◌, ◌<◌, ◌≤◌, ◌≢◌, Bool, true, false, List, [], ◌∷◌, ◌++◌, length, map, refl, sym, ap, ◌∙◌, subst, arith, length-append, ⊎_elim, eq-eqb}
+use Rattle.std.specs.Prelude.{nat_eq, ◌||◌}
+use Rattle.std.proofs.lemmas.Bool.{cases_eq, ne_eqb}
+use Rattle.std.proofs.lemmas.List.{length-map}
+use Rattle.xw_words.specs.declared.pos.Pos.{Pos}
+use Rattle.xc_tree.specs.Types.Words.{is_among}
+use Rattle.xs_instr.specs.declared.instr.Instr.TheVariants.{Brff, Brfu, Brbu}
+use Rattle.xs_instr.specs.declared.instr.Reg.TheVariants.{R0}
+use Rattle.xs_instr.specs.Lines.{Line, line}
+use Rattle.xc_kernel.specs.Plain as kernel
+use Rattle.xl_expr.specs.declared.plan.Plan.{Plan}
+use Rattle.xl_expr.specs.Targets.{AreGoodLines}
+use Rattle.xl_walk.specs.Cells.{Cell, known, leaving, behind, closed, closed_by, line_of}
+use Rattle.xl_walk.specs.Emits.{AllEmit, AreLines, Branching, Coded, Emits, OneSide, TwoSides}
+use Rattle.xl_walk.specs.Inside.{AreGoodCells, AreInside, IsInside}
+
+eqb_swap : (a b : ℕ) → nat_eq a b ≡ nat_eq b a
+eqb_swap a b =
+    ⊎_elim
+    (λ (e : a ≡ b). eq-eqb a b e ∙ sym (eq-eqb b a (sym e)))
+    (λ (ne : a ≢ b). ne_eqb a b ne ∙ sym (ne_eqb b a (λ e. ne (sym e))))
+    (cases_eq a b)
+
+module _ (around : List ℕ) (size : ℕ) where
+  good_append : (a b : List Cell) (i : ℕ) → AreGoodCells around size i a → AreGoodCells around size (i + length a) b → AreGoodCells around size i (a ++ b)
+  good_append [] b i h g = let e : i + 0 ≡ i = omega arith in subst (λ n. AreGoodCells around size n b) e g
+  good_append (known l ∷ a) b i h g =
+      let e : i + length (known l ∷ a) ≡ i + 1 + length a = omega arith in
+      (h.0, h.1, good_append a b (i + 1) h.2 (subst (λ n. AreGoodCells around size n b) e g))
+  good_append (leaving n pos ∷ a) b i h g =
+      let e : i + length (leaving n pos ∷ a) ≡ i + 1 + length a = omega arith in
+      (h.0, good_append a b (i + 1) h.1 (subst (λ n. AreGoodCells around size n b) e g))
+
+  good_known : (ls : List Line) (i : ℕ) → AreGoodLines size i ls → AreGoodCells around size i (map known ls)
+  good_known [] i h = tt
+  good_known (l ∷ ls) i h = (h.0, h.1, good_known ls (i + 1) h.2)
+
+  -- a block's own jumps
+  good_closed : (n end : ℕ) (cells : List Cell) (i : ℕ) → i + length cells ≤ end → end < size → AreGoodCells (n ∷ around) size i cells → AreGoodCells around size i (map (closed n end) cells)
+  good_closed n end [] i within ends h = tt
+  good_closed n end (known l ∷ cells) i within ends h = (h.0, h.1, good_closed n end cells (i + 1) (omega arith) ends h.2)
+  good_closed n end (leaving m pos ∷ cells) i within ends h = by (good_closed n end cells (i + 1) (omega arith) ends h.1) (nat_eq m n) refl
+    where
+      by : AreGoodCells around size (i + 1) (map (closed n end) cells) → (b : Bool) → nat_eq m n ≡ b → AreGoodCells around size i (closed_by b m end pos ∷ map (closed n end) cells)
+      by rest true e = let near : i < end = omega arith in ((near, ends), refl, rest)
+      by rest false e = (subst (λ b. b || is_among around m ≡ true) (eqb_swap n m ∙ e) h.0, rest)
+
+-- no jump leaves code around which there is no block
+pub all_known : (size i : ℕ) (cells : List Cell) → AreGoodCells [] size i cells → cells ≡ map known (map line_of cells)
+all_known size i [] h = refl
+all_known size i (known l ∷ cells) h = ap (λ cs. known l ∷ cs) (all_known size (i + 1) cells h.2)
+all_known size i (leaving n pos ∷ cells) h = let none : false ≡ true = h.0 in cc
+
+pub good_lines : (size i : ℕ) (cells : List Cell) → AreGoodCells [] size i cells → AreGoodLines size i (map line_of cells)
+good_lines size i [] h = tt
+good_lines size i (known l ∷ cells) h = (h.0, h.1, good_lines size (i + 1) cells h.2)
+good_lines size i (leaving n pos ∷ cells) h = let none : false ≡ true = h.0 in absurd cc
+
+piece_good : (around : List ℕ) (P : ℕ → List Line → Type 0) (last : Pos) (size pc : ℕ) (cells : List Cell) → AreLines P last pc cells → pc + length cells < size → AreGoodCells around size pc cells
+piece_good around P last size pc cells h ends =
+    let n : length cells ≡ length h.lines = ap length h.is ∙ length-map h.lines known in
+    subst (AreGoodCells around size pc) (sym h.is) (good_known around size h.lines pc (h.aimed.by size (omega arith)))
+
+module _ (plan : Plan) where
+  -- what is said of a side's cells
+  abbrev IsGoodCode : (around : List ℕ) (size : ℕ) → Coded → Type 0
+  IsGoodCode around size Code = (last : Pos) (pc : ℕ) (cells : List Cell) → Code last pc cells → pc + length cells < size → AreGoodCells around size pc cells
+
+  module _ (around : List ℕ) (last : Pos) (size pc : ℕ) (cells : List Cell) (x : kernel.Expression) (First Second : Coded) (first_good : IsGoodCode around size First) (second_good : IsGoodCode around size Second) where
+    one_side_good : OneSide plan.vars x First last pc cells → pc + length cells < size → AreGoodCells around size pc cells
+    one_side_good h ends =
+        let tail = known (line (Brff R0 h.end) last) ∷ h.first in
+        let n : length cells ≡ length h.test + 1 + length h.first = omega (arith, ap length h.is, length-append (map known h.test) tail, length-map h.test known) in
+        let e = h.end_is in
+        let m = length-map h.test known in
+        let first = first_good last (pc + length h.test + 1) h.first h.first_is (omega arith) in
+        let from_test : AreGoodCells around size (pc + length h.test) tail = ((omega arith, omega arith), refl, first) in
+        subst (AreGoodCells around size pc) (sym h.is)
+        (good_append around size (map known h.test) tail pc (good_known around size h.test pc (h.aimed.by size (omega arith))) (subst (λ k. AreGoodCells around size (pc + k) tail) (sym m) from_test))
+
+    two_sides_good : TwoSides plan.vars x First Second last pc cells → pc + length cells < size → AreGoodCells around size pc cells
+    two_sides_good h ends =
+        let jump = known (line (Brfu h.end) (behind last h.first)) in
+        let tail = known (line (Brff R0 h.other) last) ∷ (h.first ++ (jump ∷ h.second)) in
+        let n : length cells ≡ length h.test + 1 + length h.first + 1 + length h.second = omega (arith, ap length h.is, length-append (map known h.test) tail, length-map h.test known, length-append h.first (jump ∷ h.second)) in
+        let o = h.other_is in
+        let e = h.end_is in
+        let m = length-map h.test known in
+        let first = first_good last (pc + length h.test + 1) h.first h.first_is (omega arith) in
+        let second = second_good (behind last h.first) h.other h.second h.second_is (omega arith) in
+        let at_jump : pc + length h.test + 1 + length h.first + 1 ≡ h.other = omega arith in
+        let from_jump : AreGoodCells around size (pc + length h.test + 1 + length h.first) (jump ∷ h.second) = ((omega arith, omega arith), refl, subst (λ k. AreGoodCells around size k h.second) (sym at_jump) second) in
+        let from_test : AreGoodCells around size (pc + length h.test) tail = ((omega arith, omega arith), refl, good_append around size h.first (jump ∷ h.second) (pc + length h.test + 1) first from_jump) in
+        subst (AreGoodCells around size pc) (sym h.is)
+        (good_append around size (map known h.test) tail pc (good_known around size h.test pc (h.aimed.by size (omega arith))) (subst (λ k. AreGoodCells around size (pc + k) tail) (sym m) from_test))
+
+    branching_good : (b : kernel.Statements) → Branching b plan.vars x First Second last pc cells → pc + length cells < size → AreGoodCells around size pc cells
+    branching_good kernel.no_more h ends = one_side_good h ends
+    branching_good (kernel.more s ss) h ends = two_sides_good h ends
+
+  mutual
+    pub emits_good : (s : kernel.Statement) (around : List ℕ) (last : Pos) (size pc : ℕ) (cells : List Cell) → IsInside around s → Emits plan s last pc cells → pc + length cells < size → AreGoodCells around size pc cells
+    emits_good (kernel.set_zero v) around last size pc cells inside h ends = piece_good around _ last size pc cells h ends
+    emits_good (kernel.set place x) around last size pc cells inside h ends = piece_good around _ last size pc cells h ends
+    emits_good (kernel.output o) around last size pc cells inside h ends = piece_good around _ last size pc cells h ends
+    emits_good (kernel.input i) around last size pc cells inside h ends = absurd h
+    emits_good (kernel.if_then x a b) around last size pc cells inside h ends =
+        branching_good around last size pc cells x (AllEmit plan a) (AllEmit plan b) (λ l i cs k n. all_good a around l size i cs inside.0 k n) (λ l i cs k n. all_good b around l size i cs inside.1 k n) b h ends
+    emits_good (kernel.loop x a b) around last size pc cells inside h ends =
+        let back = known (line (Brbu pc) (behind (behind last h.body) h.next)) in
+        let tail = known (line (Brff R0 h.end) last) ∷ (h.body ++ (h.next ++ back ∷ [])) in
+        let n : length cells ≡ length h.test + 1 + length h.body + length h.next + 1 = omega (arith, ap length h.is, length-append (map known h.test) tail, length-map h.test known, length-append h.body (h.next ++ back ∷ []), length-append h.next (back ∷ [])) in
+        let e = h.end_is in
+        let m = length-map h.test known in
+        let body = all_good a around last size (pc + length h.test + 1) h.body inside.0 h.body_is (omega arith) in
+        let next = all_good b around (behind last h.body) size (pc + length h.test + 1 + length h.body) h.next inside.1 h.next_is (omega arith) in
+        let from_back : AreGoodCells around size (pc + length h.test + 1 + length h.body + length h.next) (back ∷ []) = ((omega arith, omega arith), refl, tt) in
+        let from_next = good_append around size h.next (back ∷ []) (pc + length h.test + 1 + length h.body) next from_back in
+        let from_test : AreGoodCells around size (pc + length h.test) tail = ((omega arith, omega arith), refl, good_append around size h.body (h.next ++ back ∷ []) (pc + length h.test + 1) body from_next) in
+        subst (AreGoodCells around size pc) (sym h.is)
+        (good_append around size (map known h.test) tail pc (good_known around size h.test pc (h.aimed.by size (omega arith))) (subst (λ k. AreGoodCells around size (pc + k) tail) (sym m) from_test))
+    emits_good (kernel.block n a) around last size pc cells inside h ends =
+        let m : length cells ≡ length h.inside = ap length h.is ∙ length-map h.inside (closed n (pc + length h.inside)) in
+        subst (AreGoodCells around size pc) (sym h.is)
+        (good_closed around size n (pc + length h.inside) h.inside pc (omega arith) (omega arith) (all_good a (n ∷ around) last size pc h.inside inside h.inside_is (omega arith)))
+    emits_good (kernel.exit n) around last size pc cells inside h ends = subst (AreGoodCells around size pc) (sym h) (inside, tt)
+    emits_good (kernel.select cs d pos) around last size pc cells inside h ends = absurd h
+    emits_good (kernel.par bs) around last size pc cells inside h ends = absurd h
+    emits_good (kernel.transaction c is_master a start close) around last size pc cells inside h ends = absurd h
+
+    pub all_good : (ss : kernel.Statements) (around : List ℕ) (last : Pos) (size pc : ℕ) (cells : List Cell) → AreInside around ss → AllEmit plan ss last pc cells → pc + length cells < size → AreGoodCells around size pc cells
+    all_good kernel.no_more around last size pc cells inside h ends = subst (AreGoodCells around size pc) (sym h) tt
+    all_good (kernel.more s ss) around last size pc cells inside h ends =
+        let n : length cells ≡ length h.first + length h.rest = ap length h.is ∙ length-append h.first h.rest in
+        subst (AreGoodCells around size pc) (sym h.is)
+        (good_append around size h.first h.rest pc (emits_good s around last size pc h.first inside.0 h.first_is (omega arith)) (all_good ss around (behind last h.first) size (pc + length h.first) h.rest inside.1 h.rest_is (omega arith)))

@@ -1,0 +1,82 @@
+-- The code of statements, as a relation on the whole code of a core: what stands from one index to another.
+use Rattle.std.specs.Prelude.{◌≡◌, ◌⊎◌, ℕ, zero, suc, ◌+◌, ◌≤◌, Bool, true, false, List, [], ◌∷◌, ◌++◌, length, Option, Some, None, nat_eq, slice_get}
+use Rattle.xw_words.specs.declared.pos.Pos.{Pos}
+use Rattle.xs_instr.specs.declared.image.Code.{Code}
+use Rattle.xs_instr.specs.declared.instr.Instr.TheVariants.{Brff, Brfu, Brbu, Freet}
+use Rattle.xs_instr.specs.declared.instr.Reg.TheVariants.{R0}
+use Rattle.xs_instr.specs.Lines.{Line, line}
+use Rattle.xs_instr.specs.OwnSteps.{StandAt}
+use Rattle.xc_kernel.specs.Plain as kernel
+use Rattle.xl_expr.specs.declared.plan.Plan.{Plan}
+use Rattle.xl_flow.specs.Flow.{Sets, Tests}
+use Rattle.xl_flow.specs.Zeros.{Zeroes}
+use Rattle.xl_par.specs.Roots.{EndsRoot}
+use Rattle.xl_port.specs.Outputs.{Outputs}
+
+-- an open block, and the index where it ends
+pub record Exit : Type 0 where
+  pub block : ℕ
+  pub index : ℕ
+
+-- `exit_of`, by cases
+abbrev pub exit_by : Bool → ℕ → Option ℕ → Option ℕ
+exit_by true here outer = Some here
+exit_by false here outer = outer
+
+-- where a block ends, by the open blocks, the innermost first
+abbrev pub exit_of : List Exit → (block : ℕ) → Option ℕ
+exit_of [] n = None
+exit_of (e ∷ exits) n = exit_by (nat_eq n e.block) e.index (exit_of exits n)
+
+module _ (code : Code) where
+  -- lines of which P holds stand from one index to another
+  pub record LinesAt (P : ℕ → List Line → Type 0) (pc pc' : ℕ) : Type 0 where
+    pub lines : List Line
+    pub stand : StandAt code pc lines
+    pub so : P pc lines
+    pub end : pc' ≡ pc + length lines
+
+  -- n jumps lead from one index to another
+  abbrev pub Jumps : ℕ → (pc pc' : ℕ) → Type 0
+  Jumps zero pc pc' = pc ≡ pc'
+  Jumps (suc n) pc pc' =
+      (p : ℕ) × ((slice_get code.instrs pc ≡ Some (Brfu p)) ⊎ (slice_get code.instrs pc ≡ Some (Brbu p))) × Jumps n p pc'
+
+  module _ (plan : Plan) where
+    -- the test of an expression, which goes on to `next`, or to `other` where its word is 0
+    pub record TestAt (x : kernel.Expression) (pc next other : ℕ) : Type 0 where
+      pub lines : List Line
+      pub place : Pos
+      pub stand : StandAt code pc (lines ++ line (Brff R0 other) place ∷ [])
+      pub tests : Tests plan.vars x pc place lines
+      pub end : next ≡ pc + length lines + 1
+
+    abbrev mutual
+      -- a statement's code, by where the open blocks end
+      pub PieceAt : kernel.Statement → List Exit → (pc pc' : ℕ) → Type 0
+      PieceAt (kernel.set_zero v) exits pc pc' = LinesAt (Zeroes plan.vars v) pc pc'
+      PieceAt (kernel.set place x) exits pc pc' = LinesAt (Sets plan.vars place x) pc pc'
+      PieceAt (kernel.output o) exits pc pc' = LinesAt (Outputs plan o) pc pc'
+      -- the test goes to the second side where its word is 0, and at most one jump leads from the first side past it
+      PieceAt (kernel.if_then x a b) exits pc pc' =
+          (first : ℕ) × (second : ℕ) × (done : ℕ) × (n : ℕ) × TestAt x pc first second
+          × PiecesAt a exits first done × Jumps n done pc' × (n ≤ 1) × PiecesAt b exits second pc'
+      -- the test leaves the loop where its word is 0, and behind each turn a jump leads back to it
+      PieceAt (kernel.loop x a b) exits pc pc' =
+          (body : ℕ) × (next : ℕ) × (done : ℕ) × TestAt x pc body pc'
+          × PiecesAt a exits body next × PiecesAt b exits next done × Jumps 1 done pc
+      PieceAt (kernel.block n a) exits pc pc' = PiecesAt a (record { block = n; index = pc' } ∷ exits) pc pc'
+      PieceAt (kernel.exit n) exits pc pc' =
+          (end : ℕ) × (exit_of exits n ≡ Some end) × (slice_get code.instrs pc ≡ Some (Brfu end)) × (pc' ≡ pc + 1)
+      PieceAt other exits pc pc' = ⊥
+
+      pub PiecesAt : kernel.Statements → List Exit → (pc pc' : ℕ) → Type 0
+      PiecesAt kernel.no_more exits pc pc' = pc ≡ pc'
+      PiecesAt (kernel.more s ss) exits pc pc' = (p : ℕ) × PieceAt s exits pc p × PiecesAt ss exits p pc'
+
+    -- a root's code: its statements', and then the instruction that ends the root, at a place
+    pub record RootAt (body : kernel.Statements) (pos : Pos) (pc : ℕ) : Type 0 where
+      pub done : ℕ
+      pub pieces : PiecesAt body [] pc done
+      pub ends_here : StandAt code done (line Freet pos ∷ [])
+      pub ends : EndsRoot done (line Freet pos ∷ [])
