@@ -1,0 +1,70 @@
+-- The image of a kernel whose roots run one thread each.
+use Rattle.std.specs.Prelude.{◌≡◌, ℕ, ◌+◌, ◌*◌, List, [], length, map, filter, Contains, Some, nat_eq, slice_get}
+use Rattle.xs_instr.specs.declared.image.CoreImage.{CoreImage}
+use Rattle.xs_instr.specs.declared.image.Dir.{Dir}
+use Rattle.xs_instr.specs.declared.image.Dir.TheVariants as dir
+use Rattle.xs_instr.specs.declared.image.Image.{Image}
+use Rattle.xs_instr.specs.declared.image.PortDecl.{PortDecl}
+use Rattle.xs_instr.specs.declared.instr.Instr.TheVariants.{Freet, Ldc, Setsp}
+use Rattle.xs_instr.specs.declared.instr.Reg.TheVariants.{R0}
+use Rattle.xc_tree.specs.declared.tree.TreeDir.{TreeDir}
+use Rattle.xc_tree.specs.declared.tree.TreeDir.TheVariants.{In, Out, Both}
+use Rattle.xc_kernel.specs.declared.kernel.PortUse.{PortUse}
+use Rattle.xc_kernel.specs.Plain as kernel
+use Rattle.xc_disjoint.specs.Needs.{ends_on, timers_on, words_on}
+use Rattle.xl_expr.specs.declared.plan.Plan.{Plan}
+use Rattle.xl_plan.specs.Layout.{first_temporary, temporary_of}
+use Rattle.xl_plan.specs.Planned.{HasNoOther, HasPorts, HasTimers, HasVariables, NoneIsTemporary, NoneShare, StandBelow, ports_on}
+use Rattle.xl_image.specs.Code.{InstrAt, PiecesAt}
+
+-- a plan as `plan` makes it
+pub record IsPlan (k : kernel.Kernel) (core : ℕ) (plan : Plan) : Type 0 where
+  pub variables : HasVariables k core plan.vars
+  pub no_other : HasNoOther k core plan.vars
+  pub below : StandBelow (first_temporary k core) plan.vars
+  pub apart : NoneShare plan.vars
+  pub not_temporary : NoneIsTemporary k core plan.vars
+  pub ports : HasPorts k core plan.ports
+  pub timers : HasTimers k core plan.timers
+  pub ends : plan.ends ≡ []
+
+-- a port as an image declares it
+abbrev pub dir_of : TreeDir → Dir
+dir_of In = dir.In
+dir_of Out = dir.Out
+dir_of Both = dir.Both
+
+abbrev pub decl_of : PortUse → PortDecl
+decl_of p = record { port = p.id; dir = dir_of p.dir }
+
+-- the roots on a core, in the kernel's order
+abbrev pub roots_on : (core : ℕ) → List kernel.Root → List kernel.Root
+roots_on core rs = filter (λ r. nat_eq r.core core) rs
+
+-- The code of the root at a place among its core's: its stack is set to its own temporary words, then its statements stand, and then it ends.
+pub record RootAt (k : kernel.Kernel) (plan : Plan) (image : CoreImage) (core place : ℕ) (r : kernel.Root) : Type 0 where
+  pub index : ℕ
+  pub listed : slice_get image.roots place ≡ Some index
+  pub stack : InstrAt image.code index (Ldc R0 (4 * temporary_of k core place))
+  pub set : InstrAt image.code (index + 1) (Setsp R0)
+  pub behind : ℕ
+  pub body : PiecesAt plan image.code r.body [] (index + 2) behind
+  pub end : InstrAt image.code behind Freet
+
+-- a core's part of the image
+pub record IsCoreImage (k : kernel.Kernel) (image : CoreImage) : Type 0 where
+  pub plan : Plan
+  pub planned : IsPlan k image.number plan
+  pub words : image.words ≡ words_on k image.number
+  pub timers : image.timers ≡ timers_on k image.number
+  pub ends : image.ends ≡ ends_on k image.number
+  pub ports : image.ports ≡ map decl_of (ports_on image.number k.ports)
+  pub as_many : length image.roots ≡ length (roots_on image.number k.roots)
+  pub roots : (place : ℕ) (r : kernel.Root) → slice_get (roots_on image.number k.roots) place ≡ Some r →
+      RootAt k plan image image.number place r
+
+-- An image has a part for each core with a root, by number; there are no channels.
+pub record IsImage (k : kernel.Kernel) (image : Image) : Type 0 where
+  pub cores : (core : ℕ) (r : kernel.Root) → Contains (roots_on core k.roots) r → (part : CoreImage) × Contains image.cores part × (part.number ≡ core)
+  pub parts : (part : CoreImage) → Contains image.cores part → IsCoreImage k part
+  pub channels : image.chans ≡ []

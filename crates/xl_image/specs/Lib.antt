@@ -1,0 +1,5 @@
+pub mod Exits
+pub mod Code
+pub mod Items
+pub mod Images
+pub mod Laws
