@@ -1,4 +1,4 @@
--- How many nodes of expressions, places, exits, branches, cases and words to set to 0 code has.
+-- How many nodes of expressions, places, exits, branches, cases, variables to set to 0 and words of these code has.
 use Rattle.std.specs.Prelude.{ℕ, ◌+◌, ◌≤◌, List, [], ◌∷◌, Option, Some, None, slice_get}
 use Rattle.xc_kernel.specs.declared.kernel.Var.{Var}
 use Rattle.xc_kernel.specs.Plain as kernel
@@ -47,7 +47,7 @@ words_of (Some v) = v.words
 module _ (vs : List Var) where
   abbrev mutual
     pub of_statement : kernel.Statement → ℕ
-    of_statement (kernel.set_zero v) = words_of (slice_get vs v)
+    of_statement (kernel.set_zero v) = words_of (slice_get vs v) + 1
     of_statement (kernel.set p e) = of_place p + of_expression e
     of_statement (kernel.output o) = of_output o
     of_statement (kernel.input i) = of_input i
