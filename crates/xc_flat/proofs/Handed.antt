@@ -1,6 +1,7 @@
 -- Typed programs that are neither too large nor too deep are copied, and their kernels are handed on.
 use Rattle.std.proofs.Common.{◌≤◌, ◌<◌, ◌+◌, ◌^◌, ℕ, Bool, List, [], ◌∷◌, ◌++◌, length, inl, inr, arith}
 use Rattle.std.proofs.lemmas.Bool.{cases_lt}
+use Rattle.std.proofs.lemmas.List.Elements.{All-cons}
 use Rattle.std.specs.List.{All}
 use Rattle.xc_tree.specs.Depth as depth
 use Rattle.xc_tree.specs.Derives.{deepest}
@@ -56,7 +57,7 @@ params_count (p ∷ ps) = let h = params_count ps in omega (arith, h)
 
 -- the parameters of each function are among the names of the items
 few_each : (k : ℕ) (items : List tree.Item) → count (of_items k items) < 2 ^ 32 → All HasFewParameters (functions items)
-few_each k [] h = tt
+few_each k [] h = λ i d l. absurd (omega (arith, l))
 few_each k (tree.port p ∷ items) h =
     let e = count_append (of_item k (tree.port p)) (of_items (k + 1) items) in
     few_each (k + 1) items (omega (arith, e, h))
@@ -65,7 +66,7 @@ few_each k (tree.function head body ∷ items) h =
     let inside = count_append (each of_param head.params ++ of_body body) (Closes ∷ []) in
     let own = count_append (each of_param head.params) (of_body body) in
     let params = params_count head.params in
-    (omega (arith, e, inside, own, params, h), few_each (k + 1) items (omega (arith, e, h)))
+    All-cons HasFewParameters (record { head = head; body = body }) (functions items) (omega (arith, e, inside, own, params, h)) (few_each (k + 1) items (omega (arith, e, h)))
 
 -- what was read has no function of 2^32 parameters
 pub few_parameters : {program : List tree.Item} {named : NamedProgram} {types : List Bool} → IsTyped program named types → All HasFewParameters (functions program)

@@ -35,13 +35,17 @@ IsByName (Array u length) = Unit {0}
 IsByName (End is_streaming) = Unit {0}
 IsByName (Port dir) = Unit {0}
 
+-- `name[i]`
+abbrev pub element : (name : List ℕ) → tree.Expression → Pos → tree.Expression
+element name i at = tree.expression (tree.index name i) at
+
 -- In a call of this path from a place of a program, for a parameter whose name stands at a place:
 module _ (P : List tree.Item) (n : NamedProgram) (there : Where P n) (store : Store) where
   -- one by value has a variable of its own, in which the argument's word is stored;
   abbrev pub ValueIsGiven : Type 0
   ValueIsGiven =
-      (c : Context) → c.numbering ≡ numbering P → (own : Path) (pos : Pos) (u : Bool) (k : ℕ) (e : tree.Expression) →
-      StandsHere P n there store k e →
+      (c : Context) → c.numbering ≡ numbering P →
+      (own : Path) (pos : Pos) (u : Bool) (k : ℕ) (e : tree.Expression) → StandsHere P n there store k e →
       IsStored store c (path_at own pos) (passed c there.scope own pos (Value u) e) (ValueOf P n there store k e)
       × ((passed c there.scope own pos (Value u) e).entity ≡ a_word (path_at own pos) u)
 
@@ -49,12 +53,13 @@ module _ (P : List tree.Item) (n : NamedProgram) (there : Where P n) (store : St
   -- against the words of that array;
   abbrev pub ElementIsGiven : Type 0
   ElementIsGiven =
-      HasWords (numbering P) store → (c : Context) → c.numbering ≡ numbering P → (own : Path) (pos : Pos) (u : Bool) (k : ℕ) (name : List ℕ) (i : tree.Expression) (at : Pos) →
-      StandsHere P n there store k (tree.expression (tree.index name i) at) →
-      (array : Path) (length : ℕ) (of_unsigned : Bool) → entity_of there.scope name ≡ an_array array length of_unsigned →
-      IsStored store c (path_at own pos) (passed c there.scope own pos (Ref u) (tree.expression (tree.index name i) at))
+      HasWords (numbering P) store → (c : Context) → c.numbering ≡ numbering P →
+      (own : Path) (pos : Pos) (u : Bool) (k : ℕ) (name : List ℕ) (i : tree.Expression) (at : Pos) →
+      StandsHere P n there store k (element name i at) →
+      (array : Path) (length : ℕ) (v : Bool) → entity_of there.scope name ≡ an_array array length v →
+      IsStored store c (path_at own pos) (passed c there.scope own pos (Ref u) (element name i at))
       (index_value (words.is_unsigned n) (numbering P) there.scope store k at name i)
-      × ((passed c there.scope own pos (Ref u) (tree.expression (tree.index name i) at)).entity ≡ an_element array (path_at own pos) of_unsigned)
+      × ((passed c there.scope own pos (Ref u) (element name i at)).entity ≡ an_element array (path_at own pos) v)
 
   -- and one that is given a name stands for what the name stands for.
   abbrev pub NameIsGiven : Type 0
@@ -74,8 +79,8 @@ NamesGiven = AtEachPlace NameIsGiven
 -- In the function a parameter that no earlier one is called as stands for what the argument at its own place gives it.
 abbrev pub EachByItsOwn : Type 0
 EachByItsOwn =
-    (c : Context) (scope : Scope) (own : Path) (ps : List Param) (args : List tree.Argument) (i : ℕ) (p : Param) (a : tree.Argument) →
-    slice_get ps i ≡ Some p → slice_get args i ≡ Some a →
+    (c : Context) (scope : Scope) (own : Path) (ps : List Param) (args : List tree.Argument) →
+    (i : ℕ) (p : Param) (a : tree.Argument) → slice_get ps i ≡ Some p → slice_get args i ≡ Some a →
     ((j : ℕ) (q : Param) → j < i → slice_get ps j ≡ Some q → bytes_eq q.name.text p.name.text ≡ false) →
     entity_of (all_passed c scope own ps args).scope p.name.text ≡ (passed c scope own p.name.pos p.kind a.value).entity
 

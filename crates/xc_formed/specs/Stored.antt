@@ -24,21 +24,24 @@ module _ (P : List tree.Item) (n : NamedProgram) (there : Where P n) (store : St
   -- An input's word is stored at what its target is, in the variable that the target declares, or nowhere;
   abbrev pub TargetKept : Type 0
   TargetKept =
-      (c : Context) → c.numbering ≡ numbering P → (i : tree.Input) (k : ℕ) (e : tree.Expression) → i.target ≡ tree.to e →
+      (c : Context) → c.numbering ≡ numbering P →
+      (i : tree.Input) (k : ℕ) (e : tree.Expression) → i.target ≡ tree.to e →
       StandsHere P n there store k e → spot_of store (input_of c there.scope i).target ≡ Some (SpotOf P n there store k e)
 
   -- its counter at its stamp, where a name that the target declares is known;
   abbrev pub InputStampKept : Type 0
   InputStampKept =
-      (c : Context) → c.numbering ≡ numbering P → (i : tree.Input) (before : Scope) → behind_target c before i ≡ there.scope →
+      (c : Context) → c.numbering ≡ numbering P →
+      (i : tree.Input) (before : Scope) → behind_target c before i ≡ there.scope →
       (k : ℕ) (t : tree.Timing) → i.stamp ≡ Some t → StandsHere P n there store k t.value →
       spot_of store (input_of c before i).stamp ≡ Some (SpotOf P n there store k t.value)
 
   -- and that of an output at its stamp.
   abbrev pub OutputStampKept : Type 0
   OutputStampKept =
-      (c : Context) → c.numbering ≡ numbering P → (o : tree.Output) (k : ℕ) (t : tree.Timing) → o.stamp ≡ Some t →
-      StandsHere P n there store k t.value → spot_of store (output_of c there.scope o).stamp ≡ Some (SpotOf P n there store k t.value)
+      (c : Context) → c.numbering ≡ numbering P →
+      (o : tree.Output) (k : ℕ) (t : tree.Timing) → o.stamp ≡ Some t → StandsHere P n there store k t.value →
+      spot_of store (output_of c there.scope o).stamp ≡ Some (SpotOf P n there store k t.value)
 
 abbrev pub TargetsKept : Type 0
 TargetsKept = AtEachPlace TargetKept

@@ -56,7 +56,8 @@ module _ (P : List tree.Item) (n : NamedProgram) (there : Where P n) (store : St
   -- so has that of `to op= e`,
   abbrev pub KeepsUpdate : Type 0
   KeepsUpdate =
-      (k : ℕ) (to : tree.Expression) (symbol : ℕ) (pos : Pos) (j : ℕ) (e : tree.Expression) → StandsHere k to → StandsHere j e →
+      (k : ℕ) (to : tree.Expression) (symbol : ℕ) (pos : Pos) (j : ℕ) (e : tree.Expression) →
+      StandsHere k to → StandsHere j e →
       eval store (updated num scope to symbol pos (is_unsigned scope e) (expression_in num scope e))
       ≡ UpdatedBy k to symbol pos (words.is_unsigned n j e) (ValueOf j e)
 

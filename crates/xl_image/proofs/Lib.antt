@@ -1,4 +1,5 @@
 pub mod Stands
+pub mod Leaving
 pub mod Threads
 pub mod Ready
 pub mod Begun

@@ -9,4 +9,4 @@ mod needs;
 mod roots;
 
 pub use cores::image;
-pub use law::roots_stand;
+pub use law::{exits_lead, roots_stand};

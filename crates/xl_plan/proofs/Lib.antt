@@ -8,3 +8,6 @@ pub mod Numbered
 pub mod Sizes
 pub mod Promised
 pub mod Examples
+pub mod PortPlaces
+pub mod PortsDiffer
+pub mod FewPorts

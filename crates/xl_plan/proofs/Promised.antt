@@ -33,9 +33,6 @@ module _ (k : kernel.Kernel) (core : ℕ) where
       by : Stands core 0 k.variables v found → IsOn k.variables core v
       by h = record { variable = h.variable; there = h.there; place = h.here }
 
-  pub ports_have_numbers : core ≤ last_core → HasPorts k core (identifiers_from core_of_port core (name_of core 0 0) k.ports)
-  ports_have_numbers is_core p = named_all core_of_port core (name_of core 0 0) (port_name core) k.ports p (first_small core 0 is_core (omega arith)) (λ n h. port_names core n)
-
   pub numbers_listed : NumbersAreListed k core
   numbers_listed p x e here = listed core_of_port core k.ports p x e here
 
@@ -56,6 +53,9 @@ module _ (k : kernel.Kernel) (core : ℕ) where
     none_is_temporary v n i thread found near within =
         let a = stand_below v n found near in
         inl (omega arith)
+
+    pub ports_have_numbers : core ≤ last_core → HasPorts k core (identifiers_from core_of_port core (name_of core 0 0) k.ports)
+    ports_have_numbers is_core p = named_all core_of_port core (name_of core 0 0) (port_name core) k.ports p (first_small core 0 is_core (omega arith)) (port_names k core checked is_core)
 
     pub timers_have_numbers : core ≤ last_core → HasTimers k core (identifiers_from core_of_timer core (name_of core 0 1) k.timers)
     timers_have_numbers is_core t = named_all core_of_timer core (name_of core 0 1) (timer_name core) k.timers t (first_small core 1 is_core (omega arith)) (timer_names k core checked is_core)

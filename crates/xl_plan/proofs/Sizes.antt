@@ -7,8 +7,10 @@ use Rattle.xc_disjoint.specs.Cores.{last_core}
 use Rattle.xc_disjoint.specs.Needs.{timers_on, words_on}
 use Rattle.xc_disjoint.specs.Rules.{most_timers, most_words, needs, timers, words}
 use Rattle.xs_instr.specs.Resources.{name_of}
-use Rattle.xl_plan.specs.Layout.{words_here, first_temporary, port_name, timer_name}
+use Rattle.xl_plan.specs.Layout.{words_here, first_temporary, port_name, timer_name, ports_here}
+use Rattle.xl_plan.proofs.FewPorts.{few_ports}
 use Rattle.xl_plan.proofs.Fits.{words_fit}
+use Rattle.xl_plan.proofs.PortsDiffer.{ports_apart}
 
 within_or_not : (n most : ℕ) → (n ≤ most) ⊎ (most < n)
 within_or_not n most = grind arith
@@ -36,9 +38,12 @@ few_variable_words k core h is_core =
     let b = few_words k core h is_core in
     omega arith
 
--- the names of ports, and of timers, of which there are few
-pub port_names : (core n : ℕ) → (name_of core 0 0 + 256 * n) % 2 ^ 32 ≡ port_name core n
-port_names core n = ap (λ m. m % 2 ^ 32) (let q : name_of core 0 0 + 256 * n ≡ name_of core n 0 = omega arith in q)
+-- the names of ports and timers, of which there are few
+pub port_names : (k : kernel.Kernel) (core : ℕ) → IsChecked k → core ≤ last_core → (n : ℕ) → n ≤ sum_by (ports_here core) k.ports → (name_of core 0 0 + 256 * n) % 2 ^ 32 ≡ port_name core n
+port_names k core h is_core n le =
+    let few = few_ports core k.ports (ports_apart k core is_core h.of_program) in
+    let small : name_of core n 0 < 2 ^ 32 = omega arith in
+    ap (λ m. m % 2 ^ 32) (let q : name_of core 0 0 + 256 * n ≡ name_of core n 0 = omega arith in q) ∙ mod-eq_of_lt small
 
 pub timer_names : (k : kernel.Kernel) (core : ℕ) → IsChecked k → core ≤ last_core → (n : ℕ) → n ≤ timers_on k core → (name_of core 0 1 + 256 * n) % 2 ^ 32 ≡ timer_name core n
 timer_names k core h is_core n le =

@@ -1,7 +1,7 @@
 -- How the words of a core are laid out: its variables from word 0 on, one behind the other in the kernel's order; and behind all the words
 -- that its instances and its variables need, the temporary words of its threads, one thread's behind the other's. Its ports and its timers
 -- have numbers, each kind by itself in the kernel's order.
-use Rattle.std.specs.Prelude.{ℕ, ◌+◌, ◌*◌, ◌%◌, ◌^◌, Bool, true, false, List, [], ◌∷◌, Option, Some, None, nat_eq, slice_get, take, sum_by}
+use Rattle.std.specs.Prelude.{ℕ, ◌+◌, ◌*◌, Bool, true, false, List, [], ◌∷◌, Option, Some, None, nat_eq, slice_get, take, sum_by}
 use Rattle.xw_words.specs.Words.{word_sum}
 use Rattle.xc_kernel.specs.declared.kernel.PortUse.{PortUse}
 use Rattle.xc_kernel.specs.declared.kernel.Timer.{Timer}
@@ -43,6 +43,10 @@ core_of_timer t = t.core
 abbrev pub number_on : {X : Type 0} → (core_of : X → ℕ) → (core : ℕ) → List X → (place : ℕ) → ℕ
 number_on core_of core xs place = sum_by (λ x. on_core core (core_of x) 1) (take place xs)
 
+-- one port where it is on the core
+abbrev pub ports_here : (core : ℕ) → PortUse → ℕ
+ports_here core p = on_core core p.core 1
+
 abbrev pub port_number : (core : ℕ) → List PortUse → (place : ℕ) → ℕ
 port_number core ps place = number_on core_of_port core ps place
 
@@ -75,10 +79,9 @@ named_by name core_of core xs place None = None
 named_by name core_of core xs place (Some x) =
     identifier_if (nat_eq (core_of x) core) (name (number_on core_of core xs place))
 
--- the identifiers of a core's port and timer of a number; the first is a word, which it also is without the remainder where there are
--- fewer than 2 ^ 16 such ports
+-- the identifiers of a core's port and timer of a number
 abbrev pub port_name : (core number : ℕ) → ℕ
-port_name core number = name_of core number 0 % 2 ^ 32
+port_name core number = name_of core number 0
 
 abbrev pub timer_name : (core number : ℕ) → ℕ
 timer_name core number = name_of core number 1

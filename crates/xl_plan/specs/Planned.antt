@@ -1,5 +1,6 @@
 -- What the plan of a core promises.
-use Rattle.std.specs.Prelude.{◌≡◌, ℕ, ◌+◌, ◌<◌, ◌≤◌, true, List, Contains, Option, Some, filter, nat_eq, slice_get}
+use Rattle.std.specs.Prelude.{◌≡◌, ℕ, ◌+◌, ◌<◌, ◌≤◌, true, List, Contains, Option, Some, filter, nat_eq, slice_get, ◌≢◌, [], ◌∷◌}
+use Rattle.xw_words.specs.Ports.{port_count}
 use Rattle.xc_kernel.specs.declared.kernel.PortUse.{PortUse}
 use Rattle.xc_kernel.specs.declared.kernel.Var.{Var}
 use Rattle.xc_kernel.specs.Plain as kernel
@@ -49,6 +50,16 @@ NoneIsTemporary k core vars =
 -- the ports of the core, in the kernel's order
 abbrev pub ports_on : (core : ℕ) → List PortUse → List PortUse
 ports_on core ps = filter (λ p. nat_eq p.core core) ps
+
+-- no port of a list has this identifier
+abbrev pub IsNewPort : (id : ℕ) → List PortUse → Type 0
+IsNewPort id [] = Unit {0}
+IsNewPort id (p ∷ ps) = (id ≢ p.id) × IsNewPort id ps
+
+-- differing identifiers, each the place of a port
+abbrev pub ArePortsApart : List PortUse → Type 0
+ArePortsApart [] = Unit {0}
+ArePortsApart (p ∷ ps) = (p.id < port_count) × IsNewPort p.id ps × ArePortsApart ps
 
 -- each port of the core has the identifier of its number there, and no other port has one
 abbrev pub HasPorts : kernel.Kernel → (core : ℕ) → List (Option ResAt) → Type 0

@@ -2,7 +2,7 @@ ghost use Rattle.std.specs.Prelude.{◌≡◌, ◌≤◌, [], IfOk, OnOk};
 ghost use Rattle.xc_disjoint.specs.Cores.{last_core};
 ghost use Rattle.xc_kernel.specs.Kernels.{kernel_of};
 ghost use Rattle.xl_plan.specs.Layout.{first_temporary};
-ghost use Rattle.xl_plan.specs.Planned.{HasNoOther, HasPorts, HasTimers, HasUsedPorts, HasUsedTimers, HasUsedVariables, HasVariables, NoneIsTemporary, NoneShare, NumbersAreListed, StandBelow};
+ghost use Rattle.xl_plan.specs.Planned.{ArePortsApart, HasNoOther, HasPorts, HasTimers, HasUsedPorts, HasUsedTimers, HasUsedVariables, HasVariables, NoneIsTemporary, NoneShare, NumbersAreListed, StandBelow, ports_on};
 
 use crate::resources::{port_identifiers, timer_identifiers};
 use crate::variables::variable_places;
@@ -35,6 +35,8 @@ pub fn plan(alloc: Global, checked: &Checked, core: u8) -> Result<Plan, Memory>
     ensures used_timers { IfOk result
         (λ plan. HasUsedTimers (kernel_of checked.now) core plan.timers) }
     ensures listed { OnOk result (NumbersAreListed (kernel_of checked.now) core) }
+    ensures differ { OnOk result (ArePortsApart
+        (ports_on core (kernel_of checked.now).ports)) }
     ensures ends { IfOk result (λ plan. plan.ends ≡ []) }
 {
     let kernel = checked.kernel();

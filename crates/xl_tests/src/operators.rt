@@ -1,9 +1,15 @@
 //! Each operator at its edges.
 
+ghost use Rattle.std.specs.Prelude.{◌≡◌, ◌≤◌, IfOk};
+ghost use Rattle.xc_kernel.specs.Kernels.{expression_of};
+ghost use Rattle.xl_expr.specs.Measures.{depth, nodes};
+
 use crate::expressions::{number, one, two};
 use crate::machine::{End, end_of, no_plan};
 use std::alloc::Global;
+use std::process::Abort;
 use std::test::Fail;
+use xc_kernel::Kx;
 use xc_tree::symbols::{
     ABOVE, ABOVE_EQUALS, AMPERSAND, AND_AND, BANG, BANG_EQUALS, BAR, BELOW, BELOW_EQUALS, BRACKET,
     CARET, EQUALS_EQUALS, MINUS, OR_OR, PERCENT, PLUS, SHIFT_DOWN, SHIFT_UP, SLASH, STAR, TILDE,
@@ -157,8 +163,61 @@ const WORDS_OF_ONE: [(u8, u32, u32); 12] = [
     (BANG, ONES, 0),
 ];
 
-fn end_of_two(alloc: Global, symbol: u8, is_unsigned: bool, a: u32, b: u32) -> Result<End, Memory> {
-    let x = two(alloc, symbol, is_unsigned, number(a), number(b), AT)?;
+/// How two operands are written.
+#[derive(Clone, Copy, Debug)]
+enum Written {
+    /// As numbers, which one instruction brings to a register.
+    Numbers,
+    /// The second one turned twice, which takes several.
+    SecondTurned,
+    BothTurned,
+}
+
+const ALL_WRITTEN: [Written; 3] = [Written::Numbers, Written::SecondTurned, Written::BothTurned];
+
+/// ~~a
+fn turned_twice(alloc: Global, a: u32) -> Result<Kx, Memory>
+    ensures nodes { IfOk result (λ x. nodes (expression_of x) ≡ 3) }
+    ensures depth { IfOk result (λ x. depth (expression_of x) ≡ 3) }
+{
+    let turned = one(alloc, TILDE, false, number(a), AT)?;
+    one(alloc, TILDE, false, turned, AT)
+}
+
+fn operation(
+    alloc: Global,
+    symbol: u8,
+    is_unsigned: bool,
+    a: u32,
+    b: u32,
+    written: Written,
+) -> Result<Kx, Memory>
+    ensures nodes { IfOk result (λ x. nodes (expression_of x) ≤ 7) }
+    ensures depth { IfOk result (λ x. depth (expression_of x) ≤ 4) }
+{
+    match written {
+        Written::Numbers => two(alloc, symbol, is_unsigned, number(a), number(b), AT),
+        Written::SecondTurned => {
+            let second = turned_twice(alloc, b)?;
+            two(alloc, symbol, is_unsigned, number(a), second, AT)
+        }
+        Written::BothTurned => {
+            let first = turned_twice(alloc, a)?;
+            let second = turned_twice(alloc, b)?;
+            two(alloc, symbol, is_unsigned, first, second, AT)
+        }
+    }
+}
+
+fn end_of_two(
+    alloc: Global,
+    symbol: u8,
+    is_unsigned: bool,
+    a: u32,
+    b: u32,
+    written: Written,
+) -> Result<End, Memory> {
+    let x = operation(alloc, symbol, is_unsigned, a, b, written)?;
     end_of(alloc, &[], &no_plan(alloc), &x)
 }
 
@@ -167,11 +226,33 @@ fn end_of_one(alloc: Global, symbol: u8, a: u32) -> Result<End, Memory> {
     end_of(alloc, &[], &no_plan(alloc), &x)
 }
 
+/// However two operands are written, their evaluation ends so.
+fn all_end(
+    rt: &impl Abort,
+    alloc: Global,
+    symbol: u8,
+    is_unsigned: bool,
+    (a, b): (u32, u32),
+    end: End,
+) -> Result<(), Fail> {
+    for written in ALL_WRITTEN {
+        let made = end_of_two(alloc, symbol, is_unsigned, a, b, written)?;
+        assert_eq!(rt; made, end, "{symbol} {is_unsigned} {a} {b} {written:?}");
+    }
+    Ok(())
+}
+
 #[test]
 fn gives_words_of_two(rt: HostRuntime) -> Result<(), Fail> {
     for (symbol, is_unsigned, a, b, word) in WORDS_OF_TWO {
-        let end = end_of_two(rt.alloc(), symbol, is_unsigned, a, b)?;
-        assert_eq!(rt; end, End::Out(0, word), "{symbol} {is_unsigned} {a} {b}");
+        all_end(
+            &rt,
+            rt.alloc(),
+            symbol,
+            is_unsigned,
+            (a, b),
+            End::Out(0, word),
+        )?;
     }
     Ok(())
 }
@@ -179,12 +260,14 @@ fn gives_words_of_two(rt: HostRuntime) -> Result<(), Fail> {
 #[test]
 fn errs_of_two(rt: HostRuntime) -> Result<(), Fail> {
     for (symbol, is_unsigned, a, b, trap) in ERRORS_OF_TWO {
-        let end = end_of_two(rt.alloc(), symbol, is_unsigned, a, b)?;
-        assert_eq!(rt;
-            end,
+        all_end(
+            &rt,
+            rt.alloc(),
+            symbol,
+            is_unsigned,
+            (a, b),
             End::Trapped(trap, AT),
-            "{symbol} {is_unsigned} {a} {b}"
-        );
+        )?;
     }
     Ok(())
 }

@@ -158,14 +158,26 @@ pub fn plan(alloc: Global) -> Result<Plan, AllocError> {
     })
 }
 
-/// The word of a variable, or an element of an array.
-pub fn read(alloc: Global, v: u32, index: Option<u32>) -> Result<Kx, AllocError>
-    ensures nodes { IfOk result (λ x. nodes (expression_of x) ≤ 2) }
+/// An index: a number, or one that is added to 0, which takes a test wherever it lies.
+pub fn index_of(alloc: Global, i: u32, is_sum: bool) -> Result<Kx, Memory>
+    ensures nodes { IfOk result (λ x. nodes (expression_of x) ≤ 3) }
     ensures depth { IfOk result (λ x. depth (expression_of x) ≤ 2) }
+{
+    if is_sum {
+        two(alloc, PLUS, true, number(0), number(i), FIRST)
+    } else {
+        Ok(number(i))
+    }
+}
+
+/// The word of a variable, or an element of an array.
+pub fn read(alloc: Global, v: u32, index: Option<u32>, is_sum: bool) -> Result<Kx, Fail>
+    ensures nodes { IfOk result (λ x. nodes (expression_of x) ≤ 4) }
+    ensures depth { IfOk result (λ x. depth (expression_of x) ≤ 3) }
 {
     match index {
         None => Ok(variable(v)),
-        Some(index) => element(alloc, v, number(index), NAME),
+        Some(i) => Ok(element(alloc, v, index_of(alloc, i, is_sum)?, NAME)?),
     }
 }
 
@@ -205,8 +217,14 @@ fn reads_variables(rt: HostRuntime) -> Result<(), Fail> {
     let alloc = rt.alloc();
     let plan = plan(alloc)?;
     for (v, index, end) in READS {
-        let x = read(alloc, v, index)?;
+        let x = read(alloc, v, index, false)?;
         assert_eq!(rt; end_of(alloc, &MEMORY, &plan, &x)?, end, "{v} {index:?}");
+        let x = read(alloc, v, index, true)?;
+        assert_eq!(rt;
+            end_of(alloc, &MEMORY, &plan, &x)?,
+            end,
+            "{v} {index:?}, tested"
+        );
     }
     Ok(())
 }

@@ -10,13 +10,16 @@ ghost use Rattle.xl_flow.specs.Zeros.{room_of};
 ghost use Rattle.xl_port.specs.Outputs.{output_depth, output_nodes};
 ghost use Rattle.xs_instr.specs.Valid.{AreGoodInstrs};
 
-use crate::expressions::{number, variable};
+use crate::expressions::{number, two};
 use crate::machine::{End, begun, finished, put_out, run};
-use crate::places::{FAR_ARRAY, FAR_WORD, MEMORY, NEAR_ARRAY, NEAR_WORD, ONE_ELEMENT, plan, read};
-use std::alloc::{AllocError, Global};
+use crate::places::{
+    FAR_ARRAY, FAR_WORD, MEMORY, NEAR_ARRAY, NEAR_WORD, ONE_ELEMENT, index_of, plan, read,
+};
+use std::alloc::Global;
 use std::process::Abort;
 use std::test::Fail;
 use xc_kernel::{KOut, KRes, Kx, Place};
+use xc_tree::symbols::{BELOW, PLUS};
 use xl_expr::{Plan, VarAt};
 use xl_flow::{emit_back, emit_jump, emit_set, emit_test, emit_zero};
 use xl_par::end_root;
@@ -85,13 +88,16 @@ const OUTPUTS: [(u32, Option<u32>, u32, End); 5] = [
 ];
 
 #[tactic(auto, using(xc_kernel::proofs::Forms::forms))]
-fn place(alloc: Global, v: u32, index: Option<u32>) -> Result<Place, AllocError>
-    ensures nodes { IfOk result (λ place. nodes_at (place_of place) ≤ 2) }
-    ensures depth { IfOk result (λ place. depth_at (place_of place) ≤ 2) }
+fn place(alloc: Global, v: u32, index: Option<u32>, is_sum: bool) -> Result<Place, Fail>
+    ensures nodes { IfOk result (λ place. nodes_at (place_of place) ≤ 4) }
+    ensures depth { IfOk result (λ place. depth_at (place_of place) ≤ 3) }
 {
     match index {
         None => Ok(Place::Word(v)),
-        Some(index) => Ok(Place::Elem(v, Box::new(alloc, Kx::Num(index))?, NAME)),
+        Some(i) => {
+            let index = Box::new(alloc, index_of(alloc, i, is_sum)?)?;
+            Ok(Place::Elem(v, index, NAME))
+        }
     }
 }
 
@@ -106,6 +112,51 @@ fn add_set(e: &mut Emitter, plan: &Plan, dst: &Place, x: &Kx) -> Result<(), Memo
     ensures length { OnOk result (length e.new ≤ length e.old + 1600) }
 {
     emit_set(e, plan, dst, x)?;
+    Ok(())
+}
+
+/// The code that sets a place while an expression isn't 0.
+fn add_while(
+    e: &mut Emitter,
+    plan: &Plan,
+    test: &Kx,
+    dst: &Place,
+    x: &Kx,
+    pos: Pos,
+) -> Result<(), Memory>
+    requires few { length e.old ≤ 1000 }
+    requires aimed { AreAimed 0 e.old }
+    requires nodes_test { nodes (expression_of test.now) ≤ 10 }
+    requires depth_test { depth (expression_of test.now) ≤ 10 }
+    requires nodes { nodes (expression_of x.now) ≤ 10 }
+    requires depth { depth (expression_of x.now) ≤ 10 }
+    requires nodes_at { nodes_at (place_of dst.now) ≤ 10 }
+    requires depth_at { depth_at (place_of dst.now) ≤ 10 }
+    ensures aimed { OnOk result (AreAimed 0 e.new) }
+    ensures length { OnOk result (length e.new ≤ length e.old + 250) }
+{
+    let top = e.here();
+    let out = emit_test(e, plan, test, pos)?;
+    emit_set(e, plan, dst, x)?;
+    emit_back(e, top, pos)?;
+    e.land(out);
+    Ok(())
+}
+
+/// The code of an assignment, and of a jump over it.
+fn add_passed(e: &mut Emitter, plan: &Plan, dst: &Place, x: &Kx, pos: Pos) -> Result<(), Memory>
+    requires few { length e.old ≤ 1000 }
+    requires aimed { AreAimed 0 e.old }
+    requires nodes { nodes (expression_of x.now) ≤ 10 }
+    requires depth { depth (expression_of x.now) ≤ 10 }
+    requires nodes_at { nodes_at (place_of dst.now) ≤ 10 }
+    requires depth_at { depth_at (place_of dst.now) ≤ 10 }
+    ensures aimed { OnOk result (AreAimed 0 e.new) }
+    ensures length { OnOk result (length e.new ≤ length e.old + 250) }
+{
+    let over = emit_jump(e, pos)?;
+    emit_set(e, plan, dst, x)?;
+    e.land(over);
     Ok(())
 }
 
@@ -172,9 +223,10 @@ fn end_of_set(
     plan: &Plan,
     dst: (u32, Option<u32>),
     from: (u32, Option<u32>),
+    is_sum: bool,
 ) -> Result<End, Fail> {
-    let dst = place(alloc, dst.0, dst.1)?;
-    let x = read(alloc, from.0, from.1)?;
+    let dst = place(alloc, dst.0, dst.1, is_sum)?;
+    let x = read(alloc, from.0, from.1, is_sum)?;
     let mut e = begun(alloc, &MEMORY)?;
     add_set(&mut e, plan, &dst, &number(55))?;
     Ok(run(alloc, put_out(e, plan, &x)?)?)
@@ -188,7 +240,7 @@ fn end_of_zero(
     v: u32,
     from: (u32, Option<u32>),
 ) -> Result<End, Fail> {
-    let x = read(alloc, from.0, from.1)?;
+    let x = read(alloc, from.0, from.1, false)?;
     let mut e = begun(alloc, &MEMORY)?;
     assert!(rt; is_short(plan, v));
     add_zero(&mut e, plan, v)?;
@@ -200,7 +252,12 @@ fn assigns(rt: HostRuntime) -> Result<(), Fail> {
     let alloc = rt.alloc();
     let plan = plan(alloc)?;
     for (i, (dst, from, end)) in SETS.iter().enumerate() {
-        assert_eq!(rt; end_of_set(alloc, &plan, *dst, *from)?, *end, "{i}");
+        assert_eq!(rt; end_of_set(alloc, &plan, *dst, *from, false)?, *end, "{i}");
+        assert_eq!(rt;
+            end_of_set(alloc, &plan, *dst, *from, true)?,
+            *end,
+            "{i}, tested"
+        );
     }
     Ok(())
 }
@@ -224,6 +281,25 @@ fn puts_out(rt: HostRuntime) -> Result<(), Fail> {
         let code = output_code(alloc, &plan, &output(*port, *time, *value))?;
         assert_eq!(rt; run(alloc, code)?, *end, "{i}");
     }
+    Ok(())
+}
+
+/// The first element, which is 10, gets 2 more while it is below 23; then it is not set to 99.
+#[test]
+fn loops_and_passes(rt: HostRuntime) -> Result<(), Fail> {
+    let alloc = rt.alloc();
+    let plan = plan(alloc)?;
+    let dst = place(alloc, NEAR_ARRAY, Some(0), false)?;
+    let first = read(alloc, NEAR_ARRAY, Some(0), false)?;
+    let test = two(alloc, BELOW, false, first, number(23), NAME)?;
+    let first = read(alloc, NEAR_ARRAY, Some(0), false)?;
+    let more = two(alloc, PLUS, false, first, number(2), NAME)?;
+    let mut e = begun(alloc, &MEMORY)?;
+    add_while(&mut e, &plan, &test, &dst, &more, NAME)?;
+    add_passed(&mut e, &plan, &dst, &number(99), NAME)?;
+    let x = read(alloc, NEAR_ARRAY, Some(0), false)?;
+    let end = run(alloc, put_out(e, &plan, &x)?)?;
+    assert_eq!(rt; end, End::Out(0, 24));
     Ok(())
 }
 

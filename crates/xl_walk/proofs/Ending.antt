@@ -4,7 +4,7 @@ use Rattle.std.proofs.lemmas.List.{append_cancel_left, length-map}
 use Rattle.xw_words.specs.declared.pos.Pos.{Pos}
 use Rattle.xs_instr.specs.declared.instr.Instr.TheVariants.{Freet}
 use Rattle.xs_instr.specs.Adds.{Adds}
-use Rattle.xs_instr.specs.Lines.{Line, line, last_pos}
+use Rattle.xs_instr.specs.Lines.{HasNoHole, Line, line, last_pos}
 use Rattle.xc_kernel.specs.Plain as kernel
 use Rattle.xl_expr.specs.declared.plan.Plan.{Plan}
 use Rattle.xl_expr.specs.Targets.{AreGoodLines}
@@ -64,3 +64,13 @@ module _
             lines_good size (length e0) (map line_of at_1.cells) (line Freet pos ∷ []) (good_lines size (length e0) at_1.cells (all_good plan body [] (last_pos e0) size (length e0) at_1.cells inside at_1.so (omega arith))) (tt, refl, tt);
       };
     }
+
+-- code that stands alone has no open target
+good_closed : (size i : ℕ) (ls : List Line) → AreGoodLines size i ls → HasNoHole ls
+good_closed size i [] h = tt
+good_closed size i (l ∷ ls) h = (h.1, good_closed size (i + 1) ls h.2)
+
+pub no_hole : (old new : List Line) → old ≡ [] → Adds old new (StandAlone (length old)) → HasNoHole new
+no_hole old new none h =
+    let size : length h.lines ≡ length old + length h.lines = omega (arith, ap length none) in
+    subst HasNoHole (sym (h.is ∙ ap (λ ls. ls ++ h.lines) none)) (good_closed (length h.lines) (length old) h.lines (h.so.by (length h.lines) (omega arith)))

@@ -80,17 +80,22 @@ module _ (unsigned : ℕ → tree.Expression → Bool) (num : Numbering) (scope 
     value_of_form k pos (tree.index text i) = element_at (array_words text) pos (value (k + 1) i)
     value_of_form k pos (tree.unary symbol a) = applied (operator_at symbol) (unsigned k a) pos (value k a ∷ [])
     value_of_form k pos (tree.binary symbol a b) =
-        applied (operator_at symbol) (operation_is_unsigned (operator_at symbol) (unsigned k a) (unsigned (past k (marks.of_expression a)) b)) pos
+        applied (operator_at symbol)
+        (operation_is_unsigned (operator_at symbol) (unsigned k a) (unsigned (past k (marks.of_expression a)) b)) pos
         (value k a ∷ value (past k (marks.of_expression a)) b ∷ [])
     value_of_form k pos (tree.choice test a b) =
-        applied choose (unsigned (past k (marks.of_expression test)) a || unsigned (past (past k (marks.of_expression test)) (marks.of_expression a)) b) pos
-        (value k test ∷ value (past k (marks.of_expression test)) a ∷ value (past (past k (marks.of_expression test)) (marks.of_expression a)) b ∷ [])
+        applied choose
+        (unsigned (past k (marks.of_expression test)) a
+        || unsigned (past (past k (marks.of_expression test)) (marks.of_expression a)) b) pos
+        (value k test ∷ value (past k (marks.of_expression test)) a
+        ∷ value (past (past k (marks.of_expression test)) (marks.of_expression a)) b ∷ [])
     value_of_form k pos (tree.cast u a) = value k a
 
   -- what `to op= e` stores, e being `unsigned` or not and having this value: `to op (e)`, at the place of the symbol
   abbrev pub updated_value : ℕ → tree.Expression → (symbol : ℕ) → Pos → Bool → Value → Value
   updated_value k to symbol pos is_unsigned v =
-      applied (operator_at (operator_of symbol)) (operation_is_unsigned (operator_at (operator_of symbol)) (unsigned k to) is_unsigned) pos
+      applied (operator_at (operator_of symbol))
+      (operation_is_unsigned (operator_at (operator_of symbol)) (unsigned k to) is_unsigned) pos
       (value k to ∷ v ∷ [])
 
   -- an index, where it is below the length of the array of this name

@@ -11,6 +11,7 @@ use Rattle.xl_plan.specs.Layout.{words_here, first_temporary, places_from, core_
 use Rattle.xl_plan.specs.Planned.{HasVariables, HasNoOther, HasUsedVariables, HasUsedPorts, HasUsedTimers, StandBelow, NoneShare, NoneIsTemporary, HasPorts, HasTimers}
 use Rattle.xl_plan.proofs.Laid.{none_share}
 use Rattle.xl_plan.proofs.Promised.{has_variables, has_no_other, has_used_variables, has_used_ports, has_used_timers, stand_below, none_is_temporary, ports_have_numbers, numbers_listed, timers_have_numbers}
+use Rattle.xl_plan.proofs.PortsDiffer.{ports_apart}
 use Rattle.xl_plan.proofs.Sizes.{few_variable_words}
 use Rattle.xl_plan.proofs.layout.plan.Goals as goal
 
@@ -60,7 +61,7 @@ pub returns-clause-ports : goal.returns-clause-ports
 returns-clause-ports c =
     let is : c.in_ok-ports.ports ≡ identifiers_from core_of_port c.args.core (name_of c.args.core 0 0) c.args.checked.now.ports =
     c.in_ok-ports.ensures ∙ ap (λ (ps : List PortUse). identifiers_from core_of_port c.args.core (name_of c.args.core 0 0) ps) (c.as_slice-2.ensures ∙ ap (λ (k : Kernel). k.ports) c.kernel-kernel.ensures.kernel) in
-    subst (λ (places : List (Option ResAt)). HasPorts (kernel_of c.args.checked.now) c.args.core places) (sym is) (ports_have_numbers (kernel_of c.args.checked.now) c.args.core c.requires)
+    subst (λ (places : List (Option ResAt)). HasPorts (kernel_of c.args.checked.now) c.args.core places) (sym is) (ports_have_numbers (kernel_of c.args.checked.now) c.args.core c.kernel-kernel.ensures.accepted c.requires)
 
 pub returns-clause-timers : goal.returns-clause-timers
 returns-clause-timers c =
@@ -72,7 +73,7 @@ pub returns-clause-used_ports : goal.returns-clause-used_ports
 returns-clause-used_ports c =
     let is : c.in_ok-ports.ports ≡ identifiers_from core_of_port c.args.core (name_of c.args.core 0 0) c.args.checked.now.ports =
     c.in_ok-ports.ensures ∙ ap (λ (ps : List PortUse). identifiers_from core_of_port c.args.core (name_of c.args.core 0 0) ps) (c.as_slice-2.ensures ∙ ap (λ (k : Kernel). k.ports) c.kernel-kernel.ensures.kernel) in
-    subst (λ (places : List (Option ResAt)). HasUsedPorts (kernel_of c.args.checked.now) c.args.core places) (sym is) (has_used_ports (kernel_of c.args.checked.now) c.args.core c.kernel-kernel.ensures.accepted _ (ports_have_numbers (kernel_of c.args.checked.now) c.args.core c.requires))
+    subst (λ (places : List (Option ResAt)). HasUsedPorts (kernel_of c.args.checked.now) c.args.core places) (sym is) (has_used_ports (kernel_of c.args.checked.now) c.args.core c.kernel-kernel.ensures.accepted _ (ports_have_numbers (kernel_of c.args.checked.now) c.args.core c.kernel-kernel.ensures.accepted c.requires))
 
 pub returns-clause-used_timers : goal.returns-clause-used_timers
 returns-clause-used_timers c =
@@ -82,3 +83,6 @@ returns-clause-used_timers c =
 
 pub returns-clause-listed : goal.returns-clause-listed
 returns-clause-listed c = numbers_listed (kernel_of c.args.checked.now) c.args.core
+
+pub returns-clause-differ : goal.returns-clause-differ
+returns-clause-differ c = ports_apart (kernel_of c.args.checked.now) c.args.core c.requires c.kernel-kernel.ensures.accepted.of_program

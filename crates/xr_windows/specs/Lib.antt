@@ -1,0 +1,13 @@
+pub mod Alone
+pub mod Coming
+pub mod Cut
+pub mod Ending
+pub mod Goes
+pub mod Merge
+pub mod Parts
+pub mod Pending
+pub mod Rising
+pub mod Sending
+pub mod Telling
+pub mod Totals
+pub mod Windows
