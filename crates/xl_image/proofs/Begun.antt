@@ -1,7 +1,6 @@
 -- The roots of a core, one after the other.
-use Rattle.std.proofs.Common.{◌≡◌, ◌∙◌, ℕ, zero, suc, ◌+◌, ◌*◌, ◌^◌, ◌<◌, ◌≤◌, Bool, true, false, List, [], ◌∷◌, ◌++◌, length, map, drop, get_or, add-one, drop-cons, refl, sym, ap, subst, arith, append_assoc, append-nil, length-append}
-use Rattle.std.specs.Prelude.{cond, filter, nat_eq}
-use Rattle.xw_words.specs.declared.pos.Pos.{Pos}
+use Rattle.std.proofs.Common.{◌≡◌, ◌∙◌, ℕ, suc, ◌+◌, ◌<◌, ◌≤◌, true, false, List, [], ◌∷◌, ◌++◌, length, map, drop, get_or, add-one, drop-cons, refl, sym, ap, subst, arith, append_assoc, append-nil, length-append}
+use Rattle.std.specs.Prelude.{cond, nat_eq}
 use Rattle.xs_instr.specs.Adds.{Adds}
 use Rattle.xs_instr.specs.Lines.{Line}
 use Rattle.xc_kernel.specs.declared.kernel.Root.{Root}
@@ -13,7 +12,7 @@ use Rattle.xl_expr.proofs.GoodCode.{good_append}
 use Rattle.xl_plan.specs.Layout.{temporary_of}
 use Rattle.xl_walk.specs.Inside.{StandAlone}
 use Rattle.xl_image.specs.Images.{roots_on}
-use Rattle.xl_image.specs.Roots.{AreReady, AreRoots, IsReady, IsRootCode, RootsAreBuilt, most_of_root, most_of_roots}
+use Rattle.xl_image.specs.Roots.{AreReady, AreRoots, IsRootCode, most_of_root, most_of_roots}
 
 -- the roots from one on
 pub roots_at : (rs : List Root) (i : ℕ) (x : Root) → x ≡ get_or rs i x → i < length rs → map root_of (drop i rs) ≡ root_of x ∷ map root_of (drop (i + 1) rs)

@@ -1,5 +1,5 @@
--- A core's part of the image can be loaded, where its ports can.
-use Rattle.std.proofs.Common.{◌≡◌, ◌∙◌, ◌⊎◌, ⊎_elim, ℕ, zero, suc, ◌+◌, ◌*◌, ◌^◌, ◌<◌, ◌≤◌, Bool, true, false, List, [], ◌∷◌, ◌++◌, length, map, refl, sym, ap, subst, arith, length-append}
+-- The image can be loaded.
+use Rattle.std.proofs.Common.{◌≡◌, ◌∙◌, ◌⊎◌, ⊎_elim, ℕ, suc, ◌+◌, ◌<◌, ◌≤◌, Bool, true, false, List, [], ◌∷◌, length, map, sym, ap, subst, arith, length-append}
 use Rattle.std.proofs.lemmas.List.{length-map}
 use Rattle.std.specs.Prelude.{cond, filter, nat_eq}
 use Rattle.std.specs.List.{All}
@@ -8,19 +8,22 @@ use Rattle.xs_instr.specs.declared.image.CoreImage.{CoreImage}
 use Rattle.xs_instr.specs.declared.image.Image.{Image}
 use Rattle.xs_instr.specs.Lines.{Line, instr_of, pos_of}
 use Rattle.xs_instr.specs.Machine.{parts_by, parts_in}
-use Rattle.xs_instr.specs.Valid.{AreGoodCores, AreGoodInstrs, AreGoodPairs, AreGoodPorts, AreIndices, IsGoodCore, IsThere, Valid}
+use Rattle.xs_instr.specs.Valid.{AreGoodCores, AreGoodInstrs, AreGoodPairs, AreGoodPorts, AreIndices, IsGoodCore, IsNewPort, IsThere, Valid}
+use Rattle.xc_kernel.specs.declared.kernel.PortUse.{PortUse}
 use Rattle.xc_kernel.specs.Plain as kernel
 use Rattle.xc_disjoint.specs.Checked.{IsChecked}
 use Rattle.xc_disjoint.specs.Cores.{last_core}
 use Rattle.xc_disjoint.specs.Needs.{threads_on, timers_on}
 use Rattle.xc_disjoint.specs.Rules.{most_threads, most_timers, needs, threads, timers}
 use Rattle.xl_expr.specs.declared.plan.Plan.{Plan}
-use Rattle.xl_expr.specs.Targets.{AreGoodLines}
 use Rattle.xl_expr.proofs.GoodCode.{good_instrs}
+use Rattle.xl_plan.specs.Planned as planned
+use Rattle.xl_plan.specs.Planned.{ports_on}
+use Rattle.xl_plan.proofs.PortsDiffer.{ports_apart}
 use Rattle.xl_plan.proofs.Sizes.{few_words}
-use Rattle.xl_image.specs.Images.{roots_on}
+use Rattle.xl_image.specs.Images.{decl_of, roots_on}
 use Rattle.xl_image.specs.Roots.{AreRoots, IsRootCode, RootsAreBuilt}
-use Rattle.xl_image.specs.Parts.{HasRoots, IsPartOf, below, cores_of, has_root, is_some_root, number_of}
+use Rattle.xl_image.specs.Parts.{IsPartOf, below, cores_of, has_root, is_some_root, number_of}
 use Rattle.xl_image.proofs.Threads.{no_ends, threads_are_roots}
 
 module _ (k : kernel.Kernel) (core : ℕ) (plan : Plan) where
@@ -83,6 +86,16 @@ module _ (k : kernel.Kernel) (checked : IsChecked k) (built : RootsAreBuilt k.ro
         code = subst (λ is. AreGoodInstrs (length part.code.instrs) 0 is) (sym code.instrs) (good_instrs (length part.code.instrs) 0 code.lines (code.alone.by (length part.code.instrs) (omega (arith, instrs))));
       }
 
+-- Ports.
+
+new_port : (id : ℕ) (ps : List PortUse) → planned.IsNewPort id ps → IsNewPort id (map decl_of ps)
+new_port id [] h = tt
+new_port id (p ∷ ps) h = (h.0, new_port id ps h.1)
+
+good_ports : (ps : List PortUse) → planned.ArePortsApart ps → AreGoodPorts (map decl_of ps)
+good_ports [] h = tt
+good_ports (p ∷ ps) h = (h.0, new_port p.id ps h.1, good_ports ps h.2)
+
 -- All parts.
 
 abbrev Ascend : ℕ → List ℕ → Type 0
@@ -109,22 +122,22 @@ module _ (k : kernel.Kernel) (checked : IsChecked k) (built : RootsAreBuilt k.ro
   abbrev AreParts : List CoreImage → Type 0
   AreParts = All (λ (part : CoreImage). IsPartOf k part.number part)
 
-  abbrev PortsAreGood : List CoreImage → Type 0
-  PortsAreGood = All (λ (part : CoreImage). AreGoodPorts part.ports)
-
   cons_parts : {A : Type 0} {a b : A} {xs ys : List A} → a ∷ xs ≡ b ∷ ys → (a ≡ b) × (xs ≡ ys)
   cons_parts e = (cc, cc)
 
-  good_cores : (n : ℕ) (ns : List ℕ) (cores : List CoreImage) → map number_of cores ≡ ns → Ascend n ns → All (λ m. has_root k m ≡ true) ns → AreParts cores → PortsAreGood cores → AreGoodCores n cores
-  good_cores n ns [] e up rooted parts ports = tt
-  good_cores n [] (part ∷ cores) e up rooted parts ports = absurd cc
-  good_cores n (m ∷ ms) (part ∷ cores) e up rooted parts ports =
+  good_cores : (n : ℕ) (ns : List ℕ) (cores : List CoreImage) → map number_of cores ≡ ns → Ascend n ns → All (λ m. has_root k m ≡ true) ns → AreParts cores → AreGoodCores n cores
+  good_cores n ns [] e up rooted parts = tt
+  good_cores n [] (part ∷ cores) e up rooted parts = absurd cc
+  good_cores n (m ∷ ms) (part ∷ cores) e up rooted parts =
       let es = cons_parts e in
       let least : n ≤ part.number = let a = up.0 in let b = es.0 in omega (arith, a, b) in
       let most : part.number < 4 = let a = up.1 in let b = es.0 in omega (arith, a, b) in
       let has : has_root k part.number ≡ true = subst (λ c. has_root k c ≡ true) (sym es.0) (All-head (λ c. has_root k c ≡ true) m ms rooted) in
-      let one = good_core k checked built part.number (omega (arith, most)) part (All-head (λ (p : CoreImage). IsPartOf k p.number p) part cores parts) has (All-head (λ (p : CoreImage). AreGoodPorts p.ports) part cores ports) in
-      let others = good_cores (m + 1) ms cores es.1 up.2 (All-tail (λ c. has_root k c ≡ true) m ms rooted) (All-tail (λ (p : CoreImage). IsPartOf k p.number p) part cores parts) (All-tail (λ (p : CoreImage). AreGoodPorts p.ports) part cores ports) in
+      let is = All-head (λ (p : CoreImage). IsPartOf k p.number p) part cores parts in
+      let apart = ports_apart k part.number (omega (arith, most)) checked.of_program in
+      let ports = subst AreGoodPorts (sym is.ports) (good_ports (ports_on part.number k.ports) apart) in
+      let one = good_core k checked built part.number (omega (arith, most)) part is has ports in
+      let others = good_cores (m + 1) ms cores es.1 up.2 (All-tail (λ c. has_root k c ≡ true) m ms rooted) (All-tail (λ (p : CoreImage). IsPartOf k p.number p) part cores parts) in
       (least, most, one, subst (λ c. AreGoodCores (c + 1) cores) (sym es.0) others)
 
   -- no core has a channel end
@@ -141,11 +154,11 @@ module _ (k : kernel.Kernel) (checked : IsChecked k) (built : RootsAreBuilt k.ro
       no_end_by part (parts_in cores c) e (All-head (λ (p : CoreImage). IsPartOf k p.number p) part cores parts)
       (λ lt. no_end cores c e (All-tail (λ (p : CoreImage). IsPartOf k p.number p) part cores parts) lt) (nat_eq part.number c) there
 
-  -- The image can be loaded where its ports can.
-  pub valid_image : (image : Image) → 1 ≤ length (cores_of k) → map number_of image.cores ≡ cores_of k → AreParts image.cores → image.chans ≡ [] → PortsAreGood image.cores → Valid image
-  valid_image image some numbers parts no_chans ports = record {
+  -- The image can be loaded.
+  pub valid_image : (image : Image) → 1 ≤ length (cores_of k) → map number_of image.cores ≡ cores_of k → AreParts image.cores → image.chans ≡ [] → Valid image
+  valid_image image some numbers parts no_chans = record {
     some_core = let l = sym (length-map image.cores number_of) ∙ ap length numbers in omega (arith, l, some);
-    cores = good_cores 0 (cores_of k) image.cores numbers (ascend_filtered (has_root k) 0 (below 4) ((omega arith, omega arith, (omega arith, omega arith, (omega arith, omega arith, (omega arith, omega arith, tt)))))) (passes (has_root k) (below 4)) parts ports;
+    cores = good_cores 0 (cores_of k) image.cores numbers (ascend_filtered (has_root k) 0 (below 4) ((omega arith, omega arith, (omega arith, omega arith, (omega arith, omega arith, (omega arith, omega arith, tt)))))) (passes (has_root k) (below 4)) parts;
     pairs = subst (AreGoodPairs image.cores) (sym no_chans) tt;
     once = λ c e there. absurd (no_end image.cores c e parts there);
   }

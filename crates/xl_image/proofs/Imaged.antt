@@ -1,7 +1,9 @@
 -- Where the lines of a core's roots are its code, each statement's piece stands.
-use Rattle.std.proofs.Common.{◌≡◌, ◌∙◌, ℕ, zero, suc, ◌+◌, ◌*◌, ◌<◌, ◌≤◌, List, [], ◌∷◌, ◌++◌, length, map, Some, None, slice_get, refl, sym, ap, subst, arith, append_assoc, length-append}
+use Rattle.std.specs.List.{All, Contains}
+use Rattle.std.proofs.Common.{true, ◌≡◌, ◌∙◌, ℕ, zero, suc, ◌+◌, ◌*◌, List, [], ◌∷◌, ◌++◌, length, map, Some, slice_get, refl, sym, ap, subst, arith, append_assoc, length-append}
 use Rattle.xs_instr.specs.declared.image.Code.{Code}
 use Rattle.xs_instr.specs.declared.image.CoreImage.{CoreImage}
+use Rattle.xs_instr.specs.declared.image.Image.{Image}
 use Rattle.xs_instr.specs.declared.instr.Instr.TheVariants.{Ldc}
 use Rattle.xs_instr.specs.declared.instr.Reg.TheVariants.{R0}
 use Rattle.xs_instr.specs.Lines.{Line, instr_of, pos_of}
@@ -10,12 +12,14 @@ use Rattle.xc_kernel.specs.Plain as kernel
 use Rattle.xl_expr.specs.declared.plan.Plan.{Plan}
 use Rattle.xl_expr.proofs.Lists.{stand_front, stand_back}
 use Rattle.xl_plan.specs.Layout.{temporary_of}
-use Rattle.xl_plan.proofs.Lists.{some_given, none_given}
+use Rattle.xl_plan.proofs.Lists.{some_given, none_given, contains_at}
 use Rattle.xl_walk.proofs.Stands as walk
-use Rattle.xl_image.specs.Images.{RootAt, IsCoreImage, roots_on}
-use Rattle.xl_image.specs.Parts.{IsPartOf}
+use Rattle.xc_disjoint.specs.Checked.{IsChecked}
+use Rattle.xl_image.specs.Images.{IsCoreImage, IsImage, roots_on}
+use Rattle.xl_image.specs.Parts.{IsPartOf, cores_of, is_some_root, number_of}
 use Rattle.xl_image.specs.Roots.{AreRoots, IsRootCode, stack_code}
 use Rattle.xl_image.proofs.GoodParts.{as_many}
+use Rattle.xl_image.proofs.Rooted.{core_listed}
 
 at_behind : {A B : Type 0} (f : A → B) (xs ys : List A) (y : A) → slice_get (map f (xs ++ (y ∷ ys))) (length xs) ≡ Some (f y)
 at_behind f [] ys y = refl
@@ -85,4 +89,25 @@ core_imaged k part is = record {
         body = root.pieces;
         end = root.ends_here.0;
       };
+}
+
+-- The whole image.
+
+part_at : (cores : List CoreImage) (j c : ℕ) → slice_get (map number_of cores) j ≡ Some c → (part : CoreImage) × (slice_get cores j ≡ Some part) × (part.number ≡ c)
+part_at [] j c e = absurd (none_given e)
+part_at (part ∷ cores) zero c e = (part, refl, some_given e)
+part_at (part ∷ cores) (suc j) c e = part_at cores j c e
+
+some_by : (rs : List kernel.Root) (r : kernel.Root) → Contains rs r → is_some_root rs ≡ true
+some_by [] r c = let l = c.1 in absurd (let z : ⊥ = omega (arith, l) in z)
+some_by (q ∷ rs) r c = refl
+
+pub imaged : (k : kernel.Kernel) → IsChecked k → (image : Image) → map number_of image.cores ≡ cores_of k → All (λ (part : CoreImage). IsPartOf k part.number part) image.cores → image.chans ≡ [] → IsImage k image
+imaged k checked image numbers parts no_chans = record {
+  cores = λ core r among.
+      let at = core_listed k checked core (some_by (roots_on core k.roots) r among) in
+      let p = part_at image.cores at.0 core (ap (λ ns. slice_get ns at.0) numbers ∙ at.1) in
+      (p.0, contains_at image.cores at.0 p.0 p.1, p.2);
+  parts = λ part among. core_imaged k part (subst (λ (p : CoreImage). IsPartOf k p.number p) among.2 (parts among.0 part among.1));
+  channels = no_chans;
 }

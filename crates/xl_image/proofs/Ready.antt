@@ -1,5 +1,5 @@
 -- What is so of each root of a checked kernel whose code is built, and how much code there is.
-use Rattle.std.proofs.Common.{◌≡◌, ◌∙◌, ℕ, zero, suc, ◌+◌, ◌*◌, ◌^◌, ◌<◌, ◌≤◌, Bool, true, false, List, [], ◌∷◌, length, Option, Some, None, slice_get, refl, sym, ap, subst, arith}
+use Rattle.std.proofs.Common.{◌≡◌, ◌∙◌, ℕ, ◌+◌, ◌*◌, ◌^◌, ◌<◌, ◌≤◌, List, [], ◌∷◌, Option, Some, None, slice_get, refl, sym, ap, subst, arith}
 use Rattle.std.specs.Prelude.{max}
 use Rattle.xc_kernel.specs.declared.kernel.Var.{Var}
 use Rattle.xc_kernel.specs.Plain as kernel
@@ -16,11 +16,11 @@ use Rattle.xl_expr.specs.declared.plan.VarPlan.{VarPlan}
 use Rattle.xl_expr.specs.Measures.{nodes, nodes_of, nodes_at, depth, depth_of, depth_at}
 use Rattle.xl_expr.specs.Plans.{var_in}
 use Rattle.xl_flow.specs.Zeros.{room_of}
-use Rattle.xl_port.specs.Outputs.{output_depth, output_nodes, time_depth, time_nodes}
+use Rattle.xl_port.specs.Outputs.{output_depth, time_depth, time_nodes}
 use Rattle.xl_walk.specs.Built.{IsBuilt, AreBuilt, IsShallow, AreShallow, most, most_of_all, most_levels}
 use Rattle.xl_walk.specs.Inside.{IsInside, AreInside}
 use Rattle.xl_image.specs.Images.{IsPlan}
-use Rattle.xl_image.specs.Roots.{RootsAreBuilt, IsReady, AreReady, most_of_root, most_of_roots}
+use Rattle.xl_image.specs.Roots.{RootsAreBuilt, AreReady, most_of_roots}
 
 -- Levels.
 

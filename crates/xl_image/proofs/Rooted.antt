@@ -1,13 +1,13 @@
 -- A checked kernel has a root on some core.
-use Rattle.std.proofs.Common.{◌≡◌, ◌∙◌, ◌⊎◌, inl, inr, ⊎_elim, ℕ, zero, suc, ◌+◌, ◌-◌, ◌<◌, ◌≤◌, Bool, true, false, List, [], ◌∷◌, ◌++◌, length, Option, Some, None, slice_get, refl, sym, ap, subst, arith, eq-eqb}
+use Rattle.std.proofs.Common.{◌≡◌, ◌∙◌, ◌⊎◌, inl, inr, ⊎_elim, ℕ, zero, suc, ◌+◌, ◌-◌, ◌≤◌, Bool, true, false, List, [], ◌∷◌, ◌++◌, length, Option, Some, None, slice_get, refl, sym, ap, subst, arith, eq-eqb}
 use Rattle.std.specs.Prelude.{◌&&◌, ◌||◌, Contains, bytes_eq, cond, filter, nat_eq, nat_le, nat_lt}
-use Rattle.std.proofs.lemmas.Bool.{leb-true, ltb-true}
+use Rattle.std.proofs.lemmas.Bool.{eqb-true, leb-true, ltb-true}
 use Rattle.std.proofs.lemmas.Slice.Eq.{bytes_eq-Decides}
 use Rattle.xw_words.specs.declared.pos.Pos.{Pos}
 use Rattle.xc_tree.specs.Plain as tree
 use Rattle.xc_tree.specs.Names.Rules as names
 use Rattle.xc_kernel.specs.Plain as kernel
-use Rattle.xc_kernel.specs.Numbering.{Numbering, no_numbering}
+use Rattle.xc_kernel.specs.Numbering.{no_numbering}
 use Rattle.xc_kernel.specs.Scopes.{Scope, a_constant, with_name}
 use Rattle.xc_kernel.specs.Values.{Value, word, error}
 use Rattle.xc_kernel.specs.Programs.{Function, functions, function_by, function_named, main_of, name_of_main}
@@ -15,9 +15,8 @@ use Rattle.xc_kernel.specs.Context.{Context, in_branch}
 use Rattle.xc_kernel.specs.Calls.{CopiesCall}
 use Rattle.xc_kernel.specs.Ports.{core_by, core_of_value, core_of}
 use Rattle.xc_kernel.specs.Expressions.{eval_in}
-use Rattle.xc_kernel.specs.Roots.{Rooted, is_placed, has_placed, action_has_placed, block_has_placed, in_block, branch_root, branch_roots, root_in_scope_of, numbered_roots, action_roots, block_roots, roots_by, roots_of, context_of}
+use Rattle.xc_kernel.specs.Roots.{Rooted, is_placed, has_placed, action_has_placed, block_has_placed, in_block, branch_root, branch_roots, numbered_roots, action_roots, block_roots, roots_by, roots_of, context_of}
 use Rattle.xc_kernel.specs.Copies.{calls_of, numbering, copy_of}
-use Rattle.xc_kernel.specs.Sound.{IsTyped}
 use Rattle.xc_disjoint.specs.Checked.{IsChecked}
 use Rattle.xc_disjoint.specs.Cores.{no_core}
 use Rattle.xc_disjoint.specs.Rules as rules
@@ -41,6 +40,9 @@ core_known scope (Some p) = by (eval_in no_numbering scope [] p.value)
     by : (v : Value) → (core_of_value v ≡ no_core) ⊎ (core_of_value v ≤ 3)
     by (word v) = near v (nat_le v 3) (leb-true v 3)
     by (error kind pos) = inl refl
+
+abbrev Low : kernel.Root → Type 0
+Low r = r.core ≤ 3
 
 false_true : {A : Type 0} → false ≡ true → A
 false_true e = absurd cc
@@ -185,9 +187,6 @@ some_of copies None c never = absurd (never refl)
 some_of copies (Some f) c never = by_some copies (block_has_placed (in_block f.body)) f c refl
 
 module _ (k : kernel.Kernel) (checked : IsChecked k) where
-  P : List tree.Item
-  P = checked.of_program.program
-
   roots_known : AllIn Known (copy_of checked.of_program.program).roots
   unfolding copy_of
   roots_known = known (calls_of checked.of_program.program) (main_of checked.of_program.program) (context_of checked.of_program.program (numbering checked.of_program.program)) (omega arith)
@@ -200,28 +199,40 @@ module _ (k : kernel.Kernel) (checked : IsChecked k) where
       (λ e. typed.names _ (names.without_main (record { no_main = λ i m. not_there checked.of_program.program i e m; place = refl })))
 
   -- each root has a core
-  has_core : (rs : List kernel.Root) → AllIn Known rs → ((r : kernel.Root) → Contains rs r → r.core ≡ no_core → ⊥) → 1 ≤ length rs → (core : ℕ) × (core ≤ 3) × (is_some_root (roots_on core rs) ≡ true)
-  has_core [] known_ones never l = absurd (let z : ⊥ = omega (arith, l) in z)
-  has_core (r ∷ rs) known_ones never l = (
-    r.core,
+  all_low : (rs : List kernel.Root) → AllIn Known rs → ((r : kernel.Root) → Contains rs r → r.core ≡ no_core → ⊥) → AllIn Low rs
+  all_low [] known_ones never = tt
+  all_low (r ∷ rs) known_ones never = (
     ⊎_elim (λ e. absurd (never r (0, omega arith, refl) e)) (λ le. le) known_ones.0,
-    ap (λ b. is_some_root (cond b (r ∷ roots_on r.core rs) (roots_on r.core rs))) (eq-eqb r.core r.core refl),
+    all_low rs known_ones.1 (λ x c. never x (let l = c.1 in (suc c.0, omega arith, c.2))),
   )
 
-  rooted : (core : ℕ) × (core ≤ 3) × (has_root k core ≡ true)
-  rooted =
+  lows : AllIn Low k.roots
+  lows =
       let e = ap (λ (q : kernel.Kernel). q.roots) checked.of_program.copies.is_copy in
-      has_core k.roots (subst (AllIn Known) (sym e) roots_known) (λ r c none. checked.unbroken _ (rules.without_core (rules.of_root r c none))) (subst (λ (rs : List kernel.Root). 1 ≤ length rs) (sym e) some_root)
+      all_low k.roots (subst (AllIn Known) (sym e) roots_known) (λ r c none. checked.unbroken _ (rules.without_core (rules.of_root r c none)))
 
-  kept : (p : ℕ → Bool) (ns : List ℕ) (i c : ℕ) → slice_get ns i ≡ Some c → p c ≡ true → 1 ≤ length (filter p ns)
+  -- what a root is on
+  first_core : (rs : List kernel.Root) → AllIn Low rs → 1 ≤ length rs → (core : ℕ) × (core ≤ 3) × (is_some_root (roots_on core rs) ≡ true)
+  first_core [] low l = absurd (let z : ⊥ = omega (arith, l) in z)
+  first_core (r ∷ rs) low l = (r.core, low.0, ap (λ b. is_some_root (cond b (r ∷ roots_on r.core rs) (roots_on r.core rs))) (eq-eqb r.core r.core refl))
+
+  low_by : (core : ℕ) (r : kernel.Root) (rs : List kernel.Root) → Low r → (is_some_root (roots_on core rs) ≡ true → core ≤ 3) → (b : Bool) → nat_eq r.core core ≡ b → is_some_root (cond b (r ∷ roots_on core rs) (roots_on core rs)) ≡ true → core ≤ 3
+  low_by core r rs low others true same e = let q = eqb-true r.core core same in omega (arith, low, q)
+  low_by core r rs low others false same e = others e
+
+  low_core : (core : ℕ) (rs : List kernel.Root) → AllIn Low rs → is_some_root (roots_on core rs) ≡ true → core ≤ 3
+  low_core core [] low e = false_true e
+  low_core core (r ∷ rs) low e = low_by core r rs low.0 (low_core core rs low.1) (nat_eq r.core core) refl e
+
+  kept_by : (p : ℕ → Bool) (n c : ℕ) (ns : List ℕ) → (j : ℕ) × (slice_get (filter p ns) j ≡ Some c) → (b : Bool) → (j : ℕ) × (slice_get (cond b (n ∷ filter p ns) (filter p ns)) j ≡ Some c)
+  kept_by p n c ns at true = (suc at.0, at.1)
+  kept_by p n c ns at false = at
+
+  kept : (p : ℕ → Bool) (ns : List ℕ) (i c : ℕ) → slice_get ns i ≡ Some c → p c ≡ true → (j : ℕ) × (slice_get (filter p ns) j ≡ Some c)
   kept p [] i c at e = absurd (none_given at)
   kept p (n ∷ ns) zero c at e =
-      subst (λ b. 1 ≤ length (cond b (n ∷ filter p ns) (filter p ns))) (sym (ap p (some_given at) ∙ e)) (omega arith)
-  kept p (n ∷ ns) (suc i) c at e = by (p n) (kept p ns i c at e)
-    where
-      by : (b : Bool) → 1 ≤ length (filter p ns) → 1 ≤ length (cond b (n ∷ filter p ns) (filter p ns))
-      by true l = omega arith
-      by false l = l
+      (0, ap (λ b. slice_get (cond b (n ∷ filter p ns) (filter p ns)) 0) (ap p (some_given at) ∙ e) ∙ at)
+  kept p (n ∷ ns) (suc i) c at e = kept_by p n c ns (kept p ns i c at e) (p n)
 
   is_below : (c : ℕ) → c ≤ 3 → slice_get (below 4) c ≡ Some c
   is_below zero l = refl
@@ -230,5 +241,17 @@ module _ (k : kernel.Kernel) (checked : IsChecked k) where
   is_below (suc (suc (suc zero))) l = refl
   is_below (suc (suc (suc (suc c)))) l = absurd (let z : ⊥ = omega (arith, l) in z)
 
+  -- a core with a root is among the cores
+  pub core_listed : (core : ℕ) → has_root k core ≡ true → (j : ℕ) × (slice_get (cores_of k) j ≡ Some core)
+  core_listed core e = kept (has_root k) (below 4) core core (is_below core (low_core core k.roots lows e)) e
+
+  some_item : (ns : List ℕ) (j c : ℕ) → slice_get ns j ≡ Some c → 1 ≤ length ns
+  some_item [] j c e = absurd (none_given e)
+  some_item (n ∷ ns) j c e = omega arith
+
   pub some_core : 1 ≤ length (cores_of k)
-  some_core = let r = rooted in kept (has_root k) (below 4) r.0 r.0 (is_below r.0 r.1) r.2
+  some_core =
+      let e = ap (λ (q : kernel.Kernel). q.roots) checked.of_program.copies.is_copy in
+      let r = first_core k.roots lows (subst (λ (rs : List kernel.Root). 1 ≤ length rs) (sym e) some_root) in
+      let l = core_listed r.0 r.2 in
+      some_item (cores_of k) l.0 r.0 l.1

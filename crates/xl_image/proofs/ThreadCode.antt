@@ -1,5 +1,5 @@
 -- The code of a root: what sets its stack, and its statements and end behind it.
-use Rattle.std.proofs.Common.{◌≡◌, ◌∙◌, ℕ, ◌+◌, ◌*◌, ◌≤◌, List, [], ◌∷◌, ◌++◌, length, Result, Ok, Err, OnOk, refl, ap, subst, arith, append_assoc, length-append}
+use Rattle.std.proofs.Common.{◌≡◌, ◌∙◌, ℕ, ◌+◌, ◌*◌, List, [], ◌∷◌, ◌++◌, length, Result, Ok, Err, OnOk, refl, ap, subst, arith, append_assoc, length-append}
 use Rattle.xw_words.specs.declared.pos.Pos.{Pos}
 use Rattle.xs_instr.specs.declared.instr.Instr.TheVariants.{Ldc, Setsp}
 use Rattle.xs_instr.specs.declared.instr.Reg.TheVariants.{R0}

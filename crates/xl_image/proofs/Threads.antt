@@ -1,6 +1,6 @@
 -- A root whose code is built needs one thread, and no channel end.
-use Rattle.std.proofs.Common.{◌≡◌, ◌∙◌, ℕ, zero, suc, ◌+◌, ◌*◌, ◌≤◌, Bool, true, false, List, [], ◌∷◌, ◌++◌, length, sum_by, Option, Some, None, refl, sym, ap, subst, arith}
-use Rattle.std.specs.Prelude.{◌||◌, cond, filter, max, nat_eq}
+use Rattle.std.proofs.Common.{◌≡◌, ◌∙◌, ℕ, zero, suc, ◌+◌, Bool, true, false, List, [], ◌∷◌, ◌++◌, length, sum_by, Option, Some, None, refl, ap, arith}
+use Rattle.std.specs.Prelude.{◌||◌, cond, max, nat_eq}
 use Rattle.std.proofs.lemmas.List.Sums.{sum_by-cons}
 use Rattle.xc_kernel.specs.declared.statement.KRes.{KRes}
 use Rattle.xc_kernel.specs.declared.statement.KRes.TheVariants.{Port, Timer, Chan}
@@ -9,9 +9,9 @@ use Rattle.xc_kernel.specs.Things.{channel, by_expression, by_operands, by_place
 use Rattle.xc_kernel.specs.Branches.{branches_of, users, uses_in, some_has_sides}
 use Rattle.xc_kernel.specs.Uses.{once}
 use Rattle.xc_kernel.specs.Pars as pars
-use Rattle.xc_disjoint.specs.Cores.{if_so, on_core}
-use Rattle.xc_disjoint.specs.Ends.{ends_by, ends_of, ends_below, ends_of_root}
-use Rattle.xc_disjoint.specs.Needs.{threads_of_root, threads_on, ends_on_of_root, ends_on}
+use Rattle.xc_disjoint.specs.Cores.{if_so}
+use Rattle.xc_disjoint.specs.Ends.{ends_by, ends_of, ends_below}
+use Rattle.xc_disjoint.specs.Needs.{threads_of_root, ends_on_of_root, ends_on}
 use Rattle.xc_disjoint.specs.Threads as threads
 use Rattle.xl_walk.specs.Built.{IsBuilt, AreBuilt, IsPort}
 use Rattle.xl_image.specs.Images.{roots_on}

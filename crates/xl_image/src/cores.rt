@@ -1,9 +1,11 @@
 // The parts of an image, core by core.
 
-ghost use Rattle.std.specs.Prelude.{◌≡◌, ◌⊎◌, ◌≤◌, true, [], ◌∷◌, ◌++◌, map, IfOk, OnOk};
+ghost use Rattle.std.specs.Prelude.{◌≡◌, ◌≤◌, true, [], map, IfOk};
 ghost use Rattle.std.specs.List.{All};
 ghost use Rattle.xc_disjoint.specs.Cores.{last_core};
 ghost use Rattle.xc_kernel.specs.Kernels.{kernel_of};
+ghost use Rattle.xs_instr.specs.Valid.{Valid};
+ghost use Rattle.xl_image.specs.Images.{IsImage};
 ghost use Rattle.xl_image.specs.Parts.{IsPartOf, cores_of, has_root as is_rooted, number_of};
 ghost use Rattle.xl_image.specs.Roots.{RootsAreBuilt};
 
@@ -29,10 +31,13 @@ pub fn image(alloc: Global, checked: &Checked) -> Result<Image, Memory>
     ensures parts { IfOk result (λ image. All
         (λ part. IsPartOf (kernel_of checked.now) part.number part) image.cores) }
     ensures chans { IfOk result (λ image. image.chans ≡ []) }
+    ensures pieces { IfOk result (IsImage (kernel_of checked.now)) }
+    ensures valid { IfOk result (λ image. Valid image) }
 {
+    let roots = checked.kernel().roots.as_slice();
     let mut cores = List::new(alloc);
     for core in 0..CORES {
-        if has_root(checked.kernel().roots.as_slice(), core) {
+        if has_root(roots, core) {
             let part = core_part(alloc, checked, core)?;
             cores.push(part)?;
         }

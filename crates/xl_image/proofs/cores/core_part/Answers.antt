@@ -1,9 +1,9 @@
-use Rattle.std.proofs.Common.{◌≡◌, ◌∙◌, ◌≤◌, List, length, map, sum_by, refl, sym, ap, subst, arith}
+use Rattle.std.proofs.Common.{◌∙◌, List, length, map, sum_by, refl, sym, ap, arith}
 use Rattle.xc_kernel.specs.declared.kernel.Kernel.{Kernel}
 use Rattle.xc_kernel.specs.declared.kernel.PortUse.{PortUse}
 use Rattle.xc_kernel.specs.declared.kernel.Timer.{Timer}
 use Rattle.xc_kernel.specs.Kernels.{kernel_of}
-use Rattle.xc_disjoint.specs.Needs.{timers_of, threads_on}
+use Rattle.xc_disjoint.specs.Needs.{timers_of}
 use Rattle.xl_expr.proofs.GoodCode.{good_closed}
 use Rattle.xl_plan.specs.Planned.{ports_on}
 use Rattle.xl_image.specs.Images.{decl_of, roots_on}

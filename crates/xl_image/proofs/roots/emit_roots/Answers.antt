@@ -1,9 +1,8 @@
-use Rattle.std.proofs.Common.{◌≡◌, ◌∙◌, ◌+◌, ◌++◌, ℕ, List, [], ◌∷◌, drop, length, map, nat_eq, refl, sym, ap, subst, arith, eq-eqb}
+use Rattle.std.proofs.Common.{◌∙◌, ◌+◌, ◌++◌, ℕ, List, [], ◌∷◌, drop, map, sym, ap, subst, arith, eq-eqb}
 use Rattle.std.proofs.Math.ListN.{drop_of_length-le}
 use Rattle.std.proofs.lemmas.Bool.{ne_eqb}
 use Rattle.xs_instr.specs.Lines.{Line}
 use Rattle.xc_kernel.specs.declared.kernel.Kernel.{Kernel}
-use Rattle.xc_kernel.specs.declared.kernel.Root.{Root}
 use Rattle.xc_kernel.specs.Kernels.{kernel_of, root_of}
 use Rattle.xc_kernel.specs.Plain as kernel
 use Rattle.xl_plan.specs.Layout.{temporary_of}
