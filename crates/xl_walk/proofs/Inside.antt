@@ -103,7 +103,7 @@ module _ (plan : Plan) where
     pub emits_good : (s : kernel.Statement) (around : List ℕ) (last : Pos) (size pc : ℕ) (cells : List Cell) → IsInside around s → Emits plan s last pc cells → pc + length cells < size → AreGoodCells around size pc cells
     emits_good (kernel.set_zero v) around last size pc cells inside h ends = piece_good around _ last size pc cells h ends
     emits_good (kernel.set place x) around last size pc cells inside h ends = piece_good around _ last size pc cells h ends
-    emits_good (kernel.output o) around last size pc cells inside h ends = piece_good around _ last size pc cells h ends
+    emits_good (kernel.output o) around last size pc cells inside (port, unstamped, h) ends = piece_good around _ last size pc cells h ends
     emits_good (kernel.input i) around last size pc cells inside h ends = absurd h
     emits_good (kernel.if_then x a b) around last size pc cells inside h ends =
         branching_good around last size pc cells x (AllEmit plan a) (AllEmit plan b) (λ l i cs k n. all_good a around l size i cs inside.0 k n) (λ l i cs k n. all_good b around l size i cs inside.1 k n) b h ends

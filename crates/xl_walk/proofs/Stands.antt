@@ -114,7 +114,7 @@ module _ (code : Code) (plan : Plan) where
     statement_stands : (s : kernel.Statement) (exits : List Exit) (last : Pos) (pc : ℕ) (cells : List Cell) → Emits plan s last pc cells → CellsAt code exits pc cells → PieceAt code plan s exits pc (pc + length cells)
     statement_stands (kernel.set_zero v) exits last pc cells h at_pc = piece_stands _ last exits pc cells h at_pc
     statement_stands (kernel.set place x) exits last pc cells h at_pc = piece_stands _ last exits pc cells h at_pc
-    statement_stands (kernel.output o) exits last pc cells h at_pc = piece_stands _ last exits pc cells h at_pc
+    statement_stands (kernel.output o) exits last pc cells (port, unstamped, h) at_pc = (port, unstamped, piece_stands _ last exits pc cells h at_pc)
     statement_stands (kernel.input i) exits last pc cells h at_pc = absurd h
     statement_stands (kernel.if_then x a b) exits last pc cells h at_pc =
         branching_stands x a b (AllEmit plan a) (AllEmit plan b) exits last pc cells (λ l i cs k n. statements_stand a exits l i cs k n) (λ l i cs k n. statements_stand b exits l i cs k n) b refl h at_pc

@@ -1,5 +1,5 @@
 -- The code of statements: which cells a statement has, by the place of the instruction in front and the index of the first cell.
-use Rattle.std.specs.Prelude.{◌≡◌, ℕ, ◌+◌, List, [], ◌∷◌, ◌++◌, length, map, Option}
+use Rattle.std.specs.Prelude.{◌≡◌, ℕ, ◌+◌, List, [], ◌∷◌, ◌++◌, length, map, Option, None}
 use Rattle.xw_words.specs.declared.pos.Pos.{Pos}
 use Rattle.xs_instr.specs.declared.instr.Instr.TheVariants.{Brff, Brfu, Brbu}
 use Rattle.xs_instr.specs.declared.instr.Reg.TheVariants.{R0}
@@ -11,6 +11,7 @@ use Rattle.xl_expr.specs.Targets.{AreAimed}
 use Rattle.xl_flow.specs.Flow.{Sets, Tests}
 use Rattle.xl_flow.specs.Zeros.{Zeroes}
 use Rattle.xl_port.specs.Outputs.{Outputs}
+use Rattle.xl_walk.specs.Built.{IsPort}
 use Rattle.xl_walk.specs.declared.walk.Leaving.{Leaving}
 use Rattle.xl_walk.specs.Cells.{Cell, known, leaving, behind, closed, leaves, line_of}
 
@@ -97,7 +98,7 @@ module _ (plan : Plan) where
     pub Emits : kernel.Statement → Coded
     Emits (kernel.set_zero v) last pc cells = AreLines (Zeroes plan.vars v) last pc cells
     Emits (kernel.set place x) last pc cells = AreLines (Sets plan.vars place x) last pc cells
-    Emits (kernel.output o) last pc cells = AreLines (Outputs plan o) last pc cells
+    Emits (kernel.output o) last pc cells = IsPort o.resource × (o.stamp ≡ None) × AreLines (Outputs plan o) last pc cells
     Emits (kernel.if_then x a b) last pc cells = Branching b plan.vars x (AllEmit a) (AllEmit b) last pc cells
     Emits (kernel.loop x a b) last pc cells = Turns plan.vars x (AllEmit a) (AllEmit b) last pc cells
     Emits (kernel.block n a) last pc cells = Closes n (AllEmit a) last pc cells

@@ -12,6 +12,7 @@ use Rattle.xl_flow.specs.Flow.{Sets, Tests}
 use Rattle.xl_flow.specs.Zeros.{Zeroes}
 use Rattle.xl_par.specs.Roots.{EndsRoot}
 use Rattle.xl_port.specs.Outputs.{Outputs}
+use Rattle.xl_walk.specs.Built.{IsPort}
 
 -- an open block, and the index where it ends
 pub record Exit : Type 0 where
@@ -56,7 +57,7 @@ module _ (code : Code) where
       pub PieceAt : kernel.Statement → List Exit → (pc pc' : ℕ) → Type 0
       PieceAt (kernel.set_zero v) exits pc pc' = LinesAt (Zeroes plan.vars v) pc pc'
       PieceAt (kernel.set place x) exits pc pc' = LinesAt (Sets plan.vars place x) pc pc'
-      PieceAt (kernel.output o) exits pc pc' = LinesAt (Outputs plan o) pc pc'
+      PieceAt (kernel.output o) exits pc pc' = IsPort o.resource × (o.stamp ≡ None) × LinesAt (Outputs plan o) pc pc'
       -- the test goes to the second side where its word is 0, and at most one jump leads from the first side past it
       PieceAt (kernel.if_then x a b) exits pc pc' =
           (first : ℕ) × (second : ℕ) × (done : ℕ) × (n : ℕ) × TestAt x pc first second

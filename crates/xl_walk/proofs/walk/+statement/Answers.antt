@@ -147,7 +147,9 @@ emit_one-returns-in-Set-clause-code t c =
 
 pub emit_one-returns-in-Out-clause-code : goal.emit_one-returns-in-Out-clause-code
 emit_one-returns-in-Out-clause-code t c =
-    piece_emits c.emit_port_out.result c.args.plan.now (statement_of c.args.statement.now) (kernel.output (output_of c.in-Out.o)) (Outputs c.args.plan.now (output_of c.in-Out.o)) c.args.e.now c.emit_port_out.new.e c.args.left.now.items (ap statement_of c.in-Out.is ∙ statement-Out c.in-Out.o) (λ last pc cells h. h) c.emit_port_out.ensures.outputs c.emit_port_out.ensures.aimed
+    let same = ap statement_of c.in-Out.is ∙ statement-Out c.in-Out.o in
+    let built : IsBuilt (kernel.output (output_of c.in-Out.o)) = subst IsBuilt same c.requires.built in
+    piece_emits c.emit_port_out.result c.args.plan.now (statement_of c.args.statement.now) (kernel.output (output_of c.in-Out.o)) (Outputs c.args.plan.now (output_of c.in-Out.o)) c.args.e.now c.emit_port_out.new.e c.args.left.now.items same (λ last pc cells h. (built.0, built.1, h)) c.emit_port_out.ensures.outputs c.emit_port_out.ensures.aimed
 
 pub emit_one-emit_if-requires : goal.emit_one-emit_if-requires
 emit_one-emit_if-requires t c =
