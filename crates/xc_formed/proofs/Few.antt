@@ -422,7 +422,7 @@ module _ (vs : List Var) where
       let s = sum_by-cons nodes.of_argument a args in
       omega (arith, one, h, j, s)
 
-  result_few : (c : Context) (result : Path) (pos : Pos) (scope : Scope) (u : Option Bool) → AllListed c.numbering (result_copy c result pos scope u) → code_parts (result_copy c result pos scope u).code ≤ 1
+  result_few : (c : Context) (result : Path) (pos : Pos) (scope : Scope) (u : Option Bool) → AllListed c.numbering (result_copy c result pos scope u) → code_parts (result_copy c result pos scope u).code ≤ 2
   result_few c result pos scope None m = omega arith
   result_few c result pos scope (Some u) m = let l = m.0 in omega (arith, l)
 

@@ -4,7 +4,7 @@ use Rattle.xs_instr.specs.declared.image.Code.{Code}
 use Rattle.xc_meaning.specs.Settings.Flow.{from_mark_by, items_from_mark}
 use Rattle.xc_meaning.specs.States.Items.{Item, does, says, stores, mark, awaits, transaction_end, chooses, fixed, ends}
 use Rattle.xl_expr.specs.declared.plan.Plan.{Plan}
-use Rattle.xl_image.specs.Exits.{Exit, exit_by, exit_of}
+use Rattle.xl_walk.specs.Pieces.{Exit, exit_by, exit_of}
 use Rattle.xl_image.specs.Items.{MarkAt, ItemsAt}
 use Rattle.xl_image.specs.Laws.{StandWithin, ExitsLead}
 

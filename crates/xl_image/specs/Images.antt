@@ -14,18 +14,22 @@ use Rattle.xc_kernel.specs.Plain as kernel
 use Rattle.xc_disjoint.specs.Needs.{ends_on, timers_on, words_on}
 use Rattle.xl_expr.specs.declared.plan.Plan.{Plan}
 use Rattle.xl_plan.specs.Layout.{first_temporary, temporary_of}
-use Rattle.xl_plan.specs.Planned.{HasNoOther, HasPorts, HasTimers, HasVariables, NoneIsTemporary, NoneShare, StandBelow, ports_on}
-use Rattle.xl_image.specs.Code.{InstrAt, PiecesAt}
+use Rattle.xl_plan.specs.Planned.{HasNoOther, HasPorts, HasTimers, HasUsedPorts, HasUsedTimers, HasUsedVariables, HasVariables, NoneIsTemporary, NoneShare, StandBelow, ports_on}
+use Rattle.xl_walk.specs.Pieces.{PiecesAt}
+use Rattle.xl_image.specs.Code.{InstrAt}
 
 -- a plan as `plan` makes it
 pub record IsPlan (k : kernel.Kernel) (core : ℕ) (plan : Plan) : Type 0 where
   pub variables : HasVariables k core plan.vars
   pub no_other : HasNoOther k core plan.vars
+  pub used_variables : HasUsedVariables k core plan.vars
   pub below : StandBelow (first_temporary k core) plan.vars
   pub apart : NoneShare plan.vars
   pub not_temporary : NoneIsTemporary k core plan.vars
   pub ports : HasPorts k core plan.ports
   pub timers : HasTimers k core plan.timers
+  pub used_ports : HasUsedPorts k core plan.ports
+  pub used_timers : HasUsedTimers k core plan.timers
   pub ends : plan.ends ≡ []
 
 -- a port as an image declares it
@@ -48,7 +52,7 @@ pub record RootAt (k : kernel.Kernel) (plan : Plan) (image : CoreImage) (core pl
   pub stack : InstrAt image.code index (Ldc R0 (4 * temporary_of k core place))
   pub set : InstrAt image.code (index + 1) (Setsp R0)
   pub behind : ℕ
-  pub body : PiecesAt plan image.code r.body [] (index + 2) behind
+  pub body : PiecesAt image.code plan r.body [] (index + 2) behind
   pub end : InstrAt image.code behind Freet
 
 -- a core's part of the image

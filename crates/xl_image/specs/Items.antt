@@ -4,8 +4,8 @@ use Rattle.xs_instr.specs.declared.image.Code.{Code}
 use Rattle.xs_instr.specs.declared.instr.Instr.TheVariants.{Freet}
 use Rattle.xc_meaning.specs.States.Items.{Item, does, says, stores, mark, awaits, transaction_end, chooses, fixed, ends}
 use Rattle.xl_expr.specs.declared.plan.Plan.{Plan}
-use Rattle.xl_image.specs.Exits.{Exit}
-use Rattle.xl_image.specs.Code.{InstrAt, Jumps, PieceAt}
+use Rattle.xl_walk.specs.Pieces.{Exit, Jumps, PieceAt}
+use Rattle.xl_image.specs.Code.{InstrAt}
 
 module _ (plan : Plan) (code : Code) where
   -- n jumps lead to where P holds with a number of further jumps; j is the sum of both
@@ -30,7 +30,7 @@ module _ (plan : Plan) (code : Code) where
 
   -- the first item's code, by what holds of the code of the others
   abbrev pub FirstAt : Item → (List Exit → (pc j : ℕ) → Type 0) → List Exit → (pc j : ℕ) → Type 0
-  FirstAt (does s) Others exits pc j = (q : ℕ) × PieceAt plan code s exits pc q × Others exits q j
+  FirstAt (does s) Others exits pc j = (q : ℕ) × PieceAt code plan s exits pc q × Others exits q j
   FirstAt (mark n) Others exits pc j = MarkAt n Others exits pc j
   FirstAt ends Others exits pc j = EndAt exits pc
   FirstAt (says i) Others exits pc j = ⊥

@@ -6,8 +6,7 @@ use Rattle.xc_kernel.specs.Plain as kernel
 use Rattle.xc_meaning.specs.States.Items.{Item, ends, todo}
 use Rattle.xc_meaning.specs.Settings.Flow.{items_from_mark}
 use Rattle.xl_expr.specs.declared.plan.Plan.{Plan}
-use Rattle.xl_image.specs.Exits.{Exit, exit_of}
-use Rattle.xl_image.specs.Code.{PiecesAt}
+use Rattle.xl_walk.specs.Pieces.{Exit, PiecesAt, exit_of}
 use Rattle.xl_image.specs.Items.{ItemsAt}
 use Rattle.xl_image.specs.Images.{RootAt}
 
@@ -15,7 +14,7 @@ use Rattle.xl_image.specs.Images.{RootAt}
 abbrev pub CodeStandsForItems : Type 0
 CodeStandsForItems =
     (plan : Plan) (code : Code) (ss : kernel.Statements) (item : Item) (rest : List Item) (exits : List Exit) (pc pc' j : ℕ) →
-    PiecesAt plan code ss exits pc pc' → ItemsAt plan code (item ∷ rest) exits pc' j → ItemsAt plan code (todo ss (item ∷ rest)) exits pc j
+    PiecesAt code plan ss exits pc pc' → ItemsAt plan code (item ∷ rest) exits pc' j → ItemsAt plan code (todo ss (item ∷ rest)) exits pc j
 
 -- Where a root's code stands, that of its branch stands behind the instructions that set its stack.
 abbrev pub RootsStand : Type 0

@@ -1,5 +1,6 @@
-pub mod Exits
 pub mod Code
 pub mod Items
 pub mod Images
 pub mod Laws
+pub mod Roots
+pub mod Parts

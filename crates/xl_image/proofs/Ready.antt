@@ -1,0 +1,178 @@
+-- What is so of each root of a checked kernel whose code is built, and how much code there is.
+use Rattle.std.proofs.Common.{◌≡◌, ◌∙◌, ℕ, ◌+◌, ◌*◌, ◌^◌, ◌<◌, ◌≤◌, List, [], ◌∷◌, Option, Some, None, slice_get, refl, sym, ap, subst, arith}
+use Rattle.std.specs.Prelude.{max}
+use Rattle.xc_kernel.specs.declared.kernel.Var.{Var}
+use Rattle.xc_kernel.specs.Plain as kernel
+use Rattle.xc_disjoint.specs.Checked.{IsChecked}
+use Rattle.xc_formed.specs.Each.{AnyNumber, AnyOutput, AnyInput, EachMaybe, EachStatement, EachOf, EachRoot}
+use Rattle.xc_formed.specs.Levels.{IsLow, IsLowPlace, levels, levels_of_all}
+use Rattle.xc_formed.specs.Exits.{LeavesIn, AllLeaveIn, EachRootLeaves}
+use Rattle.xc_formed.specs.Parts as parts
+use Rattle.xc_formed.specs.Parts.{words_of, most_parts}
+use Rattle.xc_formed.proofs.Formed.{of_programs}
+use Rattle.xc_formed.proofs.FewRoots.{parts_are_few}
+use Rattle.xl_expr.specs.declared.plan.Plan.{Plan}
+use Rattle.xl_expr.specs.declared.plan.VarPlan.{VarPlan}
+use Rattle.xl_expr.specs.Measures.{nodes, nodes_of, nodes_at, depth, depth_of, depth_at}
+use Rattle.xl_expr.specs.Plans.{var_in}
+use Rattle.xl_flow.specs.Zeros.{room_of}
+use Rattle.xl_port.specs.Outputs.{output_depth, time_depth, time_nodes}
+use Rattle.xl_walk.specs.Built.{IsBuilt, AreBuilt, IsShallow, AreShallow, most, most_of_all, most_levels}
+use Rattle.xl_walk.specs.Inside.{IsInside, AreInside}
+use Rattle.xl_image.specs.Images.{IsPlan}
+use Rattle.xl_image.specs.Roots.{RootsAreBuilt, AreReady, most_of_roots}
+
+-- Levels.
+
+mutual
+  same_depth : (x : kernel.Expression) → depth x ≡ levels x
+  same_depth (kernel.number v) = refl
+  same_depth (kernel.read p) = same_depth_at p
+  same_depth (kernel.operation o u es pos) = let h = same_depth_of es in omega (arith, h)
+
+  same_depth_of : (es : kernel.Operands) → depth_of es ≡ levels_of_all es
+  same_depth_of kernel.no_operand = refl
+  same_depth_of (kernel.more_operands e es) = ap (λ n. max n (depth_of es)) (same_depth e) ∙ ap (max (levels e)) (same_depth_of es)
+
+  same_depth_at : (p : kernel.Place) → depth_at p ≡ levels (kernel.read p)
+  same_depth_at (kernel.word v) = refl
+  same_depth_at (kernel.element v i pos) = let h = same_depth i in omega (arith, h)
+
+low_expression : (x : kernel.Expression) → IsLow x → depth x ≤ most_levels
+low_expression x h = let e = same_depth x in omega (arith, h, e)
+
+low_place : (p : kernel.Place) → IsLowPlace p → depth_at p ≤ most_levels
+low_place p h = let e = same_depth_at p in omega (arith, h, e)
+
+both_low : (a b : ℕ) → a ≤ most_levels → b ≤ most_levels → max a b ≤ most_levels
+both_low a b h g = grind arith
+
+abbrev StatementIsLow : kernel.Statement → Type 0
+StatementIsLow = EachStatement IsLow IsLowPlace AnyNumber AnyOutput AnyInput AnyNumber
+
+abbrev StatementsAreLow : kernel.Statements → Type 0
+StatementsAreLow = EachOf IsLow IsLowPlace AnyNumber AnyOutput AnyInput AnyNumber
+
+output_low : (o : kernel.Output) (t : Option kernel.Expression) → o.time ≡ t → StatementIsLow (kernel.output o) → output_depth o ≤ most_levels
+output_low o None e h = both_low (time_depth o.time) (depth o.value) (subst (λ t. time_depth t ≤ most_levels) (sym e) (omega arith)) (low_expression o.value h.1.1.0)
+output_low o (Some x) e h =
+    let low : depth x ≤ most_levels = low_expression x (subst (λ t. EachMaybe IsLow IsLowPlace AnyNumber AnyOutput AnyInput AnyNumber t) e h.1.0) in
+    both_low (time_depth o.time) (depth o.value) (subst (λ t. time_depth t ≤ most_levels) (sym e) low) (low_expression o.value h.1.1.0)
+
+mutual
+  shallow : (s : kernel.Statement) → StatementIsLow s → IsShallow s
+  shallow (kernel.set_zero v) h = tt
+  shallow (kernel.set p e) h = (low_place p h.0, low_expression e h.1)
+  shallow (kernel.output o) h = output_low o o.time refl h
+  shallow (kernel.input i) h = tt
+  shallow (kernel.if_then x a b) h = (low_expression x h.0, all_shallow a h.1.0, all_shallow b h.1.1)
+  shallow (kernel.loop x a b) h = (low_expression x h.0, all_shallow a h.1.0, all_shallow b h.1.1)
+  shallow (kernel.block n a) h = all_shallow a h
+  shallow (kernel.exit n) h = tt
+  shallow (kernel.select cs d pos) h = tt
+  shallow (kernel.par bs) h = tt
+  shallow (kernel.transaction c is_master a start close) h = tt
+
+  all_shallow : (ss : kernel.Statements) → StatementsAreLow ss → AreShallow ss
+  all_shallow kernel.no_more h = tt
+  all_shallow (kernel.more s ss) h = (shallow s h.0, all_shallow ss h.1)
+
+-- Exits.
+
+mutual
+  inside : (around free : List ℕ) (s : kernel.Statement) → LeavesIn around free s → IsInside free s
+  inside around free (kernel.set_zero v) h = tt
+  inside around free (kernel.set p e) h = tt
+  inside around free (kernel.output o) h = tt
+  inside around free (kernel.input i) h = tt
+  inside around free (kernel.if_then x a b) h = (all_inside around free a h.0, all_inside around free b h.1)
+  inside around free (kernel.loop x a b) h = (all_inside around free a h.0, all_inside around free b h.1)
+  inside around free (kernel.block n a) h = all_inside (n ∷ around) (n ∷ free) a h.1
+  inside around free (kernel.exit n) h = h
+  inside around free (kernel.select cs d pos) h = tt
+  inside around free (kernel.par bs) h = tt
+  inside around free (kernel.transaction c is_master a start close) h = tt
+
+  all_inside : (around free : List ℕ) (ss : kernel.Statements) → AllLeaveIn around free ss → AreInside free ss
+  all_inside around free kernel.no_more h = tt
+  all_inside around free (kernel.more s ss) h = (inside around free s h.0, all_inside around free ss h.1)
+
+ready : (rs : List kernel.Root) → RootsAreBuilt rs → EachRoot IsLow IsLowPlace AnyNumber AnyOutput AnyInput AnyNumber rs → EachRootLeaves rs → AreReady rs
+ready [] built low leaves = tt
+ready (r ∷ rs) built low leaves =
+    (record { built = built.0; shallow = all_shallow r.body low.0; inside = all_inside [] [] r.body leaves.0 }, ready rs built.1 low.1 leaves.1)
+
+pub roots_ready : (k : kernel.Kernel) → IsChecked k → RootsAreBuilt k.roots → AreReady k.roots
+roots_ready k checked built =
+    let formed = of_programs k checked.of_program in
+    ready k.roots built formed.levels formed.exits
+
+-- How much code.
+
+mutual
+  same_nodes : (x : kernel.Expression) → nodes x ≡ parts.of_expression x
+  same_nodes (kernel.number v) = refl
+  same_nodes (kernel.read p) = same_nodes_at p
+  same_nodes (kernel.operation o u es pos) = let h = same_nodes_of es in omega (arith, h)
+
+  same_nodes_of : (es : kernel.Operands) → nodes_of es ≡ parts.of_operands es
+  same_nodes_of kernel.no_operand = refl
+  same_nodes_of (kernel.more_operands e es) = let h = same_nodes e in let g = same_nodes_of es in omega (arith, h, g)
+
+  same_nodes_at : (p : kernel.Place) → nodes_at p ≡ parts.of_place p
+  same_nodes_at (kernel.word v) = refl
+  same_nodes_at (kernel.element v i pos) = let h = same_nodes i in omega (arith, h)
+
+some_at : (p : kernel.Place) → 1 ≤ nodes_at p
+some_at (kernel.word v) = omega arith
+some_at (kernel.element v i pos) = omega arith
+
+some_nodes : (x : kernel.Expression) → 1 ≤ nodes x
+some_nodes (kernel.number v) = omega arith
+some_nodes (kernel.read p) = some_at p
+some_nodes (kernel.operation o u es pos) = omega arith
+
+same_time : (t : Option kernel.Expression) → time_nodes t ≡ parts.of_maybe t
+same_time None = refl
+same_time (Some x) = same_nodes x
+
+module _ (vs : List Var) (vars : List (Option VarPlan)) (zeros : (v : ℕ) → room_of (var_in vars v) ≤ 2 * words_of (slice_get vs v) + 2) where
+  mutual
+    few : (s : kernel.Statement) → IsBuilt s → most vars s ≤ 13 * parts.of_statement vs s
+    few (kernel.set_zero v) h = let z = zeros v in omega (arith, z)
+    few (kernel.set p e) h = let a = same_nodes_at p in let b = same_nodes e in omega (arith, a, b)
+    few (kernel.output o) h = let a = same_time o.time in let b = same_nodes o.value in let c = some_nodes o.value in omega (arith, a, b, c)
+    few (kernel.input i) h = absurd h
+    few (kernel.if_then x a b) h =
+        let n = same_nodes x in let m = some_nodes x in let p = all_few a h.0 in let q = all_few b h.1 in omega (arith, n, m, p, q)
+    few (kernel.loop x a b) h =
+        let n = same_nodes x in let m = some_nodes x in let p = all_few a h.0 in let q = all_few b h.1 in omega (arith, n, m, p, q)
+    few (kernel.block n a) h = all_few a h
+    few (kernel.exit n) h = omega arith
+    few (kernel.select cs d pos) h = absurd h
+    few (kernel.par bs) h = absurd h
+    few (kernel.transaction c is_master a start close) h = absurd h
+
+    all_few : (ss : kernel.Statements) → AreBuilt ss → most_of_all vars ss ≤ 13 * parts.of_statements vs ss
+    all_few kernel.no_more h = omega arith
+    all_few (kernel.more s ss) h = let a = few s h.0 in let b = all_few ss h.1 in omega (arith, a, b)
+
+  roots_few : (rs : List kernel.Root) → RootsAreBuilt rs → most_of_roots vars rs ≤ 13 * parts.of_roots vs rs
+  roots_few [] h = omega arith
+  roots_few (r ∷ rs) h = let a = all_few r.body h.0 in let b = roots_few rs h.1 in omega (arith, a, b)
+
+module _ (k : kernel.Kernel) (core : ℕ) (plan : Plan) (planned : IsPlan k core plan) where
+  zero_room : (v : ℕ) (o : Option VarPlan) → var_in plan.vars v ≡ o → room_of (var_in plan.vars v) ≤ 2 * words_of (slice_get k.variables v) + 2
+  zero_room v None e = subst (λ o. room_of o ≤ 2 * words_of (slice_get k.variables v) + 2) (sym e) (omega arith)
+  zero_room v (Some found) e =
+      let on = planned.no_other v found e in
+      let at = planned.variables v on.variable on.there on.place in
+      let words = ap words_of on.there in
+      let room = ap room_of at in
+      omega (arith, words, room)
+
+  pub code_fits : IsChecked k → RootsAreBuilt k.roots → most_of_roots plan.vars k.roots < 2 ^ 32
+  code_fits checked built =
+      let a = roots_few k.variables plan.vars (λ v. zero_room v (var_in plan.vars v) refl) k.roots built in
+      let b = parts_are_few k checked in
+      omega (arith, a, b)
