@@ -1,0 +1,102 @@
+//! Cases: a text, and the listing that must come of it.
+
+use std::alloc::{AllocError, AllocFailed, Global};
+use xw_io::SinkFault;
+use xw_words::Memory;
+
+/// A text, and the listing that must come of it. Each line of both ends with a line feed.
+#[derive(Drop)]
+pub struct Case {
+    pub text: String,
+    pub listing: String,
+}
+
+impl Case {
+    /// A case by its lines: `| ..` is a line of the text, and `= ..` one of the listing.
+    pub fn read(alloc: Global, lines: &str) -> Result<Case, Trouble> {
+        let text = marked(alloc, lines, "| ")?;
+        let listing = marked(alloc, lines, "= ")?;
+        if text.is_empty() || listing.is_empty() {
+            return Err(Trouble::Lines);
+        }
+        Ok(Case { text, listing })
+    }
+
+    /// The first line of a listing that differs from the one that must come, with that one.
+    pub fn difference(&self, alloc: Global, came: &str) -> Result<Option<String>, AllocError> {
+        let mut lines = came.split('\n');
+        for wanted in self.listing.as_str().split('\n') {
+            let line = lines.next().unwrap_or("");
+            if line != wanted {
+                return Ok(Some(format!(in alloc; "wanted: {wanted}\ncame: {line}")?));
+            }
+        }
+        match lines.next() {
+            None => Ok(None),
+            Some(line) => Ok(Some(format!(in alloc; "wanted: no line\ncame: {line}")?)),
+        }
+    }
+}
+
+/// What stands behind a mark, line by line.
+fn marked(alloc: Global, lines: &str, mark: &str) -> Result<String, AllocError> {
+    let mut all = String::new(alloc);
+    for line in lines.split('\n') {
+        if let Some(rest) = line.strip_prefix(mark) {
+            all.push_str(rest)?;
+            all.push('\n')?;
+        }
+    }
+    Ok(all)
+}
+
+/// Why a case can't be tried.
+#[derive(Clone, Copy)]
+pub enum Trouble {
+    /// It has no text or no listing.
+    Lines,
+    /// The text is too long or breaks a rule, or memory was wanting for its kernel.
+    Text,
+    /// The text has a statement whose code isn't built.
+    Statement,
+    /// The listing is longer than a case's may be.
+    Listing,
+    Memory,
+}
+
+impl Trouble {
+    /// What is said of it.
+    pub fn message(self) -> &'static str {
+        match self {
+            Trouble::Lines => "no text or no listing",
+            Trouble::Text => "a text without a checked kernel",
+            Trouble::Statement => "a statement whose code isn't built",
+            Trouble::Listing => "a listing that is too long",
+            Trouble::Memory => "out of memory",
+        }
+    }
+}
+
+impl From<Memory> for Trouble {
+    fn from(_: Memory) -> Trouble {
+        Trouble::Memory
+    }
+}
+
+impl From<AllocError> for Trouble {
+    fn from(_: AllocError) -> Trouble {
+        Trouble::Memory
+    }
+}
+
+impl<T: Drop> From<AllocFailed<T>> for Trouble {
+    fn from(_: AllocFailed<T>) -> Trouble {
+        Trouble::Memory
+    }
+}
+
+impl From<SinkFault> for Trouble {
+    fn from(_: SinkFault) -> Trouble {
+        Trouble::Listing
+    }
+}
