@@ -16,6 +16,7 @@ pub trait Registers {
 }
 
 impl Registers for Regs {
+    #[inline]
     fn new() -> Regs
         ensures { result ≡ no_regs }
     {
@@ -39,6 +40,7 @@ impl Registers for Regs {
         }
     }
 
+    #[inline]
     fn get(&self, r: Reg) -> u32
         ensures { result ≡ reg_get self.now r }
     {
@@ -62,6 +64,7 @@ impl Registers for Regs {
         }
     }
 
+    #[inline]
     fn set(&mut self, r: Reg, v: u32)
         ensures { self.new ≡ reg_set self.old r v }
     {
