@@ -1,0 +1,4 @@
+pub mod Runners
+pub mod Fits
+pub mod Scenes
+pub mod Turns

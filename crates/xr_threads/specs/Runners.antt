@@ -1,0 +1,105 @@
+-- What is fixed for a whole run: the program, its image, and the plan of each core; and which thread runs which branch.
+use Rattle.std.specs.Prelude.{◌≡◌, ℕ, zero, suc, ◌+◌, ◌<◌, ◌≤◌, Bool, true, false, ◌&&◌, ◌||◌, List, length, Option, Some, None, nat_le, nat_lt, slice_get}
+use Rattle.xs_instr.specs.declared.image.Code.{Code}
+use Rattle.xs_instr.specs.declared.image.Home.{Home}
+use Rattle.xs_instr.specs.declared.image.Image.{Image}
+use Rattle.xs_instr.specs.declared.image.Stim.{Stim}
+use Rattle.xs_instr.specs.Machine.{home_of}
+use Rattle.xs_instr.specs.OwnSteps.{temporary}
+use Rattle.xs_instr.specs.Ports.{can_send}
+use Rattle.xs_instr.specs.Resources.{APort, named}
+use Rattle.xc_kernel.specs.declared.kernel.PortUse.{PortUse}
+use Rattle.xc_kernel.specs.Plain as kernel
+use Rattle.xl_expr.specs.declared.plan.Plan.{Plan}
+use Rattle.xl_expr.specs.declared.plan.ResAt.TheVariants.{Fixed}
+use Rattle.xl_expr.specs.declared.plan.VarAt.{VarAt}
+use Rattle.xl_expr.specs.declared.plan.VarAt.TheVariants.{Near, Far, Through}
+use Rattle.xl_expr.specs.declared.plan.VarPlan.{VarPlan}
+use Rattle.xl_expr.specs.Frames.{Frame, IsNear}
+use Rattle.xl_expr.specs.Plans.{resource_at, var_in}
+use Rattle.xl_plan.specs.Layout.{port_name, port_number}
+
+pub record Setting : Type 0 where
+  pub program : kernel.Kernel
+  pub image : Image
+  pub stimulus : Stim
+  pub plans : (core : ℕ) → Plan
+
+-- what a branch may use and change, from its birth on: variables and ports of the kernel by number
+pub record Footprint : Type 0 where
+  pub uses : (variable : ℕ) → Bool
+  pub changes : (variable : ℕ) → Bool
+  pub ports : (port : ℕ) → Bool
+
+-- A hardware thread that runs a branch: dp names word `base`, and its temporary words begin at word `stack`. Its steps count for a family.
+pub record Runner : Type 0 where
+  pub core : ℕ
+  pub thread : ℕ
+  pub tie : Option ℕ
+  pub branch : ℕ
+  pub family : ℕ
+  pub base : ℕ
+  pub stack : ℕ
+  pub footprint : Footprint
+
+-- a word among so many from one on
+abbrev pub is_among_words : (first words w : ℕ) → Bool
+is_among_words first words w = nat_le first w && nat_lt w (first + words)
+
+-- a word of a variable that stands near, with dp at a word
+abbrev pub is_word_at : (base : ℕ) → VarAt → (words w : ℕ) → Bool
+is_word_at base (Near n) words w = is_among_words (base + n) words w
+is_word_at base (Far n) words w = false
+is_word_at base (Through n) words w = false
+
+abbrev pub is_word_of : (base : ℕ) → Option VarPlan → (w : ℕ) → Bool
+is_word_of base None w = false
+is_word_of base (Some found) w = is_word_at base found.place found.words w
+
+-- a word of one of the first variables, among those of which this is so
+abbrev pub is_word_among : (base : ℕ) → List (Option VarPlan) → (is_meant : ℕ → Bool) → (variables w : ℕ) → Bool
+is_word_among base vars is_meant zero w = false
+is_word_among base vars is_meant (suc v) w =
+    (is_meant v && is_word_of base (var_in vars v) w) || is_word_among base vars is_meant v w
+
+module _ (g : Setting) (r : Runner) where
+  -- what no event changes of a runner's core
+  abbrev pub home : Home
+  home = home_of g.image g.stimulus r.core
+
+  abbrev pub code : Code
+  code = home.parts.code
+
+  abbrev pub plan : Plan
+  plan = g.plans r.core
+
+  -- the words that a runner relies on: its temporary ones, and those of the variables that it uses
+  abbrev pub relied : (w : ℕ) → Bool
+  relied w =
+      is_among_words r.stack temporary w || is_word_among r.base plan.vars r.footprint.uses (length plan.vars) w
+
+  -- the words that it may change
+  pub data MayChange (w : ℕ) : Type 0 where
+    of_variable : (v n i : ℕ) (found : VarPlan) → IsNear plan.vars v n found → r.footprint.changes v ≡ true → i < found.words →
+        w ≡ r.base + n + i → MayChange w
+    of_stack : (k : ℕ) → k < temporary → w ≡ r.stack + k → MayChange w
+
+  -- the place of a port on the runner's core
+  abbrev pub port_place : (port : ℕ) → ℕ
+  port_place p = port_number r.core g.program.ports p
+
+  -- a port of the runner's, as the kernel has it
+  pub record IsPort (p : ℕ) (use : PortUse) : Type 0 where
+    pub mine : r.footprint.ports p ≡ true
+    pub known : slice_get g.program.ports p ≡ Some use
+    pub core : use.core ≡ r.core
+
+  -- The variables of a runner's core stand near, no two of them share a word, and none is a temporary one of the runner's. Its ports have
+  -- the identifiers that the plan gives them.
+  pub record IsLaidOut : Type 0 where
+    pub frame : Frame plan.vars relied r.footprint.uses r.stack r.base
+    pub changes : (v : ℕ) → r.footprint.changes v ≡ true → r.footprint.uses v ≡ true
+    pub small : r.stack + temporary ≤ 16384
+    pub identifiers : (p : ℕ) (use : PortUse) → IsPort p use →
+        resource_at plan.ports p ≡ Some (Fixed (port_name r.core (port_place p)))
+    pub names : (p : ℕ) (use : PortUse) → IsPort p use → named home.number (port_name r.core (port_place p)) ≡ APort (port_place p)
