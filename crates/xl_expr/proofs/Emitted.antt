@@ -6,10 +6,10 @@ use Rattle.xs_instr.specs.declared.instr.Instr.{Instr}
 use Rattle.xs_instr.specs.declared.instr.Instr.TheVariants.{Ldwsp, Stwsp, Brff, Brfu}
 use Rattle.xs_instr.specs.declared.instr.Reg.{Reg}
 use Rattle.xs_instr.specs.declared.instr.Reg.TheVariants.{R0, R11}
-use Rattle.xs_instr.specs.Lines.{Line, line, open_line, aimed, with_target, IsOpen, IsOpenLine, landed, landed_at, at_pos}
+use Rattle.xs_instr.specs.Lines.{Line, line, open_line, aimed, with_target, IsOpen, IsOpenLine, landed, landed_at, at_pos, first_pos, last_or, last_pos}
 use Rattle.xc_kernel.specs.Operators as operator
 use Rattle.xl_expr.specs.declared.direct_operand.Direct.{Direct}
-use Rattle.xl_expr.specs.Code.{after_main, main_instr, two_tail, brought, direct_tail}
+use Rattle.xl_expr.specs.Code.{after_main, main_instr, moved_to, two_tail, brought, direct_tail, with_move}
 use Rattle.xs_instr.specs.Extends.{Extends}
 use Rattle.xl_expr.specs.Parts.{aimed_code, either_code}
 
@@ -41,6 +41,22 @@ landed_behind front rest ls h n i pos e f =
     ∙ ap (λ k. landed (front ++ open_line i pos ∷ rest) k n) e
     ∙ ap (landed_at (front ++ open_line i pos ∷ rest) (length front) n) (get_behind front (open_line i pos) rest)
     ∙ set_behind front (open_line i pos) (aimed (open_line i pos) n) rest
+
+-- the place behind lines
+pub last_append : (last : Pos) (a b : List Line) → last_or last (a ++ b) ≡ last_or (last_or last a) b
+last_append last [] b = refl
+last_append last (l ∷ a) b = last_append l.pos a b
+
+pub last_added : (old new more : List Line) → new ≡ old ++ more → last_pos new ≡ last_or (last_pos old) more
+last_added old new more h = ap last_pos h ∙ last_append first_pos old more
+
+-- code, and the move behind it
+pub move_emitted : (to : Reg) (behind : Pos) (old e1 e2 ls : List Line) → e1 ≡ old ++ ls → behind ≡ last_pos e1 → e2 ≡ e1 ++ at_pos behind (moved_to to) → e2 ≡ old ++ with_move to (last_pos old) ls
+move_emitted to behind old e1 e2 ls h1 at_last h2 =
+    h2
+    ∙ ap (λ p. e1 ++ at_pos p (moved_to to)) (at_last ∙ last_added old e1 ls h1)
+    ∙ ap (λ x. x ++ at_pos (last_or (last_pos old) ls) (moved_to to)) h1
+    ∙ append_assoc old ls (at_pos (last_or (last_pos old) ls) (moved_to to))
 
 -- one more line is one more
 pub one_longer : (old new : List Line) (l : Line) → new ≡ old ++ l ∷ [] → length new ≡ length old + 1

@@ -1,5 +1,5 @@
 -- The code of an expression gives its word in a register, on a core, whatever other threads do.
-use Rattle.std.proofs.Common.{◌≡◌, ℕ, ◌+◌, ◌*◌, ◌≤◌, inl, inr, Bool, false, List, [], ◌∷◌, ◌++◌, length, Option, Some, None, refl, sym, ap, ◌∙◌, subst, arith, length-append, suc, zero}
+use Rattle.std.proofs.Common.{◌≡◌, ℕ, ◌+◌, ◌-◌, ◌*◌, ◌≤◌, inl, inr, Bool, false, List, [], ◌∷◌, ◌++◌, length, Option, Some, None, refl, sym, ap, ◌∙◌, subst, arith, length-append, suc, zero}
 use Rattle.std.specs.Prelude.{slice_get, bit_or}
 use Rattle.std.specs.Int.Bits.{or_self}
 use Rattle.xw_words.specs.declared.pos.Pos.{Pos}
@@ -15,13 +15,13 @@ use Rattle.xs_instr.specs.Registers.{reg_get, reg_set}
 use Rattle.xc_kernel.specs.Plain as kernel
 use Rattle.xc_kernel.specs.Values.{Value, word, error}
 use Rattle.xc_kernel.specs.Eval.{Store, eval}
-use Rattle.xs_instr.specs.Lines.{Line, at_pos}
+use Rattle.xs_instr.specs.Lines.{Line, at_pos, last_or}
 use Rattle.xs_instr.specs.OwnSteps.{HasRoom, IsApart, RunsAt, StandAt, Within, temporary}
 use Rattle.xl_expr.specs.declared.plan.VarPlan.{VarPlan}
 use Rattle.xl_expr.specs.Measures.{nodes, depth}
 use Rattle.xl_expr.specs.Code.{direct_of, expression_code, code_by, code_to}
 use Rattle.xl_expr.specs.declared.direct_operand.Direct.{Direct}
-use Rattle.xl_expr.specs.Works.{IsLaid, Gives, Outcome, Evaluates, same_reg, is_scratch}
+use Rattle.xl_expr.specs.Works.{IsLaid, Gives, Outcome, Evaluates, steps_before, same_reg, is_scratch}
 use Rattle.xl_expr.proofs.Lists.{stand_front, stand_back, room_kept}
 use Rattle.xl_expr.proofs.Ways.{own, Agree, way_on, Fits, way_leads, fails_errs}
 use Rattle.xl_expr.proofs.Runs.{Runs, Ready, by_quiet, IsSaved}
@@ -43,6 +43,18 @@ within_more home relied leaves t Q zero (suc n) le a h = inl h
 within_more home relied leaves t Q (suc m) zero le a h = absurd (omega arith)
 within_more home relied leaves t Q (suc m) (suc n) le a (inl h) = inl h
 within_more home relied leaves t Q (suc m) (suc n) le a (inr h) = inr (λ b k. let x = h b k in (x.0, x.1, within_more home relied leaves t Q m n (omega arith) x.0 x.2))
+
+-- before an error there is a step less
+pub steps_few : (v : Value) (most : ℕ) → steps_before v most ≤ most
+steps_few (word v) most = omega arith
+steps_few (error kind pos) most = omega arith
+
+steps_more : (v : Value) (m n : ℕ) → m ≤ n → steps_before v m ≤ steps_before v n
+steps_more (word v) m n le = le
+steps_more (error kind pos) m n le = omega arith
+
+pub within_most : (home : Home) (relied : ℕ → Bool) (leaves : ℕ → Type 0) (t : ℕ) (Q : CoreState → Type 0) (v : Value) (most : ℕ) (a : CoreState) → Within home relied leaves t Q (steps_before v most) a → Within home relied leaves t Q most a
+within_most home relied leaves t Q v most a h = within_more home relied leaves t Q (steps_before v most) most (steps_few v most) a h
 
 -- one piece of code after another
 pub then_within : (home : Home) (relied : ℕ → Bool) (leaves : ℕ → Type 0) (t : ℕ) (P Q : CoreState → Type 0) (m n : ℕ) (a : CoreState) → Within home relied leaves t P m a → ((b : CoreState) → P b → Within home relied leaves t Q n b) → Within home relied leaves t Q (m + n) a
@@ -78,7 +90,7 @@ module _ (home : Home) (relied : ℕ → Bool) (s t : ℕ) (thread : Thread) (a 
   gives_by to pc' v regs' words' size value others same b f = record { regs = regs'; within = last_there words' size b f.words; here = f.here; value = value; others = others; words = λ w r h. f.words.by w r ∙ same w h }
 
   abbrev Reaches : Reg → ℕ → ℕ → Value → Type 0
-  Reaches to pc' most v = Within home relied (IsApart s) t (Outcome home relied s t thread a.words to pc' v) most a
+  Reaches to pc' most v = Within home relied (IsApart s) t (Outcome home relied s t thread a.words to pc' v) (steps_before v most) a
 
   -- the word stays in r0
   stays : (pc' most : ℕ) (v : Value) → Runs my_code relied s thread.regs a.words pc pc' 0 most v → Reaches R0 pc' (most + 1) v
@@ -87,7 +99,7 @@ module _ (home : Home) (relied : ℕ → Bool) (s t : ℕ) (thread : Thread) (a 
       way_leads my_code relied (IsApart s) home t thread at_work.runs at_work.no_events refl _ r.count (most + 1) (own pc thread.regs a.words) (own pc' r.regs' r.words') (omega arith) r.way (gives_by R0 pc' v r.regs' r.words' r.keeps.size r.value (λ q e ne. r.keeps.others q e) (λ w h. r.keeps.same w (apart_saved w h))) a starts
   stays pc' most (error kind pos) r =
       let few = r.few in
-      way_leads my_code relied (IsApart s) home t thread at_work.runs at_work.no_events refl _ r.count (most + 1) (own pc thread.regs a.words) r.there (omega arith) r.way (λ b f. fails_errs my_code relied (IsApart s) home t thread at_work.runs at_work.no_events refl kind pos r.there r.fails b f) a starts
+      way_leads my_code relied (IsApart s) home t thread at_work.runs at_work.no_events refl _ r.count (most + 1 - 1) (own pc thread.regs a.words) r.there (omega arith) r.way (λ b f. fails_errs my_code relied (IsApart s) home t thread at_work.runs at_work.no_events refl kind pos r.there r.fails b f) a starts
 
   -- it goes to another register
   moves : (to : Reg) (pc1 most : ℕ) (last : Pos) (v : Value) → StandAt my_code pc1 (at_pos last (Or to R0 R0 ∷ [])) → Runs my_code relied s thread.regs a.words pc pc1 0 most v → Reaches to (pc1 + 1) (most + 1) v
@@ -99,7 +111,7 @@ module _ (home : Home) (relied : ℕ → Bool) (s t : ℕ) (thread : Thread) (a 
       way_leads my_code relied (IsApart s) home t thread at_work.runs at_work.no_events refl _ (r.count + 1) (most + 1) (own pc thread.regs a.words) (own (pc1 + 1) regs2 r.words') (omega arith) all (gives_by to (pc1 + 1) v regs2 r.words' r.keeps.size (reg_same r.regs' to (bit_or r.regs'.r0 r.regs'.r0) ∙ or_self r.regs'.r0 ∙ r.value) (λ q e ne. reg_other r.regs' to q (bit_or r.regs'.r0 r.regs'.r0) ne ∙ r.keeps.others q e) (λ w h. r.keeps.same w (apart_saved w h))) a starts
   moves to pc1 most last (error kind pos) st r =
       let few = r.few in
-      way_leads my_code relied (IsApart s) home t thread at_work.runs at_work.no_events refl _ r.count (most + 1) (own pc thread.regs a.words) r.there (omega arith) r.way (λ b f. fails_errs my_code relied (IsApart s) home t thread at_work.runs at_work.no_events refl kind pos r.there r.fails b f) a starts
+      way_leads my_code relied (IsApart s) home t thread at_work.runs at_work.no_events refl _ r.count (most + 1 - 1) (own pc thread.regs a.words) r.there (omega arith) r.way (λ b f. fails_errs my_code relied (IsApart s) home t thread at_work.runs at_work.no_events refl kind pos r.there r.fails b f) a starts
 
   module _ (vars : List (Option VarPlan)) (x : kernel.Expression) (last : Pos) (store : Store) (laid : IsLaid vars relied s thread.regs.dp a.words store x) (shallow : depth x ≤ temporary) where
     runs_here : StandAt my_code pc (expression_code vars x 0 pc last) → Runs my_code relied s thread.regs a.words pc (pc + length (expression_code vars x 0 pc last)) 0 (7 * nodes x) (eval store x)
@@ -109,15 +121,18 @@ module _ (home : Home) (relied : ℕ → Bool) (s t : ℕ) (thread : Thread) (a 
     end_is is = omega (arith, length-append (expression_code vars x 0 pc last) is)
 
     reaches_on : (to : Reg) (pc' pc'' m n : ℕ) → pc' ≡ pc'' → m ≤ n → Reaches to pc' m (eval store x) → Reaches to pc'' n (eval store x)
-    reaches_on to pc' pc'' m n e le h = subst (λ p. Reaches to p n (eval store x)) e (within_more home relied (IsApart s) t (Outcome home relied s t thread a.words to pc' (eval store x)) m n le a h)
+    reaches_on to pc' pc'' m n e le h = subst (λ p. Reaches to p n (eval store x)) e (within_more home relied (IsApart s) t (Outcome home relied s t thread a.words to pc' (eval store x)) (steps_before (eval store x) m) (steps_before (eval store x) n) (steps_more (eval store x) m n le) a h)
 
-    moved : (to : Reg) → StandAt my_code pc (expression_code vars x 0 pc last ++ at_pos last (Or to R0 R0 ∷ [])) → Reaches to (pc + length (expression_code vars x 0 pc last ++ at_pos last (Or to R0 R0 ∷ []))) (8 * nodes x) (eval store x)
+    abbrev behind : Pos
+    behind = last_or last (expression_code vars x 0 pc last)
+
+    moved : (to : Reg) → StandAt my_code pc (expression_code vars x 0 pc last ++ at_pos behind (Or to R0 R0 ∷ [])) → Reaches to (pc + length (expression_code vars x 0 pc last ++ at_pos behind (Or to R0 R0 ∷ []))) (8 * nodes x) (eval store x)
     moved to st =
         let ls = expression_code vars x 0 pc last in
-        let tail = at_pos last (Or to R0 R0 ∷ []) in
+        let tail = at_pos behind (Or to R0 R0 ∷ []) in
         let some = some_nodes x in
         reaches_on to (pc + length ls + 1) (pc + length (ls ++ tail)) (7 * nodes x + 1) (8 * nodes x) (end_is tail) (omega arith)
-        (moves to (pc + length ls) (7 * nodes x) last (eval store x) (stand_back my_code pc ls tail st) (runs_here (stand_front my_code pc ls tail st)))
+        (moves to (pc + length ls) (7 * nodes x) behind (eval store x) (stand_back my_code pc ls tail st) (runs_here (stand_front my_code pc ls tail st)))
 
     -- by the whole code
     by_code : (to : Reg) → StandAt my_code pc (code_by None vars x to pc last) → Reaches to (pc + length (code_by None vars x to pc last)) (8 * nodes x) (eval store x)

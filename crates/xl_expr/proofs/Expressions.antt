@@ -20,11 +20,11 @@ use Rattle.xl_expr.specs.declared.plan.VarPlan.{VarPlan}
 use Rattle.xl_expr.specs.Plans.{var_in}
 use Rattle.xl_expr.specs.Measures.{nodes, nodes_of, nodes_at, depth, depth_of, depth_at}
 use Rattle.xl_expr.specs.Code.{where_below, fixed_index, near_word, direct_word, near_element, direct_element, direct_place, direct_of, operand_of, expression_code, codes, place_code}
-use Rattle.xl_expr.specs.Works.{WordStands, ArrayStands, WordIsLaid, ArrayIsLaid, IsLaid, AreLaid, PlaceIsLaid}
+use Rattle.xl_expr.specs.Works.{WordStands, ArrayStands, WordIsLaid, ArrayIsLaid, ElementIsLaid, IsLaid, AreLaid, PlaceIsLaid}
 use Rattle.xl_expr.proofs.Runs.{keeps_r0, done, looser, one_on, by_quiet}
 use Rattle.xl_expr.proofs.Pieces.{Means}
 use Rattle.xl_expr.proofs.Operations.{HasDirect, AllMean, none, some, operation_means}
-use Rattle.xl_expr.proofs.Places.{near_address, word_means, element_means}
+use Rattle.xl_expr.proofs.Places.{array_of, near_address, word_means, element_means}
 
 module _ (code : Code) (relied : ℕ → Bool) (s : ℕ) (small : s + temporary ≤ 16384) (mine : (k : ℕ) → k < temporary → relied (s + k) ≡ true) (dp : ℕ) (first : List ℕ) (vars : List (Option VarPlan)) (store : Store) where
   abbrev Piece_means : (ℕ → ℕ → Pos → List Line) → Value → ℕ → ℕ → Type 0
@@ -62,17 +62,18 @@ module _ (code : Code) (relied : ℕ → Bool) (s : ℕ) (small : s + temporary 
   not_direct (Far n) v = tt
   not_direct (Through n) v = tt
 
-  element_direct : (found : Option VarPlan) (xs : List ℕ) (i : kernel.Expression) (pos : Pos) → ArrayIsLaid vars relied s dp first store found xs (eval store i) → HasDirect code relied s small mine dp first (direct_element found i) (element_at xs pos (eval store i))
-  element_direct None xs i pos h = tt
-  element_direct (Some found) xs (kernel.number i) pos h =
-      subst (λ len. HasDirect code relied s small mine dp first (near_element found.place (where_below i (nat_lt i len))) (element_by xs pos i (nat_lt i (length xs)))) (sym h.0)
-      (near_at found.place xs i pos (nat_lt i (length xs)) refl h.1)
-  element_direct (Some found) xs (kernel.read p) pos h = not_direct found.place (element_at xs pos (eval store (kernel.read p)))
-  element_direct (Some found) xs (kernel.operation o u es at_pos') pos h = not_direct found.place (element_at xs pos (eval store (kernel.operation o u es at_pos')))
+  element_direct : (found : Option VarPlan) (index : Type 0) (xs : List ℕ) (i : kernel.Expression) (pos : Pos) → ElementIsLaid vars relied s dp first store found index xs (eval store i) → HasDirect code relied s small mine dp first (direct_element found i) (element_at xs pos (eval store i))
+  element_direct None index xs i pos h = tt
+  element_direct (Some found) index xs (kernel.number i) pos h =
+      let laid = array_of found.place index (ArrayIsLaid vars relied s dp first store found xs (word i)) h in
+      subst (λ len. HasDirect code relied s small mine dp first (near_element found.place (where_below i (nat_lt i len))) (element_by xs pos i (nat_lt i (length xs)))) (sym laid.0)
+      (near_at found.place xs i pos (nat_lt i (length xs)) refl laid.1)
+  element_direct (Some found) index xs (kernel.read p) pos h = not_direct found.place (element_at xs pos (eval store (kernel.read p)))
+  element_direct (Some found) index xs (kernel.operation o u es at_pos') pos h = not_direct found.place (element_at xs pos (eval store (kernel.operation o u es at_pos')))
 
   place_direct : (p : kernel.Place) → PlaceIsLaid vars relied s dp first store p → HasDirect code relied s small mine dp first (direct_place vars p) (eval_place store p)
   place_direct (kernel.word v) h = word_direct (var_in vars v) (words_of store v) h
-  place_direct (kernel.element v i pos) h = element_direct (var_in vars v) (words_of store v) i pos h.1
+  place_direct (kernel.element v i pos) h = element_direct (var_in vars v) (IsLaid vars relied s dp first store i) (words_of store v) i pos h
 
   pub direct_means : (x : kernel.Expression) → IsLaid vars relied s dp first store x → HasDirect code relied s small mine dp first (direct_of vars x) (eval store x)
   direct_means (kernel.number v) h = (v, refl, refl)
@@ -104,4 +105,4 @@ module _ (code : Code) (relied : ℕ → Bool) (s : ℕ) (small : s + temporary 
     place_means : (p : kernel.Place) → PlaceIsLaid vars relied s dp first store p → Piece_means (place_code vars p) (eval_place store p) (depth_at p) (nodes_at p)
     place_means (kernel.word v) h = word_means code relied s small mine dp first vars store (var_in vars v) (words_of store v) h
     place_means (kernel.element v i pos) h =
-        element_means code relied s small mine dp first vars store (var_in vars v) (words_of store v) i pos (expression_code vars i) (eval store i) (depth i) (nodes i) (expression_means i h.0) (fixed_known i) h.1
+        element_means code relied s small mine dp first vars store (var_in vars v) (words_of store v) i pos (expression_code vars i) (eval store i) (depth i) (nodes i) (IsLaid vars relied s dp first store i) (λ laid. expression_means i laid) (fixed_known i) h

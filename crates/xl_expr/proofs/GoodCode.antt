@@ -10,7 +10,7 @@ use Rattle.xs_instr.specs.Valid.{AreGoodInstrs, IsGoodInstr}
 use Rattle.xc_kernel.specs.Plain as kernel
 use Rattle.xc_kernel.specs.Operators as operator
 use Rattle.xc_kernel.specs.Operators.{Operator, operator_at}
-use Rattle.xs_instr.specs.Lines.{HasNoHole, Line, instr_of, line, at_pos}
+use Rattle.xs_instr.specs.Lines.{HasNoHole, Line, instr_of, line, at_pos, last_or}
 use Rattle.xl_expr.specs.declared.plan.VarAt.{VarAt}
 use Rattle.xl_expr.specs.declared.plan.VarAt.TheVariants.{Near, Far, Through}
 use Rattle.xl_expr.specs.declared.plan.VarPlan.{VarPlan}
@@ -187,8 +187,9 @@ code_to_good vars x to size here last h = by_direct (direct_of vars x) h
     by_direct (Some d) g = (brought_plain d to size here, refl, tt)
     by_direct None g =
         let ls = expression_code vars x 0 here last in
-        let l = length-append ls (at_pos last (moved_to to)) in
-        good_append size here ls (at_pos last (moved_to to)) ((code_good vars x).by size 0 here last (omega (arith, g, l))) (plain_good last (moved_to to) (moved_plain to) size (here + length ls))
+        let behind = last_or last ls in
+        let l = length-append ls (at_pos behind (moved_to to)) in
+        good_append size here ls (at_pos behind (moved_to to)) ((code_good vars x).by size 0 here last (omega (arith, g, l))) (plain_good behind (moved_to to) (moved_plain to) size (here + length ls))
 
 -- and of a store
 pub store_good : (vars : List (Option VarPlan)) (p : kernel.Place) (from : Reg) (size here : ℕ) (last : Pos) → here + length (store_code vars p from here last) < size → AreGoodLines size here (store_code vars p from here last)

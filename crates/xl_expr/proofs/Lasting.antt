@@ -10,8 +10,13 @@ use Rattle.xl_expr.specs.declared.plan.VarAt.TheVariants.{Near, Far, Through}
 use Rattle.xl_expr.specs.declared.plan.VarPlan.{VarPlan}
 use Rattle.xl_expr.specs.Plans.{var_in}
 use Rattle.xl_expr.specs.Stores.{OfWord, OfElement, WordAt, ElementAt, IsAddress}
-use Rattle.xl_expr.specs.Works.{WordStands, ArrayStands, WordIsLaid, ArrayIsLaid, IsLaid, AreLaid, PlaceIsLaid}
+use Rattle.xl_expr.specs.Works.{WithIndex, WordStands, ArrayStands, WordIsLaid, ArrayIsLaid, ElementIsLaid, IsLaid, AreLaid, PlaceIsLaid}
 use Rattle.xl_expr.proofs.Lists.{word_by_same}
+
+with_index_lasts : (place : VarAt) (index array index' array' : Type 0) → (index → index') → (array → array') → WithIndex place index array → WithIndex place index' array'
+with_index_lasts (Near n) index array index' array' f g h = (f h.0, g h.1)
+with_index_lasts (Far n) index array index' array' f g h = (f h.0, g h.1)
+with_index_lasts (Through n) index array index' array' f g h = g h
 
 module _ (vars : List (Option VarPlan)) (relied : ℕ → Bool) (s dp : ℕ) (words words' : List ℕ) (store : Store) (same : (w : ℕ) → relied w ≡ true → IsApart s w → slice_get words' w ≡ slice_get words w) where
   word_lasts : (address x : ℕ) → IsWord relied s words address x → IsWord relied s words' address x
@@ -35,9 +40,10 @@ module _ (vars : List (Option VarPlan)) (relied : ℕ → Bool) (s dp : ℕ) (wo
   word_laid None xs h = h
   word_laid (Some found) xs h = stands_last found.place (slice_index xs 0) h
 
-  array_laid : (found : Option VarPlan) (xs : List ℕ) (i : Value) → ArrayIsLaid vars relied s dp words store found xs i → ArrayIsLaid vars relied s dp words' store found xs i
-  array_laid None xs i h = h
-  array_laid (Some found) xs i h = (h.0, array_lasts found.place xs i h.1)
+  element_laid : (found : Option VarPlan) (index index' : Type 0) (xs : List ℕ) (i : Value) → (index → index') → ElementIsLaid vars relied s dp words store found index xs i → ElementIsLaid vars relied s dp words' store found index' xs i
+  element_laid None index index' xs i f h = h
+  element_laid (Some found) index index' xs i f h =
+      with_index_lasts found.place index (ArrayIsLaid vars relied s dp words store found xs i) index' (ArrayIsLaid vars relied s dp words' store found xs i) f (λ g. (g.0, array_lasts found.place xs i g.1)) h
 
   mutual
     pub laid_lasts : (x : kernel.Expression) → IsLaid vars relied s dp words store x → IsLaid vars relied s dp words' store x
@@ -51,7 +57,8 @@ module _ (vars : List (Option VarPlan)) (relied : ℕ → Bool) (s dp : ℕ) (wo
 
     pub place_lasts : (p : kernel.Place) → PlaceIsLaid vars relied s dp words store p → PlaceIsLaid vars relied s dp words' store p
     place_lasts (kernel.word v) h = word_laid (var_in vars v) (words_of store v) h
-    place_lasts (kernel.element v i pos) h = (laid_lasts i h.0, array_laid (var_in vars v) (words_of store v) (eval store i) h.1)
+    place_lasts (kernel.element v i pos) h =
+        element_laid (var_in vars v) (IsLaid vars relied s dp words store i) (IsLaid vars relied s dp words' store i) (words_of store v) (eval store i) (λ g. laid_lasts i g) h
 
   -- and so do addresses
   word_at_lasts : (place : VarAt) (address : ℕ) → WordAt vars relied s dp words place address → WordAt vars relied s dp words' place address

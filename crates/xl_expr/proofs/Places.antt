@@ -25,7 +25,7 @@ use Rattle.xl_expr.specs.declared.plan.VarAt.{VarAt}
 use Rattle.xl_expr.specs.declared.plan.VarAt.TheVariants.{Near, Far, Through}
 use Rattle.xl_expr.specs.declared.plan.VarPlan.{VarPlan}
 use Rattle.xl_expr.specs.Code.{fixed_index, held_word, tested_index, word_at_place, word_code, element_at_place, element_code}
-use Rattle.xl_expr.specs.Works.{StandFrom, WordStands, ArrayStands, WordIsLaid, ArrayIsLaid}
+use Rattle.xl_expr.specs.Works.{WithIndex, StandFrom, WordStands, ArrayStands, WordIsLaid, ElementIsLaid}
 use Rattle.xl_expr.proofs.Lists.{stand_front, stand_back}
 use Rattle.xl_expr.proofs.Ways.{own, IsPlain, Sure}
 use Rattle.xl_expr.proofs.Runs.{Runs, Keeps, Ready, ready_kept, keeps_all, keeps_r0, keeps_r11, done, looser, one_on, by_quiet, word_there}
@@ -42,6 +42,12 @@ plain_ldw d b i = record { row_is = λ h c t th. refl; no_event = refl }
 
 plain_ecallf : (a : Reg) → IsPlain (Ecallf a)
 plain_ecallf a = record { row_is = λ h c t th. refl; no_event = refl }
+
+-- the array alone
+pub array_of : (place : VarAt) (index array : Type 0) → WithIndex place index array → array
+array_of (Near n) index array h = h.1
+array_of (Far n) index array h = h.1
+array_of (Through n) index array h = h
 
 module _ (code : Code) (relied : ℕ → Bool) (s : ℕ) (small : s + temporary ≤ 16384) (mine : (k : ℕ) → k < temporary → relied (s + k) ≡ true) (dp : ℕ) (first : List ℕ) (vars : List (Option VarPlan)) (store : Store) where
   abbrev Piece_means : (ℕ → ℕ → Pos → List Line) → Value → ℕ → ℕ → Type 0
@@ -205,15 +211,18 @@ module _ (code : Code) (relied : ℕ → Bool) (s : ℕ) (small : s + temporary 
   near_address n i = omega arith
 
   -- an element of an array
-  pub element_means : (found : Option VarPlan) (xs : List ℕ) (i : kernel.Expression) (pos : Pos) (pi : ℕ → ℕ → Pos → List Line) (vi : Value) (di ni : ℕ) → Piece_means pi vi di ni → ((len j : ℕ) → fixed_index i len ≡ Some j → (vi ≡ word j) × (j < len)) → ArrayIsLaid vars relied s dp first store found xs vi → Piece_means (element_code found i pos pi) (element_at xs pos vi) (1 + di) (1 + ni)
-  element_means None xs i pos pi vi di ni mi known h = absurd h
-  element_means (Some found) xs i pos pi vi di ni mi known h = at_place found.place (fixed_index i found.words) refl h.1
+  pub element_means : (found : Option VarPlan) (xs : List ℕ) (i : kernel.Expression) (pos : Pos) (pi : ℕ → ℕ → Pos → List Line) (vi : Value) (di ni : ℕ) (index : Type 0) → (index → Piece_means pi vi di ni) → ((len j : ℕ) → fixed_index i len ≡ Some j → (vi ≡ word j) × (j < len)) → ElementIsLaid vars relied s dp first store found index xs vi → Piece_means (element_code found i pos pi) (element_at xs pos vi) (1 + di) (1 + ni)
+  element_means None xs i pos pi vi di ni index mi known h = absurd h
+  element_means (Some found) xs i pos pi vi di ni index mi known h = at_place found.place (fixed_index i found.words) refl h
     where
+      length_is : found.words ≡ length xs
+      length_is = (array_of found.place index ((found.words ≡ length xs) × ArrayStands vars relied s dp first store found.place xs vi) h).0
+
       lengths : (place : VarAt) → Piece_means (element_at_place place (length xs) None pos pi) (element_at xs pos vi) (1 + di) (1 + ni) → Piece_means (element_at_place place found.words None pos pi) (element_at xs pos vi) (1 + di) (1 + ni)
-      lengths place m = subst (λ n. Piece_means (element_at_place place n None pos pi) (element_at xs pos vi) (1 + di) (1 + ni)) (sym h.0) m
+      lengths place m = subst (λ n. Piece_means (element_at_place place n None pos pi) (element_at xs pos vi) (1 + di) (1 + ni)) (sym length_is) m
 
       within : (j : ℕ) → fixed_index i found.words ≡ Some j → j < length xs
-      within j e = let lt = (known found.words j e).1 in let l = h.0 in omega arith
+      within j e = let lt = (known found.words j e).1 in let l = length_is in omega arith
 
       value_is : (j : ℕ) → fixed_index i found.words ≡ Some j → word (slice_index xs j) ≡ element_at xs pos vi
       value_is j e = sym (known_element xs pos vi j (known found.words j e).0 (within j e))
@@ -221,25 +230,26 @@ module _ (code : Code) (relied : ℕ → Bool) (s : ℕ) (small : s + temporary 
       there : (j : ℕ) → fixed_index i found.words ≡ Some j → slice_get xs j ≡ Some (slice_index xs j)
       there j e = slice_get-get_or xs j 0 (within j e)
 
-      at_place : (place : VarAt) (fixed : Option ℕ) → fixed_index i found.words ≡ fixed → ArrayStands vars relied s dp first store place xs vi → Piece_means (element_at_place place found.words fixed pos pi) (element_at xs pos vi) (1 + di) (1 + ni)
+      at_place : (place : VarAt) (fixed : Option ℕ) → fixed_index i found.words ≡ fixed → WithIndex place index ((found.words ≡ length xs) × ArrayStands vars relied s dp first store place xs vi) → Piece_means (element_at_place place found.words fixed pos pi) (element_at xs pos vi) (1 + di) (1 + ni)
       at_place (Near n) (Some j) e g = record {
         by = λ k pc last regs words st fits ready.
             let x = slice_index xs j in
             subst (Run regs words pc (pc + 1) k (7 * (1 + ni))) (value_is j e)
             (looser code relied s regs words pc (pc + 1) (pc + 1) k k 7 (7 * (1 + ni)) (word x) refl (omega arith) (omega arith)
-            (near_by ((n + j) % 2 ^ 32) x k pc regs words st.0 ready (subst (λ p. IsWord relied s first p x) (near_address n j) (g j x (there j e)))));
+            (near_by ((n + j) % 2 ^ 32) x k pc regs words st.0 ready (subst (λ p. IsWord relied s first p x) (near_address n j) (g.1.1 j x (there j e)))));
       }
       at_place (Near n) None e g =
-          lengths (Near n) (tested_means (Ldawdp R11 n) (address_at dp n) (λ regs words pc st ready. by_quiet code relied s (Ldawdp R11 n) regs (reg_set regs R11 (address_at dp n)) words pc (pc + 1) st (record { row_is = λ h c t th. refl; no_event = refl }) (λ ws q. ap (λ p. makes (own (pc + 1) (reg_set regs R11 (address_at p n)) ws)) ready.dp_is)) xs pos pi vi di ni mi g)
+          lengths (Near n) (tested_means (Ldawdp R11 n) (address_at dp n) (λ regs words pc st ready. by_quiet code relied s (Ldawdp R11 n) regs (reg_set regs R11 (address_at dp n)) words pc (pc + 1) st (record { row_is = λ h c t th. refl; no_event = refl }) (λ ws q. ap (λ p. makes (own (pc + 1) (reg_set regs R11 (address_at p n)) ws)) ready.dp_is)) xs pos pi vi di ni (mi g.0) g.1.1)
       at_place (Far n) (Some j) e g = record {
         by = λ k pc last regs words st fits ready.
             let x = slice_index xs j in
             subst (Run regs words pc (pc + 3) k (7 * (1 + ni))) (value_is j e)
-            (looser code relied s regs words pc (pc + 3) (pc + 3) k k 7 (7 * (1 + ni)) (word x) refl (omega arith) (omega arith) (held_by n g.0 j x pos k pc regs words st ready g.1 (g.2 j x (there j e))));
+            (looser code relied s regs words pc (pc + 3) (pc + 3) k k 7 (7 * (1 + ni)) (word x) refl (omega arith) (omega arith) (held_by n g.1.1.0 j x pos k pc regs words st ready g.1.1.1 (g.1.1.2 j x (there j e))));
       }
       at_place (Far n) None e g =
-          lengths (Far n) (tested_means (Ldwdp R11 n) g.0 (λ regs words pc st ready. by_near R11 regs words pc n g.0 st ready g.1) xs pos pi vi di ni mi g.2)
-      at_place (Through n) fixed e g =
+          lengths (Far n) (tested_means (Ldwdp R11 n) g.1.1.0 (λ regs words pc st ready. by_near R11 regs words pc n g.1.1.0 st ready g.1.1.1) xs pos pi vi di ni (mi g.0) g.1.1.2)
+      at_place (Through n) fixed e g' =
+          let g = g'.1 in
           let j = g.0 in
           let base = g.1 in
           let x = g.2 in

@@ -8,7 +8,7 @@ use Rattle.xs_instr.specs.declared.instr.Reg.TheVariants.{R0, R11}
 use Rattle.xc_kernel.specs.Plain as kernel
 use Rattle.xc_kernel.specs.Operators as operator
 use Rattle.xc_kernel.specs.Operators.{Operator, operator_at}
-use Rattle.xs_instr.specs.Lines.{Line, line, at_pos}
+use Rattle.xs_instr.specs.Lines.{Line, line, at_pos, last_or}
 use Rattle.xl_expr.specs.declared.plan.VarAt.{VarAt}
 use Rattle.xl_expr.specs.declared.plan.VarAt.TheVariants.{Near, Far, Through}
 use Rattle.xl_expr.specs.declared.plan.VarPlan.{VarPlan}
@@ -113,7 +113,9 @@ code_by_few : (direct : Option Direct) (vars : List (Option VarPlan)) (x : kerne
 code_by_few (Some d) vars x to here last = let some = some_nodes x in omega arith
 code_by_few None vars x to here last =
     let some = some_nodes x in
-    omega (arith, (code_short vars x).by 0 here last, length-append (expression_code vars x 0 here last) (at_pos last (moved_to to)), length-at_pos last (moved_to to), move_few to)
+    let ls = expression_code vars x 0 here last in
+    let behind = last_or last ls in
+    omega (arith, (code_short vars x).by 0 here last, length-append ls (at_pos behind (moved_to to)), length-at_pos behind (moved_to to), move_few to)
 
 pub moved_longer : (vars : List (Option VarPlan)) (x : kernel.Expression) (to : Reg) (here : ℕ) (last : Pos) (old new : List Line) → new ≡ old ++ code_to vars x to here last → length new ≤ length old + 8 * nodes x
 moved_longer vars x to here last old new e =

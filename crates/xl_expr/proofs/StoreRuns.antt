@@ -27,13 +27,13 @@ use Rattle.xl_expr.specs.Plans.{var_in}
 use Rattle.xl_expr.specs.Measures.{nodes, nodes_at, depth, depth_at}
 use Rattle.xl_expr.specs.Code.{fixed_index, tested_index, expression_code}
 use Rattle.xl_expr.specs.Stores.{write, held_write, indexed_write, word_write, word_store, element_write, element_store_at, element_store, store_code, tested_value, index_in, WordAt, ElementAt, OfWord, OfElement, IsAddress, is_working}
-use Rattle.xl_expr.specs.Works.{StandFrom, WordStands, ArrayStands, WordIsLaid, ArrayIsLaid, PlaceIsLaid, is_scratch, same_reg}
+use Rattle.xl_expr.specs.Works.{WithIndex, StandFrom, WordStands, ArrayStands, WordIsLaid, ElementIsLaid, IsLaid, PlaceIsLaid, is_scratch, same_reg}
 use Rattle.xl_expr.proofs.Lists.{get_set_same, get_set_other, stand_front, stand_back}
 use Rattle.xl_expr.proofs.Ways.{own, Agree, IsPlain, Sure, Way, way_on}
 use Rattle.xl_expr.proofs.Runs.{Runs, Stops, Keeps, Ready, IsSaved, ready_kept, keeps_r0, keeps_r11, stopped, by_quiet, by_save, by_restore, word_there}
 use Rattle.xl_expr.proofs.Registers.{reg_other}
 use Rattle.xl_expr.proofs.Pieces.{bound, Means, value_on}
-use Rattle.xl_expr.proofs.Places.{by_near, near_address, index_tested}
+use Rattle.xl_expr.proofs.Places.{array_of, by_near, near_address, index_tested}
 use Rattle.xl_expr.proofs.Expressions.{fixed_known, expression_means}
 
 -- a register that the code leaves is none of r0, r10 and r11
@@ -296,35 +296,39 @@ module _ (code : Code) (relied : ℕ → Bool) (s : ℕ) (small : s + temporary 
             )
 
   -- to an element of an array
-  array_writes : (found : Option VarPlan) (xs : List ℕ) (i : kernel.Expression) (from : Reg) (pos : Pos) (pi : ℕ → ℕ → Pos → List Line) (vi : Value) (di ni : ℕ) → Means code relied s small mine dp first pi vi di ni → ((len j : ℕ) → fixed_index i len ≡ Some j → (vi ≡ word j) × (j < len)) → ArrayIsLaid vars relied s dp first store found xs vi → (pc : ℕ) (regs : Regs) (words : List ℕ) → StandAt code pc (element_store found i from pos (λ n. pi 1 n pos) pc) → 1 + di ≤ temporary → Is_ready regs words → WriteRuns (OfElement vars relied s dp first found) regs words pc (pc + length (element_store found i from pos (λ n. pi 1 n pos) pc)) (1 + (7 * ni + 3 + 2)) (reg_get regs from) (tested_value (length xs) pos vi)
-  array_writes None xs i from pos pi vi di ni mi known h pc regs words st fits ready = absurd h
-  array_writes (Some found) xs i from pos pi vi di ni mi known h pc regs words st fits ready = at_place found.place (fixed_index i found.words) refl h.1 st
+  array_writes : (found : Option VarPlan) (xs : List ℕ) (i : kernel.Expression) (from : Reg) (pos : Pos) (pi : ℕ → ℕ → Pos → List Line) (vi : Value) (di ni : ℕ) (index : Type 0) → (index → Means code relied s small mine dp first pi vi di ni) → ((len j : ℕ) → fixed_index i len ≡ Some j → (vi ≡ word j) × (j < len)) → ElementIsLaid vars relied s dp first store found index xs vi → (pc : ℕ) (regs : Regs) (words : List ℕ) → StandAt code pc (element_store found i from pos (λ n. pi 1 n pos) pc) → 1 + di ≤ temporary → Is_ready regs words → WriteRuns (OfElement vars relied s dp first found) regs words pc (pc + length (element_store found i from pos (λ n. pi 1 n pos) pc)) (1 + (7 * ni + 3 + 2)) (reg_get regs from) (tested_value (length xs) pos vi)
+  array_writes None xs i from pos pi vi di ni index mi known h pc regs words st fits ready = absurd h
+  array_writes (Some found) xs i from pos pi vi di ni index mi known h pc regs words st fits ready = at_place found.place (fixed_index i found.words) refl h st
     where
+      length_is : found.words ≡ length xs
+      length_is = (array_of found.place index ((found.words ≡ length xs) × ArrayStands vars relied s dp first store found.place xs vi) h).0
+
       v : ℕ
       v = reg_get regs from
 
       within : (j : ℕ) → fixed_index i found.words ≡ Some j → j < length xs
-      within j e = let lt = (known found.words j e).1 in let l = h.0 in omega arith
+      within j e = let lt = (known found.words j e).1 in let l = length_is in omega arith
 
       tested_at : (j : ℕ) → vi ≡ word j → j < length xs → word j ≡ tested_value (length xs) pos vi
       tested_at j e lt = sym (ap (tested_value (length xs) pos) e ∙ ap (tested_by j pos) (lt-ltb j (length xs) lt))
 
-      at_place : (place : VarAt) (fixed : Option ℕ) → fixed_index i found.words ≡ fixed → ArrayStands vars relied s dp first store place xs vi → StandAt code pc (element_store_at place found.words fixed from pos (λ n. pi 1 n pos) pc) → WriteRuns (ElementAt vars relied s dp first place) regs words pc (pc + length (element_store_at place found.words fixed from pos (λ n. pi 1 n pos) pc)) (1 + (7 * ni + 3 + 2)) v (tested_value (length xs) pos vi)
+      at_place : (place : VarAt) (fixed : Option ℕ) → fixed_index i found.words ≡ fixed → WithIndex place index ((found.words ≡ length xs) × ArrayStands vars relied s dp first store place xs vi) → StandAt code pc (element_store_at place found.words fixed from pos (λ n. pi 1 n pos) pc) → WriteRuns (ElementAt vars relied s dp first place) regs words pc (pc + length (element_store_at place found.words fixed from pos (λ n. pi 1 n pos) pc)) (1 + (7 * ni + 3 + 2)) v (tested_value (length xs) pos vi)
       at_place (Near n) (Some j) e g st' =
           let n' = (n + j) % 2 ^ 32 in
           let x = slice_index xs j in
-          let there = subst (λ p. IsWord relied s first p x) (near_address code relied s small mine dp first vars store n j) (g j x (slice_get-get_or xs j 0 (within j e))) in
+          let there = subst (λ p. IsWord relied s first p x) (near_address code relied s small mine dp first vars store n j) (g.1.1 j x (slice_get-get_or xs j 0 (within j e))) in
           subst (WriteRuns (ElementAt vars relied s dp first (Near n)) regs words pc (pc + 1) (1 + (7 * ni + 3 + 2)) v) (tested_at j (known found.words j e).0 (within j e))
           (address_at dp n', sym (near_address code relied s small mine dp first vars store n j), more_steps regs words pc (pc + 1) 0 (1 + (7 * ni + 3 + 2)) v (address_at dp n') (omega arith) (near_writes from n' x pc regs words st'.0 ready there))
       at_place (Near n) None e g st' =
-          element_writes (Ldawdp R11 n) (address_at dp n) (λ regs words pc st ready. by_quiet code relied s (Ldawdp R11 n) regs (reg_set regs R11 (address_at dp n)) words pc (pc + 1) st (record { row_is = λ h c t th. refl; no_event = refl }) (λ ws q. ap (λ p. makes (own (pc + 1) (reg_set regs R11 (address_at p n)) ws)) ready.dp_is)) found.words xs h.0 from pos pi vi di ni mi g (ElementAt vars relied s dp first (Near n)) (λ i. refl) pc regs words st' fits ready
+          element_writes (Ldawdp R11 n) (address_at dp n) (λ regs words pc st ready. by_quiet code relied s (Ldawdp R11 n) regs (reg_set regs R11 (address_at dp n)) words pc (pc + 1) st (record { row_is = λ h c t th. refl; no_event = refl }) (λ ws q. ap (λ p. makes (own (pc + 1) (reg_set regs R11 (address_at p n)) ws)) ready.dp_is)) found.words xs length_is from pos pi vi di ni (mi g.0) g.1.1 (ElementAt vars relied s dp first (Near n)) (λ i. refl) pc regs words st' fits ready
       at_place (Far n) (Some j) e g st' =
           let x = slice_index xs j in
           subst (WriteRuns (ElementAt vars relied s dp first (Far n)) regs words pc (pc + 5) (1 + (7 * ni + 3 + 2)) v) (tested_at j (known found.words j e).0 (within j e))
-          (address_at g.0 j, (g.0, g.1, refl), more_steps regs words pc (pc + 5) 4 (1 + (7 * ni + 3 + 2)) v (address_at g.0 j) (omega arith) (held_writes from pos n g.0 j x pc regs words st' ready g.1 (g.2 j x (slice_get-get_or xs j 0 (within j e)))))
+          (address_at g.1.1.0 j, (g.1.1.0, g.1.1.1, refl), more_steps regs words pc (pc + 5) 4 (1 + (7 * ni + 3 + 2)) v (address_at g.1.1.0 j) (omega arith) (held_writes from pos n g.1.1.0 j x pc regs words st' ready g.1.1.1 (g.1.1.2 j x (slice_get-get_or xs j 0 (within j e)))))
       at_place (Far n) None e g st' =
-          element_writes (Ldwdp R11 n) g.0 (λ regs words pc st ready. by_near code relied s small mine dp first vars store R11 regs words pc n g.0 st ready g.1) found.words xs h.0 from pos pi vi di ni mi g.2 (ElementAt vars relied s dp first (Far n)) (λ i. (g.0, g.1, refl)) pc regs words st' fits ready
-      at_place (Through n) fixed e g st' =
+          element_writes (Ldwdp R11 n) g.1.1.0 (λ regs words pc st ready. by_near code relied s small mine dp first vars store R11 regs words pc n g.1.1.0 st ready g.1.1.1) found.words xs length_is from pos pi vi di ni (mi g.0) g.1.1.2 (ElementAt vars relied s dp first (Far n)) (λ i. (g.1.1.0, g.1.1.1, refl)) pc regs words st' fits ready
+      at_place (Through n) fixed e g' st' =
+          let g = g'.1 in
           subst (WriteRuns (ElementAt vars relied s dp first (Through n)) regs words pc (pc + 5) (1 + (7 * ni + 3 + 2)) v) (tested_at g.0 g.3 (slice_get_within xs g.0 g.2 g.4))
           (address_at g.1 0, (g.1, g.5, refl), more_steps regs words pc (pc + 5) 4 (1 + (7 * ni + 3 + 2)) v (address_at g.1 0) (omega arith) (held_writes from pos n g.1 0 g.2 pc regs words st' ready g.5 g.6))
 
@@ -334,7 +338,7 @@ module _ (code : Code) (relied : ℕ → Bool) (s : ℕ) (small : s + temporary 
       let w = word_writes (var_in vars v) (words_of store v) from last pc regs words h st ready in
       (w.0, w.1, more_steps regs words pc (pc + length (word_store (var_in vars v) from last)) 4 7 (reg_get regs from) w.0 (omega arith) w.2)
   place_writes (kernel.element v i pos) from last pc regs words h st fits ready =
-      more (index_in store (kernel.element v i pos)) (array_writes (var_in vars v) (words_of store v) i from pos (expression_code vars i) (eval store i) (depth i) (nodes i) (expression_means code relied s small mine dp first vars store i h.0) (fixed_known code relied s small mine dp first vars store i) h.1 pc regs words st fits ready)
+      more (index_in store (kernel.element v i pos)) (array_writes (var_in vars v) (words_of store v) i from pos (expression_code vars i) (eval store i) (depth i) (nodes i) (IsLaid vars relied s dp first store i) (λ laid. expression_means code relied s small mine dp first vars store i laid) (fixed_known code relied s small mine dp first vars store i) h pc regs words st fits ready)
     where
       more : (val : Value) → WriteRuns (OfElement vars relied s dp first (var_in vars v)) regs words pc (pc + length (store_code vars (kernel.element v i pos) from pc last)) (1 + (7 * nodes i + 3 + 2)) (reg_get regs from) val → WriteRuns (OfElement vars relied s dp first (var_in vars v)) regs words pc (pc + length (store_code vars (kernel.element v i pos) from pc last)) (8 * (1 + nodes i) - 1) (reg_get regs from) val
       more (word j) w = (w.0, w.1, more_steps regs words pc (pc + length (store_code vars (kernel.element v i pos) from pc last)) (1 + (7 * nodes i + 3 + 2)) (8 * (1 + nodes i) - 1) (reg_get regs from) w.0 (omega arith) w.2)

@@ -10,7 +10,7 @@ use Rattle.xs_instr.specs.declared.instr.Reg.TheVariants.{R0, R11}
 use Rattle.xc_kernel.specs.Plain as kernel
 use Rattle.xc_kernel.specs.Operators as operator
 use Rattle.xc_kernel.specs.Operators.{Operator, operator_at}
-use Rattle.xs_instr.specs.Lines.{Line, line, at_pos}
+use Rattle.xs_instr.specs.Lines.{Line, line, at_pos, last_or}
 use Rattle.xl_expr.specs.declared.direct_operand.Direct.{Direct}
 use Rattle.xl_expr.specs.declared.direct_operand.Direct.TheVariants.{Number, Word}
 use Rattle.xl_expr.specs.declared.plan.VarAt.{VarAt}
@@ -248,10 +248,14 @@ abbrev pub moved_to : Reg → List Instr
 moved_to R0 = []
 moved_to to = Or to R0 R0 ∷ []
 
+-- behind lines, at the place of the last of them
+abbrev pub with_move : Reg → Pos → List Line → List Line
+with_move to last lines = lines ++ at_pos (last_or last lines) (moved_to to)
+
 -- `code_to`, by cases
 abbrev pub code_by : Option Direct → List (Option VarPlan) → kernel.Expression → Reg → ℕ → Pos → List Line
 code_by (Some d) vars x to here last = line (brought d to) last ∷ []
-code_by None vars x to here last = expression_code vars x 0 here last ++ at_pos last (moved_to to)
+code_by None vars x to here last = with_move to last (expression_code vars x 0 here last)
 
 -- an expression's word comes to a register
 abbrev pub code_to : List (Option VarPlan) → kernel.Expression → Reg → ℕ → Pos → List Line

@@ -129,4 +129,9 @@ StoreOutcome vars home relied s t thread old place v pc (error kind pos) b = (c 
 -- for each node the thread stands where its next step writes the word at the place's address, or its next step traps with the
 -- index's error.
 pub record Stores (vars : List (Option VarPlan)) (place : kernel.Place) (from : Reg) (pc : ℕ) (lines : List Line) : Type 0 where
-  pub by : (home : Home) (relied : ℕ → Bool) (s t : ℕ) (thread : Thread) (store : Store) (a : CoreState) → StandAt home.parts.code pc lines → RunsAt t pc thread a → HasRoom relied s thread.regs a.words → PlaceIsLaid vars relied s thread.regs.dp a.words store place → Within home relied (IsApart s) t (StoreOutcome vars home relied s t thread a.words place (reg_get thread.regs from) (pc + length lines) (index_in store place)) (8 * nodes_at place - 1) a
+  pub by : (home : Home) (relied : ℕ → Bool) (s t : ℕ) (thread : Thread) (store : Store) (a : CoreState) →
+      StandAt home.parts.code pc lines → RunsAt t pc thread a → HasRoom relied s thread.regs a.words →
+      PlaceIsLaid vars relied s thread.regs.dp a.words store place →
+      Within home relied (IsApart s) t
+      (StoreOutcome vars home relied s t thread a.words place (reg_get thread.regs from) (pc + length lines) (index_in store place))
+      (8 * nodes_at place - 1) a

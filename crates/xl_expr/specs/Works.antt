@@ -1,5 +1,5 @@
 -- What a piece of code does, whatever other threads do between its steps.
-use Rattle.std.specs.Prelude.{◌≡◌, ℕ, ◌+◌, ◌*◌, ◌≤◌, Bool, true, false, List, length, Option, Some, None, slice_get, slice_index, nat_eq}
+use Rattle.std.specs.Prelude.{◌≡◌, ℕ, ◌+◌, ◌-◌, ◌*◌, ◌≤◌, Bool, true, false, List, length, Option, Some, None, slice_get, slice_index, nat_eq}
 use Rattle.xw_words.specs.declared.pos.Pos.{Pos}
 use Rattle.xs_instr.specs.declared.image.Home.{Home}
 use Rattle.xs_instr.specs.declared.instr.Reg.{Reg}
@@ -25,6 +25,12 @@ use Rattle.xl_expr.specs.Plans.{var_in}
 use Rattle.xs_instr.specs.OwnSteps.{HasRoom, IsApart, IsWord, Kept, RunsAt, StandAt, Within, temporary}
 use Rattle.xl_expr.specs.Measures.{nodes}
 
+-- an element's array, with its index where the index's code is run: not where the plan has that element alone
+abbrev pub WithIndex : VarAt → (index_laid array_laid : Type 0) → Type 0
+WithIndex (Near n) index_laid array_laid = index_laid × array_laid
+WithIndex (Far n) index_laid array_laid = index_laid × array_laid
+WithIndex (Through n) index_laid array_laid = array_laid
+
 -- the layout: where the words of an expression's variables stand, by the plan
 module _ (vars : List (Option VarPlan)) (relied : ℕ → Bool) (s dp : ℕ) (words : List ℕ) (store : Store) where
   -- the words of a list stand from an address on
@@ -49,9 +55,13 @@ module _ (vars : List (Option VarPlan)) (relied : ℕ → Bool) (s dp : ℕ) (wo
   WordIsLaid None xs = ⊥
   WordIsLaid (Some found) xs = WordStands found.place (slice_index xs 0)
 
-  abbrev pub ArrayIsLaid : Option VarPlan → List ℕ → Value → Type 0
-  ArrayIsLaid None xs i = ⊥
-  ArrayIsLaid (Some found) xs i = (found.words ≡ length xs) × ArrayStands found.place xs i
+  -- an array of the length that the plan has
+  abbrev pub ArrayIsLaid : VarPlan → List ℕ → Value → Type 0
+  ArrayIsLaid found xs i = (found.words ≡ length xs) × ArrayStands found.place xs i
+
+  abbrev pub ElementIsLaid : Option VarPlan → (index_laid : Type 0) → List ℕ → Value → Type 0
+  ElementIsLaid None index_laid xs i = ⊥
+  ElementIsLaid (Some found) index_laid xs i = WithIndex found.place index_laid (ArrayIsLaid found xs i)
 
   abbrev mutual
     pub IsLaid : kernel.Expression → Type 0
@@ -65,7 +75,7 @@ module _ (vars : List (Option VarPlan)) (relied : ℕ → Bool) (s dp : ℕ) (wo
 
     pub PlaceIsLaid : kernel.Place → Type 0
     PlaceIsLaid (kernel.word v) = WordIsLaid (var_in vars v) (words_of store v)
-    PlaceIsLaid (kernel.element v i pos) = IsLaid i × ArrayIsLaid (var_in vars v) (words_of store v) (eval store i)
+    PlaceIsLaid (kernel.element v i pos) = ElementIsLaid (var_in vars v) (IsLaid i) (words_of store v) (eval store i)
 
 -- the trap of an error
 abbrev pub trap_of : ErrorKind → Trap
@@ -118,9 +128,19 @@ abbrev pub Outcome : Home → (ℕ → Bool) → ℕ → ℕ → Thread → List
 Outcome home relied s t thread old to pc (word v) b = Gives relied s t thread old to pc v b
 Outcome home relied s t thread old to pc (error kind pos) b = (c : CoreState) → Kept relied t b c → Errs home t kind pos c
 
+-- how many own steps come before the outcome, where there are at most so many in all: the step that traps is one of them
+abbrev pub steps_before : Value → (most : ℕ) → ℕ
+steps_before (word v) most = most
+steps_before (error kind pos) most = most - 1
+
 -- The lines give an expression's word in a register, from index pc on: where they stand in a listing, in each state of the
 -- core in which the plan's layout holds, and whatever other threads do in between that leaves what this one relies on, the
--- thread stands after at most 8 own steps for each node at the index behind them with `eval`'s word, or its next step traps
--- with `eval`'s error.
+-- thread stands after at most 8 own steps for each node at the index behind them with `eval`'s word, or after fewer its next
+-- step traps with `eval`'s error.
 pub record Evaluates (vars : List (Option VarPlan)) (x : kernel.Expression) (to : Reg) (pc : ℕ) (lines : List Line) : Type 0 where
-  pub by : (home : Home) (relied : ℕ → Bool) (s t : ℕ) (thread : Thread) (store : Store) (a : CoreState) → StandAt home.parts.code pc lines → RunsAt t pc thread a → HasRoom relied s thread.regs a.words → IsLaid vars relied s thread.regs.dp a.words store x → Within home relied (IsApart s) t (Outcome home relied s t thread a.words to (pc + length lines) (eval store x)) (8 * nodes x) a
+  pub by : (home : Home) (relied : ℕ → Bool) (s t : ℕ) (thread : Thread) (store : Store) (a : CoreState) →
+      StandAt home.parts.code pc lines → RunsAt t pc thread a → HasRoom relied s thread.regs a.words →
+      IsLaid vars relied s thread.regs.dp a.words store x →
+      Within home relied (IsApart s) t
+      (Outcome home relied s t thread a.words to (pc + length lines) (eval store x))
+      (steps_before (eval store x) (8 * nodes x)) a

@@ -21,8 +21,8 @@ use xw_words::{Memory, Pos};
 
 /// The code that gives an expression's word in a register. `evaluates` says what it does: wherever it stands from this index
 /// on, where the plan's layout holds, and whatever other threads do in between that leaves what this one relies on, it comes
-/// to the next index with the word that the expression has in the register, or to where the next step traps with the
-/// expression's error, within 8 steps for each node.
+/// to the next index with the word that the expression has in the register, or traps with the expression's error, within 8
+/// steps for each node.
 ///
 /// The one error is want of memory; the emitter then holds what it held, and perhaps further instructions behind it.
 pub fn emit_expr(e: &mut Emitter, plan: &Plan, x: &Kx, to: Reg) -> Result<(), Memory>
@@ -36,24 +36,25 @@ pub fn emit_expr(e: &mut Emitter, plan: &Plan, x: &Kx, to: Reg) -> Result<(), Me
     ensures aimed { OnOk result (Adds e.old e.new (AreAimed (length e.old))) }
     ensures refused { OnErr result (Extends e.old e.new) }
 {
-    let last = e.pos();
-    emit_to(e, plan, x, to, last)?;
+    emit_to(e, plan, x, to)?;
     Ok(())
 }
 
-/// The same, where an instruction without a place of its own has the place `last`.
-fn emit_to(e: &mut Emitter, plan: &Plan, x: &Kx, to: Reg, last: Pos) -> Result<(), Memory>
+fn emit_to(e: &mut Emitter, plan: &Plan, x: &Kx, to: Reg) -> Result<(), Memory>
     requires room { length e.old + 8 * nodes (expression_of x.now) < 2 ^ 32 }
     requires shallow { depth (expression_of x.now) ≤ 400 }
     ensures code { OnOk result (e.new
-        ≡ e.old ++ code_to plan.now.vars (expression_of x.now) to (length e.old) last) }
+        ≡ e.old ++ code_to plan.now.vars (expression_of x.now) to (length e.old) (last_pos e.old)) }
     ensures refused { OnErr result (Extends e.old e.new) }
 {
+    let last = e.pos();
     match direct_of(plan, x) {
         Some(operand) => e.put_all(&[brought(operand, to)], last),
         None => {
             emit_at(e, plan, x, 0, last)?;
-            put_move(e, to, last)
+            let behind = e.pos();
+            put_move(e, to, behind)?;
+            Ok(())
         }
     }
 }

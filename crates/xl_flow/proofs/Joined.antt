@@ -19,10 +19,10 @@ use Rattle.xs_instr.specs.OwnSteps.{IsApart, HasRoom, Kept, RunsAt, StandAt, Wit
 use Rattle.xl_expr.specs.declared.plan.VarPlan.{VarPlan}
 use Rattle.xl_expr.specs.Measures.{nodes, nodes_at}
 use Rattle.xl_expr.specs.Stores.{StoreOutcome, Stores, Writes, IsAddress, index_in, is_working}
-use Rattle.xl_expr.specs.Works.{IsLaid, PlaceIsLaid, Gives, Outcome, Evaluates, is_scratch, same_reg}
+use Rattle.xl_expr.specs.Works.{IsLaid, PlaceIsLaid, Gives, Outcome, Evaluates, steps_before, is_scratch, same_reg}
 use Rattle.xl_expr.proofs.Lists.{stand_front, stand_back, room_kept}
 use Rattle.xl_expr.proofs.Ways.{own, IsPlain, Fits, turn_is}
-use Rattle.xl_expr.proofs.Evaluates.{within_more, then_within}
+use Rattle.xl_expr.proofs.Evaluates.{within_more, within_most, then_within}
 use Rattle.xl_expr.proofs.Lasting.{place_lasts, address_lasts}
 use Rattle.xl_flow.specs.Flow.{SetOutcome, Sets, Branches, TestOutcome, Tests, chosen}
 
@@ -100,7 +100,8 @@ module _ (vars : List (Option VarPlan)) (place : kernel.Place) (x : kernel.Expre
     sets_by : Within home relied (IsApart s) t (SetOutcome vars home relied s t thread a.words place (pc + length (ls ++ ms)) (eval store x) (index_in store place)) (8 * nodes x + (8 * nodes_at place - 1)) a
     sets_by =
         then_within home relied (IsApart s) t (Outcome home relied s t thread a.words R0 (pc + length ls) (eval store x)) (SetOutcome vars home relied s t thread a.words place (pc + length (ls ++ ms)) (eval store x) (index_in store place)) (8 * nodes x) (8 * nodes_at place - 1) a
-        (ev.by home relied s t thread store a (stand_front home.parts.code pc ls ms stand) at_work room laid)
+        (within_most home relied (IsApart s) t (Outcome home relied s t thread a.words R0 (pc + length ls) (eval store x)) (eval store x) (8 * nodes x) a
+        (ev.by home relied s t thread store a (stand_front home.parts.code pc ls ms stand) at_work room laid))
         (on (eval store x))
 
   pub joined_sets : Sets vars place x pc (ls ++ ms)
@@ -138,9 +139,9 @@ module _ (vars : List (Option VarPlan)) (x : kernel.Expression) (pc : ℕ) (plac
     outcome (word v) b g = jumps_so v b g
     outcome (error kind pos) b h = h
 
-    tests_by : Within home relied (IsApart s) t (TestOutcome home relied s t thread a.words target (pc + length ls + 1) (eval store x)) (8 * nodes x) a
+    tests_by : Within home relied (IsApart s) t (TestOutcome home relied s t thread a.words target (pc + length ls + 1) (eval store x)) (steps_before (eval store x) (8 * nodes x)) a
     tests_by =
-        within_map home relied (IsApart s) t (Outcome home relied s t thread a.words R0 (pc + length ls) (eval store x)) (TestOutcome home relied s t thread a.words target (pc + length ls + 1) (eval store x)) (outcome (eval store x)) (8 * nodes x) a
+        within_map home relied (IsApart s) t (Outcome home relied s t thread a.words R0 (pc + length ls) (eval store x)) (TestOutcome home relied s t thread a.words target (pc + length ls + 1) (eval store x)) (outcome (eval store x)) (steps_before (eval store x) (8 * nodes x)) a
         (ev.by home relied s t thread store a (stand_front home.parts.code pc ls (line (Brff R0 target) place ∷ []) stand) at_work room laid)
 
   pub tested : Tests vars x pc place ls

@@ -20,7 +20,7 @@ use Rattle.xs_instr.specs.OwnSteps.{HasRoom, IsApart, Kept, RunsAt, StandAt, Wit
 use Rattle.xl_expr.specs.declared.plan.VarPlan.{VarPlan}
 use Rattle.xl_expr.specs.Measures.{nodes, nodes_at}
 use Rattle.xl_expr.specs.Stores.{StoreOutcome, index_in}
-use Rattle.xl_expr.specs.Works.{IsLaid, PlaceIsLaid, Errs, is_scratch}
+use Rattle.xl_expr.specs.Works.{IsLaid, PlaceIsLaid, Errs, is_scratch, steps_before}
 
 -- the right side's error comes first, then the index's
 abbrev pub SetOutcome : List (Option VarPlan) → Home → (ℕ → Bool) → ℕ → ℕ → Thread → List ℕ → kernel.Place → ℕ → Value → Value → CoreState → Type 0
@@ -30,7 +30,13 @@ SetOutcome vars home relied s t thread old place pc (error kind pos) i b = (c : 
 -- The lines assign: in fewer than 8 own steps for each node the thread stands where its next step writes the word of the right
 -- side at the place's address, or where its next step traps with the first error.
 pub record Sets (vars : List (Option VarPlan)) (place : kernel.Place) (x : kernel.Expression) (pc : ℕ) (lines : List Line) : Type 0 where
-  pub by : (home : Home) (relied : ℕ → Bool) (s t : ℕ) (thread : Thread) (store : Store) (a : CoreState) → StandAt home.parts.code pc lines → RunsAt t pc thread a → HasRoom relied s thread.regs a.words → IsLaid vars relied s thread.regs.dp a.words store x → PlaceIsLaid vars relied s thread.regs.dp a.words store place → Within home relied (IsApart s) t (SetOutcome vars home relied s t thread a.words place (pc + length lines) (eval store x) (index_in store place)) (8 * nodes x + (8 * nodes_at place - 1)) a
+  pub by : (home : Home) (relied : ℕ → Bool) (s t : ℕ) (thread : Thread) (store : Store) (a : CoreState) →
+      StandAt home.parts.code pc lines → RunsAt t pc thread a → HasRoom relied s thread.regs a.words →
+      IsLaid vars relied s thread.regs.dp a.words store x →
+      PlaceIsLaid vars relied s thread.regs.dp a.words store place →
+      Within home relied (IsApart s) t
+      (SetOutcome vars home relied s t thread a.words place (pc + length lines) (eval store x) (index_in store place))
+      (8 * nodes x + (8 * nodes_at place - 1)) a
 
 -- thread t's next step goes to an index and changes nothing else; until here only r0, r11 and its temporary words, which are there, were
 -- changed
@@ -51,9 +57,16 @@ abbrev pub TestOutcome : Home → (ℕ → Bool) → ℕ → ℕ → Thread → 
 TestOutcome home relied s t thread old target next (word v) b = (c : CoreState) → Kept relied t b c → Branches home relied s t thread old (chosen target next (nat_eq v 0)) c
 TestOutcome home relied s t thread old target next (error kind pos) b = (c : CoreState) → Kept relied t b c → Errs home t kind pos c
 
--- The lines, and a branch behind them, test an expression: the branch is taken where its word is 0.
+-- The lines, and a branch behind them, test an expression: after at most 8 own steps for each node the branch is next, which is
+-- taken where the word is 0; or after fewer the next step traps with the expression's error.
 pub record Tests (vars : List (Option VarPlan)) (x : kernel.Expression) (pc : ℕ) (place : Pos) (lines : List Line) : Type 0 where
-  pub by : (target : ℕ) (home : Home) (relied : ℕ → Bool) (s t : ℕ) (thread : Thread) (store : Store) (a : CoreState) → StandAt home.parts.code pc (lines ++ line (Brff R0 target) place ∷ []) → RunsAt t pc thread a → HasRoom relied s thread.regs a.words → IsLaid vars relied s thread.regs.dp a.words store x → Within home relied (IsApart s) t (TestOutcome home relied s t thread a.words target (pc + length lines + 1) (eval store x)) (8 * nodes x) a
+  pub by : (target : ℕ) (home : Home) (relied : ℕ → Bool) (s t : ℕ) (thread : Thread) (store : Store) (a : CoreState) →
+      StandAt home.parts.code pc (lines ++ line (Brff R0 target) place ∷ []) → RunsAt t pc thread a →
+      HasRoom relied s thread.regs a.words →
+      IsLaid vars relied s thread.regs.dp a.words store x →
+      Within home relied (IsApart s) t
+      (TestOutcome home relied s t thread a.words target (pc + length lines + 1) (eval store x))
+      (steps_before (eval store x) (8 * nodes x)) a
 
 -- lines were added, and a hole for a branch behind them
 pub record AddsTest (old new : List Line) (hole : ℕ) (place : Pos) (P : List Line → Type 0) : Type 0 where

@@ -26,6 +26,7 @@ use Rattle.xl_expr.specs.Measures.{nodes}
 use Rattle.xl_expr.specs.Plans.{resource_in}
 use Rattle.xl_expr.specs.Stores.{is_working}
 use Rattle.xl_expr.specs.Works.{Evaluates, Gives, IsLaid, Outcome, is_scratch, same_reg}
+use Rattle.xl_expr.proofs.Evaluates.{within_most}
 use Rattle.xl_expr.proofs.Lasting.{laid_lasts}
 use Rattle.xl_expr.proofs.Lists.{stand_front, stand_back, word_by_same}
 use Rattle.xl_expr.proofs.Ways.{at_pc}
@@ -147,7 +148,8 @@ module _ (home : Home) (relied : ℕ → Bool) (s t p : ℕ) (port : Port) (thre
         (λ b. Outcome home relied s t (at_pc thread pc regs) a.words R0 (pc + length ls) (eval store x) b × (slice_get b.ports p ≡ Some port))
         (ValueOutcome home relied s t thread a0.words p port pos pc_end time (eval store x)) (8 * nodes x) 4 a
         (beside_port home relied (IsApart s) t p (Some port) (Outcome home relied s t (at_pc thread pc regs) a.words R0 (pc + length ls) (eval store x)) (8 * nodes x) a k.there
-        (ev.by home relied s t (at_pc thread pc regs) store a (stand_front home.parts.code pc ls ms st) k.runs k.room (laid_since vars store x pc regs a k laid)))
+        (within_most home relied (IsApart s) t (Outcome home relied s t (at_pc thread pc regs) a.words R0 (pc + length ls) (eval store x)) (eval store x) (8 * nodes x) a
+        (ev.by home relied s t (at_pc thread pc regs) store a (stand_front home.parts.code pc ls ms st) k.runs k.room (laid_since vars store x pc regs a k laid))))
         (on_value (eval store x))
 
 -- all three
@@ -192,7 +194,8 @@ module _ (plan : Plan) (o : kernel.Output) (home : Home) (relied : ℕ → Bool)
         (λ b. Outcome home relied s t (at_pc thread pc thread.regs) a.words R10 pc1 (eval store x) b × (slice_get b.ports p ≡ Some port))
         (OutputOutcome home relied s t thread a.words p port o.pos (pc1 + length ls + length ms) (Some (eval store x)) (eval store o.value)) (8 * nodes x) (8 * nodes o.value + 4) a
         (beside_port home relied (IsApart s) t p (Some port) (Outcome home relied s t (at_pc thread pc thread.regs) a.words R10 pc1 (eval store x)) (8 * nodes x) a stands.there
-        (evaluates.by home relied s t (at_pc thread pc thread.regs) store a (stand_front home.parts.code pc fs (ls ++ ms) st) there.runs room time_laid))
+        (within_most home relied (IsApart s) t (Outcome home relied s t (at_pc thread pc thread.regs) a.words R10 pc1 (eval store x)) (eval store x) (8 * nodes x) a
+        (evaluates.by home relied s t (at_pc thread pc thread.regs) store a (stand_front home.parts.code pc fs (ls ++ ms) st) there.runs room time_laid)))
         (on_time (eval store x)) in
         subst (λ n. WithinPort home relied (IsApart s) t p (OutputOutcome home relied s t thread a.words p port o.pos (pc + length (fs ++ (ls ++ ms))) (Some (eval store x)) (eval store o.value)) n a) few
         (subst (λ q. WithinPort home relied (IsApart s) t p (OutputOutcome home relied s t thread a.words p port o.pos q (Some (eval store x)) (eval store o.value)) (8 * nodes x + (8 * nodes o.value + 4)) a) e all)

@@ -5,10 +5,10 @@ use Rattle.xw_words.specs.declared.pos.Pos.{Pos}
 use Rattle.xs_instr.specs.Adds.{Adds}
 use Rattle.xs_instr.specs.Lines.{Line, last_pos}
 use Rattle.xl_expr.specs.Targets.{AreAimed}
+use Rattle.xl_expr.proofs.Emitted.{last_added}
 use Rattle.xl_walk.specs.declared.walk.Leaving.{Leaving}
 use Rattle.xl_walk.specs.Cells.{Cell, known, leaving, behind, leaves, line_of}
 use Rattle.xl_walk.specs.Emits.{AreLines, Coded, Emitted}
-use Rattle.xl_walk.proofs.Seams.{last_added}
 
 pub lines_append : (a b : List Cell) → map line_of (a ++ b) ≡ map line_of a ++ map line_of b
 lines_append [] b = refl

@@ -6,7 +6,7 @@ use Rattle.std.proofs.Math.Seq.{get_or-append_seam}
 use Rattle.xw_words.specs.declared.pos.Pos.{Pos}
 use Rattle.xs_instr.specs.declared.instr.Instr.{Instr}
 use Rattle.xs_instr.specs.Extends.{Extends}
-use Rattle.xs_instr.specs.Lines.{Line, line, open_line, with_target, IsOpen, IsOpenLine, landed, landed_at, last_or, last_pos, first_pos}
+use Rattle.xs_instr.specs.Lines.{Line, line, open_line, with_target, IsOpen, IsOpenLine, landed, landed_at}
 
 -- the line at a seam
 seam_get : (front back : List Line) (l : Line) → slice_get (front ++ l ∷ back) (length front) ≡ Some l
@@ -36,14 +36,6 @@ open_at front back i pos k h = subst (IsOpen (front ++ open_line i pos ∷ back)
 
 pub next_length : (front : List Line) (l : Line) → length (front ++ l ∷ []) ≡ length front + 1
 next_length front l = omega (arith, length-append front (l ∷ []))
-
--- the place behind lines
-pub last_append : (last : Pos) (a b : List Line) → last_or last (a ++ b) ≡ last_or (last_or last a) b
-last_append last [] b = refl
-last_append last (l ∷ a) b = last_append l.pos a b
-
-pub last_added : (old new more : List Line) → new ≡ old ++ more → last_pos new ≡ last_or (last_pos old) more
-last_added old new more h = ap last_pos h ∙ last_append first_pos old more
 
 -- further lines behind further lines
 pub extends_on : (a b c : List Line) → Extends a b → Extends b c → Extends a c

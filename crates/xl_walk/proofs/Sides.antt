@@ -10,13 +10,14 @@ use Rattle.xc_kernel.specs.Plain as kernel
 use Rattle.xc_kernel.specs.declared.statement.Kst.{Kst}
 use Rattle.xl_expr.specs.declared.plan.VarPlan.{VarPlan}
 use Rattle.xl_expr.specs.Targets.{AreAimed}
+use Rattle.xl_expr.proofs.Emitted.{last_added}
 use Rattle.xl_flow.specs.Flow.{AddsTest, Tests}
 use Rattle.xl_walk.specs.declared.walk.Leaving.{Leaving}
 use Rattle.xl_walk.specs.Built.{statements_of}
 use Rattle.xl_walk.specs.Cells.{Cell, known, behind, leaves, line_of}
 use Rattle.xl_walk.specs.Emits.{Branching, Coded, Emitted, OneSide, TwoSides}
 use Rattle.xl_walk.proofs.Parts.{emitted_length, emitted_last, leaves_append, leaves_behind, lines_append, lines_known}
-use Rattle.xl_walk.proofs.Seams.{extends_by, last_added, lands_at, next_length, open_at}
+use Rattle.xl_walk.proofs.Seams.{extends_by, lands_at, next_length, open_at}
 
 -- behind a test
 module _ (e0 e1 : List Line) (hole : ℕ) (last : Pos) (P Q : List Line → Type 0) (h : AddsTest e0 e1 hole last P) (g : AddsTest e0 e1 hole last Q) where
