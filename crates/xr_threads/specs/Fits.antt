@@ -43,9 +43,9 @@ module _ (g : Setting) (r : Runner) where
 
   -- a port by which the runner may put words out
   pub record IsOutPort (p : ℕ) : Type 0 where
-    pub use : PortUse
-    pub is : IsPort g r p use
-    pub sends : can_send (dir_of use.dir) ≡ true
+    pub listed : PortUse
+    pub is : IsPort g r p listed
+    pub sends : can_send (dir_of listed.dir) ≡ true
 
   abbrev pub PutsOutAt : KRes → Type 0
   PutsOutAt (Port p) = IsOutPort p

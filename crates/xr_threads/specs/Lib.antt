@@ -2,3 +2,4 @@ pub mod Runners
 pub mod Fits
 pub mod Scenes
 pub mod Turns
+pub mod Images

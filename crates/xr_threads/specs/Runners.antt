@@ -89,10 +89,10 @@ module _ (g : Setting) (r : Runner) where
   port_place p = port_number r.core g.program.ports p
 
   -- a port of the runner's, as the kernel has it
-  pub record IsPort (p : ℕ) (use : PortUse) : Type 0 where
+  pub record IsPort (p : ℕ) (listed : PortUse) : Type 0 where
     pub mine : r.footprint.ports p ≡ true
-    pub known : slice_get g.program.ports p ≡ Some use
-    pub core : use.core ≡ r.core
+    pub known : slice_get g.program.ports p ≡ Some listed
+    pub core : listed.core ≡ r.core
 
   -- The variables of a runner's core stand near, no two of them share a word, and none is a temporary one of the runner's. Its ports have
   -- the identifiers that the plan gives them.
@@ -100,6 +100,6 @@ module _ (g : Setting) (r : Runner) where
     pub frame : Frame plan.vars relied r.footprint.uses r.stack r.base
     pub changes : (v : ℕ) → r.footprint.changes v ≡ true → r.footprint.uses v ≡ true
     pub small : r.stack + temporary ≤ 16384
-    pub identifiers : (p : ℕ) (use : PortUse) → IsPort p use →
+    pub identifiers : (p : ℕ) (listed : PortUse) → IsPort p listed →
         resource_at plan.ports p ≡ Some (Fixed (port_name r.core (port_place p)))
-    pub names : (p : ℕ) (use : PortUse) → IsPort p use → named home.number (port_name r.core (port_place p)) ≡ APort (port_place p)
+    pub names : (p : ℕ) (listed : PortUse) → IsPort p listed → named home.number (port_name r.core (port_place p)) ≡ APort (port_place p)

@@ -6,9 +6,10 @@ use Rattle.xs_instr.specs.declared.state.Regs.{Regs}
 use Rattle.xs_instr.specs.declared.state.Thread.{Thread}
 use Rattle.xs_instr.specs.Did.{makes}
 use Rattle.xs_instr.specs.Slot.{slot}
+use Rattle.xc_kernel.specs.declared.kernel.PortUse.{PortUse}
 use Rattle.xc_kernel.specs.Eval.{words_of}
 use Rattle.xc_meaning.specs.States.Worlds.{World}
-use Rattle.xr_threads.specs.Runners.{Setting, Runner, MayChange, home, port_place, relied}
+use Rattle.xr_threads.specs.Runners.{Setting, Runner, IsPort, MayChange, home, port_place, relied}
 
 -- a runner's core and the program's state at one moment
 pub record Scene : Type 0 where
@@ -24,7 +25,7 @@ module _ (g : Setting) (r : Runner) where
   pub record Kept (z y : Scene) : Type 0 where
     pub thread : slice_get y.core.threads r.thread ≡ slice_get z.core.threads r.thread
     pub words : (w : ℕ) → relied g r w ≡ true → slice_get y.core.words w ≡ slice_get z.core.words w
-    pub ports : (p : ℕ) → r.footprint.ports p ≡ true →
+    pub ports : (p : ℕ) (listed : PortUse) → IsPort g r p listed →
         slice_get y.core.ports (port_place g r p) ≡ slice_get z.core.ports (port_place g r p)
     pub branch : slice_get y.world.branches r.branch ≡ slice_get z.world.branches r.branch
     pub store : (v : ℕ) → r.footprint.uses v ≡ true → words_of y.world.store v ≡ words_of z.world.store v
@@ -35,7 +36,7 @@ module _ (g : Setting) (r : Runner) where
     pub clock : b.clock ≡ a.clock
     pub others : (u : ℕ) → u ≢ r.thread → slice_get b.threads u ≡ slice_get a.threads u
     pub words : (w : ℕ) → (MayChange g r w → ⊥) → slice_get b.words w ≡ slice_get a.words w
-    pub ports : (q : ℕ) → ((p : ℕ) → r.footprint.ports p ≡ true → q ≢ port_place g r p) →
+    pub ports : (q : ℕ) → ((p : ℕ) (listed : PortUse) → IsPort g r p listed → q ≢ port_place g r p) →
         slice_get b.ports q ≡ slice_get a.ports q
 
   -- a step that writes nothing down, sends nothing and ends no root

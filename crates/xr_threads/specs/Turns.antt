@@ -61,13 +61,13 @@ module _ (g : Setting) (r : Runner) where
     pub room : r.stack + temporary ≤ length z.core.words
 
   -- a port stands at its place as it is declared
-  pub record PortIs (p : ℕ) (use : PortUse) (z : Scene) : Type 0 where
+  pub record PortIs (p : ℕ) (listed : PortUse) (z : Scene) : Type 0 where
     pub port : Port
     pub there : slice_get z.core.ports (port_place g r p) ≡ Some port
-    pub declared : port.decl ≡ decl_of use
+    pub declared : port.decl ≡ decl_of listed
 
   abbrev pub PortsStand : Scene → Type 0
-  PortsStand z = (p : ℕ) (use : PortUse) → IsPort g r p use → PortIs p use z
+  PortsStand z = (p : ℕ) (listed : PortUse) → IsPort g r p listed → PortIs p listed z
 
   -- the code of items stands at an index
   abbrev pub ItemsFrom : List Item → List Exit → (pc j : ℕ) → Type 0
