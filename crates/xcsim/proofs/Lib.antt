@@ -1,12 +1,12 @@
+mod Carried
 mod Completes
 mod Decides
 mod Dues
 mod Firsts
 mod Given
-mod ImageWords
 mod Meanings
 mod OneAnswer
-mod OneProgram
 mod OnlyCauses
 mod Order
+mod Reading
 mod Rounds
