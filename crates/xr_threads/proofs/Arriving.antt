@@ -1,0 +1,1 @@
+-- Steps of a core are silent steps of a runner.
