@@ -38,12 +38,15 @@ module _ (g : Setting) (r : Runner) where
 
   -- one way after another
   pub then_leads : (P Q : Scene → Type 0) (n m : ℕ) (z : Scene) → LeadsIn g r P n z → ((y : Scene) → P y → LeadsIn g r Q m y) → LeadsIn g r Q (n + m) z
-  then_leads P Q zero m z h next = next z h
+  then_leads P Q zero m z h next = let e : m ≡ 0 + m = omega arith in subst (λ k. LeadsIn g r Q k z) e (next z h)
   then_leads P Q (suc n) m z h next =
-      ⊎_elim
-      (λ (here : P z). leads_more Q m (suc n + m) z (omega arith) (next z here))
-      (λ on. inr (λ y k. let s = on y k in (s.0, s.1, then_leads P Q n m (after g r y s.0) s.2 next)))
-      h
+      let e : suc (n + m) ≡ suc n + m = omega arith in
+      let all : LeadsIn g r Q (suc (n + m)) z =
+          ⊎_elim
+          (λ (here : P z). leads_more Q m (suc (n + m)) z (omega arith) (next z here))
+          (λ on. inr (λ y k. let s = on y k in (s.0, s.1, then_leads P Q n m (after g r y s.0) s.2 next)))
+          h in
+      subst (λ k. LeadsIn g r Q k z) e all
 
   -- what it leads to may be said in another way
   pub leads_as : (P Q : Scene → Type 0) (n : ℕ) (z : Scene) → ((y : Scene) → P y → Q y) → LeadsIn g r P n z → LeadsIn g r Q n z
