@@ -1,5 +1,6 @@
 pub mod Scenes
 pub mod Arriving
+pub mod Layouts
 pub mod Sets
 pub mod Tests
 pub mod Jumps
