@@ -25,7 +25,7 @@ use Rattle.xl_expr.specs.Works.{trap_of}
 use Rattle.xl_expr.proofs.Lists.{get_set_same}
 use Rattle.xr_threads.specs.Runners.{Setting, Runner, home}
 use Rattle.xr_threads.specs.Scenes.{Scene}
-use Rattle.xr_threads.specs.Turns.{Runs, Has, Acts, Errs, failed}
+use Rattle.xr_threads.specs.Turns.{Runs, Acts, Errs, failed}
 
 -- an expression costs what it counts
 mutual
@@ -106,13 +106,13 @@ module _ (g : Setting) (r : Runner) where
   }
 
   -- where the thread's next step traps with the error that the branch's first item has, both err
-  pub value_errs : (y : Scene) (i : Item) (rest : List Item) (kind : ErrorKind) (pos : Pos) → works.Errs (home g r) r.thread kind pos y.core → (has : Has g r (i ∷ rest) y) → does_item (step_of g.program g.stimulus y.world r.branch has.branch rest) i ≡ errs (step_of g.program g.stimulus y.world r.branch has.branch rest) (kind_of kind) pos → Errs g r y
-  value_errs y i rest kind pos traps has erred =
-      let st = step_of g.program g.stimulus y.world r.branch has.branch rest in
+  pub value_errs : (y : Scene) (branch : Branch) (i : Item) (rest : List Item) (kind : ErrorKind) (pos : Pos) → works.Errs (home g r) r.thread kind pos y.core → Runs y.world r.branch branch (i ∷ rest) → branch.core ≡ r.core → does_item (step_of g.program g.stimulus y.world r.branch branch rest) i ≡ errs (step_of g.program g.stimulus y.world r.branch branch rest) (kind_of kind) pos → Errs g r y
+  value_errs y branch i rest kind pos traps runs core erred =
+      let st = step_of g.program g.stimulus y.world r.branch branch rest in
       record {
         kind = trap_of kind;
         pos = pos;
         traps = traps.traps;
         fault = traps.record_is;
-        acts = err_acts y.world has.branch i rest (trap_of kind) pos has.runs has.core (erred ∙ ap (λ k. errs st k pos) (kinds_agree kind));
+        acts = err_acts y.world branch i rest (trap_of kind) pos runs core (erred ∙ ap (λ k. errs st k pos) (kinds_agree kind));
       }
