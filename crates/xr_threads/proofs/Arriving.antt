@@ -1,17 +1,16 @@
 -- Own steps of a thread on its core are silent steps of its runner, so what a piece of code leads to is where the runner comes.
-use Rattle.std.proofs.Common.{◌≡◌, ℕ, zero, suc, ◌+◌, ◌-◌, ◌<◌, ◌≤◌, Bool, true, false, ◌⊎◌, inl, inr, ⊎_elim, refl, sym, ap, ◌∙◌, subst, arith}
+use Rattle.std.proofs.Common.{◌≡◌, ℕ, zero, suc, ◌+◌, ◌-◌, ◌≤◌, Bool, true, false, inl, inr, ⊎_elim, refl, ap, ◌∙◌, arith}
 use Rattle.std.specs.Prelude.{slice_get, nat_lt}
 use Rattle.std.proofs.lemmas.Bool.{ltb-true, ltb-false}
 use Rattle.xs_instr.specs.declared.state.CoreState.{CoreState}
 use Rattle.xs_instr.specs.OwnSteps as own
 use Rattle.xs_instr.specs.OwnSteps.{IsApart, OwnStep, Within, temporary}
-use Rattle.xs_instr.specs.Rows.{put_own, put_ports}
 use Rattle.xc_kernel.specs.declared.kernel.PortUse.{PortUse}
 use Rattle.xc_kernel.specs.Eval.{words_of}
 use Rattle.xl_expr.proofs.Lists.{get_set_other}
 use Rattle.xl_port.specs.PortSteps.{KeptPort, PortStep, WithinPort}
 use Rattle.xr_threads.specs.Runners.{Setting, Runner, IsPort, MayChange, of_stack, home, port_place, relied}
-use Rattle.xr_threads.specs.Scenes.{Scene, Kept, Touched, IsSilentStep, after, LeadsIn}
+use Rattle.xr_threads.specs.Scenes.{Scene, Kept, IsSilentStep, after, LeadsIn}
 
 -- all ports
 abbrev pub any_port : ℕ → Type 0

@@ -1,6 +1,6 @@
 -- Values that a branch's items have next: they stay while others act, they cost so many steps, and where one is an error the branch errs.
-use Rattle.std.proofs.Common.{◌≡◌, ℕ, ◌+◌, ◌≤◌, true, Bool, List, [], ◌∷◌, ◌++◌, length, Option, Some, None, refl, sym, ap, ◌∙◌, arith}
-use Rattle.std.specs.Prelude.{slice_get, slice_set, slice_index}
+use Rattle.std.proofs.Common.{◌≡◌, ℕ, true, Bool, List, [], ◌∷◌, ◌++◌, length, Some, refl, ap, ◌∙◌, arith}
+use Rattle.std.specs.Prelude.{slice_set, slice_index}
 use Rattle.xw_words.specs.declared.pos.Pos.{Pos}
 use Rattle.xs_instr.specs.declared.image.Stim.{Stim}
 use Rattle.xs_instr.specs.declared.trace.Record.TheVariants.{Fault}
@@ -8,7 +8,7 @@ use Rattle.xs_instr.specs.declared.trace.Trap.{Trap}
 use Rattle.xs_instr.specs.Machine.{and_then}
 use Rattle.xc_kernel.specs.Plain as kernel
 use Rattle.xc_kernel.specs.Operators.{operator_at}
-use Rattle.xc_kernel.specs.Values.{Value, word, error, ErrorKind, arithmetic, index, applied}
+use Rattle.xc_kernel.specs.Values.{word, ErrorKind, arithmetic, index, applied}
 use Rattle.xc_kernel.specs.Eval.{Store, eval, eval_all, eval_place, element_at, words_of}
 use Rattle.xc_meaning.specs.Counts.KernelCounts.{of_expression, of_operands, of_place}
 use Rattle.xc_meaning.specs.States.Items.{Item}

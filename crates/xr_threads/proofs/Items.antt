@@ -1,5 +1,5 @@
 -- Where the code of items stands, and what they need, before statements and behind jumps.
-use Rattle.std.proofs.Common.{◌≡◌, ℕ, zero, suc, ◌+◌, Bool, true, false, List, [], ◌∷◌, refl, sym, subst, arith}
+use Rattle.std.proofs.Common.{◌≡◌, ℕ, zero, suc, ◌+◌, Bool, true, false, List, [], ◌∷◌, sym, subst, arith}
 use Rattle.std.specs.Prelude.{nat_eq}
 use Rattle.xs_instr.specs.declared.image.Code.{Code}
 use Rattle.xc_kernel.specs.Plain as kernel

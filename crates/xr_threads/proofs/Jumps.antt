@@ -1,8 +1,6 @@
 -- Jumps: those between two items, and that of an exit.
-use Rattle.std.proofs.Common.{◌≡◌, ℕ, zero, suc, ◌+◌, ◌≤◌, false, ◌⊎◌, inr, ⊎_elim, List, ◌∷◌, Some, refl, ap, ◌∙◌, subst, arith}
+use Rattle.std.proofs.Common.{◌≡◌, ℕ, zero, suc, ◌+◌, ◌⊎◌, inr, ⊎_elim, List, ◌∷◌, Some, refl, ◌∙◌, subst, arith}
 use Rattle.std.specs.Prelude.{slice_get}
-use Rattle.xs_instr.specs.declared.image.Home.{Home}
-use Rattle.xs_instr.specs.declared.instr.Instr.{Instr}
 use Rattle.xs_instr.specs.declared.instr.Instr.TheVariants.{Brfu, Brbu}
 use Rattle.xs_instr.specs.declared.state.CoreState.{CoreState}
 use Rattle.xs_instr.specs.declared.state.Regs.{Regs}
@@ -16,7 +14,7 @@ use Rattle.xl_expr.proofs.Lists.{get_set_same, get_set_other}
 use Rattle.xl_image.proofs.Leaving.{exits_lead}
 use Rattle.xl_walk.specs.Pieces as pieces
 use Rattle.xr_threads.specs.Runners.{Setting, Runner, code, home, plan}
-use Rattle.xr_threads.specs.Scenes.{Scene, IsSilentStep, after, running, LeadsIn}
+use Rattle.xr_threads.specs.Scenes.{Scene, IsSilentStep, after, running}
 use Rattle.xr_threads.specs.Turns as turn
 use Rattle.xr_threads.specs.Turns.{StatementLeads, IsAt, HasBases, Has, Leads, Turns, cost}
 use Rattle.xr_threads.proofs.Scenes.{leads_now}
@@ -63,10 +61,10 @@ module _ (g : Setting) (r : Runner) where
   jumps_lead (suc k) m j z pc q regs items (p, at_pc, rest) here bases has next =
       let e : suc (k + m) ≡ suc k + m = omega arith in
       let all : Leads g r (suc (k + m)) j z = inr (λ y kept.
-          let here_y : IsAt g r y pc regs = kept.thread ∙ here in
-          let b = moved_to y.core pc p regs in
-          let at_p : IsAt g r (after g r y b) p regs = get_set_same y.core.threads r.thread (running r.tie pc regs) (running r.tie p regs) here_y in
-          (b, jump_silent y pc p regs here_y at_pc, jumps_lead k m j (after g r y b) p q regs items rest at_p bases (has_moved y pc p regs items (has_kept g r items z y kept has)) next)) in
+      let here_y : IsAt g r y pc regs = kept.thread ∙ here in
+      let b = moved_to y.core pc p regs in
+      let at_p : IsAt g r (after g r y b) p regs = get_set_same y.core.threads r.thread (running r.tie pc regs) (running r.tie p regs) here_y in
+      (b, jump_silent y pc p regs here_y at_pc, jumps_lead k m j (after g r y b) p q regs items rest at_p bases (has_moved y pc p regs items (has_kept g r items z y kept has)) next)) in
       subst (λ n. Leads g r n j z) e all
 
   -- the exit of a block is a jump to the code behind it

@@ -1,5 +1,5 @@
 -- What a runner stands on lasts while others act, and while the runner goes on.
-use Rattle.std.proofs.Common.{◌≡◌, ◌≢◌, ℕ, zero, suc, ◌+◌, ◌*◌, ◌<◌, ◌≤◌, Bool, true, false, ◌&&◌, ◌||◌, List, length, Option, Some, None, refl, sym, ap, ◌∙◌, subst, ⊎_elim, arith}
+use Rattle.std.proofs.Common.{◌≡◌, ◌≢◌, ℕ, zero, suc, ◌+◌, ◌<◌, ◌≤◌, Bool, true, ◌&&◌, List, length, Option, Some, None, refl, sym, ap, ◌∙◌, subst, ⊎_elim, arith}
 use Rattle.std.specs.Prelude.{slice_get, nat_le, nat_lt}
 use Rattle.std.proofs.lemmas.Bool.{and_from, or_left, or_right, cases_eq, le-leb, lt-ltb}
 use Rattle.std.proofs.lemmas.Option.{slice_get_within}
@@ -19,7 +19,7 @@ use Rattle.xl_expr.proofs.Lists.{room_kept}
 use Rattle.xr_threads.specs.Fits.{Uses, UsesAt}
 use Rattle.xr_threads.specs.Runners.{Setting, Runner, IsLaidOut, IsPort, is_among_words, is_word_among, is_word_at, is_word_of, plan, port_place, relied}
 use Rattle.xr_threads.specs.Scenes.{Scene, Kept, running}
-use Rattle.xr_threads.specs.Turns.{HasBases, HoldsStore, Has, IsAt, PortIs, PortsStand, Runs}
+use Rattle.xr_threads.specs.Turns.{HasBases, HoldsStore, Has, IsAt, PortsStand, Runs}
 use Rattle.xr_threads.proofs.Arriving.{Since, any_port}
 
 -- a word among so many

@@ -1,8 +1,7 @@
 -- Ways of silent steps: joined, made longer, and left as they are by what others do.
-use Rattle.std.proofs.Common.{◌≡◌, ℕ, zero, suc, ◌+◌, ◌≤◌, ◌⊎◌, inl, inr, ⊎_elim, ◌∙◌, subst, arith}
-use Rattle.xs_instr.specs.declared.state.CoreState.{CoreState}
+use Rattle.std.proofs.Common.{◌≡◌, ℕ, zero, suc, ◌+◌, ◌≤◌, inl, inr, ⊎_elim, ◌∙◌, subst, arith}
 use Rattle.xr_threads.specs.Runners.{Setting, Runner}
-use Rattle.xr_threads.specs.Scenes.{Scene, Kept, IsSilentStep, after, LeadsIn, IsStable}
+use Rattle.xr_threads.specs.Scenes.{Scene, Kept, after, LeadsIn, IsStable}
 
 module _ (g : Setting) (r : Runner) where
   -- what is kept twice is kept
@@ -42,10 +41,10 @@ module _ (g : Setting) (r : Runner) where
   then_leads P Q (suc n) m z h next =
       let e : suc (n + m) ≡ suc n + m = omega arith in
       let all : LeadsIn g r Q (suc (n + m)) z =
-          ⊎_elim
-          (λ (here : P z). leads_more Q m (suc (n + m)) z (omega arith) (next z here))
-          (λ on. inr (λ y k. let s = on y k in (s.0, s.1, then_leads P Q n m (after g r y s.0) s.2 next)))
-          h in
+      ⊎_elim
+      (λ (here : P z). leads_more Q m (suc (n + m)) z (omega arith) (next z here))
+      (λ on. inr (λ y k. let s = on y k in (s.0, s.1, then_leads P Q n m (after g r y s.0) s.2 next)))
+      h in
       subst (λ k. LeadsIn g r Q k z) e all
 
   -- what it leads to may be said in another way

@@ -1,12 +1,12 @@
 -- An assignment: from its code the thread comes to the instruction that writes the word.
-use Rattle.std.proofs.Common.{◌≡◌, ◌≢◌, ℕ, ◌+◌, ◌-◌, ◌*◌, ◌/◌, ◌<◌, ◌≤◌, Bool, true, false, List, [], ◌∷◌, length, Option, Some, refl, sym, ap, ◌∙◌, subst, arith}
-use Rattle.std.specs.Prelude.{slice_get, slice_set, nat_lt}
+use Rattle.std.proofs.Common.{◌≡◌, ℕ, ◌+◌, ◌-◌, ◌*◌, ◌/◌, ◌<◌, ◌≤◌, Bool, true, false, List, [], ◌∷◌, length, Some, refl, sym, ap, ◌∙◌, subst, arith}
+use Rattle.std.specs.Prelude.{slice_set, nat_lt}
 use Rattle.std.proofs.lemmas.Bool.{ltb-true}
 use Rattle.std.proofs.lemmas.List.{length-set, get_or-set_other}
 use Rattle.xw_words.specs.declared.pos.Pos.{Pos}
 use Rattle.xs_instr.specs.declared.instr.Reg.TheVariants.{Dp, Sp}
 use Rattle.xs_instr.specs.declared.state.Regs.{Regs}
-use Rattle.xs_instr.specs.Memory.{address_at, word_put}
+use Rattle.xs_instr.specs.Memory.{word_put}
 use Rattle.xs_instr.specs.OwnSteps.{IsApart, temporary}
 use Rattle.xc_kernel.specs.Plain as kernel
 use Rattle.xc_kernel.specs.Values.{Value, word, error, ErrorKind, tested_by}
@@ -16,14 +16,12 @@ use Rattle.xc_meaning.specs.Settings.Setting.{errs, kind_of, with_value}
 use Rattle.xc_meaning.specs.Settings.Stores.{stored, stored_in}
 use Rattle.xc_meaning.specs.States.Branches.{Branch}
 use Rattle.xc_meaning.specs.States.Items.{Item, does}
-use Rattle.xc_meaning.specs.States.Worlds.{World, go, with_word}
+use Rattle.xc_meaning.specs.States.Worlds.{World, go}
 use Rattle.xc_meaning.specs.Runs.{acts, does_item, step_of}
 use Rattle.xl_expr.specs.declared.plan.VarAt.{VarAt}
-use Rattle.xl_expr.specs.declared.plan.VarPlan.{VarPlan}
 use Rattle.xl_expr.specs.Frames.{Holds, changed, variable_of}
 use Rattle.xl_expr.specs.Measures.{nodes, nodes_at}
-use Rattle.xl_expr.specs.Stores.{ElementAt, IsAddress, OfElement, OfWord, StoreOutcome, WordAt, Writes, index_in, tested_value}
-use Rattle.xl_expr.specs.Works as works
+use Rattle.xl_expr.specs.Stores.{ElementAt, IsAddress, OfElement, OfWord, WordAt, Writes, index_in, tested_value}
 use Rattle.xl_expr.proofs.Framed.{store_holds}
 use Rattle.xl_expr.proofs.Lasting.{address_lasts}
 use Rattle.xl_expr.proofs.Lists.{get_set_other}
@@ -31,7 +29,7 @@ use Rattle.xl_flow.specs.Flow.{SetOutcome}
 use Rattle.xl_walk.specs.Pieces.{Exit}
 use Rattle.xr_threads.specs.Fits.{ItemsFit, Uses, UsesAt}
 use Rattle.xr_threads.specs.Runners.{Setting, Runner, IsLaidOut, MayChange, of_variable, home, plan, relied}
-use Rattle.xr_threads.specs.Scenes.{Scene, Kept, running}
+use Rattle.xr_threads.specs.Scenes.{Scene, running}
 use Rattle.xr_threads.specs.Turns as turn
 use Rattle.xr_threads.specs.Turns.{StatementLeads, IsAt, ItemsFrom, HasBases, HoldsStore, Has, Runs, Goes, Turn, Turns, cost}
 use Rattle.xr_threads.proofs.Scenes.{leads_as, leads_more}

@@ -1,9 +1,9 @@
 -- The tests of `if` and of a loop: from their code the thread comes to the branching instruction.
-use Rattle.std.proofs.Common.{◌≡◌, ℕ, ◌+◌, ◌-◌, ◌*◌, ◌≤◌, Bool, true, false, List, ◌∷◌, Some, refl, ap, ◌∙◌, subst, arith}
+use Rattle.std.proofs.Common.{◌≡◌, ℕ, ◌+◌, ◌*◌, ◌≤◌, Bool, true, false, List, ◌∷◌, Some, refl, ap, ◌∙◌, subst, arith}
 use Rattle.std.specs.Prelude.{not, length, nat_eq}
 use Rattle.xs_instr.specs.declared.instr.Reg.TheVariants.{Dp, Sp}
 use Rattle.xs_instr.specs.declared.state.Regs.{Regs}
-use Rattle.xs_instr.specs.OwnSteps.{IsApart, Within}
+use Rattle.xs_instr.specs.OwnSteps.{IsApart}
 use Rattle.xc_kernel.specs.Plain as kernel
 use Rattle.xc_kernel.specs.Values.{Value, word, error}
 use Rattle.xc_kernel.specs.Eval.{eval}
@@ -20,7 +20,7 @@ use Rattle.xl_flow.specs.Flow.{Branches, TestOutcome, chosen}
 use Rattle.xl_walk.specs.Pieces.{Exit, TestAt}
 use Rattle.xr_threads.specs.Fits.{ItemsFit, Uses, greatest}
 use Rattle.xr_threads.specs.Runners.{Setting, Runner, IsLaidOut, code, home, plan, relied}
-use Rattle.xr_threads.specs.Scenes.{Scene, Kept, running}
+use Rattle.xr_threads.specs.Scenes.{Scene, running}
 use Rattle.xr_threads.specs.Turns as turn
 use Rattle.xr_threads.specs.Turns.{StatementLeads, IsAt, ItemsFrom, HasBases, Has, Runs, Goes, Turns, Leads, cost}
 use Rattle.xr_threads.proofs.Scenes.{leads_as, leads_more}
