@@ -34,10 +34,12 @@ mutual
   nodes_are (kernel.read p) = nodes_at_are p
   nodes_are (kernel.operation o u es pos) = let e = nodes_of_are es in omega arith
 
+  -- so do operands
   nodes_of_are : (es : kernel.Operands) → nodes_of es ≡ of_operands es
   nodes_of_are kernel.no_operand = refl
   nodes_of_are (kernel.more_operands e es) = let a = nodes_are e in let b = nodes_of_are es in omega arith
 
+  -- and a place
   pub nodes_at_are : (p : kernel.Place) → nodes_at p ≡ of_place p
   nodes_at_are (kernel.word v) = refl
   nodes_at_are (kernel.element v i pos) = let e = nodes_are i in omega arith
@@ -50,10 +52,12 @@ module _ (vars : Vars) (uses : ℕ → Bool) (old new : Store) (same : (v : ℕ)
     eval_still (kernel.read p) h = place_still p h
     eval_still (kernel.operation o u es pos) h = ap (applied (operator_at o) u pos) (all_still es h)
 
+    -- the same of operands
     all_still : (es : kernel.Operands) → HaveVars vars uses es → eval_all new es ≡ eval_all old es
     all_still kernel.no_operand h = refl
     all_still (kernel.more_operands e es) h = ap (λ v. v ∷ eval_all new es) (eval_still e h.0) ∙ ap (λ vs. eval old e ∷ vs) (all_still es h.1)
 
+    -- and of what stands at a place
     place_still : (p : kernel.Place) → HasPlace vars uses p → eval_place new p ≡ eval_place old p
     place_still (kernel.word v) h = ap (λ l. word (slice_index l 0)) (same v h.3)
     place_still (kernel.element v i pos) h =
@@ -70,6 +74,7 @@ module _ (vars : Vars) (uses : ℕ → Bool) (old new : Store) (same : (v : ℕ)
 abbrev pub with_items : World → ℕ → Branch → List Item → World
 with_items x b branch items = record x { branches = slice_set x.branches b (record branch { items = items }) }
 
+-- in which it runs with them
 pub runs_with : (x : World) (b : ℕ) (branch : Branch) (items other : List Item) → Runs x b branch items → Runs (with_items x b branch other) b (record branch { items = other }) other
 runs_with x b branch items other h = record {
   known = get_set_same x.branches b branch (record branch { items = other }) h.known;

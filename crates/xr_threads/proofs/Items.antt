@@ -13,6 +13,7 @@ use Rattle.xr_threads.specs.Fits.{AllFit, ItemsFit}
 use Rattle.xr_threads.specs.Runners.{Setting, Runner}
 
 module _ (plan : Plan) (code : Code) where
+  -- jumps behind jumps
   pub jumps_on : (n m a b c : ℕ) → Jumps code n a b → Jumps code m b c → Jumps code (n + m) a c
   jumps_on zero m a b c h k =
       let e : m ≡ 0 + m = omega arith in
@@ -40,15 +41,17 @@ module _ (plan : Plan) (code : Code) where
   pieces_before ss (i ∷ rest) exits a b j h k = code_stands plan code ss i rest exits a b j h k
 
 module _ (g : Setting) (r : Runner) where
+  -- statements before items fit where both do
   pub all_fit : (ss : kernel.Statements) (rest : List Item) → AllFit g r ss → ItemsFit g r rest → ItemsFit g r (todo ss rest)
   all_fit kernel.no_more rest h k = k
   all_fit (kernel.more s ss) rest h k = (h.0, all_fit ss rest h.1 k)
 
-  -- what is left when items up to a mark are dropped
+  -- `left_fit` at a mark, by cases
   from_mark : (n m : ℕ) (rest : List Item) (same : Bool) → ItemsFit g r rest → ItemsFit g r (items_from_mark n rest) → ItemsFit g r (from_mark_by same (mark m ∷ rest) (items_from_mark n rest))
   from_mark n m rest true h k = (tt, h)
   from_mark n m rest false h k = k
 
+  -- what is left when items up to a mark are dropped fits still
   pub left_fit : (n : ℕ) (items : List Item) → ItemsFit g r items → ItemsFit g r (items_from_mark n items)
   left_fit n [] h = tt
   left_fit n (does s ∷ rest) h = left_fit n rest h.1

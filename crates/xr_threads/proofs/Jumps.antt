@@ -36,6 +36,7 @@ module _ (g : Setting) (r : Runner) where
       (λ instr. turn_is_row (home g r) y.core r.thread r.tie pc regs (Brbu p) here instr refl)
       at_pc
 
+  -- which nobody sees
   jump_silent : (y : Scene) (pc p : ℕ) (regs : Regs) → IsAt g r y pc regs → (slice_get (code g r).instrs pc ≡ Some (Brfu p)) ⊎ (slice_get (code g r).instrs pc ≡ Some (Brbu p)) → IsSilentStep g r y.core (moved_to y.core pc p regs)
   jump_silent y pc p regs here at_pc = record {
     made = jump_made y pc p regs here at_pc;
@@ -43,6 +44,7 @@ module _ (g : Setting) (r : Runner) where
     touched = record { clock = refl; others = λ u ne. get_set_other y.core.threads r.thread u (running r.tie p regs) ne; words = λ w n. refl; ports = λ q n. refl };
   }
 
+  -- and leaves all that the runner has
   has_moved : (y : Scene) (pc p : ℕ) (regs : Regs) (items : List Item) → Has g r items y → Has g r items (after g r y (moved_to y.core pc p regs))
   has_moved y pc p regs items has = record {
     branch = has.branch;

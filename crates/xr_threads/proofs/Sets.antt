@@ -95,6 +95,7 @@ module _ (g : Setting) (r : Runner) (laid : IsLaidOut g r) where
       of_variable v near.0 i found near.1 changes lt (omega arith)
 
   module _ (place : kernel.Place) (x : kernel.Expression) (rest : List Item) (exits : List Exit) (pc pc' j : ℕ) (uses_place : UsesAt g r place) (uses : Uses g r x) (changes : r.footprint.changes (variable_of place) ≡ true) (behind : ItemsFrom g r rest exits pc' j) (rest_fits : ItemsFit g r rest) where
+    -- the assignment, which the branch does first
     abbrev item : Item
     item = does (kernel.set place x)
 
@@ -144,7 +145,7 @@ module _ (g : Setting) (r : Runner) (laid : IsLaidOut g r) where
         room : r.stack + temporary ≤ length words
         room = let e = length-set q.core.words (address / 4) v in let h = has.holds.room in omega arith
 
-    -- the right side is an error, or its word is known
+    -- where the code has come, the turn is next: it writes the word, or traps by the first error
     set_turns : (z : Scene) (regs : Regs) → HasBases g r regs → Has g r (item ∷ rest) z → (v i : Value) → eval z.world.store x ≡ v → index_in z.world.store place ≡ i → (y : Scene) → SetOutcome (plan g r).vars (home g r) (relied g r) r.stack r.thread (running r.tie pc regs) z.core.words place pc' v i y.core → Since g r (IsApart r.stack) any_port z y → Turns g r j y
     set_turns z regs bases has v i is is_index y outcome since q k = by v i is is_index outcome
       where
@@ -172,6 +173,7 @@ module _ (g : Setting) (r : Runner) (laid : IsLaidOut g r) where
         by (error kind pos) i e f traps =
             turn.errs (value_errs g r q has.branch item rest kind pos (traps q.core (core_kept g r k)) runs has.core (set_step q.world has.branch (error kind pos) (still (error kind pos) e)))
 
+-- from its code to that instruction, or to the one that traps
 pub set_leads : (g : Setting) (r : Runner) (place : kernel.Place) (x : kernel.Expression) → StatementLeads g r (kernel.set place x)
 set_leads g r place x rest exits pc pc' j z regs laid piece (uses_place, uses, changes, counted) behind rest_fits has here bases =
     let v = eval z.world.store x in

@@ -60,6 +60,7 @@ module _ (g : Setting) (r : Runner) (laid : IsLaidOut g r) (t : kernel.Statement
       by true e = spot_goes g r j q target b.regs (made true e) bases' (does t) rest other has (acted true e) exits m at_other other_fits few_other
       by false e = spot_goes g r j q next b.regs (made false e) bases' (does t) rest held has (acted false e) exits n at_held held_fits few_held
 
+  -- where the code of the test has come, the turn is next
   test_turns : (z : Scene) (regs : Regs) → HasBases g r regs → Has g r (does t ∷ rest) z → (v : Value) → eval z.world.store x ≡ v → (y : Scene) → TestOutcome (home g r) (relied g r) r.stack r.thread (running r.tie pc regs) z.core.words target next v y.core → Since g r (IsApart r.stack) any_port z y → Turns g r j y
   test_turns z regs bases has (word v) is y outcome since q k =
       let b = outcome q.core (core_kept g r k) in
@@ -93,6 +94,7 @@ test_leads g r laid t rest x uses counted held other begins exits pc next target
     (arrives g r (IsApart r.stack) (apart_of_changes g r) outcome most z way))
 
 module _ (g : Setting) (r : Runner) where
+  -- at most one jump leads from the first side past the second
   pub if_leads : (x : kernel.Expression) (a b : kernel.Statements) → StatementLeads g r (kernel.if_then x a b)
   if_leads x a b rest exits pc pc' j z regs laid (first, second, done, n, test, at_a, jumps, few, at_b) (uses, fits_a, fits_b, counted) behind rest_fits has here bases =
       let at_done = behind_jumps (plan g r) (code g r) rest exits n done pc' j jumps behind in
