@@ -1,0 +1,10 @@
+pub mod Scenes
+pub mod Arriving
+pub mod Layouts
+pub mod Evaluations
+pub mod OwnTurns
+pub mod Items
+pub mod Sets
+pub mod Tests
+pub mod Jumps
+pub mod Ends
