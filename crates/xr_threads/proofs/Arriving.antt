@@ -13,6 +13,14 @@ use Rattle.xl_port.specs.PortSteps.{KeptPort, PortStep, WithinPort}
 use Rattle.xr_threads.specs.Runners.{Setting, Runner, IsPort, MayChange, of_stack, home, port_place, relied}
 use Rattle.xr_threads.specs.Scenes.{Scene, Kept, Touched, IsSilentStep, after, LeadsIn}
 
+-- all ports
+abbrev pub any_port : ℕ → Type 0
+any_port q = Unit {0}
+
+-- all ports but one
+abbrev pub but : ℕ → ℕ → Type 0
+but p q = q ≡ p → ⊥
+
 module _ (g : Setting) (r : Runner) where
   -- what stays while the runner goes on: these of the words that it relies on, its ports at these places, its branch, and the words of its
   -- variables in the store
@@ -22,14 +30,6 @@ module _ (g : Setting) (r : Runner) where
         slice_get y.core.ports (port_place g r p) ≡ slice_get z.core.ports (port_place g r p)
     pub branch : slice_get y.world.branches r.branch ≡ slice_get z.world.branches r.branch
     pub store : (v : ℕ) → r.footprint.uses v ≡ true → words_of y.world.store v ≡ words_of z.world.store v
-
-  -- all ports
-  abbrev pub any_port : ℕ → Type 0
-  any_port q = Unit {0}
-
-  -- all ports but one
-  abbrev pub but : ℕ → ℕ → Type 0
-  but p q = q ≡ p → ⊥
 
   -- it holds at once
   pub since_now : (leaves stays : ℕ → Type 0) (z : Scene) → Since leaves stays z z

@@ -1,5 +1,8 @@
 pub mod Scenes
 pub mod Arriving
+pub mod Layouts
+pub mod Evaluations
+pub mod OwnTurns
 pub mod Sets
 pub mod Tests
 pub mod Jumps
