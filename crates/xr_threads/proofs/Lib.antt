@@ -5,5 +5,6 @@ pub mod Evaluations
 pub mod OwnTurns
 pub mod Sets
 pub mod Tests
+pub mod Zeros
 pub mod Jumps
 pub mod Ends
