@@ -3,3 +3,4 @@ pub mod Fits
 pub mod Scenes
 pub mod Turns
 pub mod Images
+pub mod Settled
