@@ -4,3 +4,4 @@ pub mod Scenes
 pub mod Turns
 pub mod Images
 pub mod Settled
+pub mod Standing
