@@ -3,3 +3,5 @@ pub mod Settles
 pub mod Leading
 pub mod Counts
 pub mod Answers
+pub mod Standing
+pub mod Lives
