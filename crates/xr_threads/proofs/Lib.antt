@@ -5,3 +5,5 @@ pub mod Counts
 pub mod Answers
 pub mod Standing
 pub mod Lives
+pub mod Steps
+pub mod Ticks
