@@ -7,3 +7,6 @@ pub mod Standing
 pub mod Lives
 pub mod Steps
 pub mod Ticks
+pub mod Events
+pub mod Quiet
+pub mod Agrees
