@@ -10,3 +10,5 @@ pub mod Ticks
 pub mod Events
 pub mod Quiet
 pub mod Agrees
+pub mod Starts
+pub mod Boot
