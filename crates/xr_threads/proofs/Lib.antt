@@ -12,3 +12,4 @@ pub mod Quiet
 pub mod Agrees
 pub mod Starts
 pub mod Boot
+pub mod Compiled
