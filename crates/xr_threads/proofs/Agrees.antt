@@ -4,12 +4,11 @@ use Rattle.std.specs.Prelude.{slice_get}
 use Rattle.std.proofs.lemmas.Option.{same_Some}
 use Rattle.xs_instr.specs.declared.image.Pair.{Pair}
 use Rattle.xs_instr.specs.declared.state.CoreState.{CoreState}
-use Rattle.xs_instr.specs.Machine.{and_then}
 use Rattle.xc_meaning.specs.Counts.KernelCounts.{kernel_bound}
 use Rattle.xc_meaning.specs.States.Branches.{Branch}
 use Rattle.xr_match.specs.Implements.{AgreeWholly, AllRootsEnded}
-use Rattle.xr_match.specs.Lives.{Family, Watched, of_root}
-use Rattle.xr_match.specs.Meanings.{family_in, of_kernel, root_among}
+use Rattle.xr_match.specs.Lives.{Watched, of_root}
+use Rattle.xr_match.specs.Meanings.{of_kernel}
 use Rattle.xr_match.specs.Sources.{Told, actions_by, actions_of}
 use Rattle.xr_match.specs.Systems.{SomeIs}
 use Rattle.xr_threads.specs.Images.{IsImageOf, Runners}

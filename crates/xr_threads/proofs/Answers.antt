@@ -1,7 +1,7 @@
 -- A step of a thread that is seen, and the piece of the program's run that answers it: the branch's step, and the steps without an
 -- instruction behind it.
-use Rattle.std.proofs.Common.{◌≡◌, ℕ, ◌+◌, ◌*◌, ◌≤◌, ◌⊎◌, inl, inr, Bool, true, List, [], ◌∷◌, ◌++◌, Option, Some, None, option_map, refl, sym, ap, ◌∙◌, subst, arith, eq-eqb}
-use Rattle.std.specs.Prelude.{slice_get, slice_set, replicate, nat_eq, ◌&&◌}
+use Rattle.std.proofs.Common.{◌≡◌, ℕ, ◌+◌, ◌≤◌, ◌⊎◌, inl, inr, List, [], ◌∷◌, ◌++◌, Option, Some, None, option_map, refl, sym, ap, ◌∙◌, subst, arith, eq-eqb}
+use Rattle.std.specs.Prelude.{slice_get, slice_set, replicate, nat_eq}
 use Rattle.std.proofs.lemmas.Option.{same_Some}
 use Rattle.xs_instr.specs.declared.state.CoreState.{CoreState}
 use Rattle.xs_instr.specs.declared.state.Mode.TheVariants.{Trapped}
@@ -15,7 +15,7 @@ use Rattle.xc_meaning.specs.Runs.{acts_all}
 use Rattle.xc_meaning.specs.States.Branches.{Branch, Mode, runs, ended}
 use Rattle.xc_meaning.specs.States.Worlds.{World, Action, go}
 use Rattle.xl_expr.proofs.Lists.{get_set_same, get_set_other}
-use Rattle.xr_threads.specs.Images.{counts, one_where}
+use Rattle.xr_threads.specs.Images.{counts}
 use Rattle.xr_threads.specs.Runners.{Setting, Runner, IsLaidOut, home}
 use Rattle.xr_threads.specs.Scenes.{Scene, Touched}
 use Rattle.xr_threads.specs.Settled.{settled, with_items}

@@ -1,9 +1,8 @@
 -- The machine's start: each root's thread sets its stack, and is on its way to the first own instruction of its branch.
-use Rattle.std.proofs.Common.{◌≡◌, ℕ, zero, suc, ◌+◌, ◌*◌, ◌<◌, ◌≤◌, inr, Bool, true, false, List, [], ◌∷◌, length, Option, Some, None, refl, sym, ap, ◌∙◌, subst, arith}
+use Rattle.std.proofs.Common.{◌≡◌, ℕ, zero, suc, ◌+◌, ◌*◌, ◌<◌, inr, Bool, false, List, [], ◌∷◌, length, Some, refl, sym, ap, ◌∙◌, subst, arith}
 use Rattle.std.specs.Prelude.{slice_get, slice_set}
 use Rattle.std.proofs.lemmas.List.{length-replicate}
 use Rattle.std.proofs.lemmas.Option.{same_Some, slice_get_within}
-use Rattle.xs_instr.specs.declared.image.Home.{Home}
 use Rattle.xs_instr.specs.declared.image.PortDecl.{PortDecl}
 use Rattle.xs_instr.specs.declared.instr.Instr.{Instr}
 use Rattle.xs_instr.specs.declared.instr.Instr.TheVariants.{Ldc, Setsp}
@@ -15,7 +14,7 @@ use Rattle.xs_instr.specs.Did.{makes, told}
 use Rattle.xs_instr.specs.Machine.{boot_core, boot_port, boot_ports, boot_threads, root_thread}
 use Rattle.xs_instr.specs.Registers.{no_regs, reg_set}
 use Rattle.xs_instr.specs.Rows.{own_of, own_row, put_own, row}
-use Rattle.xs_instr.specs.Slot.{slot, turn_at, runs_on, event_or_row, pick_where, instr_at, is_waiteu}
+use Rattle.xs_instr.specs.Slot.{turn_at, runs_on, event_or_row, pick_where, instr_at, is_waiteu}
 use Rattle.xc_kernel.specs.Plain as kernel
 use Rattle.xc_kernel.specs.Eval.{words_of}
 use Rattle.xc_meaning.specs.Counts.KernelCounts.{words_in}

@@ -8,7 +8,6 @@ use Rattle.xs_instr.specs.declared.image.Image.{Image}
 use Rattle.xs_instr.specs.declared.image.Stim.{Stim}
 use Rattle.xs_instr.specs.declared.state.CoreState.{CoreState}
 use Rattle.xs_instr.specs.Machine.{Event, Machine, and_then, boot, boot_core, does, parts_in}
-use Rattle.xs_instr.specs.Valid.{IsGoodStim}
 use Rattle.xc_kernel.specs.Plain as kernel
 use Rattle.xc_meaning.specs.Counts.Families.{counted_for, mover, steps_of}
 use Rattle.xc_meaning.specs.Counts.KernelCounts.{greatest_count, kernel_bound}
@@ -22,7 +21,7 @@ use Rattle.xr_match.specs.Meanings.{of_kernel}
 use Rattle.xr_match.specs.Sources.{Told, told_after, told_of, told_start}
 use Rattle.xr_match.specs.Systems.{SomeIs, leads}
 use Rattle.xr_match.proofs.Frame as frame
-use Rattle.xr_threads.specs.Images.{IsImageOf, IsRun, Runners}
+use Rattle.xr_threads.specs.Images.{IsImageOf, Runners}
 use Rattle.xr_threads.specs.Runners.{Setting, Runner}
 use Rattle.xr_threads.specs.Standing.{AllLead, IsOnItsWay, Stand, Standing, Stands, StandsBy}
 use Rattle.xr_threads.specs.Turns.{cost}

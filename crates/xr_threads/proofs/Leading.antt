@@ -1,6 +1,6 @@
 -- From where a thread is at the code of its branch's items to the own instruction of the first one: the one place that knows all kinds of
 -- items.
-use Rattle.std.proofs.Common.{◌≡◌, ℕ, ◌+◌, ◌*◌, ◌≤◌, List, [], ◌∷◌, Some, None, arith}
+use Rattle.std.proofs.Common.{◌≡◌, ℕ, ◌+◌, List, [], ◌∷◌, Some, None, arith}
 use Rattle.std.specs.Prelude.{replicate}
 use Rattle.xc_meaning.specs.Runs.{acts_all}
 use Rattle.xc_meaning.specs.States.Branches.{Branch}

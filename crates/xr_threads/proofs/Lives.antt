@@ -1,12 +1,10 @@
 -- A thread's step counts for its own life, and leaves all others: no thread is got.
-use Rattle.std.proofs.Common.{◌≡◌, ℕ, ◌≢◌, Bool, true, false, List, Option, Some, None, refl, sym, ap, ◌∙◌, subst, eq-eqb}
-use Rattle.std.specs.Prelude.{slice_get, slice_set, nat_eq, not, ◌&&◌}
+use Rattle.std.proofs.Common.{◌≡◌, ℕ, ◌≢◌, Bool, true, false, Some, refl, sym, ap, ◌∙◌, eq-eqb}
+use Rattle.std.specs.Prelude.{slice_get, nat_eq, not, ◌&&◌}
 use Rattle.std.proofs.lemmas.Bool.{ne_eqb}
 use Rattle.xs_instr.specs.declared.state.CoreState.{CoreState}
-use Rattle.xs_instr.specs.declared.state.Thread.{Thread}
 use Rattle.xs_instr.specs.Machine.{Machine, and_then}
-use Rattle.xl_expr.proofs.Lists.{get_set_same}
-use Rattle.xr_match.specs.Lives.{Life, Watched, child_of, in_use, is_got, life_after, life_by, stepped, thread_of, tie_of}
+use Rattle.xr_match.specs.Lives.{Watched, child_of, in_use, is_got, life_after, life_by, stepped, thread_of, tie_of}
 
 not_got : (u : Bool) → (not u && u) ≡ false
 not_got true = refl

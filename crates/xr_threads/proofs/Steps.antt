@@ -1,5 +1,5 @@
 -- A step of a thread is followed by no step of the program, or by the piece that answers it.
-use Rattle.std.proofs.Common.{◌≡◌, ℕ, suc, ◌+◌, ◌*◌, ◌<◌, ◌≤◌, ◌≢◌, Bool, true, false, List, [], map, Option, Some, None, refl, sym, ap, ◌∙◌, subst, ⊎_elim, arith}
+use Rattle.std.proofs.Common.{◌≡◌, ℕ, suc, ◌+◌, ◌*◌, ◌<◌, ◌≤◌, ◌≢◌, false, List, [], map, Option, Some, None, refl, sym, ap, ◌∙◌, subst, ⊎_elim, arith}
 use Rattle.std.specs.Prelude.{slice_get, slice_set, length}
 use Rattle.std.proofs.lemmas.Bool.{cases_eq}
 use Rattle.std.proofs.lemmas.Option.{get_or_from_slice_get, slice_get_within, same_Some}
@@ -22,7 +22,7 @@ use Rattle.xr_match.specs.Sources.{Told}
 use Rattle.xr_match.specs.Systems.{SomeIs}
 use Rattle.xr_threads.specs.Images.{AreApart, IsRun, Runners, counts, living_on}
 use Rattle.xr_threads.specs.Runners.{Setting, Runner, port_place}
-use Rattle.xr_threads.specs.Scenes.{IsSilentStep, Kept, LeadsIn, Scene, Touched}
+use Rattle.xr_threads.specs.Scenes.{IsSilentStep, Kept, LeadsIn, Touched}
 use Rattle.xr_threads.specs.Standing.{Answer, Stand, Standing, Stands, StandsBy}
 use Rattle.xr_threads.specs.Turns.{IsUnused, Turns}
 use Rattle.xr_threads.proofs.Counts.{far_counts, living_after}

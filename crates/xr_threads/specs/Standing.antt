@@ -1,5 +1,5 @@
 -- What stands between the machine and the program at each moment: each thread is on its way to what its branch does next.
-use Rattle.std.specs.Prelude.{◌≡◌, ℕ, ◌+◌, ◌*◌, ◌<◌, ◌≤◌, List, [], ◌∷◌, map, length, Option, Some, None, slice_get, slice_set}
+use Rattle.std.specs.Prelude.{◌≡◌, ℕ, ◌+◌, ◌*◌, ◌<◌, ◌≤◌, List, ◌∷◌, map, length, Option, Some, None, slice_get, slice_set}
 use Rattle.xs_instr.specs.declared.instr.Instr.TheVariants.{Freet}
 use Rattle.xs_instr.specs.declared.state.CoreState.{CoreState}
 use Rattle.xs_instr.specs.declared.state.Mode.TheVariants.{Trapped}
