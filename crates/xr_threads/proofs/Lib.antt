@@ -10,3 +10,17 @@ pub mod Zeros
 pub mod Outputs
 pub mod Jumps
 pub mod Ends
+pub mod Settles
+pub mod Leading
+pub mod Counts
+pub mod Answers
+pub mod Standing
+pub mod Lives
+pub mod Steps
+pub mod Ticks
+pub mod Events
+pub mod Quiet
+pub mod Agrees
+pub mod Starts
+pub mod Boot
+pub mod Compiled
