@@ -4,7 +4,9 @@ use Rattle.std.specs.Prelude.{max, Contains}
 use Rattle.xs_instr.specs.declared.image.Image.{Image}
 use Rattle.xs_instr.specs.declared.image.Stim.{Stim}
 use Rattle.xs_instr.specs.Machine.{boot_core, boot_threads, parts_in}
+use Rattle.xs_instr.specs.OwnSteps.{temporary}
 use Rattle.xs_instr.specs.Valid.{Valid}
+use Rattle.xc_kernel.specs.declared.kernel.PortUse.{PortUse}
 use Rattle.xc_kernel.specs.declared.kernel.Var.{Var}
 use Rattle.xc_kernel.specs.Plain as kernel
 use Rattle.xc_kernel.specs.Things.{variable, change, by_statements}
@@ -18,16 +20,16 @@ use Rattle.xc_disjoint.specs.Checked.{IsChecked}
 use Rattle.xc_formed.specs.Each.{EachOf, EachRoot}
 use Rattle.xc_formed.proofs.Formed.{of_programs}
 use Rattle.xl_expr.specs.declared.plan.Plan.{Plan}
-use Rattle.xl_image.specs.Images.{IsImage, roots_on}
+use Rattle.xl_image.specs.Images.{IsImage, decl_of, roots_on}
 use Rattle.xl_image.specs.Roots.{RootsAreBuilt}
 use Rattle.xl_plan.proofs.Lists.{some_given, none_given, contains_at}
 use Rattle.xr_match.specs.Meanings.{root_among}
 use Rattle.xr_threads.specs.Fits.{AllFit}
 use Rattle.xr_threads.specs.Images.{AreApart, IsApart, IsImageOf, IsRoot, IsRun, Runners, living_on, one_where}
-use Rattle.xr_threads.specs.Runners.{Setting, Runner, IsLaidOut}
+use Rattle.xr_threads.specs.Runners.{Setting, Runner, IsLaidOut, IsPort, port_place}
 use Rattle.xr_threads.specs.Turns.{IsUnused}
 use Rattle.xr_threads.proofs.Footprints.{all_fit}
-use Rattle.xr_threads.proofs.FootprintsLong.{all_long}
+use Rattle.xr_threads.proofs.FootprintsLong.{each_has_words}
 use Rattle.xr_threads.proofs.ImagedApart.{apart, codes_apart}
 use Rattle.xr_threads.proofs.ImagedLayout.{few, has_all, laid_out, ports_are, room, sizes_are}
 use Rattle.xr_threads.proofs.ImagedPlans.{IsImaged, counted_at, imaged_at, placed_at, plans}
@@ -104,7 +106,7 @@ module _ (K : kernel.Kernel) (L : Image) (checked : IsChecked K) (built : RootsA
       fits : AllFit g r root.body
       fits =
           let formed = of_programs K checked.of_program in
-          all_fit g checked core thread number root among here (has_all g checked built core is_core im root among here) (all_long K checked.of_program) root.body
+          all_fit g checked core thread number root among here (has_all g checked built core is_core im root among here) (each_has_words K checked.of_program) root.body
           (each_at _ _ _ _ _ _ K.roots number root formed.variables known) (each_at _ _ _ _ _ _ K.roots number root formed.transfers known) (λ th u. u)
           (none_higher K.variables K.roots number root known)
 
@@ -120,9 +122,9 @@ module _ (K : kernel.Kernel) (L : Image) (checked : IsChecked K) (built : RootsA
         stack = refl;
         code = im.roots thread root (ap (slice_get (roots_on core K.roots)) (sym e) ∙ listed_on K core number root known here);
         fits = fits;
-        room = subst (λ n. (runner_of K core n number root).stack + Rattle.xs_instr.specs.OwnSteps.temporary ≤ (parts_in L.cores core).words) e (room g checked built core is_core im number root known here);
+        room = subst (λ n. (runner_of K core n number root).stack + temporary ≤ (parts_in L.cores core).words) e (room g checked built core is_core im number root known here);
         sizes = λ v n p near used. sizes_are g checked built core is_core im v n p near;
-        ports = subst (λ n. (p : ℕ) (x : _) → Rattle.xr_threads.specs.Runners.IsPort g (runner_of K core n number root) p x → slice_get (parts_in L.cores core).ports (Rattle.xr_threads.specs.Runners.port_place g (runner_of K core n number root) p) ≡ Some (Rattle.xl_image.specs.Images.decl_of x)) e (ports_are g checked built core is_core im number root known here);
+        ports = subst (λ n. (p : ℕ) (x : PortUse) → IsPort g (runner_of K core n number root) p x → slice_get (parts_in L.cores core).ports (port_place g (runner_of K core n number root) p) ≡ Some (decl_of x)) e (ports_are g checked built core is_core im number root known here);
       }
 
       is_root : IsRoot g r root
