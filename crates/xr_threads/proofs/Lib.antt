@@ -24,3 +24,10 @@ pub mod Agrees
 pub mod Starts
 pub mod Boot
 pub mod Compiled
+pub mod Roots
+pub mod Footprints
+pub mod ImagedPlans
+pub mod ImagedLayout
+pub mod ImagedApart
+pub mod FootprintsLong
+pub mod Imaged
