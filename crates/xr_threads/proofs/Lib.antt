@@ -23,6 +23,7 @@ pub mod Quiet
 pub mod Agrees
 pub mod Starts
 pub mod Boot
+pub mod Statements
 pub mod Compiled
 pub mod Roots
 pub mod Footprints
@@ -31,3 +32,4 @@ pub mod ImagedLayout
 pub mod ImagedApart
 pub mod FootprintsLong
 pub mod Imaged
+pub mod Compiler
