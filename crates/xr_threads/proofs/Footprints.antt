@@ -1,5 +1,5 @@
 -- What a root's code uses and changes is in its runner's footprint, so each of its statements fits the runner.
-use Rattle.std.proofs.Common.{◌≡◌, inl, inr, ⊎_elim, ℕ, zero, suc, ◌+◌, ◌<◌, ◌≤◌, Bool, true, false, ◌||◌, List, [], ◌∷◌, length, Option, Some, None, Contains, slice_get, refl, sym, ap, subst, ◌∙◌, arith}
+use Rattle.std.proofs.Common.{◌≡◌, ℕ, ◌<◌, ◌≤◌, Bool, true, false, ◌||◌, List, length, Option, Some, None, Contains, slice_get, refl, sym, subst, ◌∙◌, arith}
 use Rattle.std.specs.Prelude.{max}
 use Rattle.xc_tree.specs.declared.tree.TreeDir.{TreeDir}
 use Rattle.xc_tree.specs.declared.tree.TreeDir.TheVariants.{In, Out, Both}
@@ -11,7 +11,7 @@ use Rattle.xc_kernel.specs.declared.statement.KRes.{KRes}
 use Rattle.xc_kernel.specs.declared.statement.KRes.TheVariants.{Port, Timer, Chan}
 use Rattle.xc_kernel.specs.Plain as kernel
 use Rattle.xc_kernel.specs.Things.{Thing, variable, change, port, by_read, by_change, by_resource, by_expression, by_operands, by_place, by_target, by_some_target, by_some_expression, by_condition, by_output, by_input, by_statement, by_statements, by_case, by_cases, by_default, by_branch, by_branches}
-use Rattle.xc_meaning.specs.Counts.KernelCounts.{of_statement, greatest_count, greatest_held, greatest_in}
+use Rattle.xc_meaning.specs.Counts.KernelCounts.{of_statement, greatest_held, greatest_in}
 use Rattle.xc_meaning.proofs.Basics.{same_number, or_left, or_right}
 use Rattle.xc_disjoint.specs.Checked.{IsChecked}
 use Rattle.xc_formed.specs.Each.{AnyExpression, AnyPlace, AnyNumber, AnyOutput, AnyInput, EachMaybe, EachStatement, EachOf}
@@ -23,7 +23,7 @@ use Rattle.xl_expr.specs.Plans.{var_in}
 use Rattle.xl_image.specs.Images.{dir_of}
 use Rattle.xl_plan.proofs.Lists.{some_given}
 use Rattle.xl_plan.proofs.UsedResources.{port_used}
-use Rattle.xr_threads.specs.Fits.{IsCounted, UsesSome, IsChanged, PutsOutAt, Fits, AllFit, greatest}
+use Rattle.xr_threads.specs.Fits.{UsesSome, IsChanged, PutsOutAt, Fits, AllFit, greatest}
 use Rattle.xr_threads.specs.Runners.{Setting, Runner, plan}
 use Rattle.xr_threads.proofs.Roots.{runner_of}
 
