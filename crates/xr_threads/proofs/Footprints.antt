@@ -1,5 +1,5 @@
 -- What a root's code uses and changes is in its runner's footprint, so each of its statements fits the runner.
-use Rattle.std.proofs.Common.{◌≡◌, inl, inr, ⊎_elim, ℕ, zero, suc, ◌+◌, ◌<◌, ◌≤◌, Bool, true, false, ◌||◌, List, [], ◌∷◌, length, Option, Some, None, Contains, slice_get, refl, sym, ap, subst, ◌∙◌, arith}
+use Rattle.std.proofs.Common.{zero, suc, [], ◌∷◌, ap, ◌≡◌, ℕ, ◌<◌, ◌≤◌, Bool, true, false, ◌||◌, List, length, Option, Some, None, Contains, slice_get, refl, sym, subst, ◌∙◌, arith}
 use Rattle.std.specs.Prelude.{max}
 use Rattle.xc_tree.specs.declared.tree.TreeDir.{TreeDir}
 use Rattle.xc_tree.specs.declared.tree.TreeDir.TheVariants.{In, Out, Both}
@@ -11,8 +11,8 @@ use Rattle.xc_kernel.specs.declared.statement.KRes.{KRes}
 use Rattle.xc_kernel.specs.declared.statement.KRes.TheVariants.{Port, Timer, Chan}
 use Rattle.xc_kernel.specs.Plain as kernel
 use Rattle.xc_kernel.specs.Things.{Thing, variable, change, port, by_read, by_change, by_resource, by_expression, by_operands, by_place, by_target, by_some_target, by_some_expression, by_condition, by_output, by_input, by_statement, by_statements, by_case, by_cases, by_default, by_branch, by_branches}
-use Rattle.xc_meaning.specs.Counts.KernelCounts.{of_statement, greatest_count, greatest_held, greatest_in}
-use Rattle.xc_meaning.proofs.Basics.{same_number, or_left, or_right}
+use Rattle.xc_meaning.specs.Counts.KernelCounts.{of_statement, greatest_held, greatest_in, words_in}
+use Rattle.xc_meaning.proofs.Basics.{none_given, same_number, or_left, or_right}
 use Rattle.xc_disjoint.specs.Checked.{IsChecked}
 use Rattle.xc_formed.specs.Each.{AnyExpression, AnyPlace, AnyNumber, AnyOutput, AnyInput, EachMaybe, EachStatement, EachOf}
 use Rattle.xc_formed.specs.Numbers.{IsVariable, IsListed, NumbersInExpression, NumbersInOperands, NumbersInPlace}
@@ -23,7 +23,7 @@ use Rattle.xl_expr.specs.Plans.{var_in}
 use Rattle.xl_image.specs.Images.{dir_of}
 use Rattle.xl_plan.proofs.Lists.{some_given}
 use Rattle.xl_plan.proofs.UsedResources.{port_used}
-use Rattle.xr_threads.specs.Fits.{IsCounted, UsesSome, IsChanged, PutsOutAt, Fits, AllFit, greatest}
+use Rattle.xr_threads.specs.Fits.{UsesSome, IsChanged, PutsOutAt, Fits, AllFit, greatest}
 use Rattle.xr_threads.specs.Runners.{Setting, Runner, plan}
 use Rattle.xr_threads.proofs.Roots.{runner_of}
 
@@ -129,6 +129,12 @@ left_within a b n h = grind arith
 right_within : (a b n : ℕ) → max a b ≤ n → b ≤ n
 right_within a b n h = grind arith
 
+-- how many words a variable has
+pub words_there : (vs : List Var) (v : ℕ) (x : Var) → slice_get vs v ≡ Some x → words_in vs v ≡ x.words
+words_there [] v x e = absurd (none_given e)
+words_there (y ∷ vs) zero x e = ap (λ (z : Var). z.words) (some_given e)
+words_there (y ∷ vs) (suc v) x e = words_there vs v x e
+
 -- what a plan has for variables that some code uses
 pub record HasAll (variables : List Var) (vars : List (Option VarPlan)) (body : kernel.Statements) : Type 0 where
   pub there : (v : ℕ) → by_statements (variable v) body ≡ true → (found : VarPlan) × (var_in vars v ≡ Some found)
@@ -202,7 +208,7 @@ module _ (g : Setting) (checked : IsChecked g.program) (core thread number : ℕ
         let f = has.there v u in
         let n = has.words v f.0 is.variable f.1 is.there in
         let l = long v is.variable is.there in
-        record { found = f.0; known = f.1; some = omega (arith, n, l); uses = u; changes = k (change v) (same_number v) }
+        record { found = f.0; known = f.1; some = omega (arith, n, l); words = n ∙ sym (words_there g.program.variables v is.variable is.there); uses = u; changes = k (change v) (same_number v) }
 
     abbrev Numbers : kernel.Statement → Type 0
     Numbers = EachStatement (NumbersInExpression V) (NumbersInPlace V) (IsListed g.program.variables) AnyOutput AnyInput AnyNumber

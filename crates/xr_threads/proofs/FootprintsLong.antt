@@ -1,10 +1,10 @@
 -- Each variable of a program's kernel has one word at least: no array of the text has a length of 0.
-use Rattle.std.proofs.Common.{◌≡◌, ℕ, zero, suc, ◌+◌, ◌-◌, ◌<◌, Bool, true, false, ◌&&◌, List, [], ◌∷◌, ◌++◌, Option, Some, None, slice_get, nat_eq, nat_le, bytes_eq, refl, sym, ap, subst, ◌∙◌, arith}
+use Rattle.std.proofs.Common.{◌≡◌, ℕ, zero, suc, ◌+◌, ◌-◌, ◌<◌, Bool, true, false, ◌&&◌, List, [], ◌∷◌, ◌++◌, Option, Some, None, slice_get, nat_eq, nat_le, bytes_eq, refl, sym, subst, arith}
 use Rattle.std.specs.Prelude.{Contains}
 use Rattle.std.proofs.lemmas.Option.{get_or_from_slice_get, slice_get_within}
 use Rattle.xw_words.specs.declared.pos.Broken.{Broken}
 use Rattle.xw_words.specs.declared.pos.Pos.{Pos}
-use Rattle.xc_tree.specs.Checks.{Breaks, rule, rules}
+use Rattle.xc_tree.specs.Checks.{Breaks, rule}
 use Rattle.xc_tree.specs.declared.tree.Param.{Param}
 use Rattle.xc_tree.specs.declared.tree.ParamKind.{ParamKind}
 use Rattle.xc_tree.specs.declared.tree.ParamKind.TheVariants.{Value, Ref, Array, End, Port}
@@ -22,9 +22,9 @@ use Rattle.xc_kernel.specs.Paths.{Path, path_at}
 use Rattle.xc_kernel.specs.Scopes.{Scope, Entity, a_word, an_array, an_element, a_channel, a_timer, a_port, a_constant, nothing_known, entity_of, with_name}
 use Rattle.xc_kernel.specs.Programs.{Function, function_by, function_named, functions, main_of}
 use Rattle.xc_kernel.specs.Copy.{Copy, joined}
-use Rattle.xc_kernel.specs.Context.{Context, in_branch, in_case, in_function, in_loop, word_variable, array_variable}
+use Rattle.xc_kernel.specs.Context.{Context, in_branch, in_case, in_function, in_loop}
 use Rattle.xc_kernel.specs.Parameters.{all_passed, by_element, by_name, form_by_reference, passed}
-use Rattle.xc_kernel.specs.Calls.{CopiesCall, CopiesStatement, body_copy, call_by, called, function_copy, path_of_call, result_copy, right_copy}
+use Rattle.xc_kernel.specs.Calls.{CopiesCall, body_copy, call_by, called, function_copy, path_of_call, result_copy, right_copy}
 use Rattle.xc_kernel.specs.Declarations.{declaration_copy, declarations_copy, kind_copy}
 use Rattle.xc_kernel.specs.Transfers.{input_names, target_copy}
 use Rattle.xc_kernel.specs.Flow.{Cased, and_case, case_scope, numbered_copy, replicated}

@@ -1,5 +1,5 @@
 -- The image of a checked kernel whose roots' code is built is what the simulation asks of one.
-use Rattle.std.proofs.Common.{◌≡◌, ◌≢◌, ◌⊎◌, ⊎_elim, ℕ, zero, suc, ◌+◌, ◌<◌, ◌≤◌, Bool, true, false, ◌&&◌, cond, List, [], ◌∷◌, length, map, Option, Some, None, slice_get, nat_eq, refl, sym, ap, subst, ◌∙◌, true≢false, arith}
+use Rattle.std.proofs.Common.{◌≡◌, ◌≢◌, ℕ, zero, suc, ◌+◌, ◌<◌, ◌≤◌, Bool, true, false, ◌&&◌, cond, List, [], ◌∷◌, length, map, Option, Some, None, slice_get, nat_eq, refl, sym, ap, subst, ◌∙◌, arith}
 use Rattle.std.specs.Prelude.{max, Contains}
 use Rattle.xs_instr.specs.declared.image.Image.{Image}
 use Rattle.xs_instr.specs.declared.image.Stim.{Stim}
@@ -9,11 +9,10 @@ use Rattle.xs_instr.specs.Valid.{Valid}
 use Rattle.xc_kernel.specs.declared.kernel.PortUse.{PortUse}
 use Rattle.xc_kernel.specs.declared.kernel.Var.{Var}
 use Rattle.xc_kernel.specs.Plain as kernel
-use Rattle.xc_kernel.specs.Things.{variable, change, by_statements}
+use Rattle.xc_kernel.specs.Things.{variable, change}
 use Rattle.xc_tree.specs.Depth.{highest}
-use Rattle.xc_meaning.specs.Counts.KernelCounts.{greatest_count, greatest_in, greatest_in_root}
-use Rattle.xc_meaning.specs.Runs.{kernel_root, kernel_start, no_side, root_branches}
-use Rattle.xc_meaning.specs.States.Branches.{Branch}
+use Rattle.xc_meaning.specs.Counts.KernelCounts.{greatest_in, greatest_in_root}
+use Rattle.xc_meaning.specs.Runs.{kernel_root, no_side, root_branches}
 use Rattle.xc_meaning.specs.States.Channels.{Side}
 use Rattle.xc_apart.specs.Clashes.{changed}
 use Rattle.xc_disjoint.specs.Checked.{IsChecked}
@@ -25,7 +24,7 @@ use Rattle.xl_image.specs.Roots.{RootsAreBuilt}
 use Rattle.xl_plan.proofs.Lists.{some_given, none_given, contains_at}
 use Rattle.xr_match.specs.Meanings.{root_among}
 use Rattle.xr_threads.specs.Fits.{AllFit}
-use Rattle.xr_threads.specs.Images.{AreApart, IsApart, IsImageOf, IsRoot, IsRun, Runners, living_on, one_where}
+use Rattle.xr_threads.specs.Images.{AreApart, IsApart, IsImageOf, IsRoot, Runners, living_on, one_where}
 use Rattle.xr_threads.specs.Runners.{Setting, Runner, IsLaidOut, IsPort, port_place}
 use Rattle.xr_threads.specs.Turns.{IsUnused}
 use Rattle.xr_threads.proofs.Footprints.{all_fit}

@@ -1,5 +1,5 @@
 -- No two roots' runners are in each other's way.
-use Rattle.std.proofs.Common.{◌≡◌, ◌≢◌, ◌⊎◌, inl, inr, ⊎_elim, ℕ, zero, suc, ◌+◌, ◌*◌, ◌<◌, ◌≤◌, Bool, true, false, List, [], ◌∷◌, length, Some, slice_get, nat_eq, refl, sym, ap, subst, ◌∙◌, arith}
+use Rattle.std.proofs.Common.{◌≡◌, ◌≢◌, ◌⊎◌, ⊎_elim, ℕ, zero, suc, ◌+◌, ◌<◌, true, List, [], ◌∷◌, length, Some, slice_get, nat_eq, sym, ap, subst, ◌∙◌, arith}
 use Rattle.xs_instr.specs.Machine.{parts_in}
 use Rattle.xs_instr.specs.OwnSteps.{temporary}
 use Rattle.xc_kernel.specs.declared.kernel.PortUse.{PortUse}
@@ -14,8 +14,7 @@ use Rattle.xc_laws.specs.Rules.{CodesApart, code_at}
 use Rattle.xc_laws.proofs.Checked.{checked_obey}
 use Rattle.xl_expr.specs.declared.plan.VarPlan.{VarPlan}
 use Rattle.xl_expr.specs.Frames.{IsNear}
-use Rattle.xl_image.specs.Roots.{RootsAreBuilt}
-use Rattle.xl_plan.specs.Layout.{first_temporary, ports_here, temporary_of}
+use Rattle.xl_plan.specs.Layout.{ports_here, temporary_of}
 use Rattle.xl_plan.proofs.Lists.{some_given, none_given, before_later}
 use Rattle.xr_threads.specs.Images.{IsApart}
 use Rattle.xr_threads.specs.Runners.{Setting, Runner, IsPort, MayChange, of_variable, of_stack, is_among_words, is_word_among, port_place, relied}
@@ -68,7 +67,7 @@ module _ (g : Setting) (checked : IsChecked g.program) (core : ℕ) (im : IsImag
     of_variable_words : (w : ℕ) → IsWord 0 (g.plans core).vars s.footprint.uses w → MayChange g r w → ⊥
     of_variable_words w h (of_variable v n k found near changes lt is) =
         let same : h.variable ≡ v =
-            im.planned.apart h.variable h.first h.place v n k h.found found h.near near h.within lt (let p = h.is in let q = is in omega (arith, p, q)) in
+        im.planned.apart h.variable h.first h.place v n k h.found found h.near near h.within lt (let p = h.is in let q = is in omega (arith, p, q)) in
         clear.clash (change v) (variable v) (changed v) changes (subst (λ x. by_statements (variable x) b.body ≡ true) same h.meant)
     of_variable_words w h (of_stack k lt is) = not_temporary t h.variable h.first h.place k w h.found h.near h.within lt h.is is
 

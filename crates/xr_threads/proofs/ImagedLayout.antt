@@ -1,31 +1,26 @@
 -- The words and ports of a root's runner, as the plan of its core lays them out.
-use Rattle.std.proofs.Common.{◌≡◌, ◌≢◌, ◌⊎◌, inl, inr, ⊎_elim, ℕ, zero, suc, ◌+◌, ◌-◌, ◌*◌, ◌^◌, ◌<◌, ◌≤◌, Bool, true, false, ◌&&◌, ◌||◌, List, [], ◌∷◌, length, map, Option, Some, None, Contains, slice_get, option_map, nat_eq, nat_le, nat_lt, refl, sym, ap, subst, ◌∙◌, arith}
+use Rattle.std.proofs.Common.{◌≡◌, ◌⊎◌, ⊎_elim, ℕ, zero, suc, ◌+◌, ◌-◌, ◌^◌, ◌<◌, ◌≤◌, Bool, true, false, ◌&&◌, List, [], ◌∷◌, length, Option, Some, None, Contains, slice_get, option_map, nat_eq, nat_le, nat_lt, refl, sym, ap, subst, ◌∙◌, arith}
 use Rattle.std.proofs.lemmas.Option.{slice_get-map, slice_get_within}
 use Rattle.xs_instr.specs.declared.image.PortDecl.{PortDecl}
 use Rattle.xs_instr.specs.Machine.{parts_in}
 use Rattle.xs_instr.specs.OwnSteps.{IsApart, temporary}
-use Rattle.xs_instr.specs.Resources.{APort, named}
 use Rattle.xc_kernel.specs.declared.kernel.PortUse.{PortUse}
 use Rattle.xc_kernel.specs.declared.kernel.Var.{Var}
 use Rattle.xc_kernel.specs.Plain as kernel
-use Rattle.xc_kernel.specs.Things.{variable, by_statements}
 use Rattle.xc_meaning.specs.Counts.KernelCounts.{words_in}
 use Rattle.xc_meaning.proofs.Basics.{or_left, or_right, or_cases}
 use Rattle.xc_disjoint.specs.Checked.{IsChecked}
 use Rattle.xc_disjoint.specs.Needs.{words_on, threads_on}
-use Rattle.xc_disjoint.specs.Rules.{most_threads, most_words}
-use Rattle.xc_formed.specs.Cores.{IsOn}
-use Rattle.xl_expr.specs.declared.plan.ResAt.TheVariants.{Fixed}
 use Rattle.xl_expr.specs.declared.plan.VarAt.{VarAt}
 use Rattle.xl_expr.specs.declared.plan.VarAt.TheVariants.{Near, Far, Through}
 use Rattle.xl_expr.specs.declared.plan.VarPlan.{VarPlan}
 use Rattle.xl_expr.specs.Frames.{Frame, IsNear}
-use Rattle.xl_expr.specs.Plans.{joined, resource_at, var_in}
+use Rattle.xl_expr.specs.Plans.{joined, var_in}
 use Rattle.xl_image.specs.Images.{decl_of, roots_on}
 use Rattle.xl_image.specs.Roots.{RootsAreBuilt}
 use Rattle.xl_image.proofs.GoodParts.{few_roots_on}
 use Rattle.xl_image.proofs.Threads.{threads_are_roots}
-use Rattle.xl_plan.specs.Layout.{first_temporary, temporary_of, word_of, ports_here, core_of_port, number_on, identifier_if, named_by, port_name, port_number}
+use Rattle.xl_plan.specs.Layout.{first_temporary, temporary_of, word_of, ports_here, core_of_port, identifier_if, named_by, port_name}
 use Rattle.xl_plan.specs.Planned.{ports_on}
 use Rattle.xl_plan.proofs.FewPorts.{few_ports}
 use Rattle.xl_plan.proofs.Lists.{some_given, none_given, within_all}
@@ -33,8 +28,8 @@ use Rattle.xl_plan.proofs.Numbered.{listed}
 use Rattle.xl_plan.proofs.PortsDiffer.{ports_apart}
 use Rattle.xl_plan.proofs.Sizes.{few_words}
 use Rattle.xr_match.proofs.Names.{port_named}
-use Rattle.xr_threads.specs.Runners.{Setting, Runner, IsLaidOut, IsPort, home, is_among_words, is_word_among, is_word_at, is_word_of, plan, port_place, relied}
-use Rattle.xr_threads.proofs.Footprints.{HasAll, changed_used}
+use Rattle.xr_threads.specs.Runners.{Setting, Runner, IsLaidOut, IsPort, is_among_words, is_word_among, is_word_at, is_word_of, port_place, relied}
+use Rattle.xr_threads.proofs.Footprints.{HasAll, changed_used, words_there}
 use Rattle.xr_threads.proofs.ImagedPlans.{IsImaged}
 use Rattle.xr_threads.proofs.Roots.{listed_on, runner_of, thread_of}
 
@@ -126,11 +121,6 @@ module _ (base : ℕ) (vars : List (Option VarPlan)) (is_meant : ℕ → Bool) w
 
 eq_true : (a b : ℕ) → a ≡ b → nat_eq a b ≡ true
 eq_true a b e = grind arith
-
-words_there : (vs : List Var) (v : ℕ) (x : Var) → slice_get vs v ≡ Some x → words_in vs v ≡ x.words
-words_there [] v x e = absurd (none_given e)
-words_there (y ∷ vs) zero x e = ap (λ (z : Var). z.words) (some_given e)
-words_there (y ∷ vs) (suc v) x e = words_there vs v x e
 
 -- A root's runner on a core.
 module _ (g : Setting) (checked : IsChecked g.program) (built : RootsAreBuilt g.program.roots) (core : ℕ) (is_core : core < 4) (im : IsImaged g.program core (parts_in g.image.cores core) (g.plans core)) where

@@ -27,9 +27,9 @@ pub mod Statements
 pub mod Compiled
 pub mod Roots
 pub mod Footprints
+pub mod FootprintsLong
 pub mod ImagedPlans
 pub mod ImagedLayout
 pub mod ImagedApart
-pub mod FootprintsLong
 pub mod Imaged
 pub mod Compiler

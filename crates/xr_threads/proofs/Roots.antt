@@ -1,5 +1,5 @@
 -- Which thread runs which root: on each core the roots are run by its first threads, in the kernel's order.
-use Rattle.std.proofs.Common.{◌≡◌, ℕ, zero, suc, ◌+◌, ◌≤◌, Bool, true, false, cond, List, [], ◌∷◌, length, Option, Some, None, slice_get, sum_by, take, nat_eq, refl, sym, ap, subst, ◌∙◌, arith}
+use Rattle.std.proofs.Common.{◌≡◌, ℕ, zero, suc, ◌+◌, ◌≤◌, Bool, true, false, cond, List, [], ◌∷◌, length, Option, Some, None, slice_get, take, nat_eq, refl, sym, ap, subst, ◌∙◌, arith}
 use Rattle.std.proofs.lemmas.List.Sums.{sum_by-cons}
 use Rattle.xc_kernel.specs.Plain as kernel
 use Rattle.xc_kernel.specs.Things.{variable, change, port, by_statements}
@@ -7,7 +7,7 @@ use Rattle.xc_meaning.specs.Counts.Families.{child_by}
 use Rattle.xc_disjoint.specs.Cores.{if_so, on_core}
 use Rattle.xl_image.specs.Images.{roots_on}
 use Rattle.xl_plan.specs.Layout.{number_on, temporary_of}
-use Rattle.xl_plan.proofs.Lists.{some_given, none_given, before_later}
+use Rattle.xl_plan.proofs.Lists.{some_given, none_given}
 use Rattle.xl_plan.proofs.Numbered.{listed}
 use Rattle.xr_match.specs.Meanings.{root_among}
 use Rattle.xr_threads.specs.Images.{Runners}
