@@ -3,6 +3,7 @@ use Rattle.std.proofs.Common.{◌≡◌, ℕ, zero, suc, ◌+◌, ◌*◌, ◌/�
 use Rattle.xs_instr.specs.Lines.{at_pos}
 use Rattle.std.specs.Prelude.{nat_eq, slice_get}
 use Rattle.std.proofs.lemmas.Bool.{cases_eq}
+use Rattle.std.proofs.lemmas.List.{length-set}
 use Rattle.xw_words.specs.declared.pos.Pos.{Pos}
 use Rattle.xs_instr.specs.declared.image.Code.{Code}
 use Rattle.xs_instr.specs.declared.instr.Instr.{Instr}
@@ -67,7 +68,8 @@ cleared memory address zero = memory
 cleared memory address (suc i) = word_put (cleared memory address i) (address i) 0
 
 module _ (memory : List ℕ) (address : ℕ → ℕ) (words : ℕ) (there : (i : ℕ) → i < words → (x : ℕ) × (word_at memory (address i) ≡ Some x)) where
-  still_there : (n i : ℕ) → n ≤ words → i < words → (x : ℕ) × (word_at (cleared memory address n) (address i) ≡ Some x)
+  -- and all of them are there still
+  pub still_there : (n i : ℕ) → n ≤ words → i < words → (x : ℕ) × (word_at (cleared memory address n) (address i) ≡ Some x)
   still_there zero i le lt = there i lt
   still_there (suc n) i le lt =
       let at_n = still_there n n (omega arith) (omega arith) in
@@ -87,12 +89,21 @@ module _ (memory : List ℕ) (address : ℕ → ℕ) (words : ℕ) (there : (i :
       before : (i < n → word_at (cleared memory address n) (address i) ≡ Some 0) → i ≢ n → word_at (cleared memory address (suc n)) (address i) ≡ Some 0
       before earlier ne = put_zero (cleared memory address n) (address n) at_n.0 (address i) at_n.1 (earlier (omega arith))
 
+pub cleared_size : (memory : List ℕ) (address : ℕ → ℕ) (n : ℕ) → length (cleared memory address n) ≡ length memory
+cleared_size memory address zero = refl
+cleared_size memory address (suc n) = length-set (cleared memory address n) (address n / 4) 0 ∙ cleared_size memory address n
+
 pub outside_kept : (memory : List ℕ) (address : ℕ → ℕ) (n w : ℕ) → ((i : ℕ) → i < n → w ≡ address i / 4 → ⊥) → slice_get (cleared memory address n) w ≡ slice_get memory w
 outside_kept memory address zero w h = refl
 outside_kept memory address (suc n) w h =
     get_set_other (cleared memory address n) (address n / 4) w 0 (h n (omega arith)) ∙ outside_kept memory address n w (λ i lt. h i (omega arith))
 
 module _ (code : Code) (relied : ℕ → Bool) (leaves : ℕ → Type 0) where
+  -- what a store of a 0 makes
+  pub store_made : (i : Instr) (pc : ℕ) (regs : Regs) (words : List ℕ) (address x : ℕ) → relied (address / 4) ≡ true → word_at words address ≡ Some x → ((ws : List ℕ) → own_row (own pc regs ws) i ≡ stores_at (own pc regs ws) 0 address) → (ws : List ℕ) → Agree code relied leaves words ws → own_row (own pc regs ws) i ≡ makes (own (pc + 1) regs (word_put ws address 0))
+  store_made i pc regs words address x relied_on there turn ws g =
+      turn ws ∙ ap (stores (own pc regs ws) 0 address) (word_by_same words ws address (nat_eq (address % 4) 0) (g.by (address / 4) relied_on) ∙ there)
+
   -- one store of a 0
   pub store_sure : (i : Instr) (pc : ℕ) (regs : Regs) (words : List ℕ) (address x : ℕ) → slice_get code.instrs pc ≡ Some i → IsPlain i → relied (address / 4) ≡ true → word_at words address ≡ Some x → ((ws : List ℕ) → own_row (own pc regs ws) i ≡ stores_at (own pc regs ws) 0 address) → ((w : ℕ) → leaves w → w ≢ address / 4) → Sure code relied leaves (own pc regs words) (own (pc + 1) regs (word_put words address 0))
   store_sure i pc regs words address x stands plain relied_on there turn outside = record {

@@ -1,0 +1,62 @@
+-- Ways of silent steps: joined, made longer, and left as they are by what others do.
+use Rattle.std.proofs.Common.{◌≡◌, ℕ, zero, suc, ◌+◌, ◌≤◌, inl, inr, ⊎_elim, ◌∙◌, subst, arith}
+use Rattle.xr_threads.specs.Runners.{Setting, Runner}
+use Rattle.xr_threads.specs.Scenes.{Scene, Kept, after, LeadsIn, IsStable}
+use Rattle.xr_threads.specs.Turns.{Turns}
+
+module _ (g : Setting) (r : Runner) where
+  -- what is kept twice is kept
+  pub kept_twice : {z y x : Scene} → Kept g r z y → Kept g r y x → Kept g r z x
+  kept_twice h k = record {
+    thread = k.thread ∙ h.thread;
+    words = λ w m. k.words w m ∙ h.words w m;
+    ports = λ p listed is. k.ports p listed is ∙ h.ports p listed is;
+    branch = k.branch ∙ h.branch;
+    store = λ v u. k.store v u ∙ h.store v u;
+    clock = k.clock;
+  }
+
+  -- a way lasts, where what it leads to does
+  pub leads_in_stable : (Q : Scene → Type 0) → IsStable g r Q → (n : ℕ) → IsStable g r (LeadsIn g r Q n)
+  leads_in_stable Q q zero z y k h = q z y k h
+  leads_in_stable Q q (suc n) z y k h = ⊎_elim (λ (here : Q z). inl (q z y k here)) (λ on. inr (λ x l. on x (kept_twice k l))) h
+
+  -- a turn that is to come is to come still
+  pub turns_stable : (j : ℕ) → IsStable g r (Turns g r j)
+  turns_stable j z y k h = λ x l. h x (kept_twice k l)
+
+  -- where it holds already, no step is needed
+  pub leads_now : (Q : Scene → Type 0) (n : ℕ) (z : Scene) → Q z → LeadsIn g r Q n z
+  leads_now Q zero z h = h
+  leads_now Q (suc n) z h = inl h
+
+  -- more steps are allowed
+  pub leads_more : (Q : Scene → Type 0) (n m : ℕ) (z : Scene) → n ≤ m → LeadsIn g r Q n z → LeadsIn g r Q m z
+  leads_more Q zero m z le h = leads_now Q m z h
+  leads_more Q (suc n) zero z le h = absurd (omega arith)
+  leads_more Q (suc n) (suc m) z le h =
+      ⊎_elim
+      (λ (here : Q z). inl here)
+      (λ on. inr (λ y k. let s = on y k in (s.0, s.1, leads_more Q n m (after g r y s.0) (omega arith) s.2)))
+      h
+
+  -- one way after another
+  pub then_leads : (P Q : Scene → Type 0) (n m : ℕ) (z : Scene) → LeadsIn g r P n z → ((y : Scene) → P y → LeadsIn g r Q m y) → LeadsIn g r Q (n + m) z
+  then_leads P Q zero m z h next = let e : m ≡ 0 + m = omega arith in subst (λ k. LeadsIn g r Q k z) e (next z h)
+  then_leads P Q (suc n) m z h next =
+      let e : suc (n + m) ≡ suc n + m = omega arith in
+      let all : LeadsIn g r Q (suc (n + m)) z =
+      ⊎_elim
+      (λ (here : P z). leads_more Q m (suc (n + m)) z (omega arith) (next z here))
+      (λ on. inr (λ y k. let s = on y k in (s.0, s.1, then_leads P Q n m (after g r y s.0) s.2 next)))
+      h in
+      subst (λ k. LeadsIn g r Q k z) e all
+
+  -- what it leads to may be said in another way
+  pub leads_as : (P Q : Scene → Type 0) (n : ℕ) (z : Scene) → ((y : Scene) → P y → Q y) → LeadsIn g r P n z → LeadsIn g r Q n z
+  leads_as P Q zero z f h = f z h
+  leads_as P Q (suc n) z f h =
+      ⊎_elim
+      (λ (here : P z). inl (f z here))
+      (λ on. inr (λ y k. let s = on y k in (s.0, s.1, leads_as P Q n (after g r y s.0) f s.2)))
+      h
