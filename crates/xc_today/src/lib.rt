@@ -1,0 +1,8 @@
+//! The programs that are built today: which texts hold nothing of a later form, and that the kernels of those have code.
+#![tactic(auto)]
+
+mod stamps;
+mod today;
+mod tokens;
+
+pub use today::is_built_today;
