@@ -64,7 +64,7 @@ module _ (text : List ℕ) (toks : List Tok) (lexes : Lexes text toks) where
       least later other (of_needs items K c tree copied breaks) = inl (omega arith)
 
   module _ (items : List Item) (derives : IsProgram toks items) (unbroken : (rule i : ℕ) → BreaksRule toks rule i → ⊥) where
-    tree : IsTree text items
+    abbrev tree : IsTree text items
     tree = record { toks = toks; lexes = lexes; derives = derives; unbroken = unbroken }
 
     pub first_of_form : (IsBuiltToday toks items → ⊥) → First text not_built

@@ -10,3 +10,4 @@ mod OnlyCauses
 mod Order
 mod Reading
 mod Rounds
+mod Words

@@ -87,8 +87,7 @@ module _
     (text : List ℕ) (tree : Tree) (r : IsReadAs text (program_of tree)) (named : Named) (its_tree : named.tree ≡ tree)
     (is_named : IsNamed (program_of tree) (named_of named)) (names : (b : Broken) → BreaksInNames (program_of tree) b → ⊥)
     (typed : Typed) (same : typed.named ≡ named) (types_are : typed.unsigned_at ≡ unsigned_at (named_of named))
-    (sound : (b : Broken) → BreaksInTypes (named_of named) b → ⊥)
-where
+    (sound : (b : Broken) → BreaksInTypes (named_of named) b → ⊥) where
   tree_is : typed.named.tree ≡ tree
   tree_is = ap (λ (n : Named). n.tree) same ∙ its_tree
 

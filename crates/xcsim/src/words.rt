@@ -77,13 +77,16 @@ pub fn meaning(words: &[String]) -> Option<Command<'_>>
     ensures { MatchOption result (means (map string_bytes words.now) ≡ None)
         (λ command. means (map string_bytes words.now) ≡ Some (command_of command)) }
 {
-    if words.len() == 2 {
-        return on_file(words[0].as_str(), words[1].as_str());
+    match words {
+        [word, file] => on_file(word.as_str(), file.as_str()),
+        [word, first, second, third] => {
+            if word.as_str() != "run" {
+                return None;
+            }
+            timed_run(first.as_str(), second.as_str(), third.as_str())
+        }
+        _ => None,
     }
-    if words.len() != 4 || words[0].as_str() != "run" {
-        return None;
-    }
-    timed_run(words[1].as_str(), words[2].as_str(), words[3].as_str())
 }
 
 /// The command that a word and a file mean, if they mean one.
