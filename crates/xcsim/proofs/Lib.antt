@@ -5,9 +5,9 @@ mod Dues
 mod Firsts
 mod Given
 mod Meanings
+mod NoMeaning
 mod OneAnswer
 mod OnlyCauses
 mod Order
 mod Reading
 mod Rounds
-mod Words
