@@ -32,4 +32,4 @@ pub mod ImagedPlans
 pub mod ImagedLayout
 pub mod ImagedApart
 pub mod Imaged
-pub mod Compiler
+pub mod Implementing
