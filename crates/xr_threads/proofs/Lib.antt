@@ -1,4 +1,13 @@
 pub mod Scenes
+pub mod Arriving
+pub mod Layouts
+pub mod Evaluations
+pub mod OwnTurns
+pub mod Items
+pub mod Sets
+pub mod Tests
+pub mod Jumps
+pub mod Ends
 pub mod Settles
 pub mod Leading
 pub mod Counts

@@ -1,0 +1,95 @@
+-- A turn that changes nothing on the core but the thread's own state and the core's words, beside an action of the branch.
+use Rattle.std.proofs.Common.{◌≡◌, ℕ, ◌+◌, ◌≤◌, Bool, false, List, ◌∷◌, length, Option, Some, None, refl, ap, ◌∙◌}
+use Rattle.std.specs.Prelude.{slice_get}
+use Rattle.xs_instr.specs.declared.image.Home.{Home}
+use Rattle.xs_instr.specs.declared.instr.Instr.{Instr}
+use Rattle.xs_instr.specs.declared.state.CoreState.{CoreState}
+use Rattle.xs_instr.specs.declared.state.Regs.{Regs}
+use Rattle.xs_instr.specs.Did.{makes}
+use Rattle.xs_instr.specs.OwnSteps.{temporary}
+use Rattle.xs_instr.specs.Rows.{put_own, row}
+use Rattle.xs_instr.specs.Slot.{slot, turn_at, runs_on, event_or_row, pick_where, instr_at, is_waiteu}
+use Rattle.xc_kernel.specs.Eval.{Store, words_of}
+use Rattle.xc_meaning.specs.States.Items.{Item}
+use Rattle.xc_meaning.specs.States.Worlds.{World, go}
+use Rattle.xc_meaning.specs.Runs.{acts}
+use Rattle.xl_expr.specs.Frames.{Holds}
+use Rattle.xl_expr.proofs.Lists.{get_set_same, get_set_other}
+use Rattle.xl_walk.specs.Pieces.{Exit}
+use Rattle.xr_threads.specs.Fits.{ItemsFit}
+use Rattle.xr_threads.specs.Runners.{Setting, Runner, MayChange, home, plan}
+use Rattle.xr_threads.specs.Scenes.{Scene, running}
+use Rattle.xr_threads.specs.Turns.{HasBases, Has, IsAt, ItemsFrom, Goes}
+use Rattle.xr_threads.proofs.Evaluations.{with_items, runs_with}
+use Rattle.xr_threads.proofs.Layouts.{ports_last}
+
+-- the turn of a running thread that takes no events is the row of its instruction
+pub turn_is_row : (h : Home) (a : CoreState) (t : ℕ) (tie : Option ℕ) (pc : ℕ) (regs : Regs) (i : Instr) → slice_get a.threads t ≡ Some (running tie pc regs) → instr_at h pc ≡ Some i → is_waiteu (Some i) ≡ false → slot h a t ≡ row h a t (running tie pc regs) i
+turn_is_row h a t tie pc regs i here code no_event =
+    ap (turn_at h a t) here
+    ∙ ap (runs_on h a t (running tie pc regs)) code
+    ∙ ap (λ (b : Bool). event_or_row h a t (running tie pc regs) (Some i) (pick_where h a t b)) no_event
+
+module _ (g : Setting) (r : Runner) where
+  -- The thread stands at an index, and its turn leads to another with these registers and words.
+  pub record MakesOwn (y : Scene) (pc : ℕ) (regs : Regs) (words : List ℕ) : Type 0 where
+    pub index : ℕ
+    pub here : IsAt g r y index regs
+    pub made : slot (home g r) y.core r.thread ≡ makes (put_own y.core r.thread (running r.tie index regs) (record { pc = pc; regs = regs; words = words }))
+    pub others : (w : ℕ) → (MayChange g r w → ⊥) → slice_get words w ≡ slice_get y.core.words w
+
+  -- an item is done by such a turn, which leaves these items and this store
+  pub own_goes : (j : ℕ) (y : Scene) (pc : ℕ) (regs : Regs) (words : List ℕ) → MakesOwn y pc regs words → HasBases g r regs →
+      (item : Item) (rest items : List Item) (store : Store) (has : Has g r (item ∷ rest) y) →
+      acts g.program g.stimulus y.world (go r.branch) ≡ Some (record (with_items y.world r.branch has.branch items) { store = store }) →
+      ((v : ℕ) → r.footprint.changes v ≡ false → words_of store v ≡ words_of y.world.store v) →
+      Holds (plan g r).vars r.footprint.uses r.base words store → r.stack + temporary ≤ length words →
+      (exits : List Exit) (jumps : ℕ) → ItemsFrom g r items exits pc jumps → ItemsFit g r items → jumps ≤ j + 1 → Goes g r j y
+  own_goes j y pc regs words made bases item rest items store has acted same holds room exits jumps at_code fits fewer =
+      let th = running r.tie made.index regs in
+      let th' = running r.tie pc regs in
+      let left = put_own y.core r.thread th (record { pc = pc; regs = regs; words = words }) in
+      let x : World = record (with_items y.world r.branch has.branch items) { store = store } in
+      record {
+        left = left;
+        made = None;
+        made_is = made.made;
+        touched = record { clock = refl; others = λ u ne. get_set_other y.core.threads r.thread u th' ne; words = made.others; ports = λ q not_mine. refl };
+        roots = refl;
+        items = items;
+        acts = record {
+          branch = has.branch;
+          known = has.runs.known;
+          mode = has.runs.running;
+          core = has.core;
+          world = x;
+          acted = acted;
+          is_next = record { clocks = refl; branches = refl; store = same; inboxes = refl; trace = refl };
+        };
+        jumps = jumps;
+        fewer = fewer;
+        rest = record {
+          pc = pc;
+          regs = regs;
+          exits = exits;
+          here = get_set_same y.core.threads r.thread th th' made.here;
+          bases = bases;
+          at_code = at_code;
+          fits = fits;
+          has = record {
+            branch = record has.branch { items = items };
+            runs = let n = runs_with y.world r.branch has.branch (item ∷ rest) items has.runs in record { known = n.known; running = n.running; items_are = n.items_are };
+            core = has.core;
+            holds = record { holds = holds; room = room };
+            ports = ports_last g r y (record { core = left; world = x }) (λ p listed is. refl) has.ports;
+          };
+        };
+      }
+
+  -- the same where the words and the store stay
+  pub spot_goes : (j : ℕ) (y : Scene) (pc : ℕ) (regs : Regs) → MakesOwn y pc regs y.core.words → HasBases g r regs →
+      (item : Item) (rest items : List Item) (has : Has g r (item ∷ rest) y) →
+      acts g.program g.stimulus y.world (go r.branch) ≡ Some (with_items y.world r.branch has.branch items) →
+      (exits : List Exit) (jumps : ℕ) → ItemsFrom g r items exits pc jumps → ItemsFit g r items → jumps ≤ j + 1 → Goes g r j y
+  spot_goes j y pc regs made bases item rest items has acted exits jumps at_code fits fewer =
+      own_goes j y pc regs y.core.words made bases item rest items y.world.store has acted (λ v c. refl) has.holds.holds has.holds.room exits jumps at_code fits fewer
