@@ -25,41 +25,41 @@ use Rattle.xl_expr.specs.Targets.{AreAimed}
 use Rattle.xl_expr.proofs.GoodCode.{ArePlain, plain_append, plain_aimed}
 use Rattle.xl_expr.proofs.Lists.{word_by_same}
 use Rattle.xl_expr.proofs.Ways.{own, Fits, Way, way_on, way_leads}
-use Rattle.xl_flow.specs.Zeros.{IsOutside, StandsFrom, WordsStand, Zeroed, Zeroes, far_write, near_write, words_set, writes, zero_code, zero_instrs, zero_of}
+use Rattle.xl_flow.specs.Zeros.{IsOutside, StandsFrom, WordsStand, Zeroed, far_write, near_write, words_set, writes, zero_code, zero_instrs, zero_of}
 use Rattle.xl_flow.proofs.Zeroing.{WritesOne, all_written, are_zero, cleared, outside_kept, quiet_sure, store_sure}
 
 -- the address of word i, from the first word's and from dp
-near_address : (dp n i : ℕ) → address_at dp ((n + i) % 2 ^ 32) ≡ address_at (address_at dp n) i
+pub near_address : (dp n i : ℕ) → address_at dp ((n + i) % 2 ^ 32) ≡ address_at (address_at dp n) i
 near_address dp n i = omega arith
 
 -- the registers that the code leaves
 module _ (first : Regs) where
-  pub record Kept (regs : Regs) : Type 0 where
+  pub record IsReady (regs : Regs) : Type 0 where
     pub r0_is : regs.r0 ≡ 0
     pub dp_is : regs.dp ≡ first.dp
     pub others : (r : Reg) → is_working r ≡ false → reg_get regs r ≡ reg_get first r
 
-  pub record Based (base : ℕ) (regs : Regs) : Type 0 where
-    pub kept : Kept regs
+  pub record IsBased (base : ℕ) (regs : Regs) : Type 0 where
+    pub ready : IsReady regs
     pub r11_is : regs.r11 ≡ base
 
-other_r0 : (regs : Regs) (v : ℕ) (r : Reg) → is_working r ≡ false → reg_get (reg_set regs R0 v) r ≡ reg_get regs r
+pub other_r0 : (regs : Regs) (v : ℕ) (r : Reg) → is_working r ≡ false → reg_get (reg_set regs R0 v) r ≡ reg_get regs r
 other_r0 regs v R0 h = cc
 other_r0 regs v other h = refl
 
-other_r10 : (regs : Regs) (v : ℕ) (r : Reg) → is_working r ≡ false → reg_get (reg_set regs R10 v) r ≡ reg_get regs r
+pub other_r10 : (regs : Regs) (v : ℕ) (r : Reg) → is_working r ≡ false → reg_get (reg_set regs R10 v) r ≡ reg_get regs r
 other_r10 regs v R10 h = cc
 other_r10 regs v other h = refl
 
-other_r11 : (regs : Regs) (v : ℕ) (r : Reg) → is_working r ≡ false → reg_get (reg_set regs R11 v) r ≡ reg_get regs r
+pub other_r11 : (regs : Regs) (v : ℕ) (r : Reg) → is_working r ≡ false → reg_get (reg_set regs R11 v) r ≡ reg_get regs r
 other_r11 regs v R11 h = cc
 other_r11 regs v other h = refl
 
 module _ (code : Code) (relied : ℕ → Bool) (base words : ℕ) (first : Regs) (pos : Pos) (relied_on : (i : ℕ) → i < words → relied (address_at base i / 4) ≡ true) where
-  abbrev leaves : ℕ → Type 0
+  abbrev pub leaves : ℕ → Type 0
   leaves = IsOutside base words
 
-  near_one : (n : ℕ) → base ≡ address_at first.dp n → WritesOne code relied leaves (Kept first) (near_write n) (λ i. address_at base i) pos words
+  pub near_one : (n : ℕ) → base ≡ address_at first.dp n → WritesOne code relied leaves (IsReady first) (near_write n) (λ i. address_at base i) pos words
   near_one n base_is i pc regs memory x lt st ready there = record {
     count = 1;
     few = omega arith;
@@ -79,15 +79,15 @@ module _ (code : Code) (relied : ℕ → Bool) (base words : ℕ) (first : Regs)
     );
   }
 
-  far_one : WritesOne code relied leaves (Based first base) far_write (λ i. address_at base i) pos words
+  pub far_one : WritesOne code relied leaves (IsBased first base) far_write (λ i. address_at base i) pos words
   far_one i pc regs memory x lt st ready there =
       let regs1 = reg_set regs R10 i in
-      let k = ready.kept in
+      let k = ready.ready in
       record {
         count = 2;
         few = omega arith;
         regs' = regs1;
-        ready = record { kept = record { r0_is = k.r0_is; dp_is = k.dp_is; others = λ r h. other_r10 regs i r h ∙ k.others r h }; r11_is = ready.r11_is };
+        ready = record { ready = record { r0_is = k.r0_is; dp_is = k.dp_is; others = λ r h. other_r10 regs i r h ∙ k.others r h }; r11_is = ready.r11_is };
         way = (
           own (pc + 1) regs1 memory,
           quiet_sure code relied leaves (Ldc R10 i) regs regs1 memory pc st.0 (record { row_is = λ h c t th. refl; no_event = refl }) (λ ws g. refl),
@@ -107,16 +107,16 @@ module _ (code : Code) (relied : ℕ → Bool) (base words : ℕ) (first : Regs)
       }
 
 module _ (home : Home) (relied : ℕ → Bool) (t base words pc : ℕ) (last : Pos) (thread : Thread) (a : CoreState) (at_work : RunsAt t pc thread a) (stand : WordsStand relied a.words base words) where
-  abbrev my_code : Code
+  abbrev pub my_code : Code
   my_code = home.parts.code
 
-  abbrev Leaves : ℕ → Type 0
+  abbrev pub Leaves : ℕ → Type 0
   Leaves = IsOutside base words
 
   abbrev all_cleared : List ℕ
   all_cleared = cleared a.words (λ i. address_at base i) words
 
-  starts : Fits my_code relied Leaves t thread (own pc thread.regs a.words) a
+  pub starts : Fits my_code relied Leaves t thread (own pc thread.regs a.words) a
   starts = record { here = at_work.here ∙ ap (λ p. Some (record thread { pc = p })) at_work.pc_is; words = record { by = λ w r. refl } }
 
   -- where the thread comes to, its words are 0
@@ -129,18 +129,18 @@ module _ (home : Home) (relied : ℕ → Bool) (t base words pc : ℕ) (last : P
     kept = λ w r outside. f.words.by w r ∙ outside_kept a.words (λ j. address_at base j) words w outside;
   }
 
-  abbrev regs0 : Regs
+  abbrev pub regs0 : Regs
   regs0 = reg_set thread.regs R0 0
 
-  cleared_r0 : Kept thread.regs regs0
+  pub cleared_r0 : IsReady thread.regs regs0
   cleared_r0 = record { r0_is = refl; dp_is = refl; others = λ r h. other_r0 thread.regs 0 r h }
 
-  first_step : slice_get my_code.instrs pc ≡ Some (Ldc R0 0) → Way my_code relied Leaves 1 (own pc thread.regs a.words) (own (pc + 1) regs0 a.words)
+  pub first_step : slice_get my_code.instrs pc ≡ Some (Ldc R0 0) → Way my_code relied Leaves 1 (own pc thread.regs a.words) (own (pc + 1) regs0 a.words)
   first_step st = (own (pc + 1) regs0 a.words, quiet_sure my_code relied Leaves (Ldc R0 0) thread.regs regs0 a.words pc st (record { row_is = λ h c t th. refl; no_event = refl }) (λ ws g. refl), refl)
 
   near_leads : (n : ℕ) → StandAt my_code pc (at_pos last (Ldc R0 0 ∷ writes (near_write n) words)) → base ≡ address_at thread.regs.dp n → Within home relied Leaves t (Zeroed relied t thread a.words base words (pc + length (at_pos last (Ldc R0 0 ∷ writes (near_write n) words)))) (2 * words + 2) a
   near_leads n st base_is =
-      let w = all_written my_code relied Leaves (Kept thread.regs) (near_write n) (λ i. address_at base i) last words (near_one my_code relied base words thread.regs last stand.relied_on n base_is) a.words stand.there words (pc + 1) regs0 (omega arith) st.2 cleared_r0 in
+      let w = all_written my_code relied Leaves (IsReady thread.regs) (near_write n) (λ i. address_at base i) last words (near_one my_code relied base words thread.regs last stand.relied_on n base_is) a.words stand.there words (pc + 1) regs0 (omega arith) st.2 cleared_r0 in
       let ls = at_pos last (writes (near_write n) words) in
       let e : pc + 1 + length ls ≡ pc + length (at_pos last (Ldc R0 0 ∷ writes (near_write n) words)) = omega arith in
       let f = w.few in
@@ -149,10 +149,10 @@ module _ (home : Home) (relied : ℕ → Bool) (t base words pc : ℕ) (last : P
       way_leads my_code relied Leaves home t thread at_work.runs at_work.no_events refl _ (1 + w.count) (2 * words + 2) (own pc thread.regs a.words) (own (pc + 1 + length ls) w.regs' all_cleared) (omega arith) all
       (λ b g. subst (λ p. Zeroed relied t thread a.words base words p b) e (zeroed (pc + 1 + length ls) w.regs' others b g)) a starts
 
-  abbrev regs1 : Regs
+  abbrev pub regs1 : Regs
   regs1 = reg_set regs0 R11 base
 
-  second_step : (n : ℕ) → slice_get my_code.instrs (pc + 1) ≡ Some (Ldwdp R11 n) → word_at a.words (address_at thread.regs.dp n) ≡ Some base → relied (address_at thread.regs.dp n / 4) ≡ true → Way my_code relied Leaves 1 (own (pc + 1) regs0 a.words) (own (pc + 1 + 1) regs1 a.words)
+  pub second_step : (n : ℕ) → slice_get my_code.instrs (pc + 1) ≡ Some (Ldwdp R11 n) → word_at a.words (address_at thread.regs.dp n) ≡ Some base → relied (address_at thread.regs.dp n / 4) ≡ true → Way my_code relied Leaves 1 (own (pc + 1) regs0 a.words) (own (pc + 1 + 1) regs1 a.words)
   second_step n st there relied_on = (
     own (pc + 1 + 1) regs1 a.words,
     quiet_sure my_code relied Leaves (Ldwdp R11 n) regs0 regs1 a.words (pc + 1) st (record { row_is = λ h c t th. refl; no_event = refl })
@@ -162,32 +162,22 @@ module _ (home : Home) (relied : ℕ → Bool) (t base words pc : ℕ) (last : P
 
   far_leads : (n : ℕ) → StandAt my_code pc (at_pos last (Ldc R0 0 ∷ Ldwdp R11 n ∷ writes far_write words)) → word_at a.words (address_at thread.regs.dp n) ≡ Some base → relied (address_at thread.regs.dp n / 4) ≡ true → Within home relied Leaves t (Zeroed relied t thread a.words base words (pc + length (at_pos last (Ldc R0 0 ∷ Ldwdp R11 n ∷ writes far_write words)))) (2 * words + 2) a
   far_leads n st there relied_on =
-      let based : Based thread.regs base regs1 = record { kept = record { r0_is = refl; dp_is = refl; others = λ r h. other_r11 regs0 base r h ∙ other_r0 thread.regs 0 r h }; r11_is = refl } in
-      let w = all_written my_code relied Leaves (Based thread.regs base) far_write (λ i. address_at base i) last words (far_one my_code relied base words thread.regs last stand.relied_on) a.words stand.there words (pc + 1 + 1) regs1 (omega arith) st.2.2 based in
+      let based : IsBased thread.regs base regs1 = record { ready = record { r0_is = refl; dp_is = refl; others = λ r h. other_r11 regs0 base r h ∙ other_r0 thread.regs 0 r h }; r11_is = refl } in
+      let w = all_written my_code relied Leaves (IsBased thread.regs base) far_write (λ i. address_at base i) last words (far_one my_code relied base words thread.regs last stand.relied_on) a.words stand.there words (pc + 1 + 1) regs1 (omega arith) st.2.2 based in
       let ls = at_pos last (writes far_write words) in
       let e : pc + 1 + 1 + length ls ≡ pc + length (at_pos last (Ldc R0 0 ∷ Ldwdp R11 n ∷ writes far_write words)) = omega arith in
       let f = w.few in
       let both = way_on my_code relied Leaves 1 1 (own pc thread.regs a.words) (own (pc + 1) regs0 a.words) (own (pc + 1 + 1) regs1 a.words) (first_step st.0) (second_step n st.2.0 there relied_on) in
       let all = way_on my_code relied Leaves 2 w.count (own pc thread.regs a.words) (own (pc + 1 + 1) regs1 a.words) (own (pc + 1 + 1 + length ls) w.regs' all_cleared) both w.way in
-      let k = w.ready.kept in
+      let k = w.ready.ready in
       way_leads my_code relied Leaves home t thread at_work.runs at_work.no_events refl _ (2 + w.count) (2 * words + 2) (own pc thread.regs a.words) (own (pc + 1 + 1 + length ls) w.regs' all_cleared) (omega arith) all
       (λ b g. subst (λ p. Zeroed relied t thread a.words base words p b) e (zeroed (pc + 1 + 1 + length ls) w.regs' k.others b g)) a starts
 
 -- by where the variable stands
-leads : (home : Home) (relied : ℕ → Bool) (t base words pc : ℕ) (last : Pos) (thread : Thread) (a : CoreState) (place : VarAt) → RunsAt t pc thread a → StandAt home.parts.code pc (at_pos last (zero_instrs place words)) → StandsFrom relied thread.regs.dp a.words place base → WordsStand relied a.words base (words_set place words) → Within home relied (IsOutside base (words_set place words)) t (Zeroed relied t thread a.words base (words_set place words) (pc + length (at_pos last (zero_instrs place words)))) (2 * words_set place words + 2) a
-leads home relied t base words pc last thread a (Near n) at_work st from stand = near_leads home relied t base words pc last thread a at_work stand n st from
-leads home relied t base words pc last thread a (Far n) at_work st from stand = far_leads home relied t base words pc last thread a at_work stand n st from.0 from.1
-leads home relied t base words pc last thread a (Through n) at_work st from stand = far_leads home relied t base 1 pc last thread a at_work stand n st from.0 from.1
-
--- the public clause, from the code alone
-pub code_zeroes : (vars : List (Option VarPlan)) (v pc : ℕ) (last : Pos) → Zeroes vars v pc (zero_code vars v last)
-code_zeroes vars v pc last = record {
-  by = λ found is home relied t base thread a st at_work from stand.
-      let e : zero_code vars v last ≡ at_pos last (zero_instrs found.place found.words) = ap (λ o. zero_of o last) is in
-      let words = words_set found.place found.words in
-      subst (λ ls. Within home relied (IsOutside base words) t (Zeroed relied t thread a.words base words (pc + length ls)) (2 * words + 2) a) (sym e)
-      (leads home relied t base found.words pc last thread a found.place at_work (subst (StandAt home.parts.code pc) e st) from stand);
-}
+pub zero_leads : (home : Home) (relied : ℕ → Bool) (t base words pc : ℕ) (last : Pos) (thread : Thread) (a : CoreState) (place : VarAt) → RunsAt t pc thread a → StandAt home.parts.code pc (at_pos last (zero_instrs place words)) → StandsFrom relied thread.regs.dp a.words place base → WordsStand relied a.words base (words_set place words) → Within home relied (IsOutside base (words_set place words)) t (Zeroed relied t thread a.words base (words_set place words) (pc + length (at_pos last (zero_instrs place words)))) (2 * words_set place words + 2) a
+zero_leads home relied t base words pc last thread a (Near n) at_work st from stand = near_leads home relied t base words pc last thread a at_work stand n st from
+zero_leads home relied t base words pc last thread a (Far n) at_work st from stand = far_leads home relied t base words pc last thread a at_work stand n st from.0 from.1
+zero_leads home relied t base words pc last thread a (Through n) at_work st from stand = far_leads home relied t base 1 pc last thread a at_work stand n st from.0 from.1
 
 -- none of its instructions has a target
 writes_plain : (write : ℕ → List Instr) → ((i : ℕ) → ArePlain (write i)) → (words : ℕ) → ArePlain (writes write words)

@@ -67,7 +67,8 @@ cleared memory address zero = memory
 cleared memory address (suc i) = word_put (cleared memory address i) (address i) 0
 
 module _ (memory : List ℕ) (address : ℕ → ℕ) (words : ℕ) (there : (i : ℕ) → i < words → (x : ℕ) × (word_at memory (address i) ≡ Some x)) where
-  still_there : (n i : ℕ) → n ≤ words → i < words → (x : ℕ) × (word_at (cleared memory address n) (address i) ≡ Some x)
+  -- and all of them are there still
+  pub still_there : (n i : ℕ) → n ≤ words → i < words → (x : ℕ) × (word_at (cleared memory address n) (address i) ≡ Some x)
   still_there zero i le lt = there i lt
   still_there (suc n) i le lt =
       let at_n = still_there n n (omega arith) (omega arith) in
@@ -93,6 +94,11 @@ outside_kept memory address (suc n) w h =
     get_set_other (cleared memory address n) (address n / 4) w 0 (h n (omega arith)) ∙ outside_kept memory address n w (λ i lt. h i (omega arith))
 
 module _ (code : Code) (relied : ℕ → Bool) (leaves : ℕ → Type 0) where
+  -- what a store of a 0 makes
+  pub store_made : (i : Instr) (pc : ℕ) (regs : Regs) (words : List ℕ) (address x : ℕ) → relied (address / 4) ≡ true → word_at words address ≡ Some x → ((ws : List ℕ) → own_row (own pc regs ws) i ≡ stores_at (own pc regs ws) 0 address) → (ws : List ℕ) → Agree code relied leaves words ws → own_row (own pc regs ws) i ≡ makes (own (pc + 1) regs (word_put ws address 0))
+  store_made i pc regs words address x relied_on there turn ws g =
+      turn ws ∙ ap (stores (own pc regs ws) 0 address) (word_by_same words ws address (nat_eq (address % 4) 0) (g.by (address / 4) relied_on) ∙ there)
+
   -- one store of a 0
   pub store_sure : (i : Instr) (pc : ℕ) (regs : Regs) (words : List ℕ) (address x : ℕ) → slice_get code.instrs pc ≡ Some i → IsPlain i → relied (address / 4) ≡ true → word_at words address ≡ Some x → ((ws : List ℕ) → own_row (own pc regs ws) i ≡ stores_at (own pc regs ws) 0 address) → ((w : ℕ) → leaves w → w ≢ address / 4) → Sure code relied leaves (own pc regs words) (own (pc + 1) regs (word_put words address 0))
   store_sure i pc regs words address x stands plain relied_on there turn outside = record {

@@ -9,10 +9,13 @@ use Rattle.xs_instr.specs.declared.instr.Reg.TheVariants.{R0, R10, R11}
 use Rattle.xs_instr.specs.declared.state.CoreState.{CoreState}
 use Rattle.xs_instr.specs.declared.state.Regs.{Regs}
 use Rattle.xs_instr.specs.declared.state.Thread.{Thread}
+use Rattle.xs_instr.specs.Did.{makes}
 use Rattle.xs_instr.specs.Lines.{Line, at_pos}
-use Rattle.xs_instr.specs.Memory.{address_at, word_at}
-use Rattle.xs_instr.specs.OwnSteps.{RunsAt, StandAt, Within}
+use Rattle.xs_instr.specs.Memory.{address_at, word_at, word_put}
+use Rattle.xs_instr.specs.OwnSteps.{Kept, RunsAt, StandAt, Within}
 use Rattle.xs_instr.specs.Registers.{reg_get}
+use Rattle.xs_instr.specs.Rows.{put_own}
+use Rattle.xs_instr.specs.Slot.{slot}
 use Rattle.xl_expr.specs.declared.plan.VarAt.{VarAt}
 use Rattle.xl_expr.specs.declared.plan.VarAt.TheVariants.{Near, Far, Through}
 use Rattle.xl_expr.specs.declared.plan.VarPlan.{VarPlan}
@@ -73,8 +76,24 @@ pub record Zeroed (relied : ℕ → Bool) (t : ℕ) (thread : Thread) (old : Lis
   pub others : (r : Reg) → is_working r ≡ false → reg_get regs r ≡ reg_get thread.regs r
   pub kept : (w : ℕ) → relied w ≡ true → IsOutside base words w → slice_get b.words w ≡ slice_get old w
 
+-- The thread's next step writes 0 to the last word, when all words before it are 0, and goes on to pc; all other words that it relies
+-- on and its registers but r0, r10 and r11 are as they were.
+pub record WritesLast
+    (home : Home) (relied : ℕ → Bool) (t : ℕ) (thread : Thread) (old : List ℕ) (base last pc : ℕ) (b : CoreState) : Type 0 where
+  pub index : ℕ
+  pub regs : Regs
+  pub here : slice_get b.threads t ≡ Some (record thread { pc = index; regs = regs })
+  pub zeros : (i : ℕ) → i < last → word_at b.words (address_at base i) ≡ Some 0
+  pub there : (x : ℕ) × (word_at b.words (address_at base last) ≡ Some x)
+  pub others : (r : Reg) → is_working r ≡ false → reg_get regs r ≡ reg_get thread.regs r
+  pub kept : (w : ℕ) → relied w ≡ true → IsOutside base (last + 1) w → slice_get b.words w ≡ slice_get old w
+  pub made : slot home b t ≡
+      makes (put_own b t (record thread { pc = index; regs = regs })
+      (record { pc = pc; regs = regs; words = word_put b.words (address_at base last) 0 }))
+
 -- The lines set a variable's words to 0: wherever they stand, and whatever other threads do in between, the thread comes within two
--- own steps for each word and two more, which change no other word, to the index behind them.
+-- own steps for each word and two more, which change no other word, to the index behind them. Where there are words, the last of these
+-- steps is the one that writes the last of them.
 pub record Zeroes (vars : List (Option VarPlan)) (variable pc : ℕ) (lines : List Line) : Type 0 where
   pub by : (found : VarPlan) → var_in vars variable ≡ Some found →
       (home : Home) (relied : ℕ → Bool) (t base : ℕ) (thread : Thread) (a : CoreState) →
@@ -84,6 +103,14 @@ pub record Zeroes (vars : List (Option VarPlan)) (variable pc : ℕ) (lines : Li
       Within home relied (IsOutside base (words_set found.place found.words)) t
       (Zeroed relied t thread a.words base (words_set found.place found.words) (pc + length lines))
       (2 * words_set found.place found.words + 2) a
+  pub last : (found : VarPlan) (last : ℕ) → var_in vars variable ≡ Some found → words_set found.place found.words ≡ last + 1 →
+      (home : Home) (relied : ℕ → Bool) (t base : ℕ) (thread : Thread) (a : CoreState) →
+      StandAt home.parts.code pc lines → RunsAt t pc thread a →
+      StandsFrom relied thread.regs.dp a.words found.place base →
+      WordsStand relied a.words base (last + 1) →
+      Within home relied (IsOutside base (last + 1)) t
+      (λ b. (c : CoreState) → Kept relied t b c → WritesLast home relied t thread a.words base last (pc + length lines) c)
+      (2 * (last + 1) + 1) a
 
 -- how many instructions there are at most
 abbrev pub room_of : Option VarPlan → ℕ

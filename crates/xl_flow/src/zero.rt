@@ -13,7 +13,7 @@ use xw_words::{Memory, Pos};
 /// The code that sets all words of a variable to 0; of an array of which the plan has one element alone, that element. `zeroes`
 /// says what it does: wherever it stands from this index on, where the plan's layout holds, and whatever other threads do in
 /// between that leaves what this one relies on, it comes to the next index with these words 0 and all other words that it
-/// relies on as they were, within two steps for each word and two more.
+/// relies on as they were, within two steps for each word and two more, of which the last one writes the last word.
 ///
 /// The one error is want of memory; the emitter then holds what it held, and perhaps further instructions behind it.
 pub fn emit_zero(e: &mut Emitter, plan: &Plan, v: u32) -> Result<(), Memory>

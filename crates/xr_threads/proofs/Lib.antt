@@ -6,6 +6,8 @@ pub mod OwnTurns
 pub mod Items
 pub mod Sets
 pub mod Tests
+pub mod Zeros
+pub mod Outputs
 pub mod Jumps
 pub mod Ends
 pub mod Settles

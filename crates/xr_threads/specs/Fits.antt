@@ -6,7 +6,7 @@ use Rattle.xc_kernel.specs.declared.kernel.PortUse.{PortUse}
 use Rattle.xc_kernel.specs.declared.statement.KRes.{KRes}
 use Rattle.xc_kernel.specs.declared.statement.KRes.TheVariants.{Port, Timer, Chan}
 use Rattle.xc_kernel.specs.Plain as kernel
-use Rattle.xc_meaning.specs.Counts.KernelCounts.{greatest_count, of_statement}
+use Rattle.xc_meaning.specs.Counts.KernelCounts.{greatest_count, of_statement, words_in}
 use Rattle.xc_meaning.specs.States.Items.{Item, does}
 use Rattle.xl_expr.specs.declared.plan.VarPlan.{VarPlan}
 use Rattle.xl_expr.specs.Frames.{HasVars, HasPlace, variable_of}
@@ -33,10 +33,11 @@ module _ (g : Setting) (r : Runner) where
   UsesSome None = Unit {0}
   UsesSome (Some x) = Uses x
 
-  -- a variable that the runner may change, with some words
+  -- a variable that the runner may change, with some words, of which the plan has as many as the program
   pub record IsChanged (v : ℕ) : Type 0 where
     pub found : VarPlan
     pub known : var_in (plan g r).vars v ≡ Some found
+    pub words : found.words ≡ words_in g.program.variables v
     pub some : 0 < found.words
     pub uses : r.footprint.uses v ≡ true
     pub changes : r.footprint.changes v ≡ true

@@ -2,7 +2,8 @@ use Rattle.std.proofs.Common.{ap, arith, length, length-append}
 use Rattle.xl_expr.specs.Plans.{var_in}
 use Rattle.xl_flow.specs.Zeros.{zero_code}
 use Rattle.xl_flow.proofs.ZeroSteps.{room_is}
-use Rattle.xl_flow.proofs.ZeroCode.{code_zeroes, zero_aimed}
+use Rattle.xl_flow.proofs.ZeroCode.{zero_aimed}
+use Rattle.xl_flow.proofs.ZeroLast.{code_zeroes}
 use Rattle.xl_flow.proofs.zero.emit_zero.Goals as goal
 
 pub returns-clause-zeroes : goal.returns-clause-zeroes
