@@ -29,7 +29,7 @@ use Rattle.xr_threads.specs.Images.{IsRoot}
 use Rattle.xr_threads.specs.Runners.{Setting, Runner, IsLaidOut, code, home, plan, port_place}
 use Rattle.xr_threads.specs.Scenes.{Kept, LeadsIn, Scene, after, running}
 use Rattle.xr_threads.specs.Settled.{settled}
-use Rattle.xr_threads.specs.Standing.{AllLead, IsOnItsWay}
+use Rattle.xr_threads.specs.Standing.{IsOnItsWay}
 use Rattle.xr_threads.specs.Turns.{HoldsStore, IsAt, Rest, Turns, cost}
 use Rattle.xr_threads.proofs.Leading.{rest_leads}
 use Rattle.xr_threads.proofs.Scenes.{leads_in_stable, then_leads}
@@ -109,7 +109,7 @@ module _ (g : Setting) (r : Runner) (root : kernel.Root) (is : IsRoot g r root) 
         omega arith;
   }
 
-module _ (g : Setting) (r : Runner) (lead : AllLead g r) (laid : IsLaidOut g r) (root : kernel.Root) (is : IsRoot g r root) where
+module _ (g : Setting) (r : Runner) (laid : IsLaidOut g r) (root : kernel.Root) (is : IsRoot g r root) where
   -- its core, and the program's state once all roots have done what they can
   module _ (branch : Branch) (branch_is : IsRootBranch root r.branch branch) (y : World) (found : slice_get y.branches r.branch ≡ Some (settled_branch branch)) (store : y.store ≡ (kernel_start g.program).store) where
     pub root_leads : IsOnItsWay g r (2 + cost g r) (record { core = boot_core (home g r).parts; world = y })
@@ -148,7 +148,7 @@ module _ (g : Setting) (r : Runner) (lead : AllLead g r) (laid : IsLaidOut g r) 
             ports = λ p listed its. record { port = boot_port (decl_of listed); there = boot_port_at (home g r).parts.ports (port_place g r p) (decl_of listed) (is.ports p listed its); declared = refl };
           };
         } in
-        let on = rest_leads g r lead laid is.tie (settled items).items 0 z2 rest (own_settled items) in
+        let on = rest_leads g r laid is.tie (settled items).items 0 z2 rest (own_settled items) in
         let turns = Turns g r on.1 in
         let stable = turns_stable g r on.1 in
         let from1 = then_leads g r (Kept g r z2) turns 1 on.0 z1 to2 (λ x k. leads_in_stable g r turns stable on.0 z2 x k on.3) in

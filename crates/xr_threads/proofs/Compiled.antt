@@ -23,7 +23,7 @@ use Rattle.xr_match.specs.Systems.{SomeIs, leads}
 use Rattle.xr_match.proofs.Frame as frame
 use Rattle.xr_threads.specs.Images.{IsImageOf, Runners}
 use Rattle.xr_threads.specs.Runners.{Setting, Runner}
-use Rattle.xr_threads.specs.Standing.{AllLead, IsOnItsWay, Stand, Standing, Stands, StandsBy}
+use Rattle.xr_threads.specs.Standing.{IsOnItsWay, Stand, Standing, Stands, StandsBy}
 use Rattle.xr_threads.specs.Turns.{cost}
 use Rattle.xr_threads.proofs.Agrees.{agrees}
 use Rattle.xr_threads.proofs.Boot.{root_leads}
@@ -105,7 +105,7 @@ start_bound most greatest actions is =
     let grown = mul-le-mul_left most le in
     omega (arith, grown)
 
-module _ (g : Setting) (who : Runners) (lead : (r : Runner) → AllLead g r) (is : IsImageOf g who) where
+module _ (g : Setting) (who : Runners) (is : IsImageOf g who) where
   K : kernel.Kernel
   K = g.program
 
@@ -153,7 +153,7 @@ module _ (g : Setting) (who : Runners) (lead : (r : Runner) → AllLead g r) (is
       let found = settled_at r.branch b.0 b.1 in
       let core = is.apart.core c t r e in
       let thread = is.apart.thread c t r e in
-      let on = root_leads g r (lead r) (is.apart.laid c t r e) root.0 root.1 b.0 b.2 first.1 found first.3.store in
+      let on = root_leads g r (is.apart.laid c t r e) root.0 root.1 b.0 b.2 first.1 found first.3.store in
       let stand : Stand g r (boot_core (parts_in g.image.cores c)) first.1 (first_life c t) begun_told.actions (settled_branch b.0) = record {
         core = b.2.core ∙ root.1.core;
         family = b.2.family ∙ sym root.1.family;
@@ -197,7 +197,7 @@ module _ (g : Setting) (who : Runners) (lead : (r : Runner) → AllLead g r) (is
   event : (w w' : Watched) (x : Told (of_kernel g.program)) (e : Event) → Standing g who w x → (machine_of g.image g.stimulus).next w e ≡ Some w' → frame.Follows (machine_of g.image g.stimulus) (told_of (of_kernel g.program) g.stimulus) (Standing g who) x w'
   event w w' x e st h =
       let left = left_by g.image g.stimulus w w' e h in
-      follows g who x w' (subst (Follows g who x) (sym left.2) (event_followed g who lead is.apart w left.0 x st e left.1))
+      follows g who x w' (subst (Follows g who x) (sym left.2) (event_followed g who is.apart w left.0 x st e left.1))
 
   pub simulates : g.image.chans ≡ [] → frame.Simulates (machine_of g.image g.stimulus) (told_of (of_kernel g.program) g.stimulus) (Standing g who) (AgreeWholly g.image (of_kernel g.program) g.stimulus)
   simulates no_channels = record {
@@ -210,16 +210,16 @@ module _ (g : Setting) (who : Runners) (lead : (r : Runner) → AllLead g r) (is
 abbrev pub setting : kernel.Kernel → Image → (plans : (core : ℕ) → Plan) → Stim → Setting
 setting K L plans s = record { program = K; image = L; stimulus = s; plans = plans }
 
-module _ (K : kernel.Kernel) (L : Image) (who : Runners) (plans : (core : ℕ) → Plan) (lead : (s : Stim) (r : Runner) → AllLead (setting K L plans s) r) (is : (s : Stim) → IsImageOf (setting K L plans s) who) (no_channels : L.chans ≡ []) where
+module _ (K : kernel.Kernel) (L : Image) (who : Runners) (plans : (core : ℕ) → Plan) (is : (s : Stim) → IsImageOf (setting K L plans s) who) (no_channels : L.chans ≡ []) where
   -- the image keeps all that it promises
   pub wholly_implements : ImplementsWholly L (of_kernel K)
   wholly_implements = record {
-    by = λ s good. frame.refines_by (machine_of L s) (told_of (of_kernel K) s) (Standing (setting K L plans s) who) (AgreeWholly L (of_kernel K) s) (simulates (setting K L plans s) who (lead s) (is s) no_channels);
+    by = λ s good. frame.refines_by (machine_of L s) (told_of (of_kernel K) s) (Standing (setting K L plans s) who) (AgreeWholly L (of_kernel K) s) (simulates (setting K L plans s) who (is s) no_channels);
   }
 
   agreeing : (s : Stim) → frame.Simulates (machine_of L s) (told_of (of_kernel K) s) (Standing (setting K L plans s) who) (AgreeNow (of_kernel K))
   agreeing s =
-      let sim = simulates (setting K L plans s) who (lead s) (is s) no_channels in
+      let sim = simulates (setting K L plans s) who (is s) no_channels in
       record { holds = λ w x st. (sim.holds w x st).agree; begins = sim.begins; step = sim.step }
 
   -- so it implements the kernel

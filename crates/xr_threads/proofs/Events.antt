@@ -14,7 +14,7 @@ use Rattle.xr_match.specs.Systems.{SomeIs}
 use Rattle.xr_threads.specs.Images.{AreApart, Runners, counts}
 use Rattle.xr_threads.specs.Runners.{Setting, Runner, home}
 use Rattle.xr_threads.specs.Scenes.{IsSilentStep, Kept, LeadsIn, Scene, after}
-use Rattle.xr_threads.specs.Standing.{AllLead, Answer, Stand, Standing, Stands, StandsBy}
+use Rattle.xr_threads.specs.Standing.{Answer, Stand, Standing, Stands, StandsBy}
 use Rattle.xr_threads.specs.Turns.{IsUnused, Turns}
 use Rattle.xr_threads.proofs.Answers.{turn_answer}
 use Rattle.xr_threads.proofs.Counts.{living_some, running_counts}
@@ -23,7 +23,7 @@ use Rattle.xr_threads.proofs.Standing.{Follows, stopped_idle, unused_idle}
 use Rattle.xr_threads.proofs.Steps.{kept_now, seen_followed, silent_followed}
 use Rattle.xr_threads.proofs.Ticks.{tick_followed}
 
-module _ (g : Setting) (who : Runners) (lead : (r : Runner) → AllLead g r) (apart : AreApart g who) (w : Watched) (m : Machine) (x : Told (of_kernel g.program)) (st : Standing g who w x) where
+module _ (g : Setting) (who : Runners) (apart : AreApart g who) (w : Watched) (m : Machine) (x : Told (of_kernel g.program)) (st : Standing g who w x) where
   module _ (c t : ℕ) (a : CoreState) (at_c : slice_get w.machine.cores c ≡ Some a) where
     -- what a turn leaves, where it is a step
     abbrev Leaves : Did CoreState → Type 0
@@ -62,7 +62,7 @@ module _ (g : Setting) (who : Runners) (lead : (r : Runner) → AllLead g r) (ap
           let turn = on (record { core = a; world = x.state }) kept_here in
           let one : counts c branch.core branch.mode ≡ 1 = ap (λ k. counts c k branch.mode) (stand.core ∙ apart.core c t r runs_r) ∙ ap (counts c c) is ∙ running_counts c in
           let some : 1 ≤ a.roots = omega (arith, living_some c x.state.branches r.branch branch known, st.roots c a at_c) in
-          at_item j few (turn_answer g r (lead r) (apart.laid c t r runs_r) (apart.root c t r runs_r) j (record { core = a; world = x.state }) some turn) e
+          at_item j few (turn_answer g r (apart.laid c t r runs_r) (apart.root c t r runs_r) j (record { core = a; world = x.state }) some turn) e
 
       -- a step on the way to it
       on_the_way : (n j : ℕ) → branch.mode ≡ runs → suc n + j ≤ stand.left → ((y : Scene) → Kept g r (record { core = a; world = x.state }) y → (b : CoreState) × IsSilentStep g r y.core b × LeadsIn g r (Turns g r j) n (after g r y b)) → LeavesOf (slot (home g r) a r.thread) → Goal

@@ -11,6 +11,7 @@ pub mod Outputs
 pub mod Jumps
 pub mod Ends
 pub mod Settles
+pub mod Statements
 pub mod Leading
 pub mod Counts
 pub mod Answers
