@@ -1,5 +1,5 @@
 -- The machine's start: each root's thread sets its stack, and is on its way to the first own instruction of its branch.
-use Rattle.std.proofs.Common.{◌≡◌, ℕ, zero, suc, ◌+◌, ◌*◌, ◌<◌, inr, Bool, false, List, [], ◌∷◌, length, Some, refl, sym, ap, ◌∙◌, subst, arith}
+use Rattle.std.proofs.Common.{◌≡◌, ℕ, zero, suc, ◌+◌, ◌*◌, ◌<◌, inr, false, List, [], ◌∷◌, length, Some, refl, sym, ap, ◌∙◌, subst, arith}
 use Rattle.std.specs.Prelude.{slice_get, slice_set}
 use Rattle.std.proofs.lemmas.List.{length-replicate}
 use Rattle.std.proofs.lemmas.Option.{same_Some, slice_get_within}
@@ -14,7 +14,7 @@ use Rattle.xs_instr.specs.Did.{makes, told}
 use Rattle.xs_instr.specs.Machine.{boot_core, boot_port, boot_ports, boot_threads, root_thread}
 use Rattle.xs_instr.specs.Registers.{no_regs, reg_set}
 use Rattle.xs_instr.specs.Rows.{own_of, own_row, put_own, row}
-use Rattle.xs_instr.specs.Slot.{turn_at, runs_on, event_or_row, pick_where, instr_at, is_waiteu}
+use Rattle.xs_instr.specs.Slot.{instr_at, is_waiteu}
 use Rattle.xc_kernel.specs.Plain as kernel
 use Rattle.xc_kernel.specs.Eval.{words_of}
 use Rattle.xc_meaning.specs.Counts.KernelCounts.{words_in}
@@ -31,9 +31,11 @@ use Rattle.xr_threads.specs.Scenes.{Kept, LeadsIn, Scene, after, running}
 use Rattle.xr_threads.specs.Settled.{settled}
 use Rattle.xr_threads.specs.Standing.{IsOnItsWay}
 use Rattle.xr_threads.specs.Turns.{HoldsStore, IsAt, Rest, Turns, cost}
+use Rattle.xr_threads.proofs.Items.{all_fit}
 use Rattle.xr_threads.proofs.Leading.{rest_leads}
+use Rattle.xr_threads.proofs.OwnTurns.{turn_is_row}
 use Rattle.xr_threads.proofs.Scenes.{leads_in_stable, then_leads}
-use Rattle.xr_threads.proofs.Settles.{own_settled, settled_fits, settled_stays, todo_fits}
+use Rattle.xr_threads.proofs.Settles.{own_settled, settled_fits, settled_stays}
 use Rattle.xr_threads.proofs.Standing.{turns_stable}
 use Rattle.xr_threads.proofs.Starts.{IsRootBranch, settled_branch, variable_length, variable_zero, words_zero}
 
@@ -68,9 +70,7 @@ module _ (g : Setting) (r : Runner) where
       let th' = running r.tie pc' regs' in
       inr (λ y k.
       let here_y = k.thread ∙ here in
-      let fetched = ap (turn_at (home g r) y.core r.thread) here_y
-      ∙ ap (runs_on (home g r) y.core r.thread th) code
-      ∙ ap (λ (b : Bool). event_or_row (home g r) y.core r.thread th (Some i) (pick_where (home g r) y.core r.thread b)) no_event in (
+      let fetched = turn_is_row (home g r) y.core r.thread r.tie pc regs i here_y code no_event in (
         at_spot y.core pc' regs',
         record {
           made = fetched ∙ own y.core th ∙ ap (told (put_own y.core r.thread th)) (does y.core.words);
@@ -139,7 +139,7 @@ module _ (g : Setting) (r : Runner) (laid : IsLaidOut g r) (root : kernel.Root) 
           here = subst (λ k. IsAt g r z2 k s') two here2;
           bases = record { base = ap (λ b. 4 * b) (sym is.base); stack = refl };
           at_code = stays.1;
-          fits = settled_fits g r items (todo_fits g r root.body (ends ∷ []) is.fits (tt, tt));
+          fits = settled_fits g r items (all_fit g r root.body (ends ∷ []) is.fits (tt, tt));
           has = record {
             branch = settled_branch branch;
             runs = record { known = found; running = branch_is.mode; items_are = same_items };

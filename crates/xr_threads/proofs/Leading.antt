@@ -12,9 +12,10 @@ use Rattle.xr_threads.specs.Settled.{IsOwn, settled, with_items}
 use Rattle.xr_threads.specs.Standing.{IsOnItsWay}
 use Rattle.xr_threads.specs.Turns.{Rest, cost}
 use Rattle.xr_threads.proofs.Ends.{end_leads}
+use Rattle.xr_threads.proofs.Evaluations.{runs_with}
 use Rattle.xr_threads.proofs.Jumps.{jumps_lead}
 use Rattle.xr_threads.proofs.Statements.{statement_leads}
-use Rattle.xr_threads.proofs.Settles.{items_settle, own_settled, runs_with, settled_fits, settled_stays}
+use Rattle.xr_threads.proofs.Settles.{items_settle, own_settled, settled_fits, settled_stays}
 
 module _ (g : Setting) (r : Runner) where
   -- the scene once the steps without an instruction are done
