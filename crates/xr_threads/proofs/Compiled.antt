@@ -1,5 +1,5 @@
 -- An image that has the code of a kernel's roots implements the kernel.
-use Rattle.std.proofs.Common.{◌≡◌, ℕ, zero, suc, ◌+◌, ◌*◌, ◌<◌, ◌≤◌, List, [], ◌∷◌, map, length, Option, Some, None, option_map, refl, sym, ap, ◌∙◌, subst, ⊎_elim, arith}
+use Rattle.std.proofs.Common.{◌≡◌, ℕ, zero, suc, ◌+◌, ◌*◌, ◌<◌, ◌≤◌, List, [], map, length, Option, Some, None, option_map, refl, sym, ap, ◌∙◌, subst, ⊎_elim, arith}
 use Rattle.std.specs.Prelude.{slice_get}
 use Rattle.std.proofs.lemmas.Bool.{cases_lt}
 use Rattle.std.proofs.lemmas.Option.{slice_get_within, slice_get_past, same_Some}
@@ -9,17 +9,16 @@ use Rattle.xs_instr.specs.declared.image.Stim.{Stim}
 use Rattle.xs_instr.specs.declared.state.CoreState.{CoreState}
 use Rattle.xs_instr.specs.Machine.{Event, Machine, and_then, boot, boot_core, does, parts_in}
 use Rattle.xc_kernel.specs.Plain as kernel
-use Rattle.xc_meaning.specs.Counts.Families.{counted_for, mover, steps_of}
 use Rattle.xc_meaning.specs.Counts.KernelCounts.{greatest_count, kernel_bound}
-use Rattle.xc_meaning.specs.Runs.{acts, acts_all, kernel_start, no_side}
+use Rattle.xc_meaning.specs.Runs.{acts_all, kernel_start, no_side}
 use Rattle.xc_meaning.specs.States.Branches.{Branch, runs}
 use Rattle.xc_meaning.specs.States.Worlds.{World, Action}
 use Rattle.xl_expr.specs.declared.plan.Plan.{Plan}
 use Rattle.xr_match.specs.Implements.{AgreeNow, AgreeWholly, Implements, ImplementsWholly}
 use Rattle.xr_match.specs.Lives.{Life, Watched, begun, machine_of, of_root, watched_after, watched_start}
 use Rattle.xr_match.specs.Meanings.{of_kernel}
-use Rattle.xr_match.specs.Sources.{Told, told_after, told_of, told_start}
-use Rattle.xr_match.specs.Systems.{SomeIs, leads}
+use Rattle.xr_match.specs.Sources.{Told, told_of, told_start}
+use Rattle.xr_match.specs.Systems.{SomeIs}
 use Rattle.xr_match.proofs.Frame as frame
 use Rattle.xr_threads.specs.Images.{IsImageOf, Runners}
 use Rattle.xr_threads.specs.Runners.{Setting, Runner}
@@ -28,68 +27,9 @@ use Rattle.xr_threads.specs.Turns.{cost}
 use Rattle.xr_threads.proofs.Agrees.{agrees}
 use Rattle.xr_threads.proofs.Boot.{root_leads}
 use Rattle.xr_threads.proofs.Events.{event_followed}
-use Rattle.xr_threads.proofs.Standing.{Follows, there_then, told_by}
+use Rattle.xr_threads.proofs.Pieces.{follows}
+use Rattle.xr_threads.proofs.Standing.{Follows, told_by}
 use Rattle.xr_threads.proofs.Starts.{AreSettled, IsRootBranch, item_there, root_at, settle_all, settled_branch, start_roots}
-
--- The program with its families' actions goes on as the program does, and each family has done what is its own of them.
-counted : (K : kernel.Kernel) (s : Stim) (actions : List Action) (x : Told (of_kernel K)) (y : World) → acts_all K s (Some x.state) actions ≡ Some y →
-    (z : Told (of_kernel K)) × (leads (told_of (of_kernel K) s) x actions ≡ Some z) × (z.state ≡ y)
-    × ((f : ℕ) → z.actions f ≡ x.actions f + steps_of K s f (Some x.state) actions)
-counted K s [] x y e = (x, refl, same_Some _ _ e, λ f. omega arith)
-counted K s (a ∷ actions) x y e = go (counted K s actions) (acts K s x.state a) refl e
-  where
-    go : ((x' : Told (of_kernel K)) (y' : World) → acts_all K s (Some x'.state) actions ≡ Some y' →
-            (z : Told (of_kernel K)) × (leads (told_of (of_kernel K) s) x' actions ≡ Some z) × (z.state ≡ y')
-            × ((f : ℕ) → z.actions f ≡ x'.actions f + steps_of K s f (Some x'.state) actions)) →
-        (o : Option World) → acts K s x.state a ≡ o → acts_all K s o actions ≡ Some y →
-        (z : Told (of_kernel K)) × (leads (told_of (of_kernel K) s) x (a ∷ actions) ≡ Some z) × (z.state ≡ y)
-        × ((f : ℕ) → z.actions f ≡ x.actions f + (counted_for f (mover x.state a) + steps_of K s f (acts K s x.state a) actions))
-    go next None acted h = absurd (none actions h)
-      where
-        none : (ms : List Action) → acts_all K s None ms ≡ Some y → ⊥
-        none [] f = cc
-        none (m ∷ ms) f = cc
-    go next (Some x') acted h =
-        let rest = next (told_after (of_kernel K) x a x') y h in
-        let first = ap (λ (o : Option World). and_then (and_then o (λ z. Some (told_after (of_kernel K) x a z))) (λ z. leads (told_of (of_kernel K) s) z actions)) acted in
-        (rest.0, first ∙ rest.1, rest.2, λ f. let one = rest.3 f in let two = ap (λ o. steps_of K s f o actions) acted in omega arith)
-
--- what stands so with some counts does with greater ones
-stands_more : (g : Setting) (t : ℕ) (a : CoreState) (x : World) (life : Life) (actions more : ℕ → ℕ) → ((f : ℕ) → actions f ≤ more f) → (o : Option Runner) → Stands g t a x life actions o → Stands g t a x life more o
-stands_more g t a x life actions more le None h = h
-stands_more g t a x life actions more le (Some r) h =
-    there_then (Stand g r a x life actions) (Stand g r a x life more) (slice_get x.branches r.branch) (λ branch k. record {
-      core = k.core;
-      family = k.family;
-      named = k.named;
-      left = k.left;
-      bound = let l = le r.family in let old = k.bound in let m = mul-le-mul_left (kernel_bound g.program) (more_one (actions r.family) (more r.family) l) in omega (arith, m);
-      by = k.by;
-    }) h
-  where
-    more_one : (m n : ℕ) → m ≤ n → m + 1 ≤ n + 1
-    more_one m n l = omega arith
-
-standing_more : (g : Setting) (who : Runners) (w : Watched) (y : World) (actions more : ℕ → ℕ) → ((f : ℕ) → actions f ≤ more f) → Standing g who w (record { state = y; actions = actions }) → Standing g who w (record { state = y; actions = more })
-standing_more g who w y actions more le st = record {
-  clocks = st.clocks;
-  trace = st.trace;
-  links = st.links;
-  threads = λ c t a e. stands_more g t a y (w.lives c t) actions more le (who c t) (st.threads c t a e);
-  idle = st.idle;
-  roots = st.roots;
-  placed = st.placed;
-  cores = st.cores;
-  run = st.run;
-}
-
--- the same as the program with its families' actions has it
-follows : (g : Setting) (who : Runners) (x : Told (of_kernel g.program)) (w : Watched) → Follows g who x w → frame.Follows (machine_of g.image g.stimulus) (told_of (of_kernel g.program) g.stimulus) (Standing g who) x w
-follows g who x w f =
-    let z = counted g.program g.stimulus f.0 x f.1 f.2 in
-    let less : (h : ℕ) → x.actions h + steps_of g.program g.stimulus h (Some x.state) f.0 ≤ z.0.actions h = λ h. let e = z.3 h in omega arith in
-    (f.0, z.0, z.1, standing_more g who w z.0.state (told_by g.program g.stimulus x f.0 f.1).actions z.0.actions less
-    (subst (λ y. Standing g who w (record { state = y; actions = (told_by g.program g.stimulus x f.0 f.1).actions })) (sym z.2) f.3))
 
 -- what an event leaves
 left_by : (L : Image) (s : Stim) (w w' : Watched) (e : Event) → (machine_of L s).next w e ≡ Some w' → (m : Machine) × (does L s w.machine e ≡ Some m) × (w' ≡ watched_after w e m)
@@ -106,9 +46,6 @@ start_bound most greatest actions is =
     omega (arith, grown)
 
 module _ (g : Setting) (who : Runners) (is : IsImageOf g who) where
-  K : kernel.Kernel
-  K = g.program
-
   -- a root's branch at the start
   branch_of : (b : ℕ) (root : kernel.Root) → slice_get g.program.roots b ≡ Some root → (branch : Branch) × (slice_get (kernel_start g.program).branches b ≡ Some branch) × IsRootBranch root b branch
   branch_of b root known =

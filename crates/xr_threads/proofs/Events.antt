@@ -42,9 +42,6 @@ module _ (g : Setting) (who : Runners) (apart : AreApart g who) (w : Watched) (m
       abbrev LeavesOf : Did CoreState → Type 0
       LeavesOf did = stepped (home g r) w.machine r.core r.thread a did ≡ Some m
 
-      here : Scene
-      here = record { core = a; world = x.state }
-
       kept_here : Kept g r (record { core = a; world = x.state }) (record { core = a; world = x.state })
       kept_here = kept_now g who apart w x st c t a at_c r runs_r
 

@@ -24,4 +24,5 @@ pub mod Quiet
 pub mod Agrees
 pub mod Starts
 pub mod Boot
+pub mod Pieces
 pub mod Compiled

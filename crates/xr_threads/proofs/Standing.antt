@@ -81,8 +81,9 @@ module _ (g : Setting) (r : Runner) where
   stands_by_still ended left z y k h = subst IsUnused (sym k.thread) h
   stands_by_still erred left z y k h = subst IsStopped (sym k.thread) h
 
-  pub stand_still : (a b : CoreState) (x y : World) (life : Life) (actions more : ℕ → ℕ) (branch : Branch) → Kept g r (record { core = a; world = x }) (record { core = b; world = y }) → ((f : ℕ) → actions f ≤ more f) → Stand g r a x life actions branch → Stand g r b y life more branch
-  stand_still a b x y life actions more branch k le h = record {
+  -- and so it does where its family has done more
+  pub stand_more : (a : CoreState) (x : World) (life : Life) (actions more : ℕ → ℕ) (branch : Branch) → ((f : ℕ) → actions f ≤ more f) → Stand g r a x life actions branch → Stand g r a x life more branch
+  stand_more a x life actions more branch le h = record {
     core = h.core;
     family = h.family;
     named = h.named;
@@ -92,11 +93,23 @@ module _ (g : Setting) (r : Runner) where
         let l = le r.family in
         let m = mul-le-mul_left (kernel_bound g.program) (more_one (actions r.family) (more r.family) l) in
         omega (arith, m);
-    by = stands_by_still branch.mode h.left (record { core = a; world = x }) (record { core = b; world = y }) k h.by;
+    by = h.by;
   }
     where
       more_one : (m n : ℕ) → m ≤ n → m + 1 ≤ n + 1
       more_one m n l = omega arith
+
+  stand_still : (a b : CoreState) (x y : World) (life : Life) (actions more : ℕ → ℕ) (branch : Branch) → Kept g r (record { core = a; world = x }) (record { core = b; world = y }) → ((f : ℕ) → actions f ≤ more f) → Stand g r a x life actions branch → Stand g r b y life more branch
+  stand_still a b x y life actions more branch k le h =
+      let m = stand_more a x life actions more branch le h in
+      record {
+        core = m.core;
+        family = m.family;
+        named = m.named;
+        left = m.left;
+        bound = m.bound;
+        by = stands_by_still branch.mode m.left (record { core = a; world = x }) (record { core = b; world = y }) k m.by;
+      }
 
   -- the same of the branch that the runner's thread runs, wherever that stands
   pub runner_still : (t : ℕ) (a b : CoreState) (x y : World) (life : Life) (actions more : ℕ → ℕ) → Kept g r (record { core = a; world = x }) (record { core = b; world = y }) → ((f : ℕ) → actions f ≤ more f) → Stands g t a x life actions (Some r) → Stands g t b y life more (Some r)
