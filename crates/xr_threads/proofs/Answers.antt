@@ -46,6 +46,7 @@ module _ (g : Setting) (r : Runner) where
         refl,
       )
 
+  -- the thread traps, and the branch has erred
   errs_answer : (j : ℕ) (y : Scene) → Errs g r y → Answer g r j y
   errs_answer j y h =
       let st = h.acts in
@@ -75,6 +76,7 @@ module _ (g : Setting) (r : Runner) where
         stands = t.1;
       }
 
+  -- the thread is freed, and the branch has ended
   frees_answer : (j : ℕ) (y : Scene) → 1 ≤ y.core.roots → Frees g r y → Answer g r j y
   frees_answer j y some h =
       let st = h.acts in
@@ -102,6 +104,7 @@ module _ (g : Setting) (r : Runner) where
       }
 
 module _ (g : Setting) (r : Runner) (laid : IsLaidOut g r) (root : r.tie ≡ None) where
+  -- the thread does an item, and the branch goes on
   goes_answer : (j : ℕ) (y : Scene) → Goes g r j y → Answer g r j y
   goes_answer j y h =
       let st = h.acts in

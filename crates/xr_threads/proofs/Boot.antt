@@ -57,6 +57,7 @@ module _ (g : Setting) (r : Runner) where
   abbrev at_spot : CoreState → ℕ → Regs → CoreState
   at_spot a pc regs = record a { threads = slice_set a.threads r.thread (running r.tie pc regs) }
 
+  -- it is there then
   at_spot_there : (z : Scene) (pc pc' : ℕ) (regs regs' : Regs) → IsAt g r z pc regs → IsAt g r (after g r z (at_spot z.core pc' regs')) pc' regs'
   at_spot_there z pc pc' regs regs' here = get_set_same z.core.threads r.thread (running r.tie pc regs) (running r.tie pc' regs') here
 

@@ -39,6 +39,7 @@ left_by L s w w' e h = go (does L s w.machine e) refl h
     go None d f = absurd cc
     go (Some m) d f = (m, d, sym (same_Some _ _ f))
 
+-- the steps to the first own instruction are within the bound
 start_bound : (most greatest actions : ℕ) → most ≡ 8 * (greatest + 16) → 0 + (2 + (8 * greatest + 8)) ≤ most * (actions + 1)
 start_bound most greatest actions is =
     let le : 1 ≤ actions + 1 = omega arith in
@@ -53,12 +54,14 @@ module _ (g : Setting) (who : Runners) (is : IsImageOf g who) where
       let number : 0 + b ≡ b = omega arith in
       (h.0, h.1, subst (λ n. IsRootBranch root n h.0) number h.2)
 
+  -- and each branch there is one
   known_root : (b : ℕ) (branch : Branch) → slice_get (kernel_start g.program).branches b ≡ Some branch → (root : kernel.Root) × IsRootBranch root b branch × (slice_get g.program.roots b ≡ Some root)
   known_root b branch e =
       let r = start_roots g.program.roots 0 [] (map no_side g.program.channels) b branch e in
       let at_b = branch_of b r.0 r.1 in
       (r.0, subst (IsRootBranch r.0 b) (same_Some at_b.0 branch (sym at_b.1 ∙ e)) at_b.2, r.1)
 
+  -- each branch runs then
   all_run : (b : ℕ) (branch : Branch) → slice_get (kernel_start g.program).branches b ≡ Some branch → branch.mode ≡ runs
   all_run b branch e = (known_root b branch e).1.mode
 
@@ -66,9 +69,11 @@ module _ (g : Setting) (who : Runners) (is : IsImageOf g who) where
   first : (piece : List Action) × (y : World) × (acts_all g.program g.stimulus (Some (kernel_start g.program)) piece ≡ Some y) × AreSettled g.program g.stimulus (kernel_start g.program) (length (kernel_start g.program).branches) y
   first = settle_all g.program g.stimulus (kernel_start g.program) all_run (length (kernel_start g.program).branches) (omega arith)
 
+  -- what a branch is behind the first piece
   settled_at : (b : ℕ) (branch : Branch) → slice_get (kernel_start g.program).branches b ≡ Some branch → slice_get first.1.branches b ≡ Some (settled_branch branch)
   settled_at b branch e = first.3.done b (slice_get_within (kernel_start g.program).branches b branch e) ∙ ap (λ o. option_map settled_branch o) e
 
+  -- the program behind it
   abbrev begun_told : Told (of_kernel g.program)
   begun_told = told_by g.program g.stimulus (told_start (of_kernel g.program)) first.0 first.1
 
@@ -76,6 +81,7 @@ module _ (g : Setting) (who : Runners) (is : IsImageOf g who) where
   abbrev first_life : (c t : ℕ) → Life
   first_life c t = begun (Some (of_root c t))
 
+  -- the four cores as they start
   cores_are : (c : ℕ) (a : CoreState) → slice_get (boot g.image).cores c ≡ Some a → (c < 4) × (a ≡ boot_core (parts_in g.image.cores c))
   cores_are zero a e = (omega arith, sym (same_Some _ a e))
   cores_are (suc zero) a e = (omega arith, sym (same_Some _ a e))
@@ -83,6 +89,7 @@ module _ (g : Setting) (who : Runners) (is : IsImageOf g who) where
   cores_are (suc (suc (suc zero))) a e = (omega arith, sym (same_Some _ a e))
   cores_are (suc (suc (suc (suc c)))) a e = cc
 
+  -- a root's thread stands by its branch
   root_stands : (c t : ℕ) (r : Runner) → who c t ≡ Some r → SomeIs (slice_get first.1.branches r.branch) (Stand g r (boot_core (parts_in g.image.cores c)) first.1 (first_life c t) begun_told.actions)
   root_stands c t r e =
       let root = is.roots c t r e in
@@ -101,6 +108,7 @@ module _ (g : Setting) (who : Runners) (is : IsImageOf g who) where
       } in
       subst (λ o. SomeIs o (Stand g r (boot_core (parts_in g.image.cores c)) first.1 (first_life c t) begun_told.actions)) (sym found) stand
 
+  -- each thread does what it should
   threads_stand : (c t : ℕ) (o : Option Runner) → c < 4 → who c t ≡ o → Stands g t (boot_core (parts_in g.image.cores c)) first.1 (first_life c t) begun_told.actions o
   threads_stand c t None lt e = is.unused c t lt e
   threads_stand c t (Some r) lt e = root_stands c t r e
@@ -118,6 +126,7 @@ module _ (g : Setting) (who : Runners) (is : IsImageOf g who) where
       let none : None ≡ Some branch = sym (first.3.others b le ∙ slice_get_past (kernel_start g.program).branches b le) ∙ e in cc)
       (cases_lt b (length (kernel_start g.program).branches))
 
+  -- the two sides stand so at the start
   begins : Standing g who (watched_start g.image) begun_told
   begins = record {
     clocks = sym first.3.clocks;
@@ -131,11 +140,13 @@ module _ (g : Setting) (who : Runners) (is : IsImageOf g who) where
     run = λ b branch e. let root = first_root b branch e in is.run b root.0 root.1;
   }
 
+  -- and again after each event
   event : (w w' : Watched) (x : Told (of_kernel g.program)) (e : Event) → Standing g who w x → (machine_of g.image g.stimulus).next w e ≡ Some w' → frame.Follows (machine_of g.image g.stimulus) (told_of (of_kernel g.program) g.stimulus) (Standing g who) x w'
   event w w' x e st h =
       let left = left_by g.image g.stimulus w w' e h in
       follows g who x w' (subst (Follows g who x) (sym left.2) (event_followed g who is.apart w left.0 x st e left.1))
 
+  -- so the machine simulates the program
   pub simulates : g.image.chans ≡ [] → frame.Simulates (machine_of g.image g.stimulus) (told_of (of_kernel g.program) g.stimulus) (Standing g who) (AgreeWholly g.image (of_kernel g.program) g.stimulus)
   simulates no_channels = record {
     holds = λ w x st. agrees g who is w x st no_channels;
@@ -154,6 +165,7 @@ module _ (K : kernel.Kernel) (L : Image) (who : Runners) (plans : (core : ℕ) �
     by = λ s good. frame.refines_by (machine_of L s) (told_of (of_kernel K) s) (Standing (setting K L plans s) who) (AgreeWholly L (of_kernel K) s) (simulates (setting K L plans s) who (is s) no_channels);
   }
 
+  -- what everybody sees agrees
   agreeing : (s : Stim) → frame.Simulates (machine_of L s) (told_of (of_kernel K) s) (Standing (setting K L plans s) who) (AgreeNow (of_kernel K))
   agreeing s =
       let sim = simulates (setting K L plans s) who (is s) no_channels in

@@ -42,6 +42,7 @@ module _ (g : Setting) (who : Runners) (apart : AreApart g who) (w : Watched) (m
       abbrev LeavesOf : Did CoreState → Type 0
       LeavesOf did = stepped (home g r) w.machine r.core r.thread a did ≡ Some m
 
+      -- nothing has happened yet
       kept_here : Kept g r (record { core = a; world = x.state }) (record { core = a; world = x.state })
       kept_here = kept_now g who apart w x st c t a at_c r runs_r
 
@@ -79,6 +80,7 @@ module _ (g : Setting) (who : Runners) (apart : AreApart g who) (w : Watched) (m
       by_mode runs is (suc n, j, few, inl on) e = at_turn j is (omega arith) on e
       by_mode runs is (suc n, j, few, inr on) e = on_the_way n j is few on e
 
+    -- wherever the branch stands
     at_branch : (r : Runner) → who c t ≡ Some r → (o : Option Branch) → slice_get x.state.branches r.branch ≡ o → SomeIs o (Stand g r a x.state (w.lives c t) x.actions) → Leaves (slot (home_of g.image g.stimulus c) a t) → Goal
     at_branch r runs_r None known h e = absurd h
     at_branch r runs_r (Some branch) known h e =
@@ -95,10 +97,12 @@ module _ (g : Setting) (who : Runners) (apart : AreApart g who) (w : Watched) (m
     step_followed None f h e = unused_goal h e
     step_followed (Some r) f h e = at_branch r f (slice_get x.state.branches r.branch) refl h e
 
+  -- wherever the core is
   at_core : (c t : ℕ) (o : Option CoreState) → slice_get w.machine.cores c ≡ o → step_at (home_of g.image g.stimulus c) w.machine c t o ≡ Some m → Follows g who x (watched_after w (Step c t) m)
   at_core c t None at_c e = cc
   at_core c t (Some a) at_c e = step_followed c t a at_c (who c t) refl (st.threads c t a at_c) e
 
+  -- a core's tick
   at_clock : (c : ℕ) (o : Option CoreState) → slice_get w.machine.cores c ≡ o → tick_at w.machine c o ≡ Some m → Follows g who x (watched_after w (Tick c) m)
   at_clock c None at_c e = cc
   at_clock c (Some a) at_c e = tick_followed g who apart w x st c a at_c m e

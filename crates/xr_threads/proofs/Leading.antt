@@ -43,11 +43,13 @@ module _ (g : Setting) (r : Runner) where
         };
       }
 
+  -- these steps are possible, and lead there
   pub settles : (items : List Item) (j : ℕ) (z : Scene) (h : Rest g r items j z) →
       acts_all g.program g.stimulus (Some z.world) (replicate (settled items).steps (go r.branch)) ≡ Some (with_items z.world r.branch h.has.branch (settled items).items)
   settles items j z h = items_settle g.program g.stimulus r.branch items z.world h.has.branch h.has.runs
 
 module _ (g : Setting) (r : Runner) (laid : IsLaidOut g r) (root : r.tie ≡ None) where
+  -- from the code of items whose first one has an instruction of its own
   pub rest_leads : (items : List Item) (j : ℕ) (z : Scene) → Rest g r items j z → IsOwn items → IsOnItsWay g r (j + cost g r) z
   rest_leads [] j z h own = absurd h.at_code
   rest_leads (does t ∷ rest) j z h own =

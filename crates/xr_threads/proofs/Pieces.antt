@@ -48,6 +48,7 @@ stands_more g t a x life actions more le None h = h
 stands_more g t a x life actions more le (Some r) h =
     there_then (Stand g r a x life actions) (Stand g r a x life more) (slice_get x.branches r.branch) (λ branch. stand_more g r a x life actions more branch le) h
 
+-- the whole standing, too
 standing_more : (g : Setting) (who : Runners) (w : Watched) (y : World) (actions more : ℕ → ℕ) → ((f : ℕ) → actions f ≤ more f) → Standing g who w (record { state = y; actions = actions }) → Standing g who w (record { state = y; actions = more })
 standing_more g who w y actions more le st = record {
   clocks = st.clocks;

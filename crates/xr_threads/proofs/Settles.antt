@@ -21,6 +21,7 @@ use Rattle.xr_threads.proofs.Items.{all_fit, behind_jumps}
 -- What is left begins with an item that has an instruction of its own.
 
 mutual
+  -- of a statement
   own_statement : (t : kernel.Statement) (rest : List Item) (s : Settled) → IsOwn s.items → IsOwn (settle_statement t rest s).items
   own_statement (kernel.block n ss) rest s h = own_statements ss (mark n ∷ rest) (one_more s) h
   own_statement (kernel.set_zero v) rest s h = tt
@@ -34,10 +35,12 @@ mutual
   own_statement (kernel.par bs) rest s h = tt
   own_statement (kernel.transaction c is_master ss start close) rest s h = tt
 
+  -- of statements
   own_statements : (ts : kernel.Statements) (rest : List Item) (s : Settled) → IsOwn s.items → IsOwn (settle_statements ts rest s).items
   own_statements kernel.no_more rest s h = h
   own_statements (kernel.more t ts) rest s h = own_statement t (todo ts rest) (settle_statements ts rest s) (own_statements ts rest s h)
 
+-- of items
 pub own_settled : (items : List Item) → IsOwn (settled items).items
 own_settled [] = tt
 own_settled (does t ∷ rest) = own_statement t rest (settled rest) (own_settled rest)
@@ -52,17 +55,20 @@ own_settled (ends ∷ rest) = tt
 
 -- The steps.
 
+-- what is written is there already
 pub set_as_it_is : {X : Type 0} (xs : List X) (i : ℕ) (y : X) → slice_get xs i ≡ Some y → slice_set xs i y ≡ xs
 set_as_it_is [] i y h = refl
 set_as_it_is (x ∷ xs) zero y h = let e : y ≡ x = cc in ap (λ z. z ∷ xs) e
 set_as_it_is (x ∷ xs) (suc i) y h = ap (λ l. x ∷ l) (set_as_it_is xs i y h)
 
+-- of two writes at one place the second stays
 pub set_again : {X : Type 0} (xs : List X) (i : ℕ) (y z : X) → slice_set (slice_set xs i y) i z ≡ slice_set xs i z
 set_again [] i y z = refl
 set_again (x ∷ xs) zero y z = refl
 set_again (x ∷ xs) (suc i) y z = ap (λ l. x ∷ l) (set_again xs i y z)
 
 module _ (K : kernel.Kernel) (s : Stim) (b : ℕ) where
+  -- where no such step is to be done, nothing changes
   none_settles : (items : List Item) → Settles K s b items (record { steps = 0; items = items })
   none_settles items x branch h =
       let same : record branch { items = items } ≡ branch = ap (λ l. record branch { items = l }) (sym h.items_are) in
@@ -76,6 +82,7 @@ module _ (K : kernel.Kernel) (s : Stim) (b : ℕ) where
       ∙ ap (λ l. Some (record x { branches = l })) (set_again x.branches b (record branch { items = items }) (record branch { items = to.items }))
 
   mutual
+    -- of a statement
     statement_settles : (t : kernel.Statement) (rest : List Item) (to : Settled) → Settles K s b rest to → Settles K s b (does t ∷ rest) (settle_statement t rest to)
     statement_settles (kernel.block n ss) rest to h =
         more_settles (does (kernel.block n ss)) rest (todo ss (mark n ∷ rest)) (settle_statements ss (mark n ∷ rest) (one_more to)) (λ x branch. refl)
@@ -91,10 +98,12 @@ module _ (K : kernel.Kernel) (s : Stim) (b : ℕ) where
     statement_settles (kernel.par bs) rest to h = none_settles (does (kernel.par bs) ∷ rest)
     statement_settles (kernel.transaction c is_master ss start close) rest to h = none_settles (does (kernel.transaction c is_master ss start close) ∷ rest)
 
+    -- of statements
     statements_settle : (ts : kernel.Statements) (rest : List Item) (to : Settled) → Settles K s b rest to → Settles K s b (todo ts rest) (settle_statements ts rest to)
     statements_settle kernel.no_more rest to h = h
     statements_settle (kernel.more t ts) rest to h = statement_settles t (todo ts rest) (settle_statements ts rest to) (statements_settle ts rest to h)
 
+  -- of items
   pub items_settle : (items : List Item) → Settles K s b items (settled items)
   items_settle [] = none_settles []
   items_settle (does t ∷ rest) = statement_settles t rest (settled rest) (items_settle rest)
@@ -118,11 +127,13 @@ module _ (plan : Plan) (code : Code) where
   abbrev pub StaysAt : List Item → List Item → Type 0
   StaysAt items others = (exits : List Exit) (pc j : ℕ) → ItemsAt plan code items exits pc j → (exits' : List Exit) × ItemsAt plan code others exits' pc j
 
+  -- behind a block's mark
   mark_stays : (n : ℕ) (rest others : List Item) → StaysAt rest others → StaysAt (mark n ∷ rest) others
   mark_stays n rest others next exits pc j h =
       next h.stands.outer pc j (behind rest h.stands.outer h.here pc h.index h.further j h.jumps h.stands.others h.sum)
 
   mutual
+    -- of a statement
     statement_stays : (t : kernel.Statement) (rest : List Item) (to : Settled) → StaysAt rest to.items → StaysAt (does t ∷ rest) (settle_statement t rest to).items
     statement_stays (kernel.block n ss) rest to next exits pc j h =
         let inner : List Exit = record { block = n; index = h.stands.0 } ∷ exits in
@@ -147,10 +158,12 @@ module _ (plan : Plan) (code : Code) where
     statement_stays (kernel.par bs) rest to next exits pc j h = (exits, h)
     statement_stays (kernel.transaction c is_master ss start close) rest to next exits pc j h = (exits, h)
 
+    -- of statements
     statements_stay : (ts : kernel.Statements) (rest : List Item) (to : Settled) → StaysAt rest to.items → StaysAt (todo ts rest) (settle_statements ts rest to).items
     statements_stay kernel.no_more rest to next = next
     statements_stay (kernel.more t ts) rest to next = statement_stays t (todo ts rest) (settle_statements ts rest to) (statements_stay ts rest to next)
 
+  -- of items
   pub settled_stays : (items : List Item) → StaysAt items (settled items).items
   settled_stays [] exits pc j h = (exits, h)
   settled_stays (does t ∷ rest) exits pc j h = statement_stays t rest (settled rest) (settled_stays rest) exits pc j h
@@ -167,6 +180,7 @@ module _ (plan : Plan) (code : Code) where
 
 module _ (g : Setting) (r : Runner) where
   mutual
+    -- of a statement
     statement_fits : (t : kernel.Statement) (rest : List Item) (to : Settled) → Fits g r t → ItemsFit g r rest → ItemsFit g r to.items → ItemsFit g r (settle_statement t rest to).items
     statement_fits (kernel.block n ss) rest to fits others next = statements_fit ss (mark n ∷ rest) (one_more to) fits (tt, others) next
     statement_fits (kernel.set_zero v) rest to fits others next = (fits, others)
@@ -180,11 +194,13 @@ module _ (g : Setting) (r : Runner) where
     statement_fits (kernel.par bs) rest to fits others next = (fits, others)
     statement_fits (kernel.transaction c is_master ss start close) rest to fits others next = (fits, others)
 
+    -- of statements
     statements_fit : (ts : kernel.Statements) (rest : List Item) (to : Settled) → AllFit g r ts → ItemsFit g r rest → ItemsFit g r to.items → ItemsFit g r (settle_statements ts rest to).items
     statements_fit kernel.no_more rest to all others next = next
     statements_fit (kernel.more t ts) rest to all others next =
         statement_fits t (todo ts rest) (settle_statements ts rest to) all.0 (all_fit g r ts rest all.1 others) (statements_fit ts rest to all.1 others next)
 
+  -- of items
   pub settled_fits : (items : List Item) → ItemsFit g r items → ItemsFit g r (settled items).items
   settled_fits [] h = h
   settled_fits (does t ∷ rest) h = statement_fits t rest (settled rest) h.0 h.1 (settled_fits rest h.1)

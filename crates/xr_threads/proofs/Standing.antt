@@ -51,6 +51,7 @@ pub unused_idle : (home : Home) (a : CoreState) (t : ℕ) (o : Option Thread) �
 unused_idle home a t None h = refl
 unused_idle home a t (Some thread) h = ap (turn_of home a t thread) h
 
+-- nor has a trapped one
 pub stopped_idle : (home : Home) (a : CoreState) (t : ℕ) (o : Option Thread) → IsStopped o → turn_at home a t o ≡ Idle
 stopped_idle home a t None h = refl
 stopped_idle home a t (Some thread) h = ap (turn_of home a t thread) h
@@ -71,6 +72,7 @@ Follows g who x w =
     × Standing g who w (told_by g.program g.stimulus x piece y)
 
 module _ (g : Setting) (r : Runner) where
+  -- a turn that is due whatever others do stays due
   pub turns_stable : (j : ℕ) → IsStable g r (Turns g r j)
   turns_stable j z y k h = λ x l. h x (kept_twice g r k l)
 
@@ -99,6 +101,7 @@ module _ (g : Setting) (r : Runner) where
       more_one : (m n : ℕ) → m ≤ n → m + 1 ≤ n + 1
       more_one m n l = omega arith
 
+  -- both at once
   stand_still : (a b : CoreState) (x y : World) (life : Life) (actions more : ℕ → ℕ) (branch : Branch) → Kept g r (record { core = a; world = x }) (record { core = b; world = y }) → ((f : ℕ) → actions f ≤ more f) → Stand g r a x life actions branch → Stand g r b y life more branch
   stand_still a b x y life actions more branch k le h =
       let m = stand_more a x life actions more branch le h in

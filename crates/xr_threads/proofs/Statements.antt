@@ -11,6 +11,7 @@ use Rattle.xr_threads.proofs.Sets.{set_leads}
 use Rattle.xr_threads.proofs.Tests.{if_leads, loop_leads}
 use Rattle.xr_threads.proofs.Zeros.{zero_leads}
 
+-- what has no code here, or no instruction of its own, is left out by its own premise
 pub statement_leads : (g : Setting) (r : Runner) (t : kernel.Statement) (rest : List Item) → IsOwn (does t ∷ rest) → StatementLeads g r t
 statement_leads g r (kernel.set_zero v) rest own = zero_leads g r v
 statement_leads g r (kernel.set place x) rest own = set_leads g r place x
