@@ -16,7 +16,8 @@ use Rattle.xl_expr.specs.declared.plan.VarPlan.{VarPlan}
 use Rattle.xl_expr.specs.Plans.{var_in}
 use Rattle.xl_expr.specs.Frames.{IsNear, Frame, Holds, HasVars, HaveVars, HasPlace, changed, variable_of}
 use Rattle.xl_expr.specs.Stores.{OfWord, OfElement, WordAt, ElementAt, IsAddress, index_in, tested_value}
-use Rattle.xl_expr.specs.Works.{WithIndex, WordStands, ArrayStands, WordIsLaid, ElementIsLaid, IsLaid, AreLaid, PlaceIsLaid}
+use Rattle.xl_expr.specs.Works.{WordStands, WordIsLaid, IsLaid, AreLaid, PlaceIsLaid}
+use Rattle.xl_expr.proofs.Laid.{near_laid}
 use Rattle.xl_expr.proofs.Lists.{get_set_same, get_set_other}
 
 -- the address of the word d + n + i
@@ -55,14 +56,11 @@ module _ (vars : List (Option VarPlan)) (relied uses : ℕ → Bool) (s d : ℕ)
       let at_near : WordStands vars relied s (4 * d) words store (Near n) (slice_index xs 0) = subst (λ p. IsWord relied s words p (slice_index xs 0)) (first_address n) (stands_at v n 0 (slice_index xs 0) found near.1 used there) in
       subst (λ o. WordIsLaid vars relied s (4 * d) words store o xs) (sym known) (subst (λ (p : VarAt). WordStands vars relied s (4 * d) words store p (slice_index xs 0)) (sym near.1.place) at_near)
 
-  element_laid : (v : ℕ) (found : VarPlan) (index : Type 0) (i : Value) → var_in vars v ≡ Some found → uses v ≡ true → index → ElementIsLaid vars relied s (4 * d) words store (var_in vars v) index (words_of store v) i
-  element_laid v found index i known used index_laid =
+  element_laid : (v : ℕ) (found : VarPlan) (i : kernel.Expression) (pos : Pos) → var_in vars v ≡ Some found → uses v ≡ true → IsLaid vars relied s (4 * d) words store i → PlaceIsLaid vars relied s (4 * d) words store (kernel.element v i pos)
+  element_laid v found i pos known used index =
       let near = frame.near v found known in
       let n = near.0 in
-      let xs = words_of store v in
-      let at_near : ArrayStands vars relied s (4 * d) words store (Near n) xs i = λ j x e. stands_at v n j x found near.1 used e in
-      let laid : ElementIsLaid vars relied s (4 * d) words store (Some found) index xs i = subst (λ (p : VarAt). WithIndex p index ((found.words ≡ length xs) × ArrayStands vars relied s (4 * d) words store p xs i)) (sym near.1.place) (index_laid, (holds.lengths v n found near.1 used, at_near)) in
-      subst (λ o. ElementIsLaid vars relied s (4 * d) words store o index xs i) (sym known) laid
+      near_laid vars relied s (4 * d) words store v found known (holds.lengths v n found near.1 used) i pos n near.1.place index (λ j x e. stands_at v n j x found near.1 used e)
 
   mutual
     pub framed_laid : (x : kernel.Expression) → HasVars vars uses x → IsLaid vars relied s (4 * d) words store x
@@ -76,7 +74,7 @@ module _ (vars : List (Option VarPlan)) (relied uses : ℕ → Bool) (s d : ℕ)
 
     pub framed_place : (p : kernel.Place) → HasPlace vars uses p → PlaceIsLaid vars relied s (4 * d) words store p
     framed_place (kernel.word v) h = word_laid v h.0 h.1 h.2 h.3
-    framed_place (kernel.element v i pos) h = element_laid v h.1.0 (IsLaid vars relied s (4 * d) words store i) (eval store i) h.1.1 h.1.2 (framed_laid i h.0)
+    framed_place (kernel.element v i pos) h = element_laid v h.1.0 i pos h.1.1 h.1.2 (framed_laid i h.0)
 
   -- the words of variables after one word was changed
   words_other : (v w i x : ℕ) → w ≢ v → words_of (changed store v i x) w ≡ words_of store w

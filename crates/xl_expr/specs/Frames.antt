@@ -19,12 +19,14 @@ pub record Frame (vars : List (Option VarPlan)) (relied uses : ℕ → Bool) (s 
   pub low : (v n i : ℕ) (found : VarPlan) → IsNear vars v n found → i < found.words → d + n + i < 16384
   pub relied_on : (v n i : ℕ) (found : VarPlan) → IsNear vars v n found → uses v ≡ true → i < found.words → relied (d + n + i) ≡ true
   pub apart : (v n i : ℕ) (found : VarPlan) → IsNear vars v n found → i < found.words → IsApart s (d + n + i)
-  pub disjoint : (v n i w m j : ℕ) (found other : VarPlan) → IsNear vars v n found → IsNear vars w m other → i < found.words → j < other.words → n + i ≡ m + j → v ≡ w
+  pub disjoint : (v n i w m j : ℕ) (found other : VarPlan) → IsNear vars v n found → IsNear vars w m other →
+      i < found.words → j < other.words → n + i ≡ m + j → v ≡ w
 
 -- the words of the variables that the thread uses are those of the store
 pub record Holds (vars : List (Option VarPlan)) (uses : ℕ → Bool) (d : ℕ) (words : List ℕ) (store : Store) : Type 0 where
   pub lengths : (v n : ℕ) (found : VarPlan) → IsNear vars v n found → uses v ≡ true → found.words ≡ length (words_of store v)
-  pub values : (v n i x : ℕ) (found : VarPlan) → IsNear vars v n found → uses v ≡ true → slice_get (words_of store v) i ≡ Some x → slice_get words (d + n + i) ≡ Some x
+  pub values : (v n i x : ℕ) (found : VarPlan) → IsNear vars v n found → uses v ≡ true →
+      slice_get (words_of store v) i ≡ Some x → slice_get words (d + n + i) ≡ Some x
 
 -- the plan has each variable of an expression, and the thread uses it
 module _ (vars : List (Option VarPlan)) (uses : ℕ → Bool) where

@@ -48,7 +48,8 @@ module _ (vars : List (Option VarPlan)) (relied : ℕ → Bool) (s dp : ℕ) (wo
   ArrayStands (Near n) xs i = StandFrom (address_at dp n) xs
   ArrayStands (Far n) xs i = (base : ℕ) × IsWord relied s words (address_at dp n) base × StandFrom base xs
   ArrayStands (Through n) xs i =
-      (j base x : ℕ) × (i ≡ word j) × (slice_get xs j ≡ Some x) × IsWord relied s words (address_at dp n) base × IsWord relied s words (address_at base 0) x
+      (j base x : ℕ) × (i ≡ word j) × (slice_get xs j ≡ Some x) ×
+      IsWord relied s words (address_at dp n) base × IsWord relied s words (address_at base 0) x
 
   -- `IsLaid`, by cases
   abbrev pub WordIsLaid : Option VarPlan → List ℕ → Type 0
@@ -110,7 +111,8 @@ reg_place Lr = 15
 abbrev pub same_reg : Reg → Reg → Bool
 same_reg a b = nat_eq (reg_place a) (reg_place b)
 
--- thread t is at pc with a word in a register; its other registers but r0 and r11 are as they were, and so are all words that it relies on but its temporary ones
+-- thread t is at pc with a word in a register; its other registers but r0 and r11 are as they were, and so are all words that it relies
+-- on but its temporary ones
 pub record Gives (relied : ℕ → Bool) (s t : ℕ) (thread : Thread) (old : List ℕ) (to : Reg) (pc v : ℕ) (b : CoreState) : Type 0 where
   pub regs : Regs
   pub within : s + temporary ≤ length b.words

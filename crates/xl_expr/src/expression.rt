@@ -13,7 +13,7 @@ ghost use Rattle.xl_expr.specs.Operands.{operands_of};
 ghost use Rattle.xl_expr.specs.Parts.{kept_behind, short_behind, choice_code};
 
 use crate::direct_operand::{Direct, added, added_to, brought, direct_of, fixed_index};
-use crate::operators::main_instr;
+use crate::operators::{Operation, main_instr};
 use crate::plan::{Plan, VarAt, VarPlan};
 use xc_kernel::{Kx, Operator, Place, operator_at};
 use xs_instr::{Emitter, Instr, Reg};
@@ -89,17 +89,12 @@ pub fn emit_at(e: &mut Emitter, plan: &Plan, x: &Kx, k: u32, last: Pos) -> Resul
         Kx::Num(value) => e.put_all(&[Instr::Ldc(Reg::R0, *value)], last),
         Kx::Read(place) => emit_place(e, plan, place, k, last),
         Kx::Op(symbol, unsigned, operands, pos) => {
-            let operator = operator_at(*symbol);
-            emit_operation(
-                e,
-                plan,
-                operator,
-                *unsigned,
-                operands.as_slice(),
-                *pos,
-                k,
-                last,
-            )
+            let operation = Operation {
+                operator: operator_at(*symbol),
+                is_unsigned: *unsigned,
+                pos: *pos,
+            };
+            emit_operation(e, plan, operation, operands.as_slice(), k, last)
         }
     }
 }
@@ -270,30 +265,29 @@ fn put_index_if(e: &mut Emitter, index: Reg, test: Reg, pos: Pos) -> Result<(), 
 /// A direct operand and the word in r0 make that in r0; in their order they go to two registers, unless one is added as it is.
 fn put_direct_tail(
     e: &mut Emitter,
-    operator: Operator,
-    unsigned: bool,
+    operation: Operation,
     operand: Direct,
     sum: Option<u32>,
     a: Reg,
     b: Reg,
-    pos: Pos,
 ) -> Result<(), Memory>
     requires { length e.old + 4 < 2 ^ 32 }
-    ensures ok { OnOk result (e.new ≡ e.old ++ at_pos pos
-        (direct_tail (operator_meant operator) unsigned operand sum a b)) }
+    ensures ok { OnOk result (e.new ≡ e.old ++ at_pos operation.pos
+        (direct_tail (operator_meant operation.operator) operation.is_unsigned operand sum a b)) }
     ensures refused { OnErr result (Extends e.old e.new) }
 {
+    let pos = operation.pos;
     match sum {
         Some(n) => e.put_all(&[Instr::Addi(Reg::R0, Reg::R0, n)], pos),
         None => {
             e.put_all(
                 &[
                     brought(operand, Reg::R11),
-                    main_instr(operator, unsigned, a, b),
+                    main_instr(operation.operator, operation.is_unsigned, a, b),
                 ],
                 pos,
             )?;
-            put_after_main(e, operator, a, b, pos)
+            put_after_main(e, operation.operator, a, b, pos)
         }
     }
 }
@@ -303,29 +297,27 @@ fn put_direct_tail(
 fn emit_operation(
     e: &mut Emitter,
     plan: &Plan,
-    operator: Operator,
-    unsigned: bool,
+    operation: Operation,
     operands: &[Kx],
-    pos: Pos,
     k: u32,
     last: Pos,
 ) -> Result<(), Memory>
     requires room { length e.old + 8 * (1 + nodes_of (operands_of operands.now)) < 2 ^ 32 }
     requires deep { k + (1 + depth_of (operands_of operands.now)) < 2 ^ 32 }
-    ensures ok { OnOk result (e.new ≡ e.old ++ operation_code (operator_meant operator) unsigned pos
-        (codes plan.now.vars (operands_of operands.now)) k (length e.old) last) }
+    ensures ok { OnOk result (e.new ≡ e.old ++ operation_code (operator_meant operation.operator)
+        operation.is_unsigned operation.pos (codes plan.now.vars (operands_of operands.now)) k (length e.old) last) }
     ensures refused { OnErr result (Extends e.old e.new) }
 {
     match operands {
-        [] => e.put_all(&[Instr::Ldc(Reg::R0, 0)], pos),
+        [] => e.put_all(&[Instr::Ldc(Reg::R0, 0)], operation.pos),
         [only] => {
             emit_at(e, plan, only, k, last)?;
-            put_one_tail(e, operator, pos)
+            put_one_tail(e, operation.operator, operation.pos)
         }
-        [first, second] => emit_two(e, plan, operator, unsigned, first, second, pos, k, last),
+        [first, second] => emit_two(e, plan, operation, first, second, k, last),
         [test, second, third, ..] => {
             emit_at(e, plan, test, k, last)?;
-            emit_choice(e, plan, second, third, pos, k)
+            emit_choice(e, plan, second, third, operation.pos, k)
         }
     }
 }
@@ -335,11 +327,9 @@ fn emit_operation(
 fn emit_two(
     e: &mut Emitter,
     plan: &Plan,
-    operator: Operator,
-    unsigned: bool,
+    operation: Operation,
     first: &Kx,
     second: &Kx,
-    pos: Pos,
     k: u32,
     last: Pos,
 ) -> Result<(), Memory>
@@ -347,21 +337,21 @@ fn emit_two(
         (expression_of second.now)) < 2 ^ 32 }
     requires deep_first { k + (1 + depth (expression_of first.now)) < 2 ^ 32 }
     requires deep_second { k + (1 + depth (expression_of second.now)) < 2 ^ 32 }
-    ensures ok { OnOk result (e.new ≡ e.old ++ two_code (operator_meant operator) unsigned pos
-        (operand_of plan.now.vars (expression_of first.now))
+    ensures ok { OnOk result (e.new ≡ e.old ++ two_code (operator_meant operation.operator)
+        operation.is_unsigned operation.pos (operand_of plan.now.vars (expression_of first.now))
         (operand_of plan.now.vars (expression_of second.now)) k (length e.old) last) }
     ensures refused { OnErr result (Extends e.old e.new) }
 {
-    match operator {
+    match operation.operator {
         Operator::Both => {
             emit_at(e, plan, first, k, last)?;
-            emit_short(e, plan, Instr::Brff(Reg::R0, 0), second, pos, k)
+            emit_short(e, plan, Instr::Brff(Reg::R0, 0), second, operation.pos, k)
         }
         Operator::Either => {
             emit_at(e, plan, first, k, last)?;
-            emit_short(e, plan, Instr::Brft(Reg::R0, 0), second, pos, k)
+            emit_short(e, plan, Instr::Brft(Reg::R0, 0), second, operation.pos, k)
         }
-        _ => emit_joined(e, plan, operator, unsigned, first, second, pos, k, last),
+        _ => emit_joined(e, plan, operation, first, second, k, last),
     }
 }
 
@@ -370,11 +360,9 @@ fn emit_two(
 fn emit_joined(
     e: &mut Emitter,
     plan: &Plan,
-    operator: Operator,
-    unsigned: bool,
+    operation: Operation,
     first: &Kx,
     second: &Kx,
-    pos: Pos,
     k: u32,
     last: Pos,
 ) -> Result<(), Memory>
@@ -382,8 +370,8 @@ fn emit_joined(
         (expression_of second.now)) < 2 ^ 32 }
     requires deep_first { k + (1 + depth (expression_of first.now)) < 2 ^ 32 }
     requires deep_second { k + (1 + depth (expression_of second.now)) < 2 ^ 32 }
-    ensures ok { OnOk result (e.new ≡ e.old ++ joined_code (operator_meant operator) unsigned pos
-        (expression_code plan.now.vars (expression_of first.now))
+    ensures ok { OnOk result (e.new ≡ e.old ++ joined_code (operator_meant operation.operator)
+        operation.is_unsigned operation.pos (expression_code plan.now.vars (expression_of first.now))
         (expression_code plan.now.vars (expression_of second.now))
         (spec.direct_of plan.now.vars (expression_of first.now))
         (spec.direct_of plan.now.vars (expression_of second.now)) k (length e.old) last) }
@@ -392,17 +380,17 @@ fn emit_joined(
     match (direct_of(plan, first), direct_of(plan, second)) {
         (_, Some(operand)) => {
             emit_at(e, plan, first, k, last)?;
-            let sum = added(operator, operand);
-            put_direct_tail(e, operator, unsigned, operand, sum, Reg::R0, Reg::R11, pos)
+            let sum = added(operation.operator, operand);
+            put_direct_tail(e, operation, operand, sum, Reg::R0, Reg::R11)
         }
         (Some(operand), None) => {
             emit_at(e, plan, second, k, last)?;
-            let sum = added_to(operator, operand);
-            put_direct_tail(e, operator, unsigned, operand, sum, Reg::R11, Reg::R0, pos)
+            let sum = added_to(operation.operator, operand);
+            put_direct_tail(e, operation, operand, sum, Reg::R11, Reg::R0)
         }
         (None, None) => {
             emit_at(e, plan, first, k, last)?;
-            emit_kept(e, plan, operator, unsigned, second, pos, k)
+            emit_kept(e, plan, operation, second, k)
         }
     }
 }
@@ -412,28 +400,27 @@ fn emit_joined(
 fn emit_kept(
     e: &mut Emitter,
     plan: &Plan,
-    operator: Operator,
-    unsigned: bool,
+    operation: Operation,
     second: &Kx,
-    pos: Pos,
     k: u32,
 ) -> Result<(), Memory>
     requires room { length e.old + 8 * (1 + nodes (expression_of second.now)) < 2 ^ 32 }
     requires deep { k + (1 + depth (expression_of second.now)) < 2 ^ 32 }
     ensures ok { OnOk result (e.new ≡ e.old ++ kept_behind plan.now.vars
-        (operator_meant operator) unsigned pos (expression_of second.now) k (length e.old)) }
+        (operator_meant operation.operator) operation.is_unsigned operation.pos (expression_of second.now) k (length e.old)) }
     ensures refused { OnErr result (Extends e.old e.new) }
 {
+    let pos = operation.pos;
     e.put_all(&[Instr::Stwsp(Reg::R0, k)], pos)?;
     emit_at(e, plan, second, k + 1, pos)?;
     e.put_all(
         &[
             Instr::Ldwsp(Reg::R11, k),
-            main_instr(operator, unsigned, Reg::R11, Reg::R0),
+            main_instr(operation.operator, operation.is_unsigned, Reg::R11, Reg::R0),
         ],
         pos,
     )?;
-    put_after_main(e, operator, Reg::R11, Reg::R0, pos)?;
+    put_after_main(e, operation.operator, Reg::R11, Reg::R0, pos)?;
     Ok(())
 }
 

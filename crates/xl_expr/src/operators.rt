@@ -4,6 +4,15 @@ ghost use Rattle.xl_expr.specs.Code as code;
 
 use xc_kernel::Operator;
 use xs_instr::{Instr, Reg};
+use xw_words::Pos;
+
+/// An operation's operator, whether its operands are unsigned, and its place.
+#[derive(Clone, Copy)]
+pub struct Operation {
+    pub operator: Operator,
+    pub is_unsigned: bool,
+    pub pos: Pos,
+}
 
 /// The instruction that makes of the words in two registers that in r0; the test of an index gives its truth in the second one.
 pub fn main_instr(operator: Operator, unsigned: bool, a: Reg, b: Reg) -> Instr

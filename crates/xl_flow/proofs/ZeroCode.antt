@@ -1,7 +1,8 @@
 -- What the code that sets a variable's words to 0 does.
-use Rattle.std.proofs.Common.{zero, suc, None, ◌≡◌, ℕ, ◌+◌, ◌*◌, ◌/◌, ◌%◌, ◌^◌, ◌<◌, Bool, true, false, List, ◌∷◌, length, Option, Some, refl, sym, ap, ◌∙◌, subst, arith}
+use Rattle.std.proofs.Common.{zero, suc, None, ◌≡◌, ℕ, ◌+◌, ◌*◌, ◌/◌, ◌%◌, ◌^◌, ◌<◌, Bool, true, false, List, ◌∷◌, length, Option, Some, refl, sym, ap, ◌∙◌, subst, get_or, arith}
 use Rattle.xs_instr.specs.Lines.{at_pos}
 use Rattle.std.specs.Prelude.{nat_eq, slice_get}
+use Rattle.std.proofs.lemmas.Option.{slice_get-get_or, slice_get_within}
 use Rattle.xw_words.specs.declared.pos.Pos.{Pos}
 use Rattle.xs_instr.specs.declared.image.Code.{Code}
 use Rattle.xs_instr.specs.declared.image.Home.{Home}
@@ -26,7 +27,7 @@ use Rattle.xl_expr.proofs.GoodCode.{ArePlain, plain_append, plain_aimed}
 use Rattle.xl_expr.proofs.Lists.{word_by_same}
 use Rattle.xl_expr.proofs.Ways.{own, Fits, Way, way_on, way_leads}
 use Rattle.xl_flow.specs.Zeros.{IsOutside, StandsFrom, WordsStand, Zeroed, far_write, near_write, words_set, writes, zero_code, zero_instrs, zero_of}
-use Rattle.xl_flow.proofs.Zeroing.{WritesOne, all_written, are_zero, cleared, outside_kept, quiet_sure, store_sure}
+use Rattle.xl_flow.proofs.Zeroing.{WritesOne, all_written, are_zero, cleared, cleared_size, outside_kept, quiet_sure, store_sure}
 
 -- the address of word i, from the first word's and from dp
 pub near_address : (dp n i : ℕ) → address_at dp ((n + i) % 2 ^ 32) ≡ address_at (address_at dp n) i
@@ -127,6 +128,10 @@ module _ (home : Home) (relied : ℕ → Bool) (t base words pc : ℕ) (last : P
     zeros = λ i lt. word_by_same all_cleared b.words (address_at base i) (nat_eq (address_at base i % 4) 0) (f.words.by (address_at base i / 4) (stand.relied_on i lt)) ∙ are_zero a.words (λ j. address_at base j) words stand.there words i (omega arith) lt;
     others = others;
     kept = λ w r outside. f.words.by w r ∙ outside_kept a.words (λ j. address_at base j) words w outside;
+    within = λ w r lt.
+        let size = cleared_size a.words (λ j. address_at base j) words in
+        let there = slice_get-get_or all_cleared w 0 (omega (arith, size, lt)) in
+        slice_get_within b.words w (get_or all_cleared w 0) (f.words.by w r ∙ there);
   }
 
   abbrev pub regs0 : Regs

@@ -3,6 +3,7 @@ use Rattle.std.proofs.Common.{◌≡◌, ℕ, zero, suc, ◌+◌, ◌*◌, ◌/�
 use Rattle.xs_instr.specs.Lines.{at_pos}
 use Rattle.std.specs.Prelude.{nat_eq, slice_get}
 use Rattle.std.proofs.lemmas.Bool.{cases_eq}
+use Rattle.std.proofs.lemmas.List.{length-set}
 use Rattle.xw_words.specs.declared.pos.Pos.{Pos}
 use Rattle.xs_instr.specs.declared.image.Code.{Code}
 use Rattle.xs_instr.specs.declared.instr.Instr.{Instr}
@@ -87,6 +88,10 @@ module _ (memory : List ℕ) (address : ℕ → ℕ) (words : ℕ) (there : (i :
 
       before : (i < n → word_at (cleared memory address n) (address i) ≡ Some 0) → i ≢ n → word_at (cleared memory address (suc n)) (address i) ≡ Some 0
       before earlier ne = put_zero (cleared memory address n) (address n) at_n.0 (address i) at_n.1 (earlier (omega arith))
+
+pub cleared_size : (memory : List ℕ) (address : ℕ → ℕ) (n : ℕ) → length (cleared memory address n) ≡ length memory
+cleared_size memory address zero = refl
+cleared_size memory address (suc n) = length-set (cleared memory address n) (address n / 4) 0 ∙ cleared_size memory address n
 
 pub outside_kept : (memory : List ℕ) (address : ℕ → ℕ) (n w : ℕ) → ((i : ℕ) → i < n → w ≡ address i / 4 → ⊥) → slice_get (cleared memory address n) w ≡ slice_get memory w
 outside_kept memory address zero w h = refl

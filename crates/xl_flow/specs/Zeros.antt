@@ -52,8 +52,7 @@ zero_of (Some found) last = at_pos last (zero_instrs found.place found.words)
 abbrev pub zero_code : List (Option VarPlan) → (variable : ℕ) → Pos → List Line
 zero_code vars v last = zero_of (var_in vars v) last
 
--- Where the words stand: from an address on, each in memory and relied on, and none of them is the word that holds the address.
-
+-- Where the words stand: from an address on, each in memory and relied on.
 pub record WordsStand (relied : ℕ → Bool) (memory : List ℕ) (base words : ℕ) : Type 0 where
   pub there : (i : ℕ) → i < words → (x : ℕ) × (word_at memory (address_at base i) ≡ Some x)
   pub relied_on : (i : ℕ) → i < words → relied (address_at base i / 4) ≡ true
@@ -69,12 +68,14 @@ abbrev pub IsOutside : (base words : ℕ) → ℕ → Type 0
 IsOutside base words w = (i : ℕ) → i < words → w ≡ address_at base i / 4 → ⊥
 
 -- The thread stands at pc, the words are 0, and all other words that it relies on and its registers but r0, r10 and r11 are as they were.
+-- No word that it relies on is lost, and so neither is the room of its temporary words where there is one.
 pub record Zeroed (relied : ℕ → Bool) (t : ℕ) (thread : Thread) (old : List ℕ) (base words pc : ℕ) (b : CoreState) : Type 0 where
   pub regs : Regs
   pub here : slice_get b.threads t ≡ Some (record thread { pc = pc; regs = regs })
   pub zeros : (i : ℕ) → i < words → word_at b.words (address_at base i) ≡ Some 0
   pub others : (r : Reg) → is_working r ≡ false → reg_get regs r ≡ reg_get thread.regs r
   pub kept : (w : ℕ) → relied w ≡ true → IsOutside base words w → slice_get b.words w ≡ slice_get old w
+  pub within : (w : ℕ) → relied w ≡ true → w < length old → w < length b.words
 
 -- The thread's next step writes 0 to the last word, when all words before it are 0, and goes on to pc; all other words that it relies
 -- on and its registers but r0, r10 and r11 are as they were.

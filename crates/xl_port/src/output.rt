@@ -12,10 +12,12 @@ use xl_expr::{Plan, emit_expr, emit_identifier};
 use xs_instr::{Cond, Emitter, Instr, Reg};
 use xw_words::{Memory, Pos};
 
-/// The code of an output to a port. `outputs` says what it does: wherever it stands from this index on, where the plan's layout
-/// holds, and whatever other threads do in between that leaves what this one relies on, it comes, within 8 steps for each node of
-/// its time and value and four more, to where its next step puts the value out as soon as the time is come, with the port's name
-/// as its place; or to where the next step traps with the error of the time, else of the value.
+/// The code of an output to a port. The output has no stamp, so the port's counter is stored nowhere.
+///
+/// `outputs` says what the code does: wherever it stands from this index on, where the plan's layout holds, and whatever other
+/// threads do in between that leaves what this one relies on, it comes, within 8 steps for each node of its time and value and four
+/// more, to where its next step puts the value out as soon as the time is come, with the port's name as its place; or to where the
+/// next step traps with the error of the time, else of the value.
 ///
 /// The one error is want of memory; the emitter then holds what it held, and perhaps further instructions behind it.
 pub fn emit_port_out(e: &mut Emitter, plan: &Plan, o: &KOut) -> Result<(), Memory>

@@ -10,8 +10,8 @@ use std::alloc::{AllocError, Global};
 use std::test::Fail;
 use xc_kernel::Kx;
 use xc_tree::symbols::{AND_AND, MINUS, OR_OR, PERCENT, PLUS, SLASH};
-use xl_expr::{Plan, ResAt, VarAt, VarPlan};
-use xs_instr::Trap;
+use xl_expr::{Plan, ResAt, VarAt, VarPlan, emit_expr};
+use xs_instr::{Emitter, Reg, Trap};
 use xw_words::{List, Memory, Pos};
 
 /// What stands at dp + 4n, by n.
@@ -48,6 +48,9 @@ pub const ONE_ELEMENT: u32 = 3;
 
 /// A word elsewhere.
 pub const FAR_WORD: u32 = 4;
+
+/// A variable that the plan doesn't have.
+pub const NO_VARIABLE: u32 = 9;
 
 const VARIABLES: [Option<VarPlan>; 5] = [
     Some(VarPlan {
@@ -237,6 +240,27 @@ fn errs_at_the_first_place(rt: HostRuntime) -> Result<(), Fail> {
         let x = expression(alloc, *erring_at)?;
         assert_eq!(rt; end_of(alloc, &MEMORY, &plan, &x)?, *end, "{i}");
     }
+    Ok(())
+}
+
+/// One element alone is read with no code for its index, which the plan needn't have.
+#[test]
+fn reads_an_element_without_its_index(rt: HostRuntime) -> Result<(), Fail> {
+    let alloc = rt.alloc();
+    let x = element(alloc, ONE_ELEMENT, variable(NO_VARIABLE), NAME)?;
+    assert_eq!(rt; end_of(alloc, &MEMORY, &plan(alloc)?, &x)?, End::Out(0, 40));
+    Ok(())
+}
+
+/// The move to a register has the place of the instruction before it.
+#[test]
+fn moves_at_the_last_place(rt: HostRuntime) -> Result<(), Fail> {
+    let alloc = rt.alloc();
+    let mut e = Emitter::new(alloc);
+    let x = two(alloc, PLUS, false, variable(FAR_WORD), number(1), OUTER)?;
+    emit_expr(&mut e, &plan(alloc)?, &x, Reg::R5)?;
+    assert_eq!(rt; e.here(), 5);
+    assert_eq!(rt; e.pos(), OUTER);
     Ok(())
 }
 

@@ -10,10 +10,11 @@ ghost use Rattle.xl_flow.specs.Zeros.{room_of};
 ghost use Rattle.xl_port.specs.Outputs.{output_depth, output_nodes};
 ghost use Rattle.xs_instr.specs.Valid.{AreGoodInstrs};
 
-use crate::expressions::{number, two};
+use crate::expressions::{number, two, variable};
 use crate::machine::{End, begun, finished, put_out, run};
 use crate::places::{
-    FAR_ARRAY, FAR_WORD, MEMORY, NEAR_ARRAY, NEAR_WORD, ONE_ELEMENT, index_of, plan, read,
+    FAR_ARRAY, FAR_WORD, MEMORY, NEAR_ARRAY, NEAR_WORD, NO_VARIABLE, ONE_ELEMENT, index_of, plan,
+    read,
 };
 use std::alloc::Global;
 use std::process::Abort;
@@ -94,11 +95,17 @@ fn place(alloc: Global, v: u32, index: Option<u32>, is_sum: bool) -> Result<Plac
 {
     match index {
         None => Ok(Place::Word(v)),
-        Some(i) => {
-            let index = Box::new(alloc, index_of(alloc, i, is_sum)?)?;
-            Ok(Place::Elem(v, index, NAME))
-        }
+        Some(i) => element_place(alloc, v, index_of(alloc, i, is_sum)?),
     }
+}
+
+#[tactic(auto, using(xc_kernel::proofs::Forms::forms))]
+fn element_place(alloc: Global, v: u32, index: Kx) -> Result<Place, Fail>
+    ensures nodes { IfOk result (λ place. nodes_at (place_of place) ≡ 1 + nodes (expression_of index)) }
+    ensures depth { IfOk result (λ place. depth_at (place_of place) ≡ 1 + depth (expression_of index)) }
+{
+    let index = Box::new(alloc, index)?;
+    Ok(Place::Elem(v, index, NAME))
 }
 
 fn add_set(e: &mut Emitter, plan: &Plan, dst: &Place, x: &Kx) -> Result<(), Memory>
@@ -259,6 +266,19 @@ fn assigns(rt: HostRuntime) -> Result<(), Fail> {
             "{i}, tested"
         );
     }
+    Ok(())
+}
+
+/// One element alone is written with no code for its index, which the plan needn't have.
+#[test]
+fn assigns_an_element_without_its_index(rt: HostRuntime) -> Result<(), Fail> {
+    let alloc = rt.alloc();
+    let plan = plan(alloc)?;
+    let dst = element_place(alloc, ONE_ELEMENT, variable(NO_VARIABLE))?;
+    let x = read(alloc, ONE_ELEMENT, Some(1), false)?;
+    let mut e = begun(alloc, &MEMORY)?;
+    add_set(&mut e, &plan, &dst, &number(55))?;
+    assert_eq!(rt; run(alloc, put_out(e, &plan, &x)?)?, End::Out(0, 55));
     Ok(())
 }
 

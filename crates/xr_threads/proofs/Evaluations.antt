@@ -1,5 +1,5 @@
 -- Values that a branch's items have next: they stay while others act, they cost so many steps, and where one is an error the branch errs.
-use Rattle.std.proofs.Common.{◌≡◌, ℕ, true, Bool, List, [], ◌∷◌, ◌++◌, length, Some, refl, ap, ◌∙◌, arith}
+use Rattle.std.proofs.Common.{◌≡◌, ℕ, true, Bool, List, [], ◌∷◌, ◌++◌, length, Option, Some, refl, ap, ◌∙◌, arith}
 use Rattle.std.specs.Prelude.{slice_set, slice_index}
 use Rattle.xw_words.specs.declared.pos.Pos.{Pos}
 use Rattle.xs_instr.specs.declared.image.Stim.{Stim}
@@ -18,7 +18,7 @@ use Rattle.xc_meaning.specs.Settings.Setting.{errs, kind_of}
 use Rattle.xc_meaning.specs.Runs.{acts, does_item, does_first, goes, goes_by, step_of}
 use Rattle.xl_expr.specs.Frames.{HasVars, HaveVars, HasPlace}
 use Rattle.xl_expr.specs.Measures.{nodes, nodes_of, nodes_at}
-use Rattle.xl_expr.specs.Plans.{Vars}
+use Rattle.xl_expr.specs.declared.plan.VarPlan.{VarPlan}
 use Rattle.xl_expr.specs.Stores.{index_in, tested_value}
 use Rattle.xl_expr.specs.Works as works
 use Rattle.xl_expr.specs.Works.{trap_of}
@@ -46,7 +46,7 @@ mutual
   nodes_at_are (kernel.element v i pos) = let e = nodes_are i in omega arith
 
 -- a value is the same where the words of the variables are that the thread uses
-module _ (vars : Vars) (uses : ℕ → Bool) (old new : Store) (same : (v : ℕ) → uses v ≡ true → words_of new v ≡ words_of old v) where
+module _ (vars : List (Option VarPlan)) (uses : ℕ → Bool) (old new : Store) (same : (v : ℕ) → uses v ≡ true → words_of new v ≡ words_of old v) where
   mutual
     pub eval_still : (x : kernel.Expression) → HasVars vars uses x → eval new x ≡ eval old x
     eval_still (kernel.number v) h = refl

@@ -13,7 +13,7 @@ use Rattle.xc_meaning.specs.States.Items.{Item}
 use Rattle.xc_meaning.specs.States.Branches.{Branch}
 use Rattle.xl_expr.specs.declared.plan.VarPlan.{VarPlan}
 use Rattle.xl_expr.specs.Frames.{IsNear, Holds}
-use Rattle.xl_expr.specs.Plans.{Vars, var_in, joined}
+use Rattle.xl_expr.specs.Plans.{var_in, joined}
 use Rattle.xl_expr.specs.Works.{IsLaid, PlaceIsLaid}
 use Rattle.xl_expr.proofs.Framed.{framed_laid, framed_place}
 use Rattle.xl_expr.proofs.Lists.{room_kept}
@@ -30,14 +30,14 @@ among_words first words k lt =
     and_from (nat_le first (first + k)) (nat_lt (first + k) (first + words)) (le-leb first (first + k) (omega arith)) (lt-ltb (first + k) (first + words) (omega arith))
 
 -- a variable of a plan is one of the list
-pub planned_within : (vars : Vars) (v : ℕ) (found : VarPlan) → var_in vars v ≡ Some found → v < length vars
+pub planned_within : (vars : List (Option VarPlan)) (v : ℕ) (found : VarPlan) → var_in vars v ≡ Some found → v < length vars
 planned_within vars v found known = by (slice_get vars v) refl
   where
     by : (o : Option (Option VarPlan)) → slice_get vars v ≡ o → v < length vars
     by None e = let h : joined None ≡ Some found = ap joined (sym e) ∙ known in absurd (cc)
     by (Some o) e = slice_get_within vars v o e
 
-module _ (base : ℕ) (vars : Vars) (is_meant : ℕ → Bool) where
+module _ (base : ℕ) (vars : List (Option VarPlan)) (is_meant : ℕ → Bool) where
   -- a word of one of the first variables is among them
   among_first : (n v w : ℕ) → v < n → is_meant v ≡ true → is_word_of base (var_in vars v) w ≡ true → is_word_among base vars is_meant n w ≡ true
   among_first zero v w lt meant is = absurd (omega arith)

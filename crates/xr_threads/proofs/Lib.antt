@@ -26,3 +26,11 @@ pub mod Starts
 pub mod Boot
 pub mod Pieces
 pub mod Compiled
+pub mod Roots
+pub mod Footprints
+pub mod FootprintsLong
+pub mod ImagedPlans
+pub mod ImagedLayout
+pub mod ImagedApart
+pub mod Imaged
+pub mod Compiler

@@ -43,7 +43,7 @@ pub emit_operation-returns-in-len2-clause-ok : goal.emit_operation-returns-in-le
 emit_operation-returns-in-len2-clause-ok t c =
     let x = c.first-item.result in
     let y = c.second-item.result in
-    subst (λ (xs : List Kx). OnOk c.emit_two.result (c.emit_two.new.e ≡ c.args.e.now ++ operation_code (operator_meant c.args.operator) c.args.unsigned c.args.pos (codes c.args.plan.now.vars (operands_of xs)) c.args.k (length c.args.e.now) c.args.last))
+    subst (λ (xs : List Kx). OnOk c.emit_two.result (c.emit_two.new.e ≡ c.args.e.now ++ operation_code (operator_meant c.args.operation.operator) c.args.operation.is_unsigned c.args.operation.pos (codes c.args.plan.now.vars (operands_of xs)) c.args.k (length c.args.e.now) c.args.last))
     (sym (two_operands c.args.operands.now x y c.in-len2.len_at_least c.in-len2.len_below c.first-item.is c.second-item.is)) c.emit_two.ensures.ok
 
 pub emit_operation-emit_choice-requires : goal.emit_operation-emit_choice-requires
@@ -81,15 +81,15 @@ emit_element-put_element-requires-in-Far-None t c =
 
 pub emit_kept-put_all-requires-2 : goal.emit_kept-put_all-requires-2
 emit_kept-put_all-requires-2 t c =
-    let l = one_longer c.args.e.now c.put_all.new.self (line (Stwsp R0 c.args.k) c.args.pos) c.in_ok-put_all.ensures.ok in
-    let n = longer c.args.plan.now.vars (expression_of c.args.second.now) (c.args.k + 1) (length c.put_all.new.self) c.args.pos c.put_all.new.self c.emit_at.new.e c.in_ok-emit_at.ensures.ok in
+    let l = one_longer c.args.e.now c.put_all.new.self (line (Stwsp R0 c.args.k) c.args.operation.pos) c.in_ok-put_all.ensures.ok in
+    let n = longer c.args.plan.now.vars (expression_of c.args.second.now) (c.args.k + 1) (length c.put_all.new.self) c.args.operation.pos c.put_all.new.self c.emit_at.new.e c.in_ok-emit_at.ensures.ok in
     omega (arith, l, n, c.requires.room)
 
 pub emit_kept-put_after_main-requires : goal.emit_kept-put_after_main-requires
 emit_kept-put_after_main-requires t c =
-    let l = one_longer c.args.e.now c.put_all.new.self (line (Stwsp R0 c.args.k) c.args.pos) c.in_ok-put_all.ensures.ok in
-    let n = longer c.args.plan.now.vars (expression_of c.args.second.now) (c.args.k + 1) (length c.put_all.new.self) c.args.pos c.put_all.new.self c.emit_at.new.e c.in_ok-emit_at.ensures.ok in
-    let m = two_longer c.emit_at.new.e c.put_all-2.new.self (line (Ldwsp R11 c.args.k) c.args.pos) (line c.main_instr.result c.args.pos) c.in_ok-put_all-2.ensures.ok in
+    let l = one_longer c.args.e.now c.put_all.new.self (line (Stwsp R0 c.args.k) c.args.operation.pos) c.in_ok-put_all.ensures.ok in
+    let n = longer c.args.plan.now.vars (expression_of c.args.second.now) (c.args.k + 1) (length c.put_all.new.self) c.args.operation.pos c.put_all.new.self c.emit_at.new.e c.in_ok-emit_at.ensures.ok in
+    let m = two_longer c.emit_at.new.e c.put_all-2.new.self (line (Ldwsp R11 c.args.k) c.args.operation.pos) (line c.main_instr.result c.args.operation.pos) c.in_ok-put_all-2.ensures.ok in
     omega (arith, l, n, m, c.requires.room)
 
 pub emit_joined-put_direct_tail-requires : goal.emit_joined-put_direct_tail-requires
