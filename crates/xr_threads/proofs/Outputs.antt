@@ -1,6 +1,6 @@
 -- An output to a port: the word goes out once the time is come, where there is one, and the thread waits with its branch till then.
-use Rattle.std.proofs.Common.{◌≡◌, ◌≢◌, ℕ, zero, suc, ◌+◌, ◌*◌, ◌≤◌, Bool, true, false, List, [], ◌∷◌, length, option_map, Option, Some, None, refl, sym, ap, ◌∙◌, subst, ⊎_elim, arith, eq-eqb}
-use Rattle.std.specs.Prelude.{◌%◌, ◌^◌, nat_eq, slice_get, slice_set, slice_index}
+use Rattle.std.proofs.Common.{◌≡◌, ◌≢◌, ℕ, zero, suc, ◌+◌, ◌*◌, ◌≤◌, Bool, true, false, List, [], ◌∷◌, option_map, Option, Some, None, refl, sym, ap, ◌∙◌, subst, ⊎_elim, arith, eq-eqb}
+use Rattle.std.specs.Prelude.{nat_eq, slice_get, slice_index}
 use Rattle.std.proofs.lemmas.Bool.{cases_eq, ne_eqb}
 use Rattle.std.proofs.lemmas.Option.{get_or_from_slice_get, same_Some}
 use Rattle.xw_words.specs.declared.pos.Pos.{Pos}
@@ -9,13 +9,10 @@ use Rattle.xs_instr.specs.declared.instr.Reg.TheVariants.{Dp, Sp}
 use Rattle.xs_instr.specs.declared.state.CoreState.{CoreState}
 use Rattle.xs_instr.specs.declared.state.Port.{Port}
 use Rattle.xs_instr.specs.declared.state.Regs.{Regs}
-use Rattle.xs_instr.specs.declared.trace.Record.{Record}
 use Rattle.xs_instr.specs.declared.trace.Record.TheVariants.{PortOut}
-use Rattle.xs_instr.specs.Did.{Paused}
 use Rattle.xs_instr.specs.Machine.{and_then}
-use Rattle.xs_instr.specs.OwnSteps.{IsApart, StandAt, temporary}
-use Rattle.xs_instr.specs.Ports.{can_send, counter, low_bits, moved_at, time_meets}
-use Rattle.xs_instr.specs.Slot.{slot}
+use Rattle.xs_instr.specs.OwnSteps.{IsApart}
+use Rattle.xs_instr.specs.Ports.{can_send, counter, low_bits, moved_at}
 use Rattle.xc_tree.specs.Depth.{if_some}
 use Rattle.xc_kernel.specs.declared.kernel.PortUse.{PortUse}
 use Rattle.xc_kernel.specs.declared.statement.KRes.{KRes}
@@ -23,25 +20,22 @@ use Rattle.xc_kernel.specs.declared.statement.KRes.TheVariants.{Port as ToPort, 
 use Rattle.xc_kernel.specs.Plain as kernel
 use Rattle.xc_kernel.specs.Values.{Value, word, error, ErrorKind}
 use Rattle.xc_kernel.specs.Eval.{Store, eval, words_of}
-use Rattle.xc_meaning.specs.Counts.KernelCounts.{of_expression, of_place}
+use Rattle.xc_meaning.specs.Counts.KernelCounts.{of_expression}
 use Rattle.xc_meaning.specs.Runs.{acts, does_first, does_item, selects, selects_by, step_of}
 use Rattle.xc_meaning.specs.Settings.Select.{takes, takes_default}
 use Rattle.xc_meaning.specs.Settings.Setting as source
 use Rattle.xc_meaning.specs.Settings.Setting.{errs, kind_of, with_value, with_word_of}
-use Rattle.xc_meaning.specs.Settings.Time.{Timing, passes, fails, timing, timing_by, with_timing, identifier_in, port_may_pass}
-use Rattle.xc_meaning.specs.Settings.Transfers.{drives, output_record, outputs_to, outputs_to_port}
+use Rattle.xc_meaning.specs.Settings.Time.{Timing, passes, timing, timing_by, with_timing, identifier_in, port_may_pass}
+use Rattle.xc_meaning.specs.Settings.Transfers.{drives, output_record, outputs_to}
 use Rattle.xc_meaning.specs.States.Items.{Item, does, When, now, at_time, storing}
 use Rattle.xc_meaning.specs.States.Branches.{Branch}
 use Rattle.xc_meaning.specs.States.Worlds.{World, go, take, default, only_if, with_record}
-use Rattle.xl_expr.specs.declared.plan.ResAt.{ResAt}
-use Rattle.xl_expr.specs.declared.plan.ResAt.TheVariants.{Fixed}
 use Rattle.xl_expr.specs.Plans.{resource_in}
 use Rattle.xl_expr.specs.Works as works
 use Rattle.xl_expr.specs.Works.{trap_of}
 use Rattle.xl_expr.proofs.Lists.{get_set_same, get_set_other}
-use Rattle.xl_image.specs.Images.{decl_of, dir_of}
 use Rattle.xl_plan.specs.Layout.{port_name}
-use Rattle.xl_port.specs.Outputs.{OutputOutcome, PortStands, PutsOut, ResourceIs, TimeIsLaid, ValueOutcome, gone_out, is_due, out_record, output_nodes, set_for, time_nodes, time_of}
+use Rattle.xl_port.specs.Outputs.{OutputOutcome, PortStands, PutsOut, ResourceIs, TimeIsLaid, ValueOutcome, gone_out, is_due, out_record, output_nodes, set_for, time_nodes}
 use Rattle.xl_port.specs.PortSteps.{WithinPort}
 use Rattle.xl_walk.specs.Built as built
 use Rattle.xl_walk.specs.Pieces.{Exit}

@@ -1,5 +1,5 @@
 -- All words of a variable become 0; until the last one is, they are the thread's own business.
-use Rattle.std.proofs.Common.{◌≡◌, ◌≢◌, ℕ, zero, suc, ◌+◌, ◌-◌, ◌*◌, ◌<◌, ◌≤◌, Bool, true, false, List, [], ◌∷◌, map, option_map, Option, Some, None, refl, sym, ap, ◌∙◌, subst, ⊎_elim, get_or, arith}
+use Rattle.std.proofs.Common.{◌≡◌, ◌≢◌, ℕ, zero, suc, ◌+◌, ◌-◌, ◌*◌, ◌<◌, ◌≤◌, true, false, List, [], ◌∷◌, map, option_map, Option, Some, None, refl, sym, ap, ◌∙◌, subst, ⊎_elim, get_or, arith}
 use Rattle.std.specs.Prelude.{◌/◌, ◌%◌, slice_get, slice_set, length, nat_eq}
 use Rattle.std.proofs.lemmas.Bool.{cases_eq}
 use Rattle.std.proofs.lemmas.List.{length-set, length-map, get_or-set_other, get_or-set_same}
@@ -10,14 +10,10 @@ use Rattle.xs_instr.specs.declared.state.Regs.{Regs}
 use Rattle.xs_instr.specs.Memory.{address_at, word_at, word_by, word_put}
 use Rattle.xs_instr.specs.OwnSteps as own
 use Rattle.xs_instr.specs.OwnSteps.{Within, temporary}
-use Rattle.xs_instr.specs.Rows.{put_own}
-use Rattle.xc_kernel.specs.declared.kernel.PortUse.{PortUse}
 use Rattle.xc_kernel.specs.Plain as kernel
 use Rattle.xc_kernel.specs.Eval.{Store, words_of}
-use Rattle.xc_meaning.specs.Runs.{step_of}
 use Rattle.xc_meaning.specs.States.Items.{Item, does}
-use Rattle.xc_meaning.specs.States.Branches.{Branch}
-use Rattle.xc_meaning.specs.States.Worlds.{World, go, with_zeros, zero_for}
+use Rattle.xc_meaning.specs.States.Worlds.{with_zeros, zero_for}
 use Rattle.xl_expr.specs.declared.plan.VarAt.{VarAt}
 use Rattle.xl_expr.specs.declared.plan.VarAt.TheVariants.{Near}
 use Rattle.xl_expr.specs.declared.plan.VarPlan.{VarPlan}
@@ -29,7 +25,7 @@ use Rattle.xr_threads.specs.Fits.{IsChanged, ItemsFit}
 use Rattle.xr_threads.specs.Runners.{Setting, Runner, IsLaidOut, MayChange, of_variable, home, plan, relied}
 use Rattle.xr_threads.specs.Scenes.{Scene, Kept, running}
 use Rattle.xr_threads.specs.Turns as turn
-use Rattle.xr_threads.specs.Turns.{Goes, Has, HasBases, HoldsStore, IsAt, ItemsFrom, Runs, StatementLeads, Turns, cost}
+use Rattle.xr_threads.specs.Turns.{Goes, Has, HasBases, HoldsStore, ItemsFrom, Runs, StatementLeads, Turns, cost}
 use Rattle.xr_threads.proofs.Arriving.{Since, any_port, arrives, core_kept, since_kept}
 use Rattle.xr_threads.proofs.Evaluations.{item_acts, with_items, runs_with}
 use Rattle.xr_threads.proofs.Layouts.{ports_last, runs_at, runs_kept, stack_relied, variable_relied}
