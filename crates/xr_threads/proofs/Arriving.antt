@@ -1,17 +1,16 @@
 -- Own steps of a thread on its core are silent steps of its runner, so what a piece of code leads to is where the runner comes.
-use Rattle.std.proofs.Common.{◌≡◌, ℕ, zero, suc, ◌+◌, ◌-◌, ◌<◌, ◌≤◌, Bool, true, false, ◌⊎◌, inl, inr, ⊎_elim, refl, sym, ap, ◌∙◌, subst, arith}
+use Rattle.std.proofs.Common.{◌≡◌, ℕ, zero, suc, ◌+◌, ◌-◌, ◌≤◌, Bool, true, false, inl, inr, ⊎_elim, refl, ap, ◌∙◌, arith}
 use Rattle.std.specs.Prelude.{slice_get, nat_lt}
 use Rattle.std.proofs.lemmas.Bool.{ltb-true, ltb-false}
 use Rattle.xs_instr.specs.declared.state.CoreState.{CoreState}
 use Rattle.xs_instr.specs.OwnSteps as own
 use Rattle.xs_instr.specs.OwnSteps.{IsApart, OwnStep, Within, temporary}
-use Rattle.xs_instr.specs.Rows.{put_own, put_ports}
 use Rattle.xc_kernel.specs.declared.kernel.PortUse.{PortUse}
 use Rattle.xc_kernel.specs.Eval.{words_of}
 use Rattle.xl_expr.proofs.Lists.{get_set_other}
 use Rattle.xl_port.specs.PortSteps.{KeptPort, PortStep, WithinPort}
 use Rattle.xr_threads.specs.Runners.{Setting, Runner, IsPort, MayChange, of_stack, home, port_place, relied}
-use Rattle.xr_threads.specs.Scenes.{Scene, Kept, Touched, IsSilentStep, after, LeadsIn}
+use Rattle.xr_threads.specs.Scenes.{Scene, Kept, IsSilentStep, after, LeadsIn}
 
 -- all ports
 abbrev pub any_port : ℕ → Type 0
@@ -48,6 +47,7 @@ module _ (g : Setting) (r : Runner) where
   pub core_kept : {z y : Scene} → Kept g r z y → own.Kept (relied g r) r.thread z.core y.core
   core_kept k = record { thread = k.thread; words = k.words }
 
+  -- and the same beside one of the runner's ports
   pub port_kept : (p : ℕ) (listed : PortUse) → IsPort g r p listed → {z y : Scene} → Kept g r z y → KeptPort (relied g r) r.thread (port_place g r p) z.core y.core
   port_kept p listed is k = record { own = core_kept k; port = k.ports p listed is }
 
@@ -63,7 +63,9 @@ module _ (g : Setting) (r : Runner) where
       below true e = inl (ltb-true w r.stack e)
       below false e = above (nat_lt w (r.stack + temporary)) refl (let ge = ltb-false w r.stack e in omega arith)
 
+  -- The steps leave at least the words that the runner may not change.
   module _ (leaves : ℕ → Type 0) (safe : (w : ℕ) → (MayChange g r w → ⊥) → leaves w) where
+    -- an own step is a silent one
     own_silent : (a b : CoreState) → OwnStep (home g r) leaves r.thread a b → IsSilentStep g r a b
     own_silent a b step = record {
       made = step.made;
@@ -76,6 +78,7 @@ module _ (g : Setting) (r : Runner) where
       };
     }
 
+    -- what stayed before it stays behind it
     own_since : (stays : ℕ → Type 0) (z y : Scene) (b : CoreState) → Since leaves stays z y → OwnStep (home g r) leaves r.thread y.core b → Since leaves stays z (after g r y b)
     own_since stays z y b h step = record {
       words = λ w m l. ap (λ (c : CoreState). slice_get c.words w) step.left ∙ step.words w l ∙ h.words w m l;
@@ -84,6 +87,7 @@ module _ (g : Setting) (r : Runner) where
       store = h.store;
     }
 
+    -- from any scene of the way
     on_the_way : (Q : CoreState → Type 0) (n : ℕ) (z y : Scene) → Since leaves any_port z y → Within (home g r) (relied g r) leaves r.thread Q n y.core → LeadsIn g r (λ x. Q x.core × Since leaves any_port z x) n y
     on_the_way Q zero z y h way = (way, h)
     on_the_way Q (suc n) z y h way =
@@ -100,6 +104,7 @@ module _ (g : Setting) (r : Runner) where
     arrives Q n z way = on_the_way Q n z z (since_now leaves any_port z) way
 
     module _ (p : ℕ) (listed : PortUse) (is : IsPort g r p listed) where
+      -- a step that may set the port is a silent one
       port_silent : (a b : CoreState) → PortStep (home g r) leaves r.thread (port_place g r p) a b → IsSilentStep g r a b
       port_silent a b step = record {
         made = step.made;
@@ -112,6 +117,7 @@ module _ (g : Setting) (r : Runner) where
         };
       }
 
+      -- what stayed before it stays behind it
       port_since : (z y : Scene) (b : CoreState) → Since leaves (but (port_place g r p)) z y → PortStep (home g r) leaves r.thread (port_place g r p) y.core b → Since leaves (but (port_place g r p)) z (after g r y b)
       port_since z y b h step = record {
         words = λ w m l. ap (λ (c : CoreState). slice_get c.words w) step.left ∙ step.words w l ∙ h.words w m l;
@@ -120,6 +126,7 @@ module _ (g : Setting) (r : Runner) where
         store = h.store;
       }
 
+      -- from any scene of the way
       port_on_the_way : (Q : CoreState → Type 0) (n : ℕ) (z y : Scene) → Since leaves (but (port_place g r p)) z y → WithinPort (home g r) (relied g r) leaves r.thread (port_place g r p) Q n y.core → LeadsIn g r (λ x. Q x.core × Since leaves (but (port_place g r p)) z x) n y
       port_on_the_way Q zero z y h way = (way, h)
       port_on_the_way Q (suc n) z y h way =

@@ -19,6 +19,7 @@ use Rattle.xr_threads.proofs.Evaluations.{item_acts}
 use Rattle.xr_threads.proofs.OwnTurns.{turn_is_row}
 
 module _ (g : Setting) (r : Runner) where
+  -- the turn itself
   end_frees : (rest : List Item) (pc : ℕ) (regs : Regs) (y : Scene) → r.tie ≡ None → InstrAt (code g r) pc Freet → Has g r (ends ∷ rest) y → IsAt g r y pc regs → Frees g r y
   end_frees rest pc regs y root instr has here =
       let th = running r.tie pc regs in

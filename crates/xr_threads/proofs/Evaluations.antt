@@ -1,6 +1,6 @@
 -- Values that a branch's items have next: they stay while others act, they cost so many steps, and where one is an error the branch errs.
-use Rattle.std.proofs.Common.{◌≡◌, ℕ, ◌+◌, ◌≤◌, true, Bool, List, [], ◌∷◌, ◌++◌, length, Option, Some, None, refl, sym, ap, ◌∙◌, arith}
-use Rattle.std.specs.Prelude.{slice_get, slice_set, slice_index}
+use Rattle.std.proofs.Common.{◌≡◌, ℕ, true, Bool, List, [], ◌∷◌, ◌++◌, length, Some, refl, ap, ◌∙◌, arith}
+use Rattle.std.specs.Prelude.{slice_set, slice_index}
 use Rattle.xw_words.specs.declared.pos.Pos.{Pos}
 use Rattle.xs_instr.specs.declared.image.Stim.{Stim}
 use Rattle.xs_instr.specs.declared.trace.Record.TheVariants.{Fault}
@@ -8,7 +8,7 @@ use Rattle.xs_instr.specs.declared.trace.Trap.{Trap}
 use Rattle.xs_instr.specs.Machine.{and_then}
 use Rattle.xc_kernel.specs.Plain as kernel
 use Rattle.xc_kernel.specs.Operators.{operator_at}
-use Rattle.xc_kernel.specs.Values.{Value, word, error, ErrorKind, arithmetic, index, applied}
+use Rattle.xc_kernel.specs.Values.{word, ErrorKind, arithmetic, index, applied}
 use Rattle.xc_kernel.specs.Eval.{Store, eval, eval_all, eval_place, element_at, words_of}
 use Rattle.xc_meaning.specs.Counts.KernelCounts.{of_expression, of_operands, of_place}
 use Rattle.xc_meaning.specs.States.Items.{Item}
@@ -25,7 +25,7 @@ use Rattle.xl_expr.specs.Works.{trap_of}
 use Rattle.xl_expr.proofs.Lists.{get_set_same}
 use Rattle.xr_threads.specs.Runners.{Setting, Runner, home}
 use Rattle.xr_threads.specs.Scenes.{Scene}
-use Rattle.xr_threads.specs.Turns.{Runs, Has, Acts, Errs, failed}
+use Rattle.xr_threads.specs.Turns.{Runs, Acts, Errs, failed}
 
 -- an expression costs what it counts
 mutual
@@ -34,10 +34,12 @@ mutual
   nodes_are (kernel.read p) = nodes_at_are p
   nodes_are (kernel.operation o u es pos) = let e = nodes_of_are es in omega arith
 
+  -- so do operands
   nodes_of_are : (es : kernel.Operands) → nodes_of es ≡ of_operands es
   nodes_of_are kernel.no_operand = refl
   nodes_of_are (kernel.more_operands e es) = let a = nodes_are e in let b = nodes_of_are es in omega arith
 
+  -- and a place
   pub nodes_at_are : (p : kernel.Place) → nodes_at p ≡ of_place p
   nodes_at_are (kernel.word v) = refl
   nodes_at_are (kernel.element v i pos) = let e = nodes_are i in omega arith
@@ -50,10 +52,12 @@ module _ (vars : Vars) (uses : ℕ → Bool) (old new : Store) (same : (v : ℕ)
     eval_still (kernel.read p) h = place_still p h
     eval_still (kernel.operation o u es pos) h = ap (applied (operator_at o) u pos) (all_still es h)
 
+    -- the same of operands
     all_still : (es : kernel.Operands) → HaveVars vars uses es → eval_all new es ≡ eval_all old es
     all_still kernel.no_operand h = refl
     all_still (kernel.more_operands e es) h = ap (λ v. v ∷ eval_all new es) (eval_still e h.0) ∙ ap (λ vs. eval old e ∷ vs) (all_still es h.1)
 
+    -- and of what stands at a place
     place_still : (p : kernel.Place) → HasPlace vars uses p → eval_place new p ≡ eval_place old p
     place_still (kernel.word v) h = ap (λ l. word (slice_index l 0)) (same v h.3)
     place_still (kernel.element v i pos) h =
@@ -70,6 +74,7 @@ module _ (vars : Vars) (uses : ℕ → Bool) (old new : Store) (same : (v : ℕ)
 abbrev pub with_items : World → ℕ → Branch → List Item → World
 with_items x b branch items = record x { branches = slice_set x.branches b (record branch { items = items }) }
 
+-- in which it runs with them
 pub runs_with : (x : World) (b : ℕ) (branch : Branch) (items other : List Item) → Runs x b branch items → Runs (with_items x b branch other) b (record branch { items = other }) other
 runs_with x b branch items other h = record {
   known = get_set_same x.branches b branch (record branch { items = other }) h.known;
@@ -106,13 +111,13 @@ module _ (g : Setting) (r : Runner) where
   }
 
   -- where the thread's next step traps with the error that the branch's first item has, both err
-  pub value_errs : (y : Scene) (i : Item) (rest : List Item) (kind : ErrorKind) (pos : Pos) → works.Errs (home g r) r.thread kind pos y.core → (has : Has g r (i ∷ rest) y) → does_item (step_of g.program g.stimulus y.world r.branch has.branch rest) i ≡ errs (step_of g.program g.stimulus y.world r.branch has.branch rest) (kind_of kind) pos → Errs g r y
-  value_errs y i rest kind pos traps has erred =
-      let st = step_of g.program g.stimulus y.world r.branch has.branch rest in
+  pub value_errs : (y : Scene) (branch : Branch) (i : Item) (rest : List Item) (kind : ErrorKind) (pos : Pos) → works.Errs (home g r) r.thread kind pos y.core → Runs y.world r.branch branch (i ∷ rest) → branch.core ≡ r.core → does_item (step_of g.program g.stimulus y.world r.branch branch rest) i ≡ errs (step_of g.program g.stimulus y.world r.branch branch rest) (kind_of kind) pos → Errs g r y
+  value_errs y branch i rest kind pos traps runs core erred =
+      let st = step_of g.program g.stimulus y.world r.branch branch rest in
       record {
         kind = trap_of kind;
         pos = pos;
         traps = traps.traps;
         fault = traps.record_is;
-        acts = err_acts y.world has.branch i rest (trap_of kind) pos has.runs has.core (erred ∙ ap (λ k. errs st k pos) (kinds_agree kind));
+        acts = err_acts y.world branch i rest (trap_of kind) pos runs core (erred ∙ ap (λ k. errs st k pos) (kinds_agree kind));
       }

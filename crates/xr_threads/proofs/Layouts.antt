@@ -1,8 +1,9 @@
 -- What a runner stands on lasts while others act, and while the runner goes on.
-use Rattle.std.proofs.Common.{◌≡◌, ◌≢◌, ℕ, zero, suc, ◌+◌, ◌*◌, ◌<◌, ◌≤◌, Bool, true, false, ◌&&◌, ◌||◌, List, length, Option, Some, None, refl, sym, ap, ◌∙◌, subst, ⊎_elim, arith}
+use Rattle.std.proofs.Common.{◌≡◌, ◌≢◌, ℕ, zero, suc, ◌+◌, ◌<◌, ◌≤◌, Bool, true, ◌&&◌, List, length, Option, Some, None, refl, sym, ap, ◌∙◌, subst, ⊎_elim, arith}
 use Rattle.std.specs.Prelude.{slice_get, nat_le, nat_lt}
 use Rattle.std.proofs.lemmas.Bool.{and_from, or_left, or_right, cases_eq, le-leb, lt-ltb}
-use Rattle.std.proofs.lemmas.Option.{slice_get_within}
+use Rattle.std.proofs.lemmas.Option.{slice_get_within, same_Some}
+use Rattle.xs_instr.specs.declared.state.Port.{Port}
 use Rattle.xs_instr.specs.declared.state.Regs.{Regs}
 use Rattle.xs_instr.specs.OwnSteps.{HasRoom, IsApart, RunsAt, temporary}
 use Rattle.xc_kernel.specs.declared.kernel.PortUse.{PortUse}
@@ -16,11 +17,12 @@ use Rattle.xl_expr.specs.Plans.{Vars, var_in, joined}
 use Rattle.xl_expr.specs.Works.{IsLaid, PlaceIsLaid}
 use Rattle.xl_expr.proofs.Framed.{framed_laid, framed_place}
 use Rattle.xl_expr.proofs.Lists.{room_kept}
+use Rattle.xl_image.specs.Images.{decl_of}
 use Rattle.xr_threads.specs.Fits.{Uses, UsesAt}
 use Rattle.xr_threads.specs.Runners.{Setting, Runner, IsLaidOut, IsPort, is_among_words, is_word_among, is_word_at, is_word_of, plan, port_place, relied}
 use Rattle.xr_threads.specs.Scenes.{Scene, Kept, running}
-use Rattle.xr_threads.specs.Turns.{HasBases, HoldsStore, Has, IsAt, PortIs, PortsStand, Runs}
-use Rattle.xr_threads.proofs.Arriving.{Since, any_port}
+use Rattle.xr_threads.specs.Turns.{HasBases, HoldsStore, Has, IsAt, PortIs, PortsStand, Rest, Runs}
+use Rattle.xr_threads.proofs.Arriving.{Since, any_port, but}
 
 -- a word among so many
 pub among_words : (first words k : ℕ) → k < words → is_among_words first words (first + k) ≡ true
@@ -51,6 +53,7 @@ module _ (base : ℕ) (vars : Vars) (is_meant : ℕ → Bool) where
       below : v ≢ n → v < n
       below ne = omega (arith, lt, ne)
 
+  -- and one of any variable of the plan
   word_among : (v n i : ℕ) (found : VarPlan) → IsNear vars v n found → is_meant v ≡ true → i < found.words → is_word_among base vars is_meant (length vars) (base + n + i) ≡ true
   word_among v n i found near meant lt =
       let known : is_word_of base (var_in vars v) (base + n + i) ≡ is_word_at base found.place found.words (base + n + i) = ap (λ o. is_word_of base o (base + n + i)) near.known in
@@ -82,8 +85,9 @@ module _ (g : Setting) (r : Runner) where
         same v n i found near uses lt ∙ h.values v n i x found near uses old;
   }
 
-  -- what others do
+  -- What others leave.
 
+  -- the store's words, and the temporary ones
   pub store_kept : (z y : Scene) → Kept g r z y → HoldsStore g r z → HoldsStore g r y
   store_kept z y k h = record {
     holds = holds_last z.core.words y.core.words z.world.store y.world.store (λ v n i found near uses lt. k.words (r.base + n + i) (variable_relied v n i found near uses lt)) k.store h.holds;
@@ -94,9 +98,11 @@ module _ (g : Setting) (r : Runner) where
   pub ports_last : (z y : Scene) → ((p : ℕ) (listed : PortUse) → IsPort g r p listed → slice_get y.core.ports (port_place g r p) ≡ slice_get z.core.ports (port_place g r p)) → PortsStand g r z → PortsStand g r y
   ports_last z y same h = λ p listed is. let s = h p listed is in record { port = s.port; there = same p listed is ∙ s.there; declared = s.declared }
 
+  -- a branch runs where it is the same
   pub runs_kept : (z y : Scene) (branch : Branch) (items : List Item) → slice_get y.world.branches r.branch ≡ slice_get z.world.branches r.branch → Runs z.world r.branch branch items → Runs y.world r.branch branch items
   runs_kept z y branch items same h = record { known = same ∙ h.known; running = h.running; items_are = h.items_are }
 
+  -- all that the runner has
   pub has_kept : (items : List Item) (z y : Scene) → Kept g r z y → Has g r items z → Has g r items y
   has_kept items z y k h = record {
     branch = h.branch;
@@ -106,14 +112,29 @@ module _ (g : Setting) (r : Runner) where
     ports = ports_last z y k.ports h.ports;
   }
 
-  -- what the runner itself does on its way
+  -- a thread at the code of its items stays there
+  pub rest_kept : (items : List Item) (j : ℕ) (z y : Scene) → Kept g r z y → Rest g r items j z → Rest g r items j y
+  rest_kept items j z y k h = record {
+    pc = h.pc;
+    regs = h.regs;
+    exits = h.exits;
+    here = k.thread ∙ h.here;
+    bases = h.bases;
+    at_code = h.at_code;
+    fits = h.fits;
+    has = has_kept items z y k h.has;
+  }
 
+  -- What the runner itself leaves on its way. Its temporary words are there still, as the code that it runs says.
+
+  -- the store's words
   pub store_since : (laid : IsLaidOut g r) (stays : ℕ → Type 0) (z y : Scene) → Since g r (IsApart r.stack) stays z y → r.stack + temporary ≤ length y.core.words → HoldsStore g r z → HoldsStore g r y
   store_since laid stays z y s room h = record {
     holds = holds_last z.core.words y.core.words z.world.store y.world.store (λ v n i found near uses lt. s.words (r.base + n + i) (variable_relied v n i found near uses lt) (laid.frame.apart v n i found near lt)) s.store h.holds;
     room = room;
   }
 
+  -- all that it has, where its ports stay
   pub has_since : (laid : IsLaidOut g r) (items : List Item) (z y : Scene) → Since g r (IsApart r.stack) any_port z y → r.stack + temporary ≤ length y.core.words → Has g r items z → Has g r items y
   has_since laid items z y s room h = record {
     branch = h.branch;
@@ -123,19 +144,48 @@ module _ (g : Setting) (r : Runner) where
     ports = ports_last z y (λ p listed is. s.ports p listed is tt) h.ports;
   }
 
-  -- what code asks for, where the runner's thread is at it
+  -- the ports, where one of them was set and is declared as it was
+  pub ports_since : (leaves : ℕ → Type 0) (p : ℕ) (listed : PortUse) (z y : Scene) → IsPort g r p listed → Since g r leaves (but (port_place g r p)) z y → PortIs g r p listed y → PortsStand g r z → PortsStand g r y
+  ports_since leaves p listed z y is s at_p h = λ q other is_q.
+      ⊎_elim
+      (λ (e : port_place g r q ≡ port_place g r p).
+      let old = h p listed is in
+      let old_q = h q other is_q in
+      let same : old_q.port ≡ old.port = same_Some old_q.port old.port (sym old_q.there ∙ ap (slice_get z.core.ports) e ∙ old.there) in
+      let decl : decl_of listed ≡ decl_of other = sym old.declared ∙ sym (ap (λ (a : Port). a.decl) same) ∙ old_q.declared in
+      record { port = at_p.port; there = ap (slice_get y.core.ports) e ∙ at_p.there; declared = at_p.declared ∙ decl })
+      (λ (ne : port_place g r q ≢ port_place g r p).
+      let old_q = h q other is_q in
+      record { port = old_q.port; there = s.ports q other is_q ne ∙ old_q.there; declared = old_q.declared })
+      (cases_eq (port_place g r q) (port_place g r p))
 
+  -- all that it has, where one of its ports was set
+  pub has_since_port : (laid : IsLaidOut g r) (items : List Item) (p : ℕ) (listed : PortUse) (z y : Scene) → IsPort g r p listed → Since g r (IsApart r.stack) (but (port_place g r p)) z y → PortIs g r p listed y → r.stack + temporary ≤ length y.core.words → Has g r items z → Has g r items y
+  has_since_port laid items p listed z y is s at_p room h = record {
+    branch = h.branch;
+    runs = runs_kept z y h.branch items s.branch h.runs;
+    core = h.core;
+    holds = store_since laid (but (port_place g r p)) z y s room h.holds;
+    ports = ports_since (IsApart r.stack) p listed z y is s at_p h.ports;
+  }
+
+  -- What code asks for, where the runner's thread is at it.
+
+  -- room for temporary words
   pub room_of : (laid : IsLaidOut g r) (z : Scene) (regs : Regs) → HasBases g r regs → HoldsStore g r z → HasRoom (relied g r) r.stack regs z.core.words
   room_of laid z regs bases h = record { sp_is = bases.stack; small = laid.small; within = h.room; relied_on = stack_relied }
 
+  -- the thread runs there
   pub runs_at : (z : Scene) (pc : ℕ) (regs : Regs) → IsAt g r z pc regs → RunsAt r.thread pc (running r.tie pc regs) z.core
   runs_at z pc regs here = record { here = here; pc_is = refl; runs = refl; no_events = refl }
 
+  -- an expression's words stand by the plan
   pub laid_at : (laid : IsLaidOut g r) (z : Scene) (regs : Regs) (x : kernel.Expression) → Uses g r x → HasBases g r regs → HoldsStore g r z → IsLaid (plan g r).vars (relied g r) r.stack regs.dp z.core.words z.world.store x
   laid_at laid z regs x uses bases h =
       subst (λ d. IsLaid (plan g r).vars (relied g r) r.stack d z.core.words z.world.store x) (sym bases.base)
       (framed_laid (plan g r).vars (relied g r) r.footprint.uses r.stack r.base laid.frame z.core.words z.world.store h.holds x uses)
 
+  -- and so does a place
   pub place_laid_at : (laid : IsLaidOut g r) (z : Scene) (regs : Regs) (p : kernel.Place) → UsesAt g r p → HasBases g r regs → HoldsStore g r z → PlaceIsLaid (plan g r).vars (relied g r) r.stack regs.dp z.core.words z.world.store p
   place_laid_at laid z regs p uses bases h =
       subst (λ d. PlaceIsLaid (plan g r).vars (relied g r) r.stack d z.core.words z.world.store p) (sym bases.base)

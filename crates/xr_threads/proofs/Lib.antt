@@ -3,6 +3,7 @@ pub mod Arriving
 pub mod Layouts
 pub mod Evaluations
 pub mod OwnTurns
+pub mod Items
 pub mod Sets
 pub mod Tests
 pub mod Zeros

@@ -1,14 +1,13 @@
 -- A turn that changes nothing on the core but the thread's own state and the core's words, beside an action of the branch.
 use Rattle.std.proofs.Common.{◌≡◌, ℕ, ◌+◌, ◌≤◌, Bool, false, List, ◌∷◌, length, Option, Some, None, refl, ap, ◌∙◌}
-use Rattle.std.specs.Prelude.{slice_get, slice_set}
+use Rattle.std.specs.Prelude.{slice_get}
 use Rattle.xs_instr.specs.declared.image.Home.{Home}
 use Rattle.xs_instr.specs.declared.instr.Instr.{Instr}
 use Rattle.xs_instr.specs.declared.state.CoreState.{CoreState}
 use Rattle.xs_instr.specs.declared.state.Regs.{Regs}
-use Rattle.xs_instr.specs.declared.state.Thread.{Thread}
 use Rattle.xs_instr.specs.Did.{makes}
 use Rattle.xs_instr.specs.OwnSteps.{temporary}
-use Rattle.xs_instr.specs.Rows.{Own, put_own, row}
+use Rattle.xs_instr.specs.Rows.{put_own, row}
 use Rattle.xs_instr.specs.Slot.{slot, turn_at, runs_on, event_or_row, pick_where, instr_at, is_waiteu}
 use Rattle.xc_kernel.specs.Eval.{Store, words_of}
 use Rattle.xc_meaning.specs.States.Items.{Item}

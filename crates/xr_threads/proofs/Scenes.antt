@@ -1,8 +1,8 @@
 -- Ways of silent steps: joined, made longer, and left as they are by what others do.
-use Rattle.std.proofs.Common.{◌≡◌, ℕ, zero, suc, ◌+◌, ◌≤◌, ◌⊎◌, inl, inr, ⊎_elim, ◌∙◌, subst, arith}
-use Rattle.xs_instr.specs.declared.state.CoreState.{CoreState}
+use Rattle.std.proofs.Common.{◌≡◌, ℕ, zero, suc, ◌+◌, ◌≤◌, inl, inr, ⊎_elim, ◌∙◌, subst, arith}
 use Rattle.xr_threads.specs.Runners.{Setting, Runner}
-use Rattle.xr_threads.specs.Scenes.{Scene, Kept, IsSilentStep, after, LeadsIn, IsStable}
+use Rattle.xr_threads.specs.Scenes.{Scene, Kept, after, LeadsIn, IsStable}
+use Rattle.xr_threads.specs.Turns.{Turns}
 
 module _ (g : Setting) (r : Runner) where
   -- what is kept twice is kept
@@ -20,6 +20,10 @@ module _ (g : Setting) (r : Runner) where
   pub leads_in_stable : (Q : Scene → Type 0) → IsStable g r Q → (n : ℕ) → IsStable g r (LeadsIn g r Q n)
   leads_in_stable Q q zero z y k h = q z y k h
   leads_in_stable Q q (suc n) z y k h = ⊎_elim (λ (here : Q z). inl (q z y k here)) (λ on. inr (λ x l. on x (kept_twice k l))) h
+
+  -- a turn that is to come is to come still
+  pub turns_stable : (j : ℕ) → IsStable g r (Turns g r j)
+  turns_stable j z y k h = λ x l. h x (kept_twice k l)
 
   -- where it holds already, no step is needed
   pub leads_now : (Q : Scene → Type 0) (n : ℕ) (z : Scene) → Q z → LeadsIn g r Q n z
@@ -42,10 +46,10 @@ module _ (g : Setting) (r : Runner) where
   then_leads P Q (suc n) m z h next =
       let e : suc (n + m) ≡ suc n + m = omega arith in
       let all : LeadsIn g r Q (suc (n + m)) z =
-          ⊎_elim
-          (λ (here : P z). leads_more Q m (suc (n + m)) z (omega arith) (next z here))
-          (λ on. inr (λ y k. let s = on y k in (s.0, s.1, then_leads P Q n m (after g r y s.0) s.2 next)))
-          h in
+      ⊎_elim
+      (λ (here : P z). leads_more Q m (suc (n + m)) z (omega arith) (next z here))
+      (λ on. inr (λ y k. let s = on y k in (s.0, s.1, then_leads P Q n m (after g r y s.0) s.2 next)))
+      h in
       subst (λ k. LeadsIn g r Q k z) e all
 
   -- what it leads to may be said in another way
