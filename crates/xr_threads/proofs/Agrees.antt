@@ -40,6 +40,7 @@ module _ (g : Setting) (who : Runners) (is : IsImageOf g who) (w : Watched) (x :
       let root = (is.roots c t r e).1 in
       ap (actions_by (of_kernel g.program) x) root.numbered ∙ ap x.actions (sym root.family)
 
+  -- the life of a thread that runs a branch
   stand_bounded : (c t : ℕ) (r : Runner) → who c t ≡ Some r → (a : CoreState) (o : Option Branch) → SomeIs o (Stand g r a x.state (w.lives c t) x.actions) →
       (w.lives c t).steps ≤ kernel_bound g.program * (actions_of (of_kernel g.program) x (w.lives c t).family + 1)
   stand_bounded c t r e a None h = absurd h
@@ -59,6 +60,7 @@ module _ (g : Setting) (who : Runners) (is : IsImageOf g who) (w : Watched) (x :
       let stands = subst (Stands g t a.0 x.state (w.lives c t) x.actions) e (st.threads c t a.0 a.1) in
       stand_bounded c t r e a.0 (slice_get x.state.branches r.branch) stands
 
+  -- all that is promised
   pub agrees : g.image.chans ≡ [] → AgreeWholly g.image (of_kernel g.program) g.stimulus w x
   agrees no_channels = record {
     agree = record {

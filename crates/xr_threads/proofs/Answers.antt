@@ -19,7 +19,7 @@ use Rattle.xr_threads.specs.Images.{counts}
 use Rattle.xr_threads.specs.Runners.{Setting, Runner, IsLaidOut, home}
 use Rattle.xr_threads.specs.Scenes.{Scene, Touched}
 use Rattle.xr_threads.specs.Settled.{settled, with_items}
-use Rattle.xr_threads.specs.Standing.{AllLead, Answer, IsStopped, StandsBy}
+use Rattle.xr_threads.specs.Standing.{Answer, IsStopped, StandsBy}
 use Rattle.xr_threads.specs.Turns.{Errs, Frees, Goes, Turn, pauses, errs, goes_on, frees, cost, failed, finished}
 use Rattle.xr_threads.proofs.Counts.{none_counts, running_counts}
 use Rattle.xr_threads.proofs.Leading.{settles, settled_leads}
@@ -46,6 +46,7 @@ module _ (g : Setting) (r : Runner) where
         refl,
       )
 
+  -- the thread traps, and the branch has erred
   errs_answer : (j : ℕ) (y : Scene) → Errs g r y → Answer g r j y
   errs_answer j y h =
       let st = h.acts in
@@ -75,6 +76,7 @@ module _ (g : Setting) (r : Runner) where
         stands = t.1;
       }
 
+  -- the thread is freed, and the branch has ended
   frees_answer : (j : ℕ) (y : Scene) → 1 ≤ y.core.roots → Frees g r y → Answer g r j y
   frees_answer j y some h =
       let st = h.acts in
@@ -101,7 +103,8 @@ module _ (g : Setting) (r : Runner) where
         stands = h.unused;
       }
 
-module _ (g : Setting) (r : Runner) (lead : AllLead g r) (laid : IsLaidOut g r) (root : r.tie ≡ None) where
+module _ (g : Setting) (r : Runner) (laid : IsLaidOut g r) (root : r.tie ≡ None) where
+  -- the thread does an item, and the branch goes on
   goes_answer : (j : ℕ) (y : Scene) → Goes g r j y → Answer g r j y
   goes_answer j y h =
       let st = h.acts in
@@ -112,7 +115,7 @@ module _ (g : Setting) (r : Runner) (lead : AllLead g r) (laid : IsLaidOut g r) 
       let after = (settled h.items).items in
       let found : slice_get st.world.branches r.branch ≡ Some nx = ap (λ l. slice_get l r.branch) n.branches ∙ get_set_same y.world.branches r.branch st.branch nx st.known in
       let same : has.branch ≡ nx = same_Some has.branch nx (sym has.runs.known ∙ found) in
-      let on = settled_leads g r lead laid root h.items h.jumps z h.rest in
+      let on = settled_leads g r laid root h.items h.jumps z h.rest in
       let next : Branch = record has.branch { items = after } in
       record {
         left = h.left;

@@ -1,5 +1,5 @@
 -- The machine's start: each root's thread sets its stack, and is on its way to the first own instruction of its branch.
-use Rattle.std.proofs.Common.{◌≡◌, ℕ, zero, suc, ◌+◌, ◌*◌, ◌<◌, inr, Bool, false, List, [], ◌∷◌, length, Some, refl, sym, ap, ◌∙◌, subst, arith}
+use Rattle.std.proofs.Common.{◌≡◌, ℕ, zero, suc, ◌+◌, ◌*◌, ◌<◌, inr, false, List, [], ◌∷◌, length, Some, refl, sym, ap, ◌∙◌, subst, arith}
 use Rattle.std.specs.Prelude.{slice_get, slice_set}
 use Rattle.std.proofs.lemmas.List.{length-replicate}
 use Rattle.std.proofs.lemmas.Option.{same_Some, slice_get_within}
@@ -14,7 +14,7 @@ use Rattle.xs_instr.specs.Did.{makes, told}
 use Rattle.xs_instr.specs.Machine.{boot_core, boot_port, boot_ports, boot_threads, root_thread}
 use Rattle.xs_instr.specs.Registers.{no_regs, reg_set}
 use Rattle.xs_instr.specs.Rows.{own_of, own_row, put_own, row}
-use Rattle.xs_instr.specs.Slot.{turn_at, runs_on, event_or_row, pick_where, instr_at, is_waiteu}
+use Rattle.xs_instr.specs.Slot.{instr_at, is_waiteu}
 use Rattle.xc_kernel.specs.Plain as kernel
 use Rattle.xc_kernel.specs.Eval.{words_of}
 use Rattle.xc_meaning.specs.Counts.KernelCounts.{words_in}
@@ -29,11 +29,13 @@ use Rattle.xr_threads.specs.Images.{IsRoot}
 use Rattle.xr_threads.specs.Runners.{Setting, Runner, IsLaidOut, code, home, plan, port_place}
 use Rattle.xr_threads.specs.Scenes.{Kept, LeadsIn, Scene, after, running}
 use Rattle.xr_threads.specs.Settled.{settled}
-use Rattle.xr_threads.specs.Standing.{AllLead, IsOnItsWay}
+use Rattle.xr_threads.specs.Standing.{IsOnItsWay}
 use Rattle.xr_threads.specs.Turns.{HoldsStore, IsAt, Rest, Turns, cost}
+use Rattle.xr_threads.proofs.Items.{all_fit}
 use Rattle.xr_threads.proofs.Leading.{rest_leads}
+use Rattle.xr_threads.proofs.OwnTurns.{turn_is_row}
 use Rattle.xr_threads.proofs.Scenes.{leads_in_stable, then_leads}
-use Rattle.xr_threads.proofs.Settles.{own_settled, settled_fits, settled_stays, todo_fits}
+use Rattle.xr_threads.proofs.Settles.{own_settled, settled_fits, settled_stays}
 use Rattle.xr_threads.proofs.Standing.{turns_stable}
 use Rattle.xr_threads.proofs.Starts.{IsRootBranch, settled_branch, variable_length, variable_zero, words_zero}
 
@@ -55,6 +57,7 @@ module _ (g : Setting) (r : Runner) where
   abbrev at_spot : CoreState → ℕ → Regs → CoreState
   at_spot a pc regs = record a { threads = slice_set a.threads r.thread (running r.tie pc regs) }
 
+  -- it is there then
   at_spot_there : (z : Scene) (pc pc' : ℕ) (regs regs' : Regs) → IsAt g r z pc regs → IsAt g r (after g r z (at_spot z.core pc' regs')) pc' regs'
   at_spot_there z pc pc' regs regs' here = get_set_same z.core.threads r.thread (running r.tie pc regs) (running r.tie pc' regs') here
 
@@ -68,9 +71,7 @@ module _ (g : Setting) (r : Runner) where
       let th' = running r.tie pc' regs' in
       inr (λ y k.
       let here_y = k.thread ∙ here in
-      let fetched = ap (turn_at (home g r) y.core r.thread) here_y
-      ∙ ap (runs_on (home g r) y.core r.thread th) code
-      ∙ ap (λ (b : Bool). event_or_row (home g r) y.core r.thread th (Some i) (pick_where (home g r) y.core r.thread b)) no_event in (
+      let fetched = turn_is_row (home g r) y.core r.thread r.tie pc regs i here_y code no_event in (
         at_spot y.core pc' regs',
         record {
           made = fetched ∙ own y.core th ∙ ap (told (put_own y.core r.thread th)) (does y.core.words);
@@ -109,7 +110,7 @@ module _ (g : Setting) (r : Runner) (root : kernel.Root) (is : IsRoot g r root) 
         omega arith;
   }
 
-module _ (g : Setting) (r : Runner) (lead : AllLead g r) (laid : IsLaidOut g r) (root : kernel.Root) (is : IsRoot g r root) where
+module _ (g : Setting) (r : Runner) (laid : IsLaidOut g r) (root : kernel.Root) (is : IsRoot g r root) where
   -- its core, and the program's state once all roots have done what they can
   module _ (branch : Branch) (branch_is : IsRootBranch root r.branch branch) (y : World) (found : slice_get y.branches r.branch ≡ Some (settled_branch branch)) (store : y.store ≡ (kernel_start g.program).store) where
     pub root_leads : IsOnItsWay g r (2 + cost g r) (record { core = boot_core (home g r).parts; world = y })
@@ -139,7 +140,7 @@ module _ (g : Setting) (r : Runner) (lead : AllLead g r) (laid : IsLaidOut g r) 
           here = subst (λ k. IsAt g r z2 k s') two here2;
           bases = record { base = ap (λ b. 4 * b) (sym is.base); stack = refl };
           at_code = stays.1;
-          fits = settled_fits g r items (todo_fits g r root.body (ends ∷ []) is.fits (tt, tt));
+          fits = settled_fits g r items (all_fit g r root.body (ends ∷ []) is.fits (tt, tt));
           has = record {
             branch = settled_branch branch;
             runs = record { known = found; running = branch_is.mode; items_are = same_items };
@@ -148,7 +149,7 @@ module _ (g : Setting) (r : Runner) (lead : AllLead g r) (laid : IsLaidOut g r) 
             ports = λ p listed its. record { port = boot_port (decl_of listed); there = boot_port_at (home g r).parts.ports (port_place g r p) (decl_of listed) (is.ports p listed its); declared = refl };
           };
         } in
-        let on = rest_leads g r lead laid is.tie (settled items).items 0 z2 rest (own_settled items) in
+        let on = rest_leads g r laid is.tie (settled items).items 0 z2 rest (own_settled items) in
         let turns = Turns g r on.1 in
         let stable = turns_stable g r on.1 in
         let from1 = then_leads g r (Kept g r z2) turns 1 on.0 z1 to2 (λ x k. leads_in_stable g r turns stable on.0 z2 x k on.3) in

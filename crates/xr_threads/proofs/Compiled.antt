@@ -1,5 +1,5 @@
 -- An image that has the code of a kernel's roots implements the kernel.
-use Rattle.std.proofs.Common.{◌≡◌, ℕ, zero, suc, ◌+◌, ◌*◌, ◌<◌, ◌≤◌, List, [], ◌∷◌, map, length, Option, Some, None, option_map, refl, sym, ap, ◌∙◌, subst, ⊎_elim, arith}
+use Rattle.std.proofs.Common.{◌≡◌, ℕ, zero, suc, ◌+◌, ◌*◌, ◌<◌, ◌≤◌, List, [], map, length, Option, Some, None, option_map, refl, sym, ap, ◌∙◌, subst, ⊎_elim, arith}
 use Rattle.std.specs.Prelude.{slice_get}
 use Rattle.std.proofs.lemmas.Bool.{cases_lt}
 use Rattle.std.proofs.lemmas.Option.{slice_get_within, slice_get_past, same_Some}
@@ -9,87 +9,27 @@ use Rattle.xs_instr.specs.declared.image.Stim.{Stim}
 use Rattle.xs_instr.specs.declared.state.CoreState.{CoreState}
 use Rattle.xs_instr.specs.Machine.{Event, Machine, and_then, boot, boot_core, does, parts_in}
 use Rattle.xc_kernel.specs.Plain as kernel
-use Rattle.xc_meaning.specs.Counts.Families.{counted_for, mover, steps_of}
 use Rattle.xc_meaning.specs.Counts.KernelCounts.{greatest_count, kernel_bound}
-use Rattle.xc_meaning.specs.Runs.{acts, acts_all, kernel_start, no_side}
+use Rattle.xc_meaning.specs.Runs.{acts_all, kernel_start, no_side}
 use Rattle.xc_meaning.specs.States.Branches.{Branch, runs}
 use Rattle.xc_meaning.specs.States.Worlds.{World, Action}
 use Rattle.xl_expr.specs.declared.plan.Plan.{Plan}
 use Rattle.xr_match.specs.Implements.{AgreeNow, AgreeWholly, Implements, ImplementsWholly}
 use Rattle.xr_match.specs.Lives.{Life, Watched, begun, machine_of, of_root, watched_after, watched_start}
 use Rattle.xr_match.specs.Meanings.{of_kernel}
-use Rattle.xr_match.specs.Sources.{Told, told_after, told_of, told_start}
-use Rattle.xr_match.specs.Systems.{SomeIs, leads}
+use Rattle.xr_match.specs.Sources.{Told, told_of, told_start}
+use Rattle.xr_match.specs.Systems.{SomeIs}
 use Rattle.xr_match.proofs.Frame as frame
 use Rattle.xr_threads.specs.Images.{IsImageOf, Runners}
 use Rattle.xr_threads.specs.Runners.{Setting, Runner}
-use Rattle.xr_threads.specs.Standing.{AllLead, IsOnItsWay, Stand, Standing, Stands, StandsBy}
+use Rattle.xr_threads.specs.Standing.{IsOnItsWay, Stand, Standing, Stands, StandsBy}
 use Rattle.xr_threads.specs.Turns.{cost}
 use Rattle.xr_threads.proofs.Agrees.{agrees}
 use Rattle.xr_threads.proofs.Boot.{root_leads}
 use Rattle.xr_threads.proofs.Events.{event_followed}
-use Rattle.xr_threads.proofs.Standing.{Follows, there_then, told_by}
+use Rattle.xr_threads.proofs.Pieces.{follows}
+use Rattle.xr_threads.proofs.Standing.{Follows, told_by}
 use Rattle.xr_threads.proofs.Starts.{AreSettled, IsRootBranch, item_there, root_at, settle_all, settled_branch, start_roots}
-
--- The program with its families' actions goes on as the program does, and each family has done what is its own of them.
-counted : (K : kernel.Kernel) (s : Stim) (actions : List Action) (x : Told (of_kernel K)) (y : World) → acts_all K s (Some x.state) actions ≡ Some y →
-    (z : Told (of_kernel K)) × (leads (told_of (of_kernel K) s) x actions ≡ Some z) × (z.state ≡ y)
-    × ((f : ℕ) → z.actions f ≡ x.actions f + steps_of K s f (Some x.state) actions)
-counted K s [] x y e = (x, refl, same_Some _ _ e, λ f. omega arith)
-counted K s (a ∷ actions) x y e = go (counted K s actions) (acts K s x.state a) refl e
-  where
-    go : ((x' : Told (of_kernel K)) (y' : World) → acts_all K s (Some x'.state) actions ≡ Some y' →
-            (z : Told (of_kernel K)) × (leads (told_of (of_kernel K) s) x' actions ≡ Some z) × (z.state ≡ y')
-            × ((f : ℕ) → z.actions f ≡ x'.actions f + steps_of K s f (Some x'.state) actions)) →
-        (o : Option World) → acts K s x.state a ≡ o → acts_all K s o actions ≡ Some y →
-        (z : Told (of_kernel K)) × (leads (told_of (of_kernel K) s) x (a ∷ actions) ≡ Some z) × (z.state ≡ y)
-        × ((f : ℕ) → z.actions f ≡ x.actions f + (counted_for f (mover x.state a) + steps_of K s f (acts K s x.state a) actions))
-    go next None acted h = absurd (none actions h)
-      where
-        none : (ms : List Action) → acts_all K s None ms ≡ Some y → ⊥
-        none [] f = cc
-        none (m ∷ ms) f = cc
-    go next (Some x') acted h =
-        let rest = next (told_after (of_kernel K) x a x') y h in
-        let first = ap (λ (o : Option World). and_then (and_then o (λ z. Some (told_after (of_kernel K) x a z))) (λ z. leads (told_of (of_kernel K) s) z actions)) acted in
-        (rest.0, first ∙ rest.1, rest.2, λ f. let one = rest.3 f in let two = ap (λ o. steps_of K s f o actions) acted in omega arith)
-
--- what stands so with some counts does with greater ones
-stands_more : (g : Setting) (t : ℕ) (a : CoreState) (x : World) (life : Life) (actions more : ℕ → ℕ) → ((f : ℕ) → actions f ≤ more f) → (o : Option Runner) → Stands g t a x life actions o → Stands g t a x life more o
-stands_more g t a x life actions more le None h = h
-stands_more g t a x life actions more le (Some r) h =
-    there_then (Stand g r a x life actions) (Stand g r a x life more) (slice_get x.branches r.branch) (λ branch k. record {
-      core = k.core;
-      family = k.family;
-      named = k.named;
-      left = k.left;
-      bound = let l = le r.family in let old = k.bound in let m = mul-le-mul_left (kernel_bound g.program) (more_one (actions r.family) (more r.family) l) in omega (arith, m);
-      by = k.by;
-    }) h
-  where
-    more_one : (m n : ℕ) → m ≤ n → m + 1 ≤ n + 1
-    more_one m n l = omega arith
-
-standing_more : (g : Setting) (who : Runners) (w : Watched) (y : World) (actions more : ℕ → ℕ) → ((f : ℕ) → actions f ≤ more f) → Standing g who w (record { state = y; actions = actions }) → Standing g who w (record { state = y; actions = more })
-standing_more g who w y actions more le st = record {
-  clocks = st.clocks;
-  trace = st.trace;
-  links = st.links;
-  threads = λ c t a e. stands_more g t a y (w.lives c t) actions more le (who c t) (st.threads c t a e);
-  idle = st.idle;
-  roots = st.roots;
-  placed = st.placed;
-  cores = st.cores;
-  run = st.run;
-}
-
--- the same as the program with its families' actions has it
-follows : (g : Setting) (who : Runners) (x : Told (of_kernel g.program)) (w : Watched) → Follows g who x w → frame.Follows (machine_of g.image g.stimulus) (told_of (of_kernel g.program) g.stimulus) (Standing g who) x w
-follows g who x w f =
-    let z = counted g.program g.stimulus f.0 x f.1 f.2 in
-    let less : (h : ℕ) → x.actions h + steps_of g.program g.stimulus h (Some x.state) f.0 ≤ z.0.actions h = λ h. let e = z.3 h in omega arith in
-    (f.0, z.0, z.1, standing_more g who w z.0.state (told_by g.program g.stimulus x f.0 f.1).actions z.0.actions less
-    (subst (λ y. Standing g who w (record { state = y; actions = (told_by g.program g.stimulus x f.0 f.1).actions })) (sym z.2) f.3))
 
 -- what an event leaves
 left_by : (L : Image) (s : Stim) (w w' : Watched) (e : Event) → (machine_of L s).next w e ≡ Some w' → (m : Machine) × (does L s w.machine e ≡ Some m) × (w' ≡ watched_after w e m)
@@ -99,16 +39,14 @@ left_by L s w w' e h = go (does L s w.machine e) refl h
     go None d f = absurd cc
     go (Some m) d f = (m, d, sym (same_Some _ _ f))
 
+-- the steps to the first own instruction are within the bound
 start_bound : (most greatest actions : ℕ) → most ≡ 8 * (greatest + 16) → 0 + (2 + (8 * greatest + 8)) ≤ most * (actions + 1)
 start_bound most greatest actions is =
     let le : 1 ≤ actions + 1 = omega arith in
     let grown = mul-le-mul_left most le in
     omega (arith, grown)
 
-module _ (g : Setting) (who : Runners) (lead : (r : Runner) → AllLead g r) (is : IsImageOf g who) where
-  K : kernel.Kernel
-  K = g.program
-
+module _ (g : Setting) (who : Runners) (is : IsImageOf g who) where
   -- a root's branch at the start
   branch_of : (b : ℕ) (root : kernel.Root) → slice_get g.program.roots b ≡ Some root → (branch : Branch) × (slice_get (kernel_start g.program).branches b ≡ Some branch) × IsRootBranch root b branch
   branch_of b root known =
@@ -116,12 +54,14 @@ module _ (g : Setting) (who : Runners) (lead : (r : Runner) → AllLead g r) (is
       let number : 0 + b ≡ b = omega arith in
       (h.0, h.1, subst (λ n. IsRootBranch root n h.0) number h.2)
 
+  -- and each branch there is one
   known_root : (b : ℕ) (branch : Branch) → slice_get (kernel_start g.program).branches b ≡ Some branch → (root : kernel.Root) × IsRootBranch root b branch × (slice_get g.program.roots b ≡ Some root)
   known_root b branch e =
       let r = start_roots g.program.roots 0 [] (map no_side g.program.channels) b branch e in
       let at_b = branch_of b r.0 r.1 in
       (r.0, subst (IsRootBranch r.0 b) (same_Some at_b.0 branch (sym at_b.1 ∙ e)) at_b.2, r.1)
 
+  -- each branch runs then
   all_run : (b : ℕ) (branch : Branch) → slice_get (kernel_start g.program).branches b ≡ Some branch → branch.mode ≡ runs
   all_run b branch e = (known_root b branch e).1.mode
 
@@ -129,9 +69,11 @@ module _ (g : Setting) (who : Runners) (lead : (r : Runner) → AllLead g r) (is
   first : (piece : List Action) × (y : World) × (acts_all g.program g.stimulus (Some (kernel_start g.program)) piece ≡ Some y) × AreSettled g.program g.stimulus (kernel_start g.program) (length (kernel_start g.program).branches) y
   first = settle_all g.program g.stimulus (kernel_start g.program) all_run (length (kernel_start g.program).branches) (omega arith)
 
+  -- what a branch is behind the first piece
   settled_at : (b : ℕ) (branch : Branch) → slice_get (kernel_start g.program).branches b ≡ Some branch → slice_get first.1.branches b ≡ Some (settled_branch branch)
   settled_at b branch e = first.3.done b (slice_get_within (kernel_start g.program).branches b branch e) ∙ ap (λ o. option_map settled_branch o) e
 
+  -- the program behind it
   abbrev begun_told : Told (of_kernel g.program)
   begun_told = told_by g.program g.stimulus (told_start (of_kernel g.program)) first.0 first.1
 
@@ -139,6 +81,7 @@ module _ (g : Setting) (who : Runners) (lead : (r : Runner) → AllLead g r) (is
   abbrev first_life : (c t : ℕ) → Life
   first_life c t = begun (Some (of_root c t))
 
+  -- the four cores as they start
   cores_are : (c : ℕ) (a : CoreState) → slice_get (boot g.image).cores c ≡ Some a → (c < 4) × (a ≡ boot_core (parts_in g.image.cores c))
   cores_are zero a e = (omega arith, sym (same_Some _ a e))
   cores_are (suc zero) a e = (omega arith, sym (same_Some _ a e))
@@ -146,6 +89,7 @@ module _ (g : Setting) (who : Runners) (lead : (r : Runner) → AllLead g r) (is
   cores_are (suc (suc (suc zero))) a e = (omega arith, sym (same_Some _ a e))
   cores_are (suc (suc (suc (suc c)))) a e = cc
 
+  -- a root's thread stands by its branch
   root_stands : (c t : ℕ) (r : Runner) → who c t ≡ Some r → SomeIs (slice_get first.1.branches r.branch) (Stand g r (boot_core (parts_in g.image.cores c)) first.1 (first_life c t) begun_told.actions)
   root_stands c t r e =
       let root = is.roots c t r e in
@@ -153,7 +97,7 @@ module _ (g : Setting) (who : Runners) (lead : (r : Runner) → AllLead g r) (is
       let found = settled_at r.branch b.0 b.1 in
       let core = is.apart.core c t r e in
       let thread = is.apart.thread c t r e in
-      let on = root_leads g r (lead r) (is.apart.laid c t r e) root.0 root.1 b.0 b.2 first.1 found first.3.store in
+      let on = root_leads g r (is.apart.laid c t r e) root.0 root.1 b.0 b.2 first.1 found first.3.store in
       let stand : Stand g r (boot_core (parts_in g.image.cores c)) first.1 (first_life c t) begun_told.actions (settled_branch b.0) = record {
         core = b.2.core ∙ root.1.core;
         family = b.2.family ∙ sym root.1.family;
@@ -164,6 +108,7 @@ module _ (g : Setting) (who : Runners) (lead : (r : Runner) → AllLead g r) (is
       } in
       subst (λ o. SomeIs o (Stand g r (boot_core (parts_in g.image.cores c)) first.1 (first_life c t) begun_told.actions)) (sym found) stand
 
+  -- each thread does what it should
   threads_stand : (c t : ℕ) (o : Option Runner) → c < 4 → who c t ≡ o → Stands g t (boot_core (parts_in g.image.cores c)) first.1 (first_life c t) begun_told.actions o
   threads_stand c t None lt e = is.unused c t lt e
   threads_stand c t (Some r) lt e = root_stands c t r e
@@ -181,6 +126,7 @@ module _ (g : Setting) (who : Runners) (lead : (r : Runner) → AllLead g r) (is
       let none : None ≡ Some branch = sym (first.3.others b le ∙ slice_get_past (kernel_start g.program).branches b le) ∙ e in cc)
       (cases_lt b (length (kernel_start g.program).branches))
 
+  -- the two sides stand so at the start
   begins : Standing g who (watched_start g.image) begun_told
   begins = record {
     clocks = sym first.3.clocks;
@@ -194,11 +140,13 @@ module _ (g : Setting) (who : Runners) (lead : (r : Runner) → AllLead g r) (is
     run = λ b branch e. let root = first_root b branch e in is.run b root.0 root.1;
   }
 
+  -- and again after each event
   event : (w w' : Watched) (x : Told (of_kernel g.program)) (e : Event) → Standing g who w x → (machine_of g.image g.stimulus).next w e ≡ Some w' → frame.Follows (machine_of g.image g.stimulus) (told_of (of_kernel g.program) g.stimulus) (Standing g who) x w'
   event w w' x e st h =
       let left = left_by g.image g.stimulus w w' e h in
-      follows g who x w' (subst (Follows g who x) (sym left.2) (event_followed g who lead is.apart w left.0 x st e left.1))
+      follows g who x w' (subst (Follows g who x) (sym left.2) (event_followed g who is.apart w left.0 x st e left.1))
 
+  -- so the machine simulates the program
   pub simulates : g.image.chans ≡ [] → frame.Simulates (machine_of g.image g.stimulus) (told_of (of_kernel g.program) g.stimulus) (Standing g who) (AgreeWholly g.image (of_kernel g.program) g.stimulus)
   simulates no_channels = record {
     holds = λ w x st. agrees g who is w x st no_channels;
@@ -210,16 +158,17 @@ module _ (g : Setting) (who : Runners) (lead : (r : Runner) → AllLead g r) (is
 abbrev pub setting : kernel.Kernel → Image → (plans : (core : ℕ) → Plan) → Stim → Setting
 setting K L plans s = record { program = K; image = L; stimulus = s; plans = plans }
 
-module _ (K : kernel.Kernel) (L : Image) (who : Runners) (plans : (core : ℕ) → Plan) (lead : (s : Stim) (r : Runner) → AllLead (setting K L plans s) r) (is : (s : Stim) → IsImageOf (setting K L plans s) who) (no_channels : L.chans ≡ []) where
+module _ (K : kernel.Kernel) (L : Image) (who : Runners) (plans : (core : ℕ) → Plan) (is : (s : Stim) → IsImageOf (setting K L plans s) who) (no_channels : L.chans ≡ []) where
   -- the image keeps all that it promises
   pub wholly_implements : ImplementsWholly L (of_kernel K)
   wholly_implements = record {
-    by = λ s good. frame.refines_by (machine_of L s) (told_of (of_kernel K) s) (Standing (setting K L plans s) who) (AgreeWholly L (of_kernel K) s) (simulates (setting K L plans s) who (lead s) (is s) no_channels);
+    by = λ s good. frame.refines_by (machine_of L s) (told_of (of_kernel K) s) (Standing (setting K L plans s) who) (AgreeWholly L (of_kernel K) s) (simulates (setting K L plans s) who (is s) no_channels);
   }
 
+  -- what everybody sees agrees
   agreeing : (s : Stim) → frame.Simulates (machine_of L s) (told_of (of_kernel K) s) (Standing (setting K L plans s) who) (AgreeNow (of_kernel K))
   agreeing s =
-      let sim = simulates (setting K L plans s) who (lead s) (is s) no_channels in
+      let sim = simulates (setting K L plans s) who (is s) no_channels in
       record { holds = λ w x st. (sim.holds w x st).agree; begins = sim.begins; step = sim.step }
 
   -- so it implements the kernel

@@ -25,13 +25,16 @@ far_counts c core mode ne = ap (λ b. one_where (b && not (has_ended mode))) (ne
 pub running_counts : (core : ℕ) → counts core core runs ≡ 1
 running_counts core = ap (λ b. one_where (b && true)) (eq-eqb core core refl)
 
+-- a branch counts on its core where it has not ended
 own_counts : (core : ℕ) (mode : Mode) → counts core core mode ≡ one_where (not (has_ended mode))
 own_counts core mode = ap (λ b. one_where (b && not (has_ended mode))) (eq-eqb core core refl)
 
+-- what counts as nothing has ended
 has_ended_by : (b : Bool) → one_where (not b) ≡ 0 → b ≡ true
 has_ended_by true h = refl
 has_ended_by false h = let e : ◌≡◌ {A = ℕ} 1 0 = h in absurd (omega arith)
 
+-- two that are so are both so
 and_true : (a b : Bool) → a ≡ true → b ≡ true → (a && b) ≡ true
 and_true a b e f = ap (λ x. x && b) e ∙ f
 
@@ -44,14 +47,17 @@ all_have_ended n (b ∷ bs) placed none =
     let rest : (c : ℕ) → c < n → living_on c bs ≡ 0 = λ c h. let e = none c h in omega arith in
     and_true (has_ended b.mode) (all_ended bs) (has_ended_by (has_ended b.mode) (sym (own_counts b.core b.mode) ∙ gone)) (all_have_ended n bs (λ k branch e. placed (suc k) branch e) rest)
 
+-- of two that are both so the first is
 first_of_both : (a b : Bool) → (a && b) ≡ true → a ≡ true
 first_of_both true b h = refl
 first_of_both false b h = h
 
+-- and the second
 second_of_both : (a b : Bool) → (a && b) ≡ true → b ≡ true
 second_of_both true b h = h
 second_of_both false b h = cc
 
+-- what has ended counts as nothing
 pub none_counts : (x : Bool) → one_where (x && false) ≡ 0
 none_counts true = refl
 none_counts false = refl

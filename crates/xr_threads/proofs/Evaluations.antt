@@ -25,6 +25,7 @@ use Rattle.xl_expr.specs.Works.{trap_of}
 use Rattle.xl_expr.proofs.Lists.{get_set_same}
 use Rattle.xr_threads.specs.Runners.{Setting, Runner, home}
 use Rattle.xr_threads.specs.Scenes.{Scene}
+use Rattle.xr_threads.specs.Settled.{with_items}
 use Rattle.xr_threads.specs.Turns.{Runs, Acts, Errs, failed}
 
 -- an expression costs what it counts
@@ -70,11 +71,7 @@ module _ (vars : List (Option VarPlan)) (uses : ℕ → Bool) (old new : Store) 
       ap (λ l. tested_value (length l) pos (eval new i)) (same v h.1.2)
       ∙ ap (tested_value (length (words_of old v)) pos) (eval_still i h.0)
 
--- a state in which the branch has these items left
-abbrev pub with_items : World → ℕ → Branch → List Item → World
-with_items x b branch items = record x { branches = slice_set x.branches b (record branch { items = items }) }
-
--- in which it runs with them
+-- a branch that has other items left runs with them
 pub runs_with : (x : World) (b : ℕ) (branch : Branch) (items other : List Item) → Runs x b branch items → Runs (with_items x b branch other) b (record branch { items = other }) other
 runs_with x b branch items other h = record {
   known = get_set_same x.branches b branch (record branch { items = other }) h.known;

@@ -14,7 +14,7 @@ use Rattle.xr_match.specs.Systems.{SomeIs}
 use Rattle.xr_threads.specs.Images.{AreApart, Runners, counts}
 use Rattle.xr_threads.specs.Runners.{Setting, Runner, home}
 use Rattle.xr_threads.specs.Scenes.{IsSilentStep, Kept, LeadsIn, Scene, after}
-use Rattle.xr_threads.specs.Standing.{AllLead, Answer, Stand, Standing, Stands, StandsBy}
+use Rattle.xr_threads.specs.Standing.{Answer, Stand, Standing, Stands, StandsBy}
 use Rattle.xr_threads.specs.Turns.{IsUnused, Turns}
 use Rattle.xr_threads.proofs.Answers.{turn_answer}
 use Rattle.xr_threads.proofs.Counts.{living_some, running_counts}
@@ -23,7 +23,7 @@ use Rattle.xr_threads.proofs.Standing.{Follows, stopped_idle, unused_idle}
 use Rattle.xr_threads.proofs.Steps.{kept_now, seen_followed, silent_followed}
 use Rattle.xr_threads.proofs.Ticks.{tick_followed}
 
-module _ (g : Setting) (who : Runners) (lead : (r : Runner) → AllLead g r) (apart : AreApart g who) (w : Watched) (m : Machine) (x : Told (of_kernel g.program)) (st : Standing g who w x) where
+module _ (g : Setting) (who : Runners) (apart : AreApart g who) (w : Watched) (m : Machine) (x : Told (of_kernel g.program)) (st : Standing g who w x) where
   module _ (c t : ℕ) (a : CoreState) (at_c : slice_get w.machine.cores c ≡ Some a) where
     -- what a turn leaves, where it is a step
     abbrev Leaves : Did CoreState → Type 0
@@ -42,9 +42,7 @@ module _ (g : Setting) (who : Runners) (lead : (r : Runner) → AllLead g r) (ap
       abbrev LeavesOf : Did CoreState → Type 0
       LeavesOf did = stepped (home g r) w.machine r.core r.thread a did ≡ Some m
 
-      here : Scene
-      here = record { core = a; world = x.state }
-
+      -- nothing has happened yet
       kept_here : Kept g r (record { core = a; world = x.state }) (record { core = a; world = x.state })
       kept_here = kept_now g who apart w x st c t a at_c r runs_r
 
@@ -62,7 +60,7 @@ module _ (g : Setting) (who : Runners) (lead : (r : Runner) → AllLead g r) (ap
           let turn = on (record { core = a; world = x.state }) kept_here in
           let one : counts c branch.core branch.mode ≡ 1 = ap (λ k. counts c k branch.mode) (stand.core ∙ apart.core c t r runs_r) ∙ ap (counts c c) is ∙ running_counts c in
           let some : 1 ≤ a.roots = omega (arith, living_some c x.state.branches r.branch branch known, st.roots c a at_c) in
-          at_item j few (turn_answer g r (lead r) (apart.laid c t r runs_r) (apart.root c t r runs_r) j (record { core = a; world = x.state }) some turn) e
+          at_item j few (turn_answer g r (apart.laid c t r runs_r) (apart.root c t r runs_r) j (record { core = a; world = x.state }) some turn) e
 
       -- a step on the way to it
       on_the_way : (n j : ℕ) → branch.mode ≡ runs → suc n + j ≤ stand.left → ((y : Scene) → Kept g r (record { core = a; world = x.state }) y → (b : CoreState) × IsSilentStep g r y.core b × LeadsIn g r (Turns g r j) n (after g r y b)) → LeavesOf (slot (home g r) a r.thread) → Goal
@@ -82,6 +80,7 @@ module _ (g : Setting) (who : Runners) (lead : (r : Runner) → AllLead g r) (ap
       by_mode runs is (suc n, j, few, inl on) e = at_turn j is (omega arith) on e
       by_mode runs is (suc n, j, few, inr on) e = on_the_way n j is few on e
 
+    -- wherever the branch stands
     at_branch : (r : Runner) → who c t ≡ Some r → (o : Option Branch) → slice_get x.state.branches r.branch ≡ o → SomeIs o (Stand g r a x.state (w.lives c t) x.actions) → Leaves (slot (home_of g.image g.stimulus c) a t) → Goal
     at_branch r runs_r None known h e = absurd h
     at_branch r runs_r (Some branch) known h e =
@@ -98,10 +97,12 @@ module _ (g : Setting) (who : Runners) (lead : (r : Runner) → AllLead g r) (ap
     step_followed None f h e = unused_goal h e
     step_followed (Some r) f h e = at_branch r f (slice_get x.state.branches r.branch) refl h e
 
+  -- wherever the core is
   at_core : (c t : ℕ) (o : Option CoreState) → slice_get w.machine.cores c ≡ o → step_at (home_of g.image g.stimulus c) w.machine c t o ≡ Some m → Follows g who x (watched_after w (Step c t) m)
   at_core c t None at_c e = cc
   at_core c t (Some a) at_c e = step_followed c t a at_c (who c t) refl (st.threads c t a at_c) e
 
+  -- a core's tick
   at_clock : (c : ℕ) (o : Option CoreState) → slice_get w.machine.cores c ≡ o → tick_at w.machine c o ≡ Some m → Follows g who x (watched_after w (Tick c) m)
   at_clock c None at_c e = cc
   at_clock c (Some a) at_c e = tick_followed g who apart w x st c a at_c m e

@@ -9,9 +9,13 @@ use Rattle.xc_meaning.specs.States.Worlds.{go}
 use Rattle.xr_threads.specs.Runners.{Setting, Runner, IsLaidOut, code, plan}
 use Rattle.xr_threads.specs.Scenes.{Scene}
 use Rattle.xr_threads.specs.Settled.{IsOwn, settled, with_items}
-use Rattle.xr_threads.specs.Standing.{AllLead, IsOnItsWay}
+use Rattle.xr_threads.specs.Standing.{IsOnItsWay}
 use Rattle.xr_threads.specs.Turns.{Rest, cost}
-use Rattle.xr_threads.proofs.Settles.{items_settle, own_settled, runs_with, settled_fits, settled_stays}
+use Rattle.xr_threads.proofs.Ends.{end_leads}
+use Rattle.xr_threads.proofs.Evaluations.{runs_with}
+use Rattle.xr_threads.proofs.Jumps.{jumps_lead}
+use Rattle.xr_threads.proofs.Statements.{statement_leads}
+use Rattle.xr_threads.proofs.Settles.{items_settle, own_settled, settled_fits, settled_stays}
 
 module _ (g : Setting) (r : Runner) where
   -- the scene once the steps without an instruction are done
@@ -39,11 +43,13 @@ module _ (g : Setting) (r : Runner) where
         };
       }
 
+  -- these steps are possible, and lead there
   pub settles : (items : List Item) (j : ℕ) (z : Scene) (h : Rest g r items j z) →
       acts_all g.program g.stimulus (Some z.world) (replicate (settled items).steps (go r.branch)) ≡ Some (with_items z.world r.branch h.has.branch (settled items).items)
   settles items j z h = items_settle g.program g.stimulus r.branch items z.world h.has.branch h.has.runs
 
-module _ (g : Setting) (r : Runner) (lead : AllLead g r) (laid : IsLaidOut g r) (root : r.tie ≡ None) where
+module _ (g : Setting) (r : Runner) (laid : IsLaidOut g r) (root : r.tie ≡ None) where
+  -- from the code of items whose first one has an instruction of its own
   pub rest_leads : (items : List Item) (j : ℕ) (z : Scene) → Rest g r items j z → IsOwn items → IsOnItsWay g r (j + cost g r) z
   rest_leads [] j z h own = absurd h.at_code
   rest_leads (does t ∷ rest) j z h own =
@@ -51,16 +57,16 @@ module _ (g : Setting) (r : Runner) (lead : AllLead g r) (laid : IsLaidOut g r) 
         c.here + cost g r,
         c.further,
         (let sum = c.sum in omega arith),
-        lead.jumps c.here (cost g r) c.further z h.pc c.index h.regs (does t ∷ rest) c.jumps h.here h.bases h.has (λ y here has.
-        lead.statements t rest own rest h.exits c.index c.stands.0 c.further y h.regs laid c.stands.1 h.fits.0 c.stands.2 h.fits.1 has here h.bases),
+        jumps_lead g r c.here (cost g r) c.further z h.pc c.index h.regs (does t ∷ rest) c.jumps h.here h.bases h.has (λ y here has.
+        statement_leads g r t rest own rest h.exits c.index c.stands.0 c.further y h.regs laid c.stands.1 h.fits.0 c.stands.2 h.fits.1 has here h.bases),
       )
   rest_leads (ends ∷ rest) j z h own =
       let c = h.at_code in (
         c.here + cost g r,
         c.further,
         (let sum = c.sum in omega arith),
-        lead.jumps c.here (cost g r) c.further z h.pc c.index h.regs (ends ∷ rest) c.jumps h.here h.bases h.has (λ y here has.
-        lead.ends rest c.index c.further (cost g r) y h.regs root c.stands.instr has here),
+        jumps_lead g r c.here (cost g r) c.further z h.pc c.index h.regs (ends ∷ rest) c.jumps h.here h.bases h.has (λ y here has.
+        end_leads g r rest c.index c.further (cost g r) y h.regs root c.stands.instr has here),
       )
   rest_leads (mark n ∷ rest) j z h own = absurd own
   rest_leads (says i ∷ rest) j z h own = absurd h.at_code.stands

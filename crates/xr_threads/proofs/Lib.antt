@@ -11,6 +11,7 @@ pub mod Outputs
 pub mod Jumps
 pub mod Ends
 pub mod Settles
+pub mod Statements
 pub mod Leading
 pub mod Counts
 pub mod Answers
@@ -23,7 +24,7 @@ pub mod Quiet
 pub mod Agrees
 pub mod Starts
 pub mod Boot
-pub mod Statements
+pub mod Pieces
 pub mod Compiled
 pub mod Roots
 pub mod Footprints
@@ -32,4 +33,4 @@ pub mod ImagedPlans
 pub mod ImagedLayout
 pub mod ImagedApart
 pub mod Imaged
-pub mod Compiler
+pub mod Implementing

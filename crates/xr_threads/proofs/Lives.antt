@@ -6,6 +6,7 @@ use Rattle.xs_instr.specs.declared.state.CoreState.{CoreState}
 use Rattle.xs_instr.specs.Machine.{Machine, and_then}
 use Rattle.xr_match.specs.Lives.{Watched, child_of, in_use, is_got, life_after, life_by, stepped, thread_of, tie_of}
 
+-- what is as it was is not got
 not_got : (u : Bool) → (not u && u) ≡ false
 not_got true = refl
 not_got false = refl

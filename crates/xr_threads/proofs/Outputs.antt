@@ -1,6 +1,6 @@
 -- An output to a port: the word goes out once the time is come, where there is one, and the thread waits with its branch till then.
-use Rattle.std.proofs.Common.{◌≡◌, ◌≢◌, ℕ, zero, suc, ◌+◌, ◌*◌, ◌≤◌, Bool, true, false, List, [], ◌∷◌, length, option_map, Option, Some, None, refl, sym, ap, ◌∙◌, subst, ⊎_elim, arith, eq-eqb}
-use Rattle.std.specs.Prelude.{◌%◌, ◌^◌, nat_eq, slice_get, slice_set, slice_index}
+use Rattle.std.proofs.Common.{◌≡◌, ◌≢◌, ℕ, zero, suc, ◌+◌, ◌*◌, ◌≤◌, Bool, true, false, List, [], ◌∷◌, option_map, Option, Some, None, refl, sym, ap, ◌∙◌, subst, ⊎_elim, arith, eq-eqb}
+use Rattle.std.specs.Prelude.{nat_eq, slice_get, slice_index}
 use Rattle.std.proofs.lemmas.Bool.{cases_eq, ne_eqb}
 use Rattle.std.proofs.lemmas.Option.{get_or_from_slice_get, same_Some}
 use Rattle.xw_words.specs.declared.pos.Pos.{Pos}
@@ -9,13 +9,10 @@ use Rattle.xs_instr.specs.declared.instr.Reg.TheVariants.{Dp, Sp}
 use Rattle.xs_instr.specs.declared.state.CoreState.{CoreState}
 use Rattle.xs_instr.specs.declared.state.Port.{Port}
 use Rattle.xs_instr.specs.declared.state.Regs.{Regs}
-use Rattle.xs_instr.specs.declared.trace.Record.{Record}
 use Rattle.xs_instr.specs.declared.trace.Record.TheVariants.{PortOut}
-use Rattle.xs_instr.specs.Did.{Paused}
 use Rattle.xs_instr.specs.Machine.{and_then}
-use Rattle.xs_instr.specs.OwnSteps.{IsApart, StandAt, temporary}
-use Rattle.xs_instr.specs.Ports.{can_send, counter, low_bits, moved_at, time_meets}
-use Rattle.xs_instr.specs.Slot.{slot}
+use Rattle.xs_instr.specs.OwnSteps.{IsApart}
+use Rattle.xs_instr.specs.Ports.{can_send, counter, low_bits, moved_at}
 use Rattle.xc_tree.specs.Depth.{if_some}
 use Rattle.xc_kernel.specs.declared.kernel.PortUse.{PortUse}
 use Rattle.xc_kernel.specs.declared.statement.KRes.{KRes}
@@ -23,38 +20,37 @@ use Rattle.xc_kernel.specs.declared.statement.KRes.TheVariants.{Port as ToPort, 
 use Rattle.xc_kernel.specs.Plain as kernel
 use Rattle.xc_kernel.specs.Values.{Value, word, error, ErrorKind}
 use Rattle.xc_kernel.specs.Eval.{Store, eval, words_of}
-use Rattle.xc_meaning.specs.Counts.KernelCounts.{of_expression, of_place}
+use Rattle.xc_meaning.specs.Counts.KernelCounts.{of_expression}
 use Rattle.xc_meaning.specs.Runs.{acts, does_first, does_item, selects, selects_by, step_of}
 use Rattle.xc_meaning.specs.Settings.Select.{takes, takes_default}
 use Rattle.xc_meaning.specs.Settings.Setting as source
 use Rattle.xc_meaning.specs.Settings.Setting.{errs, kind_of, with_value, with_word_of}
-use Rattle.xc_meaning.specs.Settings.Time.{Timing, passes, fails, timing, timing_by, with_timing, identifier_in, port_may_pass}
-use Rattle.xc_meaning.specs.Settings.Transfers.{drives, output_record, outputs_to, outputs_to_port}
+use Rattle.xc_meaning.specs.Settings.Time.{Timing, passes, timing, timing_by, with_timing, identifier_in, port_may_pass}
+use Rattle.xc_meaning.specs.Settings.Transfers.{drives, output_record, outputs_to}
 use Rattle.xc_meaning.specs.States.Items.{Item, does, When, now, at_time, storing}
 use Rattle.xc_meaning.specs.States.Branches.{Branch}
 use Rattle.xc_meaning.specs.States.Worlds.{World, go, take, default, only_if, with_record}
-use Rattle.xl_expr.specs.declared.plan.ResAt.{ResAt}
-use Rattle.xl_expr.specs.declared.plan.ResAt.TheVariants.{Fixed}
 use Rattle.xl_expr.specs.Plans.{resource_in}
 use Rattle.xl_expr.specs.Works as works
 use Rattle.xl_expr.specs.Works.{trap_of}
 use Rattle.xl_expr.proofs.Lists.{get_set_same, get_set_other}
-use Rattle.xl_image.specs.Images.{decl_of, dir_of}
 use Rattle.xl_plan.specs.Layout.{port_name}
-use Rattle.xl_port.specs.Outputs.{OutputOutcome, PortStands, PutsOut, ResourceIs, TimeIsLaid, ValueOutcome, gone_out, is_due, out_record, output_nodes, set_for, time_nodes, time_of}
+use Rattle.xl_port.specs.Outputs.{OutputOutcome, PortStands, PutsOut, ResourceIs, TimeIsLaid, ValueOutcome, gone_out, is_due, out_record, output_nodes, set_for, time_nodes}
 use Rattle.xl_port.specs.PortSteps.{WithinPort}
 use Rattle.xl_walk.specs.Built as built
 use Rattle.xl_walk.specs.Pieces.{Exit}
 use Rattle.xr_threads.specs.Fits.{IsOutPort, ItemsFit, OutputFits, PutsOutAt, UsesSome}
-use Rattle.xr_threads.specs.Runners.{Setting, Runner, IsLaidOut, IsPort, home, plan, port_place, relied}
+use Rattle.xr_threads.specs.Runners.{Setting, Runner, IsLaidOut, home, plan, port_place, relied}
 use Rattle.xr_threads.specs.Scenes.{Scene, Kept, running}
+use Rattle.xr_threads.specs.Settled.{with_items}
 use Rattle.xr_threads.specs.Turns as turn
 use Rattle.xr_threads.specs.Turns.{CannotAct, Errs, Goes, Has, HasBases, IsAt, ItemsFrom, PortIs, PortsStand, Runs, StatementLeads, Turn, Turns, cost}
 use Rattle.xr_threads.proofs.Arriving.{Since, apart_of_changes, arrives_at_port, but, port_kept, since_kept}
-use Rattle.xr_threads.proofs.Evaluations.{err_acts, eval_still, item_acts, kinds_agree, nodes_are, runs_with, with_items}
+use Rattle.xr_threads.proofs.Evaluations.{err_acts, eval_still, item_acts, kinds_agree, nodes_are, runs_with}
 use Rattle.xr_threads.proofs.Layouts.{laid_at, room_of, runs_at, runs_kept, store_since}
 use Rattle.xr_threads.proofs.Scenes.{leads_as, leads_more}
 
+-- two numbers are compared either way
 eqb_swap : (a b : ℕ) → nat_eq a b ≡ nat_eq b a
 eqb_swap a b =
     ⊎_elim
@@ -67,11 +63,12 @@ abbrev pub when_at : Option ℕ → When
 when_at None = now
 when_at (Some t) = at_time t
 
--- the same, by its time's value
+-- the same, by the value of its time
 abbrev timing_at : Option Value → Timing
 timing_at None = passes now
 timing_at (Some v) = timing_by v at_time
 
+-- when an output may pass, by its time's value
 timing_is : (store : Store) (time : Option kernel.Expression) → timing store time None ≡ timing_at (option_map (eval store) time)
 timing_is store None = refl
 timing_is store (Some x) = refl
@@ -97,14 +94,17 @@ module _ (g : Setting) (b : ℕ) (x : World) (branch : Branch) (t : kernel.State
       ∙ ap (does_first g.program g.stimulus x b branch takes_default) h.items_are
 
 module _ (g : Setting) (r : Runner) where
+  -- the words of a time's variables stand where the plan has them
   time_laid : (laid : IsLaidOut g r) (z : Scene) (regs : Regs) (time : Option kernel.Expression) → UsesSome g r time → HasBases g r regs → turn.HoldsStore g r z → TimeIsLaid (plan g r).vars (relied g r) r.stack regs.dp z.core.words z.world.store time
   time_laid laid z regs None uses bases h = tt
   time_laid laid z regs (Some x) uses bases h = laid_at g r laid z regs x uses bases h
 
+  -- a time keeps its value where the words of the runner's variables stay
   time_still : (old new : Store) → ((v : ℕ) → r.footprint.uses v ≡ true → words_of new v ≡ words_of old v) → (time : Option kernel.Expression) → UsesSome g r time → option_map (eval new) time ≡ option_map (eval old) time
   time_still old new same None uses = refl
   time_still old new same (Some x) uses = ap Some (eval_still (plan g r).vars r.footprint.uses old new same x uses)
 
+-- a time costs what it counts
 time_costs : (time : Option kernel.Expression) → time_nodes time ≡ if_some of_expression time
 time_costs None = refl
 time_costs (Some x) = nodes_are x
@@ -140,9 +140,11 @@ module _ (g : Setting) (r : Runner) (laid : IsLaidOut g r) (o : kernel.Output) (
     abbrev st : source.Setting
     st = Step x.world branch
 
+    -- the branch still has the output to do
     runs : Runs x.world r.branch branch (Item' ∷ rest)
     runs = runs_kept g r z x branch (Item' ∷ rest) since.branch has.runs
 
+    -- its time and its value are what they were
     times_are : option_map (eval x.world.store) o.time ≡ option_map (eval z.world.store) o.time
     times_are = time_still g r z.world.store x.world.store since.store o.time fits.time
 
@@ -152,6 +154,7 @@ module _ (g : Setting) (r : Runner) (laid : IsLaidOut g r) (o : kernel.Output) (
     abbrev at_when : When → Option World
     at_when when = with_word_of st o.value (drives st o p when)
 
+    -- the thread traps, and the branch errs by the same
     both_err : (kind : ErrorKind) (pos : Pos) → works.Errs (home g r) r.thread kind pos x.core → does_item st Item' ≡ errs st (kind_of kind) pos → Errs g r x
     both_err kind pos traps erred = record {
       kind = trap_of kind;
@@ -168,10 +171,12 @@ module _ (g : Setting) (r : Runner) (laid : IsLaidOut g r) (o : kernel.Output) (
 
     -- where the time has a word, or there is none
     module _ (time : Option ℕ) (time_is : option_map (eval z.world.store) o.time ≡ option_map word time) where
+      -- the branch goes on by the word of its time
       with_time : (t : Option ℕ) → with_timing st (timing_at (option_map word t)) at_when ≡ at_when (when_at t)
       with_time None = refl
       with_time (Some t) = refl
 
+      -- its step, by the value
       step_is : (v : Value) → eval z.world.store o.value ≡ v → does_item st Item' ≡ with_value st v (drives st o p (when_at time))
       step_is v is =
           output_is x.world branch
@@ -179,6 +184,7 @@ module _ (g : Setting) (r : Runner) (laid : IsLaidOut g r) (o : kernel.Output) (
           ∙ with_time time
           ∙ ap (λ d. with_value st d (drives st o p (when_at time))) (value_is ∙ is)
 
+      -- the error of the value
       value_errs : (kind : ErrorKind) (pos : Pos) → eval z.world.store o.value ≡ error kind pos → works.Errs (home g r) r.thread kind pos x.core → Errs g r x
       value_errs kind pos is traps = both_err kind pos traps (step_is (error kind pos) is)
 
@@ -186,11 +192,13 @@ module _ (g : Setting) (r : Runner) (laid : IsLaidOut g r) (o : kernel.Output) (
       clock_is : slice_index x.world.clocks branch.core ≡ x.core.clock
       clock_is = ap (slice_index x.world.clocks) has.core ∙ get_or_from_slice_get x.world.clocks r.core x.core.clock 0 clock
 
+      -- it may pass where the thread's step is due
       due_by : (t : Option ℕ) → port_may_pass st p (when_at t) ≡ is_due t x.core
       due_by None = refl
       due_by (Some t) = ap (λ c. nat_eq (counter c) (counter t)) clock_is ∙ eqb_swap (counter x.core.clock) (counter t)
 
       module _ (v : ℕ) (is : eval z.world.store o.value ≡ word v) where
+        -- the branch's step, by whether it is due
         step_by : (due : Bool) → is_due time x.core ≡ due → acts g.program g.stimulus x.world (go r.branch) ≡ only_if due (with_record (with_items x.world r.branch branch rest) (out_record (home g r) x.core v port))
         step_by due h =
             item_acts g.program g.stimulus r.branch x.world branch Item' rest runs
@@ -208,6 +216,7 @@ module _ (g : Setting) (r : Runner) (laid : IsLaidOut g r) (o : kernel.Output) (
                 ∙ ap (λ d. PortOut r.core d (counter (slice_index x.world.clocks branch.core)) (low_bits v d)) id_is
                 ∙ ap (λ c. PortOut r.core port.decl.port (counter c) (low_bits v port.decl.port)) clock_is
 
+        -- till then the branch can do nothing
         cannot : is_due time x.core ≡ false → CannotAct g r x.world
         cannot h = record {
           goes = step_by false h;
@@ -248,6 +257,7 @@ module _ (g : Setting) (r : Runner) (laid : IsLaidOut g r) (o : kernel.Output) (
                 declared = was.declared;
               }
 
+          -- then the word goes out on both sides
           puts_out : is_due time x.core ≡ true → Goes g r j x
           puts_out h =
               let holds = store_since g r laid (but place) z x since w.within has.holds in
@@ -293,6 +303,7 @@ module _ (g : Setting) (r : Runner) (laid : IsLaidOut g r) (o : kernel.Output) (
                 };
               }
 
+          -- the thread's turn is one or the other
           out_turns : Turn g r j x
           out_turns = by (is_due time x.core) refl
             where
@@ -323,10 +334,12 @@ module _ (g : Setting) (r : Runner) (laid : IsLaidOut g r) (o : kernel.Output) (
     abbrev still : {y x : Scene} → Meanwhile y → Kept g r y x → Meanwhile x
     still s k = since_kept g r (IsApart r.stack) (but spot) s k
 
+    -- what it comes to is its turn: by the value
     value_turns : (time : Option ℕ) → option_map (eval store) o.time ≡ option_map word time → (value : Value) → eval store o.value ≡ value → (y : Scene) → AtValue time value y.core → Meanwhile y → Turns g r j y
     value_turns time e (word v) f y h s = λ x k. out_turns z has x (still s k) k.clock time e v f exits pc pc' j regs bases behind fit_rest (h x.core (port_kept g r p out.listed out.is k))
     value_turns time e (error kind pos) f y h s = λ x k. turn.errs (value_errs z has x (still s k) k.clock time e kind pos f (h x.core (port_kept g r p out.listed out.is k)))
 
+    -- and by the time, whose error comes first
     turns : (time : Option Value) (value : Value) → option_map (eval store) o.time ≡ time → eval store o.value ≡ value → (y : Scene) → AtEnd time value y.core → Meanwhile y → Turns g r j y
     turns None value e f y h s = value_turns None e value f y h s
     turns (Some (word t)) value e f y h s = value_turns (Some t) e value f y h s
@@ -345,6 +358,7 @@ module _ (g : Setting) (r : Runner) (laid : IsLaidOut g r) (o : kernel.Output) (
         name : ℕ
         name = port_name r.core spot
 
+    -- where its code leads, the runner comes
     comes : (n : ℕ) → WithinPort (home g r) (relied g r) (IsApart r.stack) r.thread spot (AtEnd (option_map (eval store) o.time) (eval store o.value)) n z.core → turn.Leads g r n j z
     comes n way =
         leads_as g r (λ y. AtEnd (option_map (eval store) o.time) (eval store o.value) y.core × Meanwhile y) (Turns g r j) n z

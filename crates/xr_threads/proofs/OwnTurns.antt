@@ -19,8 +19,9 @@ use Rattle.xl_walk.specs.Pieces.{Exit}
 use Rattle.xr_threads.specs.Fits.{ItemsFit}
 use Rattle.xr_threads.specs.Runners.{Setting, Runner, MayChange, home, plan}
 use Rattle.xr_threads.specs.Scenes.{Scene, running}
+use Rattle.xr_threads.specs.Settled.{with_items}
 use Rattle.xr_threads.specs.Turns.{HasBases, Has, IsAt, ItemsFrom, Goes}
-use Rattle.xr_threads.proofs.Evaluations.{with_items, runs_with}
+use Rattle.xr_threads.proofs.Evaluations.{runs_with}
 use Rattle.xr_threads.proofs.Layouts.{ports_last}
 
 -- the turn of a running thread that takes no events is the row of its instruction

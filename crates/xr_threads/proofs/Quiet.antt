@@ -33,15 +33,18 @@ module _ (g : Setting) (who : Runners) (apart : AreApart g who) (w : Watched) (x
         ∙ sym (ap (step_at (home_of g.image g.stimulus c) w.machine c t) at_c)
         ∙ quiet.steps c t
 
+    -- so its turn is a pause, and the branch waits
     turn_cannot : (j : ℕ) → Turn g r j (record { core = a; world = x.state }) → CannotAct g r x.state
     turn_cannot j (pauses p none) = none
     turn_cannot j (errs h) = let e = sym (ap (stepped (home g r) w.machine r.core r.thread a) h.traps) ∙ no_step in cc
     turn_cannot j (goes_on h) = let e = sym (ap (stepped (home g r) w.machine r.core r.thread a) h.made_is) ∙ no_step in cc
     turn_cannot j (frees h) = let e = sym (ap (stepped (home g r) w.machine r.core r.thread a) h.made_is) ∙ no_step in cc
 
+    -- the turn is due
     due_cannot : (j : ℕ) → Turns g r j (record { core = a; world = x.state }) → CannotAct g r x.state
     due_cannot j on = turn_cannot j (on (record { core = a; world = x.state }) (kept_now g who apart w x st c t a at_c r runs_r))
 
+    -- and no step on the way to it is left
     running_cannot : (left : ℕ) → StandsBy g r runs left (record { core = a; world = x.state }) → CannotAct g r x.state
     running_cannot left (zero, j, few, on) = due_cannot j on
     running_cannot left (suc k, j, few, inl on) = due_cannot j on
@@ -59,6 +62,7 @@ module _ (g : Setting) (who : Runners) (apart : AreApart g who) (w : Watched) (x
       takes_default = ap (λ o. and_then o (selects g.program g.stimulus x.state r.branch takes_default)) known ∙ no_default;
     }
 
+    -- however the branch is
     mode_cannot : (branch : Branch) → slice_get x.state.branches r.branch ≡ Some branch → (mode : Mode) → branch.mode ≡ mode → (left : ℕ) → StandsBy g r mode left (record { core = a; world = x.state }) → CannotAct g r x.state
     mode_cannot branch known runs is left h = running_cannot left h
     mode_cannot branch known (waits from count) is left h = absurd h
@@ -73,6 +77,7 @@ module _ (g : Setting) (who : Runners) (apart : AreApart g who) (w : Watched) (x
         (λ n. ap (selects_by g.program g.stimulus x.state r.branch (λ step. takes step n) branch) is)
         (ap (selects_by g.program g.stimulus x.state r.branch takes_default branch) is)
 
+    -- wherever it stands
     branch_cannot : (o : Option Branch) → slice_get x.state.branches r.branch ≡ o → SomeIs o (Stand g r a x.state (w.lives c t) x.actions) → CannotAct g r x.state
     branch_cannot None known h = absurd h
     branch_cannot (Some branch) known h = mode_cannot branch known branch.mode refl h.left h.by
@@ -87,18 +92,22 @@ module _ (g : Setting) (who : Runners) (apart : AreApart g who) (w : Watched) (x
       let stands = subst (Stands g q.thread a.0 x.state (w.lives q.core q.thread) x.actions) q.runs (st.threads q.core q.thread a.0 a.1) in
       (q.runner, q.branch, branch_cannot q.core q.thread q.runner q.runs a.0 a.1 (slice_get x.state.branches q.runner.branch) refl stands)
 
+  -- so none goes on
   go_none : (b : ℕ) (o : Option Branch) → slice_get x.state.branches b ≡ o → acts g.program g.stimulus x.state (go b) ≡ None
   go_none b None known = ap (λ o. and_then o (goes g.program g.stimulus x.state b)) known
   go_none b (Some branch) known = let h = there_cannot b branch known in subst (λ k. acts g.program g.stimulus x.state (go k) ≡ None) h.1 h.2.goes
 
+  -- none takes a case
   take_none : (b n : ℕ) (o : Option Branch) → slice_get x.state.branches b ≡ o → acts g.program g.stimulus x.state (take b n) ≡ None
   take_none b n None known = ap (λ o. and_then o (selects g.program g.stimulus x.state b (λ step. takes step n))) known
   take_none b n (Some branch) known = let h = there_cannot b branch known in subst (λ k. acts g.program g.stimulus x.state (take k n) ≡ None) h.1 (h.2.takes n)
 
+  -- and none takes a default
   default_none : (b : ℕ) (o : Option Branch) → slice_get x.state.branches b ≡ o → acts g.program g.stimulus x.state (default b) ≡ None
   default_none b None known = ap (λ o. and_then o (selects g.program g.stimulus x.state b takes_default)) known
   default_none b (Some branch) known = let h = there_cannot b branch known in subst (λ k. acts g.program g.stimulus x.state (default k) ≡ None) h.1 h.2.takes_default
 
+  -- the program is quiet
   pub quiet_together : IsQuiet g.program g.stimulus x.state
   quiet_together = record { idle = idle }
     where

@@ -51,6 +51,7 @@ pub unused_idle : (home : Home) (a : CoreState) (t : ℕ) (o : Option Thread) �
 unused_idle home a t None h = refl
 unused_idle home a t (Some thread) h = ap (turn_of home a t thread) h
 
+-- nor has a trapped one
 pub stopped_idle : (home : Home) (a : CoreState) (t : ℕ) (o : Option Thread) → IsStopped o → turn_at home a t o ≡ Idle
 stopped_idle home a t None h = refl
 stopped_idle home a t (Some thread) h = ap (turn_of home a t thread) h
@@ -71,6 +72,7 @@ Follows g who x w =
     × Standing g who w (told_by g.program g.stimulus x piece y)
 
 module _ (g : Setting) (r : Runner) where
+  -- a turn that is due whatever others do stays due
   pub turns_stable : (j : ℕ) → IsStable g r (Turns g r j)
   turns_stable j z y k h = λ x l. h x (kept_twice g r k l)
 
@@ -81,8 +83,9 @@ module _ (g : Setting) (r : Runner) where
   stands_by_still ended left z y k h = subst IsUnused (sym k.thread) h
   stands_by_still erred left z y k h = subst IsStopped (sym k.thread) h
 
-  pub stand_still : (a b : CoreState) (x y : World) (life : Life) (actions more : ℕ → ℕ) (branch : Branch) → Kept g r (record { core = a; world = x }) (record { core = b; world = y }) → ((f : ℕ) → actions f ≤ more f) → Stand g r a x life actions branch → Stand g r b y life more branch
-  stand_still a b x y life actions more branch k le h = record {
+  -- and so it does where its family has done more
+  pub stand_more : (a : CoreState) (x : World) (life : Life) (actions more : ℕ → ℕ) (branch : Branch) → ((f : ℕ) → actions f ≤ more f) → Stand g r a x life actions branch → Stand g r a x life more branch
+  stand_more a x life actions more branch le h = record {
     core = h.core;
     family = h.family;
     named = h.named;
@@ -92,11 +95,24 @@ module _ (g : Setting) (r : Runner) where
         let l = le r.family in
         let m = mul-le-mul_left (kernel_bound g.program) (more_one (actions r.family) (more r.family) l) in
         omega (arith, m);
-    by = stands_by_still branch.mode h.left (record { core = a; world = x }) (record { core = b; world = y }) k h.by;
+    by = h.by;
   }
     where
       more_one : (m n : ℕ) → m ≤ n → m + 1 ≤ n + 1
       more_one m n l = omega arith
+
+  -- both at once
+  stand_still : (a b : CoreState) (x y : World) (life : Life) (actions more : ℕ → ℕ) (branch : Branch) → Kept g r (record { core = a; world = x }) (record { core = b; world = y }) → ((f : ℕ) → actions f ≤ more f) → Stand g r a x life actions branch → Stand g r b y life more branch
+  stand_still a b x y life actions more branch k le h =
+      let m = stand_more a x life actions more branch le h in
+      record {
+        core = m.core;
+        family = m.family;
+        named = m.named;
+        left = m.left;
+        bound = m.bound;
+        by = stands_by_still branch.mode m.left (record { core = a; world = x }) (record { core = b; world = y }) k m.by;
+      }
 
   -- the same of the branch that the runner's thread runs, wherever that stands
   pub runner_still : (t : ℕ) (a b : CoreState) (x y : World) (life : Life) (actions more : ℕ → ℕ) → Kept g r (record { core = a; world = x }) (record { core = b; world = y }) → ((f : ℕ) → actions f ≤ more f) → Stands g t a x life actions (Some r) → Stands g t b y life more (Some r)

@@ -28,6 +28,7 @@ pub record IsRootBranch (root : kernel.Root) (number : ℕ) (branch : Branch) : 
   pub items : branch.items ≡ todo root.body (ends ∷ [])
   pub family : branch.family ≡ number
 
+-- each root has its branch
 pub root_at : (roots : List kernel.Root) (n : ℕ) (before : List kernel.Statements) (sides : List (Option Side)) (k : ℕ) (root : kernel.Root) → slice_get roots k ≡ Some root → (branch : Branch) × (slice_get (root_branches n before sides (map kernel_root roots)) k ≡ Some branch) × IsRootBranch root (n + k) branch
 root_at [] n before sides k root e = cc
 root_at (r ∷ roots) n before sides zero root e =
@@ -63,6 +64,7 @@ variable_zero [] v i lt = absurd (omega arith)
 variable_zero (x ∷ variables) zero i lt = words_zero x.words i lt
 variable_zero (x ∷ variables) (suc v) i lt = variable_zero variables v i lt
 
+-- and there are as many as the variable has
 pub variable_length : (variables : List Var) (v : ℕ) → length (words_of (map zeros_of variables) v) ≡ words_in variables v
 variable_length [] v = refl
 variable_length (x ∷ variables) zero = length-replicate x.words 0
@@ -73,6 +75,7 @@ abbrev pub settled_branch : Branch → Branch
 settled_branch b = record b { items = (settled b.items).items }
 
 module _ (K : kernel.Kernel) (s : Stim) where
+  -- actions behind others
   pub acts_on : (o : Option World) (before behind : List Action) → acts_all K s o (before ++ behind) ≡ acts_all K s (acts_all K s o before) behind
   acts_on None [] [] = refl
   acts_on None [] (n ∷ ns) = refl
@@ -90,6 +93,7 @@ module _ (K : kernel.Kernel) (s : Stim) where
     pub others : (b : ℕ) → n ≤ b → slice_get y.branches b ≡ slice_get x.branches b
     pub living : (c : ℕ) → living_on c y.branches ≡ living_on c x.branches
 
+  -- one more branch settles
   settle_one : (x : World) (n : ℕ) (y : World) → AreSettled x n y → (branch : Branch) → slice_get x.branches n ≡ Some branch → branch.mode ≡ runs → (piece : List Action) × (z : World) × (acts_all K s (Some y) piece ≡ Some z) × AreSettled x (n + 1) z
   settle_one x n y h branch known mode =
       let known_y = h.others n (omega arith) ∙ known in

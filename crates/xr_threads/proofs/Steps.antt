@@ -43,9 +43,11 @@ pub record Beside (r : Runner) (x y : World) : Type 0 where
   pub store : (v : ℕ) → r.footprint.changes v ≡ false → words_of y.store v ≡ words_of x.store v
 
 module _ (g : Setting) (who : Runners) (apart : AreApart g who) (w : Watched) (x : Told (of_kernel g.program)) (st : Standing g who w x) (c t : ℕ) (a : CoreState) (at_c : slice_get w.machine.cores c ≡ Some a) (r : Runner) (runs_r : who c t ≡ Some r) where
+  -- the runner is on this core
   core_is : r.core ≡ c
   core_is = apart.core c t r runs_r
 
+  -- and this is its thread
   thread_is : r.thread ≡ t
   thread_is = apart.thread c t r runs_r
 
@@ -61,19 +63,23 @@ module _ (g : Setting) (who : Runners) (apart : AreApart g who) (w : Watched) (x
   }
 
   module _ (b : CoreState) (made : Option Record) (piece : List Action) (y : World) (touched : Touched g r a b) (acted : acts_all g.program g.stimulus (Some x.state) piece ≡ Some y) (beside : Beside r x.state y) where
-    -- the machine behind the step, its lives, and what the families have done then
+    -- the machine behind the step
     abbrev m' : Machine
     m' = record { cores = slice_set w.machine.cores c b; links = w.machine.links; trace = noted w.machine.trace made }
 
+    -- the lives behind it
     abbrev lives' : ℕ → ℕ → Life
     lives' = life_after w m' c t
 
+    -- and what the families have done then
     abbrev more : ℕ → ℕ
     more f = x.actions f + steps_of g.program g.stimulus f (Some x.state) piece
 
+    -- no family has done less
     not_less : (f : ℕ) → x.actions f ≤ more f
     not_less f = omega arith
 
+    -- the core behind it
     at_b : slice_get m'.cores c ≡ Some b
     at_b = get_set_same w.machine.cores c a b at_c
 
@@ -122,21 +128,25 @@ module _ (g : Setting) (who : Runners) (apart : AreApart g who) (w : Watched) (x
         none_runs : (u : ℕ) → who c u ≡ None → u ≢ t
         none_runs u f same = let both : None ≡ Some r = sym f ∙ ap (who c) same ∙ runs_r in cc
 
+        -- of this core
         on_core : (u : ℕ) → who c u ≡ None → c' ≡ c → (lives' c' u).steps ≡ 0
         on_core u f same =
             let ne = none_runs u f in
             subst (λ k. (lives' k u).steps ≡ 0) (sym same)
             (ap (λ (l : Life). l.steps) (other_life w m' c t u a b ne at_c at_b (touched.others u (λ h. ne (h ∙ thread_is)))) ∙ st.idle c u f)
 
+    -- no clock has gone up
     clocks_stay : map clock_of (slice_set w.machine.cores c b) ≡ y.clocks
     clocks_stay = map-set_same clock_of w.machine.cores c b a (touched.clock ∙ ap clock_of (sym (get_or_from_slice_get w.machine.cores c a a at_c))) ∙ st.clocks ∙ sym beside.clocks
 
     module _ (trace : y.trace ≡ noted x.state.trace made) (own : SomeIs (slice_get y.branches r.branch) (Stand g r b y (stepped w.machine m' c (w.lives c t)) more)) (roots : b.roots ≡ living_on c y.branches) (far_roots : (c' : ℕ) → c' ≢ c → living_on c' y.branches ≡ living_on c' x.state.branches) (placed : (n : ℕ) (branch : Branch) → slice_get y.branches n ≡ Some branch → branch.core < length w.machine.cores) (run : (n : ℕ) (branch : Branch) → slice_get y.branches n ≡ Some branch → IsRun who n) where
+      -- the thread itself
       own_stands : Stands g t b y (lives' c t) more (who c t)
       own_stands =
           subst (λ l. Stands g t b y l more (who c t)) (sym (own_life w m' c t))
           (subst (Stands g t b y (stepped w.machine m' c (w.lives c t)) more) (sym runs_r) own)
 
+      -- so all threads of the core stand so
       all_stand : (t' : ℕ) → Stands g t' b y (lives' c t') more (who c t')
       all_stand t' =
           ⊎_elim
@@ -146,6 +156,7 @@ module _ (g : Setting) (who : Runners) (apart : AreApart g who) (w : Watched) (x
           subst (λ l. Stands g t' b y l more (who c t')) (sym same) (other_stands t' ne (who c t') refl (st.threads c t' a at_c)))
           (cases_eq t' t)
 
+      -- and all of other cores
       far_ones : (c' t' : ℕ) (d : CoreState) → c' ≢ c → slice_get w.machine.cores c' ≡ Some d → Stands g t' d y (lives' c' t') more (who c' t')
       far_ones c' t' d ne e =
           subst (λ l. Stands g t' d y l more (who c' t')) (sym (far_life w m' c t c' t' ne)) (far_stands c' t' d ne e (who c' t') refl (st.threads c' t' d e))

@@ -21,12 +21,13 @@ use Rattle.xl_walk.specs.Pieces.{Exit, TestAt}
 use Rattle.xr_threads.specs.Fits.{ItemsFit, Uses, greatest}
 use Rattle.xr_threads.specs.Runners.{Setting, Runner, IsLaidOut, code, home, plan, relied}
 use Rattle.xr_threads.specs.Scenes.{Scene, running}
+use Rattle.xr_threads.specs.Settled.{with_items}
 use Rattle.xr_threads.specs.Turns as turn
 use Rattle.xr_threads.specs.Turns.{StatementLeads, IsAt, ItemsFrom, HasBases, Has, Runs, Goes, Turns, Leads, cost}
 use Rattle.xr_threads.proofs.Scenes.{leads_as, leads_more}
 use Rattle.xr_threads.proofs.Arriving.{Since, any_port, since_kept, core_kept, apart_of_changes, arrives}
 use Rattle.xr_threads.proofs.Layouts.{has_since, runs_kept, room_of, runs_at, laid_at}
-use Rattle.xr_threads.proofs.Evaluations.{nodes_are, eval_still, item_acts, value_errs, with_items}
+use Rattle.xr_threads.proofs.Evaluations.{nodes_are, eval_still, item_acts, value_errs}
 use Rattle.xr_threads.proofs.OwnTurns.{MakesOwn, spot_goes}
 use Rattle.xr_threads.proofs.Items.{behind_jumps, pieces_before, all_fit}
 

@@ -22,13 +22,15 @@ use Rattle.xr_threads.specs.Standing.{Standing, Stands}
 use Rattle.xr_threads.proofs.Standing.{Follows, clock_at, runner_still, stands_next, told_by}
 
 module _ (g : Setting) (who : Runners) (apart : AreApart g who) (w : Watched) (x : Told (of_kernel g.program)) (st : Standing g who w x) (c : ℕ) (a : CoreState) (at_c : slice_get w.machine.cores c ≡ Some a) where
-  -- the program's state after the tick, and what its families have done then
+  -- the program's state after the tick
   abbrev later : World
   later = record x.state { clocks = slice_set x.state.clocks c (a.clock + 1) }
 
+  -- and what its families have done then
   abbrev more : ℕ → ℕ
   more f = x.actions f + steps_of g.program g.stimulus f (Some x.state) (clock c ∷ [])
 
+  -- no family has done less
   not_less : (f : ℕ) → x.actions f ≤ more f
   not_less f = omega arith
 
@@ -62,6 +64,7 @@ module _ (g : Setting) (who : Runners) (apart : AreApart g who) (w : Watched) (x
       } in
       runner_still g r t d d x.state later (w.lives c' t) x.actions more kept not_less h
 
+  -- where the clock is not at its last value the program can tick too
   after_tick : nat_lt a.clock last_clock ≡ true → Follows g who x (watched_after w (Tick c) (record w.machine { cores = slice_set w.machine.cores c (ticked a) }))
   after_tick e =
       let acted : acts g.program g.stimulus x.state (clock c) ≡ Some later = ap (λ o. and_then o (ticks x.state c)) (clock_at g who w x c a st at_c) ∙ ap (λ b. only_if b later) e in (
@@ -81,6 +84,7 @@ module _ (g : Setting) (who : Runners) (apart : AreApart g who) (w : Watched) (x
         }),
       )
 
+  -- the same, by whether it is
   tick_by_followed : (below : Bool) → nat_lt a.clock last_clock ≡ below → (m : Machine) → tick_by w.machine c a below ≡ Some m → Follows g who x (watched_after w (Tick c) m)
   tick_by_followed true e m h = subst (λ n. Follows g who x (watched_after w (Tick c) n)) (same_Some _ m h) (after_tick e)
   tick_by_followed false e m h = cc

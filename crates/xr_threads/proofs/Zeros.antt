@@ -1,5 +1,5 @@
 -- All words of a variable become 0; until the last one is, they are the thread's own business.
-use Rattle.std.proofs.Common.{◌≡◌, ◌≢◌, ℕ, zero, suc, ◌+◌, ◌-◌, ◌*◌, ◌<◌, ◌≤◌, Bool, true, false, List, [], ◌∷◌, map, option_map, Option, Some, None, refl, sym, ap, ◌∙◌, subst, ⊎_elim, get_or, arith}
+use Rattle.std.proofs.Common.{◌≡◌, ◌≢◌, ℕ, zero, suc, ◌+◌, ◌-◌, ◌*◌, ◌<◌, ◌≤◌, true, false, List, [], ◌∷◌, map, option_map, Option, Some, None, refl, sym, ap, ◌∙◌, subst, ⊎_elim, get_or, arith}
 use Rattle.std.specs.Prelude.{◌/◌, ◌%◌, slice_get, slice_set, length, nat_eq}
 use Rattle.std.proofs.lemmas.Bool.{cases_eq}
 use Rattle.std.proofs.lemmas.List.{length-set, length-map, get_or-set_other, get_or-set_same}
@@ -10,14 +10,10 @@ use Rattle.xs_instr.specs.declared.state.Regs.{Regs}
 use Rattle.xs_instr.specs.Memory.{address_at, word_at, word_by, word_put}
 use Rattle.xs_instr.specs.OwnSteps as own
 use Rattle.xs_instr.specs.OwnSteps.{Within, temporary}
-use Rattle.xs_instr.specs.Rows.{put_own}
-use Rattle.xc_kernel.specs.declared.kernel.PortUse.{PortUse}
 use Rattle.xc_kernel.specs.Plain as kernel
 use Rattle.xc_kernel.specs.Eval.{Store, words_of}
-use Rattle.xc_meaning.specs.Runs.{step_of}
 use Rattle.xc_meaning.specs.States.Items.{Item, does}
-use Rattle.xc_meaning.specs.States.Branches.{Branch}
-use Rattle.xc_meaning.specs.States.Worlds.{World, go, with_zeros, zero_for}
+use Rattle.xc_meaning.specs.States.Worlds.{with_zeros, zero_for}
 use Rattle.xl_expr.specs.declared.plan.VarAt.{VarAt}
 use Rattle.xl_expr.specs.declared.plan.VarAt.TheVariants.{Near}
 use Rattle.xl_expr.specs.declared.plan.VarPlan.{VarPlan}
@@ -27,11 +23,12 @@ use Rattle.xl_flow.specs.Zeros.{IsOutside, StandsFrom, WordsStand, WritesLast, w
 use Rattle.xl_walk.specs.Pieces.{Exit}
 use Rattle.xr_threads.specs.Fits.{IsChanged, ItemsFit}
 use Rattle.xr_threads.specs.Runners.{Setting, Runner, IsLaidOut, MayChange, of_variable, home, plan, relied}
-use Rattle.xr_threads.specs.Scenes.{Scene, Kept, running}
+use Rattle.xr_threads.specs.Scenes.{Scene, running}
+use Rattle.xr_threads.specs.Settled.{with_items}
 use Rattle.xr_threads.specs.Turns as turn
-use Rattle.xr_threads.specs.Turns.{Goes, Has, HasBases, HoldsStore, IsAt, ItemsFrom, Runs, StatementLeads, Turns, cost}
+use Rattle.xr_threads.specs.Turns.{Goes, Has, HasBases, HoldsStore, ItemsFrom, Runs, StatementLeads, Turns, cost}
 use Rattle.xr_threads.proofs.Arriving.{Since, any_port, arrives, core_kept, since_kept}
-use Rattle.xr_threads.proofs.Evaluations.{item_acts, with_items, runs_with}
+use Rattle.xr_threads.proofs.Evaluations.{item_acts, runs_with}
 use Rattle.xr_threads.proofs.Layouts.{ports_last, runs_at, runs_kept, stack_relied, variable_relied}
 use Rattle.xr_threads.proofs.Scenes.{leads_as, leads_more}
 
@@ -39,9 +36,11 @@ use Rattle.xr_threads.proofs.Scenes.{leads_as, leads_more}
 index_is : (d n i : ℕ) → d + n + i < 16384 → address_at (address_at (4 * d) n) i / 4 ≡ d + n + i
 index_is d n i lt = omega arith
 
+-- that is a whole word
 aligned : (d n i : ℕ) → d + n + i < 16384 → address_at (address_at (4 * d) n) i % 4 ≡ 0
 aligned d n i lt = omega arith
 
+-- so it is that word of the list
 word_is : (words : List ℕ) (d n i : ℕ) → d + n + i < 16384 → word_at words (address_at (address_at (4 * d) n) i) ≡ slice_get words (d + n + i)
 word_is words d n i lt =
     ap (λ b. word_by words (address_at (address_at (4 * d) n) i) (nat_eq b 0)) (aligned d n i lt) ∙ ap (slice_get words) (index_is d n i lt)
@@ -50,11 +49,13 @@ word_is words d n i lt =
 words_other : (store : Store) (v w : ℕ) (ws : List ℕ) → w ≢ v → words_of (slice_set store v ws) w ≡ words_of store w
 words_other store v w ws ne = get_or-set_other store v w ws [] ne
 
+-- a variable with words is one of the store's
 has_words : (store : Store) (v : ℕ) → 0 < length (words_of store v) → v < length store
 has_words [] v h = absurd (omega arith)
 has_words (ws ∷ store) zero h = omega arith
 has_words (ws ∷ store) (suc v) h = let lt = has_words store v h in omega arith
 
+-- and those of the one that got them
 words_same : (store : Store) (v : ℕ) (ws : List ℕ) → 0 < length (words_of store v) → words_of (slice_set store v ws) v ≡ ws
 words_same store v ws some = get_or-set_same store v ws [] (has_words store v some)
 
@@ -68,15 +69,18 @@ module _ (ws : List ℕ) (i y : ℕ) where
   was_zeroed h = zero_by (slice_get ws i) refl (sym (slice_get-map zero_for ws i) ∙ h)
 
 module _ (g : Setting) (r : Runner) (v : ℕ) (laid : IsLaidOut g r) (is : IsChanged g r v) where
+  -- the variable stands near
   near : (n : ℕ) × IsNear (plan g r).vars v n is.found
   near = laid.frame.near v is.found is.known
 
+  -- its first word, counted from dp's, and that word's address
   abbrev first : ℕ
   first = near.0
 
   abbrev base : ℕ
   base = address_at (4 * r.base) first
 
+  -- its words are low enough to have addresses
   low : (i : ℕ) → i < is.found.words → r.base + first + i < 16384
   low i lt = laid.frame.low v first i is.found near.1 lt
 
@@ -116,18 +120,22 @@ module _ (g : Setting) (r : Runner) (v : ℕ) (laid : IsLaidOut g r) (is : IsCha
   module _ (rest : List Item) (z : Scene) (k : ℕ) (is_k : is.found.words ≡ k + 1) where
     -- at the last store
     module _ (x : Scene) (since : Since g r (IsOutside base (k + 1)) any_port z x) (zeros : (i : ℕ) → i < k → word_at x.core.words (address_at base i) ≡ Some 0) (there : (y : ℕ) × (word_at x.core.words (address_at base k) ≡ Some y)) (holds : HoldsStore g r z) where
+      -- what the last store leaves in memory, and what the branch's step leaves in the store
       abbrev zero_words : List ℕ
       zero_words = word_put x.core.words (address_at base k) 0
 
       abbrev zero_store : Store
       zero_store = slice_set x.world.store v (map zero_for (words_of x.world.store v))
 
+      -- the address of the last word is that of its place
       put_is : zero_words ≡ slice_set x.core.words (r.base + first + k) 0
       put_is = ap (λ w. slice_set x.core.words w 0) (index_is r.base first k (low k (omega arith)))
 
+      -- the plan has as many words as the variable
       length_is : is.found.words ≡ length (words_of x.world.store v)
       length_is = holds.holds.lengths v first is.found near.1 is.uses ∙ ap length (sym (since.store v is.uses))
 
+      -- the variable's words in the store, once the step is done
       new_words : words_of zero_store v ≡ map zero_for (words_of x.world.store v)
       new_words = words_same x.world.store v (map zero_for (words_of x.world.store v)) (let l = length_is in let s = is.some in omega arith)
 
@@ -153,6 +161,7 @@ module _ (g : Setting) (r : Runner) (v : ℕ) (laid : IsLaidOut g r) (is : IsCha
           ∙ since.words (r.base + m + i) (variable_relied g r w m i other near' uses within) (other_outside (k + 1) is_k w m i other near' within ne)
           ∙ holds.holds.values w m i y other near' uses old
 
+      -- memory has the words of the store, whichever the variable is
       values : (w m i y : ℕ) (other : VarPlan) → IsNear (plan g r).vars w m other → r.footprint.uses w ≡ true → slice_get (words_of zero_store w) i ≡ Some y → slice_get zero_words (r.base + m + i) ≡ Some y
       values w m i y other near' uses h = ⊎_elim same (λ (ne : w ≢ v). is_other w m i y other near' uses ne (ap (λ ws. slice_get ws i) (sym (words_other x.world.store v w (map zero_for (words_of x.world.store v)) ne)) ∙ h)) (cases_eq w v)
         where
@@ -166,6 +175,7 @@ module _ (g : Setting) (r : Runner) (v : ℕ) (laid : IsLaidOut g r) (is : IsCha
               let lt : i < k + 1 = let l = length_is in let w' = was.0 in omega arith in
               ap (λ n. slice_get zero_words (r.base + n + i)) m_is ∙ is_zero i lt ∙ ap Some (sym was.1)
 
+      -- and no variable got longer or shorter
       lengths : (w m : ℕ) (other : VarPlan) → IsNear (plan g r).vars w m other → r.footprint.uses w ≡ true → other.words ≡ length (words_of zero_store w)
       lengths w m other near' uses =
           let old = holds.holds.lengths w m other near' uses ∙ ap length (sym (since.store w uses)) in
@@ -183,6 +193,7 @@ module _ (g : Setting) (r : Runner) (v : ℕ) (laid : IsLaidOut g r) (is : IsCha
           let same = length-set x.core.words (address_at base k / 4) 0 in
           omega arith
 
+      -- so memory holds the store again
       zero_holds : Holds (plan g r).vars r.footprint.uses r.base zero_words zero_store
       zero_holds = record { lengths = lengths; values = values }
 

@@ -1,6 +1,6 @@
 -- What is asked of an image, so that it does what its kernel means: each root has a thread of its own, with its code, and no two of them are in each
 -- other's way.
-use Rattle.std.specs.Prelude.{◌≡◌, ◌≢◌, ℕ, zero, suc, ◌+◌, ◌<◌, ◌≤◌, Bool, true, false, not, ◌&&◌, List, [], ◌∷◌, length, Option, Some, None, nat_eq, slice_get}
+use Rattle.std.specs.Prelude.{◌≡◌, ◌≢◌, ℕ, ◌+◌, ◌<◌, ◌≤◌, Bool, true, false, not, ◌&&◌, List, [], ◌∷◌, length, Option, Some, None, nat_eq, slice_get}
 use Rattle.xs_instr.specs.Machine.{boot_core, parts_in}
 use Rattle.xs_instr.specs.OwnSteps.{temporary}
 use Rattle.xc_kernel.specs.declared.kernel.PortUse.{PortUse}

@@ -6,7 +6,6 @@ use Rattle.xs_instr.specs.declared.image.Image.{Image}
 use Rattle.xs_instr.specs.declared.image.Stim.{Stim}
 use Rattle.xs_instr.specs.Machine.{home_of}
 use Rattle.xs_instr.specs.OwnSteps.{temporary}
-use Rattle.xs_instr.specs.Ports.{can_send}
 use Rattle.xs_instr.specs.Resources.{APort, named}
 use Rattle.xc_kernel.specs.declared.kernel.PortUse.{PortUse}
 use Rattle.xc_kernel.specs.Plain as kernel

@@ -1,32 +1,25 @@
 -- What stands between the machine and the program at each moment: each thread is on its way to what its branch does next.
-use Rattle.std.specs.Prelude.{◌≡◌, ℕ, ◌+◌, ◌*◌, ◌<◌, ◌≤◌, List, ◌∷◌, map, length, Option, Some, None, slice_get, slice_set}
-use Rattle.xs_instr.specs.declared.instr.Instr.TheVariants.{Freet}
+use Rattle.std.specs.Prelude.{◌≡◌, ℕ, ◌+◌, ◌*◌, ◌<◌, ◌≤◌, List, map, length, Option, Some, None, slice_get, slice_set}
 use Rattle.xs_instr.specs.declared.state.CoreState.{CoreState}
 use Rattle.xs_instr.specs.declared.state.Mode.TheVariants.{Trapped}
-use Rattle.xs_instr.specs.declared.state.Regs.{Regs}
 use Rattle.xs_instr.specs.declared.state.Thread.{Thread}
 use Rattle.xs_instr.specs.declared.trace.Record.{Record}
 use Rattle.xs_instr.specs.Machine.{Machine, no_links, noted, stepped}
 use Rattle.xs_instr.specs.Slot.{slot}
-use Rattle.xc_kernel.specs.Plain as kernel
 use Rattle.xc_meaning.specs.Counts.Families.{steps_of}
 use Rattle.xc_meaning.specs.Counts.KernelCounts.{kernel_bound}
 use Rattle.xc_meaning.specs.Runs.{acts_all}
 use Rattle.xc_meaning.specs.States.Branches.{Branch, Mode, runs, waits, ended, erred}
-use Rattle.xc_meaning.specs.States.Items.{Item, does, ends}
 use Rattle.xc_meaning.specs.States.Worlds.{World, Action}
-use Rattle.xl_image.specs.Code.{InstrAt}
-use Rattle.xl_walk.specs.Pieces.{Jumps}
 use Rattle.xr_match.specs.Implements.{clock_of}
 use Rattle.xr_match.specs.Lives.{Life, Watched, of_root}
 use Rattle.xr_match.specs.Meanings.{of_kernel}
 use Rattle.xr_match.specs.Sources.{Told}
 use Rattle.xr_match.specs.Systems.{SomeIs}
 use Rattle.xr_threads.specs.Images.{IsRun, Runners, counts, living_on}
-use Rattle.xr_threads.specs.Runners.{Setting, Runner, code, home}
+use Rattle.xr_threads.specs.Runners.{Setting, Runner, home}
 use Rattle.xr_threads.specs.Scenes.{Scene, Touched}
-use Rattle.xr_threads.specs.Settled.{IsOwn}
-use Rattle.xr_threads.specs.Turns.{Has, HasBases, IsAt, IsNext, IsUnused, Leads, StatementLeads, cost}
+use Rattle.xr_threads.specs.Turns.{IsNext, IsUnused, Leads, cost}
 
 -- there is no thread, or one that was trapped
 abbrev pub IsStopped : Option Thread → Type 0
@@ -34,15 +27,6 @@ IsStopped None = Unit {0}
 IsStopped (Some thread) = thread.mode ≡ Trapped
 
 module _ (g : Setting) (r : Runner) where
-  -- From the code of what may be first among a branch's items the thread comes soon to the own instruction of that item.
-  pub record AllLead : Type 0 where
-    pub statements : (t : kernel.Statement) (rest : List Item) → IsOwn (does t ∷ rest) → StatementLeads g r t
-    -- over the jumps before it
-    pub jumps : (k m j : ℕ) (z : Scene) (pc q : ℕ) (regs : Regs) (items : List Item) → Jumps (code g r) k pc q → IsAt g r z pc regs →
-        HasBases g r regs → Has g r items z → ((y : Scene) → IsAt g r y q regs → Has g r items y → Leads g r m j y) → Leads g r (k + m) j z
-    pub ends : (rest : List Item) (pc j most : ℕ) (z : Scene) (regs : Regs) → r.tie ≡ None → InstrAt (code g r) pc Freet →
-        Has g r (ends ∷ rest) z → IsAt g r z pc regs → Leads g r most j z
-
   -- The first item's own instruction is reached soon, and then few jumps are still to be done; `most` bounds both together.
   abbrev pub IsOnItsWay : (most : ℕ) → Scene → Type 0
   IsOnItsWay most z = (n : ℕ) × (j : ℕ) × (n + j ≤ most) × Leads g r n j z

@@ -8,19 +8,17 @@ use Rattle.xl_image.specs.Images.{IsImage}
 use Rattle.xl_image.specs.Roots.{RootsAreBuilt}
 use Rattle.xr_match.specs.Implements.{Implements, ImplementsWholly}
 use Rattle.xr_match.specs.Meanings.{of_kernel}
-use Rattle.xr_threads.proofs.Compiled.{setting}
 use Rattle.xr_threads.proofs.Compiled as compiled
 use Rattle.xr_threads.proofs.Imaged.{image_is}
 use Rattle.xr_threads.proofs.Roots.{runners}
-use Rattle.xr_threads.proofs.Statements.{all_lead}
 
 module _ (K : kernel.Kernel) (L : Image) (checked : IsChecked K) (built : RootsAreBuilt K.roots) (is : IsImage K L) (valid : Valid L) where
   pub wholly_implements : ImplementsWholly L (of_kernel K)
   wholly_implements =
       let i = image_is K L checked built is valid in
-      compiled.wholly_implements K L (runners K) i.0 (λ s r. all_lead (setting K L i.0 s) r) i.1 is.channels
+      compiled.wholly_implements K L (runners K) i.0 i.1 is.channels
 
   pub implements : Implements L (of_kernel K)
   implements =
       let i = image_is K L checked built is valid in
-      compiled.implements K L (runners K) i.0 (λ s r. all_lead (setting K L i.0 s) r) i.1 is.channels
+      compiled.implements K L (runners K) i.0 i.1 is.channels

@@ -1,0 +1,11 @@
+use Rattle.xc_kernel.specs.Kernels.{kernel_of}
+use Rattle.xr_threads.proofs.Implementing.{implements, wholly_implements}
+use Rattle.xr_threads.proofs.compiler.compile.Goals as goal
+
+pub returns-clause-implements : goal.returns-clause-implements
+returns-clause-implements c =
+    implements (kernel_of c.args.checked.now) c.in_ok-image.image c.kernel.ensures.accepted c.requires.built c.in_ok-image.ensures.pieces c.in_ok-image.ensures.valid
+
+pub returns-clause-wholly : goal.returns-clause-wholly
+returns-clause-wholly c =
+    wholly_implements (kernel_of c.args.checked.now) c.in_ok-image.image c.kernel.ensures.accepted c.requires.built c.in_ok-image.ensures.pieces c.in_ok-image.ensures.valid

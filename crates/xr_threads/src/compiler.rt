@@ -1,0 +1,37 @@
+//! The compiler.
+
+ghost use Rattle.std.specs.Prelude.{IfOk};
+ghost use Rattle.xc_kernel.specs.Kernels.{kernel_of};
+ghost use Rattle.xl_image.specs.Roots.{RootsAreBuilt};
+ghost use Rattle.xr_match.specs.Implements.{Implements, ImplementsWholly};
+ghost use Rattle.xr_match.specs.Meanings.{of_kernel};
+ghost use Rattle.xs_instr.specs.Valid.{Valid};
+ghost use Rattle.xs_instr.specs.Words.{HasWords};
+
+use crate::words::keep_words;
+use std::alloc::Global;
+use xc_disjoint::Checked;
+use xl_image::image;
+use xs_instr::Image;
+use xw_words::Memory;
+
+/// The image of a checked kernel whose roots' code is built. It can be loaded, and it implements the kernel: what a machine with it does
+/// under a stimulus, whatever the order of its events, is what the kernel may do.
+///
+/// It takes time and memory for each of the kernel's statements, variables and resources a fixed number of times, and its stack grows
+/// with the depth of the kernel. The one error is want of memory.
+pub fn compile(alloc: Global, checked: &Checked) -> Result<Image, Memory>
+    requires built { RootsAreBuilt (kernel_of checked.now).roots }
+    ensures implements { IfOk result
+        (λ image. Implements image (of_kernel (kernel_of checked.now))) }
+    ensures wholly { IfOk result
+        (λ image. ImplementsWholly image (of_kernel (kernel_of checked.now))) }
+    ensures valid { IfOk result (λ image. Valid image) }
+    ensures words { IfOk result (λ image. HasWords image) }
+{
+    let image = image(alloc, checked)?;
+    // What the types keep: the kernel is checked, and the image's numbers are words.
+    checked.kernel();
+    keep_words(&image);
+    Ok(image)
+}
