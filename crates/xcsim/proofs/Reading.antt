@@ -1,5 +1,6 @@
 -- From what the phases say of a text to its first broken rule, or its kernel.
-use Rattle.std.proofs.Common.{◌≡◌, ◌<◌, ◌≤◌, ◌^◌, ℕ, Bool, List, length, sym, ap, subst, ◌∙◌}
+use Rattle.std.proofs.Common.{◌≡◌, ◌<◌, ◌≤◌, ◌^◌, ℕ, Bool, List, length, sym, ap, subst, ◌∙◌, arith}
+use Rattle.std.specs.Prelude.{Result, Ok, Err, IfErr, IfOk}
 use Rattle.xw_words.specs.declared.pos.Broken.{Broken}
 use Rattle.xc_tree.specs.declared.names.Named.{Named}
 use Rattle.xc_tree.specs.declared.token.Tok.{Tok}
@@ -23,10 +24,11 @@ use Rattle.xc_kernel.specs.Copies.{Copies}
 use Rattle.xc_kernel.specs.Plain.{Kernel}
 use Rattle.xc_kernel.specs.Size.{Breaks509, IsTooLarge}
 use Rattle.xc_kernel.specs.Sound.{IsOfText, IsTyped}
-use Rattle.xc_today.specs.Laws.{KernelsAreBuilt}
+use Rattle.xc_today.proofs.Built.{kernels_are_built}
 use Rattle.xc_today.specs.Today.{IsBuiltToday}
 use Rattle.xl_image.specs.Roots.{RootsAreBuilt}
 use Rattle.xcsim.specs.Rules.{First, IsKernelOf, IsResolved}
+use Rattle.xcsim.proofs.Order.{tokens_few}
 use Rattle.xcsim.proofs.Firsts.{accepts, first_in_names, first_in_needs, first_in_size, first_in_types}
 
 -- a text has these tokens, which are this program alone, and it breaks no rule up to names
@@ -40,6 +42,31 @@ pub record IsReadAs (text : List ℕ) (items : List Item) : Type 0 where
   pub unbroken : (rule i : ℕ) → BreaksRule toks rule i → ⊥
   pub shallow : depth.of_program items ≤ deepest
   pub form : IsBuiltToday toks items
+
+pub read_as : (text : List ℕ) (toks : List Tok) (items : List Item) → Lexes text toks → Rise toks → IsProgram toks items →
+    ((v : List Item) → IsProgram toks v → v ≡ items) → ((rule i : ℕ) → BreaksRule toks rule i → ⊥) →
+    depth.of_program items ≤ deepest → IsBuiltToday toks items → IsReadAs text items
+read_as text toks items lexes rising derives only unbroken shallow form = record {
+  toks = toks;
+  lexes = lexes;
+  rising = rising;
+  few = let tokens = tokens_few text toks lexes in let short = lexes.short in omega (arith, tokens, short);
+  derives = derives;
+  only = only;
+  unbroken = unbroken;
+  shallow = shallow;
+  form = form;
+}
+
+-- what is so of the answer, where two things are
+pub ok_by : {T E : Type 0} {P Q S : T → Type 0} (r : Result T E) → ((x : T) → P x → Q x → S x) → IfOk r P → IfOk r Q → IfOk r S
+ok_by (Ok x) f p q = f x p q
+ok_by (Err e) f p q = tt
+
+-- what is so of the error
+pub err_by : {T E : Type 0} {P Q : E → Type 0} (r : Result T E) → ((e : E) → P e → Q e) → IfErr r P → IfErr r Q
+err_by (Ok x) f p = tt
+err_by (Err e) f p = f e p
 
 module _ (text : List ℕ) (items : List Item) (r : IsReadAs text items) where
   pub of_names : (b : Broken) → IsFirst (BreaksInNames items) b → First text b
@@ -79,8 +106,8 @@ module _ (text : List ℕ) (items : List Item) (r : IsReadAs text items) where
           copies = copies;
         }
 
-        pub built : KernelsAreBuilt → RootsAreBuilt K.roots
-        built law = law r.toks items (named_of named) types K r.derives r.shallow r.form typed_is copies
+        pub built : RootsAreBuilt K.roots
+        built = kernels_are_built r.toks items (named_of named) types K r.derives r.shallow r.form typed_is copies
 
 -- the same of a program with types that holds what was read and named
 module _
@@ -118,5 +145,5 @@ module _
     pub kernel_too : ((b : Broken) → BreaksInNeeds K b → ⊥) → IsKernelOf text K
     kernel_too = kernel_is text (program_of tree) r named is_named names typed.unsigned_at types_are sound K its_small its_copies
 
-    pub built_too : KernelsAreBuilt → RootsAreBuilt K.roots
+    pub built_too : RootsAreBuilt K.roots
     built_too = built text (program_of tree) r named is_named names typed.unsigned_at types_are sound K its_small its_copies

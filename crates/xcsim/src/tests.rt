@@ -26,15 +26,19 @@ const PULSE: &str = "out port p = XS1_PORT_1A;\nint main(void) { p @ 100 <: 1; r
 const PULSE_CODE: &str =
     "code\n.core 0\n.words 516\n.timers 0\n.ends 0\n.port 1A out\n.root 0\n0: LDC r0, 16 @2:5\n1: SETSP r0 @2:5\n2: LDC r0, 0 @2:5\n3: STWDP r0, 0 @2:5\n4: LDC r10, 100 @2:5\n5: LDC r0, 1 @2:5\n6: LDC r11, 0 @2:18\n7: SETC r11, NONE @2:18\n8: SETPT r11, r10 @2:18\n9: OUT r11, r0 @2:18\n10: LDC r0, 0 @2:18\n11: STWDP r0, 0 @2:18\n12: BRFU 13 @2:18\n13: FREET @2:5\n";
 
+/// Six functions, of which each but the first calls the one before ten times.
+const SIX_FUNCTIONS: &str =
+    "void f0(void) { int x; x = 1; }\nvoid f1(void) { f0(); f0(); f0(); f0(); f0(); f0(); f0(); f0(); f0(); f0(); }\nvoid f2(void) { f1(); f1(); f1(); f1(); f1(); f1(); f1(); f1(); f1(); f1(); }\nvoid f3(void) { f2(); f2(); f2(); f2(); f2(); f2(); f2(); f2(); f2(); f2(); }\nvoid f4(void) { f3(); f3(); f3(); f3(); f3(); f3(); f3(); f3(); f3(); f3(); }\nvoid f5(void) { f4(); f4(); f4(); f4(); f4(); f4(); f4(); f4(); f4(); f4(); }\n";
+
 /// A text of the language that isn't built yet.
 const TWO_BRANCHES: &str =
     "out port p = XS1_PORT_8A;\nint main(void) { chan c; int x; par { c <: 7; c :> x; } p @ 30000 <: x; return 0; }\n";
 
 /// A call, with the file `a.xc`, and what is expected of it.
 #[derive(Clone, Copy)]
-struct Row {
+struct Row<'t> {
     words: [&'static str; 4],
-    text: &'static str,
+    text: &'t str,
     load_fails: bool,
     status: u8,
     out: &'static str,
@@ -42,7 +46,7 @@ struct Row {
 }
 
 /// A call of `run a.xc`.
-const fn run(text: &'static str, status: u8, out: &'static str, err: &'static str) -> Row {
+const fn run(text: &'static str, status: u8, out: &'static str, err: &'static str) -> Row<'static> {
     Row {
         words: ["run", "a.xc", "", ""],
         text,
@@ -54,7 +58,7 @@ const fn run(text: &'static str, status: u8, out: &'static str, err: &'static st
 }
 
 /// A call whose words mean nothing. The first load would fail.
-const fn refused(words: [&'static str; 4]) -> Row {
+const fn refused(words: [&'static str; 4]) -> Row<'static> {
     Row {
         words,
         text: EMPTY_MAIN,
@@ -98,7 +102,7 @@ fn first_call(alloc: Global, fails: bool) -> Result<List<u32>, Memory> {
 fn check_row<Rt: Threads + Wait + Sync + Abort>(
     rt: &Rt,
     alloc: Global,
-    row: &Row,
+    row: &Row<'_>,
 ) -> Result<(), Fail> {
     let words = word_list(alloc, &row.words)?;
     let fails = first_call(alloc, row.load_fails)?;
@@ -327,29 +331,50 @@ fn check_trace<Rt: Threads + Wait + Sync + Abort>(
     Ok(())
 }
 
-/// Six functions, of which each but the first calls the one before ten times, and a main that calls the one of this number.
-fn copies(alloc: Global, last: u32) -> Result<String, AllocError> {
-    let mut text = String::from_str(alloc, "void f0(void) { int x; x = 1; }\n")?;
-    for f in 1..6u32 {
-        let below = f - 1;
-        text.push_str(format!(in alloc; "void f{f}(void) {{ ")?.as_str())?;
-        for _ in 0..10 {
-            text.push_str(format!(in alloc; "f{below}(); ")?.as_str())?;
-        }
-        text.push_str("}\n")?;
-    }
-    text.push_str(format!(in alloc; "int main(void) {{ f{last}(); return 0; }}\n")?.as_str())?;
-    Ok(text)
+/// A call of `check a.xc` with six functions and a `main` behind them.
+fn check_copies<Rt: Threads + Wait + Sync + Abort>(
+    rt: &Rt,
+    alloc: Global,
+    main: &str,
+    status: u8,
+    out: &'static str,
+    err: &'static str,
+) -> Result<(), Fail> {
+    let mut text = String::from_str(alloc, SIX_FUNCTIONS)?;
+    text.push_str(main)?;
+    let row = Row {
+        words: ["check", "a.xc", "", ""],
+        text: text.as_str(),
+        load_fails: false,
+        status,
+        out,
+        err,
+    };
+    check_row(rt, alloc, &row)
 }
 
 /// How large a program may be with all its copies, and how many words a core has.
 #[test]
 fn counts_copies(rt: HostRuntime) -> Result<(), Fail> {
-    let alloc = rt.alloc();
-    let text = copies(alloc, 5)?;
-    check_refused(&rt, alloc, text.as_bytes(), "a.xc:7:5: rule 509\n")?;
-    let text = copies(alloc, 4)?;
-    check_refused(&rt, alloc, text.as_bytes(), "a.xc:7:5: rule 704\n")
+    let rows = [
+        (
+            "int main(void) { f5(); return 0; }",
+            1,
+            "",
+            "a.xc:7:5: rule 509\n",
+        ),
+        (
+            "int main(void) { f4(); return 0; }",
+            1,
+            "",
+            "a.xc:7:5: rule 704\n",
+        ),
+        ("int main(void) { f3(); return 0; }", 0, "accepted\n", ""),
+    ];
+    for (main, status, out, err) in rows {
+        check_copies(&rt, rt.alloc(), main, status, out, err)?;
+    }
+    Ok(())
 }
 
 #[test]

@@ -73,20 +73,23 @@ fn number_of_ticks(word: &[u8]) -> Option<u32>
 
 /// The command that the words mean, if they mean one. None of it is a word that is empty, or one that begins with two dashes but
 /// `--ticks`, which may stand once behind `run`, with its number behind it.
+#[tactic(auto, using(crate::proofs::NoMeaning::no_meaning))]
 pub fn meaning(words: &[String]) -> Option<Command<'_>>
     ensures { MatchOption result (means (map string_bytes words.now) ≡ None)
         (λ command. means (map string_bytes words.now) ≡ Some (command_of command)) }
 {
-    match words {
-        [word, file] => on_file(word.as_str(), file.as_str()),
-        [word, first, second, third] => {
-            if word.as_str() != "run" {
-                return None;
-            }
-            timed_run(first.as_str(), second.as_str(), third.as_str())
-        }
-        _ => None,
+    if words.len() == 2 {
+        return on_file(words[0].as_str(), words[1].as_str());
     }
+    if words.len() == 4 {
+        return on_four(
+            words[0].as_str(),
+            words[1].as_str(),
+            words[2].as_str(),
+            words[3].as_str(),
+        );
+    }
+    None
 }
 
 /// The command that a word and a file mean, if they mean one.
@@ -110,6 +113,18 @@ fn on_file<'w>(word: &str, file: &'w str) -> Option<Command<'w>>
         return Some(Command::Check(file));
     }
     None
+}
+
+/// The command that four words mean, if they mean one: it is a run.
+fn on_four<'w>(word: &str, first: &'w str, second: &str, third: &'w str) -> Option<Command<'w>>
+    ensures { MatchOption result (means (word.now ∷ first.now ∷ second.now ∷ third.now ∷ []) ≡ None)
+        (λ command. means (word.now ∷ first.now ∷ second.now ∷ third.now ∷ [])
+        ≡ Some (command_of command)) }
+{
+    if word != "run" {
+        return None;
+    }
+    timed_run(first, second, third)
 }
 
 /// The run that three words behind `run` ask for, if they ask for one: `--ticks` with its number, before a file or behind it.
