@@ -39,7 +39,7 @@ pub returns-then-not-is_built_today-clause-first : goal.returns-then-not-is_buil
 returns-then-not-is_built_today-clause-first c =
     first_of_form c.args.text.now c.in_ok-toks.toks c.in_ok-toks.ensures.tokens (program_of c.in_ok-tree.tree) c.in_ok-tree.ensures.tree c.in_ok-tree.ensures.unbroken
     (λ h.
-    let t = c.is_built_today.ensures.1 (subst (λ ts. IsBuiltToday ts (program_of c.in_ok-tree.tree)) (sym c.as_slice.ensures.value) h) in
+    let t = c.is_built_today.ensures.1 (subst (λ ts. IsBuiltToday ts (program_of c.in_ok-tree.tree)) (sym c.as_slice.ensures) h) in
     let f = c.if-not-is_built_today.true in
     absurd (cc))
 
@@ -51,7 +51,7 @@ resolve-requires c =
 
 pub returns-in_err-named-clause-first : goal.returns-in_err-named-clause-first
 returns-in_err-named-clause-first c =
-    let form = subst (λ ts. IsBuiltToday ts (program_of c.in_ok-tree.tree)) c.as_slice.ensures.value (c.is_built_today.ensures.0 c.if-not-is_built_today.false) in
+    let form = subst (λ ts. IsBuiltToday ts (program_of c.in_ok-tree.tree)) c.as_slice.ensures (c.is_built_today.ensures.0 c.if-not-is_built_today.false) in
     let read =
     read_as c.args.text.now c.in_ok-toks.toks (program_of c.in_ok-tree.tree) c.in_ok-toks.ensures.tokens c.in_ok-toks.ensures.rising
     c.in_ok-tree.ensures.tree c.in_ok-tree.ensures.only c.in_ok-tree.ensures.unbroken c.in_ok-tree.ensures.shallow form in
@@ -60,7 +60,7 @@ returns-in_err-named-clause-first c =
 
 pub returns-in_err-typed-clause-first : goal.returns-in_err-typed-clause-first
 returns-in_err-typed-clause-first c =
-    let form = subst (λ ts. IsBuiltToday ts (program_of c.in_ok-tree.tree)) c.as_slice.ensures.value (c.is_built_today.ensures.0 c.if-not-is_built_today.false) in
+    let form = subst (λ ts. IsBuiltToday ts (program_of c.in_ok-tree.tree)) c.as_slice.ensures (c.is_built_today.ensures.0 c.if-not-is_built_today.false) in
     let read =
     read_as c.args.text.now c.in_ok-toks.toks (program_of c.in_ok-tree.tree) c.in_ok-toks.ensures.tokens c.in_ok-toks.ensures.rising
     c.in_ok-tree.ensures.tree c.in_ok-tree.ensures.only c.in_ok-tree.ensures.unbroken c.in_ok-tree.ensures.shallow form in
@@ -71,7 +71,7 @@ returns-in_err-typed-clause-first c =
 
 pub flatten-requires-clause-typed : goal.flatten-requires-clause-typed
 flatten-requires-clause-typed c =
-    let form = subst (λ ts. IsBuiltToday ts (program_of c.in_ok-tree.tree)) c.as_slice.ensures.value (c.is_built_today.ensures.0 c.if-not-is_built_today.false) in
+    let form = subst (λ ts. IsBuiltToday ts (program_of c.in_ok-tree.tree)) c.as_slice.ensures (c.is_built_today.ensures.0 c.if-not-is_built_today.false) in
     let read =
     read_as c.args.text.now c.in_ok-toks.toks (program_of c.in_ok-tree.tree) c.in_ok-toks.ensures.tokens c.in_ok-toks.ensures.rising
     c.in_ok-tree.ensures.tree c.in_ok-tree.ensures.only c.in_ok-tree.ensures.unbroken c.in_ok-tree.ensures.shallow form in
@@ -80,7 +80,7 @@ flatten-requires-clause-typed c =
 
 pub flatten-requires-clause-shallow : goal.flatten-requires-clause-shallow
 flatten-requires-clause-shallow c =
-    let form = subst (λ ts. IsBuiltToday ts (program_of c.in_ok-tree.tree)) c.as_slice.ensures.value (c.is_built_today.ensures.0 c.if-not-is_built_today.false) in
+    let form = subst (λ ts. IsBuiltToday ts (program_of c.in_ok-tree.tree)) c.as_slice.ensures (c.is_built_today.ensures.0 c.if-not-is_built_today.false) in
     let read =
     read_as c.args.text.now c.in_ok-toks.toks (program_of c.in_ok-tree.tree) c.in_ok-toks.ensures.tokens c.in_ok-toks.ensures.rising
     c.in_ok-tree.ensures.tree c.in_ok-tree.ensures.only c.in_ok-tree.ensures.unbroken c.in_ok-tree.ensures.shallow form in
@@ -89,7 +89,7 @@ flatten-requires-clause-shallow c =
 
 pub returns-in_err-kernel-clause-first : goal.returns-in_err-kernel-clause-first
 returns-in_err-kernel-clause-first c =
-    let form = subst (λ ts. IsBuiltToday ts (program_of c.in_ok-tree.tree)) c.as_slice.ensures.value (c.is_built_today.ensures.0 c.if-not-is_built_today.false) in
+    let form = subst (λ ts. IsBuiltToday ts (program_of c.in_ok-tree.tree)) c.as_slice.ensures (c.is_built_today.ensures.0 c.if-not-is_built_today.false) in
     let read =
     read_as c.args.text.now c.in_ok-toks.toks (program_of c.in_ok-tree.tree) c.in_ok-toks.ensures.tokens c.in_ok-toks.ensures.rising
     c.in_ok-tree.ensures.tree c.in_ok-tree.ensures.only c.in_ok-tree.ensures.unbroken c.in_ok-tree.ensures.shallow form in
@@ -101,7 +101,7 @@ returns-in_err-kernel-clause-first c =
 
 pub returns-clause-accepted : goal.returns-clause-accepted
 returns-clause-accepted c =
-    let form = subst (λ ts. IsBuiltToday ts (program_of c.in_ok-tree.tree)) c.as_slice.ensures.value (c.is_built_today.ensures.0 c.if-not-is_built_today.false) in
+    let form = subst (λ ts. IsBuiltToday ts (program_of c.in_ok-tree.tree)) c.as_slice.ensures (c.is_built_today.ensures.0 c.if-not-is_built_today.false) in
     let read =
     read_as c.args.text.now c.in_ok-toks.toks (program_of c.in_ok-tree.tree) c.in_ok-toks.ensures.tokens c.in_ok-toks.ensures.rising
     c.in_ok-tree.ensures.tree c.in_ok-tree.ensures.only c.in_ok-tree.ensures.unbroken c.in_ok-tree.ensures.shallow form in
@@ -113,7 +113,7 @@ returns-clause-accepted c =
 
 pub returns-clause-built : goal.returns-clause-built
 returns-clause-built c =
-    let form = subst (λ ts. IsBuiltToday ts (program_of c.in_ok-tree.tree)) c.as_slice.ensures.value (c.is_built_today.ensures.0 c.if-not-is_built_today.false) in
+    let form = subst (λ ts. IsBuiltToday ts (program_of c.in_ok-tree.tree)) c.as_slice.ensures (c.is_built_today.ensures.0 c.if-not-is_built_today.false) in
     let read =
     read_as c.args.text.now c.in_ok-toks.toks (program_of c.in_ok-tree.tree) c.in_ok-toks.ensures.tokens c.in_ok-toks.ensures.rising
     c.in_ok-tree.ensures.tree c.in_ok-tree.ensures.only c.in_ok-tree.ensures.unbroken c.in_ok-tree.ensures.shallow form in
@@ -125,7 +125,7 @@ returns-clause-built c =
 
 pub returns-clause-first : goal.returns-clause-first
 returns-clause-first c =
-    let form = subst (λ ts. IsBuiltToday ts (program_of c.in_ok-tree.tree)) c.as_slice.ensures.value (c.is_built_today.ensures.0 c.if-not-is_built_today.false) in
+    let form = subst (λ ts. IsBuiltToday ts (program_of c.in_ok-tree.tree)) c.as_slice.ensures (c.is_built_today.ensures.0 c.if-not-is_built_today.false) in
     let read =
     read_as c.args.text.now c.in_ok-toks.toks (program_of c.in_ok-tree.tree) c.in_ok-toks.ensures.tokens c.in_ok-toks.ensures.rising
     c.in_ok-tree.ensures.tree c.in_ok-tree.ensures.only c.in_ok-tree.ensures.unbroken c.in_ok-tree.ensures.shallow form in
