@@ -1,0 +1,118 @@
+-- The kernels of programs that are built today have code: no statement of a later form is in them, and as they have no channel,
+-- each output goes to a port.
+use Rattle.std.proofs.Common.{◌≡◌, ℕ, ◌<◌, Bool, true, false, ◌||◌, List, [], ◌∷◌, length, Option, None, Some, refl, sym, ap, subst, ◌∙◌, true≢false, arith}
+use Rattle.xc_tree.specs.Derives.{unlimited}
+use Rattle.xc_tree.specs.Plain as tree
+use Rattle.xc_kernel.specs.declared.kernel.Chan.{Chan}
+use Rattle.xc_kernel.specs.declared.kernel.PortUse.{PortUse}
+use Rattle.xc_kernel.specs.declared.statement.KRes.{KRes}
+use Rattle.xc_kernel.specs.declared.statement.KRes.TheVariants.{Port, Timer, Chan as Channel}
+use Rattle.xc_kernel.specs.Plain as kernel
+use Rattle.xc_kernel.specs.Paths.{each_once}
+use Rattle.xc_kernel.specs.Numbering.{Numbering, path_of_channel, no_numbering}
+use Rattle.xc_kernel.specs.Programs.{Function, functions, main_of, name_of_main}
+use Rattle.xc_kernel.specs.Context.{Context}
+use Rattle.xc_kernel.specs.Calls.{CopiesCall, function_copy}
+use Rattle.xc_kernel.specs.Statements.{statement_copy}
+use Rattle.xc_kernel.specs.Roots.{Rooted, action_has_placed, block_has_placed, in_block, context_of, roots_by, roots_of}
+use Rattle.xc_kernel.specs.Copies.{calls_of, rooted, copy_of}
+use Rattle.xc_formed.specs.Each.{AnyExpression, AnyPlace, AnyNumber, EachStatement, EachOf, EachRoot}
+use Rattle.xc_formed.specs.Transfers.{OutputGoes, GoesOut, ComesIn}
+use Rattle.xc_formed.proofs.Formed.{transfers_right}
+use Rattle.xc_formed.proofs.Grammar.{AllOf, MaybeOf}
+use Rattle.xl_walk.specs.Built.{IsPort, IsBuilt, AreBuilt}
+use Rattle.xl_image.specs.Roots.{RootsAreBuilt}
+use Rattle.xc_today.specs.Today.{AreItemsUnstamped}
+use Rattle.xc_today.specs.Laws.{KernelsAreBuilt}
+use Rattle.xc_today.proofs.Early.{IsEarlyAction, IsEarly, AreEarly, IsEarlyItem, program_early}
+use Rattle.xc_today.proofs.Copied.{IsEarlyCode, AreEarlyCode, IsEarlyFunction, CallsEarly, as_statements, named_early, function_early, calls_early}
+
+-- Roots.
+
+abbrev IsEarlyRoot : kernel.Root → Type 0
+IsEarlyRoot r = AreEarlyCode r.body
+
+record IsEarlyRooted (r : Rooted) : Type 0 where
+  pub roots : AllOf IsEarlyRoot r.roots
+  pub channels : r.made.channels ≡ []
+
+-- no branch is placed where there is no `par`
+action_unplaced : (a : tree.Action) → IsEarlyAction a → action_has_placed a ≡ false
+action_unplaced (tree.par bs) h = absurd h
+action_unplaced (tree.replicated x y z from until b) h = absurd h
+action_unplaced other h = refl
+
+block_unplaced : (ss : tree.Statements) → AreEarly ss → block_has_placed ss ≡ false
+block_unplaced tree.no_more h = refl
+block_unplaced (tree.more (tree.statement a pos close own) ss) h = ap (λ b. b || block_has_placed ss) (action_unplaced a h.0) ∙ block_unplaced ss h.1
+
+in_block_early : (s : tree.Statement) → IsEarly s → AreEarly (in_block s)
+in_block_early (tree.statement (tree.block ss) pos close own) h = h
+in_block_early (tree.statement other pos close own) h = tt
+
+-- main is the one root
+main_early : (copies : CopiesCall) → CallsEarly copies → (f : Function) (c : Context) (b : Bool) → b ≡ false → AllOf IsEarlyFunction c.functions → IsEarlyFunction f → IsEarlyRooted (roots_by copies b f c)
+main_early copies calls f c true e fs h = absurd (true≢false e)
+main_early copies calls f c false e fs h =
+    let copy = function_copy (statement_copy copies) c c.ports [] f [] in
+    let made = function_early copies calls c c.ports [] f [] fs h in
+    record { roots = (as_statements copy.code made.code, tt); channels = made.channels }
+
+some_early : (copies : CopiesCall) → CallsEarly copies → (c : Context) (o : Option Function) → AllOf IsEarlyFunction c.functions → MaybeOf IsEarlyFunction o → IsEarlyRooted (roots_of copies o c)
+some_early copies calls c None fs h = record { roots = tt; channels = refl }
+some_early copies calls c (Some f) fs h = main_early copies calls f c (block_has_placed (in_block f.body)) (block_unplaced (in_block f.body) (in_block_early f.body h.early)) fs h
+
+rooted_early : (P : List tree.Item) (num : Numbering) → AllOf IsEarlyFunction (functions P) → IsEarlyRooted (rooted P num)
+rooted_early P num fs = some_early (calls_of P) (calls_early (length (functions P))) (context_of P num) (main_of P) fs (named_early (functions P) name_of_main fs)
+
+functions_early : (P : List tree.Item) → AllOf IsEarlyItem P → AreItemsUnstamped P → AllOf IsEarlyFunction (functions P)
+functions_early [] h g = tt
+functions_early (tree.port p ∷ P) h g = functions_early P h.1 g.1
+functions_early (tree.function head s ∷ P) h g = (record { early = h.0; unstamped = g.0 }, functions_early P h.1 g.1)
+
+-- The kernel.
+
+copy_roots : (P : List tree.Item) → AllOf IsEarlyFunction (functions P) → AllOf IsEarlyRoot (copy_of P).roots
+unfolding copy_of
+copy_roots P fs = (rooted_early P _ fs).roots
+
+copy_channels : (P : List tree.Item) → AllOf IsEarlyFunction (functions P) → (copy_of P).channels ≡ []
+unfolding copy_of
+copy_channels P fs = ap (each_once path_of_channel) (rooted_early P no_numbering fs).channels
+
+-- without channels an output goes to a port
+goes_to_port : (ps : List PortUse) (timers : ℕ) (cs : List Chan) (r : KRes) (time : Option kernel.Expression) (stamp : Option kernel.Place) → cs ≡ [] → OutputGoes ps (length cs) timers r time stamp → IsPort r
+goes_to_port ps timers cs (Port p) time stamp e h = tt
+goes_to_port ps timers cs (Timer t) time stamp e h = absurd h
+goes_to_port ps timers cs (Channel c) time stamp e h = let g : c < 0 = subst (λ (l : List Chan). c < length l) e h.0 in absurd (omega arith)
+
+module _ (K : kernel.Kernel) (none : K.channels ≡ []) where
+  mutual
+    statement_built : (s : kernel.Statement) → IsEarlyCode s → EachStatement AnyExpression AnyPlace AnyNumber (GoesOut K) (ComesIn K) AnyNumber s → IsBuilt s
+    statement_built (kernel.set_zero v) h g = tt
+    statement_built (kernel.set p e) h g = tt
+    statement_built (kernel.output o) h g = (goes_to_port K.ports (length K.timers) K.channels o.resource o.time o.stamp none g.0, h)
+    statement_built (kernel.input i) h g = absurd h
+    statement_built (kernel.if_then e a b) h g = (statements_built a h.0 g.1.0, statements_built b h.1 g.1.1)
+    statement_built (kernel.loop e a b) h g = (statements_built a h.0 g.1.0, statements_built b h.1 g.1.1)
+    statement_built (kernel.block n a) h g = statements_built a h g
+    statement_built (kernel.exit n) h g = tt
+    statement_built (kernel.select cs d pos) h g = absurd h
+    statement_built (kernel.par bs) h g = absurd h
+    statement_built (kernel.transaction c is_master a start close) h g = absurd h
+
+    statements_built : (ss : kernel.Statements) → AreEarlyCode ss → EachOf AnyExpression AnyPlace AnyNumber (GoesOut K) (ComesIn K) AnyNumber ss → AreBuilt ss
+    statements_built kernel.no_more h g = tt
+    statements_built (kernel.more s ss) h g = (statement_built s h.0 g.0, statements_built ss h.1 g.1)
+
+  roots_built : (rs : List kernel.Root) → AllOf IsEarlyRoot rs → EachRoot AnyExpression AnyPlace AnyNumber (GoesOut K) (ComesIn K) AnyNumber rs → RootsAreBuilt rs
+  roots_built [] h g = tt
+  roots_built (r ∷ rs) h g = (statements_built r.body h.0 g.0, roots_built rs h.1 g.1)
+
+pub kernels_are_built : KernelsAreBuilt
+kernels_are_built toks P n types K derived deep today typed copies =
+    let early = program_early toks today.words unlimited 0 (length toks) P derived in
+    let fs = functions_early P early today.stamps in
+    let none : K.channels ≡ [] = ap (λ (k : kernel.Kernel). k.channels) copies.is_copy ∙ copy_channels P fs in
+    let roots : AllOf IsEarlyRoot K.roots = subst (λ (k : kernel.Kernel). AllOf IsEarlyRoot k.roots) (sym copies.is_copy) (copy_roots P fs) in
+    roots_built K none K.roots roots (transfers_right P n types K typed deep copies)

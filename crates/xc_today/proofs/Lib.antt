@@ -1,0 +1,4 @@
+mod Lists
+pub mod Early
+pub mod Copied
+pub mod Built

@@ -1,0 +1,2 @@
+pub mod Today
+pub mod Laws
