@@ -4,3 +4,4 @@ pub mod Early
 pub mod Copied
 pub mod Built
 pub mod Ports
+pub mod Examples
