@@ -6,5 +6,5 @@ mod stamps;
 mod today;
 mod tokens;
 
-pub use law::kernels_are_built;
+pub use law::{kernels_are_built, ports_go_out};
 pub use today::is_built_today;
