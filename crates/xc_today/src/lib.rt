@@ -1,4 +1,4 @@
-//! The programs that are built today: which texts hold nothing of a later form, and that the kernels of those have code.
+//! The programs that are built today: which texts hold nothing of a later form, and that the code of their kernels' roots is built.
 #![tactic(auto)]
 
 mod law;
