@@ -1,7 +1,4 @@
-use Rattle.std.proofs.Common.{◌≡◌, ◌<◌, ◌^◌, ℕ, length, refl, sym, ap, subst, ◌∙◌, arith}
-use Rattle.std.specs.Prelude.{Ok, Err}
-use Rattle.xw_words.specs.declared.pos.Broken.{Broken}
-use Rattle.xc_disjoint.specs.Rules.{Breaks as BreaksInNeeds}
+use Rattle.std.proofs.Common.{sym, subst, arith}
 use Rattle.xc_kernel.specs.Kernels.{kernel_of}
 use Rattle.xc_tree.specs.declared.refusal.Refusal.{Refusal}
 use Rattle.xc_tree.specs.Parses.{FirstBroken}
