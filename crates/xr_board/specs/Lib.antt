@@ -1,0 +1,4 @@
+pub mod CellState
+pub mod Inbox
+pub mod Short
+pub mod Turns
