@@ -97,20 +97,11 @@ impl<U: RunName, C: CoreName> Cell<U, C> {
         Some(self.part.ran())
     }
 
-    /// The core's part, out of the cell.
-    pub fn into_part(self) -> Part
-        ensures { result ≡ self.part }
+    /// The core's part.
+    pub fn part(&self) -> &Part
+        ensures { result.now ≡ self.now.part }
     {
-        let Cell {
-            part,
-            stopped: _,
-            from0: _,
-            from1: _,
-            from2: _,
-            from3: _,
-            of: _,
-        } = self;
-        part
+        &self.part
     }
 
     /// Sets the stop mark.
