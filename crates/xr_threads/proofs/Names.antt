@@ -1,7 +1,7 @@
 -- A port's identifier names the port.
 use Rattle.std.proofs.Common.{◌≡◌, ℕ, ◌/◌, ◌%◌, ◌^◌, ◌<◌, ap, ◌∙◌, arith, eq-eqb}
 use Rattle.xs_instr.specs.Resources.{APort, of_kind, named_by, named}
-use Rattle.xr_match.specs.Code.{port_name}
+use Rattle.xl_plan.specs.Layout.{port_name}
 
 name_core : (c p : ℕ) → p < 2 ^ 16 → port_name c p / 2 ^ 24 ≡ c
 name_core c p h = omega arith
