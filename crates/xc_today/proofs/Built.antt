@@ -1,4 +1,4 @@
--- The kernels of programs that are built today have code: no statement of a later form is in them, and as they have no channel,
+-- The code of the roots of kernels is built whose programs are built today: no statement of a later form is in them, and as they have no channel,
 -- each output goes to a port.
 use Rattle.std.proofs.Common.{◌≡◌, ℕ, ◌<◌, Bool, true, false, ◌||◌, List, [], ◌∷◌, length, Option, None, Some, refl, sym, ap, subst, ◌∙◌, true≢false, arith}
 use Rattle.xc_tree.specs.Derives.{unlimited}

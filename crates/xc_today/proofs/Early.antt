@@ -8,6 +8,7 @@ use Rattle.xc_tree.specs.Words as words
 use Rattle.xc_tree.specs.Symbol.{Symbol, sym, key, a_name, a_number, many, maybe, commas, program, item, body, block, block_item, decl, statement, closed, case_item, for_start, for_step, assign, input, Declarator, a_word, an_array, Value, Values}
 use Rattle.xc_tree.specs.Grammar.{Rule, Extent, rules, kept, declared, named as kind_named}
 use Rattle.xc_tree.specs.Derives.{Room, extent, Derives, a_sym, a_key, named, counted, by_rule, Row, done, next}
+use Rattle.xc_today.proofs.Rules.{EachRule, none, ◌&◌, among_each}
 use Rattle.xc_formed.proofs.Grammar.{AllOf, MaybeOf}
 use Rattle.xc_today.specs.Today.{later_words, later_symbols, IsNoneOf, IsOfToday, AreOfToday}
 
@@ -105,28 +106,18 @@ RowGood (s ∷ ss) vs = Good s vs.0 × RowGood ss vs.1
 abbrev Keeps : {V : Type 0} → (V → Type 0) → Rule V → Type 0
 Keeps G r = (e : Extent) (x : Values r.parts) → RowGood r.parts x → G (r.make e x)
 
-infixr 20 ◌&◌
-data AllKeep {V : Type 0} (G : V → Type 0) : List (Rule V) → Type 0 where
-  none : AllKeep G []
-  ◌&◌ : {r : Rule V} {rs : List (Rule V)} → Keeps G r → AllKeep G rs → AllKeep G (r ∷ rs)
-
-among_all : {V : Type 0} (G : V → Type 0) (rs : List (Rule V)) (r : Rule V) (at : ℕ) → AllKeep G rs → slice_get rs at ≡ Some r → Keeps G r
-among_all G [] r at none e = absurd (cc)
-among_all G (x ∷ rs) r zero (a & more) e = let g : x ≡ r = cc in subst (λ y. Keeps G y) g a
-among_all G (x ∷ rs) r (suc at) (a & more) e = among_all G rs r at more e
-
 -- where nothing is asked
-nothing : {V : Type 0} (rs : List (Rule V)) → AllKeep (λ x. Unit {0}) rs
+nothing : {V : Type 0} (rs : List (Rule V)) → EachRule (λ r. Keeps (λ x. Unit {0}) r) rs
 nothing [] = none
 nothing (r ∷ rs) = (λ e x g. tt) & nothing rs
 
 -- one of them isn't none of them
-no_one : (places : List ℕ) (i place : ℕ) → slice_get places i ≡ Some place → IsNoneOf places place → ⊥
+pub no_one : (places : List ℕ) (i place : ℕ) → slice_get places i ≡ Some place → IsNoneOf places place → ⊥
 no_one [] i place e h = absurd (cc)
 no_one (x ∷ xs) zero place e h = let g : x ≡ place = cc in h.0 (cc)
 no_one (x ∷ xs) (suc i) place e h = no_one xs i place e h.1
 
-all_keep : (s : Symbol) → AllKeep (Good s) (rules s)
+all_keep : (s : Symbol) → EachRule (λ r. Keeps (Good s) r) (rules s)
 all_keep (sym o) = none
 all_keep (key w) = none
 all_keep a_name = none
@@ -169,7 +160,7 @@ all_keep input = (λ e x g. no_one later_symbols 0 symbols.receives refl g.1.1.0
 all_keep s = nothing (rules s)
 
 -- a token of these
-of_today : (toks : List Tok) (i : ℕ) (t : Tok) → AreOfToday toks → slice_get toks i ≡ Some t → IsOfToday t.kind
+pub of_today : (toks : List Tok) (i : ℕ) (t : Tok) → AreOfToday toks → slice_get toks i ≡ Some t → IsOfToday t.kind
 of_today [] i t h e = absurd (cc)
 of_today (x ∷ xs) zero t h e = let g : x ≡ t = cc in subst (λ (y : Tok). IsOfToday y.kind) g h.0
 of_today (x ∷ xs) (suc i) t h e = of_today xs i t h.1 e
@@ -181,7 +172,7 @@ module _ (toks : List Tok) (today : AreOfToday toks) where
     good (a_key on) = of_today toks _ _ today on.there
     good (named on) = tt
     good (counted on) = tt
-    good {s} {i} {j} (by_rule {r} {vs} a h row f) = among_all (Good s) (rules s) r a.at (all_keep s) a.there (extent toks i j) vs (row_good row)
+    good {s} {i} {j} (by_rule {r} {vs} a h row f) = among_each (λ x. Keeps (Good s) x) (rules s) r a.at (all_keep s) a.there (extent toks i j) vs (row_good row)
 
     row_good : {room : Room} {ss : List Symbol} {i j : ℕ} {vs : Values ss} → Row toks room ss i j vs → RowGood ss vs
     row_good done = tt

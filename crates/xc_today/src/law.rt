@@ -1,9 +1,14 @@
-//! The law, as the contract of a function that does nothing.
+//! The laws, as contracts of functions that do nothing.
 
-ghost use Rattle.xc_today.specs.Laws.{KernelsAreBuilt};
+ghost use Rattle.xc_today.specs.Laws.{KernelsAreBuilt, PortsGoOut};
 
-/// The kernel of a program that is built today has code: its roots have no input, no `par`, no `select` and no transaction, and its
+/// The code of the roots of a kernel is built whose program is built today: they have no input, no `par`, no `select` and no transaction, and its
 /// outputs go to ports and have no stamp.
 pub fn kernels_are_built()
     ensures { KernelsAreBuilt }
+{}
+
+/// The ports of a program that is built today, and its parameters that are ports, are `out port`.
+pub fn ports_go_out()
+    ensures { PortsGoOut }
 {}

@@ -1,4 +1,4 @@
-//! The programs that are built today: which texts hold nothing of a later form, and that the kernels of those have code.
+//! The programs that are built today: which texts hold nothing of a later form, and that the code of their kernels' roots is built.
 #![tactic(auto)]
 
 mod law;
@@ -6,5 +6,5 @@ mod stamps;
 mod today;
 mod tokens;
 
-pub use law::kernels_are_built;
+pub use law::{kernels_are_built, ports_go_out};
 pub use today::is_built_today;

@@ -60,6 +60,7 @@ module _ (vars : List (Option VarPlan)) (relied : ℕ → Bool) (s dp : ℕ) (wo
   abbrev pub ArrayIsLaid : VarPlan → List ℕ → Value → Type 0
   ArrayIsLaid found xs i = (found.words ≡ length xs) × ArrayStands found.place xs i
 
+  -- an element, with its index where that is to be laid
   abbrev pub ElementIsLaid : Option VarPlan → (index_laid : Type 0) → List ℕ → Value → Type 0
   ElementIsLaid None index_laid xs i = ⊥
   ElementIsLaid (Some found) index_laid xs i = WithIndex found.place index_laid (ArrayIsLaid found xs i)

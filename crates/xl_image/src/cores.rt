@@ -22,8 +22,8 @@ const CORES: u8 = 4;
 
 /// The image of a checked kernel whose roots' code is built: a part for each core that has a root, in the order of the cores.
 ///
-/// It takes time and memory for each of the kernel's statements, variables and resources a fixed number of times, and its stack grows with the
-/// depth of the kernel. The one error is want of memory.
+/// It takes time and memory for each of the kernel's statements, nodes of expressions, words that are set to 0, and resources, and its stack
+/// grows with the depth of the kernel. The one error is want of memory.
 pub fn image(alloc: Global, checked: &Checked) -> Result<Image, Memory>
     requires built { RootsAreBuilt (kernel_of checked.now).roots }
     ensures cores { IfOk result

@@ -58,7 +58,7 @@ module _ (g : Setting) (r : Runner) where
     pub value : Uses o.value
     pub port : PutsOutAt o.resource
 
-  -- of what isn't built nothing is said
+  -- an exit needs nothing, and of what isn't built nothing is said
   abbrev mutual
     pub Fits : kernel.Statement → Type 0
     Fits (kernel.set_zero v) = IsChanged v × IsCounted (kernel.set_zero v)

@@ -55,11 +55,11 @@ pub record IsRoot (g : Setting) (r : Runner) (root : kernel.Root) : Type 0 where
       (found.words ≡ words_in g.program.variables v) × (r.base + n + found.words ≤ (home g r).parts.words)
   pub ports : (p : ℕ) (listed : PortUse) → IsPort g r p listed → slice_get (home g r).parts.ports (port_place g r p) ≡ Some (decl_of listed)
 
--- 1 for a branch of core c that has not ended, else 0
 abbrev pub one_where : Bool → ℕ
 one_where true = 1
 one_where false = 0
 
+-- 1 for a branch of core c that has not ended, else 0
 abbrev pub counts : (c core : ℕ) → Mode → ℕ
 counts c core mode = one_where (nat_eq core c && not (has_ended mode))
 

@@ -18,6 +18,7 @@ use Rattle.xl_expr.specs.Frames.{Frame, IsNear}
 use Rattle.xl_expr.specs.Plans.{resource_at, var_in}
 use Rattle.xl_plan.specs.Layout.{port_name, port_number}
 
+-- a program, its image, a stimulus, and the plan of each core
 pub record Setting : Type 0 where
   pub program : kernel.Kernel
   pub image : Image

@@ -18,8 +18,8 @@ use xw_words::Memory;
 /// The image of a checked kernel whose roots' code is built. It can be loaded, and it implements the kernel: what a machine with it does
 /// under a stimulus, whatever the order of its events, is what the kernel may do.
 ///
-/// It takes time and memory for each of the kernel's statements, variables and resources a fixed number of times, and its stack grows
-/// with the depth of the kernel. The one error is want of memory.
+/// It takes time and memory for each of the kernel's statements, nodes of expressions, words that are set to 0, and resources, and its
+/// stack grows with the depth of the kernel. The one error is want of memory.
 pub fn compile(alloc: Global, checked: &Checked) -> Result<Image, Memory>
     requires built { RootsAreBuilt (kernel_of checked.now).roots }
     ensures implements { IfOk result
@@ -30,7 +30,7 @@ pub fn compile(alloc: Global, checked: &Checked) -> Result<Image, Memory>
     ensures words { IfOk result (λ image. HasWords image) }
 {
     let image = image(alloc, checked)?;
-    // What the types keep: the kernel is checked, and the image's numbers are words.
+    // That the kernel is checked and the image's numbers are words is known of their types, and told here.
     checked.kernel();
     keep_words(&image);
     Ok(image)

@@ -1,0 +1,81 @@
+-- What is built today and what isn't: the words and symbols of later forms as they are spelled, and rows of tokens and statements.
+use Rattle.std.proofs.Common.{◌≡◌, true, false, List, [], ◌∷◌, map, Option, None, Some, codes, refl, sym, true≢false}
+use Rattle.xw_words.specs.Tables.{place_in, place_from}
+use Rattle.xc_tree.specs.declared.token.Tok.{Tok}
+use Rattle.xc_tree.specs.declared.token.Kind.{Kind}
+use Rattle.xc_tree.specs.declared.token.Kind.TheVariants.{Name, Num, Key, Sym}
+use Rattle.xc_tree.specs.Plain as tree
+use Rattle.xc_tree.specs.Symbols as symbols
+use Rattle.xc_tree.specs.Tables as tables
+use Rattle.xc_tree.specs.Words as words
+use Rattle.xc_today.specs.Today.{later_words, later_symbols, AreOfToday, PortsAreOut, IsUnstamped}
+
+-- Words and symbols.
+
+spelled_words : map (place_in tables.words) (codes "chan" ∷ codes "chanend" ∷ codes "in" ∷ codes "master" ∷ codes "on" ∷ codes "par" ∷ codes "select" ∷ codes "slave" ∷ codes "timer" ∷ []) ≡ map Some later_words
+unfolding tables.words place_from
+spelled_words = refl
+
+spelled_symbols : map (place_in tables.symbols) (codes ":>" ∷ []) ≡ map Some later_symbols
+unfolding tables.symbols place_from
+spelled_symbols = refl
+
+-- tokens of these kinds
+abbrev tokens : List Kind → List Tok
+tokens [] = []
+tokens (k ∷ ks) = record { kind = k; pos = record { line = 1; col = 1 } } ∷ tokens ks
+
+-- `par {`
+par_is_later : AreOfToday (tokens (Key words.par_word ∷ Sym symbols.brace ∷ [])) → ⊥
+par_is_later h = h.0.1.1.1.1.1.0 refl
+
+-- `p :>`
+input_is_later : AreOfToday (tokens (Name (codes "p") ∷ Sym symbols.receives ∷ [])) → ⊥
+input_is_later h = h.1.0.0 refl
+
+-- a name is no word
+name_is_of_today : AreOfToday (tokens (Name (codes "par") ∷ Num 15 false ∷ []))
+name_is_of_today = (tt, (tt, tt))
+
+-- Ports.
+
+no : {A : Type 0} → false ≡ true → A
+no e = absurd (true≢false (sym e))
+
+-- `out port p =`
+out_port : PortsAreOut false (tokens (Key words.out_word ∷ Key words.port_word ∷ Name (codes "p") ∷ Sym symbols.equals ∷ []))
+out_port = (λ e. no e, (λ e. refl, (λ e. no e, (λ e. no e, tt))))
+
+-- `port p =`
+any_port : PortsAreOut false (tokens (Key words.port_word ∷ Name (codes "p") ∷ Sym symbols.equals ∷ [])) → ⊥
+any_port h = no (h.0 refl)
+
+-- `void f ( out port p , port q ) ;`, which leaves nothing in the tree
+any_port_of_prototype : PortsAreOut false (tokens (Key words.void_word ∷ Name (codes "f") ∷ Sym symbols.paren ∷ Key words.out_word ∷ Key words.port_word ∷ Name (codes "p") ∷ Sym symbols.comma ∷ Key words.port_word ∷ Name (codes "q") ∷ Sym symbols.end_paren ∷ Sym symbols.semicolon ∷ [])) → ⊥
+any_port_of_prototype h = no (h.1.1.1.1.1.1.1.0 refl)
+
+-- Stamps.
+
+-- `p <: 1`, with a stamp or none
+abbrev sends : Option tree.Timing → tree.Statement
+sends stamp = tree.statement
+    (tree.output (record {
+      name = record { text = codes "p"; pos = record { line = 1; col = 1 } };
+      time = None;
+      value = tree.expression (tree.number 1 false) (record { line = 1; col = 6 });
+      stamp = stamp;
+    }))
+    (record { line = 1; col = 1 }) (record { line = 1; col = 7 }) 4
+
+abbrev a_stamp : tree.Timing
+a_stamp = record { at = record { line = 1; col = 8 }; value = tree.expression (tree.name (codes "t")) (record { line = 1; col = 10 }) }
+
+-- a loop that does this for ever
+abbrev loops : tree.Statement → tree.Statement
+loops s = tree.statement (tree.while_loop (tree.expression (tree.number 1 false) (record { line = 1; col = 8 })) s) (record { line = 1; col = 1 }) (record { line = 1; col = 20 }) 4
+
+without_stamp : IsUnstamped (loops (sends None))
+without_stamp = refl
+
+with_stamp : IsUnstamped (loops (sends (Some a_stamp))) → ⊥
+with_stamp e = absurd (cc)
