@@ -5,7 +5,7 @@ out port strobe = XS1_PORT_1A;
 out port data = XS1_PORT_8B;
 
 int main(void) {
-  data <: 85;           // at once: at tick 3, since two instructions come before its OUT and each takes a tick
+  data <: 85;           // at once: at tick 8, since seven instructions come before its OUT and each takes a tick
   strobe @ 1000 <: 1;   // outputs come one after the other: the next one begins when this one is done
   strobe @ 1500 <: 0;
   data @ 65535 <: 300;  // a port of 8 bits outputs the low 8 bits: 300 - 256 = 44

@@ -1,7 +1,7 @@
 // One value at ports of each width: 1, 4, 8, 16 and 32 bits. The number behind XS1_PORT_ is the width.
 //
 // Look at the values in the trace: each port outputs the low bits of the value, as many as it is wide.
-// Look at the stamps: an output without a time is three instructions (LDC, LDC, OUT), one a tick, so they are 3 apart.
+// Look at the stamps: an output without a time is four instructions (LDC, LDC, SETC, OUT), one a tick, so they are 4 apart.
 out port one = XS1_PORT_1P;
 out port four = XS1_PORT_4F;
 out port eight = XS1_PORT_8D;

@@ -2,6 +2,7 @@
 
 import io
 import os
+import re
 
 from traces.output import Output
 
@@ -43,9 +44,6 @@ def written(path: str) -> str:
         return file.read()
 
 
-KEPT = [example(f"{name}.out") for name in PROGRAMS] + [data("two_cores.out"), data("script.out")]
-
-
 def output_of(text: str, name: str = "a.out") -> Output:
     """The output that a text is."""
     return Output(io.BytesIO(text.encode()), name)
@@ -59,3 +57,23 @@ def listing_of(*cores: tuple[int, int, list[str]], channels: str = "") -> str:
         lines += [f".port {port}" for port in ports]
         lines += [".root 0", "0: FREET @1:1"]
     return "\n".join(lines) + f"\n{channels}trace\n"
+
+
+def output_of_example(name: str) -> str:
+    """An output of an example: a listing with its ports and without its code, and its trace."""
+    ports = re.findall(r"^out port \w+ = XS1_PORT_(\w+);", written(example(f"{name}.xc")), re.MULTILINE)
+    return listing_of((0, 0, [f"{port} out" for port in ports])) + written(example(f"{name}.trace"))
+
+
+KEPT = [output_of_example(name) for name in PROGRAMS] + [written(data(name)) for name in ("two_cores.out", "script.out")]
+
+
+def runs_of_examples() -> str:
+    """The examples as cases of crates/xl_texts/data: behind `|` the lines of a program, behind `=` those of its trace."""
+    head = "# Runs of the examples. tools/runs writes this file, from examples/NAME.xc and examples/NAME.trace. README.md tells its form.\n"
+    cases = [head]
+    for name in PROGRAMS:
+        text = "".join(f"| {line}".rstrip() + "\n" for line in written(example(f"{name}.xc")).splitlines())
+        trace = "".join(f"= {line}\n" for line in written(example(f"{name}.trace")).splitlines())
+        cases.append(f"case {name}\n{text}{trace}")
+    return "\n".join(cases)

@@ -8,7 +8,7 @@ import sys
 import unittest
 import xml.etree.ElementTree as tree
 
-from .samples import KEPT, PULSE, TOP, data, example, listing_of
+from .samples import KEPT, PULSE, TOP, data, listing_of, output_of_example
 
 SVG = "{http://www.w3.org/2000/svg}"
 SIGN = 7.3  # how wide a sign of 12 px is in a usual font, rounded up
@@ -87,8 +87,8 @@ class Columns(unittest.TestCase):
 
 class Pictures(unittest.TestCase):
     def test_well_formed_and_by_itself(self):
-        for path in KEPT:
-            text = drawn("--lockstep", path)
+        for output in KEPT:
+            text = drawn("--lockstep", text=output)
             names = {element.tag for element in tree.fromstring(text).iter()}
             known = {"svg", "title", "style", "rect", "g", "text", "polyline", "polygon", "path", "circle"}
             self.assertLessEqual(names, {SVG + it for it in known})
@@ -96,8 +96,8 @@ class Pictures(unittest.TestCase):
             self.assertIn("@media (prefers-color-scheme: dark)", text)
 
     def test_edges_have_stamps(self):
-        texts = self.texts(drawn(example("bus.out")))
-        for label in ("@3", "@1000", "@1500", "@65535", "@2000", "67536", "85", "44", "1A out", "8B out", "end finished"):
+        texts = self.texts(drawn(text=output_of_example("bus")))
+        for label in ("@8", "@1000", "@1500", "@65535", "@2000", "67536", "85", "44", "1A out", "8B out", "end finished"):
             self.assertIn(label, texts)
 
     def test_arrows_go_between_cores(self):

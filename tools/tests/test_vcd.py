@@ -8,7 +8,7 @@ import sys
 import tempfile
 import unittest
 
-from .samples import KEPT, PROGRAMS, TOP, data, example, listing_of, written
+from .samples import KEPT, PROGRAMS, TOP, data, listing_of, output_of_example
 
 READERS = shutil.which("vcd2fst") and shutil.which("fst2vcd")
 
@@ -153,13 +153,13 @@ class ReadBack(unittest.TestCase):
             return subprocess.run(["fst2vcd", packed], capture_output=True, text=True, check=True).stdout
 
     def test_kept_outputs(self):
-        for path in KEPT:
-            text = dump_of(path)
+        for output in KEPT:
+            text = dump_of(text=output)
             before, after = read_dump(text), read_dump(self.read_back(text))
             self.assertEqual(before.keys(), after.keys())
             for signal, changes in before.items():
                 for tick in [0, *(at + step for at, _ in changes for step in (0, 1))]:
-                    self.assertEqual(value_at(changes, tick), value_at(after[signal], tick), (path, signal, tick))
+                    self.assertEqual(value_at(changes, tick), value_at(after[signal], tick), (output, signal, tick))
 
     def check_output(self, name, text):
         """Compares what is read back at ten instants with the trace."""
@@ -172,4 +172,4 @@ class ReadBack(unittest.TestCase):
 
     def test_ten_instants_of_each_example(self):
         for name in PROGRAMS:
-            self.check_output(name, written(example(f"{name}.out")))
+            self.check_output(name, output_of_example(name))
