@@ -1,1 +1,6 @@
 pub mod Freeing
+pub mod Names
+pub mod Pools
+pub mod Listed
+pub mod Moves
+pub mod Joining
