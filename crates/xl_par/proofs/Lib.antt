@@ -3,4 +3,6 @@ pub mod Names
 pub mod Pools
 pub mod Listed
 pub mod Moves
+pub mod Getting
 pub mod Joining
+pub mod SettingOff

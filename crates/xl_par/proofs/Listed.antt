@@ -5,7 +5,8 @@ use Rattle.xs_instr.specs.declared.emitter.Hole.{Hole}
 use Rattle.xs_instr.specs.declared.instr.Instr.TheVariants.{Msync}
 use Rattle.xs_instr.specs.declared.instr.Reg.TheVariants.{R1}
 use Rattle.xs_instr.specs.Lines.{Line, at_pos, line}
-use Rattle.xl_par.specs.Opening.{beginning_instrs, indices_of, opening_lines, slave_lines, slaves_lines, stack_offset, starts_from}
+use Rattle.xl_expr.specs.Targets.{AreGoodLines}
+use Rattle.xl_par.specs.Opening.{AreAimedWith, AreBelow, beginning_instrs, filled, indices_of, opening_lines, slave_lines, slaves_lines, stack_offset, starts_from}
 
 pub slaves_length : (offset : ℕ) (pos : Pos) (n : ℕ) → length (slaves_lines offset pos n) ≡ 7 * n
 slaves_length offset pos zero = refl
@@ -47,3 +48,17 @@ opening_joined stacks offset pos n e0 e1 e2 e3 o h1 h2 h3 =
     ∙ ap (λ ls. ls ++ last) (h2 ∙ ap (λ k. e1 ++ slaves_lines k pos n) o ∙ ap (λ ls. ls ++ slaves) h1)
     ∙ append_assoc (e0 ++ begin) slaves last
     ∙ append_assoc e0 begin (slaves ++ last)
+
+-- with starts that are indices of the code, it may stand there
+good_slaves : (offset : ℕ) (pos : Pos) (size pc : ℕ) (starts : List ℕ) → AreBelow size starts → AreGoodLines size pc (filled (slaves_lines offset pos (length starts) ++ line (Msync R1) pos ∷ []) starts)
+good_slaves offset pos size pc [] h = (tt, refl, tt)
+good_slaves offset pos size pc (start ∷ starts) h =
+    (tt, refl, (h.0, refl, (tt, refl, (tt, refl, (tt, refl, (tt, refl, (tt, refl, good_slaves offset pos size (pc + 1 + 1 + 1 + 1 + 1 + 1 + 1) starts h.1)))))))
+
+pub opening_aimed : (stacks slaves : ℕ) (pos : Pos) (pc : ℕ) → AreAimedWith slaves pc (opening_lines stacks pos slaves)
+opening_aimed stacks slaves pos pc = record {
+  by = λ starts size count below.
+      subst (λ k. AreGoodLines size pc (filled (opening_lines stacks pos k) starts)) count
+      (tt, refl, (tt, refl, (tt, refl, (tt, refl, (tt, refl, (tt, refl, (tt, refl, (tt, refl, (tt, refl,
+      good_slaves (stack_offset stacks) pos size (pc + 1 + 1 + 1 + 1 + 1 + 1 + 1 + 1 + 1) starts below)))))))));
+}

@@ -43,6 +43,10 @@ pub fn open_par(
     ensures holes { IfOk result
         (λ holes. indices_of holes ≡ starts_from (length e.old + 9) (branches - 1)) }
     ensures size { OnOk result (length e.new ≤ length e.old + 7 * branches + 3) }
+    ensures opens { OnOk result
+        (Adds e.old e.new (Opens first_stack (branches - 1) pos (length e.old))) }
+    ensures aimed { OnOk result
+        (Adds e.old e.new (AreAimedWith (branches - 1) (length e.old))) }
     ensures refused { OnErr result (Extends e.old e.new) }
 {
     let mut starts = Vec::new(alloc);
