@@ -1,5 +1,5 @@
 -- The threads of a `par` are got and prepared, one after another.
-use Rattle.std.proofs.Common.{◌≡◌, ◌≤◌, ◌<◌, ◌≢◌, ℕ, zero, suc, ◌+◌, ◌-◌, ◌*◌, ◌/◌, ◌%◌, ◌^◌, Bool, true, false, List, [], ◌∷◌, ◌++◌, length, Option, Some, None, refl, sym, ap, ◌∙◌, subst, inl, inr, ⊎_elim, arith}
+use Rattle.std.proofs.Common.{◌≡◌, ◌≤◌, ◌<◌, ◌≢◌, ℕ, suc, ◌+◌, ◌*◌, Bool, true, false, List, [], ◌∷◌, ◌++◌, Some, refl, sym, ap, ◌∙◌, subst, inl, inr, ⊎_elim, arith}
 use Rattle.std.specs.Prelude.{slice_get, slice_set}
 use Rattle.std.proofs.lemmas.Bool.{cases_eq}
 use Rattle.xw_words.specs.Words.{shifted_down, shifted_up, word_sum}
@@ -16,14 +16,14 @@ use Rattle.xw_words.specs.declared.pos.Pos.{Pos}
 use Rattle.xs_instr.specs.Lines.{Line, at_pos, line}
 use Rattle.xs_instr.specs.OwnSteps.{StandAt}
 use Rattle.xs_instr.specs.Pool.{first_free, is_tied, is_waiting, prepared, prepared_by, thread_got, thread_got_by, threads_taken, tied_at, tied_to, with_pc, with_reg}
-use Rattle.xs_instr.specs.Registers.{reg_get, reg_set}
-use Rattle.xs_instr.specs.Resources.{ASync, AThread, named, on_sync, on_thread, sync_name, thread_name, usable, where_taken}
+use Rattle.xs_instr.specs.Registers.{reg_set}
+use Rattle.xs_instr.specs.Resources.{ASync, AThread, named, on_sync, on_thread, thread_name, usable, where_taken}
 use Rattle.xs_instr.specs.Rows.{gets_with, goes_on, goes_with, own_row, put_own, put_threads, row}
 use Rattle.xs_instr.specs.Slot.{is_waiteu, slot}
 use Rattle.xl_expr.proofs.Lists.{get_set_other, get_set_same}
 use Rattle.xl_expr.proofs.Ways.{IsPlain, at_pc, own, turn_row}
-use Rattle.xl_par.specs.Hands.{Change, Hand, HandStep, HasSpare, IsAmong, KeptHand, WithinHand, gets_thread, own_only, prepares, unused_in, with_thread_got}
-use Rattle.xl_par.specs.Opening.{AreReady, HoldsSyncs, IsReady, preparing_instrs, ready_thread, stack_offset}
+use Rattle.xl_par.specs.Hands.{Hand, IsAmong, KeptHand, WithinHand, gets_thread, own_only, prepares, with_thread_got}
+use Rattle.xl_par.specs.Opening.{AreReady, HoldsSyncs, preparing_instrs, ready_thread, stack_offset}
 use Rattle.xl_par.proofs.Moves.{everywhere}
 use Rattle.xl_par.proofs.Names.{sync_named, thread_named}
 use Rattle.xl_par.proofs.Pools.{free_one, free_thread, some_free, threads_length}
@@ -57,13 +57,25 @@ module _ (home : Home) (relied : ℕ → Bool) (t : ℕ) (thread : Thread) (runn
   set_r0 : (v : ℕ) (regs : Regs) → Registers regs → Registers (reg_set regs R0 v)
   set_r0 v regs h = record {
     syncs = record { r1 = h.syncs.r1; r2 = h.syncs.r2; r3 = h.syncs.r3; r4 = h.syncs.r4; r5 = h.syncs.r5; r6 = h.syncs.r6; r7 = h.syncs.r7 };
-    r8 = h.r8; r9 = h.r9; r10 = h.r10; dp = h.dp; sp = h.sp; lr = h.lr; cp = h.cp;
+    r8 = h.r8;
+    r9 = h.r9;
+    r10 = h.r10;
+    dp = h.dp;
+    sp = h.sp;
+    lr = h.lr;
+    cp = h.cp;
   }
 
   set_r11 : (v : ℕ) (regs : Regs) → Registers regs → Registers (reg_set regs R11 v)
   set_r11 v regs h = record {
     syncs = record { r1 = h.syncs.r1; r2 = h.syncs.r2; r3 = h.syncs.r3; r4 = h.syncs.r4; r5 = h.syncs.r5; r6 = h.syncs.r6; r7 = h.syncs.r7 };
-    r8 = h.r8; r9 = h.r9; r10 = h.r10; dp = h.dp; sp = h.sp; lr = h.lr; cp = h.cp;
+    r8 = h.r8;
+    r9 = h.r9;
+    r10 = h.r10;
+    dp = h.dp;
+    sp = h.sp;
+    lr = h.lr;
+    cp = h.cp;
   }
 
   abbrev Ready : (threads starts : List ℕ) → CoreState → Type 0

@@ -1,6 +1,6 @@
 -- The code behind the first branch of a `par`.
-use Rattle.std.proofs.Common.{◌≡◌, ◌≤◌, ℕ, zero, suc, ◌+◌, ◌<◌, Bool, true, false, List, [], ◌∷◌, length, Some, refl, ap, ◌∙◌, inl, inr, arith}
-use Rattle.std.specs.Prelude.{slice_get, slice_set}
+use Rattle.std.proofs.Common.{◌≡◌, ℕ, zero, suc, ◌+◌, ◌<◌, Bool, true, false, Some, refl, ap, ◌∙◌, inl, inr, arith}
+use Rattle.std.specs.Prelude.{slice_get}
 use Rattle.xw_words.specs.declared.pos.Pos.{Pos}
 use Rattle.xs_instr.specs.declared.image.Home.{Home}
 use Rattle.xs_instr.specs.declared.instr.Instr.TheVariants.{Freer, Mjoin}
@@ -10,10 +10,10 @@ use Rattle.xs_instr.specs.declared.state.CoreState.{CoreState}
 use Rattle.xs_instr.specs.declared.state.Regs.{Regs}
 use Rattle.xs_instr.specs.declared.state.Thread.{Thread}
 use Rattle.xs_instr.specs.Did.{told}
-use Rattle.xs_instr.specs.Lines.{Line, at_pos}
-use Rattle.xs_instr.specs.OwnSteps.{OwnStep, RunsAt, StandAt, Within}
+use Rattle.xs_instr.specs.Lines.{at_pos}
+use Rattle.xs_instr.specs.OwnSteps.{RunsAt, StandAt, Within}
 use Rattle.xs_instr.specs.Pool.{joined, joined_when, sync_freed, sync_freed_by}
-use Rattle.xs_instr.specs.Registers.{reg_get, reg_set}
+use Rattle.xs_instr.specs.Registers.{reg_get}
 use Rattle.xs_instr.specs.Resources.{ASync, named, on_sync, sync_name, where_taken}
 use Rattle.xs_instr.specs.Rows.{free_row, goes_with, put_syncs, put_threads}
 use Rattle.xl_expr.specs.Leads.{Leads}
@@ -62,17 +62,35 @@ module _ (home : Home) (relied : ℕ → Bool) (t n : ℕ) (thread : Thread) (po
       let s5 = record s4 { r4 = s.r5 } in
       let s6 = record s5 { r5 = s.r6 } in
       let code = home.parts.code in
-      let ws = a.words in
-        (own (pc + 1) s1 ws, by_or code relied ws R10 R1 (pc) s st.0,
-        (own (pc + 1 + 1) s2 ws, by_or code relied ws R1 R2 (pc + 1) s1 st.2.0,
-        (own (pc + 1 + 1 + 1) s3 ws, by_or code relied ws R2 R3 (pc + 1 + 1) s2 st.2.2.0,
-        (own (pc + 1 + 1 + 1 + 1) s4 ws, by_or code relied ws R3 R4 (pc + 1 + 1 + 1) s3 st.2.2.2.0,
-        (own (pc + 1 + 1 + 1 + 1 + 1) s5 ws, by_or code relied ws R4 R5 (pc + 1 + 1 + 1 + 1) s4 st.2.2.2.2.0,
-        (own (pc + 1 + 1 + 1 + 1 + 1 + 1) s6 ws, by_or code relied ws R5 R6 (pc + 1 + 1 + 1 + 1 + 1) s5 st.2.2.2.2.2.0,
-        (own (pc + 1 + 1 + 1 + 1 + 1 + 1 + 1) regs ws, by_or code relied ws R6 R7 (pc + 1 + 1 + 1 + 1 + 1 + 1) s6 st.2.2.2.2.2.2.0,
-        refl)))))))
-
-
+      let ws = a.words in (
+        own (pc + 1) s1 ws,
+        by_or code relied ws R10 R1 (pc) s st.0,
+        (
+          own (pc + 1 + 1) s2 ws,
+          by_or code relied ws R1 R2 (pc + 1) s1 st.2.0,
+          (
+            own (pc + 1 + 1 + 1) s3 ws,
+            by_or code relied ws R2 R3 (pc + 1 + 1) s2 st.2.2.0,
+            (
+              own (pc + 1 + 1 + 1 + 1) s4 ws,
+              by_or code relied ws R3 R4 (pc + 1 + 1 + 1) s3 st.2.2.2.0,
+              (
+                own (pc + 1 + 1 + 1 + 1 + 1) s5 ws,
+                by_or code relied ws R4 R5 (pc + 1 + 1 + 1 + 1) s4 st.2.2.2.2.0,
+                (
+                  own (pc + 1 + 1 + 1 + 1 + 1 + 1) s6 ws,
+                  by_or code relied ws R5 R6 (pc + 1 + 1 + 1 + 1 + 1) s5 st.2.2.2.2.2.0,
+                  (
+                    own (pc + 1 + 1 + 1 + 1 + 1 + 1 + 1) regs ws,
+                    by_or code relied ws R6 R7 (pc + 1 + 1 + 1 + 1 + 1 + 1) s6 st.2.2.2.2.2.2.0,
+                    refl,
+                  ),
+                ),
+              ),
+            ),
+          ),
+        ),
+      )
 
   name : named home.number regs.r10 ≡ ASync n
   name = ap (named home.number) r1_is ∙ sync_named home.number n few

@@ -1,5 +1,5 @@
 -- The lines that open a `par`: how many there are, where their holes are, and how they grow.
-use Rattle.std.proofs.Common.{◌≡◌, ℕ, false, zero, suc, ◌+◌, ◌*◌, List, [], ◌∷◌, ◌++◌, length, map, refl, sym, ap, ◌∙◌, subst, arith, append_assoc, length-append}
+use Rattle.std.proofs.Common.{◌≡◌, ℕ, false, zero, suc, ◌+◌, ◌*◌, List, [], ◌∷◌, ◌++◌, length, refl, ap, ◌∙◌, subst, arith, append_assoc, length-append}
 use Rattle.xw_words.specs.declared.pos.Pos.{Pos}
 use Rattle.xs_instr.specs.declared.emitter.Hole.{Hole}
 use Rattle.xs_instr.specs.declared.instr.Instr.TheVariants.{Msync}
@@ -58,7 +58,41 @@ good_slaves offset pos size pc (start ∷ starts) h =
 pub opening_aimed : (stacks slaves : ℕ) (pos : Pos) (pc : ℕ) → AreAimedWith slaves pc (opening_lines stacks pos slaves)
 opening_aimed stacks slaves pos pc = record {
   by = λ starts size count below.
-      subst (λ k. AreGoodLines size pc (filled (opening_lines stacks pos k) starts)) count
-      (tt, refl, (tt, refl, (tt, refl, (tt, refl, (tt, refl, (tt, refl, (tt, refl, (tt, refl, (tt, refl,
-      good_slaves (stack_offset stacks) pos size (pc + 1 + 1 + 1 + 1 + 1 + 1 + 1 + 1 + 1) starts below)))))))));
+      subst (λ k. AreGoodLines size pc (filled (opening_lines stacks pos k) starts)) count (
+        tt,
+        refl,
+        (
+          tt,
+          refl,
+          (
+            tt,
+            refl,
+            (
+              tt,
+              refl,
+              (
+                tt,
+                refl,
+                (
+                  tt,
+                  refl,
+                  (
+                    tt,
+                    refl,
+                    (
+                      tt,
+                      refl,
+                      (
+                        tt,
+                        refl,
+                        good_slaves (stack_offset stacks) pos size (pc + 1 + 1 + 1 + 1 + 1 + 1 + 1 + 1 + 1) starts below,
+                      ),
+                    ),
+                  ),
+                ),
+              ),
+            ),
+          ),
+        ),
+      );
 }

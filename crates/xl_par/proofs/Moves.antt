@@ -1,20 +1,19 @@
 -- Steps that change registers alone.
-use Rattle.std.proofs.Common.{◌≡◌, ℕ, zero, suc, ◌+◌, Bool, List, Some, refl, ap, ◌∙◌, inl, inr}
+use Rattle.std.proofs.Common.{◌≡◌, ℕ, ◌+◌, Bool, List, Some, refl, ap, ◌∙◌}
 use Rattle.std.specs.Prelude.{slice_get}
 use Rattle.std.specs.Int.Bits.{or_self}
 use Rattle.xs_instr.specs.declared.image.Code.{Code}
-use Rattle.xs_instr.specs.declared.image.Home.{Home}
 use Rattle.xs_instr.specs.declared.instr.Instr.{Instr}
 use Rattle.xs_instr.specs.declared.instr.Instr.TheVariants.{Or}
 use Rattle.xs_instr.specs.declared.instr.Reg.{Reg}
 use Rattle.xs_instr.specs.declared.state.CoreState.{CoreState}
 use Rattle.xs_instr.specs.declared.state.Regs.{Regs}
 use Rattle.xs_instr.specs.declared.state.Thread.{Thread}
-use Rattle.xs_instr.specs.OwnSteps.{RunsAt, Within}
+use Rattle.xs_instr.specs.OwnSteps.{RunsAt}
 use Rattle.xs_instr.specs.Did.{makes}
 use Rattle.xs_instr.specs.Registers.{reg_get, reg_set}
 use Rattle.xs_instr.specs.Rows.{own_row, sets}
-use Rattle.xl_expr.proofs.Ways.{Fits, IsPlain, Sure, Way, at_pc, own}
+use Rattle.xl_expr.proofs.Ways.{Fits, IsPlain, Sure, at_pc, own}
 
 -- no step may change a word
 abbrev pub everywhere : ℕ → Type 0

@@ -1,5 +1,5 @@
 -- A `par` is opened: a synchroniser is got, then its threads, and then all are set off.
-use Rattle.std.proofs.Common.{◌≡◌, ◌≤◌, ◌<◌, ◌≢◌, ℕ, zero, suc, ◌+◌, ◌*◌, Bool, true, false, List, [], ◌∷◌, ◌++◌, length, Option, Some, None, refl, sym, ap, ◌∙◌, subst, inl, inr, ⊎_elim, arith}
+use Rattle.std.proofs.Common.{◌≡◌, ◌≤◌, ◌<◌, ◌≢◌, ℕ, zero, suc, ◌+◌, ◌*◌, Bool, true, false, List, [], ◌∷◌, ◌++◌, length, Some, refl, sym, ap, ◌∙◌, subst, inl, inr, ⊎_elim, arith}
 use Rattle.std.specs.Prelude.{slice_get, slice_set}
 use Rattle.std.proofs.lemmas.Bool.{cases_eq}
 use Rattle.xw_words.specs.declared.pos.Pos.{Pos}
@@ -13,21 +13,21 @@ use Rattle.xs_instr.specs.declared.state.Mode.TheVariants.{Running, Waiting}
 use Rattle.xs_instr.specs.declared.state.Regs.{Regs}
 use Rattle.xs_instr.specs.declared.state.Thread.{Thread}
 use Rattle.xs_instr.specs.Did.{makes, told}
-use Rattle.xs_instr.specs.Lines.{Line, at_pos, line}
-use Rattle.xs_instr.specs.OwnSteps.{OwnStep, RunsAt, StandAt, Within}
+use Rattle.xs_instr.specs.Lines.{line}
+use Rattle.xs_instr.specs.OwnSteps.{StandAt, Within}
 use Rattle.xs_instr.specs.Pool.{all_wait, first_free, is_tied, sync_got, synced, synced_by}
 use Rattle.xs_instr.specs.Registers.{reg_get, reg_set}
 use Rattle.xs_instr.specs.Resources.{ASync, named, on_sync, sync_name, where_taken}
 use Rattle.xs_instr.specs.Rows.{gets_with, goes_on, goes_with, put_syncs, put_threads}
 use Rattle.xl_expr.proofs.Lists.{get_set_other, get_set_same}
 use Rattle.xl_expr.proofs.Ways.{Fits, Way, at_pc, fits_kept, own, turn_row, way_leads}
-use Rattle.xl_par.specs.Hands.{Hand, HandStep, HasSpare, IsAmong, KeptHand, WithinHand, empty_hand, gets_sync, own_only, with_sync, with_thread_got}
-use Rattle.xl_par.specs.Opening.{AreReady, HoldsSyncs, Opens, SetsOff, filled, is_opening, opening_lines, ready_thread, slaves_lines, stack_offset, turned}
+use Rattle.xl_par.specs.Hands.{Hand, IsAmong, KeptHand, WithinHand, empty_hand, gets_sync, own_only, with_sync, with_thread_got}
+use Rattle.xl_par.specs.Opening.{AreReady, Opens, SetsOff, filled, is_opening, opening_lines, ready_thread, slaves_lines, stack_offset, turned}
 use Rattle.xl_par.proofs.Getting.{Got, Registers, got_kept, slave_leads, turn}
 use Rattle.xl_par.proofs.Listed.{opening_length}
 use Rattle.xl_par.proofs.Moves.{by_or, by_regs, everywhere, fits_there}
 use Rattle.xl_par.proofs.Names.{sync_named}
-use Rattle.xl_par.proofs.Pools.{TiedWait, all_waiting, free_one}
+use Rattle.xl_par.proofs.Pools.{all_waiting, free_one}
 
 module _ (home : Home) (relied : ℕ → Bool) (t : ℕ) (Q : Hand → CoreState → Type 0) where
   hand_more : (m n : ℕ) → m ≤ n → (hand : Hand) (a : CoreState) → WithinHand home relied t Q m hand a → WithinHand home relied t Q n hand a
@@ -213,16 +213,39 @@ opening_opens stacks slaves pos pc inside = record {
       let index = pc + 1 + 1 + 1 + 1 + 1 + 1 + 1 + 1 in
       let end = pc + length (opening_lines stacks pos slaves) in
       let there = Fits code relied everywhere t thread (own index s8 ws) in
-      let way : Way code relied everywhere 8 (own pc s ws) (own index s8 ws) =
-      (own (pc + 1) s1 ws, by_or code relied ws R7 R6 pc s st.0,
-      (own (pc + 1 + 1) s2 ws, by_or code relied ws R6 R5 (pc + 1) s1 st.2.0,
-      (own (pc + 1 + 1 + 1) s3 ws, by_or code relied ws R5 R4 (pc + 1 + 1) s2 st.2.2.0,
-      (own (pc + 1 + 1 + 1 + 1) s4 ws, by_or code relied ws R4 R3 (pc + 1 + 1 + 1) s3 st.2.2.2.0,
-      (own (pc + 1 + 1 + 1 + 1 + 1) s5 ws, by_or code relied ws R3 R2 (pc + 1 + 1 + 1 + 1) s4 st.2.2.2.2.0,
-      (own (pc + 1 + 1 + 1 + 1 + 1 + 1) s6 ws, by_or code relied ws R2 R1 (pc + 1 + 1 + 1 + 1 + 1) s5 st.2.2.2.2.2.0,
-      (own (pc + 1 + 1 + 1 + 1 + 1 + 1 + 1) s7 ws, by_regs code relied ws (Ldc R8 8) (pc + 1 + 1 + 1 + 1 + 1 + 1) s6 s7 st.2.2.2.2.2.2.0 (record { row_is = λ hm c tt' y. refl; no_event = refl }) (λ l. refl),
-      (own index s8 ws, by_regs code relied ws (Ldc R9 5) (pc + 1 + 1 + 1 + 1 + 1 + 1 + 1) s7 s8 st.2.2.2.2.2.2.2.0 (record { row_is = λ hm c tt' y. refl; no_event = refl }) (λ l. refl),
-      refl)))))))) in
+      let way : Way code relied everywhere 8 (own pc s ws) (own index s8 ws) = (
+        own (pc + 1) s1 ws,
+        by_or code relied ws R7 R6 pc s st.0,
+        (
+          own (pc + 1 + 1) s2 ws,
+          by_or code relied ws R6 R5 (pc + 1) s1 st.2.0,
+          (
+            own (pc + 1 + 1 + 1) s3 ws,
+            by_or code relied ws R5 R4 (pc + 1 + 1) s2 st.2.2.0,
+            (
+              own (pc + 1 + 1 + 1 + 1) s4 ws,
+              by_or code relied ws R4 R3 (pc + 1 + 1 + 1) s3 st.2.2.2.0,
+              (
+                own (pc + 1 + 1 + 1 + 1 + 1) s5 ws,
+                by_or code relied ws R3 R2 (pc + 1 + 1 + 1 + 1) s4 st.2.2.2.2.0,
+                (
+                  own (pc + 1 + 1 + 1 + 1 + 1 + 1) s6 ws,
+                  by_or code relied ws R2 R1 (pc + 1 + 1 + 1 + 1 + 1) s5 st.2.2.2.2.2.0,
+                  (
+                    own (pc + 1 + 1 + 1 + 1 + 1 + 1 + 1) s7 ws,
+                    by_regs code relied ws (Ldc R8 8) (pc + 1 + 1 + 1 + 1 + 1 + 1) s6 s7 st.2.2.2.2.2.2.0 (record { row_is = λ hm c tt' y. refl; no_event = refl }) (λ l. refl),
+                    (
+                      own index s8 ws,
+                      by_regs code relied ws (Ldc R9 5) (pc + 1 + 1 + 1 + 1 + 1 + 1 + 1) s7 s8 st.2.2.2.2.2.2.2.0 (record { row_is = λ hm c tt' y. refl; no_event = refl }) (λ l. refl),
+                      refl,
+                    ),
+                  ),
+                ),
+              ),
+            ),
+          ),
+        ),
+      ) in
       let Q' : Hand → CoreState → Type 0 = λ hand b. (c : CoreState) → KeptHand relied t hand b c → SetsOff home relied stacks t thread ws starts pos end hand c in
       let ends : index + 1 + 7 * slaves + 1 ≡ end = omega (arith, opening_length stacks pos slaves) in
       let all = own_then home relied t Q' there 8 (suc (7 * slaves)) (empty_hand slaves) a

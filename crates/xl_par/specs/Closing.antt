@@ -5,7 +5,7 @@ use Rattle.xs_instr.specs.declared.image.Home.{Home}
 use Rattle.xs_instr.specs.declared.instr.Instr.{Instr}
 use Rattle.xs_instr.specs.declared.instr.Instr.TheVariants.{Freer, Mjoin, Or}
 use Rattle.xs_instr.specs.declared.instr.Reg.{Reg}
-use Rattle.xs_instr.specs.declared.instr.Reg.TheVariants.{R0, R1, R2, R3, R4, R5, R6, R7, R8, R9, R10, R11}
+use Rattle.xs_instr.specs.declared.instr.Reg.TheVariants.{R1, R2, R3, R4, R5, R6, R7, R10}
 use Rattle.xs_instr.specs.declared.state.CoreState.{CoreState}
 use Rattle.xs_instr.specs.declared.state.Mode.TheVariants.{Waiting}
 use Rattle.xs_instr.specs.declared.state.Regs.{Regs}

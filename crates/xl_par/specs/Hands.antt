@@ -1,6 +1,6 @@
 -- What a thread has got for a `par`, what its code relies on while it gets more, its own steps, and where they lead, whatever other threads
 -- do between them.
-use Rattle.std.specs.Prelude.{◌≡◌, ℕ, zero, suc, ◌+◌, ◌-◌, ◌≤◌, ◌<◌, ◌⊎◌, Bool, true, false, List, [], ◌∷◌, length, Option, Some, None, slice_get, slice_set}
+use Rattle.std.specs.Prelude.{◌≡◌, ℕ, zero, suc, ◌+◌, ◌-◌, ◌≤◌, ◌⊎◌, Bool, true, false, List, [], ◌∷◌, length, Option, Some, None, slice_get, slice_set}
 use Rattle.xs_instr.specs.declared.image.Home.{Home}
 use Rattle.xs_instr.specs.declared.state.CoreState.{CoreState}
 use Rattle.xs_instr.specs.declared.state.Mode.TheVariants.{Unused, Waiting}
@@ -94,4 +94,4 @@ WithinHand home relied t Q zero hand a = Q hand a
 WithinHand home relied t Q (suc n) hand a =
     Q hand a
     ⊎ ((b : CoreState) → KeptHand relied t hand a b →
-      (hand' : Hand) × (d : CoreState) × HandStep home t hand hand' b d × WithinHand home relied t Q n hand' d)
+    (hand' : Hand) × (d : CoreState) × HandStep home t hand hand' b d × WithinHand home relied t Q n hand' d)

@@ -1,5 +1,5 @@
 -- The code that opens a `par`, and what it does.
-use Rattle.std.specs.Prelude.{◌≡◌, ℕ, zero, suc, ◌+◌, ◌-◌, ◌*◌, ◌%◌, ◌^◌, ◌≤◌, ◌<◌, Bool, true, false, List, [], ◌∷◌, ◌++◌, length, map, Some, slice_get}
+use Rattle.std.specs.Prelude.{◌≡◌, ℕ, zero, suc, ◌+◌, ◌-◌, ◌*◌, ◌%◌, ◌^◌, ◌<◌, Bool, true, false, List, [], ◌∷◌, ◌++◌, length, map, Some, slice_get}
 use Rattle.xw_words.specs.declared.pos.Pos.{Pos}
 use Rattle.xs_instr.specs.declared.image.Home.{Home}
 use Rattle.xs_instr.specs.declared.instr.GetKind.TheVariants.{Sync as GetSync}
@@ -153,7 +153,7 @@ pub record Opens (stacks slaves : ℕ) (pos : Pos) (pc : ℕ) (lines : List Line
       StandAt home.parts.code pc (filled lines starts) → RunsAt t pc thread a →
       WithinHand home relied t
       (λ hand b. (c : CoreState) → KeptHand relied t hand b c →
-        SetsOff home relied stacks t thread a.words starts pos (pc + length lines) hand c)
+      SetsOff home relied stacks t thread a.words starts pos (pc + length lines) hand c)
       (7 * slaves + 9) (empty_hand slaves) a
 
 -- each is below

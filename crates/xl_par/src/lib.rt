@@ -5,7 +5,6 @@ mod closing;
 mod opening;
 mod root;
 
-pub use closing::close_par;
-pub use closing::close_slave;
+pub use closing::{close_par, close_slave};
 pub use opening::open_par;
 pub use root::end_root;

@@ -10,6 +10,7 @@ use xw_words::{List, Memory, Pos};
 
 /// The shifts that make the address of a thread's temporary words from its identifier, all but the offset.
 const SHIFT_UP: u32 = 8;
+
 const SHIFT_DOWN: u32 = 5;
 
 /// What the kind of a thread's identifier gives when it is shifted so.

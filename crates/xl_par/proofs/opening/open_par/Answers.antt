@@ -1,4 +1,4 @@
-use Rattle.std.proofs.Common.{◌-◌, ◌∙◌, ap, arith, length, length-append}
+use Rattle.std.proofs.Common.{◌-◌, ap, arith, length, length-append}
 use Rattle.xs_instr.specs.Lines.{at_pos}
 use Rattle.xl_par.specs.Opening.{beginning_instrs, opening_lines, slaves_lines}
 use Rattle.xl_par.proofs.Listed.{opening_aimed, opening_joined, opening_length, slaves_length}

@@ -14,13 +14,13 @@ slaves-preserved c =
     let grown = slaves_lines c.args.offset c.args.pos n in
     let here : length c.slaves.e + 1 ≡ length old + 7 * n + 1 = omega (arith, ap length c.slaves.invariant.0, length-append old grown, slaves_length c.args.offset c.args.pos n) in (
       c.in_ok-start.ensures.code
-      ∙ ap (λ ls. ls ++ slave_lines c.args.offset c.args.pos) c.slaves.invariant.0
-      ∙ append_assoc old grown (slave_lines c.args.offset c.args.pos)
-      ∙ ap (λ ls. old ++ ls) (next_slave c.args.offset c.args.pos n),
+          ∙ ap (λ ls. ls ++ slave_lines c.args.offset c.args.pos) c.slaves.invariant.0
+          ∙ append_assoc old grown (slave_lines c.args.offset c.args.pos)
+          ∙ ap (λ ls. old ++ ls) (next_slave c.args.offset c.args.pos n),
       ap indices_of c.in-Ok.ensures.items
-      ∙ indices_append c.slaves.starts.items c.in_ok-start.start
-      ∙ ap (λ ks. ks ++ c.in_ok-start.start.index ∷ []) c.slaves.invariant.1
-      ∙ append_assoc (indices_of c.args.starts.now.items) (starts_from (length old) n) (c.in_ok-start.start.index ∷ [])
-      ∙ ap (λ k. indices_of c.args.starts.now.items ++ (starts_from (length old) n ++ k ∷ [])) (c.in_ok-start.ensures.start ∙ here)
-      ∙ ap (λ ks. indices_of c.args.starts.now.items ++ ks) (next_start (length old) n),
+          ∙ indices_append c.slaves.starts.items c.in_ok-start.start
+          ∙ ap (λ ks. ks ++ c.in_ok-start.start.index ∷ []) c.slaves.invariant.1
+          ∙ append_assoc (indices_of c.args.starts.now.items) (starts_from (length old) n) (c.in_ok-start.start.index ∷ [])
+          ∙ ap (λ k. indices_of c.args.starts.now.items ++ (starts_from (length old) n ++ k ∷ [])) (c.in_ok-start.ensures.start ∙ here)
+          ∙ ap (λ ks. indices_of c.args.starts.now.items ++ ks) (next_start (length old) n),
     )
