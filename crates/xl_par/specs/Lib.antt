@@ -1,1 +1,4 @@
 pub mod Roots
+pub mod Hands
+pub mod Opening
+pub mod Closing

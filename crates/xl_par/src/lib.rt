@@ -1,6 +1,10 @@
-//! Threads: the code that ends a root.
+//! Threads: the code that opens and closes a `par`, and the code that ends its branches and a root.
 #![tactic(auto)]
 
+mod closing;
+mod opening;
 mod root;
 
+pub use closing::{close_par, close_slave};
+pub use opening::open_par;
 pub use root::end_root;
