@@ -13,7 +13,7 @@ use Rattle.xs_instr.specs.declared.state.Regs.{Regs}
 use Rattle.xs_instr.specs.declared.state.Thread.{Thread}
 use Rattle.xs_instr.specs.Lines.{Line, at_pos}
 use Rattle.xs_instr.specs.Memory.{address_at}
-use Rattle.xs_instr.specs.OwnSteps.{IsApart, IsWord, RunsAt, StandAt, Within}
+use Rattle.xs_instr.specs.OwnSteps.{HasRoom, IsApart, IsWord, RunsAt, StandAt, Within}
 use Rattle.xs_instr.specs.Registers.{reg_get, reg_set}
 use Rattle.xs_instr.specs.Resources.{named}
 use Rattle.xl_expr.specs.declared.plan.Plan.{Plan}
@@ -26,7 +26,7 @@ use Rattle.xl_expr.specs.Works.{same_reg}
 use Rattle.xl_expr.specs.Targets.{AreAimed}
 use Rattle.xl_expr.proofs.Evaluates.{then_within}
 use Rattle.xl_expr.proofs.GoodCode.{aimed_append, plain_aimed}
-use Rattle.xl_expr.proofs.Lists.{stand_front, stand_back, word_by_same}
+use Rattle.xl_expr.proofs.Lists.{room_kept, stand_front, stand_back, word_by_same}
 use Rattle.xl_expr.proofs.Runs.{by_quiet}
 use Rattle.xl_expr.proofs.Ways.{own, way_leads}
 use Rattle.xl_chan.specs.Protocols.{at_index, beside, input_acts, input_instrs, instead_of_r11, kept_from_r11, output_acts, output_instrs}
@@ -34,7 +34,7 @@ use Rattle.xl_chan.specs.Transfers.{AtProtocol, EndStands, EndsAt, Sends, Takes}
 use Rattle.xl_chan.proofs.Acting.{input_by, output_by}
 
 -- another way to say where it leads
-within_map : (home : Home) (relied : ℕ → Bool) (leaves : ℕ → Type 0) (t : ℕ) (P Q : CoreState → Type 0) → ((b : CoreState) → P b → Q b) → (n : ℕ) (a : CoreState) → Within home relied leaves t P n a → Within home relied leaves t Q n a
+pub within_map : (home : Home) (relied : ℕ → Bool) (leaves : ℕ → Type 0) (t : ℕ) (P Q : CoreState → Type 0) → ((b : CoreState) → P b → Q b) → (n : ℕ) (a : CoreState) → Within home relied leaves t P n a → Within home relied leaves t Q n a
 within_map home relied leaves t P Q f zero a h = f a h
 within_map home relied leaves t P Q f (suc n) a (inl h) = inl (f a h)
 within_map home relied leaves t P Q f (suc n) a (inr h) = inr (λ b k. let x = h b k in (x.0, x.1, within_map home relied leaves t P Q f n x.0 x.2))
@@ -107,15 +107,15 @@ beside_apart : (r : Reg) → same_reg (beside r) r ≡ false
 beside_apart R11 = refl
 beside_apart other = refl
 
-module _ (relied : ℕ → Bool) (s dp : ℕ) (words words' : List ℕ) (same : (w : ℕ) → relied w ≡ true → slice_get words' w ≡ slice_get words w) where
+module _ (relied : ℕ → Bool) (s dp : ℕ) (words words' : List ℕ) (same : (w : ℕ) → relied w ≡ true → IsApart s w → slice_get words' w ≡ slice_get words w) where
   same_word : (address x : ℕ) → IsWord relied s words address x → IsWord relied s words' address x
   same_word address x h = record {
-    there = word_by_same words words' address (nat_eq (address % 4) 0) (same (address / 4) h.relied_on) ∙ h.there;
+    there = word_by_same words words' address (nat_eq (address % 4) 0) (same (address / 4) h.relied_on h.apart) ∙ h.there;
     relied_on = h.relied_on;
     apart = h.apart;
   }
 
-  same_identifier : (place : ResAt) (name : ℕ) → IsIdentifier relied s dp words place name → IsIdentifier relied s dp words' place name
+  pub same_identifier : (place : ResAt) (name : ℕ) → IsIdentifier relied s dp words place name → IsIdentifier relied s dp words' place name
   same_identifier (Fixed id) name h = h
   same_identifier (Held n j) name h = (h.0, same_word (address_at dp n) h.0 h.1, h.2)
 
@@ -146,7 +146,7 @@ some_is : (x y : ResAt) → Some x ≡ Some y → x ≡ y
 some_is x y h = cc
 
 module _ (plan : Plan) (end : ℕ) (plain : Bool) (pos : Pos) (place : ResAt) (planned : end_in plan.ends end ≡ Some place) (pc : ℕ) where
-  module _ (home : Home) (relied : ℕ → Bool) (s t e : ℕ) (thread : Thread) (a : CoreState) (at_work : RunsAt t pc thread a) (stands : EndStands home relied s thread.regs.dp plan end e a.words) where
+  module _ (home : Home) (relied : ℕ → Bool) (s t e : ℕ) (thread : Thread) (a : CoreState) (at_work : RunsAt t pc thread a) (room : HasRoom relied s thread.regs a.words) (stands : EndStands home relied s thread.regs.dp plan end e a.words) where
     abbrev StaysHere : ℕ → Regs → CoreState → Type 0
     StaysHere = Stays relied t thread a.words
 
@@ -156,7 +156,7 @@ module _ (plan : Plan) (end : ℕ) (plain : Bool) (pos : Pos) (place : ResAt) (p
     is_place : IsIdentifier relied s thread.regs.dp a.words place stands.name
     is_place = subst (λ p. IsIdentifier relied s thread.regs.dp a.words p stands.name) (some_is stands.place place (sym stands.planned ∙ planned)) stands.name_is
 
-    send_leads : (value : Reg) (is : List Line) → Identifies place (pc + length (at_pos pos (kept_from_r11 value))) is → StandAt home.parts.code pc (sending pos value plain is) → Within home relied (IsApart s) t (AtProtocol home relied t e thread a.words pos (output_acts (reg_get thread.regs value) plain) (EndsAt (pc + length (sending pos value plain is)))) 3 a
+    send_leads : (value : Reg) (is : List Line) → Identifies place (pc + length (at_pos pos (kept_from_r11 value))) is → StandAt home.parts.code pc (sending pos value plain is) → Within home relied (IsApart s) t (AtProtocol home relied s t e thread a.words pos (output_acts (reg_get thread.regs value) plain) (EndsAt (pc + length (sending pos value plain is)))) 3 a
     send_leads value is identifies st =
         let ks = at_pos pos (kept_from_r11 value) in
         let ms = at_pos pos (output_instrs (instead_of_r11 value) plain) in
@@ -167,7 +167,7 @@ module _ (plan : Plan) (end : ℕ) (plain : Bool) (pos : Pos) (place : ResAt) (p
         let behind : ℕ = pc + length (ks ++ (is ++ ms)) in
         let last : pc2 + length ms ≡ behind = omega (arith, length-append ks (is ++ ms), length-append is ms) in
         let st1 = stand_back home.parts.code pc ks (is ++ ms) st in
-        let At : CoreState → Type 0 = AtProtocol home relied t e thread a.words pos (output_acts (reg_get thread.regs value) plain) (EndsAt behind) in
+        let At : CoreState → Type 0 = AtProtocol home relied s t e thread a.words pos (output_acts (reg_get thread.regs value) plain) (EndsAt behind) in
         then_within home relied (IsApart s) t (StaysHere pc1 regs1) At 1 2 a
         (keeps_leads home relied s t e thread pos at_work.runs at_work.no_events a.words value pc thread.regs a (stand_front home.parts.code pc ks (is ++ ms) st) first)
         (λ b h.
@@ -176,15 +176,16 @@ module _ (plan : Plan) (end : ℕ) (plain : Bool) (pos : Pos) (place : ResAt) (p
           index = pc2;
           regs = regs2;
           here = k.here;
-          words = k.words;
+          within = room_kept relied s room.relied_on a.words c.words room.within k.words;
+          words = λ w r l. k.words w r;
           others = λ r w. other_r11 regs1 stands.name r w ∙ kept_others value thread.regs r w;
           steps = output_by home t e thread pos at_work.runs at_work.no_events (instead_of_r11 value) (reg_get thread.regs value) plain (EndsAt behind) pc2 regs2 stands.names (kept_word value thread.regs stands.name) (stand_back home.parts.code pc1 is ms st1) last;
         }) 2 b
         (name_leads home relied s t e thread pos at_work.runs at_work.no_events a.words place stands.name pc1 is identifies regs1 b
-        (subst (λ d. IsIdentifier relied s d b.words place stands.name) (sym (kept_dp value thread.regs)) (same_identifier relied s thread.regs.dp a.words b.words h.words place stands.name is_place))
+        (subst (λ d. IsIdentifier relied s d b.words place stands.name) (sym (kept_dp value thread.regs)) (same_identifier relied s thread.regs.dp a.words b.words (λ w r l. h.words w r) place stands.name is_place))
         (stand_front home.parts.code pc1 is ms st1) h))
 
-    take_leads : (to : Reg) (is : List Line) → Identifies place pc is → StandAt home.parts.code pc (taking pos to plain is) → Within home relied (IsApart s) t (AtProtocol home relied t e thread a.words pos (input_acts to plain) (EndsAt (pc + length (taking pos to plain is)))) 3 a
+    take_leads : (to : Reg) (is : List Line) → Identifies place pc is → StandAt home.parts.code pc (taking pos to plain is) → Within home relied (IsApart s) t (AtProtocol home relied s t e thread a.words pos (input_acts to plain) (EndsAt (pc + length (taking pos to plain is)))) 3 a
     take_leads to is identifies st =
         let ks = at_pos pos (kept_from_r11 to) in
         let ms = at_pos pos (input_instrs (beside to) to plain) in
@@ -195,7 +196,7 @@ module _ (plan : Plan) (end : ℕ) (plain : Bool) (pos : Pos) (place : ResAt) (p
         let behind : ℕ = pc + length (is ++ (ks ++ ms)) in
         let last : pc2 + length ms ≡ behind = omega (arith, length-append is (ks ++ ms), length-append ks ms) in
         let st1 = stand_back home.parts.code pc is (ks ++ ms) st in
-        let At : CoreState → Type 0 = AtProtocol home relied t e thread a.words pos (input_acts to plain) (EndsAt behind) in
+        let At : CoreState → Type 0 = AtProtocol home relied s t e thread a.words pos (input_acts to plain) (EndsAt behind) in
         then_within home relied (IsApart s) t (StaysHere pc1 regs1) At 2 1 a
         (name_leads home relied s t e thread pos at_work.runs at_work.no_events a.words place stands.name pc is identifies thread.regs a is_place
         (stand_front home.parts.code pc is (ks ++ ms) st) first)
@@ -205,7 +206,8 @@ module _ (plan : Plan) (end : ℕ) (plain : Bool) (pos : Pos) (place : ResAt) (p
           index = pc2;
           regs = regs2;
           here = k.here;
-          words = k.words;
+          within = room_kept relied s room.relied_on a.words c.words room.within k.words;
+          words = λ w r l. k.words w r;
           others = λ r w. kept_others to regs1 r w ∙ other_r11 thread.regs stands.name r w;
           steps = input_by home t e thread pos at_work.runs at_work.no_events (beside to) to plain (EndsAt behind) pc2 regs2 (ap (named home.number) (kept_name to thread.regs stands.name) ∙ stands.names) (beside_apart to) (stand_back home.parts.code pc1 ks ms st1) (λ v. last);
         }) 1 b
@@ -214,12 +216,12 @@ module _ (plan : Plan) (end : ℕ) (plain : Bool) (pos : Pos) (place : ResAt) (p
   -- the public clauses, from the code alone
   pub sends_by : (value : Reg) (is : List Line) → Identifies place (pc + length (at_pos pos (kept_from_r11 value))) is → Sends plan end value plain pos pc (sending pos value plain is)
   sends_by value is identifies = record {
-    by = λ home relied s t e thread a st at_work stands. send_leads home relied s t e thread a at_work stands value is identifies st;
+    by = λ home relied s t e thread a st at_work room stands. send_leads home relied s t e thread a at_work room stands value is identifies st;
   }
 
   pub takes_by : (to : Reg) (is : List Line) → Identifies place pc is → Takes plan end to plain pos pc (taking pos to plain is)
   takes_by to is identifies = record {
-    by = λ home relied s t e thread a st at_work stands. take_leads home relied s t e thread a at_work stands to is identifies st;
+    by = λ home relied s t e thread a st at_work room stands. take_leads home relied s t e thread a at_work room stands to is identifies st;
   }
 
 -- the lines may stand anywhere
