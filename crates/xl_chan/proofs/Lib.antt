@@ -1,0 +1,4 @@
+pub mod Acting
+pub mod Transferring
+pub mod Sending
+pub mod Receiving
