@@ -45,9 +45,7 @@ fn main(rt: HostRuntime) -> ExitCode {
     let listings_hold = report(rt.alloc(), &mut shelf, &mut out, Wanted::Listing);
     let runs_hold = report(rt.alloc(), &mut shelf, &mut out, Wanted::Run);
     out.settle();
-    ExitCode::from(u8::from(
-        !listings_hold || !runs_hold || out.outcome().is_err(),
-    ))
+    ExitCode::from(u8::from(!listings_hold || !runs_hold || out.outcome().is_err()))
 }
 
 /// Reports on the cases of a file. Whether of each comes what is wanted.
