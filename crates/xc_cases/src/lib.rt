@@ -3,7 +3,6 @@
 #![tactic(auto)]
 
 mod cases;
-mod forms;
 mod kernels;
 mod messages;
 mod names;

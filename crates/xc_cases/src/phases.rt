@@ -2,7 +2,7 @@
 
 use crate::texts::MOST;
 use crate::trees::{cuts, refusals};
-use crate::{forms, kernels, messages, names, needs, tokens, trees, types};
+use crate::{kernels, messages, names, needs, tokens, trees, types};
 use std::alloc::{AllocError, Global};
 use xc_shown::Page;
 
@@ -17,7 +17,6 @@ pub enum Phase {
     Names,
     Types,
     NodeTypes,
-    Forms,
     Kernels,
     Sizes,
     Needs,
@@ -27,7 +26,7 @@ pub enum Phase {
 
 impl Phase {
     /// In the order of the report.
-    pub const ALL: [Phase; 14] = [
+    pub const ALL: [Phase; 13] = [
         Phase::Tokens,
         Phase::Trees,
         Phase::Refusals,
@@ -36,7 +35,6 @@ impl Phase {
         Phase::Names,
         Phase::Types,
         Phase::NodeTypes,
-        Phase::Forms,
         Phase::Kernels,
         Phase::Sizes,
         Phase::Needs,
@@ -55,7 +53,6 @@ impl Phase {
             Phase::Names => "names.txt",
             Phase::Types => "types.txt",
             Phase::NodeTypes => "node_types.txt",
-            Phase::Forms => "forms.txt",
             Phase::Kernels => "kernels.txt",
             Phase::Sizes => "sizes.txt",
             Phase::Needs => "needs.txt",
@@ -85,7 +82,6 @@ impl Phase {
             Phase::Names => names::put_meanings(page, alloc, text),
             Phase::Types => types::put_verdict(page, alloc, text),
             Phase::NodeTypes => types::put_types(page, alloc, text),
-            Phase::Forms => forms::put_form(page, alloc, text),
             Phase::Kernels => kernels::put_flattened(page, alloc, text),
             Phase::Sizes => kernels::put_size(page, alloc, text),
             Phase::Needs | Phase::Apart => needs::put_needs(page, alloc, text),

@@ -3,7 +3,7 @@ use Rattle.std.proofs.Common.{◌≡◌, ◌⊎◌, ℕ, ◌<◌, ◌≤◌, Lis
 use Rattle.std.specs.Prelude.{Option, Some, None}
 use Rattle.xw_io.specs.Outside.{WhereTold, IsFileOf, IsTooLong, found, max_file}
 use Rattle.xw_io.specs.declared.file.File.{File}
-use Rattle.xc_built.specs.declared.program.Program.{Program}
+use Rattle.xc_tree.specs.Plain.{Item}
 use Rattle.xw_words.specs.declared.pos.Broken.{Broken}
 use Rattle.xcsim.specs.Answers.{Answers, Decided, no_command, missing, too_long, read_fault, refused, checked, assembled, ran, no_memory, Delivered, whole, out_fell, err_fell, Outcome, status_of_run}
 use Rattle.xcsim.specs.Causes.{AllCauses, Completes, DoneWith, NoFault}
@@ -48,7 +48,7 @@ module _ (words : List (List ℕ)) (shelf : Loads) (out err : Span) (files : Lis
       not_both (length other) long (subst (λ t. length t ≤ max_file) (same_text c d text other m n h at_d) h.short)
 
   -- a text that is accepted breaks no rule
-  no_other : (c d : Command) (text other : List ℕ) (b : Broken) → means words ≡ Some c → means words ≡ Some d → IsFileOf shelf.files (file_of c) text → found files (file_of d) ≡ Some other → (P : Program) → IsAccepted text P → First other b → ⊥
+  no_other : (c d : Command) (text other : List ℕ) (b : Broken) → means words ≡ Some c → means words ≡ Some d → IsFileOf shelf.files (file_of c) text → found files (file_of d) ≡ Some other → (P : List Item) → IsAccepted text P → First other b → ⊥
   no_other c d text other b m n h f P is first = (subst (λ t. IsAccepted t P) (same_text c d text other m n h f) is).unbroken first.phase b first.breaks
 
   done_at : (c d : Command) (text other : List ℕ) (s : Stim) (status : ℕ) → means words ≡ Some c → means words ≡ Some d → IsFileOf shelf.files (file_of c) text → found files (file_of d) ≡ Some other → IsStimOf (Some files) (stim_of d) s → ((t : Stim) → IsStimOf (Some files) (stim_of c) t → DoneWith c text t out status) → DoneWith d other s out status
@@ -59,7 +59,7 @@ module _ (words : List (List ℕ)) (shelf : Loads) (out err : Span) (files : Lis
       (subst (λ t. DoneWith c t s out status) (same_text c d text other m n h f) (done s of_c))
 
   -- what was done of a text
-  all_done : (c : Command) (text : List ℕ) (status : ℕ) (P : Program) → means words ≡ Some c → IsFileOf shelf.files (file_of c) text → IsAccepted text P → ((s : Stim) → IsStimOf (Some files) (stim_of c) s → DoneWith c text s out status) → AllCauses words files out status
+  all_done : (c : Command) (text : List ℕ) (status : ℕ) (P : List Item) → means words ≡ Some c → IsFileOf shelf.files (file_of c) text → IsAccepted text P → ((s : Stim) → IsStimOf (Some files) (stim_of c) s → DoneWith c text s out status) → AllCauses words files out status
   all_done c text status P m h is done = record {
     usage = λ none. absurd (none_some (means words) c none m);
     missing = λ d name n due f. absurd (no_file c d text name m n h due f);

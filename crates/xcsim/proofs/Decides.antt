@@ -6,7 +6,7 @@ use Rattle.xw_words.specs.declared.pos.Broken.{Broken}
 use Rattle.xs_instr.specs.declared.image.Image.{Image}
 use Rattle.xs_instr.specs.declared.trace.EndWord.{EndWord}
 use Rattle.xs_instr.specs.declared.trace.Record.{Record}
-use Rattle.xc_built.specs.declared.program.Program.{Program}
+use Rattle.xc_tree.specs.Plain.{Item}
 use Rattle.xcsim.specs.Answers.{Decided, missing, too_long, read_fault, refused, checked, assembled, ran, says, prints, status_of_run}
 use Rattle.xcsim.specs.Command.{Command, Run, Asm, Check, file_of, means}
 use Rattle.xcsim.specs.Due.{IsDue, of_text}
@@ -34,7 +34,7 @@ module _ (words : List (List ℕ)) (shelf : Loads) (c : Command) (meant : means 
   pub refused_at : (text : List ℕ) (b : Broken) → IsFileOf shelf.files name text → First text b → Decided words shelf (says 1 (broken_line name b))
   refused_at text b h first = subst (λ n. Decided words shelf (says 1 (broken_line n b))) (sym is) (refused c text b meant (file_at text h) first)
 
-  pub checked_at : (file text : List ℕ) (P : Program) → c ≡ Check file → IsFileOf shelf.files name text → IsAccepted text P → Decided words shelf (prints 0 accepted_line)
+  pub checked_at : (file text : List ℕ) (P : List Item) → c ≡ Check file → IsFileOf shelf.files name text → IsAccepted text P → Decided words shelf (prints 0 accepted_line)
   checked_at file text P e h accepted = checked file text P (meant ∙ ap (λ d. Some d) e) (subst (λ n. IsFileOf shelf.files n text) (is ∙ ap file_of e) h) accepted
 
   pub assembled_at : (file text : List ℕ) (L : Image) → c ≡ Asm file → IsFileOf shelf.files name text → IsCompiled text L → Decided words shelf (prints 0 (code_section L))

@@ -1,12 +1,13 @@
+mod Carried
 mod Completes
 mod Decides
 mod Dues
 mod Firsts
 mod Given
-mod ImageWords
 mod Meanings
+mod NoMeaning
 mod OneAnswer
-mod OneProgram
 mod OnlyCauses
 mod Order
+mod Reading
 mod Rounds

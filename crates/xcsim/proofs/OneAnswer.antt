@@ -2,15 +2,12 @@
 use Rattle.std.proofs.Common.{◌≡◌, ◌⊎◌, ℕ, List, ap, inl, inr, subst, arith}
 use Rattle.xw_words.specs.declared.pos.Broken.{Broken}
 use Rattle.xw_words.specs.declared.pos.Pos.{Pos}
-use Rattle.xc_built.specs.declared.program.Program.{Program}
-use Rattle.xc_form.specs.OfTree.{IsOfTree}
 use Rattle.xc_lexer.proofs.Rows.{tokens_one}
 use Rattle.xc_tree.specs.declared.token.Tok.{Tok}
 use Rattle.xc_tree.specs.Plain.{Item}
 use Rattle.xc_tree.specs.Derives.{IsProgram}
 use Rattle.xc_tree.specs.Lexes.{IsBefore, IsNotAfter}
 use Rattle.xcsim.specs.Rules.{First, IsAccepted, IsEarlier, rank}
-use Rattle.xcsim.proofs.OneProgram.{program_one}
 
 not_both : (p q : Pos) → IsBefore p q → IsBefore q p → ⊥
 not_both p q (inl h) (inl k) = absurd (omega (arith, h, k))
@@ -42,12 +39,11 @@ module _ (text : List ℕ) where
       by (inr h) (inr k) = neither_after b c h.1 k.1
 
   -- one program is accepted, as tokens have one tree
-  pub one_accepted : ((toks : List Tok) (v w : List Item) → IsProgram toks v → IsProgram toks w → v ≡ w) → (P Q : Program) → IsAccepted text P → IsAccepted text Q → P ≡ Q
+  pub one_accepted : ((toks : List Tok) (v w : List Item) → IsProgram toks v → IsProgram toks w → v ≡ w) → (P Q : List Item) → IsAccepted text P → IsAccepted text Q → P ≡ Q
   one_accepted one_tree P Q p q =
       let toks = tokens_one text q.tree.toks p.tree.toks q.tree.lexes p.tree.lexes in
-      let items = one_tree p.tree.toks p.items q.items p.tree.derives (subst (λ ts. IsProgram ts q.items) toks q.tree.derives) in
-      program_one q.items P Q (subst (λ v. IsOfTree v P) items p.form) q.form
+      one_tree p.tree.toks P Q p.tree.derives (subst (λ ts. IsProgram ts Q) toks q.tree.derives)
 
   -- what breaks a rule isn't accepted
-  pub first_or_accepted : (b : Broken) (P : Program) → First text b → IsAccepted text P → ⊥
+  pub first_or_accepted : (b : Broken) (P : List Item) → First text b → IsAccepted text P → ⊥
   first_or_accepted b P f p = p.unbroken f.phase b f.breaks

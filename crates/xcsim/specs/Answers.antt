@@ -7,7 +7,7 @@ use Rattle.xs_instr.specs.declared.image.Stim.{Stim}
 use Rattle.xs_instr.specs.declared.trace.EndWord.{EndWord}
 use Rattle.xs_instr.specs.declared.trace.EndWord.TheVariants.{Finished, Trapped, Stuck, Stopped}
 use Rattle.xs_instr.specs.declared.trace.Record.{Record}
-use Rattle.xc_built.specs.declared.program.Program.{Program}
+use Rattle.xc_tree.specs.Plain.{Item}
 use Rattle.xcsim.specs.Command.{Run, Asm, Check, Command, file_of, means}
 use Rattle.xcsim.specs.Due.{IsDue}
 use Rattle.xcsim.specs.Lines.{accepted_line, code_section, run_output, usage_line, no_file_line, too_long_line, read_fault_line, broken_line, no_memory_line}
@@ -56,7 +56,7 @@ pub data Decided (words : List (List ℕ)) (shelf : Loads) : Outcome → Type 0 
   refused : (c : Command) (text : List ℕ) (b : Broken) → means words ≡ Some c →
       IsFileOf shelf.files (file_of c) text → First text b →
       Decided words shelf (says 1 (broken_line (file_of c) b))
-  checked : (file text : List ℕ) (P : Program) → means words ≡ Some (Check file) →
+  checked : (file text : List ℕ) (P : List Item) → means words ≡ Some (Check file) →
       IsFileOf shelf.files file text → IsAccepted text P →
       Decided words shelf (prints 0 accepted_line)
   assembled : (file text : List ℕ) (L : Image) → means words ≡ Some (Asm file) →

@@ -7,7 +7,7 @@ use Rattle.xs_instr.specs.declared.image.Image.{Image}
 use Rattle.xs_instr.specs.declared.image.Stim.{Stim}
 use Rattle.xs_instr.specs.declared.trace.EndWord.{EndWord}
 use Rattle.xs_instr.specs.declared.trace.Record.{Record}
-use Rattle.xc_built.specs.declared.program.Program.{Program}
+use Rattle.xc_tree.specs.Plain.{Item}
 use Rattle.xcsim.specs.Answers.{status_of_run}
 use Rattle.xcsim.specs.Command.{Run, Asm, Check, Command, file_of, means, stim_of}
 use Rattle.xcsim.specs.Due.{IsDue}
@@ -79,7 +79,7 @@ pub record AllCauses (words : List (List ℕ)) (files : List File) (out : Span) 
       IsRefusedOrAccepted text
   pub refused : (c : Command) (text : List ℕ) (b : Broken) → means words ≡ Some c → found files (file_of c) ≡ Some text →
       length text ≤ max_file → First text b → status ≡ 1
-  pub done : (c : Command) (text : List ℕ) (P : Program) (s : Stim) → means words ≡ Some c → found files (file_of c) ≡ Some text →
+  pub done : (c : Command) (text : List ℕ) (P : List Item) (s : Stim) → means words ≡ Some c → found files (file_of c) ≡ Some text →
       length text ≤ max_file → IsAccepted text P → IsStimOf (Some files) (stim_of c) s → DoneWith c text s out status
 
 -- Where the shelf tells its files and no fault is counted, memory is wanting or all is done.

@@ -1,5 +1,7 @@
 -- What the words of the command line mean.
-use Rattle.std.specs.Prelude.{ℕ, ◌&&◌, Bool, false, not, List, [], ◌∷◌, codes, bytes_eq, nat_eq, Option, Some, None, if◌then◌else◌}
+use Rattle.std.specs.Prelude.{ℕ, ◌&&◌, Bool, false, not, List, [], ◌∷◌, length, codes, bytes_eq, nat_eq, nat_lt, Option, Some, None, option_and_then, if◌then◌else◌}
+use Rattle.std.specs.Option.{option_map}
+use Rattle.xr_lines.specs.Numbers.{number}
 
 -- what the program is asked to do
 pub data Command : Type 0 where
@@ -24,18 +26,50 @@ is_operand (a ∷ rest) = not (is_option (a ∷ rest))
 abbrev pub default_ticks : ℕ
 default_ticks = 100000
 
--- `means`, by the first word
-abbrev pub command_on : List ℕ → List ℕ → Option Command
-command_on word file =
-    if bytes_eq word (codes "run") then Some (Run file default_ticks None)
-    else (if bytes_eq word (codes "asm") then Some (Asm file)
-    else (if bytes_eq word (codes "check") then Some (Check file)
-    else None))
+-- the most ticks that a run has
+abbrev pub most_ticks : ℕ
+most_ticks = 200000
 
--- a command and its one operand; all other words mean nothing
+-- the most digits that a number has
+abbrev pub most_digits : ℕ
+most_digits = 6
+
+-- a number of ticks that a run may have: 1 to 200,000
+abbrev pub if_ticks : ℕ → Option ℕ
+if_ticks n = if nat_lt 0 n && not (nat_lt most_ticks n) then Some n else None
+
+-- the number of ticks that a word is: one to six decimal digits
+abbrev pub ticks_of : List ℕ → Option ℕ
+ticks_of word = if nat_lt most_digits (length word) then None else option_and_then if_ticks (number word)
+
+-- the word that stands in front of the number of ticks
+abbrev pub is_ticks : List ℕ → Bool
+is_ticks word = bytes_eq word (codes "--ticks")
+
+-- the run of a file for so many ticks, where both are told as they may be
+abbrev pub run_for : (file : List ℕ) → Option ℕ → Option Command
+run_for file ticks = if is_operand file then option_map (λ n. Run file n None) ticks else None
+
+-- What the words behind `run` ask for: a file, and at most once, before it or behind it, `--ticks` and a number.
+abbrev pub run_of : List (List ℕ) → Option Command
+run_of (file ∷ []) = run_for file (Some default_ticks)
+run_of (first ∷ second ∷ third ∷ []) =
+    if is_ticks first then run_for third (ticks_of second)
+    else (if is_ticks second then run_for first (ticks_of third) else None)
+run_of other = None
+
+-- what the word of another command asks for, with the words behind it: a file
+abbrev pub other_of : (word : List ℕ) → List (List ℕ) → Option Command
+other_of word (file ∷ []) =
+    if is_operand file then (if bytes_eq word (codes "asm") then Some (Asm file)
+    else (if bytes_eq word (codes "check") then Some (Check file) else None))
+    else None
+other_of word other = None
+
+-- What words mean: the first is the command.
 abbrev pub means : List (List ℕ) → Option Command
-means (word ∷ file ∷ []) = if is_operand file then command_on word file else None
-means other = None
+means [] = None
+means (word ∷ rest) = if bytes_eq word (codes "run") then run_of rest else other_of word rest
 
 -- the file with the text that a command is about
 abbrev pub file_of : Command → List ℕ

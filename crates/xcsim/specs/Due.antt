@@ -2,7 +2,7 @@
 use Rattle.std.specs.Prelude.{ℕ, List, Option, Some}
 use Rattle.xw_io.specs.Outside.{IsFileOf}
 use Rattle.xw_io.specs.declared.file.File.{File}
-use Rattle.xc_built.specs.declared.program.Program.{Program}
+use Rattle.xc_tree.specs.Plain.{Item}
 use Rattle.xcsim.specs.Command.{Run, Command, file_of}
 use Rattle.xcsim.specs.Rules.{IsAccepted}
 
@@ -10,5 +10,5 @@ use Rattle.xcsim.specs.Rules.{IsAccepted}
 -- for it, once the text is there and accepted. Of the files that can't be had only the first is ever due.
 pub data IsDue (files : Option (List File)) : Command → List ℕ → Type 0 where
   of_text : (c : Command) → IsDue files c (file_of c)
-  of_stim : (file : List ℕ) (ticks : ℕ) (stim text : List ℕ) (P : Program) → IsFileOf files file text → IsAccepted text P →
+  of_stim : (file : List ℕ) (ticks : ℕ) (stim text : List ℕ) (P : List Item) → IsFileOf files file text → IsAccepted text P →
       IsDue files (Run file ticks (Some stim)) stim

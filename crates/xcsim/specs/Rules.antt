@@ -1,5 +1,5 @@
 -- The rules that a text breaks, which of them is told, and which texts are accepted.
-use Rattle.std.specs.Prelude.{◌≡◌, ◌⊎◌, ◌<◌, ℕ, List, length}
+use Rattle.std.specs.Prelude.{◌≡◌, ◌⊎◌, ◌<◌, ℕ, Bool, List, length}
 use Rattle.xw_words.specs.declared.pos.Pos.{Pos}
 use Rattle.xw_words.specs.declared.pos.Broken.{Broken}
 use Rattle.xc_tree.specs.declared.token.Tok.{Tok}
@@ -11,9 +11,12 @@ use Rattle.xc_tree.specs.Plain.{Item}
 use Rattle.xc_tree.specs.Names.Rules.{Breaks as BreaksInNames}
 use Rattle.xc_tree.specs.Types.Named.{IsNamed, NamedProgram}
 use Rattle.xc_tree.specs.Checks.{Breaks as BreaksInTypes}
-use Rattle.xc_built.specs.declared.program.Program.{Program}
-use Rattle.xc_form.specs.Form.{HasForm}
-use Rattle.xc_form.specs.OfTree.{IsOfTree}
+use Rattle.xc_kernel.specs.Copies.{Copies}
+use Rattle.xc_kernel.specs.Plain.{Kernel}
+use Rattle.xc_kernel.specs.Sound.{IsTyped}
+use Rattle.xc_kernel.specs.Size.{Breaks509, IsTooLarge}
+use Rattle.xc_disjoint.specs.Rules.{Breaks as BreaksInNeeds}
+use Rattle.xc_today.specs.Today.{IsBuiltToday}
 
 -- the text has tokens, these are a program with this tree, and no rule on tokens is broken
 pub record IsTree (text : List ℕ) (items : List Item) : Type 0 where
@@ -26,6 +29,18 @@ pub record IsTree (text : List ℕ) (items : List Item) : Type 0 where
 pub record IsResolved (items : List Item) (n : NamedProgram) : Type 0 where
   pub unbroken : (b : Broken) → BreaksInNames items b → ⊥
   pub named : IsNamed items n
+
+-- the items break no rule of names, types and shapes, and this is their named program
+pub record IsShaped (items : List Item) (n : NamedProgram) : Type 0 where
+  pub resolved : IsResolved items n
+  pub unbroken : (b : Broken) → BreaksInTypes n b → ⊥
+
+-- the items break no rule of size either, and this is their kernel: the program with each call replaced by a copy of its function
+pub record IsCopied (items : List Item) (K : Kernel) : Type 0 where
+  pub n : NamedProgram
+  pub shaped : IsShaped items n
+  pub small : IsTooLarge items → ⊥
+  pub copies : Copies items K
 
 -- the place just behind a text
 abbrev pub end_of : List ℕ → Pos
@@ -47,6 +62,10 @@ pub data Phase : Type 0 where
   Names : Phase
   -- 401 to 416, and 501 to 508 of shapes
   Types : Phase
+  -- 509
+  Size : Phase
+  -- 601 to 606, and 701 to 706
+  Needs : Phase
 
 -- how many phases come before
 abbrev pub rank : Phase → ℕ
@@ -55,19 +74,24 @@ rank Bytes = 1
 rank Tokens = 2
 rank Names = 3
 rank Types = 4
+rank Size = 5
+rank Needs = 6
 
 -- the one phase comes before the other
 abbrev pub IsEarlier : Phase → Phase → Type 0
 IsEarlier a b = rank a < rank b
 
--- A text breaks a rule of a phase: it has a tree that isn't of the built form; its bytes break a rule; it has tokens, and
--- these break one; it has a tree, and this breaks one of names; its names are whole, and it breaks one of types and shapes.
+-- A text breaks a rule of a phase: it has a tree that isn't built today; its bytes break a rule; it has tokens, and these break one; it
+-- has a tree, and this breaks one of names; its names are whole, and it breaks one of types and shapes; it breaks none of these, and is
+-- too large with all its copies; it is small enough, and its kernel breaks a rule of branches that keep apart or of what a core has.
 pub data Breaks (text : List ℕ) : Phase → Broken → Type 0 where
-  of_form : (items : List Item) → IsTree text items → (HasForm items → ⊥) → Breaks text Form not_built
+  of_form : (items : List Item) (tree : IsTree text items) → (IsBuiltToday tree.toks items → ⊥) → Breaks text Form not_built
   of_bytes : (b : Broken) → BreaksInBytes text b → Breaks text Bytes b
   of_tokens : (toks : List Tok) (rule i : ℕ) → Lexes text toks → BreaksRule toks rule i → Breaks text Tokens (record { rule = rule; pos = place_at toks (end_of text) i })
   of_names : (items : List Item) (b : Broken) → IsTree text items → BreaksInNames items b → Breaks text Names b
   of_types : (items : List Item) (n : NamedProgram) (b : Broken) → IsTree text items → IsResolved items n → BreaksInTypes n b → Breaks text Types b
+  of_size : (items : List Item) (n : NamedProgram) (b : Broken) → IsTree text items → IsShaped items n → Breaks509 items b → Breaks text Size b
+  of_needs : (items : List Item) (K : Kernel) (b : Broken) → IsTree text items → IsCopied items K → BreaksInNeeds K b → Breaks text Needs b
 
 -- the broken rule of the earliest phase, there of the least place, and there of the least number
 pub record First (text : List ℕ) (b : Broken) : Type 0 where
@@ -75,13 +99,20 @@ pub record First (text : List ℕ) (b : Broken) : Type 0 where
   pub breaks : Breaks text phase b
   pub least : (later : Phase) (other : Broken) → Breaks text later other → IsEarlier phase later ⊎ ((phase ≡ later) × IsNotAfter b other)
 
--- the text has a tree, the tree is this program, and the text breaks no rule
-pub record IsAccepted (text : List ℕ) (P : Program) : Type 0 where
-  pub items : List Item
-  pub tree : IsTree text items
-  pub form : IsOfTree items P
+-- the text has this tree, and breaks no rule
+pub record IsAccepted (text : List ℕ) (P : List Item) : Type 0 where
+  pub tree : IsTree text P
   pub unbroken : (phase : Phase) (b : Broken) → Breaks text phase b → ⊥
 
 -- the text has a first broken rule, or it is accepted
 abbrev pub IsRefusedOrAccepted : List ℕ → Type 0
-IsRefusedOrAccepted text = ((b : Broken) × First text b) ⊎ ((P : Program) × IsAccepted text P)
+IsRefusedOrAccepted text = ((b : Broken) × First text b) ⊎ ((P : List Item) × IsAccepted text P)
+
+-- this is the kernel of an accepted text, whose program has these types
+pub record IsKernelOf (text : List ℕ) (K : Kernel) : Type 0 where
+  pub program : List Item
+  pub accepted : IsAccepted text program
+  pub named : NamedProgram
+  pub types : List Bool
+  pub typed : IsTyped program named types
+  pub copies : Copies program K

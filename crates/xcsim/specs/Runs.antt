@@ -8,20 +8,20 @@ use Rattle.xs_instr.specs.declared.trace.Record.{Record}
 use Rattle.xs_instr.specs.Valid.{Valid}
 use Rattle.xs_fabric.specs.EndWord.{end_of, has_trap}
 use Rattle.xs_fabric.specs.Lockstep.{lockstep}
-use Rattle.xc_built.specs.declared.program.Program.{Program}
+use Rattle.xc_tree.specs.Plain.{Item}
 use Rattle.xr_match.specs.Implements.{Implements}
-use Rattle.xr_match.specs.Meanings.{of_built}
+use Rattle.xr_match.specs.Meanings.{of_text}
 use Rattle.xs_instr.specs.Words.{HasWords}
 use Rattle.xcsim.specs.Rules.{IsAccepted}
 
 -- a valid image that implements the program that the text means. Its numbers are words, so no other such image has its
 -- listing
 pub record IsCompiled (text : List ℕ) (L : Image) : Type 0 where
-  pub program : Program
+  pub program : List Item
   pub means_so : IsAccepted text program
   pub valid : Valid L
   pub words : HasWords L
-  pub implements : Implements L (of_built program)
+  pub implements : Implements L (of_text program)
 
 -- pins that are never driven
 abbrev pub no_stim : Stim

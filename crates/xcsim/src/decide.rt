@@ -1,11 +1,12 @@
 // What is answered, before anything is written.
 
-ghost use Rattle.std.specs.Prelude.{◌≡◌, ◌≤◌, ◌<◌, ◌^◌, length, map, string_bytes, IfOk};
-ghost use Rattle.xs_instr.specs.Valid.{Valid};
-ghost use Rattle.xc_built.specs.Program.{IsWellFormed};
-ghost use Rattle.xr_match.specs.Code.{IsCodeOf};
+ghost use Rattle.std.specs.Prelude.{◌≡◌, ◌≤◌, map, string_bytes, IfOk};
+ghost use Rattle.xc_kernel.specs.Kernels.{kernel_of};
+ghost use Rattle.xl_image.specs.Roots.{RootsAreBuilt};
 ghost use Rattle.xr_match.specs.Implements.{Implements};
-ghost use Rattle.xr_match.specs.Meanings.{of_built};
+ghost use Rattle.xr_match.specs.Meanings.{of_kernel};
+ghost use Rattle.xs_instr.specs.Valid.{Valid};
+ghost use Rattle.xs_instr.specs.Words.{HasWords};
 ghost use Rattle.xcsim.specs.Answers.{Decided, status_of_run};
 ghost use Rattle.xcsim.specs.Decision.{outcome_of, IsPrintable};
 ghost use Rattle.xcsim.specs.Outside.{loads};
@@ -15,9 +16,9 @@ use crate::front::read_text;
 use crate::run::{Run, run_lockstep};
 use crate::words::{Command, meaning};
 use std::alloc::Global;
-use xc_built::Program;
+use xc_disjoint::Checked;
 use xc_tree::Refusal;
-use xr_match::compile;
+use xr_threads::compile;
 use xs_instr::{EndWord, Image, Stim};
 use xw_io::{LoadErr, Shelf};
 use xw_words::{Broken, List, Memory};
@@ -71,18 +72,18 @@ pub fn decide<'w, S: Shelf>(alloc: Global, words: &'w [String], shelf: &mut S) -
         Err(LoadErr::Failed) => return saying(8, Line::ReadFault(file)),
         Err(LoadErr::Memory) => return saying(12, Line::NoMemory),
     };
-    let program = match read_text(alloc, text.as_slice()) {
-        Ok(program) => program,
+    let checked = match read_text(alloc, text.as_slice()) {
+        Ok(checked) => checked,
         Err(Refusal::Broken(broken)) => return saying(1, Line::Broken(file, broken)),
         Err(Refusal::Memory) => return saying(12, Line::NoMemory),
     };
     match command {
         Command::Check(_) => printing(0, Printed::Accepted),
-        Command::Asm(_) => match compile(alloc, &program) {
+        Command::Asm(_) => match compile(alloc, &checked) {
             Ok(image) => printing(0, Printed::Code(image)),
             Err(Memory) => saying(12, Line::NoMemory),
         },
-        Command::Run { ticks, .. } => match compile_and_run(alloc, &program, ticks) {
+        Command::Run { ticks, .. } => match compile_and_run(alloc, checked, ticks) {
             Ok((image, run)) => {
                 let status = status(run.trapped, run.end);
                 printing(status, Printed::Whole(image, run))
@@ -92,17 +93,17 @@ pub fn decide<'w, S: Shelf>(alloc: Global, words: &'w [String], shelf: &mut S) -
     }
 }
 
-/// The image of a program, and its run for so many ticks without a stimulus.
-fn compile_and_run(alloc: Global, program: &Program, ticks: u32) -> Result<(Image, Run), Memory>
-    requires well_formed { IsWellFormed program.now }
-    requires few { length program.now.outputs < 2 ^ 28 }
-    ensures implements { IfOk result (λ r. Implements r.0 (of_built program.now)) }
+/// The image of a kernel, and its run for so many ticks without a stimulus. The kernel is dropped before the run.
+fn compile_and_run(alloc: Global, checked: Checked, ticks: u32) -> Result<(Image, Run), Memory>
+    requires built { RootsAreBuilt (kernel_of checked).roots }
+    ensures implements { IfOk result (λ r. Implements r.0 (of_kernel (kernel_of checked))) }
     ensures valid { IfOk result (λ r. Valid r.0) }
-    ensures code { IfOk result (λ r. IsCodeOf program.now r.0) }
+    ensures words { IfOk result (λ r. HasWords r.0) }
     ensures lockstep { IfOk result (λ r.
         IsLockstep r.0 no_stim ticks r.1.machine.state.trace r.1.end r.1.trapped) }
 {
-    let image = compile(alloc, program)?;
+    let image = compile(alloc, &checked)?;
+    drop(checked);
     let stim = Stim {
         lines: List::new(alloc),
     };

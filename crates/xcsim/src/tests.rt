@@ -10,7 +10,7 @@ use std::process::Abort;
 use std::sync::Wait;
 use std::test::Fail;
 use std::thread::Threads;
-use xr_match::compile;
+use xr_threads::compile;
 use xs_fabric::{Event, Machine};
 use xs_instr::{EndWord, Image, Record, Stim};
 use xw_io::{File, MemShelf, MemSink, OpenGate, Shelf};
@@ -24,17 +24,21 @@ const EMPTY_MAIN: &str = "int main(void) { return 0; }";
 const PULSE: &str = "out port p = XS1_PORT_1A;\nint main(void) { p @ 100 <: 1; return 0; }\n";
 
 const PULSE_CODE: &str =
-    "code\n.core 0\n.words 0\n.timers 0\n.ends 0\n.port 1A out\n.root 0\n0: LDC r1, 0 @2:18\n1: LDC r0, 100 @2:18\n2: SETPT r1, r0 @2:18\n3: LDC r0, 1 @2:18\n4: OUT r1, r0 @2:18\n5: FREET @2:18\n";
+    "code\n.core 0\n.words 516\n.timers 0\n.ends 0\n.port 1A out\n.root 0\n0: LDC r0, 16 @2:5\n1: SETSP r0 @2:5\n2: LDC r0, 0 @2:5\n3: STWDP r0, 0 @2:5\n4: LDC r10, 100 @2:5\n5: LDC r0, 1 @2:5\n6: LDC r11, 0 @2:18\n7: SETC r11, NONE @2:18\n8: SETPT r11, r10 @2:18\n9: OUT r11, r0 @2:18\n10: LDC r0, 0 @2:18\n11: STWDP r0, 0 @2:18\n12: BRFU 13 @2:18\n13: FREET @2:5\n";
 
-/// A text of the language that isn't of the built form.
+/// Six functions, of which each but the first calls the one before ten times.
+const SIX_FUNCTIONS: &str =
+    "void f0(void) { int x; x = 1; }\nvoid f1(void) { f0(); f0(); f0(); f0(); f0(); f0(); f0(); f0(); f0(); f0(); }\nvoid f2(void) { f1(); f1(); f1(); f1(); f1(); f1(); f1(); f1(); f1(); f1(); }\nvoid f3(void) { f2(); f2(); f2(); f2(); f2(); f2(); f2(); f2(); f2(); f2(); }\nvoid f4(void) { f3(); f3(); f3(); f3(); f3(); f3(); f3(); f3(); f3(); f3(); }\nvoid f5(void) { f4(); f4(); f4(); f4(); f4(); f4(); f4(); f4(); f4(); f4(); }\n";
+
+/// A text of the language that isn't built yet.
 const TWO_BRANCHES: &str =
     "out port p = XS1_PORT_8A;\nint main(void) { chan c; int x; par { c <: 7; c :> x; } p @ 30000 <: x; return 0; }\n";
 
 /// A call, with the file `a.xc`, and what is expected of it.
 #[derive(Clone, Copy)]
-struct Row {
+struct Row<'t> {
     words: [&'static str; 4],
-    text: &'static str,
+    text: &'t str,
     load_fails: bool,
     status: u8,
     out: &'static str,
@@ -42,7 +46,7 @@ struct Row {
 }
 
 /// A call of `run a.xc`.
-const fn run(text: &'static str, status: u8, out: &'static str, err: &'static str) -> Row {
+const fn run(text: &'static str, status: u8, out: &'static str, err: &'static str) -> Row<'static> {
     Row {
         words: ["run", "a.xc", "", ""],
         text,
@@ -54,7 +58,7 @@ const fn run(text: &'static str, status: u8, out: &'static str, err: &'static st
 }
 
 /// A call whose words mean nothing. The first load would fail.
-const fn refused(words: [&'static str; 4]) -> Row {
+const fn refused(words: [&'static str; 4]) -> Row<'static> {
     Row {
         words,
         text: EMPTY_MAIN,
@@ -98,7 +102,7 @@ fn first_call(alloc: Global, fails: bool) -> Result<List<u32>, Memory> {
 fn check_row<Rt: Threads + Wait + Sync + Abort>(
     rt: &Rt,
     alloc: Global,
-    row: &Row,
+    row: &Row<'_>,
 ) -> Result<(), Fail> {
     let words = word_list(alloc, &row.words)?;
     let fails = first_call(alloc, row.load_fails)?;
@@ -130,43 +134,43 @@ fn runs_programs(rt: HostRuntime) -> Result<(), Fail> {
         run(
             EMPTY_MAIN,
             0,
-            "code\n.core 0\n.words 0\n.timers 0\n.ends 0\n.root 0\n0: FREET @1:1\ntrace\nend finished\n",
+            "code\n.core 0\n.words 516\n.timers 0\n.ends 0\n.root 0\n0: LDC r0, 16 @1:5\n1: SETSP r0 @1:5\n2: LDC r0, 0 @1:5\n3: STWDP r0, 0 @1:5\n4: LDC r0, 0 @1:5\n5: STWDP r0, 0 @1:5\n6: BRFU 7 @1:5\n7: FREET @1:5\ntrace\nend finished\n",
             "",
         ),
         run(
             PULSE,
             0,
-            "code\n.core 0\n.words 0\n.timers 0\n.ends 0\n.port 1A out\n.root 0\n0: LDC r1, 0 @2:18\n1: LDC r0, 100 @2:18\n2: SETPT r1, r0 @2:18\n3: LDC r0, 1 @2:18\n4: OUT r1, r0 @2:18\n5: FREET @2:18\ntrace\nout 0 1A @100 1\nend finished\n",
+            "code\n.core 0\n.words 516\n.timers 0\n.ends 0\n.port 1A out\n.root 0\n0: LDC r0, 16 @2:5\n1: SETSP r0 @2:5\n2: LDC r0, 0 @2:5\n3: STWDP r0, 0 @2:5\n4: LDC r10, 100 @2:5\n5: LDC r0, 1 @2:5\n6: LDC r11, 0 @2:18\n7: SETC r11, NONE @2:18\n8: SETPT r11, r10 @2:18\n9: OUT r11, r0 @2:18\n10: LDC r0, 0 @2:18\n11: STWDP r0, 0 @2:18\n12: BRFU 13 @2:18\n13: FREET @2:5\ntrace\nout 0 1A @100 1\nend finished\n",
             "",
         ),
         run(
             "out port p = XS1_PORT_1A;\nint main(void) { p @ 65535 <: 1; p @ 20000 <: 0; return 0; }",
             0,
-            "code\n.core 0\n.words 0\n.timers 0\n.ends 0\n.port 1A out\n.root 0\n0: LDC r1, 0 @2:18\n1: LDC r0, 65535 @2:18\n2: SETPT r1, r0 @2:18\n3: LDC r0, 1 @2:18\n4: OUT r1, r0 @2:18\n5: LDC r1, 0 @2:34\n6: LDC r0, 20000 @2:34\n7: SETPT r1, r0 @2:34\n8: LDC r0, 0 @2:34\n9: OUT r1, r0 @2:34\n10: FREET @2:34\ntrace\nout 0 1A @65535 1\nout 0 1A @20000 0\nend finished\n",
+            "code\n.core 0\n.words 516\n.timers 0\n.ends 0\n.port 1A out\n.root 0\n0: LDC r0, 16 @2:5\n1: SETSP r0 @2:5\n2: LDC r0, 0 @2:5\n3: STWDP r0, 0 @2:5\n4: LDC r10, 65535 @2:5\n5: LDC r0, 1 @2:5\n6: LDC r11, 0 @2:18\n7: SETC r11, NONE @2:18\n8: SETPT r11, r10 @2:18\n9: OUT r11, r0 @2:18\n10: LDC r10, 20000 @2:18\n11: LDC r0, 0 @2:18\n12: LDC r11, 0 @2:34\n13: SETC r11, NONE @2:34\n14: SETPT r11, r10 @2:34\n15: OUT r11, r0 @2:34\n16: LDC r0, 0 @2:34\n17: STWDP r0, 0 @2:34\n18: BRFU 19 @2:34\n19: FREET @2:5\ntrace\nout 0 1A @65535 1\nout 0 1A @20000 0\nend finished\n",
             "",
         ),
         run(
             "out port p = XS1_PORT_1A;\nint main(void) { p @ 0 <: 1; return 0; }",
             0,
-            "code\n.core 0\n.words 0\n.timers 0\n.ends 0\n.port 1A out\n.root 0\n0: LDC r1, 0 @2:18\n1: LDC r0, 0 @2:18\n2: SETPT r1, r0 @2:18\n3: LDC r0, 1 @2:18\n4: OUT r1, r0 @2:18\n5: FREET @2:18\ntrace\nout 0 1A @0 1\nend finished\n",
+            "code\n.core 0\n.words 516\n.timers 0\n.ends 0\n.port 1A out\n.root 0\n0: LDC r0, 16 @2:5\n1: SETSP r0 @2:5\n2: LDC r0, 0 @2:5\n3: STWDP r0, 0 @2:5\n4: LDC r10, 0 @2:5\n5: LDC r0, 1 @2:5\n6: LDC r11, 0 @2:18\n7: SETC r11, NONE @2:18\n8: SETPT r11, r10 @2:18\n9: OUT r11, r0 @2:18\n10: LDC r0, 0 @2:18\n11: STWDP r0, 0 @2:18\n12: BRFU 13 @2:18\n13: FREET @2:5\ntrace\nout 0 1A @0 1\nend finished\n",
             "",
         ),
         run(
             "out port p = XS1_PORT_1A;\nint main(void) { p @ 1 <: 1; p @ 1 <: 1; return 0; }",
             4,
-            "code\n.core 0\n.words 0\n.timers 0\n.ends 0\n.port 1A out\n.root 0\n0: LDC r1, 0 @2:18\n1: LDC r0, 1 @2:18\n2: SETPT r1, r0 @2:18\n3: LDC r0, 1 @2:18\n4: OUT r1, r0 @2:18\n5: LDC r1, 0 @2:30\n6: LDC r0, 1 @2:30\n7: SETPT r1, r0 @2:30\n8: LDC r0, 1 @2:30\n9: OUT r1, r0 @2:30\n10: FREET @2:30\ntrace\nout 0 1A @1 1\nend stopped\n",
+            "code\n.core 0\n.words 516\n.timers 0\n.ends 0\n.port 1A out\n.root 0\n0: LDC r0, 16 @2:5\n1: SETSP r0 @2:5\n2: LDC r0, 0 @2:5\n3: STWDP r0, 0 @2:5\n4: LDC r10, 1 @2:5\n5: LDC r0, 1 @2:5\n6: LDC r11, 0 @2:18\n7: SETC r11, NONE @2:18\n8: SETPT r11, r10 @2:18\n9: OUT r11, r0 @2:18\n10: LDC r10, 1 @2:18\n11: LDC r0, 1 @2:18\n12: LDC r11, 0 @2:30\n13: SETC r11, NONE @2:30\n14: SETPT r11, r10 @2:30\n15: OUT r11, r0 @2:30\n16: LDC r0, 0 @2:30\n17: STWDP r0, 0 @2:30\n18: BRFU 19 @2:30\n19: FREET @2:5\ntrace\nout 0 1A @1 1\nend stopped\n",
             "",
         ),
         run(
             "out port q = XS1_PORT_1A; out port p = XS1_PORT_8B;\nint main(void) { p <: 300; return 0; }",
             0,
-            "code\n.core 0\n.words 0\n.timers 0\n.ends 0\n.port 1A out\n.port 8B out\n.root 0\n0: LDC r1, 256 @2:18\n1: LDC r0, 300 @2:18\n2: OUT r1, r0 @2:18\n3: FREET @2:18\ntrace\nout 0 8B @3 44\nend finished\n",
+            "code\n.core 0\n.words 516\n.timers 0\n.ends 0\n.port 1A out\n.port 8B out\n.root 0\n0: LDC r0, 16 @2:5\n1: SETSP r0 @2:5\n2: LDC r0, 0 @2:5\n3: STWDP r0, 0 @2:5\n4: LDC r0, 300 @2:5\n5: LDC r11, 256 @2:18\n6: SETC r11, NONE @2:18\n7: OUT r11, r0 @2:18\n8: LDC r0, 0 @2:18\n9: STWDP r0, 0 @2:18\n10: BRFU 11 @2:18\n11: FREET @2:5\ntrace\nout 0 8B @8 44\nend finished\n",
             "",
         ),
         run(
             "#include <xs1.h>\n#define HIGH 1\n/* a pulse */\nout port p = XS1_PORT_1A; // one bit\nint main() { p @ 0x64 <: HIGH; return 0; }\n",
             0,
-            "code\n.core 0\n.words 0\n.timers 0\n.ends 0\n.port 1A out\n.root 0\n0: LDC r1, 0 @5:14\n1: LDC r0, 100 @5:14\n2: SETPT r1, r0 @5:14\n3: LDC r0, 1 @5:14\n4: OUT r1, r0 @5:14\n5: FREET @5:14\ntrace\nout 0 1A @100 1\nend finished\n",
+            "code\n.core 0\n.words 516\n.timers 0\n.ends 0\n.port 1A out\n.root 0\n0: LDC r0, 16 @5:5\n1: SETSP r0 @5:5\n2: LDC r0, 0 @5:5\n3: STWDP r0, 0 @5:5\n4: LDC r10, 100 @5:5\n5: LDC r0, 1 @5:5\n6: LDC r11, 0 @5:14\n7: SETC r11, NONE @5:14\n8: SETPT r11, r10 @5:14\n9: OUT r11, r0 @5:14\n10: LDC r0, 0 @5:14\n11: STWDP r0, 0 @5:14\n12: BRFU 13 @5:14\n13: FREET @5:5\ntrace\nout 0 1A @100 1\nend finished\n",
             "",
         ),
     ];
@@ -208,10 +212,22 @@ fn refuses_texts(rt: HostRuntime) -> Result<(), Fail> {
         ("int main(void) { x = ; }", "a.xc:1:22: rule 201\n"),
         (TWO_BRANCHES, "a.xc:1:1: rule 299\n"),
         (
-            "int main(void) { y = 1; return 0; }",
+            "int main(void) {\n  int x;\n  par {\n    x = 1;\n    x = 2;\n  }\n  return 0;\n}\n",
             "a.xc:1:1: rule 299\n",
         ),
-        ("void f() { }", "a.xc:1:1: rule 299\n"),
+        (
+            "in port p = XS1_PORT_1A;\nint main(void) { return 0; }",
+            "a.xc:1:1: rule 299\n",
+        ),
+        (
+            "out port p = XS1_PORT_1A;\nint main(void) { int t; p <: 1 @ t; return 0; }",
+            "a.xc:1:1: rule 299\n",
+        ),
+        (
+            "int main(void) { y = 1; return 0; }",
+            "a.xc:1:18: rule 301\n",
+        ),
+        ("void f() { }", "a.xc:1:1: rule 305\n"),
         (
             "int main(void) { p <: 1; return 0; }",
             "a.xc:1:18: rule 301\n",
@@ -243,6 +259,124 @@ fn refuses_texts(rt: HostRuntime) -> Result<(), Fail> {
     Ok(())
 }
 
+/// What follows the line `trace` in the output of calls.
+#[test]
+fn runs_statements(rt: HostRuntime) -> Result<(), Fail> {
+    let run = ["run", "a.xc", "", ""];
+    let rows = [
+        (
+            run,
+            "out port p = XS1_PORT_1A;\nint main(void) { int i; for (i = 0; i < 1000; i++) { } p @ 5 <: 3; return 0; }",
+            0,
+            "out 0 1A @5 1\nend finished\n",
+        ),
+        (
+            run,
+            "int main(void) {\n  int x = 1 << 31; int y = -1;\n  x = x / y;\n  return 0;\n}\n",
+            3,
+            "err 0 3:9 arithmetic\nend trapped\n",
+        ),
+        (
+            run,
+            "int main(void) { int a[3]; int i = 3; a[i] = 1; return 0; }",
+            3,
+            "err 0 1:39 index\nend trapped\n",
+        ),
+        (
+            ["run", "--ticks", "1", "a.xc"],
+            "out port p = XS1_PORT_1A;\nint main(void) { while (1) { p @ 50 <: 1; } return 0; }",
+            4,
+            "end stopped\n",
+        ),
+        (
+            ["run", "a.xc", "--ticks", "000008"],
+            "out port p = XS1_PORT_8B;\nint main(void) { p <: 300; return 0; }",
+            4,
+            "out 0 8B @8 44\nend stopped\n",
+        ),
+    ];
+    for (words, text, status, tail) in rows {
+        check_trace(&rt, rt.alloc(), &words, text, status, tail)?;
+    }
+    Ok(())
+}
+
+/// A call with the file `a.xc`, and what follows the line `trace` in its output.
+fn check_trace<Rt: Threads + Wait + Sync + Abort>(
+    rt: &Rt,
+    alloc: Global,
+    words: &[&str; 4],
+    text: &str,
+    status: u8,
+    tail: &str,
+) -> Result<(), Fail> {
+    let words = word_list(alloc, words)?;
+    let mut shelf = shelf_of(alloc, text.as_bytes(), List::new(alloc))?;
+    let mut out = MemSink::new(alloc, 10_000, List::new(alloc))?;
+    let mut err = MemSink::new(alloc, 100, List::new(alloc))?;
+    let answer = xcsim(
+        rt,
+        alloc,
+        words.as_slice(),
+        &mut shelf,
+        &mut out,
+        &mut err,
+        &OpenGate,
+    );
+    assert_eq!(rt; answer, status);
+    let output = str::from_utf8(out.bytes()).unwrap_or("");
+    let (_, trace) = output.split_once("trace\n").unwrap_or(("", ""));
+    assert_eq!(rt; trace, tail);
+    assert_eq!(rt; err.bytes(), b"".as_slice());
+    Ok(())
+}
+
+/// A call of `check a.xc` with six functions and a `main` behind them.
+fn check_copies<Rt: Threads + Wait + Sync + Abort>(
+    rt: &Rt,
+    alloc: Global,
+    main: &str,
+    status: u8,
+    out: &'static str,
+    err: &'static str,
+) -> Result<(), Fail> {
+    let mut text = String::from_str(alloc, SIX_FUNCTIONS)?;
+    text.push_str(main)?;
+    let row = Row {
+        words: ["check", "a.xc", "", ""],
+        text: text.as_str(),
+        load_fails: false,
+        status,
+        out,
+        err,
+    };
+    check_row(rt, alloc, &row)
+}
+
+/// How large a program may be with all its copies, and how many words a core has.
+#[test]
+fn counts_copies(rt: HostRuntime) -> Result<(), Fail> {
+    let rows = [
+        (
+            "int main(void) { f5(); return 0; }",
+            1,
+            "",
+            "a.xc:7:5: rule 509\n",
+        ),
+        (
+            "int main(void) { f4(); return 0; }",
+            1,
+            "",
+            "a.xc:7:5: rule 704\n",
+        ),
+        ("int main(void) { f3(); return 0; }", 0, "accepted\n", ""),
+    ];
+    for (main, status, out, err) in rows {
+        check_copies(&rt, rt.alloc(), main, status, out, err)?;
+    }
+    Ok(())
+}
+
 #[test]
 fn reads_words(rt: HostRuntime) -> Result<(), Fail> {
     let rows = [
@@ -250,6 +384,12 @@ fn reads_words(rt: HostRuntime) -> Result<(), Fail> {
         refused(["", "", "", ""]),
         refused(["run", "a.xc", "--ticks", "0"]),
         refused(["run", "a.xc", "--ticks", "200001"]),
+        refused(["run", "a.xc", "--ticks", "0000001"]),
+        refused(["run", "a.xc", "--ticks", "+1"]),
+        refused(["run", "--ticks", "a.xc", "1"]),
+        refused(["run", "a.xc", "--workers", "2"]),
+        refused(["check", "a.xc", "--ticks", "1"]),
+        refused(["run", "a.xc", "s.txt", ""]),
         refused(["run", "a.xc", "--fast", ""]),
         refused(["run", "--a.xc", "", ""]),
         refused(["walk", "a.xc", "", ""]),
@@ -379,8 +519,8 @@ fn compiled(alloc: Global, text: &[u8]) -> Result<Image, Fail>
     requires { length text.now ≤ 4194304 }
     ensures valid { IfOk result (λ image. Valid image) }
 {
-    let program = read_text(alloc, text)?;
-    let image = compile(alloc, &program)?;
+    let checked = read_text(alloc, text)?;
+    let image = compile(alloc, &checked)?;
     Ok(image)
 }
 
@@ -408,17 +548,19 @@ fn steps_a_machine(rt: HostRuntime) -> Result<(), Fail> {
         lines: List::new(alloc),
     };
     let mut machine = Machine::boot(alloc, &image, &stim)?;
+    for _ in 0..9 {
+        assert_eq!(rt; act(&mut machine, Action::Step(0, 0))?, Event::Done);
+    }
     let rows = [
-        (Action::Step(0, 0), Event::Done),
-        (Action::Step(0, 0), Event::Done),
-        (Action::Step(0, 0), Event::Done),
-        (Action::Step(0, 0), Event::Done),
         (Action::Step(0, 0), Event::NotEnabled),
         (Action::Tick(0), Event::Done),
         (Action::Step(0, 0), Event::NotEnabled),
         (Action::Tick(1), Event::Done),
         (Action::Step(0, 0), Event::NotEnabled),
         (Action::Tick(0), Event::Done),
+        (Action::Step(0, 0), Event::Done),
+        (Action::Step(0, 0), Event::Done),
+        (Action::Step(0, 0), Event::Done),
         (Action::Step(0, 0), Event::Done),
         (Action::Step(0, 0), Event::Done),
         (Action::Step(0, 0), Event::NotEnabled),

@@ -1,4 +1,3 @@
-pub mod Code
 pub mod Implements
 pub mod Lives
 pub mod Meanings

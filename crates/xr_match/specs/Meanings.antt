@@ -1,10 +1,7 @@
--- The meanings of a kernel, of a text, and of a program of the form that is built today.
+-- The meanings of a kernel and of a text.
 use Rattle.std.specs.Prelude.{◌≡◌, ◌+◌, ◌*◌, ℕ, zero, Bool, true, List, [], ◌∷◌, Option, Some, None, IsSome, nat_eq, slice_get}
 use Rattle.xs_instr.specs.declared.image.Image.{Image}
 use Rattle.xs_instr.specs.Machine.{and_then}
-use Rattle.xc_built.specs.declared.program.Program.{Program}
-use Rattle.xc_built.specs.Steps as steps
-use Rattle.xc_built.specs.World as built
 use Rattle.xc_tree.specs.Plain as tree
 use Rattle.xc_tree.specs.Types.Named.{NamedProgram}
 use Rattle.xc_kernel.specs.Copies.{copy_of, Copies}
@@ -72,48 +69,3 @@ abbrev pub KernelsCarry : Type 0
 KernelsCarry =
     (L : Image) (P : List tree.Item) (K : kernel.Kernel) (named : NamedProgram) (types : List Bool) →
     IsTyped P named types → Copies P K → Implements L (of_kernel K) → Implements L (of_text P)
-
--- Programs of the built form.
-
--- every branch has ended
-abbrev pub HasEnded : built.Life → Type 0
-HasEnded built.Running = ⊥
-HasEnded built.Ended = Unit {0}
-
-abbrev pub AllBranchesEnded : List built.Branch → Type 0
-AllBranchesEnded [] = Unit {0}
-AllBranchesEnded (b ∷ bs) = HasEnded b.life × AllBranchesEnded bs
-
--- a step of a clock
-abbrev pub IsClock : steps.Action → Type 0
-IsClock (steps.Clock core) = Unit {0}
-IsClock (steps.Go branch) = ⊥
-
-abbrev pub built_mover : steps.Action → Option ℕ
-built_mover (steps.Clock core) = None
-built_mover (steps.Go branch) = Some branch
-
--- main alone is a family
-abbrev pub built_family : Family → Option ℕ
-built_family (of_root zero zero) = Some 0
-built_family other = None
-
--- An output counts its value and its time. This is less than what the program's text allows.
-abbrev pub built_bound : ℕ
-built_bound = 8 * (2 + 16)
-
-abbrev pub of_built : Program → Source
-of_built P = record {
-  State = built.World;
-  Action = steps.Action;
-  start = built.start P;
-  acts = steps.acts P;
-  clocks = λ x. x.clocks;
-  trace = λ x. x.trace;
-  HasEnded = λ x. AllBranchesEnded x.branches;
-  HasArrived = λ x channel side. ⊥;
-  IsQuiet = λ s x. (action : steps.Action) → IsSome (steps.acts P s x action) → IsClock action;
-  mover = λ x action. built_mover action;
-  family_number = λ x family. built_family family;
-  bound = built_bound;
-}

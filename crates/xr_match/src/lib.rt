@@ -1,9 +1,6 @@
-//! The compiler: from a program to the image that implements it. `compile` promises that under every stimulus, and
-//! whatever the order of its events, a machine with that image does what the program means.
+//! What it means that an image implements a program, over any program's meaning, and the law that leads from a kernel to its text.
 #![tactic(auto)]
 
-mod compiler;
 mod law;
 
-pub use compiler::compile;
 pub use law::kernel_carries_to_text;

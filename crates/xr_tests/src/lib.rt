@@ -1,4 +1,4 @@
-//! Tests of the parts of the machine, of the compiler and of the texts that are written, each by its public calls. The crate has
+//! Tests of the parts of the machine and of the texts that are written, each by its public calls. The crate has
 //! nothing for others to use.
 #![tactic(auto)]
 
@@ -6,8 +6,6 @@
 mod ends;
 #[cfg(test)]
 mod events;
-#[cfg(test)]
-mod images;
 #[cfg(test)]
 mod memory;
 #[cfg(test)]

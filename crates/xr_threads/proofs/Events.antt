@@ -18,7 +18,7 @@ use Rattle.xr_threads.specs.Standing.{Answer, Stand, Standing, Stands, StandsBy}
 use Rattle.xr_threads.specs.Turns.{IsUnused, Turns}
 use Rattle.xr_threads.proofs.Answers.{turn_answer}
 use Rattle.xr_threads.proofs.Counts.{living_some, running_counts}
-use Rattle.xr_match.proofs.Links.{link_empty}
+use Rattle.xr_threads.proofs.Links.{link_empty}
 use Rattle.xr_threads.proofs.Standing.{Follows, stopped_idle, unused_idle}
 use Rattle.xr_threads.proofs.Steps.{kept_now, seen_followed, silent_followed}
 use Rattle.xr_threads.proofs.Ticks.{tick_followed}

@@ -27,7 +27,7 @@ use Rattle.xl_plan.proofs.Lists.{some_given, none_given, within_all}
 use Rattle.xl_plan.proofs.Numbered.{listed}
 use Rattle.xl_plan.proofs.PortsDiffer.{ports_apart}
 use Rattle.xl_plan.proofs.Sizes.{few_words}
-use Rattle.xr_match.proofs.Names.{port_named}
+use Rattle.xr_threads.proofs.Names.{port_named}
 use Rattle.xr_threads.specs.Runners.{Setting, Runner, IsLaidOut, IsPort, is_among_words, is_word_among, is_word_at, is_word_of, port_place, relied}
 use Rattle.xr_threads.proofs.Footprints.{HasAll, changed_used, words_there}
 use Rattle.xr_threads.proofs.ImagedPlans.{IsImaged}

@@ -1,3 +1,5 @@
+pub mod Links
+pub mod Names
 pub mod Scenes
 pub mod Arriving
 pub mod Layouts

@@ -1,18 +1,17 @@
-use Rattle.std.proofs.Common.{sym, ap, subst, ◌∙◌, arith}
-use Rattle.xc_built.specs.declared.program.Program.{Program}
+use Rattle.std.proofs.Common.{sym, subst, arith}
+use Rattle.xc_kernel.specs.Kernels.{kernel_of}
 use Rattle.xc_tree.specs.declared.refusal.Refusal.{Refusal}
-use Rattle.xc_tree.specs.declared.tree.Tree.{Tree}
-use Rattle.xc_tree.specs.Derives.{IsProgram}
 use Rattle.xc_tree.specs.Parses.{FirstBroken}
 use Rattle.xc_tree.specs.Refusals.{IfBroken}
 use Rattle.xc_tree.specs.Trees.{program_of}
-use Rattle.xc_tree.specs.Types.Named.{named_of}
-use Rattle.xc_form.specs.OfTree.{IsOfTree}
 use Rattle.xc_lexer.proofs.Outcomes.{broken_map}
 use Rattle.xc_parser.proofs.Reading.Exits.{handed_on}
-use Rattle.xcsim.specs.Rules.{First}
-use Rattle.xcsim.proofs.Firsts.{accepts, first_in_bytes, first_in_names, first_in_tokens, first_in_types, first_of_form, is_program}
+use Rattle.xcsim.specs.Rules.{First, IsKernelOf}
+use Rattle.xcsim.proofs.Firsts.{first_in_bytes, first_in_tokens, first_of_form}
 use Rattle.xcsim.proofs.Order.{tokens_few}
+use Rattle.xc_today.specs.Today.{IsBuiltToday}
+use Rattle.xl_image.specs.Roots.{RootsAreBuilt}
+use Rattle.xcsim.proofs.Reading.{err_by, ok_by, read_as, of_names, of_types, typed_too, shallow_too, size_too, needs_too, kernel_too, built_too}
 use Rattle.xcsim.proofs.front.read_text.Goals as goal
 
 pub parse-requires : goal.parse-requires
@@ -33,10 +32,13 @@ returns-in_err-tree-clause-first c =
     (λ b first. first_in_tokens c.args.text.now c.in_ok-toks.toks c.in_ok-toks.ensures.tokens b (subst (λ end. FirstBroken c.in_ok-toks.toks end b) c.end_pos.ensures first))
     c.in_err-tree.ensures.broken)
 
-pub returns-then-not-has_form-clause-first : goal.returns-then-not-has_form-clause-first
-returns-then-not-has_form-clause-first c =
+pub returns-then-not-is_built_today-clause-first : goal.returns-then-not-is_built_today-clause-first
+returns-then-not-is_built_today-clause-first c =
     first_of_form c.args.text.now c.in_ok-toks.toks c.in_ok-toks.ensures.tokens (program_of c.in_ok-tree.tree) c.in_ok-tree.ensures.tree c.in_ok-tree.ensures.unbroken
-    (λ h. let t = c.has_form.ensures.1 h in let f = c.if-not-has_form.true in absurd (cc))
+    (λ h.
+    let t = c.is_built_today.ensures.1 (subst (λ ts. IsBuiltToday ts (program_of c.in_ok-tree.tree)) (sym c.as_slice.ensures) h) in
+    let f = c.if-not-is_built_today.true in
+    absurd (cc))
 
 pub resolve-requires : goal.resolve-requires
 resolve-requires c =
@@ -46,43 +48,85 @@ resolve-requires c =
 
 pub returns-in_err-named-clause-first : goal.returns-in_err-named-clause-first
 returns-in_err-named-clause-first c =
+    let form = subst (λ ts. IsBuiltToday ts (program_of c.in_ok-tree.tree)) c.as_slice.ensures (c.is_built_today.ensures.0 c.if-not-is_built_today.false) in
+    let read =
+    read_as c.args.text.now c.in_ok-toks.toks (program_of c.in_ok-tree.tree) c.in_ok-toks.ensures.tokens c.in_ok-toks.ensures.rising
+    c.in_ok-tree.ensures.tree c.in_ok-tree.ensures.only c.in_ok-tree.ensures.unbroken c.in_ok-tree.ensures.shallow form in
     handed_on (λ (e : Refusal). IfBroken e (First c.args.text.now)) c.from_residual-in_err-named.result c.from_residual-in_err-named.ensures.1
-    (broken_map _
-    (first_in_names c.args.text.now c.in_ok-toks.toks c.in_ok-toks.ensures.tokens (program_of c.in_ok-tree.tree) c.in_ok-tree.ensures.tree c.in_ok-tree.ensures.unbroken c.in_ok-tree.ensures.only
-    (c.has_form.ensures.0 c.if-not-has_form.false))
-    c.in_err-named.ensures.broken)
+    (broken_map _ (of_names c.args.text.now (program_of c.in_ok-tree.tree) read) c.in_err-named.ensures.broken)
 
 pub returns-in_err-typed-clause-first : goal.returns-in_err-typed-clause-first
 returns-in_err-typed-clause-first c =
-    let n = c.in_ok-named.named in
+    let form = subst (λ ts. IsBuiltToday ts (program_of c.in_ok-tree.tree)) c.as_slice.ensures (c.is_built_today.ensures.0 c.if-not-is_built_today.false) in
+    let read =
+    read_as c.args.text.now c.in_ok-toks.toks (program_of c.in_ok-tree.tree) c.in_ok-toks.ensures.tokens c.in_ok-toks.ensures.rising
+    c.in_ok-tree.ensures.tree c.in_ok-tree.ensures.only c.in_ok-tree.ensures.unbroken c.in_ok-tree.ensures.shallow form in
     handed_on (λ (e : Refusal). IfBroken e (First c.args.text.now)) c.from_residual-in_err-typed.result c.from_residual-in_err-typed.ensures.1
     (broken_map _
-    (first_in_types c.args.text.now c.in_ok-toks.toks c.in_ok-toks.ensures.tokens (program_of c.in_ok-tree.tree) c.in_ok-tree.ensures.tree c.in_ok-tree.ensures.unbroken c.in_ok-tree.ensures.only
-    (c.has_form.ensures.0 c.if-not-has_form.false) (named_of n) (record { unbroken = c.in_ok-named.ensures.unbroken; named = c.in_ok-named.ensures.named }))
+    (of_types c.args.text.now (program_of c.in_ok-tree.tree) read c.in_ok-named.named c.in_ok-named.ensures.named c.in_ok-named.ensures.unbroken)
     c.in_err-typed.ensures.broken)
 
-pub returns-in-Ok-clause-accepted : goal.returns-in-Ok-clause-accepted
-returns-in-Ok-clause-accepted c =
-    let n = c.in_ok-named.named in
-    let P = c.in-Ok.program in
-    let tree_is = ap (λ x. x.tree) c.in_ok-typed.ensures.named ∙ c.in_ok-named.ensures.tree in
-    accepts c.args.text.now c.in_ok-toks.toks c.in_ok-toks.ensures.tokens (program_of c.in_ok-tree.tree) c.in_ok-tree.ensures.tree c.in_ok-tree.ensures.unbroken c.in_ok-tree.ensures.only
-    (c.has_form.ensures.0 c.if-not-has_form.false) (named_of n) (record { unbroken = c.in_ok-named.ensures.unbroken; named = c.in_ok-named.ensures.named }) c.in_ok-typed.ensures.unbroken P
-    (subst (λ (t : Tree). IsOfTree (program_of t) P) tree_is c.in-Ok.ensures.program)
+pub flatten-requires-clause-typed : goal.flatten-requires-clause-typed
+flatten-requires-clause-typed c =
+    let form = subst (λ ts. IsBuiltToday ts (program_of c.in_ok-tree.tree)) c.as_slice.ensures (c.is_built_today.ensures.0 c.if-not-is_built_today.false) in
+    let read =
+    read_as c.args.text.now c.in_ok-toks.toks (program_of c.in_ok-tree.tree) c.in_ok-toks.ensures.tokens c.in_ok-toks.ensures.rising
+    c.in_ok-tree.ensures.tree c.in_ok-tree.ensures.only c.in_ok-tree.ensures.unbroken c.in_ok-tree.ensures.shallow form in
+    typed_too c.args.text.now c.in_ok-tree.tree read c.in_ok-named.named c.in_ok-named.ensures.tree c.in_ok-named.ensures.named c.in_ok-named.ensures.unbroken
+    c.in_ok-typed.typed c.in_ok-typed.ensures.named c.in_ok-typed.ensures.types c.in_ok-typed.ensures.unbroken
 
-pub returns-in-Ok-clause-few : goal.returns-in-Ok-clause-few
-returns-in-Ok-clause-few c =
-    let tree_is = ap (λ x. x.tree) c.in_ok-typed.ensures.named ∙ c.in_ok-named.ensures.tree in
-    let few = tokens_few c.args.text.now c.in_ok-toks.toks c.in_ok-toks.ensures.tokens in
-    let short = c.in_ok-toks.ensures.tokens.short in
-    let less = c.in-Ok.ensures.few c.in_ok-toks.toks (subst (λ (t : Tree). IsProgram c.in_ok-toks.toks (program_of t)) (sym tree_is) c.in_ok-tree.ensures.tree) in
-    omega (arith, few, short, less)
+pub flatten-requires-clause-shallow : goal.flatten-requires-clause-shallow
+flatten-requires-clause-shallow c =
+    let form = subst (λ ts. IsBuiltToday ts (program_of c.in_ok-tree.tree)) c.as_slice.ensures (c.is_built_today.ensures.0 c.if-not-is_built_today.false) in
+    let read =
+    read_as c.args.text.now c.in_ok-toks.toks (program_of c.in_ok-tree.tree) c.in_ok-toks.ensures.tokens c.in_ok-toks.ensures.rising
+    c.in_ok-tree.ensures.tree c.in_ok-tree.ensures.only c.in_ok-tree.ensures.unbroken c.in_ok-tree.ensures.shallow form in
+    shallow_too c.args.text.now c.in_ok-tree.tree read c.in_ok-named.named c.in_ok-named.ensures.tree c.in_ok-named.ensures.named c.in_ok-named.ensures.unbroken
+    c.in_ok-typed.typed c.in_ok-typed.ensures.named c.in_ok-typed.ensures.types c.in_ok-typed.ensures.unbroken
 
-pub unreachable-requires : goal.unreachable-requires
-unreachable-requires c =
-    let n = c.in_ok-named.named in
-    let tree_is = ap (λ x. x.tree) c.in_ok-typed.ensures.named ∙ c.in_ok-named.ensures.tree in
-    let none = rw c.in-Err-Other.field-0-is at c.in-Err-Other.ensures.of_another_form in
-    is_program c.args.text.now c.in_ok-toks.toks c.in_ok-toks.ensures.tokens (program_of c.in_ok-tree.tree) c.in_ok-tree.ensures.tree c.in_ok-tree.ensures.unbroken c.in_ok-tree.ensures.only
-    (c.has_form.ensures.0 c.if-not-has_form.false) (named_of n) (record { unbroken = c.in_ok-named.ensures.unbroken; named = c.in_ok-named.ensures.named }) c.in_ok-typed.ensures.unbroken
-    (subst (λ (t : Tree). (P : Program) → IsOfTree (program_of t) P → ⊥) tree_is none)
+pub returns-in_err-kernel-clause-first : goal.returns-in_err-kernel-clause-first
+returns-in_err-kernel-clause-first c =
+    let form = subst (λ ts. IsBuiltToday ts (program_of c.in_ok-tree.tree)) c.as_slice.ensures (c.is_built_today.ensures.0 c.if-not-is_built_today.false) in
+    let read =
+    read_as c.args.text.now c.in_ok-toks.toks (program_of c.in_ok-tree.tree) c.in_ok-toks.ensures.tokens c.in_ok-toks.ensures.rising
+    c.in_ok-tree.ensures.tree c.in_ok-tree.ensures.only c.in_ok-tree.ensures.unbroken c.in_ok-tree.ensures.shallow form in
+    handed_on (λ (e : Refusal). IfBroken e (First c.args.text.now)) c.from_residual-in_err-kernel.result c.from_residual-in_err-kernel.ensures.1
+    (broken_map _
+    (size_too c.args.text.now c.in_ok-tree.tree read c.in_ok-named.named c.in_ok-named.ensures.tree c.in_ok-named.ensures.named c.in_ok-named.ensures.unbroken
+    c.in_ok-typed.typed c.in_ok-typed.ensures.named c.in_ok-typed.ensures.types c.in_ok-typed.ensures.unbroken)
+    c.in_err-kernel.ensures.broken)
+
+pub returns-clause-accepted : goal.returns-clause-accepted
+returns-clause-accepted c =
+    let form = subst (λ ts. IsBuiltToday ts (program_of c.in_ok-tree.tree)) c.as_slice.ensures (c.is_built_today.ensures.0 c.if-not-is_built_today.false) in
+    let read =
+    read_as c.args.text.now c.in_ok-toks.toks (program_of c.in_ok-tree.tree) c.in_ok-toks.ensures.tokens c.in_ok-toks.ensures.rising
+    c.in_ok-tree.ensures.tree c.in_ok-tree.ensures.only c.in_ok-tree.ensures.unbroken c.in_ok-tree.ensures.shallow form in
+    let kernel_is = kernel_too c.args.text.now c.in_ok-tree.tree read c.in_ok-named.named c.in_ok-named.ensures.tree c.in_ok-named.ensures.named c.in_ok-named.ensures.unbroken
+    c.in_ok-typed.typed c.in_ok-typed.ensures.named c.in_ok-typed.ensures.types c.in_ok-typed.ensures.unbroken
+    (kernel_of c.in_ok-kernel.kernel) c.in_ok-kernel.ensures.small c.in_ok-kernel.ensures.copies in
+    ok_by c.disjoint.result (λ x same unbroken. subst (λ k. IsKernelOf c.args.text.now (kernel_of k)) (sym same) (kernel_is unbroken))
+    c.disjoint.ensures.kernel c.disjoint.ensures.unbroken
+
+pub returns-clause-built : goal.returns-clause-built
+returns-clause-built c =
+    let form = subst (λ ts. IsBuiltToday ts (program_of c.in_ok-tree.tree)) c.as_slice.ensures (c.is_built_today.ensures.0 c.if-not-is_built_today.false) in
+    let read =
+    read_as c.args.text.now c.in_ok-toks.toks (program_of c.in_ok-tree.tree) c.in_ok-toks.ensures.tokens c.in_ok-toks.ensures.rising
+    c.in_ok-tree.ensures.tree c.in_ok-tree.ensures.only c.in_ok-tree.ensures.unbroken c.in_ok-tree.ensures.shallow form in
+    let roots = built_too c.args.text.now c.in_ok-tree.tree read c.in_ok-named.named c.in_ok-named.ensures.tree c.in_ok-named.ensures.named c.in_ok-named.ensures.unbroken
+    c.in_ok-typed.typed c.in_ok-typed.ensures.named c.in_ok-typed.ensures.types c.in_ok-typed.ensures.unbroken
+    (kernel_of c.in_ok-kernel.kernel) c.in_ok-kernel.ensures.small c.in_ok-kernel.ensures.copies in
+    ok_by c.disjoint.result (λ x same unbroken. subst (λ k. RootsAreBuilt (kernel_of k).roots) (sym same) roots)
+    c.disjoint.ensures.kernel c.disjoint.ensures.unbroken
+
+pub returns-clause-first : goal.returns-clause-first
+returns-clause-first c =
+    let form = subst (λ ts. IsBuiltToday ts (program_of c.in_ok-tree.tree)) c.as_slice.ensures (c.is_built_today.ensures.0 c.if-not-is_built_today.false) in
+    let read =
+    read_as c.args.text.now c.in_ok-toks.toks (program_of c.in_ok-tree.tree) c.in_ok-toks.ensures.tokens c.in_ok-toks.ensures.rising
+    c.in_ok-tree.ensures.tree c.in_ok-tree.ensures.only c.in_ok-tree.ensures.unbroken c.in_ok-tree.ensures.shallow form in
+    let first = needs_too c.args.text.now c.in_ok-tree.tree read c.in_ok-named.named c.in_ok-named.ensures.tree c.in_ok-named.ensures.named c.in_ok-named.ensures.unbroken
+    c.in_ok-typed.typed c.in_ok-typed.ensures.named c.in_ok-typed.ensures.types c.in_ok-typed.ensures.unbroken
+    (kernel_of c.in_ok-kernel.kernel) c.in_ok-kernel.ensures.small c.in_ok-kernel.ensures.copies in
+    err_by c.disjoint.result (λ e broken. broken_map e first broken) c.disjoint.ensures.broken

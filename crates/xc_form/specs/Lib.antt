@@ -1,5 +1,0 @@
-pub mod OfTree
-pub mod ReadErr
-pub mod Steps
-pub mod Ranges
-pub mod Form
