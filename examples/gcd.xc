@@ -1,8 +1,8 @@
 // The greatest common divisor of two numbers, by Euclid: the rest of a division takes the place of the greater number, until
 // nothing is left.
 //
-// Look at the trace: three pairs, 2000 ticks apart. First come the two numbers and then, 100 ticks behind each other, what they
-// have in common. Look at the last pair: neighbours in the sequence of Fibonacci, which take the most turns.
+// Look at the trace: of each of three pairs it has the two numbers and then what they have in common, 100 ticks apart. Look at
+// the last pair: neighbours in the sequence of Fibonacci, which take the most turns.
 out port result = XS1_PORT_32A;
 
 unsigned gcd(unsigned a, unsigned b) {

@@ -7,7 +7,7 @@
 
 out port lucky = XS1_PORT_8A;
 
-// Strikes out every so-manieth of the numbers that are left.
+// Of the numbers that are left, strikes out one in so many as `step` says: the last of each group.
 void strike(int struck[SIZE], int step) {
   int count = 0;
   for (int n = 1; n < SIZE; n++) {

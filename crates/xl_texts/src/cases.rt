@@ -1,31 +1,31 @@
-//! Cases: a text, and the listing that must come of it.
+//! Cases: a text, and the lines that must come of it.
 
 use std::alloc::{AllocError, AllocFailed, Global};
 use xw_io::SinkFault;
 use xw_words::Memory;
 
-/// A text, and the listing that must come of it. Each line of both ends with a line feed.
+/// A text, and the lines that must come of it. Each line of both ends with a line feed.
 #[derive(Drop)]
 pub struct Case {
     pub text: String,
-    pub listing: String,
+    pub wanted: String,
 }
 
 impl Case {
-    /// A case by its lines: `| ..` is a line of the text, and `= ..` one of the listing.
+    /// A case by its lines: `| ..` is a line of the text, and `= ..` one that must come of it. `|` alone is an empty line.
     pub fn read(alloc: Global, lines: &str) -> Result<Case, Trouble> {
-        let text = marked(alloc, lines, "| ")?;
-        let listing = marked(alloc, lines, "= ")?;
-        if text.is_empty() || listing.is_empty() {
+        let text = marked(alloc, lines, '|')?;
+        let wanted = marked(alloc, lines, '=')?;
+        if text.is_empty() || wanted.is_empty() {
             return Err(Trouble::Lines);
         }
-        Ok(Case { text, listing })
+        Ok(Case { text, wanted })
     }
 
-    /// The first line of a listing that differs from the one that must come, with that one.
+    /// The first line of what came that differs from the one that must come, with that one.
     pub fn difference(&self, alloc: Global, came: &str) -> Result<Option<String>, AllocError> {
         let mut lines = came.split('\n');
-        for wanted in self.listing.as_str().split('\n') {
+        for wanted in self.wanted.as_str().split('\n') {
             let line = lines.next().unwrap_or("");
             if line != wanted {
                 return Ok(Some(format!(in alloc; "wanted: {wanted}\ncame: {line}")?));
@@ -38,12 +38,12 @@ impl Case {
     }
 }
 
-/// What stands behind a mark, line by line.
-fn marked(alloc: Global, lines: &str, mark: &str) -> Result<String, AllocError> {
+/// What stands behind a mark and a space, line by line.
+fn marked(alloc: Global, lines: &str, mark: char) -> Result<String, AllocError> {
     let mut all = String::new(alloc);
     for line in lines.split('\n') {
         if let Some(rest) = line.strip_prefix(mark) {
-            all.push_str(rest)?;
+            all.push_str(rest.strip_prefix(' ').unwrap_or(rest))?;
             all.push('\n')?;
         }
     }
@@ -53,14 +53,14 @@ fn marked(alloc: Global, lines: &str, mark: &str) -> Result<String, AllocError> 
 /// Why a case can't be tried.
 #[derive(Clone, Copy)]
 pub enum Trouble {
-    /// It has no text or no listing.
+    /// It has no text, or no line that must come of it.
     Lines,
     /// The text is too long or breaks a rule, or memory was wanting for its kernel.
     Text,
     /// The text has a statement whose code isn't built.
     Statement,
-    /// The listing is longer than a case's may be.
-    Listing,
+    /// What comes of it is longer than a case's may be.
+    Long,
     Memory,
 }
 
@@ -68,10 +68,10 @@ impl Trouble {
     /// What is said of it.
     pub fn message(self) -> &'static str {
         match self {
-            Trouble::Lines => "no text or no listing",
+            Trouble::Lines => "no text, or no line that must come of it",
             Trouble::Text => "a text without a checked kernel",
             Trouble::Statement => "a statement whose code isn't built",
-            Trouble::Listing => "a listing that is too long",
+            Trouble::Long => "more comes than a case may have",
             Trouble::Memory => "out of memory",
         }
     }
@@ -97,6 +97,6 @@ impl<T: Drop> From<AllocFailed<T>> for Trouble {
 
 impl From<SinkFault> for Trouble {
     fn from(_: SinkFault) -> Trouble {
-        Trouble::Listing
+        Trouble::Long
     }
 }
