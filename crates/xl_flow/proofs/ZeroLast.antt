@@ -87,10 +87,10 @@ module _ (home : Home) (relied : ℕ → Bool) (t base k pc : ℕ) (last : Pos) 
       let e : index + 1 ≡ pc + length (at_pos last (Ldc R0 0 ∷ writes (near_write n) (suc k))) = omega (arith, writes_end (near_write n) last k (pc + 1)) in
       way_leads code relied L home t thread at_work.runs at_work.no_events refl _ (1 + w.count) (2 * suc k + 1) (own pc thread.regs a.words) (own index w.regs' all_but_last) (omega arith) all
       (writes_last index (pc + length (at_pos last (Ldc R0 0 ∷ writes (near_write n) (suc k)))) w.regs' (Stwdp R0 ((n + k) % 2 ^ 32)) e w.ready.others store.0
-          (record { row_is = λ h c t th. refl; no_event = refl })
-          (λ ws.
-          ap (λ v. stores_at (own index w.regs' ws) v (address_at w.regs'.dp ((n + k) % 2 ^ 32))) w.ready.r0_is
-          ∙ ap (λ p. stores_at (own index w.regs' ws) 0 p) (ap (λ d. address_at d ((n + k) % 2 ^ 32)) w.ready.dp_is ∙ near_address thread.regs.dp n k ∙ ap (λ b. address_at b k) (sym base_is))))
+      (record { row_is = λ h c t th. refl; no_event = refl })
+      (λ ws.
+      ap (λ v. stores_at (own index w.regs' ws) v (address_at w.regs'.dp ((n + k) % 2 ^ 32))) w.ready.r0_is
+      ∙ ap (λ p. stores_at (own index w.regs' ws) 0 p) (ap (λ d. address_at d ((n + k) % 2 ^ 32)) w.ready.dp_is ∙ near_address thread.regs.dp n k ∙ ap (λ b. address_at b k) (sym base_is))))
       a (starts home relied t base (suc k) pc last thread a at_work stand)
 
   far_last : (n : ℕ) → StandAt home.parts.code pc (at_pos last (Ldc R0 0 ∷ Ldwdp R11 n ∷ writes far_write (suc k))) → word_at a.words (address_at thread.regs.dp n) ≡ Some base → relied (address_at thread.regs.dp n / 4) ≡ true → Within home relied (IsOutside base (suc k)) t (Last (pc + length (at_pos last (Ldc R0 0 ∷ Ldwdp R11 n ∷ writes far_write (suc k))))) (2 * suc k + 1) a
@@ -112,12 +112,12 @@ module _ (home : Home) (relied : ℕ → Bool) (t base k pc : ℕ) (last : Pos) 
       let both = way_on code relied L 1 1 start (own (pc + 1) (reg_set thread.regs R0 0) a.words) (own (pc + 1 + 1) regs' a.words) (first_step home relied t base (suc k) pc last thread a at_work stand st.0) (second_step home relied t base (suc k) pc last thread a at_work stand n st.2.0 there relied_on) in
       let most = way_on code relied L 2 w.count start (own (pc + 1 + 1) regs' a.words) (own before w.regs' all_but_last) both w.way in
       let all = way_on code relied L (2 + w.count) 1 start (own before w.regs' all_but_last) (own (before + 1) s all_but_last) most
-          (own (before + 1) s all_but_last, quiet_sure code relied L (Ldc R10 k) w.regs' s all_but_last before store.0 (record { row_is = λ h c t th. refl; no_event = refl }) (λ ws g. refl), refl) in
+      (own (before + 1) s all_but_last, quiet_sure code relied L (Ldc R10 k) w.regs' s all_but_last before store.0 (record { row_is = λ h c t th. refl; no_event = refl }) (λ ws g. refl), refl) in
       let e : before + 1 + 1 ≡ pc + length (at_pos last (Ldc R0 0 ∷ Ldwdp R11 n ∷ writes far_write (suc k))) = omega (arith, writes_end far_write last k (pc + 1 + 1)) in
       way_leads code relied L home t thread at_work.runs at_work.no_events refl _ (2 + w.count + 1) (2 * suc k + 1) start (own (before + 1) s all_but_last) (omega arith) all
       (writes_last (before + 1) (pc + length (at_pos last (Ldc R0 0 ∷ Ldwdp R11 n ∷ writes far_write (suc k)))) s (Stw R0 R11 R10) e (λ r h. other_r10 w.regs' k r h ∙ ready.others r h) store.2.0
-          (record { row_is = λ h c t th. refl; no_event = refl })
-          (λ ws. far_turn (before + 1) k base w.regs' ws ready.r0_is w.ready.r11_is))
+      (record { row_is = λ h c t th. refl; no_event = refl })
+      (λ ws. far_turn (before + 1) k base w.regs' ws ready.r0_is w.ready.r11_is))
       a (starts home relied t base (suc k) pc last thread a at_work stand)
 
 -- by where the variable stands

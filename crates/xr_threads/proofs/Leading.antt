@@ -58,7 +58,7 @@ module _ (g : Setting) (r : Runner) (laid : IsLaidOut g r) (root : r.tie ≡ Non
         c.further,
         (let sum = c.sum in omega arith),
         jumps_lead g r c.here (cost g r) c.further z h.pc c.index h.regs (does t ∷ rest) c.jumps h.here h.bases h.has (λ y here has.
-        statement_leads g r t rest own rest h.exits c.index c.stands.0 c.further y h.regs laid c.stands.1 h.fits.0 c.stands.2 h.fits.1 has here h.bases),
+            statement_leads g r t rest own rest h.exits c.index c.stands.0 c.further y h.regs laid c.stands.1 h.fits.0 c.stands.2 h.fits.1 has here h.bases),
       )
   rest_leads (ends ∷ rest) j z h own =
       let c = h.at_code in (
@@ -66,7 +66,7 @@ module _ (g : Setting) (r : Runner) (laid : IsLaidOut g r) (root : r.tie ≡ Non
         c.further,
         (let sum = c.sum in omega arith),
         jumps_lead g r c.here (cost g r) c.further z h.pc c.index h.regs (ends ∷ rest) c.jumps h.here h.bases h.has (λ y here has.
-        end_leads g r rest c.index c.further (cost g r) y h.regs root c.stands.instr has here),
+            end_leads g r rest c.index c.further (cost g r) y h.regs root c.stands.instr has here),
       )
   rest_leads (mark n ∷ rest) j z h own = absurd own
   rest_leads (says i ∷ rest) j z h own = absurd h.at_code.stands

@@ -27,8 +27,8 @@ counted K s [] x y e = (x, refl, same_Some _ _ e, λ f. omega arith)
 counted K s (a ∷ actions) x y e = go (counted K s actions) (acts K s x.state a) refl e
   where
     go : ((x' : Told (of_kernel K)) (y' : World) → acts_all K s (Some x'.state) actions ≡ Some y' →
-            (z : Told (of_kernel K)) × (leads (told_of (of_kernel K) s) x' actions ≡ Some z) × (z.state ≡ y')
-            × ((f : ℕ) → z.actions f ≡ x'.actions f + steps_of K s f (Some x'.state) actions)) →
+        (z : Told (of_kernel K)) × (leads (told_of (of_kernel K) s) x' actions ≡ Some z) × (z.state ≡ y')
+        × ((f : ℕ) → z.actions f ≡ x'.actions f + steps_of K s f (Some x'.state) actions)) →
         (o : Option World) → acts K s x.state a ≡ o → acts_all K s o actions ≡ Some y →
         (z : Told (of_kernel K)) × (leads (told_of (of_kernel K) s) x (a ∷ actions) ≡ Some z) × (z.state ≡ y)
         × ((f : ℕ) → z.actions f ≡ x.actions f + (counted_for f (mover x.state a) + steps_of K s f (acts K s x.state a) actions))
@@ -66,6 +66,10 @@ standing_more g who w y actions more le st = record {
 pub follows : (g : Setting) (who : Runners) (x : Told (of_kernel g.program)) (w : Watched) → Follows g who x w → frame.Follows (machine_of g.image g.stimulus) (told_of (of_kernel g.program) g.stimulus) (Standing g who) x w
 follows g who x w f =
     let z = counted g.program g.stimulus f.0 x f.1 f.2 in
-    let less : (h : ℕ) → x.actions h + steps_of g.program g.stimulus h (Some x.state) f.0 ≤ z.0.actions h = λ h. let e = z.3 h in omega arith in
-    (f.0, z.0, z.1, standing_more g who w z.0.state (told_by g.program g.stimulus x f.0 f.1).actions z.0.actions less
-    (subst (λ y. Standing g who w (record { state = y; actions = (told_by g.program g.stimulus x f.0 f.1).actions })) (sym z.2) f.3))
+    let less : (h : ℕ) → x.actions h + steps_of g.program g.stimulus h (Some x.state) f.0 ≤ z.0.actions h = λ h. let e = z.3 h in omega arith in (
+      f.0,
+      z.0,
+      z.1,
+      standing_more g who w z.0.state (told_by g.program g.stimulus x f.0 f.1).actions z.0.actions less
+          (subst (λ y. Standing g who w (record { state = y; actions = (told_by g.program g.stimulus x f.0 f.1).actions })) (sym z.2) f.3),
+    )
