@@ -56,4 +56,6 @@ fn main(rt: HostRuntime) -> ExitCode {
 }
 
 #[cfg(test)]
+mod deepest;
+#[cfg(test)]
 mod tests;
