@@ -1,1 +1,4 @@
+mod Added
 mod NoneShort
+mod Ready
+pub mod Started

@@ -1,4 +1,5 @@
 pub mod CellState
+pub mod ForCores
 pub mod Gathers
 pub mod Inbox
 pub mod Short

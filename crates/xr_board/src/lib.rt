@@ -1,13 +1,17 @@
 //! Cells: a core's part of a run with the batches that came for it, and what four of them tell.
 #![tactic(auto)]
 
+mod alone;
+mod batches;
 mod cell;
 mod cells;
 mod core_name;
 mod gate;
 mod places;
+mod start;
 mod turned;
 
+pub use alone::run_alone;
 pub use cell::Cell;
 pub use cells::{Cells, GatherErr};
 pub use core_name::{Core0, Core1, Core2, Core3, CoreName};
