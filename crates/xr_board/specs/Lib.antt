@@ -1,3 +1,4 @@
+pub mod BoardTurns
 pub mod CellState
 pub mod ForCores
 pub mod Gathers

@@ -3,6 +3,7 @@
 
 mod alone;
 mod batches;
+mod board;
 mod cell;
 mod cells;
 mod core_name;
@@ -12,6 +13,7 @@ mod start;
 mod turned;
 
 pub use alone::run_alone;
+pub use board::{Board, BoardTurn};
 pub use cell::Cell;
 pub use cells::{Cells, GatherErr};
 pub use core_name::{Core0, Core1, Core2, Core3, CoreName};
