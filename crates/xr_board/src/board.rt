@@ -1,17 +1,21 @@
 // Four cells under locks.
 
 ghost use Rattle.std.specs.Prelude.{◌≡◌, ◌<◌, ◌≤◌, IfOk};
+ghost use Rattle.xr_board.specs.BoardTurns.{IsInRange};
 ghost use Rattle.xr_board.specs.ForCores.{StartsAs};
 ghost use Rattle.xs_instr.specs.Valid.{IsGoodStim, Valid};
 
 use crate::cell::Cell;
-use crate::core_name::{Core0, Core1, Core2, Core3};
+use crate::cells::Cells;
+use crate::core_name::{Core0, Core1, Core2, Core3, CoreName};
+use crate::gate::Gate;
 use crate::start::part_of;
+use crate::turned::Turned;
 use std::alloc::Global;
-use std::sync::Mutex;
-use xr_windows::{Part, RunName};
+use std::sync::{Mutex, Wait};
+use xr_windows::{Batch, Part, RunName};
 use xs_instr::{Image, Stim};
-use xw_words::Memory;
+use xw_words::{List, Memory};
 
 /// What came of a turn on the board.
 #[derive(Clone, Copy, PartialEq, Eq, Debug)]
@@ -183,6 +187,94 @@ impl<U: RunName> Board<U> {
             }
         }
     }
+
+    /// A core's turn under its lock, and then each batch handed to its cell under that cell's lock. A batch that the cell gives back
+    /// is dropped.
+    pub fn turn<G: Gate, R: Wait>(&self, rt: &R, alloc: Global, core: u8, gate: &G) -> BoardTurn
+        requires { core < 4 }
+        ensures { IsInRange result }
+    {
+        let (turned, ran) = match core {
+            0 => turn_under(rt, alloc, &self.first, gate),
+            1 => turn_under(rt, alloc, &self.second, gate),
+            2 => turn_under(rt, alloc, &self.third, gate),
+            _ => turn_under(rt, alloc, &self.fourth, gate),
+        };
+        match turned {
+            Turned::Ran(out) => {
+                self.hand_all(rt, out);
+                BoardTurn::Ran(ran.saturating_sub(1))
+            }
+            Turned::Lacks { from, window } => BoardTurn::Lacks { from, window },
+            Turned::AtEnd => BoardTurn::AtEnd,
+            Turned::Stopped => BoardTurn::Stopped,
+            Turned::Memory => BoardTurn::Memory,
+        }
+    }
+
+    // Hands each batch to its cell.
+    fn hand_all<R: Wait>(&self, rt: &R, out: List<Batch<U>>) {
+        for batch in out.into_vec() {
+            self.hand(rt, batch);
+        }
+    }
+
+    // Hands a batch to its cell.
+    fn hand<R: Wait>(&self, rt: &R, batch: Batch<U>) {
+        batch.is_sent();
+        match batch.to {
+            0 => accept_under(rt, &self.first, batch),
+            1 => accept_under(rt, &self.second, batch),
+            2 => accept_under(rt, &self.third, batch),
+            _ => accept_under(rt, &self.fourth, batch),
+        }
+    }
+
+    /// Sets each stop mark.
+    pub fn stop<R: Wait>(&self, rt: &R) {
+        stop_under(rt, &self.first);
+        stop_under(rt, &self.second);
+        stop_under(rt, &self.third);
+        stop_under(rt, &self.fourth);
+    }
+
+    /// The four cells out of their locks. Of these what their type says is known. It takes no memory.
+    pub fn cells(self) -> Cells<U> {
+        let (cells, image, stim) = self.into_parts();
+        drop(image);
+        drop(stim);
+        cells
+    }
+
+    /// For how many ticks the run goes.
+    pub fn ticks(&self) -> u32
+        ensures { result ≡ U.ticks }
+    {
+        self.ticks
+    }
+
+    /// The four cells out of their locks, and the copies of the image and the stimulus.
+    pub fn into_parts(self) -> (Cells<U>, Image, Stim)
+        ensures image { result.1 ≡ U.listing }
+        ensures stim { result.2 ≡ U.stimulus }
+    {
+        let Board {
+            first,
+            second,
+            third,
+            fourth,
+            image,
+            stim,
+            ticks: _,
+        } = self;
+        let cells = Cells {
+            first: first.into_inner(),
+            second: second.into_inner(),
+            third: third.into_inner(),
+            fourth: fourth.into_inner(),
+        };
+        (cells, image, stim)
+    }
 }
 
 /// Copies of an image and a stimulus. The one error is want of memory.
@@ -193,4 +285,30 @@ fn copies(alloc: Global, image: &Image, stim: &Stim) -> Result<(Image, Stim), Me
     let image = image.copy(alloc)?;
     let stim = stim.copy(alloc)?;
     Ok((image, stim))
+}
+
+/// A turn under a cell's lock, and how many windows the cell has then run.
+fn turn_under<U: RunName, C: CoreName, G: Gate, R: Wait>(
+    rt: &R,
+    alloc: Global,
+    lock: &Mutex<Cell<U, C>>,
+    gate: &G,
+) -> (Turned<U>, u32)
+    ensures { result.1 ≤ 25000 }
+{
+    let mut cell = lock.lock(rt);
+    let turned = cell.turn(alloc, gate);
+    (turned, cell.ran())
+}
+
+/// Hands a batch to a cell under its lock. One that is given back is dropped.
+fn accept_under<U: RunName, C: CoreName, R: Wait>(rt: &R, lock: &Mutex<Cell<U, C>>, batch: Batch<U>)
+    requires { batch.to ≡ C.number }
+{
+    drop(lock.lock(rt).accept(batch));
+}
+
+/// Sets the stop mark of a cell under its lock.
+fn stop_under<U: RunName, C: CoreName, R: Wait>(rt: &R, lock: &Mutex<Cell<U, C>>) {
+    lock.lock(rt).stop();
 }
