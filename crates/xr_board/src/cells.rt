@@ -19,7 +19,7 @@ pub enum GatherErr {
     Memory,
 }
 
-/// The four cells of the run that U names. They are not let go but by `gather`, or one by one.
+/// The four cells of the run that U names. They are not let go but by `gather` or `let_go`, or one by one.
 pub struct Cells<U: RunName> {
     pub first: Cell<U, Core0>,
     pub second: Cell<U, Core1>,
@@ -48,6 +48,20 @@ impl<U: RunName> Cells<U> {
         drop(third);
         drop(fourth);
         run
+    }
+
+    /// Lets the cells go, one by one.
+    pub fn let_go(self) {
+        let Cells {
+            first,
+            second,
+            third,
+            fourth,
+        } = self;
+        drop(first);
+        drop(second);
+        drop(third);
+        drop(fourth);
     }
 }
 

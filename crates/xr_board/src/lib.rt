@@ -11,6 +11,7 @@ mod gate;
 mod places;
 mod start;
 mod turned;
+mod workers;
 
 pub use alone::run_alone;
 pub use board::{Board, BoardTurn};
@@ -19,3 +20,4 @@ pub use cells::{Cells, GatherErr};
 pub use core_name::{Core0, Core1, Core2, Core3, CoreName};
 pub use gate::{Gate, OpenGate};
 pub use turned::Turned;
+pub use workers::run_workers;
