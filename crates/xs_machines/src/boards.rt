@@ -1,6 +1,6 @@
 // Four cores side by side: turns on a board, and workers against a run without locks.
 
-ghost use Rattle.std.specs.Prelude.{◌≡◌, ◌≤◌};
+ghost use Rattle.std.specs.Prelude.{◌≡◌, ◌≤◌, IfOk};
 ghost use Rattle.xs_instr.specs.Valid.{IsGoodStim, Valid};
 
 use crate::images::{four_of, two_of};
@@ -42,8 +42,15 @@ const TAKES: [Instr; 3] = [
     Instr::Freet,
 ];
 
+/// Two of four cores, with words over a link in both directions for ever.
+pub fn endless_two(alloc: Global) -> Result<Image, Memory>
+    ensures { IfOk result (λ image. Valid image) }
+{
+    two_of(alloc, &FIRST, &SECOND)
+}
+
 /// The run of an image by workers.
-fn by_workers<R: Threads + Wait + Sync, G: Gate + Sync>(
+pub fn by_workers<R: Threads + Wait + Sync, G: Gate + Sync>(
     rt: &R,
     alloc: Global,
     image: &Image,
@@ -111,7 +118,7 @@ fn alike<R: Abort + Threads + Wait + Sync>(
 #[test]
 fn workers_do_as_one_alone(rt: HostRuntime) -> Result<(), Fail> {
     let alloc = rt.alloc();
-    let image = two_of(alloc, &FIRST, &SECOND)?;
+    let image = endless_two(alloc)?;
     alike(&rt, alloc, &image, 1)?;
     alike(&rt, alloc, &image, 203)?;
     let image = two_of(alloc, &FIRST, &TAKES)?;
@@ -186,7 +193,7 @@ fn table<R: Wait + Abort>(rt: &R, alloc: Global, image: &Image, stim: &Stim) -> 
 #[test]
 fn table_of_calls(rt: HostRuntime) -> Result<(), Fail> {
     let alloc = rt.alloc();
-    let image = two_of(alloc, &FIRST, &SECOND)?;
+    let image = endless_two(alloc)?;
     let stim = Stim {
         lines: List::new(alloc),
     };

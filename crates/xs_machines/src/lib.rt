@@ -6,4 +6,6 @@ mod boards;
 #[cfg(test)]
 mod images;
 #[cfg(test)]
+mod meetings;
+#[cfg(test)]
 mod runs;

@@ -1,0 +1,92 @@
+// Two cores at the same time.
+
+use crate::boards::{by_workers, endless_two};
+use std::sync::atomic::{AtomicU64, Ordering};
+use std::test::Fail;
+use xr_board::Gate;
+use xs_instr::Stim;
+use xw_words::List;
+
+/// Holds up cores 0 and 1 before their window 1 until both stand there, and counts all calls.
+#[derive(Drop)]
+struct Meeting {
+    first: AtomicU64,
+    second: AtomicU64,
+    met: AtomicU64,
+    calls: AtomicU64,
+}
+
+/// Sets a flag, and looks for another one. Counts where that is seen.
+fn meet(own: &AtomicU64, other: &AtomicU64, met: &AtomicU64) {
+    own.store(1, Ordering::SeqCst);
+    for _ in 0..100_000_000 {
+        if other.load(Ordering::SeqCst) == 1 {
+            met.fetch_add(1, Ordering::SeqCst);
+            return;
+        }
+    }
+}
+
+/// Counts a call, in a byte of its own for each core and window.
+fn count(calls: &AtomicU64, core: u32, window: u32) {
+    if core < 4 && window < 2 {
+        calls.fetch_add(1 << (8 * (2 * core + window)), Ordering::SeqCst);
+    }
+}
+
+/// Each core ran each of the two windows once.
+const EACH_ONCE: u64 = 0x0101_0101_0101_0101;
+
+impl Gate for Meeting {
+    fn before(&self, core: u32, window: u32) {
+        count(&self.calls, core, window);
+        if core == 0 && window == 1 {
+            meet(&self.first, &self.second, &self.met);
+        }
+        if core == 1 && window == 1 {
+            meet(&self.second, &self.first, &self.met);
+        }
+    }
+}
+
+/// Counts all calls, and holds nobody up.
+#[derive(Drop)]
+struct Counting {
+    calls: AtomicU64,
+}
+
+impl Gate for Counting {
+    fn before(&self, core: u32, window: u32) {
+        count(&self.calls, core, window);
+    }
+}
+
+/// Two workers run two cores at the same time, and each window once. One worker and sixteen run each window once too, and tell the
+/// same.
+#[test]
+fn two_cores_at_once(rt: HostRuntime) -> Result<(), Fail> {
+    let alloc = rt.alloc();
+    let image = endless_two(alloc)?;
+    let stim = Stim {
+        lines: List::new(alloc),
+    };
+    let meeting = Meeting {
+        first: AtomicU64::new(0),
+        second: AtomicU64::new(0),
+        met: AtomicU64::new(0),
+        calls: AtomicU64::new(0),
+    };
+    let two = by_workers(&rt, alloc, &image, &stim, 16, 2, &meeting)?;
+    assert_eq!(rt; meeting.met.load(Ordering::SeqCst), 2);
+    assert_eq!(rt; meeting.calls.load(Ordering::SeqCst), EACH_ONCE);
+    for workers in [1, 16] {
+        let counting = Counting {
+            calls: AtomicU64::new(0),
+        };
+        let run = by_workers(&rt, alloc, &image, &stim, 16, workers, &counting)?;
+        assert_eq!(rt; counting.calls.load(Ordering::SeqCst), EACH_ONCE);
+        assert_eq!(rt; run.trace.as_slice(), two.trace.as_slice());
+        assert_eq!(rt; run.end, two.end);
+    }
+    Ok(())
+}
