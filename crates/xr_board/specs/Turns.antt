@@ -1,5 +1,5 @@
 -- A cell's turn.
-use Rattle.std.specs.Prelude.{ℕ, ◌+◌, ◌≡◌, ◌<◌, true, false, List, Option, Some, None}
+use Rattle.std.specs.Prelude.{ℕ, ◌+◌, ◌≡◌, ◌<◌, true, false, List, Some, None}
 use Rattle.xr_board.specs.CellState.{CellState, lacking_in}
 use Rattle.xr_board.specs.Inbox.{moved_up}
 use Rattle.xr_board.specs.declared.turned.Turned.{Turned}
