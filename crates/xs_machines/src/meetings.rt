@@ -3,6 +3,7 @@
 use crate::boards::{by_workers, endless_two};
 use std::sync::atomic::{AtomicU64, Ordering};
 use std::test::Fail;
+use std::thread;
 use xr_board::Gate;
 use xs_instr::Stim;
 use xw_words::List;
@@ -16,7 +17,7 @@ struct Meeting {
     calls: AtomicU64,
 }
 
-/// Sets a flag, and looks for another one. Counts where that is seen.
+/// Sets a flag, and looks for another one, for half a minute or longer. Counts where that is seen.
 fn meet(own: &AtomicU64, other: &AtomicU64, met: &AtomicU64) {
     own.store(1, Ordering::SeqCst);
     for _ in 0..100_000_000 {
@@ -24,6 +25,7 @@ fn meet(own: &AtomicU64, other: &AtomicU64, met: &AtomicU64) {
             met.fetch_add(1, Ordering::SeqCst);
             return;
         }
+        thread::yield_now();
     }
 }
 
