@@ -8,4 +8,5 @@ pub mod Peers
 pub mod Starting
 pub mod There
 pub mod Turning
+pub mod Unused
 pub mod Weights

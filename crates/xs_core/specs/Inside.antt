@@ -2,6 +2,7 @@
 use Rattle.std.specs.Prelude.{◌≤◌, ◌-◌, length}
 use Rattle.xs_core.specs.declared.one_core.Core.TheInside.{Inside}
 use Rattle.xs_core.specs.Core.{Seen}
+use Rattle.xs_core.specs.Idle.{AreUnusedFrom}
 use Rattle.xs_core.specs.Order.{IsInOrder}
 use Rattle.xs_core.specs.Seen.{home_of, state_of}
 
@@ -14,7 +15,9 @@ seen_of c = record {
   spare = c.outbox.capacity - length c.outbox.items;
 }
 
--- its parts are in order, and its outbox holds what is in it
+-- its parts are in order, its outbox holds what is in it, and no thread is in use from that number on
 pub record IsCore (c : Inside) : Type 0 where
   pub order : IsInOrder c.state
   pub room : length c.outbox.items ≤ c.outbox.capacity
+  pub few : c.in_use ≤ 8
+  pub unused : AreUnusedFrom c.in_use c.state.threads

@@ -3,6 +3,7 @@ pub mod Core
 pub mod Deliver
 pub mod Ends
 pub mod Events
+pub mod Idle
 pub mod Inside
 pub mod Names
 pub mod Order

@@ -4,6 +4,7 @@ ghost use Rattle.std.specs.Prelude.{◌≡◌, ◌+◌, ◌<◌, ◌≤◌, ◌+
 ghost use Rattle.xs_chanend.specs.Ends.{end_at};
 ghost use Rattle.xs_core.specs.Ends.{end_did, is_word, EndFits, IsSent};
 ghost use Rattle.xs_core.specs.Order.{IsInOrder, KeepsHome, Moves};
+ghost use Rattle.xs_core.specs.Idle.{KeepsOthers};
 ghost use Rattle.xs_core.specs.Names.{meant_by};
 ghost use Rattle.xs_core.specs.Seen.{home_of, state_of, thread_at};
 ghost use Rattle.xs_core.specs.Turns.{meant, steps, Fits};
@@ -265,6 +266,7 @@ fn data_move(end: u32, byte: u32) -> Moved
 }
 
 /// Takes the step.
+#[tactic(auto, using(crate::proofs::Lists::get_set_other))]
 pub fn apply(
     state: &mut State,
     outbox: &mut HeapCircularBuffer<Sent>,
@@ -282,6 +284,7 @@ pub fn apply(
     ensures order { IsInOrder state.new }
     ensures few { length outbox.new.items ≤ length outbox.old.items + 4 }
     ensures capacity { outbox.new.capacity ≡ outbox.old.capacity }
+    ensures others { KeepsOthers t state.old.threads state.new.threads }
 {
     match step {
         EndStep::SendWord(e, value) => {

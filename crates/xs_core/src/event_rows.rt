@@ -2,6 +2,7 @@
 
 ghost use Rattle.std.specs.Prelude.{◌≡◌, ◌+◌, ◌<◌, ◌^◌, ℕ, None, false, nat_eq, true};
 ghost use Rattle.xs_core.specs.Events.{event_did, go_where};
+ghost use Rattle.xs_core.specs.Idle.{KeepsOthers};
 ghost use Rattle.xs_core.specs.Names.{meant_by};
 ghost use Rattle.xs_core.specs.Seen.{home_of, state_of, thread_at};
 ghost use Rattle.xs_core.specs.Turns.{meant, steps, Fits, IsMade, Keeps};
@@ -123,12 +124,14 @@ fn find(state: &State, name: Resource) -> Option<Res>
 }
 
 /// Takes the step.
+#[tactic(auto, using(crate::proofs::Lists::get_set_other))]
 pub fn apply(state: &mut State, t: u8, step: EventStep)
     requires there { t < 8 }
     requires room { (thread_at state.old.threads t).pc + 1 < 2 ^ 32 }
     ensures made { IsMade (event_did (state_of state.old) t (thread_at state.old.threads t) step)
         (state_of state.new) None }
     ensures keeps { Keeps state.old state.new }
+    ensures others { KeepsOthers t state.old.threads state.new.threads }
 {
     match step {
         EventStep::Vector(res, k) => state.events.set_vector(res, k),
@@ -141,11 +144,13 @@ pub fn apply(state: &mut State, t: u8, step: EventStep)
 }
 
 /// The thread takes the resource's event.
+#[tactic(auto, using(crate::proofs::Lists::get_set_other))]
 pub fn take(state: &mut State, t: u8, res: Res)
     requires there { t < 8 }
     ensures made { state_of state.new ≡ event_taken (home_of state.old) (state_of state.old) t
         (thread_at state.old.threads t) res }
     ensures keeps { Keeps state.old state.new }
+    ensures others { KeepsOthers t state.old.threads state.new.threads }
 {
     latch(state, res);
     let thread = &mut state.threads[t as usize];

@@ -1,7 +1,8 @@
 // One core.
 
-ghost use Rattle.std.specs.Prelude.{◌≡◌, ◌+◌, ◌≤◌, ◌<◌, [], ◌∷◌, length, IfOk, MatchOption, OnErr, OnOk};
+ghost use Rattle.std.specs.Prelude.{◌≡◌, ◌+◌, ◌≤◌, ◌<◌, ℕ, [], ◌∷◌, length, IfOk, MatchOption, OnErr, OnOk};
 ghost use Rattle.xs_core.specs.Slots.{IsTurn};
+ghost use Rattle.xs_instr.specs.Did.{Idle};
 ghost use Rattle.xs_instr.specs.Machine.{came, home_of, boot_core, parts_in};
 ghost use Rattle.xs_instr.specs.Sight.{sight};
 ghost use Rattle.xs_instr.specs.Slot.{slot, is_ready, last_clock, ticked};
@@ -10,7 +11,7 @@ ghost use Rattle.xs_instr.specs.Valid.{Valid, IsGoodStim};
 use crate::did::Did;
 use crate::moves::arrive;
 use crate::state::{State, THREADS};
-use crate::{boot, counts, slots};
+use crate::{boot, counts, slots, threads};
 use circular_buffer::HeapCircularBuffer;
 use std::alloc::Global;
 use std::marker::Model;
@@ -26,6 +27,7 @@ const WINDOW: usize = 256;
 pub struct Core {
     state: State,
     outbox: HeapCircularBuffer<Sent>,
+    in_use: u8,
 }
 
 impl Model for Core {
@@ -58,7 +60,12 @@ impl Core {
     {
         let state = boot::state_for(alloc, image, number, stim)?;
         let outbox = HeapCircularBuffer::with_capacity(alloc, 0)?;
-        Ok(Core { state, outbox })
+        let in_use = threads::in_use(&state.threads);
+        Ok(Core {
+            state,
+            outbox,
+            in_use,
+        })
     }
 
     /// Makes room in the outbox for 256 tokens and credits. `Err` is given where an allocation failed, and then nothing
@@ -96,6 +103,14 @@ impl Core {
         count_of(&self.state.threads)
     }
 
+    /// Each thread from that number on is unused, so that its turn does nothing.
+    pub fn in_use(&self) -> u8
+        ensures few { result ≤ 8 }
+        ensures rest { (t : ℕ) → result ≤ t → slot self.now.home self.now.state t ≡ Idle }
+    {
+        self.in_use
+    }
+
     /// The clock, in ticks from the start.
     pub fn clock(&self) -> u32
         ensures { result ≡ self.now.state.clock }
@@ -124,7 +139,10 @@ impl Core {
         ensures spare { self.new.spare + length self.new.outbox
             ≡ self.old.spare + length self.old.outbox }
     {
-        slots::take(&mut self.state, &mut self.outbox, thread)
+        if thread >= self.in_use {
+            return Did::Idle;
+        }
+        slots::take(&mut self.state, &mut self.outbox, &mut self.in_use, thread)
     }
 
     /// The clock goes up by one tick.

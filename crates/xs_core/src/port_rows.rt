@@ -2,6 +2,7 @@
 
 ghost use Rattle.std.specs.Prelude.{◌≡◌, ◌+◌, ◌<◌, ◌^◌, ℕ};
 ghost use Rattle.xs_core.specs.Ports.{port_did, PortFits};
+ghost use Rattle.xs_core.specs.Idle.{KeepsOthers};
 ghost use Rattle.xs_core.specs.Names.{meant_by};
 ghost use Rattle.xs_core.specs.Seen.{home_of, state_of, thread_at};
 ghost use Rattle.xs_core.specs.Turns.{meant, steps, Fits, IsMade, Keeps};
@@ -224,7 +225,7 @@ pub fn passes(timer: &Timer, clock: u32) -> bool
 }
 
 /// Takes the step.
-#[tactic(auto, using(crate::proofs::There::there))]
+#[tactic(auto, using(crate::proofs::There::there, crate::proofs::Lists::get_set_other))]
 pub fn apply(state: &mut State, t: u8, step: PortStep) -> Option<Record>
     requires there { t < 8 }
     requires room { (thread_at state.old.threads t).pc + 1 < 2 ^ 32 }
@@ -232,6 +233,7 @@ pub fn apply(state: &mut State, t: u8, step: PortStep) -> Option<Record>
     ensures made { IsMade (port_did (home_of state.old) (state_of state.old) t
         (thread_at state.old.threads t) step) (state_of state.new) result }
     ensures keeps { Keeps state.old state.new }
+    ensures others { KeepsOthers t state.old.threads state.new.threads }
 {
     match step {
         PortStep::Drive(p, value) => {

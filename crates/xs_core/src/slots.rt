@@ -1,6 +1,7 @@
 // A thread's turn: what comes of it, and how it is taken.
 
 ghost use Rattle.std.specs.Prelude.{◌≡◌, ◌+◌, ◌<◌, ◌≤◌, ◌||◌, length, slice_get};
+ghost use Rattle.xs_core.specs.Idle.{AreUnusedFrom};
 ghost use Rattle.xs_core.specs.Order.{IsInOrder, KeepsHome};
 ghost use Rattle.xs_core.specs.Seen.{home_of, state_of, thread_at};
 ghost use Rattle.xs_core.specs.Slots.{IsTurn};
@@ -13,7 +14,7 @@ use crate::ready::pick;
 use crate::rows::row;
 use crate::state::State;
 use crate::turn::Turn;
-use crate::{end_rows, event_rows, own_rows, pool_rows, port_rows};
+use crate::{end_rows, event_rows, own_rows, pool_rows, port_rows, threads};
 use circular_buffer::HeapCircularBuffer;
 use xs_instr::{Instr, Mode, Sent, Thread, Trap};
 use xw_words::Pos;
@@ -76,9 +77,11 @@ pub fn takes_events(thread: &Thread, instr: Option<Instr>) -> bool
     }
 }
 
-/// Thread `t` takes its turn.
-pub fn take(state: &mut State, outbox: &mut HeapCircularBuffer<Sent>, t: u8) -> Did
-    requires there { t < 8 }
+/// Thread `t` takes its turn. From `in_use` on each thread is unused, before it and after it.
+pub fn take(state: &mut State, outbox: &mut HeapCircularBuffer<Sent>, in_use: &mut u8, t: u8) -> Did
+    requires used { t < in_use.old }
+    requires few { in_use.old ≤ 8 }
+    requires unused { AreUnusedFrom in_use.old state.old.threads }
     requires order { IsInOrder state.old }
     requires spare { length outbox.old.items + 4 ≤ outbox.old.capacity }
     ensures turn { IsTurn (slot (home_of state.old) (state_of state.old) t) (home_of state.old)
@@ -87,6 +90,8 @@ pub fn take(state: &mut State, outbox: &mut HeapCircularBuffer<Sent>, t: u8) -> 
     ensures order { IsInOrder state.new }
     ensures few { length outbox.new.items ≤ length outbox.old.items + 4 }
     ensures capacity { outbox.new.capacity ≡ outbox.old.capacity }
+    ensures less { in_use.new ≤ 8 }
+    ensures rest { AreUnusedFrom in_use.new state.new.threads }
 {
     match decide(state, t) {
         Turn::Idle => Did::Idle,
@@ -102,6 +107,7 @@ pub fn take(state: &mut State, outbox: &mut HeapCircularBuffer<Sent>, t: u8) -> 
         }
         Turn::Pool(step) => {
             pool_rows::apply(state, t, step);
+            *in_use = threads::in_use(&state.threads);
             Did::Made(None)
         }
         Turn::End(step) => Did::Made(end_rows::apply(state, outbox, t, step)),

@@ -1,11 +1,12 @@
-// Threads that go on.
+// Threads that go on, and those that are in use.
 
-ghost use Rattle.std.specs.Prelude.{◌≡◌, ◌+◌, ◌<◌, ◌^◌, slice_set};
+ghost use Rattle.std.specs.Prelude.{◌≡◌, ◌+◌, ◌<◌, ◌≤◌, ◌^◌, slice_set};
+ghost use Rattle.xs_core.specs.Idle.{AreUnusedFrom};
 ghost use Rattle.xs_core.specs.Seen.{thread_at};
 ghost use Rattle.xs_instr.specs.Registers.{reg_set};
 
 use crate::state::THREADS;
-use xs_instr::{Reg, Thread};
+use xs_instr::{Mode, Reg, Thread};
 use xs_state::Registers;
 
 /// On to the next instruction.
@@ -53,4 +54,18 @@ pub fn put_with(threads: &mut [Thread; THREADS], t: u8, thread: Thread, d: Reg, 
     next.pc += 1;
     next.regs.set(d, value);
     threads[t as usize] = next;
+}
+
+/// One more than the number of the last thread in use, or 0 where all are unused.
+pub fn in_use(threads: &[Thread; THREADS]) -> u8
+    ensures few { result ≤ 8 }
+    ensures unused { AreUnusedFrom result threads.now }
+{
+    let mut end = 0;
+    for t in 0..THREADS {
+        if threads[t].mode != Mode::Unused {
+            end = t as u8 + 1;
+        }
+    }
+    end
 }

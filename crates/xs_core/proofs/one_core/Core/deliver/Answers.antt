@@ -10,4 +10,6 @@ invariant_of-self c =
     record {
       order = delivered c.self.inside.state c.arrive.new.ends c.args.moved c.self.invariant.order room c.arrive.ensures;
       room = c.self.invariant.room;
+      few = c.self.invariant.few;
+      unused = c.self.invariant.unused;
     }
