@@ -19,8 +19,6 @@ use xs_instr::Record;
 
 const CORES: usize = 4;
 
-const THREADS: u8 = 8;
-
 const LAST_CLOCK: u32 = u32::MAX;
 
 /// A round of the four cores, and how many events it had.
@@ -79,7 +77,7 @@ fn tick_once(core: &mut Core) -> u32
     1
 }
 
-/// A turn of each thread, and how many of them were steps.
+/// A turn of each thread, and how many of them were steps. Past the last thread in use no turn does anything.
 fn take_turns(core: &mut Core, trace: &mut Vec<Record>) -> u32
     requires spare { 32 ≤ core.old.spare }
     requires room { vec_len trace.old + 8 ≤ vec_capacity trace.old }
@@ -94,8 +92,10 @@ fn take_turns(core: &mut Core, trace: &mut Vec<Record>) -> u32
     ensures capacity { vec_capacity trace.old ≤ vec_capacity trace.new }
 {
     let mut steps = 0;
-    for thread in 0..THREADS {
+    let mut thread = 0;
+    'used: while thread < core.in_use() {
         steps += count(take_turn(core, trace, thread));
+        thread += 1;
     }
     steps
 }
