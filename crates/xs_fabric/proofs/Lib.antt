@@ -10,6 +10,7 @@ pub mod FourPeers
 pub mod Idles
 pub mod Links
 pub mod LockstepLeads
+pub mod Nothing
 pub mod OneRound
 pub mod Others
 pub mod Places

@@ -6,7 +6,7 @@ ghost use Rattle.xs_fabric.specs.Lockstep.{all_came, due_from, due_of, late_from
 ghost use Rattle.xs_fabric.specs.Rooms.{AllHaveRoom};
 ghost use Rattle.xs_fabric.specs.Rounds.{due_at};
 
-use crate::link::{Link, Links};
+use crate::link::{Link, Links, are_empty_to};
 use xs_core::Core;
 
 const CORES: u8 = 4;
@@ -69,6 +69,9 @@ pub fn deliver_all(core: &mut Core, links: &mut Links) -> u32
     ensures count { result ≡ length (due_at core.old.home links.old core.old.state) }
     ensures most { result ≤ 2048 }
 {
+    if are_empty_to(links, core.number()) {
+        return 0;
+    }
     let mut count = 0;
     for from in 0..CORES {
         count += deliver_from(core, links, from);

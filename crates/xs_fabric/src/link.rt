@@ -4,7 +4,7 @@ ghost use Rattle.std.specs.Prelude.{◌≡◌, ◌<◌, ◌++◌, [], ◌∷◌,
 ghost use Rattle.xs_instr.specs.Machine.{link_of, no_links as no_links_of};
 ghost use Rattle.xs_fabric.specs.EndWord.{links_empty, no_items, no_items_out};
 ghost use Rattle.xs_fabric.specs.Lockstep.{due_of, is_due};
-ghost use Rattle.xs_fabric.specs.OnLinks.{IsTaken, IsTakenFrom, items_at, put_on};
+ghost use Rattle.xs_fabric.specs.OnLinks.{IsTaken, IsTakenFrom, items_at, none_to, put_on};
 
 use circular_buffer::HeapCircularBuffer;
 use std::alloc::Global;
@@ -146,6 +146,25 @@ fn take_from(out: &mut [Link; 4], to: u8) -> Option<Item>
 {
     let link = &mut out[to as usize];
     link.take()
+}
+
+/// Whether nothing is on its way to a core.
+pub fn are_empty_to(links: &Links, to: u8) -> bool
+    requires { to < 4 }
+    ensures { result ≡ none_to links.now to }
+{
+    is_empty_at(&links[0], to)
+        && is_empty_at(&links[1], to)
+        && is_empty_at(&links[2], to)
+        && is_empty_at(&links[3], to)
+}
+
+fn is_empty_at(out: &[Link; 4], to: u8) -> bool
+    requires { to < 4 }
+    ensures { result ≡ no_items (items_at out.now to) }
+{
+    let link = &out[to as usize];
+    link.is_empty()
 }
 
 /// Whether nothing is on its way on any link.

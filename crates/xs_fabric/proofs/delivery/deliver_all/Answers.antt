@@ -1,6 +1,8 @@
-use Rattle.std.proofs.Common.{◌<◌, sym, subst, arith}
+use Rattle.std.proofs.Common.{◌≡◌, ◌<◌, ◌∙◌, true, ap, sym, subst, arith}
 use Rattle.xs_fabric.proofs.Coming.{link_few, link_room, next_core, next_count, next_links, same_number}
+use Rattle.xs_fabric.proofs.Nothing.{links_stay}
 use Rattle.xs_fabric.proofs.delivery.deliver_all.Goals as goal
+use Rattle.xs_fabric.specs.OnLinks.{none_to}
 
 pub deliver_from-count-requires-clause-number : goal.deliver_from-count-requires-clause-number
 deliver_from-count-requires-clause-number c =
@@ -30,3 +32,10 @@ loop-from-preserved c =
       count = next_count c.args.core.now c.loop-from.core c.args.links.now c.loop-from.links c.loop-from.from inv.came inv.links _ _ inv.count c.deliver_from-count.ensures.count;
       few = omega (arith, few, most);
     }
+
+pub returns-then-are_empty_to-clause-links : goal.returns-then-are_empty_to-clause-links
+returns-then-are_empty_to-clause-links c =
+    let links = c.args.links.now in
+    let number = c.args.core.now.home.number in
+    let none : none_to links number ≡ true = ap (none_to links) (sym c.number.ensures) ∙ sym c.are_empty_to.ensures ∙ c.if-are_empty_to.true in
+    sym (links_stay links number c.args.core.now.state.clock none)
