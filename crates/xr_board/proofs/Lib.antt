@@ -1,4 +1,5 @@
 mod Added
+mod Answering
 mod NoneShort
 mod Ready
 pub mod Started

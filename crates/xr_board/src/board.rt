@@ -1,7 +1,8 @@
 // Four cells under locks.
 
 ghost use Rattle.std.specs.Prelude.{◌≡◌, ◌<◌, ◌≤◌, IfOk};
-ghost use Rattle.xr_board.specs.BoardTurns.{IsInRange};
+ghost use Rattle.xr_board.specs.BoardTurns.{CanAnswer, IsAnswer, IsInRange};
+ghost use Rattle.xr_board.specs.CellState.{IsCell};
 ghost use Rattle.xr_board.specs.ForCores.{StartsAs};
 ghost use Rattle.xs_instr.specs.Valid.{IsGoodStim, Valid};
 
@@ -189,26 +190,34 @@ impl<U: RunName> Board<U> {
     }
 
     /// A core's turn under its lock, and then each batch handed to its cell under that cell's lock. A batch that the cell gives back
-    /// is dropped.
+    /// is dropped. What the cell was when the lock was taken no clause can say, so of an answer it is known what it can be.
     pub fn turn<G: Gate, R: Wait>(&self, rt: &R, alloc: Global, core: u8, gate: &G) -> BoardTurn
         requires { core < 4 }
-        ensures { IsInRange result }
+        ensures answer { CanAnswer U.ticks core result }
+        ensures range { IsInRange result }
     {
-        let (turned, ran) = match core {
+        let (answer, out) = self.turn_at(rt, alloc, core, gate);
+        self.hand_all(rt, out);
+        answer
+    }
+
+    // A core's turn under its lock, and the batches that are to be handed over.
+    fn turn_at<G: Gate, R: Wait>(
+        &self,
+        rt: &R,
+        alloc: Global,
+        core: u8,
+        gate: &G,
+    ) -> (BoardTurn, List<Batch<U>>)
+        requires { core < 4 }
+        ensures answer { CanAnswer U.ticks core result.0 }
+        ensures range { IsInRange result.0 }
+    {
+        match core {
             0 => turn_under(rt, alloc, &self.first, gate),
             1 => turn_under(rt, alloc, &self.second, gate),
             2 => turn_under(rt, alloc, &self.third, gate),
             _ => turn_under(rt, alloc, &self.fourth, gate),
-        };
-        match turned {
-            Turned::Ran(out) => {
-                self.hand_all(rt, out);
-                BoardTurn::Ran(ran.saturating_sub(1))
-            }
-            Turned::Lacks { from, window } => BoardTurn::Lacks { from, window },
-            Turned::AtEnd => BoardTurn::AtEnd,
-            Turned::Stopped => BoardTurn::Stopped,
-            Turned::Memory => BoardTurn::Memory,
         }
     }
 
@@ -239,10 +248,16 @@ impl<U: RunName> Board<U> {
     }
 
     /// The four cells out of their locks. Of these what their type says is known. It takes no memory.
-    pub fn cells(self) -> Cells<U> {
+    pub fn cells(self) -> Cells<U>
+        ensures first { IsCell U.listing U.stimulus U.ticks 0 result.first }
+        ensures second { IsCell U.listing U.stimulus U.ticks 1 result.second }
+        ensures third { IsCell U.listing U.stimulus U.ticks 2 result.third }
+        ensures fourth { IsCell U.listing U.stimulus U.ticks 3 result.fourth }
+    {
         let (cells, image, stim) = self.into_parts();
         drop(image);
         drop(stim);
+        cells.are_cells();
         cells
     }
 
@@ -287,18 +302,40 @@ fn copies(alloc: Global, image: &Image, stim: &Stim) -> Result<(Image, Stim), Me
     Ok((image, stim))
 }
 
-/// A turn under a cell's lock, and how many windows the cell has then run.
+/// A turn under a cell's lock, and the batches that are to be handed over.
 fn turn_under<U: RunName, C: CoreName, G: Gate, R: Wait>(
     rt: &R,
     alloc: Global,
     lock: &Mutex<Cell<U, C>>,
     gate: &G,
-) -> (Turned<U>, u32)
-    ensures { result.1 ≤ 25000 }
+) -> (BoardTurn, List<Batch<U>>)
+    ensures answer { CanAnswer U.ticks C.number result.0 }
+    ensures range { IsInRange result.0 }
 {
     let mut cell = lock.lock(rt);
-    let turned = cell.turn(alloc, gate);
-    (turned, cell.ran())
+    turn_of::<U, C, G>(&mut cell, alloc, gate)
+}
+
+/// The turn of a cell that its lock lends, and the batches that are to be handed over.
+fn turn_of<U: RunName, C: CoreName, G: Gate>(
+    cell: &mut Cell<U, C>,
+    alloc: Global,
+    gate: &G,
+) -> (BoardTurn, List<Batch<U>>)
+    ensures answer { IsAnswer U.listing U.stimulus U.ticks C.number cell.old result.0 result.1
+        cell.new }
+    ensures range { IsInRange result.0 }
+{
+    cell.is_cell();
+    let window = cell.ran();
+    let answer = match cell.turn(alloc, gate) {
+        Turned::Ran(out) => return (BoardTurn::Ran(window), out),
+        Turned::Lacks { from, window } => BoardTurn::Lacks { from, window },
+        Turned::AtEnd => BoardTurn::AtEnd,
+        Turned::Stopped => BoardTurn::Stopped,
+        Turned::Memory => BoardTurn::Memory,
+    };
+    (answer, List::new(alloc))
 }
 
 /// Hands a batch to a cell under its lock. One that is given back is dropped.

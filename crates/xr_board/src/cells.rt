@@ -1,6 +1,7 @@
 // Four cells out of their locks, from which a run is gathered.
 
 ghost use Rattle.std.specs.Prelude.{◌≡◌, IfOk, None};
+ghost use Rattle.xr_board.specs.CellState.{IsCell};
 ghost use Rattle.xr_board.specs.Gathers.{IsGathered, short_of};
 ghost use Rattle.xr_windows.specs.Telling.{IsLockstep};
 
@@ -28,6 +29,19 @@ pub struct Cells<U: RunName> {
 }
 
 impl<U: RunName> Cells<U> {
+    /// What their types keep.
+    pub fn are_cells(&self)
+        ensures first { IsCell U.listing U.stimulus U.ticks 0 self.now.first }
+        ensures second { IsCell U.listing U.stimulus U.ticks 1 self.now.second }
+        ensures third { IsCell U.listing U.stimulus U.ticks 2 self.now.third }
+        ensures fourth { IsCell U.listing U.stimulus U.ticks 3 self.now.fourth }
+    {
+        self.first.is_cell();
+        self.second.is_cell();
+        self.third.is_cell();
+        self.fourth.is_cell();
+    }
+
     /// The run that the four cells make together, where each has run its last window: what the run in lockstep tells. The cells are
     /// dropped.
     pub fn gather(self, alloc: Global) -> Result<Run, GatherErr>

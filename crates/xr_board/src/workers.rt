@@ -158,7 +158,10 @@ fn serve<U: RunName, G: Gate, R: Wait>(
         };
         match board.turn(rt, alloc, core, gate) {
             BoardTurn::Ran(window) => seen = seen.with(core, window + 1),
-            BoardTurn::Lacks { .. } => thread::yield_now(),
+            BoardTurn::Lacks { window, .. } => {
+                seen = seen.with(core, window + 1);
+                thread::yield_now();
+            }
             BoardTurn::AtEnd => left = left.without(core),
             BoardTurn::Stopped => return true,
             BoardTurn::Memory => {

@@ -12,7 +12,7 @@ use std::test::Fail;
 use std::thread::Threads;
 use xr_board::{Board, BoardTurn, Gate, GatherErr, OpenGate, run_alone, run_workers};
 use xr_windows::{Run, RunName};
-use xs_instr::{Image, Instr, Reg, Stim};
+use xs_instr::{EndWord, Image, Instr, Reg, Stim};
 use xw_words::{List, Memory};
 
 /// One core sends a word and takes one, again and again.
@@ -125,6 +125,51 @@ fn workers_do_as_one_alone(rt: HostRuntime) -> Result<(), Fail> {
     alike(&rt, alloc, &image, 64)?;
     let image = four_of(alloc, &[Instr::Ldc(Reg::R0, 7), Instr::Freet])?;
     alike(&rt, alloc, &image, 9)?;
+    Ok(())
+}
+
+/// The run of 16 ticks by one worker, on a board on which core 0 is a window ahead.
+fn with_a_core_ahead<U: RunName + Send + Sync, R: Threads + Wait + Sync>(
+    rt: &R,
+    alloc: Global,
+    image: &Image,
+    stim: &Stim,
+) -> Result<Run, Memory>
+    requires image { image.now ≡ U.listing }
+    requires valid { Valid image.now }
+    requires stim { stim.now ≡ U.stimulus }
+    requires good { IsGoodStim stim.now }
+    requires ticks { 16 ≡ U.ticks }
+{
+    let board = Board::<U>::new(alloc, image, stim, 16)?;
+    board.turn(rt, alloc, 0, &OpenGate);
+    run_workers::<U, OpenGate, R>(rt, alloc, board, 1, &OpenGate)
+}
+
+/// The same of the run that is asked for.
+fn one_ahead<R: Threads + Wait + Sync>(
+    rt: &R,
+    alloc: Global,
+    image: &Image,
+    stim: &Stim,
+) -> Result<Run, Memory>
+    requires image { Valid image.now }
+    requires stim { IsGoodStim stim.now }
+{
+    with_a_core_ahead::<Brand, R>(rt, alloc, image, stim)
+}
+
+/// A worker takes the core that is behind, also where another one was ahead from the start.
+#[test]
+fn a_core_ahead(rt: HostRuntime) -> Result<(), Fail> {
+    let alloc = rt.alloc();
+    let image = endless_two(alloc)?;
+    let stim = Stim {
+        lines: List::new(alloc),
+    };
+    let run = one_ahead(&rt, alloc, &image, &stim)?;
+    assert_eq!(rt; run.trace.len(), 2);
+    assert_eq!(rt; run.end, EndWord::Stopped);
     Ok(())
 }
 
