@@ -1,10 +1,10 @@
 //! Cases: code, and what comes of the calls on a core that runs it.
 
-use crate::instructions::instr_of;
 use crate::setup::Setup;
 use crate::trouble::Trouble;
 use crate::turns::{advance, answer};
 use std::alloc::{AllocError, Global};
+use xr_listed::instr_of;
 use xs_core::Core;
 use xs_instr::Token;
 

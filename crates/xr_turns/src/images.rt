@@ -9,9 +9,9 @@ ghost use Rattle.xs_instr.specs.declared.state.Token.{Token as Came};
 ghost use Rattle.xs_instr.specs.Machine.{boot_core, home_of, parts_in};
 ghost use Rattle.xs_instr.specs.Valid.{AreGoodInstrs, AreGoodPorts, AreIndices, IsGoodCore, Valid};
 
-use crate::checks::{are_good, are_indices};
 use crate::trouble::Trouble;
 use std::alloc::{AllocError, Global};
+use xr_listed::{are_good, are_indices};
 use xs_instr::{Code, CoreImage, Dir, Image, Instr, Pair, PortDecl};
 use xw_words::{List, Memory, Pos};
 

@@ -3,9 +3,7 @@
 #![tactic(auto)]
 
 mod cases;
-mod checks;
 mod images;
-mod instructions;
 mod setup;
 mod shown;
 mod trouble;

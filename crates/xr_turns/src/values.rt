@@ -1,11 +1,11 @@
 //! Single instructions: what each leaves in r3.
 
-use crate::instructions::instr_of;
 use crate::setup::Setup;
 use crate::shown::ShownTurn;
 use crate::trouble::Trouble;
 use crate::turns::turn;
 use std::alloc::{AllocError, Global};
+use xr_listed::instr_of;
 use xs_core::{Core, Did};
 use xs_instr::{Instr, Record, Reg};
 

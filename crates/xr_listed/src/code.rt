@@ -1,4 +1,4 @@
-//! Whether code and roots are what an image may have.
+// Whether code and roots are what an image may have.
 
 ghost use Rattle.std.specs.Bool.{OnTrue};
 ghost use Rattle.std.specs.Prelude.{length};

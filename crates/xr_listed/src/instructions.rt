@@ -1,4 +1,4 @@
-//! Instructions as a listing writes them.
+// Instructions as a listing writes them.
 
 use xs_instr::{Cond, GetKind, Instr, Reg};
 

@@ -1,5 +1,5 @@
 use Rattle.std.proofs.Common.{length}
-use Rattle.xr_turns.proofs.checks.are_indices.Given as goal
+use Rattle.xr_listed.proofs.code.are_indices.Given as goal
 use Rattle.xs_instr.specs.Valid.{AreIndices}
 
 -- the roots are indices where those that are left are

@@ -1,5 +1,5 @@
 use Rattle.std.proofs.Common.{◌≡◌, ◌+◌, length}
-use Rattle.xr_turns.proofs.checks.are_good.Given as goal
+use Rattle.xr_listed.proofs.code.are_good.Given as goal
 use Rattle.xs_instr.specs.Valid.{AreGoodInstrs}
 
 -- the instructions are good where those that are left are
