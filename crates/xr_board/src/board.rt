@@ -13,10 +13,14 @@ use crate::gate::Gate;
 use crate::start::part_of;
 use crate::turned::Turned;
 use std::alloc::Global;
+use std::hint::spin_loop;
 use std::sync::{Mutex, Wait};
 use xr_windows::{Batch, Part, RunName};
 use xs_instr::{Image, Stim};
 use xw_words::{List, Memory};
+
+/// How often a cell's lock is tried before a thread sleeps for it.
+const TRIES: u32 = 1_000;
 
 /// What came of a turn on the board.
 #[derive(Clone, Copy, PartialEq, Eq, Debug)]
@@ -338,10 +342,18 @@ fn turn_of<U: RunName, C: CoreName, G: Gate>(
     (answer, List::new(alloc))
 }
 
-/// Hands a batch to a cell under its lock. One that is given back is dropped.
+/// Hands a batch to a cell under its lock. One that is given back is dropped. A window takes a few microseconds, so the lock is tried for
+/// a while before its thread sleeps.
 fn accept_under<U: RunName, C: CoreName, R: Wait>(rt: &R, lock: &Mutex<Cell<U, C>>, batch: Batch<U>)
     requires { batch.to ≡ C.number }
 {
+    for _ in 0..TRIES {
+        if let Some(mut cell) = lock.try_lock() {
+            drop(cell.accept(batch));
+            return;
+        }
+        spin_loop();
+    }
     drop(lock.lock(rt).accept(batch));
 }
 
