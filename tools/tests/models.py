@@ -40,6 +40,17 @@ def gcd():
     return made
 
 
+def lanes():
+    text = b"Hello!"
+    wires = [(900, "1A", 0), (1900, "1A", 1)]
+    for bit in range(8):
+        tick = 1000 + 100 * bit
+        wires += [(tick, "1B", 0), (tick + 50, "1B", 1)]
+        wires += [(tick, f"1{lane}", byte >> (7 - bit) & 1) for lane, byte in zip("CDEFGH", text)]
+    ones = sum(bin(byte).count("1") for byte in text)
+    return [*sorted(wires), (2000, "8A", ones)]
+
+
 def lights():
     starts = [1000, 6000, 6500, 10500, 11000, 16000, 16500, 20500, 21000]
     return [(tick, "4A", lamps) for tick, lamps in zip(starts, [1, 3, 4, 2, 1, 3, 4, 2, 2])]
@@ -84,6 +95,7 @@ MODELS = {
     "dimmer": dimmer,
     "divide": divide,
     "gcd": gcd,
+    "lanes": lanes,
     "lights": lights,
     "outside": outside,
     "search": search,

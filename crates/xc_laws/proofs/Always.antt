@@ -20,7 +20,7 @@ use Rattle.xc_laws.specs.Channels.{IsListed}
 use Rattle.xc_laws.proofs.Unbroken.{unbroken_apart, unbroken_sided, used_listed}
 use Rattle.xc_laws.proofs.Here.{uses_here}
 use Rattle.xc_laws.proofs.Copied.{copies_are_placed}
-use Rattle.xc_laws.specs.Lawful.{BranchesFit, Listed, ListedAt, ListedHolds, PortsAreHere, AcceptedObey, Lawful, LawsBegin, LawsAreKept, LawsHold, NoneClash, OneOnEachSide, some_choice_on, is_on, Tidy, TidyLawsHold, MarksStandOnce, EachHasSide, InsideIsOwn, AloneInside, EachGoesOn, ThreadsSuffice, BranchesStay}
+use Rattle.xc_laws.specs.Lawful.{BranchesFit, BudgetsFit, BudgetsStay, BudgetsSuffice, Listed, ListedAt, ListedHolds, PortsAreHere, AcceptedObey, Lawful, LawsBegin, LawsAreKept, LawsHold, NoneClash, OneOnEachSide, some_choice_on, is_on, Tidy, TidyLawsHold, MarksStandOnce, EachHasSide, InsideIsOwn, AloneInside, EachGoesOn, ThreadsSuffice, BranchesStay}
 use Rattle.xc_laws.specs.Placed.{IsPlaced, AnyBlock, AnyInside, IsFresh, AreUnused, marks_of, ends_of, PlacedItems, IfLively}
 use Rattle.xc_meaning.specs.Outline.{Moved}
 use Rattle.xc_laws.specs.Each.{EachItem}
@@ -34,8 +34,8 @@ use Rattle.xc_laws.proofs.Trees.{above_waits, forest_kept}
 use Rattle.xc_laws.proofs.Apart.{apart_kept, apart_begins, pars_begin, kernels_begin}
 use Rattle.xc_laws.proofs.Sides.{long_kept, sided_kept, other_kept}
 use Rattle.xc_laws.proofs.Begins.{forest_begins, long_begins, sided_begins, other_begins}
-use Rattle.xc_laws.proofs.Threads.{cores_begin, cores_kept, branches_fit_in}
-use Rattle.xc_laws.proofs.Needs.{needs_kept, needs_begin, threads_suffice}
+use Rattle.xc_laws.proofs.Threads.{cores_begin, cores_kept, branches_fit_in, budgets_fit_in}
+use Rattle.xc_laws.proofs.Needs.{has_what_it_takes, needs_kept, needs_stay, needs_begin, threads_suffice}
 use Rattle.xc_laws.proofs.Placed.{among_append, placed_kept, placed_begins, alone_kept, alone_begins}
 use Rattle.xc_laws.proofs.Cores.{here_kept, here_begins, grows}
 
@@ -267,3 +267,12 @@ accepted_obey P named types typed K copies unbroken ports = record {
 
 pub branches_fit : BranchesFit
 branches_fit K x h core ns once k = branches_fit_in K.roots x.branches h.forest h.cores core h.budget ns once k
+
+pub budgets_stay : BudgetsStay
+budgets_stay K s x y m budget h b e = needs_stay K.roots K s x h.forest budget b (moved K s x (no_text K s x h.kernels) m e)
+
+pub budgets_fit : BudgetsFit
+budgets_fit K x budget h b core ns once k = budgets_fit_in K.roots x.branches h.forest h.cores core budget b ns once k
+
+pub budgets_suffice : BudgetsSuffice
+budgets_suffice K x budget h n b e w = has_what_it_takes K.roots x.branches budget h n b e w

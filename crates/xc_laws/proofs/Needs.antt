@@ -13,9 +13,9 @@ use Rattle.xc_disjoint.specs.Threads as threads
 use Rattle.xc_laws.specs.Every.{AllItems, AllStatements, AllBody}
 use Rattle.xc_laws.specs.Each.{EachItem}
 use Rattle.xc_laws.specs.Sided.{BodyIs, DefaultIs}
-use Rattle.xc_laws.specs.Needs.{AnyInput, CodeWithin, NeedsWithin, sum_from, Budgeted, HasBudget, branches_in, takes, taken, taken_by, taken_in, needed_on, taken_on}
+use Rattle.xc_laws.specs.Needs.{AnyInput, CodeWithin, NeedsWithin, sum_from, Budgeted, HasBudget, KeepsBudget, branches_in, takes, taken, taken_by, taken_in, needed_on, taken_on}
 use Rattle.xc_disjoint.specs.Cores.{if_so}
-use Rattle.xc_laws.specs.Tree.{IsForest}
+use Rattle.xc_laws.specs.Tree.{IsForest, IsWaiting}
 use Rattle.xc_meaning.specs.Outline.{Becomes, goes, enters, exits, errs, ends_it, makes, Moved, ticked, stepped, joined}
 use Rattle.xc_meaning.proofs.Basics.{some_given, none_given}
 use Rattle.xc_laws.proofs.Inherited.{Inherits, all_todo}
@@ -178,10 +178,11 @@ module _ (roots : List kernel.Root) (s : Setting) (now : Branch) (more : List Br
 
 -- a step that makes no branches
 quiet_after : (roots : List kernel.Root) (s : Setting) (now : Branch) → slice_get s.world.branches s.number ≡ Some s.branch → IsForest (length roots) s.world.branches → Change s now [] →
-    (budget : ℕ → ℕ) → Budgeted roots budget s.world.branches → AllItems (NeedsWithin (budget s.number)) now.items → HasBudget roots (slice_set s.world.branches s.number now ++ [])
+    (budget : ℕ → ℕ) → Budgeted roots budget s.world.branches → AllItems (NeedsWithin (budget s.number)) now.items → KeepsBudget roots budget (length s.world.branches) (slice_set s.world.branches s.number now ++ [])
 quiet_after roots s now is forest ch budget h all = record {
-  budget = extended budget (length s.world.branches) (needs_at []);
+  next = extended budget (length s.world.branches) (needs_at []);
   budgeted = budgeted_after roots s now [] is forest ch budget h all [] (λ j c e. none_given e) (λ lt. absurd (omega arith));
+  same = λ k lt. extended_below budget (length s.world.branches) (needs_at []) k lt;
 }
 
 made_needs : (s : Setting) (bs : kernel.Branches) (gs : List Begun) → all_begun bs ≡ gs → (j : ℕ) (c : Branch) → slice_get (children s (length gs) 0 [] gs) j ≡ Some c → AllItems (NeedsWithin (needs_at gs j)) c.items
@@ -191,7 +192,7 @@ made_needs s bs gs e j c f =
     subst (λ d. AllItems (NeedsWithin (needs_at gs j)) d.items) (sym b.is) (subst (λ g. AllItems (NeedsWithin (needs_at g j)) b.begun.items) e all)
 
 step_after : (roots : List kernel.Root) (s : Setting) (item : Item) (now : Branch) (more : List Branch) → slice_get s.world.branches s.number ≡ Some s.branch → s.branch.mode ≡ runs → s.branch.items ≡ item ∷ s.rest →
-    IsForest (length roots) s.world.branches → (budget : ℕ → ℕ) → Budgeted roots budget s.world.branches → AllItems (NeedsWithin (budget s.number)) (item ∷ s.rest) → Becomes s item now more → HasBudget roots (slice_set s.world.branches s.number now ++ more)
+    IsForest (length roots) s.world.branches → (budget : ℕ → ℕ) → Budgeted roots budget s.world.branches → AllItems (NeedsWithin (budget s.number)) (item ∷ s.rest) → Becomes s item now more → KeepsBudget roots budget (length s.world.branches) (slice_set s.world.branches s.number now ++ more)
 step_after roots s item now more is em ei forest budget h all (goes one items l) =
     quiet_after roots s _ is forest (change s _ _ _ em (goes one items l)) budget h (becomes_all (NeedsWithin (budget s.number)) (needs_inherits (budget s.number)) s one _ [] (goes one items l) all.0 all.1)
 step_after roots s item now more is em ei forest budget h all (enters one c items l) =
@@ -201,20 +202,25 @@ step_after roots s item now more is em ei forest budget h all (exits one items l
 step_after roots s item now more is em ei forest budget h all (errs one) = quiet_after roots s _ is forest (change s _ _ _ em (errs one)) budget h tt
 step_after roots s item now more is em ei forest budget h all ends_it = quiet_after roots s _ is forest (change s _ _ _ em ends_it) budget h tt
 step_after roots s item now more is em ei forest budget h all (makes bs b others e) = record {
-  budget = extended budget (length s.world.branches) (needs_at (b ∷ others));
+  next = extended budget (length s.world.branches) (needs_at (b ∷ others));
   budgeted =
       budgeted_after roots s _ (children s (length (b ∷ others)) 0 [] (b ∷ others)) is forest (change s _ _ _ em (makes bs b others e)) budget h all.1 (b ∷ others) (made_needs s bs (b ∷ others) e)
       (λ lt. (made_length s (length (b ∷ others)) 0 [] (b ∷ others), let t = ap total (sym e) ∙ total_is bs in let n = all.0 in omega arith));
+  same = λ k lt. extended_below budget (length s.world.branches) (needs_at (b ∷ others)) k lt;
 }
 
+pub needs_stay : (roots : List kernel.Root) (K : kernel.Kernel) (stim : Stim) (x : World) {y : World} → IsForest (length roots) x.branches → (budget : ℕ → ℕ) → Budgeted roots budget x.branches →
+    Moved K stim x y → KeepsBudget roots budget (length x.branches) y.branches
+needs_stay roots K stim x forest budget h (ticked clocks) = record { next = budget; budgeted = h; same = λ k lt. refl }
+needs_stay roots K stim x forest budget h (stepped n b item rest z is em ei o) =
+    subst (KeepsBudget roots budget (length x.branches)) (sym o.branches)
+    (step_after roots (step_of K stim x n b rest) item o.now o.more is em ei forest budget h (subst (AllItems (NeedsWithin (budget n))) ei (h.items.all n b is)) o.becomes)
+needs_stay roots K stim x forest budget h (joined n b from count is em d) =
+    subst (KeepsBudget roots budget (length x.branches)) (append-nil (slice_set x.branches n (record b { mode = runs })))
+    (quiet_after roots (step_of K stim x n b b.items) (record b { mode = runs }) is forest (resumed (step_of K stim x n b b.items)) budget h (h.items.all n b is))
+
 pub needs_kept : (roots : List kernel.Root) (K : kernel.Kernel) (stim : Stim) (x : World) {y : World} → IsForest (length roots) x.branches → HasBudget roots x.branches → Moved K stim x y → HasBudget roots y.branches
-needs_kept roots K stim x forest h (ticked clocks) = h
-needs_kept roots K stim x forest h (stepped n b item rest z is em ei o) =
-    subst (HasBudget roots) (sym o.branches)
-    (step_after roots (step_of K stim x n b rest) item o.now o.more is em ei forest h.budget h.budgeted (subst (AllItems (NeedsWithin (h.budget n))) ei (h.budgeted.items.all n b is)) o.becomes)
-needs_kept roots K stim x forest h (joined n b from count is em d) =
-    subst (HasBudget roots) (append-nil (slice_set x.branches n (record b { mode = runs })))
-    (quiet_after roots (step_of K stim x n b b.items) (record b { mode = runs }) is forest (resumed (step_of K stim x n b b.items)) h.budget h.budgeted (h.budgeted.items.all n b is))
+needs_kept roots K stim x forest h m = let k = needs_stay roots K stim x forest h.budget h.budgeted m in record { budget = k.next; budgeted = k.budgeted }
 
 -- What is taken at any moment is at most what the roots need.
 
@@ -262,6 +268,16 @@ module _ (roots : List kernel.Root) (bs : List Branch) (budget : ℕ → ℕ) (h
   pub taken_within : (depth n : ℕ) → taken depth bs n ≤ budget n
   taken_within zero n = omega arith
   taken_within (suc depth) n = taken_branch (taken depth bs) (taken_within depth) n (slice_get bs n) refl
+
+  -- a branch that doesn't wait has what it takes
+  goes_takes : (n : ℕ) (b : Branch) → slice_get bs n ≡ Some b → (IsWaiting b.mode → ⊥) → (m : Mode) → b.mode ≡ m → takes b.items ≤ budget n
+  goes_takes n b e w runs em = takes_within (budget n) b.items (h.some n b e) (h.items.all n b e)
+  goes_takes n b e w (waits from count) em = absurd (w (waiting_is em))
+  goes_takes n b e w ended em = takes_within (budget n) b.items (h.some n b e) (h.items.all n b e)
+  goes_takes n b e w erred em = takes_within (budget n) b.items (h.some n b e) (h.items.all n b e)
+
+  pub has_what_it_takes : (n : ℕ) (b : Branch) → slice_get bs n ≡ Some b → (IsWaiting b.mode → ⊥) → takes b.items ≤ budget n
+  has_what_it_takes n b e w = goes_takes n b e w b.mode refl
 
   if_most : (b : Bool) (m n : ℕ) → m ≤ n → if_so b m ≤ if_so b n
   if_most true m n le = le

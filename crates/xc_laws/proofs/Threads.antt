@@ -6,8 +6,9 @@ use Rattle.xc_meaning.specs.States.Branches.{Mode, runs, waits, ended, erred, Br
 use Rattle.xc_meaning.specs.States.Worlds.{World}
 use Rattle.xc_meaning.specs.Runs.{step_of, kernel_start}
 use Rattle.xc_laws.specs.Tree.{IsChild, IsWaiting, IsForest, IsPresent, root, child}
-use Rattle.xc_laws.specs.Needs.{sum_from, taken, taken_by, taken_in, needed_on, taken_on, takes_of, takes_at, IsIn, AreOnce, total_of, TakesOn, RootCores, HasBudget}
+use Rattle.xc_laws.specs.Needs.{sum_from, taken, taken_by, taken_in, needed_on, taken_on, takes_of, takes_at, IsIn, AreOnce, total_of, TakesOn, RootCores, Budgeted, HasBudget}
 use Rattle.xc_disjoint.specs.Cores.{if_so}
+use Rattle.xc_disjoint.specs.Threads as threads
 use Rattle.xc_meaning.specs.Outline.{Moved, ticked, stepped, joined}
 use Rattle.xc_meaning.proofs.Basics.{some_given, none_given, same_or_not}
 use Rattle.xc_laws.proofs.Lookups.{Behind, itself, there, new, behind, within}
@@ -81,6 +82,30 @@ module _ (bs : List Branch) where
   pub leaves_take : (depth n : ℕ) → total_of (takes_at bs) (leaves depth bs n) ≡ taken depth bs n
   leaves_take zero n = refl
   leaves_take (suc depth) n = taken_branch (leaves depth bs) (taken depth bs) (leaves_take depth) n (slice_get bs n) refl
+
+-- what the branches below one have in reserve is at most what it has
+module _ (rs : List kernel.Root) (bs : List Branch) (budget : ℕ → ℕ) (h : Budgeted rs budget bs) where
+  most_joined : (g : ℕ → List ℕ) → ((k : ℕ) → total_of budget (g k) ≤ budget k) → (from count : ℕ) → total_of budget (joined_from g from count) ≤ sum_from budget from count
+  most_joined g k from zero = omega arith
+  most_joined g k from (suc count) =
+      let a = total_append budget (g from) (joined_from g (from + 1) count) in
+      let b = k from in
+      let c = most_joined g k (from + 1) count in
+      omega arith
+
+  most_in : (g : ℕ → List ℕ) → ((k : ℕ) → total_of budget (g k) ≤ budget k) → (n : ℕ) (b : Branch) → slice_get bs n ≡ Some b → (m : Mode) → b.mode ≡ m → total_of budget (leaves_in g n m) ≤ budget n
+  most_in g k n b e runs em = omega arith
+  most_in g k n b e (waits from count) em = let s = h.shares n b from count e em in let t = most_joined g k from count in omega arith
+  most_in g k n b e ended em = omega arith
+  most_in g k n b e erred em = omega arith
+
+  most_by : (g : ℕ → List ℕ) → ((k : ℕ) → total_of budget (g k) ≤ budget k) → (n : ℕ) (o : Option Branch) → slice_get bs n ≡ o → total_of budget (leaves_by g n o) ≤ budget n
+  most_by g k n None e = omega arith
+  most_by g k n (Some b) e = most_in g k n b e b.mode refl
+
+  most_below : (depth n : ℕ) → total_of budget (leaves depth bs n) ≤ budget n
+  most_below zero n = omega arith
+  most_below (suc depth) n = most_by (leaves depth bs) (most_below depth) n (slice_get bs n) refl
 
 -- lists with each number once
 
@@ -235,6 +260,26 @@ on_core depth bs core number (q ∷ rs) (suc j) r m e c h =
     in_back m (list_if (nat_eq q.core core) (leaves depth bs number)) (leaves_on depth bs core (number + 1) rs)
     (on_core depth bs core (number + 1) rs j r m e c (subst (λ n. IsIn m (leaves depth bs n)) (let l : number + suc j ≡ number + 1 + j = omega arith in l) h))
 
+-- what they have in reserve is at most what the roots need
+module _ (all : List kernel.Root) (bs : List Branch) (budget : ℕ → ℕ) (h : Budgeted all budget bs) where
+  most_if : (b : Bool) (xs : List ℕ) (n : ℕ) → total_of budget xs ≤ n → total_of budget (list_if b xs) ≤ if_so b n
+  most_if true xs n le = le
+  most_if false xs n le = omega arith
+
+  most_from : (depth core number : ℕ) (rs : List kernel.Root) → ((j : ℕ) (r : kernel.Root) → slice_get rs j ≡ Some r → budget (number + j) ≡ threads.of_statements r.body) →
+      total_of budget (leaves_on depth bs core number rs) ≤ needed_on core rs
+  most_from depth core number [] k = omega arith
+  most_from depth core number (r ∷ rs) k =
+      let a = most_below all bs budget h depth number in
+      let e = ap budget (let z : number ≡ number + 0 = omega arith in z) ∙ k 0 r refl in
+      let i = most_if (nat_eq r.core core) (leaves depth bs number) (threads.of_statements r.body) (omega arith) in
+      let g = most_from depth core (number + 1) rs (λ j q f. ap budget (let z : number + 1 + j ≡ number + suc j = omega arith in z) ∙ k (suc j) q f) in
+      let t = total_append budget (list_if (nat_eq r.core core) (leaves depth bs number)) (leaves_on depth bs core (number + 1) rs) in
+      omega arith
+
+  pub most_on : (depth core : ℕ) → total_of budget (leaves_on depth bs core 0 all) ≤ needed_on core all
+  most_on depth core = most_from depth core 0 all (λ j r e. ap budget (let z : 0 + j ≡ j = omega arith in z) ∙ h.roots_have j r e)
+
 root_there : (rs : List kernel.Root) (j : ℕ) → j < length rs → (r : kernel.Root) × (slice_get rs j ≡ Some r)
 root_there [] j lt = absurd (omega arith)
 root_there (r ∷ rs) zero lt = (r, refl)
@@ -289,4 +334,11 @@ module _ (rs : List kernel.Root) (bs : List Branch) (forest : IsForest (length r
       let l = total_within (takes_at bs) ns (leaves_on (0 + d.depth) bs core 0 rs) once (λ n i. d.leaf 0 n i) in
       let t = total_on (0 + d.depth) bs core 0 rs in
       let s = threads_suffice rs bs budget (0 + d.depth) core in
+      omega arith
+
+  pub budgets_fit_in : (budget : ℕ → ℕ) → Budgeted rs budget bs → (ns : List ℕ) → AreOnce ns → ((n : ℕ) → IsIn n ns → TakesOn (length rs) bs core n) → total_of budget ns ≤ needed_on core rs
+  budgets_fit_in budget h ns once k =
+      let d = all_at_depth ns k in
+      let l = total_within budget ns (leaves_on (0 + d.depth) bs core 0 rs) once (λ n i. d.leaf 0 n i) in
+      let s = most_on rs bs budget h (0 + d.depth) core in
       omega arith

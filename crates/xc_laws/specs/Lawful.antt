@@ -30,7 +30,7 @@ use Rattle.xc_laws.specs.Each.{EachItem, EachBranch}
 use Rattle.xc_laws.specs.Tree.{Above, IsWaiting, IsForest, Unrelated}
 use Rattle.xc_laws.specs.Rules.{AnyThing, AnyPar, AnyTransaction, AllApart, AreApart, IsApart}
 use Rattle.xc_laws.specs.Sided.{SidedAt, Differ, OtherSides, IsSided}
-use Rattle.xc_laws.specs.Needs.{HasBudget, taken_on, needed_on, AreOnce, IsIn, TakesOn, total_of, takes_at, RootCores}
+use Rattle.xc_laws.specs.Needs.{Budgeted, HasBudget, KeepsBudget, takes, taken_on, needed_on, AreOnce, IsIn, TakesOn, total_of, takes_at, RootCores}
 use Rattle.xc_laws.specs.Placed.{AnyBlock, AnyInside, IsFresh, AreUnused, marks_of, ends_of, open_of, EndsWell, EachPlaced, EachAlone, IsPlaced}
 use Rattle.xc_laws.specs.Nested.{EachInside, EndIsBehind}
 use Rattle.xc_laws.specs.Cores.{UsesHere, IsHere, Grows}
@@ -218,6 +218,25 @@ abbrev pub BranchesFit : Type 0
 BranchesFit =
     (K : kernel.Kernel) (x : World) → Lawful K x → (core : ℕ) (ns : List ℕ) → AreOnce ns → ((n : ℕ) → IsIn n ns → TakesOn (length K.roots) x.branches core n) →
     total_of (takes_at x.branches) ns ≤ needed_on core K.roots
+
+-- Whatever the branches have in reserve, it lasts: a step leaves each branch what it had.
+abbrev pub BudgetsStay : Type 0
+BudgetsStay =
+    (K : kernel.Kernel) (s : Stim) (x y : World) (m : Action) (budget : ℕ → ℕ) → Lawful K x → Budgeted K.roots budget x.branches → acts K s x m ≡ Some y →
+    KeepsBudget K.roots budget (length x.branches) y.branches
+
+-- And it suffices: any present branches of a core that don't wait, each of them once, have together at most what the core needs,
+abbrev pub BudgetsFit : Type 0
+BudgetsFit =
+    (K : kernel.Kernel) (x : World) (budget : ℕ → ℕ) → Lawful K x → Budgeted K.roots budget x.branches → (core : ℕ) (ns : List ℕ) → AreOnce ns →
+    ((n : ℕ) → IsIn n ns → TakesOn (length K.roots) x.branches core n) →
+    total_of budget ns ≤ needed_on core K.roots
+
+-- and each of them what it takes.
+abbrev pub BudgetsSuffice : Type 0
+BudgetsSuffice =
+    (K : kernel.Kernel) (x : World) (budget : ℕ → ℕ) → Budgeted K.roots budget x.branches → (n : ℕ) (b : Branch) → slice_get x.branches n ≡ Some b →
+    (IsWaiting b.mode → ⊥) → takes b.items ≤ budget n
 
 -- Branches stay under their numbers, and one that has ended or erred as it is.
 abbrev pub BranchesStay : Type 0

@@ -1,5 +1,5 @@
 -- How many threads are needed for what the branches have still to do.
-use Rattle.std.specs.Prelude.{◌≡◌, ◌⊎◌, ℕ, zero, suc, ◌+◌, ◌≤◌, max, List, [], ◌∷◌, Option, Some, None, nat_eq, slice_get}
+use Rattle.std.specs.Prelude.{◌≡◌, ◌⊎◌, ℕ, zero, suc, ◌+◌, ◌<◌, ◌≤◌, max, List, [], ◌∷◌, Option, Some, None, nat_eq, slice_get}
 use Rattle.xc_kernel.specs.Plain as kernel
 use Rattle.xc_meaning.specs.States.Items.{Item, does, says, chooses}
 use Rattle.xc_meaning.specs.States.Branches.{Mode, waits, Branch}
@@ -38,6 +38,12 @@ pub record Budgeted (roots : List kernel.Root) (budget : ℕ → ℕ) (bs : List
 pub record HasBudget (roots : List kernel.Root) (bs : List Branch) : Type 0 where
   pub budget : ℕ → ℕ
   pub budgeted : Budgeted roots budget bs
+
+-- Behind a step: branches keep what they had, of so many branches, and new ones have something.
+pub record KeepsBudget (roots : List kernel.Root) (budget : ℕ → ℕ) (branches : ℕ) (bs : List Branch) : Type 0 where
+  pub next : ℕ → ℕ
+  pub budgeted : Budgeted roots next bs
+  pub same : (n : ℕ) → n < branches → next n ≡ budget n
 
 -- how many branches a `par` has
 abbrev pub branches_in : kernel.Branches → ℕ

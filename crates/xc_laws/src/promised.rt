@@ -1,6 +1,6 @@
 //! The laws, as contracts of functions that do nothing.
 
-ghost use Rattle.xc_laws.specs.Lawful.{AcceptedObey, AloneInside, BranchesFit, BranchesStay, CheckedListed, CheckedObey, CopiesArePlaced, EachGoesOn, EachHasSide, EndsAreBehind, FootprintsShrink, FreshHolds, InnermostEnds, InsideHolds, InsideIsOwn, KernelsAreListed, LawsAreKept, LawsBegin, LawsHold, ListedHolds, MarksStandOnce, NoneClash, OneOnEachSide, OthersAreLeft, PortsAreHere, ThreadsSuffice, TidyLawsHold, UnbrokenIsApart, UnbrokenIsSided, UsersAreInside};
+ghost use Rattle.xc_laws.specs.Lawful.{AcceptedObey, AloneInside, BranchesFit, BranchesStay, BudgetsFit, BudgetsStay, BudgetsSuffice, CheckedListed, CheckedObey, CopiesArePlaced, EachGoesOn, EachHasSide, EndsAreBehind, FootprintsShrink, FreshHolds, InnermostEnds, InsideHolds, InsideIsOwn, KernelsAreListed, LawsAreKept, LawsBegin, LawsHold, ListedHolds, MarksStandOnce, NoneClash, OneOnEachSide, OthersAreLeft, PortsAreHere, ThreadsSuffice, TidyLawsHold, UnbrokenIsApart, UnbrokenIsSided, UsersAreInside};
 
 /// The laws hold at the start of each kernel that obeys the rules, and each step keeps them.
 #[tactic(auto, using(crate::proofs::Always::laws_begin, crate::proofs::Always::laws_kept))]
@@ -76,6 +76,15 @@ pub fn each_goes_on()
 pub fn threads_suffice()
     ensures below { ThreadsSuffice }
     ensures fit { BranchesFit }
+{}
+
+/// Whatever threads the branches have in reserve, so that each has what it takes and those of a core have no more together than the
+/// core needs: each branch keeps its reserve through every step.
+#[tactic(auto, using(crate::proofs::Always::budgets_stay, crate::proofs::Always::budgets_fit))]
+pub fn reserves_suffice()
+    ensures stay { BudgetsStay }
+    ensures fit { BudgetsFit }
+    ensures suffice { BudgetsSuffice }
 {}
 
 /// Branches stay under their numbers and on their cores, and one that has ended or erred stays as it is.

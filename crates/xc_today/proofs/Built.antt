@@ -1,6 +1,6 @@
 -- The code of the roots of kernels is built whose programs are built today: no statement of a later form is in them, and as they have no channel,
 -- each output goes to a port.
-use Rattle.std.proofs.Common.{◌≡◌, ℕ, ◌<◌, Bool, true, false, ◌||◌, List, [], ◌∷◌, length, Option, None, Some, refl, sym, ap, subst, ◌∙◌, true≢false, arith}
+use Rattle.std.proofs.Common.{◌≡◌, ℕ, ◌<◌, Bool, true, false, ◌&&◌, ◌||◌, List, [], ◌∷◌, length, Option, None, Some, is_some, nat_lt, refl, sym, ap, subst, ◌∙◌, true≢false, arith}
 use Rattle.xc_tree.specs.Derives.{unlimited}
 use Rattle.xc_tree.specs.Plain as tree
 use Rattle.xc_kernel.specs.declared.kernel.Chan.{Chan}
@@ -14,18 +14,18 @@ use Rattle.xc_kernel.specs.Programs.{Function, functions, main_of, name_of_main}
 use Rattle.xc_kernel.specs.Context.{Context}
 use Rattle.xc_kernel.specs.Calls.{CopiesCall, function_copy}
 use Rattle.xc_kernel.specs.Statements.{statement_copy}
-use Rattle.xc_kernel.specs.Roots.{Rooted, action_has_placed, block_has_placed, in_block, context_of, roots_by, roots_of}
+use Rattle.xc_kernel.specs.Roots.{Rooted, is_placed, has_placed, action_has_placed, block_has_placed, in_block, context_of, roots_by, roots_of}
 use Rattle.xc_kernel.specs.Copies.{calls_of, rooted, copy_of}
-use Rattle.xc_formed.specs.Each.{AnyExpression, AnyPlace, AnyNumber, EachStatement, EachOf, EachRoot}
+use Rattle.xc_formed.specs.Each.{AnyExpression, AnyPlace, AnyNumber, EachStatement, EachOf, EachBranch, EachRoot}
 use Rattle.xc_formed.specs.Transfers.{OutputGoes, GoesOut, ComesIn}
 use Rattle.xc_formed.proofs.Formed.{transfers_right}
 use Rattle.xc_formed.proofs.Grammar.{AllOf, MaybeOf}
-use Rattle.xl_walk.specs.Built.{IsPort, IsBuilt, AreBuilt}
+use Rattle.xl_walk.specs.Built.{IsPort, IsBuilt, AreBuilt, BranchesAreBuilt}
 use Rattle.xl_image.specs.Roots.{RootsAreBuilt}
 use Rattle.xc_today.specs.Today.{AreItemsUnstamped}
 use Rattle.xc_today.specs.Laws.{KernelsAreBuilt}
-use Rattle.xc_today.proofs.Early.{IsEarlyAction, IsEarly, AreEarly, IsEarlyItem, program_early}
-use Rattle.xc_today.proofs.Copied.{IsEarlyCode, AreEarlyCode, IsEarlyFunction, CallsEarly, as_statements, named_early, function_early, calls_early}
+use Rattle.xc_today.proofs.Early.{IsEarlyAction, IsEarly, AreEarly, IsEarlyBranch, AreEarlyBranches, IsEarlyItem, program_early}
+use Rattle.xc_today.proofs.Copied.{IsEarlyCode, AreEarlyCode, HaveEarlyCode, IsEarlyFunction, CallsEarly, as_statements, named_early, function_early, calls_early}
 
 -- Roots.
 
@@ -36,10 +36,17 @@ record IsEarlyRooted (r : Rooted) : Type 0 where
   pub roots : AllOf IsEarlyRoot r.roots
   pub channels : r.made.channels ≡ []
 
--- no branch is placed where there is no `par`
+-- no branch is placed
+branch_unplaced : (b : tree.Branch) → IsEarlyBranch b → is_placed b ≡ false
+branch_unplaced (tree.branch place s) h = ap (λ (p : Option tree.Place). is_some p) h.0
+
+branches_unplaced : (bs : tree.Branches) → AreEarlyBranches bs → has_placed bs ≡ false
+branches_unplaced tree.no_branch h = refl
+branches_unplaced (tree.more_branches b bs) h = ap (λ x. x || has_placed bs) (branch_unplaced b h.0) ∙ branches_unplaced bs h.1
+
 action_unplaced : (a : tree.Action) → IsEarlyAction a → action_has_placed a ≡ false
-action_unplaced (tree.par bs) h = absurd h
-action_unplaced (tree.replicated x y z from until b) h = absurd h
+action_unplaced (tree.par bs) h = branches_unplaced bs h
+action_unplaced (tree.replicated x y z from until b) h = ap (λ c. c && nat_lt from until) (branch_unplaced b h)
 action_unplaced other h = refl
 
 block_unplaced : (ss : tree.Statements) → AreEarly ss → block_has_placed ss ≡ false
@@ -98,12 +105,16 @@ module _ (K : kernel.Kernel) (none : K.channels ≡ []) where
     statement_built (kernel.block n a) h g = statements_built a h g
     statement_built (kernel.exit n) h g = tt
     statement_built (kernel.select cs d pos) h g = absurd h
-    statement_built (kernel.par bs) h g = absurd h
+    statement_built (kernel.par bs) h g = branches_built bs h g
     statement_built (kernel.transaction c is_master a start close) h g = absurd h
 
     statements_built : (ss : kernel.Statements) → AreEarlyCode ss → EachOf AnyExpression AnyPlace AnyNumber (GoesOut K) (ComesIn K) AnyNumber ss → AreBuilt ss
     statements_built kernel.no_more h g = tt
     statements_built (kernel.more s ss) h g = (statement_built s h.0 g.0, statements_built ss h.1 g.1)
+
+    branches_built : (bs : kernel.Branches) → HaveEarlyCode bs → EachBranch AnyExpression AnyPlace AnyNumber (GoesOut K) (ComesIn K) AnyNumber bs → BranchesAreBuilt bs
+    branches_built kernel.no_branch h g = tt
+    branches_built (kernel.more_branches (kernel.branch ss pos) bs) h g = (statements_built ss h.0 g.0, branches_built bs h.1 g.1)
 
   roots_built : (rs : List kernel.Root) → AllOf IsEarlyRoot rs → EachRoot AnyExpression AnyPlace AnyNumber (GoesOut K) (ComesIn K) AnyNumber rs → RootsAreBuilt rs
   roots_built [] h g = tt

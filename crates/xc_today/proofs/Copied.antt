@@ -1,5 +1,5 @@
 -- The copies of statements of no later form: their code has none either, and no channel is made.
-use Rattle.std.proofs.Common.{◌≡◌, ℕ, zero, suc, Bool, true, false, List, [], ◌∷◌, ◌++◌, Option, None, Some, nat_eq, bytes_eq, option_map, refl, ap, ◌∙◌}
+use Rattle.std.proofs.Common.{◌≡◌, ℕ, zero, suc, ◌+◌, ◌-◌, Bool, true, false, List, [], ◌∷◌, ◌++◌, Option, None, Some, nat_eq, bytes_eq, option_map, refl, ap, ◌∙◌}
 use Rattle.xw_words.specs.declared.pos.Pos.{Pos}
 use Rattle.xc_tree.specs.declared.tree.Param.{Param}
 use Rattle.xc_tree.specs.declared.tree.ParamKind.{ParamKind}
@@ -9,20 +9,21 @@ use Rattle.xc_tree.specs.Symbols.{equals}
 use Rattle.xc_kernel.specs.declared.kernel.Chan.{Chan}
 use Rattle.xc_kernel.specs.Plain as kernel
 use Rattle.xc_kernel.specs.Paths.{Path, path_at}
-use Rattle.xc_kernel.specs.Scopes.{Scope, Entity, an_array, entity_of}
+use Rattle.xc_kernel.specs.Scopes.{Scope, Entity, an_array, a_constant, entity_of, with_name}
 use Rattle.xc_kernel.specs.Programs.{Function, function_by, function_named}
-use Rattle.xc_kernel.specs.Copy.{Copy, joined}
-use Rattle.xc_kernel.specs.Context.{Context, in_loop, in_function}
+use Rattle.xc_kernel.specs.Copy.{Copy, joined, in_scope_of}
+use Rattle.xc_kernel.specs.Context.{Context, in_branch, in_loop, in_function}
 use Rattle.xc_kernel.specs.Parameters.{by_element, form_by_reference, by_reference, by_name, passed, all_passed}
 use Rattle.xc_kernel.specs.Calls.{CopiesCall, called, call_by, right_copy, result_copy, function_copy, path_of_call}
 use Rattle.xc_kernel.specs.Declarations.{initial_copy, kind_copy, declarations_copy}
 use Rattle.xc_kernel.specs.Transfers.{stamp_of}
-use Rattle.xc_kernel.specs.Statements.{assign_by, return_copy, statement_copy, action_copy, maybe_copy, statements_copy, calls_copy}
+use Rattle.xc_kernel.specs.Flow.{Branched, and_branch, par_copy, numbered_copy, replicated}
+use Rattle.xc_kernel.specs.Statements.{pos_of_branch, assign_by, return_copy, statement_copy, action_copy, maybe_copy, statements_copy, branch_copy, branches_copy, calls_copy}
 use Rattle.xc_formed.proofs.Grammar.{AllOf, MaybeOf}
-use Rattle.xc_today.specs.Today.{IsUnstamped, IsActionUnstamped, IsMaybeUnstamped, AreUnstamped}
-use Rattle.xc_today.proofs.Early.{IsEarlyKind, AreEarlyDeclarations, IsEarly, IsEarlyAction, IsMaybeEarly, AreEarly}
+use Rattle.xc_today.specs.Today.{IsUnstamped, IsActionUnstamped, IsMaybeUnstamped, AreUnstamped, IsBranchUnstamped, AreBranchesUnstamped}
+use Rattle.xc_today.proofs.Early.{IsEarlyKind, AreEarlyDeclarations, IsEarly, IsEarlyAction, IsMaybeEarly, AreEarly, IsEarlyBranch, AreEarlyBranches}
 
--- no input, no `par`, no `select` and no transaction, and no output has a stamp
+-- no input, no `select` and no transaction, and no output has a stamp
 abbrev mutual
   pub IsEarlyCode : kernel.Statement → Type 0
   IsEarlyCode (kernel.output o) = o.stamp ≡ None
@@ -31,7 +32,7 @@ abbrev mutual
   IsEarlyCode (kernel.loop test a b) = AreEarlyCode a × AreEarlyCode b
   IsEarlyCode (kernel.block n a) = AreEarlyCode a
   IsEarlyCode (kernel.select cs d pos) = ⊥
-  IsEarlyCode (kernel.par bs) = ⊥
+  IsEarlyCode (kernel.par bs) = HaveEarlyCode bs
   IsEarlyCode (kernel.transaction c is_master a start close) = ⊥
   IsEarlyCode other = Unit {0}
 
@@ -39,10 +40,19 @@ abbrev mutual
   AreEarlyCode kernel.no_more = Unit {0}
   AreEarlyCode (kernel.more s ss) = IsEarlyCode s × AreEarlyCode ss
 
+  pub HaveEarlyCode : kernel.Branches → Type 0
+  HaveEarlyCode kernel.no_branch = Unit {0}
+  HaveEarlyCode (kernel.more_branches (kernel.branch ss pos) bs) = AreEarlyCode ss × HaveEarlyCode bs
+
 -- so is the code of a copy, which makes no channel
 pub record IsEarlyCopy (copy : Copy) : Type 0 where
   pub code : AllOf IsEarlyCode copy.code
   pub channels : copy.channels ≡ []
+
+-- so are branches, which make none
+record IsEarlyBranched (b : Branched) : Type 0 where
+  pub code : HaveEarlyCode b.branches
+  pub channels : b.made.channels ≡ []
 
 -- a function with such a body
 pub record IsEarlyFunction (f : Function) : Type 0 where
@@ -62,6 +72,28 @@ both_channels cs ds e f = ap (λ xs. xs ++ ds) e ∙ f
 
 both : (a b : Copy) → IsEarlyCopy a → IsEarlyCopy b → IsEarlyCopy (joined a b)
 both a b h g = record { code = both_code a.code b.code h.code g.code; channels = both_channels a.channels b.channels h.channels g.channels }
+
+-- Branches.
+
+and_branch_early : (pos : Pos) (copy : Copy) (others : Branched) → IsEarlyCopy copy → IsEarlyBranched others → IsEarlyBranched (and_branch pos copy others)
+and_branch_early pos copy others h g = record {
+  code = (as_statements copy.code h.code, g.code);
+  channels = both_channels copy.channels others.made.channels h.channels g.channels;
+}
+
+replicated_early : (copy : ℕ → ℕ → Copy) → ((index number : ℕ) → IsEarlyCopy (copy index number)) → (pos : Pos) (scope : Scope) (count index number : ℕ) → IsEarlyBranched (replicated copy pos scope count index number)
+replicated_early copy h pos scope zero index number = record { code = tt; channels = refl }
+replicated_early copy h pos scope (suc count) index number =
+    and_branch_early pos (copy index number) (replicated copy pos scope count (index + 1) (number + 1)) (h index number)
+    (replicated_early copy h pos scope count (index + 1) (number + 1))
+
+-- the scope of a copy ends
+in_scope_early : (scope : Scope) (copy : Copy) → IsEarlyCopy copy → IsEarlyCopy (in_scope_of scope copy)
+in_scope_early scope copy h = record { code = h.code; channels = h.channels }
+
+-- a `par` of them
+par_early : (b : Branched) → IsEarlyBranched b → IsEarlyCopy (par_copy b)
+par_early b h = record { code = (h.code, tt); channels = h.channels }
 
 -- Arguments.
 
@@ -211,8 +243,11 @@ module _ (copies : CopiesCall) (calls : CallsEarly copies) where
     action_early (tree.return_with r) pos close c scope fs h g = return_early c scope r fs
     action_early tree.break_out pos close c scope fs h g = record { code = (tt, tt); channels = refl }
     action_early tree.continue_on pos close c scope fs h g = record { code = (tt, tt); channels = refl }
-    action_early (tree.par bs) pos close c scope fs h g = absurd h
-    action_early (tree.replicated x y z from until b) pos close c scope fs h g = absurd h
+    action_early (tree.par bs) pos close c scope fs h g = par_early (branches_copy copies bs 0 c scope) (branches_early bs 0 c scope fs h g)
+    action_early (tree.replicated x y z from until b) pos close c scope fs h g =
+        let copy = numbered_copy (branch_copy copies b) c scope x.text in
+        par_early (replicated copy (pos_of_branch b) scope (until - from) 0 from)
+        (replicated_early copy (λ index number. in_scope_early scope _ (branch_early b (in_branch c index) (with_name scope x.text (a_constant number)) fs h g)) (pos_of_branch b) scope (until - from) 0 from)
     action_early (tree.select cs) pos close c scope fs h g = absurd h
     action_early (tree.transaction is_master ss) pos close c scope fs h g = absurd h
 
@@ -225,6 +260,16 @@ module _ (copies : CopiesCall) (calls : CallsEarly copies) where
     statements_early (tree.more s ss) c scope fs h g =
         let first = statement_copy copies s c scope in
         both first (statements_copy copies ss c first.scope) (statement_early s c scope fs h.0 g.0) (statements_early ss c first.scope fs h.1 g.1)
+
+    branch_early : (b : tree.Branch) (c : Context) (scope : Scope) → AllOf IsEarlyFunction c.functions → IsEarlyBranch b → IsBranchUnstamped b → IsEarlyCopy (branch_copy copies b c scope)
+    branch_early (tree.branch place s) c scope fs h g = statement_early s c scope fs h.1 g
+
+    branches_early : (bs : tree.Branches) (index : ℕ) (c : Context) (scope : Scope) → AllOf IsEarlyFunction c.functions → AreEarlyBranches bs → AreBranchesUnstamped bs → IsEarlyBranched (branches_copy copies bs index c scope)
+    branches_early tree.no_branch index c scope fs h g = record { code = tt; channels = refl }
+    branches_early (tree.more_branches b bs) index c scope fs h g =
+        let first = branch_copy copies b (in_branch c index) scope in
+        and_branch_early (pos_of_branch b) first (branches_copy copies bs (index + 1) c first.scope)
+        (branch_early b (in_branch c index) scope fs h.0 g.0) (branches_early bs (index + 1) c first.scope fs h.1 g.1)
 
   -- the instance of a function
   pub function_early : (c : Context) (scope : Scope) (own : Path) (f : Function) (args : List tree.Argument) → AllOf IsEarlyFunction c.functions → IsEarlyFunction f → IsEarlyCopy (function_copy (statement_copy copies) c scope own f args)

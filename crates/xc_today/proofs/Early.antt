@@ -5,7 +5,7 @@ use Rattle.xc_tree.specs.declared.tree.Id.{Id}
 use Rattle.xc_tree.specs.Plain as plain
 use Rattle.xc_tree.specs.Symbols as symbols
 use Rattle.xc_tree.specs.Words as words
-use Rattle.xc_tree.specs.Symbol.{Symbol, sym, key, a_name, a_number, many, maybe, commas, program, item, body, block, block_item, decl, statement, closed, case_item, for_start, for_step, assign, input, Declarator, a_word, an_array, Value, Values}
+use Rattle.xc_tree.specs.Symbol.{Symbol, sym, key, a_name, a_number, many, maybe, commas, program, item, body, block, block_item, decl, statement, closed, case_item, for_start, for_step, place as placed, branch, assign, input, Declarator, a_word, an_array, Value, Values}
 use Rattle.xc_tree.specs.Grammar.{Rule, Extent, rules, kept, declared, named as kind_named}
 use Rattle.xc_tree.specs.Derives.{Room, extent, Derives, a_sym, a_key, named, counted, by_rule, Row, done, next}
 use Rattle.xc_today.proofs.Rules.{EachRule, none, ◌&◌, among_each}
@@ -21,7 +21,7 @@ abbrev pub AreEarlyDeclarations : List plain.Declaration → Type 0
 AreEarlyDeclarations [] = Unit {0}
 AreEarlyDeclarations (d ∷ ds) = IsEarlyKind d.kind × AreEarlyDeclarations ds
 
--- no input, no `par`, no `select` and no transaction
+-- no input, no `select`, no transaction and no placed branch
 abbrev mutual
   pub IsEarly : plain.Statement → Type 0
   IsEarly (plain.statement action pos close own) = IsEarlyAction action
@@ -34,8 +34,8 @@ abbrev mutual
   IsEarlyAction (plain.while_loop test s) = IsEarly s
   IsEarlyAction (plain.do_while s test) = IsEarly s
   IsEarlyAction (plain.for_loop first test step s) = IsMaybeEarly first × (IsMaybeEarly step × IsEarly s)
-  IsEarlyAction (plain.par bs) = ⊥
-  IsEarlyAction (plain.replicated first second third from until b) = ⊥
+  IsEarlyAction (plain.par bs) = AreEarlyBranches bs
+  IsEarlyAction (plain.replicated first second third from until b) = IsEarlyBranch b
   IsEarlyAction (plain.select cs) = ⊥
   IsEarlyAction (plain.transaction is_master ss) = ⊥
   IsEarlyAction other = Unit {0}
@@ -47,6 +47,13 @@ abbrev mutual
   pub AreEarly : plain.Statements → Type 0
   AreEarly plain.no_more = Unit {0}
   AreEarly (plain.more s ss) = IsEarly s × AreEarly ss
+
+  pub IsEarlyBranch : plain.Branch → Type 0
+  IsEarlyBranch (plain.branch place s) = (place ≡ None) × IsEarly s
+
+  pub AreEarlyBranches : plain.Branches → Type 0
+  AreEarlyBranches plain.no_branch = Unit {0}
+  AreEarlyBranches (plain.more_branches b bs) = IsEarlyBranch b × AreEarlyBranches bs
 
 abbrev pub IsEarlyItem : plain.Item → Type 0
 IsEarlyItem (plain.port p) = Unit {0}
@@ -61,6 +68,14 @@ maybe_early (Some s) h = h
 all_early : (ss : List plain.Statement) → AllOf IsEarly ss → AreEarly (plain.statements ss)
 all_early [] h = tt
 all_early (s ∷ ss) h = (h.0, all_early ss h.1)
+
+all_branches : (bs : List plain.Branch) → AllOf IsEarlyBranch bs → AreEarlyBranches (plain.branches bs)
+all_branches [] h = tt
+all_branches (b ∷ bs) h = (h.0, all_branches bs h.1)
+
+no_place : {V : Type 0} (o : Option V) → MaybeOf (λ v. ⊥) o → o ≡ None
+no_place None h = refl
+no_place (Some v) h = absurd h
 
 all_declared : (u : Bool) (ds : List Declarator) → AreEarlyDeclarations (map (declared u) ds)
 all_declared u [] = tt
@@ -94,6 +109,8 @@ Good closed = IsEarly
 Good case_item = IsEarly
 Good for_start = IsEarly
 Good for_step = IsEarly
+Good placed = λ p. ⊥
+Good branch = IsEarlyBranch
 Good assign = IsEarlyAction
 Good input = λ i. ⊥
 Good other = λ v. Unit {0}
@@ -146,15 +163,17 @@ all_keep statement =
     (λ e x g. tt) &
     (λ e x g. tt) &
     (λ e x g. tt) &
-    (λ e x g. absurd (no_one later_words 5 words.par_word refl g.0)) &
-    (λ e x g. absurd (no_one later_words 5 words.par_word refl g.0)) &
-    (λ e x g. absurd (no_one later_words 6 words.select_word refl g.0)) &
+    (λ e x g. all_branches x.1.1.0 g.1.1.0) &
+    (λ e x g. g.1.1.1.1.1.1.1.1.1.1.1.1.1.1.0) &
+    (λ e x g. absurd (no_one later_words 5 words.select_word refl g.0)) &
     (λ e x g. absurd (no_one later_words 3 words.master_word refl g.0)) &
-    (λ e x g. absurd (no_one later_words 7 words.slave_word refl g.0)) & none
+    (λ e x g. absurd (no_one later_words 6 words.slave_word refl g.0)) & none
 all_keep closed = (λ e x g. g.0) & none
 all_keep case_item = (λ e x g. g.0) & (λ e x g. g.0) & none
 all_keep for_start = (λ e x g. g.0) & (λ e x g. (tt, tt)) & none
 all_keep for_step = (λ e x g. g.0) & none
+all_keep placed = (λ e x g. no_one later_words 4 words.on_word refl g.0) & (λ e x g. no_one later_words 4 words.on_word refl g.0) & none
+all_keep branch = (λ e x g. (no_place x.0 g.0, g.1.0)) & none
 all_keep assign = (λ e x g. tt) & (λ e x g. tt) & (λ e x g. tt) & (λ e x g. tt) & none
 all_keep input = (λ e x g. no_one later_symbols 0 symbols.receives refl g.1.1.0) & none
 all_keep s = nothing (rules s)

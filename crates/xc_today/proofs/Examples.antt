@@ -12,7 +12,7 @@ use Rattle.xc_today.specs.Today.{later_words, later_symbols, AreOfToday, PortsAr
 
 -- Words and symbols.
 
-spelled_words : map (place_in tables.words) (codes "chan" ∷ codes "chanend" ∷ codes "in" ∷ codes "master" ∷ codes "on" ∷ codes "par" ∷ codes "select" ∷ codes "slave" ∷ codes "timer" ∷ []) ≡ map Some later_words
+spelled_words : map (place_in tables.words) (codes "chan" ∷ codes "chanend" ∷ codes "in" ∷ codes "master" ∷ codes "on" ∷ codes "select" ∷ codes "slave" ∷ codes "timer" ∷ []) ≡ map Some later_words
 unfolding tables.words place_from
 spelled_words = refl
 
@@ -25,16 +25,27 @@ abbrev tokens : List Kind → List Tok
 tokens [] = []
 tokens (k ∷ ks) = record { kind = k; pos = record { line = 1; col = 1 } } ∷ tokens ks
 
+-- `select {`
+select_is_later : AreOfToday (tokens (Key words.select_word ∷ Sym symbols.brace ∷ [])) → ⊥
+select_is_later h = h.0.1.1.1.1.1.0 refl
+
+-- `on tile`, in front of a branch
+placed_branch_is_later : AreOfToday (tokens (Key words.par_word ∷ Sym symbols.brace ∷ Key words.on_word ∷ Key words.tile_word ∷ [])) → ⊥
+placed_branch_is_later h = h.1.1.0.1.1.1.1.0 refl
+
 -- `par {`
-par_is_later : AreOfToday (tokens (Key words.par_word ∷ Sym symbols.brace ∷ [])) → ⊥
-par_is_later h = h.0.1.1.1.1.1.0 refl
+par_is_of_today : AreOfToday (tokens (Key words.par_word ∷ Sym symbols.brace ∷ []))
+par_is_of_today = (
+  (λ e. absurd (cc), (λ e. absurd (cc), (λ e. absurd (cc), (λ e. absurd (cc), (λ e. absurd (cc), (λ e. absurd (cc), (λ e. absurd (cc), (λ e. absurd (cc), tt)))))))),
+  ((λ e. absurd (cc), tt), tt),
+)
 
 -- `p :>`
 input_is_later : AreOfToday (tokens (Name (codes "p") ∷ Sym symbols.receives ∷ [])) → ⊥
 input_is_later h = h.1.0.0 refl
 
 -- a name is no word
-name_is_of_today : AreOfToday (tokens (Name (codes "par") ∷ Num 15 false ∷ []))
+name_is_of_today : AreOfToday (tokens (Name (codes "select") ∷ Num 15 false ∷ []))
 name_is_of_today = (tt, (tt, tt))
 
 -- Ports.
@@ -74,8 +85,20 @@ a_stamp = record { at = record { line = 1; col = 8 }; value = tree.expression (t
 abbrev loops : tree.Statement → tree.Statement
 loops s = tree.statement (tree.while_loop (tree.expression (tree.number 1 false) (record { line = 1; col = 8 })) s) (record { line = 1; col = 1 }) (record { line = 1; col = 20 }) 4
 
+-- two branches, of which the later does this
+abbrev beside : tree.Statement → tree.Statement
+beside s = tree.statement
+    (tree.par (tree.more_branches (tree.branch None (sends None)) (tree.more_branches (tree.branch None s) tree.no_branch)))
+    (record { line = 1; col = 1 }) (record { line = 1; col = 30 }) 3
+
 without_stamp : IsUnstamped (loops (sends None))
 without_stamp = refl
 
 with_stamp : IsUnstamped (loops (sends (Some a_stamp))) → ⊥
 with_stamp e = absurd (cc)
+
+branches_without_stamp : IsUnstamped (beside (loops (sends None)))
+branches_without_stamp = (refl, (refl, tt))
+
+branch_with_stamp : IsUnstamped (beside (loops (sends (Some a_stamp)))) → ⊥
+branch_with_stamp h = with_stamp h.1.0

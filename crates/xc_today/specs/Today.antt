@@ -11,7 +11,7 @@ use Rattle.xc_tree.specs.Words as words
 abbrev pub later_words : List ℕ
 later_words =
     words.chan_word ∷ words.chanend_word ∷ words.in_word ∷ words.master_word ∷ words.on_word
-    ∷ words.par_word ∷ words.select_word ∷ words.slave_word ∷ words.timer_word ∷ []
+    ∷ words.select_word ∷ words.slave_word ∷ words.timer_word ∷ []
 
 -- the symbols of later forms, by their places in `SYMBOLS`
 abbrev pub later_symbols : List ℕ

@@ -2,7 +2,7 @@
 
 ghost use Rattle.xc_today.specs.Laws.{KernelsAreBuilt, PortsGoOut};
 
-/// The code of the roots of a kernel is built whose program is built today: they have no input, no `par`, no `select` and no transaction, and its
+/// The code of the roots of a kernel is built whose program is built today: they have no input, no `select` and no transaction, and its
 /// outputs go to ports and have no stamp.
 pub fn kernels_are_built()
     ensures { KernelsAreBuilt }

@@ -5,19 +5,18 @@ ghost use Rattle.xc_today.specs.Today as today;
 
 use xc_tree::symbols::RECEIVES;
 use xc_tree::words::{
-    CHAN_WORD, CHANEND_WORD, IN_WORD, MASTER_WORD, ON_WORD, OUT_WORD, PAR_WORD, PORT_WORD,
-    SELECT_WORD, SLAVE_WORD, TIMER_WORD,
+    CHAN_WORD, CHANEND_WORD, IN_WORD, MASTER_WORD, ON_WORD, OUT_WORD, PORT_WORD, SELECT_WORD,
+    SLAVE_WORD, TIMER_WORD,
 };
 use xc_tree::{Kind, Tok};
 
 /// The words of later forms.
-const LATER_WORDS: [u8; 9] = [
+const LATER_WORDS: [u8; 8] = [
     CHAN_WORD,
     CHANEND_WORD,
     IN_WORD,
     MASTER_WORD,
     ON_WORD,
-    PAR_WORD,
     SELECT_WORD,
     SLAVE_WORD,
     TIMER_WORD,

@@ -138,6 +138,12 @@ fn runs_programs(rt: HostRuntime) -> Result<(), Fail> {
             "",
         ),
         run(
+            "int main(void) { par { } return 0; }",
+            0,
+            "code\n.core 0\n.words 516\n.timers 0\n.ends 0\n.root 0\n0: LDC r0, 16 @1:5\n1: SETSP r0 @1:5\n2: LDC r0, 0 @1:5\n3: STWDP r0, 0 @1:5\n4: LDC r0, 0 @1:5\n5: STWDP r0, 0 @1:5\n6: BRFU 7 @1:5\n7: FREET @1:5\ntrace\nend finished\n",
+            "",
+        ),
+        run(
             PULSE,
             0,
             "code\n.core 0\n.words 516\n.timers 0\n.ends 0\n.port 1A out\n.root 0\n0: LDC r0, 16 @2:5\n1: SETSP r0 @2:5\n2: LDC r0, 0 @2:5\n3: STWDP r0, 0 @2:5\n4: LDC r10, 100 @2:5\n5: LDC r0, 1 @2:5\n6: LDC r11, 0 @2:18\n7: SETC r11, NONE @2:18\n8: SETPT r11, r10 @2:18\n9: OUT r11, r0 @2:18\n10: LDC r0, 0 @2:18\n11: STWDP r0, 0 @2:18\n12: BRFU 13 @2:18\n13: FREET @2:5\ntrace\nout 0 1A @100 1\nend finished\n",
@@ -182,15 +188,22 @@ fn runs_programs(rt: HostRuntime) -> Result<(), Fail> {
 
 #[test]
 fn accepts_texts(rt: HostRuntime) -> Result<(), Fail> {
-    let accepted = Row {
-        words: ["check", "a.xc", "", ""],
-        text: PULSE,
-        load_fails: false,
-        status: 0,
-        out: "accepted\n",
-        err: "",
-    };
-    check_row(&rt, rt.alloc(), &accepted)
+    let texts = [
+        PULSE,
+        "int main(void) { par (int i = 0; i < 8; i++) { int x; x = i; } return 0; }",
+    ];
+    for text in texts {
+        let accepted = Row {
+            words: ["check", "a.xc", "", ""],
+            text,
+            load_fails: false,
+            status: 0,
+            out: "accepted\n",
+            err: "",
+        };
+        check_row(&rt, rt.alloc(), &accepted)?;
+    }
+    Ok(())
 }
 
 /// The first broken rule of texts.
@@ -213,6 +226,14 @@ fn refuses_texts(rt: HostRuntime) -> Result<(), Fail> {
         (TWO_BRANCHES, "a.xc:1:1: rule 299\n"),
         (
             "int main(void) {\n  int x;\n  par {\n    x = 1;\n    x = 2;\n  }\n  return 0;\n}\n",
+            "a.xc:5:5: rule 601\n",
+        ),
+        (
+            "int main(void) { par (int i = 0; i < 9; i++) { int x; x = i; } return 0; }",
+            "a.xc:1:5: rule 701\n",
+        ),
+        (
+            "int main(void) { par { on tile[0] : ; } return 0; }",
             "a.xc:1:1: rule 299\n",
         ),
         (
@@ -294,6 +315,75 @@ fn runs_statements(rt: HostRuntime) -> Result<(), Fail> {
             4,
             "out 0 8B @8 44\nend stopped\n",
         ),
+        // A branch errs, and the other goes on.
+        (
+            run,
+            "out port p = XS1_PORT_1A;\nint main(void) {\n  int a[10]; int i = 10;\n  par {\n    a[i] = 1;\n    p @ 40000 <: 1;\n  }\n  return 0;\n}\n",
+            3,
+            "err 0 5:5 index\nout 0 1A @40000 1\nend stuck\n",
+        ),
+        // A `par` in a loop is made a thousand times: 0 + .. + 999 = 499500, and twice as much.
+        (
+            run,
+            "out port p = XS1_PORT_32A;\nint main(void) {\n  int x = 0, y = 0, i;\n  for (i = 0; i < 1000; i++) par { x += i; y += 2 * i; }\n  p @ 60000 <: x;\n  p @ 61000 <: y;\n  return 0;\n}\n",
+            0,
+            "out 0 32A @60000 499500\nout 0 32A @61000 999000\nend finished\n",
+        ),
+        // A `par` in a function, in a branch and replicated: eight threads, and then the one goes on.
+        (
+            run,
+            "out port p = XS1_PORT_8A;\nout port q = XS1_PORT_8B;\nout port r = XS1_PORT_1A;\nvoid two(out port a, int t, out port b, int u) { par { a @ t <: t / 1000; b @ u <: u / 1000; } }\nint main(void) {\n  par {\n    two(p, 9000, q, 5000);\n    par (int i = 0; i < 5; i++) { int x; x = i; }\n    r @ 7000 <: 1;\n  }\n  p @ 9500 <: 95;\n  return 0;\n}\n",
+            0,
+            "out 0 8B @5000 5\nout 0 1A @7000 1\nout 0 8A @9000 9\nout 0 8A @9500 95\nend finished\n",
+        ),
+        (
+            run,
+            "// Eight threads end in three orders, and each time the first goes on behind all of them.\n//\n// Look at the trace: 8, 16 and 24 are outputs whose values were counted as soon as the `par` in front had ended, so by then each of its\n// branches had added 1. In the first `par` the last branch ends last, in the second the first one, in the third one of the middle.\nout port p0 = XS1_PORT_1A;\nout port p1 = XS1_PORT_1B;\nout port p2 = XS1_PORT_1C;\nout port p3 = XS1_PORT_1D;\nout port p4 = XS1_PORT_1E;\nout port p5 = XS1_PORT_1F;\nout port p6 = XS1_PORT_1G;\nout port p7 = XS1_PORT_1H;\nout port count = XS1_PORT_8A;\n\nvoid end(out port p, unsigned time, int &ended) {\n  p @ time <: 1;\n  ended++;\n}\n\nint main(void) {\n  int a, b, c, d, e, f, g, h;\n  par {\n    end(p0, 1000, a);\n    end(p1, 1100, b);\n    end(p2, 1200, c);\n    end(p3, 1300, d);\n    end(p4, 1400, e);\n    end(p5, 1500, f);\n    end(p6, 1600, g);\n    end(p7, 1700, h);\n  }\n  count @ 2000 <: a + b + c + d + e + f + g + h;\n  par {\n    end(p0, 3700, a);\n    end(p1, 3600, b);\n    end(p2, 3500, c);\n    end(p3, 3400, d);\n    end(p4, 3300, e);\n    end(p5, 3200, f);\n    end(p6, 3100, g);\n    end(p7, 3000, h);\n  }\n  count @ 4000 <: a + b + c + d + e + f + g + h;\n  par {\n    end(p0, 5300, a);\n    end(p1, 5600, b);\n    end(p2, 5000, c);\n    end(p3, 5500, d);\n    end(p4, 5700, e);\n    end(p5, 5100, f);\n    end(p6, 5400, g);\n    end(p7, 5200, h);\n  }\n  count @ 6000 <: a + b + c + d + e + f + g + h;\n  return 0;\n}\n",
+            0,
+            "out 0 1A @1000 1\nout 0 1B @1100 1\nout 0 1C @1200 1\nout 0 1D @1300 1\nout 0 1E @1400 1\nout 0 1F @1500 1\nout 0 1G @1600 1\nout 0 1H @1700 1\nout 0 8A @2000 8\nout 0 1H @3000 1\nout 0 1G @3100 1\nout 0 1F @3200 1\nout 0 1E @3300 1\nout 0 1D @3400 1\nout 0 1C @3500 1\nout 0 1B @3600 1\nout 0 1A @3700 1\nout 0 8A @4000 16\nout 0 1C @5000 1\nout 0 1F @5100 1\nout 0 1H @5200 1\nout 0 1A @5300 1\nout 0 1G @5400 1\nout 0 1D @5500 1\nout 0 1B @5600 1\nout 0 1E @5700 1\nout 0 8A @6000 24\nend finished\n",
+        ),
+        (
+            run,
+            "// Pars within pars, made three hundred times: six threads and four synchronisers, got and given back each time.\nout port p = XS1_PORT_32A;\n\nint main(void) {\n  int a, b, c, d, e, f;\n  for (int i = 0; i < 300; i++)\n    par {\n      par { a += 1; b += 2; }\n      par { c += 3; par { d += 4; e += 5; } }\n      f += 6;\n    }\n  p @ 60000 <: a;\n  p @ 60100 <: b;\n  p @ 60200 <: c;\n  p @ 60300 <: d;\n  p @ 60400 <: e;\n  p @ 60500 <: f;\n  return 0;\n}\n",
+            0,
+            "out 0 32A @60000 300\nout 0 32A @60100 600\nout 0 32A @60200 900\nout 0 32A @60300 1200\nout 0 32A @60400 1500\nout 0 32A @60500 1800\nend finished\n",
+        ),
+        (
+            run,
+            "// Seven pars within one another, first in the first branch of each and then in the last, so one thread stands in seven pars, and then each of\n// seven threads in one; ten times each.\nout port p = XS1_PORT_32A;\n\nint main(void) {\n  int a, b, c, d, e, f, g, h;\n  for (int i = 0; i < 10; i++) {\n    par { par { par { par { par { par { par { a++; b++; } c++; } d++; } e++; } f++; } g++; } h++; }\n  }\n  p @ 20000 <: a + 10 * (b + 10 * (c + 10 * (d + 10 * (e + 10 * (f + 10 * (g + 10 * h))))));\n  for (int i = 0; i < 10; i++) {\n    par { a += 1; par { b += 2; par { c += 3; par { d += 4; par { e += 5; par { f += 6; par { g += 7; h += 8; } } } } } } }\n  }\n  p @ 40000 <: a;\n  p @ 40100 <: b;\n  p @ 40200 <: c;\n  p @ 40300 <: d;\n  p @ 40400 <: e;\n  p @ 40500 <: f;\n  p @ 40600 <: g;\n  p @ 40700 <: h;\n  return 0;\n}\n",
+            0,
+            "out 0 32A @20000 111111110\nout 0 32A @40000 20\nout 0 32A @40100 30\nout 0 32A @40200 40\nout 0 32A @40300 50\nout 0 32A @40400 60\nout 0 32A @40500 70\nout 0 32A @40600 80\nout 0 32A @40700 90\nend finished\n",
+        ),
+        (
+            run,
+            "// Two branches err, one of them within a `par` of its own, and the others go on; the `par` waits for them for ever.\nout port p = XS1_PORT_1A;\nout port q = XS1_PORT_1B;\nout port r = XS1_PORT_1C;\n\nint main(void) {\n  int x = 1, y = 0, a[2], i = 2;\n  par {\n    p @ 4000 <: 1;\n    {\n      q @ 1000 <: 1;\n      x = x / y;\n      q @ 2000 <: 0;\n    }\n    par {\n      a[i] = 1;\n      {\n        r @ 1500 <: 1;\n        r @ 3000 <: 0;\n      }\n    }\n  }\n  p @ 5000 <: 0;\n  return 0;\n}\n",
+            3,
+            "err 0 16:7 index\nout 0 1B @1000 1\nerr 0 12:13 arithmetic\nout 0 1C @1500 1\nout 0 1C @3000 0\nout 0 1A @4000 1\nend stuck\n",
+        ),
+        (
+            run,
+            "// Each branch errs, and so each thread that is in use is trapped.\nout port p = XS1_PORT_1A;\nout port q = XS1_PORT_1B;\n\nint main(void) {\n  int zero, x, y;\n  par {\n    { p @ 2000 <: 1; x = 1 / zero; }\n    { q @ 1000 <: 1; y = 2 % zero; }\n  }\n  return 0;\n}\n",
+            3,
+            "out 0 1B @1000 1\nerr 0 9:28 arithmetic\nout 0 1A @2000 1\nerr 0 8:28 arithmetic\nend trapped\n",
+        ),
+        (
+            run,
+            "// A sum by parts: a function with a `par`, called in two branches at once, and in each of its branches another function.\nout port p = XS1_PORT_32A;\n#define LENGTH 16\n\n// Adds n elements from a place on.\nvoid add(int a[LENGTH], int from, int n, int &sum) {\n  for (int i = from; i < from + n; i++)\n    sum += a[i];\n}\n\nvoid add_half(int a[LENGTH], int from, int &sum) {\n  int low, high;\n  par {\n    add(a, from, 4, low);\n    add(a, from + 4, 4, high);\n  }\n  sum = low + high;\n}\n\nint main(void) {\n  int a[LENGTH], first, second;\n  for (int i = 0; i < LENGTH; i++)\n    a[i] = i * i;\n  par {\n    add_half(a, 0, first);\n    add_half(a, 8, second);\n  }\n  p @ 9000 <: first;\n  p @ 9100 <: second;\n  return 0;\n}\n",
+            0,
+            "out 0 32A @9000 140\nout 0 32A @9100 1100\nend finished\n",
+        ),
+        (
+            run,
+            "// The first branch and the last one never end, and the one between them goes on all the same.\nout port p = XS1_PORT_8A;\n\nint main(void) {\n  par {\n    while (1) ;\n    for (int i = 1; i <= 3; i++)\n      p @ 1000 * i <: i;\n    while (1) { }\n  }\n  p @ 5000 <: 0;\n  return 0;\n}\n",
+            4,
+            "out 0 8A @1000 1\nout 0 8A @2000 2\nout 0 8A @3000 3\nend stopped\n",
+        ),
+        (
+            run,
+            "// Loops that are left and turns that are cut short within branches, and pars of one branch and of none within loops.\nout port p = XS1_PORT_8A;\n\nint main(void) {\n  int x, y, z;\n  par {\n    for (int i = 0; i < 10; i++) {\n      if (i == 5) break;\n      x += i;\n    }\n    for (int i = 0; i < 10; i++) {\n      if (i & 1) continue;\n      par { y += i; }\n    }\n    while (z < 100) {\n      par { }\n      par (int k = 3; k < 4; k++) z += k;\n      par (int k = 4; k < 4; k++) z += k;\n    }\n  }\n  p @ 9000 <: x;\n  p @ 9100 <: y;\n  p @ 9200 <: z;\n  return 0;\n}\n",
+            0,
+            "out 0 8A @9000 10\nout 0 8A @9100 20\nout 0 8A @9200 102\nend finished\n",
+        ),
     ];
     for (words, text, status, tail) in rows {
         check_trace(&rt, rt.alloc(), &words, text, status, tail)?;
@@ -312,7 +402,7 @@ fn check_trace<Rt: Threads + Wait + Sync + Abort>(
 ) -> Result<(), Fail> {
     let words = word_list(alloc, words)?;
     let mut shelf = shelf_of(alloc, text.as_bytes(), List::new(alloc))?;
-    let mut out = MemSink::new(alloc, 10_000, List::new(alloc))?;
+    let mut out = MemSink::new(alloc, 20_000, List::new(alloc))?;
     let mut err = MemSink::new(alloc, 100, List::new(alloc))?;
     let answer = xcsim(
         rt,
@@ -475,14 +565,28 @@ fn refuses_long_files(rt: HostRuntime) -> Result<(), Fail> {
     Ok(())
 }
 
-/// A call of `check a.xc` with a text that is refused.
+/// Calls of `check a.xc` and of `run a.xc` with a text that is refused.
 fn check_refused<Rt: Threads + Wait + Sync + Abort>(
     rt: &Rt,
     alloc: Global,
     text: &[u8],
     line: &str,
 ) -> Result<(), Fail> {
-    let words = word_list(alloc, &["check", "a.xc", "", ""])?;
+    for command in ["check", "run"] {
+        check_refusal(rt, alloc, command, text, line)?;
+    }
+    Ok(())
+}
+
+/// The same of one command.
+fn check_refusal<Rt: Threads + Wait + Sync + Abort>(
+    rt: &Rt,
+    alloc: Global,
+    command: &str,
+    text: &[u8],
+    line: &str,
+) -> Result<(), Fail> {
+    let words = word_list(alloc, &[command, "a.xc", "", ""])?;
     let mut shelf = shelf_of(alloc, text, List::new(alloc))?;
     let mut out = MemSink::new(alloc, 100, List::new(alloc))?;
     let mut err = MemSink::new(alloc, 100, List::new(alloc))?;

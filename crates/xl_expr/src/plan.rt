@@ -27,13 +27,15 @@ pub struct VarPlan {
     pub words: u32,
 }
 
-/// Where things stand for one body of code, by their places in the kernel's lists.
+/// Where things stand for one body of code, by their places in the kernel's lists; and the word where the temporary words of the core's
+/// thread 0 begin, behind which those of the others follow, one thread's behind the other's.
 #[derive(Drop)]
 pub struct Plan {
     pub vars: List<Option<VarPlan>>,
     pub ports: List<Option<ResAt>>,
     pub timers: List<Option<ResAt>>,
     pub ends: List<ResAt>,
+    pub first_stack: u32,
 }
 
 impl Plan {

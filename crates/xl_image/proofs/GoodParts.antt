@@ -13,8 +13,8 @@ use Rattle.xc_kernel.specs.declared.kernel.PortUse.{PortUse}
 use Rattle.xc_kernel.specs.Plain as kernel
 use Rattle.xc_disjoint.specs.Checked.{IsChecked}
 use Rattle.xc_disjoint.specs.Cores.{last_core}
-use Rattle.xc_disjoint.specs.Needs.{threads_on, timers_on}
-use Rattle.xc_disjoint.specs.Rules.{most_threads, most_timers, needs, threads, timers}
+use Rattle.xc_disjoint.specs.Needs.{timers_on}
+use Rattle.xc_disjoint.specs.Rules.{most_threads, most_timers, needs, timers}
 use Rattle.xl_expr.specs.declared.plan.Plan.{Plan}
 use Rattle.xl_expr.proofs.GoodCode.{good_instrs}
 use Rattle.xl_plan.specs.Planned as planned
@@ -24,7 +24,7 @@ use Rattle.xl_plan.proofs.Sizes.{few_words}
 use Rattle.xl_image.specs.Images.{decl_of, roots_on}
 use Rattle.xl_image.specs.Roots.{AreRoots, IsRootCode, RootsAreBuilt}
 use Rattle.xl_image.specs.Parts.{IsPartOf, below, cores_of, has_root, is_some_root, number_of}
-use Rattle.xl_image.proofs.Threads.{no_ends, threads_are_roots}
+use Rattle.xl_image.proofs.Threads.{few_threads, no_ends, roots_have_threads}
 
 module _ (k : kernel.Kernel) (core : ℕ) (plan : Plan) where
   -- each root has an index
@@ -54,14 +54,8 @@ module _ (k : kernel.Kernel) (checked : IsChecked k) (built : RootsAreBuilt k.ro
       (λ lt. absurd (checked.unbroken _ (needs (timers (record { core = core; is_core = is_core; more = lt })))))
       (within_or_not (timers_on k core) most_timers)
 
-  few_threads : threads_on k core ≤ most_threads
-  few_threads =
-      ⊎_elim (λ le. le)
-      (λ lt. absurd (checked.unbroken _ (needs (threads (record { core = core; is_core = is_core; more = lt })))))
-      (within_or_not (threads_on k core) most_threads)
-
   pub few_roots_on : length (roots_on core k.roots) ≤ most_threads
-  few_roots_on = let t = few_threads in let e = threads_are_roots core k.roots built in omega (arith, t, e)
+  few_roots_on = let t = few_threads k checked core is_core in let e = roots_have_threads core k.roots in omega (arith, t, e)
 
   some_there : (rs : List kernel.Root) → is_some_root rs ≡ true → 1 ≤ length rs
   some_there [] e = absurd (let q : false ≡ true = e in cc)
@@ -79,7 +73,7 @@ module _ (k : kernel.Kernel) (checked : IsChecked k) (built : RootsAreBuilt k.ro
         ends = let e = is.ends in let n = no_ends k core built in omega (arith, e, n);
         ports = ports;
         some_root = let s = some_there (roots_on core k.roots) rooted in omega (arith, many, s);
-        few_roots = let t = few_threads in let e = threads_are_roots core k.roots built in omega (arith, many, t, e);
+        few_roots = let t = few_threads k checked core is_core in let e = roots_have_threads core k.roots in omega (arith, many, t, e);
         few = let f = code.few in omega (arith, f, instrs);
         places = places ∙ sym instrs;
         roots = indices k core code.plan (roots_on core k.roots) 0 0 code.lines part.roots (length part.code.instrs) code.roots (omega (arith, instrs));

@@ -1,5 +1,3 @@
-pub mod Stands
-pub mod Leaving
 pub mod Threads
 pub mod Ready
 pub mod Begun

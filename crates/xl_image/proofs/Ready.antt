@@ -1,12 +1,17 @@
 -- What is so of each root of a checked kernel whose code is built, and how much code there is.
-use Rattle.std.proofs.Common.{◌≡◌, ◌∙◌, ℕ, ◌+◌, ◌*◌, ◌^◌, ◌<◌, ◌≤◌, List, [], ◌∷◌, Option, Some, None, slice_get, refl, sym, ap, subst, arith}
+use Rattle.std.proofs.Common.{◌≡◌, ◌∙◌, ℕ, ◌+◌, ◌*◌, ◌^◌, ◌<◌, ◌≤◌, zero, suc, List, [], ◌∷◌, Option, Some, None, slice_get, sum_by, refl, sym, ap, subst, arith, eq-eqb}
+use Rattle.std.proofs.lemmas.List.Sums.{sum_by-cons}
 use Rattle.std.specs.Prelude.{max}
 use Rattle.xc_kernel.specs.declared.kernel.Var.{Var}
 use Rattle.xc_kernel.specs.Plain as kernel
+use Rattle.xc_meaning.specs.Counts.KernelCounts.{branch_count}
 use Rattle.xc_disjoint.specs.Checked.{IsChecked}
-use Rattle.xc_formed.specs.Each.{AnyNumber, AnyOutput, AnyInput, EachMaybe, EachStatement, EachOf, EachRoot}
+use Rattle.xc_disjoint.specs.Cores.{if_so}
+use Rattle.xc_disjoint.specs.Needs.{threads_of_root}
+use Rattle.xc_disjoint.specs.Threads as threads
+use Rattle.xc_formed.specs.Each.{AnyNumber, AnyOutput, AnyInput, EachMaybe, EachStatement, EachOf, EachBranch, EachRoot}
 use Rattle.xc_formed.specs.Levels.{IsLow, IsLowPlace, levels, levels_of_all}
-use Rattle.xc_formed.specs.Exits.{LeavesIn, AllLeaveIn, EachRootLeaves}
+use Rattle.xc_formed.specs.Exits.{LeavesIn, AllLeaveIn, BranchesLeaveIn, EachRootLeaves}
 use Rattle.xc_formed.specs.Parts as parts
 use Rattle.xc_formed.specs.Parts.{words_of, most_parts}
 use Rattle.xc_formed.proofs.Formed.{of_programs}
@@ -17,10 +22,13 @@ use Rattle.xl_expr.specs.Measures.{nodes, nodes_of, nodes_at, depth, depth_of, d
 use Rattle.xl_expr.specs.Plans.{var_in}
 use Rattle.xl_flow.specs.Zeros.{room_of}
 use Rattle.xl_port.specs.Outputs.{output_depth, time_depth, time_nodes}
-use Rattle.xl_walk.specs.Built.{IsBuilt, AreBuilt, IsShallow, AreShallow, most, most_of_all, most_levels}
-use Rattle.xl_walk.specs.Inside.{IsInside, AreInside}
+use Rattle.xl_walk.specs.Built.{IsBuilt, AreBuilt, BranchesAreBuilt, IsShallow, AreShallow, BranchesAreShallow, HasFewBranches, ParsAreFew, ParsInBranchesAreFew, most, most_branches, most_of_all, most_of_branches, most_levels}
+use Rattle.xl_walk.specs.Inside.{IsInside, AreInside, BranchesAreInside}
 use Rattle.xl_image.specs.Images.{IsPlan}
 use Rattle.xl_image.specs.Roots.{RootsAreBuilt, AreReady, most_of_roots}
+use Rattle.xl_plan.proofs.Lists.{none_given, some_given}
+use Rattle.xl_image.proofs.Rooted.{root_is_low}
+use Rattle.xl_image.proofs.Threads.{few_threads, some_thread}
 
 -- Levels.
 
@@ -53,6 +61,9 @@ StatementIsLow = EachStatement IsLow IsLowPlace AnyNumber AnyOutput AnyInput Any
 abbrev StatementsAreLow : kernel.Statements → Type 0
 StatementsAreLow = EachOf IsLow IsLowPlace AnyNumber AnyOutput AnyInput AnyNumber
 
+abbrev BranchesAreLow : kernel.Branches → Type 0
+BranchesAreLow = EachBranch IsLow IsLowPlace AnyNumber AnyOutput AnyInput AnyNumber
+
 output_low : (o : kernel.Output) (t : Option kernel.Expression) → o.time ≡ t → StatementIsLow (kernel.output o) → output_depth o ≤ most_levels
 output_low o None e h = both_low (time_depth o.time) (depth o.value) (subst (λ t. time_depth t ≤ most_levels) (sym e) (omega arith)) (low_expression o.value h.1.1.0)
 output_low o (Some x) e h =
@@ -70,12 +81,16 @@ mutual
   shallow (kernel.block n a) h = all_shallow a h
   shallow (kernel.exit n) h = tt
   shallow (kernel.select cs d pos) h = tt
-  shallow (kernel.par bs) h = tt
+  shallow (kernel.par bs) h = branches_shallow bs h
   shallow (kernel.transaction c is_master a start close) h = tt
 
   all_shallow : (ss : kernel.Statements) → StatementsAreLow ss → AreShallow ss
   all_shallow kernel.no_more h = tt
   all_shallow (kernel.more s ss) h = (shallow s h.0, all_shallow ss h.1)
+
+  branches_shallow : (bs : kernel.Branches) → BranchesAreLow bs → BranchesAreShallow bs
+  branches_shallow kernel.no_branch h = tt
+  branches_shallow (kernel.more_branches (kernel.branch ss pos) bs) h = (all_shallow ss h.0, branches_shallow bs h.1)
 
 -- Exits.
 
@@ -90,22 +105,96 @@ mutual
   inside around free (kernel.block n a) h = all_inside (n ∷ around) (n ∷ free) a h.1
   inside around free (kernel.exit n) h = h
   inside around free (kernel.select cs d pos) h = tt
-  inside around free (kernel.par bs) h = tt
+  inside around free (kernel.par bs) h = branches_inside around bs h
   inside around free (kernel.transaction c is_master a start close) h = tt
 
   all_inside : (around free : List ℕ) (ss : kernel.Statements) → AllLeaveIn around free ss → AreInside free ss
   all_inside around free kernel.no_more h = tt
   all_inside around free (kernel.more s ss) h = (inside around free s h.0, all_inside around free ss h.1)
 
-ready : (rs : List kernel.Root) → RootsAreBuilt rs → EachRoot IsLow IsLowPlace AnyNumber AnyOutput AnyInput AnyNumber rs → EachRootLeaves rs → AreReady rs
-ready [] built low leaves = tt
-ready (r ∷ rs) built low leaves =
-    (record { built = built.0; shallow = all_shallow r.body low.0; inside = all_inside [] [] r.body leaves.0 }, ready rs built.1 low.1 leaves.1)
+  branches_inside : (around : List ℕ) (bs : kernel.Branches) → BranchesLeaveIn around bs → BranchesAreInside bs
+  branches_inside around kernel.no_branch h = tt
+  branches_inside around (kernel.more_branches (kernel.branch ss pos) bs) h = (all_inside around [] ss h.0, branches_inside around bs h.1)
+
+-- Branches of `par`s.
+
+left_few : (n m : ℕ) → max n m ≤ most_branches → n ≤ most_branches
+left_few n m h = grind arith
+
+right_few : (n m : ℕ) → max n m ≤ most_branches → m ≤ most_branches
+right_few n m h = grind arith
+
+-- a `par` needs a thread for each
+branches_need : (bs : kernel.Branches) → branch_count bs ≤ threads.of_branches bs
+branches_need kernel.no_branch = omega arith
+branches_need (kernel.more_branches (kernel.branch ss pos) bs) = let a = some_thread ss in let b = branches_need bs in omega (arith, a, b)
+
+mutual
+  few_branches : (s : kernel.Statement) → threads.of_statement s ≤ most_branches → HasFewBranches s
+  few_branches (kernel.set_zero v) h = tt
+  few_branches (kernel.set p e) h = tt
+  few_branches (kernel.output o) h = tt
+  few_branches (kernel.input i) h = tt
+  few_branches (kernel.if_then x a b) h = (pars_few a (left_few (threads.of_statements a) (threads.of_statements b) h), pars_few b (right_few (threads.of_statements a) (threads.of_statements b) h))
+  few_branches (kernel.loop x a b) h = (pars_few a (left_few (threads.of_statements a) (threads.of_statements b) h), pars_few b (right_few (threads.of_statements a) (threads.of_statements b) h))
+  few_branches (kernel.block n a) h = pars_few a h
+  few_branches (kernel.exit n) h = tt
+  few_branches (kernel.select cs d pos) h = tt
+  few_branches (kernel.par bs) h =
+      let few = left_few (threads.of_branches bs) 1 h in
+      let need = branches_need bs in
+      (omega (arith, few, need), branches_few bs few)
+  few_branches (kernel.transaction c is_master a start close) h = tt
+
+  pars_few : (ss : kernel.Statements) → threads.of_statements ss ≤ most_branches → ParsAreFew ss
+  pars_few kernel.no_more h = tt
+  pars_few (kernel.more s ss) h = (few_branches s (left_few (threads.of_statement s) (threads.of_statements ss) h), pars_few ss (right_few (threads.of_statement s) (threads.of_statements ss) h))
+
+  branches_few : (bs : kernel.Branches) → threads.of_branches bs ≤ most_branches → ParsInBranchesAreFew bs
+  branches_few kernel.no_branch h = tt
+  branches_few (kernel.more_branches (kernel.branch ss pos) bs) h = (pars_few ss (omega (arith, h)), branches_few bs (omega (arith, h)))
+
+-- a root needs no more threads than its core
+root_within : (core : ℕ) (rs : List kernel.Root) (place : ℕ) (r : kernel.Root) → slice_get rs place ≡ Some r → threads_of_root core r ≤ sum_by (threads_of_root core) rs
+root_within core [] place r e = absurd (none_given e)
+root_within core (q ∷ rs) zero r e =
+    let s = sum_by-cons (threads_of_root core) q rs in
+    let same = ap (threads_of_root core) (some_given e) in
+    omega (arith, s, same)
+root_within core (q ∷ rs) (suc place) r e =
+    let s = sum_by-cons (threads_of_root core) q rs in
+    let h = root_within core rs place r e in
+    omega (arith, s, h)
+
+own_threads : (r : kernel.Root) → threads_of_root r.core r ≡ threads.of_statements r.body
+own_threads r = ap (λ b. if_so b (threads.of_statements r.body)) (eq-eqb r.core r.core refl)
+
+abbrev EachFew : List kernel.Root → Type 0
+EachFew [] = Unit {0}
+EachFew (r ∷ rs) = ParsAreFew r.body × EachFew rs
+
+each_few : (rs : List kernel.Root) → ((place : ℕ) (r : kernel.Root) → slice_get rs place ≡ Some r → ParsAreFew r.body) → EachFew rs
+each_few [] h = tt
+each_few (r ∷ rs) h = (h 0 r refl, each_few rs (λ place q e. h (suc place) q e))
+
+ready : (rs : List kernel.Root) → RootsAreBuilt rs → EachRoot IsLow IsLowPlace AnyNumber AnyOutput AnyInput AnyNumber rs → EachRootLeaves rs → EachFew rs → AreReady rs
+ready [] built low leaves few = tt
+ready (r ∷ rs) built low leaves few =
+    (record { built = built.0; shallow = all_shallow r.body low.0; few = few.0; inside = all_inside [] [] r.body leaves.0 }, ready rs built.1 low.1 leaves.1 few.1)
+
+-- on a core there are few threads
+root_few : (k : kernel.Kernel) → IsChecked k → (place : ℕ) (r : kernel.Root) → slice_get k.roots place ≡ Some r → ParsAreFew r.body
+root_few k checked place r e =
+    let is_core = root_is_low k checked place r e in
+    let all = few_threads k checked r.core is_core in
+    let own = root_within r.core k.roots place r e in
+    let same = own_threads r in
+    pars_few r.body (omega (arith, all, own, same))
 
 pub roots_ready : (k : kernel.Kernel) → IsChecked k → RootsAreBuilt k.roots → AreReady k.roots
 roots_ready k checked built =
     let formed = of_programs k checked.of_program in
-    ready k.roots built formed.levels formed.exits
+    ready k.roots built formed.levels formed.exits (each_few k.roots (λ place r e. root_few k checked place r e))
 
 -- How much code.
 
@@ -138,7 +227,7 @@ same_time (Some x) = same_nodes x
 
 module _ (vs : List Var) (vars : List (Option VarPlan)) (zeros : (v : ℕ) → room_of (var_in vars v) ≤ 2 * words_of (slice_get vs v) + 2) where
   mutual
-    few : (s : kernel.Statement) → IsBuilt s → most vars s ≤ 13 * parts.of_statement vs s
+    few : (s : kernel.Statement) → IsBuilt s → most vars s ≤ 14 * parts.of_statement vs s
     few (kernel.set_zero v) h = let z = zeros v in omega (arith, z)
     few (kernel.set p e) h = let a = same_nodes_at p in let b = same_nodes e in omega (arith, a, b)
     few (kernel.output o) h = let a = same_time o.time in let b = same_nodes o.value in let c = some_nodes o.value in omega (arith, a, b, c)
@@ -150,14 +239,18 @@ module _ (vs : List Var) (vars : List (Option VarPlan)) (zeros : (v : ℕ) → r
     few (kernel.block n a) h = all_few a h
     few (kernel.exit n) h = omega arith
     few (kernel.select cs d pos) h = absurd h
-    few (kernel.par bs) h = absurd h
+    few (kernel.par bs) h = few_in bs h
     few (kernel.transaction c is_master a start close) h = absurd h
 
-    all_few : (ss : kernel.Statements) → AreBuilt ss → most_of_all vars ss ≤ 13 * parts.of_statements vs ss
+    all_few : (ss : kernel.Statements) → AreBuilt ss → most_of_all vars ss ≤ 14 * parts.of_statements vs ss
     all_few kernel.no_more h = omega arith
     all_few (kernel.more s ss) h = let a = few s h.0 in let b = all_few ss h.1 in omega (arith, a, b)
 
-  roots_few : (rs : List kernel.Root) → RootsAreBuilt rs → most_of_roots vars rs ≤ 13 * parts.of_roots vs rs
+    few_in : (bs : kernel.Branches) → BranchesAreBuilt bs → most_of_branches vars bs + 13 * branch_count bs ≤ 14 * parts.of_branches vs bs
+    few_in kernel.no_branch h = omega arith
+    few_in (kernel.more_branches (kernel.branch ss pos) bs) h = let a = all_few ss h.0 in let b = few_in bs h.1 in omega (arith, a, b)
+
+  roots_few : (rs : List kernel.Root) → RootsAreBuilt rs → most_of_roots vars rs ≤ 14 * parts.of_roots vs rs
   roots_few [] h = omega arith
   roots_few (r ∷ rs) h = let a = all_few r.body h.0 in let b = roots_few rs h.1 in omega (arith, a, b)
 

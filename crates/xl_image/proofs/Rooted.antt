@@ -211,6 +211,14 @@ module _ (k : kernel.Kernel) (checked : IsChecked k) where
       let e = ap (λ (q : kernel.Kernel). q.roots) checked.of_program.copies.is_copy in
       all_low k.roots (subst (AllIn Known) (sym e) roots_known) (λ r c none. checked.unbroken _ (rules.without_core (rules.of_root r c none)))
 
+  low_at : (rs : List kernel.Root) → AllIn Low rs → (place : ℕ) (r : kernel.Root) → slice_get rs place ≡ Some r → r.core ≤ 3
+  low_at [] low place r e = absurd (none_given e)
+  low_at (q ∷ rs) low zero r e = subst Low (some_given e) low.0
+  low_at (q ∷ rs) low (suc place) r e = low_at rs low.1 place r e
+
+  pub root_is_low : (place : ℕ) (r : kernel.Root) → slice_get k.roots place ≡ Some r → r.core ≤ 3
+  root_is_low place r e = low_at k.roots lows place r e
+
   -- what a root is on
   first_core : (rs : List kernel.Root) → AllIn Low rs → 1 ≤ length rs → (core : ℕ) × (core ≤ 3) × (is_some_root (roots_on core rs) ≡ true)
   first_core [] low l = absurd (let z : ⊥ = omega (arith, l) in z)

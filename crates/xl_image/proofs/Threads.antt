@@ -1,57 +1,31 @@
--- A root whose code is built needs one thread, and no channel end.
-use Rattle.std.proofs.Common.{◌≡◌, ◌∙◌, ℕ, zero, suc, ◌+◌, Bool, true, false, List, [], ◌∷◌, ◌++◌, length, sum_by, Option, Some, None, refl, ap, arith}
-use Rattle.std.specs.Prelude.{◌||◌, cond, max, nat_eq}
+-- A root needs a thread, and one whose code is built no channel end.
+use Rattle.std.proofs.Common.{◌≡◌, ◌∙◌, ℕ, zero, suc, ◌+◌, ◌<◌, ◌≤◌, ◌⊎◌, ⊎_elim, Bool, true, false, List, [], ◌∷◌, ◌++◌, length, sum_by, Option, Some, None, refl, ap, arith}
+use Rattle.std.specs.Prelude.{◌&&◌, ◌||◌, cond, max, nat_eq}
 use Rattle.std.proofs.lemmas.List.Sums.{sum_by-cons}
 use Rattle.xc_kernel.specs.declared.statement.KRes.{KRes}
 use Rattle.xc_kernel.specs.declared.statement.KRes.TheVariants.{Port, Timer, Chan}
 use Rattle.xc_kernel.specs.Plain as kernel
-use Rattle.xc_kernel.specs.Things.{channel, by_expression, by_operands, by_place, by_target, by_resource, by_some_expression, by_some_target, by_output, by_statement, by_statements}
+use Rattle.xc_kernel.specs.Things.{channel, by_expression, by_operands, by_place, by_target, by_resource, by_some_expression, by_some_target, by_output, by_statement, by_statements, by_branches}
 use Rattle.xc_kernel.specs.Branches.{branches_of, users, uses_in, some_has_sides}
 use Rattle.xc_kernel.specs.Uses.{once}
 use Rattle.xc_kernel.specs.Pars as pars
-use Rattle.xc_disjoint.specs.Cores.{if_so}
+use Rattle.xc_disjoint.specs.Checked.{IsChecked}
+use Rattle.xc_disjoint.specs.Cores.{if_so, last_core}
 use Rattle.xc_disjoint.specs.Ends.{ends_by, ends_of, ends_below}
-use Rattle.xc_disjoint.specs.Needs.{threads_of_root, ends_on_of_root, ends_on}
-use Rattle.xc_disjoint.specs.Threads as threads
-use Rattle.xl_walk.specs.Built.{IsBuilt, AreBuilt, IsPort}
+use Rattle.xc_disjoint.specs.Needs.{threads_of_root, threads_on, ends_on_of_root, ends_on}
+use Rattle.xc_disjoint.specs.Rules.{most_threads, needs, threads}
+use Rattle.xc_disjoint.specs.Threads as need
+use Rattle.xl_walk.specs.Built.{IsBuilt, AreBuilt, BranchesAreBuilt, IsPort}
 use Rattle.xl_image.specs.Images.{roots_on}
 use Rattle.xl_image.specs.Roots.{RootsAreBuilt}
 
-mutual
-  one_thread : (s : kernel.Statement) → IsBuilt s → threads.of_statement s ≡ 1
-  one_thread (kernel.set_zero v) h = refl
-  one_thread (kernel.set p e) h = refl
-  one_thread (kernel.output o) h = refl
-  one_thread (kernel.input i) h = absurd h
-  one_thread (kernel.if_then x a b) h = ap (λ n. max n (threads.of_statements b)) (one_thread_all a h.0) ∙ ap (max 1) (one_thread_all b h.1)
-  one_thread (kernel.loop x a b) h = ap (λ n. max n (threads.of_statements b)) (one_thread_all a h.0) ∙ ap (max 1) (one_thread_all b h.1)
-  one_thread (kernel.block n a) h = one_thread_all a h
-  one_thread (kernel.exit n) h = refl
-  one_thread (kernel.select cs d pos) h = absurd h
-  one_thread (kernel.par bs) h = absurd h
-  one_thread (kernel.transaction c is_master a start close) h = absurd h
+at_least : (n m : ℕ) → 1 ≤ m → 1 ≤ max n m
+at_least n m h = grind arith
 
-  one_thread_all : (ss : kernel.Statements) → AreBuilt ss → threads.of_statements ss ≡ 1
-  one_thread_all kernel.no_more h = refl
-  one_thread_all (kernel.more s ss) h = ap (λ n. max n (threads.of_statements ss)) (one_thread s h.0) ∙ ap (max 1) (one_thread_all ss h.1)
-
-mutual
-  no_par : (s : kernel.Statement) → IsBuilt s → pars.of_statement s ≡ []
-  no_par (kernel.set_zero v) h = refl
-  no_par (kernel.set p e) h = refl
-  no_par (kernel.output o) h = refl
-  no_par (kernel.input i) h = absurd h
-  no_par (kernel.if_then x a b) h = ap (λ l. l ++ pars.of_statements b) (no_par_all a h.0) ∙ no_par_all b h.1
-  no_par (kernel.loop x a b) h = ap (λ l. l ++ pars.of_statements b) (no_par_all a h.0) ∙ no_par_all b h.1
-  no_par (kernel.block n a) h = no_par_all a h
-  no_par (kernel.exit n) h = refl
-  no_par (kernel.select cs d pos) h = absurd h
-  no_par (kernel.par bs) h = absurd h
-  no_par (kernel.transaction c is_master a start close) h = absurd h
-
-  no_par_all : (ss : kernel.Statements) → AreBuilt ss → pars.of_statements ss ≡ []
-  no_par_all kernel.no_more h = refl
-  no_par_all (kernel.more s ss) h = ap (λ l. l ++ pars.of_statements ss) (no_par s h.0) ∙ no_par_all ss h.1
+-- statements need a thread
+pub some_thread : (ss : kernel.Statements) → 1 ≤ need.of_statements ss
+some_thread kernel.no_more = omega arith
+some_thread (kernel.more s ss) = let h = some_thread ss in at_least (need.of_statement s) (need.of_statements ss) h
 
 module _ (c : ℕ) where
   none_of : {a b : Bool} → a ≡ false → b ≡ false → a || b ≡ false
@@ -99,12 +73,58 @@ module _ (c : ℕ) where
     no_channel (kernel.block n a) h = no_channel_all a h
     no_channel (kernel.exit n) h = refl
     no_channel (kernel.select cs d pos) h = absurd h
-    no_channel (kernel.par bs) h = absurd h
+    no_channel (kernel.par bs) h = no_channel_in bs h
     no_channel (kernel.transaction d is_master a start close) h = absurd h
 
     no_channel_all : (ss : kernel.Statements) → AreBuilt ss → by_statements (channel c) ss ≡ false
     no_channel_all kernel.no_more h = refl
     no_channel_all (kernel.more s ss) h = none_of (no_channel s h.0) (no_channel_all ss h.1)
+
+    no_channel_in : (bs : kernel.Branches) → BranchesAreBuilt bs → by_branches (channel c) bs ≡ false
+    no_channel_in kernel.no_branch h = refl
+    no_channel_in (kernel.more_branches (kernel.branch ss pos) bs) h = none_of (no_channel_all ss h.0) (no_channel_in bs h.1)
+
+  -- no branch of a `par` uses the channel
+  no_users_in : (bs : kernel.Branches) → BranchesAreBuilt bs → users c bs ≡ 0
+  no_users_in kernel.no_branch h = refl
+  no_users_in (kernel.more_branches (kernel.branch ss pos) bs) h =
+      let a : once (by_statements (channel c) ss) ≡ 0 = ap once (no_channel_all ss h.0) in
+      let b = no_users_in bs h.1 in
+      omega (arith, a, b)
+
+  abbrev AreUnused : List kernel.Branches → Type 0
+  AreUnused [] = Unit {0}
+  AreUnused (bs ∷ ps) = (users c bs ≡ 0) × AreUnused ps
+
+  unused_append : (ps qs : List kernel.Branches) → AreUnused ps → AreUnused qs → AreUnused (ps ++ qs)
+  unused_append [] qs h g = g
+  unused_append (bs ∷ ps) qs h g = (h.0, unused_append ps qs h.1 g)
+
+  mutual
+    unused_pars : (s : kernel.Statement) → IsBuilt s → AreUnused (pars.of_statement s)
+    unused_pars (kernel.set_zero v) h = tt
+    unused_pars (kernel.set p e) h = tt
+    unused_pars (kernel.output o) h = tt
+    unused_pars (kernel.input i) h = absurd h
+    unused_pars (kernel.if_then x a b) h = unused_append (pars.of_statements a) (pars.of_statements b) (unused_in_all a h.0) (unused_in_all b h.1)
+    unused_pars (kernel.loop x a b) h = unused_append (pars.of_statements a) (pars.of_statements b) (unused_in_all a h.0) (unused_in_all b h.1)
+    unused_pars (kernel.block n a) h = unused_in_all a h
+    unused_pars (kernel.exit n) h = tt
+    unused_pars (kernel.select cs d pos) h = absurd h
+    unused_pars (kernel.par bs) h = (no_users_in bs h, unused_in_branches bs h)
+    unused_pars (kernel.transaction d is_master a start close) h = absurd h
+
+    unused_in_all : (ss : kernel.Statements) → AreBuilt ss → AreUnused (pars.of_statements ss)
+    unused_in_all kernel.no_more h = tt
+    unused_in_all (kernel.more s ss) h = unused_append (pars.of_statement s) (pars.of_statements ss) (unused_pars s h.0) (unused_in_all ss h.1)
+
+    unused_in_branches : (bs : kernel.Branches) → BranchesAreBuilt bs → AreUnused (pars.of_branches bs)
+    unused_in_branches kernel.no_branch h = tt
+    unused_in_branches (kernel.more_branches (kernel.branch ss pos) bs) h = unused_append (pars.of_statements ss) (pars.of_branches bs) (unused_in_all ss h.0) (unused_in_branches bs h.1)
+
+  none_has_sides : (count : ℕ) (ps : List kernel.Branches) → AreUnused ps → some_has_sides c count ps ≡ false
+  none_has_sides count [] h = refl
+  none_has_sides count (bs ∷ ps) h = none_of (ap (λ n. nat_eq n 2 && nat_eq (uses_in c bs) count) h.0) (none_has_sides count ps h.1)
 
   no_users : (rs : List kernel.Root) → RootsAreBuilt rs → users c (branches_of rs) ≡ 0
   no_users [] h = refl
@@ -115,25 +135,35 @@ module _ (c : ℕ) where
 
 -- Threads.
 
-one_each : (core : ℕ) (r : kernel.Root) (rs : List kernel.Root) (b : Bool) → if_so b 1 + length rs ≡ length (cond b (r ∷ rs) rs)
-one_each core r rs true = omega arith
-one_each core r rs false = omega arith
+one_each : (core : ℕ) (r : kernel.Root) (rs : List kernel.Root) (n : ℕ) → 1 ≤ n → (b : Bool) → length (cond b (r ∷ rs) rs) ≤ if_so b n + length rs
+one_each core r rs n h true = omega (arith, h)
+one_each core r rs n h false = omega arith
 
-pub threads_are_roots : (core : ℕ) (rs : List kernel.Root) → RootsAreBuilt rs → sum_by (threads_of_root core) rs ≡ length (roots_on core rs)
-threads_are_roots core [] h = refl
-threads_are_roots core (r ∷ rs) h =
+-- there is one for each root
+pub roots_have_threads : (core : ℕ) (rs : List kernel.Root) → length (roots_on core rs) ≤ sum_by (threads_of_root core) rs
+roots_have_threads core [] = omega arith
+roots_have_threads core (r ∷ rs) =
     let s = sum_by-cons (threads_of_root core) r rs in
-    let one : threads_of_root core r ≡ if_so (nat_eq r.core core) 1 = ap (if_so (nat_eq r.core core)) (one_thread_all r.body h.0) in
-    let others = threads_are_roots core rs h.1 in
-    let both = one_each core r (roots_on core rs) (nat_eq r.core core) in
-    s ∙ omega (arith, one, others) ∙ both
+    let others = roots_have_threads core rs in
+    let both = one_each core r (roots_on core rs) (need.of_statements r.body) (some_thread r.body) (nat_eq r.core core) in
+    omega (arith, s, others, both)
+
+within_or_not : (n most : ℕ) → (n ≤ most) ⊎ (most < n)
+within_or_not n most = grind arith
+
+-- a core has enough
+pub few_threads : (k : kernel.Kernel) → IsChecked k → (core : ℕ) → core ≤ last_core → threads_on k core ≤ most_threads
+few_threads k checked core is_core =
+    ⊎_elim (λ le. le)
+    (λ lt. absurd (checked.unbroken _ (needs (threads (record { core = core; is_core = is_core; more = lt })))))
+    (within_or_not (threads_on k core) most_threads)
 
 -- Channel ends.
 
 no_sides : (k : kernel.Kernel) (r : kernel.Root) (c : ℕ) → AreBuilt r.body → RootsAreBuilt k.roots → ends_of k r c ≡ 0
 no_sides k r c built all =
     ap (λ n. ends_by k r c (nat_eq n 2)) (no_users c k.roots all)
-    ∙ ap (λ ps. if_so (some_has_sides c (uses_in c (branches_of k.roots)) ps) 2) (no_par_all r.body built)
+    ∙ ap (λ b. if_so b 2) (none_has_sides c (uses_in c (branches_of k.roots)) (pars.of_statements r.body) (unused_in_all c r.body built))
 
 none_below : (k : kernel.Kernel) (r : kernel.Root) → AreBuilt r.body → RootsAreBuilt k.roots → (n : ℕ) → ends_below k r n ≡ 0
 none_below k r built all zero = refl

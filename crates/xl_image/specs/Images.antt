@@ -1,4 +1,4 @@
--- The image of a kernel whose roots run one thread each.
+-- The image of a kernel.
 use Rattle.std.specs.Prelude.{◌≡◌, ℕ, ◌+◌, ◌*◌, List, [], length, map, filter, Contains, Some, nat_eq, slice_get}
 use Rattle.xs_instr.specs.declared.image.CoreImage.{CoreImage}
 use Rattle.xs_instr.specs.declared.image.Dir.{Dir}
@@ -31,6 +31,7 @@ pub record IsPlan (k : kernel.Kernel) (core : ℕ) (plan : Plan) : Type 0 where
   pub used_ports : HasUsedPorts k core plan.ports
   pub used_timers : HasUsedTimers k core plan.timers
   pub ends : plan.ends ≡ []
+  pub first_stack : plan.first_stack ≡ temporary_of k core 0
 
 -- a port as an image declares it
 abbrev pub dir_of : TreeDir → Dir

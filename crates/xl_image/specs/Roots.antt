@@ -8,7 +8,7 @@ use Rattle.xc_kernel.specs.Plain as kernel
 use Rattle.xl_expr.specs.declared.plan.Plan.{Plan}
 use Rattle.xl_expr.specs.declared.plan.VarPlan.{VarPlan}
 use Rattle.xl_plan.specs.Layout.{temporary_of}
-use Rattle.xl_walk.specs.Built.{AreBuilt, AreShallow, most_of_all}
+use Rattle.xl_walk.specs.Built.{AreBuilt, AreShallow, ParsAreFew, most_of_all}
 use Rattle.xl_walk.specs.Inside.{AreInside}
 use Rattle.xl_walk.specs.Roots.{IsRoot}
 
@@ -17,10 +17,11 @@ abbrev pub RootsAreBuilt : List kernel.Root → Type 0
 RootsAreBuilt [] = Unit {0}
 RootsAreBuilt (r ∷ rs) = AreBuilt r.body × RootsAreBuilt rs
 
--- a root whose code is built, with shallow expressions, and exits of blocks around them alone
+-- a root whose code is built, with shallow expressions, with few branches in each `par`, and exits of blocks around them alone
 pub record IsReady (r : kernel.Root) : Type 0 where
   pub built : AreBuilt r.body
   pub shallow : AreShallow r.body
+  pub few : ParsAreFew r.body
   pub inside : AreInside [] r.body
 
 abbrev pub AreReady : List kernel.Root → Type 0

@@ -13,7 +13,7 @@ use crate::needs::{declarations, has_root, timer_count};
 use crate::roots::emit_roots;
 use std::alloc::Global;
 use xc_disjoint::Checked;
-use xl_plan::{plan, temporary_words};
+use xl_plan::{plan, word_count};
 use xs_instr::{CoreImage, Emitter, Image};
 use xw_words::{List, Memory};
 
@@ -60,10 +60,9 @@ fn core_part(alloc: Global, checked: &Checked, core: u8) -> Result<CoreImage, Me
     let places = plan(alloc, checked, core)?;
     let mut e = Emitter::new(alloc);
     let roots = emit_roots(alloc, &mut e, checked, core, &places)?;
-    let words = temporary_words(checked, core, roots.len() as u32);
     Ok(CoreImage {
         number: core,
-        words,
+        words: word_count(checked, core),
         timers: timer_count(kernel.timers.as_slice(), core),
         ends: 0,
         ports,

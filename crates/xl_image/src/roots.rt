@@ -59,6 +59,7 @@ fn emit_thread(
     root: &Root,
 ) -> Result<(), Memory>
     requires word { word ≤ most_words }
+    requires stack { plan.now.first_stack ≤ most_words }
     requires ready { IsReady (root_of root.now) }
     requires room { length e.old + most_of_root plan.now.vars (root_of root.now) < 2 ^ 32 }
     ensures code { OnOk result (Adds e.old e.new

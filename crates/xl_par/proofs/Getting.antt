@@ -152,8 +152,8 @@ module _ (home : Home) (relied : ℕ → Bool) (t : ℕ) (thread : Thread) (runn
     hand1 = with_thread_got hand u
 
     -- a step that prepares that thread
-    half_prepares : (x : Thread) (change : Thread → Thread) (pc k : ℕ) (regs : Regs) (i : Instr) → slice_get home.parts.code.instrs pc ≡ Some i → is_waiteu (Some i) ≡ false → (change x).mode ≡ Waiting → (change x).tie ≡ x.tie → ((b : CoreState) → row home b t (th pc regs) i ≡ told (goes_with put_threads b t (th pc regs)) (on_thread b (prepared change b.threads) (named home.number regs.r0))) → ((d : CoreState) → Half hand starts u (change x) (pc + 1) regs d → WithinHand home relied t Q k hand1 d) → (a : CoreState) → Half hand starts u x pc regs a → WithinHand home relied t Q (suc k) hand1 a
-    half_prepares x change pc k regs i stands no_event still_waits still_tied is_row next a h = inr (λ b kept.
+    half_prepares : (x : Thread) (change : Thread → Thread) (pc k : ℕ) (regs : Regs) (i : Instr) → slice_get home.parts.code.instrs pc ≡ Some i → is_waiteu (Some i) ≡ false → (change x).mode ≡ Waiting → (change x).tie ≡ x.tie → (change x).event_bit ≡ x.event_bit → ((b : CoreState) → row home b t (th pc regs) i ≡ told (goes_with put_threads b t (th pc regs)) (on_thread b (prepared change b.threads) (named home.number regs.r0))) → ((d : CoreState) → Half hand starts u (change x) (pc + 1) regs d → WithinHand home relied t Q k hand1 d) → (a : CoreState) → Half hand starts u x pc regs a → WithinHand home relied t Q (suc k) hand1 a
+    half_prepares x change pc k regs i stands no_event still_waits still_tied same_bit is_row next a h = inr (λ b kept.
         let hb = half_kept hand starts u x pc regs a b kept h in
         let before = th pc regs in
         let behind = th (pc + 1) regs in
@@ -175,7 +175,7 @@ module _ (home : Home) (relied : ℕ → Bool) (t : ℕ) (thread : Thread) (runn
                 ∙ ap (λ m. told goes (on_thread b (prepared change b.threads) m)) name
                 ∙ ap (λ o. told goes (usable (prepared change b.threads u) o)) hb.there
                 ∙ ap (λ m. told goes (prepared_by change b.threads u x (is_waiting m))) hb.waits;
-            change = prepares u x x' (inl refl) hb.there still_waits still_tied refl refl;
+            change = prepares u x x' (inl refl) hb.there hb.waits still_waits still_tied same_bit refl refl;
           },
           next d (record {
             sync_is = hb.sync_is;
@@ -288,7 +288,7 @@ module _ (home : Home) (relied : ℕ → Bool) (t : ℕ) (thread : Thread) (runn
                 ∙ ap (λ o. told gets (where_taken (thread_got home.number b.threads n) o)) gb.common.taken
                 ∙ ap (λ o. makes (gets (thread_got_by home.number b.threads n o))) is_first
                 ∙ ap (λ o. makes (gets (record { left = tied_at b.threads n u o; value = thread_name home.number u }))) found.1;
-            change = gets_thread n u x regs' gb.sync_is is_first found.1 refl refl;
+            change = gets_thread n u x regs' least gb.sync_is is_first found.1 refl refl;
           },
           next u x (spare.no_events u x found.1 found.2) d (record {
             sync_is = gb.sync_is;
@@ -345,12 +345,12 @@ module _ (home : Home) (relied : ℕ → Bool) (t : ℕ) (thread : Thread) (runn
         let regs5 = reg_set regs4 R11 down in
         let regs6 = reg_set regs5 R11 sp in
         let x7 = with_reg Sp sp x3 in
-        half_prepares Q hand starts u x1 (with_pc start) (pc + 1) (suc (suc (suc (suc (suc k))))) regs1 (Tinitpc R0 start) st.2.0 refl refl refl (λ b. refl)
-        (half_prepares Q hand starts u x2 (with_reg Dp regs1.dp) (pc + 1 + 1) (suc (suc (suc (suc k)))) regs1 (Tinitdp R0 Dp) st.2.2.0 refl refl refl (λ b. refl)
+        half_prepares Q hand starts u x1 (with_pc start) (pc + 1) (suc (suc (suc (suc (suc k))))) regs1 (Tinitpc R0 start) st.2.0 refl refl refl refl (λ b. refl)
+        (half_prepares Q hand starts u x2 (with_reg Dp regs1.dp) (pc + 1 + 1) (suc (suc (suc (suc k)))) regs1 (Tinitdp R0 Dp) st.2.2.0 refl refl refl refl (λ b. refl)
         (half_steps Q hand starts u x3 (pc + 1 + 1 + 1) (suc (suc (suc k))) regs1 up (Shl R11 R0 R8) st.2.2.2.0 (record { row_is = λ hm c tt' y. refl; no_event = refl }) (λ ws. refl)
         (half_steps Q hand starts u x3 (pc + 1 + 1 + 1 + 1) (suc (suc k)) regs4 down (Shr R11 R11 R9) st.2.2.2.2.0 (record { row_is = λ hm c tt' y. refl; no_event = refl }) (λ ws. refl)
         (half_steps Q hand starts u x3 (pc + 1 + 1 + 1 + 1 + 1) (suc k) regs5 sp (Addi R11 R11 offset) st.2.2.2.2.2.0 (record { row_is = λ hm c tt' y. refl; no_event = refl }) (λ ws. refl)
-        (half_prepares Q hand starts u x3 (with_reg Sp sp) (pc + 1 + 1 + 1 + 1 + 1 + 1) k regs6 (Tinitsp R0 R11) st.2.2.2.2.2.2.0 refl refl refl (λ b. refl)
+        (half_prepares Q hand starts u x3 (with_reg Sp sp) (pc + 1 + 1 + 1 + 1 + 1 + 1) k regs6 (Tinitsp R0 R11) st.2.2.2.2.2.2.0 refl refl refl refl (λ b. refl)
         (λ d h7. next u regs6 d (half_ready start (pc + 1 + 1 + 1 + 1 + 1 + 1 + 1) regs6 u x7 x.event_bit regs1.dp sp bit h7.common.registers.dp
         (ap (λ i. word_sum (shifted_down (shifted_up name i) regs.r9) offset) h7.common.registers.r8
         ∙ ap (λ i. word_sum (shifted_down (shifted_up name 8) i) offset) h7.common.registers.r9

@@ -73,11 +73,11 @@ pub data Change (t : ℕ) (thread : Thread) (hand hand' : Hand) (a b : CoreState
       b ≡ goes_on (put_syncs a (slice_set a.syncs n true)) t thread regs →
       hand' ≡ with_sync hand n → Change t thread hand hand' a b
   gets_thread : (n u : ℕ) (x : Thread) (regs : Regs) →
-      hand.sync ≡ Some n → first_free (threads_taken a.threads) 0 ≡ Some u → slice_get a.threads u ≡ Some x →
+      1 ≤ hand.lacks → hand.sync ≡ Some n → first_free (threads_taken a.threads) 0 ≡ Some u → slice_get a.threads u ≡ Some x →
       b ≡ goes_on (put_threads a (slice_set a.threads u (tied_to n x))) t thread regs →
       hand' ≡ with_thread_got hand u → Change t thread hand hand' a b
   prepares : (u : ℕ) (x x' : Thread) →
-      IsAmong hand.threads u → slice_get a.threads u ≡ Some x → x'.mode ≡ Waiting → x'.tie ≡ x.tie →
+      IsAmong hand.threads u → slice_get a.threads u ≡ Some x → x.mode ≡ Waiting → x'.mode ≡ Waiting → x'.tie ≡ x.tie → x'.event_bit ≡ x.event_bit →
       b ≡ goes_on (put_threads a (slice_set a.threads u x')) t thread thread.regs →
       hand' ≡ hand → Change t thread hand hand' a b
 

@@ -5,6 +5,7 @@ ghost use Rattle.xs_instr.specs.Lines.{at_pos};
 ghost use Rattle.xl_par.specs.Opening.{AreAimedWith, Opens, beginning_instrs, indices_of, opening_lines, slave_lines, slaves_lines, stack_offset as offset_of, starts_from};
 
 use std::alloc::Global;
+use xl_expr::Plan;
 use xs_instr::{Emitter, GetKind, Hole, Instr, Reg};
 use xw_words::{List, Memory, Pos};
 
@@ -20,9 +21,7 @@ const KIND_SHIFTED: u32 = 32;
 const BYTES_OF_WORD: u32 = 4;
 
 /// The code that opens a `par` of 2 to 8 branches: a synchroniser is got, a thread for each branch behind the first, and all are set off
-/// together. The first branch's code follows, on the thread itself. `first_stack` is the word where the temporary words of the core's
-/// thread 0 begin; those of the others follow, one thread's behind the other's. The holes are the starts of the branches behind the
-/// first, in order.
+/// together. The first branch's code follows, on the thread itself. The holes are the starts of the branches behind the first, in order.
 ///
 /// `opens` says what the code does, whatever starts the holes get: wherever it stands, and whatever other threads do in between that
 /// leaves what this one relies on and what it has got, it comes within 7 own steps for each branch and two more to where its next step
@@ -32,27 +31,35 @@ const BYTES_OF_WORD: u32 = 4;
 pub fn open_par(
     alloc: Global,
     e: &mut Emitter,
-    first_stack: u32,
+    plan: &Plan,
     branches: u32,
     pos: Pos,
 ) -> Result<List<Hole>, Memory>
     requires room { length e.old + 7 * branches + 3 < 2 ^ 32 }
     requires several { 2 ≤ branches }
     requires few { branches ≤ 8 }
-    requires inside { first_stack ≤ 16384 }
-    ensures code { OnOk result (e.new ≡ e.old ++ opening_lines first_stack pos (branches - 1)) }
+    requires inside { plan.now.first_stack ≤ 16384 }
+    ensures code { OnOk result (e.new
+        ≡ e.old ++ opening_lines plan.now.first_stack pos (branches - 1)) }
     ensures holes { IfOk result
         (λ holes. indices_of holes ≡ starts_from (length e.old + 9) (branches - 1)) }
     ensures size { OnOk result (length e.new ≤ length e.old + 7 * branches + 3) }
     ensures opens { OnOk result
-        (Adds e.old e.new (Opens first_stack (branches - 1) pos (length e.old))) }
+        (Adds e.old e.new
+        (Opens plan.now.first_stack (branches - 1) pos (length e.old))) }
     ensures aimed { OnOk result
         (Adds e.old e.new (AreAimedWith (branches - 1) (length e.old))) }
     ensures refused { OnErr result (Extends e.old e.new) }
 {
     let mut starts = Vec::new(alloc);
     put_beginning(e, pos)?;
-    put_slaves(e, stack_offset(first_stack), branches - 1, pos, &mut starts)?;
+    put_slaves(
+        e,
+        stack_offset(plan.first_stack),
+        branches - 1,
+        pos,
+        &mut starts,
+    )?;
     e.put(Instr::Msync(Reg::R1), pos)?;
     Ok(List::from_vec(starts))
 }

@@ -11,3 +11,4 @@ pub mod Examples
 pub mod PortPlaces
 pub mod PortsDiffer
 pub mod FewPorts
+mod ThreadSteps

@@ -4,8 +4,9 @@ use Rattle.std.proofs.Math.Nat.{mod-eq_of_lt}
 use Rattle.xc_kernel.specs.Plain as kernel
 use Rattle.xc_disjoint.specs.Checked.{IsChecked}
 use Rattle.xc_disjoint.specs.Cores.{last_core}
-use Rattle.xc_disjoint.specs.Needs.{timers_on, words_on}
+use Rattle.xc_disjoint.specs.Needs.{threads_on, timers_on, words_on}
 use Rattle.xc_disjoint.specs.Rules.{most_timers, most_words, needs, timers, words}
+use Rattle.xc_disjoint.specs.Sums.{capped}
 use Rattle.xs_instr.specs.Resources.{name_of}
 use Rattle.xl_plan.specs.Layout.{words_here, first_temporary, port_name, timer_name, ports_here}
 use Rattle.xl_plan.proofs.FewPorts.{few_ports}
@@ -20,6 +21,22 @@ few_words k core h is_core =
     ⊎_elim (λ le. le)
     (λ lt. absurd (h.unbroken _ (needs (words (record { core = core; is_core = is_core; more = lt })))))
     (within_or_not (words_on k core) most_words)
+
+small_capped : (n : ℕ) → n ≤ most_words → capped n ≡ n
+unfolding capped
+small_capped n h = omega (arith, h)
+
+-- so the count of threads is exact
+pub all_threads : (k : kernel.Kernel) (core count : ℕ) → IsChecked k → core ≤ last_core → count ≡ capped (threads_on k core) → count ≡ threads_on k core
+all_threads k core count h is_core e =
+    let few = few_words k core h is_core in
+    e ∙ small_capped (threads_on k core) (omega (arith, few))
+
+pub fitting_threads : (k : kernel.Kernel) (core count : ℕ) → IsChecked k → core ≤ last_core → count ≡ capped (threads_on k core) → count ≤ most_words
+fitting_threads k core count h is_core e =
+    let few = few_words k core h is_core in
+    let same = all_threads k core count h is_core e in
+    omega (arith, few, same)
 
 few_timers : (k : kernel.Kernel) (core : ℕ) → IsChecked k → core ≤ last_core → timers_on k core ≤ most_timers
 few_timers k core h is_core =

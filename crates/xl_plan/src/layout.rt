@@ -1,10 +1,11 @@
 ghost use Rattle.std.specs.Prelude.{◌≡◌, ◌≤◌, [], IfOk, OnOk};
 ghost use Rattle.xc_disjoint.specs.Cores.{last_core};
 ghost use Rattle.xc_kernel.specs.Kernels.{kernel_of};
-ghost use Rattle.xl_plan.specs.Layout.{first_temporary};
+ghost use Rattle.xl_plan.specs.Layout.{first_temporary, temporary_of};
 ghost use Rattle.xl_plan.specs.Planned.{ArePortsApart, HasNoOther, HasPorts, HasTimers, HasUsedPorts, HasUsedTimers, HasUsedVariables, HasVariables, NoneIsTemporary, NoneShare, NumbersAreListed, StandBelow, ports_on};
 
 use crate::resources::{port_identifiers, timer_identifiers};
+use crate::temporary::temporary_words;
 use crate::variables::variable_places;
 use std::alloc::Global;
 use xc_disjoint::Checked;
@@ -12,8 +13,8 @@ use xl_expr::Plan;
 use xw_words::{List, Memory};
 
 /// Where the variables, ports and timers of a core stand: the variables from word 0 on, one behind the other in the kernel's order, below the
-/// temporary words of all threads; the ports and timers by the identifiers of their numbers, which go by the kernel's order too. There is no
-/// channel end yet.
+/// temporary words of all threads, of which those of thread 0 are the first; the ports and timers by the identifiers of their numbers, which
+/// go by the kernel's order too. There is no channel end yet.
 ///
 /// It takes time and memory for each of the kernel's variables, ports and timers once. The one error is want of memory.
 pub fn plan(alloc: Global, checked: &Checked, core: u8) -> Result<Plan, Memory>
@@ -38,6 +39,8 @@ pub fn plan(alloc: Global, checked: &Checked, core: u8) -> Result<Plan, Memory>
     ensures differ { OnOk result (ArePortsApart
         (ports_on core (kernel_of checked.now).ports)) }
     ensures ends { IfOk result (λ plan. plan.ends ≡ []) }
+    ensures first_stack { IfOk result
+        (λ plan. plan.first_stack ≡ temporary_of (kernel_of checked.now) core 0) }
 {
     let kernel = checked.kernel();
     let vars = variable_places(alloc, kernel.vars.as_slice(), core)?;
@@ -48,5 +51,6 @@ pub fn plan(alloc: Global, checked: &Checked, core: u8) -> Result<Plan, Memory>
         ports,
         timers,
         ends: List::new(alloc),
+        first_stack: temporary_words(checked, core, 0),
     })
 }

@@ -4,7 +4,8 @@
 mod layout;
 mod resources;
 mod temporary;
+mod threads;
 mod variables;
 
 pub use layout::plan;
-pub use temporary::temporary_words;
+pub use temporary::{temporary_words, word_count};

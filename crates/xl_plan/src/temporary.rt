@@ -5,6 +5,7 @@ ghost use Rattle.xc_disjoint.specs.Rules.{most_words};
 ghost use Rattle.xc_kernel.specs.Kernels.{kernel_of};
 ghost use Rattle.xl_plan.specs.Layout.{temporary_of};
 
+use crate::threads::thread_count;
 use xc_disjoint::Checked;
 use xc_kernel::{Inst, Var};
 
@@ -15,7 +16,7 @@ const WORDS_OF_THREAD: u32 = 512;
 const WORDS_OF_INSTANCE: u32 = 4;
 
 /// The word where the temporary words of a core's thread begin, by the thread's number: a root's is its place among the core's roots, from 0.
-/// For the number of threads that the core needs it is the number of the core's words.
+/// For the number of threads that the core needs it is the number of the core's words, as `word_count` gives it.
 pub fn temporary_words(checked: &Checked, core: u8, thread: u32) -> u32
     requires is_core { core ≤ last_core }
     requires is_thread { thread ≤ threads_on (kernel_of checked.now) core }
@@ -29,6 +30,15 @@ pub fn temporary_words(checked: &Checked, core: u8, thread: u32) -> u32
     instance_words(kernel.insts.as_slice(), core)
         + variable_words(kernel.vars.as_slice(), core)
         + WORDS_OF_THREAD * thread
+}
+
+/// How many words a core has: those of all threads that it needs are the last.
+pub fn word_count(checked: &Checked, core: u8) -> u32
+    requires { core ≤ last_core }
+    ensures { result ≡ words_on (kernel_of checked.now) core }
+{
+    let threads = thread_count(checked.kernel().roots.as_slice(), core);
+    temporary_words(checked, core, threads as u32)
 }
 
 /// The words of the functions' instances on a core.

@@ -5,9 +5,9 @@ ghost use Rattle.std.specs.Prelude.{map};
 ghost use Rattle.xc_kernel.specs.Kernels.{output_of, root_of, statement_of};
 ghost use Rattle.xc_kernel.specs.Plain as plain;
 ghost use Rattle.xl_image.specs.Roots.{RootsAreBuilt};
-ghost use Rattle.xl_walk.specs.Built.{AreBuilt, IsBuilt, statements_of};
+ghost use Rattle.xl_walk.specs.Built.{AreBuilt, BranchesAreBuilt, IsBuilt, branches_of, statements_of};
 
-use xc_kernel::{KOut, KRes, Kst, Root};
+use xc_kernel::{KBranch, KOut, KRes, Kst, Root};
 
 /// Whether the code of each root is built.
 pub fn are_roots_built(roots: &[Root]) -> bool
@@ -51,11 +51,25 @@ fn is_built(statement: &Kst) -> bool
         Kst::Loop(_, body, next) => are_built(body.as_slice()) && are_built(next.as_slice()),
         Kst::Block(_, inside) => are_built(inside.as_slice()),
         Kst::Exit(_) => true,
+        Kst::Par(branches) => are_branches_built(branches.as_slice()),
         Kst::In(_) => false,
         Kst::Select(_) => false,
-        Kst::Par(_) => false,
         Kst::Tran { .. } => false,
     }
+}
+
+/// Whether the code of each branch is built.
+#[cycle(statement)]
+#[tactic(auto, using(xl_walk::proofs::Slaves::branches_at))]
+fn are_branches_built(branches: &[KBranch]) -> bool
+    ensures { OnTrue result (BranchesAreBuilt (branches_of branches.now)) }
+{
+    for branch in branches {
+        if !are_built(branch.body.as_slice()) {
+            return false;
+        }
+    }
+    true
 }
 
 /// Whether an output goes to a port and has no stamp.

@@ -1,15 +1,22 @@
 -- A statement whose code is one piece.
-use Rattle.std.proofs.Common.{◌≡◌, ℕ, List, length, Result, Ok, Err, OnOk, OnErr, sym, subst}
+use Rattle.std.proofs.Common.{◌≡◌, ℕ, ◌≤◌, List, [], ◌∷◌, ◌++◌, length, Result, Ok, Err, OnOk, OnErr, sym, ap, ◌∙◌, subst, arith}
 use Rattle.xw_words.specs.declared.pos.Pos.{Pos}
 use Rattle.xc_kernel.specs.Plain as kernel
 use Rattle.xs_instr.specs.Adds.{Adds}
-use Rattle.xs_instr.specs.Lines.{Line}
+use Rattle.xs_instr.specs.declared.instr.Instr.TheVariants.{Ssync}
+use Rattle.xs_instr.specs.Lines.{Line, last_pos, line}
 use Rattle.xl_expr.specs.declared.plan.Plan.{Plan}
 use Rattle.xl_expr.specs.Targets.{AreAimed}
+use Rattle.xl_par.specs.Closing.{EndsSlave}
 use Rattle.xl_walk.specs.declared.walk.Leaving.{Leaving}
 use Rattle.xl_walk.specs.Cells.{Cell}
-use Rattle.xl_walk.specs.Emits.{AreLines, Coded, Emits, Emitted}
+use Rattle.xl_walk.specs.Emits.{AreLines, Coded, Emits, Emitted, Slave}
 use Rattle.xl_walk.proofs.Parts.{emitted_as, piece_emitted}
+use Rattle.xl_walk.proofs.Slaves.{slave_emitted}
+
+pub on_ok : {A B : Type 0} (r : Result A B) (P : Type 0) → P → OnOk r P
+on_ok (Ok x) P h = h
+on_ok (Err x) P h = tt
 
 pub on_err : {A B : Type 0} (r : Result A B) (P : Type 0) → P → OnErr r P
 on_err (Ok x) P h = tt
@@ -22,3 +29,13 @@ piece_emits (Err x) plan s s' P old new left is f h g = tt
 pub ok_as : {A B : Type 0} (r : Result A B) (P Q : Coded) (old new : List Line) (before after : List Leaving) → ((last : Pos) (pc : ℕ) (cells : List Cell) → P last pc cells → Q last pc cells) → OnOk r (Emitted P old new before after) → OnOk r (Emitted Q old new before after)
 ok_as (Ok x) P Q old new before after f h = emitted_as P Q old new before after f h
 ok_as (Err x) P Q old new before after f h = tt
+
+-- a bound by another word
+pub ok_within : {A B : Type 0} (r : Result A B) (n m k : ℕ) → m ≤ k → OnOk r (n ≤ m) → OnOk r (n ≤ k)
+ok_within (Ok x) n m k le h = omega (arith, le, h)
+ok_within (Err x) n m k le h = tt
+
+-- a branch behind the first, once its end is there
+pub slave_ends : {A B : Type 0} (r : Result A B) (Body : Coded) (e1 e2 e3 : List Line) (left0 left1 : List Leaving) → Emitted Body e1 e2 left0 left1 → (pos : Pos) → pos ≡ last_pos e2 → OnOk r (e3 ≡ e2 ++ line Ssync pos ∷ []) → OnOk r (Adds e2 e3 (EndsSlave (length e2))) → OnOk r (Emitted (Slave Body) e1 e3 left0 left1)
+slave_ends (Ok x) Body e1 e2 e3 left0 left1 h pos is code ends = slave_emitted Body e1 e2 e3 left0 left1 h (code ∙ ap (λ p. e2 ++ line Ssync p ∷ []) is) ends
+slave_ends (Err x) Body e1 e2 e3 left0 left1 h pos is code ends = tt

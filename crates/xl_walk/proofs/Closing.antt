@@ -16,7 +16,7 @@ pub record Closing (first : List Line) (n end : ℕ) (all : List Leaving) (ls : 
 pub unseen_at : (all : List Leaving) (i : ℕ) (d : Leaving) → i < length all → drop i all ≡ get_or all i d ∷ drop (i + 1) all
 unseen_at all i d h = rw add-one (drop-cons all i d h)
 
-landed_length : (ls : List Line) (k end : ℕ) (o : Option Line) → length (landed_at ls k end o) ≡ length ls
+pub landed_length : (ls : List Line) (k end : ℕ) (o : Option Line) → length (landed_at ls k end o) ≡ length ls
 landed_length ls k end None = refl
 landed_length ls k end (Some l) = length-set ls k _
 

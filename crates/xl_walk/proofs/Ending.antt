@@ -49,6 +49,7 @@ module _
             front = map line_of at_1.cells;
             is = refl;
             body_is = subst (AllEmit plan body (last_pos e0) (length e0)) cells at_1.so;
+            inside = inside;
             ends = subst (EndsRoot (length e0 + length (map line_of at_1.cells))) last_line (subst (λ k. EndsRoot k ends.lines) end ends.so);
           };
         }

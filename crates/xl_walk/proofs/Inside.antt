@@ -5,15 +5,18 @@ use Rattle.std.proofs.lemmas.Bool.{cases_eq, ne_eqb}
 use Rattle.std.proofs.lemmas.List.{length-map}
 use Rattle.xw_words.specs.declared.pos.Pos.{Pos}
 use Rattle.xc_tree.specs.Types.Words.{is_among}
-use Rattle.xs_instr.specs.declared.instr.Instr.TheVariants.{Brff, Brfu, Brbu}
+use Rattle.xs_instr.specs.declared.instr.Instr.TheVariants.{Brff, Brfu, Brbu, Ssync}
 use Rattle.xs_instr.specs.declared.instr.Reg.TheVariants.{R0}
 use Rattle.xs_instr.specs.Lines.{Line, line}
 use Rattle.xc_kernel.specs.Plain as kernel
+use Rattle.xc_meaning.specs.Counts.KernelCounts.{branch_count}
 use Rattle.xl_expr.specs.declared.plan.Plan.{Plan}
 use Rattle.xl_expr.specs.Targets.{AreGoodLines}
+use Rattle.xl_par.specs.Opening.{AreBelow, filled}
 use Rattle.xl_walk.specs.Cells.{Cell, known, leaving, behind, closed, closed_by, line_of}
-use Rattle.xl_walk.specs.Emits.{AllEmit, AreLines, Branching, Coded, Emits, OneSide, TwoSides}
-use Rattle.xl_walk.specs.Inside.{AreGoodCells, AreInside, IsInside}
+use Rattle.xl_walk.specs.Emits.{AllEmit, AreLines, Branching, Coded, Emits, OneSide, ParEmits, SeveralBranches, SlavesEmit, TwoSides}
+use Rattle.xl_walk.specs.Inside.{AreGoodCells, AreInside, BranchesAreInside, IsInside}
+use Rattle.xl_walk.proofs.Starts.{filled_length}
 
 eqb_swap : (a b : ℕ) → nat_eq a b ≡ nat_eq b a
 eqb_swap a b =
@@ -45,6 +48,12 @@ module _ (around : List ℕ) (size : ℕ) where
       by : AreGoodCells around size (i + 1) (map (closed n end) cells) → (b : Bool) → nat_eq m n ≡ b → AreGoodCells around size i (closed_by b m end pos ∷ map (closed n end) cells)
       by rest true e = let near : i < end = omega arith in ((near, ends), refl, rest)
       by rest false e = (subst (λ b. b || is_among around m ≡ true) (eqb_swap n m ∙ e) h.0, rest)
+
+-- what jumps to no block around it may stand in any blocks
+good_anywhere : (around : List ℕ) (size i : ℕ) (cells : List Cell) → AreGoodCells [] size i cells → AreGoodCells around size i cells
+good_anywhere around size i [] h = tt
+good_anywhere around size i (known l ∷ cells) h = (h.0, h.1, good_anywhere around size (i + 1) cells h.2)
+good_anywhere around size i (leaving n pos ∷ cells) h = let none : false ≡ true = h.0 in absurd cc
 
 -- no jump leaves code around which there is no block
 pub all_known : (size i : ℕ) (cells : List Cell) → AreGoodCells [] size i cells → cells ≡ map known (map line_of cells)
@@ -99,6 +108,35 @@ module _ (plan : Plan) where
     branching_good kernel.no_more h ends = one_side_good h ends
     branching_good (kernel.more s ss) h ends = two_sides_good h ends
 
+  -- a `par`, by what is said of its first branch, and of the others and their starts
+  module _ (around : List ℕ) (last : Pos) (size pc : ℕ) (cells : List Cell) (slaves : ℕ) (First : Coded) (Slaves : List ℕ → Coded)
+      (first_good : IsGoodCode [] size First)
+      (slaves_good : (starts : List ℕ) (l : Pos) (i : ℕ) (cs : List Cell) → Slaves starts l i cs → i + length cs < size → AreBelow size starts × AreGoodCells [] size i cs)
+    where
+      several_good : SeveralBranches plan slaves First Slaves last pc cells → pc + length cells < size → AreGoodCells around size pc cells
+      several_good h ends =
+          let jump = known (line (Brfu h.end) (behind last h.first)) in
+          let opening = map known (filled h.opening h.starts) in
+          let closing = map known h.closing in
+          let e = h.end_is in
+          let f = filled_length h.opening h.starts in
+          let m = length-map (filled h.opening h.starts) known in
+          let c = length-map h.closing known in
+          let n : pc + length cells ≡ h.end =
+          omega (arith, ap length h.is, length-append opening (h.first ++ (closing ++ (jump ∷ h.others))), length-append h.first (closing ++ (jump ∷ h.others)), length-append closing (jump ∷ h.others), e, f, m, c) in
+          let p1 = pc + length h.opening in
+          let first = first_good last (pc + length h.opening) h.first h.first_is (omega (arith, n, e, ends)) in
+          let others = slaves_good h.starts (behind last h.first) (pc + length h.opening + length h.first + length h.closing + 1) h.others h.others_are (omega (arith, n, e, ends)) in
+          let from_jump : AreGoodCells around size (pc + length h.opening + length h.first + length h.closing) (jump ∷ h.others) =
+          ((omega (arith, n, e, ends), omega (arith, n, e, ends)), refl, good_anywhere around size (pc + length h.opening + length h.first + length h.closing + 1) h.others others.1) in
+          let closing_lines = good_known around size h.closing (pc + length h.opening + length h.first) (h.closes_aimed.by size (omega (arith, n, e, ends))) in
+          let from_closing =
+          good_append around size closing (jump ∷ h.others) (pc + length h.opening + length h.first) closing_lines (subst (λ k. AreGoodCells around size (pc + length h.opening + length h.first + k) (jump ∷ h.others)) (sym c) from_jump) in
+          let from_first = good_append around size h.first (closing ++ (jump ∷ h.others)) (pc + length h.opening) (good_anywhere around size (pc + length h.opening) h.first first) from_closing in
+          let opening_lines = good_known around size (filled h.opening h.starts) pc (h.opens_aimed.by h.starts size h.as_many others.0) in
+          subst (AreGoodCells around size pc) (sym h.is)
+          (good_append around size opening (h.first ++ (closing ++ (jump ∷ h.others))) pc opening_lines (subst (λ k. AreGoodCells around size (pc + k) (h.first ++ (closing ++ (jump ∷ h.others)))) (sym (m ∙ f)) from_first))
+
   mutual
     pub emits_good : (s : kernel.Statement) (around : List ℕ) (last : Pos) (size pc : ℕ) (cells : List Cell) → IsInside around s → Emits plan s last pc cells → pc + length cells < size → AreGoodCells around size pc cells
     emits_good (kernel.set_zero v) around last size pc cells inside h ends = piece_good around _ last size pc cells h ends
@@ -126,7 +164,7 @@ module _ (plan : Plan) where
         (good_closed around size n (pc + length h.inside) h.inside pc (omega arith) (omega arith) (all_good a (n ∷ around) last size pc h.inside inside h.inside_is (omega arith)))
     emits_good (kernel.exit n) around last size pc cells inside h ends = subst (AreGoodCells around size pc) (sym h) (inside, tt)
     emits_good (kernel.select cs d pos) around last size pc cells inside h ends = absurd h
-    emits_good (kernel.par bs) around last size pc cells inside h ends = absurd h
+    emits_good (kernel.par bs) around last size pc cells inside h ends = par_good bs around last size pc cells inside h ends
     emits_good (kernel.transaction c is_master a start close) around last size pc cells inside h ends = absurd h
 
     pub all_good : (ss : kernel.Statements) (around : List ℕ) (last : Pos) (size pc : ℕ) (cells : List Cell) → AreInside around ss → AllEmit plan ss last pc cells → pc + length cells < size → AreGoodCells around size pc cells
@@ -135,3 +173,22 @@ module _ (plan : Plan) where
         let n : length cells ≡ length h.first + length h.rest = ap length h.is ∙ length-append h.first h.rest in
         subst (AreGoodCells around size pc) (sym h.is)
         (good_append around size h.first h.rest pc (emits_good s around last size pc h.first inside.0 h.first_is (omega arith)) (all_good ss around (behind last h.first) size (pc + length h.first) h.rest inside.1 h.rest_is (omega arith)))
+
+    par_good : (bs : kernel.Branches) (around : List ℕ) (last : Pos) (size pc : ℕ) (cells : List Cell) → BranchesAreInside bs → ParEmits plan bs last pc cells → pc + length cells < size → AreGoodCells around size pc cells
+    par_good kernel.no_branch around last size pc cells inside h ends = subst (AreGoodCells around size pc) (sym h) tt
+    par_good (kernel.more_branches (kernel.branch ss pos) kernel.no_branch) around last size pc cells inside h ends =
+        good_anywhere around size pc cells (all_good ss [] last size pc cells inside.0 h ends)
+    par_good (kernel.more_branches (kernel.branch ss pos) (kernel.more_branches b bs)) around last size pc cells inside h ends =
+        several_good around last size pc cells (branch_count (kernel.more_branches b bs)) (AllEmit plan ss) (SlavesEmit plan (kernel.more_branches b bs)) (λ l i cs k n. all_good ss [] l size i cs inside.0 k n) (λ ns l i cs k n. slaves_good (kernel.more_branches b bs) ns l size i cs inside.1 k n) h ends
+
+    slaves_good : (bs : kernel.Branches) (starts : List ℕ) (last : Pos) (size pc : ℕ) (cells : List Cell) → BranchesAreInside bs → SlavesEmit plan bs starts last pc cells → pc + length cells < size → AreBelow size starts × AreGoodCells [] size pc cells
+    slaves_good kernel.no_branch starts last size pc cells inside h ends = (subst (AreBelow size) (sym h.0) tt, subst (AreGoodCells [] size pc) (sym h.1) tt)
+    slaves_good (kernel.more_branches (kernel.branch ss pos) bs) starts last size pc cells inside h ends =
+        let g = h.slave_is in
+        let end = known (line Ssync (behind last g.body)) in
+        let n : length cells ≡ length h.slave + length h.others = ap length h.is ∙ length-append h.slave h.others in
+        let m : length h.slave ≡ length g.body + 1 = omega (arith, ap length g.is, length-append g.body (end ∷ [])) in
+        let body = all_good ss [] last size pc g.body inside.0 g.body_is (omega (arith, n, m, ends)) in
+        let slave : AreGoodCells [] size pc h.slave = subst (AreGoodCells [] size pc) (sym g.is) (good_append [] size g.body (end ∷ []) pc body (tt, refl, tt)) in
+        let others = slaves_good bs h.later (behind last h.slave) size (pc + length h.slave) h.others inside.1 h.others_are (omega (arith, n, ends)) in
+        (subst (AreBelow size) (sym h.starts_are) (omega (arith, n, m, ends), others.0), subst (AreGoodCells [] size pc) (sym h.is) (good_append [] size h.slave h.others pc slave others.1))

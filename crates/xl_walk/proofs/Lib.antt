@@ -4,6 +4,9 @@ pub mod Closing
 pub mod Blocks
 pub mod Sides
 pub mod Turns
+pub mod Starts
+pub mod Slaves
+pub mod Several
 pub mod Walks
 pub mod Arms
 pub mod Inside

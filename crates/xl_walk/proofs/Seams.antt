@@ -9,12 +9,12 @@ use Rattle.xs_instr.specs.Extends.{Extends}
 use Rattle.xs_instr.specs.Lines.{Line, line, open_line, with_target, IsOpen, IsOpenLine, landed, landed_at}
 
 -- the line at a seam
-seam_get : (front back : List Line) (l : Line) → slice_get (front ++ l ∷ back) (length front) ≡ Some l
+pub seam_get : (front back : List Line) (l : Line) → slice_get (front ++ l ∷ back) (length front) ≡ Some l
 seam_get front back l =
     let within : length front < length (front ++ l ∷ back) = omega (arith, length-append front (l ∷ back)) in
     slice_get-get_or (front ++ l ∷ back) (length front) l within ∙ ap Some (get_or-append_seam front l back l)
 
-seam_set : (front back : List Line) (l x : Line) → slice_set (front ++ l ∷ back) (length front) x ≡ front ++ x ∷ back
+pub seam_set : (front back : List Line) (l x : Line) → slice_set (front ++ l ∷ back) (length front) x ≡ front ++ x ∷ back
 seam_set [] back l x = refl
 seam_set (f ∷ front) back l x = ap (λ ls. f ∷ ls) (seam_set front back l x)
 

@@ -4,16 +4,21 @@ use Rattle.std.specs.Prelude.{nat_eq, slice_get}
 use Rattle.std.proofs.lemmas.List.{length-map}
 use Rattle.xw_words.specs.declared.pos.Pos.{Pos}
 use Rattle.xs_instr.specs.declared.image.Code.{Code}
-use Rattle.xs_instr.specs.declared.instr.Instr.TheVariants.{Brff, Brfu, Brbu, Freet}
+use Rattle.xs_instr.specs.declared.instr.Instr.TheVariants.{Brff, Brfu, Brbu, Freet, Ssync}
 use Rattle.xs_instr.specs.declared.instr.Reg.TheVariants.{R0}
 use Rattle.xs_instr.specs.Lines.{Line, line}
 use Rattle.xs_instr.specs.OwnSteps.{StandAt}
 use Rattle.xc_kernel.specs.Plain as kernel
+use Rattle.xc_meaning.specs.Counts.KernelCounts.{branch_count}
 use Rattle.xl_expr.specs.declared.plan.Plan.{Plan}
+use Rattle.xl_par.specs.Opening.{filled}
 use Rattle.xl_walk.specs.Cells.{Cell, known, leaving, behind, closed, closed_by}
-use Rattle.xl_walk.specs.Emits.{AllEmit, AreLines, Branching, Coded, Emits, OneSide, TwoSides}
+use Rattle.xl_walk.specs.Emits.{AllEmit, AreLines, Branching, Coded, Emits, OneSide, ParEmits, SeveralBranches, SlavesEmit, TwoSides}
+use Rattle.xl_walk.specs.Inside.{AreGoodCells, AreInside, BranchesAreInside, IsInside}
 use Rattle.xl_walk.specs.Laws.{RootsStand}
-use Rattle.xl_walk.specs.Pieces.{Exit, exit_by, exit_of, LinesAt, PieceAt, PiecesAt}
+use Rattle.xl_walk.specs.Pieces.{Exit, exit_by, exit_of, LinesAt, ParAt, PieceAt, PiecesAt, SeveralAt, SlavesAt}
+use Rattle.xl_walk.proofs.Inside.{all_good}
+use Rattle.xl_walk.proofs.Starts.{filled_length}
 
 -- a cell stands at an index of a code, by where the open blocks end
 abbrev CellAt : Code → List Exit → ℕ → Cell → Type 0
@@ -57,6 +62,12 @@ cells_closed code exits n end (leaving m pos ∷ cells) pc h = (by (nat_eq m n) 
     by false e =
         let here = subst (λ b. CellAt code exits pc (closed_by b m end pos)) e h.0 in
         (here.0, ap (λ b. exit_by b end (exit_of exits m)) e ∙ here.1, here.2)
+
+-- of cells that leave no block none needs to be open
+cells_alone : (code : Code) (exits : List Exit) (size pc : ℕ) (cells : List Cell) → AreGoodCells [] size pc cells → CellsAt code exits pc cells → CellsAt code [] pc cells
+cells_alone code exits size pc [] good h = tt
+cells_alone code exits size pc (known l ∷ cells) good h = (h.0, cells_alone code exits size (pc + 1) cells good.2 h.1)
+cells_alone code exits size pc (leaving n pos ∷ cells) good h = let none : false ≡ true = good.0 in absurd cc
 
 module _ (code : Code) (plan : Plan) where
   piece_stands : (P : ℕ → List Line → Type 0) (last : Pos) (exits : List Exit) (pc : ℕ) (cells : List Cell) → AreLines P last pc cells → CellsAt code exits pc cells → LinesAt code P pc (pc + length cells)
@@ -110,15 +121,68 @@ module _ (code : Code) (plan : Plan) where
     branching_stands kernel.no_more is h at_pc = one_side_stands h is at_pc
     branching_stands (kernel.more s ss) is h at_pc = two_sides_stand h at_pc
 
+  -- a `par`, by what is said of its first branch, and of the others and their starts
+  module _ (slaves : ℕ) (First : Coded) (FirstAt : (pc pc' : ℕ) → Type 0) (Slaves : List ℕ → Coded) (SlavesStand : List ℕ → Type 0) (exits : List Exit) (last : Pos) (pc : ℕ) (cells : List Cell)
+      (first_stands : (l : Pos) (i : ℕ) (cs : List Cell) → First l i cs → CellsAt code exits i cs → FirstAt i (i + length cs))
+      (slaves_stand : (starts : List ℕ) (l : Pos) (i : ℕ) (cs : List Cell) → Slaves starts l i cs → CellsAt code exits i cs → SlavesStand starts)
+    where
+      several_stand : SeveralBranches plan slaves First Slaves last pc cells → CellsAt code exits pc cells → SeveralAt code plan slaves FirstAt SlavesStand pc (pc + length cells)
+      several_stand h at_pc =
+          let jump = known (line (Brfu h.end) (behind last h.first)) in
+          let opening = map known (filled h.opening h.starts) in
+          let closing = map known h.closing in
+          let e = h.end_is in
+          let f = filled_length h.opening h.starts in
+          let m = length-map (filled h.opening h.starts) known in
+          let c = length-map h.closing known in
+          let n : h.end ≡ pc + length cells =
+          omega (arith, ap length h.is, length-append opening (h.first ++ (closing ++ (jump ∷ h.others))), length-append h.first (closing ++ (jump ∷ h.others)), length-append closing (jump ∷ h.others), e, f, m, c) in
+          let all = subst (CellsAt code exits pc) h.is at_pc in
+          let from_first = subst (λ k. CellsAt code exits (pc + k) (h.first ++ (closing ++ (jump ∷ h.others)))) (m ∙ f) (cells_back code exits opening (h.first ++ (closing ++ (jump ∷ h.others))) pc all) in
+          let from_closing = cells_back code exits h.first (closing ++ (jump ∷ h.others)) (pc + length h.opening) from_first in
+          let from_jump = subst (λ k. CellsAt code exits (pc + length h.opening + length h.first + k) (jump ∷ h.others)) c (cells_back code exits closing (jump ∷ h.others) (pc + length h.opening + length h.first) from_closing) in
+          record {
+            starts = h.starts;
+            first = pc + length h.opening;
+            done = pc + length h.opening + length h.first;
+            closed = pc + length h.opening + length h.first + length h.closing;
+            jumps = 1;
+            few = h.few;
+            opens = record {
+              lines = h.opening;
+              place = last;
+              as_many = h.as_many;
+              stand = lines_stand code exits (filled h.opening h.starts) pc (cells_front code exits opening (h.first ++ (closing ++ (jump ∷ h.others))) pc all);
+              opens = h.opens;
+              end = refl;
+            };
+            first_at = first_stands last (pc + length h.opening) h.first h.first_is (cells_front code exits h.first (closing ++ (jump ∷ h.others)) (pc + length h.opening) from_first);
+            closes = record {
+              lines = h.closing;
+              place = behind last h.first;
+              stand = lines_stand code exits h.closing (pc + length h.opening + length h.first) (cells_front code exits closing (jump ∷ h.others) (pc + length h.opening + length h.first) from_closing);
+              closes = h.closes;
+              end = refl;
+            };
+            past = (h.end, inl from_jump.0.0, n);
+            at_most_one = omega arith;
+            slaves_at = slaves_stand h.starts (behind last h.first) (pc + length h.opening + length h.first + length h.closing + 1) h.others h.others_are from_jump.1;
+          }
+
+  -- a branch's cells, around which no block is open
+  branch_alone : (ss : kernel.Statements) (exits : List Exit) (last : Pos) (pc : ℕ) (cells : List Cell) → AreInside [] ss → AllEmit plan ss last pc cells → CellsAt code exits pc cells → CellsAt code [] pc cells
+  branch_alone ss exits last pc cells inside h at_pc =
+      cells_alone code exits (pc + length cells + 1) pc cells (all_good plan ss [] last (pc + length cells + 1) pc cells inside h (omega arith)) at_pc
+
   mutual
-    statement_stands : (s : kernel.Statement) (exits : List Exit) (last : Pos) (pc : ℕ) (cells : List Cell) → Emits plan s last pc cells → CellsAt code exits pc cells → PieceAt code plan s exits pc (pc + length cells)
-    statement_stands (kernel.set_zero v) exits last pc cells h at_pc = piece_stands _ last exits pc cells h at_pc
-    statement_stands (kernel.set place x) exits last pc cells h at_pc = piece_stands _ last exits pc cells h at_pc
-    statement_stands (kernel.output o) exits last pc cells (port, unstamped, h) at_pc = (port, unstamped, piece_stands _ last exits pc cells h at_pc)
-    statement_stands (kernel.input i) exits last pc cells h at_pc = absurd h
-    statement_stands (kernel.if_then x a b) exits last pc cells h at_pc =
-        branching_stands x a b (AllEmit plan a) (AllEmit plan b) exits last pc cells (λ l i cs k n. statements_stand a exits l i cs k n) (λ l i cs k n. statements_stand b exits l i cs k n) b refl h at_pc
-    statement_stands (kernel.loop x a b) exits last pc cells h at_pc =
+    statement_stands : (s : kernel.Statement) (around : List ℕ) (exits : List Exit) (last : Pos) (pc : ℕ) (cells : List Cell) → IsInside around s → Emits plan s last pc cells → CellsAt code exits pc cells → PieceAt code plan s exits pc (pc + length cells)
+    statement_stands (kernel.set_zero v) around exits last pc cells inside h at_pc = piece_stands _ last exits pc cells h at_pc
+    statement_stands (kernel.set place x) around exits last pc cells inside h at_pc = piece_stands _ last exits pc cells h at_pc
+    statement_stands (kernel.output o) around exits last pc cells inside (port, unstamped, h) at_pc = (port, unstamped, piece_stands _ last exits pc cells h at_pc)
+    statement_stands (kernel.input i) around exits last pc cells inside h at_pc = absurd h
+    statement_stands (kernel.if_then x a b) around exits last pc cells inside h at_pc =
+        branching_stands x a b (AllEmit plan a) (AllEmit plan b) exits last pc cells (λ l i cs k n. statements_stand a around exits l i cs inside.0 k n) (λ l i cs k n. statements_stand b around exits l i cs inside.1 k n) b refl h at_pc
+    statement_stands (kernel.loop x a b) around exits last pc cells inside h at_pc =
         let back = known (line (Brbu pc) (behind (behind last h.body) h.next)) in
         let tail = h.body ++ (h.next ++ back ∷ []) in
         let m = length-map h.test known in
@@ -128,30 +192,56 @@ module _ (code : Code) (plan : Plan) where
         let p = pc + length h.test + 1 in
         let at_next = cells_back code exits h.body (h.next ++ back ∷ []) (pc + length h.test + 1) at_test.1 in
         let at_back = cells_back code exits h.next (back ∷ []) (pc + length h.test + 1 + length h.body) at_next in
-        let body = statements_stand a exits last (pc + length h.test + 1) h.body h.body_is (cells_front code exits h.body (h.next ++ back ∷ []) (pc + length h.test + 1) at_test.1) in
-        let next = statements_stand b exits (behind last h.body) (pc + length h.test + 1 + length h.body) h.next h.next_is (cells_front code exits h.next (back ∷ []) (pc + length h.test + 1 + length h.body) at_next) in
+        let body = statements_stand a around exits last (pc + length h.test + 1) h.body inside.0 h.body_is (cells_front code exits h.body (h.next ++ back ∷ []) (pc + length h.test + 1) at_test.1) in
+        let next = statements_stand b around exits (behind last h.body) (pc + length h.test + 1 + length h.body) h.next inside.1 h.next_is (cells_front code exits h.next (back ∷ []) (pc + length h.test + 1 + length h.body) at_next) in
         (pc + length h.test + 1, pc + length h.test + 1 + length h.body, pc + length h.test + 1 + length h.body + length h.next, record { lines = h.test; place = last; stand = subst (λ k. StandAt code pc (h.test ++ line (Brff R0 k) last ∷ [])) n at_test.0; tests = h.tests; end = refl }, body, next, (pc, inr at_back.0.0, refl))
-    statement_stands (kernel.block n a) exits last pc cells h at_pc =
+    statement_stands (kernel.block n a) around exits last pc cells inside h at_pc =
         let end = pc + length h.inside in
         let same : pc + length h.inside ≡ pc + length cells = ap (λ k. pc + k) (sym (ap length h.is ∙ length-map h.inside (closed n (pc + length h.inside)))) in
-        let inside = cells_closed code exits n (pc + length h.inside) h.inside pc (subst (CellsAt code exits pc) h.is at_pc) in
+        let at_inside = cells_closed code exits n (pc + length h.inside) h.inside pc (subst (CellsAt code exits pc) h.is at_pc) in
         subst (PieceAt code plan (kernel.block n a) exits pc) same
-        (statements_stand a (record { block = n; index = pc + length h.inside } ∷ exits) last pc h.inside h.inside_is inside)
-    statement_stands (kernel.exit n) exits last pc cells h at_pc =
+        (statements_stand a (n ∷ around) (record { block = n; index = pc + length h.inside } ∷ exits) last pc h.inside inside h.inside_is at_inside)
+    statement_stands (kernel.exit n) around exits last pc cells inside h at_pc =
         let here = subst (CellsAt code exits pc) h at_pc in
         (here.0.0, here.0.1, here.0.2, ap (λ k. pc + k) (ap length h))
-    statement_stands (kernel.select cs d pos) exits last pc cells h at_pc = absurd h
-    statement_stands (kernel.par bs) exits last pc cells h at_pc = absurd h
-    statement_stands (kernel.transaction c is_master a start close) exits last pc cells h at_pc = absurd h
+    statement_stands (kernel.select cs d pos) around exits last pc cells inside h at_pc = absurd h
+    statement_stands (kernel.par bs) around exits last pc cells inside h at_pc = par_stands bs exits last pc cells inside h at_pc
+    statement_stands (kernel.transaction c is_master a start close) around exits last pc cells inside h at_pc = absurd h
 
-    statements_stand : (ss : kernel.Statements) (exits : List Exit) (last : Pos) (pc : ℕ) (cells : List Cell) → AllEmit plan ss last pc cells → CellsAt code exits pc cells → PiecesAt code plan ss exits pc (pc + length cells)
-    statements_stand kernel.no_more exits last pc cells h at_pc =
+    statements_stand : (ss : kernel.Statements) (around : List ℕ) (exits : List Exit) (last : Pos) (pc : ℕ) (cells : List Cell) → AreInside around ss → AllEmit plan ss last pc cells → CellsAt code exits pc cells → PiecesAt code plan ss exits pc (pc + length cells)
+    statements_stand kernel.no_more around exits last pc cells inside h at_pc =
         let none : length cells ≡ 0 = ap length h in
         omega arith
-    statements_stand (kernel.more s ss) exits last pc cells h at_pc =
+    statements_stand (kernel.more s ss) around exits last pc cells inside h at_pc =
         let all = subst (CellsAt code exits pc) h.is at_pc in
         let end : pc + length h.first + length h.rest ≡ pc + length cells = omega (arith, ap length h.is, length-append h.first h.rest) in
-        (pc + length h.first, statement_stands s exits last pc h.first h.first_is (cells_front code exits h.first h.rest pc all), subst (PiecesAt code plan ss exits (pc + length h.first)) end (statements_stand ss exits (behind last h.first) (pc + length h.first) h.rest h.rest_is (cells_back code exits h.first h.rest pc all)))
+        (pc + length h.first, statement_stands s around exits last pc h.first inside.0 h.first_is (cells_front code exits h.first h.rest pc all), subst (PiecesAt code plan ss exits (pc + length h.first)) end (statements_stand ss around exits (behind last h.first) (pc + length h.first) h.rest inside.1 h.rest_is (cells_back code exits h.first h.rest pc all)))
+
+    par_stands : (bs : kernel.Branches) (exits : List Exit) (last : Pos) (pc : ℕ) (cells : List Cell) → BranchesAreInside bs → ParEmits plan bs last pc cells → CellsAt code exits pc cells → ParAt code plan bs pc (pc + length cells)
+    par_stands kernel.no_branch exits last pc cells inside h at_pc =
+        let none : length cells ≡ 0 = ap length h in
+        omega arith
+    par_stands (kernel.more_branches (kernel.branch ss pos) kernel.no_branch) exits last pc cells inside h at_pc =
+        statements_stand ss [] [] last pc cells inside.0 h (branch_alone ss exits last pc cells inside.0 h at_pc)
+    par_stands (kernel.more_branches (kernel.branch ss pos) (kernel.more_branches b bs)) exits last pc cells inside h at_pc =
+        several_stand (branch_count (kernel.more_branches b bs)) (AllEmit plan ss) (PiecesAt code plan ss []) (SlavesEmit plan (kernel.more_branches b bs)) (SlavesAt code plan (kernel.more_branches b bs)) exits last pc cells (λ l i cs k n. statements_stand ss [] [] l i cs inside.0 k (branch_alone ss exits l i cs inside.0 k n)) (λ ns l i cs k n. slaves_stand (kernel.more_branches b bs) exits ns l i cs inside.1 k n) h at_pc
+
+    slaves_stand : (bs : kernel.Branches) (exits : List Exit) (starts : List ℕ) (last : Pos) (pc : ℕ) (cells : List Cell) → BranchesAreInside bs → SlavesEmit plan bs starts last pc cells → CellsAt code exits pc cells → SlavesAt code plan bs starts
+    slaves_stand kernel.no_branch exits starts last pc cells inside h at_pc = h.0
+    slaves_stand (kernel.more_branches (kernel.branch ss pos) bs) exits starts last pc cells inside h at_pc =
+        let g = h.slave_is in
+        let end = known (line Ssync (behind last g.body)) in
+        let all = subst (CellsAt code exits pc) h.is at_pc in
+        let slave = subst (CellsAt code exits pc) g.is (cells_front code exits h.slave h.others pc all) in
+        let at_end = cells_back code exits g.body (end ∷ []) pc slave in (
+          pc,
+          h.later,
+          pc + length g.body,
+          h.starts_are,
+          statements_stand ss [] [] last pc g.body inside.0 g.body_is (branch_alone ss exits last pc g.body inside.0 g.body_is (cells_front code exits g.body (end ∷ []) pc slave)),
+          record { lines = line Ssync (behind last g.body) ∷ []; stand = (at_end.0.0, at_end.0.1, tt); ends = g.ends; instr = at_end.0.0 },
+          slaves_stand bs exits h.later (behind last h.slave) (pc + length h.slave) h.others inside.1 h.others_are (cells_back code exits h.slave h.others pc all),
+        )
 
   line_front : (a b : List Line) (pc : ℕ) → StandAt code pc (a ++ b) → StandAt code pc a
   line_front [] b pc h = tt
@@ -170,7 +260,7 @@ roots_stand code plan body pos last pc lines h at_pc =
     let same : pc + length (map known h.front) ≡ pc + length h.front = ap (λ k. pc + k) (length-map h.front known) in
     record {
       done = pc + length h.front;
-      pieces = subst (PiecesAt code plan body [] pc) same (statements_stand code plan body [] last pc (map known h.front) h.body_is stand);
+      pieces = subst (PiecesAt code plan body [] pc) same (statements_stand code plan body [] [] last pc (map known h.front) h.inside h.body_is stand);
       ends_here = line_back code plan h.front (line Freet pos ∷ []) pc all;
       ends = h.ends;
     }

@@ -6,7 +6,7 @@ use Rattle.xc_kernel.specs.Kernels.{statement_of}
 use Rattle.xs_instr.specs.Lines.{Line, last_pos}
 use Rattle.xl_expr.specs.declared.plan.Plan.{Plan}
 use Rattle.xl_walk.specs.declared.walk.Leaving.{Leaving}
-use Rattle.xl_walk.specs.Built.{AreBuilt, AreShallow, most, most_of_all, statements_of}
+use Rattle.xl_walk.specs.Built.{AreBuilt, AreShallow, ParsAreFew, most, most_of_all, statements_of}
 use Rattle.xl_walk.specs.Cells.{Cell, leaves, line_of}
 use Rattle.xl_walk.specs.Emits.{AllEmit, Emits, Emitted}
 use Rattle.xl_walk.proofs.Parts.{emitted_last, emitted_length, leaves_append, lines_append, lines_length}
@@ -17,11 +17,16 @@ abbrev mutual
   weight (kernel.if_then test first second) = 1 + weights first + weights second
   weight (kernel.loop test body next) = 1 + weights body + weights next
   weight (kernel.block n ss) = 1 + weights ss
+  weight (kernel.par bs) = 1 + branch_weights bs
   weight other = 1
 
   pub weights : kernel.Statements → ℕ
   weights kernel.no_more = 1
   weights (kernel.more s ss) = 1 + weight s + weights ss
+
+  pub branch_weights : kernel.Branches → ℕ
+  branch_weights kernel.no_branch = 1
+  branch_weights (kernel.more_branches (kernel.branch ss pos) bs) = 1 + weights ss + branch_weights bs
 
 -- the statements from one on
 pub statements_at : (ss : List Kst) (i : ℕ) (x : Kst) → x ≡ get_or ss i x → i < length ss → statements_of (drop i ss) ≡ kernel.more (statement_of x) (statements_of (drop (i + 1) ss))
@@ -45,16 +50,18 @@ lighter ss i x is lt = let l = item_weight ss i x x (sym is) lt in omega arith
 pub record Walked (plan : Plan) (all rest : kernel.Statements) (e0 e : List Line) (before left : List Leaving) : Type 0 where
   pub built : AreBuilt rest
   pub shallow : AreShallow rest
+  pub few : ParsAreFew rest
   pub room : length e + most_of_all plan.vars rest ≤ length e0 + most_of_all plan.vars all
   pub cells : List Cell
   pub lines : e ≡ e0 ++ map line_of cells
   pub leaving_ones : left ≡ before ++ leaves cells (length e0)
   pub so : (more : List Cell) → AllEmit plan rest (last_pos e) (length e) more → AllEmit plan all (last_pos e0) (length e0) (cells ++ more)
 
-pub walk_begins : (plan : Plan) (all : kernel.Statements) (e0 : List Line) (before : List Leaving) → AreBuilt all → AreShallow all → Walked plan all all e0 e0 before before
-walk_begins plan all e0 before built shallow = record {
+pub walk_begins : (plan : Plan) (all : kernel.Statements) (e0 : List Line) (before : List Leaving) → AreBuilt all → AreShallow all → ParsAreFew all → Walked plan all all e0 e0 before before
+walk_begins plan all e0 before built shallow few = record {
   built = built;
   shallow = shallow;
+  few = few;
   room = omega arith;
   cells = [];
   lines = sym (append-nil e0);
@@ -66,6 +73,7 @@ pub walk_goes_on : (plan : Plan) (all rest : kernel.Statements) (s : kernel.Stat
 walk_goes_on plan all rest s e0 e1 e2 before left1 left2 h g size = record {
   built = h.built.1;
   shallow = h.shallow.1;
+  few = h.few.1;
   room = let r = h.room in omega arith;
   cells = h.cells ++ g.cells;
   lines = g.lines ∙ ap (λ ls. ls ++ map line_of g.cells) h.lines ∙ append_assoc e0 (map line_of h.cells) (map line_of g.cells) ∙ ap (λ ls. e0 ++ ls) (sym (lines_append h.cells g.cells));

@@ -1,19 +1,23 @@
 -- The code of statements: which cells a statement has, by the place of the instruction in front and the index of the first cell.
-use Rattle.std.specs.Prelude.{◌≡◌, ℕ, ◌+◌, List, [], ◌∷◌, ◌++◌, length, map, Option, None}
+use Rattle.std.specs.Prelude.{◌≡◌, ℕ, ◌+◌, ◌≤◌, List, [], ◌∷◌, ◌++◌, length, map, Option, None}
 use Rattle.xw_words.specs.declared.pos.Pos.{Pos}
-use Rattle.xs_instr.specs.declared.instr.Instr.TheVariants.{Brff, Brfu, Brbu}
+use Rattle.xs_instr.specs.declared.instr.Instr.TheVariants.{Brff, Brfu, Brbu, Ssync}
 use Rattle.xs_instr.specs.declared.instr.Reg.TheVariants.{R0}
 use Rattle.xs_instr.specs.Lines.{Line, line, last_pos}
 use Rattle.xc_kernel.specs.Plain as kernel
+use Rattle.xc_meaning.specs.Counts.KernelCounts.{branch_count}
 use Rattle.xl_expr.specs.declared.plan.Plan.{Plan}
 use Rattle.xl_expr.specs.declared.plan.VarPlan.{VarPlan}
 use Rattle.xl_expr.specs.Targets.{AreAimed}
 use Rattle.xl_flow.specs.Flow.{Sets, Tests}
 use Rattle.xl_flow.specs.Zeros.{Zeroes}
+use Rattle.xl_par.specs.Closing.{Closes as ClosesPar, EndsSlave}
+use Rattle.xl_par.specs.Opening.{AreAimedWith, Opens, filled}
 use Rattle.xl_port.specs.Outputs.{Outputs}
 use Rattle.xl_walk.specs.Built.{IsPort}
 use Rattle.xl_walk.specs.declared.walk.Leaving.{Leaving}
 use Rattle.xl_walk.specs.Cells.{Cell, known, leaving, behind, closed, leaves, line_of}
+use Rattle.xl_walk.specs.Landing.{all_landed}
 
 -- the cells of some code, by the place in front and the first index
 abbrev pub Coded : Type 1
@@ -93,6 +97,51 @@ pub record Closes (n : ℕ) (Inside : Coded) (last : Pos) (pc : ℕ) (cells : Li
   pub is : cells ≡ map (closed n (pc + length inside)) inside
   pub inside_is : Inside last pc inside
 
+-- A branch of a `par` behind the first, and the instruction that ends it.
+pub record Slave (Body : Coded) (last : Pos) (pc : ℕ) (cells : List Cell) : Type 0 where
+  pub body : List Cell
+  pub is : cells ≡ body ++ known (line Ssync (behind last body)) ∷ []
+  pub body_is : Body last pc body
+  pub ends : EndsSlave (pc + length body) (line Ssync (behind last body) ∷ [])
+
+-- such a branch, and then the others, by the indices where they start
+pub record SlaveThen
+    (Body : Coded) (Others : List ℕ → Coded) (starts : List ℕ) (last : Pos) (pc : ℕ) (cells : List Cell) : Type 0 where
+  pub slave : List Cell
+  pub later : List ℕ
+  pub others : List Cell
+  pub starts_are : starts ≡ pc ∷ later
+  pub is : cells ≡ slave ++ others
+  pub slave_is : Slave Body last pc slave
+  pub others_are : Others later (behind last slave) (pc + length slave) others
+
+-- What opens a `par`, the first branch, what closes the `par`, a jump past the other branches, and these.
+pub record SeveralBranches
+    (plan : Plan) (slaves : ℕ) (First : Coded) (Slaves : List ℕ → Coded) (last : Pos) (pc : ℕ) (cells : List Cell) : Type 0 where
+  pub opening : List Line
+  pub starts : List ℕ
+  pub first : List Cell
+  pub closing : List Line
+  pub others : List Cell
+  pub end : ℕ
+  pub as_many : length starts ≡ slaves
+  pub few : slaves ≤ 7
+  pub end_is : end ≡ pc + length opening + length first + length closing + 1 + length others
+  pub is : cells ≡ map known (filled opening starts)
+      ++ (first ++ (map known closing ++ (known (line (Brfu end) (behind last first)) ∷ others)))
+  pub opens : Opens plan.first_stack slaves last pc opening
+  pub opens_aimed : AreAimedWith slaves pc opening
+  pub first_is : First last (pc + length opening) first
+  pub closes : ClosesPar (behind last first) (pc + length opening + length first) closing
+  pub closes_aimed : AreAimed (pc + length opening + length first) closing
+  pub others_are : Slaves starts (behind last first) (pc + length opening + length first + length closing + 1) others
+
+-- one branch has its own code alone
+abbrev pub OneOrSeveral : Plan → (others : kernel.Branches) → (First : Coded) → (Slaves : List ℕ → Coded) → Coded
+OneOrSeveral plan kernel.no_branch First Slaves last pc cells = First last pc cells
+OneOrSeveral plan (kernel.more_branches b bs) First Slaves last pc cells =
+    SeveralBranches plan (branch_count (kernel.more_branches b bs)) First Slaves last pc cells
+
 module _ (plan : Plan) where
   abbrev mutual
     pub Emits : kernel.Statement → Coded
@@ -103,11 +152,23 @@ module _ (plan : Plan) where
     Emits (kernel.loop x a b) last pc cells = Turns plan.vars x (AllEmit a) (AllEmit b) last pc cells
     Emits (kernel.block n a) last pc cells = Closes n (AllEmit a) last pc cells
     Emits (kernel.exit n) last pc cells = cells ≡ leaving n last ∷ []
+    Emits (kernel.par bs) last pc cells = ParEmits bs last pc cells
     Emits other last pc cells = ⊥
 
     pub AllEmit : kernel.Statements → Coded
     AllEmit kernel.no_more last pc cells = cells ≡ []
     AllEmit (kernel.more s ss) last pc cells = Follow (Emits s) (AllEmit ss) last pc cells
+
+    pub ParEmits : kernel.Branches → Coded
+    ParEmits kernel.no_branch last pc cells = cells ≡ []
+    ParEmits (kernel.more_branches (kernel.branch ss pos) bs) last pc cells =
+        OneOrSeveral plan bs (AllEmit ss) (SlavesEmit bs) last pc cells
+
+    -- the branches behind the first, by where they start
+    pub SlavesEmit : kernel.Branches → List ℕ → Coded
+    SlavesEmit kernel.no_branch starts last pc cells = (starts ≡ []) × (cells ≡ [])
+    SlavesEmit (kernel.more_branches (kernel.branch ss pos) bs) starts last pc cells =
+        SlaveThen (AllEmit ss) (SlavesEmit bs) starts last pc cells
 
 -- Such code was added to the lines, and its jumps out of blocks to those that are open.
 pub record Emitted (Code : Coded) (old new : List Line) (before after : List Leaving) : Type 0 where
@@ -115,3 +176,12 @@ pub record Emitted (Code : Coded) (old new : List Line) (before after : List Lea
   pub lines : new ≡ old ++ map line_of cells
   pub leaving_ones : after ≡ before ++ leaves cells (length old)
   pub so : Code (last_pos old) (length old) cells
+
+-- Branches behind the first were added, each where the next of the starts landed.
+pub record SlavesEmitted
+    (Slaves : List ℕ → Coded) (holes : List ℕ) (old new : List Line) (before after : List Leaving) : Type 0 where
+  pub starts : List ℕ
+  pub cells : List Cell
+  pub lines : new ≡ all_landed old holes starts ++ map line_of cells
+  pub leaving_ones : after ≡ before ++ leaves cells (length old)
+  pub so : Slaves starts (last_pos old) (length old) cells

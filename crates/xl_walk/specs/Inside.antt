@@ -14,11 +14,17 @@ abbrev mutual
   IsInside around (kernel.loop x a b) = AreInside around a × AreInside around b
   IsInside around (kernel.block n a) = AreInside (n ∷ around) a
   IsInside around (kernel.exit n) = is_among around n ≡ true
+  IsInside around (kernel.par bs) = BranchesAreInside bs
   IsInside around other = Unit {0}
 
   pub AreInside : (around : List ℕ) → kernel.Statements → Type 0
   AreInside around kernel.no_more = Unit {0}
   AreInside around (kernel.more s ss) = IsInside around s × AreInside around ss
+
+  -- no `exit` leaves a branch
+  pub BranchesAreInside : kernel.Branches → Type 0
+  BranchesAreInside kernel.no_branch = Unit {0}
+  BranchesAreInside (kernel.more_branches (kernel.branch ss pos) bs) = AreInside [] ss × BranchesAreInside bs
 
 -- The lines may stand in any code from an index on, alone or with others around them: their targets lie among them, and none is open.
 pub record StandAlone (pc : ℕ) (lines : List Line) : Type 0 where

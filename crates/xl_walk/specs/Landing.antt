@@ -1,5 +1,5 @@
--- The jumps out of a block land where it ends.
-use Rattle.std.specs.Prelude.{ℕ, Bool, true, false, List, [], ◌∷◌, nat_eq}
+-- The jumps out of a block land where it ends, and the starts of a `par`'s branches where these begin.
+use Rattle.std.specs.Prelude.{◌≡◌, ℕ, Bool, true, false, List, [], ◌∷◌, ◌++◌, nat_eq}
 use Rattle.xs_instr.specs.Lines.{Line, IsOpen, landed}
 use Rattle.xl_walk.specs.declared.walk.Leaving.{Leaving}
 
@@ -32,3 +32,22 @@ abbrev pub Closable : List Line → (block end : ℕ) → List Leaving → Type 
 Closable ls n end [] = Unit {0}
 Closable ls n end (l ∷ more) =
     OpenWhere (nat_eq l.block n) ls l.hole.index × Closable (closed_line ls l.hole.index end (nat_eq l.block n)) n end more
+
+-- Starts of branches.
+
+-- the lines once open ones have got targets, one after the other, as many as there are
+abbrev pub all_landed : List Line → (holes targets : List ℕ) → List Line
+all_landed ls [] targets = ls
+all_landed ls (h ∷ hs) [] = ls
+all_landed ls (h ∷ hs) (n ∷ ns) = all_landed (landed ls h n) hs ns
+
+-- each of them is open when it gets one
+abbrev pub AreLandable : List Line → (holes : List ℕ) → Type 0
+AreLandable ls [] = Unit {0}
+AreLandable ls (h ∷ hs) = IsOpen ls h × ((n : ℕ) → AreLandable (landed ls h n) hs)
+
+-- some have got one, and there may be further lines
+pub record Lands (holes : List ℕ) (old new : List Line) : Type 0 where
+  pub targets : List ℕ
+  pub more : List Line
+  pub is : new ≡ all_landed old holes targets ++ more

@@ -2,14 +2,17 @@
 use Rattle.std.specs.Prelude.{◌≡◌, ◌⊎◌, ℕ, zero, suc, ◌+◌, ◌≤◌, Bool, true, false, List, [], ◌∷◌, ◌++◌, length, Option, Some, None, nat_eq, slice_get}
 use Rattle.xw_words.specs.declared.pos.Pos.{Pos}
 use Rattle.xs_instr.specs.declared.image.Code.{Code}
-use Rattle.xs_instr.specs.declared.instr.Instr.TheVariants.{Brff, Brfu, Brbu, Freet}
+use Rattle.xs_instr.specs.declared.instr.Instr.TheVariants.{Brff, Brfu, Brbu, Freet, Ssync}
 use Rattle.xs_instr.specs.declared.instr.Reg.TheVariants.{R0}
 use Rattle.xs_instr.specs.Lines.{Line, line}
 use Rattle.xs_instr.specs.OwnSteps.{StandAt}
 use Rattle.xc_kernel.specs.Plain as kernel
+use Rattle.xc_meaning.specs.Counts.KernelCounts.{branch_count}
 use Rattle.xl_expr.specs.declared.plan.Plan.{Plan}
 use Rattle.xl_flow.specs.Flow.{Sets, Tests}
 use Rattle.xl_flow.specs.Zeros.{Zeroes}
+use Rattle.xl_par.specs.Closing.{Closes, EndsSlave}
+use Rattle.xl_par.specs.Opening.{Opens, filled}
 use Rattle.xl_par.specs.Roots.{EndsRoot}
 use Rattle.xl_port.specs.Outputs.{Outputs}
 use Rattle.xl_walk.specs.Built.{IsPort}
@@ -52,6 +55,53 @@ module _ (code : Code) where
       pub tests : Tests plan.vars x pc place lines
       pub end : next ≡ pc + length lines + 1
 
+    -- the code that opens a `par` of so many branches behind the first, with their starts
+    pub record OpensAt (slaves : ℕ) (starts : List ℕ) (pc pc' : ℕ) : Type 0 where
+      pub lines : List Line
+      pub place : Pos
+      pub as_many : length starts ≡ slaves
+      pub stand : StandAt code pc (filled lines starts)
+      pub opens : Opens plan.first_stack slaves place pc lines
+      pub end : pc' ≡ pc + length lines
+
+    -- the code that closes it
+    pub record ClosesAt (pc pc' : ℕ) : Type 0 where
+      pub lines : List Line
+      pub place : Pos
+      pub stand : StandAt code pc lines
+      pub closes : Closes place pc lines
+      pub end : pc' ≡ pc + length lines
+
+    -- the code that ends a branch behind the first
+    pub record SlaveEndsAt (pc : ℕ) : Type 0 where
+      pub lines : List Line
+      pub stand : StandAt code pc lines
+      pub ends : EndsSlave pc lines
+      pub instr : slice_get code.instrs pc ≡ Some Ssync
+
+    -- several branches: the first stands between what opens and what closes the `par`, the others behind it, past which at most one jump
+    -- leads
+    pub record SeveralAt (slaves : ℕ) (First : (pc pc' : ℕ) → Type 0) (Slaves : List ℕ → Type 0) (pc pc' : ℕ) : Type 0 where
+      pub starts : List ℕ
+      pub first : ℕ
+      pub done : ℕ
+      pub closed : ℕ
+      pub jumps : ℕ
+      pub few : slaves ≤ 7
+      pub opens : OpensAt slaves starts pc first
+      pub first_at : First first done
+      pub closes : ClosesAt done closed
+      pub past : Jumps jumps closed pc'
+      pub at_most_one : jumps ≤ 1
+      pub slaves_at : Slaves starts
+
+    -- one branch has its own code alone
+    abbrev pub ParOf :
+        (others : kernel.Branches) → (First : (pc pc' : ℕ) → Type 0) → (Slaves : List ℕ → Type 0) → (pc pc' : ℕ) → Type 0
+    ParOf kernel.no_branch First Slaves pc pc' = First pc pc'
+    ParOf (kernel.more_branches b bs) First Slaves pc pc' =
+        SeveralAt (branch_count (kernel.more_branches b bs)) First Slaves pc pc'
+
     abbrev mutual
       -- a statement's code, by where the open blocks end
       pub PieceAt : kernel.Statement → List Exit → (pc pc' : ℕ) → Type 0
@@ -69,11 +119,24 @@ module _ (code : Code) where
       PieceAt (kernel.block n a) exits pc pc' = PiecesAt a (record { block = n; index = pc' } ∷ exits) pc pc'
       PieceAt (kernel.exit n) exits pc pc' =
           (end : ℕ) × (exit_of exits n ≡ Some end) × (slice_get code.instrs pc ≡ Some (Brfu end)) × (pc' ≡ pc + 1)
+      PieceAt (kernel.par bs) exits pc pc' = ParAt bs pc pc'
       PieceAt other exits pc pc' = ⊥
 
       pub PiecesAt : kernel.Statements → List Exit → (pc pc' : ℕ) → Type 0
       PiecesAt kernel.no_more exits pc pc' = pc ≡ pc'
       PiecesAt (kernel.more s ss) exits pc pc' = (p : ℕ) × PieceAt s exits pc p × PiecesAt ss exits p pc'
+
+      -- the branches of a `par`; no block around it is open in them
+      pub ParAt : kernel.Branches → (pc pc' : ℕ) → Type 0
+      ParAt kernel.no_branch pc pc' = pc ≡ pc'
+      ParAt (kernel.more_branches (kernel.branch ss pos) bs) pc pc' = ParOf bs (PiecesAt ss []) (SlavesAt bs) pc pc'
+
+      -- the branches behind the first, by where they start
+      pub SlavesAt : kernel.Branches → (starts : List ℕ) → Type 0
+      SlavesAt kernel.no_branch starts = starts ≡ []
+      SlavesAt (kernel.more_branches (kernel.branch ss pos) bs) starts =
+          (start : ℕ) × (others : List ℕ) × (end : ℕ) × (starts ≡ start ∷ others)
+          × PiecesAt ss [] start end × SlaveEndsAt end × SlavesAt bs others
 
     -- a root's code: its statements', and then the instruction that ends the root, at a place
     pub record RootAt (body : kernel.Statements) (pos : Pos) (pc : ℕ) : Type 0 where

@@ -1,6 +1,7 @@
 //! The code of statements: a walk that calls the pieces of code, and what stands where.
 #![tactic(auto)]
 
+mod par;
 mod root;
 mod walk;
 

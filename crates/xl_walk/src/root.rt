@@ -2,7 +2,7 @@ ghost use Rattle.std.specs.Prelude.{◌≡◌, ◌+◌, ◌<◌, ◌≤◌, ◌^
 ghost use Rattle.xs_instr.specs.Adds.{Adds};
 ghost use Rattle.xs_instr.specs.Extends.{Extends};
 ghost use Rattle.xs_instr.specs.Lines.{last_pos};
-ghost use Rattle.xl_walk.specs.Built.{AreBuilt, AreShallow, most_of_all, statements_of};
+ghost use Rattle.xl_walk.specs.Built.{AreBuilt, AreShallow, ParsAreFew, most_of_all, statements_of};
 ghost use Rattle.xl_walk.specs.Inside.{AreInside, StandAlone};
 ghost use Rattle.xl_walk.specs.Laws.{RootsStand};
 ghost use Rattle.xl_walk.specs.Roots.{IsRoot};
@@ -27,7 +27,9 @@ pub fn emit_root(
 ) -> Result<(), Memory>
     requires built { AreBuilt (statements_of body.now) }
     requires shallow { AreShallow (statements_of body.now) }
+    requires few { ParsAreFew (statements_of body.now) }
     requires inside { AreInside [] (statements_of body.now) }
+    requires stack { plan.now.first_stack ≤ 16384 }
     requires room { length e.old + most_of_all plan.now.vars (statements_of body.now) + 1 < 2 ^ 32 }
     ensures root { OnOk result (Adds e.old e.new
         (IsRoot plan.now (statements_of body.now) pos (last_pos e.old) (length e.old))) }

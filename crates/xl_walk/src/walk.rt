@@ -3,11 +3,12 @@ ghost use Rattle.xc_kernel.specs.Kernels.{expression_of, statement_of};
 ghost use Rattle.xs_instr.specs.Extends.{Extends};
 ghost use Rattle.xs_instr.specs.Lines.{last_pos};
 ghost use Rattle.xl_expr.specs.Measures.{depth, nodes};
-ghost use Rattle.xl_walk.specs.Built.{AreBuilt, AreShallow, IsBuilt, IsShallow, most, most_levels, most_of_all, statements_of};
+ghost use Rattle.xl_walk.specs.Built.{AreBuilt, AreShallow, HasFewBranches, IsBuilt, IsShallow, ParsAreFew, most, most_levels, most_of_all, statements_of};
 ghost use Rattle.xl_walk.specs.Cells.{leaving};
 ghost use Rattle.xl_walk.specs.Emits.{AllEmit, Branching, Closes, Emits, Emitted, OneSide, Turns, TwoSides};
 ghost use Rattle.xl_walk.specs.Landing.{Closable, closed_lines, others_leaving};
 
+use crate::par::emit_par;
 use std::alloc::Global;
 use xc_kernel::{Kst, Kx};
 use xl_expr::Plan;
@@ -34,6 +35,8 @@ pub fn emit_statements(
 ) -> Result<List<Leaving>, Memory>
     requires built { AreBuilt (statements_of statements.now) }
     requires shallow { AreShallow (statements_of statements.now) }
+    requires few { ParsAreFew (statements_of statements.now) }
+    requires stack { plan.now.first_stack ≤ 16384 }
     requires room { length e.old + most_of_all plan.now.vars (statements_of statements.now) < 2 ^ 32 }
     ensures code { IfOk result (λ left. Emitted
         (AllEmit plan.now (statements_of statements.now)) e.old e.new [] left) }
@@ -42,13 +45,14 @@ pub fn emit_statements(
     ensures refused { OnErr result (Extends e.old e.new) }
 {
     let mut left = Vec::new(alloc);
-    emit_all(e, plan, statements, &mut left)?;
+    emit_all(alloc, e, plan, statements, &mut left)?;
     Ok(List::from_vec(left))
 }
 
 /// The code of statements, one after the other; their jumps out of blocks go behind those in `left`.
 #[cycle(statement)]
-fn emit_all(
+pub(crate) fn emit_all(
+    alloc: Global,
     e: &mut Emitter,
     plan: &Plan,
     statements: &[Kst],
@@ -56,6 +60,8 @@ fn emit_all(
 ) -> Result<(), Memory>
     requires built { AreBuilt (statements_of statements.now) }
     requires shallow { AreShallow (statements_of statements.now) }
+    requires few { ParsAreFew (statements_of statements.now) }
+    requires stack { plan.now.first_stack ≤ 16384 }
     requires room { length e.old + most_of_all plan.now.vars (statements_of statements.now) < 2 ^ 32 }
     ensures code { OnOk result (Emitted (AllEmit plan.now (statements_of statements.now))
         e.old e.new left.old.items left.new.items) }
@@ -64,7 +70,7 @@ fn emit_all(
     ensures refused { OnErr result (Extends e.old e.new) }
 {
     for statement in statements {
-        emit_one(e, plan, statement, left)?;
+        emit_one(alloc, e, plan, statement, left)?;
     }
     Ok(())
 }
@@ -72,6 +78,7 @@ fn emit_all(
 #[cycle(statement)]
 #[tactic(auto, using(xc_kernel::proofs::Forms::forms))]
 fn emit_one(
+    alloc: Global,
     e: &mut Emitter,
     plan: &Plan,
     statement: &Kst,
@@ -79,6 +86,8 @@ fn emit_one(
 ) -> Result<(), Memory>
     requires built { IsBuilt (statement_of statement.now) }
     requires shallow { IsShallow (statement_of statement.now) }
+    requires few { HasFewBranches (statement_of statement.now) }
+    requires stack { plan.now.first_stack ≤ 16384 }
     requires room { length e.old + most plan.now.vars (statement_of statement.now) < 2 ^ 32 }
     ensures code { OnOk result (Emitted (Emits plan.now (statement_of statement.now))
         e.old e.new left.old.items left.new.items) }
@@ -91,22 +100,31 @@ fn emit_one(
         Kst::Set(place, x) => emit_set(e, plan, place, x),
         Kst::Out(o) => emit_port_out(e, plan, o),
         Kst::If(test, first, second) => {
-            emit_if(e, plan, test, first.as_slice(), second.as_slice(), left)
+            emit_if(
+                alloc,
+                e,
+                plan,
+                test,
+                first.as_slice(),
+                second.as_slice(),
+                left,
+            )
         }
         Kst::Loop(test, body, next) => {
-            emit_loop(e, plan, test, body.as_slice(), next.as_slice(), left)
+            emit_loop(alloc, e, plan, test, body.as_slice(), next.as_slice(), left)
         }
-        Kst::Block(block, inside) => emit_block(e, plan, *block, inside.as_slice(), left),
+        Kst::Block(block, inside) => emit_block(alloc, e, plan, *block, inside.as_slice(), left),
         Kst::Exit(block) => emit_exit(e, *block, left),
+        Kst::Par(branches) => emit_par(alloc, e, plan, branches.as_slice(), left),
         Kst::In(_) => unreachable!(),
         Kst::Select(_) => unreachable!(),
-        Kst::Par(_) => unreachable!(),
         Kst::Tran { .. } => unreachable!(),
     }
 }
 
 #[cycle(statement)]
 fn emit_if(
+    alloc: Global,
     e: &mut Emitter,
     plan: &Plan,
     test: &Kx,
@@ -119,6 +137,9 @@ fn emit_if(
     requires shallow { depth (expression_of test.now) ≤ most_levels }
     requires shallow_first { AreShallow (statements_of first.now) }
     requires shallow_second { AreShallow (statements_of second.now) }
+    requires few_first { ParsAreFew (statements_of first.now) }
+    requires few_second { ParsAreFew (statements_of second.now) }
+    requires stack { plan.now.first_stack ≤ 16384 }
     requires room { length e.old + 8 * nodes (expression_of test.now)
         + most_of_all plan.now.vars (statements_of first.now)
         + most_of_all plan.now.vars (statements_of second.now) + 2 < 2 ^ 32 }
@@ -132,14 +153,15 @@ fn emit_if(
     ensures refused { OnErr result (Extends e.old e.new) }
 {
     if second.len() == 0 {
-        emit_one_side(e, plan, test, first, left)
+        emit_one_side(alloc, e, plan, test, first, left)
     } else {
-        emit_two_sides(e, plan, test, first, second, left)
+        emit_two_sides(alloc, e, plan, test, first, second, left)
     }
 }
 
 #[cycle(statement)]
 fn emit_one_side(
+    alloc: Global,
     e: &mut Emitter,
     plan: &Plan,
     test: &Kx,
@@ -149,6 +171,8 @@ fn emit_one_side(
     requires built { AreBuilt (statements_of first.now) }
     requires shallow { depth (expression_of test.now) ≤ most_levels }
     requires shallow_first { AreShallow (statements_of first.now) }
+    requires few_first { ParsAreFew (statements_of first.now) }
+    requires stack { plan.now.first_stack ≤ 16384 }
     requires room { length e.old + 8 * nodes (expression_of test.now)
         + most_of_all plan.now.vars (statements_of first.now) + 1 < 2 ^ 32 }
     ensures code { OnOk result (Emitted
@@ -160,13 +184,14 @@ fn emit_one_side(
 {
     let last = e.pos();
     let past = emit_test(e, plan, test, last)?;
-    emit_all(e, plan, first, left)?;
+    emit_all(alloc, e, plan, first, left)?;
     e.land(past);
     Ok(())
 }
 
 #[cycle(statement)]
 fn emit_two_sides(
+    alloc: Global,
     e: &mut Emitter,
     plan: &Plan,
     test: &Kx,
@@ -179,6 +204,9 @@ fn emit_two_sides(
     requires shallow { depth (expression_of test.now) ≤ most_levels }
     requires shallow_first { AreShallow (statements_of first.now) }
     requires shallow_second { AreShallow (statements_of second.now) }
+    requires few_first { ParsAreFew (statements_of first.now) }
+    requires few_second { ParsAreFew (statements_of second.now) }
+    requires stack { plan.now.first_stack ≤ 16384 }
     requires room { length e.old + 8 * nodes (expression_of test.now)
         + most_of_all plan.now.vars (statements_of first.now)
         + most_of_all plan.now.vars (statements_of second.now) + 2 < 2 ^ 32 }
@@ -193,17 +221,18 @@ fn emit_two_sides(
 {
     let last = e.pos();
     let past = emit_test(e, plan, test, last)?;
-    emit_all(e, plan, first, left)?;
+    emit_all(alloc, e, plan, first, left)?;
     let last = e.pos();
     let over = emit_jump(e, last)?;
     e.land(past);
-    emit_all(e, plan, second, left)?;
+    emit_all(alloc, e, plan, second, left)?;
     e.land(over);
     Ok(())
 }
 
 #[cycle(statement)]
 fn emit_loop(
+    alloc: Global,
     e: &mut Emitter,
     plan: &Plan,
     test: &Kx,
@@ -216,6 +245,9 @@ fn emit_loop(
     requires shallow { depth (expression_of test.now) ≤ most_levels }
     requires shallow_body { AreShallow (statements_of body.now) }
     requires shallow_next { AreShallow (statements_of next.now) }
+    requires few_body { ParsAreFew (statements_of body.now) }
+    requires few_next { ParsAreFew (statements_of next.now) }
+    requires stack { plan.now.first_stack ≤ 16384 }
     requires room { length e.old + 8 * nodes (expression_of test.now)
         + most_of_all plan.now.vars (statements_of body.now)
         + most_of_all plan.now.vars (statements_of next.now) + 2 < 2 ^ 32 }
@@ -231,8 +263,8 @@ fn emit_loop(
     let start = e.here();
     let last = e.pos();
     let out = emit_test(e, plan, test, last)?;
-    emit_all(e, plan, body, left)?;
-    emit_all(e, plan, next, left)?;
+    emit_all(alloc, e, plan, body, left)?;
+    emit_all(alloc, e, plan, next, left)?;
     let last = e.pos();
     emit_back(e, start, last)?;
     e.land(out);
@@ -241,6 +273,7 @@ fn emit_loop(
 
 #[cycle(statement)]
 fn emit_block(
+    alloc: Global,
     e: &mut Emitter,
     plan: &Plan,
     block: u32,
@@ -249,6 +282,8 @@ fn emit_block(
 ) -> Result<(), Memory>
     requires built { AreBuilt (statements_of inside.now) }
     requires shallow { AreShallow (statements_of inside.now) }
+    requires few { ParsAreFew (statements_of inside.now) }
+    requires stack { plan.now.first_stack ≤ 16384 }
     requires room { length e.old + most_of_all plan.now.vars (statements_of inside.now) < 2 ^ 32 }
     ensures code { OnOk result (Emitted
         (Closes block (AllEmit plan.now (statements_of inside.now)))
@@ -258,7 +293,7 @@ fn emit_block(
     ensures refused { OnErr result (Extends e.old e.new) }
 {
     let outside = left.len();
-    emit_all(e, plan, inside, left)?;
+    emit_all(alloc, e, plan, inside, left)?;
     let inner = left.split_off(outside)?;
     land_jumps(e, block, inner.as_slice());
     push_others(left, block, inner.as_slice())?;

@@ -1,16 +1,26 @@
 -- Own steps of a thread on its core are silent steps of its runner, so what a piece of code leads to is where the runner comes.
-use Rattle.std.proofs.Common.{◌≡◌, ℕ, zero, suc, ◌+◌, ◌-◌, ◌≤◌, Bool, true, false, inl, inr, ⊎_elim, refl, ap, ◌∙◌, arith}
-use Rattle.std.specs.Prelude.{slice_get, nat_lt}
-use Rattle.std.proofs.lemmas.Bool.{ltb-true, ltb-false}
+use Rattle.std.proofs.Common.{◌≡◌, ◌≢◌, ◌<◌, ℕ, Some, zero, suc, ◌+◌, ◌-◌, ◌≤◌, Bool, true, false, length, inl, inr, ⊎_elim, refl, sym, ap, ◌∙◌, arith}
+use Rattle.std.specs.Prelude.{slice_get, slice_set, nat_le, nat_lt}
+use Rattle.std.proofs.lemmas.Bool.{and_from, le-leb, lt-ltb, ltb-true, ltb-false, or_left}
+use Rattle.std.proofs.lemmas.List.{length-set}
+use Rattle.std.proofs.lemmas.Option.{same_Some}
 use Rattle.xs_instr.specs.declared.state.CoreState.{CoreState}
+use Rattle.xs_instr.specs.declared.state.Port.{Port}
+use Rattle.xs_instr.specs.declared.state.Regs.{Regs}
+use Rattle.xs_instr.specs.declared.state.Thread.{Thread}
+use Rattle.xs_instr.specs.Did.{makes}
+use Rattle.xs_instr.specs.Slot.{slot}
 use Rattle.xs_instr.specs.OwnSteps as own
 use Rattle.xs_instr.specs.OwnSteps.{IsApart, OwnStep, Within, temporary}
 use Rattle.xc_kernel.specs.declared.kernel.PortUse.{PortUse}
 use Rattle.xc_kernel.specs.Eval.{words_of}
-use Rattle.xl_expr.proofs.Lists.{get_set_other}
+use Rattle.xl_expr.proofs.Lists.{get_set_same, get_set_other, room_kept}
 use Rattle.xl_port.specs.PortSteps.{KeptPort, PortStep, WithinPort}
-use Rattle.xr_threads.specs.Runners.{Setting, Runner, IsPort, MayChange, of_stack, home, port_place, relied}
-use Rattle.xr_threads.specs.Scenes.{Scene, Kept, IsSilentStep, after, LeadsIn}
+use Rattle.xr_threads.specs.Runners.{Setting, Runner, IsPort, MayChange, of_stack, home, is_among_words, is_word_among, plan, port_place, relied}
+use Rattle.xr_threads.specs.Scenes.{Scene, Kept, IsSilentStep, SameUse, StillRuns, after, keeps, running, LeadsIn}
+use Rattle.xr_threads.specs.Turns.{IsAt}
+use Rattle.xr_threads.proofs.Declared.{declared_there, same_declared}
+use Rattle.xr_threads.proofs.Sizes.{same_size}
 
 -- all ports
 abbrev pub any_port : ℕ → Type 0
@@ -20,28 +30,90 @@ any_port q = Unit {0}
 abbrev pub but : ℕ → ℕ → Type 0
 but p q = q ≡ p → ⊥
 
+-- a word among so many
+pub among_words : (first words k : ℕ) → k < words → is_among_words first words (first + k) ≡ true
+among_words first words k lt =
+    and_from (nat_le first (first + k)) (nat_lt (first + k) (first + words)) (le-leb first (first + k) (omega arith)) (lt-ltb (first + k) (first + words) (omega arith))
+
 module _ (g : Setting) (r : Runner) where
-  -- what stays while the runner goes on: these of the words that it relies on, its ports at these places, its branch, and the words of its
-  -- variables in the store
+  -- the runner relies on its temporary words
+  pub stack_relied : (k : ℕ) → k < temporary → relied g r (r.stack + k) ≡ true
+  stack_relied k lt =
+      or_left (is_among_words r.stack temporary (r.stack + k)) (is_word_among r.base (plan g r).vars r.footprint.uses (length (plan g r).vars) (r.stack + k)) (among_words r.stack temporary k lt)
+
+  -- what stays while the runner goes on: these of the words that it relies on, its ports at these places, its branch, the words of its
+  -- variables in the store, and what it has in hand; and its thread runs
   pub record Since (leaves stays : ℕ → Type 0) (z y : Scene) : Type 0 where
     pub words : (w : ℕ) → relied g r w ≡ true → leaves w → slice_get y.core.words w ≡ slice_get z.core.words w
     pub ports : (p : ℕ) (listed : PortUse) → IsPort g r p listed → stays (port_place g r p) →
         slice_get y.core.ports (port_place g r p) ≡ slice_get z.core.ports (port_place g r p)
     pub branch : slice_get y.world.branches r.branch ≡ slice_get z.world.branches r.branch
     pub store : (v : ℕ) → r.footprint.uses v ≡ true → words_of y.world.store v ≡ words_of z.world.store v
+    pub room : r.stack + temporary ≤ length z.core.words → r.stack + temporary ≤ length y.core.words
+    pub declared : (p : ℕ) (listed : PortUse) (port : Port) → IsPort g r p listed → slice_get z.core.ports (port_place g r p) ≡ Some port →
+        (other : Port) × (slice_get y.core.ports (port_place g r p) ≡ Some other) × (other.decl ≡ port.decl)
+    pub hand : y.hand ≡ z.hand
+    pub on : StillRuns g r y.core
 
   -- it holds at once
-  pub since_now : (leaves stays : ℕ → Type 0) (z : Scene) → Since leaves stays z z
-  since_now leaves stays z = record { words = λ w m l. refl; ports = λ p listed is s. refl; branch = refl; store = λ v u. refl }
+  pub since_now : (leaves stays : ℕ → Type 0) (z : Scene) → StillRuns g r z.core → Since leaves stays z z
+  since_now leaves stays z on = record {
+    words = λ w m l. refl;
+    ports = λ p listed is s. refl;
+    branch = refl;
+    store = λ v u. refl;
+    room = λ h. h;
+    declared = λ p listed port is there. (port, there, refl);
+    hand = refl;
+    on = on;
+  }
 
   -- and lasts
   pub since_kept : (leaves stays : ℕ → Type 0) {z y x : Scene} → Since leaves stays z y → Kept g r y x → Since leaves stays z x
-  since_kept leaves stays h k = record {
+  since_kept leaves stays {y = y} {x = x} h k = record {
     words = λ w m l. k.words w m ∙ h.words w m l;
     ports = λ p listed is s. k.ports p listed is ∙ h.ports p listed is s;
     branch = k.branch ∙ h.branch;
     store = λ v u. k.store v u ∙ h.store v u;
+    room = λ was. room_kept (relied g r) r.stack stack_relied y.core.words x.core.words (h.room was) k.words;
+    declared = λ p listed port is there. let old = h.declared p listed port is there in (old.0, k.ports p listed is ∙ old.1, old.2);
+    hand = k.hand ∙ h.hand;
+    on = record { thread = h.on.thread; there = k.thread ∙ h.on.there; runs = h.on.runs; tied = h.on.tied; no_events = h.on.no_events };
   }
+
+  -- a thread that is at an index runs
+  pub at_runs : (z : Scene) (pc : ℕ) (regs : Regs) → IsAt g r z pc regs → StillRuns g r z.core
+  at_runs z pc regs here = record { thread = running r.tie pc regs; there = here; runs = refl; tied = refl; no_events = refl }
+
+  -- one that is set to another index, with other registers, runs as before
+  pub runs_still : (a b : CoreState) (thread : Thread) (pc : ℕ) (regs : Regs) → StillRuns g r a → slice_get a.threads r.thread ≡ Some thread →
+      b.threads ≡ slice_set a.threads r.thread (record thread { pc = pc; regs = regs }) → StillRuns g r b
+  runs_still a b thread pc regs on here left =
+      let th' : Thread = record thread { pc = pc; regs = regs } in
+      let same : thread ≡ on.thread = same_Some thread on.thread (sym here ∙ on.there) in
+      record {
+        thread = th';
+        there = ap (λ l. slice_get l r.thread) left ∙ get_set_same a.threads r.thread thread th' here;
+        runs = ap (λ (x : Thread). x.mode) same ∙ on.runs;
+        tied = ap (λ (x : Thread). x.tie) same ∙ on.tied;
+        no_events = ap (λ (x : Thread). x.event_bit) same ∙ on.no_events;
+      }
+
+  -- where the other threads are what they were they are in the same use
+  pub same_use : (y z : Scene) → ((u : ℕ) → u ≢ r.thread → slice_get z.core.threads u ≡ slice_get y.core.threads u) → SameUse g r y z
+  same_use y z same = record { by = λ u x ne there. (x, same u ne ∙ there, refl, refl, refl) }
+
+  -- a step leaves ports declared as they were
+  declared_on : (z y : Scene) (b : CoreState) →
+      ((p : ℕ) (listed : PortUse) (port : Port) → IsPort g r p listed → slice_get z.core.ports (port_place g r p) ≡ Some port →
+      (other : Port) × (slice_get y.core.ports (port_place g r p) ≡ Some other) × (other.decl ≡ port.decl)) →
+      slot (home g r) y.core r.thread ≡ makes b →
+      (p : ℕ) (listed : PortUse) (port : Port) → IsPort g r p listed → slice_get z.core.ports (port_place g r p) ≡ Some port →
+      (other : Port) × (slice_get b.ports (port_place g r p) ≡ Some other) × (other.decl ≡ port.decl)
+  declared_on z y b before made p listed port is there =
+      let old = before p listed port is there in
+      let new = declared_there y.core.ports b.ports (port_place g r p) old.0 (same_declared (home g r) y.core r.thread b made) old.1 in
+      (new.0, new.1, new.2 ∙ old.2)
 
   -- what is kept of a scene is kept of its core
   pub core_kept : {z y : Scene} → Kept g r z y → own.Kept (relied g r) r.thread z.core y.core
@@ -66,17 +138,25 @@ module _ (g : Setting) (r : Runner) where
   -- The steps leave at least the words that the runner may not change.
   module _ (leaves : ℕ → Type 0) (safe : (w : ℕ) → (MayChange g r w → ⊥) → leaves w) where
     -- an own step is a silent one
-    own_silent : (a b : CoreState) → OwnStep (home g r) leaves r.thread a b → IsSilentStep g r a b
-    own_silent a b step = record {
-      made = step.made;
-      roots = ap (λ (c : CoreState). c.roots) step.left;
-      touched = record {
-        clock = ap (λ (c : CoreState). c.clock) step.left;
-        others = λ u ne. ap (λ (c : CoreState). slice_get c.threads u) step.left ∙ get_set_other a.threads r.thread u (record step.thread { pc = step.after.pc; regs = step.after.regs }) ne;
-        words = λ w not_mine. ap (λ (c : CoreState). slice_get c.words w) step.left ∙ step.words w (safe w not_mine);
-        ports = λ q not_mine. ap (λ (c : CoreState). slice_get c.ports q) step.left;
-      };
-    }
+    own_silent : (y : Scene) (b : CoreState) → StillRuns g r y.core → OwnStep (home g r) leaves r.thread y.core b → IsSilentStep g r y (after g r y b)
+    own_silent y b on step =
+        let th' : Thread = record step.thread { pc = step.after.pc; regs = step.after.regs } in
+        let others : (u : ℕ) → u ≢ r.thread → slice_get b.threads u ≡ slice_get y.core.threads u = λ u ne. ap (λ (c : CoreState). slice_get c.threads u) step.left ∙ get_set_other y.core.threads r.thread u th' ne in
+        record {
+          made = step.made;
+          world = refl;
+          roots = ap (λ (c : CoreState). c.roots) step.left;
+          touched = record {
+            clock = ap (λ (c : CoreState). c.clock) step.left;
+            others = λ u ne not_held. others u ne;
+            as_many = ap (λ (c : CoreState). length c.threads) step.left ∙ length-set y.core.threads r.thread th';
+            words = λ w not_mine. ap (λ (c : CoreState). slice_get c.words w) step.left ∙ step.words w (safe w not_mine);
+            size = same_size (home g r) y.core r.thread b step.made;
+            ports = λ q not_mine. ap (λ (c : CoreState). slice_get c.ports q) step.left;
+          };
+          hand = keeps refl (ap (λ (c : CoreState). c.syncs) step.left) (same_use y (after g r y b) others);
+          on = runs_still y.core b step.thread step.after.pc step.after.regs on step.here (ap (λ (c : CoreState). c.threads) step.left);
+        }
 
     -- what stayed before it stays behind it
     own_since : (stays : ℕ → Type 0) (z y : Scene) (b : CoreState) → Since leaves stays z y → OwnStep (home g r) leaves r.thread y.core b → Since leaves stays z (after g r y b)
@@ -85,6 +165,10 @@ module _ (g : Setting) (r : Runner) where
       ports = λ p listed is s. ap (λ (c : CoreState). slice_get c.ports (port_place g r p)) step.left ∙ h.ports p listed is s;
       branch = h.branch;
       store = h.store;
+      room = λ was. let same = same_size (home g r) y.core r.thread b step.made in let before = h.room was in omega arith;
+      declared = λ q other port is_port there. declared_on z y b h.declared step.made q other port is_port there;
+      hand = h.hand;
+      on = (own_silent y b h.on step).on;
     }
 
     -- from any scene of the way
@@ -95,27 +179,35 @@ module _ (g : Setting) (r : Runner) where
         (λ (here : Q y.core). inl (here, h))
         (λ on. inr (λ x k.
         let s = on x.core (core_kept k) in
-        let h' = own_since any_port z x s.0 (since_kept leaves any_port h k) s.1 in
-        (s.0, own_silent x.core s.0 s.1, on_the_way Q n z (after g r x s.0) h' s.2)))
+        let h' = since_kept leaves any_port h k in
+        (after g r x s.0, own_silent x s.0 h'.on s.1, on_the_way Q n z (after g r x s.0) (own_since any_port z x s.0 h' s.1) s.2)))
         way
 
     -- where own steps lead, the runner comes, and meanwhile these words stay
-    pub arrives : (Q : CoreState → Type 0) (n : ℕ) (z : Scene) → Within (home g r) (relied g r) leaves r.thread Q n z.core → LeadsIn g r (λ y. Q y.core × Since leaves any_port z y) n z
-    arrives Q n z way = on_the_way Q n z z (since_now leaves any_port z) way
+    pub arrives : (Q : CoreState → Type 0) (n : ℕ) (z : Scene) → StillRuns g r z.core → Within (home g r) (relied g r) leaves r.thread Q n z.core → LeadsIn g r (λ y. Q y.core × Since leaves any_port z y) n z
+    arrives Q n z on way = on_the_way Q n z z (since_now leaves any_port z on) way
 
     module _ (p : ℕ) (listed : PortUse) (is : IsPort g r p listed) where
       -- a step that may set the port is a silent one
-      port_silent : (a b : CoreState) → PortStep (home g r) leaves r.thread (port_place g r p) a b → IsSilentStep g r a b
-      port_silent a b step = record {
-        made = step.made;
-        roots = ap (λ (c : CoreState). c.roots) step.left;
-        touched = record {
-          clock = ap (λ (c : CoreState). c.clock) step.left;
-          others = λ u ne. ap (λ (c : CoreState). slice_get c.threads u) step.left ∙ get_set_other a.threads r.thread u (record step.thread { pc = step.after.pc; regs = step.after.regs }) ne;
-          words = λ w not_mine. ap (λ (c : CoreState). slice_get c.words w) step.left ∙ step.words w (safe w not_mine);
-          ports = λ q not_mine. ap (λ (c : CoreState). slice_get c.ports q) step.left ∙ step.others q (not_mine p listed is);
-        };
-      }
+      port_silent : (y : Scene) (b : CoreState) → StillRuns g r y.core → PortStep (home g r) leaves r.thread (port_place g r p) y.core b → IsSilentStep g r y (after g r y b)
+      port_silent y b on step =
+          let th' : Thread = record step.thread { pc = step.after.pc; regs = step.after.regs } in
+          let others : (u : ℕ) → u ≢ r.thread → slice_get b.threads u ≡ slice_get y.core.threads u = λ u ne. ap (λ (c : CoreState). slice_get c.threads u) step.left ∙ get_set_other y.core.threads r.thread u th' ne in
+          record {
+            made = step.made;
+            world = refl;
+            roots = ap (λ (c : CoreState). c.roots) step.left;
+            touched = record {
+              clock = ap (λ (c : CoreState). c.clock) step.left;
+              others = λ u ne not_held. others u ne;
+              as_many = ap (λ (c : CoreState). length c.threads) step.left ∙ length-set y.core.threads r.thread th';
+              words = λ w not_mine. ap (λ (c : CoreState). slice_get c.words w) step.left ∙ step.words w (safe w not_mine);
+              size = same_size (home g r) y.core r.thread b step.made;
+              ports = λ q not_mine. ap (λ (c : CoreState). slice_get c.ports q) step.left ∙ step.others q (not_mine p listed is);
+            };
+            hand = keeps refl (ap (λ (c : CoreState). c.syncs) step.left) (same_use y (after g r y b) others);
+            on = runs_still y.core b step.thread step.after.pc step.after.regs on step.here (ap (λ (c : CoreState). c.threads) step.left);
+          }
 
       -- what stayed before it stays behind it
       port_since : (z y : Scene) (b : CoreState) → Since leaves (but (port_place g r p)) z y → PortStep (home g r) leaves r.thread (port_place g r p) y.core b → Since leaves (but (port_place g r p)) z (after g r y b)
@@ -124,6 +216,10 @@ module _ (g : Setting) (r : Runner) where
         ports = λ q other is' s. ap (λ (c : CoreState). slice_get c.ports (port_place g r q)) step.left ∙ step.others (port_place g r q) s ∙ h.ports q other is' s;
         branch = h.branch;
         store = h.store;
+        room = λ was. let same = same_size (home g r) y.core r.thread b step.made in let before = h.room was in omega arith;
+        declared = λ q other port is_port there. declared_on z y b h.declared step.made q other port is_port there;
+        hand = h.hand;
+        on = (port_silent y b h.on step).on;
       }
 
       -- from any scene of the way
@@ -134,10 +230,10 @@ module _ (g : Setting) (r : Runner) where
           (λ (here : Q y.core). inl (here, h))
           (λ on. inr (λ x k.
           let s = on x.core (port_kept p listed is k) in
-          let h' = port_since z x s.0 (since_kept leaves (but (port_place g r p)) h k) s.1 in
-          (s.0, port_silent x.core s.0 s.1, port_on_the_way Q n z (after g r x s.0) h' s.2)))
+          let h' = since_kept leaves (but (port_place g r p)) h k in
+          (after g r x s.0, port_silent x s.0 h'.on s.1, port_on_the_way Q n z (after g r x s.0) (port_since z x s.0 h' s.1) s.2)))
           way
 
       -- the same of steps that may also set one of the runner's ports
-      pub arrives_at_port : (Q : CoreState → Type 0) (n : ℕ) (z : Scene) → WithinPort (home g r) (relied g r) leaves r.thread (port_place g r p) Q n z.core → LeadsIn g r (λ y. Q y.core × Since leaves (but (port_place g r p)) z y) n z
-      arrives_at_port Q n z way = port_on_the_way Q n z z (since_now leaves (but (port_place g r p)) z) way
+      pub arrives_at_port : (Q : CoreState → Type 0) (n : ℕ) (z : Scene) → StillRuns g r z.core → WithinPort (home g r) (relied g r) leaves r.thread (port_place g r p) Q n z.core → LeadsIn g r (λ y. Q y.core × Since leaves (but (port_place g r p)) z y) n z
+      arrives_at_port Q n z on way = port_on_the_way Q n z z (since_now leaves (but (port_place g r p)) z on) way

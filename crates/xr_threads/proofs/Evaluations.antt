@@ -1,5 +1,5 @@
 -- Values that a branch's items have next: they stay while others act, they cost so many steps, and where one is an error the branch errs.
-use Rattle.std.proofs.Common.{◌≡◌, ℕ, true, Bool, List, [], ◌∷◌, ◌++◌, length, Option, Some, refl, ap, ◌∙◌, arith}
+use Rattle.std.proofs.Common.{◌≡◌, ℕ, true, Bool, List, [], ◌∷◌, ◌++◌, length, Option, Some, None, refl, ap, ◌∙◌, arith}
 use Rattle.std.specs.Prelude.{slice_set, slice_index}
 use Rattle.xw_words.specs.declared.pos.Pos.{Pos}
 use Rattle.xs_instr.specs.declared.image.Stim.{Stim}
@@ -25,8 +25,7 @@ use Rattle.xl_expr.specs.Works.{trap_of}
 use Rattle.xl_expr.proofs.Lists.{get_set_same}
 use Rattle.xr_threads.specs.Runners.{Setting, Runner, home}
 use Rattle.xr_threads.specs.Scenes.{Scene}
-use Rattle.xr_threads.specs.Settled.{with_items}
-use Rattle.xr_threads.specs.Turns.{Runs, Acts, Errs, failed}
+use Rattle.xr_threads.specs.Turns.{Runs, Acts, Errs, Has, failed}
 
 -- an expression costs what it counts
 mutual
@@ -71,6 +70,10 @@ module _ (vars : List (Option VarPlan)) (uses : ℕ → Bool) (old new : Store) 
       ap (λ l. tested_value (length l) pos (eval new i)) (same v h.1.2)
       ∙ ap (tested_value (length (words_of old v)) pos) (eval_still i h.0)
 
+-- a branch has other items
+abbrev pub with_items : World → (branch : ℕ) → Branch → List Item → World
+with_items x b branch items = record x { branches = slice_set x.branches b (record branch { items = items }) }
+
 -- a branch that has other items left runs with them
 pub runs_with : (x : World) (b : ℕ) (branch : Branch) (items other : List Item) → Runs x b branch items → Runs (with_items x b branch other) b (record branch { items = other }) other
 runs_with x b branch items other h = record {
@@ -93,7 +96,7 @@ kinds_agree index = refl
 
 module _ (g : Setting) (r : Runner) where
   -- the branch errs at its first item
-  pub err_acts : (x : World) (branch : Branch) (i : Item) (rest : List Item) (kind : Trap) (pos : Pos) → Runs x r.branch branch (i ∷ rest) → branch.core ≡ r.core → does_item (step_of g.program g.stimulus x r.branch branch rest) i ≡ errs (step_of g.program g.stimulus x r.branch branch rest) kind pos → Acts g r x failed (Some (Fault r.core pos kind))
+  abbrev pub err_acts : (x : World) (branch : Branch) (i : Item) (rest : List Item) (kind : Trap) (pos : Pos) → Runs x r.branch branch (i ∷ rest) → branch.core ≡ r.core → does_item (step_of g.program g.stimulus x r.branch branch rest) i ≡ errs (step_of g.program g.stimulus x r.branch branch rest) kind pos → Acts g r x failed (Some (Fault r.core pos kind))
   err_acts x branch i rest kind pos runs core erred = record {
     branch = branch;
     known = runs.known;
@@ -108,13 +111,17 @@ module _ (g : Setting) (r : Runner) where
   }
 
   -- where the thread's next step traps with the error that the branch's first item has, both err
-  pub value_errs : (y : Scene) (branch : Branch) (i : Item) (rest : List Item) (kind : ErrorKind) (pos : Pos) → works.Errs (home g r) r.thread kind pos y.core → Runs y.world r.branch branch (i ∷ rest) → branch.core ≡ r.core → does_item (step_of g.program g.stimulus y.world r.branch branch rest) i ≡ errs (step_of g.program g.stimulus y.world r.branch branch rest) (kind_of kind) pos → Errs g r y
-  value_errs y branch i rest kind pos traps runs core erred =
-      let st = step_of g.program g.stimulus y.world r.branch branch rest in
+  pub value_errs : (y : Scene) (i : Item) (rest : List Item) (kind : ErrorKind) (pos : Pos) → works.Errs (home g r) r.thread kind pos y.core → (has : Has g r (i ∷ rest) y) → y.hand ≡ None → does_item (step_of g.program g.stimulus y.world r.branch has.branch rest) i ≡ errs (step_of g.program g.stimulus y.world r.branch has.branch rest) (kind_of kind) pos → Errs g r y
+  value_errs y i rest kind pos traps has no_hand erred =
+      let st = step_of g.program g.stimulus y.world r.branch has.branch rest in
       record {
         kind = trap_of kind;
         pos = pos;
         traps = traps.traps;
         fault = traps.record_is;
-        acts = err_acts y.world branch i rest (trap_of kind) pos runs core (erred ∙ ap (λ k. errs st k pos) (kinds_agree kind));
+        holds = has.holds;
+        ports = has.ports;
+        no_hand = no_hand;
+        store = refl;
+        acts = err_acts y.world has.branch i rest (trap_of kind) pos has.runs has.core (erred ∙ ap (λ k. errs st k pos) (kinds_agree kind));
       }

@@ -1,117 +1,303 @@
--- Each event of the machine is followed by a piece of the program's run, and the two stand as before.
-use Rattle.std.proofs.Common.{◌≡◌, ℕ, zero, suc, ◌+◌, ◌≤◌, ◌⊎◌, inl, inr, [], Option, Some, None, refl, sym, ap, ◌∙◌, subst, arith}
-use Rattle.std.specs.Prelude.{slice_get, slice_set}
-use Rattle.std.proofs.lemmas.Option.{same_Some}
+-- Each step of a thread is followed by a piece of the program's run, and the two stand as before; some threads may be at rest.
+use Rattle.std.proofs.Common.{◌≡◌, ℕ, zero, suc, ◌+◌, ◌<◌, ◌≤◌, ◌≢◌, ◌⊎◌, inl, inr, [], ◌∷◌, ◌++◌, List, Option, Some, None, refl, sym, ap, ◌∙◌, subst, arith}
+use Rattle.std.specs.Prelude.{Bool, true, false, ◌&&◌, nat_eq, slice_get, slice_set}
+use Rattle.std.proofs.lemmas.Bool.{ne_eqb}
+use Rattle.std.proofs.lemmas.Option.{same_Some, slice_get_within}
+use Rattle.xs_instr.specs.declared.image.Home.{Home}
 use Rattle.xs_instr.specs.declared.state.CoreState.{CoreState}
-use Rattle.xs_instr.specs.Did.{Did, Paused, Idle, makes}
-use Rattle.xs_instr.specs.Machine.{Machine, Event, Step, Tick, Move, does, home_of, link_of, move_at, step_at, stepped, noted, tick_at}
-use Rattle.xs_instr.specs.Slot.{slot}
+use Rattle.xs_instr.specs.declared.state.Mode.{Mode as ThreadMode}
+use Rattle.xs_instr.specs.declared.state.Mode.TheVariants.{Running, Trapped, Unused, Waiting}
+use Rattle.xs_instr.specs.declared.state.Thread.{Thread}
+use Rattle.xs_instr.specs.declared.trace.Record.{Record}
+use Rattle.xs_instr.specs.Did.{Did, Idle, Paused}
+use Rattle.xs_instr.specs.Machine.{Event, Machine, Move, Step, Tick, does, home_of, link_of, move_at, noted, step_at, stepped, tick_at}
+use Rattle.xs_instr.specs.Pool.{all_wait}
+use Rattle.xs_instr.specs.declared.trace.Record.TheVariants.{Fault}
+use Rattle.xs_instr.specs.Slot.{slot, trapped, turn_at, turn_of}
 use Rattle.xc_meaning.specs.States.Branches.{Branch, Mode, runs, waits, ended, erred}
-use Rattle.xr_match.specs.Lives.{Watched, watched_after}
+use Rattle.xc_meaning.specs.States.Worlds.{World}
+use Rattle.xl_par.specs.Hands.{Hand}
+use Rattle.xr_match.specs.Lives.{Life, Watched, watched_after}
 use Rattle.xr_match.specs.Meanings.{of_kernel}
 use Rattle.xr_match.specs.Sources.{Told}
 use Rattle.xr_match.specs.Systems.{SomeIs}
-use Rattle.xr_threads.specs.Images.{AreApart, Runners, counts}
-use Rattle.xr_threads.specs.Runners.{Setting, Runner, home}
-use Rattle.xr_threads.specs.Scenes.{IsSilentStep, Kept, LeadsIn, Scene, after}
-use Rattle.xr_threads.specs.Standing.{Answer, Stand, Standing, Stands, StandsBy}
-use Rattle.xr_threads.specs.Turns.{IsUnused, Turns}
-use Rattle.xr_threads.proofs.Answers.{turn_answer}
-use Rattle.xr_threads.proofs.Counts.{living_some, running_counts}
+use Rattle.xr_threads.specs.Images.{IsImageOf}
+use Rattle.xr_threads.specs.Parents.{Parent}
+use Rattle.xr_threads.specs.Roles.{HandFits, Role, Roles, got_by, unused, used_by}
+use Rattle.xr_threads.specs.Runners.{Setting, Runner, footprint_of, home}
+use Rattle.xr_threads.specs.Scenes.{IsSilentStep, Kept, LeadsIn, Scene, giving_back}
+use Rattle.xr_threads.specs.Standing.{HasEnded, HasThread, Stand, Standing, Stands, StandsBy, ThreadIs, none_rests}
+use Rattle.xr_threads.specs.Turns.{Errs, Frees, GivesBack, Goes, IsFree, IsWaitingTied, Joins, JoinsAt, Turn, Turns, Waits, begins, cost, errs, frees, goes_on, pauses, waits_tied}
+use Rattle.xr_threads.proofs.Begun as begun
+use Rattle.xr_threads.proofs.Begun.{begins_followed}
+use Rattle.xr_threads.proofs.Hands.{hand_sync, silent_followed}
+use Rattle.xr_threads.proofs.Joined as joined
+use Rattle.xr_threads.proofs.Joined.{joins_followed}
+use Rattle.xr_threads.proofs.Moves.{kept_now, works_at}
+use Rattle.xr_threads.proofs.OwnEvents.{rests_alone}
+use Rattle.xr_threads.proofs.Resumes as resumes
+use Rattle.xr_threads.proofs.Resumes.{resumes_followed}
 use Rattle.xr_threads.proofs.Links.{link_empty}
-use Rattle.xr_threads.proofs.Standing.{Follows, stopped_idle, unused_idle}
-use Rattle.xr_threads.proofs.Steps.{kept_now, seen_followed, silent_followed}
-use Rattle.xr_threads.proofs.Ticks.{tick_followed}
+use Rattle.xr_threads.proofs.Standing.{Follows}
+use Rattle.xr_threads.proofs.Ticks.{no_machine, tick_followed}
+use Rattle.xr_threads.proofs.Turned.{errs_answered, frees_answered, goes_answered, waits_answered}
 
-module _ (g : Setting) (who : Runners) (apart : AreApart g who) (w : Watched) (m : Machine) (x : Told (of_kernel g.program)) (st : Standing g who w x) where
-  module _ (c t : ℕ) (a : CoreState) (at_c : slice_get w.machine.cores c ≡ Some a) where
-    -- what a turn leaves, where it is a step
+-- a piece follows, behind which some threads of one core may be at rest
+pub record FollowsSo (g : Setting) (old : Roles) (before : Watched) (x : Told (of_kernel g.program)) (w : Watched) : Type 0 where
+  pub core : ℕ
+  pub there : core < 4
+  pub may_rest : (core thread : ℕ) → Bool
+  pub elsewhere : (d u : ℕ) → d ≢ core → may_rest d u ≡ false
+  pub follows : Follows g may_rest old before x w
+
+-- the same stand, where what is in hand is the same
+abbrev pub stand_as : (g : Setting) (r : Runner) (rests : Bool) (hand hand' : Option Hand) (a : CoreState) (x : World) (life : Life) (actions : ℕ → ℕ) (branch : Branch) → hand ≡ hand' → Stand g r rests hand a x life actions branch → Stand g r rests hand' a x life actions branch
+stand_as g r rests hand hand' a x life actions branch e h = record {
+  core = h.core;
+  family = h.family;
+  footprint = h.footprint;
+  parents = h.parents;
+  thread = h.thread;
+  in_hand = subst (HandFits branch.items) e h.in_hand;
+  ends_tied = h.ends_tied;
+  left = h.left;
+  bound = h.bound;
+  by = subst (λ k. StandsBy g r rests branch.items branch.mode h.left (record { core = a; world = x; hand = k })) e h.by;
+}
+
+-- nobody is at rest on another core
+alone_elsewhere : (c : ℕ) (b : Bool) (d : ℕ) → d ≢ c → (nat_eq d c && b) ≡ false
+alone_elsewhere c b d ne = ap (λ k. k && b) (ne_eqb d c ne)
+
+-- a thread that doesn't run has no step
+pub idle_thread : (h : Home) (a : CoreState) (t : ℕ) (thread : Thread) → slice_get a.threads t ≡ Some thread → (thread.mode ≡ Unused) ⊎ ((thread.mode ≡ Waiting) ⊎ (thread.mode ≡ Trapped)) → (slot h a t ≡ Idle) ⊎ (slot h a t ≡ Paused)
+idle_thread h a t thread there (inl e) = inl (ap (turn_at h a t) there ∙ ap (turn_of h a t thread) e)
+idle_thread h a t thread there (inr (inl e)) = inr (ap (turn_at h a t) there ∙ ap (turn_of h a t thread) e)
+idle_thread h a t thread there (inr (inr e)) = inl (ap (turn_at h a t) there ∙ ap (turn_of h a t thread) e)
+
+-- no turn is no step
+no_step : {A : Type 0} (h : Home) (w m : Machine) (c t : ℕ) (a : CoreState) (did : Did CoreState) → (did ≡ Idle) ⊎ (did ≡ Paused) → stepped h w c t a did ≡ Some m → A
+no_step h w m c t a did (inl i) e = no_machine m (sym (ap (stepped h w c t a) i) ∙ e)
+no_step h w m c t a did (inr p) e = no_machine m (sym (ap (stepped h w c t a) p) ∙ e)
+
+-- and where the branch is the same
+abbrev pub stand_of : (g : Setting) (r : Runner) (rests : Bool) (hand : Option Hand) (a : CoreState) (x : World) (life : Life) (actions : ℕ → ℕ) (branch branch' : Branch) → branch ≡ branch' → Stand g r rests hand a x life actions branch → Stand g r rests hand a x life actions branch'
+stand_of g r rests hand a x life actions branch branch' e h = record {
+  core = subst (λ (b : Branch). b.core ≡ r.core) e h.core;
+  family = subst (λ (b : Branch). b.family ≡ r.family) e h.family;
+  footprint = subst (λ (b : Branch). r.footprint ≡ footprint_of b.items) e h.footprint;
+  parents = h.parents;
+  thread = subst (λ (b : Branch). HasThread g r b.mode a) e h.thread;
+  in_hand = subst (λ (b : Branch). HandFits b.items hand) e h.in_hand;
+  ends_tied = subst (λ (b : Branch). b.mode ≡ ended → r.parents ≡ [] → (n : ℕ) × (r.tie ≡ Some n)) e h.ends_tied;
+  left = h.left;
+  bound = h.bound;
+  by = subst (λ (b : Branch). StandsBy g r rests b.items b.mode h.left (record { core = a; world = x; hand = hand })) e h.by;
+}
+
+module _ (g : Setting) (first : Roles) (is : IsImageOf g first) (who : Roles) (w : Watched) (x : Told (of_kernel g.program)) (st : Standing g none_rests who w x)
+    (c t : ℕ) (a : CoreState) (at_c : slice_get w.machine.cores c ≡ Some a) (m : Machine) where
+  abbrev Goal : Type 0
+  Goal = FollowsSo g who w x (watched_after w (Step c t) m)
+
+  module _ (r : Runner) (hand : Option Hand) (runs_r : who c t ≡ used_by r hand)
+      (branch : Branch) (known : slice_get x.state.branches r.branch ≡ Some branch) (stand : Stand g r false hand a x.state (w.lives c t) x.actions branch) where
+    abbrev now : Scene
+    now = record { core = a; world = x.state; hand = hand }
+
+    -- what the thread's turn leaves, where it is a step
     abbrev Leaves : Did CoreState → Type 0
-    Leaves did = stepped (home_of g.image g.stimulus c) w.machine c t a did ≡ Some m
+    Leaves did = stepped (home g r) w.machine r.core r.thread a did ≡ Some m
 
-    abbrev Goal : Type 0
-    Goal = Follows g who x (watched_after w (Step c t) m)
+    core_is : r.core ≡ c
+    core_is = st.roles.core c t r hand runs_r
 
-    -- no turn is no step
-    unused_goal : IsUnused (slice_get a.threads t) → Leaves (slot (home_of g.image g.stimulus c) a t) → Goal
-    unused_goal h e =
-        let none : Leaves Idle = subst Leaves (unused_idle (home_of g.image g.stimulus c) a t (slice_get a.threads t) h) e in cc
+    here : Kept g r now now
+    here = kept_now g first is none_rests who w x st c t a r hand at_c runs_r
 
-    module _ (r : Runner) (runs_r : who c t ≡ Some r) (branch : Branch) (known : slice_get x.state.branches r.branch ≡ Some branch) (stand : Stand g r a x.state (w.lives c t) x.actions branch) where
-      -- the same of the runner's thread
-      abbrev LeavesOf : Did CoreState → Type 0
-      LeavesOf did = stepped (home g r) w.machine r.core r.thread a did ≡ Some m
+    -- the machine is the one behind such a step
+    goal_of : (may_rest : (core thread : ℕ) → Bool) → ((d u : ℕ) → d ≢ c → may_rest d u ≡ false) → (b : CoreState) (made : Option Record) → stepped (home g r) w.machine r.core r.thread a (slot (home g r) a r.thread) ≡ Some (record { cores = slice_set w.machine.cores r.core b; links = w.machine.links; trace = noted w.machine.trace made }) →
+        Leaves (slot (home g r) a r.thread) → Follows g may_rest who w x (watched_after w (Step c t) (record { cores = slice_set w.machine.cores c b; links = w.machine.links; trace = noted w.machine.trace made })) → Goal
+    goal_of may_rest elsewhere b made is_step e h =
+        let left_is : Some (record { cores = slice_set w.machine.cores c b; links = w.machine.links; trace = noted w.machine.trace made }) ≡ Some m =
+        ap (λ k. Some (record { cores = slice_set w.machine.cores k b; links = w.machine.links; trace = noted w.machine.trace made })) (sym core_is) ∙ sym is_step ∙ e in
+        record { core = c; there = st.roles.there c t r hand runs_r; may_rest = may_rest; elsewhere = elsewhere; follows = subst (λ n. Follows g may_rest who w x (watched_after w (Step c t) n)) (same_Some _ m left_is) h }
 
-      -- nothing has happened yet
-      kept_here : Kept g r (record { core = a; world = x.state }) (record { core = a; world = x.state })
-      kept_here = kept_now g who apart w x st c t a at_c r runs_r
+    -- the thread goes on, errs or ends, with nothing in hand
+    module _ (none : hand ≡ None) where
+      abbrev alone : Scene
+      alone = record { core = a; world = x.state; hand = None }
 
-      -- at an item's own instruction
-      at_item : (j : ℕ) → j ≤ stand.left → (slot (home g r) a r.thread ≡ Paused) ⊎ Answer g r j (record { core = a; world = x.state }) → LeavesOf (slot (home g r) a r.thread) → Goal
-      at_item j few (inl pause) e = let none : LeavesOf Paused = subst LeavesOf pause e in cc
-      at_item j few (inr ans) e =
-          let followed = seen_followed g who apart w x st c t a at_c r runs_r branch known stand j few ans in
-          let left_is : Some (record { cores = slice_set w.machine.cores c ans.left; links = w.machine.links; trace = noted w.machine.trace ans.made }) ≡ Some m = ap (λ k. Some (record { cores = slice_set w.machine.cores k ans.left; links = w.machine.links; trace = noted w.machine.trace ans.made })) (sym (apart.core c t r runs_r)) ∙ sym (ans.turned w.machine) ∙ e in
-          subst (λ n. Follows g who x (watched_after w (Step c t) n)) (same_Some _ m left_is) followed
+      runs_alone : who c t ≡ used_by r None
+      runs_alone = runs_r ∙ ap (used_by r) none
 
-      -- the turn is due
-      at_turn : (j : ℕ) → branch.mode ≡ runs → j ≤ stand.left → Turns g r j (record { core = a; world = x.state }) → LeavesOf (slot (home g r) a r.thread) → Goal
-      at_turn j is few on e =
-          let turn = on (record { core = a; world = x.state }) kept_here in
-          let one : counts c branch.core branch.mode ≡ 1 = ap (λ k. counts c k branch.mode) (stand.core ∙ apart.core c t r runs_r) ∙ ap (counts c c) is ∙ running_counts c in
-          let some : 1 ≤ a.roots = omega (arith, living_some c x.state.branches r.branch branch known, st.roots c a at_c) in
-          at_item j few (turn_answer g r (apart.laid c t r runs_r) (apart.root c t r runs_r) j (record { core = a; world = x.state }) some turn) e
+      abbrev stand_alone : Stand g r false None a x.state (w.lives c t) x.actions branch
+      stand_alone = stand_as g r false hand None a x.state (w.lives c t) x.actions branch none stand
 
-      -- a step on the way to it
-      on_the_way : (n j : ℕ) → branch.mode ≡ runs → suc n + j ≤ stand.left → ((y : Scene) → Kept g r (record { core = a; world = x.state }) y → (b : CoreState) × IsSilentStep g r y.core b × LeadsIn g r (Turns g r j) n (after g r y b)) → LeavesOf (slot (home g r) a r.thread) → Goal
-      on_the_way n j is few on e =
-          let next = on (record { core = a; world = x.state }) kept_here in
-          let followed = silent_followed g who apart w x st c t a at_c r runs_r branch known stand n j next.0 is few next.1 next.2 in
-          let made : LeavesOf (makes next.0) = subst LeavesOf next.1.made e in
-          let left_is : Some (record w.machine { cores = slice_set w.machine.cores c next.0 }) ≡ Some m = ap (λ k. Some (record w.machine { cores = slice_set w.machine.cores k next.0 })) (sym (apart.core c t r runs_r)) ∙ made in
-          subst (λ n. Follows g who x (watched_after w (Step c t) n)) (same_Some _ m left_is) followed
+      err_goal : Errs g r alone → Leaves (slot (home g r) a r.thread) → Goal
+      err_goal h e =
+          goal_of none_rests (λ d u ne. refl) (trapped a r.thread) (Some (Fault r.core h.pos h.kind))
+          (ap (stepped (home g r) w.machine r.core r.thread a) h.traps
+          ∙ ap (λ f. Some (record { cores = slice_set w.machine.cores r.core (trapped a r.thread); links = w.machine.links; trace = w.machine.trace ++ f ∷ [] })) h.fault)
+          e (errs_answered g first is who w x st c t a at_c r runs_alone branch known stand_alone h)
 
-      -- however the branch is
-      by_mode : (mode : Mode) → branch.mode ≡ mode → StandsBy g r mode stand.left (record { core = a; world = x.state }) → LeavesOf (slot (home g r) a r.thread) → Goal
-      by_mode (waits from count) is h e = absurd h
-      by_mode ended is h e = let none : LeavesOf Idle = subst LeavesOf (unused_idle (home g r) a r.thread (slice_get a.threads r.thread) h) e in cc
-      by_mode erred is h e = let none : LeavesOf Idle = subst LeavesOf (stopped_idle (home g r) a r.thread (slice_get a.threads r.thread) h) e in cc
-      by_mode runs is (zero, j, few, on) e = at_turn j is (omega arith) on e
-      by_mode runs is (suc n, j, few, inl on) e = at_turn j is (omega arith) on e
-      by_mode runs is (suc n, j, few, inr on) e = on_the_way n j is few on e
+      go_goal : (j : ℕ) → j ≤ stand.left → Goes g r j alone → Leaves (slot (home g r) a r.thread) → Goal
+      go_goal j few h e =
+          goal_of (rests_alone c t) (λ d u ne. alone_elsewhere c (nat_eq u t) d ne) h.left h.made (ap (stepped (home g r) w.machine r.core r.thread a) h.made_is) e
+          (goes_answered g first is who w x st c t a at_c r runs_alone branch known stand_alone j few h h.touched.size)
 
-    -- wherever the branch stands
-    at_branch : (r : Runner) → who c t ≡ Some r → (o : Option Branch) → slice_get x.state.branches r.branch ≡ o → SomeIs o (Stand g r a x.state (w.lives c t) x.actions) → Leaves (slot (home_of g.image g.stimulus c) a t) → Goal
-    at_branch r runs_r None known h e = absurd h
-    at_branch r runs_r (Some branch) known h e =
-        let core = apart.core c t r runs_r in
-        let thread = apart.thread c t r runs_r in
-        let turned : stepped (home g r) w.machine r.core r.thread a (slot (home g r) a r.thread) ≡ Some m =
-        ap (λ k. stepped (home_of g.image g.stimulus k) w.machine k r.thread a (slot (home_of g.image g.stimulus k) a r.thread)) core
-        ∙ ap (λ k. stepped (home_of g.image g.stimulus c) w.machine c k a (slot (home_of g.image g.stimulus c) a k)) thread
-        ∙ e in
-        by_mode r runs_r branch known h branch.mode refl h.by turned
+      free_goal : Frees g r alone → Leaves (slot (home g r) a r.thread) → Goal
+      free_goal h e =
+          goal_of none_rests (λ d u ne. refl) h.left None (ap (stepped (home g r) w.machine r.core r.thread a) h.made_is) e
+          (frees_answered g first is who w x st c t a at_c r runs_alone branch known stand_alone h)
 
-    -- a thread's step
-    step_followed : (o : Option Runner) → who c t ≡ o → Stands g t a x.state (w.lives c t) x.actions o → Leaves (slot (home_of g.image g.stimulus c) a t) → Goal
-    step_followed None f h e = unused_goal h e
-    step_followed (Some r) f h e = at_branch r f (slice_get x.state.branches r.branch) refl h e
+      wait_goal : Waits g r alone → Leaves (slot (home g r) a r.thread) → Goal
+      wait_goal h e =
+          goal_of none_rests (λ d u ne. refl) h.left None (ap (stepped (home g r) w.machine r.core r.thread a) h.made_is) e
+          (waits_answered g first is who w x st c t a at_c r runs_alone branch known stand_alone h)
 
+    -- the turn at an item's own instruction
+    at_turn : (j : ℕ) → j ≤ stand.left → Turn g r j now → Leaves (slot (home g r) a r.thread) → Goal
+    at_turn j few (pauses p none) e = no_step (home g r) w.machine m r.core r.thread a (slot (home g r) a r.thread) (inr p) e
+    at_turn j few (errs h) e = err_goal h.no_hand (subst (λ k. Errs g r (record { core = a; world = x.state; hand = k })) h.no_hand h) e
+    at_turn j few (goes_on h) e = go_goal h.no_hand j few (subst (λ k. Goes g r j (record { core = a; world = x.state; hand = k })) h.no_hand h) e
+    at_turn j few (frees h) e = free_goal h.no_hand (subst (λ k. Frees g r (record { core = a; world = x.state; hand = k })) h.no_hand h) e
+    at_turn j few (waits_tied h) e = wait_goal h.no_hand (subst (λ k. Waits g r (record { core = a; world = x.state; hand = k })) h.no_hand h) e
+    at_turn j few (begins h) e =
+        let same : branch ≡ h.branch = same_Some branch h.branch (sym known ∙ h.does_par.known) in
+        let stand' = stand_of g r false hand a x.state (w.lives c t) x.actions branch h.branch same stand in
+        goal_of (begun.rests g first is who w x st c t a at_c r hand runs_r j h) (λ d u ne. alone_elsewhere c (begun.moved g first is who w x st c t a at_c r hand runs_r j h u) d ne) (begun.left g first is who w x st c t a at_c r hand runs_r j h) None
+        (ap (stepped (home g r) w.machine r.core r.thread a) h.goes) e
+        (begins_followed g first is who w x st c t a at_c r hand runs_r j h stand' few)
+
+    -- a silent step
+    on_the_way : (z : Scene) → ((mode : ThreadMode) → mode ≡ Running → ThreadIs r.parents branch.mode mode) → IsSilentStep g r now z → (left : ℕ) → suc left ≤ stand.left → StandsBy g r false branch.items branch.mode left z → Leaves (slot (home g r) a r.thread) → Goal
+    on_the_way z alive silent left few by e =
+        goal_of none_rests (λ d u ne. refl) z.core None (ap (stepped (home g r) w.machine r.core r.thread a) silent.made) e
+        (silent_followed g first is who w x st c t a at_c r hand runs_r branch known stand z alive silent left few by)
+
+    -- a branch that runs
+    running_alive : branch.mode ≡ runs → (mode : ThreadMode) → mode ≡ Running → ThreadIs r.parents branch.mode mode
+    running_alive is_running mode e = subst (λ k. ThreadIs r.parents k mode) (sym is_running) e
+
+    by_way : branch.mode ≡ runs → (n j : ℕ) → n + j ≤ stand.left → LeadsIn g r (Turns g r j) n now → Leaves (slot (home g r) a r.thread) → Goal
+    by_way running zero j few leads e = at_turn j (omega arith) (leads now here) e
+    by_way running (suc n) j few (inl leads) e = at_turn j (omega arith) (leads now here) e
+    by_way running (suc n) j few (inr on) e =
+        let next = on now here in
+        on_the_way next.0 (running_alive running) next.1 (n + j) (omega arith)
+        (subst (λ k. StandsBy g r false branch.items k (n + j) next.0) (sym running) (inl (n, j, omega arith, next.2))) e
+
+    -- one that gives a synchroniser back
+    by_resuming : branch.mode ≡ runs → (j : ℕ) → 1 + j + cost g r ≤ stand.left → GivesBack g r branch.items j now → Leaves (slot (home g r) a r.thread) → Goal
+    by_resuming running j few h e =
+        let in_hand : hand ≡ giving_back h.sync = h.in_hand in
+        let stand' = stand_as g r false hand (giving_back h.sync) a x.state (w.lives c t) x.actions branch in_hand stand in
+        let h' = subst (λ k. GivesBack g r branch.items j (record { core = a; world = x.state; hand = k })) in_hand h in
+        let runs' : who c t ≡ used_by r (giving_back h.sync) = runs_r ∙ ap (used_by r) in_hand in
+        goal_of (rests_alone c t) (λ d u ne. alone_elsewhere c (nat_eq u t) d ne) (resumes.left g first is who w x st c t a at_c r h.sync runs' branch known running stand' j few h') None
+        (ap (stepped (home g r) w.machine r.core r.thread a) (resumes.made_is g first is who w x st c t a at_c r h.sync runs' branch known running stand' j few h')) e
+        (resumes_followed g first is who w x st c t a at_c r h.sync runs' branch known running stand' j few h')
+
+    -- one that has ended, and others wait for it
+    module _ (p : Parent) (ps : List Parent) (parents : r.parents ≡ p ∷ ps) (over : branch.mode ≡ ended) where
+      ended_alive : (mode : ThreadMode) → mode ≡ Running → ThreadIs r.parents branch.mode mode
+      ended_alive mode e = subst (λ k. ThreadIs r.parents k mode) (sym over) (subst (λ l. ThreadIs l ended mode) (sym parents) e)
+
+      by_join : (j : ℕ) → j ≤ stand.left → JoinsAt g r p ps j now → Leaves (slot (home g r) a r.thread) → (b : Bool) → (sync : ℕ) → p.sync ≡ Some sync → all_wait a.threads sync ≡ b → Goal
+      by_join j few h e false sync is_sync wait =
+          no_step (home g r) w.machine m r.core r.thread a (slot (home g r) a r.thread) (inr (h.pauses (ap (all_wait a.threads) (same_Some h.sync sync (sym h.sync_is ∙ is_sync)) ∙ wait))) e
+      by_join j few h e true sync is_sync wait =
+          let none : hand ≡ None = h.no_hand in
+          let h' = subst (λ k. JoinsAt g r p ps j (record { core = a; world = x.state; hand = k })) none h in
+          goal_of (rests_alone c t) (λ d u ne. alone_elsewhere c (nat_eq u t) d ne) (joined.left g first is who w x st c t a at_c r (runs_alone none) p ps parents sync is_sync branch known over wait j (stand_alone none) few h') None
+          (ap (stepped (home g r) w.machine r.core r.thread a) (joined.made_is g first is who w x st c t a at_c r (runs_alone none) p ps parents sync is_sync branch known over wait j (stand_alone none) few h')) e
+          (joins_followed g first is who w x st c t a at_c r (runs_alone none) p ps parents sync is_sync branch known over wait j (stand_alone none) few h')
+
+      by_joining : (n j : ℕ) → n + j ≤ stand.left → LeadsIn g r (Joins g r p ps j) n now → Leaves (slot (home g r) a r.thread) → Goal
+      by_joining zero j few leads e = let h = leads now here in by_join j (omega arith) h e (all_wait a.threads h.sync) h.sync h.sync_is refl
+      by_joining (suc n) j few (inl leads) e = let h = leads now here in by_join j (omega arith) h e (all_wait a.threads h.sync) h.sync h.sync_is refl
+      by_joining (suc n) j few (inr on) e =
+          let next = on now here in
+          on_the_way next.0 ended_alive next.1 (n + j) (omega arith)
+          (subst (λ k. StandsBy g r false branch.items k (n + j) next.0) (sym over) (subst (λ l. HasEnded g r l (n + j) next.0) (sym parents) (n, j, omega arith, next.2))) e
+
+    -- however it is
+    by_parents : (ps : List Parent) → r.parents ≡ ps → branch.mode ≡ ended → HasEnded g r ps stand.left now → Leaves (slot (home g r) a r.thread) → Goal
+    by_parents [] parents over h e =
+        no_step (home g r) w.machine m r.core r.thread a (slot (home g r) a r.thread)
+        (idle_thread (home g r) a r.thread stand.thread.thread stand.thread.there (inr (inl (subst (λ l. ThreadIs l ended stand.thread.thread.mode) parents (subst (λ k. ThreadIs r.parents k stand.thread.thread.mode) over stand.thread.is))))) e
+    by_parents (p ∷ ps) parents over (n, j, few, leads) e = by_joining p ps parents over n j few leads e
+
+    trapped_mode : (ps : List Parent) → ThreadIs ps erred stand.thread.thread.mode → stand.thread.thread.mode ≡ Trapped
+    trapped_mode [] h = h
+    trapped_mode (p ∷ ps) h = h
+
+    by_mode : (mode : Mode) → branch.mode ≡ mode → StandsBy g r false branch.items mode stand.left now → Leaves (slot (home g r) a r.thread) → Goal
+    by_mode runs is_running (inl (n, j, few, leads)) e = by_way is_running n j few leads e
+    by_mode runs is_running (inr (inl (j, few, h))) e = by_resuming is_running j few h e
+    by_mode runs is_running (inr (inr h)) e = absurd h
+    by_mode (waits from count) is_waiting h e = absurd h
+    by_mode ended over h e = by_parents r.parents refl over h e
+    by_mode erred over h e =
+        no_step (home g r) w.machine m r.core r.thread a (slot (home g r) a r.thread)
+        (idle_thread (home g r) a r.thread stand.thread.thread stand.thread.there (inr (inr (trapped_mode r.parents (subst (λ k. ThreadIs r.parents k stand.thread.thread.mode) over stand.thread.is))))) e
+
+  -- wherever the branch stands
+  at_branch : (r : Runner) (hand : Option Hand) → who c t ≡ used_by r hand → (o : Option Branch) → slice_get x.state.branches r.branch ≡ o → SomeIs o (Stand g r false hand a x.state (w.lives c t) x.actions) → stepped (home_of g.image g.stimulus c) w.machine c t a (slot (home_of g.image g.stimulus c) a t) ≡ Some m → Goal
+  at_branch r hand runs_r None known h e = absurd h
+  at_branch r hand runs_r (Some branch) known h e =
+      let core = st.roles.core c t r hand runs_r in
+      let thread = st.roles.thread c t r hand runs_r in
+      let turned : stepped (home g r) w.machine r.core r.thread a (slot (home g r) a r.thread) ≡ Some m =
+      ap (λ k. stepped (home_of g.image g.stimulus k) w.machine k r.thread a (slot (home_of g.image g.stimulus k) a r.thread)) core
+      ∙ ap (λ k. stepped (home_of g.image g.stimulus c) w.machine c k a (slot (home_of g.image g.stimulus c) a k)) thread
+      ∙ e in
+      by_mode r hand runs_r branch known h branch.mode refl h.by turned
+
+  free_thread_of : (o : Option Thread) → slice_get a.threads t ≡ o → IsFree o → (thread : Thread) × (slice_get a.threads t ≡ Some thread) × (thread.mode ≡ Unused)
+  free_thread_of None e h = absurd h
+  free_thread_of (Some thread) e h = (thread, e, h.unused)
+
+  waiting_thread_of : (n : ℕ) (o : Option Thread) → slice_get a.threads t ≡ o → IsWaitingTied n o → (thread : Thread) × (slice_get a.threads t ≡ Some thread) × (thread.mode ≡ Waiting)
+  waiting_thread_of n None e h = absurd h
+  waiting_thread_of n (Some thread) e h = (thread, e, h.waits)
+
+  -- a thread that is out of range has no turn
+  outside : (o : Option Thread) → slice_get a.threads t ≡ o → who c t ≡ unused → stepped (home_of g.image g.stimulus c) w.machine c t a (slot (home_of g.image g.stimulus c) a t) ≡ Some m → Goal
+  outside None there free e = no_step (home_of g.image g.stimulus c) w.machine m c t a (slot (home_of g.image g.stimulus c) a t) (inl (ap (turn_at (home_of g.image g.stimulus c) a t) there)) e
+  outside (Some thread) there free e =
+      let used = st.used c a at_c in
+      let eight = used.threads in
+      let lt = slice_get_within a.threads t thread there in
+      let f = free_thread_of (slice_get a.threads t) refl (used.unused t (omega arith) free) in
+      no_step (home_of g.image g.stimulus c) w.machine m c t a (slot (home_of g.image g.stimulus c) a t) (idle_thread (home_of g.image g.stimulus c) a t f.0 f.1 (inl f.2)) e
+
+  pub step_followed : (role : Role) → who c t ≡ role → Stands g false a x.state (w.lives c t) x.actions role → stepped (home_of g.image g.stimulus c) w.machine c t a (slot (home_of g.image g.stimulus c) a t) ≡ Some m → Goal
+  step_followed unused is_role h e = outside (slice_get a.threads t) refl is_role e
+  step_followed (got_by k) is_role h e =
+      let q = st.roles.got c t k is_role in
+      let holder = works_at g first is none_rests who w x st c k q.0 q.1 q.2 in
+      let sync = hand_sync holder.branch.items q.1 t holder.in_hand q.3 in
+      let f = waiting_thread_of sync.0 (slice_get a.threads t) refl ((st.used c a at_c).got t k sync.0 q.0 q.1 is_role q.2 sync.1) in
+      no_step (home_of g.image g.stimulus c) w.machine m c t a (slot (home_of g.image g.stimulus c) a t) (idle_thread (home_of g.image g.stimulus c) a t f.0 f.1 (inr (inl f.2))) e
+  step_followed (used_by r hand) is_role h e = at_branch r hand is_role (slice_get x.state.branches r.branch) refl h e
+
+module _ (g : Setting) (first : Roles) (is : IsImageOf g first) (who : Roles) (w : Watched) (m : Machine) (x : Told (of_kernel g.program)) (st : Standing g none_rests who w x) where
   -- wherever the core is
-  at_core : (c t : ℕ) (o : Option CoreState) → slice_get w.machine.cores c ≡ o → step_at (home_of g.image g.stimulus c) w.machine c t o ≡ Some m → Follows g who x (watched_after w (Step c t) m)
-  at_core c t None at_c e = cc
-  at_core c t (Some a) at_c e = step_followed c t a at_c (who c t) refl (st.threads c t a at_c) e
+  at_core : (c t : ℕ) (o : Option CoreState) → slice_get w.machine.cores c ≡ o → step_at (home_of g.image g.stimulus c) w.machine c t o ≡ Some m → FollowsSo g who w x (watched_after w (Step c t) m)
+  at_core c t None at_c e = no_machine m e
+  at_core c t (Some a) at_c e = step_followed g first is who w x st c t a at_c m (who c t) refl (st.threads c t a at_c) e
 
   -- a core's tick
-  at_clock : (c : ℕ) (o : Option CoreState) → slice_get w.machine.cores c ≡ o → tick_at w.machine c o ≡ Some m → Follows g who x (watched_after w (Tick c) m)
-  at_clock c None at_c e = cc
-  at_clock c (Some a) at_c e = tick_followed g who apart w x st c a at_c m e
+  at_clock : (c : ℕ) (o : Option CoreState) → slice_get w.machine.cores c ≡ o → tick_at w.machine c o ≡ Some m → FollowsSo g who w x (watched_after w (Tick c) m)
+  at_clock c None at_c e = no_machine m e
+  at_clock c (Some a) at_c e = record { core = 0; there = omega arith; may_rest = none_rests; elsewhere = λ d u ne. refl; follows = tick_followed g first is who w x st c a at_c m e }
 
-  -- each event
-  pub event_followed : (e : Event) → does g.image g.stimulus w.machine e ≡ Some m → Follows g who x (watched_after w e m)
-  event_followed (Step c t) h = at_core c t (slice_get w.machine.cores c) refl h
-  event_followed (Tick c) h = at_clock c (slice_get w.machine.cores c) refl h
-  event_followed (Move from to) h =
+  -- Each event is followed by a piece of the program's run; behind it some threads may be at rest.
+  pub event_answered : (event : Event) → does g.image g.stimulus w.machine event ≡ Some m → FollowsSo g who w x (watched_after w event m)
+  event_answered (Step c t) h = at_core c t (slice_get w.machine.cores c) refl h
+  event_answered (Tick c) h = at_clock c (slice_get w.machine.cores c) refl h
+  event_answered (Move from to) h =
       let empty : link_of w.machine.links from to ≡ [] = ap (λ l. link_of l from to) st.links ∙ link_empty from to in
-      let none : move_at w.machine from to [] ≡ Some m = subst (λ items. move_at w.machine from to items ≡ Some m) empty h in
-      cc
+      no_machine m (sym (ap (move_at w.machine from to) empty) ∙ h)

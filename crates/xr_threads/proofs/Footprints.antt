@@ -1,5 +1,5 @@
--- What a root's code uses and changes is in its runner's footprint, so each of its statements fits the runner.
-use Rattle.std.proofs.Common.{zero, suc, [], ◌∷◌, ap, ◌≡◌, ℕ, ◌<◌, ◌≤◌, Bool, true, false, ◌||◌, List, length, Option, Some, None, Contains, slice_get, refl, sym, subst, ◌∙◌, arith}
+-- The plan of a root's core has all that the root's code uses, so each of its statements fits the core.
+use Rattle.std.proofs.Common.{zero, suc, [], ◌∷◌, ap, ◌≡◌, ℕ, ◌<◌, ◌≤◌, Bool, true, false, List, length, Option, Some, None, Contains, slice_get, refl, sym, subst, ◌∙◌, arith}
 use Rattle.std.specs.Prelude.{max}
 use Rattle.xc_tree.specs.declared.tree.TreeDir.{TreeDir}
 use Rattle.xc_tree.specs.declared.tree.TreeDir.TheVariants.{In, Out, Both}
@@ -10,11 +10,11 @@ use Rattle.xc_kernel.specs.declared.kernel.Var.{Var}
 use Rattle.xc_kernel.specs.declared.statement.KRes.{KRes}
 use Rattle.xc_kernel.specs.declared.statement.KRes.TheVariants.{Port, Timer, Chan}
 use Rattle.xc_kernel.specs.Plain as kernel
-use Rattle.xc_kernel.specs.Things.{Thing, variable, change, port, by_read, by_change, by_resource, by_expression, by_operands, by_place, by_target, by_some_target, by_some_expression, by_condition, by_output, by_input, by_statement, by_statements, by_case, by_cases, by_default, by_branch, by_branches}
-use Rattle.xc_meaning.specs.Counts.KernelCounts.{of_statement, greatest_held, greatest_in, words_in}
+use Rattle.xc_kernel.specs.Things.{Thing, variable, port, by_read, by_change, by_resource, by_expression, by_operands, by_place, by_target, by_some_expression, by_statement, by_statements, by_branches}
+use Rattle.xc_meaning.specs.Counts.KernelCounts.{of_statement, greatest_held, greatest_in, greatest_in_branches, words_in}
 use Rattle.xc_meaning.proofs.Basics.{none_given, same_number, or_left, or_right}
 use Rattle.xc_disjoint.specs.Checked.{IsChecked}
-use Rattle.xc_formed.specs.Each.{AnyExpression, AnyPlace, AnyNumber, AnyOutput, AnyInput, EachMaybe, EachStatement, EachOf}
+use Rattle.xc_formed.specs.Each.{AnyExpression, AnyPlace, AnyNumber, AnyOutput, AnyInput, EachBranch, EachMaybe, EachStatement, EachOf}
 use Rattle.xc_formed.specs.Numbers.{IsVariable, IsListed, NumbersInExpression, NumbersInOperands, NumbersInPlace}
 use Rattle.xc_formed.specs.Transfers.{GoesOut, ComesIn, OutputGoes}
 use Rattle.xl_expr.specs.declared.plan.VarPlan.{VarPlan}
@@ -23,99 +23,10 @@ use Rattle.xl_expr.specs.Plans.{var_in}
 use Rattle.xl_image.specs.Images.{dir_of}
 use Rattle.xl_plan.proofs.Lists.{some_given}
 use Rattle.xl_plan.proofs.UsedResources.{port_used}
-use Rattle.xr_threads.specs.Fits.{UsesSome, IsChanged, PutsOutAt, Fits, AllFit, greatest}
-use Rattle.xr_threads.specs.Runners.{Setting, Runner, plan}
-use Rattle.xr_threads.proofs.Roots.{runner_of}
+use Rattle.xr_threads.specs.Fits.{UsesSome, IsChanged, PutsOutAt, Fits, AllFit, BranchesFit, greatest}
+use Rattle.xr_threads.specs.Runners.{Setting, Runner, anyone, plan}
 
--- What is changed is used.
-
-both_or : (a b c d : Bool) → (a ≡ true → c ≡ true) → (b ≡ true → d ≡ true) → (a || b) ≡ true → (c || d) ≡ true
-both_or true b c d f g e = or_left c d (f refl)
-both_or false b c d f g e = or_right c d (g e)
-
-module _ (v : ℕ) where
-  mutual
-    expression_used : (e : kernel.Expression) → by_expression (change v) e ≡ true → by_expression (variable v) e ≡ true
-    expression_used (kernel.number w) h = h
-    expression_used (kernel.read p) h = place_used p h
-    expression_used (kernel.operation o u es pos) h = operands_used es h
-
-    operands_used : (es : kernel.Operands) → by_operands (change v) es ≡ true → by_operands (variable v) es ≡ true
-    operands_used kernel.no_operand h = h
-    operands_used (kernel.more_operands e es) h = both_or _ _ _ _ (expression_used e) (operands_used es) h
-
-    place_used : (p : kernel.Place) → by_place (change v) p ≡ true → by_place (variable v) p ≡ true
-    place_used (kernel.word w) h = absurd cc
-    place_used (kernel.element w i pos) h = both_or (by_read (change v) w) _ (by_read (variable v) w) _ (λ e. absurd cc) (expression_used i) h
-
-  target_used : (p : kernel.Place) → by_target (change v) p ≡ true → by_target (variable v) p ≡ true
-  target_used (kernel.word w) h = h
-  target_used (kernel.element w i pos) h = both_or _ _ _ _ (λ e. e) (expression_used i) h
-
-  some_target_used : (p : Option kernel.Place) → by_some_target (change v) p ≡ true → by_some_target (variable v) p ≡ true
-  some_target_used None h = h
-  some_target_used (Some p) h = target_used p h
-
-  some_expression_used : (e : Option kernel.Expression) → by_some_expression (change v) e ≡ true → by_some_expression (variable v) e ≡ true
-  some_expression_used None h = h
-  some_expression_used (Some e) h = expression_used e h
-
-  condition_used : (c : Option kernel.Condition) → by_condition (change v) c ≡ true → by_condition (variable v) c ≡ true
-  condition_used None h = h
-  condition_used (Some c) h = expression_used c.value h
-
-  output_used : (o : kernel.Output) → by_output (change v) o ≡ true → by_output (variable v) o ≡ true
-  output_used o h =
-      both_or (by_resource (change v) o.resource) _ (by_resource (variable v) o.resource) _ (λ e. absurd cc)
-      (both_or (by_some_expression (change v) o.time) _ (by_some_expression (variable v) o.time) _ (some_expression_used o.time)
-      (both_or (by_expression (change v) o.value) _ (by_expression (variable v) o.value) _ (expression_used o.value) (some_target_used o.stamp))) h
-
-  input_used : (i : kernel.Input) → by_input (change v) i ≡ true → by_input (variable v) i ≡ true
-  input_used i h =
-      both_or (by_resource (change v) i.resource) _ (by_resource (variable v) i.resource) _ (λ e. absurd cc)
-      (both_or (by_some_expression (change v) i.time) _ (by_some_expression (variable v) i.time) _ (some_expression_used i.time)
-      (both_or (by_condition (change v) i.condition) _ (by_condition (variable v) i.condition) _ (condition_used i.condition)
-      (both_or (by_some_target (change v) i.target) _ (by_some_target (variable v) i.target) _ (some_target_used i.target) (some_target_used i.stamp)))) h
-
-  mutual
-    statement_used : (s : kernel.Statement) → by_statement (change v) s ≡ true → by_statement (variable v) s ≡ true
-    statement_used (kernel.set_zero w) h = h
-    statement_used (kernel.set p e) h = both_or _ _ _ _ (target_used p) (expression_used e) h
-    statement_used (kernel.output o) h = output_used o h
-    statement_used (kernel.input i) h = input_used i h
-    statement_used (kernel.if_then e a b) h = both_or _ _ _ _ (expression_used e) (both_or _ _ _ _ (changed_used a) (changed_used b)) h
-    statement_used (kernel.loop e a b) h = both_or _ _ _ _ (expression_used e) (both_or _ _ _ _ (changed_used a) (changed_used b)) h
-    statement_used (kernel.block n a) h = changed_used a h
-    statement_used (kernel.exit n) h = h
-    statement_used (kernel.select cs d pos) h = both_or _ _ _ _ (cases_used cs) (default_used d) h
-    statement_used (kernel.par bs) h = branches_used bs h
-    statement_used (kernel.transaction c is_master a start close) h = changed_used a h
-
-    pub changed_used : (ss : kernel.Statements) → by_statements (change v) ss ≡ true → by_statements (variable v) ss ≡ true
-    changed_used kernel.no_more h = h
-    changed_used (kernel.more s ss) h = both_or _ _ _ _ (statement_used s) (changed_used ss) h
-
-    case_used : (c : kernel.Case) → by_case (change v) c ≡ true → by_case (variable v) c ≡ true
-    case_used (kernel.case guard i a) h =
-        both_or (by_some_expression (change v) guard) _ (by_some_expression (variable v) guard) _ (some_expression_used guard)
-        (both_or (by_input (change v) i) _ (by_input (variable v) i) _ (input_used i) (changed_used a)) h
-
-    cases_used : (cs : kernel.Cases) → by_cases (change v) cs ≡ true → by_cases (variable v) cs ≡ true
-    cases_used kernel.no_case h = h
-    cases_used (kernel.more_cases c cs) h = both_or _ _ _ _ (case_used c) (cases_used cs) h
-
-    default_used : (d : kernel.Default) → by_default (change v) d ≡ true → by_default (variable v) d ≡ true
-    default_used kernel.no_default h = h
-    default_used (kernel.default a) h = changed_used a h
-
-    branch_used : (b : kernel.Branch) → by_branch (change v) b ≡ true → by_branch (variable v) b ≡ true
-    branch_used (kernel.branch a pos) h = changed_used a h
-
-    branches_used : (bs : kernel.Branches) → by_branches (change v) bs ≡ true → by_branches (variable v) bs ≡ true
-    branches_used kernel.no_branch h = h
-    branches_used (kernel.more_branches b bs) h = both_or _ _ _ _ (branch_used b) (branches_used bs) h
-
--- The statements of a root fit its runner.
+-- The statements of a root fit its core.
 
 -- a port that drives takes outputs
 sends : (d : TreeDir) → drives d ≡ true → can_send (dir_of d) ≡ true
@@ -140,9 +51,9 @@ pub record HasAll (variables : List Var) (vars : List (Option VarPlan)) (body : 
   pub there : (v : ℕ) → by_statements (variable v) body ≡ true → (found : VarPlan) × (var_in vars v ≡ Some found)
   pub words : (v : ℕ) (found : VarPlan) (x : Var) → var_in vars v ≡ Some found → slice_get variables v ≡ Some x → found.words ≡ x.words
 
-module _ (g : Setting) (checked : IsChecked g.program) (core thread number : ℕ) (root : kernel.Root) (among : Contains g.program.roots root) (here : root.core ≡ core) where
+module _ (g : Setting) (checked : IsChecked g.program) (core : ℕ) (root : kernel.Root) (among : Contains g.program.roots root) (here : root.core ≡ core) where
   abbrev r : Runner
-  r = runner_of g.program core thread number root
+  r = anyone core
 
   abbrev V : ℕ → Bool → Type 0
   V = IsVariable g.program.variables
@@ -158,7 +69,7 @@ module _ (g : Setting) (checked : IsChecked g.program) (core thread number : ℕ
         let f = has.there v u in
         let n = has.words v f.0 is.variable f.1 is.there in
         let one = is.one_word refl in
-        (f.0, f.1, omega (arith, n, one), u)
+        (f.0, f.1, omega (arith, n, one), refl)
 
     mutual
       expression_fits : (e : kernel.Expression) → NumbersInExpression V e → AreOf (λ th. by_expression th e) → HasVars (plan g r).vars r.footprint.uses e
@@ -175,14 +86,14 @@ module _ (g : Setting) (checked : IsChecked g.program) (core thread number : ℕ
       place_fits (kernel.element v i pos) h k =
           let u = k (variable v) (or_left _ _ (same_number v)) in
           let f = has.there v u in
-          (expression_fits i h.1 (λ th q. k th (or_right (by_read th v) _ q)), (f.0, f.1, u))
+          (expression_fits i h.1 (λ th q. k th (or_right (by_read th v) _ q)), (f.0, f.1, refl))
 
     target_fits : (p : kernel.Place) → NumbersInPlace V p → AreOf (λ th. by_target th p) → HasPlace (plan g r).vars r.footprint.uses p × (r.footprint.changes (variable_of p) ≡ true)
-    target_fits (kernel.word v) h k = (word_there v h (k (variable v) (same_number v)), k (change v) (same_number v))
+    target_fits (kernel.word v) h k = (word_there v h (k (variable v) (same_number v)), refl)
     target_fits (kernel.element v i pos) h k =
         let u = k (variable v) (or_left _ _ (same_number v)) in
         let f = has.there v u in
-        ((expression_fits i h.1 (λ th q. k th (or_right (by_change th v) _ q)), (f.0, f.1, u)), k (change v) (or_left _ _ (same_number v)))
+        ((expression_fits i h.1 (λ th q. k th (or_right (by_change th v) _ q)), (f.0, f.1, refl)), refl)
 
     some_fits : (e : Option kernel.Expression) → EachMaybe (NumbersInExpression V) (NumbersInPlace V) (IsListed g.program.variables) AnyOutput AnyInput AnyNumber e → AreOf (λ th. by_some_expression th e) → UsesSome g r e
     some_fits None h k = tt
@@ -196,7 +107,7 @@ module _ (g : Setting) (checked : IsChecked g.program) (core thread number : ℕ
         let same : h.port ≡ x.0 = some_given (sym h.there ∙ x.1) in
         record {
           listed = x.0;
-          is = record { mine = u; known = x.1; core = x.2 ∙ here };
+          is = record { mine = refl; known = x.1; core = x.2 ∙ here };
           sends = sends x.0.dir (subst (λ (y : PortUse). drives y.dir ≡ true) same h.direction);
         }
     resource_fits (Timer t) time stamp h k = tt
@@ -208,7 +119,7 @@ module _ (g : Setting) (checked : IsChecked g.program) (core thread number : ℕ
         let f = has.there v u in
         let n = has.words v f.0 is.variable f.1 is.there in
         let l = long v is.variable is.there in
-        record { found = f.0; known = f.1; some = omega (arith, n, l); words = n ∙ sym (words_there g.program.variables v is.variable is.there); uses = u; changes = k (change v) (same_number v) }
+        record { found = f.0; known = f.1; some = omega (arith, n, l); words = n ∙ sym (words_there g.program.variables v is.variable is.there); uses = refl; changes = refl }
 
     abbrev Numbers : kernel.Statement → Type 0
     Numbers = EachStatement (NumbersInExpression V) (NumbersInPlace V) (IsListed g.program.variables) AnyOutput AnyInput AnyNumber
@@ -221,6 +132,12 @@ module _ (g : Setting) (checked : IsChecked g.program) (core thread number : ℕ
 
     abbrev AllGo : kernel.Statements → Type 0
     AllGo = EachOf AnyExpression AnyPlace AnyNumber (GoesOut g.program) (ComesIn g.program) AnyNumber
+
+    abbrev AllBranchNumbers : kernel.Branches → Type 0
+    AllBranchNumbers = EachBranch (NumbersInExpression V) (NumbersInPlace V) (IsListed g.program.variables) AnyOutput AnyInput AnyNumber
+
+    abbrev AllBranchesGo : kernel.Branches → Type 0
+    AllBranchesGo = EachBranch AnyExpression AnyPlace AnyNumber (GoesOut g.program) (ComesIn g.program) AnyNumber
 
     abbrev vs : List Var
     vs = g.program.variables
@@ -255,7 +172,7 @@ module _ (g : Setting) (checked : IsChecked g.program) (core thread number : ℕ
       statement_fits (kernel.block m a) n t k one held = all_fit a n t k held
       statement_fits (kernel.exit m) n t k one held = tt
       statement_fits (kernel.select cs d pos) n t k one held = tt
-      statement_fits (kernel.par bs) n t k one held = tt
+      statement_fits (kernel.par bs) n t k one held = (branches_fit bs n t k held, one)
       statement_fits (kernel.transaction c is_master a start close) n t k one held = tt
 
       pub all_fit : (ss : kernel.Statements) → AllNumbers ss → AllGo ss → AreOf (λ th. by_statements th ss) → greatest_in vs ss ≤ greatest g r → AllFit g r ss
@@ -265,3 +182,10 @@ module _ (g : Setting) (checked : IsChecked g.program) (core thread number : ℕ
             statement_fits s n.0 t.0 (λ th u. k th (or_left _ _ u)) (left_within (of_statement vs s) (greatest_held vs s) (greatest g r) own) (right_within (of_statement vs s) (greatest_held vs s) (greatest g r) own),
             all_fit ss n.1 t.1 (λ th u. k th (or_right (by_statement th s) _ u)) (right_within (max (of_statement vs s) (greatest_held vs s)) (greatest_in vs ss) (greatest g r) most),
           )
+
+      branches_fit : (bs : kernel.Branches) → AllBranchNumbers bs → AllBranchesGo bs → AreOf (λ th. by_branches th bs) → greatest_in_branches vs bs ≤ greatest g r → BranchesFit g r bs
+      branches_fit kernel.no_branch n t k most = tt
+      branches_fit (kernel.more_branches (kernel.branch ss pos) bs) n t k most = (
+        all_fit ss n.0 t.0 (λ th u. k th (or_left _ _ u)) (left_within (greatest_in vs ss) (greatest_in_branches vs bs) (greatest g r) most),
+        branches_fit bs n.1 t.1 (λ th u. k th (or_right (by_statements th ss) _ u)) (right_within (greatest_in vs ss) (greatest_in_branches vs bs) (greatest g r) most),
+      )

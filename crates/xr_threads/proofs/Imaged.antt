@@ -1,38 +1,36 @@
--- The image of a checked kernel whose roots' code is built is what the simulation asks of one.
-use Rattle.std.proofs.Common.{◌≡◌, ◌≢◌, ℕ, zero, suc, ◌+◌, ◌<◌, ◌≤◌, Bool, true, false, ◌&&◌, cond, List, [], ◌∷◌, length, map, Option, Some, None, slice_get, nat_eq, refl, sym, ap, subst, ◌∙◌, arith}
+-- The image of a checked kernel is what the simulation asks of one.
+use Rattle.std.proofs.Common.{◌≡◌, ◌⊎◌, ⊎_elim, ℕ, zero, suc, ◌<◌, ◌≤◌, List, [], ◌∷◌, Some, None, slice_get, refl, sym, ap, subst, ◌∙◌, arith}
 use Rattle.std.specs.Prelude.{max, Contains}
 use Rattle.xs_instr.specs.declared.image.Image.{Image}
 use Rattle.xs_instr.specs.declared.image.Stim.{Stim}
-use Rattle.xs_instr.specs.Machine.{boot_core, boot_threads, parts_in}
-use Rattle.xs_instr.specs.OwnSteps.{temporary}
+use Rattle.xs_instr.specs.Machine.{parts_in}
 use Rattle.xs_instr.specs.Valid.{Valid}
-use Rattle.xc_kernel.specs.declared.kernel.PortUse.{PortUse}
 use Rattle.xc_kernel.specs.declared.kernel.Var.{Var}
 use Rattle.xc_kernel.specs.Plain as kernel
-use Rattle.xc_kernel.specs.Things.{variable, change}
 use Rattle.xc_tree.specs.Depth.{highest}
 use Rattle.xc_meaning.specs.Counts.KernelCounts.{greatest_in, greatest_in_root}
-use Rattle.xc_meaning.specs.Runs.{kernel_root, no_side, root_branches}
-use Rattle.xc_meaning.specs.States.Channels.{Side}
-use Rattle.xc_apart.specs.Clashes.{changed}
+use Rattle.xc_meaning.specs.States.Items.{ends, todo}
 use Rattle.xc_disjoint.specs.Checked.{IsChecked}
+use Rattle.xc_disjoint.specs.Needs.{threads_on}
+use Rattle.xc_disjoint.specs.Rules.{needs, threads}
 use Rattle.xc_formed.specs.Each.{EachOf, EachRoot}
 use Rattle.xc_formed.proofs.Formed.{of_programs}
+use Rattle.xc_laws.proofs.Checked.{checked_obey}
 use Rattle.xl_expr.specs.declared.plan.Plan.{Plan}
-use Rattle.xl_image.specs.Images.{IsImage, decl_of, roots_on}
-use Rattle.xl_image.specs.Roots.{RootsAreBuilt}
+use Rattle.xl_image.specs.Images.{IsImage, roots_on}
 use Rattle.xl_plan.proofs.Lists.{some_given, none_given, contains_at}
 use Rattle.xr_match.specs.Meanings.{root_among}
-use Rattle.xr_threads.specs.Fits.{AllFit}
-use Rattle.xr_threads.specs.Images.{AreApart, IsApart, IsImageOf, IsRoot, Runners, living_on, one_where}
-use Rattle.xr_threads.specs.Runners.{Setting, Runner, IsLaidOut, IsPort, port_place}
-use Rattle.xr_threads.specs.Turns.{IsUnused}
+use Rattle.xr_threads.specs.Fits.{FitOn}
+use Rattle.xr_threads.specs.Images.{IsCoreOf, IsImageOf, IsRoot, IsRootRole}
+use Rattle.xr_threads.specs.Roles.{Roles, used_by}
+use Rattle.xr_threads.specs.Runners.{Setting, Runner, anyone}
 use Rattle.xr_threads.proofs.Footprints.{all_fit}
 use Rattle.xr_threads.proofs.FootprintsLong.{each_has_words}
-use Rattle.xr_threads.proofs.ImagedApart.{apart, codes_apart}
-use Rattle.xr_threads.proofs.ImagedLayout.{few, has_all, laid_out, ports_are, room, sizes_are}
+use Rattle.xr_threads.proofs.ImagedLayout.{core_is, has_all}
 use Rattle.xr_threads.proofs.ImagedPlans.{IsImaged, counted_at, imaged_at, placed_at, plans}
-use Rattle.xr_threads.proofs.Roots.{IsRunner, is_runner, listed_on, none_runs, root_runs, runner_of, runners, thread_of}
+use Rattle.xr_threads.proofs.Items as items
+use Rattle.xr_threads.proofs.Starts.{roots_live}
+use Rattle.xr_threads.proofs.Roots.{IsRunner, RootsThread, is_runner, listed_on, needed_is, of_none, of_root, root_inside, root_runs, roles, roots_thread, runner_of, some_root, thread_of}
 
 -- what holds in the code of all roots holds in that of one
 each_at : (E : kernel.Expression → Type 0) (P : kernel.Place → Type 0) (Z : ℕ → Type 0) (O : kernel.Output → Type 0) (I : kernel.Input → Type 0) (T : ℕ → Type 0) (rs : List kernel.Root) (i : ℕ) (root : kernel.Root) →
@@ -52,29 +50,18 @@ none_higher vs (r ∷ rs) (suc i) root e = later (greatest_in vs root.body) (gre
     later : (a b c : ℕ) → a ≤ c → a ≤ max b c
     later a b c h = grind arith
 
--- Boot.
+-- no core needs more threads than it has
+within_or_not : (n most : ℕ) → (n ≤ most) ⊎ (most < n)
+within_or_not n most = grind arith
 
--- a thread behind the roots' is unused
-unused_behind : (entries : List ℕ) (n thread : ℕ) → length entries ≤ thread → IsUnused (slice_get (boot_threads entries n) thread)
-unused_behind entries zero thread h = tt
-unused_behind [] (suc n) zero h = refl
-unused_behind [] (suc n) (suc thread) h = unused_behind [] n thread (omega arith)
-unused_behind (k ∷ entries) (suc n) zero h = absurd (let z : ⊥ = omega (arith, h) in z)
-unused_behind (k ∷ entries) (suc n) (suc thread) h = unused_behind entries n thread (omega (arith, h))
-
-one_by : (b : Bool) (r : kernel.Root) (rs : List kernel.Root) → one_where (b && true) + length rs ≡ length (cond b (r ∷ rs) rs)
-one_by true r rs = omega arith
-one_by false r rs = omega arith
-
--- at the start all roots of a core run
-all_live : (core number : ℕ) (before : List kernel.Statements) (sides : List (Option Side)) (rs : List kernel.Root) → living_on core (root_branches number before sides (map kernel_root rs)) ≡ length (roots_on core rs)
-all_live core number before sides [] = refl
-all_live core number before sides (r ∷ rs) =
-    ap (λ n. one_where (nat_eq r.core core && true) + n) (all_live core (number + 1) (r.body ∷ before) sides rs)
-    ∙ one_by (nat_eq r.core core) r (roots_on core rs)
+few_on : (K : kernel.Kernel) (core : ℕ) → IsChecked K → core < 4 → threads_on K core ≤ 8
+few_on K core checked lt =
+    ⊎_elim (λ le. le)
+    (λ more. absurd (checked.unbroken _ (needs (threads (record { core = core; is_core = (let z : core ≤ 3 = omega (arith, lt) in z); more = more })))))
+    (within_or_not (threads_on K core) 8)
 
 -- The setting of each stimulus.
-module _ (K : kernel.Kernel) (L : Image) (checked : IsChecked K) (built : RootsAreBuilt K.roots) (is : IsImage K L) (valid : Valid L) where
+module _ (K : kernel.Kernel) (L : Image) (checked : IsChecked K) (is : IsImage K L) (valid : Valid L) where
   abbrev pub setting : Stim → Setting
   setting s = record { program = K; image = L; stimulus = s; plans = plans K L is }
 
@@ -102,40 +89,45 @@ module _ (K : kernel.Kernel) (L : Image) (checked : IsChecked K) (built : RootsA
       is_core : core < 4
       is_core = in_four core number root known here
 
-      fits : AllFit g r root.body
+      fits : FitOn g core (todo root.body (ends ∷ []))
       fits =
           let formed = of_programs K checked.of_program in
-          all_fit g checked core thread number root among here (has_all g checked built core is_core im root among here) (each_has_words K checked.of_program) root.body
+          items.all_fit g (anyone core) root.body (ends ∷ [])
+          (all_fit g checked core root among here (has_all g checked core is_core im root among here) (each_has_words K checked.of_program) root.body
           (each_at _ _ _ _ _ _ K.roots number root formed.variables known) (each_at _ _ _ _ _ _ K.roots number root formed.transfers known) (λ th u. u)
-          (none_higher K.variables K.roots number root known)
+          (none_higher K.variables K.roots number root known))
+          (tt, tt)
 
-      is_root_by : thread_of core K.roots number ≡ thread → IsRoot g r root
-      is_root_by e = record {
+      is_root : IsRoot g r root
+      is_root = record {
         known = known;
         core = here;
         family = refl;
         numbered = found;
         base = refl;
         tie = refl;
-        few = subst (λ n. n < 8) e (few g checked built core is_core im number root known here);
+        alone = refl;
+        footprint = refl;
+        inside = subst (λ n. n < threads_on K core) (sym place) (root_inside K core number root known here);
         stack = refl;
-        code = im.roots thread root (ap (slice_get (roots_on core K.roots)) (sym e) ∙ listed_on K core number root known here);
+        code = im.roots thread root (ap (slice_get (roots_on core K.roots)) place ∙ listed_on K core number root known here);
         fits = fits;
-        room = subst (λ n. (runner_of K core n number root).stack + temporary ≤ (parts_in L.cores core).words) e (room g checked built core is_core im number root known here);
-        sizes = λ v n p near used. sizes_are g checked built core is_core im v n p near;
-        ports = subst (λ n. (p : ℕ) (x : PortUse) → IsPort g (runner_of K core n number root) p x → slice_get (parts_in L.cores core).ports (port_place g (runner_of K core n number root) p) ≡ Some (decl_of x)) e (ports_are g checked built core is_core im number root known here);
       }
 
-      is_root : IsRoot g r root
-      is_root = is_root_by (sym place)
+    abbrev who : Roles
+    who = roles K
 
-      is_laid_out : IsLaidOut g r
-      is_laid_out = subst (λ n. IsLaidOut g (runner_of K core n number root)) (sym place) (laid_out g checked built core is_core im number root known here)
+    -- each thread is unused or a root's
+    is_root_role : (c t : ℕ) → IsRootRole g (who c t)
+    is_root_role c t = by (roots_thread K c t)
+      where
+        by : RootsThread K c t → IsRootRole g (who c t)
+        by (of_none none n) = subst (IsRootRole g) (sym none) tt
+        by (of_root r role h) =
+            let root : IsRoot g r h.root = subst (λ x. IsRoot g x h.root) (sym h.is) (is_root c t h.number h.root h.found h.known h.core_is h.thread_is) in
+            subst (IsRootRole g) (sym role) (h.root, root)
 
-    abbrev who : Runners
-    who = runners K
-
-    known_runner : (c t : ℕ) (r : Runner) → who c t ≡ Some r → IsRunner K c t r
+    known_runner : (c t : ℕ) (r : Runner) → who c t ≡ used_by r None → IsRunner K c t r
     known_runner c t r e = is_runner K c t r e
 
     same_branches : (c t c' t' : ℕ) (r q : Runner) → IsRunner K c t r → IsRunner K c' t' q → q.branch ≡ r.branch → (c' ≡ c) × (t' ≡ t)
@@ -145,55 +137,27 @@ module _ (K : kernel.Kernel) (L : Image) (checked : IsChecked K) (built : RootsA
         let cores : c' ≡ c = sym k.core_is ∙ ap (λ (x : kernel.Root). x.core) roots ∙ h.core_is in
         (cores, k.thread_is ∙ ap (λ x. thread_of x K.roots k.number) cores ∙ ap (thread_of c K.roots) numbers ∙ sym h.thread_is)
 
-    differ : (c t t' : ℕ) (h k : ℕ) → t ≡ thread_of c K.roots h → t' ≡ thread_of c K.roots k → t' ≢ t → h ≢ k
-    differ c t t' h k e f ne same = ne (f ∙ ap (thread_of c K.roots) (sym same) ∙ sym e)
-
-    none_in_way : (c t t' : ℕ) (r q : Runner) → IsRunner K c t r → IsRunner K c t' q → t' ≢ t → IsApart g r q
-    none_in_way c t t' r q h k ne =
-        let a = apart g checked c (imaged_on c h.number h.root h.known h.core_is) t t' h.number k.number h.root k.root h.known k.known (differ c t t' h.number k.number h.thread_is k.thread_is ne) ne in
-        subst (λ x. IsApart g x q) (sym h.is) (subst (IsApart g (runner_of K c t h.number h.root)) (sym k.is) a)
-
-    not_changed : (b : Bool) → (b ≡ true → ⊥) → b ≡ false
-    not_changed true h = absurd (h refl)
-    not_changed false h = refl
-
-    own_variables : (c t c' t' v : ℕ) (r q : Runner) → IsRunner K c t r → IsRunner K c' t' q → q.branch ≢ r.branch → q.footprint.uses v ≡ true → r.footprint.changes v ≡ false
-    own_variables c t c' t' v r q h k ne uses =
-        not_changed (r.footprint.changes v)
-        (λ changes.
-        let numbers : h.number ≢ k.number = λ e. ne (ap (λ (x : Runner). x.branch) k.is ∙ sym e ∙ sym (ap (λ (x : Runner). x.branch) h.is)) in
-        (codes_apart K checked h.number k.number h.root k.root numbers h.known k.known).clash (change v) (variable v) (changed v)
-        (subst (λ (x : Runner). x.footprint.changes v ≡ true) h.is changes) (subst (λ (x : Runner). x.footprint.uses v ≡ true) k.is uses))
-
-    are_apart : AreApart g who
-    are_apart = record {
-      core = λ c t r e. ap (λ (x : Runner). x.core) (known_runner c t r e).is;
-      there = λ c t r e. let h = known_runner c t r e in in_four c h.number h.root h.known h.core_is;
-      thread = λ c t r e. ap (λ (x : Runner). x.thread) (known_runner c t r e).is;
-      laid = λ c t r e. let h = known_runner c t r e in subst (IsLaidOut g) (sym h.is) (is_laid_out c t h.number h.root h.found h.known h.core_is h.thread_is);
-      root = λ c t r e. ap (λ (x : Runner). x.tie) (known_runner c t r e).is;
-      branches = λ c t c' t' r q e f same. same_branches c t c' t' r q (known_runner c t r e) (known_runner c' t' q f) same;
-      apart = λ c t t' r q e f ne. none_in_way c t t' r q (known_runner c t r e) (known_runner c t' q f) ne;
-      variables = λ c t c' t' v r q e f ne uses. own_variables c t c' t' v r q (known_runner c t r e) (known_runner c' t' q f) ne uses;
-    }
-
-    unused_at : (c t : ℕ) → who c t ≡ None → IsUnused (slice_get (boot_core (parts_in L.cores c)).threads t)
-    unused_at c t e =
-        let n = counted_at K L is c in
-        let h = none_runs K c t e in
-        unused_behind (parts_in L.cores c).roots 8 t (omega (arith, n, h))
+    core_of : (c : ℕ) → c < 4 → 1 ≤ threads_on K c → IsCoreOf g c
+    core_of c lt some =
+        let root = some_root c K.roots some in
+        core_is g checked c lt (imaged_on c root.0 root.1 root.2 root.3)
 
     pub is_image_of : IsImageOf g who
     is_image_of = record {
-      apart = are_apart;
-      roots = λ c t r e. let h = known_runner c t r e in (h.root, subst (λ x. IsRoot g x h.root) (sym h.is) (is_root c t h.number h.root h.found h.known h.core_is h.thread_is));
-      unused = λ c t lt e. unused_at c t e;
-      count = λ c lt. counted_at K L is c ∙ sym (all_live c 0 [] (map no_side K.channels) K.roots);
+      obeys = checked_obey K checked;
+      roles = is_root_role;
+      core = λ c t r e. ap (λ (x : Runner). x.core) (known_runner c t r e).is;
+      thread = λ c t r e. ap (λ (x : Runner). x.thread) (known_runner c t r e).is;
+      cores = core_of;
+      few = λ c lt. few_on K c checked lt;
+      needed = needed_is K;
+      count = λ c lt. counted_at K L is c ∙ sym (roots_live K c);
       placed = λ b root known. placed_at K L is valid b root known;
-      run = λ b root known. record { core = root.core; thread = thread_of root.core K.roots b; runner = runner_of K root.core (thread_of root.core K.roots b) b root; runs = root_runs K b root known; branch = refl };
+      run = λ b root known. (root.core, thread_of root.core K.roots b, runner_of K root.core (thread_of root.core K.roots b) b root, root_runs K b root known, refl);
+      roots_differ = λ c t c' t' r q e f same. same_branches c t c' t' r q (known_runner c t r e) (known_runner c' t' q f) same;
     }
 
 -- The image of a checked kernel is what the simulation asks, by one plan for each core, whatever the stimulus.
-pub image_is : (K : kernel.Kernel) (L : Image) → IsChecked K → RootsAreBuilt K.roots → IsImage K L → Valid L →
-    (plan : ℕ → Plan) × ((s : Stim) → IsImageOf (record { program = K; image = L; stimulus = s; plans = plan }) (runners K))
-image_is K L checked built is valid = (plans K L is, is_image_of K L checked built is valid)
+pub image_is : (K : kernel.Kernel) (L : Image) → IsChecked K → IsImage K L → Valid L →
+    (plan : ℕ → Plan) × ((s : Stim) → IsImageOf (record { program = K; image = L; stimulus = s; plans = plan }) (roles K))
+image_is K L checked is valid = (plans K L is, is_image_of K L checked is valid)

@@ -1,6 +1,6 @@
--- The words and ports of a root's runner, as the plan of its core lays them out.
-use Rattle.std.proofs.Common.{◌≡◌, ◌⊎◌, ⊎_elim, ℕ, zero, suc, ◌+◌, ◌-◌, ◌^◌, ◌<◌, ◌≤◌, Bool, true, false, ◌&&◌, List, [], ◌∷◌, length, Option, Some, None, Contains, slice_get, option_map, nat_eq, nat_le, nat_lt, refl, sym, ap, subst, ◌∙◌, arith}
-use Rattle.std.proofs.lemmas.Option.{slice_get-map, slice_get_within}
+-- The words and ports of a core, as its plan lays them out for whoever runs there.
+use Rattle.std.proofs.Common.{◌≡◌, inl, inr, ⊎_elim, ℕ, ◌+◌, ◌^◌, ◌<◌, ◌≤◌, true, List, length, Option, Some, Contains, slice_get, option_map, nat_eq, refl, sym, ap, subst, ◌∙◌, arith}
+use Rattle.std.proofs.lemmas.Option.{slice_get-map}
 use Rattle.xs_instr.specs.declared.image.PortDecl.{PortDecl}
 use Rattle.xs_instr.specs.Machine.{parts_in}
 use Rattle.xs_instr.specs.OwnSteps.{IsApart, temporary}
@@ -8,122 +8,32 @@ use Rattle.xc_kernel.specs.declared.kernel.PortUse.{PortUse}
 use Rattle.xc_kernel.specs.declared.kernel.Var.{Var}
 use Rattle.xc_kernel.specs.Plain as kernel
 use Rattle.xc_meaning.specs.Counts.KernelCounts.{words_in}
-use Rattle.xc_meaning.proofs.Basics.{or_left, or_right, or_cases}
+use Rattle.xc_meaning.proofs.Basics.{or_right}
 use Rattle.xc_disjoint.specs.Checked.{IsChecked}
 use Rattle.xc_disjoint.specs.Needs.{words_on, threads_on}
-use Rattle.xl_expr.specs.declared.plan.VarAt.{VarAt}
-use Rattle.xl_expr.specs.declared.plan.VarAt.TheVariants.{Near, Far, Through}
 use Rattle.xl_expr.specs.declared.plan.VarPlan.{VarPlan}
 use Rattle.xl_expr.specs.Frames.{Frame, IsNear}
-use Rattle.xl_expr.specs.Plans.{joined, var_in}
-use Rattle.xl_image.specs.Images.{decl_of, roots_on}
-use Rattle.xl_image.specs.Roots.{RootsAreBuilt}
-use Rattle.xl_image.proofs.GoodParts.{few_roots_on}
-use Rattle.xl_image.proofs.Threads.{threads_are_roots}
+use Rattle.xl_expr.specs.Plans.{var_in}
+use Rattle.xl_image.specs.Images.{decl_of}
 use Rattle.xl_plan.specs.Layout.{first_temporary, temporary_of, word_of, ports_here, core_of_port, identifier_if, named_by, port_name}
 use Rattle.xl_plan.specs.Planned.{ports_on}
 use Rattle.xl_plan.proofs.FewPorts.{few_ports}
-use Rattle.xl_plan.proofs.Lists.{some_given, none_given, within_all}
+use Rattle.xl_plan.proofs.Lists.{some_given, within_all}
 use Rattle.xl_plan.proofs.Numbered.{listed}
 use Rattle.xl_plan.proofs.PortsDiffer.{ports_apart}
 use Rattle.xl_plan.proofs.Sizes.{few_words}
+use Rattle.xr_threads.specs.Images.{IsCoreOf}
+use Rattle.xr_threads.specs.Runners.{Setting, Runner, IsLaidOut, IsPort, anyone, is_among_words, is_word_among, port_place, relied}
+use Rattle.xr_threads.proofs.Footprints.{HasAll, words_there}
+use Rattle.xr_threads.proofs.ImagedPlans.{IsImaged, first_stack_is}
 use Rattle.xr_threads.proofs.Names.{port_named}
-use Rattle.xr_threads.specs.Runners.{Setting, Runner, IsLaidOut, IsPort, is_among_words, is_word_among, is_word_at, is_word_of, port_place, relied}
-use Rattle.xr_threads.proofs.Footprints.{HasAll, changed_used, words_there}
-use Rattle.xr_threads.proofs.ImagedPlans.{IsImaged}
-use Rattle.xr_threads.proofs.Roots.{listed_on, runner_of, thread_of}
-
--- Words.
-
-among_by : (a b : ℕ) (w : ℕ) → a ≤ w → w < b → (nat_le a w && nat_lt w b) ≡ true
-among_by a b w h g = grind arith
-
--- a word among so many
-pub among : (first words w i : ℕ) → w ≡ first + i → i < words → is_among_words first words w ≡ true
-among first words w i e h = among_by first (first + words) w (omega (arith, e)) (omega (arith, e, h))
-
-among_both : (a b : ℕ) (w : ℕ) → (nat_le a w && nat_lt w b) ≡ true → (a ≤ w) × (w < b)
-among_both a b w h = (grind arith, grind arith)
-
-pub among_found : (first words w : ℕ) → is_among_words first words w ≡ true → (i : ℕ) × (i < words) × (w ≡ first + i)
-among_found first words w h =
-    let b = among_both first (first + words) w h in
-    let lo = b.0 in
-    let hi = b.1 in
-    (w - first, omega (arith, lo, hi), omega (arith, lo))
-
--- a word of a variable of a plan
-pub record IsWord (base : ℕ) (vars : List (Option VarPlan)) (is_meant : ℕ → Bool) (w : ℕ) : Type 0 where
-  pub variable : ℕ
-  pub first : ℕ
-  pub place : ℕ
-  pub found : VarPlan
-  pub near : IsNear vars variable first found
-  pub meant : is_meant variable ≡ true
-  pub within : place < found.words
-  pub is : w ≡ base + first + place
-
-both_true : (a b : Bool) → a ≡ true → b ≡ true → (a && b) ≡ true
-both_true true b e f = f
-both_true false b e f = absurd cc
-
-true_both : (a b : Bool) → (a && b) ≡ true → (a ≡ true) × (b ≡ true)
-true_both true b e = (refl, e)
-true_both false b e = absurd cc
-
-module _ (base : ℕ) (vars : List (Option VarPlan)) (is_meant : ℕ → Bool) where
-  abbrev here : ℕ → ℕ → Bool
-  here v w = is_meant v && is_word_of base (var_in vars v) w
-
-  same_or_below : (v n : ℕ) → v < suc n → (v ≡ n) ⊎ (v < n)
-  same_or_below v n h = grind arith
-
-  word_among : (n v w : ℕ) → v < n → here v w ≡ true → is_word_among base vars is_meant n w ≡ true
-  word_among zero v w h e = absurd (let z : ⊥ = omega (arith, h) in z)
-  word_among (suc n) v w h e =
-      ⊎_elim
-      (λ q. or_left (here n w) (is_word_among base vars is_meant n w) (subst (λ m. here m w ≡ true) q e))
-      (λ lt. or_right (here n w) (is_word_among base vars is_meant n w) (word_among n v w lt e))
-      (same_or_below v n h)
-
-  known_by : (o : Option (Option VarPlan)) (found : VarPlan) → joined o ≡ Some found → o ≡ Some (Some found)
-  known_by None found e = absurd (none_given e)
-  known_by (Some x) found e = ap (λ y. Some y) e
-
-  -- a variable of a plan is below the plan's length
-  known_within : (v : ℕ) (found : VarPlan) → var_in vars v ≡ Some found → v < length vars
-  known_within v found e = slice_get_within vars v (Some found) (known_by (slice_get vars v) found e)
-
-  pub is_there : (w : ℕ) → IsWord base vars is_meant w → is_word_among base vars is_meant (length vars) w ≡ true
-  is_there w h =
-      word_among (length vars) h.variable w (known_within h.variable h.found h.near.known)
-      (both_true (is_meant h.variable) (is_word_of base (var_in vars h.variable) w) h.meant
-      (ap (λ o. is_word_of base o w) h.near.known ∙ ap (λ p. is_word_at base p h.found.words w) h.near.place ∙ among (base + h.first) h.found.words w h.place h.is h.within))
-
-  word_at_found : (v w : ℕ) (found : VarPlan) (place : VarAt) → is_meant v ≡ true → var_in vars v ≡ Some found → found.place ≡ place → is_word_at base place found.words w ≡ true → IsWord base vars is_meant w
-  word_at_found v w found (Near n) m e p h =
-      let a = among_found (base + n) found.words w h in
-      record { variable = v; first = n; place = a.0; found = found; near = record { known = e; place = p }; meant = m; within = a.1; is = a.2 }
-  word_at_found v w found (Far n) m e p h = absurd cc
-  word_at_found v w found (Through n) m e p h = absurd cc
-
-  word_of_found : (v w : ℕ) (o : Option VarPlan) → is_meant v ≡ true → var_in vars v ≡ o → is_word_of base o w ≡ true → IsWord base vars is_meant w
-  word_of_found v w None m e h = absurd cc
-  word_of_found v w (Some found) m e h = word_at_found v w found found.place m e refl h
-
-  pub word_found : (n w : ℕ) → is_word_among base vars is_meant n w ≡ true → IsWord base vars is_meant w
-  word_found zero w h = absurd cc
-  word_found (suc n) w h =
-      ⊎_elim
-      (λ e. let b = true_both (is_meant n) (is_word_of base (var_in vars n) w) e in word_of_found n w (var_in vars n) b.0 refl b.1)
-      (λ e. word_found n w e)
-      (or_cases (here n w) (is_word_among base vars is_meant n w) h)
+use Rattle.xr_threads.proofs.Places.{is_there, places_differ}
 
 eq_true : (a b : ℕ) → a ≡ b → nat_eq a b ≡ true
 eq_true a b e = grind arith
 
--- A root's runner on a core.
-module _ (g : Setting) (checked : IsChecked g.program) (built : RootsAreBuilt g.program.roots) (core : ℕ) (is_core : core < 4) (im : IsImaged g.program core (parts_in g.image.cores core) (g.plans core)) where
+-- A core.
+module _ (g : Setting) (checked : IsChecked g.program) (core : ℕ) (is_core : core < 4) (im : IsImaged g.program core (parts_in g.image.cores core) (g.plans core)) where
   abbrev vars : List (Option VarPlan)
   vars = (g.plans core).vars
 
@@ -157,7 +67,7 @@ module _ (g : Setting) (checked : IsChecked g.program) (built : RootsAreBuilt g.
   pub below_words : (v n : ℕ) (found : VarPlan) → IsNear vars v n found → n + found.words ≤ words_on g.program core
   below_words v n found near = let a = im.planned.below v n found near in let b = first_below in omega (arith, a, b)
 
-  pub sizes_are : (v n : ℕ) (found : VarPlan) → IsNear vars v n found → (found.words ≡ words_in g.program.variables v) × (0 + n + found.words ≤ (parts_in g.image.cores core).words)
+  pub sizes_are : (v n : ℕ) (found : VarPlan) → IsNear vars v n found → (found.words ≡ words_in g.program.variables v) × (n + found.words ≤ (parts_in g.image.cores core).words)
   sizes_are v n found near =
       let p = planned_at v found near.known in
       let a = below_words v n found near in
@@ -173,66 +83,69 @@ module _ (g : Setting) (checked : IsChecked g.program) (built : RootsAreBuilt g.
         p.words ∙ ap (λ (y : Var). y.words) (some_given (sym p.there ∙ there));
   }
 
-  module _ (number : ℕ) (root : kernel.Root) (known : slice_get g.program.roots number ≡ Some root) (here : root.core ≡ core) where
-    abbrev thread : ℕ
-    thread = thread_of core g.program.roots number
+  -- each thread of which it has need has temporary words
+  within_words : (t : ℕ) → t < threads_on g.program core → temporary_of g.program core t + temporary ≤ words_on g.program core
+  within_words t lt = omega (arith, lt)
 
-    -- it is one of the core's roots
-    pub among_roots : thread < length (roots_on core g.program.roots)
-    among_roots = slice_get_within (roots_on core g.program.roots) thread root (listed_on g.program core number root known here)
+  pub room : (t : ℕ) → t < threads_on g.program core → temporary_of g.program core t + temporary ≤ (parts_in g.image.cores core).words
+  room t lt = let a = within_words t lt in let b = im.words in omega (arith, a, b)
 
-    pub few : thread < 8
-    few =
-        let a = among_roots in
-        let b = few_roots_on g.program checked built core (let z : core ≤ 3 = omega (arith, is_core) in z) in
-        omega (arith, a, b)
+  -- the core's part declares the ports in their order
+  pub ports_are : (p : ℕ) (x : PortUse) → IsPort g (anyone core) p x → slice_get (parts_in g.image.cores core).ports (port_place g (anyone core) p) ≡ Some (decl_of x)
+  ports_are p x is =
+      ap (λ (ds : List PortDecl). slice_get ds (port_place g (anyone core) p)) im.ports
+      ∙ slice_get-map decl_of (ports_on core g.program.ports) (port_place g (anyone core) p)
+      ∙ ap (option_map decl_of) (listed core_of_port core g.program.ports p x is.known is.core)
 
-    within_words : temporary_of g.program core thread + temporary ≤ words_on g.program core
-    within_words =
-        let a = among_roots in
-        let t = threads_are_roots core g.program.roots built in
-        let n : threads_on g.program core ≡ length (roots_on core g.program.roots) = t in
-        omega (arith, a, n)
+  -- a port's number is small
+  place_small : (p : ℕ) (x : PortUse) → slice_get g.program.ports p ≡ Some x → port_place g (anyone core) p < 2 ^ 16
+  place_small p x e =
+      let a = within_all (ports_here core) g.program.ports p x e in
+      let b = few_ports core g.program.ports (ports_apart g.program core (let z : core ≤ 3 = omega (arith, is_core) in z) checked.of_program) in
+      omega (arith, a, b)
 
-    pub room : temporary_of g.program core thread + temporary ≤ (parts_in g.image.cores core).words
-    room = let a = within_words in let b = im.words in omega (arith, a, b)
+-- A runner on its core.
+module _ (g : Setting) (checked : IsChecked g.program) (r : Runner) (is_core : r.core < 4) (im : IsImaged g.program r.core (parts_in g.image.cores r.core) (g.plans r.core))
+    (inside : r.thread < threads_on g.program r.core) (base : r.base ≡ 0) (stack : r.stack ≡ temporary_of g.program r.core r.thread) where
+  not_temporary : (v n i : ℕ) (found : VarPlan) → IsNear (g.plans r.core).vars v n found → i < found.words → IsApart r.stack (r.base + n + i)
+  not_temporary v n i found near lt =
+      ⊎_elim
+      (λ h. inl (let b = base in let s = stack in omega (arith, h, b, s)))
+      (λ h. inr (let b = base in let s = stack in omega (arith, h, b, s)))
+      (im.planned.not_temporary v n i r.thread found near lt)
 
-    abbrev r : Runner
-    r = runner_of g.program core thread number root
+  frame : Frame (g.plans r.core).vars (relied g r) r.footprint.uses r.stack r.base
+  frame = record {
+    near = λ v found known. let p = planned_at g checked r.core is_core im v found known in (p.first, p.near);
+    low = λ v n i found near lt. let a = below_words g checked r.core is_core im v n found near in let b = words_small g checked r.core is_core im in let z = base in omega (arith, a, b, lt, z);
+    relied_on = λ v n i found near used lt.
+        or_right (is_among_words r.stack temporary (r.base + n + i)) (is_word_among r.base (g.plans r.core).vars r.footprint.uses (length (g.plans r.core).vars) (r.base + n + i))
+        (is_there r.base (g.plans r.core).vars r.footprint.uses (r.base + n + i) (record { variable = v; first = n; place = i; found = found; near = near; meant = used; within = lt; is = refl }));
+    apart = not_temporary;
+    disjoint = im.planned.apart;
+  }
 
-    frame : Frame vars (relied g r) r.footprint.uses r.stack 0
-    frame = record {
-      near = λ v found known. let p = planned_at v found known in (p.first, p.near);
-      low = λ v n i found near lt. let a = below_words v n found near in let b = words_small in omega (arith, a, b, lt);
-      relied_on = λ v n i found near used lt.
-          or_right (is_among_words r.stack temporary (0 + n + i)) (is_word_among 0 vars r.footprint.uses (length vars) (0 + n + i))
-          (is_there 0 vars r.footprint.uses (0 + n + i) (record { variable = v; first = n; place = i; found = found; near = near; meant = used; within = lt; is = refl }));
-      apart = λ v n i found near lt. subst (IsApart r.stack) (let z : n + i ≡ 0 + n + i = omega arith in z) (im.planned.not_temporary v n i thread found near lt);
-      disjoint = im.planned.apart;
-    }
+  pub laid_out : ((v : ℕ) → r.footprint.changes v ≡ true → r.footprint.uses v ≡ true) → IsLaidOut g r
+  laid_out used = record {
+    frame = frame;
+    changes = used;
+    small = let a = within_words g checked r.core is_core im r.thread inside in let b = words_small g checked r.core is_core im in let s = stack in omega (arith, a, b, s);
+    identifiers = λ p x is.
+        im.planned.ports p
+        ∙ ap (named_by (port_name r.core) core_of_port r.core g.program.ports p) is.known
+        ∙ ap (λ b. identifier_if b (port_name r.core (port_place g r p))) (eq_true x.core r.core is.core);
+    names = λ p x is. port_named r.core (port_place g r p) (place_small g checked r.core is_core im p x is.known);
+  }
 
-    -- a port's number is small
-    place_small : (p : ℕ) (x : PortUse) → slice_get g.program.ports p ≡ Some x → port_place g r p < 2 ^ 16
-    place_small p x e =
-        let a = within_all (ports_here core) g.program.ports p x e in
-        let b = few_ports core g.program.ports (ports_apart g.program core (let z : core ≤ 3 = omega (arith, is_core) in z) checked.of_program) in
-        omega (arith, a, b)
-
-    pub laid_out : IsLaidOut g r
-    laid_out = record {
-      frame = frame;
-      changes = λ v u. changed_used v root.body u;
-      small = let a = within_words in let b = words_small in omega (arith, a, b);
-      identifiers = λ p x is.
-          im.planned.ports p
-          ∙ ap (named_by (port_name core) core_of_port core g.program.ports p) is.known
-          ∙ ap (λ b. identifier_if b (port_name core (port_place g r p))) (eq_true x.core core is.core);
-      names = λ p x is. port_named core (port_place g r p) (place_small p x is.known);
-    }
-
-    -- the core's part declares the ports in their order
-    pub ports_are : (p : ℕ) (x : PortUse) → IsPort g r p x → slice_get (parts_in g.image.cores core).ports (port_place g r p) ≡ Some (decl_of x)
-    ports_are p x is =
-        ap (λ (ds : List PortDecl). slice_get ds (port_place g r p)) im.ports
-        ∙ slice_get-map decl_of (ports_on core g.program.ports) (port_place g r p)
-        ∙ ap (option_map decl_of) (listed core_of_port core g.program.ports p x is.known is.core)
+-- What the simulation asks of a core.
+pub core_is : (g : Setting) (checked : IsChecked g.program) (core : ℕ) (is_core : core < 4) → IsImaged g.program core (parts_in g.image.cores core) (g.plans core) → IsCoreOf g core
+core_is g checked core is_core im = record {
+  laid = λ r on inside base stack used.
+      laid_out g checked r (subst (λ c. c < 4) (sym on) is_core) (subst (λ c. IsImaged g.program c (parts_in g.image.cores c) (g.plans c)) (sym on) im)
+      (subst (λ c. r.thread < threads_on g.program c) (sym on) inside) base (stack ∙ ap (λ c. temporary_of g.program c r.thread) (sym on)) used;
+  room = room g checked core is_core im;
+  stacks = first_stack_is g.program core (g.plans core) im.planned;
+  sizes = sizes_are g checked core is_core im;
+  ports = ports_are g checked core is_core im;
+  ports_differ = λ p q listed other is is' same. places_differ g.program.ports core p q listed other is.known is'.known is.core is'.core same;
+}

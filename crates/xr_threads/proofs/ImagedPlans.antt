@@ -8,6 +8,7 @@ use Rattle.xc_kernel.specs.Plain as kernel
 use Rattle.xc_disjoint.specs.Needs.{words_on}
 use Rattle.xl_expr.specs.declared.plan.Plan.{Plan}
 use Rattle.xl_image.specs.Images.{IsCoreImage, IsImage, IsPlan, RootAt, decl_of, roots_on}
+use Rattle.xl_plan.specs.Layout.{temporary_of}
 use Rattle.xl_plan.specs.Planned.{ports_on}
 use Rattle.xl_plan.proofs.Lists.{some_given, none_given, contained_at, contains_at}
 use Rattle.xr_threads.proofs.Roots.{thread_of, listed_on}
@@ -19,6 +20,10 @@ pub record IsImaged (K : kernel.Kernel) (core : ℕ) (part : CoreImage) (plan : 
   pub ports : part.ports ≡ map decl_of (ports_on core K.ports)
   pub as_many : length part.roots ≡ length (roots_on core K.roots)
   pub roots : (place : ℕ) (root : kernel.Root) → slice_get (roots_on core K.roots) place ≡ Some root → RootAt K plan part core place root
+
+-- where the temporary words of the core's threads begin; this is to be a field of `IsPlan`
+pub first_stack_is : (K : kernel.Kernel) (core : ℕ) (plan : Plan) → IsPlan K core plan → plan.first_stack ≡ temporary_of K core 0
+first_stack_is K core plan planned = planned.first_stack
 
 -- a core's part, where the image has one
 pub data Part (K : kernel.Kernel) (parts : List CoreImage) (core : ℕ) : Type 0 where
@@ -51,7 +56,7 @@ module _ (K : kernel.Kernel) where
       by false q (missing none is) = missing (none_here q none) (ap (parts_by p (parts_in ps core)) q ∙ is)
 
   abbrev no_plan : Plan
-  no_plan = record { vars = []; ports = []; timers = []; ends = [] }
+  no_plan = record { vars = []; ports = []; timers = []; ends = []; first_stack = 0 }
 
   -- the plan of a core; one that has no root needs none
   abbrev pub plan_by : {parts : List CoreImage} {core : ℕ} → Part K parts core → Plan

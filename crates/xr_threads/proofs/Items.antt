@@ -1,44 +1,55 @@
 -- Where the code of items stands, and what they need, before statements and behind jumps.
-use Rattle.std.proofs.Common.{◌≡◌, ℕ, zero, suc, ◌+◌, Bool, true, false, List, [], ◌∷◌, sym, subst, arith}
+use Rattle.std.proofs.Common.{◌≡◌, ℕ, zero, suc, ◌+◌, Bool, true, false, List, [], ◌∷◌, refl, sym, subst, arith}
 use Rattle.std.specs.Prelude.{nat_eq}
 use Rattle.xs_instr.specs.declared.image.Code.{Code}
 use Rattle.xc_kernel.specs.Plain as kernel
 use Rattle.xc_meaning.specs.Settings.Flow.{from_mark_by, items_from_mark}
 use Rattle.xc_meaning.specs.States.Items.{Item, does, says, stores, mark, awaits, transaction_end, chooses, fixed, ends, todo}
 use Rattle.xl_expr.specs.declared.plan.Plan.{Plan}
-use Rattle.xl_image.specs.Items.{ItemsAt}
-use Rattle.xl_image.proofs.Stands.{code_stands}
+use Rattle.xr_threads.specs.Items.{ItemsAt}
 use Rattle.xl_walk.specs.Pieces.{Exit, Jumps, PiecesAt}
 use Rattle.xr_threads.specs.Fits.{AllFit, ItemsFit}
 use Rattle.xr_threads.specs.Runners.{Setting, Runner}
 
-module _ (plan : Plan) (code : Code) where
-  -- jumps behind jumps
-  pub jumps_on : (n m a b c : ℕ) → Jumps code n a b → Jumps code m b c → Jumps code (n + m) a c
-  jumps_on zero m a b c h k =
-      let e : m ≡ 0 + m = omega arith in
-      subst (λ n. Jumps code n a c) e (subst (λ p. Jumps code m p c) (sym h) k)
-  jumps_on (suc n) m a b c h k =
-      let e : suc (n + m) ≡ suc n + m = omega arith in
-      let all : Jumps code (suc (n + m)) a c = (h.0, h.1, jumps_on n m h.0 b c h.2 k) in
-      subst (λ l. Jumps code l a c) e all
+-- jumps behind jumps
+pub jumps_on : (code : Code) (n m a b c : ℕ) → Jumps code n a b → Jumps code m b c → Jumps code (n + m) a c
+jumps_on code zero m a b c h k =
+    let e : m ≡ 0 + m = omega arith in
+    subst (λ n. Jumps code n a c) e (subst (λ p. Jumps code m p c) (sym h) k)
+jumps_on code (suc n) m a b c h k =
+    let e : suc (n + m) ≡ suc n + m = omega arith in
+    let all : Jumps code (suc (n + m)) a c = (h.0, h.1, jumps_on code n m h.0 b c h.2 k) in
+    subst (λ l. Jumps code l a c) e all
 
+module _ (plan : Plan) (code : Code) (End : (pc j : ℕ) → Type 0) where
   -- jumps lead to items
-  pub behind_jumps : (items : List Item) (exits : List Exit) (n a b j : ℕ) → Jumps code n a b → ItemsAt plan code items exits b j → ItemsAt plan code items exits a (n + j)
+  pub behind_jumps : (items : List Item) (exits : List Exit) (n a b j : ℕ) → Jumps code n a b → ItemsAt plan code End items exits b j → ItemsAt plan code End items exits a (n + j)
   behind_jumps [] exits n a b j h k = absurd k
   behind_jumps (i ∷ rest) exits n a b j h k = record {
     index = k.index;
     here = n + k.here;
     further = k.further;
-    jumps = jumps_on n k.here a b k.index h k.jumps;
+    jumps = jumps_on code n k.here a b k.index h k.jumps;
     stands = k.stands;
     sum = let e = k.sum in omega arith;
   }
 
+  -- statements before an item
+  code_stands : (ss : kernel.Statements) (item : Item) (rest : List Item) (exits : List Exit) (a b j : ℕ) → PiecesAt code plan ss exits a b → ItemsAt plan code End (item ∷ rest) exits b j → ItemsAt plan code End (todo ss (item ∷ rest)) exits a j
+  code_stands kernel.no_more item rest exits a b j h items = subst (λ q. ItemsAt plan code End (item ∷ rest) exits q j) (sym h) items
+  code_stands (kernel.more s ss) item rest exits a b j h items = record {
+    index = a;
+    here = 0;
+    further = j;
+    jumps = refl;
+    stands = (h.0, h.1, code_stands ss item rest exits h.0 b j h.2 items);
+    sum = omega arith;
+  }
+
   -- statements before items
-  pub pieces_before : (ss : kernel.Statements) (rest : List Item) (exits : List Exit) (a b j : ℕ) → PiecesAt code plan ss exits a b → ItemsAt plan code rest exits b j → ItemsAt plan code (todo ss rest) exits a j
+  pub pieces_before : (ss : kernel.Statements) (rest : List Item) (exits : List Exit) (a b j : ℕ) → PiecesAt code plan ss exits a b → ItemsAt plan code End rest exits b j → ItemsAt plan code End (todo ss rest) exits a j
   pieces_before ss [] exits a b j h k = absurd k
-  pieces_before ss (i ∷ rest) exits a b j h k = code_stands plan code ss i rest exits a b j h k
+  pieces_before ss (i ∷ rest) exits a b j h k = code_stands ss i rest exits a b j h k
 
 module _ (g : Setting) (r : Runner) where
   -- statements before items fit where both do

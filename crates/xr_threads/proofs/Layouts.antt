@@ -1,9 +1,8 @@
 -- What a runner stands on lasts while others act, and while the runner goes on.
 use Rattle.std.proofs.Common.{◌≡◌, ◌≢◌, ℕ, zero, suc, ◌+◌, ◌<◌, ◌≤◌, Bool, true, ◌&&◌, List, length, Option, Some, None, refl, sym, ap, ◌∙◌, subst, ⊎_elim, arith}
-use Rattle.std.specs.Prelude.{slice_get, nat_le, nat_lt}
-use Rattle.std.proofs.lemmas.Bool.{and_from, or_left, or_right, cases_eq, le-leb, lt-ltb}
-use Rattle.std.proofs.lemmas.Option.{slice_get_within, same_Some}
-use Rattle.xs_instr.specs.declared.state.Port.{Port}
+use Rattle.std.specs.Prelude.{slice_get}
+use Rattle.std.proofs.lemmas.Bool.{and_from, or_left, or_right, cases_eq}
+use Rattle.std.proofs.lemmas.Option.{slice_get_within}
 use Rattle.xs_instr.specs.declared.state.Regs.{Regs}
 use Rattle.xs_instr.specs.OwnSteps.{HasRoom, IsApart, RunsAt, temporary}
 use Rattle.xc_kernel.specs.declared.kernel.PortUse.{PortUse}
@@ -17,17 +16,13 @@ use Rattle.xl_expr.specs.Plans.{var_in, joined}
 use Rattle.xl_expr.specs.Works.{IsLaid, PlaceIsLaid}
 use Rattle.xl_expr.proofs.Framed.{framed_laid, framed_place}
 use Rattle.xl_expr.proofs.Lists.{room_kept}
-use Rattle.xl_image.specs.Images.{decl_of}
 use Rattle.xr_threads.specs.Fits.{Uses, UsesAt}
 use Rattle.xr_threads.specs.Runners.{Setting, Runner, IsLaidOut, IsPort, is_among_words, is_word_among, is_word_at, is_word_of, plan, port_place, relied}
-use Rattle.xr_threads.specs.Scenes.{Scene, Kept, running}
-use Rattle.xr_threads.specs.Turns.{HasBases, HoldsStore, Has, IsAt, PortIs, PortsStand, Rest, Runs}
-use Rattle.xr_threads.proofs.Arriving.{Since, any_port, but}
-
--- a word among so many
-pub among_words : (first words k : ℕ) → k < words → is_among_words first words (first + k) ≡ true
-among_words first words k lt =
-    and_from (nat_le first (first + k)) (nat_lt (first + k) (first + words)) (le-leb first (first + k) (omega arith)) (lt-ltb (first + k) (first + words) (omega arith))
+use Rattle.xr_threads.specs.Scenes.{Scene, IsStable, Kept, running}
+use Rattle.xr_threads.specs.Standing.{IsAtRest, IsOnItsWay, IsResuming}
+use Rattle.xr_threads.specs.Turns.{GivesBack, HasBases, HoldsStore, Has, IsAt, PortsStand, Rest, Runs, Turns}
+use Rattle.xr_threads.proofs.Scenes.{leads_in_stable, turns_stable}
+use Rattle.xr_threads.proofs.Arriving.{Since, among_words, any_port, stack_relied}
 
 -- a variable of a plan is one of the list
 pub planned_within : (vars : List (Option VarPlan)) (v : ℕ) (found : VarPlan) → var_in vars v ≡ Some found → v < length vars
@@ -61,12 +56,7 @@ module _ (base : ℕ) (vars : List (Option VarPlan)) (is_meant : ℕ → Bool) w
       among_first (length vars) v (base + n + i) (planned_within vars v found near.known) meant (known ∙ placed ∙ among_words (base + n) found.words i lt)
 
 module _ (g : Setting) (r : Runner) where
-  -- the runner relies on its temporary words
-  pub stack_relied : (k : ℕ) → k < temporary → relied g r (r.stack + k) ≡ true
-  stack_relied k lt =
-      or_left (is_among_words r.stack temporary (r.stack + k)) (is_word_among r.base (plan g r).vars r.footprint.uses (length (plan g r).vars) (r.stack + k)) (among_words r.stack temporary k lt)
-
-  -- and on the words of the variables that it uses
+  -- the runner relies on the words of the variables that it uses
   pub variable_relied : (v n i : ℕ) (found : VarPlan) → IsNear (plan g r).vars v n found → r.footprint.uses v ≡ true → i < found.words → relied g r (r.base + n + i) ≡ true
   variable_relied v n i found near uses lt =
       or_right (is_among_words r.stack temporary (r.base + n + i)) (is_word_among r.base (plan g r).vars r.footprint.uses (length (plan g r).vars) (r.base + n + i)) (word_among r.base (plan g r).vars r.footprint.uses v n i found near uses lt)
@@ -91,7 +81,7 @@ module _ (g : Setting) (r : Runner) where
   pub store_kept : (z y : Scene) → Kept g r z y → HoldsStore g r z → HoldsStore g r y
   store_kept z y k h = record {
     holds = holds_last z.core.words y.core.words z.world.store y.world.store (λ v n i found near uses lt. k.words (r.base + n + i) (variable_relied v n i found near uses lt)) k.store h.holds;
-    room = room_kept (relied g r) r.stack stack_relied z.core.words y.core.words h.room k.words;
+    room = room_kept (relied g r) r.stack (stack_relied g r) z.core.words y.core.words h.room k.words;
   }
 
   -- ports stand where they are the same
@@ -125,6 +115,34 @@ module _ (g : Setting) (r : Runner) where
     has = has_kept items z y k h.has;
   }
 
+  -- one that gives a synchroniser back does so still
+  pub gives_back_kept : (items : List Item) (j : ℕ) (z y : Scene) → Kept g r z y → GivesBack g r items j z → GivesBack g r items j y
+  gives_back_kept items j z y k h = record {
+    sync = h.sync;
+    in_hand = k.hand ∙ h.in_hand;
+    pc = h.pc;
+    regs = h.regs;
+    exits = h.exits;
+    here = k.thread ∙ h.here;
+    bases = h.bases;
+    at_code = h.at_code;
+    fits = h.fits;
+    has = has_kept items z y k h.has;
+    frees = h.frees;
+  }
+
+  -- so a thread that is to give one back is so still
+  pub resuming_stable : (items : List Item) (most : ℕ) → IsStable g r (IsResuming g r items most)
+  resuming_stable items most z y k h = (h.0, h.1, gives_back_kept items h.0 z y k h.2)
+
+  -- a thread on its way to its item's own instruction is on it still
+  pub on_its_way_stable : (most : ℕ) → IsStable g r (IsOnItsWay g r most)
+  on_its_way_stable most z y k h = (h.0, h.1, h.2, leads_in_stable g r (Turns g r h.1) (turns_stable g r h.1) h.0 z y k h.3)
+
+  -- one at rest is at rest still
+  pub at_rest_stable : (items : List Item) (most : ℕ) → IsStable g r (IsAtRest g r items most)
+  at_rest_stable items most z y k h = (h.0, h.1, k.hand ∙ h.2, rest_kept items h.0 z y k h.3)
+
   -- What the runner itself leaves on its way. Its temporary words are there still, as the code that it runs says.
 
   -- the store's words
@@ -144,36 +162,28 @@ module _ (g : Setting) (r : Runner) where
     ports = ports_last z y (λ p listed is. s.ports p listed is tt) h.ports;
   }
 
-  -- the ports, where one of them was set and is declared as it was
-  pub ports_since : (leaves : ℕ → Type 0) (p : ℕ) (listed : PortUse) (z y : Scene) → IsPort g r p listed → Since g r leaves (but (port_place g r p)) z y → PortIs g r p listed y → PortsStand g r z → PortsStand g r y
-  ports_since leaves p listed z y is s at_p h = λ q other is_q.
-      ⊎_elim
-      (λ (e : port_place g r q ≡ port_place g r p).
+  -- the ports, some of which may have been set
+  pub ports_since : (leaves stays : ℕ → Type 0) (z y : Scene) → Since g r leaves stays z y → PortsStand g r z → PortsStand g r y
+  ports_since leaves stays z y s h = λ p listed is.
       let old = h p listed is in
-      let old_q = h q other is_q in
-      let same : old_q.port ≡ old.port = same_Some old_q.port old.port (sym old_q.there ∙ ap (slice_get z.core.ports) e ∙ old.there) in
-      let decl : decl_of listed ≡ decl_of other = sym old.declared ∙ sym (ap (λ (a : Port). a.decl) same) ∙ old_q.declared in
-      record { port = at_p.port; there = ap (slice_get y.core.ports) e ∙ at_p.there; declared = at_p.declared ∙ decl })
-      (λ (ne : port_place g r q ≢ port_place g r p).
-      let old_q = h q other is_q in
-      record { port = old_q.port; there = s.ports q other is_q ne ∙ old_q.there; declared = old_q.declared })
-      (cases_eq (port_place g r q) (port_place g r p))
+      let now = s.declared p listed old.port is old.there in
+      record { port = now.0; there = now.1; declared = now.2 ∙ old.declared }
 
-  -- all that it has, where one of its ports was set
-  pub has_since_port : (laid : IsLaidOut g r) (items : List Item) (p : ℕ) (listed : PortUse) (z y : Scene) → IsPort g r p listed → Since g r (IsApart r.stack) (but (port_place g r p)) z y → PortIs g r p listed y → r.stack + temporary ≤ length y.core.words → Has g r items z → Has g r items y
-  has_since_port laid items p listed z y is s at_p room h = record {
+  -- all that it has, where some of its ports may have been set
+  pub has_since_port : (laid : IsLaidOut g r) (stays : ℕ → Type 0) (items : List Item) (z y : Scene) → Since g r (IsApart r.stack) stays z y → Has g r items z → Has g r items y
+  has_since_port laid stays items z y s h = record {
     branch = h.branch;
     runs = runs_kept z y h.branch items s.branch h.runs;
     core = h.core;
-    holds = store_since laid (but (port_place g r p)) z y s room h.holds;
-    ports = ports_since (IsApart r.stack) p listed z y is s at_p h.ports;
+    holds = store_since laid stays z y s (s.room h.holds.room) h.holds;
+    ports = ports_since (IsApart r.stack) stays z y s h.ports;
   }
 
   -- What code asks for, where the runner's thread is at it.
 
   -- room for temporary words
   pub room_of : (laid : IsLaidOut g r) (z : Scene) (regs : Regs) → HasBases g r regs → HoldsStore g r z → HasRoom (relied g r) r.stack regs z.core.words
-  room_of laid z regs bases h = record { sp_is = bases.stack; small = laid.small; within = h.room; relied_on = stack_relied }
+  room_of laid z regs bases h = record { sp_is = bases.stack; small = laid.small; within = h.room; relied_on = stack_relied g r }
 
   -- the thread runs there
   pub runs_at : (z : Scene) (pc : ℕ) (regs : Regs) → IsAt g r z pc regs → RunsAt r.thread pc (running r.tie pc regs) z.core

@@ -2,10 +2,10 @@
 use Rattle.std.proofs.Common.{◌≡◌, ◌≢◌, ℕ, zero, suc, ◌+◌, ◌*◌, ◌≤◌, Bool, true, false, List, [], ◌∷◌, option_map, Option, Some, None, refl, sym, ap, ◌∙◌, subst, ⊎_elim, arith, eq-eqb}
 use Rattle.std.specs.Prelude.{nat_eq, slice_get, slice_index}
 use Rattle.std.proofs.lemmas.Bool.{cases_eq, ne_eqb}
+use Rattle.std.proofs.lemmas.List.{length-set}
 use Rattle.std.proofs.lemmas.Option.{get_or_from_slice_get, same_Some}
 use Rattle.xw_words.specs.declared.pos.Pos.{Pos}
 use Rattle.xs_instr.specs.declared.image.PortDecl.{PortDecl}
-use Rattle.xs_instr.specs.declared.instr.Reg.TheVariants.{Dp, Sp}
 use Rattle.xs_instr.specs.declared.state.CoreState.{CoreState}
 use Rattle.xs_instr.specs.declared.state.Port.{Port}
 use Rattle.xs_instr.specs.declared.state.Regs.{Regs}
@@ -40,14 +40,15 @@ use Rattle.xl_port.specs.PortSteps.{WithinPort}
 use Rattle.xl_walk.specs.Built as built
 use Rattle.xl_walk.specs.Pieces.{Exit}
 use Rattle.xr_threads.specs.Fits.{IsOutPort, ItemsFit, OutputFits, PutsOutAt, UsesSome}
+use Rattle.xr_threads.specs.Parents.{syncs_of}
 use Rattle.xr_threads.specs.Runners.{Setting, Runner, IsLaidOut, home, plan, port_place, relied}
 use Rattle.xr_threads.specs.Scenes.{Scene, Kept, running}
-use Rattle.xr_threads.specs.Settled.{with_items}
 use Rattle.xr_threads.specs.Turns as turn
 use Rattle.xr_threads.specs.Turns.{CannotAct, Errs, Goes, Has, HasBases, IsAt, ItemsFrom, PortIs, PortsStand, Runs, StatementLeads, Turn, Turns, cost}
-use Rattle.xr_threads.proofs.Arriving.{Since, apart_of_changes, arrives_at_port, but, port_kept, since_kept}
-use Rattle.xr_threads.proofs.Evaluations.{err_acts, eval_still, item_acts, kinds_agree, nodes_are, runs_with}
-use Rattle.xr_threads.proofs.Layouts.{laid_at, room_of, runs_at, runs_kept, store_since}
+use Rattle.xr_threads.proofs.Arriving.{Since, apart_of_changes, at_runs, arrives_at_port, but, port_kept, since_kept}
+use Rattle.xr_threads.proofs.Bases.{bases_worked}
+use Rattle.xr_threads.proofs.Evaluations.{err_acts, eval_still, item_acts, kinds_agree, nodes_are, runs_with, with_items}
+use Rattle.xr_threads.proofs.Layouts.{has_since_port, laid_at, room_of, runs_at, runs_kept, store_since}
 use Rattle.xr_threads.proofs.Scenes.{leads_as, leads_more}
 
 -- two numbers are compared either way
@@ -124,7 +125,7 @@ module _ (g : Setting) (r : Runner) (laid : IsLaidOut g r) (o : kernel.Output) (
       ∙ ap (λ d. with_timing (Step x branch) d (λ when. with_word_of (Step x branch) o.value (drives (Step x branch) o p when))) (timing_is x.store o.time)
 
   -- the thread is at the end of its way
-  module _ (z : Scene) (has : Has g r (Item' ∷ rest) z) (x : Scene) (since : Since g r (IsApart r.stack) (but (port_place g r p)) z x) (clock : slice_get x.world.clocks r.core ≡ Some x.core.clock) where
+  module _ (z : Scene) (has : Has g r (Item' ∷ rest) z) (no_hand : z.hand ≡ None) (x : Scene) (since : Since g r (IsApart r.stack) (but (port_place g r p)) z x) (clock : slice_get x.world.clocks r.core ≡ Some x.core.clock) where
     abbrev place : ℕ
     place = port_place g r p
 
@@ -144,6 +145,10 @@ module _ (g : Setting) (r : Runner) (laid : IsLaidOut g r) (o : kernel.Output) (
     runs : Runs x.world r.branch branch (Item' ∷ rest)
     runs = runs_kept g r z x branch (Item' ∷ rest) since.branch has.runs
 
+    -- and all that it has, with its port as it may have been set
+    has_x : Has g r (Item' ∷ rest) x
+    has_x = has_since_port g r laid (but (port_place g r p)) (Item' ∷ rest) z x since has
+
     -- its time and its value are what they were
     times_are : option_map (eval x.world.store) o.time ≡ option_map (eval z.world.store) o.time
     times_are = time_still g r z.world.store x.world.store since.store o.time fits.time
@@ -161,6 +166,10 @@ module _ (g : Setting) (r : Runner) (laid : IsLaidOut g r) (o : kernel.Output) (
       pos = pos;
       traps = traps.traps;
       fault = traps.record_is;
+      holds = has_x.holds;
+      ports = has_x.ports;
+      no_hand = since.hand ∙ no_hand;
+      store = refl;
       acts = err_acts g r x.world branch Item' rest (trap_of kind) pos runs has.core (erred ∙ ap (λ k. errs st k pos) (kinds_agree kind));
     }
 
@@ -232,7 +241,7 @@ module _ (g : Setting) (r : Runner) (laid : IsLaidOut g r) (o : kernel.Output) (
           world = with_record (with_items x.world r.branch branch rest) (out_record (home g r) x.core v port)
 
           -- the runner's ports are declared as they were
-          ports_stand : PortsStand g r (record { core = left; world = world })
+          ports_stand : PortsStand g r (record { core = left; world = world; hand = None })
           ports_stand q listed mine = ⊎_elim same other (cases_eq (port_place g r q) place)
             where
               was : PortIs g r q listed z
@@ -241,7 +250,7 @@ module _ (g : Setting) (r : Runner) (laid : IsLaidOut g r) (o : kernel.Output) (
               gone : Port
               gone = moved_at (set_for time port) (counter x.core.clock)
 
-              same : port_place g r q ≡ place → PortIs g r q listed (record { core = left; world = world })
+              same : port_place g r q ≡ place → PortIs g r q listed (record { core = left; world = world; hand = None })
               same e =
                   let one : was.port ≡ port = same_Some was.port port (sym was.there ∙ ap (slice_get z.core.ports) e ∙ stands.there) in
                   record {
@@ -250,7 +259,7 @@ module _ (g : Setting) (r : Runner) (laid : IsLaidOut g r) (o : kernel.Output) (
                     declared = ap (λ (d : Port). d.decl) (sym one) ∙ was.declared;
                   }
 
-              other : port_place g r q ≢ place → PortIs g r q listed (record { core = left; world = world })
+              other : port_place g r q ≢ place → PortIs g r q listed (record { core = left; world = world; hand = None })
               other ne = record {
                 port = was.port;
                 there = get_set_other x.core.ports place (port_place g r q) gone ne ∙ since.ports q listed mine ne ∙ was.there;
@@ -268,11 +277,15 @@ module _ (g : Setting) (r : Runner) (laid : IsLaidOut g r) (o : kernel.Output) (
                 made_is = w.goes h;
                 touched = record {
                   clock = refl;
-                  others = λ u ne. get_set_other x.core.threads r.thread u (running r.tie pc' w.regs) ne;
+                  others = λ u ne not_held. get_set_other x.core.threads r.thread u (running r.tie pc' w.regs) ne;
+                  as_many = length-set x.core.threads r.thread (running r.tie pc' w.regs);
                   words = λ n not_mine. refl;
+                  size = refl;
                   ports = λ q n. get_set_other x.core.ports place q (moved_at (set_for time port) (counter x.core.clock)) (n p out.listed out.is);
                 };
                 roots = refl;
+                syncs = refl;
+                no_hand = since.hand ∙ no_hand;
                 items = rest;
                 acts = record {
                   branch = branch;
@@ -290,7 +303,7 @@ module _ (g : Setting) (r : Runner) (laid : IsLaidOut g r) (o : kernel.Output) (
                   regs = w.regs;
                   exits = exits;
                   here = get_set_same x.core.threads r.thread (running r.tie w.index w.regs) (running r.tie pc' w.regs) w.here;
-                  bases = record { base = w.others Dp refl ∙ bases.base; stack = w.others Sp refl ∙ bases.stack };
+                  bases = bases_worked g r (syncs_of r.parents) regs w.regs w.others bases;
                   at_code = behind;
                   fits = fit_rest;
                   has = record {
@@ -312,7 +325,7 @@ module _ (g : Setting) (r : Runner) (laid : IsLaidOut g r) (o : kernel.Output) (
               by false h = turn.pauses (w.waits h) (cannot h)
 
   -- from the output's code
-  module _ (z : Scene) (has : Has g r (Item' ∷ rest) z) (exits : List Exit) (pc pc' j : ℕ) (regs : Regs) (here : IsAt g r z pc regs) (bases : HasBases g r regs) (behind : ItemsFrom g r rest exits pc' j) (fit_rest : ItemsFit g r rest) where
+  module _ (z : Scene) (has : Has g r (Item' ∷ rest) z) (exits : List Exit) (pc pc' j : ℕ) (regs : Regs) (here : IsAt g r z pc regs) (bases : HasBases g r regs) (no_hand : z.hand ≡ None) (behind : ItemsFrom g r rest exits pc' j) (fit_rest : ItemsFit g r rest) where
     abbrev spot : ℕ
     spot = port_place g r p
 
@@ -336,14 +349,14 @@ module _ (g : Setting) (r : Runner) (laid : IsLaidOut g r) (o : kernel.Output) (
 
     -- what it comes to is its turn: by the value
     value_turns : (time : Option ℕ) → option_map (eval store) o.time ≡ option_map word time → (value : Value) → eval store o.value ≡ value → (y : Scene) → AtValue time value y.core → Meanwhile y → Turns g r j y
-    value_turns time e (word v) f y h s = λ x k. out_turns z has x (still s k) k.clock time e v f exits pc pc' j regs bases behind fit_rest (h x.core (port_kept g r p out.listed out.is k))
-    value_turns time e (error kind pos) f y h s = λ x k. turn.errs (value_errs z has x (still s k) k.clock time e kind pos f (h x.core (port_kept g r p out.listed out.is k)))
+    value_turns time e (word v) f y h s = λ x k. out_turns z has no_hand x (still s k) k.clock time e v f exits pc pc' j regs bases behind fit_rest (h x.core (port_kept g r p out.listed out.is k))
+    value_turns time e (error kind pos) f y h s = λ x k. turn.errs (value_errs z has no_hand x (still s k) k.clock time e kind pos f (h x.core (port_kept g r p out.listed out.is k)))
 
     -- and by the time, whose error comes first
     turns : (time : Option Value) (value : Value) → option_map (eval store) o.time ≡ time → eval store o.value ≡ value → (y : Scene) → AtEnd time value y.core → Meanwhile y → Turns g r j y
     turns None value e f y h s = value_turns None e value f y h s
     turns (Some (word t)) value e f y h s = value_turns (Some t) e value f y h s
-    turns (Some (error kind pos)) value e f y h s = λ x k. turn.errs (time_errs z has x (still s k) k.clock kind pos e (h x.core (port_kept g r p out.listed out.is k)))
+    turns (Some (error kind pos)) value e f y h s = λ x k. turn.errs (time_errs z has no_hand x (still s k) k.clock kind pos e (h x.core (port_kept g r p out.listed out.is k)))
 
     -- the port is where the code looks for it
     port_stands : PortStands (home g r) (relied g r) r.stack regs.dp (resource_in (plan g r).ports (plan g r).timers o.resource) spot its.port z.core
@@ -363,12 +376,12 @@ module _ (g : Setting) (r : Runner) (laid : IsLaidOut g r) (o : kernel.Output) (
     comes n way =
         leads_as g r (λ y. AtEnd (option_map (eval store) o.time) (eval store o.value) y.core × Meanwhile y) (Turns g r j) n z
         (λ y h. turns (option_map (eval store) o.time) (eval store o.value) refl refl y h.0 h.1)
-        (arrives_at_port g r (IsApart r.stack) (apart_of_changes g r) p out.listed out.is (AtEnd (option_map (eval store) o.time) (eval store o.value)) n z way)
+        (arrives_at_port g r (IsApart r.stack) (apart_of_changes g r) p out.listed out.is (AtEnd (option_map (eval store) o.time) (eval store o.value)) n z (at_runs g r z pc regs here) way)
 
 -- From the code of an output the thread comes to the instruction that puts the word out.
 module _ (g : Setting) (r : Runner) where
   pub output_leads : (o : kernel.Output) → StatementLeads g r (kernel.output o)
-  output_leads o rest exits pc pc' j z regs laid (is_port, no_stamp, code) (fits, counted) behind fit_rest has here bases = to o.resource refl is_port fits.port
+  output_leads o rest exits pc pc' j z regs laid (is_port, no_stamp, code) (fits, counted) behind fit_rest has here bases no_hand = to o.resource refl is_port fits.port
     where
       most : ℕ
       most = 8 * output_nodes o + 4
@@ -377,7 +390,7 @@ module _ (g : Setting) (r : Runner) where
       few = omega (arith, counted, time_costs o.time, nodes_are o.value)
 
       to : (res : KRes) → o.resource ≡ res → built.IsPort res → PutsOutAt g r res → turn.Leads g r (cost g r) j z
-      to (ToPort p) e h out = leads_more g r (Turns g r j) most (cost g r) z few (comes g r laid o fits p e no_stamp out rest z has exits pc pc' j regs here bases behind fit_rest most way)
+      to (ToPort p) e h out = leads_more g r (Turns g r j) most (cost g r) z few (comes g r laid o fits p e no_stamp out rest z has exits pc pc' j regs here bases no_hand behind fit_rest most way)
         where
           its : PortIs g r p out.listed z
           its = has.ports p out.listed out.is
@@ -386,6 +399,6 @@ module _ (g : Setting) (r : Runner) where
           way =
               subst (λ q. WithinPort (home g r) (relied g r) (IsApart r.stack) r.thread (port_place g r p) (OutputOutcome (home g r) (relied g r) r.stack r.thread (running r.tie pc regs) z.core.words (port_place g r p) its.port o.pos q (option_map (eval z.world.store) o.time) (eval z.world.store o.value)) most z.core) (sym code.end)
               (code.so.by (home g r) (relied g r) r.stack r.thread (port_place g r p) its.port (running r.tie pc regs) z.world.store z.core code.stand (runs_at g r z pc regs here) (room_of g r laid z regs bases has.holds) (time_laid g r laid z regs o.time fits.time bases has.holds) (laid_at g r laid z regs o.value fits.value bases has.holds)
-              (port_stands g r laid o fits p e no_stamp out rest z has exits pc pc' j regs here bases behind fit_rest))
+              (port_stands g r laid o fits p e no_stamp out rest z has exits pc pc' j regs here bases no_hand behind fit_rest))
       to (ToTimer t) e h out = absurd h
       to (ToChannel c) e h out = absurd h

@@ -1,6 +1,7 @@
 -- A turn that changes nothing on the core but the thread's own state and the core's words, beside an action of the branch.
 use Rattle.std.proofs.Common.{◌≡◌, ℕ, ◌+◌, ◌≤◌, Bool, false, List, ◌∷◌, length, Option, Some, None, refl, ap, ◌∙◌}
 use Rattle.std.specs.Prelude.{slice_get}
+use Rattle.std.proofs.lemmas.List.{length-set}
 use Rattle.xs_instr.specs.declared.image.Home.{Home}
 use Rattle.xs_instr.specs.declared.instr.Instr.{Instr}
 use Rattle.xs_instr.specs.declared.state.CoreState.{CoreState}
@@ -19,9 +20,8 @@ use Rattle.xl_walk.specs.Pieces.{Exit}
 use Rattle.xr_threads.specs.Fits.{ItemsFit}
 use Rattle.xr_threads.specs.Runners.{Setting, Runner, MayChange, home, plan}
 use Rattle.xr_threads.specs.Scenes.{Scene, running}
-use Rattle.xr_threads.specs.Settled.{with_items}
 use Rattle.xr_threads.specs.Turns.{HasBases, Has, IsAt, ItemsFrom, Goes}
-use Rattle.xr_threads.proofs.Evaluations.{runs_with}
+use Rattle.xr_threads.proofs.Evaluations.{runs_with, with_items}
 use Rattle.xr_threads.proofs.Layouts.{ports_last}
 
 -- the turn of a running thread that takes no events is the row of its instruction
@@ -38,15 +38,16 @@ module _ (g : Setting) (r : Runner) where
     pub here : IsAt g r y index regs
     pub made : slot (home g r) y.core r.thread ≡ makes (put_own y.core r.thread (running r.tie index regs) (record { pc = pc; regs = regs; words = words }))
     pub others : (w : ℕ) → (MayChange g r w → ⊥) → slice_get words w ≡ slice_get y.core.words w
+    pub size : length words ≡ length y.core.words
 
   -- an item is done by such a turn, which leaves these items and this store
-  pub own_goes : (j : ℕ) (y : Scene) (pc : ℕ) (regs : Regs) (words : List ℕ) → MakesOwn y pc regs words → HasBases g r regs →
+  pub own_goes : (j : ℕ) (y : Scene) (pc : ℕ) (regs : Regs) (words : List ℕ) → MakesOwn y pc regs words → HasBases g r regs → y.hand ≡ None →
       (item : Item) (rest items : List Item) (store : Store) (has : Has g r (item ∷ rest) y) →
       acts g.program g.stimulus y.world (go r.branch) ≡ Some (record (with_items y.world r.branch has.branch items) { store = store }) →
       ((v : ℕ) → r.footprint.changes v ≡ false → words_of store v ≡ words_of y.world.store v) →
       Holds (plan g r).vars r.footprint.uses r.base words store → r.stack + temporary ≤ length words →
       (exits : List Exit) (jumps : ℕ) → ItemsFrom g r items exits pc jumps → ItemsFit g r items → jumps ≤ j + 1 → Goes g r j y
-  own_goes j y pc regs words made bases item rest items store has acted same holds room exits jumps at_code fits fewer =
+  own_goes j y pc regs words made bases no_hand item rest items store has acted same holds room exits jumps at_code fits fewer =
       let th = running r.tie made.index regs in
       let th' = running r.tie pc regs in
       let left = put_own y.core r.thread th (record { pc = pc; regs = regs; words = words }) in
@@ -55,8 +56,17 @@ module _ (g : Setting) (r : Runner) where
         left = left;
         made = None;
         made_is = made.made;
-        touched = record { clock = refl; others = λ u ne. get_set_other y.core.threads r.thread u th' ne; words = made.others; ports = λ q not_mine. refl };
+        touched = record {
+          clock = refl;
+          others = λ u ne not_held. get_set_other y.core.threads r.thread u th' ne;
+          as_many = length-set y.core.threads r.thread th';
+          words = made.others;
+          size = made.size;
+          ports = λ q not_mine. refl;
+        };
         roots = refl;
+        syncs = refl;
+        no_hand = no_hand;
         items = items;
         acts = record {
           branch = has.branch;
@@ -82,15 +92,15 @@ module _ (g : Setting) (r : Runner) where
             runs = let n = runs_with y.world r.branch has.branch (item ∷ rest) items has.runs in record { known = n.known; running = n.running; items_are = n.items_are };
             core = has.core;
             holds = record { holds = holds; room = room };
-            ports = ports_last g r y (record { core = left; world = x }) (λ p listed is. refl) has.ports;
+            ports = ports_last g r y (record { core = left; world = x; hand = None }) (λ p listed is. refl) has.ports;
           };
         };
       }
 
   -- the same where the words and the store stay
-  pub spot_goes : (j : ℕ) (y : Scene) (pc : ℕ) (regs : Regs) → MakesOwn y pc regs y.core.words → HasBases g r regs →
+  pub spot_goes : (j : ℕ) (y : Scene) (pc : ℕ) (regs : Regs) → MakesOwn y pc regs y.core.words → HasBases g r regs → y.hand ≡ None →
       (item : Item) (rest items : List Item) (has : Has g r (item ∷ rest) y) →
       acts g.program g.stimulus y.world (go r.branch) ≡ Some (with_items y.world r.branch has.branch items) →
       (exits : List Exit) (jumps : ℕ) → ItemsFrom g r items exits pc jumps → ItemsFit g r items → jumps ≤ j + 1 → Goes g r j y
-  spot_goes j y pc regs made bases item rest items has acted exits jumps at_code fits fewer =
-      own_goes j y pc regs y.core.words made bases item rest items y.world.store has acted (λ v c. refl) has.holds.holds has.holds.room exits jumps at_code fits fewer
+  spot_goes j y pc regs made bases no_hand item rest items has acted exits jumps at_code fits fewer =
+      own_goes j y pc regs y.core.words made bases no_hand item rest items y.world.store has acted (λ v c. refl) has.holds.holds has.holds.room exits jumps at_code fits fewer

@@ -1,25 +1,22 @@
 -- Which thread runs which root: on each core the roots are run by its first threads, in the kernel's order.
-use Rattle.std.proofs.Common.{◌≡◌, ℕ, zero, suc, ◌+◌, ◌≤◌, Bool, true, false, cond, List, [], ◌∷◌, length, Option, Some, None, slice_get, take, nat_eq, refl, sym, ap, subst, ◌∙◌, arith}
+use Rattle.std.proofs.Common.{◌≡◌, ℕ, zero, suc, ◌+◌, ◌<◌, ◌≤◌, Bool, true, false, cond, List, [], ◌∷◌, length, Option, Some, None, slice_get, sum_by, take, nat_eq, refl, sym, ap, subst, ◌∙◌, arith}
 use Rattle.std.proofs.lemmas.List.Sums.{sum_by-cons}
 use Rattle.xc_kernel.specs.Plain as kernel
-use Rattle.xc_kernel.specs.Things.{variable, change, port, by_statements}
 use Rattle.xc_meaning.specs.Counts.Families.{child_by}
+use Rattle.xc_meaning.specs.States.Items.{ends, todo}
 use Rattle.xc_disjoint.specs.Cores.{if_so, on_core}
+use Rattle.xc_disjoint.specs.Needs.{threads_of_root, threads_on}
+use Rattle.xc_disjoint.specs.Threads as threads
+use Rattle.xc_laws.specs.Needs.{needed_on}
+use Rattle.xc_laws.proofs.Needs.{statements_least}
+use Rattle.xl_par.specs.Hands.{Hand}
 use Rattle.xl_image.specs.Images.{roots_on}
 use Rattle.xl_plan.specs.Layout.{number_on, temporary_of}
 use Rattle.xl_plan.proofs.Lists.{some_given, none_given}
 use Rattle.xl_plan.proofs.Numbered.{listed}
 use Rattle.xr_match.specs.Meanings.{root_among}
-use Rattle.xr_threads.specs.Images.{Runners}
-use Rattle.xr_threads.specs.Runners.{Footprint, Runner}
-
--- what a root's code uses and changes
-abbrev pub footprint_of : kernel.Root → Footprint
-footprint_of root = record {
-  uses = λ v. by_statements (variable v) root.body;
-  changes = λ v. by_statements (change v) root.body;
-  ports = λ p. by_statements (port p) root.body;
-}
+use Rattle.xr_threads.specs.Roles.{Role, Roles, got_by, unused, used_by}
+use Rattle.xr_threads.specs.Runners.{Runner, footprint_of}
 
 -- the runner of a root with a number, on a thread of a core
 abbrev pub runner_of : kernel.Kernel → (core thread number : ℕ) → kernel.Root → Runner
@@ -31,20 +28,21 @@ runner_of K core thread number root = record {
   family = number;
   base = 0;
   stack = temporary_of K core thread;
-  footprint = footprint_of root;
+  footprint = footprint_of (todo root.body (ends ∷ []));
+  parents = [];
 }
 
-abbrev pub runner_by : kernel.Kernel → (core thread number : ℕ) → Option kernel.Root → Option Runner
-runner_by K core thread number None = None
-runner_by K core thread number (Some root) = Some (runner_of K core thread number root)
+abbrev pub role_by : kernel.Kernel → (core thread number : ℕ) → Option kernel.Root → Role
+role_by K core thread number None = unused
+role_by K core thread number (Some root) = used_by (runner_of K core thread number root) None
 
-abbrev pub runner_with : kernel.Kernel → (core thread : ℕ) → Option ℕ → Option Runner
-runner_with K core thread None = None
-runner_with K core thread (Some number) = runner_by K core thread number (slice_get K.roots number)
+abbrev pub role_with : kernel.Kernel → (core thread : ℕ) → Option ℕ → Role
+role_with K core thread None = unused
+role_with K core thread (Some number) = role_by K core thread number (slice_get K.roots number)
 
--- each root's runner, by its core and its place among the core's roots
-abbrev pub runners : kernel.Kernel → Runners
-runners K core thread = runner_with K core thread (root_among core 0 K.roots thread)
+-- each root's runner, by its core and its place among the core's roots; the other threads are unused
+abbrev pub roles : kernel.Kernel → Roles
+roles K core thread = role_with K core thread (root_among core 0 K.roots thread)
 
 -- The place of a root among those of its core.
 
@@ -138,7 +136,7 @@ module _ (core : ℕ) where
 
 -- Who runs.
 
--- what is known of a runner
+-- what is known of a root's thread
 pub record IsRunner (K : kernel.Kernel) (core thread : ℕ) (r : Runner) : Type 0 where
   pub number : ℕ
   pub root : kernel.Root
@@ -148,42 +146,102 @@ pub record IsRunner (K : kernel.Kernel) (core thread : ℕ) (r : Runner) : Type 
   pub thread_is : thread ≡ thread_of core K.roots number
   pub is : r ≡ runner_of K core thread number root
 
-pub is_runner : (K : kernel.Kernel) (core thread : ℕ) (r : Runner) → runners K core thread ≡ Some r → IsRunner K core thread r
-is_runner K core thread r e = by (root_among core 0 K.roots thread) refl e
+-- a thread is unused, or a root's
+pub data RootsThread (K : kernel.Kernel) (core thread : ℕ) : Type 0 where
+  of_none : roles K core thread ≡ unused → length (roots_on core K.roots) ≤ thread → RootsThread K core thread
+  of_root : (r : Runner) → roles K core thread ≡ used_by r None → IsRunner K core thread r → RootsThread K core thread
+
+pub roots_thread : (K : kernel.Kernel) (core thread : ℕ) → RootsThread K core thread
+roots_thread K core thread = by (root_among core 0 K.roots thread) refl
   where
-    by : (o : Option ℕ) → root_among core 0 K.roots thread ≡ o → runner_with K core thread o ≡ Some r → IsRunner K core thread r
-    by None q f = absurd (none_given f)
-    by (Some number) q f =
+    by : (o : Option ℕ) → root_among core 0 K.roots thread ≡ o → RootsThread K core thread
+    by None q = of_none (ap (role_with K core thread) q) (none_found core 0 K.roots thread q)
+    by (Some number) q =
         let h = numbered core 0 K.roots thread number q in
         let same : number ≡ h.place = h.number_is ∙ (let z : 0 + h.place ≡ h.place = omega arith in z) in
         let known : slice_get K.roots number ≡ Some h.root = ap (slice_get K.roots) same ∙ h.known in
-        record {
+        of_root (runner_of K core thread number h.root) (ap (role_with K core thread) q ∙ ap (role_by K core thread number) known)
+        (record {
           number = number;
           root = h.root;
           found = q;
           known = known;
           core_is = h.core_is;
           thread_is = h.thread_is ∙ ap (thread_of core K.roots) (sym same);
-          is = some_given (sym f ∙ ap (runner_by K core thread number) known);
-        }
+          is = refl;
+        })
+
+abbrev runner_in : Role → Option Runner
+runner_in unused = None
+runner_in (got_by t) = None
+runner_in (used_by r hand) = Some r
+
+pub same_runner : (r s : Runner) (hand other : Option Hand) → used_by r hand ≡ used_by s other → r ≡ s
+same_runner r s hand other e = some_given (ap runner_in e)
+
+pub is_runner : (K : kernel.Kernel) (core thread : ℕ) (r : Runner) → roles K core thread ≡ used_by r None → IsRunner K core thread r
+is_runner K core thread r e = by (roots_thread K core thread)
+  where
+    by : RootsThread K core thread → IsRunner K core thread r
+    by (of_none none n) = let z : unused ≡ used_by r None = sym none ∙ e in absurd cc
+    by (of_root q role h) = subst (IsRunner K core thread) (same_runner q r None None (sym role ∙ e)) h
 
 -- each root has one
 pub root_runs : (K : kernel.Kernel) (number : ℕ) (root : kernel.Root) → slice_get K.roots number ≡ Some root →
-    runners K root.core (thread_of root.core K.roots number) ≡ Some (runner_of K root.core (thread_of root.core K.roots number) number root)
+    roles K root.core (thread_of root.core K.roots number) ≡ used_by (runner_of K root.core (thread_of root.core K.roots number) number root) None
 root_runs K number root known =
-    ap (runner_with K root.core (thread_of root.core K.roots number)) (found_there root.core 0 K.roots number root known refl ∙ ap (λ n. Some n) (let z : 0 + number ≡ number = omega arith in z))
-    ∙ ap (runner_by K root.core (thread_of root.core K.roots number) number) known
+    ap (role_with K root.core (thread_of root.core K.roots number)) (found_there root.core 0 K.roots number root known refl ∙ ap (λ n. Some n) (let z : 0 + number ≡ number = omega arith in z))
+    ∙ ap (role_by K root.core (thread_of root.core K.roots number) number) known
 
--- where none runs there are no more roots
-pub none_runs : (K : kernel.Kernel) (core thread : ℕ) → runners K core thread ≡ None → length (roots_on core K.roots) ≤ thread
-none_runs K core thread e = by (root_among core 0 K.roots thread) refl e
+-- Threads that a core needs.
+
+least_if : (b : Bool) (n : ℕ) → 1 ≤ n → if_so b 1 ≤ if_so b n
+least_if true n h = h
+least_if false n h = omega arith
+
+-- a root's thread is one of them
+inside_by : (core : ℕ) (rs : List kernel.Root) (place : ℕ) (root : kernel.Root) → slice_get rs place ≡ Some root → root.core ≡ core → thread_of core rs place < sum_by (threads_of_root core) rs
+inside_by core [] place root e here = absurd (none_given e)
+inside_by core (r ∷ rs) zero root e here =
+    let s = sum_by-cons (threads_of_root core) r rs in
+    let c : r.core ≡ core = ap (λ (x : kernel.Root). x.core) (some_given e) ∙ here in
+    let b = ap (λ b. if_so b (threads.of_statements r.body)) (let z : nat_eq r.core core ≡ true = grind arith in z) in
+    let l = statements_least r.body in
+    omega (arith, s, b, l)
+inside_by core (r ∷ rs) (suc place) root e here =
+    let s = sum_by-cons (threads_of_root core) r rs in
+    let m = one_more core r rs place (nat_eq r.core core) refl in
+    let l = least_if (nat_eq r.core core) (threads.of_statements r.body) (statements_least r.body) in
+    let on = inside_by core rs place root e here in
+    omega (arith, s, m, l, on)
+
+pub root_inside : (K : kernel.Kernel) (core number : ℕ) (root : kernel.Root) → slice_get K.roots number ≡ Some root → root.core ≡ core → thread_of core K.roots number < threads_on K core
+root_inside K core number root known here = inside_by core K.roots number root known here
+
+-- a core that needs a thread has a root
+pub some_root : (core : ℕ) (rs : List kernel.Root) → 1 ≤ sum_by (threads_of_root core) rs → (number : ℕ) × (root : kernel.Root) × (slice_get rs number ≡ Some root) × (root.core ≡ core)
+some_root core [] h = absurd (let z : ⊥ = omega (arith, h) in z)
+some_root core (r ∷ rs) h = by (some_root core rs) (nat_eq r.core core) refl
   where
-    by : (o : Option ℕ) → root_among core 0 K.roots thread ≡ o → runner_with K core thread o ≡ None → length (roots_on core K.roots) ≤ thread
-    by None q f = none_found core 0 K.roots thread q
-    by (Some number) q f =
-        let h = numbered core 0 K.roots thread number q in
-        let known : slice_get K.roots number ≡ Some h.root = ap (slice_get K.roots) (h.number_is ∙ (let z : 0 + h.place ≡ h.place = omega arith in z)) ∙ h.known in
-        absurd (none_given (sym f ∙ ap (runner_by K core thread number) known))
+    by : (1 ≤ sum_by (threads_of_root core) rs → (number : ℕ) × (root : kernel.Root) × (slice_get rs number ≡ Some root) × (root.core ≡ core)) →
+        (b : Bool) → nat_eq r.core core ≡ b → (number : ℕ) × (root : kernel.Root) × (slice_get (r ∷ rs) number ≡ Some root) × (root.core ≡ core)
+    by next true q = (0, r, refl, eq_from core r.core core q)
+    by next false q =
+        let s = sum_by-cons (threads_of_root core) r rs in
+        let z = ap (λ b. if_so b (threads.of_statements r.body)) q in
+        let k = next (omega (arith, s, z, h)) in
+        (suc k.0, k.1, k.2, k.3)
+
+-- both ways to count them say the same
+needed_same : (core : ℕ) (rs : List kernel.Root) → needed_on core rs ≡ sum_by (threads_of_root core) rs
+needed_same core [] = refl
+needed_same core (r ∷ rs) =
+    let s = sum_by-cons (threads_of_root core) r rs in
+    let on = needed_same core rs in
+    omega (arith, s, on)
+
+pub needed_is : (K : kernel.Kernel) (core : ℕ) → needed_on core K.roots ≡ threads_on K core
+needed_is K core = needed_same core K.roots
 
 -- a root's place among those of its core
 pub listed_on : (K : kernel.Kernel) (core number : ℕ) (root : kernel.Root) → slice_get K.roots number ≡ Some root → root.core ≡ core → slice_get (roots_on core K.roots) (thread_of core K.roots number) ≡ Some root

@@ -1,19 +1,27 @@
 -- Ways of silent steps: joined, made longer, and left as they are by what others do.
-use Rattle.std.proofs.Common.{◌≡◌, ℕ, zero, suc, ◌+◌, ◌≤◌, inl, inr, ⊎_elim, ◌∙◌, subst, arith}
+use Rattle.std.proofs.Common.{◌≡◌, ℕ, zero, suc, ◌+◌, ◌≤◌, List, inl, inr, ⊎_elim, sym, ap, ◌∙◌, subst, arith}
+use Rattle.xl_par.specs.Hands.{IsAmong}
+use Rattle.xr_threads.specs.Parents.{Parent}
 use Rattle.xr_threads.specs.Runners.{Setting, Runner}
-use Rattle.xr_threads.specs.Scenes.{Scene, Kept, after, LeadsIn, IsStable}
-use Rattle.xr_threads.specs.Turns.{Turns}
+use Rattle.xr_threads.specs.Scenes.{Scene, Kept, LeadsIn, IsStable, Owns, SpareFor, held_in, sync_in}
+use Rattle.xr_threads.specs.Turns.{IsJoining, Joins, Turns}
 
 module _ (g : Setting) (r : Runner) where
   -- what is kept twice is kept
   pub kept_twice : {z y x : Scene} → Kept g r z y → Kept g r y x → Kept g r z x
-  kept_twice h k = record {
+  kept_twice {x = x} h k = record {
     thread = k.thread ∙ h.thread;
     words = λ w m. k.words w m ∙ h.words w m;
     ports = λ p listed is. k.ports p listed is ∙ h.ports p listed is;
     branch = k.branch ∙ h.branch;
+    parents = λ b m. k.parents b m ∙ h.parents b m;
     store = λ v u. k.store v u ∙ h.store v u;
     clock = k.clock;
+    hand = k.hand ∙ h.hand;
+    syncs = λ n o. k.syncs n (subst (λ hand. Owns r hand n) (sym h.hand) o) ∙ h.syncs n o;
+    held = λ u m. k.held u (subst (λ hand. IsAmong (held_in hand) u) (sym h.hand) m) ∙ h.held u m;
+    tied = λ n u t is there tied. h.tied n u t is (k.tied n u t (ap sync_in h.hand ∙ is) there tied) tied;
+    spare = subst (λ hand. SpareFor hand x.core) h.hand k.spare;
   }
 
   -- a way lasts, where what it leads to does
@@ -24,6 +32,14 @@ module _ (g : Setting) (r : Runner) where
   -- a turn that is to come is to come still
   pub turns_stable : (j : ℕ) → IsStable g r (Turns g r j)
   turns_stable j z y k h = λ x l. h x (kept_twice k l)
+
+  -- and so is a join
+  pub joins_stable : (p : Parent) (ps : List Parent) (j : ℕ) → IsStable g r (Joins g r p ps j)
+  joins_stable p ps j z y k h = λ x l. h x (kept_twice k l)
+
+  -- a thread on its way to one is on it still
+  pub joining_stable : (p : Parent) (ps : List Parent) (most : ℕ) → IsStable g r (IsJoining g r p ps most)
+  joining_stable p ps most z y k h = (h.0, h.1, h.2, leads_in_stable (Joins g r p ps h.1) (joins_stable p ps h.1) h.0 z y k h.3)
 
   -- where it holds already, no step is needed
   pub leads_now : (Q : Scene → Type 0) (n : ℕ) (z : Scene) → Q z → LeadsIn g r Q n z
@@ -37,7 +53,7 @@ module _ (g : Setting) (r : Runner) where
   leads_more Q (suc n) (suc m) z le h =
       ⊎_elim
       (λ (here : Q z). inl here)
-      (λ on. inr (λ y k. let s = on y k in (s.0, s.1, leads_more Q n m (after g r y s.0) (omega arith) s.2)))
+      (λ on. inr (λ y k. let s = on y k in (s.0, s.1, leads_more Q n m s.0 (omega arith) s.2)))
       h
 
   -- one way after another
@@ -48,7 +64,7 @@ module _ (g : Setting) (r : Runner) where
       let all : LeadsIn g r Q (suc (n + m)) z =
       ⊎_elim
       (λ (here : P z). leads_more Q m (suc (n + m)) z (omega arith) (next z here))
-      (λ on. inr (λ y k. let s = on y k in (s.0, s.1, then_leads P Q n m (after g r y s.0) s.2 next)))
+      (λ on. inr (λ y k. let s = on y k in (s.0, s.1, then_leads P Q n m s.0 s.2 next)))
       h in
       subst (λ k. LeadsIn g r Q k z) e all
 
@@ -58,5 +74,5 @@ module _ (g : Setting) (r : Runner) where
   leads_as P Q (suc n) z f h =
       ⊎_elim
       (λ (here : P z). inl (f z here))
-      (λ on. inr (λ y k. let s = on y k in (s.0, s.1, leads_as P Q n (after g r y s.0) f s.2)))
+      (λ on. inr (λ y k. let s = on y k in (s.0, s.1, leads_as P Q n s.0 f s.2)))
       h

@@ -1,10 +1,9 @@
 -- An assignment: from its code the thread comes to the instruction that writes the word.
-use Rattle.std.proofs.Common.{◌≡◌, ℕ, ◌+◌, ◌-◌, ◌*◌, ◌/◌, ◌<◌, ◌≤◌, Bool, true, false, List, [], ◌∷◌, length, Some, refl, sym, ap, ◌∙◌, subst, arith}
+use Rattle.std.proofs.Common.{◌≡◌, ℕ, ◌+◌, ◌-◌, ◌*◌, ◌/◌, ◌<◌, ◌≤◌, Bool, true, false, List, [], ◌∷◌, length, Some, None, refl, sym, ap, ◌∙◌, subst, arith}
 use Rattle.std.specs.Prelude.{slice_set, nat_lt}
 use Rattle.std.proofs.lemmas.Bool.{ltb-true}
 use Rattle.std.proofs.lemmas.List.{length-set, get_or-set_other}
 use Rattle.xw_words.specs.declared.pos.Pos.{Pos}
-use Rattle.xs_instr.specs.declared.instr.Reg.TheVariants.{Dp, Sp}
 use Rattle.xs_instr.specs.declared.state.Regs.{Regs}
 use Rattle.xs_instr.specs.Memory.{word_put}
 use Rattle.xs_instr.specs.OwnSteps.{IsApart, temporary}
@@ -28,15 +27,16 @@ use Rattle.xl_expr.proofs.Lists.{get_set_other}
 use Rattle.xl_flow.specs.Flow.{SetOutcome}
 use Rattle.xl_walk.specs.Pieces.{Exit}
 use Rattle.xr_threads.specs.Fits.{ItemsFit, Uses, UsesAt}
+use Rattle.xr_threads.specs.Parents.{syncs_of}
 use Rattle.xr_threads.specs.Runners.{Setting, Runner, IsLaidOut, MayChange, of_variable, home, plan, relied}
 use Rattle.xr_threads.specs.Scenes.{Scene, running}
-use Rattle.xr_threads.specs.Settled.{with_items}
 use Rattle.xr_threads.specs.Turns as turn
 use Rattle.xr_threads.specs.Turns.{StatementLeads, IsAt, ItemsFrom, HasBases, HoldsStore, Has, Runs, Goes, Turn, Turns, cost}
 use Rattle.xr_threads.proofs.Scenes.{leads_as, leads_more}
-use Rattle.xr_threads.proofs.Arriving.{Since, any_port, since_kept, core_kept, apart_of_changes, arrives}
-use Rattle.xr_threads.proofs.Layouts.{has_since, runs_kept, room_of, runs_at, laid_at, place_laid_at}
-use Rattle.xr_threads.proofs.Evaluations.{nodes_are, nodes_at_are, eval_still, index_still, item_acts, value_errs}
+use Rattle.xr_threads.proofs.Arriving.{Since, at_runs, any_port, since_kept, core_kept, apart_of_changes, arrives}
+use Rattle.xr_threads.proofs.Layouts.{has_since, room_of, runs_at, laid_at, place_laid_at}
+use Rattle.xr_threads.proofs.Bases.{bases_worked}
+use Rattle.xr_threads.proofs.Evaluations.{nodes_are, nodes_at_are, eval_still, index_still, item_acts, value_errs, with_items}
 use Rattle.xr_threads.proofs.OwnTurns.{MakesOwn, own_goes}
 
 -- a word is stored at the index that a place has
@@ -107,9 +107,9 @@ module _ (g : Setting) (r : Runner) (laid : IsLaidOut g r) where
         ap (λ o. with_value s o (stored s place)) is
 
     -- at the instruction that writes the word
-    write_goes : (z q : Scene) (regs : Regs) (v i address : ℕ) → HasBases g r regs → (has : Has g r (item ∷ rest) q) → eval q.world.store x ≡ word v → index_in q.world.store place ≡ word i → IsAddress (plan g r).vars (relied g r) r.stack (4 * r.base) q.core.words place i address → Writes (home g r) (relied g r) r.stack r.thread (running r.tie pc regs) z.core.words address v pc' q.core → Goes g r j q
-    write_goes z q regs v i address bases has is is_index at_address w =
-        own_goes g r j q pc' w.regs words made bases' item rest rest store has acted same holds room exits j behind rest_fits (omega arith)
+    write_goes : (z q : Scene) (regs : Regs) (v i address : ℕ) → HasBases g r regs → q.hand ≡ None → (has : Has g r (item ∷ rest) q) → eval q.world.store x ≡ word v → index_in q.world.store place ≡ word i → IsAddress (plan g r).vars (relied g r) r.stack (4 * r.base) q.core.words place i address → Writes (home g r) (relied g r) r.stack r.thread (running r.tie pc regs) z.core.words address v pc' q.core → Goes g r j q
+    write_goes z q regs v i address bases no_hand has is is_index at_address w =
+        own_goes g r j q pc' w.regs words made bases' no_hand item rest rest store has acted same holds room exits j behind rest_fits (omega arith)
       where
         words : List ℕ
         words = word_put q.core.words address v
@@ -126,10 +126,11 @@ module _ (g : Setting) (r : Runner) (laid : IsLaidOut g r) where
           here = w.here;
           made = w.made;
           others = λ u not_mine. get_set_other q.core.words (address / 4) u v (λ e. not_mine (subst (MayChange g r) (sym e) mine));
+          size = length-set q.core.words (address / 4) v;
         }
 
         bases' : HasBases g r w.regs
-        bases' = record { base = w.others Dp refl ∙ bases.base; stack = w.others Sp refl ∙ bases.stack }
+        bases' = bases_worked g r (syncs_of r.parents) regs w.regs w.others bases
 
         acted : acts g.program g.stimulus q.world (go r.branch) ≡ Some (record (with_items q.world r.branch has.branch rest) { store = store })
         acted =
@@ -147,8 +148,8 @@ module _ (g : Setting) (r : Runner) (laid : IsLaidOut g r) where
         room = let e = length-set q.core.words (address / 4) v in let h = has.holds.room in omega arith
 
     -- where the code has come, the turn is next: it writes the word, or traps by the first error
-    set_turns : (z : Scene) (regs : Regs) → HasBases g r regs → Has g r (item ∷ rest) z → (v i : Value) → eval z.world.store x ≡ v → index_in z.world.store place ≡ i → (y : Scene) → SetOutcome (plan g r).vars (home g r) (relied g r) r.stack r.thread (running r.tie pc regs) z.core.words place pc' v i y.core → Since g r (IsApart r.stack) any_port z y → Turns g r j y
-    set_turns z regs bases has v i is is_index y outcome since q k = by v i is is_index outcome
+    set_turns : (z : Scene) (regs : Regs) → HasBases g r regs → z.hand ≡ None → Has g r (item ∷ rest) z → (v i : Value) → eval z.world.store x ≡ v → index_in z.world.store place ≡ i → (y : Scene) → SetOutcome (plan g r).vars (home g r) (relied g r) r.stack r.thread (running r.tie pc regs) z.core.words place pc' v i y.core → Since g r (IsApart r.stack) any_port z y → Turns g r j y
+    set_turns z regs bases no_hand has v i is is_index y outcome since q k = by v i is is_index outcome
       where
         since' : Since g r (IsApart r.stack) any_port z q
         since' = since_kept g r (IsApart r.stack) any_port since k
@@ -159,24 +160,24 @@ module _ (g : Setting) (r : Runner) (laid : IsLaidOut g r) where
         index_is : (o : Value) → index_in z.world.store place ≡ o → index_in q.world.store place ≡ o
         index_is o e = index_still (plan g r).vars r.footprint.uses z.world.store q.world.store since'.store place uses_place ∙ e
 
-        runs : Runs q.world r.branch has.branch (item ∷ rest)
-        runs = runs_kept g r z q has.branch (item ∷ rest) since'.branch has.runs
+        has_q : Has g r (item ∷ rest) q
+        has_q = has_since g r laid (item ∷ rest) z q since' (since'.room has.holds.room) has
 
         by : (v i : Value) → eval z.world.store x ≡ v → index_in z.world.store place ≡ i → SetOutcome (plan g r).vars (home g r) (relied g r) r.stack r.thread (running r.tie pc regs) z.core.words place pc' v i y.core → Turn g r j q
         by (word v) (word i) e f (address, at_address, writes) =
             let w = writes q.core (core_kept g r k) in
             let at_base = subst (λ d. IsAddress (plan g r).vars (relied g r) r.stack d z.core.words place i address) bases.base at_address in
             let at_q = address_lasts (plan g r).vars (relied g r) r.stack (4 * r.base) z.core.words q.core.words z.world.store since'.words place i address at_base in
-            turn.goes_on (write_goes z q regs v i address bases (has_since g r laid (item ∷ rest) z q since' w.within has) (still (word v) e) (index_is (word i) f) at_q w)
+            turn.goes_on (write_goes z q regs v i address bases (since'.hand ∙ no_hand) has_q (still (word v) e) (index_is (word i) f) at_q w)
         by (word v) (error kind pos) e f traps =
-            let s = step_of g.program g.stimulus q.world r.branch has.branch rest in
-            turn.errs (value_errs g r q has.branch item rest kind pos (traps q.core (core_kept g r k)) runs has.core (set_step q.world has.branch (word v) (still (word v) e) ∙ stored_errs s place v kind pos (index_is (error kind pos) f)))
+            let s = step_of g.program g.stimulus q.world r.branch has_q.branch rest in
+            turn.errs (value_errs g r q item rest kind pos (traps q.core (core_kept g r k)) has_q (since'.hand ∙ no_hand) (set_step q.world has_q.branch (word v) (still (word v) e) ∙ stored_errs s place v kind pos (index_is (error kind pos) f)))
         by (error kind pos) i e f traps =
-            turn.errs (value_errs g r q has.branch item rest kind pos (traps q.core (core_kept g r k)) runs has.core (set_step q.world has.branch (error kind pos) (still (error kind pos) e)))
+            turn.errs (value_errs g r q item rest kind pos (traps q.core (core_kept g r k)) has_q (since'.hand ∙ no_hand) (set_step q.world has_q.branch (error kind pos) (still (error kind pos) e)))
 
 -- from its code to that instruction, or to the one that traps
 pub set_leads : (g : Setting) (r : Runner) (place : kernel.Place) (x : kernel.Expression) → StatementLeads g r (kernel.set place x)
-set_leads g r place x rest exits pc pc' j z regs laid piece (uses_place, uses, changes, counted) behind rest_fits has here bases =
+set_leads g r place x rest exits pc pc' j z regs laid piece (uses_place, uses, changes, counted) behind rest_fits has here bases no_hand =
     let v = eval z.world.store x in
     let i = index_in z.world.store place in
     let at_end = pc + length piece.lines in
@@ -187,5 +188,5 @@ set_leads g r place x rest exits pc pc' j z regs laid piece (uses_place, uses, c
     let le : most ≤ cost g r = let a = nodes_are x in let b = nodes_at_are place in omega arith in
     leads_more g r (Turns g r j) most (cost g r) z le
     (leads_as g r (λ y. outcome y.core × Since g r (IsApart r.stack) any_port z y) (Turns g r j) most z
-    (λ y h. set_turns g r laid place x rest exits pc at_end j uses_place uses changes behind' rest_fits z regs bases has v i refl refl y h.0 h.1)
-    (arrives g r (IsApart r.stack) (apart_of_changes g r) outcome most z way))
+    (λ y h. set_turns g r laid place x rest exits pc at_end j uses_place uses changes behind' rest_fits z regs bases no_hand has v i refl refl y h.0 h.1)
+    (arrives g r (IsApart r.stack) (apart_of_changes g r) outcome most z (at_runs g r z pc regs here) way))

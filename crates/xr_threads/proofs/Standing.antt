@@ -1,36 +1,32 @@
 -- What stands between the machine and the program goes on as long as what it speaks of is kept.
-use Rattle.std.proofs.Common.{◌≡◌, ℕ, zero, suc, [], ◌∷◌, ◌+◌, ◌<◌, ◌≤◌, ◌≢◌, ◌⊎◌, inl, inr, List, map, length, Option, Some, None, refl, sym, ap, ◌∙◌, subst, ⊎_elim, arith}
+use Rattle.std.proofs.Common.{◌≡◌, ℕ, zero, suc, [], ◌∷◌, ◌+◌, ◌<◌, ◌≤◌, ◌≢◌, ◌⊎◌, inl, inr, List, length, Option, Some, None, refl, sym, ◌∙◌, subst, ⊎_elim, arith}
 use Rattle.std.proofs.Math.Nat.{mul-le-mul_left}
-use Rattle.std.specs.Prelude.{slice_get, slice_set}
+use Rattle.std.specs.Prelude.{Bool, true, false, slice_get, slice_set}
 use Rattle.std.proofs.lemmas.Bool.{cases_eq}
-use Rattle.std.proofs.lemmas.List.{length-set}
 use Rattle.std.proofs.lemmas.Option.{slice_get-map}
-use Rattle.xs_instr.specs.declared.image.Home.{Home}
 use Rattle.xs_instr.specs.declared.image.Stim.{Stim}
 use Rattle.xs_instr.specs.declared.state.CoreState.{CoreState}
-use Rattle.xs_instr.specs.declared.state.Thread.{Thread}
-use Rattle.xs_instr.specs.declared.trace.Record.{Record}
-use Rattle.xs_instr.specs.Did.{Idle}
-use Rattle.xs_instr.specs.Machine.{noted}
-use Rattle.xs_instr.specs.Slot.{turn_at, turn_of}
 use Rattle.xc_kernel.specs.Plain as kernel
 use Rattle.xc_meaning.specs.Counts.Families.{steps_of}
 use Rattle.xc_meaning.specs.Counts.KernelCounts.{kernel_bound}
 use Rattle.xc_meaning.specs.Runs.{acts_all}
 use Rattle.xc_meaning.specs.States.Branches.{Branch, Mode, runs, waits, ended, erred}
+use Rattle.xc_meaning.specs.States.Items.{Item}
 use Rattle.xc_meaning.specs.States.Worlds.{World, Action}
 use Rattle.xl_expr.proofs.Lists.{get_set_same, get_set_other}
-use Rattle.xr_match.specs.Implements.{clock_of}
+use Rattle.xl_par.specs.Hands.{Hand, IsAmong}
 use Rattle.xr_match.specs.Lives.{Life, Watched}
 use Rattle.xr_match.specs.Meanings.{of_kernel}
 use Rattle.xr_match.specs.Sources.{Told}
 use Rattle.xr_match.specs.Systems.{SomeIs}
-use Rattle.xr_threads.specs.Images.{IsRun, Runners, living_on}
+use Rattle.xr_threads.specs.Living.{AreNamed}
+use Rattle.xr_threads.specs.Parents.{Parent, branches_of}
+use Rattle.xr_threads.specs.Roles.{ParentWaits, ParentsWait, Roles, used_by}
 use Rattle.xr_threads.specs.Runners.{Setting, Runner}
 use Rattle.xr_threads.specs.Scenes.{IsStable, Kept, Scene}
-use Rattle.xr_threads.specs.Standing.{IsStopped, Stand, Standing, Stands, StandsBy}
-use Rattle.xr_threads.specs.Turns.{IsUnused, Turns}
-use Rattle.xr_threads.proofs.Scenes.{kept_twice, leads_in_stable}
+use Rattle.xr_threads.specs.Standing.{HasEnded, HasThread, IfTrue, IsAtRest, IsOnItsWay, IsResuming, Stand, Standing, Stands, StandsBy}
+use Rattle.xr_threads.proofs.Scenes.{joining_stable}
+use Rattle.xr_threads.proofs.Layouts.{at_rest_stable, on_its_way_stable, resuming_stable}
 
 -- a core by its number
 pub core_at : (cores : List CoreState) (c : ℕ) → c < length cores → (a : CoreState) × (slice_get cores c ≡ Some a)
@@ -46,16 +42,6 @@ get_set_cases xs i j x y z h e =
     (λ (ne : j ≢ i). inr (ne, sym (get_set_other xs i j y ne) ∙ e))
     (cases_eq j i)
 
--- an unused thread, and a trapped one, have no turn
-pub unused_idle : (home : Home) (a : CoreState) (t : ℕ) (o : Option Thread) → IsUnused o → turn_at home a t o ≡ Idle
-unused_idle home a t None h = refl
-unused_idle home a t (Some thread) h = ap (turn_of home a t thread) h
-
--- nor has a trapped one
-pub stopped_idle : (home : Home) (a : CoreState) (t : ℕ) (o : Option Thread) → IsStopped o → turn_at home a t o ≡ Idle
-stopped_idle home a t None h = refl
-stopped_idle home a t (Some thread) h = ap (turn_of home a t thread) h
-
 -- what is there is also so
 pub there_then : {A : Type 0} (F G : A → Type 0) (o : Option A) → ((y : A) → F y → G y) → SomeIs o F → SomeIs o G
 there_then F G None f h = h
@@ -65,96 +51,111 @@ there_then F G (Some y) f h = f y h
 abbrev pub told_by : (K : kernel.Kernel) → Stim → Told (of_kernel K) → List Action → World → Told (of_kernel K)
 told_by K s x piece y = record { state = y; actions = λ f. x.actions f + steps_of K s f (Some x.state) piece }
 
--- a piece of the program's run leads to where the two sides stand so again
-abbrev pub Follows : (g : Setting) (who : Runners) → Told (of_kernel g.program) → Watched → Type 0
-Follows g who x w =
-    (piece : List Action) × (y : World) × (acts_all g.program g.stimulus (Some x.state) piece ≡ Some y)
-    × Standing g who w (told_by g.program g.stimulus x piece y)
+-- A piece of the program's run leads to where the two sides stand so again; some threads may be at rest there. Where lives were named by the roles
+-- before, they are so by those behind it.
+pub record Follows (g : Setting) (may_rest : (core thread : ℕ) → Bool) (old : Roles) (before : Watched) (x : Told (of_kernel g.program)) (w : Watched) : Type 0 where
+  pub who : Roles
+  pub piece : List Action
+  pub world : World
+  pub acted : acts_all g.program g.stimulus (Some x.state) piece ≡ Some world
+  pub standing : Standing g may_rest who w (told_by g.program g.stimulus x piece world)
+  pub named : AreNamed g old before x → AreNamed g who w (told_by g.program g.stimulus x piece world)
 
 module _ (g : Setting) (r : Runner) where
-  -- a turn that is due whatever others do stays due
-  pub turns_stable : (j : ℕ) → IsStable g r (Turns g r j)
-  turns_stable j z y k h = λ x l. h x (kept_twice g r k l)
+  -- where threads may be at rest
+  if_true_stable : (may_rest : Bool) (items : List Item) (most : ℕ) → IsStable g r (λ z. IfTrue g r may_rest (IsAtRest g r items most z))
+  if_true_stable true items most z y k h = at_rest_stable g r items most z y k h
+  if_true_stable false items most z y k h = absurd h
+
+  has_ended_stable : (ps : List Parent) (left : ℕ) → IsStable g r (HasEnded g r ps left)
+  has_ended_stable [] left z y k h = k.hand ∙ h
+  has_ended_stable (p ∷ ps) left z y k h = joining_stable g r p ps left z y k h
 
   -- what a branch's runner stands on is kept, so it stands as before
-  stands_by_still : (mode : Mode) (left : ℕ) (z y : Scene) → Kept g r z y → StandsBy g r mode left z → StandsBy g r mode left y
-  stands_by_still runs left z y k h = (h.0, h.1, h.2, leads_in_stable g r (Turns g r h.1) (turns_stable h.1) h.0 z y k h.3)
-  stands_by_still (waits from count) left z y k h = h
-  stands_by_still ended left z y k h = subst IsUnused (sym k.thread) h
-  stands_by_still erred left z y k h = subst IsStopped (sym k.thread) h
+  pub stands_by_still : (may_rest : Bool) (items : List Item) (mode : Mode) (left : ℕ) → IsStable g r (StandsBy g r may_rest items mode left)
+  stands_by_still may_rest items runs left z y k h =
+      ⊎_elim
+      (λ (on : IsOnItsWay g r left z). inl (on_its_way_stable g r left z y k on))
+      (λ other.
+      ⊎_elim
+      (λ (back : IsResuming g r items left z). inr (inl (resuming_stable g r items left z y k back)))
+      (λ rest. inr (inr (if_true_stable may_rest items left z y k rest)))
+      other)
+      h
+  stands_by_still may_rest items (waits from count) left z y k h = h
+  stands_by_still may_rest items ended left z y k h = has_ended_stable r.parents left z y k h
+  stands_by_still may_rest items erred left z y k h = k.hand ∙ h
 
-  -- and so it does where its family has done more
-  pub stand_more : (a : CoreState) (x : World) (life : Life) (actions more : ℕ → ℕ) (branch : Branch) → ((f : ℕ) → actions f ≤ more f) → Stand g r a x life actions branch → Stand g r a x life more branch
-  stand_more a x life actions more branch le h = record {
-    core = h.core;
-    family = h.family;
-    named = h.named;
-    left = h.left;
-    bound =
-        let old = h.bound in
-        let l = le r.family in
-        let m = mul-le-mul_left (kernel_bound g.program) (more_one (actions r.family) (more r.family) l) in
-        omega (arith, m);
-    by = h.by;
+  -- more threads may be at rest
+  pub rests_more : (a b : Bool) (items : List Item) (mode : Mode) (left : ℕ) (z : Scene) → (a ≡ true → b ≡ true) → StandsBy g r a items mode left z → StandsBy g r b items mode left z
+  rests_more false b items runs left z le (inl h) = inl h
+  rests_more false b items runs left z le (inr (inl h)) = inr (inl h)
+  rests_more false b items runs left z le (inr (inr h)) = absurd h
+  rests_more true b items runs left z le h = subst (λ c. StandsBy g r c items runs left z) (sym (le refl)) h
+  rests_more a b items (waits from count) left z le h = h
+  rests_more a b items ended left z le h = h
+  rests_more a b items erred left z le h = h
+
+  -- the thread that runs it is there still
+  thread_still : (mode : Mode) (z y : Scene) → Kept g r z y → HasThread g r mode z.core → HasThread g r mode y.core
+  thread_still mode z y k h = record {
+    thread = h.thread;
+    there = k.thread ∙ h.there;
+    tied = h.tied;
+    no_events = h.no_events;
+    is = h.is;
   }
+
+  -- those that wait do so still
+  parent_still : (x y : World) (core family first : ℕ) (p : Parent) → slice_get y.branches p.branch ≡ slice_get x.branches p.branch → ParentWaits g x core family p first → ParentWaits g y core family p first
+  parent_still x y core family first p same h = record {
+    branch = h.branch;
+    known = same ∙ h.known;
+    mode = h.mode;
+    items = h.items;
+    on_core = h.on_core;
+    of_family = h.of_family;
+    first_is = h.first_is;
+    one = h.one;
+    several = h.several;
+    fits = h.fits;
+  }
+
+  pub parents_still : (x y : World) (core family : ℕ) (ps : List Parent) (first : ℕ) → ((b : ℕ) → IsAmong (branches_of ps) b → slice_get y.branches b ≡ slice_get x.branches b) → ParentsWait g x core family ps first → ParentsWait g y core family ps first
+  parents_still x y core family [] first same h = h
+  parents_still x y core family (p ∷ ps) first same h = (parent_still x y core family first p (same p.branch (inl refl)) h.0, parents_still x y core family ps p.branch (λ b m. same b (inr m)) h.1)
+
+  -- What a runner stands on is kept, so it stands as before. Its life is as long, its family may have done more, and it may be at rest.
+  pub stand_still : (rests rests' : Bool) (hand : Option Hand) (a b : CoreState) (x y : World) (life life' : Life) (actions more : ℕ → ℕ) (branch : Branch) → (rests ≡ true → rests' ≡ true) → Kept g r (record { core = a; world = x; hand = hand }) (record { core = b; world = y; hand = hand }) → life'.steps ≡ life.steps → ((f : ℕ) → actions f ≤ more f) → Stand g r rests hand a x life actions branch → Stand g r rests' hand b y life' more branch
+  stand_still rests rests' hand a b x y life life' actions more branch may k as_long le h =
+      let z : Scene = record { core = a; world = x; hand = hand } in
+      let z' : Scene = record { core = b; world = y; hand = hand } in
+      record {
+        core = h.core;
+        family = h.family;
+        footprint = h.footprint;
+        parents = parents_still x y r.core r.family r.parents r.branch k.parents h.parents;
+        thread = thread_still branch.mode z z' k h.thread;
+        in_hand = h.in_hand;
+        ends_tied = h.ends_tied;
+        left = h.left;
+        bound =
+            let old = h.bound in
+            let l = le r.family in
+            let m = mul-le-mul_left (kernel_bound g.program) (more_one (actions r.family) (more r.family) l) in
+            omega (arith, m);
+        by = rests_more rests rests' branch.items branch.mode h.left z' may (stands_by_still rests branch.items branch.mode h.left z z' k h.by);
+      }
     where
       more_one : (m n : ℕ) → m ≤ n → m + 1 ≤ n + 1
       more_one m n l = omega arith
 
-  -- both at once
-  stand_still : (a b : CoreState) (x y : World) (life : Life) (actions more : ℕ → ℕ) (branch : Branch) → Kept g r (record { core = a; world = x }) (record { core = b; world = y }) → ((f : ℕ) → actions f ≤ more f) → Stand g r a x life actions branch → Stand g r b y life more branch
-  stand_still a b x y life actions more branch k le h =
-      let m = stand_more a x life actions more branch le h in
-      record {
-        core = m.core;
-        family = m.family;
-        named = m.named;
-        left = m.left;
-        bound = m.bound;
-        by = stands_by_still branch.mode m.left (record { core = a; world = x }) (record { core = b; world = y }) k m.by;
-      }
-
   -- the same of the branch that the runner's thread runs, wherever that stands
-  pub runner_still : (t : ℕ) (a b : CoreState) (x y : World) (life : Life) (actions more : ℕ → ℕ) → Kept g r (record { core = a; world = x }) (record { core = b; world = y }) → ((f : ℕ) → actions f ≤ more f) → Stands g t a x life actions (Some r) → Stands g t b y life more (Some r)
-  runner_still t a b x y life actions more k le h =
-      subst (λ o. SomeIs o (Stand g r b y life more)) (sym k.branch)
-      (there_then (Stand g r a x life actions) (Stand g r b y life more) (slice_get x.branches r.branch) (λ branch. stand_still a b x y life actions more branch k le) h)
+  pub runner_still : (rests rests' : Bool) (hand : Option Hand) (a b : CoreState) (x y : World) (life life' : Life) (actions more : ℕ → ℕ) → (rests ≡ true → rests' ≡ true) → Kept g r (record { core = a; world = x; hand = hand }) (record { core = b; world = y; hand = hand }) → life'.steps ≡ life.steps → ((f : ℕ) → actions f ≤ more f) → Stands g rests a x life actions (used_by r hand) → Stands g rests' b y life' more (used_by r hand)
+  runner_still rests rests' hand a b x y life life' actions more may k as_long le h =
+      subst (λ o. SomeIs o (Stand g r rests' hand b y life' more)) (sym k.branch)
+      (there_then (Stand g r rests hand a x life actions) (Stand g r rests' hand b y life' more) (slice_get x.branches r.branch) (λ branch. stand_still rests rests' hand a b x y life life' actions more branch may k as_long le) h)
 
-module _ (g : Setting) (who : Runners) where
-  -- the program's clock of a core
-  pub clock_at : (w : Watched) (x : Told (of_kernel g.program)) (c : ℕ) (a : CoreState) → Standing g who w x → slice_get w.machine.cores c ≡ Some a → slice_get x.state.clocks c ≡ Some a.clock
-  clock_at w x c a st at_c = rw (← st.clocks, slice_get-map, at_c)
-
-  -- one core changes and the program follows: what is to be shown of that core, of the others and of the program
-  pub record IsNextStanding (w : Watched) (x : Told (of_kernel g.program)) (c : ℕ) (b : CoreState) (made : Option Record) (lives : ℕ → ℕ → Life) (y : Told (of_kernel g.program)) : Type 0 where
-    pub clocks : map clock_of (slice_set w.machine.cores c b) ≡ y.state.clocks
-    pub trace : noted w.machine.trace made ≡ y.state.trace
-    pub here : (t : ℕ) → Stands g t b y.state (lives c t) y.actions (who c t)
-    pub there : (c' t : ℕ) (d : CoreState) → c' ≢ c → slice_get w.machine.cores c' ≡ Some d → Stands g t d y.state (lives c' t) y.actions (who c' t)
-    pub idle : (c' t : ℕ) → who c' t ≡ None → (lives c' t).steps ≡ 0
-    pub roots : b.roots ≡ living_on c y.state.branches
-    pub far_roots : (c' : ℕ) → c' ≢ c → living_on c' y.state.branches ≡ living_on c' x.state.branches
-    pub placed : (n : ℕ) (branch : Branch) → slice_get y.state.branches n ≡ Some branch → branch.core < length w.machine.cores
-    pub run : (n : ℕ) (branch : Branch) → slice_get y.state.branches n ≡ Some branch → IsRun who n
-
-  -- then the two stand so again
-  pub stands_next : (w : Watched) (x : Told (of_kernel g.program)) (c : ℕ) (a b : CoreState) (made : Option Record) (lives : ℕ → ℕ → Life) (y : Told (of_kernel g.program)) → Standing g who w x → slice_get w.machine.cores c ≡ Some a → IsNextStanding w x c b made lives y → Standing g who (record { machine = record { cores = slice_set w.machine.cores c b; links = w.machine.links; trace = noted w.machine.trace made }; lives = lives }) y
-  stands_next w x c a b made lives y st at_c next = record {
-    clocks = next.clocks;
-    trace = next.trace;
-    links = st.links;
-    threads = λ c' t d e.
-        ⊎_elim
-        (λ (h : (c' ≡ c) × (d ≡ b)). subst (λ k. Stands g t d y.state (lives k t) y.actions (who k t)) (sym h.0) (subst (λ i. Stands g t i y.state (lives c t) y.actions (who c t)) (sym h.1) (next.here t)))
-        (λ (h : (c' ≢ c) × (slice_get w.machine.cores c' ≡ Some d)). next.there c' t d h.0 h.1)
-        (get_set_cases w.machine.cores c c' a b d at_c e);
-    idle = next.idle;
-    roots = λ c' d e.
-        ⊎_elim
-        (λ (h : (c' ≡ c) × (d ≡ b)). ap (λ (i : CoreState). i.roots) h.1 ∙ next.roots ∙ ap (λ k. living_on k y.state.branches) (sym h.0))
-        (λ (h : (c' ≢ c) × (slice_get w.machine.cores c' ≡ Some d)). st.roots c' d h.1 ∙ sym (next.far_roots c' h.0))
-        (get_set_cases w.machine.cores c c' a b d at_c e);
-    placed = λ n branch e. rw length-set (next.placed n branch e);
-    cores = length-set w.machine.cores c b ∙ st.cores;
-    run = next.run;
-  }
+-- the program's clock of a core
+pub clock_at : (g : Setting) (may_rest : (core thread : ℕ) → Bool) (who : Roles) (w : Watched) (x : Told (of_kernel g.program)) (c : ℕ) (a : CoreState) → Standing g may_rest who w x → slice_get w.machine.cores c ≡ Some a → slice_get x.state.clocks c ≡ Some a.clock
+clock_at g may_rest who w x c a st at_c = rw (← st.clocks, slice_get-map, at_c)

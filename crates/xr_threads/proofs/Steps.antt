@@ -1,251 +1,175 @@
--- A step of a thread is followed by no step of the program, or by the piece that answers it.
-use Rattle.std.proofs.Common.{◌≡◌, ℕ, suc, ◌+◌, ◌*◌, ◌<◌, ◌≤◌, ◌≢◌, false, List, [], map, Option, Some, None, refl, sym, ap, ◌∙◌, subst, ⊎_elim, arith}
-use Rattle.std.specs.Prelude.{slice_get, slice_set, length}
-use Rattle.std.proofs.lemmas.Bool.{cases_eq}
-use Rattle.std.proofs.lemmas.Option.{get_or_from_slice_get, slice_get_within, same_Some}
-use Rattle.std.proofs.Math.Nat.{mul-le-mul_left}
+-- An event of one runner is answered by a piece of the program's run: behind it all threads stand so again.
+use Rattle.std.proofs.Common.{◌≡◌, ℕ, ◌<◌, ◌≤◌, ◌≢◌, inl, List, map, length, Option, Some, refl, sym, ap, ◌∙◌, subst}
+use Rattle.std.specs.Prelude.{Bool, true, false, slice_get, slice_set}
+use Rattle.std.proofs.lemmas.List.{length-set}
+use Rattle.std.proofs.lemmas.Option.{get_or_from_slice_get}
 use Rattle.std.proofs.Math.Seq.{map-set_same}
 use Rattle.xs_instr.specs.declared.state.CoreState.{CoreState}
 use Rattle.xs_instr.specs.declared.trace.Record.{Record}
 use Rattle.xs_instr.specs.Machine.{Machine, Step, noted}
-use Rattle.xc_kernel.specs.Eval.{words_of}
-use Rattle.xc_meaning.specs.Counts.Families.{steps_of}
-use Rattle.xc_meaning.specs.Counts.KernelCounts.{kernel_bound, greatest_count}
+use Rattle.xc_disjoint.specs.Needs.{threads_on}
 use Rattle.xc_meaning.specs.Runs.{acts_all}
-use Rattle.xc_meaning.specs.States.Branches.{Branch, runs}
+use Rattle.xc_meaning.specs.States.Branches.{Branch, has_ended}
 use Rattle.xc_meaning.specs.States.Worlds.{World, Action}
 use Rattle.xl_expr.proofs.Lists.{get_set_same, get_set_other}
+use Rattle.xl_par.specs.Hands.{Hand}
 use Rattle.xr_match.specs.Implements.{clock_of}
-use Rattle.xr_match.specs.Lives.{Life, Watched, life_after, stepped, watched_after}
+use Rattle.xr_match.specs.Lives.{Life, Watched, watched_after}
 use Rattle.xr_match.specs.Meanings.{of_kernel}
 use Rattle.xr_match.specs.Sources.{Told}
-use Rattle.xr_match.specs.Systems.{SomeIs}
-use Rattle.xr_threads.specs.Images.{AreApart, IsRun, Runners, counts, living_on}
-use Rattle.xr_threads.specs.Runners.{Setting, Runner, port_place}
-use Rattle.xr_threads.specs.Scenes.{IsSilentStep, Kept, LeadsIn, Touched}
-use Rattle.xr_threads.specs.Standing.{Answer, Stand, Standing, Stands, StandsBy}
-use Rattle.xr_threads.specs.Turns.{IsUnused, Turns}
-use Rattle.xr_threads.proofs.Counts.{far_counts, living_after}
-use Rattle.xr_threads.proofs.Lives.{far_life, other_life, own_life}
-use Rattle.xr_threads.proofs.Standing.{Follows, clock_at, get_set_cases, runner_still, stands_next, told_by}
+use Rattle.xr_threads.specs.Images.{IsImageOf}
+use Rattle.xr_threads.specs.Roles.{AreRoles, AreUsedSo, HasReserves, Roles, used_by}
+use Rattle.xr_threads.specs.Runners.{Setting, Runner}
+use Rattle.xr_threads.specs.Standing.{AreLoose, IsMade, IsRun, Standing, Stands, living_on}
+use Rattle.xr_threads.proofs.Lives.{far_life, other_life}
+use Rattle.xr_threads.proofs.Moves.{Effect, HasStepped, far_loose_still, far_others, kept_others, moves, own_still, parents_left, stands_at, works_at}
+use Rattle.xr_threads.proofs.Reserves.{laws_behind}
+use Rattle.xr_threads.proofs.Rooms.{spare_for}
+use Rattle.xr_threads.proofs.Standing.{parents_still, told_by}
+use Rattle.xr_threads.proofs.Works.{Crew, HasOwnThread, Works, own_thread_of, works_of}
 
--- a step of the family pays for the silent steps behind it
-bound_grows : (most greatest steps left j further actions more : ℕ) → most ≡ 8 * (greatest + 16) → steps + left ≤ most * (actions + 1) → j ≤ left → further ≤ j + 1 + (8 * greatest + 8) → 1 ≤ more → steps + 1 + further ≤ most * (actions + more + 1)
-bound_grows most greatest steps left j further actions more is bound few enough some =
-    let le : actions + 1 + 1 ≤ actions + more + 1 = omega arith in
-    let grown = mul-le-mul_left most le in
-    omega (arith, grown)
+-- What is to be shown of an event of a runner of core c, beside what it leaves of others: of the threads that it moves how they stand, and what
+-- the core and the program are then.
+pub record IsAnswered
+    (g : Setting) (may_rest may_rest' : (core thread : ℕ) → Bool) (who who' : Roles) (w w' : Watched) (x : Told (of_kernel g.program))
+    (c : ℕ) (b : CoreState) (moved : (thread : ℕ) → Bool) (piece : List Action) (y : World) : Type 0 where
+  pub acted : acts_all g.program g.stimulus (Some x.state) piece ≡ Some y
+  pub clocks : map clock_of w'.machine.cores ≡ y.clocks
+  pub trace : w'.machine.trace ≡ y.trace
+  pub roles : AreRoles g who'
+  pub reserves : HasReserves g who' y
+  pub used : AreUsedSo who' c b
+  pub same_role : (u : ℕ) → moved u ≡ false → who' c u ≡ who c u
+  pub far_role : (d u : ℕ) → d ≢ c → who' d u ≡ who d u
+  pub rests : (u : ℕ) → moved u ≡ false → may_rest c u ≡ true → may_rest' c u ≡ true
+  pub far_rests : (d u : ℕ) → d ≢ c → may_rest d u ≡ true → may_rest' d u ≡ true
+  pub steps : (u : ℕ) → moved u ≡ false → (w'.lives c u).steps ≡ (w.lives c u).steps
+  pub far_steps : (d u : ℕ) → d ≢ c → (w'.lives d u).steps ≡ (w.lives d u).steps
+  pub stand : (u : ℕ) → moved u ≡ true →
+      Stands g (may_rest' c u) b y (w'.lives c u) (told_by g.program g.stimulus x piece y).actions (who' c u)
+  pub loose : 1 ≤ threads_on g.program c → AreLoose g who' c b y
+  pub roots : b.roots ≡ living_on c y.branches
+  pub far_roots : (d : ℕ) → d ≢ c → living_on d y.branches ≡ living_on d x.state.branches
+  pub placed : (n : ℕ) (branch : Branch) → slice_get y.branches n ≡ Some branch → branch.core < 4
+  pub run : (n : ℕ) (branch : Branch) → slice_get y.branches n ≡ Some branch → has_ended branch.mode ≡ false → IsRun who' n
+  pub made : (n : ℕ) (branch : Branch) → slice_get y.branches n ≡ Some branch → has_ended branch.mode ≡ false → IsMade (length g.program.roots) y.branches n
 
--- what the others see of a piece of the program's run for a runner's branch
-pub record Beside (r : Runner) (x y : World) : Type 0 where
-  pub clocks : y.clocks ≡ x.clocks
-  pub branches : (n : ℕ) → n ≢ r.branch → slice_get y.branches n ≡ slice_get x.branches n
-  pub store : (v : ℕ) → r.footprint.changes v ≡ false → words_of y.store v ≡ words_of x.store v
+module _ (g : Setting) (first : Roles) (is : IsImageOf g first) (may_rest : (core thread : ℕ) → Bool) (who : Roles) (w : Watched) (x : Told (of_kernel g.program)) (st : Standing g may_rest who w x)
+    (c t : ℕ) (a : CoreState) (at_c : slice_get w.machine.cores c ≡ Some a) (r : Runner) (hand : Option Hand) (runs_r : who c t ≡ used_by r hand)
+    (moved : (thread : ℕ) → Bool) (own : moved t ≡ true) (b : CoreState) (y : World) (effect : Effect g who c t r hand moved a b x.state y) where
+  -- a thread that isn't moved is another one
+  pub not_own : (u : ℕ) → moved u ≡ false → u ≢ t
+  not_own u m e = let both : true ≡ false = sym own ∙ ap moved (sym e) ∙ m in cc
 
-module _ (g : Setting) (who : Runners) (apart : AreApart g who) (w : Watched) (x : Told (of_kernel g.program)) (st : Standing g who w x) (c t : ℕ) (a : CoreState) (at_c : slice_get w.machine.cores c ≡ Some a) (r : Runner) (runs_r : who c t ≡ Some r) where
-  -- the runner is on this core
-  core_is : r.core ≡ c
-  core_is = apart.core c t r runs_r
+  -- a runner that isn't moved works as before
+  pub works_behind : (u : ℕ) (s : Runner) (other : Option Hand) → moved u ≡ false → who c u ≡ used_by s other → Works g y s other
+  works_behind u s other m runs_s =
+      let works = works_at g first is may_rest who w x st c u s other runs_s in
+      let ne : (c ≡ c) × (u ≡ t) → ⊥ = λ h. not_own u m h.1 in
+      record {
+        branch = works.branch;
+        known = own_still g first is may_rest who w x st c t a at_c r hand runs_r moved b y effect c u s other ne runs_s s.branch works.branch (inl refl) works.known ∙ works.known;
+        goes = works.goes;
+        core = works.core;
+        family = works.family;
+        footprint = works.footprint;
+        parents = parents_still g s x.state y s.core s.family s.parents s.branch (parents_left g first is may_rest who w x st c t a at_c r hand runs_r moved b y effect c u s other ne runs_s) works.parents;
+        in_hand = works.in_hand;
+      }
 
-  -- and this is its thread
-  thread_is : r.thread ≡ t
-  thread_is = apart.thread c t r runs_r
+  -- and its thread is what it was
+  pub thread_behind : (u : ℕ) (s : Runner) (other : Option Hand) → moved u ≡ false → who c u ≡ used_by s other → HasOwnThread b s
+  thread_behind u s other m runs_s =
+      let h = own_thread_of g s (may_rest c u) other a x.state (w.lives c u) x.actions (stands_at g first is may_rest who w x st c u a s other at_c runs_s) in
+      record {
+        thread = h.thread;
+        there = effect.threads s.thread (ap moved (st.roles.thread c u s other runs_s) ∙ m) ∙ h.there;
+        tied = h.tied;
+        no_events = h.no_events;
+        used = h.used;
+      }
 
-  -- nothing has happened yet
-  pub kept_now : Kept g r (record { core = a; world = x.state }) (record { core = a; world = x.state })
-  kept_now = record {
-    thread = refl;
-    words = λ k m. refl;
-    ports = λ p listed is. refl;
-    branch = refl;
-    store = λ v u. refl;
-    clock = ap (slice_get x.state.clocks) core_is ∙ clock_at g who w x c a st at_c;
-  }
+  module _ (may_rest' : (core thread : ℕ) → Bool) (who' : Roles) (w' : Watched) (piece : List Action) (step : HasStepped w w' c a b) (answer : IsAnswered g may_rest may_rest' who who' w w' x c b moved piece y) where
+    works_by : (u : ℕ) (s : Runner) (other : Option Hand) → who' c u ≡ used_by s other → (m : Bool) → moved u ≡ m → Works g y s other
+    works_by u s other runs_s true m =
+        let actions = (told_by g.program g.stimulus x piece y).actions in
+        works_of g s (may_rest' c u) other b y (w'.lives c u) actions (subst (Stands g (may_rest' c u) b y (w'.lives c u) actions) runs_s (answer.stand u m))
+    works_by u s other runs_s false m = works_behind u s other m (sym (answer.same_role u m) ∙ runs_s)
 
-  module _ (b : CoreState) (made : Option Record) (piece : List Action) (y : World) (touched : Touched g r a b) (acted : acts_all g.program g.stimulus (Some x.state) piece ≡ Some y) (beside : Beside r x.state y) where
-    -- the machine behind the step
-    abbrev m' : Machine
-    m' = record { cores = slice_set w.machine.cores c b; links = w.machine.links; trace = noted w.machine.trace made }
+    thread_by : (u : ℕ) (s : Runner) (other : Option Hand) → who' c u ≡ used_by s other → (m : Bool) → moved u ≡ m → HasOwnThread b s
+    thread_by u s other runs_s true m =
+        let actions = (told_by g.program g.stimulus x piece y).actions in
+        own_thread_of g s (may_rest' c u) other b y (w'.lives c u) actions (subst (Stands g (may_rest' c u) b y (w'.lives c u) actions) runs_s (answer.stand u m))
+    thread_by u s other runs_s false m = thread_behind u s other m (sym (answer.same_role u m) ∙ runs_s)
 
-    -- the lives behind it
-    abbrev lives' : ℕ → ℕ → Life
-    lives' = life_after w m' c t
+    -- what is known of the core's runners behind it
+    pub crew_behind : c < 4 → Crew g who' y c b
+    crew_behind lt = record {
+      lawful = laws_behind g x.state st.lawful piece y answer.acted;
+      roles = answer.roles;
+      reserves = answer.reserves;
+      used = answer.used;
+      works = λ u s other runs_s. works_by u s other runs_s (moved u) refl;
+      threads = λ u s other runs_s. thread_by u s other runs_s (moved u) refl;
+      needed = is.needed c;
+      few = is.few c lt;
+    }
 
-    -- and what the families have done then
-    abbrev more : ℕ → ℕ
-    more f = x.actions f + steps_of g.program g.stimulus f (Some x.state) piece
+    pub answered : Standing g may_rest' who' w' (told_by g.program g.stimulus x piece y)
+    answered =
+        let lt = st.roles.there c t r hand runs_r in
+        moves g may_rest may_rest' who who' w w' x c a b moved piece y st step (record {
+          acted = answer.acted;
+          clocks = answer.clocks;
+          trace = answer.trace;
+          roles = answer.roles;
+          reserves = answer.reserves;
+          used = answer.used;
+          same_role = answer.same_role;
+          far_role = answer.far_role;
+          rests = answer.rests;
+          far_rests = answer.far_rests;
+          steps = answer.steps;
+          far_steps = answer.far_steps;
+          stand = answer.stand;
+          kept = λ u s other m runs_s.
+              kept_others g first is may_rest who w x st c t a at_c r hand runs_r moved b y effect u s other (not_own u m) m runs_s
+              (spare_for g who' y c b (crew_behind lt) u s other (answer.same_role u m ∙ runs_s));
+          far_kept = λ d u e s other ne at_d runs_s. far_others g first is may_rest who w x st c t a at_c r hand runs_r moved b y effect d u e s other ne at_d runs_s;
+          loose = answer.loose;
+          far_loose = λ d e ne at_d loose. far_loose_still g first is may_rest who w x st c t a at_c r hand runs_r moved b y effect who' answer.far_role d e ne loose;
+          roots = answer.roots;
+          far_roots = answer.far_roots;
+          placed = answer.placed;
+          run = answer.run;
+          made = answer.made;
+        })
 
-    -- no family has done less
-    not_less : (f : ℕ) → x.actions f ≤ more f
-    not_less f = omega arith
+  -- the machine behind the thread's step, and its lives
+  module _ (made : Option Record) where
+    abbrev pub machine_after : Machine
+    machine_after = record { cores = slice_set w.machine.cores c b; links = w.machine.links; trace = noted w.machine.trace made }
 
-    -- the core behind it
-    at_b : slice_get m'.cores c ≡ Some b
-    at_b = get_set_same w.machine.cores c a b at_c
+    abbrev pub watched : Watched
+    watched = watched_after w (Step c t) machine_after
 
-    -- another thread of the core stands as before
-    other_stands : (t' : ℕ) → t' ≢ t → (o : Option Runner) → who c t' ≡ o → Stands g t' a x.state (w.lives c t') x.actions o → Stands g t' b y (w.lives c t') more o
-    other_stands t' ne None e h = subst IsUnused (sym (touched.others t' (λ f. ne (f ∙ thread_is)))) h
-    other_stands t' ne (Some s) e h =
-        let s_core = apart.core c t' s e in
-        let s_thread = apart.thread c t' s e in
-        let ne_b : s.branch ≢ r.branch = λ f. ne (apart.branches c t c t' r s runs_r e f).1 in
-        let out_of_way = apart.apart c t t' r s runs_r e ne in
-        let kept : Kept g s (record { core = a; world = x.state }) (record { core = b; world = y }) = record {
-          thread = touched.others s.thread (λ f. ne (sym s_thread ∙ f ∙ thread_is));
-          words = λ k m. touched.words k (λ change. out_of_way.words k m change);
-          ports = λ q other is. touched.ports (port_place g s q) (λ p listed its. out_of_way.ports p q listed other its is);
-          branch = beside.branches s.branch ne_b;
-          store = λ v u. beside.store v (apart.variables c t c t' v r s runs_r e ne_b u);
-          clock = ap (λ l. slice_get l s.core) beside.clocks ∙ ap (slice_get x.state.clocks) s_core ∙ clock_at g who w x c a st at_c ∙ ap Some (sym touched.clock);
-        } in
-        runner_still g s t' a b x.state y (w.lives c t') x.actions more kept not_less h
+    pub has_stepped : length b.words ≡ length a.words → HasStepped w watched c a b
+    has_stepped size = record {
+      was = at_c;
+      is = get_set_same w.machine.cores c a b at_c;
+      others = λ d ne. get_set_other w.machine.cores c d b ne;
+      as_many = length-set w.machine.cores c b;
+      links = refl;
+      size = size;
+    }
 
-    -- and so does one of another core
-    far_stands : (c' t' : ℕ) (d : CoreState) → c' ≢ c → slice_get w.machine.cores c' ≡ Some d → (o : Option Runner) → who c' t' ≡ o → Stands g t' d x.state (w.lives c' t') x.actions o → Stands g t' d y (w.lives c' t') more o
-    far_stands c' t' d ne at_d None e h = h
-    far_stands c' t' d ne at_d (Some s) e h =
-        let s_core = apart.core c' t' s e in
-        let ne_b : s.branch ≢ r.branch = λ f. ne (apart.branches c t c' t' r s runs_r e f).0 in
-        let kept : Kept g s (record { core = d; world = x.state }) (record { core = d; world = y }) = record {
-          thread = refl;
-          words = λ k m. refl;
-          ports = λ q other is. refl;
-          branch = beside.branches s.branch ne_b;
-          store = λ v u. beside.store v (apart.variables c t c' t' v r s runs_r e ne_b u);
-          clock = ap (λ l. slice_get l s.core) beside.clocks ∙ ap (slice_get x.state.clocks) s_core ∙ clock_at g who w x c' d st at_d;
-        } in
-        runner_still g s t' d d x.state y (w.lives c' t') x.actions more kept not_less h
+    -- a life that isn't moved is as long
+    pub steps_still : (u : ℕ) → moved u ≡ false → (watched.lives c u).steps ≡ (w.lives c u).steps
+    steps_still u m = ap (λ (l : Life). l.steps) (other_life w machine_after c t u a b (not_own u m) at_c (get_set_same w.machine.cores c a b at_c) (effect.threads u m))
 
-    -- a thread that runs nothing did no step
-    still_idle : (c' t' : ℕ) → who c' t' ≡ None → (lives' c' t').steps ≡ 0
-    still_idle c' t' e =
-        ⊎_elim
-        (λ (f : c' ≡ c). on_core t' (subst (λ k. who k t' ≡ None) f e) f)
-        (λ (ne : c' ≢ c). ap (λ (l : Life). l.steps) (far_life w m' c t c' t' ne) ∙ st.idle c' t' e)
-        (cases_eq c' c)
-      where
-        none_runs : (u : ℕ) → who c u ≡ None → u ≢ t
-        none_runs u f same = let both : None ≡ Some r = sym f ∙ ap (who c) same ∙ runs_r in cc
-
-        -- of this core
-        on_core : (u : ℕ) → who c u ≡ None → c' ≡ c → (lives' c' u).steps ≡ 0
-        on_core u f same =
-            let ne = none_runs u f in
-            subst (λ k. (lives' k u).steps ≡ 0) (sym same)
-            (ap (λ (l : Life). l.steps) (other_life w m' c t u a b ne at_c at_b (touched.others u (λ h. ne (h ∙ thread_is)))) ∙ st.idle c u f)
+    pub far_steps_still : (d u : ℕ) → d ≢ c → (watched.lives d u).steps ≡ (w.lives d u).steps
+    far_steps_still d u ne = ap (λ (l : Life). l.steps) (far_life w machine_after c t d u ne)
 
     -- no clock has gone up
-    clocks_stay : map clock_of (slice_set w.machine.cores c b) ≡ y.clocks
-    clocks_stay = map-set_same clock_of w.machine.cores c b a (touched.clock ∙ ap clock_of (sym (get_or_from_slice_get w.machine.cores c a a at_c))) ∙ st.clocks ∙ sym beside.clocks
-
-    module _ (trace : y.trace ≡ noted x.state.trace made) (own : SomeIs (slice_get y.branches r.branch) (Stand g r b y (stepped w.machine m' c (w.lives c t)) more)) (roots : b.roots ≡ living_on c y.branches) (far_roots : (c' : ℕ) → c' ≢ c → living_on c' y.branches ≡ living_on c' x.state.branches) (placed : (n : ℕ) (branch : Branch) → slice_get y.branches n ≡ Some branch → branch.core < length w.machine.cores) (run : (n : ℕ) (branch : Branch) → slice_get y.branches n ≡ Some branch → IsRun who n) where
-      -- the thread itself
-      own_stands : Stands g t b y (lives' c t) more (who c t)
-      own_stands =
-          subst (λ l. Stands g t b y l more (who c t)) (sym (own_life w m' c t))
-          (subst (Stands g t b y (stepped w.machine m' c (w.lives c t)) more) (sym runs_r) own)
-
-      -- so all threads of the core stand so
-      all_stand : (t' : ℕ) → Stands g t' b y (lives' c t') more (who c t')
-      all_stand t' =
-          ⊎_elim
-          (λ (e : t' ≡ t). subst (λ k. Stands g k b y (lives' c k) more (who c k)) (sym e) own_stands)
-          (λ (ne : t' ≢ t).
-          let same = other_life w m' c t t' a b ne at_c at_b (touched.others t' (λ f. ne (f ∙ thread_is))) in
-          subst (λ l. Stands g t' b y l more (who c t')) (sym same) (other_stands t' ne (who c t') refl (st.threads c t' a at_c)))
-          (cases_eq t' t)
-
-      -- and all of other cores
-      far_ones : (c' t' : ℕ) (d : CoreState) → c' ≢ c → slice_get w.machine.cores c' ≡ Some d → Stands g t' d y (lives' c' t') more (who c' t')
-      far_ones c' t' d ne e =
-          subst (λ l. Stands g t' d y l more (who c' t')) (sym (far_life w m' c t c' t' ne)) (far_stands c' t' d ne e (who c' t') refl (st.threads c' t' d e))
-
-      pub followed : Follows g who x (watched_after w (Step c t) (record { cores = slice_set w.machine.cores c b; links = w.machine.links; trace = noted w.machine.trace made }))
-      followed = (
-        piece,
-        y,
-        acted,
-        stands_next g who w x c a b made lives' (told_by g.program g.stimulus x piece y) st at_c (record {
-          clocks = clocks_stay;
-          trace = ap (λ l. noted l made) st.trace ∙ sym trace;
-          here = all_stand;
-          there = far_ones;
-          idle = still_idle;
-          roots = roots;
-          far_roots = far_roots;
-          placed = placed;
-          run = run;
-        }),
-      )
-
-  module _ (branch : Branch) (known : slice_get x.state.branches r.branch ≡ Some branch) (stand : Stand g r a x.state (w.lives c t) x.actions branch) where
-    -- a silent step: the program does nothing
-    pub silent_followed : (n j : ℕ) (b : CoreState) → branch.mode ≡ runs → suc n + j ≤ stand.left → IsSilentStep g r a b → LeadsIn g r (Turns g r j) n (record { core = b; world = x.state }) → Follows g who x (watched_after w (Step c t) (record w.machine { cores = slice_set w.machine.cores c b }))
-    silent_followed n j b mode few silent on =
-        let own : Stand g r b x.state (stepped w.machine (record w.machine { cores = slice_set w.machine.cores c b }) c (w.lives c t)) (λ f. x.actions f + 0) branch = record {
-          core = stand.core;
-          family = stand.family;
-          named = stand.named;
-          left = n + j;
-          bound =
-              let old = stand.bound in
-              let same : x.actions r.family + 0 ≡ x.actions r.family = omega arith in
-              subst (λ m. (w.lives c t).steps + 1 + (n + j) ≤ kernel_bound g.program * (m + 1)) (sym same) (omega arith);
-          by = subst (λ k. StandsBy g r k (n + j) (record { core = b; world = x.state })) (sym mode) (n, j, omega arith, on);
-        } in
-        followed b None [] x.state silent.touched refl (record { clocks = refl; branches = λ k ne. refl; store = λ v f. refl }) refl
-        (subst (λ o. SomeIs o (Stand g r b x.state (stepped w.machine (record w.machine { cores = slice_set w.machine.cores c b }) c (w.lives c t)) (λ f. x.actions f + 0))) (sym known) own)
-        (silent.roots ∙ st.roots c a at_c) (λ c' ne. refl) st.placed st.run
-
-    -- a step that is seen: a piece of the program's run answers it
-    pub seen_followed : (j : ℕ) → j ≤ stand.left → (ans : Answer g r j (record { core = a; world = x.state })) → Follows g who x (watched_after w (Step c t) (record { cores = slice_set w.machine.cores c ans.left; links = w.machine.links; trace = noted w.machine.trace ans.made }))
-    seen_followed j few ans =
-        let n = ans.is_next in
-        let same : ans.branch ≡ branch = same_Some ans.branch branch (sym ans.known ∙ known) in
-        let fam : ans.next.family ≡ branch.family = ans.family ∙ ap (λ (i : Branch). i.family) same in
-        let more' = λ (f : ℕ). x.actions f + steps_of g.program g.stimulus f (Some x.state) ans.piece in
-        let life = stepped w.machine (record { cores = slice_set w.machine.cores c ans.left; links = w.machine.links; trace = noted w.machine.trace ans.made }) c (w.lives c t) in
-        let here : slice_get ans.world.branches r.branch ≡ Some ans.next = ap (λ l. slice_get l r.branch) n.branches ∙ get_set_same x.state.branches r.branch branch ans.next known in
-        let one : 1 ≤ steps_of g.program g.stimulus branch.family (Some x.state) ans.piece = subst (λ (i : Branch). 1 ≤ steps_of g.program g.stimulus i.family (Some x.state) ans.piece) same ans.counted in
-        let one' : 1 ≤ steps_of g.program g.stimulus r.family (Some x.state) ans.piece = subst (λ f. 1 ≤ steps_of g.program g.stimulus f (Some x.state) ans.piece) stand.family one in
-        let own : Stand g r ans.left ans.world life more' ans.next = record {
-          core = ans.core;
-          family = fam ∙ stand.family;
-          named = stand.named;
-          left = ans.further;
-          bound =
-              bound_grows (kernel_bound g.program) (greatest_count g.program) (w.lives c t).steps stand.left j ans.further (x.actions r.family) (steps_of g.program g.stimulus r.family (Some x.state) ans.piece) refl stand.bound few ans.few one';
-          by = ans.stands;
-        } in
-        let roots_here = ans.roots in
-        let old_roots = st.roots c a at_c in
-        let counted = living_after c x.state.branches r.branch branch ans.next known in
-        let as_c : counts r.core ans.branch.core ans.branch.mode ≡ counts c branch.core branch.mode = ap (λ k. counts k ans.branch.core ans.branch.mode) core_is ∙ ap (λ (i : Branch). counts c i.core i.mode) same in
-        let as_c' : counts r.core ans.next.core ans.next.mode ≡ counts c ans.next.core ans.next.mode = ap (λ k. counts k ans.next.core ans.next.mode) core_is in
-        let all_roots : ans.left.roots ≡ living_on c (slice_set x.state.branches r.branch ans.next) = omega arith in
-        followed ans.left ans.made ans.piece ans.world ans.touched ans.acted
-        (record {
-          clocks = n.clocks;
-          branches = λ k ne. ap (λ l. slice_get l k) n.branches ∙ get_set_other x.state.branches r.branch k ans.next ne;
-          store = n.store;
-        })
-        n.trace
-        (subst (λ o. SomeIs o (Stand g r ans.left ans.world life more')) (sym here) own)
-        (all_roots ∙ ap (living_on c) (sym n.branches))
-        (λ c' ne.
-        let far_old = far_counts c' branch.core branch.mode (λ e. ne (sym e ∙ stand.core ∙ core_is)) in
-        let far_new = far_counts c' ans.next.core ans.next.mode (λ e. ne (sym e ∙ ans.core ∙ core_is)) in
-        let both = living_after c' x.state.branches r.branch branch ans.next known in
-        let set_same : living_on c' (slice_set x.state.branches r.branch ans.next) ≡ living_on c' x.state.branches = omega arith in
-        ap (living_on c') n.branches ∙ set_same)
-        (λ k br e.
-        ⊎_elim
-        (λ (h : (k ≡ r.branch) × (br ≡ ans.next)). let within = slice_get_within w.machine.cores c a at_c in let at_core : br.core ≡ c = ap (λ (i : Branch). i.core) h.1 ∙ ans.core ∙ core_is in omega arith)
-        (λ (h : (k ≢ r.branch) × (slice_get x.state.branches k ≡ Some br)). st.placed k br h.1)
-        (get_set_cases x.state.branches r.branch k branch ans.next br known (ap (λ l. slice_get l k) (sym n.branches) ∙ e)))
-        (λ k br e.
-        ⊎_elim
-        (λ (h : (k ≡ r.branch) × (br ≡ ans.next)). record { core = c; thread = t; runner = r; runs = runs_r; branch = sym h.0 })
-        (λ (h : (k ≢ r.branch) × (slice_get x.state.branches k ≡ Some br)). st.run k br h.1)
-        (get_set_cases x.state.branches r.branch k branch ans.next br known (ap (λ l. slice_get l k) (sym n.branches) ∙ e)))
+    pub clocks_still : map clock_of (slice_set w.machine.cores c b) ≡ y.clocks
+    clocks_still = map-set_same clock_of w.machine.cores c b a (effect.clock ∙ ap clock_of (sym (get_or_from_slice_get w.machine.cores c a a at_c))) ∙ st.clocks ∙ sym effect.clocks

@@ -1,94 +1,150 @@
 -- A tick is followed by the program's tick.
-use Rattle.std.proofs.Common.{◌≡◌, ℕ, ◌+◌, ◌≤◌, ◌≢◌, Bool, true, false, [], ◌∷◌, Option, Some, None, refl, ap, ◌∙◌, subst, arith}
-use Rattle.std.specs.Prelude.{nat_lt, slice_get, slice_set}
-use Rattle.std.proofs.lemmas.List.{map-set}
+use Rattle.std.proofs.Common.{◌≡◌, ℕ, ◌+◌, ◌≢◌, [], ◌∷◌, Option, Some, None, refl, ap, ◌∙◌, subst}
+use Rattle.std.specs.Prelude.{Bool, true, false, nat_lt, slice_get, slice_set}
+use Rattle.std.proofs.lemmas.List.{length-set, map-set}
 use Rattle.std.proofs.lemmas.Option.{same_Some}
 use Rattle.xs_instr.specs.declared.state.CoreState.{CoreState}
 use Rattle.xs_instr.specs.Machine.{Machine, Tick, and_then, tick_at, tick_by}
 use Rattle.xs_instr.specs.Slot.{last_clock, ticked}
-use Rattle.xc_meaning.specs.Counts.Families.{steps_of}
 use Rattle.xc_meaning.specs.Runs.{acts, acts_all}
 use Rattle.xc_meaning.specs.Settings.Time.{ticks}
 use Rattle.xc_meaning.specs.States.Worlds.{World, only_if, clock}
 use Rattle.xl_expr.proofs.Lists.{get_set_same, get_set_other}
+use Rattle.xl_par.specs.Hands.{Hand}
 use Rattle.xr_match.specs.Implements.{clock_of}
 use Rattle.xr_match.specs.Lives.{Watched, watched_after}
 use Rattle.xr_match.specs.Meanings.{of_kernel}
 use Rattle.xr_match.specs.Sources.{Told}
-use Rattle.xr_threads.specs.Images.{AreApart, Runners}
-use Rattle.xr_threads.specs.Runners.{Setting, Runner}
-use Rattle.xr_threads.specs.Scenes.{Kept}
-use Rattle.xr_threads.specs.Standing.{Standing, Stands}
-use Rattle.xr_threads.proofs.Standing.{Follows, clock_at, runner_still, stands_next, told_by}
+use Rattle.xr_threads.specs.Images.{IsImageOf}
+use Rattle.xr_threads.specs.Roles.{AreUsedSo, Roles, used_by}
+use Rattle.xr_threads.specs.Runners.{Setting, Runner, anyone, port_place}
+use Rattle.xr_threads.specs.Scenes.{Kept, SpareFor}
+use Rattle.xr_threads.specs.Standing.{AreLoose, Standing, none_rests}
+use Rattle.xr_threads.proofs.Moves.{kept_now, moves}
+use Rattle.xr_threads.proofs.Reserves.{reserves_behind}
+use Rattle.xr_threads.proofs.NamedLinks.{alike_linked, told_same}
+use Rattle.xr_threads.proofs.Standing.{Follows, clock_at, told_by}
 
-module _ (g : Setting) (who : Runners) (apart : AreApart g who) (w : Watched) (x : Told (of_kernel g.program)) (st : Standing g who w x) (c : ℕ) (a : CoreState) (at_c : slice_get w.machine.cores c ≡ Some a) where
+-- no machine is none
+pub no_machine : {A : Type 0} (m : Machine) → ◌≡◌ {A = Option Machine} None (Some m) → A
+no_machine m e = cc
+
+-- the clock alone has gone up
+spare_ticked : (hand : Option Hand) (a : CoreState) → SpareFor hand a → SpareFor hand (ticked a)
+spare_ticked None a h = tt
+spare_ticked (Some hand) a h = record { threads = h.threads; sync = h.sync; few_threads = h.few_threads; few_syncs = h.few_syncs; no_events = h.no_events; untied = h.untied }
+
+used_ticked : (who : Roles) (c : ℕ) (a : CoreState) → AreUsedSo who c a → AreUsedSo who c (ticked a)
+used_ticked who c a h = record { threads = h.threads; syncs = h.syncs; unused = h.unused; got = h.got; taken = h.taken; owned = h.owned }
+
+module _ (g : Setting) (first : Roles) (is : IsImageOf g first) (who : Roles) (w : Watched) (x : Told (of_kernel g.program)) (st : Standing g none_rests who w x) (c : ℕ) (a : CoreState) (at_c : slice_get w.machine.cores c ≡ Some a) where
   -- the program's state after the tick
   abbrev later : World
   later = record x.state { clocks = slice_set x.state.clocks c (a.clock + 1) }
 
-  -- and what its families have done then
-  abbrev more : ℕ → ℕ
-  more f = x.actions f + steps_of g.program g.stimulus f (Some x.state) (clock c ∷ [])
+  loose_later : (d : ℕ) (e b : CoreState) → b.words ≡ e.words → b.ports ≡ e.ports → AreLoose g who d e x.state → AreLoose g who d b later
+  loose_later d e b words ports h = record {
+    variables = λ v nobody want.
+        let k = h.variables v nobody want in
+        record { lengths = k.lengths; values = λ u n i y found near uses there. ap (λ l. slice_get l (0 + n + i)) words ∙ k.values u n i y found near uses there };
+    ports = λ p listed its nobody. let k = h.ports p listed its nobody in record { port = k.port; there = ap (λ l. slice_get l (port_place g (anyone d) p)) ports ∙ k.there; declared = k.declared };
+  }
 
-  -- no family has done less
-  not_less : (f : ℕ) → x.actions f ≤ more f
-  not_less f = omega arith
+  abbrev watched_ticked : Watched
+  watched_ticked = watched_after w (Tick c) (record w.machine { cores = slice_set w.machine.cores c (ticked a) })
 
-  -- a thread stands as before when its core's clock goes up
-  ticked_stands : (t : ℕ) (o : Option Runner) → who c t ≡ o → Stands g t a x.state (w.lives c t) x.actions o → Stands g t (ticked a) later (w.lives c t) more o
-  ticked_stands t None e h = h
-  ticked_stands t (Some r) e h =
-      let core = apart.core c t r e in
-      let kept : Kept g r (record { core = a; world = x.state }) (record { core = ticked a; world = later }) = record {
+  kept_here : (u : ℕ) (s : Runner) (hand : Option Hand) → who c u ≡ used_by s hand → Kept g s (record { core = a; world = x.state; hand = hand }) (record { core = ticked a; world = later; hand = hand })
+  kept_here u s hand runs =
+      let k = kept_now g first is none_rests who w x st c u a s hand at_c runs in
+      let core = st.roles.core c u s hand runs in
+      record {
         thread = refl;
-        words = λ k m. refl;
-        ports = λ p listed is. refl;
+        words = λ v m. refl;
+        ports = λ p listed its. refl;
         branch = refl;
-        store = λ v u. refl;
-        clock = ap (slice_get later.clocks) core ∙ get_set_same x.state.clocks c a.clock (a.clock + 1) (clock_at g who w x c a st at_c);
-      } in
-      runner_still g r t a (ticked a) x.state later (w.lives c t) x.actions more kept not_less h
+        parents = λ b m. refl;
+        store = λ v uses. refl;
+        clock = ap (slice_get later.clocks) core ∙ get_set_same x.state.clocks c a.clock (a.clock + 1) (clock_at g none_rests who w x c a st at_c);
+        hand = refl;
+        syncs = λ n owns. refl;
+        held = λ v m. refl;
+        tied = λ n v thread sync there tied. there;
+        spare = spare_ticked hand a k.spare;
+      }
 
-  -- and when another one's does
-  far_stands : (c' t : ℕ) (d : CoreState) → c' ≢ c → slice_get w.machine.cores c' ≡ Some d → (o : Option Runner) → who c' t ≡ o → Stands g t d x.state (w.lives c' t) x.actions o → Stands g t d later (w.lives c' t) more o
-  far_stands c' t d ne at_d None e h = h
-  far_stands c' t d ne at_d (Some r) e h =
-      let core = apart.core c' t r e in
-      let kept : Kept g r (record { core = d; world = x.state }) (record { core = d; world = later }) = record {
+  kept_far : (d u : ℕ) (e : CoreState) (s : Runner) (hand : Option Hand) → d ≢ c → slice_get w.machine.cores d ≡ Some e → who d u ≡ used_by s hand → Kept g s (record { core = e; world = x.state; hand = hand }) (record { core = e; world = later; hand = hand })
+  kept_far d u e s hand ne at runs =
+      let k = kept_now g first is none_rests who w x st d u e s hand at runs in
+      let core = st.roles.core d u s hand runs in
+      record {
         thread = refl;
-        words = λ k m. refl;
-        ports = λ p listed is. refl;
+        words = λ v m. refl;
+        ports = λ p listed its. refl;
         branch = refl;
-        store = λ v u. refl;
-        clock = ap (slice_get later.clocks) core ∙ get_set_other x.state.clocks c c' (a.clock + 1) ne ∙ clock_at g who w x c' d st at_d;
-      } in
-      runner_still g r t d d x.state later (w.lives c' t) x.actions more kept not_less h
+        parents = λ b m. refl;
+        store = λ v uses. refl;
+        clock = ap (slice_get later.clocks) core ∙ get_set_other x.state.clocks c d (a.clock + 1) ne ∙ clock_at g none_rests who w x d e st at;
+        hand = refl;
+        syncs = λ n owns. refl;
+        held = λ v m. refl;
+        tied = λ n v thread sync there tied. there;
+        spare = k.spare;
+      }
 
   -- where the clock is not at its last value the program can tick too
-  after_tick : nat_lt a.clock last_clock ≡ true → Follows g who x (watched_after w (Tick c) (record w.machine { cores = slice_set w.machine.cores c (ticked a) }))
+  after_tick : nat_lt a.clock last_clock ≡ true → Follows g none_rests who w x watched_ticked
   after_tick e =
-      let acted : acts g.program g.stimulus x.state (clock c) ≡ Some later = ap (λ o. and_then o (ticks x.state c)) (clock_at g who w x c a st at_c) ∙ ap (λ b. only_if b later) e in (
-        clock c ∷ [],
-        later,
-        ap (λ o. acts_all g.program g.stimulus o []) acted,
-        stands_next g who w x c a (ticked a) None w.lives (told_by g.program g.stimulus x (clock c ∷ []) later) st at_c (record {
-          clocks = map-set clock_of w.machine.cores c (ticked a) ∙ ap (λ l. slice_set l c (a.clock + 1)) st.clocks;
-          trace = st.trace;
-          here = λ t. ticked_stands t (who c t) refl (st.threads c t a at_c);
-          there = λ c' t d ne f. far_stands c' t d ne f (who c' t) refl (st.threads c' t d f);
-          idle = st.idle;
-          roots = st.roots c a at_c;
-          far_roots = λ c' ne. refl;
-          placed = st.placed;
-          run = st.run;
-        }),
-      )
+      let acted : acts g.program g.stimulus x.state (clock c) ≡ Some later = ap (λ o. and_then o (ticks x.state c)) (clock_at g none_rests who w x c a st at_c) ∙ ap (λ b. only_if b later) e in
+      let all_acted : acts_all g.program g.stimulus (Some x.state) (clock c ∷ []) ≡ Some later = ap (λ o. acts_all g.program g.stimulus o []) acted in
+      record {
+        who = who;
+        piece = clock c ∷ [];
+        world = later;
+        acted = all_acted;
+        standing = moves g none_rests none_rests who who w watched_ticked x c a (ticked a) (λ u. false) (clock c ∷ []) later st
+            (record {
+              was = at_c;
+              is = get_set_same w.machine.cores c a (ticked a) at_c;
+              others = λ d ne. get_set_other w.machine.cores c d (ticked a) ne;
+              as_many = length-set w.machine.cores c (ticked a);
+              links = refl;
+              size = refl;
+            })
+            (record {
+              acted = all_acted;
+              clocks = map-set clock_of w.machine.cores c (ticked a) ∙ ap (λ l. slice_set l c (a.clock + 1)) st.clocks;
+              trace = st.trace;
+              roles = st.roles;
+              reserves = reserves_behind g who x.state st.lawful st.reserves (clock c ∷ []) later all_acted;
+              used = used_ticked who c a (st.used c a at_c);
+              same_role = λ u m. refl;
+              far_role = λ d u ne. refl;
+              rests = λ u m none. none;
+              far_rests = λ d u ne none. none;
+              steps = λ u m. refl;
+              far_steps = λ d u ne. refl;
+              stand = λ u m. absurd (false_true m);
+              kept = λ u s hand m runs. kept_here u s hand runs;
+              far_kept = λ d u e s hand ne at runs. kept_far d u e s hand ne at runs;
+              loose = λ some. loose_later c a (ticked a) refl refl (st.loose c a at_c some);
+              far_loose = λ d e ne at loose. loose_later d e e refl refl loose;
+              roots = st.roots c a at_c;
+              far_roots = λ d ne. refl;
+              placed = st.placed;
+              run = st.run;
+              made = λ n branch there goes_on. st.made n branch there goes_on;
+            });
+        named = λ names. alike_linked g none_rests who w x st names watched_ticked (told_by g.program g.stimulus x (clock c ∷ []) later) (told_same g x (clock c ∷ []) later refl) (λ d u. refl);
+      }
+    where
+      false_true : false ≡ true → ⊥
+      false_true f = cc
 
   -- the same, by whether it is
-  tick_by_followed : (below : Bool) → nat_lt a.clock last_clock ≡ below → (m : Machine) → tick_by w.machine c a below ≡ Some m → Follows g who x (watched_after w (Tick c) m)
-  tick_by_followed true e m h = subst (λ n. Follows g who x (watched_after w (Tick c) n)) (same_Some _ m h) (after_tick e)
-  tick_by_followed false e m h = cc
+  tick_by_followed : (below : Bool) → nat_lt a.clock last_clock ≡ below → (m : Machine) → tick_by w.machine c a below ≡ Some m → Follows g none_rests who w x (watched_after w (Tick c) m)
+  tick_by_followed true e m h = subst (λ n. Follows g none_rests who w x (watched_after w (Tick c) n)) (same_Some _ m h) (after_tick e)
+  tick_by_followed false e m h = no_machine m h
 
   -- where the tick is an event, the program follows
-  pub tick_followed : (m : Machine) → tick_at w.machine c (Some a) ≡ Some m → Follows g who x (watched_after w (Tick c) m)
+  pub tick_followed : (m : Machine) → tick_at w.machine c (Some a) ≡ Some m → Follows g none_rests who w x (watched_after w (Tick c) m)
   tick_followed m h = tick_by_followed (nat_lt a.clock last_clock) refl m h

@@ -4,7 +4,6 @@ use Rattle.std.specs.Prelude.{◌/◌, ◌%◌, slice_get, slice_set, length, na
 use Rattle.std.proofs.lemmas.Bool.{cases_eq}
 use Rattle.std.proofs.lemmas.List.{length-set, length-map, get_or-set_other, get_or-set_same}
 use Rattle.std.proofs.lemmas.Option.{slice_get-map, slice_get-get_or, slice_get_within, same_Some}
-use Rattle.xs_instr.specs.declared.instr.Reg.TheVariants.{Dp, Sp}
 use Rattle.xs_instr.specs.declared.state.CoreState.{CoreState}
 use Rattle.xs_instr.specs.declared.state.Regs.{Regs}
 use Rattle.xs_instr.specs.Memory.{address_at, word_at, word_by, word_put}
@@ -22,14 +21,15 @@ use Rattle.xl_expr.proofs.Lists.{get_set_same, get_set_other}
 use Rattle.xl_flow.specs.Zeros.{IsOutside, StandsFrom, WordsStand, WritesLast, words_set}
 use Rattle.xl_walk.specs.Pieces.{Exit}
 use Rattle.xr_threads.specs.Fits.{IsChanged, ItemsFit}
+use Rattle.xr_threads.specs.Parents.{syncs_of}
 use Rattle.xr_threads.specs.Runners.{Setting, Runner, IsLaidOut, MayChange, of_variable, home, plan, relied}
 use Rattle.xr_threads.specs.Scenes.{Scene, running}
-use Rattle.xr_threads.specs.Settled.{with_items}
 use Rattle.xr_threads.specs.Turns as turn
 use Rattle.xr_threads.specs.Turns.{Goes, Has, HasBases, HoldsStore, ItemsFrom, Runs, StatementLeads, Turns, cost}
-use Rattle.xr_threads.proofs.Arriving.{Since, any_port, arrives, core_kept, since_kept}
-use Rattle.xr_threads.proofs.Evaluations.{item_acts, runs_with}
-use Rattle.xr_threads.proofs.Layouts.{ports_last, runs_at, runs_kept, stack_relied, variable_relied}
+use Rattle.xr_threads.proofs.Arriving.{Since, any_port, arrives, at_runs, core_kept, since_kept, stack_relied}
+use Rattle.xr_threads.proofs.Bases.{bases_worked}
+use Rattle.xr_threads.proofs.Evaluations.{item_acts, runs_with, with_items}
+use Rattle.xr_threads.proofs.Layouts.{ports_last, runs_at, runs_kept, variable_relied}
 use Rattle.xr_threads.proofs.Scenes.{leads_as, leads_more}
 
 -- where word i of a variable stands that begins at word d + n
@@ -197,7 +197,7 @@ module _ (g : Setting) (r : Runner) (v : ℕ) (laid : IsLaidOut g r) (is : IsCha
       zero_holds : Holds (plan g r).vars r.footprint.uses r.base zero_words zero_store
       zero_holds = record { lengths = lengths; values = values }
 
-    module _ (exits : List Exit) (j : ℕ) (pc' : ℕ) (regs : Regs) (bases : HasBases g r regs) (behind : ItemsFrom g r rest exits pc' j) (fits : ItemsFit g r rest) (has : Has g r (does (kernel.set_zero v) ∷ rest) z) where
+    module _ (exits : List Exit) (j : ℕ) (pc' : ℕ) (regs : Regs) (bases : HasBases g r regs) (no_hand : z.hand ≡ None) (behind : ItemsFrom g r rest exits pc' j) (fits : ItemsFit g r rest) (has : Has g r (does (kernel.set_zero v) ∷ rest) z) where
       -- the last store is the branch's step
       last_goes : (tie_pc : ℕ) (x : Scene) → Since g r (IsOutside base (k + 1)) any_port z x → WritesLast (home g r) (relied g r) r.thread (running r.tie tie_pc regs) z.core.words base k pc' x.core → Goes g r j x
       last_goes tie_pc x since w =
@@ -208,7 +208,7 @@ module _ (g : Setting) (r : Runner) (v : ℕ) (laid : IsLaidOut g r) (is : IsCha
           let words = word_put x.core.words (address_at base k) 0 in
           let left : CoreState = record x.core { threads = slice_set x.core.threads r.thread new; words = words } in
           let world = with_zeros (with_items x.world r.branch branch rest) v in
-          let y : Scene = record { core = left; world = world } in
+          let y : Scene = record { core = left; world = world; hand = None } in
           let next = runs_with x.world r.branch branch (does (kernel.set_zero v) ∷ rest) rest runs in
           record {
             left = left;
@@ -216,11 +216,15 @@ module _ (g : Setting) (r : Runner) (v : ℕ) (laid : IsLaidOut g r) (is : IsCha
             made_is = w.made;
             touched = record {
               clock = refl;
-              others = λ u ne. get_set_other x.core.threads r.thread u new ne;
+              others = λ u ne not_held. get_set_other x.core.threads r.thread u new ne;
+              as_many = length-set x.core.threads r.thread new;
               words = λ n not_mine. get_set_other x.core.words (address_at base k / 4) n 0 (λ e. safe (k + 1) is_k n not_mine k (omega arith) e);
+              size = length-set x.core.words (address_at base k / 4) 0;
               ports = λ q n. refl;
             };
             roots = refl;
+            syncs = refl;
+            no_hand = since.hand ∙ no_hand;
             items = rest;
             acts = record {
               branch = branch;
@@ -244,7 +248,7 @@ module _ (g : Setting) (r : Runner) (v : ℕ) (laid : IsLaidOut g r) (is : IsCha
               regs = w.regs;
               exits = exits;
               here = get_set_same x.core.threads r.thread old new w.here;
-              bases = record { base = w.others Dp refl ∙ bases.base; stack = w.others Sp refl ∙ bases.stack };
+              bases = bases_worked g r (syncs_of r.parents) regs w.regs w.others bases;
               at_code = behind;
               fits = fits;
               has = record {
@@ -263,11 +267,11 @@ module _ (g : Setting) (r : Runner) (v : ℕ) (laid : IsLaidOut g r) (is : IsCha
 -- From the code that sets a variable's words to 0 the thread comes to the last store.
 module _ (g : Setting) (r : Runner) where
   pub zero_leads : (v : ℕ) → StatementLeads g r (kernel.set_zero v)
-  zero_leads v rest exits pc pc' j z regs laid code (is, counted) behind fits has here bases =
+  zero_leads v rest exits pc pc' j z regs laid code (is, counted) behind fits has here bases no_hand =
       leads_more g r (Turns g r j) (2 * (k + 1) + 1) (cost g r) z few
       (leads_as g r (λ y. AtLast y.core × Since g r (IsOutside (base g r v laid is) (k + 1)) any_port z y) (Turns g r j) (2 * (k + 1) + 1) z
-      (λ y h x kept. turn.goes_on (last_goes g r v laid is rest z k is_k exits j pc' regs bases behind fits has pc x (since_kept g r (IsOutside (base g r v laid is) (k + 1)) any_port h.1 kept) (h.0 x.core (core_kept g r kept))))
-      (arrives g r (IsOutside (base g r v laid is) (k + 1)) (safe g r v laid is (k + 1) is_k) AtLast (2 * (k + 1) + 1) z way))
+      (λ y h x kept. turn.goes_on (last_goes g r v laid is rest z k is_k exits j pc' regs bases no_hand behind fits has pc x (since_kept g r (IsOutside (base g r v laid is) (k + 1)) any_port h.1 kept) (h.0 x.core (core_kept g r kept))))
+      (arrives g r (IsOutside (base g r v laid is) (k + 1)) (safe g r v laid is (k + 1) is_k) AtLast (2 * (k + 1) + 1) z (at_runs g r z pc regs here) way))
     where
       k : ℕ
       k = is.found.words - 1

@@ -12,7 +12,7 @@ use Rattle.xl_expr.specs.declared.plan.VarPlan.{VarPlan}
 use Rattle.xl_expr.specs.Frames.{HasVars, HasPlace, variable_of}
 use Rattle.xl_expr.specs.Plans.{var_in}
 use Rattle.xl_image.specs.Images.{dir_of}
-use Rattle.xr_threads.specs.Runners.{Setting, Runner, IsPort, plan}
+use Rattle.xr_threads.specs.Runners.{Setting, Runner, IsPort, anyone, plan}
 
 module _ (g : Setting) (r : Runner) where
   -- no statement of the program counts more
@@ -68,11 +68,16 @@ module _ (g : Setting) (r : Runner) where
     Fits (kernel.if_then x a b) = Uses x × AllFit a × AllFit b × IsCounted (kernel.if_then x a b)
     Fits (kernel.loop x a b) = Uses x × AllFit a × AllFit b × IsCounted (kernel.loop x a b)
     Fits (kernel.block n a) = AllFit a
+    Fits (kernel.par bs) = BranchesFit bs × IsCounted (kernel.par bs)
     Fits other = Unit {0}
 
     pub AllFit : kernel.Statements → Type 0
     AllFit kernel.no_more = Unit {0}
     AllFit (kernel.more s ss) = Fits s × AllFit ss
+
+    pub BranchesFit : kernel.Branches → Type 0
+    BranchesFit kernel.no_branch = Unit {0}
+    BranchesFit (kernel.more_branches (kernel.branch ss pos) bs) = AllFit ss × BranchesFit bs
 
   abbrev pub ItemFits : Item → Type 0
   ItemFits (does s) = Fits s
@@ -81,3 +86,7 @@ module _ (g : Setting) (r : Runner) where
   abbrev pub ItemsFit : List Item → Type 0
   ItemsFit [] = Unit {0}
   ItemsFit (i ∷ items) = ItemFits i × ItemsFit items
+
+-- the same of a core, whoever runs them
+abbrev pub FitOn : Setting → (core : ℕ) → List Item → Type 0
+FitOn g core items = ItemsFit g (anyone core) items

@@ -1,7 +1,11 @@
+pub mod Parents
+pub mod Items
 pub mod Runners
 pub mod Fits
 pub mod Scenes
 pub mod Turns
-pub mod Images
-pub mod Settled
+pub mod Roles
 pub mod Standing
+pub mod Settled
+pub mod Images
+pub mod Living

@@ -1,5 +1,5 @@
--- What is fixed for a whole run: the program, its image, and the plan of each core; and which thread runs which branch.
-use Rattle.std.specs.Prelude.{◌≡◌, ℕ, zero, suc, ◌+◌, ◌<◌, ◌≤◌, Bool, true, false, ◌&&◌, ◌||◌, List, length, Option, Some, None, nat_le, nat_lt, slice_get}
+-- What is fixed for a whole run: the program, its image, and the plan of each core; and how a thread runs a branch.
+use Rattle.std.specs.Prelude.{◌≡◌, ℕ, zero, suc, ◌+◌, ◌<◌, ◌≤◌, Bool, true, false, ◌&&◌, ◌||◌, List, [], length, Option, Some, None, nat_le, nat_lt, slice_get}
 use Rattle.xs_instr.specs.declared.image.Code.{Code}
 use Rattle.xs_instr.specs.declared.image.Home.{Home}
 use Rattle.xs_instr.specs.declared.image.Image.{Image}
@@ -17,6 +17,10 @@ use Rattle.xl_expr.specs.declared.plan.VarPlan.{VarPlan}
 use Rattle.xl_expr.specs.Frames.{Frame, IsNear}
 use Rattle.xl_expr.specs.Plans.{resource_at, var_in}
 use Rattle.xl_plan.specs.Layout.{port_name, port_number}
+use Rattle.xc_kernel.specs.Things.{variable, change, port}
+use Rattle.xc_meaning.specs.States.Items.{Item}
+use Rattle.xc_meaning.specs.Uses.{by_items}
+use Rattle.xr_threads.specs.Parents.{Parent}
 
 -- a program, its image, a stimulus, and the plan of each core
 pub record Setting : Type 0 where
@@ -25,13 +29,26 @@ pub record Setting : Type 0 where
   pub stimulus : Stim
   pub plans : (core : ℕ) → Plan
 
--- what a branch may use and change, from its birth on: variables and ports of the kernel by number
+-- what a branch may use and change for what is left to it: variables and ports of the kernel by number
 pub record Footprint : Type 0 where
   pub uses : (variable : ℕ) → Bool
   pub changes : (variable : ℕ) → Bool
   pub ports : (port : ℕ) → Bool
 
+-- what some items use and change
+abbrev pub footprint_of : List Item → Footprint
+footprint_of items = record {
+  uses = λ v. by_items (variable v) items;
+  changes = λ v. by_items (change v) items;
+  ports = λ p. by_items (port p) items;
+}
+
+-- all that there is
+abbrev pub everything : Footprint
+everything = record { uses = λ v. true; changes = λ v. true; ports = λ p. true }
+
 -- A hardware thread that runs a branch: dp names word `base`, and its temporary words begin at word `stack`. Its steps count for a family.
+-- Other branches may wait for that one, the innermost first.
 pub record Runner : Type 0 where
   pub core : ℕ
   pub thread : ℕ
@@ -41,6 +58,25 @@ pub record Runner : Type 0 where
   pub base : ℕ
   pub stack : ℕ
   pub footprint : Footprint
+  pub parents : List Parent
+
+-- some thread of a core, with all variables and ports
+abbrev pub anyone : (core : ℕ) → Runner
+anyone core = record {
+  core = core;
+  thread = 0;
+  tie = None;
+  branch = 0;
+  family = 0;
+  base = 0;
+  stack = 0;
+  footprint = everything;
+  parents = [];
+}
+
+-- the runner with what some items use and change
+abbrev pub shrunk : Runner → List Item → Runner
+shrunk r items = record r { footprint = footprint_of items }
 
 -- a word among so many from one on
 abbrev pub is_among_words : (first words w : ℕ) → Bool

@@ -1,49 +1,108 @@
 -- A thread on its way, by steps that nobody sees, whatever the others do in between.
-use Rattle.std.specs.Prelude.{◌≡◌, ◌≢◌, ◌⊎◌, ℕ, zero, suc, true, Option, Some, false, slice_get}
+use Rattle.std.specs.Prelude.{◌≡◌, ◌≢◌, ◌⊎◌, ℕ, zero, suc, ◌≤◌, true, List, [], Option, Some, None, false, length, slice_get, slice_set}
 use Rattle.xs_instr.specs.declared.state.CoreState.{CoreState}
 use Rattle.xs_instr.specs.declared.state.Mode.TheVariants.{Running}
 use Rattle.xs_instr.specs.declared.state.Regs.{Regs}
 use Rattle.xs_instr.specs.declared.state.Thread.{Thread}
 use Rattle.xs_instr.specs.Did.{makes}
+use Rattle.xs_instr.specs.Pool.{first_free, is_tied, threads_taken, tied_to}
 use Rattle.xs_instr.specs.Slot.{slot}
 use Rattle.xc_kernel.specs.declared.kernel.PortUse.{PortUse}
 use Rattle.xc_kernel.specs.Eval.{words_of}
 use Rattle.xc_meaning.specs.States.Worlds.{World}
+use Rattle.xl_par.specs.Hands.{Hand, HasSpare, IsAmong, with_sync, with_thread_got}
+use Rattle.xr_threads.specs.Parents.{branches_of, syncs_of}
 use Rattle.xr_threads.specs.Runners.{Setting, Runner, IsPort, MayChange, home, port_place, relied}
 
--- a runner's core and the program's state at one moment
+-- a runner's core and the program's state at one moment, and what the runner has got for a `par` that it opens, or has still to give back
 pub record Scene : Type 0 where
   pub core : CoreState
   pub world : World
+  pub hand : Option Hand
+
+-- a synchroniser that is still to be given back
+abbrev pub giving_back : (n : ℕ) → Option Hand
+giving_back n = Some (record { sync = Some n; threads = []; lacks = 0 })
+
+abbrev pub held_in : Option Hand → List ℕ
+held_in None = []
+held_in (Some hand) = hand.threads
+
+abbrev pub sync_in : Option Hand → Option ℕ
+sync_in None = None
+sync_in (Some hand) = hand.sync
+
+abbrev pub SpareFor : Option Hand → CoreState → Type 0
+SpareFor None core = Unit {0}
+SpareFor (Some hand) core = HasSpare hand core
 
 -- a thread that runs and takes no events
 abbrev pub running : Option ℕ → ℕ → Regs → Thread
 running tie pc regs = record { mode = Running; pc = pc; regs = regs; event_bit = false; tie = tie }
 
+-- a synchroniser is one of the runner's: of a branch that waits, or in its hand
+abbrev pub Owns : Runner → Option Hand → (n : ℕ) → Type 0
+Owns r hand n = IsAmong (syncs_of r.parents) n ⊎ (sync_in hand ≡ Some n)
+
 module _ (g : Setting) (r : Runner) where
-  -- the rely: what others leave of all that the runner stands on
+  -- the rely: what others leave of all that the runner stands on, and that what it lacks for a `par` is there
   pub record Kept (z y : Scene) : Type 0 where
     pub thread : slice_get y.core.threads r.thread ≡ slice_get z.core.threads r.thread
     pub words : (w : ℕ) → relied g r w ≡ true → slice_get y.core.words w ≡ slice_get z.core.words w
     pub ports : (p : ℕ) (listed : PortUse) → IsPort g r p listed →
         slice_get y.core.ports (port_place g r p) ≡ slice_get z.core.ports (port_place g r p)
     pub branch : slice_get y.world.branches r.branch ≡ slice_get z.world.branches r.branch
+    pub parents : (b : ℕ) → IsAmong (branches_of r.parents) b → slice_get y.world.branches b ≡ slice_get z.world.branches b
     pub store : (v : ℕ) → r.footprint.uses v ≡ true → words_of y.world.store v ≡ words_of z.world.store v
     pub clock : slice_get y.world.clocks r.core ≡ Some y.core.clock
+    pub hand : y.hand ≡ z.hand
+    pub syncs : (n : ℕ) → Owns r z.hand n → slice_get y.core.syncs n ≡ slice_get z.core.syncs n
+    pub held : (u : ℕ) → IsAmong (held_in z.hand) u → slice_get y.core.threads u ≡ slice_get z.core.threads u
+    pub tied : (n u : ℕ) (x : Thread) → sync_in z.hand ≡ Some n → slice_get y.core.threads u ≡ Some x → is_tied x n ≡ true →
+        slice_get z.core.threads u ≡ Some x
+    pub spare : SpareFor z.hand y.core
 
   -- the guarantee: what a step of the runner leaves as it is
-  pub record Touched (a b : CoreState) : Type 0 where
-    pub clock : b.clock ≡ a.clock
-    pub others : (u : ℕ) → u ≢ r.thread → slice_get b.threads u ≡ slice_get a.threads u
-    pub words : (w : ℕ) → (MayChange g r w → ⊥) → slice_get b.words w ≡ slice_get a.words w
+  pub record Touched (y z : Scene) : Type 0 where
+    pub clock : z.core.clock ≡ y.core.clock
+    pub others : (u : ℕ) → u ≢ r.thread → (IsAmong (held_in z.hand) u → ⊥) → slice_get z.core.threads u ≡ slice_get y.core.threads u
+    pub as_many : length z.core.threads ≡ length y.core.threads
+    pub words : (w : ℕ) → (MayChange g r w → ⊥) → slice_get z.core.words w ≡ slice_get y.core.words w
+    pub size : length z.core.words ≡ length y.core.words
     pub ports : (q : ℕ) → ((p : ℕ) (listed : PortUse) → IsPort g r p listed → q ≢ port_place g r p) →
-        slice_get b.ports q ≡ slice_get a.ports q
+        slice_get z.core.ports q ≡ slice_get y.core.ports q
 
-  -- a step that writes nothing down, sends nothing and ends no root
-  pub record IsSilentStep (a b : CoreState) : Type 0 where
-    pub made : slot (home g r) a r.thread ≡ makes b
-    pub roots : b.roots ≡ a.roots
-    pub touched : Touched a b
+  -- the other threads are what they were, and tied as before
+  pub record SameUse (y z : Scene) : Type 0 where
+    pub by : (u : ℕ) (x : Thread) → u ≢ r.thread → slice_get y.core.threads u ≡ Some x →
+        (x' : Thread) × (slice_get z.core.threads u ≡ Some x') × (x'.mode ≡ x.mode) × (x'.tie ≡ x.tie) × (x'.event_bit ≡ x.event_bit)
+
+  -- what a step makes of the runner's hand
+  pub data HandChange (y z : Scene) : Type 0 where
+    keeps : z.hand ≡ y.hand → z.core.syncs ≡ y.core.syncs → SameUse y z → HandChange y z
+    gets_sync : (hand : Hand) (n : ℕ) → y.hand ≡ Some hand → hand.sync ≡ None → slice_get y.core.syncs n ≡ Some false →
+        z.core.syncs ≡ slice_set y.core.syncs n true → z.hand ≡ Some (with_sync hand n) → SameUse y z → HandChange y z
+    gets_thread : (hand : Hand) (n u : ℕ) (x : Thread) → y.hand ≡ Some hand → hand.sync ≡ Some n → 1 ≤ hand.lacks →
+        first_free (threads_taken y.core.threads) 0 ≡ Some u → slice_get y.core.threads u ≡ Some x → z.core.syncs ≡ y.core.syncs →
+        z.hand ≡ Some (with_thread_got hand u) → slice_get z.core.threads u ≡ Some (tied_to n x) →
+        ((v : ℕ) → v ≢ r.thread → v ≢ u → slice_get z.core.threads v ≡ slice_get y.core.threads v) → HandChange y z
+
+  -- the runner's thread runs
+  pub record StillRuns (a : CoreState) : Type 0 where
+    pub thread : Thread
+    pub there : slice_get a.threads r.thread ≡ Some thread
+    pub runs : thread.mode ≡ Running
+    pub tied : thread.tie ≡ r.tie
+    pub no_events : thread.event_bit ≡ false
+
+  -- a step that writes nothing down, sends nothing and ends no root; the program does nothing
+  pub record IsSilentStep (y z : Scene) : Type 0 where
+    pub made : slot (home g r) y.core r.thread ≡ makes z.core
+    pub world : z.world ≡ y.world
+    pub roots : z.core.roots ≡ y.core.roots
+    pub touched : Touched y z
+    pub hand : HandChange y z
+    pub on : StillRuns z.core
 
   abbrev pub after : Scene → CoreState → Scene
   after z b = record z { core = b }
@@ -52,7 +111,7 @@ module _ (g : Setting) (r : Runner) where
   abbrev pub LeadsIn : (Q : Scene → Type 0) → ℕ → Scene → Type 0
   LeadsIn Q zero z = Q z
   LeadsIn Q (suc n) z =
-      Q z ⊎ ((y : Scene) → Kept z y → (b : CoreState) × IsSilentStep y.core b × LeadsIn Q n (after y b))
+      Q z ⊎ ((y : Scene) → Kept z y → (x : Scene) × IsSilentStep y x × LeadsIn Q n x)
 
   -- what others do leaves it so
   abbrev pub IsStable : (Scene → Type 0) → Type 0

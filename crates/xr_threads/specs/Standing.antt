@@ -1,93 +1,178 @@
 -- What stands between the machine and the program at each moment: each thread is on its way to what its branch does next.
-use Rattle.std.specs.Prelude.{◌≡◌, ℕ, ◌+◌, ◌*◌, ◌<◌, ◌≤◌, List, map, length, Option, Some, None, slice_get, slice_set}
+use Rattle.std.specs.Prelude.{◌≡◌, ◌⊎◌, ℕ, ◌+◌, ◌*◌, ◌<◌, ◌≤◌, Bool, true, false, not, ◌&&◌, List, [], ◌∷◌, map, length, Option, Some, None, nat_eq, slice_get}
 use Rattle.xs_instr.specs.declared.state.CoreState.{CoreState}
-use Rattle.xs_instr.specs.declared.state.Mode.TheVariants.{Trapped}
+use Rattle.xs_instr.specs.declared.state.Mode.{Mode as ThreadMode}
+use Rattle.xs_instr.specs.declared.state.Mode.TheVariants.{Running, Trapped, Waiting}
 use Rattle.xs_instr.specs.declared.state.Thread.{Thread}
-use Rattle.xs_instr.specs.declared.trace.Record.{Record}
-use Rattle.xs_instr.specs.Machine.{Machine, no_links, noted, stepped}
-use Rattle.xs_instr.specs.Slot.{slot}
-use Rattle.xc_meaning.specs.Counts.Families.{steps_of}
+use Rattle.xs_instr.specs.Machine.{no_links, parts_in}
+use Rattle.xc_kernel.specs.declared.kernel.PortUse.{PortUse}
+use Rattle.xc_kernel.specs.Things.{variable}
 use Rattle.xc_meaning.specs.Counts.KernelCounts.{kernel_bound}
-use Rattle.xc_meaning.specs.Runs.{acts_all}
-use Rattle.xc_meaning.specs.States.Branches.{Branch, Mode, runs, waits, ended, erred}
-use Rattle.xc_meaning.specs.States.Worlds.{World, Action}
+use Rattle.xc_meaning.specs.States.Branches.{Birth, Branch, Mode, has_ended, runs, waits, ended, erred}
+use Rattle.xc_meaning.specs.States.Items.{Item}
+use Rattle.xc_meaning.specs.States.Worlds.{World}
+use Rattle.xc_meaning.specs.Uses.{by_items}
+use Rattle.xl_expr.specs.Frames.{Holds}
+use Rattle.xl_par.specs.Hands.{Hand, IsAmong}
+use Rattle.xc_disjoint.specs.Needs.{threads_on}
+use Rattle.xc_laws.specs.Lawful.{Lawful}
+use Rattle.xc_laws.specs.Tree.{IsChild}
 use Rattle.xr_match.specs.Implements.{clock_of}
-use Rattle.xr_match.specs.Lives.{Life, Watched, of_root}
+use Rattle.xr_match.specs.Lives.{Life, Watched}
 use Rattle.xr_match.specs.Meanings.{of_kernel}
 use Rattle.xr_match.specs.Sources.{Told}
 use Rattle.xr_match.specs.Systems.{SomeIs}
-use Rattle.xr_threads.specs.Images.{IsRun, Runners, counts, living_on}
-use Rattle.xr_threads.specs.Runners.{Setting, Runner, home}
-use Rattle.xr_threads.specs.Scenes.{Scene, Touched}
-use Rattle.xr_threads.specs.Turns.{IsNext, IsUnused, Leads, cost}
+use Rattle.xr_threads.specs.Parents.{Parent}
+use Rattle.xr_threads.specs.Roles.{AreRoles, AreUsedSo, HandFits, HasReserves, IsParent, ParentsWait, Role, Roles, got_by, own_branches, unused, used_by}
+use Rattle.xr_threads.specs.Runners.{Setting, Runner, IsPort, anyone, footprint_of}
+use Rattle.xr_threads.specs.Scenes.{Scene}
+use Rattle.xr_threads.specs.Turns.{GivesBack, IsJoining, Leads, PortIs, Rest, cost}
 
--- there is no thread, or one that was trapped
-abbrev pub IsStopped : Option Thread → Type 0
-IsStopped None = Unit {0}
-IsStopped (Some thread) = thread.mode ≡ Trapped
+-- one variable alone
+abbrev pub only : ℕ → ℕ → Bool
+only v w = nat_eq v w
+
+-- how a branch's thread is, by how the branch is: one that has ended waits where it is tied, or goes on where another waits for it
+abbrev pub ThreadIs : List Parent → Mode → ThreadMode → Type 0
+ThreadIs ps runs mode = mode ≡ Running
+ThreadIs ps (waits from count) mode = ⊥
+ThreadIs [] ended mode = mode ≡ Waiting
+ThreadIs (p ∷ ps) ended mode = mode ≡ Running
+ThreadIs ps erred mode = mode ≡ Trapped
 
 module _ (g : Setting) (r : Runner) where
   -- The first item's own instruction is reached soon, and then few jumps are still to be done; `most` bounds both together.
   abbrev pub IsOnItsWay : (most : ℕ) → Scene → Type 0
   IsOnItsWay most z = (n : ℕ) × (j : ℕ) × (n + j ≤ most) × Leads g r n j z
 
-  -- what a thread does, by how its branch is, with so many steps left to it before the branch's next one
-  abbrev pub StandsBy : Mode → (left : ℕ) → Scene → Type 0
-  StandsBy runs left z = IsOnItsWay left z
-  StandsBy (waits from count) left z = ⊥
-  StandsBy ended left z = IsUnused (slice_get z.core.threads r.thread)
-  StandsBy erred left z = IsStopped (slice_get z.core.threads r.thread)
+  -- a synchroniser is given back next, and then the code of items follows
+  abbrev pub IsResuming : List Item → (most : ℕ) → Scene → Type 0
+  IsResuming items most z = (j : ℕ) × (1 + j + cost g r ≤ most) × GivesBack g r items j z
 
-  -- The thread's turn is a step, and a piece of the program's run answers it: behind it the thread stands by its branch again.
-  pub record Answer (j : ℕ) (y : Scene) : Type 0 where
-    pub left : CoreState
-    pub made : Option Record
-    pub turned : (m : Machine) → stepped (home g r) m r.core r.thread y.core (slot (home g r) y.core r.thread)
-        ≡ Some (record { cores = slice_set m.cores r.core left; links = m.links; trace = noted m.trace made })
-    pub touched : Touched g r y.core left
-    pub branch : Branch
-    pub known : slice_get y.world.branches r.branch ≡ Some branch
-    pub piece : List Action
-    pub world : World
-    pub acted : acts_all g.program g.stimulus (Some y.world) piece ≡ Some world
-    pub next : Branch
-    pub is_next : IsNext g r y.world world next made
-    pub core : next.core ≡ r.core
-    pub family : next.family ≡ branch.family
-    -- the family has done something
-    pub counted : 1 ≤ steps_of g.program g.stimulus branch.family (Some y.world) piece
-    -- a root ends where the branch does
-    pub roots : left.roots + counts r.core branch.core branch.mode ≡ y.core.roots + counts r.core next.core next.mode
-    pub further : ℕ
-    pub few : further ≤ j + 1 + cost g r
-    pub stands : StandsBy next.mode further (record { core = left; world = world })
+  -- the thread is at the code of items, of which some may be done without an instruction
+  abbrev pub IsAtRest : List Item → (most : ℕ) → Scene → Type 0
+  IsAtRest items most z = (j : ℕ) × (j + cost g r ≤ most) × (z.hand ≡ None) × Rest g r items j z
 
-  -- The thread runs this branch, in a life of the root that the thread is for. The steps that the life has done, with those that are left to
-  -- it before the branch's next one, are within the bound.
-  pub record Stand (a : CoreState) (x : World) (life : Life) (actions : (family : ℕ) → ℕ) (branch : Branch) : Type 0 where
+  -- where the branch has ended, and others wait for it
+  abbrev pub HasEnded : List Parent → (left : ℕ) → Scene → Type 0
+  HasEnded [] left z = z.hand ≡ None
+  HasEnded (p ∷ ps) left z = IsJoining g r p ps left z
+
+  abbrev pub IfTrue : Bool → Type 0 → Type 0
+  IfTrue true A = A
+  IfTrue false A = ⊥
+
+  -- what a thread does, by how its branch is, with so many steps left to it before the branch's next one; it may stand at rest, or not
+  abbrev pub StandsBy : (may_rest : Bool) → List Item → Mode → (left : ℕ) → Scene → Type 0
+  StandsBy may_rest items runs left z = IsOnItsWay left z ⊎ (IsResuming items left z ⊎ IfTrue may_rest (IsAtRest items left z))
+  StandsBy may_rest items (waits from count) left z = ⊥
+  StandsBy may_rest items ended left z = HasEnded r.parents left z
+  StandsBy may_rest items erred left z = z.hand ≡ None
+
+  -- the thread that runs the branch
+  pub record HasThread (mode : Mode) (a : CoreState) : Type 0 where
+    pub thread : Thread
+    pub there : slice_get a.threads r.thread ≡ Some thread
+    pub tied : thread.tie ≡ r.tie
+    pub no_events : thread.event_bit ≡ false
+    pub is : ThreadIs r.parents mode thread.mode
+
+  -- The thread runs this branch, in a life whose steps, with those that are left to it before the branch's next one, are within the bound.
+  pub record Stand
+      (may_rest : Bool) (hand : Option Hand) (a : CoreState) (x : World) (life : Life) (actions : (family : ℕ) → ℕ)
+      (branch : Branch) : Type 0 where
     pub core : branch.core ≡ r.core
     pub family : branch.family ≡ r.family
-    pub named : life.family ≡ Some (of_root r.core r.thread)
+    pub footprint : r.footprint ≡ footprint_of branch.items
+    pub parents : ParentsWait g x r.core r.family r.parents r.branch
+    pub thread : HasThread branch.mode a
+    pub in_hand : HandFits branch.items hand
+    pub ends_tied : branch.mode ≡ ended → r.parents ≡ [] → (n : ℕ) × (r.tie ≡ Some n)
     pub left : ℕ
     pub bound : life.steps + left ≤ kernel_bound g.program * (actions r.family + 1)
-    pub by : StandsBy branch.mode left (record { core = a; world = x })
+    pub by : StandsBy may_rest branch.items branch.mode left (record { core = a; world = x; hand = hand })
 
--- what thread t of a core does: it is unused, or it runs a branch
-abbrev pub Stands : Setting → (t : ℕ) → CoreState → World → Life → (actions : ℕ → ℕ) → Option Runner → Type 0
-Stands g t a x life actions None = IsUnused (slice_get a.threads t)
-Stands g t a x life actions (Some r) = SomeIs (slice_get x.branches r.branch) (Stand g r a x life actions)
+-- what thread t of a core does: where it runs a branch it does that branch's work
+abbrev pub Stands : Setting → (may_rest : Bool) → CoreState → World → Life → (actions : ℕ → ℕ) → Role → Type 0
+Stands g may_rest a x life actions unused = Unit {0}
+Stands g may_rest a x life actions (got_by t) = life.steps ≡ 0
+Stands g may_rest a x life actions (used_by r hand) = SomeIs (slice_get x.branches r.branch) (Stand g r may_rest hand a x life actions)
+
+-- What nobody may change is as the program has it, where a branch that waits uses it.
+
+abbrev pub NobodyChanges : Roles → (core variable : ℕ) → Type 0
+NobodyChanges who c v = (t : ℕ) (r : Runner) (hand : Option Hand) → who c t ≡ used_by r hand → r.footprint.changes v ≡ false
+
+abbrev pub NobodyHas : Roles → (core port : ℕ) → Type 0
+NobodyHas who c p = (t : ℕ) (r : Runner) (hand : Option Hand) → who c t ≡ used_by r hand → r.footprint.ports p ≡ false
+
+-- a branch of a core that waits uses the variable
+pub record IsWanted (who : Roles) (c v : ℕ) : Type 0 where
+  pub thread : ℕ
+  pub runner : Runner
+  pub hand : Option Hand
+  pub runs : who c thread ≡ used_by runner hand
+  pub parent : Parent
+  pub waits : IsParent runner.parents parent
+  pub uses : by_items (variable v) parent.items ≡ true
+
+pub record AreLoose (g : Setting) (who : Roles) (c : ℕ) (a : CoreState) (x : World) : Type 0 where
+  pub variables : (v : ℕ) → NobodyChanges who c v → IsWanted who c v → Holds (g.plans c).vars (only v) 0 a.words x.store
+  pub ports : (p : ℕ) (listed : PortUse) → IsPort g (anyone c) p listed → NobodyHas who c p →
+      PortIs g (anyone c) p listed (record { core = a; world = x; hand = None })
+
+-- 1 for a root's branch on a core that has not ended, else 0
+abbrev pub is_of_root : Option Birth → Bool
+is_of_root None = true
+is_of_root (Some birth) = false
+
+abbrev pub one_where : Bool → ℕ
+one_where true = 1
+one_where false = 0
+
+abbrev pub counts : (c : ℕ) → Branch → ℕ
+counts c b = one_where (nat_eq b.core c && (not (has_ended b.mode) && is_of_root b.birth))
+
+-- how many roots of a core have not ended
+abbrev pub living_on : ℕ → List Branch → ℕ
+living_on c [] = 0
+living_on c (b ∷ bs) = counts c b + living_on c bs
+
+-- a thread runs the branch, or waits with it
+pub record IsRun (who : Roles) (b : ℕ) : Type 0 where
+  pub core : ℕ
+  pub thread : ℕ
+  pub runner : Runner
+  pub hand : Option Hand
+  pub runs : who core thread ≡ used_by runner hand
+  pub branch : IsAmong (own_branches runner) b
+
+-- a branch that has not ended is a root's, or another waits for it
+abbrev pub IsMade : (roots : ℕ) → List Branch → (b : ℕ) → Type 0
+IsMade roots bs b = (b < roots) ⊎ ((n : ℕ) × IsChild bs n b)
 
 -- The two sides have the same clocks and trace, nothing is on its way between cores, each thread does what it should, and as many roots as
--- branches go on.
-pub record Standing (g : Setting) (who : Runners) (w : Watched) (x : Told (of_kernel g.program)) : Type 0 where
+-- branches of roots go on. Some threads may stand at rest.
+pub record Standing
+    (g : Setting) (may_rest : (core thread : ℕ) → Bool) (who : Roles) (w : Watched) (x : Told (of_kernel g.program)) : Type 0 where
   pub clocks : map clock_of w.machine.cores ≡ x.state.clocks
   pub trace : w.machine.trace ≡ x.state.trace
   pub links : w.machine.links ≡ no_links
-  pub threads : (c t : ℕ) (a : CoreState) → slice_get w.machine.cores c ≡ Some a →
-      Stands g t a x.state (w.lives c t) x.actions (who c t)
-  -- a thread that runs nothing has done no step
-  pub idle : (c t : ℕ) → who c t ≡ None → (w.lives c t).steps ≡ 0
-  pub roots : (c : ℕ) (a : CoreState) → slice_get w.machine.cores c ≡ Some a → a.roots ≡ living_on c x.state.branches
-  pub placed : (b : ℕ) (branch : Branch) → slice_get x.state.branches b ≡ Some branch → branch.core < length w.machine.cores
   pub cores : length w.machine.cores ≡ 4
-  pub run : (b : ℕ) (branch : Branch) → slice_get x.state.branches b ≡ Some branch → IsRun who b
+  pub lawful : Lawful g.program x.state
+  pub roles : AreRoles g who
+  pub reserves : HasReserves g who x.state
+  pub used : (c : ℕ) (a : CoreState) → slice_get w.machine.cores c ≡ Some a → AreUsedSo who c a
+  pub threads : (c t : ℕ) (a : CoreState) → slice_get w.machine.cores c ≡ Some a →
+      Stands g (may_rest c t) a x.state (w.lives c t) x.actions (who c t)
+  pub loose : (c : ℕ) (a : CoreState) → slice_get w.machine.cores c ≡ Some a → 1 ≤ threads_on g.program c → AreLoose g who c a x.state
+  pub sizes : (c : ℕ) (a : CoreState) → slice_get w.machine.cores c ≡ Some a → length a.words ≡ (parts_in g.image.cores c).words
+  pub roots : (c : ℕ) (a : CoreState) → slice_get w.machine.cores c ≡ Some a → a.roots ≡ living_on c x.state.branches
+  pub placed : (b : ℕ) (branch : Branch) → slice_get x.state.branches b ≡ Some branch → branch.core < 4
+  pub run : (b : ℕ) (branch : Branch) → slice_get x.state.branches b ≡ Some branch → has_ended branch.mode ≡ false → IsRun who b
+  pub made : (b : ℕ) (branch : Branch) → slice_get x.state.branches b ≡ Some branch → has_ended branch.mode ≡ false →
+      IsMade (length g.program.roots) x.state.branches b
+
+-- nobody stands at rest
+abbrev pub none_rests : (core thread : ℕ) → Bool
+none_rests c t = false

@@ -1,37 +1,74 @@
 -- What a thread's next step is, once it stands at the own instruction of its branch's first item, and the branch's action that goes with it.
-use Rattle.std.specs.Prelude.{◌≡◌, ℕ, ◌+◌, ◌*◌, ◌-◌, ◌≤◌, false, List, [], ◌∷◌, Option, Some, None, length, slice_get, slice_set}
+use Rattle.std.specs.Prelude.{◌≡◌, ℕ, zero, suc, ◌+◌, ◌*◌, ◌-◌, ◌<◌, ◌≤◌, true, false, List, [], ◌∷◌, Option, Some, None, length, slice_get, slice_set}
 use Rattle.xw_words.specs.declared.pos.Pos.{Pos}
 use Rattle.xs_instr.specs.declared.state.CoreState.{CoreState}
-use Rattle.xs_instr.specs.declared.state.Mode.TheVariants.{Unused}
+use Rattle.xs_instr.specs.declared.instr.Reg.{Reg}
+use Rattle.xs_instr.specs.declared.instr.Reg.TheVariants.{R1, R2, R3, R4, R5, R6, R7}
+use Rattle.xs_instr.specs.declared.state.Mode.TheVariants.{Unused, Waiting}
 use Rattle.xs_instr.specs.declared.state.Port.{Port}
 use Rattle.xs_instr.specs.declared.state.Regs.{Regs}
 use Rattle.xs_instr.specs.declared.state.Thread.{Thread}
 use Rattle.xs_instr.specs.declared.trace.Record.{Record}
 use Rattle.xs_instr.specs.declared.trace.Record.TheVariants.{Fault}
 use Rattle.xs_instr.specs.declared.trace.Trap.{Trap}
-use Rattle.xs_instr.specs.Did.{Made, Paused, Traps}
+use Rattle.xs_instr.specs.Did.{Made, Paused, Traps, makes}
 use Rattle.xs_instr.specs.Machine.{noted}
 use Rattle.xs_instr.specs.OwnSteps.{temporary}
+use Rattle.xs_instr.specs.Pool.{all_joined, all_started, all_wait, is_tied, some_tied}
+use Rattle.xs_instr.specs.Registers.{reg_get}
+use Rattle.xs_instr.specs.Resources.{sync_name}
+use Rattle.xs_instr.specs.Rows.{goes_on as row_goes_on, put_syncs, put_threads}
 use Rattle.xs_instr.specs.Slot.{slot, fault_of}
 use Rattle.xc_kernel.specs.declared.kernel.PortUse.{PortUse}
 use Rattle.xc_kernel.specs.Plain as kernel
 use Rattle.xc_kernel.specs.Eval.{words_of}
-use Rattle.xc_meaning.specs.States.Items.{Item, does}
+use Rattle.xc_meaning.specs.Counts.KernelCounts.{branch_count}
+use Rattle.xc_meaning.specs.States.Items.{Item, does, ends, todo}
 use Rattle.xc_meaning.specs.States.Branches.{Branch, runs, ended, erred}
 use Rattle.xc_meaning.specs.States.Worlds.{World, go, take, default}
 use Rattle.xc_meaning.specs.Runs.{acts}
 use Rattle.xl_expr.specs.Frames.{Holds}
+use Rattle.xl_par.specs.Hands.{Hand, IsAmong, empty_hand}
 use Rattle.xl_image.specs.Images.{decl_of}
-use Rattle.xl_image.specs.Items.{ItemsAt}
+use Rattle.xr_threads.specs.Items.{EndAt, ItemsAt}
+use Rattle.xr_threads.specs.Parents.{Parent, syncs_of}
 use Rattle.xl_walk.specs.Pieces.{Exit, PieceAt}
 use Rattle.xr_threads.specs.Fits.{Fits, ItemsFit, greatest}
 use Rattle.xr_threads.specs.Runners.{Setting, Runner, IsLaidOut, IsPort, code, home, plan, port_place}
-use Rattle.xr_threads.specs.Scenes.{Scene, Kept, Touched, LeadsIn, running}
+use Rattle.xr_threads.specs.Scenes.{Scene, Kept, Touched, LeadsIn, after, giving_back, running}
 
--- there is no thread, or an unused one
-abbrev pub IsUnused : Option Thread → Type 0
-IsUnused None = Unit {0}
-IsUnused (Some thread) = thread.mode ≡ Unused
+-- an unused thread, which takes no events and isn't tied
+pub record IsFreeThread (thread : Thread) : Type 0 where
+  pub unused : thread.mode ≡ Unused
+  pub no_events : thread.event_bit ≡ false
+  pub untied : thread.tie ≡ None
+
+abbrev pub IsFree : Option Thread → Type 0
+IsFree None = ⊥
+IsFree (Some thread) = IsFreeThread thread
+
+-- a thread that waits and is tied to a synchroniser
+pub record IsTiedThread (sync : ℕ) (thread : Thread) : Type 0 where
+  pub waits : thread.mode ≡ Waiting
+  pub no_events : thread.event_bit ≡ false
+  pub tied : thread.tie ≡ Some sync
+
+abbrev pub IsWaitingTied : (sync : ℕ) → Option Thread → Type 0
+IsWaitingTied n None = ⊥
+IsWaitingTied n (Some thread) = IsTiedThread n thread
+
+-- the code of a `par`'s branches
+abbrev pub codes_in : kernel.Branches → List kernel.Statements
+codes_in kernel.no_branch = []
+codes_in (kernel.more_branches (kernel.branch ss pos) bs) = ss ∷ codes_in bs
+
+-- the last one first, before others
+abbrev pub backwards_on : {A : Type 0} → List A → List A → List A
+backwards_on [] ys = ys
+backwards_on (x ∷ xs) ys = backwards_on xs (x ∷ ys)
+
+abbrev pub backwards : {A : Type 0} → List A → List A
+backwards xs = backwards_on xs []
 
 abbrev pub failed : Branch → Branch
 failed b = record b { mode = erred; items = [] }
@@ -39,21 +76,48 @@ failed b = record b { mode = erred; items = [] }
 abbrev pub finished : Branch → Branch
 finished b = record b { mode = ended; items = [] }
 
+-- what a branch has in hand before it does its first item: for a `par` of several branches it lacks a thread for each behind the first
+abbrev pub hand_for : kernel.Branches → Option Hand
+hand_for kernel.no_branch = None
+hand_for (kernel.more_branches b kernel.no_branch) = None
+hand_for (kernel.more_branches b (kernel.more_branches c bs)) = Some (empty_hand (branch_count (kernel.more_branches c bs)))
+
+abbrev pub first_hand : List Item → Option Hand
+first_hand (does (kernel.par bs) ∷ rest) = hand_for bs
+first_hand items = None
+
 -- branch b of a state runs, with these items
 pub record Runs (x : World) (b : ℕ) (branch : Branch) (items : List Item) : Type 0 where
   pub known : slice_get x.branches b ≡ Some branch
   pub running : branch.mode ≡ runs
   pub items_are : branch.items ≡ items
 
+-- the register in which the name of the synchroniser at a place stands, among those of the branches that wait
+abbrev pub name_register : ℕ → Reg
+name_register zero = R1
+name_register (suc zero) = R2
+name_register (suc (suc zero)) = R3
+name_register (suc (suc (suc zero))) = R4
+name_register (suc (suc (suc (suc zero)))) = R5
+name_register (suc (suc (suc (suc (suc zero))))) = R6
+name_register more = R7
+
+pub record HoldsNames (core : ℕ) (syncs : List ℕ) (regs : Regs) : Type 0 where
+  pub by : (place n : ℕ) → slice_get syncs place ≡ Some n → place < 7 → reg_get regs (name_register place) ≡ sync_name core n
+
 module _ (g : Setting) (r : Runner) where
   -- the runner's thread is at an index with these registers
   abbrev pub IsAt : Scene → ℕ → Regs → Type 0
   IsAt z pc regs = slice_get z.core.threads r.thread ≡ Some (running r.tie pc regs)
 
-  -- dp and sp are the runner's
-  pub record HasBases (regs : Regs) : Type 0 where
+  -- dp and sp are the runner's, and from r1 on stand the names of the synchronisers of the branches that wait, the innermost one's first
+  pub record HasBasesBy (syncs : List ℕ) (regs : Regs) : Type 0 where
     pub base : regs.dp ≡ 4 * r.base
     pub stack : regs.sp ≡ 4 * r.stack
+    pub names : HoldsNames r.core syncs regs
+
+  abbrev pub HasBases : Regs → Type 0
+  HasBases regs = HasBasesBy (syncs_of r.parents) regs
 
   -- the words of the variables that the branch may use are those of the store, and the temporary words are there
   pub record HoldsStore (z : Scene) : Type 0 where
@@ -69,9 +133,13 @@ module _ (g : Setting) (r : Runner) where
   abbrev pub PortsStand : Scene → Type 0
   PortsStand z = (p : ℕ) (listed : PortUse) → IsPort g r p listed → PortIs p listed z
 
+  -- what stands where the runner's branch ends
+  abbrev pub EndOf : (pc j : ℕ) → Type 0
+  EndOf pc j = EndAt (plan g r) (code g r) r.tie r.parents pc j
+
   -- the code of items stands at an index
   abbrev pub ItemsFrom : List Item → List Exit → (pc j : ℕ) → Type 0
-  ItemsFrom items exits pc j = ItemsAt (plan g r) (code g r) items exits pc j
+  ItemsFrom items exits pc j = ItemsAt (plan g r) (code g r) EndOf items exits pc j
 
   -- the branch has these items, and the core has its words and ports
   pub record Has (items : List Item) (z : Scene) : Type 0 where
@@ -91,6 +159,49 @@ module _ (g : Setting) (r : Runner) where
     pub at_code : ItemsFrom items exits pc j
     pub fits : ItemsFit g r items
     pub has : Has items z
+
+  -- The thread is at the instruction that gives a synchroniser back, and behind it at the code of its branch's items, with j jumps between them.
+  pub record GivesBack (items : List Item) (j : ℕ) (z : Scene) : Type 0 where
+    pub sync : ℕ
+    pub in_hand : z.hand ≡ giving_back sync
+    pub pc : ℕ
+    pub regs : Regs
+    pub exits : List Exit
+    pub here : IsAt z pc regs
+    pub bases : HasBases regs
+    pub at_code : ItemsFrom items exits (pc + 1) j
+    pub fits : ItemsFit g r items
+    pub has : Has items z
+    pub frees : (c : CoreState) → slice_get c.threads r.thread ≡ Some (running r.tie pc regs) → slice_get c.syncs sync ≡ Some true →
+        some_tied c.threads sync ≡ false →
+        slot (home g r) c r.thread ≡ makes (row_goes_on (put_syncs c (slice_set c.syncs sync false)) r.thread (running r.tie pc regs) regs)
+
+  -- The thread is at the instruction that joins the branches behind the first, whose maker is the innermost that waits; behind it stand the one that
+  -- gives the synchroniser back, and the code of what is left to the maker.
+  pub record JoinsAt (p : Parent) (ps : List Parent) (j : ℕ) (z : Scene) : Type 0 where
+    pub sync : ℕ
+    pub sync_is : p.sync ≡ Some sync
+    pub no_hand : z.hand ≡ None
+    pub pc : ℕ
+    pub regs : Regs
+    pub exits : List Exit
+    pub here : IsAt z pc regs
+    pub bases : HasBasesBy (syncs_of ps) regs
+    pub at_code : ItemsAt (plan g r) (code g r) (EndAt (plan g r) (code g r) r.tie ps) p.items exits (pc + 2) j
+    pub pauses : all_wait z.core.threads sync ≡ false → slot (home g r) z.core r.thread ≡ Paused
+    pub joins : all_wait z.core.threads sync ≡ true → slot (home g r) z.core r.thread
+        ≡ makes (row_goes_on (put_threads z.core (all_joined z.core.threads sync)) r.thread (running r.tie pc regs) regs)
+    pub frees : (c : CoreState) → slice_get c.threads r.thread ≡ Some (running r.tie (pc + 1) regs) → slice_get c.syncs sync ≡ Some true →
+        some_tied c.threads sync ≡ false →
+        slot (home g r) c r.thread ≡ makes (row_goes_on (put_syncs c (slice_set c.syncs sync false)) r.thread (running r.tie (pc + 1) regs) regs)
+
+  -- whatever the others do before it
+  abbrev pub Joins : Parent → List Parent → ℕ → Scene → Type 0
+  Joins p ps j z = (y : Scene) → Kept g r z y → JoinsAt p ps j y
+
+  -- in at most n silent steps the thread is there, with j jumps to be done behind it
+  abbrev pub IsJoining : Parent → List Parent → (most : ℕ) → Scene → Type 0
+  IsJoining p ps most z = (n : ℕ) × (j : ℕ) × (n + j ≤ most) × LeadsIn g r (Joins p ps j) n z
 
   -- an action of the branch leaves this state: the branch is another, and only variables that it may change have other words
   pub record IsNext (x y : World) (next : Branch) (made : Option Record) : Type 0 where
@@ -116,16 +227,48 @@ module _ (g : Setting) (r : Runner) where
     pub pos : Pos
     pub traps : slot (home g r) y.core r.thread ≡ Traps kind
     pub fault : fault_of (home g r) y.core r.thread kind ≡ Fault r.core pos kind
+    pub holds : HoldsStore y
+    pub ports : PortsStand y
+    pub no_hand : y.hand ≡ None
     pub acts : Acts y.world failed (Some (Fault r.core pos kind))
+    pub store : acts.world.store ≡ y.world.store
 
-  -- the thread is freed, and the branch has ended
+  -- the thread of a root is freed, and the branch has ended
   pub record Frees (y : Scene) : Type 0 where
+    pub root : r.tie ≡ None
+    pub outermost : r.parents ≡ []
     pub left : CoreState
     pub made_is : slot (home g r) y.core r.thread ≡ Made left None []
-    pub touched : Touched g r y.core left
+    pub touched : Touched g r y (after g r y left)
     pub roots : left.roots ≡ y.core.roots - 1
-    pub unused : IsUnused (slice_get left.threads r.thread)
+    pub syncs : left.syncs ≡ y.core.syncs
+    pub words : left.words ≡ y.core.words
+    pub ports : left.ports ≡ y.core.ports
+    pub unused : IsFree (slice_get left.threads r.thread)
+    pub no_hand : y.hand ≡ None
     pub acts : Acts y.world finished None
+    pub store : acts.world.store ≡ y.world.store
+    pub rest : List Item
+    pub has : Has (ends ∷ rest) y
+
+  -- a tied thread waits from now on, and the branch has ended
+  pub record Waits (y : Scene) : Type 0 where
+    pub sync : ℕ
+    pub tied : r.tie ≡ Some sync
+    pub outermost : r.parents ≡ []
+    pub left : CoreState
+    pub made_is : slot (home g r) y.core r.thread ≡ Made left None []
+    pub touched : Touched g r y (after g r y left)
+    pub roots : left.roots ≡ y.core.roots
+    pub syncs : left.syncs ≡ y.core.syncs
+    pub words : left.words ≡ y.core.words
+    pub ports : left.ports ≡ y.core.ports
+    pub waits : IsWaitingTied sync (slice_get left.threads r.thread)
+    pub no_hand : y.hand ≡ None
+    pub acts : Acts y.world finished None
+    pub store : acts.world.store ≡ y.world.store
+    pub rest : List Item
+    pub has : Has (ends ∷ rest) y
 
   -- The thread does the first item's own instruction, the branch does the item, and the thread is at the code of what is left. At most
   -- one more jump is to be done.
@@ -133,13 +276,63 @@ module _ (g : Setting) (r : Runner) where
     pub left : CoreState
     pub made : Option Record
     pub made_is : slot (home g r) y.core r.thread ≡ Made left made []
-    pub touched : Touched g r y.core left
+    pub touched : Touched g r y (after g r y left)
     pub roots : left.roots ≡ y.core.roots
+    pub syncs : left.syncs ≡ y.core.syncs
+    pub no_hand : y.hand ≡ None
     pub items : List Item
     pub acts : Acts y.world (λ b. record b { items = items }) made
     pub jumps : ℕ
     pub fewer : jumps ≤ j + 1
-    pub rest : Rest items jumps (record { core = left; world = acts.world })
+    pub rest : Rest items jumps (record { core = left; world = acts.world; hand = None })
+
+  -- a branch behind the first of a `par` that is set off: its thread stands at its code
+  pub record IsSetOff (left : CoreState) (sync u : ℕ) (ss : kernel.Statements) : Type 0 where
+    pub pc : ℕ
+    pub regs : Regs
+    pub here : slice_get left.threads u ≡ Some (running (Some sync) pc regs)
+    pub base : regs.dp ≡ 4 * r.base
+    pub stack : regs.sp ≡ 4 * ((plan g r).first_stack + temporary * u)
+    pub at_code : ItemsAt (plan g r) (code g r) (EndAt (plan g r) (code g r) (Some sync) []) (todo ss (ends ∷ [])) [] pc 0
+
+  -- each of them, by the threads that were got, the last one first
+  abbrev pub AreSetOff : (left : CoreState) → (sync : ℕ) → (threads : List ℕ) → List kernel.Statements → Type 0
+  AreSetOff left sync [] [] = Unit {0}
+  AreSetOff left sync [] (ss ∷ others) = ⊥
+  AreSetOff left sync (u ∷ us) [] = ⊥
+  AreSetOff left sync (u ∷ us) (ss ∷ others) = IsSetOff left sync u ss × AreSetOff left sync us others
+
+  -- The thread sets off the branches of a `par` of several, and goes on with the first. At most one more jump is to be done behind that.
+  pub record Begins (j : ℕ) (y : Scene) : Type 0 where
+    pub hand : Hand
+    pub in_hand : y.hand ≡ Some hand
+    pub sync : ℕ
+    pub sync_is : hand.sync ≡ Some sync
+    pub few_sync : sync < 8
+    pub no_lack : hand.lacks ≡ 0
+    pub branch : Branch
+    pub first : kernel.Statements
+    pub first_pos : Pos
+    pub others : kernel.Branches
+    pub several : 1 ≤ branch_count others
+    pub rest : List Item
+    pub does_par : Runs y.world r.branch branch (does (kernel.par (kernel.more_branches (kernel.branch first first_pos) others)) ∷ rest)
+    pub tied : (u : ℕ) (x : Thread) → slice_get y.core.threads u ≡ Some x → is_tied x sync ≡ true → IsAmong hand.threads u
+    pub pc : ℕ
+    pub regs : Regs
+    pub here : IsAt y pc regs
+    pub bases : HasBasesBy (sync ∷ syncs_of r.parents) regs
+    pub goes : slot (home g r) y.core r.thread ≡ makes (row_goes_on (put_threads y.core (all_started y.core.threads sync)) r.thread (running r.tie pc regs) regs)
+    pub jumps : ℕ
+    pub fewer : jumps ≤ j + 1
+    pub own_code : (from count : ℕ) → ItemsAt (plan g r) (code g r)
+        (EndAt (plan g r) (code g r) r.tie
+        (record { branch = r.branch; from = from; count = count; sync = Some sync; items = rest } ∷ r.parents))
+        (todo first (ends ∷ [])) [] (pc + 1) jumps
+    pub set_off : AreSetOff (row_goes_on (put_threads y.core (all_started y.core.threads sync)) r.thread (running r.tie pc regs) regs)
+        sync hand.threads (backwards (codes_in others))
+    pub fits : ItemsFit g r (does (kernel.par (kernel.more_branches (kernel.branch first first_pos) others)) ∷ rest)
+    pub has : Has (does (kernel.par (kernel.more_branches (kernel.branch first first_pos) others)) ∷ rest) y
 
   -- the branch can do nothing now
   pub record CannotAct (x : World) : Type 0 where
@@ -153,6 +346,8 @@ module _ (g : Setting) (r : Runner) where
     errs : Errs y → Turn j y
     goes_on : Goes j y → Turn j y
     frees : Frees y → Turn j y
+    waits_tied : Waits y → Turn j y
+    begins : Begins j y → Turn j y
 
   -- whatever the others do before it
   abbrev pub Turns : ℕ → Scene → Type 0
@@ -172,4 +367,4 @@ module _ (g : Setting) (r : Runner) where
       (rest : List Item) (exits : List Exit) (pc pc' j : ℕ) (z : Scene) (regs : Regs) →
       IsLaidOut g r → PieceAt (code g r) (plan g r) t exits pc pc' → Fits g r t →
       ItemsFrom rest exits pc' j → ItemsFit g r rest →
-      Has (does t ∷ rest) z → IsAt z pc regs → HasBases regs → Leads cost j z
+      Has (does t ∷ rest) z → IsAt z pc regs → HasBases regs → z.hand ≡ first_hand (does t ∷ rest) → Leads cost j z

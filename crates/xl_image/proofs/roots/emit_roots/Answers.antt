@@ -6,10 +6,11 @@ use Rattle.xc_kernel.specs.declared.kernel.Kernel.{Kernel}
 use Rattle.xc_kernel.specs.Kernels.{kernel_of, root_of}
 use Rattle.xc_kernel.specs.Plain as kernel
 use Rattle.xl_plan.specs.Layout.{temporary_of}
+use Rattle.xl_plan.proofs.Sizes.{few_words}
 use Rattle.xl_image.proofs.Begun.{Begun, begins, ends_so, goes_on, has_room, is_thread, passes, turned}
 use Rattle.xl_image.proofs.GoodParts.{few_roots_on}
 use Rattle.xl_image.proofs.Ready.{code_fits, roots_ready}
-use Rattle.xl_image.proofs.Threads.{threads_are_roots}
+use Rattle.xl_image.proofs.Threads.{roots_have_threads}
 use Rattle.xl_image.proofs.roots.emit_roots.Goals as goal
 use Rattle.xl_image.proofs.roots.emit_roots.Goals.{then-root-core+in_ok-push+in_ok-emit_thread, else-root-core}
 
@@ -41,9 +42,15 @@ temporary_words-word-requires-clause-is_thread c =
     let i = c.loop-root.root-index in
     let begun = turned k c.args.core c.args.plan.now rs c.as_slice-root-items.result.now i x c.loop-root.e c.loop-root.entries same c.root-item.is c.loop-root-test.true c.loop-root.invariant in
     let one = is_thread k c.args.core c.args.plan.now k.roots (map root_of (drop (i + 1) rs)) (root_of x) c.loop-root.e c.loop-root.entries begun (eq-eqb x.core c.args.core c.if-root-core.true) in
-    let t = threads_are_roots c.args.core k.roots c.requires.built in
+    let t = roots_have_threads c.args.core k.roots in
     let n = c.len-thread.ensures in
     omega (arith, one, t, n)
+
+pub emit_thread-requires-clause-stack : goal.emit_thread-requires-clause-stack
+emit_thread-requires-clause-stack c =
+    let few = few_words (kernel_of c.args.checked.now) c.args.core c.kernel.ensures.accepted c.requires.is_core in
+    let first = c.requires.planned.first_stack in
+    omega (arith, few, first)
 
 pub emit_thread-requires-clause-ready : goal.emit_thread-requires-clause-ready
 emit_thread-requires-clause-ready c =

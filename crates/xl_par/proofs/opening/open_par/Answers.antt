@@ -15,23 +15,23 @@ put-requires c =
 pub returns-clause-size : goal.returns-clause-size
 returns-clause-size c =
     let n = c.args.branches - 1 in
-    let joined = opening_joined c.args.first_stack c.stack_offset.result c.args.pos n c.args.e.now c.put_beginning.new.e c.put_slaves.new.e c.put.new.self c.stack_offset.ensures c.in_ok-put_beginning.ensures.code c.in_ok-put_slaves.ensures.code c.in_ok-put.ensures.ok in
-    omega (arith, ap length joined, length-append c.args.e.now (opening_lines c.args.first_stack c.args.pos n), opening_length c.args.first_stack c.args.pos n, c.requires.several)
+    let joined = opening_joined c.args.plan.now.first_stack c.stack_offset.result c.args.pos n c.args.e.now c.put_beginning.new.e c.put_slaves.new.e c.put.new.self c.stack_offset.ensures c.in_ok-put_beginning.ensures.code c.in_ok-put_slaves.ensures.code c.in_ok-put.ensures.ok in
+    omega (arith, ap length joined, length-append c.args.e.now (opening_lines c.args.plan.now.first_stack c.args.pos n), opening_length c.args.plan.now.first_stack c.args.pos n, c.requires.several)
 
 pub returns-clause-opens : goal.returns-clause-opens
 returns-clause-opens c =
     let n = c.args.branches - 1 in
     record {
-      lines = opening_lines c.args.first_stack c.args.pos n;
-      is = opening_joined c.args.first_stack c.stack_offset.result c.args.pos n c.args.e.now c.put_beginning.new.e c.put_slaves.new.e c.put.new.self c.stack_offset.ensures c.in_ok-put_beginning.ensures.code c.in_ok-put_slaves.ensures.code c.in_ok-put.ensures.ok;
-      so = opening_opens c.args.first_stack n c.args.pos (length c.args.e.now) c.requires.inside;
+      lines = opening_lines c.args.plan.now.first_stack c.args.pos n;
+      is = opening_joined c.args.plan.now.first_stack c.stack_offset.result c.args.pos n c.args.e.now c.put_beginning.new.e c.put_slaves.new.e c.put.new.self c.stack_offset.ensures c.in_ok-put_beginning.ensures.code c.in_ok-put_slaves.ensures.code c.in_ok-put.ensures.ok;
+      so = opening_opens c.args.plan.now.first_stack n c.args.pos (length c.args.e.now) c.requires.inside;
     }
 
 pub returns-clause-aimed : goal.returns-clause-aimed
 returns-clause-aimed c =
     let n = c.args.branches - 1 in
     record {
-      lines = opening_lines c.args.first_stack c.args.pos n;
-      is = opening_joined c.args.first_stack c.stack_offset.result c.args.pos n c.args.e.now c.put_beginning.new.e c.put_slaves.new.e c.put.new.self c.stack_offset.ensures c.in_ok-put_beginning.ensures.code c.in_ok-put_slaves.ensures.code c.in_ok-put.ensures.ok;
-      so = opening_aimed c.args.first_stack n c.args.pos (length c.args.e.now);
+      lines = opening_lines c.args.plan.now.first_stack c.args.pos n;
+      is = opening_joined c.args.plan.now.first_stack c.stack_offset.result c.args.pos n c.args.e.now c.put_beginning.new.e c.put_slaves.new.e c.put.new.self c.stack_offset.ensures c.in_ok-put_beginning.ensures.code c.in_ok-put_slaves.ensures.code c.in_ok-put.ensures.ok;
+      so = opening_aimed c.args.plan.now.first_stack n c.args.pos (length c.args.e.now);
     }

@@ -1,0 +1,153 @@
+-- No two runners are in each other's way.
+use Rattle.std.proofs.Common.{◌≡◌, ◌≢◌, inl, ⊎_elim, ℕ, ◌+◌, ◌<◌, ◌≤◌, Bool, true, false, true≢false, length, Option, refl, sym, ap, subst, ◌∙◌, arith}
+use Rattle.xs_instr.specs.Machine.{parts_in}
+use Rattle.xs_instr.specs.OwnSteps.{temporary}
+use Rattle.xc_kernel.specs.declared.kernel.PortUse.{PortUse}
+use Rattle.xc_kernel.specs.Things.{variable, change, port}
+use Rattle.xc_meaning.specs.States.Worlds.{World}
+use Rattle.xc_meaning.proofs.Basics.{or_cases}
+use Rattle.xc_apart.specs.Clashes.{changed, of_port}
+use Rattle.xc_disjoint.specs.Needs.{threads_on}
+use Rattle.xc_laws.specs.Lawful.{Lawful}
+use Rattle.xc_laws.specs.Rules.{AreApart}
+use Rattle.xc_laws.proofs.Always.{none_clash}
+use Rattle.xl_expr.specs.declared.plan.VarPlan.{VarPlan}
+use Rattle.xl_expr.specs.Frames.{IsNear}
+use Rattle.xl_par.specs.Hands.{Hand}
+use Rattle.xl_plan.specs.Layout.{temporary_of, port_number}
+use Rattle.xr_threads.specs.Images.{IsImageOf}
+use Rattle.xr_threads.specs.Roles.{AreRoles, Role, Roles, unused, used_by}
+use Rattle.xr_threads.specs.Runners.{Footprint, Setting, Runner, IsLaidOut, IsPort, MayChange, of_stack, of_variable, is_among_words, is_word_among, plan, port_place, relied}
+use Rattle.xr_threads.proofs.Shrinks.{changed_used_items}
+use Rattle.xr_threads.proofs.Places.{IsWord, among_found, places_differ, word_found}
+use Rattle.xr_threads.proofs.Works.{Works}
+
+pub not_true : (b : Bool) → (b ≡ true → ⊥) → b ≡ false
+not_true true h = absurd (h refl)
+not_true false h = refl
+
+-- what one runner of a core may change is nothing that another one relies on, and their ports stand at different places
+pub record IsApart (g : Setting) (r s : Runner) : Type 0 where
+  pub words : (w : ℕ) → relied g s w ≡ true → MayChange g r w → ⊥
+  pub ports : (p q : ℕ) (listed other : PortUse) → IsPort g r p listed → IsPort g s q other → port_place g s q ≢ port_place g r p
+
+-- one that is used is not unused
+pub not_unused : (o : Role) (r : Runner) (hand : Option Hand) → o ≡ used_by r hand → o ≢ unused
+not_unused o r hand e f = let z : used_by r hand ≡ unused = sym e ∙ f in absurd cc
+
+pub role_inside : (g : Setting) (who : Roles) → AreRoles g who → (c t : ℕ) (r : Runner) (hand : Option Hand) → who c t ≡ used_by r hand → t < threads_on g.program c
+role_inside g who roles c t r hand e = roles.inside c t (not_unused (who c t) r hand e)
+
+-- each runner is laid out, and its temporary words are there
+pub laid_of_role : (g : Setting) (first who : Roles) → IsImageOf g first → AreRoles g who → (c t : ℕ) (r : Runner) (hand : Option Hand) → who c t ≡ used_by r hand →
+    (x : World) → Works g x r hand → IsLaidOut g r
+laid_of_role g first who image roles c t r hand e x works =
+    let inside = role_inside g who roles c t r hand e in
+    let core = image.cores c (roles.there c t r hand e) (omega (arith, inside)) in
+    core.laid r (roles.core c t r hand e) (subst (λ n. n < threads_on g.program c) (sym (roles.thread c t r hand e)) inside) (roles.base c t r hand e)
+    (roles.stack c t r hand e ∙ ap (temporary_of g.program c) (sym (roles.thread c t r hand e)))
+    (λ v. subst (λ (f : Footprint). f.changes v ≡ true → f.uses v ≡ true) (sym works.footprint) (changed_used_items works.branch.items v))
+
+pub room_of_role : (g : Setting) (first who : Roles) → IsImageOf g first → AreRoles g who → (c t : ℕ) (r : Runner) (hand : Option Hand) → who c t ≡ used_by r hand →
+    r.stack + temporary ≤ (parts_in g.image.cores c).words
+room_of_role g first who image roles c t r hand e =
+    let inside = role_inside g who roles c t r hand e in
+    let core = image.cores c (roles.there c t r hand e) (omega (arith, inside)) in
+    let room = core.room t inside in
+    let stack = roles.stack c t r hand e in
+    omega (arith, room, stack)
+
+module _ (g : Setting) (who : Roles) (x : World) (lawful : Lawful g.program x) (roles : AreRoles g who) where
+  -- Two runners.
+  module _ (c t c' t' : ℕ) (r s : Runner) (hand other : Option Hand) (e : who c t ≡ used_by r hand) (f : who c' t' ≡ used_by s other)
+      (differ : (c' ≡ c) × (t' ≡ t) → ⊥) (works : Works g x r hand) (works' : Works g x s other) where
+    -- they run two branches
+    pub other_branch : r.branch ≢ s.branch
+    other_branch same = differ (roles.branches c t c' t' r.branch r s hand other e f (inl refl) (inl same))
+
+    clear : AreApart works.branch.items works'.branch.items
+    clear = none_clash g.program x lawful r.branch s.branch works.branch works'.branch works.known works'.known other_branch works.goes works'.goes
+
+    -- what one uses the other one doesn't change, on whatever cores they are
+    pub own_variables : (v : ℕ) → s.footprint.uses v ≡ true → r.footprint.changes v ≡ false
+    own_variables v uses =
+        not_true (r.footprint.changes v)
+        (λ changes.
+        clear.clash (change v) (variable v) (changed v)
+        (subst (λ (k : Footprint). k.changes v ≡ true) works.footprint changes)
+        (subst (λ (k : Footprint). k.uses v ≡ true) works'.footprint uses))
+
+    -- nor do they have a port both
+    pub own_ports : (p : ℕ) → s.footprint.ports p ≡ true → r.footprint.ports p ≡ false
+    own_ports p has =
+        not_true (r.footprint.ports p)
+        (λ mine.
+        clear.clash (port p) (port p) (of_port p)
+        (subst (λ (k : Footprint). k.ports p ≡ true) works.footprint mine)
+        (subst (λ (k : Footprint). k.ports p ≡ true) works'.footprint has))
+
+  -- Two of one core.
+  module _ (c t t' : ℕ) (r s : Runner) (hand other : Option Hand) (e : who c t ≡ used_by r hand) (f : who c t' ≡ used_by s other)
+      (differ : t' ≢ t) (works : Works g x r hand) (works' : Works g x s other) (laid : IsLaidOut g r) (laid' : IsLaidOut g s) where
+    cores : r.core ≡ s.core
+    cores = roles.core c t r hand e ∙ sym (roles.core c t' s other f)
+
+    bases : r.base ≡ s.base
+    bases = roles.base c t r hand e ∙ sym (roles.base c t' s other f)
+
+    near_here : (v n : ℕ) (found : VarPlan) → IsNear (plan g r).vars v n found → IsNear (plan g s).vars v n found
+    near_here v n found near = subst (λ k. IsNear (g.plans k).vars v n found) cores near
+
+    -- a word of a variable is no temporary one of either
+    not_temporary : (q : Runner) → IsLaidOut g q → (v n i k w : ℕ) (found : VarPlan) → IsNear (plan g q).vars v n found → i < found.words → k < temporary → w ≡ q.base + n + i → w ≡ q.stack + k → ⊥
+    not_temporary q is v n i k w found near lt lk is_at is_in =
+        ⊎_elim
+        (λ h. let z : ⊥ = omega (arith, h, lk, is_at, is_in) in z)
+        (λ h. let z : ⊥ = omega (arith, h, lk, is_at, is_in) in z)
+        (is.frame.apart v n i found near lt)
+
+    -- two threads share no temporary word
+    stacks_apart : (k l w : ℕ) → k < temporary → l < temporary → w ≡ s.stack + k → w ≡ r.stack + l → ⊥
+    stacks_apart k l w lk ll is_in is_in' =
+        let a = roles.stack c t r hand e in
+        let b = roles.stack c t' s other f in
+        let same : temporary_of g.program c t' + k ≡ temporary_of g.program c t + l = omega (arith, a, b, is_in, is_in') in
+        differ (omega (arith, same, lk, ll))
+
+    of_stack_words : (w : ℕ) → is_among_words s.stack temporary w ≡ true → MayChange g r w → ⊥
+    of_stack_words w h (of_variable v n k found near changes lt is) =
+        let m = among_found s.stack temporary w h in
+        let b = bases in
+        not_temporary s laid' v n k m.0 w found (near_here v n found near) lt m.1 (omega (arith, is, b)) m.2
+    of_stack_words w h (of_stack k lt is) =
+        let m = among_found s.stack temporary w h in
+        stacks_apart m.0 k w m.1 lt m.2 is
+
+    of_variable_words : (w : ℕ) → IsWord s.base (plan g s).vars s.footprint.uses w → MayChange g r w → ⊥
+    of_variable_words w h (of_variable v n k found near changes lt is) =
+        let b = bases in
+        let p = h.is in
+        let same : h.variable ≡ v = laid'.frame.disjoint h.variable h.first h.place v n k h.found found h.near (near_here v n found near) h.within lt (omega (arith, p, is, b)) in
+        let unchanged = own_variables c t c t' r s hand other e f (λ q. differ q.1) works works' h.variable h.meant in
+        true≢false (sym changes ∙ ap r.footprint.changes (sym same) ∙ unchanged)
+    of_variable_words w h (of_stack k lt is) =
+        let b = bases in
+        let p = h.is in
+        not_temporary r laid h.variable h.first h.place k w h.found (subst (λ m. IsNear (g.plans m).vars h.variable h.first h.found) (sym cores) h.near) h.within lt (omega (arith, p, b)) is
+
+    words_apart : (w : ℕ) → relied g s w ≡ true → MayChange g r w → ⊥
+    words_apart w h may =
+        ⊎_elim
+        (λ q. of_stack_words w q may)
+        (λ q. of_variable_words w (word_found s.base (plan g s).vars s.footprint.uses (length (plan g s).vars) w q) may)
+        (or_cases (is_among_words s.stack temporary w) (is_word_among s.base (plan g s).vars s.footprint.uses (length (plan g s).vars) w) h)
+
+    ports_apart : (p q : ℕ) (listed listed' : PortUse) → IsPort g r p listed → IsPort g s q listed' → port_place g s q ≢ port_place g r p
+    ports_apart p q listed listed' is is' same =
+        let here : port_place g r q ≡ port_place g r p = ap (λ k. port_number k g.program.ports q) cores ∙ same in
+        let one = places_differ g.program.ports r.core q p listed' listed is'.known is.known (is'.core ∙ sym cores) is.core here in
+        let unused_here = own_ports c t c t' r s hand other e f (λ k. differ k.1) works works' q is'.mine in
+        true≢false (sym is.mine ∙ ap r.footprint.ports (sym one) ∙ unused_here)
+
+    pub apart_of_runners : IsApart g r s
+    apart_of_runners = record { words = words_apart; ports = ports_apart }

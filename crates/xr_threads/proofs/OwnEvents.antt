@@ -1,0 +1,442 @@
+-- A branch's own step, by the machine and by the program: its thread has nothing in hand, and no branches are made.
+use Rattle.std.proofs.Common.{◌≡◌, ℕ, ◌+◌, ◌*◌, ◌<◌, ◌≤◌, ◌≢◌, ◌⊎◌, inl, inr, [], ◌∷◌, List, length, Option, Some, None, refl, sym, ap, ◌∙◌, subst, ⊎_elim, arith, eq-eqb}
+use Rattle.std.specs.Prelude.{Bool, true, false, ◌&&◌, nat_eq, slice_get, slice_set}
+use Rattle.std.proofs.lemmas.Bool.{eqb-true, ne_eqb}
+use Rattle.std.proofs.lemmas.Option.{same_Some}
+use Rattle.std.proofs.Math.Nat.{mul-le-mul_left}
+use Rattle.xs_instr.specs.declared.state.CoreState.{CoreState}
+use Rattle.xs_instr.specs.declared.state.Thread.{Thread}
+use Rattle.xs_instr.specs.declared.trace.Record.{Record}
+use Rattle.xs_instr.specs.Machine.{noted}
+use Rattle.xc_disjoint.specs.Needs.{threads_on}
+use Rattle.xc_laws.specs.Tree.{IsWaiting}
+use Rattle.xc_meaning.specs.Runs.{acts, acts_all}
+use Rattle.xc_meaning.specs.States.Branches.{Branch, runs, waits, has_ended}
+use Rattle.xc_meaning.specs.States.Worlds.{World, Action, go}
+use Rattle.xl_expr.proofs.Lists.{get_set_same, get_set_other}
+use Rattle.xl_par.specs.Hands.{Hand, IsAmong}
+use Rattle.xr_match.specs.Lives.{Watched}
+use Rattle.xr_match.specs.Meanings.{of_kernel}
+use Rattle.xr_match.specs.Sources.{Told}
+use Rattle.xr_match.specs.Systems.{SomeIs}
+use Rattle.xr_threads.specs.Images.{IsImageOf}
+use Rattle.xr_threads.specs.Parents.{Parent, branches_of}
+use Rattle.xr_threads.specs.Roles.{IsParent, ParentsWait, Role, Roles, got_by, own_branches, used_by}
+use Rattle.xr_threads.specs.Runners.{Setting, Runner, footprint_of}
+use Rattle.xr_threads.specs.Scenes.{Touched, giving_back}
+use Rattle.xr_threads.specs.Standing.{AreLoose, IsMade, IsRun, Stand, Standing, Stands, counts, living_on, none_rests}
+use Rattle.xr_threads.specs.Roles.{unused}
+use Rattle.xr_threads.proofs.Seating.{roles_leave}
+use Rattle.xr_threads.proofs.Usage.{used_leave}
+use Rattle.xr_threads.specs.Turns.{HoldsStore, IsFree, IsNext, PortsStand}
+use Rattle.xr_threads.proofs.Counts.{far_counts, living_after}
+use Rattle.xr_threads.proofs.NamedLinks.{leaves_linked, own_linked, told_one}
+use Rattle.xr_threads.proofs.NamedPieces.{Goes}
+use Rattle.xr_threads.proofs.Holding.{LeavesLoose, loose_behind}
+use Rattle.xr_threads.proofs.Moves.{Effect, laid_at, same_hand, same_runner, stands_at}
+use Rattle.xr_threads.proofs.Pools.{num_is}
+use Rattle.xr_threads.proofs.Reserves.{GiveAsBefore, reserves_behind, reserves_of_others}
+use Rattle.xr_threads.proofs.Seats.{IsSeated, goes_on, role_cases, role_far, role_here, role_other, roles_go_on, with_role}
+use Rattle.xr_threads.proofs.Standing.{Follows, get_set_cases, told_by}
+use Rattle.xr_threads.proofs.Steps.{answered, clocks_still, far_steps_still, has_stepped, steps_still, watched}
+use Rattle.xr_threads.proofs.Usage.{OthersUsed, used_on}
+
+-- a step of the family pays for the silent steps behind it
+pub bound_grows : (most greatest steps left j further actions more : ℕ) → most ≡ 8 * (greatest + 16) → steps + left ≤ most * (actions + 1) → j ≤ left → further ≤ j + 1 + (8 * greatest + 8) → 1 ≤ more → steps + 1 + further ≤ most * (actions + more + 1)
+bound_grows most greatest steps left j further actions more is bound few enough some =
+    let le : actions + 1 + 1 ≤ actions + more + 1 = omega arith in
+    let grown = mul-le-mul_left most le in
+    omega (arith, grown)
+
+-- one that waits isn't one that runs
+pub parent_waits : (g : Setting) (x : World) (core family first : ℕ) (ps : List Parent) (n : ℕ) → ParentsWait g x core family ps first → IsAmong (branches_of ps) n → (branch : Branch) × (slice_get x.branches n ≡ Some branch) × IsWaiting branch.mode
+parent_waits g x core family first [] n h m = absurd m
+parent_waits g x core family first (p ∷ ps) n h (inl e) = (h.0.branch, ap (slice_get x.branches) e ∙ h.0.known, subst IsWaiting (sym h.0.mode) tt)
+parent_waits g x core family first (p ∷ ps) n h (inr m) = parent_waits g x core family p.branch ps n h.1 m
+
+-- one thread alone
+abbrev pub only_thread : (t u : ℕ) → Bool
+only_thread t u = nat_eq u t
+
+-- who may be at rest behind an event of one thread
+abbrev pub rests_alone : (c t d u : ℕ) → Bool
+rests_alone c t d u = nat_eq d c && nat_eq u t
+
+pub rests_there : (c t : ℕ) → rests_alone c t c t ≡ true
+rests_there c t = ap (λ b. b && nat_eq t t) (eq-eqb c c refl) ∙ eq-eqb t t refl
+
+-- What a branch's own step leaves of its core and of the program. As many roots and roots' branches go on, the thread is tied as before or to
+-- nothing, and memory and ports are as the program has them.
+pub record OwnStep (g : Setting) (r : Runner) (c : ℕ) (a : CoreState) (x : World) : Type 0 where
+  pub left : CoreState
+  pub made : Option Record
+  pub branch : Branch
+  pub known : slice_get x.branches r.branch ≡ Some branch
+  pub running : branch.mode ≡ runs
+  pub world : World
+  pub acted : acts g.program g.stimulus x (go r.branch) ≡ Some world
+  pub next : Branch
+  pub birth : next.birth ≡ branch.birth
+  pub is_next : IsNext g r x world next made
+  pub core : next.core ≡ branch.core
+  pub touched : Touched g r (record { core = a; world = x; hand = None }) (record { core = left; world = x; hand = None })
+  pub syncs : left.syncs ≡ a.syncs
+  pub tie : (thread : Thread) → slice_get left.threads r.thread ≡ Some thread → (thread.tie ≡ r.tie) ⊎ (thread.tie ≡ None)
+  pub roots : left.roots + counts c branch ≡ a.roots + counts c next
+  pub holds : HoldsStore g r (record { core = left; world = world; hand = None })
+  pub ports : PortsStand g r (record { core = left; world = world; hand = None })
+
+module _ (g : Setting) (first : Roles) (is : IsImageOf g first) (who : Roles) (w : Watched) (x : Told (of_kernel g.program)) (st : Standing g none_rests who w x)
+    (c t : ℕ) (a : CoreState) (at_c : slice_get w.machine.cores c ≡ Some a) (r : Runner) (runs_r : who c t ≡ used_by r None) (e : OwnStep g r c a x.state) where
+  core_is : r.core ≡ c
+  core_is = st.roles.core c t r None runs_r
+
+  thread_is : r.thread ≡ t
+  thread_is = st.roles.thread c t r None runs_r
+
+  moved : ℕ → Bool
+  moved = only_thread t
+
+  abbrev piece : List Action
+  piece = go r.branch ∷ []
+
+  -- the branch is another one, and the others are what they were
+  own_branch : slice_get e.world.branches r.branch ≡ Some e.next
+  own_branch = ap (λ l. slice_get l r.branch) e.is_next.branches ∙ get_set_same x.state.branches r.branch e.branch e.next e.known
+
+  pub other_branch : (n : ℕ) → n ≢ r.branch → slice_get e.world.branches n ≡ slice_get x.state.branches n
+  other_branch n ne = ap (λ l. slice_get l n) e.is_next.branches ∙ get_set_other x.state.branches r.branch n e.next ne
+
+  branch_cases : (n : ℕ) (branch : Branch) → slice_get e.world.branches n ≡ Some branch → ((n ≡ r.branch) × (branch ≡ e.next)) ⊎ ((n ≢ r.branch) × (slice_get x.state.branches n ≡ Some branch))
+  branch_cases n branch there = get_set_cases x.state.branches r.branch n e.branch e.next branch e.known (ap (λ l. slice_get l n) (sym e.is_next.branches) ∙ there)
+
+  all_acted : acts_all g.program g.stimulus (Some x.state) piece ≡ Some e.world
+  all_acted = ap (λ o. acts_all g.program g.stimulus o []) e.acted
+
+  not_t : (u : ℕ) → only_thread t u ≡ false → u ≢ t
+  not_t u m f = let both : true ≡ false = sym (eq-eqb u t f) ∙ m in cc
+
+  pub own_effect : Effect g who c t r None (only_thread t) a e.left x.state e.world
+  own_effect = record {
+    clock = e.touched.clock;
+    threads = λ u m. e.touched.others u (λ f. not_t u m (f ∙ thread_is)) (λ k. k);
+    not_held = λ u s got ne. ne_eqb u t (λ f. got_not_run s (sym got ∙ ap (who c) f ∙ runs_r));
+    ties = λ u n thread m there tied.
+        let at : u ≡ t = eqb-true u t m in
+        let tied_to : thread.tie ≡ Some n = num_is thread.tie n tied in
+        ⊎_elim
+        (λ (same : thread.tie ≡ r.tie). inr (sym same ∙ tied_to))
+        (λ (none : thread.tie ≡ None). absurd (none_is_some n (sym none ∙ tied_to)))
+        (e.tie thread (ap (slice_get e.left.threads) (thread_is ∙ sym at) ∙ there));
+    syncs = λ n ne taken. ap (λ l. slice_get l n) e.syncs ∙ taken;
+    words = e.touched.words;
+    ports = e.touched.ports;
+    clocks = e.is_next.clocks;
+    branches = λ n branch ne there. other_branch n (λ f. ne (inl f)) ∙ there;
+    store = e.is_next.store;
+  }
+    where
+      got_not_run : (s : ℕ) → got_by s ≡ used_by r None → ⊥
+      got_not_run s f = cc
+
+      none_is_some : (n : ℕ) → ◌≡◌ {A = Option ℕ} None (Some n) → ⊥
+      none_is_some n f = cc
+
+  -- the program's branches are placed, and made, as they were
+  own_placed : (n : ℕ) (branch : Branch) → slice_get e.world.branches n ≡ Some branch → branch.core < 4
+  own_placed n branch there =
+      ⊎_elim
+      (λ (h : (n ≡ r.branch) × (branch ≡ e.next)). subst (λ k. k < 4) (sym (ap (λ (b : Branch). b.core) h.1 ∙ e.core)) (st.placed r.branch e.branch e.known))
+      (λ (h : (n ≢ r.branch) × (slice_get x.state.branches n ≡ Some branch)). st.placed n branch h.1)
+      (branch_cases n branch there)
+
+  made_still : (n : ℕ) → IsMade (length g.program.roots) x.state.branches n → IsMade (length g.program.roots) e.world.branches n
+  made_still n (inl lt) = inl lt
+  made_still n (inr (m, child)) =
+      inr (
+        m,
+        record {
+          parent = child.parent;
+          is = other_branch m (λ f. runs_not_waits child.from child.count (sym e.running ∙ ap (λ (b : Branch). b.mode) (same_Some e.branch child.parent (sym e.known ∙ ap (slice_get x.state.branches) (sym f) ∙ child.is)) ∙ child.waiting)) ∙ child.is;
+          from = child.from;
+          count = child.count;
+          waiting = child.waiting;
+          least = child.least;
+          less = child.less;
+        },
+      )
+    where
+      runs_not_waits : (from count : ℕ) → runs ≡ waits from count → ⊥
+      runs_not_waits from count f = cc
+
+  own_made : (n : ℕ) (branch : Branch) → slice_get e.world.branches n ≡ Some branch → has_ended branch.mode ≡ false → IsMade (length g.program.roots) e.world.branches n
+  own_made n branch there goes_on =
+      ⊎_elim
+      (λ (h : (n ≡ r.branch) × (branch ≡ e.next)). subst (IsMade (length g.program.roots) e.world.branches) (sym h.0) (made_still r.branch (st.made r.branch e.branch e.known (ap has_ended e.running))))
+      (λ (h : (n ≢ r.branch) × (slice_get x.state.branches n ≡ Some branch)). made_still n (st.made n branch h.1 goes_on))
+      (branch_cases n branch there)
+
+  own_roots : e.left.roots ≡ living_on c e.world.branches
+  own_roots =
+      let after = living_after c x.state.branches r.branch e.branch e.next e.known in
+      let old = st.roots c a at_c in
+      let now = e.roots in
+      let set : e.left.roots ≡ living_on c (slice_set x.state.branches r.branch e.next) = omega arith in
+      set ∙ ap (living_on c) (sym e.is_next.branches)
+
+  core_of_branch : e.branch.core ≡ c
+  core_of_branch = stand_core ∙ core_is
+    where
+      stand_core : e.branch.core ≡ r.core
+      stand_core = (subst (λ o. SomeIs o (Stand g r false None a x.state (w.lives c t) x.actions)) e.known (stands_at g first is none_rests who w x st c t a r None at_c runs_r)).core
+
+  own_far_roots : (d : ℕ) → d ≢ c → living_on d e.world.branches ≡ living_on d x.state.branches
+  own_far_roots d ne =
+      let after = living_after d x.state.branches r.branch e.branch e.next e.known in
+      let far_old = far_counts d e.branch (λ f. ne (sym f ∙ core_of_branch)) in
+      let far_new = far_counts d e.next (λ f. ne (sym f ∙ e.core ∙ core_of_branch)) in
+      let same : living_on d (slice_set x.state.branches r.branch e.next) ≡ living_on d x.state.branches = omega arith in
+      ap (living_on d) e.is_next.branches ∙ same
+
+  leaves_loose : LeavesLoose g r a e.left x.state e.world
+  leaves_loose = record { words = e.touched.words; ports = e.touched.ports; store = e.is_next.store }
+
+  others_used : OthersUsed g who c t st.roles r None runs_r a e.left (st.used c a at_c)
+  others_used = record {
+    as_many = e.touched.as_many;
+    as_many_syncs = ap length e.syncs;
+    alike = λ u ne. record { by = λ thread there. (thread, e.touched.others u (λ f. ne (f ∙ thread_is)) (λ k. k) ∙ there, refl, refl, refl) };
+    syncs = λ n ne taken. ap (λ l. slice_get l n) e.syncs ∙ taken;
+  }
+
+  -- no branch is made
+  own_goes : Goes g x (told_by g.program g.stimulus x piece e.world)
+  own_goes = told_one g x piece e.world r.branch e.branch e.next e.known e.birth e.is_next.branches
+
+  -- the core behind the step, and its other threads
+  at_left : slice_get (slice_set w.machine.cores c e.left) c ≡ Some e.left
+  at_left = get_set_same w.machine.cores c a e.left at_c
+
+  others_there : (u : ℕ) → u ≢ t → slice_get e.left.threads u ≡ slice_get a.threads u
+  others_there u ne = e.touched.others u (λ f. ne (f ∙ thread_is)) (λ k. k)
+
+  -- what was there behind another role of the thread
+  module _ (role : Role) where
+    abbrev who' : Roles
+    who' = with_role who c t role
+
+    same_role : (u : ℕ) → only_thread t u ≡ false → who' c u ≡ who c u
+    same_role u m = role_other who c t role u (not_t u m)
+
+  -- The thread goes on with its branch, or stands where that has ended or erred.
+  module _ (may_rest' : (core thread : ℕ) → Bool) where
+    abbrev pub s : Runner
+    s = record r { footprint = footprint_of e.next.items }
+
+    abbrev who_on : Roles
+    who_on = with_role who c t (used_by s None)
+
+    seated : IsSeated s r
+    seated = record {
+      core = refl;
+      thread = refl;
+      tie = refl;
+      family = refl;
+      base = refl;
+      stack = refl;
+      outermost_is = refl;
+      syncs = refl;
+      there = λ p n f h. h;
+      still = λ p n f h. h;
+    }
+
+    -- each runner was there, with the same parents, and each but the thread's own is there still
+    runner_before : (d u : ℕ) (i : Runner) (other : Option Hand) → who_on d u ≡ used_by i other → (j : Runner) × (old : Option Hand) × (who d u ≡ used_by j old) × (j.parents ≡ i.parents)
+    runner_before d u i other at =
+        ⊎_elim
+        (λ here. (r, None, ap (λ k. who k u) here.0 ∙ ap (who c) here.1 ∙ runs_r, ap (λ (k : Runner). k.parents) (same_runner s i None other (sym here.2 ∙ at))))
+        (λ there. (i, other, sym there.1 ∙ at, refl))
+        (role_cases who c t (used_by s None) d u)
+
+    runner_still : (u : ℕ) (i : Runner) (other : Option Hand) → who c u ≡ used_by i other → (r ≡ i) ⊎ (who_on c u ≡ used_by i other)
+    runner_still u i other at =
+        ⊎_elim
+        (λ here. inl (same_runner r i None other (sym runs_r ∙ ap (who c) (sym here.1) ∙ at)))
+        (λ there. inr (there.1 ∙ at))
+        (role_cases who c t (used_by s None) c u)
+
+    loose_on : 1 ≤ threads_on g.program c → AreLoose g who_on c e.left e.world
+    loose_on some =
+        loose_behind g who who_on c a e.left x.state e.world r core_is (st.roles.base c t r None runs_r) (laid_at g first is none_rests who w x st c t r None runs_r)
+        (st.loose c a at_c some) leaves_loose e.holds e.ports
+        (λ v nobody no u i other at. ⊎_elim (λ (same : r ≡ i). subst (λ (k : Runner). k.footprint.changes v ≡ false) same no) (λ now. nobody u i other now) (runner_still u i other at))
+        (λ v wanted.
+        let b = runner_before c wanted.thread wanted.runner wanted.hand wanted.runs in
+        inl (record { thread = wanted.thread; runner = b.0; hand = b.1; runs = b.2; parent = wanted.parent; waits = subst (λ ps. IsParent ps wanted.parent) (sym b.3) wanted.waits; uses = wanted.uses }))
+        (λ q nobody no u i other at. ⊎_elim (λ (same : r ≡ i). subst (λ (k : Runner). k.footprint.ports q ≡ false) same no) (λ now. nobody u i other now) (runner_still u i other at))
+
+    gives_as_before : GiveAsBefore who who_on
+    gives_as_before = record {
+      before = λ d u n i at.
+          ⊎_elim
+          (λ here. let none : None ≡ giving_back n = same_hand s i None (giving_back n) (sym here.2 ∙ at) in cc)
+          (λ there. (i, n, sym there.1 ∙ at, refl))
+          (role_cases who c t (used_by s None) d u);
+    }
+
+    run_on : (n : ℕ) (branch : Branch) → slice_get e.world.branches n ≡ Some branch → has_ended branch.mode ≡ false → IsRun who_on n
+    run_on n branch there on =
+        ⊎_elim
+        (λ (h : (n ≡ r.branch) × (branch ≡ e.next)). record { core = c; thread = t; runner = s; hand = None; runs = role_here who c t (used_by s None); branch = inl h.0 })
+        (λ (h : (n ≢ r.branch) × (slice_get x.state.branches n ≡ Some branch)).
+        let q = st.run n branch h.1 on in
+        ⊎_elim
+        (λ here.
+        let same = same_runner r q.runner None q.hand (sym runs_r ∙ sym (ap (λ k. who k q.thread) here.0 ∙ ap (who c) here.1) ∙ q.runs) in
+        record { core = q.core; thread = q.thread; runner = s; hand = None; runs = here.2; branch = subst (λ (k : Runner). IsAmong (own_branches k) n) (sym same) q.branch })
+        (λ other. record { core = q.core; thread = q.thread; runner = q.runner; hand = q.hand; runs = other.1 ∙ q.runs; branch = q.branch })
+        (role_cases who c t (used_by s None) q.core q.thread))
+        (branch_cases n branch there)
+
+    abbrev pub watched_on : Watched
+    watched_on = watched g first is none_rests who w x st c t a at_c r None runs_r (only_thread t) (eq-eqb t t refl) e.left e.world own_effect e.made
+
+    module _ (size : length e.left.words ≡ length a.words) (stand : Stand g s (may_rest' c t) None e.left e.world (watched_on.lives c t) (told_by g.program g.stimulus x piece e.world).actions e.next) where
+      own_stand : (u : ℕ) → only_thread t u ≡ true → Stands g (may_rest' c u) e.left e.world (watched_on.lives c u) (told_by g.program g.stimulus x piece e.world).actions (who_on c u)
+      own_stand u m =
+          let actions = (told_by g.program g.stimulus x piece e.world).actions in
+          let at : u ≡ t = eqb-true u t m in
+          subst (λ k. Stands g (may_rest' c k) e.left e.world (watched_on.lives c k) actions (who_on c k)) (sym at)
+          (subst (Stands g (may_rest' c t) e.left e.world (watched_on.lives c t) actions) (sym (role_here who c t (used_by s None)))
+          (subst (λ o. SomeIs o (Stand g s (may_rest' c t) None e.left e.world (watched_on.lives c t) actions)) (sym own_branch) stand))
+
+      pub goes_on_answered : Follows g may_rest' who w x watched_on
+      goes_on_answered =
+          let o = only_thread t in
+          let self = eq-eqb t t refl in
+          record {
+            who = who_on;
+            piece = piece;
+            world = e.world;
+            acted = all_acted;
+            standing = answered g first is none_rests who w x st c t a at_c r None runs_r o self e.left e.world own_effect may_rest' who_on watched_on piece
+                (has_stepped g first is none_rests who w x st c t a at_c r None runs_r o self e.left e.world own_effect e.made size)
+                (record {
+                  acted = all_acted;
+                  clocks = clocks_still g first is none_rests who w x st c t a at_c r None runs_r o self e.left e.world own_effect e.made;
+                  trace = ap (λ l. noted l e.made) st.trace ∙ sym e.is_next.trace;
+                  roles = roles_go_on g who c t st.roles r None runs_r s None (record { seated = seated; held = refl; sync = λ n f. inl f; branches = λ n m. inl m });
+                  reserves = reserves_of_others g who e.world (reserves_behind g who x.state st.lawful st.reserves piece e.world all_acted) who_on gives_as_before;
+                  used = used_on g who c t st.roles r None runs_r a e.left (st.used c a at_c) s None others_used
+                      (λ n taken. inr (ap (λ l. slice_get l n) (sym e.syncs) ∙ taken, λ owns. owns))
+                      (λ n owns. ap (λ l. slice_get l n) e.syncs ∙ (st.used c a at_c).owned t n r None runs_r owns)
+                      (λ n u f m. absurd m);
+                  same_role = same_role (used_by s None);
+                  far_role = λ d u ne. role_far who c t (used_by s None) d u ne;
+                  rests = λ u m none. absurd (false_true none);
+                  far_rests = λ d u ne none. absurd (false_true none);
+                  steps = λ u m. steps_still g first is none_rests who w x st c t a at_c r None runs_r o self e.left e.world own_effect e.made u m;
+                  far_steps = λ d u ne. far_steps_still g first is none_rests who w x st c t a at_c r None runs_r o self e.left e.world own_effect e.made d u ne;
+                  stand = own_stand;
+                  loose = loose_on;
+                  roots = own_roots;
+                  far_roots = own_far_roots;
+                  placed = own_placed;
+                  run = run_on;
+                  made = own_made;
+                });
+            named = λ names. own_linked g none_rests who w x st names watched_on.machine c t a e.left at_c at_left r s runs_r refl (told_by g.program g.stimulus x piece e.world) own_goes e.syncs others_there;
+          }
+        where
+          false_true : false ≡ true → ⊥
+          false_true f = cc
+
+  -- The thread leaves its place: its branch, a root's, has ended, and it is free.
+  module _ (tie : r.tie ≡ None) (parents : r.parents ≡ []) (over : has_ended e.next.mode ≡ true) (free : IsFree (slice_get e.left.threads r.thread)) where
+    abbrev who_off : Roles
+    who_off = with_role who c t unused
+
+    before_off : (d u : ℕ) (i : Runner) (other : Option Hand) → who_off d u ≡ used_by i other → who d u ≡ used_by i other
+    before_off d u i other at =
+        ⊎_elim
+        (λ here. let both : unused ≡ used_by i other = sym here.2 ∙ at in cc)
+        (λ there. sym there.1 ∙ at)
+        (role_cases who c t unused d u)
+
+    still_off : (d u : ℕ) (i : Runner) (other : Option Hand) → who d u ≡ used_by i other → (r ≡ i) ⊎ (who_off d u ≡ used_by i other)
+    still_off d u i other at =
+        ⊎_elim
+        (λ here. inl (same_runner r i None other (sym runs_r ∙ sym (ap (λ k. who k u) here.0 ∙ ap (who c) here.1) ∙ at)))
+        (λ there. inr (there.1 ∙ at))
+        (role_cases who c t unused d u)
+
+    loose_off : 1 ≤ threads_on g.program c → AreLoose g who_off c e.left e.world
+    loose_off some =
+        loose_behind g who who_off c a e.left x.state e.world r core_is (st.roles.base c t r None runs_r) (laid_at g first is none_rests who w x st c t r None runs_r)
+        (st.loose c a at_c some) leaves_loose e.holds e.ports
+        (λ v nobody no u i other at. ⊎_elim (λ (same : r ≡ i). subst (λ (k : Runner). k.footprint.changes v ≡ false) same no) (λ now. nobody u i other now) (still_off c u i other at))
+        (λ v wanted. inl (record { thread = wanted.thread; runner = wanted.runner; hand = wanted.hand; runs = before_off c wanted.thread wanted.runner wanted.hand wanted.runs; parent = wanted.parent; waits = wanted.waits; uses = wanted.uses }))
+        (λ q nobody no u i other at. ⊎_elim (λ (same : r ≡ i). subst (λ (k : Runner). k.footprint.ports q ≡ false) same no) (λ now. nobody u i other now) (still_off c u i other at))
+
+    only_own : (n : ℕ) → IsAmong (own_branches r) n → n ≡ r.branch
+    only_own n (inl f) = f
+    only_own n (inr m) = absurd (subst (λ ps. IsAmong (branches_of ps) n) parents m)
+
+    run_off : (n : ℕ) (branch : Branch) → slice_get e.world.branches n ≡ Some branch → has_ended branch.mode ≡ false → IsRun who_off n
+    run_off n branch there on =
+        ⊎_elim
+        (λ (h : (n ≡ r.branch) × (branch ≡ e.next)). absurd (true_false (sym over ∙ ap (λ (b : Branch). has_ended b.mode) (sym h.1) ∙ on)))
+        (λ (h : (n ≢ r.branch) × (slice_get x.state.branches n ≡ Some branch)).
+        let q = st.run n branch h.1 on in
+        ⊎_elim
+        (λ (same : r ≡ q.runner). absurd (h.0 (only_own n (subst (λ (k : Runner). IsAmong (own_branches k) n) (sym same) q.branch))))
+        (λ now. record { core = q.core; thread = q.thread; runner = q.runner; hand = q.hand; runs = now; branch = q.branch })
+        (still_off q.core q.thread q.runner q.hand q.runs))
+        (branch_cases n branch there)
+      where
+        true_false : true ≡ false → ⊥
+        true_false f = cc
+
+    gives_off : GiveAsBefore who who_off
+    gives_off = record { before = λ d u n i at. (i, n, before_off d u i (giving_back n) at, refl) }
+
+    abbrev pub watched_off : Watched
+    watched_off = watched g first is none_rests who w x st c t a at_c r None runs_r (only_thread t) (eq-eqb t t refl) e.left e.world own_effect e.made
+
+    pub leaves_answered : length e.left.words ≡ length a.words → Follows g none_rests who w x watched_off
+    leaves_answered size =
+        let o = only_thread t in
+        let self = eq-eqb t t refl in
+        record {
+          who = who_off;
+          piece = piece;
+          world = e.world;
+          acted = all_acted;
+          standing = answered g first is none_rests who w x st c t a at_c r None runs_r o self e.left e.world own_effect none_rests who_off watched_off piece
+              (has_stepped g first is none_rests who w x st c t a at_c r None runs_r o self e.left e.world own_effect e.made size)
+              (record {
+                acted = all_acted;
+                clocks = clocks_still g first is none_rests who w x st c t a at_c r None runs_r o self e.left e.world own_effect e.made;
+                trace = ap (λ l. noted l e.made) st.trace ∙ sym e.is_next.trace;
+                roles = roles_leave g who c t st.roles r runs_r tie parents;
+                reserves = reserves_of_others g who e.world (reserves_behind g who x.state st.lawful st.reserves piece e.world all_acted) who_off gives_off;
+                used = used_leave g who c t st.roles r runs_r parents a e.left (st.used c a at_c) others_used e.syncs (subst (λ k. IsFree (slice_get e.left.threads k)) thread_is free);
+                same_role = same_role unused;
+                far_role = λ d u ne. role_far who c t unused d u ne;
+                rests = λ u m none. none;
+                far_rests = λ d u ne none. none;
+                steps = λ u m. steps_still g first is none_rests who w x st c t a at_c r None runs_r o self e.left e.world own_effect e.made u m;
+                far_steps = λ d u ne. far_steps_still g first is none_rests who w x st c t a at_c r None runs_r o self e.left e.world own_effect e.made d u ne;
+                stand = λ u m.
+                    let at : u ≡ t = eqb-true u t m in
+                    let actions = (told_by g.program g.stimulus x piece e.world).actions in
+                    subst (Stands g false e.left e.world (watched_off.lives c u) actions) (sym (ap (who_off c) at ∙ role_here who c t unused)) tt;
+                loose = loose_off;
+                roots = own_roots;
+                far_roots = own_far_roots;
+                placed = own_placed;
+                run = run_off;
+                made = own_made;
+              });
+          named = λ names. leaves_linked g none_rests who w x st names watched_off.machine c t a e.left at_c at_left r runs_r e.world e.next e.branch e.known e.birth e.is_next.branches e.syncs others_there;
+        }

@@ -1,0 +1,225 @@
+-- A thread's turn is answered: behind it the thread stands so again.
+use Rattle.std.proofs.Common.{◌≡◌, ℕ, ◌+◌, ◌-◌, ◌*◌, ◌<◌, ◌≤◌, inl, inr, [], ◌∷◌, List, length, Option, Some, None, refl, sym, ap, ◌∙◌, subst, arith}
+use Rattle.std.specs.Prelude.{true, false, slice_get}
+use Rattle.std.proofs.lemmas.Option.{same_Some}
+use Rattle.xs_instr.specs.declared.state.CoreState.{CoreState}
+use Rattle.xs_instr.specs.declared.state.Mode.TheVariants.{Trapped}
+use Rattle.xs_instr.specs.declared.state.Thread.{Thread}
+use Rattle.xs_instr.specs.Slot.{trapped}
+use Rattle.xc_laws.specs.Tree.{IsChild}
+use Rattle.xc_meaning.specs.Counts.Families.{steps_of}
+use Rattle.xc_meaning.specs.Counts.KernelCounts.{greatest_count, kernel_bound}
+use Rattle.xc_meaning.specs.States.Branches.{Branch, runs, ended, erred, has_ended}
+use Rattle.xc_meaning.specs.States.Worlds.{World, go}
+use Rattle.xl_par.specs.Hands.{IsAmong}
+use Rattle.xr_match.specs.Lives.{Life, Watched}
+use Rattle.xr_match.specs.Meanings.{of_kernel}
+use Rattle.xr_match.specs.Sources.{Told}
+use Rattle.xr_threads.specs.Images.{IsImageOf}
+use Rattle.xr_threads.specs.Parents.{Parent, branches_of}
+use Rattle.xr_threads.specs.Roles.{IsParent, ParentWaits, ParentsWait, Roles, empty, outermost, used_by}
+use Rattle.xr_threads.specs.Runners.{Setting, Runner, footprint_of, shrunk}
+use Rattle.xr_threads.specs.Scenes.{Scene, running}
+use Rattle.xr_threads.specs.Standing.{HasEnded, Stand, Standing, StandsBy, ThreadIs, counts, none_rests}
+use Rattle.xr_threads.specs.Turns.{Errs, Frees, Goes, IsTiedThread, IsWaitingTied, Waits, cost, failed, finished}
+use Rattle.xr_threads.proofs.Answers.{errs_step, frees_step, goes_step, trap_leaves, waits_step}
+use Rattle.xr_threads.proofs.Counts.{counts_one, made_counts, root_counts}
+use Rattle.xr_threads.proofs.Less.{uses_less}
+use Rattle.xr_threads.proofs.Lives.{own_life}
+use Rattle.xr_threads.proofs.Moves.{works_at}
+use Rattle.xr_threads.proofs.OwnEvents.{OwnStep, bound_grows, goes_on_answered, leaves_answered, other_branch, parent_waits, rests_alone, rests_there, watched_off, watched_on}
+use Rattle.xr_threads.proofs.Shrinks.{IsWithin, rest_shrinks, within_of_uses}
+use Rattle.xr_threads.proofs.Standing.{Follows, parents_still, rests_more, told_by}
+
+-- the one among them that waits
+pub parent_of : (g : Setting) (x : World) (core family first : ℕ) (ps : List Parent) (p : Parent) → ParentsWait g x core family ps first → IsParent ps p → (k : ℕ) × ParentWaits g x core family p k
+parent_of g x core family first [] p h m = absurd m
+parent_of g x core family first (q ∷ qs) p h (inl e) = (first, subst (λ k. ParentWaits g x core family k first) (sym e) h.0)
+parent_of g x core family first (q ∷ qs) p h (inr m) = parent_of g x core family q.branch qs p h.1 m
+
+module _ (g : Setting) (first : Roles) (is : IsImageOf g first) (who : Roles) (w : Watched) (x : Told (of_kernel g.program)) (st : Standing g none_rests who w x)
+    (c t : ℕ) (a : CoreState) (at_c : slice_get w.machine.cores c ≡ Some a) (r : Runner) (runs_r : who c t ≡ used_by r None)
+    (branch : Branch) (known : slice_get x.state.branches r.branch ≡ Some branch) (stand : Stand g r false None a x.state (w.lives c t) x.actions branch) where
+  abbrev now : Scene
+  now = record { core = a; world = x.state; hand = None }
+
+  -- where the thread is, for the machine
+  core_is : r.core ≡ c
+  core_is = st.roles.core c t r None runs_r
+
+  -- what is behind a step of the branch's own
+  module _ (e : OwnStep g r c a x.state) where
+    abbrev e_watched : Watched
+    e_watched = watched_on g first is who w x st c t a at_c r runs_r e none_rests
+
+    same_branch : e.branch ≡ branch
+    same_branch = same_Some e.branch branch (sym e.known ∙ known)
+
+    -- its life is one step longer
+    bound_behind : (j further : ℕ) → j ≤ stand.left → further ≤ j + 1 + cost g r →
+        (e_watched.lives c t).steps + further ≤ kernel_bound g.program * ((told_by g.program g.stimulus x (go r.branch ∷ []) e.world).actions r.family + 1)
+    bound_behind j further few enough =
+        let one : 1 ≤ steps_of g.program g.stimulus branch.family (Some x.state) (go r.branch ∷ []) = counts_one g r.branch x.state branch [] known in
+        let one' : 1 ≤ steps_of g.program g.stimulus r.family (Some x.state) (go r.branch ∷ []) = subst (λ f. 1 ≤ steps_of g.program g.stimulus f (Some x.state) (go r.branch ∷ [])) stand.family one in
+        let life : (e_watched.lives c t).steps ≡ (w.lives c t).steps + 1 = ap (λ (l : Life). l.steps) (own_life w e_watched.machine c t) in
+        let all = bound_grows (kernel_bound g.program) (greatest_count g.program) (w.lives c t).steps stand.left j further (x.actions r.family) (steps_of g.program g.stimulus r.family (Some x.state) (go r.branch ∷ [])) refl stand.bound few enough one' in
+        subst (λ k. k + further ≤ kernel_bound g.program * ((told_by g.program g.stimulus x (go r.branch ∷ []) e.world).actions r.family + 1)) (sym life) all
+
+    -- those that wait for the branch do so still
+    parents_behind : ParentsWait g e.world r.core r.family r.parents r.branch
+    parents_behind =
+        parents_still g r x.state e.world r.core r.family r.parents r.branch
+        (λ n m. other_branch g first is who w x st c t a at_c r runs_r e n (λ same. not_own n m same)) stand.parents
+      where
+        not_own : (n : ℕ) → IsAmong (branches_of r.parents) n → n ≡ r.branch → ⊥
+        not_own n m same =
+            let p = parent_waits g x.state r.core r.family r.branch r.parents n stand.parents m in
+            let both : p.0 ≡ e.branch = same_Some p.0 e.branch (sym p.1 ∙ ap (slice_get x.state.branches) same ∙ e.known) in
+            runs_waits (subst (λ (b : Branch). Rattle.xc_laws.specs.Tree.IsWaiting b.mode) both p.2)
+          where
+            runs_waits : Rattle.xc_laws.specs.Tree.IsWaiting e.branch.mode → ⊥
+            runs_waits h = subst Rattle.xc_laws.specs.Tree.IsWaiting e.running h
+
+  -- the thread does an item, and the branch goes on
+  module _ (j : ℕ) (few : j ≤ stand.left) (h : Goes g r j now) where
+    abbrev pub went : OwnStep g r c a x.state
+    went = goes_step g r c a x.state j h
+
+    -- what is left uses no more
+    less : IsWithin (footprint_of h.items) r.footprint
+    less = subst (IsWithin (footprint_of h.items)) (sym (stand.footprint ∙ ap (λ (b : Branch). footprint_of b.items) (sym (same_branch went))))
+        (within_of_uses h.items h.acts.branch.items
+        (uses_less g.program g.stimulus x.state h.acts.world (go r.branch) st.lawful h.acts.acted r.branch h.acts.branch (record h.acts.branch { items = h.items }) h.acts.known
+        (ap (λ l. slice_get l r.branch) h.acts.is_next.branches ∙ Rattle.xl_expr.proofs.Lists.get_set_same x.state.branches r.branch h.acts.branch (record h.acts.branch { items = h.items }) h.acts.known)))
+
+    abbrev pub went_watched : Watched
+    went_watched = watched_on g first is who w x st c t a at_c r runs_r went (rests_alone c t)
+
+    went_stand : Stand g (shrunk r h.items) (rests_alone c t c t) None h.left h.acts.world (went_watched.lives c t) (told_by g.program g.stimulus x (go r.branch ∷ []) h.acts.world).actions (record h.acts.branch { items = h.items })
+    went_stand =
+        let further = h.jumps + cost g r in
+        let z : Scene = record { core = h.left; world = h.acts.world; hand = None } in
+        let rest = rest_shrinks g r h.items less h.jumps z h.rest in
+        let enough = h.fewer in
+        record {
+          core = h.acts.core;
+          family = ap (λ (b : Branch). b.family) (same_branch went) ∙ stand.family;
+          footprint = refl;
+          parents = parents_behind went;
+          thread = record { thread = running r.tie h.rest.pc h.rest.regs; there = h.rest.here; tied = refl; no_events = refl; is = subst (λ m. ThreadIs r.parents m Rattle.xs_instr.specs.declared.state.Mode.TheVariants.Running) (sym h.acts.mode) refl };
+          in_hand = empty refl;
+          ends_tied = λ f. absurd (runs_ended (sym h.acts.mode ∙ f));
+          left = further;
+          bound = bound_behind went j further few (omega arith);
+          by = subst (λ m. StandsBy g (shrunk r h.items) (rests_alone c t c t) h.items m further z) (sym h.acts.mode)
+              (rests_more g (shrunk r h.items) true (rests_alone c t c t) h.items runs further z (λ f. rests_there c t) (inr (inr (h.jumps, omega arith, refl, rest))));
+        }
+      where
+        runs_ended : runs ≡ ended → ⊥
+        runs_ended f = cc
+
+    pub goes_answered : length h.left.words ≡ length a.words → Follows g (rests_alone c t) who w x went_watched
+    goes_answered size = goes_on_answered g first is who w x st c t a at_c r runs_r went (rests_alone c t) size went_stand
+
+  -- the thread traps, and the branch errs
+  module _ (h : Errs g r now) where
+    abbrev pub erring : OwnStep g r c a x.state
+    erring = errs_step g r c a x.state stand.thread.thread stand.thread.there stand.thread.tied h
+
+    abbrev pub erring_watched : Watched
+    erring_watched = watched_on g first is who w x st c t a at_c r runs_r erring none_rests
+
+    erring_stand : Stand g (shrunk r []) false None (trapped a r.thread) h.acts.world (erring_watched.lives c t) (told_by g.program g.stimulus x (go r.branch ∷ []) h.acts.world).actions (failed h.acts.branch)
+    erring_stand =
+        let t' = trap_leaves g r c a x.state stand.thread.thread stand.thread.there in
+        record {
+          core = h.acts.core;
+          family = ap (λ (b : Branch). b.family) (same_branch erring) ∙ stand.family;
+          footprint = refl;
+          parents = parents_behind erring;
+          thread = record { thread = record stand.thread.thread { mode = Trapped }; there = t'.there; tied = stand.thread.tied; no_events = stand.thread.no_events; is = trapped_is r.parents };
+          in_hand = empty refl;
+          ends_tied = λ f. absurd (erred_ended f);
+          left = 0;
+          bound = bound_behind erring 0 0 (omega arith) (omega arith);
+          by = refl;
+        }
+      where
+        erred_ended : erred ≡ ended → ⊥
+        erred_ended f = cc
+
+        trapped_is : (ps : List Parent) → ThreadIs ps erred Trapped
+        trapped_is [] = refl
+        trapped_is (p ∷ ps) = refl
+
+    pub errs_answered : Follows g none_rests who w x erring_watched
+    errs_answered = goes_on_answered g first is who w x st c t a at_c r runs_r erring none_rests (ap length ((trap_leaves g r c a x.state stand.thread.thread stand.thread.there).words)) erring_stand
+
+  -- a root's thread is freed
+  module _ (h : Frees g r now) where
+    -- its branch is the root's
+    pub is_root : (b : Branch) → slice_get x.state.branches r.branch ≡ Some b → b.mode ≡ runs → counts c b ≡ 1
+    is_root b at running =
+        let started = st.roles.started c t r None runs_r in
+        let own : r.branch ≡ r.family = subst (λ ps. outermost r.branch ps ≡ r.family) h.outermost started in
+        let lt = st.roles.untied c t r None runs_r h.root in
+        let birth = st.lawful.forest.born r.branch b at (omega arith) in
+        let on : b.core ≡ c = ap (λ (k : Branch). k.core) (same_Some b branch (sym at ∙ known)) ∙ stand.core ∙ core_is in
+        ap (λ k. counts k b) (sym on) ∙ root_counts b (ap has_ended running) birth
+
+    pub some_roots : 1 ≤ a.roots
+    some_roots =
+        let one = is_root h.acts.branch h.acts.known h.acts.mode in
+        let living = Rattle.xr_threads.proofs.Counts.living_some c x.state.branches r.branch h.acts.branch h.acts.known in
+        let all = st.roots c a at_c in
+        omega arith
+
+    abbrev pub freeing : OwnStep g r c a x.state
+    freeing = frees_step g r c a x.state some_roots is_root h
+
+    pub frees_answered : Follows g none_rests who w x (watched_off g first is who w x st c t a at_c r runs_r freeing h.root h.outermost refl h.unused)
+    frees_answered = leaves_answered g first is who w x st c t a at_c r runs_r freeing h.root h.outermost refl h.unused (ap length h.words)
+
+  -- a tied thread waits
+  module _ (h : Waits g r now) where
+    -- its branch is one that a `par` made
+    pub is_made : (b : Branch) → slice_get x.state.branches r.branch ≡ Some b → counts c b ≡ 0
+    is_made b at =
+        let k = st.roles.tied c t h.sync r None runs_r h.tied in
+        let owner = works_at g first is none_rests who w x st c k.0 k.2 k.3 k.5 in
+        let q = parent_of g x.state k.2.core k.2.family k.2.branch k.2.parents k.4 owner.parents k.6 in
+        let started = st.roles.started c t r None runs_r in
+        let own : r.branch ≡ r.family = subst (λ ps. outermost r.branch ps ≡ r.family) h.outermost started in
+        let family : r.family ≡ k.4.from + k.1 = k.10 in
+        let less : k.1 < k.4.count = k.9 in
+        let birth = (st.lawful.forest.own k.4.branch r.branch q.1.branch b k.4.from k.4.count q.1.known q.1.mode (omega arith) (omega arith) at).birth in
+        made_counts c b (record { family = q.1.branch.family; index = r.branch - k.4.from; among = k.4.count }) birth
+
+    abbrev pub waiting : OwnStep g r c a x.state
+    waiting = waits_step g r c a x.state is_made h
+
+    abbrev pub waiting_watched : Watched
+    waiting_watched = watched_on g first is who w x st c t a at_c r runs_r waiting none_rests
+
+    waiting_stand : Stand g (shrunk r []) false None h.left h.acts.world (waiting_watched.lives c t) (told_by g.program g.stimulus x (go r.branch ∷ []) h.acts.world).actions (finished h.acts.branch)
+    waiting_stand =
+        let th = waits_thread (slice_get h.left.threads r.thread) refl h.waits in
+        record {
+          core = h.acts.core;
+          family = ap (λ (b : Branch). b.family) (same_branch waiting) ∙ stand.family;
+          footprint = refl;
+          parents = parents_behind waiting;
+          thread = record { thread = th.0; there = th.1; tied = th.2.tied ∙ sym h.tied; no_events = th.2.no_events; is = subst (λ ps. ThreadIs ps ended th.0.mode) (sym h.outermost) th.2.waits };
+          in_hand = empty refl;
+          ends_tied = λ f none. (h.sync, h.tied);
+          left = 0;
+          bound = bound_behind waiting 0 0 (omega arith) (omega arith);
+          by = subst (λ ps. HasEnded g (shrunk r []) ps 0 (record { core = h.left; world = h.acts.world; hand = None })) (sym h.outermost) refl;
+        }
+      where
+        waits_thread : (o : Option Thread) → slice_get h.left.threads r.thread ≡ o → IsWaitingTied h.sync o → (th : Thread) × (slice_get h.left.threads r.thread ≡ Some th) × IsTiedThread h.sync th
+        waits_thread None f k = absurd k
+        waits_thread (Some th) f k = (th, f, k)
+
+    pub waits_answered : Follows g none_rests who w x waiting_watched
+    waits_answered = goes_on_answered g first is who w x st c t a at_c r runs_r waiting none_rests (ap length h.words) waiting_stand

@@ -1,0 +1,27 @@
+-- The branches that wait for the one that a thread runs.
+use Rattle.std.specs.Prelude.{ℕ, List, [], ◌∷◌, Option, Some, None}
+use Rattle.xc_meaning.specs.States.Items.{Item}
+
+-- A branch that waits for those of its `par`, the first of which its own thread runs: its number, theirs, the synchroniser of the other
+-- ones where there are some, and what is left to it.
+pub record Parent : Type 0 where
+  pub branch : ℕ
+  pub from : ℕ
+  pub count : ℕ
+  pub sync : Option ℕ
+  pub items : List Item
+
+-- `syncs_of`, by cases
+abbrev pub sync_before : Option ℕ → List ℕ → List ℕ
+sync_before None ns = ns
+sync_before (Some n) ns = n ∷ ns
+
+-- their synchronisers
+abbrev pub syncs_of : List Parent → List ℕ
+syncs_of [] = []
+syncs_of (p ∷ ps) = sync_before p.sync (syncs_of ps)
+
+-- their numbers
+abbrev pub branches_of : List Parent → List ℕ
+branches_of [] = []
+branches_of (p ∷ ps) = p.branch ∷ branches_of ps
