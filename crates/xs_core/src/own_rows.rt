@@ -1,7 +1,7 @@
 // The rows of registers, memory and flow.
 
 ghost use Rattle.std.specs.Prelude.{◌≡◌, ◌+◌, ◌*◌, ◌%◌, ◌<◌, ◌^◌, true, slice_set, IfOk};
-ghost use Rattle.xs_core.specs.Own.{OwnFits, is_own, is_value, own_after, own_did, own_in, with_own};
+ghost use Rattle.xs_core.specs.Own.{OwnFits, is_own as is_own_of, is_value, own_after, own_did, own_in, with_own};
 ghost use Rattle.xs_core.specs.Seen.{thread_at};
 ghost use Rattle.xs_instr.specs.Did.{makes};
 ghost use Rattle.xs_instr.specs.Memory.{address_at};
@@ -32,9 +32,27 @@ pub enum OwnStep {
     Return(u32, u32),
 }
 
+/// Whether the instruction is one of registers, memory and flow.
+pub fn is_own(instr: Instr) -> bool
+    ensures { result ≡ is_own_of instr }
+{
+    match instr {
+        Instr::Getr(_, _) | Instr::Freer(_) | Instr::Getst(_, _) => false,
+        Instr::Tinitpc(_, _) | Instr::Tinitdp(_, _) | Instr::Tinitsp(_, _) => false,
+        Instr::Msync(_) | Instr::Ssync | Instr::Mjoin(_) | Instr::Freet => false,
+        Instr::Out(_, _) | Instr::Outt(_, _) | Instr::Outct(_, _) => false,
+        Instr::In(_, _) | Instr::Int(_, _) | Instr::Chkct(_, _) => false,
+        Instr::Setc(_, _) | Instr::Setd(_, _) | Instr::Setpt(_, _) => false,
+        Instr::Getts(_, _) | Instr::Setv(_, _) | Instr::Eeu(_) | Instr::Edu(_) => false,
+        Instr::Clre | Instr::Waiteu | Instr::Setsr(_) | Instr::Clrsr(_) => false,
+        _ => true,
+    }
+}
+
 /// What an instruction of registers, memory and flow does, or why it traps.
+#[inline(always)]
 pub fn step(thread: &Thread, words: &Ram, instr: Instr) -> Result<OwnStep, Trap>
-    requires { is_own instr ≡ true }
+    requires { is_own_of instr ≡ true }
     ensures row { own_did (own_in thread.now words.now) result
         ≡ own_row (own_in thread.now words.now) instr }
     ensures fits { IfOk result (λ s. OwnFits (own_in thread.now words.now) s) }
@@ -64,6 +82,7 @@ pub fn step(thread: &Thread, words: &Ram, instr: Instr) -> Result<OwnStep, Trap>
 }
 
 /// What an instruction does that sets a register to a value.
+#[inline(always)]
 fn value(regs: &Regs, instr: Instr) -> OwnStep
     requires { is_value instr ≡ true }
     ensures row { (own : Own) → own.regs ≡ regs.now → makes (own_after own result)
@@ -195,6 +214,7 @@ fn one_if(holds: bool) -> u32
 }
 
 /// Takes the step.
+#[inline(always)]
 pub fn apply(threads: &mut [Thread; THREADS], words: &mut Ram, t: u8, step: OwnStep)
     requires there { t < 8 }
     requires room { (thread_at threads.old t).pc + 1 < 2 ^ 32 }

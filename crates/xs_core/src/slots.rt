@@ -1,15 +1,17 @@
 // A thread's turn: what comes of it, and how it is taken.
 
-ghost use Rattle.std.specs.Prelude.{◌≡◌, ◌+◌, ◌<◌, ◌≤◌, ◌||◌, length, slice_get};
+ghost use Rattle.std.specs.Prelude.{◌≡◌, ◌+◌, ◌<◌, ◌≤◌, ◌||◌, ℕ, length, slice_get, IfSome};
 ghost use Rattle.xs_core.specs.Idle.{AreUnusedFrom};
 ghost use Rattle.xs_core.specs.Order.{IsInOrder, KeepsHome};
 ghost use Rattle.xs_core.specs.Seen.{home_of, state_of, thread_at};
 ghost use Rattle.xs_core.specs.Slots.{IsTurn};
+ghost use Rattle.xs_core.specs.declared.turn.Turn.TheVariants.{Own};
 ghost use Rattle.xs_core.specs.Turns.{meant, steps, Fits, MayGoOn};
 ghost use Rattle.xs_instr.specs.Did.{is_step};
 ghost use Rattle.xs_instr.specs.Slot.{instr_at, is_ready, pos_at, runs_on, slot, takes_events as takes_events_of};
 
 use crate::did::Did;
+use crate::own_rows::OwnStep;
 use crate::ready::pick;
 use crate::rows::row;
 use crate::state::State;
@@ -77,8 +79,76 @@ pub fn takes_events(thread: &Thread, instr: Option<Instr>) -> bool
     }
 }
 
-/// Thread `t` takes its turn. From `in_use` on each thread is unused, before it and after it.
+/// Thread `t` takes its turn. From `in_use` on each thread is unused, before it and after it. A step in registers, memory and flow,
+/// as most are, is made without a look at what other steps need.
+#[inline]
 pub fn take(state: &mut State, outbox: &mut HeapCircularBuffer<Sent>, in_use: &mut u8, t: u8) -> Did
+    requires used { t < in_use.old }
+    requires few { in_use.old ≤ 8 }
+    requires unused { AreUnusedFrom in_use.old state.old.threads }
+    requires order { IsInOrder state.old }
+    requires spare { length outbox.old.items + 4 ≤ outbox.old.capacity }
+    ensures turn { IsTurn (slot (home_of state.old) (state_of state.old) t) (home_of state.old)
+        (state_of state.old) t result (state_of state.new) outbox.old.items outbox.new.items }
+    ensures home { KeepsHome state.old state.new }
+    ensures order { IsInOrder state.new }
+    ensures few { length outbox.new.items ≤ length outbox.old.items + 4 }
+    ensures capacity { outbox.new.capacity ≡ outbox.old.capacity }
+    ensures less { in_use.new ≤ 8 }
+    ensures rest { AreUnusedFrom in_use.new state.new.threads }
+{
+    match own_step(state, t) {
+        Some(step) => {
+            own_rows::apply(&mut state.threads, &mut state.words, t, step);
+            Did::Made(None)
+        }
+        None => take_any(state, outbox, in_use, t),
+    }
+}
+
+/// The step in registers, memory and flow that thread `t` makes at its turn. `None` where its turn is another, or may be.
+#[inline(always)]
+fn own_step(state: &State, t: u8) -> Option<OwnStep>
+    requires there { t < 8 }
+    requires order { IsInOrder state.now }
+    ensures means { IfSome result (λ step. slot (home_of state.now) (state_of state.now) t
+        ≡ meant (home_of state.now) (state_of state.now) t (thread_at state.now.threads t) (Own step)) }
+    ensures fits { IfSome result (λ step. Fits (home_of state.now) (state_of state.now) t
+        (thread_at state.now.threads t) (Own step)) }
+    ensures room { IfSome result (λ step. MayGoOn (thread_at state.now.threads t).pc (Own step)) }
+{
+    let thread = &state.threads[t as usize];
+    match thread.mode {
+        Mode::Running => run_alone(state, thread),
+        Mode::Unused | Mode::Waiting | Mode::Trapped => None,
+    }
+}
+
+/// The same of a running thread.
+#[inline(always)]
+fn run_alone(state: &State, thread: &Thread) -> Option<OwnStep>
+    requires order { IsInOrder state.now }
+    ensures means { (t : ℕ) → IfSome result (λ step.
+        meant (home_of state.now) (state_of state.now) t thread.now (Own step)
+        ≡ runs_on (home_of state.now) (state_of state.now) t thread.now
+        (instr_at (home_of state.now) thread.now.pc)) }
+    ensures fits { (t : ℕ) → IfSome result (λ step.
+        Fits (home_of state.now) (state_of state.now) t thread.now (Own step)) }
+    ensures room { IfSome result (λ step. MayGoOn thread.now.pc (Own step)) }
+{
+    if thread.event_bit {
+        return None;
+    }
+    let instr = *state.fixed.parts.code.instrs.get(thread.pc as usize)?;
+    if !own_rows::is_own(instr) {
+        return None;
+    }
+    own_rows::step(thread, &state.words, instr).ok()
+}
+
+/// Thread `t` takes its turn, whatever this is.
+#[inline(never)]
+fn take_any(state: &mut State, outbox: &mut HeapCircularBuffer<Sent>, in_use: &mut u8, t: u8) -> Did
     requires used { t < in_use.old }
     requires few { in_use.old ≤ 8 }
     requires unused { AreUnusedFrom in_use.old state.old.threads }
