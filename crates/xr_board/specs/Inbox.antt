@@ -13,23 +13,9 @@ pub record TwoPlaces : Type 0 where
 abbrev pub empty : TwoPlaces
 empty = record { earlier = None; later = None }
 
--- there is nothing
-abbrev pub is_empty : Option Sending → Bool
-is_empty None = true
-is_empty (Some b) = false
-
 -- one window further
 abbrev pub moved_up : TwoPlaces → TwoPlaces
 moved_up p = record { earlier = p.later; later = None }
-
--- what is in a place
-abbrev pub taken : Option Sending → List Sending
-taken None = []
-taken (Some b) = b ∷ []
-
--- what is in the earlier places, by the number of the sender
-abbrev pub gathered : TwoPlaces → TwoPlaces → TwoPlaces → TwoPlaces → List Sending
-gathered a b c d = ((taken a.earlier ++ taken b.earlier) ++ taken c.earlier) ++ taken d.earlier
 
 -- `lacks`, by cases
 abbrev pub lacks_by : ℕ → Option ℕ → Bool → Option ℕ
@@ -41,9 +27,13 @@ abbrev pub lacks : ℕ → ℕ → Option Sending → Option ℕ → Option ℕ
 lacks i j (Some b) rest = rest
 lacks i j None rest = lacks_by j rest (nat_eq i j)
 
+-- the least core other than core i whose place of these is empty
+abbrev pub lacking_of : ℕ → Option Sending → Option Sending → Option Sending → Option Sending → Option ℕ
+lacking_of i a b c d = lacks i 0 a (lacks i 1 b (lacks i 2 c (lacks i 3 d None)))
+
 -- the least core other than core i whose earlier place is empty
 abbrev pub lacking : ℕ → TwoPlaces → TwoPlaces → TwoPlaces → TwoPlaces → Option ℕ
-lacking i a b c d = lacks i 0 a.earlier (lacks i 1 b.earlier (lacks i 2 c.earlier (lacks i 3 d.earlier None)))
+lacking i a b c d = lacking_of i a.earlier b.earlier c.earlier d.earlier
 
 -- `placed`, by cases
 abbrev pub put_later : TwoPlaces → Sending → Option Sending → Option TwoPlaces

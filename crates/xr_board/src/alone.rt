@@ -12,7 +12,8 @@ use crate::batches::Batches;
 use crate::start::part_of;
 use std::alloc::Global;
 use std::marker::Brand;
-use xr_windows::{Batch, Part, Run, RunName, told};
+use std::mem;
+use xr_windows::{Batch, Needs, Part, Run, RunName, told};
 use xs_instr::{Image, Stim};
 use xw_words::{List, Memory};
 
@@ -186,12 +187,11 @@ fn run_window<U: RunName>(
         first.new second.new third.new fourth.new got.new.to0 got.new.to1 got.new.to2
         got.new.to3) }
 {
-    let mut next = Batches::new(alloc);
-    run_core::<U>(first, alloc, &got.to0, &mut next)?;
-    run_core::<U>(second, alloc, &got.to1, &mut next)?;
-    run_core::<U>(third, alloc, &got.to2, &mut next)?;
-    run_core::<U>(fourth, alloc, &got.to3, &mut next)?;
-    *got = next;
+    let Batches { to0, to1, to2, to3 } = mem::replace(got, Batches::new(alloc));
+    run_core::<U>(first, alloc, to0, got)?;
+    run_core::<U>(second, alloc, to1, got)?;
+    run_core::<U>(third, alloc, to2, got)?;
+    run_core::<U>(fourth, alloc, to3, got)?;
     Ok(())
 }
 
@@ -199,12 +199,12 @@ fn run_window<U: RunName>(
 fn run_core<U: RunName>(
     part: &mut Part,
     alloc: Global,
-    got: &List<Batch<U>>,
+    got: List<Batch<U>>,
     next: &mut Batches<U>,
 ) -> Result<(), Memory>
     requires part { IsPartOf U.listing U.stimulus U.ticks part.old }
     requires left { part.old.ran < windows_of U.ticks }
-    requires got { got.now
+    requires got { got
         ≡ batches_to U.listing U.stimulus U.ticks part.old.home.number part.old.ran }
     ensures part { OnOk result (IsPartOf U.listing U.stimulus U.ticks part.new) }
     ensures ran { OnOk result (part.new.ran ≡ part.old.ran + 1) }
@@ -214,7 +214,8 @@ fn run_core<U: RunName>(
         next.old.to0 next.old.to1 next.old.to2 next.old.to3 next.new.to0 next.new.to1
         next.new.to2 next.new.to3) }
 {
-    let out = part.run_window::<U>(alloc, got)?;
+    let mut got = Needs::of(got);
+    let out = part.run_with::<U>(alloc, &mut got)?;
     next.add_all(out)?;
     Ok(())
 }

@@ -1,26 +1,21 @@
 // Four cells under locks.
 
 ghost use Rattle.std.specs.Prelude.{◌≡◌, ◌<◌, ◌≤◌, IfOk};
-ghost use Rattle.xr_board.specs.BoardTurns.{CanAnswer, IsAnswer, IsInRange};
+ghost use Rattle.xr_board.specs.BoardTurns.{CanAnswer, IsInRange};
 ghost use Rattle.xr_board.specs.CellState.{IsCell};
 ghost use Rattle.xr_board.specs.ForCores.{StartsAs};
 ghost use Rattle.xs_instr.specs.Valid.{IsGoodStim, Valid};
 
-use crate::cell::Cell;
 use crate::cells::Cells;
-use crate::core_name::{Core0, Core1, Core2, Core3, CoreName};
+use crate::core_name::{Core0, Core1, Core2, Core3};
 use crate::gate::Gate;
+use crate::seat::Seat;
 use crate::start::part_of;
-use crate::turned::Turned;
 use std::alloc::Global;
-use std::hint::spin_loop;
-use std::sync::{Mutex, Wait};
+use std::sync::Wait;
 use xr_windows::{Batch, Part, RunName};
 use xs_instr::{Image, Stim};
 use xw_words::{List, Memory};
-
-/// How often a cell's lock is tried before a thread sleeps for it.
-const TRIES: u32 = 1_000;
 
 /// What came of a turn on the board.
 #[derive(Clone, Copy, PartialEq, Eq, Debug)]
@@ -37,13 +32,13 @@ pub enum BoardTurn {
     Memory,
 }
 
-/// The four cores of the run that U names, each under a lock of its own, with copies of the image and the stimulus. It is not let go
+/// The four cores of the run that U names, each on a seat of its own, with copies of the image and the stimulus. It is not let go
 /// but by `cells` or `run_workers`.
 pub struct Board<U: RunName> {
-    first: Mutex<Cell<U, Core0>>,
-    second: Mutex<Cell<U, Core1>>,
-    third: Mutex<Cell<U, Core2>>,
-    fourth: Mutex<Cell<U, Core3>>,
+    first: Seat<U, Core0>,
+    second: Seat<U, Core1>,
+    third: Seat<U, Core2>,
+    fourth: Seat<U, Core3>,
     image: Image,
     stim: Stim,
     ticks: u32,
@@ -174,11 +169,11 @@ impl<U: RunName> Board<U> {
         requires fourth { StartsAs U.listing U.stimulus U.ticks 3 fourth }
     {
         match copies(alloc, image, stim) {
-            Ok((image, stim)) => Ok(Board {
-                first: Mutex::new(Cell::new(first)),
-                second: Mutex::new(Cell::new(second)),
-                third: Mutex::new(Cell::new(third)),
-                fourth: Mutex::new(Cell::new(fourth)),
+            Ok((image, stim)) => with_room(Board {
+                first: Seat::new(alloc, first),
+                second: Seat::new(alloc, second),
+                third: Seat::new(alloc, third),
+                fourth: Seat::new(alloc, fourth),
                 image,
                 stim,
                 ticks,
@@ -193,8 +188,16 @@ impl<U: RunName> Board<U> {
         }
     }
 
-    /// A core's turn under its lock, and then each batch handed to its cell under that cell's lock. A batch that the cell gives back
-    /// is dropped. What the cell was when the lock was taken no clause can say, so of an answer it is known what it can be.
+    // Makes room for what is on its way.
+    fn make_room(&mut self) -> Result<(), Memory> {
+        self.first.make_room()?;
+        self.second.make_room()?;
+        self.third.make_room()?;
+        self.fourth.make_room()
+    }
+
+    /// A core's turn under its lock, after what was handed to the core has come into its cell, and then each batch handed to its core. A
+    /// batch that a cell gives back is dropped. What the cell was when the lock was taken no clause can say, so of an answer it is known what it can be.
     pub fn turn<G: Gate, R: Wait>(&self, rt: &R, alloc: Global, core: u8, gate: &G) -> BoardTurn
         requires { core < 4 }
         ensures answer { CanAnswer U.ticks core result }
@@ -218,37 +221,37 @@ impl<U: RunName> Board<U> {
         ensures range { IsInRange result.0 }
     {
         match core {
-            0 => turn_under(rt, alloc, &self.first, gate),
-            1 => turn_under(rt, alloc, &self.second, gate),
-            2 => turn_under(rt, alloc, &self.third, gate),
-            _ => turn_under(rt, alloc, &self.fourth, gate),
+            0 => self.first.turn(rt, alloc, gate),
+            1 => self.second.turn(rt, alloc, gate),
+            2 => self.third.turn(rt, alloc, gate),
+            _ => self.fourth.turn(rt, alloc, gate),
         }
     }
 
-    // Hands each batch to its cell.
+    // Hands each batch to its core.
     fn hand_all<R: Wait>(&self, rt: &R, out: List<Batch<U>>) {
         for batch in out.into_vec() {
             self.hand(rt, batch);
         }
     }
 
-    // Hands a batch to its cell.
+    // Hands a batch to its core.
     fn hand<R: Wait>(&self, rt: &R, batch: Batch<U>) {
         batch.is_sent();
         match batch.to {
-            0 => accept_under(rt, &self.first, batch),
-            1 => accept_under(rt, &self.second, batch),
-            2 => accept_under(rt, &self.third, batch),
-            _ => accept_under(rt, &self.fourth, batch),
+            0 => self.first.hand(rt, batch),
+            1 => self.second.hand(rt, batch),
+            2 => self.third.hand(rt, batch),
+            _ => self.fourth.hand(rt, batch),
         }
     }
 
     /// Sets each stop mark.
     pub fn stop<R: Wait>(&self, rt: &R) {
-        stop_under(rt, &self.first);
-        stop_under(rt, &self.second);
-        stop_under(rt, &self.third);
-        stop_under(rt, &self.fourth);
+        self.first.stop(rt);
+        self.second.stop(rt);
+        self.third.stop(rt);
+        self.fourth.stop(rt);
     }
 
     /// The four cells out of their locks. Of these what their type says is known. It takes no memory.
@@ -287,12 +290,23 @@ impl<U: RunName> Board<U> {
             ticks: _,
         } = self;
         let cells = Cells {
-            first: first.into_inner(),
-            second: second.into_inner(),
-            third: third.into_inner(),
-            fourth: fourth.into_inner(),
+            first: first.into_cell(),
+            second: second.into_cell(),
+            third: third.into_cell(),
+            fourth: fourth.into_cell(),
         };
         (cells, image, stim)
+    }
+}
+
+/// The board with room for what is on its way. The one error is want of memory.
+fn with_room<U: RunName>(mut board: Board<U>) -> Result<Board<U>, Memory> {
+    match board.make_room() {
+        Ok(()) => Ok(board),
+        Err(Memory) => {
+            board.cells().let_go();
+            Err(Memory)
+        }
     }
 }
 
@@ -304,60 +318,4 @@ fn copies(alloc: Global, image: &Image, stim: &Stim) -> Result<(Image, Stim), Me
     let image = image.copy(alloc)?;
     let stim = stim.copy(alloc)?;
     Ok((image, stim))
-}
-
-/// A turn under a cell's lock, and the batches that are to be handed over.
-fn turn_under<U: RunName, C: CoreName, G: Gate, R: Wait>(
-    rt: &R,
-    alloc: Global,
-    lock: &Mutex<Cell<U, C>>,
-    gate: &G,
-) -> (BoardTurn, List<Batch<U>>)
-    ensures answer { CanAnswer U.ticks C.number result.0 }
-    ensures range { IsInRange result.0 }
-{
-    let mut cell = lock.lock(rt);
-    turn_of::<U, C, G>(&mut cell, alloc, gate)
-}
-
-/// The turn of a cell that its lock lends, and the batches that are to be handed over.
-fn turn_of<U: RunName, C: CoreName, G: Gate>(
-    cell: &mut Cell<U, C>,
-    alloc: Global,
-    gate: &G,
-) -> (BoardTurn, List<Batch<U>>)
-    ensures answer { IsAnswer U.listing U.stimulus U.ticks C.number cell.old result.0 result.1
-        cell.new }
-    ensures range { IsInRange result.0 }
-{
-    cell.is_cell();
-    let window = cell.ran();
-    let answer = match cell.turn(alloc, gate) {
-        Turned::Ran(out) => return (BoardTurn::Ran(window), out),
-        Turned::Lacks { from, window } => BoardTurn::Lacks { from, window },
-        Turned::AtEnd => BoardTurn::AtEnd,
-        Turned::Stopped => BoardTurn::Stopped,
-        Turned::Memory => BoardTurn::Memory,
-    };
-    (answer, List::new(alloc))
-}
-
-/// Hands a batch to a cell under its lock. One that is given back is dropped. A window takes a few microseconds, so the lock is tried for
-/// a while before its thread sleeps.
-fn accept_under<U: RunName, C: CoreName, R: Wait>(rt: &R, lock: &Mutex<Cell<U, C>>, batch: Batch<U>)
-    requires { batch.to ≡ C.number }
-{
-    for _ in 0..TRIES {
-        if let Some(mut cell) = lock.try_lock() {
-            drop(cell.accept(batch));
-            return;
-        }
-        spin_loop();
-    }
-    drop(lock.lock(rt).accept(batch));
-}
-
-/// Sets the stop mark of a cell under its lock.
-fn stop_under<U: RunName, C: CoreName, R: Wait>(rt: &R, lock: &Mutex<Cell<U, C>>) {
-    lock.lock(rt).stop();
 }

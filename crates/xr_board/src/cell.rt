@@ -1,26 +1,22 @@
 // A core's part of a run, with what has come for it.
 
-ghost use Rattle.std.specs.Prelude.{◌≡◌, ◌<◌, ◌≤◌, None, true, IfOk};
-ghost use Rattle.xr_board.specs.Inbox.{gathered};
+ghost use Rattle.std.specs.Prelude.{◌≡◌, ◌<◌, ◌≤◌, None, true};
 
 use crate::core_name::CoreName;
 use crate::gate::Gate;
-use crate::places::{Places, first_lacking};
+use crate::places::{first_lacking, move_up, place};
 use crate::turned::Turned;
 use std::alloc::Global;
 use std::marker::{Model, PhantomData};
-use xr_windows::{Batch, Part, RunName};
-use xw_words::{List, Memory};
+use xr_windows::{Batch, Needs, Part, RunName};
 
 /// The part of the core that C names in the run that U names, and the batches of that run that have come for it.
 #[derive(Drop)]
 pub struct Cell<U: RunName, C: CoreName> {
     part: Part,
     stopped: bool,
-    from0: Places<U>,
-    from1: Places<U>,
-    from2: Places<U>,
-    from3: Places<U>,
+    earlier: Needs<U>,
+    later: Needs<U>,
     of: PhantomData<C>,
 }
 
@@ -32,19 +28,19 @@ impl<U: RunName, C: CoreName> Model for Cell<U, C> {
     ghost view = { λ c. record {
       part = c.part;
       stopped = c.stopped;
-      from0 = c.from0;
-      from1 = c.from1;
-      from2 = c.from2;
-      from3 = c.from3;
+      from0 = record { earlier = c.earlier.from0; later = c.later.from0 };
+      from1 = record { earlier = c.earlier.from1; later = c.later.from1 };
+      from2 = record { earlier = c.earlier.from2; later = c.later.from2 };
+      from3 = record { earlier = c.earlier.from3; later = c.later.from3 };
     } };
 
     ghost invariant = { λ c. IsCell U.listing U.stimulus U.ticks C.number (record {
       part = c.part;
       stopped = c.stopped;
-      from0 = c.from0;
-      from1 = c.from1;
-      from2 = c.from2;
-      from3 = c.from3;
+      from0 = record { earlier = c.earlier.from0; later = c.later.from0 };
+      from1 = record { earlier = c.earlier.from1; later = c.later.from1 };
+      from2 = record { earlier = c.earlier.from2; later = c.later.from2 };
+      from3 = record { earlier = c.earlier.from3; later = c.later.from3 };
     }) };
 }
 
@@ -64,10 +60,8 @@ impl<U: RunName, C: CoreName> Cell<U, C> {
         Cell {
             part,
             stopped: false,
-            from0: Places::new(),
-            from1: Places::new(),
-            from2: Places::new(),
-            from3: Places::new(),
+            earlier: Needs::nothing(),
+            later: Needs::nothing(),
             of: PhantomData,
         }
     }
@@ -121,10 +115,10 @@ impl<U: RunName, C: CoreName> Cell<U, C> {
         batch.is_sent();
         let ran = self.part.ran();
         match batch.from {
-            0 => self.from0.place(ran, batch),
-            1 => self.from1.place(ran, batch),
-            2 => self.from2.place(ran, batch),
-            _ => self.from3.place(ran, batch),
+            0 => place(&mut self.earlier.from0, &mut self.later.from0, ran, batch),
+            1 => place(&mut self.earlier.from1, &mut self.later.from1, ran, batch),
+            2 => place(&mut self.earlier.from2, &mut self.later.from2, ran, batch),
+            _ => place(&mut self.earlier.from3, &mut self.later.from3, ran, batch),
         }
     }
 
@@ -156,8 +150,7 @@ impl<U: RunName, C: CoreName> Cell<U, C> {
     fn lacking(&self) -> Option<u8>
         ensures { result ≡ lacking_in C.number self.now }
     {
-        let number = self.part.number();
-        first_lacking::<U>(number, &self.from0, &self.from1, &self.from2, &self.from3)
+        first_lacking::<U>(self.part.number(), &self.earlier)
     }
 
     // Runs the next window, where one is left and its batches are there.
@@ -166,35 +159,10 @@ impl<U: RunName, C: CoreName> Cell<U, C> {
         requires there { 0 < self.old.part.ran → lacking_in C.number self.old ≡ None }
         ensures { IsTurn U.listing U.stimulus U.ticks C.number self.old result self.new }
     {
-        let Ok(got) = gathered::<U>(alloc, &self.from0, &self.from1, &self.from2, &self.from3)
-        else {
+        let Ok(out) = self.part.run_with::<U>(alloc, &mut self.earlier) else {
             return Turned::Memory;
         };
-        let Ok(out) = self.part.run_window::<U>(alloc, &got) else {
-            return Turned::Memory;
-        };
-        self.from0.move_up();
-        self.from1.move_up();
-        self.from2.move_up();
-        self.from3.move_up();
+        move_up::<U>(&mut self.earlier, &mut self.later);
         Turned::Ran(out)
     }
-}
-
-/// The batches of the window before. The one error is want of memory.
-fn gathered<U: RunName>(
-    alloc: Global,
-    from0: &Places<U>,
-    from1: &Places<U>,
-    from2: &Places<U>,
-    from3: &Places<U>,
-) -> Result<List<Batch<U>>, Memory>
-    ensures { IfOk result (λ got. got ≡ gathered from0.now from1.now from2.now from3.now) }
-{
-    let mut got = List::new(alloc);
-    from0.add_earlier(alloc, &mut got)?;
-    from1.add_earlier(alloc, &mut got)?;
-    from2.add_earlier(alloc, &mut got)?;
-    from3.add_earlier(alloc, &mut got)?;
-    Ok(got)
 }

@@ -1,102 +1,63 @@
 // The places of a cell for what comes from one other core.
 
-ghost use Rattle.std.specs.Prelude.{◌≡◌, ◌++◌, ◌∷◌, [], IfOk, OnOk, None};
-ghost use Rattle.xr_board.specs.Inbox.{IsPlaced, empty, is_empty, lacking, moved_up, placed, taken};
+ghost use Rattle.std.specs.Prelude.{◌≡◌, None};
+ghost use Rattle.xr_board.specs.Inbox.{IsPlaced, lacking_of, placed};
 
-use std::alloc::Global;
-use std::marker::Model;
-use xr_windows::{Batch, RunName};
-use xw_words::{List, Memory};
+use std::mem;
+use xr_windows::{Batch, Needs, RunName};
 
-/// A core's batch of the window before the one that the cell runs next, and its batch of that one.
-#[derive(Drop)]
-pub struct Places<U: RunName> {
-    earlier: Option<Batch<U>>,
-    later: Option<Batch<U>>,
-}
-
-impl<U: RunName> Model for Places<U> {
-    ghost use Rattle.xr_board.specs.Inbox.{TwoPlaces};
-
-    ghost Value = { TwoPlaces };
-
-    ghost view = { λ p. record { earlier = p.earlier; later = p.later } };
-}
-
-impl<U: RunName> Places<U> {
-    /// Two empty places.
-    pub fn new() -> Places<U>
-        ensures { result ≡ empty }
-    {
-        Places {
-            earlier: None,
-            later: None,
-        }
-    }
-
-    /// Puts a batch into its place, for a cell that has run so many windows, or gives it back.
-    pub fn place(&mut self, ran: u32, batch: Batch<U>) -> Option<Batch<U>>
-        ensures { IsPlaced (placed self.old ran batch) self.old batch result self.new }
-    {
-        if batch.window == ran {
-            if self.later.is_none() {
-                self.later = Some(batch);
-                return None;
-            }
-            return Some(batch);
-        }
-        if ran > 0 && batch.window == ran - 1 && self.earlier.is_none() {
-            self.earlier = Some(batch);
+/// Puts a batch into its place, for a cell that has run so many windows, or gives it back. The two places are for a core's batch of the
+/// window before the one that the cell runs next, and for its batch of that one.
+pub fn place<U: RunName>(
+    earlier: &mut Option<Batch<U>>,
+    later: &mut Option<Batch<U>>,
+    ran: u32,
+    batch: Batch<U>,
+) -> Option<Batch<U>>
+    ensures { IsPlaced
+        (placed (record { earlier = earlier.old; later = later.old }) ran batch)
+        (record { earlier = earlier.old; later = later.old }) batch result
+        (record { earlier = earlier.new; later = later.new }) }
+{
+    if batch.window == ran {
+        if later.is_none() {
+            *later = Some(batch);
             return None;
         }
-        Some(batch)
+        return Some(batch);
     }
-
-    /// One window further: the later batch is the earlier one.
-    pub fn move_up(&mut self)
-        ensures { self.new ≡ moved_up self.old }
-    {
-        self.earlier = self.later.take();
+    if ran > 0 && batch.window == ran - 1 && earlier.is_none() {
+        *earlier = Some(batch);
+        return None;
     }
-
-    /// Adds a copy of the earlier batch, where there is one. The one error is want of memory.
-    pub fn add_earlier(&self, alloc: Global, got: &mut List<Batch<U>>) -> Result<(), Memory>
-        ensures { OnOk result (got.new ≡ got.old ++ taken self.now.earlier) }
-    {
-        if let Some(batch) = &self.earlier {
-            got.push(batch.copy(alloc)?)?;
-        }
-        Ok(())
-    }
-
-    /// Whether the earlier batch isn't there.
-    fn lacks_earlier(&self) -> bool
-        ensures { result ≡ is_empty self.now.earlier }
-    {
-        self.earlier.is_none()
-    }
+    Some(batch)
 }
 
-/// The least core other than core `number` whose earlier batch isn't there.
-pub fn first_lacking<U: RunName>(
-    number: u8,
-    from0: &Places<U>,
-    from1: &Places<U>,
-    from2: &Places<U>,
-    from3: &Places<U>,
-) -> Option<u8>
-    ensures { result ≡ lacking number from0.now from1.now from2.now from3.now }
+/// One window further: the later batches are the earlier ones.
+pub fn move_up<U: RunName>(earlier: &mut Needs<U>, later: &mut Needs<U>)
+    ensures from0 { (earlier.new.from0 ≡ later.old.from0) × (later.new.from0 ≡ None) }
+    ensures from1 { (earlier.new.from1 ≡ later.old.from1) × (later.new.from1 ≡ None) }
+    ensures from2 { (earlier.new.from2 ≡ later.old.from2) × (later.new.from2 ≡ None) }
+    ensures from3 { (earlier.new.from3 ≡ later.old.from3) × (later.new.from3 ≡ None) }
 {
-    if number != 0 && from0.lacks_earlier() {
+    *earlier = mem::replace(later, Needs::nothing());
+}
+
+/// The least core other than core `number` whose batch isn't there.
+pub fn first_lacking<U: RunName>(number: u8, needs: &Needs<U>) -> Option<u8>
+    ensures { result ≡ lacking_of number needs.now.from0 needs.now.from1 needs.now.from2
+        needs.now.from3 }
+{
+    if number != 0 && needs.from0.is_none() {
         return Some(0);
     }
-    if number != 1 && from1.lacks_earlier() {
+    if number != 1 && needs.from1.is_none() {
         return Some(1);
     }
-    if number != 2 && from2.lacks_earlier() {
+    if number != 2 && needs.from2.is_none() {
         return Some(2);
     }
-    if number != 3 && from3.lacks_earlier() {
+    if number != 3 && needs.from3.is_none() {
         return Some(3);
     }
     None

@@ -8,12 +8,20 @@ use crate::board::{Board, BoardTurn};
 use crate::cells::{Cells, GatherErr};
 use crate::gate::Gate;
 use std::alloc::Global;
+use std::hint::spin_loop;
 use std::sync::Wait;
 use std::thread;
 use std::thread::{JoinHandle, Threads};
 use xr_windows::{Run, RunName};
 use xs_instr::{Image, Stim};
 use xw_words::Memory;
+
+/// How often a worker looks for a batch that lacks before it lets other threads go on: few times, for where other work goes on beside it, the
+/// core that it waits for may be without a processor.
+const TRIES: u32 = 2;
+
+/// How many pauses it makes between two looks.
+const PAUSES: u32 = 4;
 
 /// The run of the board, by 1 to 16 workers: what the run in lockstep tells. With W the lesser of their number and 4, worker w serves
 /// the cores whose number modulo W is w. The caller is worker 0, and serves the cores of a worker that can't be started too. Where
@@ -152,15 +160,19 @@ fn serve<U: RunName, G: Gate, R: Wait>(
         third: 0,
         fourth: 0,
     };
+    let mut tries = 0;
     for _ in rt.forever() {
         let Some(core) = seen.next(left) else {
             return true;
         };
         match board.turn(rt, alloc, core, gate) {
-            BoardTurn::Ran(window) => seen = seen.with(core, window + 1),
+            BoardTurn::Ran(window) => {
+                seen = seen.with(core, window + 1);
+                tries = 0;
+            }
             BoardTurn::Lacks { window, .. } => {
                 seen = seen.with(core, window + 1);
-                thread::yield_now();
+                tries = wait_a_little(tries);
             }
             BoardTurn::AtEnd => left = left.without(core),
             BoardTurn::Stopped => return true,
@@ -171,6 +183,19 @@ fn serve<U: RunName, G: Gate, R: Wait>(
         }
     }
     unreachable!()
+}
+
+/// Waits after so many tries in vain, and answers how many they are then. A window takes a microsecond or two, so a worker first looks again
+/// soon, and lets others go on only when that didn't help.
+fn wait_a_little(tries: u32) -> u32 {
+    if tries >= TRIES {
+        thread::yield_now();
+        return tries;
+    }
+    for _ in 0..PAUSES {
+        spin_loop();
+    }
+    tries + 1
 }
 
 /// What a worker in a thread of its own answered. One that wasn't started lacked nothing.

@@ -9,9 +9,9 @@ pub mod Empty
 pub mod Ends
 pub mod FirstDue
 pub mod FirstPart
-pub mod Joins
 pub mod Lasts
 pub mod Merged
+pub mod Needed
 pub mod OneRound
 pub mod PartNext
 pub mod Rises

@@ -1,15 +1,16 @@
 -- A window's rounds make the next part.
-use Rattle.std.proofs.Common.{◌≡◌, ◌<◌, ◌+◌, ◌^◌, ℕ, zero, suc, Bool, List, [], ◌∷◌, ◌++◌, sym, ap, subst, ◌∙◌, arith}
+use Rattle.std.proofs.Common.{◌≡◌, ◌<◌, ◌+◌, ◌^◌, ℕ, zero, suc, Bool, List, [], ◌∷◌, ◌++◌, Option, refl, sym, ap, subst, ◌∙◌, arith}
 use Rattle.xr_windows.specs.Alone.{Alone, alone, begins, coming_to, sent_for}
 use Rattle.xr_windows.specs.Coming.{items_from, lists_of}
 use Rattle.xr_windows.specs.Goes.{CanGo, Goes}
 use Rattle.xr_windows.specs.Parts.{IsPartOf, Standing}
-use Rattle.xr_windows.specs.Sending.{Sending, batches_to}
+use Rattle.xr_windows.specs.Sending.{AreNeeded, Sending, batches_to, items_in}
 use Rattle.xr_windows.specs.Windows.{Between, batch, core_after, has_one, part, ticks_in, went_on, window_start, windows_of}
 use Rattle.xr_windows.specs.declared.coming.Coming.{Coming}
 use Rattle.xr_windows.specs.declared.stamped.Stamped.{Stamped}
 use Rattle.xr_windows.proofs.Brought.{brought}
 use Rattle.xr_windows.proofs.EightTicks.{clock_at, loc}
+use Rattle.xr_windows.proofs.Needed.{needed_items}
 use Rattle.xr_windows.proofs.PartNext.{batch_next, coming_four, few, part_next, window_is}
 use Rattle.xr_windows.proofs.Rooms.{due_has_room}
 use Rattle.xr_windows.proofs.SentTicks.{alone_clock}
@@ -149,23 +150,26 @@ module _ (L : Image) (s : Stim) (n : ℕ) (p : Standing) (core : Core) (x y z w 
         ∙ sym (batch_next L s n small i j k b.part.number ∙ ap (λ (a : Alone). sent_for j a.sent) (window_is L s n small i k b.part.number))
         ∙ sym (ap (λ m. batch L s n m j k) numbers)
 
-pub begins_of : (L : Image) (s : Stim) (n : ℕ) (p : Standing) (core0 core : Core) (c c' : Coming) (records : List Stamped) (sent : Bool) (ran ticks : ℕ) (got : List Sending)
+pub begins_of : (L : Image) (s : Stim) (n : ℕ) (p : Standing) (core0 core : Core) (c c1 c' : Coming) (records : List Stamped) (sent : Bool) (ran ticks : ℕ) (g0 g1 g2 g3 : Option Sending)
     → record { home = core0.home; core = core0.state; waiting = lists_of c; records = records; has_sent = sent; ran = ran; ticks = ticks } ≡ p
-    → IsPartOf L s n p → p.ran < windows_of n → got ≡ batches_to L s n p.home.number p.ran → core ≡ record core0 { spare = core.spare }
-    → c'.from0.items ≡ c.from0.items ++ items_from 0 got → c'.from1.items ≡ c.from1.items ++ items_from 1 got → c'.from2.items ≡ c.from2.items ++ items_from 2 got → c'.from3.items ≡ c.from3.items ++ items_from 3 got
+    → IsPartOf L s n p → p.ran < windows_of n → AreNeeded L s n p.home.number p.ran g0 g1 g2 g3 → core ≡ record core0 { spare = core.spare }
+    → c1.from0.items ≡ c.from0.items → c1.from1.items ≡ c.from1.items → c1.from2.items ≡ c.from2.items → c1.from3.items ≡ c.from3.items
+    → c'.from0.items ≡ c1.from0.items ++ items_in g0 → c'.from1.items ≡ c1.from1.items ++ items_in g1 → c'.from2.items ≡ c1.from2.items ++ items_in g2 → c'.from3.items ≡ c1.from3.items ++ items_in g3
     → Begins L s n p core c'.from0.items c'.from1.items c'.from2.items c'.from3.items
-begins_of L s n p core0 core c c' records sent ran ticks got view is left came rest e0 e1 e2 e3 = record {
-  part = is;
-  left = left;
-  home = ap (λ (k : Core). k.home) rest ∙ ap (λ (v : Standing). v.home) view;
-  state = ap (λ (k : Core). k.state) rest ∙ ap (λ (v : Standing). v.core) view;
-  got = got;
-  came = came;
-  from0 = e0 ∙ ap (λ (v : Standing). items_at v.waiting 0 ++ items_from 0 got) view;
-  from1 = e1 ∙ ap (λ (v : Standing). items_at v.waiting 1 ++ items_from 1 got) view;
-  from2 = e2 ∙ ap (λ (v : Standing). items_at v.waiting 2 ++ items_from 2 got) view;
-  from3 = e3 ∙ ap (λ (v : Standing). items_at v.waiting 3 ++ items_from 3 got) view;
-}
+begins_of L s n p core0 core c c1 c' records sent ran ticks g0 g1 g2 g3 view is left need rest r0 r1 r2 r3 e0 e1 e2 e3 =
+    let brings = needed_items L s n p.home.number in
+    record {
+      part = is;
+      left = left;
+      home = ap (λ (k : Core). k.home) rest ∙ ap (λ (v : Standing). v.home) view;
+      state = ap (λ (k : Core). k.state) rest ∙ ap (λ (v : Standing). v.core) view;
+      got = batches_to L s n p.home.number p.ran;
+      came = refl;
+      from0 = e0 ∙ ap (λ xs. xs ++ items_in g0) r0 ∙ (λ j. items_at (view j).waiting 0 ++ items_in (need.first j)) ∙ ap (λ xs. items_at p.waiting 0 ++ xs) (brings 0 p.ran is.number (omega arith));
+      from1 = e1 ∙ ap (λ xs. xs ++ items_in g1) r1 ∙ (λ j. items_at (view j).waiting 1 ++ items_in (need.second j)) ∙ ap (λ xs. items_at p.waiting 1 ++ xs) (brings 1 p.ran is.number (omega arith));
+      from2 = e2 ∙ ap (λ xs. xs ++ items_in g2) r2 ∙ (λ j. items_at (view j).waiting 2 ++ items_in (need.third j)) ∙ ap (λ xs. items_at p.waiting 2 ++ xs) (brings 2 p.ran is.number (omega arith));
+      from3 = e3 ∙ ap (λ xs. xs ++ items_in g3) r3 ∙ (λ j. items_at (view j).waiting 3 ++ items_in (need.fourth j)) ∙ ap (λ xs. items_at p.waiting 3 ++ xs) (brings 3 p.ran is.number (omega arith));
+    }
 
 pub ticks_are : (L : Image) (s : Stim) (n : ℕ) (p v : Standing) (ticks : ℕ) → v ≡ p → IsPartOf L s n p → ticks ≡ ticks_in v.ticks v.ran → ticks ≡ ticks_in n p.ran
 ticks_are L s n p v ticks view is h = h ∙ (λ j. ticks_in ((ap (λ (q : Standing). q.ticks) view ∙ is.ticks) j) (view j).ran)

@@ -1,7 +1,9 @@
 -- What is on its way to a core.
-use Rattle.std.specs.Prelude.{ℕ, Bool, true, false, List, [], ◌∷◌, ◌++◌, nat_eq}
+use Rattle.std.specs.Prelude.{ℕ, ◌+◌, ◌≤◌, Bool, true, false, List, [], ◌∷◌, ◌++◌, Option, length, nat_eq, vec_len, vec_capacity}
+use Rattle.std.specs.declared.alloc.Global.{Global}
+use Rattle.std.specs.declared.vec.Vec.{Vec}
 use Rattle.xr_windows.specs.declared.coming.Coming.{Coming}
-use Rattle.xr_windows.specs.Sending.{Sending}
+use Rattle.xr_windows.specs.Sending.{Sending, items_in}
 use Rattle.xs_fabric.specs.OnLinks.{items_at}
 use Rattle.xs_instr.specs.declared.state.Item.{Item}
 
@@ -22,3 +24,7 @@ items_by items rest false = rest
 abbrev pub items_from : ℕ → List Sending → List Item
 items_from a [] = []
 items_from a (b ∷ bs) = items_by b.items (items_from a bs) (nat_eq b.from a)
+
+-- what waits has room for what a batch brings
+abbrev pub HasRoomFor : Vec Item Global → Option Sending → Type 0
+HasRoomFor waiting came = vec_len waiting + length (items_in came) ≤ vec_capacity waiting

@@ -7,6 +7,7 @@ pub mod Merge
 pub mod Parts
 pub mod Pending
 pub mod Rising
+pub mod Rooms
 pub mod Sending
 pub mod Telling
 pub mod Totals

@@ -1,5 +1,5 @@
 -- What a core sends to another in one window of a run.
-use Rattle.std.specs.Prelude.{ℕ, zero, suc, ◌≡◌, ◌≢◌, ◌<◌, Bool, true, false, List, [], ◌∷◌, ◌++◌, nat_eq}
+use Rattle.std.specs.Prelude.{ℕ, zero, suc, ◌≡◌, ◌≢◌, ◌<◌, Bool, true, false, List, [], ◌∷◌, ◌++◌, Option, Some, None, nat_eq}
 use Rattle.xr_windows.specs.Windows.{batch}
 use Rattle.xs_instr.specs.declared.image.Image.{Image}
 use Rattle.xs_instr.specs.declared.image.Stim.{Stim}
@@ -46,3 +46,35 @@ batches_to L s n i (suc k) = from_below L s n i k 4
 -- the batches that core i sends in window k to the other cores, by number
 abbrev pub batches_from : Image → Stim → ℕ → ℕ → ℕ → List Sending
 batches_from L s n i k = to_below L s n i k 4
+
+-- `needed`, by cases
+abbrev pub needed_by : Sending → Bool → Option Sending
+needed_by b true = None
+needed_by b false = Some b
+
+-- the batch of core j that window k of core i needs: that of the window before, unless they are the same core or the window is the first one
+abbrev pub needed : Image → Stim → ℕ → ℕ → ℕ → ℕ → Option Sending
+needed L s n j i zero = None
+needed L s n j i (suc k) = needed_by (sending L s n j i k) (nat_eq j i)
+
+-- these are what window k of core i needs, by the number of the sender
+pub record AreNeeded (L : Image) (s : Stim) (n i k : ℕ) (from0 from1 from2 from3 : Option Sending) : Type 0 where
+  pub first : from0 ≡ needed L s n 0 i k
+  pub second : from1 ≡ needed L s n 1 i k
+  pub third : from2 ≡ needed L s n 2 i k
+  pub fourth : from3 ≡ needed L s n 3 i k
+
+-- the items of a batch, where there is one
+abbrev pub items_in : Option Sending → List Item
+items_in None = []
+items_in (Some b) = b.items
+
+-- `latest`, by cases
+abbrev pub later_by : Option Sending → Sending → Bool → Option Sending
+later_by old b true = Some b
+later_by old b false = old
+
+-- the last batch of core j, or else the one that was there before
+abbrev pub latest : ℕ → Option Sending → List Sending → Option Sending
+latest j old [] = old
+latest j old (b ∷ bs) = latest j (later_by old b (nat_eq b.from j)) bs

@@ -40,6 +40,20 @@ impl<U: RunName> Batch<U> {
         let _ = &self.items;
     }
 
+    /// What was sent.
+    pub fn into_items(self) -> List<Item>
+        ensures { result ≡ self.items }
+    {
+        let Batch {
+            from: _,
+            to: _,
+            window: _,
+            items,
+            of: _,
+        } = self;
+        items
+    }
+
     /// An equal batch, in memory of its own. The one error is want of memory.
     pub fn copy(&self, alloc: Global) -> Result<Batch<U>, Memory>
         ensures { IfOk result (λ copy. copy ≡ self.now) }

@@ -1,14 +1,18 @@
 // What is on its way to a core.
 
-ghost use Rattle.std.specs.Prelude.{◌≡◌, ◌<◌, ◌++◌, [], ℕ, IfOk};
+ghost use Rattle.std.specs.Prelude.{◌≡◌, ◌<◌, ◌≤◌, ◌+◌, ◌++◌, [], ℕ, OnOk, drop, length, vec_len, vec_capacity};
 ghost use Rattle.xr_windows.specs.Alone.{due_in};
-ghost use Rattle.xr_windows.specs.Coming.{coming_of, items_from};
+ghost use Rattle.xr_windows.specs.Coming.{HasRoomFor, coming_of};
+ghost use Rattle.xr_windows.specs.Sending.{items_in};
 ghost use Rattle.xs_fabric.specs.Lockstep.{all_came, due_of, late_of};
 ghost use Rattle.xs_fabric.specs.Rooms.{AllHaveRoom};
 
 use crate::batch::Batch;
+use crate::needs::Needs;
+use crate::outgoing::Outgoing;
 use crate::run_name::RunName;
 use std::alloc::Global;
+use std::mem;
 use xs_core::Core;
 use xs_instr::Item;
 use xw_words::Memory;
@@ -41,27 +45,40 @@ impl Coming {
         }
     }
 
-    /// The same and behind it what these batches bring, in memory of its own. The one error is want of memory.
-    pub fn with<U: RunName>(&self, alloc: Global, got: &[Batch<U>]) -> Result<Coming, Memory>
-        ensures from0 { IfOk result
-            (λ all. all.from0.items ≡ self.now.from0.items ++ items_from 0 got.now) }
-        ensures from1 { IfOk result
-            (λ all. all.from1.items ≡ self.now.from1.items ++ items_from 1 got.now) }
-        ensures from2 { IfOk result
-            (λ all. all.from2.items ≡ self.now.from2.items ++ items_from 2 got.now) }
-        ensures from3 { IfOk result
-            (λ all. all.from3.items ≡ self.now.from3.items ++ items_from 3 got.now) }
+    /// Makes room for what these batches bring. The one error is want of memory; nothing changes either way.
+    pub fn make_room<U: RunName>(&mut self, got: &Needs<U>) -> Result<(), Memory>
+        ensures from0 { self.new.from0.items ≡ self.old.from0.items }
+        ensures from1 { self.new.from1.items ≡ self.old.from1.items }
+        ensures from2 { self.new.from2.items ≡ self.old.from2.items }
+        ensures from3 { self.new.from3.items ≡ self.old.from3.items }
+        ensures room0 { OnOk result (HasRoomFor self.new.from0 got.now.from0) }
+        ensures room1 { OnOk result (HasRoomFor self.new.from1 got.now.from1) }
+        ensures room2 { OnOk result (HasRoomFor self.new.from2 got.now.from2) }
+        ensures room3 { OnOk result (HasRoomFor self.new.from3 got.now.from3) }
     {
-        let from0 = joined::<U>(alloc, self.from0.as_slice(), got, 0)?;
-        let from1 = joined::<U>(alloc, self.from1.as_slice(), got, 1)?;
-        let from2 = joined::<U>(alloc, self.from2.as_slice(), got, 2)?;
-        let from3 = joined::<U>(alloc, self.from3.as_slice(), got, 3)?;
-        Ok(Coming {
-            from0,
-            from1,
-            from2,
-            from3,
-        })
+        make_room::<U>(&mut self.from0, &got.from0)?;
+        make_room::<U>(&mut self.from1, &got.from1)?;
+        make_room::<U>(&mut self.from2, &got.from2)?;
+        make_room::<U>(&mut self.from3, &got.from3)?;
+        Ok(())
+    }
+
+    /// Takes what these batches bring, for which there is room, behind what waits, and answers memory that is free now.
+    pub fn take_in<U: RunName>(&mut self, alloc: Global, got: &mut Needs<U>) -> Outgoing
+        requires room0 { HasRoomFor self.old.from0 got.old.from0 }
+        requires room1 { HasRoomFor self.old.from1 got.old.from1 }
+        requires room2 { HasRoomFor self.old.from2 got.old.from2 }
+        requires room3 { HasRoomFor self.old.from3 got.old.from3 }
+        ensures from0 { self.new.from0.items ≡ self.old.from0.items ++ items_in got.old.from0 }
+        ensures from1 { self.new.from1.items ≡ self.old.from1.items ++ items_in got.old.from1 }
+        ensures from2 { self.new.from2.items ≡ self.old.from2.items ++ items_in got.old.from2 }
+        ensures from3 { self.new.from3.items ≡ self.old.from3.items ++ items_in got.old.from3 }
+    {
+        let to0 = bring::<U>(alloc, &mut self.from0, &mut got.from0);
+        let to1 = bring::<U>(alloc, &mut self.from1, &mut got.from1);
+        let to2 = bring::<U>(alloc, &mut self.from2, &mut got.from2);
+        let to3 = bring::<U>(alloc, &mut self.from3, &mut got.from3);
+        Outgoing { to0, to1, to2, to3 }
     }
 
     /// What is due at that tick of the core's clock comes to it, by the number of the sender and then as it was sent.
@@ -83,27 +100,39 @@ impl Coming {
     }
 }
 
-/// What waits from a core, and behind it what its batches bring.
-#[tactic(auto, using(crate::proofs::Joins::joins))]
-fn joined<U: RunName>(
-    alloc: Global,
-    waiting: &[Item],
-    got: &[Batch<U>],
-    from: u8,
-) -> Result<Vec<Item>, Memory>
-    ensures { IfOk result (λ all. all.items ≡ waiting.now ++ items_from from got.now) }
+/// Makes room for what a batch brings. The one error is want of memory.
+fn make_room<U: RunName>(waiting: &mut Vec<Item>, came: &Option<Batch<U>>) -> Result<(), Memory>
+    ensures items { waiting.new.items ≡ waiting.old.items }
+    ensures room { OnOk result (HasRoomFor waiting.new came.now) }
 {
-    let mut all = waiting.to_vec(alloc)?;
-    for batch in got {
-        if batch.from == from {
-            all.extend_from_slice(batch.items.as_slice())?;
-        }
+    if let Some(batch) = came {
+        waiting.reserve(batch.items.len())?;
     }
-    Ok(all)
+    Ok(())
+}
+
+/// Takes what a batch brings behind what waits, and answers memory that is free now. Mostly nothing waits, and then nothing is copied.
+fn bring<U: RunName>(
+    alloc: Global,
+    waiting: &mut Vec<Item>,
+    came: &mut Option<Batch<U>>,
+) -> Vec<Item>
+    requires { HasRoomFor waiting.old came.old }
+    ensures { waiting.new.items ≡ waiting.old.items ++ items_in came.old }
+{
+    let Some(batch) = came.take() else {
+        return Vec::new(alloc);
+    };
+    let mut items = batch.into_items().into_vec();
+    if waiting.is_empty() {
+        mem::swap(waiting, &mut items);
+        return items;
+    }
+    waiting.append(&mut items).unwrap();
+    items
 }
 
 /// The first items come to the core, as far as they are due.
-#[tactic(auto, using(crate::proofs::FirstDue::dues))]
 fn deliver_due(core: &mut Core, items: &mut Vec<Item>, clock: u32)
     requires { AllHaveRoom core.old.home core.old.state (due_of clock items.old.items) }
     ensures core { core.new ≡ record core.old {
@@ -111,11 +140,40 @@ fn deliver_due(core: &mut Core, items: &mut Vec<Item>, clock: u32)
     } }
     ensures items { items.new.items ≡ late_of clock items.old.items }
 {
-    'items: while !items.is_empty() {
-        if items[0].tick as u64 + TICKS > clock as u64 {
+    let due = deliver_first(core, items.as_slice(), clock);
+    if due > 0 {
+        forget_first(items, due);
+    }
+}
+
+/// The first items come to the core, as far as they are due. How many these are.
+#[tactic(auto, using(crate::proofs::FirstDue::dues))]
+fn deliver_first(core: &mut Core, items: &[Item], clock: u32) -> usize
+    requires { AllHaveRoom core.old.home core.old.state (due_of clock items.now) }
+    ensures core { core.new ≡ record core.old {
+      state = all_came core.old.state (due_of clock items.now);
+    } }
+    ensures within { result ≤ length items.now }
+    ensures rest { drop result items.now ≡ late_of clock items.now }
+{
+    let mut at = 0;
+    'items: while at < items.len() {
+        if items[at].tick as u64 + TICKS > clock as u64 {
             break;
         }
-        let item = items.remove(0);
-        core.deliver(item.moved);
+        core.deliver(items[at].moved);
+        at += 1;
     }
+    at
+}
+
+/// Forgets so many items.
+#[tactic(auto, using(crate::proofs::FirstDue::forgets))]
+fn forget_first(items: &mut Vec<Item>, count: usize)
+    requires { count ≤ vec_len items.old }
+    ensures { items.new.items ≡ drop count items.old.items }
+{
+    let left = items.len() - count;
+    items.copy_within(count.., 0);
+    items.truncate(left);
 }

@@ -5,6 +5,7 @@ mod batch;
 mod coming;
 mod law;
 mod merge;
+mod needs;
 mod outgoing;
 mod part;
 mod rounds;
@@ -18,6 +19,7 @@ pub use law::{
     records_merge_to_the_trace, windows_depend_on_part_and_batches,
 };
 pub use merge::told;
+pub use needs::Needs;
 pub use part::Part;
 pub use run::Run;
 pub use run_name::RunName;

@@ -1,14 +1,16 @@
 // What goes out of a core in a window.
 
-ghost use Rattle.std.specs.Prelude.{◌≡◌, ◌<◌, ◌≤◌, ◌+◌, ◌++◌, [], ◌∷◌, IfOk, length, vec_len, vec_capacity, nat_eq};
+ghost use Rattle.std.specs.Prelude.{◌≡◌, ◌<◌, ◌≤◌, ◌+◌, ◌++◌, [], ◌∷◌, IfOk, OnOk, length, vec_len, vec_capacity, nat_eq};
 ghost use Rattle.xr_windows.specs.Alone.{sent_for};
 ghost use Rattle.xr_windows.specs.Sending.{IsSent, batches_from, unless};
+ghost use Rattle.xr_windows.specs.Rooms.{IsRoom};
 ghost use Rattle.xr_windows.specs.Windows.{batch, has_one};
 
 use crate::batch::Batch;
 use crate::run_name::RunName;
 use std::alloc::Global;
 use std::marker::PhantomData;
+use std::mem;
 use xs_core::Core;
 use xs_instr::{Item, Sent};
 use xw_words::{List, Memory};
@@ -19,28 +21,38 @@ const MOST: usize = 256;
 /// How many batches go out at most.
 const CORES: usize = 4;
 
-/// What goes out of a core in a window, by the number of the receiver, with room for all of it.
+/// What goes out of a core in a window, by the number of the receiver. Its memory is used again from window to window.
 #[derive(Drop)]
 pub struct Outgoing {
-    to0: Vec<Item>,
-    to1: Vec<Item>,
-    to2: Vec<Item>,
-    to3: Vec<Item>,
+    pub to0: Vec<Item>,
+    pub to1: Vec<Item>,
+    pub to2: Vec<Item>,
+    pub to3: Vec<Item>,
 }
 
 impl Outgoing {
-    /// Nothing yet, with room. The one error is want of memory.
-    pub fn nothing(alloc: Global) -> Result<Outgoing, Memory>
-        ensures to0 { IfOk result (λ out. (out.to0.items ≡ []) × (256 ≤ vec_capacity out.to0)) }
-        ensures to1 { IfOk result (λ out. (out.to1.items ≡ []) × (256 ≤ vec_capacity out.to1)) }
-        ensures to2 { IfOk result (λ out. (out.to2.items ≡ []) × (256 ≤ vec_capacity out.to2)) }
-        ensures to3 { IfOk result (λ out. (out.to3.items ≡ []) × (256 ≤ vec_capacity out.to3)) }
+    /// Nothing, and no room. It takes no memory.
+    pub fn nothing(alloc: Global) -> Outgoing {
+        Outgoing {
+            to0: Vec::new(alloc),
+            to1: Vec::new(alloc),
+            to2: Vec::new(alloc),
+            to3: Vec::new(alloc),
+        }
+    }
+
+    /// Forgets what is there, and makes room for a window. The one error is want of memory.
+    pub fn make_room(&mut self) -> Result<(), Memory>
+        ensures to0 { OnOk result (IsRoom self.new.to0) }
+        ensures to1 { OnOk result (IsRoom self.new.to1) }
+        ensures to2 { OnOk result (IsRoom self.new.to2) }
+        ensures to3 { OnOk result (IsRoom self.new.to3) }
     {
-        let to0 = Vec::with_capacity(alloc, MOST)?;
-        let to1 = Vec::with_capacity(alloc, MOST)?;
-        let to2 = Vec::with_capacity(alloc, MOST)?;
-        let to3 = Vec::with_capacity(alloc, MOST)?;
-        Ok(Outgoing { to0, to1, to2, to3 })
+        make_room(&mut self.to0)?;
+        make_room(&mut self.to1)?;
+        make_room(&mut self.to2)?;
+        make_room(&mut self.to3)?;
+        Ok(())
     }
 
     /// Takes all that the core has sent, for which there is room. Whether that was anything.
@@ -69,25 +81,40 @@ impl Outgoing {
         some
     }
 
-    /// The batches of a core's window, by the number of the receiver. They go into a vector that has room for four.
-    pub fn filed<U: RunName>(self, from: u8, window: u32, batches: Vec<Batch<U>>) -> List<Batch<U>>
+    /// The batches of a core's window, by the number of the receiver. They go into a vector that has room for four, and what they leave
+    /// is replaced by other memory.
+    pub fn filed<U: RunName>(
+        &mut self,
+        from: u8,
+        window: u32,
+        batches: Vec<Batch<U>>,
+        other: Outgoing,
+    ) -> List<Batch<U>>
         requires from { from < 4 }
-        requires to0 { self.to0.items ≡ batch U.listing U.stimulus U.ticks from 0 window }
-        requires to1 { self.to1.items ≡ batch U.listing U.stimulus U.ticks from 1 window }
-        requires to2 { self.to2.items ≡ batch U.listing U.stimulus U.ticks from 2 window }
-        requires to3 { self.to3.items ≡ batch U.listing U.stimulus U.ticks from 3 window }
+        requires to0 { self.old.to0.items ≡ batch U.listing U.stimulus U.ticks from 0 window }
+        requires to1 { self.old.to1.items ≡ batch U.listing U.stimulus U.ticks from 1 window }
+        requires to2 { self.old.to2.items ≡ batch U.listing U.stimulus U.ticks from 2 window }
+        requires to3 { self.old.to3.items ≡ batch U.listing U.stimulus U.ticks from 3 window }
         requires empty { batches.items ≡ [] }
         requires room { 4 ≤ vec_capacity batches }
         ensures { result ≡ batches_from U.listing U.stimulus U.ticks from window }
     {
-        let Outgoing { to0, to1, to2, to3 } = self;
         let mut batches = batches;
-        file::<U>(&mut batches, from, 0, window, to0);
-        file::<U>(&mut batches, from, 1, window, to1);
-        file::<U>(&mut batches, from, 2, window, to2);
-        file::<U>(&mut batches, from, 3, window, to3);
+        file::<U>(&mut batches, from, 0, window, &mut self.to0, other.to0);
+        file::<U>(&mut batches, from, 1, window, &mut self.to1, other.to1);
+        file::<U>(&mut batches, from, 2, window, &mut self.to2, other.to2);
+        file::<U>(&mut batches, from, 3, window, &mut self.to3, other.to3);
         List::from_vec(batches)
     }
+}
+
+/// Forgets what is there, and makes room for what a core sends in a window. The one error is want of memory.
+fn make_room(items: &mut Vec<Item>) -> Result<(), Memory>
+    ensures { OnOk result (IsRoom items.new) }
+{
+    items.clear();
+    items.reserve(MOST)?;
+    Ok(())
 }
 
 /// Room for the batches of a window. The one error is want of memory.
@@ -115,20 +142,28 @@ fn put(items: &mut Vec<Item>, to: u8, sent: Sent)
     }
 }
 
-/// Adds a batch, unless the core is both sender and receiver.
-fn file<U: RunName>(batches: &mut Vec<Batch<U>>, from: u8, to: u8, window: u32, items: Vec<Item>)
+/// Adds a batch of what was sent, unless the core is both sender and receiver. In the place of what it takes stands other memory.
+fn file<U: RunName>(
+    batches: &mut Vec<Batch<U>>,
+    from: u8,
+    to: u8,
+    window: u32,
+    items: &mut Vec<Item>,
+    other: Vec<Item>,
+)
     requires from { from < 4 }
     requires to { to < 4 }
-    requires sent { items.items ≡ batch U.listing U.stimulus U.ticks from to window }
+    requires sent { items.old.items ≡ batch U.listing U.stimulus U.ticks from to window }
     requires room { vec_len batches.old < vec_capacity batches.old }
     ensures items { batches.new.items ≡ batches.old.items
-        ++ unless (record { from = from; to = to; window = window; items = items.items })
+        ++ unless (record { from = from; to = to; window = window; items = items.old.items })
         (nat_eq from to) }
     ensures len { vec_len batches.new ≤ vec_len batches.old + 1 }
     ensures capacity { vec_capacity batches.old ≤ vec_capacity batches.new }
 {
     if from != to {
-        let batch = batch_of::<U>(from, to, window, items);
+        let sent = mem::replace(items, other);
+        let batch = batch_of::<U>(from, to, window, sent);
         batches.push(batch).unwrap();
     }
 }

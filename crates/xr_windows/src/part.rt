@@ -3,7 +3,7 @@
 ghost use Rattle.std.specs.Prelude.{◌≡◌, ◌<◌, ◌≤◌, ◌+◌, [], IfOk, OnOk, OnErr, nat_eq, vec_len, vec_capacity};
 ghost use Rattle.xr_windows.specs.Parts.{IsPartOf, IsStart, state_of};
 ghost use Rattle.xr_windows.specs.Pending.{has_item, pending};
-ghost use Rattle.xr_windows.specs.Sending.{batches_from, batches_to};
+ghost use Rattle.xr_windows.specs.Sending.{AreNeeded, batches_from, batches_to};
 ghost use Rattle.xr_windows.specs.Windows.{ticks_in, windows_of};
 ghost use Rattle.xs_instr.specs.Sight.{sight};
 ghost use Rattle.xs_instr.specs.declared.image.Image.{Image};
@@ -11,6 +11,7 @@ ghost use Rattle.xs_instr.specs.declared.image.Stim.{Stim};
 
 use crate::batch::Batch;
 use crate::coming::Coming;
+use crate::needs::Needs;
 use crate::outgoing::{Outgoing, no_batches};
 use crate::rounds::run_ticks;
 use crate::run_name::RunName;
@@ -33,6 +34,7 @@ const WINDOW: u32 = 8;
 pub struct Part {
     core: Core,
     coming: Coming,
+    outgoing: Outgoing,
     records: Vec<Stamped>,
     has_sent: bool,
     ran: u32,
@@ -61,6 +63,7 @@ impl Part {
         Part {
             core,
             coming: Coming::nothing(alloc),
+            outgoing: Outgoing::nothing(alloc),
             records: Vec::new(alloc),
             has_sent: false,
             ran: 0,
@@ -87,18 +90,42 @@ impl Part {
         ensures home { self.new.home ≡ self.old.home }
         ensures refused { OnErr result (self.new ≡ self.old) }
     {
-        let coming = self.coming.with::<U>(alloc, got.as_slice())?;
-        let mut out = Outgoing::nothing(alloc)?;
+        let mut needs = Needs::copies(alloc, got.as_slice())?;
+        self.run_with::<U>(alloc, &mut needs)
+    }
+
+    /// The same, where the batches stand by the number of the sender. They are taken, and their memory serves for what is sent
+    /// later. Where memory lacks they stay.
+    pub fn run_with<U: RunName>(
+        &mut self,
+        alloc: Global,
+        got: &mut Needs<U>,
+    ) -> Result<List<Batch<U>>, Memory>
+        requires part { IsPartOf U.listing U.stimulus U.ticks self.old }
+        requires left { self.old.ran < windows_of U.ticks }
+        requires got { AreNeeded U.listing U.stimulus U.ticks self.old.home.number self.old.ran
+            got.old.from0 got.old.from1 got.old.from2 got.old.from3 }
+        ensures part { OnOk result (IsPartOf U.listing U.stimulus U.ticks self.new) }
+        ensures ran { OnOk result (self.new.ran ≡ self.old.ran + 1) }
+        ensures sent { IfOk result (λ out. out
+            ≡ batches_from U.listing U.stimulus U.ticks self.old.home.number self.old.ran) }
+        ensures home { self.new.home ≡ self.old.home }
+        ensures refused { OnErr result (self.new ≡ self.old) }
+        ensures kept { OnErr result (got.new ≡ got.old) }
+    {
+        self.coming.make_room::<U>(got)?;
+        self.outgoing.make_room()?;
         let batches = no_batches::<U>(alloc)?;
         self.records.reserve(MOST_RECORDS)?;
         self.core.reserve_window()?;
-        self.coming = coming;
+        let free = self.coming.take_in::<U>(alloc, got);
         let window = self.ran;
         let ticks = length_of(window, self.ticks);
         run_ticks(&mut self.core, &mut self.coming, &mut self.records, ticks);
-        self.has_sent = out.take_all(&mut self.core);
+        self.has_sent = self.outgoing.take_all(&mut self.core);
         self.ran = window + 1;
-        Ok(out.filed::<U>(self.core.number(), window, batches))
+        let number = self.core.number();
+        Ok(self.outgoing.filed::<U>(number, window, batches, free))
     }
 
     /// The records so far, in order, each with its tick.
