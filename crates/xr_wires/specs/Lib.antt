@@ -1,0 +1,5 @@
+pub mod Phases
+pub mod Fresh
+pub mod Wires
+pub mod Balance
+pub mod Laws
