@@ -1,12 +1,16 @@
 """What the examples output: worked out here from what each program is to compute, and never by running xcsim.
 
-A model gives (tick, port, value) for each output, in order."""
+A model gives (tick, port, value) for each output, in order, and taken(value) for each word that is taken from a channel."""
 
 import binascii
 import math
 import re
 
 WIDTHS = re.compile(r"([0-9]+)[A-P]")
+
+
+def taken(word):
+    return (None, None, word)
 
 
 def bits():
@@ -30,6 +34,18 @@ def divide():
     made = []
     for tick, n, d in [(3000, 1000000, 7), (6000, 4294967295, 65537), (9000, 4000000000, 3000000001)]:
         made += [(tick, "32A", n // d), (tick + 100, "32A", n % d)]
+    return made
+
+
+def filters():
+    made, sample, samples, differences = [], 40, [0], []
+    for i in range(1, 13):
+        samples.append(sample)
+        differences.append(samples[-1] - samples[-2])
+        total = sum(differences[-4:])
+        shown = min(max(total, 0), 255)
+        made += [(1000 * i, "1A", i), *map(taken, [sample, differences[-1], total, shown]), (1000 * i + 500, "8A", shown)]
+        sample = (sample * 29 + 47) % 301
     return made
 
 
@@ -58,6 +74,23 @@ def lights():
 
 def outside():
     return [(1000 + 100 * i, "8A", i * i) for i in range(4)]
+
+
+def producer():
+    numbers = [12]
+    while numbers[-1] != 1:
+        numbers.append(3 * numbers[-1] + 1 if numbers[-1] % 2 else numbers[-1] // 2)
+    return [record for i, number in enumerate(numbers, 1) for record in (taken(number), (1000 * i, "8A", number))]
+
+
+def ring():
+    made, token = [], 1000
+    for turn in range(18):
+        length = 200 + 100 * (turn % 6)
+        made += [taken(token)] if turn else []
+        made += [(token, f"1{'ABCDEF'[turn % 6]}", 1), (token + length, f"1{'ABCDEF'[turn % 6]}", 0)]
+        token += length + 100
+    return [*made, taken(token)]
 
 
 def search():
@@ -94,10 +127,13 @@ MODELS = {
     "crc": crc,
     "dimmer": dimmer,
     "divide": divide,
+    "filters": filters,
     "gcd": gcd,
     "lanes": lanes,
     "lights": lights,
     "outside": outside,
+    "producer": producer,
+    "ring": ring,
     "search": search,
     "serial": serial,
     "sieve": sieve,
@@ -112,6 +148,9 @@ def trace_of(name):
     """The trace that the model of a program gives, with its end line."""
     lines = []
     for tick, port, value in MODELS[name]():
+        if port is None:
+            lines.append(f"com 0 {value % 2 ** 32}\n")
+            continue
         width = int(WIDTHS.fullmatch(port).group(1))
         lines.append(f"out 0 {port} @{tick % 65536} {value % 2 ** width}\n")
     return "".join(lines) + ENDS.get(name, "end finished\n")

@@ -60,9 +60,12 @@ def listing_of(*cores: tuple[int, int, list[str]], channels: str = "") -> str:
 
 
 def output_of_example(name: str) -> str:
-    """An output of an example: a listing with its ports and without its code, and its trace."""
-    ports = re.findall(r"^out port \w+ = XS1_PORT_(\w+);", written(example(f"{name}.xc")), re.MULTILINE)
-    return listing_of((0, 0, [f"{port} out" for port in ports])) + written(example(f"{name}.trace"))
+    """An output of an example: a listing with its ports and channels and without its code, and its trace."""
+    text = written(example(f"{name}.xc"))
+    ports = re.findall(r"^out port \w+ = XS1_PORT_(\w+);", text, re.MULTILINE)
+    count = sum(names.count(",") + 1 for names in re.findall(r"^ *chan ([^;]+);", text, re.MULTILINE))
+    channels = "".join(f".chan 0 {2 * i} 0 {2 * i + 1}\n" for i in range(count))
+    return listing_of((0, 2 * count, [f"{port} out" for port in ports]), channels=channels) + written(example(f"{name}.trace"))
 
 
 KEPT = [output_of_example(name) for name in PROGRAMS] + [written(data(name)) for name in ("two_cores.out", "script.out")]

@@ -107,7 +107,7 @@ output_few c scope o =
     let s = stamp_few c scope o.stamp in
     omega (arith, t, v, s)
 
-input_few : (c : Context) (scope : Scope) (i : tree.Input) → 3 * parts.of_input (input_of c scope i) ≤ 5 * nodes.of_input i + 6
+input_few : (c : Context) (scope : Scope) (i : tree.Input) → 3 * parts.of_input (input_of c scope i) ≤ 5 * nodes.of_input i + 9
 input_few c scope i =
     let t = time_few c scope i.time in
     let w = condition_few c scope i.condition in

@@ -270,8 +270,8 @@ good_is = record {
     an_array_there : Rattle.xc_formed.specs.Numbers.IsVariable (a_word ∷ an_array ∷ []) 1 true
     an_array_there = record { variable = an_array; there = refl; array = refl; one_word = λ e. absurd (true≢false e) }
 
--- it has 29 parts: 2 variables that are set to 0 and their 5 words, 2 exits, each node, a reading and its place being one, and the root
-good_parts : of_roots good.variables good.roots ≡ 29
+-- it has 31 parts: 2 variables that are set to 0 and their 5 words, 2 exits, 2 inputs, each node, a reading and its place being one, and the root
+good_parts : of_roots good.variables good.roots ≡ 31
 good_parts = refl
 
 some_array : (v w : Var) (b : Bool) → Some v ≡ Some w → w.array ≡ b → v.array ≡ b

@@ -1,4 +1,4 @@
--- How many nodes of expressions, places, exits, branches, cases, variables to set to 0 and words of these code has.
+-- How many nodes of expressions, places, exits, branches, inputs, variables to set to 0 and words of these code has.
 use Rattle.std.specs.Prelude.{ℕ, ◌+◌, ◌≤◌, List, [], ◌∷◌, Option, Some, None, slice_get}
 use Rattle.xc_kernel.specs.declared.kernel.Var.{Var}
 use Rattle.xc_kernel.specs.Plain as kernel
@@ -34,9 +34,10 @@ of_condition (Some w) = of_expression w.value
 abbrev pub of_output : kernel.Output → ℕ
 of_output o = of_maybe o.time + of_expression o.value + of_some_place o.stamp
 
+-- an input is 1 by itself, since it may have none of these
 abbrev pub of_input : kernel.Input → ℕ
 of_input i =
-    of_maybe i.time + of_condition i.condition + of_some_place i.target + of_some_place i.stamp
+    of_maybe i.time + of_condition i.condition + of_some_place i.target + of_some_place i.stamp + 1
 
 -- the words of a variable
 abbrev pub words_of : Option Var → ℕ
@@ -63,11 +64,11 @@ module _ (vs : List Var) where
     of_statements kernel.no_more = 0
     of_statements (kernel.more s ss) = of_statement s + of_statements ss
 
-    -- a case is 1, and so are a `default`, a branch and an exit
+    -- a case is 1 by its input, and so are a `default`, a branch and an exit
     pub of_cases : kernel.Cases → ℕ
     of_cases kernel.no_case = 0
     of_cases (kernel.more_cases (kernel.case guard i a) cs) =
-        of_maybe guard + of_input i + of_statements a + 1 + of_cases cs
+        of_maybe guard + of_input i + of_statements a + of_cases cs
 
     pub of_default : kernel.Default → ℕ
     of_default kernel.no_default = 0

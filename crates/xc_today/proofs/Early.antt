@@ -1,27 +1,26 @@
--- Statements of no later form, and that tokens without its words and symbols derive no others.
-use Rattle.std.proofs.Common.{◌≡◌, ℕ, zero, suc, Bool, List, [], ◌∷◌, map, slice_get, Option, None, Some, refl, subst}
+-- Statements of no later form, and that tokens without its words derive no others.
+use Rattle.std.proofs.Common.{◌≡◌, ℕ, zero, suc, Bool, false, List, [], ◌∷◌, map, slice_get, Option, None, Some, refl, subst}
 use Rattle.xc_tree.specs.declared.token.Tok.{Tok}
 use Rattle.xc_tree.specs.declared.tree.Id.{Id}
 use Rattle.xc_tree.specs.Plain as plain
-use Rattle.xc_tree.specs.Symbols as symbols
 use Rattle.xc_tree.specs.Words as words
-use Rattle.xc_tree.specs.Symbol.{Symbol, sym, key, a_name, a_number, many, maybe, commas, program, item, body, block, block_item, decl, statement, closed, case_item, for_start, for_step, place as placed, branch, assign, input, Declarator, a_word, an_array, Value, Values}
+use Rattle.xc_tree.specs.Symbol.{Symbol, sym, key, a_name, a_number, many, maybe, commas, program, item, body, block, block_item, decl, statement, closed, case_item, for_start, for_step, place as placed, branch, assign, Declarator, a_word, an_array, Value, Values}
 use Rattle.xc_tree.specs.Grammar.{Rule, Extent, rules, kept, declared, named as kind_named}
 use Rattle.xc_tree.specs.Derives.{Room, extent, Derives, a_sym, a_key, named, counted, by_rule, Row, done, next}
 use Rattle.xc_today.proofs.Rules.{EachRule, none, ◌&◌, among_each}
 use Rattle.xc_formed.proofs.Grammar.{AllOf, MaybeOf}
-use Rattle.xc_today.specs.Today.{later_words, later_symbols, IsNoneOf, IsOfToday, AreOfToday}
+use Rattle.xc_today.specs.Today.{later_words, IsNoneOf, IsOfToday, AreOfToday}
 
--- no channel is declared
+-- no timer is declared
 abbrev pub IsEarlyKind : plain.Kind → Type 0
-IsEarlyKind (plain.channel streaming) = ⊥
+IsEarlyKind plain.timer = ⊥
 IsEarlyKind other = Unit {0}
 
 abbrev pub AreEarlyDeclarations : List plain.Declaration → Type 0
 AreEarlyDeclarations [] = Unit {0}
 AreEarlyDeclarations (d ∷ ds) = IsEarlyKind d.kind × AreEarlyDeclarations ds
 
--- no input, no `select`, no transaction and no placed branch
+-- no timer, no `select`, no transaction and no placed branch
 abbrev mutual
   pub IsEarly : plain.Statement → Type 0
   IsEarly (plain.statement action pos close own) = IsEarlyAction action
@@ -29,7 +28,6 @@ abbrev mutual
   pub IsEarlyAction : plain.Action → Type 0
   IsEarlyAction (plain.block ss) = AreEarly ss
   IsEarlyAction (plain.declare ds) = AreEarlyDeclarations ds
-  IsEarlyAction (plain.input i) = ⊥
   IsEarlyAction (plain.if_then test first second) = IsEarly first × IsMaybeEarly second
   IsEarlyAction (plain.while_loop test s) = IsEarly s
   IsEarlyAction (plain.do_while s test) = IsEarly s
@@ -82,9 +80,9 @@ all_declared u [] = tt
 all_declared u (a_word n r ∷ ds) = (tt, all_declared u ds)
 all_declared u (an_array n l p ∷ ds) = (tt, all_declared u ds)
 
-all_timers : (ns : List Id) → AreEarlyDeclarations (map (kind_named plain.timer) ns)
-all_timers [] = tt
-all_timers (n ∷ ns) = (tt, all_timers ns)
+all_channels : (ns : List Id) → AreEarlyDeclarations (map (kind_named (plain.channel false)) ns)
+all_channels [] = tt
+all_channels (n ∷ ns) = (tt, all_channels ns)
 
 all_kept : (is : List (Option plain.Item)) → AllOf (MaybeOf IsEarlyItem) is → AllOf IsEarlyItem (kept is)
 all_kept [] h = tt
@@ -93,7 +91,6 @@ all_kept (Some i ∷ is) h = (h.0, all_kept is h.1)
 
 -- what holds of what a symbol derives
 abbrev Good : (s : Symbol) → Value s → Type 0
-Good (sym o) = λ p. IsNoneOf later_symbols o
 Good (key w) = λ p. IsNoneOf later_words w
 Good (many s) = AllOf (Good s)
 Good (maybe s) = MaybeOf (Good s)
@@ -112,7 +109,6 @@ Good for_step = IsEarly
 Good placed = λ p. ⊥
 Good branch = IsEarlyBranch
 Good assign = IsEarlyAction
-Good input = λ i. ⊥
 Good other = λ v. Unit {0}
 
 abbrev RowGood : (ss : List Symbol) → Values ss → Type 0
@@ -147,14 +143,14 @@ all_keep item = (λ e x g. tt) & (λ e x g. g.1.0) & (λ e x g. tt) & none
 all_keep body = (λ e x g. all_early x.0 g.0) & none
 all_keep block = (λ e x g. g.1.0) & none
 all_keep block_item = (λ e x g. g.0) & (λ e x g. g.0) & none
-all_keep decl = (λ e x g. all_declared x.0 x.1.0) & (λ e x g. absurd (no_one later_words 0 words.chan_word refl g.0)) & (λ e x g. all_timers x.1.0) & none
+all_keep decl = (λ e x g. all_declared x.0 x.1.0) & (λ e x g. all_channels x.1.0) & (λ e x g. absurd (no_one later_words 5 words.timer_word refl g.0)) & none
 all_keep statement =
     (λ e x g. tt) &
     (λ e x g. all_early x.0 g.0) &
     (λ e x g. g.0) &
     (λ e x g. tt) &
     (λ e x g. tt) &
-    (λ e x g. absurd g.0) &
+    (λ e x g. tt) &
     (λ e x g. (g.1.1.1.1.0, tt)) &
     (λ e x g. (g.1.1.1.1.0, g.1.1.1.1.1.1.0)) &
     (λ e x g. g.1.1.1.1.0) &
@@ -165,17 +161,16 @@ all_keep statement =
     (λ e x g. tt) &
     (λ e x g. all_branches x.1.1.0 g.1.1.0) &
     (λ e x g. g.1.1.1.1.1.1.1.1.1.1.1.1.1.1.0) &
-    (λ e x g. absurd (no_one later_words 5 words.select_word refl g.0)) &
-    (λ e x g. absurd (no_one later_words 3 words.master_word refl g.0)) &
-    (λ e x g. absurd (no_one later_words 6 words.slave_word refl g.0)) & none
+    (λ e x g. absurd (no_one later_words 3 words.select_word refl g.0)) &
+    (λ e x g. absurd (no_one later_words 1 words.master_word refl g.0)) &
+    (λ e x g. absurd (no_one later_words 4 words.slave_word refl g.0)) & none
 all_keep closed = (λ e x g. g.0) & none
 all_keep case_item = (λ e x g. g.0) & (λ e x g. g.0) & none
 all_keep for_start = (λ e x g. g.0) & (λ e x g. (tt, tt)) & none
 all_keep for_step = (λ e x g. g.0) & none
-all_keep placed = (λ e x g. no_one later_words 4 words.on_word refl g.0) & (λ e x g. no_one later_words 4 words.on_word refl g.0) & none
+all_keep placed = (λ e x g. no_one later_words 2 words.on_word refl g.0) & (λ e x g. no_one later_words 2 words.on_word refl g.0) & none
 all_keep branch = (λ e x g. (no_place x.0 g.0, g.1.0)) & none
 all_keep assign = (λ e x g. tt) & (λ e x g. tt) & (λ e x g. tt) & (λ e x g. tt) & none
-all_keep input = (λ e x g. no_one later_symbols 0 symbols.receives refl g.1.1.0) & none
 all_keep s = nothing (rules s)
 
 -- a token of these
@@ -187,7 +182,7 @@ of_today (x ∷ xs) (suc i) t h e = of_today xs i t h.1 e
 module _ (toks : List Tok) (today : AreOfToday toks) where
   mutual
     good : {room : Room} {s : Symbol} {i j : ℕ} {v : Value s} → Derives toks room s i j v → Good s v
-    good (a_sym on) = of_today toks _ _ today on.there
+    good (a_sym on) = tt
     good (a_key on) = of_today toks _ _ today on.there
     good (named on) = tt
     good (counted on) = tt

@@ -1,4 +1,4 @@
--- What is built today and what isn't: the words and symbols of later forms as they are spelled, and rows of tokens and statements.
+-- What is built today and what isn't: the words of later forms as they are spelled, and rows of tokens and statements.
 use Rattle.std.proofs.Common.{◌≡◌, true, false, List, [], ◌∷◌, map, Option, None, Some, codes, refl, sym, true≢false}
 use Rattle.xw_words.specs.Tables.{place_in, place_from}
 use Rattle.xc_tree.specs.declared.token.Tok.{Tok}
@@ -8,17 +8,13 @@ use Rattle.xc_tree.specs.Plain as tree
 use Rattle.xc_tree.specs.Symbols as symbols
 use Rattle.xc_tree.specs.Tables as tables
 use Rattle.xc_tree.specs.Words as words
-use Rattle.xc_today.specs.Today.{later_words, later_symbols, AreOfToday, PortsAreOut, IsUnstamped}
+use Rattle.xc_today.specs.Today.{later_words, AreOfToday, PortsAreOut, IsUnstamped}
 
--- Words and symbols.
+-- Words.
 
-spelled_words : map (place_in tables.words) (codes "chan" ∷ codes "chanend" ∷ codes "in" ∷ codes "master" ∷ codes "on" ∷ codes "select" ∷ codes "slave" ∷ codes "timer" ∷ []) ≡ map Some later_words
+spelled_words : map (place_in tables.words) (codes "in" ∷ codes "master" ∷ codes "on" ∷ codes "select" ∷ codes "slave" ∷ codes "timer" ∷ []) ≡ map Some later_words
 unfolding tables.words place_from
 spelled_words = refl
-
-spelled_symbols : map (place_in tables.symbols) (codes ":>" ∷ []) ≡ map Some later_symbols
-unfolding tables.symbols place_from
-spelled_symbols = refl
 
 -- tokens of these kinds
 abbrev tokens : List Kind → List Tok
@@ -27,22 +23,33 @@ tokens (k ∷ ks) = record { kind = k; pos = record { line = 1; col = 1 } } ∷ 
 
 -- `select {`
 select_is_later : AreOfToday (tokens (Key words.select_word ∷ Sym symbols.brace ∷ [])) → ⊥
-select_is_later h = h.0.1.1.1.1.1.0 refl
+select_is_later h = h.0.1.1.1.0 refl
 
 -- `on tile`, in front of a branch
 placed_branch_is_later : AreOfToday (tokens (Key words.par_word ∷ Sym symbols.brace ∷ Key words.on_word ∷ Key words.tile_word ∷ [])) → ⊥
-placed_branch_is_later h = h.1.1.0.1.1.1.1.0 refl
+placed_branch_is_later h = h.1.1.0.1.1.0 refl
 
 -- `par {`
 par_is_of_today : AreOfToday (tokens (Key words.par_word ∷ Sym symbols.brace ∷ []))
 par_is_of_today = (
-  (λ e. absurd (cc), (λ e. absurd (cc), (λ e. absurd (cc), (λ e. absurd (cc), (λ e. absurd (cc), (λ e. absurd (cc), (λ e. absurd (cc), (λ e. absurd (cc), tt)))))))),
-  ((λ e. absurd (cc), tt), tt),
+  (λ e. absurd (cc), (λ e. absurd (cc), (λ e. absurd (cc), (λ e. absurd (cc), (λ e. absurd (cc), (λ e. absurd (cc), tt)))))),
+  (tt, tt),
 )
 
--- `p :>`
-input_is_later : AreOfToday (tokens (Name (codes "p") ∷ Sym symbols.receives ∷ [])) → ⊥
-input_is_later h = h.1.0.0 refl
+-- `chan c ;`
+channel_is_of_today : AreOfToday (tokens (Key words.chan_word ∷ Name (codes "c") ∷ Sym symbols.semicolon ∷ []))
+channel_is_of_today = (
+  (λ e. absurd (cc), (λ e. absurd (cc), (λ e. absurd (cc), (λ e. absurd (cc), (λ e. absurd (cc), (λ e. absurd (cc), tt)))))),
+  (tt, (tt, tt)),
+)
+
+-- `timer t ;`
+timer_is_later : AreOfToday (tokens (Key words.timer_word ∷ Name (codes "t") ∷ Sym symbols.semicolon ∷ [])) → ⊥
+timer_is_later h = h.0.1.1.1.1.1.0 refl
+
+-- `c :>`
+input_is_of_today : AreOfToday (tokens (Name (codes "c") ∷ Sym symbols.receives ∷ []))
+input_is_of_today = (tt, (tt, tt))
 
 -- a name is no word
 name_is_of_today : AreOfToday (tokens (Name (codes "select") ∷ Num 15 false ∷ []))

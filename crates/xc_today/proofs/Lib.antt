@@ -2,6 +2,6 @@ mod Lists
 mod Rules
 pub mod Early
 pub mod Copied
-pub mod Built
 pub mod Ports
+pub mod Built
 pub mod Examples

@@ -150,7 +150,7 @@ module _ (toks : List Tok) (today : AreOfToday toks) (ports : PortsAreOut false 
   in_dir : Holds toks (λ d. d ≡ Out) (Rattle.xc_tree.specs.Grammar.gives (key words.in_word ∷ key words.port_word ∷ []) (λ x. In))
   in_dir room i j vs (next d rest) f e =
       let k = is_key toks room words.in_word i _ _ d in
-      absurd (no_one later_words 2 words.in_word refl (subst Rattle.xc_today.specs.Today.IsOfToday k.is (of_today toks i k.token today k.there)))
+      absurd (no_one later_words 0 words.in_word refl (subst Rattle.xc_today.specs.Today.IsOfToday k.is (of_today toks i k.token today k.there)))
 
   out_dir : Holds toks (λ d. d ≡ Out) (Rattle.xc_tree.specs.Grammar.gives (key words.out_word ∷ key words.port_word ∷ []) (λ x. Out))
   out_dir room i j vs (next d (next p done)) f e = (fresh_key toks words.port_word _ _ refl (is_key toks room words.port_word _ _ _ p), refl)

@@ -4,30 +4,24 @@ use Rattle.xc_tree.specs.declared.token.Tok.{Tok}
 use Rattle.xc_tree.specs.declared.token.Kind.{Kind}
 use Rattle.xc_tree.specs.declared.token.Kind.TheVariants.{Name, Num, Key, Sym}
 use Rattle.xc_tree.specs.Plain as tree
-use Rattle.xc_tree.specs.Symbols as symbols
 use Rattle.xc_tree.specs.Words as words
 
 -- the words of later forms, by their places in `WORDS`
 abbrev pub later_words : List ℕ
 later_words =
-    words.chan_word ∷ words.chanend_word ∷ words.in_word ∷ words.master_word ∷ words.on_word
-    ∷ words.select_word ∷ words.slave_word ∷ words.timer_word ∷ []
-
--- the symbols of later forms, by their places in `SYMBOLS`
-abbrev pub later_symbols : List ℕ
-later_symbols = symbols.receives ∷ []
+    words.in_word ∷ words.master_word ∷ words.on_word ∷ words.select_word ∷ words.slave_word ∷ words.timer_word ∷ []
 
 -- a place that is none of these
 abbrev pub IsNoneOf : List ℕ → ℕ → Type 0
 IsNoneOf [] place = Unit {0}
 IsNoneOf (other ∷ rest) place = (place ≢ other) × IsNoneOf rest place
 
--- a token that is no word and no symbol of a later form
+-- a token that is no word of a later form
 abbrev pub IsOfToday : Kind → Type 0
 IsOfToday (Name text) = Unit {0}
 IsOfToday (Num value is_unsigned) = Unit {0}
 IsOfToday (Key place) = IsNoneOf later_words place
-IsOfToday (Sym place) = IsNoneOf later_symbols place
+IsOfToday (Sym place) = Unit {0}
 
 abbrev pub AreOfToday : List Tok → Type 0
 AreOfToday [] = Unit {0}
@@ -97,7 +91,7 @@ AreItemsUnstamped (item ∷ items) = IsItemUnstamped item × AreItemsUnstamped i
 
 -- These tokens, and the program that they are, are built today.
 pub record IsBuiltToday (toks : List Tok) (program : List tree.Item) : Type 0 where
-  -- no word and no symbol of a later form stands among the tokens
+  -- no word of a later form stands among the tokens: so an input comes from no timer, and as all ports are `out port`, from no port
   pub words : AreOfToday toks
   -- each port that is declared or is a parameter is an `out port`
   pub ports : PortsAreOut false toks

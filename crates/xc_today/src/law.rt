@@ -1,11 +1,16 @@
 //! The laws, as contracts of functions that do nothing.
 
-ghost use Rattle.xc_today.specs.Laws.{KernelsAreBuilt, PortsGoOut};
+ghost use Rattle.xc_today.specs.Laws.{ChannelsStay, KernelsAreBuilt, PortsGoOut};
 
-/// The code of the roots of a kernel is built whose program is built today: they have no input, no `select` and no transaction, and its
-/// outputs go to ports and have no stamp.
+/// The code of the roots of a kernel is built whose program is built today: they have no `select` and no transaction, their outputs go
+/// to ports, with no stamp, or to channels, and their inputs come from channels.
 pub fn kernels_are_built()
     ensures { KernelsAreBuilt }
+{}
+
+/// Each channel of a kernel is used in one root alone whose program is built today.
+pub fn channels_stay()
+    ensures { ChannelsStay }
 {}
 
 /// The ports of a program that is built today, and its parameters that are ports, are `out port`.

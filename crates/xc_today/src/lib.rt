@@ -1,4 +1,5 @@
-//! The programs that are built today: which texts hold nothing of a later form, and that the code of their kernels' roots is built.
+//! The programs that are built today: which texts hold nothing of a later form, that the code of their kernels' roots is built, and
+//! that their channels stay in one root.
 #![tactic(auto)]
 
 mod law;
@@ -6,5 +7,5 @@ mod stamps;
 mod today;
 mod tokens;
 
-pub use law::{kernels_are_built, ports_go_out};
+pub use law::{channels_stay, kernels_are_built, ports_go_out};
 pub use today::is_built_today;

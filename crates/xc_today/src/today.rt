@@ -8,8 +8,8 @@ use crate::stamps::are_items_unstamped;
 use crate::tokens::{are_of_today, ports_are_out};
 use xc_tree::{Tok, Tree};
 
-/// Whether tokens and their tree are built today: no word and no symbol of a later form stands there, each port that is declared or
-/// is a parameter is an `out port`, and no output has a stamp.
+/// Whether tokens and their tree are built today: no word of a later form stands there, each port that is declared or is a parameter
+/// is an `out port`, and no output has a stamp.
 pub fn is_built_today(toks: &[Tok], tree: &Tree) -> bool
     ensures { IsTrue result ↔ IsBuiltToday toks.now (program_of tree.now) }
 {

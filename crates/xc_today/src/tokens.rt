@@ -3,17 +3,13 @@
 ghost use Rattle.std.specs.Prelude.{◌≡◌, false, IsTrue, ◌↔◌};
 ghost use Rattle.xc_today.specs.Today as today;
 
-use xc_tree::symbols::RECEIVES;
 use xc_tree::words::{
-    CHAN_WORD, CHANEND_WORD, IN_WORD, MASTER_WORD, ON_WORD, OUT_WORD, PORT_WORD, SELECT_WORD,
-    SLAVE_WORD, TIMER_WORD,
+    IN_WORD, MASTER_WORD, ON_WORD, OUT_WORD, PORT_WORD, SELECT_WORD, SLAVE_WORD, TIMER_WORD,
 };
 use xc_tree::{Kind, Tok};
 
 /// The words of later forms.
-const LATER_WORDS: [u8; 8] = [
-    CHAN_WORD,
-    CHANEND_WORD,
+const LATER_WORDS: [u8; 6] = [
     IN_WORD,
     MASTER_WORD,
     ON_WORD,
@@ -22,10 +18,7 @@ const LATER_WORDS: [u8; 8] = [
     TIMER_WORD,
 ];
 
-/// The symbols of later forms.
-const LATER_SYMBOLS: [u8; 1] = [RECEIVES];
-
-/// Whether no word and no symbol of a later form stands among tokens.
+/// Whether no word of a later form stands among tokens.
 pub fn are_of_today(toks: &[Tok]) -> bool
     ensures { IsTrue result ↔ today.AreOfToday toks.now }
 {
@@ -39,7 +32,7 @@ pub fn are_of_today(toks: &[Tok]) -> bool
     true
 }
 
-/// Whether a token is no word and no symbol of a later form.
+/// Whether a token is no word of a later form.
 fn is_of_today(kind: &Kind) -> bool
     ensures { IsTrue result ↔ today.IsOfToday kind.now }
 {
@@ -47,7 +40,7 @@ fn is_of_today(kind: &Kind) -> bool
         Kind::Name(_) => true,
         Kind::Num(_, _) => true,
         Kind::Key(place) => is_none_of(&LATER_WORDS, *place),
-        Kind::Sym(place) => is_none_of(&LATER_SYMBOLS, *place),
+        Kind::Sym(_) => true,
     }
 }
 

@@ -24,7 +24,8 @@ use Rattle.xc_kernel.specs.Copies.{Copies}
 use Rattle.xc_kernel.specs.Plain.{Kernel}
 use Rattle.xc_kernel.specs.Size.{Breaks509, IsTooLarge}
 use Rattle.xc_kernel.specs.Sound.{IsOfText, IsTyped}
-use Rattle.xc_today.proofs.Built.{kernels_are_built}
+use Rattle.xc_today.proofs.Built.{channels_stay, kernels_are_built}
+use Rattle.xl_plan.specs.Planned.{StayInRoots}
 use Rattle.xc_today.specs.Today.{IsBuiltToday}
 use Rattle.xl_image.specs.Roots.{RootsAreBuilt}
 use Rattle.xcsim.specs.Rules.{First, IsKernelOf, IsResolved}
@@ -109,6 +110,9 @@ module _ (text : List ℕ) (items : List Item) (r : IsReadAs text items) where
         pub built : RootsAreBuilt K.roots
         built = kernels_are_built r.toks items (named_of named) types K r.derives r.shallow r.form typed_is copies
 
+        pub stays : StayInRoots K
+        stays = channels_stay r.toks items K r.derives r.form copies
+
 -- the same of a program with types that holds what was read and named
 module _
     (text : List ℕ) (tree : Tree) (r : IsReadAs text (program_of tree)) (named : Named) (its_tree : named.tree ≡ tree)
@@ -147,3 +151,6 @@ module _
 
     pub built_too : RootsAreBuilt K.roots
     built_too = built text (program_of tree) r named is_named names typed.unsigned_at types_are sound K its_small its_copies
+
+    pub stays_too : StayInRoots K
+    stays_too = stays text (program_of tree) r named is_named names typed.unsigned_at types_are sound K its_small its_copies

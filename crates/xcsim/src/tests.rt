@@ -30,9 +30,13 @@ const PULSE_CODE: &str =
 const SIX_FUNCTIONS: &str =
     "void f0(void) { int x; x = 1; }\nvoid f1(void) { f0(); f0(); f0(); f0(); f0(); f0(); f0(); f0(); f0(); f0(); }\nvoid f2(void) { f1(); f1(); f1(); f1(); f1(); f1(); f1(); f1(); f1(); f1(); }\nvoid f3(void) { f2(); f2(); f2(); f2(); f2(); f2(); f2(); f2(); f2(); f2(); }\nvoid f4(void) { f3(); f3(); f3(); f3(); f3(); f3(); f3(); f3(); f3(); f3(); }\nvoid f5(void) { f4(); f4(); f4(); f4(); f4(); f4(); f4(); f4(); f4(); f4(); }\n";
 
-/// A text of the language that isn't built yet.
-const TWO_BRANCHES: &str =
-    "out port p = XS1_PORT_8A;\nint main(void) { chan c; int x; par { c <: 7; c :> x; } p @ 30000 <: x; return 0; }\n";
+/// Two thousand words over one channel.
+const LOOP: &str =
+    "out port p = XS1_PORT_32A;\nint main(void) {\n  chan c; int i, k, x, sum;\n  par {\n    for (i = 0; i < 2000; i++) c <: i;\n    for (k = 0; k < 2000; k++) { c :> x; sum += x; }\n  }\n  p @ 60000 <: sum;\n  return 0;\n}\n";
+
+/// A ring of eight threads and eight channels.
+const RING: &str =
+    "out port p = XS1_PORT_32A;\nvoid begin(chanend from, chanend to, int &token) {\n  for (int i = 0; i < 100; i++) { to <: token + 1; from :> token; }\n}\nvoid pass(chanend from, chanend to) {\n  int token;\n  for (int i = 0; i < 100; i++) { from :> token; to <: token + 1; }\n}\nint main(void) {\n  chan a, b, c, d, e, f, g, h; int token;\n  par {\n    begin(h, a, token);\n    pass(a, b);\n    pass(b, c);\n    pass(c, d);\n    pass(d, e);\n    pass(e, f);\n    pass(f, g);\n    pass(g, h);\n  }\n  p @ 60000 <: token;\n  return 0;\n}\n";
 
 /// A call, with the file `a.xc`, and what is expected of it.
 #[derive(Clone, Copy)]
@@ -223,7 +227,54 @@ fn refuses_texts(rt: HostRuntime) -> Result<(), Fail> {
         ),
         ("int main(void) { return 09; }", "a.xc:1:25: rule 106\n"),
         ("int main(void) { x = ; }", "a.xc:1:22: rule 201\n"),
-        (TWO_BRANCHES, "a.xc:1:1: rule 299\n"),
+        (
+            "int main(void) { timer t; return 0; }",
+            "a.xc:1:1: rule 299\n",
+        ),
+        (
+            "int main(void) { chan c; par { master { c <: 1; } slave { c :> void; } } return 0; }",
+            "a.xc:1:1: rule 299\n",
+        ),
+        (
+            "int main(void) { chan c; par { c <: 1; select { case c :> void: break; } } return 0; }",
+            "a.xc:1:1: rule 299\n",
+        ),
+        (
+            "int main(void) {\n  chan c; int x; int y;\n  par {\n    c <: 1;\n    c :> x;\n    c :> y;\n  }\n  return 0;\n}\n",
+            "a.xc:6:5: rule 603\n",
+        ),
+        (
+            "int main(void) {\n  chan c; int x; int y;\n  par {\n    c <: 1;\n    c :> x;\n  }\n  c <: 2;\n  return 0;\n}\n",
+            "a.xc:2:8: rule 604\n",
+        ),
+        (
+            "int main(void) { chan c; c <: 1; return 0; }",
+            "a.xc:1:23: rule 604\n",
+        ),
+        (
+            "int main(void) {\n  chan c; int x;\n  par {\n    par {\n      c <: 1;\n      c <: 2;\n    }\n    c :> x;\n  }\n  return 0;\n}\n",
+            "a.xc:6:7: rule 605\n",
+        ),
+        (
+            "void f(void) { chan c; par { c <: 1; c :> void; } }\nint main(void) { f(); f(); f(); f(); f(); f(); f(); f(); f(); f(); f(); f(); f(); f(); f(); f(); f(); return 0; }",
+            "a.xc:2:5: rule 702\n",
+        ),
+        (
+            "out port p = XS1_PORT_1A;\nint main(void) { int x; p :> x; return 0; }",
+            "a.xc:2:25: rule 411\n",
+        ),
+        (
+            "int main(void) { chan c; int x; par { c <: 1; c :> x @ x; } return 0; }",
+            "a.xc:1:54: rule 413\n",
+        ),
+        (
+            "int main(void) { chan c; int x; par { c <: 1; c when pinseq(1) :> x; } return 0; }",
+            "a.xc:1:49: rule 414\n",
+        ),
+        (
+            "int main(void) { chan c; int x; par { c <: 1; c :> x; } x = c + 1; return 0; }",
+            "a.xc:1:61: rule 401\n",
+        ),
         (
             "int main(void) {\n  int x;\n  par {\n    x = 1;\n    x = 2;\n  }\n  return 0;\n}\n",
             "a.xc:5:5: rule 601\n",
@@ -391,6 +442,148 @@ fn runs_statements(rt: HostRuntime) -> Result<(), Fail> {
     Ok(())
 }
 
+/// What follows the line `trace` where branches communicate.
+#[test]
+fn runs_channels(rt: HostRuntime) -> Result<(), Fail> {
+    let rows = [
+        // A word goes from one branch to the other.
+        (
+            "out port p = XS1_PORT_8A;\nint main(void) { chan c; int x; par { c <: 7; c :> x; } p @ 30000 <: x; return 0; }\n",
+            0,
+            "com 0 7\nout 0 8A @30000 7\nend finished\n",
+        ),
+        // Both wait for the other's word.
+        (
+            "int main(void) { chan c; int x; int y; par { c :> x; c :> y; } return 0; }",
+            5,
+            "end stuck\n",
+        ),
+        // A serial transmitter, and what feeds it.
+        (
+            "#include <xs1.h>\n#include <platform.h>\n#define BIT_TIME 868\nout port tx = XS1_PORT_1A;\nvoid send(out port p, chanend c) {\n  unsigned t = 1000; int n, k, v;\n  for (n = 0; n < 2; n++) {\n    c :> v;\n    p @ t <: 0;\n    for (k = 0; k < 8; k++) { t += BIT_TIME; p @ t <: v; v >>= 1; }\n    t += BIT_TIME; p @ t <: 1;\n    t += BIT_TIME;\n  }\n}\nvoid feed(chanend c) { c <: 0x55; c <: 0x41; }\nint main(void) { chan c; par { feed(c); send(tx, c); } return 0; }\n",
+            0,
+            "com 0 85\nout 0 1A @1000 0\nout 0 1A @1868 1\nout 0 1A @2736 0\nout 0 1A @3604 1\nout 0 1A @4472 0\nout 0 1A @5340 1\nout 0 1A @6208 0\nout 0 1A @7076 1\nout 0 1A @7944 0\nout 0 1A @8812 1\ncom 0 65\nout 0 1A @9680 0\nout 0 1A @10548 1\nout 0 1A @11416 0\nout 0 1A @12284 0\nout 0 1A @13152 0\nout 0 1A @14020 0\nout 0 1A @14888 0\nout 0 1A @15756 1\nout 0 1A @16624 0\nout 0 1A @17492 1\nend finished\n",
+        ),
+        // Each waits for the answer, and finds an offer: both err. The second branch begins in the turn in which the first one
+        // sets it off, and so errs first.
+        (
+            "int main(void) {\n  chan c;\n  par {\n    c <: 1;\n    c <: 2;\n  }\n  return 0;\n}\n",
+            3,
+            "err 0 5:5 mismatch\nerr 0 4:5 mismatch\nend trapped\n",
+        ),
+        // The same where the second one has offered long ago: it errs as soon as the first byte of the first one's offer is
+        // there.
+        (
+            "out port p = XS1_PORT_8A;\nint main(void) {\n  chan c;\n  par {\n    { p @ 1000 <: 1; c <: 1; }\n    c <: 2;\n  }\n  return 0;\n}\n",
+            3,
+            "out 0 8A @1000 1\nerr 0 6:5 mismatch\nerr 0 5:22 mismatch\nend trapped\n",
+        ),
+        // And the other way round.
+        (
+            "out port p = XS1_PORT_8A;\nint main(void) {\n  chan c;\n  par {\n    c <: 1;\n    { p @ 1000 <: 1; c <: 2; }\n  }\n  return 0;\n}\n",
+            3,
+            "out 0 8A @1000 1\nerr 0 5:5 mismatch\nerr 0 6:22 mismatch\nend trapped\n",
+        ),
+        // A third branch goes on.
+        (
+            "out port p = XS1_PORT_8A;\nint main(void) {\n  chan c; int x, y;\n  par {\n    { c <: 1; c :> x; }\n    { c <: 2; c :> y; }\n    p @ 2000 <: 5;\n  }\n  return 0;\n}\n",
+            3,
+            "err 0 6:7 mismatch\nerr 0 5:7 mismatch\nout 0 8A @2000 5\nend stuck\n",
+        ),
+        // Two channels, and each branch waits for the answer on another one.
+        (
+            "int main(void) {\n  chan c, d; int x, y;\n  par {\n    { c <: 1; d :> x; }\n    { d <: 2; c :> y; }\n  }\n  return 0;\n}\n",
+            5,
+            "end stuck\n",
+        ),
+        // The one that outputs errs before, and the other one waits for ever.
+        (
+            "int main(void) {\n  chan c; int x, zero;\n  par {\n    c <: 1 / zero;\n    c :> x;\n  }\n  return 0;\n}\n",
+            3,
+            "err 0 4:12 arithmetic\nend stuck\n",
+        ),
+        // The word is taken before its place is tested, so the one that outputs goes on.
+        (
+            "out port p = XS1_PORT_8A;\nint main(void) {\n  chan c; int a[3], i = 3;\n  par {\n    { c <: 5; p @ 2000 <: 1; }\n    c :> a[i];\n  }\n  return 0;\n}\n",
+            3,
+            "com 0 5\nerr 0 6:10 index\nout 0 8A @2000 1\nend stuck\n",
+        ),
+        // Words that nobody uses, one of them in a variable.
+        (
+            "int main(void) {\n  chan c; int x;\n  par {\n    { c <: 7; c <: -1; c <: 9; }\n    { c :> x; c :> void; c :> int y; }\n  }\n  return 0;\n}\n",
+            0,
+            "com 0 7\ncom 0 4294967295\ncom 0 9\nend finished\n",
+        ),
+        // Both ways over one channel: 1, then twice as much and 1 more each time, and back.
+        (
+            "out port p = XS1_PORT_8A;\nint main(void) {\n  chan c; int x = 1, y;\n  par {\n    for (int i = 0; i < 3; i++) { c <: 2 * x + 1; c :> x; }\n    for (int i = 0; i < 3; i++) { c :> y; c <: 2 * y + 1; }\n  }\n  p @ 5000 <: x;\n  return 0;\n}\n",
+            0,
+            "com 0 3\ncom 0 7\ncom 0 15\ncom 0 31\ncom 0 63\ncom 0 127\nout 0 8A @5000 127\nend finished\n",
+        ),
+        // Ends that are handed on through three functions and through two.
+        (
+            "out port p = XS1_PORT_8A;\nvoid last(chanend c, int v) { c <: v; }\nvoid middle(chanend c, int v) { last(c, v + 1); }\nvoid first(chanend c, int v) { middle(c, 2 * v); }\nvoid take(chanend c, int &sum) { int x; c :> x; sum += x; }\nvoid take_two(chanend c, int &sum) { take(c, sum); take(c, sum); }\nint main(void) {\n  chan c; int sum;\n  par {\n    { first(c, 10); first(c, 20); }\n    take_two(c, sum);\n  }\n  p @ 9000 <: sum;\n  return 0;\n}\n",
+            0,
+            "com 0 21\ncom 0 41\nout 0 8A @9000 62\nend finished\n",
+        ),
+        // A function with a channel of its own, called twice: each call has another one.
+        (
+            "out port p = XS1_PORT_8A;\nvoid pass(int v, int &w) { chan c; par { c <: v; c :> w; } }\nint main(void) {\n  int x, y;\n  pass(3, x);\n  pass(x + 1, y);\n  p @ 5000 <: 10 * x + y;\n  return 0;\n}\n",
+            0,
+            "com 0 3\ncom 0 4\nout 0 8A @5000 34\nend finished\n",
+        ),
+        // The sides stand in one inner `par` after the other, in its first branch and in its second, and between them in no inner
+        // one.
+        (
+            "out port p = XS1_PORT_8A;\nint main(void) {\n  chan c; int x, y, z, n, m;\n  par {\n    { par { c <: 1; n = 3; } par { n++; c <: 2; } c <: 3; }\n    { c :> x; par { m = 4; c :> y; } par { c :> z; m++; } }\n  }\n  p @ 5000 <: x + 10 * y + 100 * (z - 1);\n  p @ 5100 <: n * m;\n  return 0;\n}\n",
+            0,
+            "com 0 1\ncom 0 2\ncom 0 3\nout 0 8A @5000 221\nout 0 8A @5100 20\nend finished\n",
+        ),
+        // A `par` in a loop: the threads of its branches, and so those of the sides, are got anew each time.
+        (
+            "out port p = XS1_PORT_8A;\nint main(void) {\n  chan c; int x, n;\n  for (int i = 0; i < 4; i++) par { { n++; c <: i + n; } c :> x; }\n  p @ 5000 <: x;\n  return 0;\n}\n",
+            0,
+            "com 0 1\ncom 0 3\ncom 0 5\ncom 0 7\nout 0 8A @5000 7\nend finished\n",
+        ),
+    ];
+    for (text, status, tail) in rows {
+        check_trace(
+            &rt,
+            rt.alloc(),
+            &["run", "a.xc", "", ""],
+            text,
+            status,
+            tail,
+        )?;
+    }
+    Ok(())
+}
+
+/// The records of the words of a range that are taken one after the other on core 0, and what follows them.
+fn taken(alloc: Global, from: u32, to: u32, rest: &str) -> Result<String, AllocError> {
+    let mut trace = String::new(alloc);
+    for word in from..to {
+        let line = format!(in alloc; "com 0 {word}\n")?;
+        trace.push_str(line.as_str())?;
+    }
+    trace.push_str(rest)?;
+    Ok(trace)
+}
+
+/// A channel of which a loop outputs 0 to 1999, whose sum is 1999000, and a token that goes round a ring of eight threads a hundred times
+/// and grows by 1 at each.
+#[test]
+fn runs_many_transfers(rt: HostRuntime) -> Result<(), Fail> {
+    let alloc = rt.alloc();
+    let numbers = taken(alloc, 0, 2000, "out 0 32A @60000 1999000\nend finished\n")?;
+    let tokens = taken(alloc, 1, 801, "out 0 32A @60000 800\nend finished\n")?;
+    let rows = [(LOOP, numbers.as_str()), (RING, tokens.as_str())];
+    for (text, tail) in rows {
+        check_trace(&rt, alloc, &["run", "a.xc", "", ""], text, 0, tail)?;
+    }
+    Ok(())
+}
+
 /// A call with the file `a.xc`, and what follows the line `trace` in its output.
 fn check_trace<Rt: Threads + Wait + Sync + Abort>(
     rt: &Rt,
@@ -402,7 +595,7 @@ fn check_trace<Rt: Threads + Wait + Sync + Abort>(
 ) -> Result<(), Fail> {
     let words = word_list(alloc, words)?;
     let mut shelf = shelf_of(alloc, text.as_bytes(), List::new(alloc))?;
-    let mut out = MemSink::new(alloc, 20_000, List::new(alloc))?;
+    let mut out = MemSink::new(alloc, 40_000, List::new(alloc))?;
     let mut err = MemSink::new(alloc, 100, List::new(alloc))?;
     let answer = xcsim(
         rt,

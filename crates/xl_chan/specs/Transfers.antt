@@ -1,5 +1,5 @@
 -- What the code of a transfer over a channel does.
-use Rattle.std.specs.Prelude.{◌≡◌, ℕ, ◌+◌, ◌-◌, ◌*◌, ◌≤◌, Bool, true, false, List, [], length, Option, Some, None, slice_get}
+use Rattle.std.specs.Prelude.{◌≡◌, ℕ, ◌+◌, ◌-◌, ◌*◌, ◌≤◌, Bool, true, false, List, [], ◌++◌, length, Option, Some, None, slice_get}
 use Rattle.xw_words.specs.declared.pos.Pos.{Pos}
 use Rattle.xs_instr.specs.declared.image.Home.{Home}
 use Rattle.xs_instr.specs.declared.instr.Reg.{Reg}
@@ -113,6 +113,15 @@ StoresFrom vars home relied s t thread (Some place) pc index regs =
 abbrev pub WritesTo : List (Option VarPlan) → Option kernel.Place → (pc : ℕ) → List Line → Type 0
 WritesTo vars None pc lines = lines ≡ []
 WritesTo vars (Some place) pc lines = Stores vars place R0 pc lines
+
+-- The lines of an input: those of its transfer, and then those that write the word, which stands in r0, where there is a place for it.
+pub record Receives
+    (plan : Plan) (end : ℕ) (dest : Option kernel.Place) (plain : Bool) (pos : Pos) (pc : ℕ) (lines : List Line) : Type 0 where
+  pub transfer : List Line
+  pub write : List Line
+  pub is : lines ≡ transfer ++ write
+  pub takes : Takes plan end R0 plain pos pc transfer
+  pub writes : WritesTo plan.vars dest (pc + length transfer) write
 
 -- The lines take a word from a channel and write it to a place, where there is one: the thread stands after at most three own steps
 -- at the first step of the protocol of an input to r0, behind which it writes the word or traps with the error of the place's index.

@@ -4,7 +4,7 @@ ghost use Rattle.xs_instr.specs.Adds.{Adds};
 ghost use Rattle.xs_instr.specs.Extends.{Extends};
 ghost use Rattle.xl_expr.specs.Measures.{depth, nodes};
 ghost use Rattle.xl_expr.specs.Targets.{AreAimed};
-ghost use Rattle.xl_chan.specs.Transfers.{SendsValue, TakesTo, WritesTo, dest_depth, dest_nodes};
+ghost use Rattle.xl_chan.specs.Transfers.{Receives, SendsValue, TakesTo, WritesTo, dest_depth, dest_nodes};
 
 use crate::transfer::{emit_in, emit_out};
 use xc_kernel::{Kx, Place};
@@ -46,7 +46,7 @@ pub fn emit_send(
 /// `takes` says what the code does: wherever it stands from this index on, where the plan has the end, and whatever other threads do
 /// in between that leaves what this one relies on, it comes within three steps to where it takes the steps of the protocol. Behind
 /// them, where the layout of the place holds then, it writes the word, or traps with the error of the place's index, within 8 steps
-/// for each node.
+/// for each node. `receives` says the same by its two parts.
 ///
 /// The one error is want of memory; the emitter then holds what it held, and perhaps further instructions behind it.
 pub fn emit_receive(
@@ -63,6 +63,8 @@ pub fn emit_receive(
         (length e.new ≤ length e.old + 8 * dest_nodes (option_map place_of dest.now) + 6) }
     ensures takes { OnOk result (Adds e.old e.new
         (TakesTo plan.now end (option_map place_of dest.now) plain pos (length e.old))) }
+    ensures receives { OnOk result (Adds e.old e.new
+        (Receives plan.now end (option_map place_of dest.now) plain pos (length e.old))) }
     ensures aimed { OnOk result (Adds e.old e.new (AreAimed (length e.old))) }
     ensures refused { OnErr result (Extends e.old e.new) }
 {

@@ -28,13 +28,15 @@ pub struct VarPlan {
 }
 
 /// Where things stand for one body of code, by their places in the kernel's lists; and the word where the temporary words of the core's
-/// thread 0 begin, behind which those of the others follow, one thread's behind the other's.
+/// thread 0 begin, behind which those of the others follow, one thread's behind the other's. A channel has two ends, one a side: `channels`
+/// has for each channel the place of its first side's end among the ends, and the place of its second side's end is the next one.
 #[derive(Drop)]
 pub struct Plan {
     pub vars: List<Option<VarPlan>>,
     pub ports: List<Option<ResAt>>,
     pub timers: List<Option<ResAt>>,
     pub ends: List<ResAt>,
+    pub channels: List<u32>,
     pub first_stack: u32,
 }
 

@@ -11,7 +11,8 @@ use Rattle.xl_expr.specs.Targets.{AreGoodLines}
 use Rattle.xl_expr.proofs.GoodCode.{good_append}
 use Rattle.xl_plan.specs.Layout.{temporary_of}
 use Rattle.xl_walk.specs.Inside.{StandAlone}
-use Rattle.xl_image.specs.Images.{roots_on}
+use Rattle.xl_sides.specs.Ends.{Sides}
+use Rattle.xl_image.specs.Images.{no_sides, roots_on}
 use Rattle.xl_image.specs.Roots.{AreReady, AreRoots, IsRootCode, most_of_root, most_of_roots}
 
 -- the roots from one on
@@ -79,10 +80,10 @@ module _ (k : kernel.Kernel) (core : ℕ) (plan : Plan) (all rest : List kernel.
   has_room = let room = begun.room in omega arith
 
   -- one that is here
-  pub goes_on : nat_eq r.core core ≡ true → (e' : List Line) (entries' : List ℕ) (word : ℕ) → word ≡ temporary_of k core (length entries) → entries' ≡ entries ++ length e ∷ [] →
-      Adds e e' (IsRootCode plan word r (length e)) → Adds e e' (StandAlone (length e)) → length e' ≤ length e + most_of_root plan.vars r →
+  pub goes_on : nat_eq r.core core ≡ true → (e' : List Line) (entries' : List ℕ) (sides : Sides) (word : ℕ) → sides ≡ no_sides k → word ≡ temporary_of k core (length entries) → entries' ≡ entries ++ length e ∷ [] →
+      Adds e e' (IsRootCode plan sides word r (length e)) → Adds e e' (StandAlone (length e)) → length e' ≤ length e + most_of_root plan.vars r →
       Begun k core plan all rest e' entries'
-  goes_on here e' entries' word word_is entries_are code lone size =
+  goes_on here e' entries' sides word sides_are word_is entries_are code lone size =
       let l = ap length (here_is here) in
       let count = begun.count in
       let room = begun.room in
@@ -101,7 +102,7 @@ module _ (k : kernel.Kernel) (core : ℕ) (plan : Plan) (all rest : List kernel.
               later = later;
               is = refl;
               entry = refl;
-              first_is = subst (λ w. IsRootCode plan w r (length e) code.lines) word_is code.so;
+              first_is = subst (λ w. IsRootCode plan (no_sides k) w r (length e) code.lines) word_is (subst (λ s. IsRootCode plan s word r (length e) code.lines) sides_are code.so);
               others_are = others;
             } in
             let done = begun.so (code.lines ++ more) (length e ∷ later) (subst (λ rs. AreRoots k core plan rs (length entries) (length e) (code.lines ++ more) (length e ∷ later)) (sym (here_is here)) whole) in

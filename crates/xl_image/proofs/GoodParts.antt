@@ -1,14 +1,13 @@
 -- The image can be loaded.
 use Rattle.std.proofs.Common.{◌≡◌, ◌∙◌, ◌⊎◌, ⊎_elim, ℕ, suc, ◌+◌, ◌<◌, ◌≤◌, Bool, true, false, List, [], ◌∷◌, length, map, sym, ap, subst, arith, length-append}
 use Rattle.std.proofs.lemmas.List.{length-map}
-use Rattle.std.specs.Prelude.{cond, filter, nat_eq}
+use Rattle.std.specs.Prelude.{cond, filter}
 use Rattle.std.specs.List.{All}
 use Rattle.std.proofs.lemmas.List.Elements.{All-head, All-tail, filter_passes}
 use Rattle.xs_instr.specs.declared.image.CoreImage.{CoreImage}
 use Rattle.xs_instr.specs.declared.image.Image.{Image}
 use Rattle.xs_instr.specs.Lines.{Line, instr_of, pos_of}
-use Rattle.xs_instr.specs.Machine.{parts_by, parts_in}
-use Rattle.xs_instr.specs.Valid.{AreGoodCores, AreGoodInstrs, AreGoodPairs, AreGoodPorts, AreIndices, IsGoodCore, IsNewPort, IsThere, Valid}
+use Rattle.xs_instr.specs.Valid.{AreGoodCores, AreGoodInstrs, AreGoodPairs, AreGoodPorts, AreIndices, IsGoodCore, IsNewPort, Valid, times_named}
 use Rattle.xc_kernel.specs.declared.kernel.PortUse.{PortUse}
 use Rattle.xc_kernel.specs.Plain as kernel
 use Rattle.xc_disjoint.specs.Checked.{IsChecked}
@@ -18,13 +17,16 @@ use Rattle.xc_disjoint.specs.Rules.{most_threads, most_timers, needs, timers}
 use Rattle.xl_expr.specs.declared.plan.Plan.{Plan}
 use Rattle.xl_expr.proofs.GoodCode.{good_instrs}
 use Rattle.xl_plan.specs.Planned as planned
-use Rattle.xl_plan.specs.Planned.{ports_on}
+use Rattle.xl_plan.specs.Planned.{StayInRoots, ports_on}
+use Rattle.xl_plan.proofs.Ends.{ends_are_used, few_ends}
 use Rattle.xl_plan.proofs.PortsDiffer.{ports_apart}
 use Rattle.xl_plan.proofs.Sizes.{few_words}
-use Rattle.xl_image.specs.Images.{decl_of, roots_on}
-use Rattle.xl_image.specs.Roots.{AreRoots, IsRootCode, RootsAreBuilt}
+use Rattle.xl_sides.specs.Ends.{Sides}
+use Rattle.xl_image.specs.Images.{decl_of, pairs_below, roots_on}
+use Rattle.xl_image.specs.Roots.{AreRoots, IsRootCode}
 use Rattle.xl_image.specs.Parts.{IsPartOf, below, cores_of, has_root, is_some_root, number_of}
-use Rattle.xl_image.proofs.Threads.{few_threads, no_ends, roots_have_threads}
+use Rattle.xl_image.proofs.GoodPairs.{all_good, named_once}
+use Rattle.xl_image.proofs.Threads.{few_threads, roots_have_threads}
 
 module _ (k : kernel.Kernel) (core : ℕ) (plan : Plan) where
   -- each root has an index
@@ -33,21 +35,21 @@ module _ (k : kernel.Kernel) (core : ℕ) (plan : Plan) where
   as_many (r ∷ rs) thread pc lines entries h = ap length h.entry ∙ ap suc (as_many rs (suc thread) (pc + length h.first) h.others h.later h.others_are)
 
   -- its code has some instruction
-  some_line : (word : ℕ) (r : kernel.Root) (pc : ℕ) (lines : List Line) → IsRootCode plan word r pc lines → 1 ≤ length lines
-  some_line word r pc lines h = let l = ap length h.is in omega (arith, l)
+  some_line : (sides : Sides) (word : ℕ) (r : kernel.Root) (pc : ℕ) (lines : List Line) → IsRootCode plan sides word r pc lines → 1 ≤ length lines
+  some_line sides word r pc lines h = let l = ap length h.is in omega (arith, l)
 
   indices : (rs : List kernel.Root) (thread pc : ℕ) (lines : List Line) (entries : List ℕ) (size : ℕ) → AreRoots k core plan rs thread pc lines entries → pc + length lines ≤ size → AreIndices size entries
   indices [] thread pc lines entries size h le = subst (AreIndices size) (sym h.1) tt
   indices (r ∷ rs) thread pc lines entries size h le =
       let n = ap length h.is ∙ length-append h.first h.others in
-      let one = some_line _ r pc h.first h.first_is in
+      let one = some_line _ _ r pc h.first h.first_is in
       subst (AreIndices size) (sym h.entry)
       (omega (arith, n, one, le), indices rs (suc thread) (pc + length h.first) h.others h.later size h.others_are (omega (arith, n, le)))
 
 within_or_not : (n most : ℕ) → (n ≤ most) ⊎ (most < n)
 within_or_not n most = grind arith
 
-module _ (k : kernel.Kernel) (checked : IsChecked k) (built : RootsAreBuilt k.roots) (core : ℕ) (is_core : core ≤ last_core) where
+module _ (k : kernel.Kernel) (checked : IsChecked k) (core : ℕ) (is_core : core ≤ last_core) where
   pub few_timers : timers_on k core ≤ most_timers
   few_timers =
       ⊎_elim (λ le. le)
@@ -61,8 +63,8 @@ module _ (k : kernel.Kernel) (checked : IsChecked k) (built : RootsAreBuilt k.ro
   some_there [] e = absurd (let q : false ≡ true = e in cc)
   some_there (r ∷ rs) e = omega arith
 
-  pub good_core : (part : CoreImage) → IsPartOf k core part → has_root k core ≡ true → AreGoodPorts part.ports → IsGoodCore part
-  good_core part is rooted ports =
+  pub good_core : (part : CoreImage) → StayInRoots k → IsPartOf k core part → has_root k core ≡ true → AreGoodPorts part.ports → IsGoodCore part
+  good_core part stay is rooted ports =
       let code = is.code in
       let many = as_many k core code.plan (roots_on core k.roots) 0 0 code.lines part.roots code.roots in
       let instrs : length part.code.instrs ≡ length code.lines = ap length code.instrs ∙ length-map code.lines instr_of in
@@ -70,7 +72,7 @@ module _ (k : kernel.Kernel) (checked : IsChecked k) (built : RootsAreBuilt k.ro
       record {
         words = let w = few_words k core checked is_core in let e = is.words in omega (arith, w, e);
         timers = let w = few_timers in let e = is.timers in omega (arith, w, e);
-        ends = let e = is.ends in let n = no_ends k core built in omega (arith, e, n);
+        ends = let e = is.ends in let n = ends_are_used k core checked stay in let f = few_ends k core checked stay is_core in omega (arith, e, n, f);
         ports = ports;
         some_root = let s = some_there (roots_on core k.roots) rooted in omega (arith, many, s);
         few_roots = let t = few_threads k checked core is_core in let e = roots_have_threads core k.roots in omega (arith, many, t, e);
@@ -112,7 +114,7 @@ ascend_filtered p n (m ∷ ms) h = ascend_by n m ms (filter p ms) h (ascend_filt
 passes : (p : ℕ → Bool) (ms : List ℕ) → All (λ m. p m ≡ true) (filter p ms)
 passes p ms = filter_passes p ms
 
-module _ (k : kernel.Kernel) (checked : IsChecked k) (built : RootsAreBuilt k.roots) where
+module _ (k : kernel.Kernel) (checked : IsChecked k) (stay : StayInRoots k) where
   abbrev AreParts : List CoreImage → Type 0
   AreParts = All (λ (part : CoreImage). IsPartOf k part.number part)
 
@@ -130,29 +132,15 @@ module _ (k : kernel.Kernel) (checked : IsChecked k) (built : RootsAreBuilt k.ro
       let is = All-head (λ (p : CoreImage). IsPartOf k p.number p) part cores parts in
       let apart = ports_apart k part.number (omega (arith, most)) checked.of_program in
       let ports = subst AreGoodPorts (sym is.ports) (good_ports (ports_on part.number k.ports) apart) in
-      let one = good_core k checked built part.number (omega (arith, most)) part is has ports in
+      let one = good_core k checked part.number (omega (arith, most)) part stay is has ports in
       let others = good_cores (m + 1) ms cores es.1 up.2 (All-tail (λ c. has_root k c ≡ true) m ms rooted) (All-tail (λ (p : CoreImage). IsPartOf k p.number p) part cores parts) in
       (least, most, one, subst (λ c. AreGoodCores (c + 1) cores) (sym es.0) others)
 
-  -- no core has a channel end
-  no_end_by : (part rest : CoreImage) (e : ℕ) → IsPartOf k part.number part → (e < rest.ends → ⊥) → (b : Bool) → e < (parts_by part rest b).ends → ⊥
-  no_end_by part rest e is others true lt =
-      let a = is.ends in
-      let n = no_ends k part.number built in
-      let z : ⊥ = omega (arith, lt, a, n) in z
-  no_end_by part rest e is others false lt = others lt
-
-  no_end : (cores : List CoreImage) (c e : ℕ) → AreParts cores → IsThere cores c e → ⊥
-  no_end [] c e parts there = let q : e < 0 = there in let z : ⊥ = omega (arith, q) in z
-  no_end (part ∷ cores) c e parts there =
-      no_end_by part (parts_in cores c) e (All-head (λ (p : CoreImage). IsPartOf k p.number p) part cores parts)
-      (λ lt. no_end cores c e (All-tail (λ (p : CoreImage). IsPartOf k p.number p) part cores parts) lt) (nat_eq part.number c) there
-
   -- The image can be loaded.
-  pub valid_image : (image : Image) → 1 ≤ length (cores_of k) → map number_of image.cores ≡ cores_of k → AreParts image.cores → image.chans ≡ [] → Valid image
-  valid_image image some numbers parts no_chans = record {
+  pub valid_image : (image : Image) → 1 ≤ length (cores_of k) → map number_of image.cores ≡ cores_of k → AreParts image.cores → image.chans ≡ pairs_below k (length k.channels) → Valid image
+  valid_image image some numbers parts channels = record {
     some_core = let l = sym (length-map image.cores number_of) ∙ ap length numbers in omega (arith, l, some);
     cores = good_cores 0 (cores_of k) image.cores numbers (ascend_filtered (has_root k) 0 (below 4) ((omega arith, omega arith, (omega arith, omega arith, (omega arith, omega arith, (omega arith, omega arith, tt)))))) (passes (has_root k) (below 4)) parts;
-    pairs = subst (AreGoodPairs image.cores) (sym no_chans) tt;
-    once = λ c e there. absurd (no_end image.cores c e parts there);
+    pairs = subst (AreGoodPairs image.cores) (sym channels) (all_good k checked stay image.cores numbers parts (length k.channels) (omega arith));
+    once = λ c e there. ap (λ ps. times_named ps c e) channels ∙ named_once k checked stay image.cores numbers parts c e there;
   }

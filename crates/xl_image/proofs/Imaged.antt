@@ -15,7 +15,7 @@ use Rattle.xl_plan.specs.Layout.{temporary_of}
 use Rattle.xl_plan.proofs.Lists.{some_given, none_given, contains_at}
 use Rattle.xl_walk.proofs.Stands as walk
 use Rattle.xc_disjoint.specs.Checked.{IsChecked}
-use Rattle.xl_image.specs.Images.{IsCoreImage, IsImage, roots_on}
+use Rattle.xl_image.specs.Images.{IsCoreImage, IsImage, no_sides, pairs_below, roots_on}
 use Rattle.xl_image.specs.Parts.{IsPartOf, cores_of, is_some_root, number_of}
 use Rattle.xl_image.specs.Roots.{AreRoots, IsRootCode, stack_code}
 use Rattle.xl_image.proofs.GoodParts.{as_many}
@@ -42,7 +42,7 @@ record Found (k : kernel.Kernel) (core : ℕ) (plan : Plan) (code : Code) (entri
   listed : slice_get entries place ≡ Some index
   lines : List Line
   stand : StandAt code index lines
-  is : IsRootCode plan (temporary_of k core thread) r index lines
+  is : IsRootCode plan (no_sides k) (temporary_of k core thread) r index lines
 
 module _ (k : kernel.Kernel) (core : ℕ) (plan : Plan) (code : Code) where
   found : (rs : List kernel.Root) (thread pc : ℕ) (lines : List Line) (entries : List ℕ) → AreRoots k core plan rs thread pc lines entries → StandAt code pc lines →
@@ -53,7 +53,7 @@ module _ (k : kernel.Kernel) (core : ℕ) (plan : Plan) (code : Code) where
     listed = ap (λ ns. slice_get ns 0) h.entry;
     lines = h.first;
     stand = stand_front code pc h.first h.others (subst (StandAt code pc) h.is stand);
-    is = subst (λ n. IsRootCode plan (temporary_of k core n) r pc h.first) (let z : thread ≡ thread + 0 = omega arith in z) (subst (λ (x : kernel.Root). IsRootCode plan (temporary_of k core thread) x pc h.first) (some_given e) h.first_is);
+    is = subst (λ n. IsRootCode plan (no_sides k) (temporary_of k core n) r pc h.first) (let z : thread ≡ thread + 0 = omega arith in z) (subst (λ (x : kernel.Root). IsRootCode plan (no_sides k) (temporary_of k core thread) x pc h.first) (some_given e) h.first_is);
   }
   found (q ∷ rs) thread pc lines entries h stand (suc place) r e =
       let f = found rs (suc thread) (pc + length h.first) h.others h.later h.others_are (stand_back code pc h.first h.others (subst (StandAt code pc) h.is stand)) place r e in
@@ -62,7 +62,7 @@ module _ (k : kernel.Kernel) (core : ℕ) (plan : Plan) (code : Code) where
         listed = ap (λ ns. slice_get ns (suc place)) h.entry ∙ f.listed;
         lines = f.lines;
         stand = f.stand;
-        is = subst (λ n. IsRootCode plan (temporary_of k core n) r f.index f.lines) (let z : suc thread + place ≡ thread + suc place = omega arith in z) f.is;
+        is = subst (λ n. IsRootCode plan (no_sides k) (temporary_of k core n) r f.index f.lines) (let z : suc thread + place ≡ thread + suc place = omega arith in z) f.is;
       }
 
 pub core_imaged : (k : kernel.Kernel) (part : CoreImage) → IsPartOf k part.number part → IsCoreImage k part
@@ -78,7 +78,7 @@ core_imaged k part is = record {
       let f = found k part.number is.code.plan part.code (roots_on part.number k.roots) 0 0 is.code.lines part.roots is.code.roots (stand_behind part.code [] is.code.lines is.code.instrs is.code.places) place r e in
       let all = subst (StandAt part.code f.index) f.is.is f.stand in
       let rest = stand_back part.code f.index (stack_code (temporary_of k part.number (0 + place)) r.pos) f.is.rest all in
-      let root = walk.roots_stand part.code is.code.plan r.body r.pos r.pos (f.index + 2) f.is.rest f.is.root rest in
+      let root = walk.roots_stand part.code is.code.plan (no_sides k) r.body r.pos r.pos (f.index + 2) f.is.rest f.is.root rest in
       let same : 0 + place ≡ place = omega arith in
       record {
         index = f.index;
@@ -102,12 +102,12 @@ some_by : (rs : List kernel.Root) (r : kernel.Root) → Contains rs r → is_som
 some_by [] r c = let l = c.1 in absurd (let z : ⊥ = omega (arith, l) in z)
 some_by (q ∷ rs) r c = refl
 
-pub imaged : (k : kernel.Kernel) → IsChecked k → (image : Image) → map number_of image.cores ≡ cores_of k → All (λ (part : CoreImage). IsPartOf k part.number part) image.cores → image.chans ≡ [] → IsImage k image
-imaged k checked image numbers parts no_chans = record {
+pub imaged : (k : kernel.Kernel) → IsChecked k → (image : Image) → map number_of image.cores ≡ cores_of k → All (λ (part : CoreImage). IsPartOf k part.number part) image.cores → image.chans ≡ pairs_below k (length k.channels) → IsImage k image
+imaged k checked image numbers parts channels = record {
   cores = λ core r among.
       let at = core_listed k checked core (some_by (roots_on core k.roots) r among) in
       let p = part_at image.cores at.0 core (ap (λ ns. slice_get ns at.0) numbers ∙ at.1) in
       (p.0, contains_at image.cores at.0 p.0 p.1, p.2);
   parts = λ part among. core_imaged k part (subst (λ (p : CoreImage). IsPartOf k p.number p) among.2 (parts among.0 part among.1));
-  channels = no_chans;
+  channels = channels;
 }

@@ -2,7 +2,9 @@ pub mod Threads
 pub mod Ready
 pub mod Begun
 pub mod ThreadCode
-pub mod GoodParts
 pub mod Rooted
+pub mod Users
+pub mod GoodPairs
+pub mod GoodParts
 pub mod Imaged
 pub mod Gathering

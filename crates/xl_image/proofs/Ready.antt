@@ -9,7 +9,7 @@ use Rattle.xc_disjoint.specs.Checked.{IsChecked}
 use Rattle.xc_disjoint.specs.Cores.{if_so}
 use Rattle.xc_disjoint.specs.Needs.{threads_of_root}
 use Rattle.xc_disjoint.specs.Threads as threads
-use Rattle.xc_formed.specs.Each.{AnyNumber, AnyOutput, AnyInput, EachMaybe, EachStatement, EachOf, EachBranch, EachRoot}
+use Rattle.xc_formed.specs.Each.{AnyNumber, AnyOutput, AnyInput, EachMaybe, EachPlace, EachStatement, EachOf, EachBranch, EachRoot}
 use Rattle.xc_formed.specs.Levels.{IsLow, IsLowPlace, levels, levels_of_all}
 use Rattle.xc_formed.specs.Exits.{LeavesIn, AllLeaveIn, BranchesLeaveIn, EachRootLeaves}
 use Rattle.xc_formed.specs.Parts as parts
@@ -22,6 +22,7 @@ use Rattle.xl_expr.specs.Measures.{nodes, nodes_of, nodes_at, depth, depth_of, d
 use Rattle.xl_expr.specs.Plans.{var_in}
 use Rattle.xl_flow.specs.Zeros.{room_of}
 use Rattle.xl_port.specs.Outputs.{output_depth, time_depth, time_nodes}
+use Rattle.xl_chan.specs.Transfers.{dest_depth, dest_nodes}
 use Rattle.xl_walk.specs.Built.{IsBuilt, AreBuilt, BranchesAreBuilt, IsShallow, AreShallow, BranchesAreShallow, HasFewBranches, ParsAreFew, ParsInBranchesAreFew, most, most_branches, most_of_all, most_of_branches, most_levels}
 use Rattle.xl_walk.specs.Inside.{IsInside, AreInside, BranchesAreInside}
 use Rattle.xl_image.specs.Images.{IsPlan}
@@ -70,12 +71,16 @@ output_low o (Some x) e h =
     let low : depth x ≤ most_levels = low_expression x (subst (λ t. EachMaybe IsLow IsLowPlace AnyNumber AnyOutput AnyInput AnyNumber t) e h.1.0) in
     both_low (time_depth o.time) (depth o.value) (subst (λ t. time_depth t ≤ most_levels) (sym e) low) (low_expression o.value h.1.1.0)
 
+dest_low : (p : Option kernel.Place) → EachPlace IsLow IsLowPlace AnyNumber AnyOutput AnyInput AnyNumber p → dest_depth p ≤ most_levels
+dest_low None h = omega arith
+dest_low (Some p) h = low_place p h
+
 mutual
   shallow : (s : kernel.Statement) → StatementIsLow s → IsShallow s
   shallow (kernel.set_zero v) h = tt
   shallow (kernel.set p e) h = (low_place p h.0, low_expression e h.1)
   shallow (kernel.output o) h = output_low o o.time refl h
-  shallow (kernel.input i) h = tt
+  shallow (kernel.input i) h = dest_low i.target h.1.1.1.0
   shallow (kernel.if_then x a b) h = (low_expression x h.0, all_shallow a h.1.0, all_shallow b h.1.1)
   shallow (kernel.loop x a b) h = (low_expression x h.0, all_shallow a h.1.0, all_shallow b h.1.1)
   shallow (kernel.block n a) h = all_shallow a h
@@ -221,6 +226,10 @@ some_nodes (kernel.number v) = omega arith
 some_nodes (kernel.read p) = some_at p
 some_nodes (kernel.operation o u es pos) = omega arith
 
+same_dest : (p : Option kernel.Place) → dest_nodes p ≡ parts.of_some_place p
+same_dest None = refl
+same_dest (Some p) = same_nodes_at p
+
 same_time : (t : Option kernel.Expression) → time_nodes t ≡ parts.of_maybe t
 same_time None = refl
 same_time (Some x) = same_nodes x
@@ -231,7 +240,7 @@ module _ (vs : List Var) (vars : List (Option VarPlan)) (zeros : (v : ℕ) → r
     few (kernel.set_zero v) h = let z = zeros v in omega (arith, z)
     few (kernel.set p e) h = let a = same_nodes_at p in let b = same_nodes e in omega (arith, a, b)
     few (kernel.output o) h = let a = same_time o.time in let b = same_nodes o.value in let c = some_nodes o.value in omega (arith, a, b, c)
-    few (kernel.input i) h = absurd h
+    few (kernel.input i) h = let a = same_dest i.target in omega (arith, a)
     few (kernel.if_then x a b) h =
         let n = same_nodes x in let m = some_nodes x in let p = all_few a h.0 in let q = all_few b h.1 in omega (arith, n, m, p, q)
     few (kernel.loop x a b) h =

@@ -253,6 +253,9 @@ module _ (k : kernel.Kernel) (checked : IsChecked k) where
   pub core_listed : (core : ℕ) → has_root k core ≡ true → (j : ℕ) × (slice_get (cores_of k) j ≡ Some core)
   core_listed core e = kept (has_root k) (below 4) core core (is_below core (low_core core k.roots lows e)) e
 
+  pub core_is_low : (core : ℕ) → has_root k core ≡ true → core ≤ 3
+  core_is_low core e = low_core core k.roots lows e
+
   some_item : (ns : List ℕ) (j c : ℕ) → slice_get ns j ≡ Some c → 1 ≤ length ns
   some_item [] j c e = absurd (none_given e)
   some_item (n ∷ ns) j c e = omega arith

@@ -8,6 +8,7 @@ use Rattle.xs_instr.specs.Lines.{Line, line, last_or, last_pos, first_pos}
 use Rattle.xc_kernel.specs.Plain as kernel
 use Rattle.xl_expr.specs.declared.plan.Plan.{Plan}
 use Rattle.xl_expr.specs.Targets.{AreGoodLines}
+use Rattle.xl_sides.specs.Ends.{Sides}
 use Rattle.xl_walk.specs.Inside.{StandAlone}
 use Rattle.xl_walk.specs.Roots.{IsRoot}
 use Rattle.xl_image.specs.Roots.{IsRootCode, stack_code}
@@ -27,14 +28,14 @@ module _ (word : ℕ) (r : kernel.Root) (e0 e1 e2 : List Line) (at_1 : e1 ≡ e0
   joined : (rest : List Line) → e2 ≡ e1 ++ rest → e2 ≡ e0 ++ (stack_code word r.pos ++ rest)
   joined rest e = e ∙ ap (λ ls. ls ++ rest) at_1 ∙ append_assoc e0 (stack_code word r.pos) rest
 
-  pub thread_code : (plan : Plan) → Adds e1 e2 (IsRoot plan r.body r.pos (last_pos e1) (length e1)) → Adds e0 e2 (IsRootCode plan word r (length e0))
-  thread_code plan a = record {
+  pub thread_code : (plan : Plan) (sides : Sides) → Adds e1 e2 (IsRoot plan sides r.body r.pos (last_pos e1) (length e1)) → Adds e0 e2 (IsRootCode plan sides word r (length e0))
+  thread_code plan sides a = record {
     lines = stack_code word r.pos ++ a.lines;
     is = joined a.lines a.is;
     so = record {
       rest = a.lines;
       is = refl;
-      root = subst (λ n. IsRoot plan r.body r.pos r.pos n a.lines) longer (subst (λ p. IsRoot plan r.body r.pos p (length e1) a.lines) place a.so);
+      root = subst (λ n. IsRoot plan sides r.body r.pos r.pos n a.lines) longer (subst (λ p. IsRoot plan sides r.body r.pos p (length e1) a.lines) place a.so);
     };
   }
 

@@ -1,9 +1,10 @@
 -- The image of a kernel.
-use Rattle.std.specs.Prelude.{◌≡◌, ℕ, ◌+◌, ◌*◌, List, [], length, map, filter, Contains, Some, nat_eq, slice_get}
+use Rattle.std.specs.Prelude.{◌≡◌, ℕ, zero, suc, ◌+◌, ◌*◌, Bool, true, false, ◌||◌, cond, List, [], ◌∷◌, ◌++◌, length, map, filter, Contains, Some, nat_eq, slice_get}
 use Rattle.xs_instr.specs.declared.image.CoreImage.{CoreImage}
 use Rattle.xs_instr.specs.declared.image.Dir.{Dir}
 use Rattle.xs_instr.specs.declared.image.Dir.TheVariants as dir
 use Rattle.xs_instr.specs.declared.image.Image.{Image}
+use Rattle.xs_instr.specs.declared.image.Pair.{Pair}
 use Rattle.xs_instr.specs.declared.image.PortDecl.{PortDecl}
 use Rattle.xs_instr.specs.declared.instr.Instr.TheVariants.{Freet, Ldc, Setsp}
 use Rattle.xs_instr.specs.declared.instr.Reg.TheVariants.{R0}
@@ -11,10 +12,14 @@ use Rattle.xc_tree.specs.declared.tree.TreeDir.{TreeDir}
 use Rattle.xc_tree.specs.declared.tree.TreeDir.TheVariants.{In, Out, Both}
 use Rattle.xc_kernel.specs.declared.kernel.PortUse.{PortUse}
 use Rattle.xc_kernel.specs.Plain as kernel
+use Rattle.xc_kernel.specs.Things.{channel, by_statements}
+use Rattle.xc_meaning.specs.Runs.{no_side}
+use Rattle.xc_meaning.specs.States.Channels.{first, second}
 use Rattle.xc_disjoint.specs.Needs.{ends_on, timers_on, words_on}
 use Rattle.xl_expr.specs.declared.plan.Plan.{Plan}
-use Rattle.xl_plan.specs.Layout.{first_temporary, temporary_of}
-use Rattle.xl_plan.specs.Planned.{HasNoOther, HasPorts, HasTimers, HasUsedPorts, HasUsedTimers, HasUsedVariables, HasVariables, NoneIsTemporary, NoneShare, StandBelow, ports_on}
+use Rattle.xl_plan.specs.Layout.{end_number, first_temporary, temporary_of}
+use Rattle.xl_plan.specs.Planned.{HasChannels, HasEnds, HasNoOther, HasPorts, HasTimers, HasUsedPorts, HasUsedTimers, HasUsedVariables, HasVariables, NoneIsTemporary, NoneShare, StandBelow, ports_on}
+use Rattle.xl_sides.specs.Ends.{Sides}
 use Rattle.xl_walk.specs.Pieces.{PiecesAt}
 use Rattle.xl_image.specs.Code.{InstrAt}
 
@@ -30,7 +35,8 @@ pub record IsPlan (k : kernel.Kernel) (core : ℕ) (plan : Plan) : Type 0 where
   pub timers : HasTimers k core plan.timers
   pub used_ports : HasUsedPorts k core plan.ports
   pub used_timers : HasUsedTimers k core plan.timers
-  pub ends : plan.ends ≡ []
+  pub ends : HasEnds k core plan.ends
+  pub channels : HasChannels k core plan.channels
   pub first_stack : plan.first_stack ≡ temporary_of k core 0
 
 -- a port as an image declares it
@@ -46,6 +52,10 @@ decl_of p = record { port = p.id; dir = dir_of p.dir }
 abbrev pub roots_on : (core : ℕ) → List kernel.Root → List kernel.Root
 roots_on core rs = filter (λ r. nat_eq r.core core) rs
 
+-- a root's code stands in no side of a channel; its sides are made further inside
+abbrev pub no_sides : kernel.Kernel → Sides
+no_sides k = map no_side k.channels
+
 -- The code of the root at a place among its core's: its stack is set to its own temporary words, then its statements stand, and then it ends.
 pub record RootAt (k : kernel.Kernel) (plan : Plan) (image : CoreImage) (core place : ℕ) (r : kernel.Root) : Type 0 where
   pub index : ℕ
@@ -53,7 +63,7 @@ pub record RootAt (k : kernel.Kernel) (plan : Plan) (image : CoreImage) (core pl
   pub stack : InstrAt image.code index (Ldc R0 (4 * temporary_of k core place))
   pub set : InstrAt image.code (index + 1) (Setsp R0)
   pub behind : ℕ
-  pub body : PiecesAt image.code plan r.body [] (index + 2) behind
+  pub body : PiecesAt image.code plan (no_sides k) r.body [] (index + 2) behind
   pub end : InstrAt image.code behind Freet
 
 -- a core's part of the image
@@ -68,8 +78,42 @@ pub record IsCoreImage (k : kernel.Kernel) (image : CoreImage) : Type 0 where
   pub roots : (place : ℕ) (r : kernel.Root) → slice_get (roots_on image.number k.roots) place ≡ Some r →
       RootAt k plan image image.number place r
 
--- An image has a part for each core with a root, by number; there are no channels.
+-- the core of the first root that uses a channel
+abbrev pub core_by : (channel : ℕ) → List kernel.Root → ℕ
+core_by c [] = 0
+core_by c (r ∷ rs) = cond (by_statements (channel c) r.body) r.core (core_by c rs)
+
+abbrev pub core_of : kernel.Kernel → (channel : ℕ) → ℕ
+core_of k c = core_by c k.roots
+
+-- whether some root uses it
+abbrev pub one_root_uses : (channel : ℕ) → List kernel.Root → Bool
+one_root_uses c [] = false
+one_root_uses c (r ∷ rs) = by_statements (channel c) r.body || one_root_uses c rs
+
+abbrev pub is_used : kernel.Kernel → (channel : ℕ) → Bool
+is_used k c = one_root_uses c k.roots
+
+-- the ends of a channel's two sides
+abbrev pub pair_of : kernel.Kernel → (channel : ℕ) → Pair
+pair_of k c = record {
+  core = core_of k c;
+  end = end_number k (core_of k c) c first;
+  peer_core = core_of k c;
+  peer_end = end_number k (core_of k c) c second;
+}
+
+abbrev pub pair_where : Bool → Pair → List Pair
+pair_where true pair = pair ∷ []
+pair_where false pair = []
+
+-- those of the channels below a number that are used, in the kernel's order
+abbrev pub pairs_below : kernel.Kernel → (channels : ℕ) → List Pair
+pairs_below k zero = []
+pairs_below k (suc c) = pairs_below k c ++ pair_where (is_used k c) (pair_of k c)
+
+-- An image has a part for each core with a root, by number, and the ends of each channel that is used.
 pub record IsImage (k : kernel.Kernel) (image : Image) : Type 0 where
   pub cores : (core : ℕ) (r : kernel.Root) → Contains (roots_on core k.roots) r → (part : CoreImage) × Contains image.cores part × (part.number ≡ core)
   pub parts : (part : CoreImage) → Contains image.cores part → IsCoreImage k part
-  pub channels : image.chans ≡ []
+  pub channels : image.chans ≡ pairs_below k (length k.channels)

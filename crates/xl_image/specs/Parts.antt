@@ -1,8 +1,9 @@
 -- A core's part of the image, with its code line by line.
-use Rattle.std.specs.Prelude.{◌≡◌, ℕ, zero, suc, ◌^◌, ◌<◌, Bool, true, false, List, [], ◌∷◌, ◌++◌, filter, length, map}
+use Rattle.std.specs.Prelude.{◌≡◌, ℕ, zero, suc, ◌+◌, ◌^◌, ◌<◌, Bool, true, false, List, [], ◌∷◌, ◌++◌, filter, length, map}
 use Rattle.xc_kernel.specs.Plain as kernel
 use Rattle.xc_disjoint.specs.Needs.{words_on, timers_on, ends_on}
 use Rattle.xs_instr.specs.declared.image.CoreImage.{CoreImage}
+use Rattle.xs_instr.specs.declared.image.Pair.{Pair}
 use Rattle.xs_instr.specs.Lines.{Line, instr_of, pos_of}
 use Rattle.xl_expr.specs.declared.plan.Plan.{Plan}
 use Rattle.xl_plan.specs.Planned.{ports_on}
@@ -54,3 +55,7 @@ cores_of k = filter (has_root k) (below core_count)
 
 abbrev pub number_of : CoreImage → ℕ
 number_of part = part.number
+
+-- a channel whose two ends follow each other on a core
+abbrev pub pair_on : (core first : ℕ) → Pair
+pair_on core first = record { core = core; end = first; peer_core = core; peer_end = first + 1 }

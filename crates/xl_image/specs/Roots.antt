@@ -7,7 +7,9 @@ use Rattle.xs_instr.specs.Lines.{Line, at_pos}
 use Rattle.xc_kernel.specs.Plain as kernel
 use Rattle.xl_expr.specs.declared.plan.Plan.{Plan}
 use Rattle.xl_expr.specs.declared.plan.VarPlan.{VarPlan}
+use Rattle.xl_image.specs.Images.{no_sides}
 use Rattle.xl_plan.specs.Layout.{temporary_of}
+use Rattle.xl_sides.specs.Ends.{Sides}
 use Rattle.xl_walk.specs.Built.{AreBuilt, AreShallow, ParsAreFew, most_of_all}
 use Rattle.xl_walk.specs.Inside.{AreInside}
 use Rattle.xl_walk.specs.Roots.{IsRoot}
@@ -34,10 +36,10 @@ stack_code word pos = at_pos pos (Ldc R0 (4 * word) ∷ Setsp R0 ∷ [])
 
 -- The code of a root whose temporary words begin at a word: its stack is set, and then come its statements and its end. What has
 -- no place of its own there has the root's.
-pub record IsRootCode (plan : Plan) (word : ℕ) (r : kernel.Root) (pc : ℕ) (lines : List Line) : Type 0 where
+pub record IsRootCode (plan : Plan) (sides : Sides) (word : ℕ) (r : kernel.Root) (pc : ℕ) (lines : List Line) : Type 0 where
   pub rest : List Line
   pub is : lines ≡ stack_code word r.pos ++ rest
-  pub root : IsRoot plan r.body r.pos r.pos (pc + 2) rest
+  pub root : IsRoot plan sides r.body r.pos r.pos (pc + 2) rest
 
 -- one root's code and that of others behind it, and where they begin
 pub record BeginsWith
@@ -56,7 +58,7 @@ module _ (k : kernel.Kernel) (core : ℕ) (plan : Plan) where
   abbrev pub AreRoots : List kernel.Root → (thread pc : ℕ) → List Line → (entries : List ℕ) → Type 0
   AreRoots [] thread pc lines entries = (lines ≡ []) × (entries ≡ [])
   AreRoots (r ∷ rs) thread pc lines entries =
-      BeginsWith (IsRootCode plan (temporary_of k core thread) r) (AreRoots rs (suc thread)) pc lines entries
+      BeginsWith (IsRootCode plan (no_sides k) (temporary_of k core thread) r) (AreRoots rs (suc thread)) pc lines entries
 
 -- the most instructions that a root has: those of its statements, two that set its stack, and the one that ends it
 abbrev pub most_of_root : List (Option VarPlan) → kernel.Root → ℕ

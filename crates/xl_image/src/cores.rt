@@ -1,14 +1,16 @@
 // The parts of an image, core by core.
 
-ghost use Rattle.std.specs.Prelude.{◌≡◌, ◌≤◌, true, [], map, IfOk};
+ghost use Rattle.std.specs.Prelude.{◌≡◌, ◌≤◌, true, length, map, IfOk};
 ghost use Rattle.std.specs.List.{All};
 ghost use Rattle.xc_disjoint.specs.Cores.{last_core};
 ghost use Rattle.xc_kernel.specs.Kernels.{kernel_of};
 ghost use Rattle.xs_instr.specs.Valid.{Valid};
-ghost use Rattle.xl_image.specs.Images.{IsImage};
+ghost use Rattle.xl_image.specs.Images.{IsImage, pairs_below};
 ghost use Rattle.xl_image.specs.Parts.{IsPartOf, cores_of, has_root as is_rooted, number_of};
 ghost use Rattle.xl_image.specs.Roots.{RootsAreBuilt};
+ghost use Rattle.xl_plan.specs.Planned.{StayInRoots};
 
+use crate::channels::channel_pairs;
 use crate::needs::{declarations, has_root, timer_count};
 use crate::roots::emit_roots;
 use std::alloc::Global;
@@ -20,17 +22,20 @@ use xw_words::{List, Memory};
 /// How many cores there are.
 const CORES: u8 = 4;
 
-/// The image of a checked kernel whose roots' code is built: a part for each core that has a root, in the order of the cores.
+/// The image of a checked kernel whose roots' code is built: a part for each core that has a root, in the order of the cores, and the two ends
+/// of each channel that a root uses.
 ///
 /// It takes time and memory for each of the kernel's statements, nodes of expressions, words that are set to 0, and resources, and its stack
 /// grows with the depth of the kernel. The one error is want of memory.
 pub fn image(alloc: Global, checked: &Checked) -> Result<Image, Memory>
     requires built { RootsAreBuilt (kernel_of checked.now).roots }
+    requires stay { StayInRoots (kernel_of checked.now) }
     ensures cores { IfOk result
         (λ image. map number_of image.cores ≡ cores_of (kernel_of checked.now)) }
     ensures parts { IfOk result (λ image. All
         (λ part. IsPartOf (kernel_of checked.now) part.number part) image.cores) }
-    ensures chans { IfOk result (λ image. image.chans ≡ []) }
+    ensures chans { IfOk result (λ image. image.chans
+        ≡ pairs_below (kernel_of checked.now) (length (kernel_of checked.now).channels)) }
     ensures pieces { IfOk result (IsImage (kernel_of checked.now)) }
     ensures valid { IfOk result (λ image. Valid image) }
 {
@@ -42,16 +47,15 @@ pub fn image(alloc: Global, checked: &Checked) -> Result<Image, Memory>
             cores.push(part)?;
         }
     }
-    Ok(Image {
-        cores,
-        chans: List::new(alloc),
-    })
+    let chans = channel_pairs(alloc, checked)?;
+    Ok(Image { cores, chans })
 }
 
 /// The part of a core that has a root.
 fn core_part(alloc: Global, checked: &Checked, core: u8) -> Result<CoreImage, Memory>
     requires is_core { core ≤ last_core }
     requires built { RootsAreBuilt (kernel_of checked.now).roots }
+    requires stay { StayInRoots (kernel_of checked.now) }
     requires rooted { is_rooted (kernel_of checked.now) core ≡ true }
     ensures part { IfOk result (IsPartOf (kernel_of checked.now) core) }
 {
@@ -64,7 +68,7 @@ fn core_part(alloc: Global, checked: &Checked, core: u8) -> Result<CoreImage, Me
         number: core,
         words: word_count(checked, core),
         timers: timer_count(kernel.timers.as_slice(), core),
-        ends: 0,
+        ends: places.ends.len() as u32,
         ports,
         roots,
         code: e.finish(),

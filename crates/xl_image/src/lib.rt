@@ -2,6 +2,7 @@
 //! code is the pieces of a kernel's statements, in order.
 #![tactic(auto)]
 
+mod channels;
 mod cores;
 mod needs;
 mod roots;

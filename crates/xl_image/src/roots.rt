@@ -7,6 +7,7 @@ ghost use Rattle.xc_kernel.specs.Kernels.{kernel_of, root_of};
 ghost use Rattle.xs_instr.specs.Adds.{Adds};
 ghost use Rattle.xl_image.specs.Images.{IsPlan, roots_on};
 ghost use Rattle.xl_image.specs.Roots.{AreRoots, IsReady, IsRootCode, RootsAreBuilt, most_of_root};
+ghost use Rattle.xl_sides.specs.Sides.{sides_of};
 ghost use Rattle.xl_walk.specs.Inside.{StandAlone};
 
 use std::alloc::Global;
@@ -14,6 +15,7 @@ use xc_disjoint::Checked;
 use xc_kernel::Root;
 use xl_expr::Plan;
 use xl_plan::temporary_words;
+use xl_sides::{Side, no_sides};
 use xl_walk::emit_root;
 use xs_instr::{Emitter, Instr, Reg};
 use xw_words::{List, Memory};
@@ -38,23 +40,26 @@ pub fn emit_roots(
     ensures alone { OnOk result (StandAlone 0 e.new) }
     ensures few { OnOk result (length e.new < 2 ^ 32) }
 {
+    let kernel = checked.kernel();
+    let sides = no_sides(alloc, kernel.chans.len())?;
     let mut entries = List::new(alloc);
-    for root in checked.kernel().roots.as_slice() {
+    for root in kernel.roots.as_slice() {
         if root.core == core {
             let thread = entries.len() as u32;
             let word = temporary_words(checked, core, thread);
             entries.push(e.here())?;
-            emit_thread(alloc, e, plan, word, root)?;
+            emit_thread(alloc, e, plan, sides.as_slice(), word, root)?;
         }
     }
     Ok(entries)
 }
 
-/// The code of a root whose temporary words begin at a word.
+/// The code of a root that stands in these sides of channels, and whose temporary words begin at a word.
 fn emit_thread(
     alloc: Global,
     e: &mut Emitter,
     plan: &Plan,
+    sides: &[Option<Side>],
     word: u32,
     root: &Root,
 ) -> Result<(), Memory>
@@ -63,7 +68,7 @@ fn emit_thread(
     requires ready { IsReady (root_of root.now) }
     requires room { length e.old + most_of_root plan.now.vars (root_of root.now) < 2 ^ 32 }
     ensures code { OnOk result (Adds e.old e.new
-        (IsRootCode plan.now word (root_of root.now) (length e.old))) }
+        (IsRootCode plan.now (sides_of sides.now) word (root_of root.now) (length e.old))) }
     ensures alone { OnOk result (Adds e.old e.new (StandAlone (length e.old))) }
     ensures size { OnOk result
         (length e.new ≤ length e.old + most_of_root plan.now.vars (root_of root.now)) }
@@ -73,5 +78,5 @@ fn emit_thread(
         Instr::Setsp(Reg::R0),
     ];
     e.put_all(&stack, root.pos)?;
-    emit_root(alloc, e, plan, root.body.as_slice(), root.pos)
+    emit_root(alloc, e, plan, sides, root.body.as_slice(), root.pos)
 }

@@ -11,4 +11,8 @@ pub mod Examples
 pub mod PortPlaces
 pub mod PortsDiffer
 pub mod FewPorts
+pub mod Unused
+pub mod TwoSides
+pub mod Ends
+pub mod Users
 mod ThreadSteps

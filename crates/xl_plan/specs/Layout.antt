@@ -1,12 +1,15 @@
 -- How the words of a core are laid out: its variables from word 0 on, one behind the other in the kernel's order; and behind all the words
 -- that its instances and its variables need, the temporary words of its threads, one thread's behind the other's. Its ports and its timers
 -- have numbers, each kind by itself in the kernel's order.
-use Rattle.std.specs.Prelude.{ℕ, ◌+◌, ◌*◌, Bool, true, false, List, [], ◌∷◌, Option, Some, None, nat_eq, slice_get, take, sum_by}
+use Rattle.std.specs.List.{range_with_len}
+use Rattle.std.specs.Prelude.{ℕ, zero, suc, ◌+◌, ◌*◌, Bool, true, false, ◌&&◌, ◌||◌, cond, List, [], ◌∷◌, ◌++◌, length, map, Option, Some, None, nat_eq, slice_get, take, sum_by}
 use Rattle.xw_words.specs.Words.{word_sum}
 use Rattle.xc_kernel.specs.declared.kernel.PortUse.{PortUse}
 use Rattle.xc_kernel.specs.declared.kernel.Timer.{Timer}
 use Rattle.xc_kernel.specs.declared.kernel.Var.{Var}
 use Rattle.xc_kernel.specs.Plain as kernel
+use Rattle.xc_kernel.specs.Things.{channel, by_statements}
+use Rattle.xc_meaning.specs.States.Channels.{Side, first, second}
 use Rattle.xs_instr.specs.Resources.{name_of}
 use Rattle.xl_expr.specs.declared.plan.ResAt.{ResAt}
 use Rattle.xl_expr.specs.declared.plan.ResAt.TheVariants.{Fixed}
@@ -99,3 +102,63 @@ identifiers_from core_of core identifier [] = []
 identifiers_from core_of core identifier (x ∷ xs) =
     identifier_if (nat_eq (core_of x) core) identifier
     ∷ identifiers_from core_of core (word_sum identifier (on_core core (core_of x) 256)) xs
+
+-- Channel ends.
+
+-- whether one of some roots is on the core and uses a channel
+abbrev pub is_used_by : (core channel : ℕ) → List kernel.Root → Bool
+is_used_by core c [] = false
+is_used_by core c (r ∷ rs) = (nat_eq r.core core && by_statements (channel c) r.body) || is_used_by core c rs
+
+-- whether a root on the core does
+abbrev pub is_used_on : kernel.Kernel → (core channel : ℕ) → Bool
+is_used_on k core c = is_used_by core c k.roots
+
+-- two ends where a channel is used
+abbrev pub ends_if : Bool → ℕ
+ends_if true = 2
+ends_if false = 0
+
+-- the ends of the core's channels below a number
+abbrev pub ends_before : kernel.Kernel → (core channels : ℕ) → ℕ
+ends_before k core zero = 0
+ends_before k core (suc c) = ends_before k core c + ends_if (is_used_on k core c)
+
+-- the number that the end of a side has on its core
+abbrev pub end_number : kernel.Kernel → (core channel : ℕ) → Side → ℕ
+end_number k core c first = ends_before k core c
+end_number k core c second = ends_before k core c + 1
+
+abbrev pub end_name : (core number : ℕ) → ℕ
+end_name core number = name_of core number 2
+
+-- the numbers of the first sides' ends, of the channels below a number
+abbrev pub first_ends : kernel.Kernel → (core channels : ℕ) → List ℕ
+first_ends k core zero = []
+first_ends k core (suc c) = first_ends k core c ++ ends_before k core c ∷ []
+
+-- the identifiers of the ends below a number
+abbrev pub ends_below : (core number : ℕ) → List ResAt
+ends_below core zero = []
+ends_below core (suc n) = ends_below core n ++ Fixed (end_name core n) ∷ []
+
+-- What follows says the same by the core of each channel's user, where each is used in one root alone.
+
+-- the core of the first root that uses a channel
+abbrev pub user_core : (channel : ℕ) → List kernel.Root → Option ℕ
+user_core c [] = None
+user_core c (r ∷ rs) = cond (by_statements (channel c) r.body) (Some r.core) (user_core c rs)
+
+-- of each channel the core of its user, if it has one
+abbrev pub cores_of_users : kernel.Kernel → List (Option ℕ)
+cores_of_users k = map (λ c. user_core c k.roots) (range_with_len 0 (length k.channels))
+
+-- the ends of a channel on a core, by its user's
+abbrev pub ends_of_user : (core : ℕ) → Option ℕ → ℕ
+ends_of_user core None = 0
+ends_of_user core (Some user) = on_core core user 2
+
+-- the numbers of the first sides' ends of channels with these users, of which the first has this one
+abbrev pub numbers_from : (core number : ℕ) → List (Option ℕ) → List ℕ
+numbers_from core n [] = []
+numbers_from core n (user ∷ users) = n ∷ numbers_from core (n + ends_of_user core user) users

@@ -1,11 +1,13 @@
-//! Plans: where the variables, ports and timers of a core stand, and the temporary words of its threads.
+//! Plans: where the variables, ports, timers and channel ends of a core stand, and the temporary words of its threads.
 #![tactic(auto)]
 
+mod channels;
 mod layout;
 mod resources;
 mod temporary;
 mod threads;
 mod variables;
 
+pub use channels::{channel_cores, end_count};
 pub use layout::plan;
 pub use temporary::{temporary_words, word_count};

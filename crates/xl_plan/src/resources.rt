@@ -1,6 +1,8 @@
 ghost use Rattle.std.specs.Prelude.{◌≡◌, ◌≤◌, nat_eq, IfOk};
 ghost use Rattle.xc_disjoint.specs.Cores.{last_core, on_core};
-ghost use Rattle.xl_plan.specs.Layout.{core_of_port, core_of_timer, identifier_if, identifiers_from};
+ghost use Rattle.xc_disjoint.specs.Rules.{most_ends};
+ghost use Rattle.xl_plan.specs.Layout.{core_of_port, core_of_timer, end_name, ends_below, identifier_if, identifiers_from};
+ghost use Rattle.xl_expr.specs.declared.plan.ResAt.TheVariants.{Fixed};
 ghost use Rattle.xs_instr.specs.Resources.{name_of};
 ghost use Rattle.xw_words.specs.Words.{word_sum};
 
@@ -13,6 +15,8 @@ use xw_words::{List, Memory};
 const PORT: u32 = 0;
 
 const TIMER: u32 = 1;
+
+const CHANNEL_END: u32 = 2;
 
 /// How far the identifiers of the resources of two following cores are apart, and those of two following numbers.
 const BY_CORE: u32 = 0x100_0000;
@@ -55,6 +59,27 @@ pub fn timer_identifiers(
         next = next.wrapping_add(step(timer.core, core));
     }
     Ok(all)
+}
+
+/// The identifiers of so many ends of a core, by their numbers.
+pub fn end_identifiers(alloc: Global, core: u8, count: u32) -> Result<List<ResAt>, Memory>
+    requires is_core { core ≤ last_core }
+    requires few { count ≤ most_ends }
+    ensures { IfOk result (λ all. all ≡ ends_below core count) }
+{
+    let mut all = List::new(alloc);
+    for number in 0..count {
+        all.push(end_identifier(core, number))?;
+    }
+    Ok(all)
+}
+
+fn end_identifier(core: u8, number: u32) -> ResAt
+    requires is_core { core ≤ last_core }
+    requires few { number ≤ most_ends }
+    ensures { result ≡ Fixed (end_name core number) }
+{
+    ResAt::Fixed(core as u32 * BY_CORE + number * BY_NUMBER + CHANNEL_END)
 }
 
 /// The next identifier, where the resource is on the core.

@@ -55,6 +55,7 @@ pub fn no_plan(alloc: Global) -> Plan {
         ports: List::new(alloc),
         timers: List::new(alloc),
         ends: List::new(alloc),
+        channels: List::new(alloc),
         first_stack: 0,
     }
 }

@@ -158,6 +158,7 @@ pub fn plan(alloc: Global) -> Result<Plan, AllocError> {
         ports: List::from_vec(Vec::from_array(alloc, PORTS)?),
         timers: List::new(alloc),
         ends: List::new(alloc),
+        channels: List::new(alloc),
         first_stack: 0,
     })
 }

@@ -3,7 +3,7 @@
 ghost use Rattle.std.specs.Prelude.{IfOk};
 ghost use Rattle.xs_instr.specs.Valid.{Valid};
 
-use crate::built::are_roots_built;
+use crate::built::{are_roots_built, do_channels_stay};
 use crate::cases::Trouble;
 use crate::texts::checked;
 use std::alloc::Global;
@@ -23,6 +23,9 @@ pub fn image_of(alloc: Global, text: &[u8]) -> Result<Image, Trouble>
     let checked = checked(alloc, text).ok_or(Trouble::Text)?;
     if !are_roots_built(checked.kernel().roots.as_slice()) {
         return Err(Trouble::Statement);
+    }
+    if !do_channels_stay(&checked) {
+        return Err(Trouble::Channel);
     }
     Ok(compile(alloc, &checked)?)
 }

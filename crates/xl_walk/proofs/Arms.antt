@@ -1,5 +1,5 @@
 -- A statement whose code is one piece.
-use Rattle.std.proofs.Common.{◌≡◌, ℕ, ◌≤◌, List, [], ◌∷◌, ◌++◌, length, Result, Ok, Err, OnOk, OnErr, sym, ap, ◌∙◌, subst, arith}
+use Rattle.std.proofs.Common.{◌≡◌, ℕ, ◌≤◌, List, [], ◌∷◌, ◌++◌, length, Result, Ok, Err, OnOk, OnErr, sym, ap, ◌∙◌, subst, arith, append-nil}
 use Rattle.xw_words.specs.declared.pos.Pos.{Pos}
 use Rattle.xc_kernel.specs.Plain as kernel
 use Rattle.xs_instr.specs.Adds.{Adds}
@@ -8,6 +8,7 @@ use Rattle.xs_instr.specs.Lines.{Line, last_pos, line}
 use Rattle.xl_expr.specs.declared.plan.Plan.{Plan}
 use Rattle.xl_expr.specs.Targets.{AreAimed}
 use Rattle.xl_par.specs.Closing.{EndsSlave}
+use Rattle.xl_sides.specs.Ends.{Sides}
 use Rattle.xl_walk.specs.declared.walk.Leaving.{Leaving}
 use Rattle.xl_walk.specs.Cells.{Cell}
 use Rattle.xl_walk.specs.Emits.{AreLines, Coded, Emits, Emitted, Slave}
@@ -22,9 +23,22 @@ pub on_err : {A B : Type 0} (r : Result A B) (P : Type 0) → P → OnErr r P
 on_err (Ok x) P h = tt
 on_err (Err x) P h = h
 
-pub piece_emits : {A B : Type 0} (r : Result A B) (plan : Plan) (s s' : kernel.Statement) (P : ℕ → List Line → Type 0) (old new : List Line) (left : List Leaving) → s ≡ s' → ((last : Pos) (pc : ℕ) (cells : List Cell) → AreLines P last pc cells → Emits plan s' last pc cells) → OnOk r (Adds old new (P (length old))) → OnOk r (Adds old new (AreAimed (length old))) → OnOk r (Emitted (Emits plan s) old new left left)
-piece_emits (Ok x) plan s s' P old new left is f h g = subst (λ t. Emitted (Emits plan t) old new left left) (sym is) (emitted_as (AreLines P) (Emits plan s') old new left left f (piece_emitted P old new left h g))
-piece_emits (Err x) plan s s' P old new left is f h g = tt
+pub piece_emits : {A B : Type 0} (r : Result A B) (plan : Plan) (sides : Sides) (s s' : kernel.Statement) (P : ℕ → List Line → Type 0) (old new : List Line) (left : List Leaving) → s ≡ s' → ((last : Pos) (pc : ℕ) (cells : List Cell) → AreLines P last pc cells → Emits plan sides s' last pc cells) → OnOk r (Adds old new (P (length old))) → OnOk r (Adds old new (AreAimed (length old))) → OnOk r (Emitted (Emits plan sides s) old new left left)
+piece_emits (Ok x) plan sides s s' P old new left is f h g = subst (λ t. Emitted (Emits plan sides t) old new left left) (sym is) (emitted_as (AreLines P) (Emits plan sides s') old new left left f (piece_emitted P old new left h g))
+piece_emits (Err x) plan sides s s' P old new left is f h g = tt
+
+-- a transfer's code, in which there is no jump out of a block
+beside : (Code : Coded) (old new : List Line) (left : List Leaving) → Emitted Code old new [] [] → Emitted Code old new left left
+beside Code old new left h = record {
+  cells = h.cells;
+  lines = h.lines;
+  leaving_ones = sym (append-nil left) ∙ ap (λ l. left ++ l) h.leaving_ones;
+  so = h.so;
+}
+
+pub transfer_emits : {A B : Type 0} (r : Result A B) (plan : Plan) (sides : Sides) (s s' : kernel.Statement) (old new : List Line) (left : List Leaving) → s ≡ s' → OnOk r (Emitted (Emits plan sides s') old new [] []) → OnOk r (Emitted (Emits plan sides s) old new left left)
+transfer_emits (Ok x) plan sides s s' old new left is h = subst (λ t. Emitted (Emits plan sides t) old new left left) (sym is) (beside (Emits plan sides s') old new left h)
+transfer_emits (Err x) plan sides s s' old new left is h = tt
 
 pub ok_as : {A B : Type 0} (r : Result A B) (P Q : Coded) (old new : List Line) (before after : List Leaving) → ((last : Pos) (pc : ℕ) (cells : List Cell) → P last pc cells → Q last pc cells) → OnOk r (Emitted P old new before after) → OnOk r (Emitted Q old new before after)
 ok_as (Ok x) P Q old new before after f h = emitted_as P Q old new before after f h

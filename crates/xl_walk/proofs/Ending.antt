@@ -9,6 +9,7 @@ use Rattle.xc_kernel.specs.Plain as kernel
 use Rattle.xl_expr.specs.declared.plan.Plan.{Plan}
 use Rattle.xl_expr.specs.Targets.{AreGoodLines}
 use Rattle.xl_par.specs.Roots.{EndsRoot}
+use Rattle.xl_sides.specs.Ends.{Sides}
 use Rattle.xl_walk.specs.declared.walk.Leaving.{Leaving}
 use Rattle.xl_walk.specs.Cells.{line_of}
 use Rattle.xl_walk.specs.Emits.{AllEmit, Emitted}
@@ -24,9 +25,9 @@ lines_good size i (l ∷ a) b h g =
     (h.0, h.1, lines_good size (i + 1) a b h.2 (subst (λ n. AreGoodLines size n b) e g))
 
 module _
-    (plan : Plan) (body : kernel.Statements) (pos : Pos) (e0 e1 e2 : List Line) (left : List Leaving)
+    (plan : Plan) (sides : Sides) (body : kernel.Statements) (pos : Pos) (e0 e1 e2 : List Line) (left : List Leaving)
     (inside : AreInside [] body)
-    (at_1 : Emitted (AllEmit plan body) e0 e1 [] left)
+    (at_1 : Emitted (AllEmit plan sides body) e0 e1 [] left)
     (at_2 : e2 ≡ e1 ++ line Freet pos ∷ [])
     (ends : Adds e1 e2 (EndsRoot (length e1)))
   where
@@ -34,11 +35,11 @@ module _
     root_lines = at_2 ∙ ap (λ ls. ls ++ line Freet pos ∷ []) at_1.lines ∙ append_assoc e0 (map line_of at_1.cells) (line Freet pos ∷ [])
 
     length_1 : length e1 ≡ length e0 + length at_1.cells
-    length_1 = emitted_length (AllEmit plan body) e0 e1 [] left at_1
+    length_1 = emitted_length (AllEmit plan sides body) e0 e1 [] left at_1
 
-    pub root_emitted : Adds e0 e2 (IsRoot plan body pos (last_pos e0) (length e0))
+    pub root_emitted : Adds e0 e2 (IsRoot plan sides body pos (last_pos e0) (length e0))
     root_emitted =
-        let good = all_good plan body [] (last_pos e0) (length e0 + length at_1.cells + 1) (length e0) at_1.cells inside at_1.so (omega arith) in
+        let good = all_good plan sides body [] (last_pos e0) (length e0 + length at_1.cells + 1) (length e0) at_1.cells inside at_1.so (omega arith) in
         let cells = all_known (length e0 + length at_1.cells + 1) (length e0) at_1.cells good in
         let last_line : ends.lines ≡ line Freet pos ∷ [] = append_cancel_left e1 ends.lines (line Freet pos ∷ []) (sym ends.is ∙ at_2) in
         let end : length e1 ≡ length e0 + length (map line_of at_1.cells) = length_1 ∙ ap (λ k. length e0 + k) (sym (length-map at_1.cells line_of)) in
@@ -48,7 +49,7 @@ module _
           so = record {
             front = map line_of at_1.cells;
             is = refl;
-            body_is = subst (AllEmit plan body (last_pos e0) (length e0)) cells at_1.so;
+            body_is = subst (AllEmit plan sides body (last_pos e0) (length e0)) cells at_1.so;
             inside = inside;
             ends = subst (EndsRoot (length e0 + length (map line_of at_1.cells))) last_line (subst (λ k. EndsRoot k ends.lines) end ends.so);
           };
@@ -62,7 +63,7 @@ module _
         by = λ size h.
             let n = length-append (map line_of at_1.cells) (line Freet pos ∷ []) in
             let m = length-map at_1.cells line_of in
-            lines_good size (length e0) (map line_of at_1.cells) (line Freet pos ∷ []) (good_lines size (length e0) at_1.cells (all_good plan body [] (last_pos e0) size (length e0) at_1.cells inside at_1.so (omega arith))) (tt, refl, tt);
+            lines_good size (length e0) (map line_of at_1.cells) (line Freet pos ∷ []) (good_lines size (length e0) at_1.cells (all_good plan sides body [] (last_pos e0) size (length e0) at_1.cells inside at_1.so (omega arith))) (tt, refl, tt);
       };
     }
 

@@ -1,5 +1,5 @@
 -- The cells of statements may stand in code that goes on behind them, and jump to the ends of blocks around them alone.
-use Rattle.std.proofs.Common.{◌≡◌, ℕ, ◌+◌, ◌<◌, ◌≤◌, ◌≢◌, Bool, true, false, List, [], ◌∷◌, ◌++◌, length, map, refl, sym, ap, ◌∙◌, subst, arith, length-append, ⊎_elim, eq-eqb}
+use Rattle.std.proofs.Common.{◌≡◌, ℕ, ◌+◌, ◌<◌, ◌≤◌, ◌≢◌, Bool, true, false, List, [], ◌∷◌, ◌++◌, length, map, Option, Some, None, refl, sym, ap, ◌∙◌, subst, arith, length-append, ⊎_elim, eq-eqb}
 use Rattle.std.specs.Prelude.{nat_eq, ◌||◌}
 use Rattle.std.proofs.lemmas.Bool.{cases_eq, ne_eqb}
 use Rattle.std.proofs.lemmas.List.{length-map}
@@ -8,13 +8,17 @@ use Rattle.xc_tree.specs.Types.Words.{is_among}
 use Rattle.xs_instr.specs.declared.instr.Instr.TheVariants.{Brff, Brfu, Brbu, Ssync}
 use Rattle.xs_instr.specs.declared.instr.Reg.TheVariants.{R0}
 use Rattle.xs_instr.specs.Lines.{Line, line}
+use Rattle.xc_kernel.specs.declared.statement.KRes.{KRes}
+use Rattle.xc_kernel.specs.declared.statement.KRes.TheVariants.{Port, Timer, Chan}
 use Rattle.xc_kernel.specs.Plain as kernel
 use Rattle.xc_meaning.specs.Counts.KernelCounts.{branch_count}
+use Rattle.xc_meaning.specs.Settings.Sides.{sides_in}
 use Rattle.xl_expr.specs.declared.plan.Plan.{Plan}
 use Rattle.xl_expr.specs.Targets.{AreGoodLines}
 use Rattle.xl_par.specs.Opening.{AreBelow, filled}
+use Rattle.xl_sides.specs.Ends.{Sides, codes_in, end_at}
 use Rattle.xl_walk.specs.Cells.{Cell, known, leaving, behind, closed, closed_by, line_of}
-use Rattle.xl_walk.specs.Emits.{AllEmit, AreLines, Branching, Coded, Emits, OneSide, ParEmits, SeveralBranches, SlavesEmit, TwoSides}
+use Rattle.xl_walk.specs.Emits.{AllEmit, AreLines, Branching, ByEnd, Coded, Emits, InputEmits, OneSide, OutputEmits, ParEmits, SeveralBranches, SlavesEmit, TwoSides}
 use Rattle.xl_walk.specs.Inside.{AreGoodCells, AreInside, BranchesAreInside, IsInside}
 use Rattle.xl_walk.proofs.Starts.{filled_length}
 
@@ -137,58 +141,73 @@ module _ (plan : Plan) where
           subst (AreGoodCells around size pc) (sym h.is)
           (good_append around size opening (h.first ++ (closing ++ (jump ∷ h.others))) pc opening_lines (subst (λ k. AreGoodCells around size (pc + k) (h.first ++ (closing ++ (jump ∷ h.others)))) (sym (m ∙ f)) from_first))
 
+  -- a transfer, which has no code where there is no end
+  by_end_good : (around : List ℕ) (P : (end : ℕ) → ℕ → List Line → Type 0) (end : Option ℕ) (last : Pos) (size pc : ℕ) (cells : List Cell) → ByEnd P end last pc cells → pc + length cells < size → AreGoodCells around size pc cells
+  by_end_good around P None last size pc cells h ends = subst (AreGoodCells around size pc) (sym h) tt
+  by_end_good around P (Some end) last size pc cells h ends = piece_good around (P end) last size pc cells h ends
+
+  output_good : (sides : Sides) (o : kernel.Output) (around : List ℕ) (last : Pos) (size pc : ℕ) (cells : List Cell) (resource : KRes) → OutputEmits plan sides o resource last pc cells → pc + length cells < size → AreGoodCells around size pc cells
+  output_good sides o around last size pc cells (Port p) h ends = piece_good around _ last size pc cells h.1 ends
+  output_good sides o around last size pc cells (Timer t) h ends = absurd h
+  output_good sides o around last size pc cells (Chan c) h ends = by_end_good around _ (end_at plan.channels sides c) last size pc cells h ends
+
+  input_good : (sides : Sides) (i : kernel.Input) (around : List ℕ) (last : Pos) (size pc : ℕ) (cells : List Cell) (resource : KRes) → InputEmits plan sides i resource last pc cells → pc + length cells < size → AreGoodCells around size pc cells
+  input_good sides i around last size pc cells (Port p) h ends = absurd h
+  input_good sides i around last size pc cells (Timer t) h ends = absurd h
+  input_good sides i around last size pc cells (Chan c) h ends = by_end_good around _ (end_at plan.channels sides c) last size pc cells h ends
+
   mutual
-    pub emits_good : (s : kernel.Statement) (around : List ℕ) (last : Pos) (size pc : ℕ) (cells : List Cell) → IsInside around s → Emits plan s last pc cells → pc + length cells < size → AreGoodCells around size pc cells
-    emits_good (kernel.set_zero v) around last size pc cells inside h ends = piece_good around _ last size pc cells h ends
-    emits_good (kernel.set place x) around last size pc cells inside h ends = piece_good around _ last size pc cells h ends
-    emits_good (kernel.output o) around last size pc cells inside (port, unstamped, h) ends = piece_good around _ last size pc cells h ends
-    emits_good (kernel.input i) around last size pc cells inside h ends = absurd h
-    emits_good (kernel.if_then x a b) around last size pc cells inside h ends =
-        branching_good around last size pc cells x (AllEmit plan a) (AllEmit plan b) (λ l i cs k n. all_good a around l size i cs inside.0 k n) (λ l i cs k n. all_good b around l size i cs inside.1 k n) b h ends
-    emits_good (kernel.loop x a b) around last size pc cells inside h ends =
+    pub emits_good : (sides : Sides) (s : kernel.Statement) (around : List ℕ) (last : Pos) (size pc : ℕ) (cells : List Cell) → IsInside around s → Emits plan sides s last pc cells → pc + length cells < size → AreGoodCells around size pc cells
+    emits_good sides (kernel.set_zero v) around last size pc cells inside h ends = piece_good around _ last size pc cells h ends
+    emits_good sides (kernel.set place x) around last size pc cells inside h ends = piece_good around _ last size pc cells h ends
+    emits_good sides (kernel.output o) around last size pc cells inside h ends = output_good sides o around last size pc cells o.resource h ends
+    emits_good sides (kernel.input i) around last size pc cells inside h ends = input_good sides i around last size pc cells i.resource h ends
+    emits_good sides (kernel.if_then x a b) around last size pc cells inside h ends =
+        branching_good around last size pc cells x (AllEmit plan sides a) (AllEmit plan sides b) (λ l i cs k n. all_good sides a around l size i cs inside.0 k n) (λ l i cs k n. all_good sides b around l size i cs inside.1 k n) b h ends
+    emits_good sides (kernel.loop x a b) around last size pc cells inside h ends =
         let back = known (line (Brbu pc) (behind (behind last h.body) h.next)) in
         let tail = known (line (Brff R0 h.end) last) ∷ (h.body ++ (h.next ++ back ∷ [])) in
         let n : length cells ≡ length h.test + 1 + length h.body + length h.next + 1 = omega (arith, ap length h.is, length-append (map known h.test) tail, length-map h.test known, length-append h.body (h.next ++ back ∷ []), length-append h.next (back ∷ [])) in
         let e = h.end_is in
         let m = length-map h.test known in
-        let body = all_good a around last size (pc + length h.test + 1) h.body inside.0 h.body_is (omega arith) in
-        let next = all_good b around (behind last h.body) size (pc + length h.test + 1 + length h.body) h.next inside.1 h.next_is (omega arith) in
+        let body = all_good sides a around last size (pc + length h.test + 1) h.body inside.0 h.body_is (omega arith) in
+        let next = all_good sides b around (behind last h.body) size (pc + length h.test + 1 + length h.body) h.next inside.1 h.next_is (omega arith) in
         let from_back : AreGoodCells around size (pc + length h.test + 1 + length h.body + length h.next) (back ∷ []) = ((omega arith, omega arith), refl, tt) in
         let from_next = good_append around size h.next (back ∷ []) (pc + length h.test + 1 + length h.body) next from_back in
         let from_test : AreGoodCells around size (pc + length h.test) tail = ((omega arith, omega arith), refl, good_append around size h.body (h.next ++ back ∷ []) (pc + length h.test + 1) body from_next) in
         subst (AreGoodCells around size pc) (sym h.is)
         (good_append around size (map known h.test) tail pc (good_known around size h.test pc (h.aimed.by size (omega arith))) (subst (λ k. AreGoodCells around size (pc + k) tail) (sym m) from_test))
-    emits_good (kernel.block n a) around last size pc cells inside h ends =
+    emits_good sides (kernel.block n a) around last size pc cells inside h ends =
         let m : length cells ≡ length h.inside = ap length h.is ∙ length-map h.inside (closed n (pc + length h.inside)) in
         subst (AreGoodCells around size pc) (sym h.is)
-        (good_closed around size n (pc + length h.inside) h.inside pc (omega arith) (omega arith) (all_good a (n ∷ around) last size pc h.inside inside h.inside_is (omega arith)))
-    emits_good (kernel.exit n) around last size pc cells inside h ends = subst (AreGoodCells around size pc) (sym h) (inside, tt)
-    emits_good (kernel.select cs d pos) around last size pc cells inside h ends = absurd h
-    emits_good (kernel.par bs) around last size pc cells inside h ends = par_good bs around last size pc cells inside h ends
-    emits_good (kernel.transaction c is_master a start close) around last size pc cells inside h ends = absurd h
+        (good_closed around size n (pc + length h.inside) h.inside pc (omega arith) (omega arith) (all_good sides a (n ∷ around) last size pc h.inside inside h.inside_is (omega arith)))
+    emits_good sides (kernel.exit n) around last size pc cells inside h ends = subst (AreGoodCells around size pc) (sym h) (inside, tt)
+    emits_good sides (kernel.select cs d pos) around last size pc cells inside h ends = absurd h
+    emits_good sides (kernel.par bs) around last size pc cells inside h ends = par_good sides bs around last size pc cells inside h ends
+    emits_good sides (kernel.transaction c is_master a start close) around last size pc cells inside h ends = absurd h
 
-    pub all_good : (ss : kernel.Statements) (around : List ℕ) (last : Pos) (size pc : ℕ) (cells : List Cell) → AreInside around ss → AllEmit plan ss last pc cells → pc + length cells < size → AreGoodCells around size pc cells
-    all_good kernel.no_more around last size pc cells inside h ends = subst (AreGoodCells around size pc) (sym h) tt
-    all_good (kernel.more s ss) around last size pc cells inside h ends =
+    pub all_good : (sides : Sides) (ss : kernel.Statements) (around : List ℕ) (last : Pos) (size pc : ℕ) (cells : List Cell) → AreInside around ss → AllEmit plan sides ss last pc cells → pc + length cells < size → AreGoodCells around size pc cells
+    all_good sides kernel.no_more around last size pc cells inside h ends = subst (AreGoodCells around size pc) (sym h) tt
+    all_good sides (kernel.more s ss) around last size pc cells inside h ends =
         let n : length cells ≡ length h.first + length h.rest = ap length h.is ∙ length-append h.first h.rest in
         subst (AreGoodCells around size pc) (sym h.is)
-        (good_append around size h.first h.rest pc (emits_good s around last size pc h.first inside.0 h.first_is (omega arith)) (all_good ss around (behind last h.first) size (pc + length h.first) h.rest inside.1 h.rest_is (omega arith)))
+        (good_append around size h.first h.rest pc (emits_good sides s around last size pc h.first inside.0 h.first_is (omega arith)) (all_good sides ss around (behind last h.first) size (pc + length h.first) h.rest inside.1 h.rest_is (omega arith)))
 
-    par_good : (bs : kernel.Branches) (around : List ℕ) (last : Pos) (size pc : ℕ) (cells : List Cell) → BranchesAreInside bs → ParEmits plan bs last pc cells → pc + length cells < size → AreGoodCells around size pc cells
-    par_good kernel.no_branch around last size pc cells inside h ends = subst (AreGoodCells around size pc) (sym h) tt
-    par_good (kernel.more_branches (kernel.branch ss pos) kernel.no_branch) around last size pc cells inside h ends =
-        good_anywhere around size pc cells (all_good ss [] last size pc cells inside.0 h ends)
-    par_good (kernel.more_branches (kernel.branch ss pos) (kernel.more_branches b bs)) around last size pc cells inside h ends =
-        several_good around last size pc cells (branch_count (kernel.more_branches b bs)) (AllEmit plan ss) (SlavesEmit plan (kernel.more_branches b bs)) (λ l i cs k n. all_good ss [] l size i cs inside.0 k n) (λ ns l i cs k n. slaves_good (kernel.more_branches b bs) ns l size i cs inside.1 k n) h ends
+    par_good : (sides : Sides) (bs : kernel.Branches) (around : List ℕ) (last : Pos) (size pc : ℕ) (cells : List Cell) → BranchesAreInside bs → ParEmits plan sides bs last pc cells → pc + length cells < size → AreGoodCells around size pc cells
+    par_good sides kernel.no_branch around last size pc cells inside h ends = subst (AreGoodCells around size pc) (sym h) tt
+    par_good sides (kernel.more_branches (kernel.branch ss pos) kernel.no_branch) around last size pc cells inside h ends =
+        good_anywhere around size pc cells (all_good (sides_in 0 [] ss [] sides) ss [] last size pc cells inside.0 h ends)
+    par_good sides (kernel.more_branches (kernel.branch ss pos) (kernel.more_branches b bs)) around last size pc cells inside h ends =
+        several_good around last size pc cells (branch_count (kernel.more_branches b bs)) (AllEmit plan (sides_in 0 [] ss (codes_in (kernel.more_branches b bs)) sides) ss) (SlavesEmit plan sides (ss ∷ []) (kernel.more_branches b bs)) (λ l i cs k n. all_good (sides_in 0 [] ss (codes_in (kernel.more_branches b bs)) sides) ss [] l size i cs inside.0 k n) (λ ns l i cs k n. slaves_good sides (ss ∷ []) (kernel.more_branches b bs) ns l size i cs inside.1 k n) h ends
 
-    slaves_good : (bs : kernel.Branches) (starts : List ℕ) (last : Pos) (size pc : ℕ) (cells : List Cell) → BranchesAreInside bs → SlavesEmit plan bs starts last pc cells → pc + length cells < size → AreBelow size starts × AreGoodCells [] size pc cells
-    slaves_good kernel.no_branch starts last size pc cells inside h ends = (subst (AreBelow size) (sym h.0) tt, subst (AreGoodCells [] size pc) (sym h.1) tt)
-    slaves_good (kernel.more_branches (kernel.branch ss pos) bs) starts last size pc cells inside h ends =
+    slaves_good : (sides : Sides) (before : List kernel.Statements) (bs : kernel.Branches) (starts : List ℕ) (last : Pos) (size pc : ℕ) (cells : List Cell) → BranchesAreInside bs → SlavesEmit plan sides before bs starts last pc cells → pc + length cells < size → AreBelow size starts × AreGoodCells [] size pc cells
+    slaves_good sides before kernel.no_branch starts last size pc cells inside h ends = (subst (AreBelow size) (sym h.0) tt, subst (AreGoodCells [] size pc) (sym h.1) tt)
+    slaves_good sides before (kernel.more_branches (kernel.branch ss pos) bs) starts last size pc cells inside h ends =
         let g = h.slave_is in
         let end = known (line Ssync (behind last g.body)) in
         let n : length cells ≡ length h.slave + length h.others = ap length h.is ∙ length-append h.slave h.others in
         let m : length h.slave ≡ length g.body + 1 = omega (arith, ap length g.is, length-append g.body (end ∷ [])) in
-        let body = all_good ss [] last size pc g.body inside.0 g.body_is (omega (arith, n, m, ends)) in
+        let body = all_good (sides_in 0 before ss (codes_in bs) sides) ss [] last size pc g.body inside.0 g.body_is (omega (arith, n, m, ends)) in
         let slave : AreGoodCells [] size pc h.slave = subst (AreGoodCells [] size pc) (sym g.is) (good_append [] size g.body (end ∷ []) pc body (tt, refl, tt)) in
-        let others = slaves_good bs h.later (behind last h.slave) size (pc + length h.slave) h.others inside.1 h.others_are (omega (arith, n, ends)) in
+        let others = slaves_good sides (ss ∷ before) bs h.later (behind last h.slave) size (pc + length h.slave) h.others inside.1 h.others_are (omega (arith, n, ends)) in
         (subst (AreBelow size) (sym h.starts_are) (omega (arith, n, m, ends), others.0), subst (AreGoodCells [] size pc) (sym h.is) (good_append [] size h.slave h.others pc slave others.1))

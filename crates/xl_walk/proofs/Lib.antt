@@ -6,9 +6,12 @@ pub mod Sides
 pub mod Turns
 pub mod Starts
 pub mod Slaves
+pub mod OwnSides
+pub mod NextSlave
 pub mod Several
 pub mod Walks
 pub mod Arms
+pub mod Transferred
 pub mod Inside
 pub mod Ending
 pub mod Stands

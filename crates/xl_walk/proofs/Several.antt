@@ -15,8 +15,10 @@ use Rattle.xl_par.specs.Closing.{Closes, closing_instrs}
 use Rattle.xl_par.specs.Opening.{AreAimedWith, Opens, filled, opening_lines, starts_from}
 use Rattle.xl_par.proofs.Listed.{opening_length}
 use Rattle.xl_walk.specs.declared.walk.Leaving.{Leaving}
+use Rattle.xl_sides.specs.Ends.{Sides}
+use Rattle.xl_walk.specs.Branches.{SlavesEmitIn}
 use Rattle.xl_walk.specs.Cells.{Cell, known, behind, leaves, line_of}
-use Rattle.xl_walk.specs.Emits.{Coded, Emitted, SeveralBranches, SlavesEmit, SlavesEmitted}
+use Rattle.xl_walk.specs.Emits.{Coded, Emitted, SeveralBranches, SlavesEmitted}
 use Rattle.xl_walk.specs.Landing.{AreLandable, Lands, all_landed}
 use Rattle.xl_walk.proofs.Parts.{emitted_last, emitted_length, leaves_append, leaves_behind, lines_append, lines_known, lines_length}
 use Rattle.xl_walk.proofs.Seams.{extends_by, lands_at, open_at}
@@ -112,13 +114,13 @@ module _
       several_refused e4 h = extends_by e0 e4 _ (h.is ∙ ap (λ ls. ls ++ h.more) (landed_are h.targets) ∙ append_assoc e0 _ h.more)
 
       module _
-          (bs : kernel.Branches) (as_many : branch_count bs ≡ n) (few : n ≤ 7)
+          (each : List Sides) (bs : kernel.Branches) (as_many : branch_count bs ≡ n) (few : n ≤ 7)
           (opens : Opens plan.first_stack n (last_pos e0) (length e0) (opening_lines plan.first_stack (last_pos e0) n))
           (opens_aimed : AreAimedWith n (length e0) (opening_lines plan.first_stack (last_pos e0) n))
           (closes : Closes (last_pos e2) (length e2) (at_pos (last_pos e2) closing_instrs))
           (closes_aimed : AreAimed (length e2) (at_pos (last_pos e2) closing_instrs))
           (past : ℕ) (past_is : past ≡ length e2 + 9)
-          (e4 : List Line) (left2 : List Leaving) (at_4 : SlavesEmitted (SlavesEmit plan bs) holes e3 e4 left1 left2)
+          (e4 : List Line) (left2 : List Leaving) (at_4 : SlavesEmitted (SlavesEmitIn plan each bs) holes e3 e4 left1 left2)
         where
           abbrev front : List Line
           front = e0 ++ (filled (opening_lines plan.first_stack (last_pos e0) n) at_4.starts ++ (map line_of at_2.cells ++ at_pos (last_pos e2) closing_instrs))
@@ -190,21 +192,21 @@ module _
                 ∙ ap (λ k. left0 ++ leaves (at_2.cells ++ (map known closing ++ tail)) k) (sym f)
                 ∙ ap (λ l. left0 ++ l) (sym (leaves_behind (filled opening at_4.starts) (at_2.cells ++ (map known closing ++ tail)) (length e0)))
 
-            pub several_emitted : Emitted (SeveralBranches plan (branch_count bs) First (SlavesEmit plan bs)) e0 e5 left0 left2
+            pub several_emitted : Emitted (SeveralBranches plan (branch_count bs) First (SlavesEmitIn plan each bs)) e0 e5 left0 left2
             several_emitted =
                 let three : length e3 ≡ length e0 + length opening + length at_2.cells + 9 + 1 = let a = several_length in let b = length_2 in omega (arith, a, b) in
                 record {
                   cells = cells;
                   lines = e5_is;
                   leaving_ones = cells_leaves;
-                  so = subst (λ m. SeveralBranches plan m First (SlavesEmit plan bs) (last_pos e0) (length e0) cells) (sym as_many) (record {
+                  so = subst (λ m. SeveralBranches plan m First (SlavesEmitIn plan each bs) (last_pos e0) (length e0) cells) (sym as_many) (record {
                     opening = opening;
                     starts = at_4.starts;
                     first = at_2.cells;
                     closing = closing;
                     others = at_4.cells;
                     end = length e4;
-                    as_many = starts_count plan bs at_4.starts (last_pos e3) (length e3) at_4.cells at_4.so ∙ as_many;
+                    as_many = starts_count plan each bs at_4.starts (last_pos e3) (length e3) at_4.cells at_4.so ∙ as_many;
                     few = few;
                     end_is = let a = length_4 in omega (arith, a, three);
                     is = refl;
@@ -213,6 +215,6 @@ module _
                     first_is = subst (λ p. First p (length e0 + length opening) at_2.cells) last_1 (subst (λ k. First (last_pos e1) k at_2.cells) length_1 at_2.so);
                     closes = subst (λ p. Closes p (length e0 + length opening + length at_2.cells) closing) last_2 (subst (λ k. Closes (last_pos e2) k closing) length_2 closes);
                     closes_aimed = subst (λ k. AreAimed k closing) length_2 closes_aimed;
-                    others_are = subst (λ p. SlavesEmit plan bs at_4.starts p (length e0 + length opening + length at_2.cells + 9 + 1) at_4.cells) (last_3 ∙ last_2) (subst (λ k. SlavesEmit plan bs at_4.starts (last_pos e3) k at_4.cells) three at_4.so);
+                    others_are = subst (λ p. SlavesEmitIn plan each bs at_4.starts p (length e0 + length opening + length at_2.cells + 9 + 1) at_4.cells) (last_3 ∙ last_2) (subst (λ k. SlavesEmitIn plan each bs at_4.starts (last_pos e3) k at_4.cells) three at_4.so);
                   });
                 }

@@ -16,9 +16,11 @@ use Rattle.xl_expr.specs.declared.plan.Plan.{Plan}
 use Rattle.xl_par.specs.Closing.{EndsSlave}
 use Rattle.xl_par.specs.Opening.{indices_of}
 use Rattle.xl_walk.specs.declared.walk.Leaving.{Leaving}
+use Rattle.xl_sides.specs.Ends.{Sides}
+use Rattle.xl_walk.specs.Branches.{SlavesEmitIn}
 use Rattle.xl_walk.specs.Built.{BranchesAreBuilt, BranchesAreShallow, ParsInBranchesAreFew, branches_of, most_of_all, most_of_branches, statements_of}
 use Rattle.xl_walk.specs.Cells.{Cell, known, behind, leaves, line_of}
-use Rattle.xl_walk.specs.Emits.{AllEmit, Coded, Emitted, OneOrSeveral, SeveralBranches, Slave, SlavesEmit, SlavesEmitted}
+use Rattle.xl_walk.specs.Emits.{AllEmit, Coded, Emitted, OneOrSeveral, SeveralBranches, Slave, SlavesEmitted}
 use Rattle.xl_walk.specs.Landing.{AreLandable, Lands, all_landed}
 use Rattle.xl_walk.proofs.Parts.{emitted_last, emitted_length, leaves_append, lines_append, lines_length}
 use Rattle.xl_walk.proofs.Starts.{landed_front, landed_last, landed_size, open_front}
@@ -44,16 +46,11 @@ branches_at bs i x is lt =
     let cut : drop i bs ≡ get_or bs i x ∷ drop (i + 1) bs = rw add-one (drop-cons bs i x lt) in
     ap branches_of cut ∙ branch_first (get_or bs i x) x (branches_of (drop (i + 1) bs)) is
 
-pub holes_at : (hs : List Hole) (i : ℕ) (x : Hole) → x ≡ get_or hs i x → i < length hs → indices_of (drop i hs) ≡ x.index ∷ indices_of (drop (i + 1) hs)
-holes_at hs i x is lt =
-    let cut : drop i hs ≡ get_or hs i x ∷ drop (i + 1) hs = rw add-one (drop-cons hs i x lt) in
-    ap indices_of cut ∙ ap (λ (y : Hole). y.index ∷ indices_of (drop (i + 1) hs)) (sym is)
-
 pub indices_length : (hs : List Hole) → length (indices_of hs) ≡ length hs
 indices_length [] = refl
 indices_length (h ∷ hs) = ap suc (indices_length hs)
 
-take_all : {A : Type 0} (xs : List A) → take (length xs) xs ≡ xs
+pub take_all : {A : Type 0} (xs : List A) → take (length xs) xs ≡ xs
 take_all [] = refl
 take_all (x ∷ xs) = ap (λ ys. x ∷ ys) (take_all xs)
 
@@ -127,7 +124,7 @@ module _
 
 -- What the loop keeps: the code so far is that of the branches, once the others' comes behind it.
 pub record SlavesWalked
-    (plan : Plan) (all rest : kernel.Branches) (holes open_ones : List ℕ)
+    (plan : Plan) (each others : List Sides) (all rest : kernel.Branches) (holes open_ones : List ℕ)
     (e0 e : List Line) (before left : List Leaving) : Type 0 where
   pub built : BranchesAreBuilt rest
   pub shallow : BranchesAreShallow rest
@@ -141,13 +138,13 @@ pub record SlavesWalked
   pub landable : AreLandable front open_ones
   pub lands : (later : List ℕ) → all_landed front open_ones later ≡ all_landed e0 holes (starts ++ later)
   pub leaving_ones : left ≡ before ++ leaves cells (length e0)
-  pub so : (later : List ℕ) (more : List Cell) → SlavesEmit plan rest later (last_pos e) (length e) more →
-      SlavesEmit plan all (starts ++ later) (last_pos e0) (length e0) (cells ++ more)
+  pub so : (later : List ℕ) (more : List Cell) → SlavesEmitIn plan others rest later (last_pos e) (length e) more →
+      SlavesEmitIn plan each all (starts ++ later) (last_pos e0) (length e0) (cells ++ more)
 
-pub slaves_begin : (plan : Plan) (all : kernel.Branches) (holes : List ℕ) (e0 : List Line) (before : List Leaving) →
+pub slaves_begin : (plan : Plan) (each : List Sides) (all : kernel.Branches) (holes : List ℕ) (e0 : List Line) (before : List Leaving) →
     BranchesAreBuilt all → BranchesAreShallow all → ParsInBranchesAreFew all → AreLandable e0 holes →
-    SlavesWalked plan all all holes holes e0 e0 before before
-slaves_begin plan all holes e0 before built shallow few landable = record {
+    SlavesWalked plan each each all all holes holes e0 e0 before before
+slaves_begin plan each all holes e0 before built shallow few landable = record {
   built = built;
   shallow = shallow;
   few = few;
@@ -164,9 +161,9 @@ slaves_begin plan all holes e0 before built shallow few landable = record {
 }
 
 module _
-    (plan : Plan) (all rest : kernel.Branches) (ss : kernel.Statements) (pos : Pos) (holes open_ones : List ℕ) (hole : ℕ)
+    (plan : Plan) (each others : List Sides) (own : Sides) (all rest : kernel.Branches) (ss : kernel.Statements) (pos : Pos) (holes open_ones : List ℕ) (hole : ℕ)
     (e0 e1 : List Line) (before left1 : List Leaving)
-    (h : SlavesWalked plan all (kernel.more_branches (kernel.branch ss pos) rest) holes (hole ∷ open_ones) e0 e1 before left1)
+    (h : SlavesWalked plan each (own ∷ others) all (kernel.more_branches (kernel.branch ss pos) rest) holes (hole ∷ open_ones) e0 e1 before left1)
   where
     pub start_open : IsOpen e1 hole
     start_open = subst (λ ls. IsOpen ls hole) (sym h.is) (open_front h.front (map line_of h.cells) hole h.landable.0)
@@ -190,7 +187,7 @@ module _
         all_none ls [] = refl
         all_none ls (k ∷ hs) = refl
 
-    module _ (e2 : List Line) (left2 : List Leaving) (g : Emitted (Slave (AllEmit plan ss)) (landed e1 hole (length e1)) e2 left1 left2) (size : length e2 ≤ length e1 + most_of_all plan.vars ss + 1) where
+    module _ (e2 : List Line) (left2 : List Leaving) (g : Emitted (Slave (AllEmit plan own ss)) (landed e1 hole (length e1)) e2 left1 left2) (size : length e2 ≤ length e1 + most_of_all plan.vars ss + 1) where
       last_1 : last_pos (landed e1 hole (length e1)) ≡ last_pos e1
       last_1 = landed_last e1 hole (length e1)
 
@@ -201,12 +198,12 @@ module _
       length_1 = ap length h.is ∙ lines_length h.front h.cells ∙ ap (λ k. k + length h.cells) h.size
 
       last_2 : last_pos e2 ≡ behind (last_pos e1) g.cells
-      last_2 = emitted_last (Slave (AllEmit plan ss)) (landed e1 hole (length e1)) e2 left1 left2 g ∙ ap (λ p. behind p g.cells) last_1
+      last_2 = emitted_last (Slave (AllEmit plan own ss)) (landed e1 hole (length e1)) e2 left1 left2 g ∙ ap (λ p. behind p g.cells) last_1
 
       length_2 : length e2 ≡ length e1 + length g.cells
-      length_2 = emitted_length (Slave (AllEmit plan ss)) (landed e1 hole (length e1)) e2 left1 left2 g ∙ ap (λ k. k + length g.cells) size_1
+      length_2 = emitted_length (Slave (AllEmit plan own ss)) (landed e1 hole (length e1)) e2 left1 left2 g ∙ ap (λ k. k + length g.cells) size_1
 
-      pub slaves_go_on : SlavesWalked plan all rest holes open_ones e0 e2 before left2
+      pub slaves_go_on : SlavesWalked plan each others all rest holes open_ones e0 e2 before left2
       slaves_go_on = record {
         built = h.built.1;
         shallow = h.shallow.1;
@@ -230,33 +227,34 @@ module _
             ∙ append_assoc before (leaves h.cells (length e0)) (leaves g.cells (length e0 + length h.cells))
             ∙ ap (λ l. before ++ l) (sym (leaves_append h.cells g.cells (length e0)));
         so = λ later more k.
-            subst (λ ns. SlavesEmit plan all ns (last_pos e0) (length e0) ((h.cells ++ g.cells) ++ more)) (sym (append_assoc h.starts (length e1 ∷ []) later))
-            (subst (SlavesEmit plan all (h.starts ++ (length e1 ∷ later)) (last_pos e0) (length e0)) (sym (append_assoc h.cells g.cells more))
+            subst (λ ns. SlavesEmitIn plan each all ns (last_pos e0) (length e0) ((h.cells ++ g.cells) ++ more)) (sym (append_assoc h.starts (length e1 ∷ []) later))
+            (subst (SlavesEmitIn plan each all (h.starts ++ (length e1 ∷ later)) (last_pos e0) (length e0)) (sym (append_assoc h.cells g.cells more))
             (h.so (length e1 ∷ later) (g.cells ++ more) (record {
               slave = g.cells;
               later = later;
               others = more;
               starts_are = refl;
               is = refl;
-              slave_is = subst (λ p. Slave (AllEmit plan ss) p (length e1) g.cells) last_1 (subst (λ n. Slave (AllEmit plan ss) (last_pos (landed e1 hole (length e1))) n g.cells) size_1 g.so);
-              others_are = subst (λ p. SlavesEmit plan rest later p (length e1 + length g.cells) more) last_2 (subst (λ n. SlavesEmit plan rest later (last_pos e2) n more) length_2 k);
+              slave_is = subst (λ p. Slave (AllEmit plan own ss) p (length e1) g.cells) last_1 (subst (λ n. Slave (AllEmit plan own ss) (last_pos (landed e1 hole (length e1))) n g.cells) size_1 g.so);
+              others_are = subst (λ p. SlavesEmitIn plan others rest later p (length e1 + length g.cells) more) last_2 (subst (λ n. SlavesEmitIn plan others rest later (last_pos e2) n more) length_2 k);
             })));
       }
 
-pub slaves_end : (plan : Plan) (all : kernel.Branches) (holes : List ℕ) (e0 e : List Line) (before left : List Leaving) →
-    SlavesWalked plan all kernel.no_branch holes [] e0 e before left → SlavesEmitted (SlavesEmit plan all) holes e0 e before left
-slaves_end plan all holes e0 e before left h = record {
+pub slaves_end : (plan : Plan) (each : List Sides) (all : kernel.Branches) (holes : List ℕ) (e0 e : List Line) (before left : List Leaving) →
+    SlavesWalked plan each [] all kernel.no_branch holes [] e0 e before left → SlavesEmitted (SlavesEmitIn plan each all) holes e0 e before left
+slaves_end plan each all holes e0 e before left h = record {
   starts = h.starts;
   cells = h.cells;
   lines = h.is ∙ ap (λ ls. ls ++ map line_of h.cells) (h.lands [] ∙ ap (λ ns. all_landed e0 holes ns) (append-nil h.starts));
   leaving_ones = h.leaving_ones;
   so =
-      subst (λ ns. SlavesEmit plan all ns (last_pos e0) (length e0) h.cells) (append-nil h.starts)
-      (subst (SlavesEmit plan all (h.starts ++ []) (last_pos e0) (length e0)) (append-nil h.cells) (h.so [] [] (refl, refl)));
+      subst (λ ns. SlavesEmitIn plan each all ns (last_pos e0) (length e0) h.cells) (append-nil h.starts)
+      (subst (SlavesEmitIn plan each all (h.starts ++ []) (last_pos e0) (length e0)) (append-nil h.cells) (h.so [] [] (refl, refl)));
 }
 
 -- there is a start for each
-pub starts_count : (plan : Plan) (bs : kernel.Branches) (starts : List ℕ) (last : Pos) (pc : ℕ) (cells : List Cell) → SlavesEmit plan bs starts last pc cells → length starts ≡ branch_count bs
-starts_count plan kernel.no_branch starts last pc cells h = ap length h.0
-starts_count plan (kernel.more_branches (kernel.branch ss pos) bs) starts last pc cells h =
-    ap length h.starts_are ∙ ap suc (starts_count plan bs h.later (behind last h.slave) (pc + length h.slave) h.others h.others_are)
+pub starts_count : (plan : Plan) (each : List Sides) (bs : kernel.Branches) (starts : List ℕ) (last : Pos) (pc : ℕ) (cells : List Cell) → SlavesEmitIn plan each bs starts last pc cells → length starts ≡ branch_count bs
+starts_count plan each kernel.no_branch starts last pc cells h = ap length h.0
+starts_count plan [] (kernel.more_branches b bs) starts last pc cells h = absurd h
+starts_count plan (own ∷ each) (kernel.more_branches (kernel.branch ss pos) bs) starts last pc cells h =
+    ap length h.starts_are ∙ ap suc (starts_count plan each bs h.later (behind last h.slave) (pc + length h.slave) h.others h.others_are)

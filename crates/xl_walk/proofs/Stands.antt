@@ -1,5 +1,5 @@
 -- Where the cells of statements stand in a code, their pieces stand there.
-use Rattle.std.proofs.Common.{◌≡◌, ℕ, ◌+◌, Bool, true, false, List, [], ◌∷◌, ◌++◌, length, map, Some, refl, sym, ap, ◌∙◌, subst, arith, length-append, inl, inr}
+use Rattle.std.proofs.Common.{◌≡◌, ℕ, ◌+◌, Bool, true, false, List, [], ◌∷◌, ◌++◌, length, map, Option, Some, None, refl, sym, ap, ◌∙◌, subst, arith, length-append, inl, inr}
 use Rattle.std.specs.Prelude.{nat_eq, slice_get}
 use Rattle.std.proofs.lemmas.List.{length-map}
 use Rattle.xw_words.specs.declared.pos.Pos.{Pos}
@@ -8,15 +8,19 @@ use Rattle.xs_instr.specs.declared.instr.Instr.TheVariants.{Brff, Brfu, Brbu, Fr
 use Rattle.xs_instr.specs.declared.instr.Reg.TheVariants.{R0}
 use Rattle.xs_instr.specs.Lines.{Line, line}
 use Rattle.xs_instr.specs.OwnSteps.{StandAt}
+use Rattle.xc_kernel.specs.declared.statement.KRes.{KRes}
+use Rattle.xc_kernel.specs.declared.statement.KRes.TheVariants.{Port, Timer, Chan}
 use Rattle.xc_kernel.specs.Plain as kernel
 use Rattle.xc_meaning.specs.Counts.KernelCounts.{branch_count}
+use Rattle.xc_meaning.specs.Settings.Sides.{sides_in}
 use Rattle.xl_expr.specs.declared.plan.Plan.{Plan}
 use Rattle.xl_par.specs.Opening.{filled}
+use Rattle.xl_sides.specs.Ends.{Sides, codes_in, end_at}
 use Rattle.xl_walk.specs.Cells.{Cell, known, leaving, behind, closed, closed_by}
-use Rattle.xl_walk.specs.Emits.{AllEmit, AreLines, Branching, Coded, Emits, OneSide, ParEmits, SeveralBranches, SlavesEmit, TwoSides}
+use Rattle.xl_walk.specs.Emits.{AllEmit, AreLines, Branching, ByEnd, Coded, Emits, InputEmits, OneSide, OutputEmits, ParEmits, SeveralBranches, SlavesEmit, TwoSides}
 use Rattle.xl_walk.specs.Inside.{AreGoodCells, AreInside, BranchesAreInside, IsInside}
 use Rattle.xl_walk.specs.Laws.{RootsStand}
-use Rattle.xl_walk.specs.Pieces.{Exit, exit_by, exit_of, LinesAt, ParAt, PieceAt, PiecesAt, SeveralAt, SlavesAt}
+use Rattle.xl_walk.specs.Pieces.{ByEndAt, Exit, InputAt, LinesAt, OutputAt, ParAt, PieceAt, PiecesAt, SeveralAt, SlavesAt, exit_by, exit_of}
 use Rattle.xl_walk.proofs.Inside.{all_good}
 use Rattle.xl_walk.proofs.Starts.{filled_length}
 
@@ -89,20 +93,20 @@ module _ (code : Code) (plan : Plan) where
       ((h.0.0, h.0.1, rest.0), subst (λ k. CellsAt code exits k tail) e rest.1)
 
   -- what is said of a side's cells
-  abbrev SideStands : kernel.Statements → List Exit → Coded → Type 0
-  SideStands a exits Code = (last : Pos) (pc : ℕ) (cells : List Cell) → Code last pc cells → CellsAt code exits pc cells → PiecesAt code plan a exits pc (pc + length cells)
+  abbrev SideStands : Sides → kernel.Statements → List Exit → Coded → Type 0
+  SideStands sides a exits Code = (last : Pos) (pc : ℕ) (cells : List Cell) → Code last pc cells → CellsAt code exits pc cells → PiecesAt code plan sides a exits pc (pc + length cells)
 
-  module _ (x : kernel.Expression) (a b : kernel.Statements) (First Second : Coded) (exits : List Exit) (last : Pos) (pc : ℕ) (cells : List Cell) (first_stands : SideStands a exits First) (second_stands : SideStands b exits Second) where
-    one_side_stands : OneSide plan.vars x First last pc cells → b ≡ kernel.no_more → CellsAt code exits pc cells → PieceAt code plan (kernel.if_then x a b) exits pc (pc + length cells)
+  module _ (sides : Sides) (x : kernel.Expression) (a b : kernel.Statements) (First Second : Coded) (exits : List Exit) (last : Pos) (pc : ℕ) (cells : List Cell) (first_stands : SideStands sides a exits First) (second_stands : SideStands sides b exits Second) where
+    one_side_stands : OneSide plan.vars x First last pc cells → b ≡ kernel.no_more → CellsAt code exits pc cells → PieceAt code plan sides (kernel.if_then x a b) exits pc (pc + length cells)
     one_side_stands h none at_pc =
         let m = length-map h.test known in
         let e = h.end_is in
         let n : h.end ≡ pc + length cells = omega (arith, ap length h.is, length-append (map known h.test) (known (line (Brff R0 h.end) last) ∷ h.first)) in
         let at_test = test_stands exits pc h.end h.test last h.first (subst (CellsAt code exits pc) h.is at_pc) in
         let first = first_stands last (pc + length h.test + 1) h.first h.first_is at_test.1 in
-        (pc + length h.test + 1, h.end, pc + length h.test + 1 + length h.first, 0, record { lines = h.test; place = last; stand = at_test.0; tests = h.tests; end = refl }, first, sym e ∙ n, omega arith, subst (λ ss. PiecesAt code plan ss exits h.end (pc + length cells)) (sym none) n)
+        (pc + length h.test + 1, h.end, pc + length h.test + 1 + length h.first, 0, record { lines = h.test; place = last; stand = at_test.0; tests = h.tests; end = refl }, first, sym e ∙ n, omega arith, subst (λ ss. PiecesAt code plan sides ss exits h.end (pc + length cells)) (sym none) n)
 
-    two_sides_stand : TwoSides plan.vars x First Second last pc cells → CellsAt code exits pc cells → PieceAt code plan (kernel.if_then x a b) exits pc (pc + length cells)
+    two_sides_stand : TwoSides plan.vars x First Second last pc cells → CellsAt code exits pc cells → PieceAt code plan sides (kernel.if_then x a b) exits pc (pc + length cells)
     two_sides_stand h at_pc =
         let jump = known (line (Brfu h.end) (behind last h.first)) in
         let tail = h.first ++ (jump ∷ h.second) in
@@ -115,9 +119,9 @@ module _ (code : Code) (plan : Plan) where
         let at_second = subst (λ k. CellsAt code exits k h.second) (sym o) at_jump.1 in
         let first = first_stands last (pc + length h.test + 1) h.first h.first_is (cells_front code exits h.first (jump ∷ h.second) (pc + length h.test + 1) at_test.1) in
         let second = second_stands (behind last h.first) h.other h.second h.second_is at_second in
-        (pc + length h.test + 1, h.other, pc + length h.test + 1 + length h.first, 1, record { lines = h.test; place = last; stand = at_test.0; tests = h.tests; end = refl }, first, (h.end, inl at_jump.0.0, n), omega arith, subst (PiecesAt code plan b exits h.other) (sym e ∙ n) second)
+        (pc + length h.test + 1, h.other, pc + length h.test + 1 + length h.first, 1, record { lines = h.test; place = last; stand = at_test.0; tests = h.tests; end = refl }, first, (h.end, inl at_jump.0.0, n), omega arith, subst (PiecesAt code plan sides b exits h.other) (sym e ∙ n) second)
 
-    branching_stands : (second : kernel.Statements) → b ≡ second → Branching second plan.vars x First Second last pc cells → CellsAt code exits pc cells → PieceAt code plan (kernel.if_then x a b) exits pc (pc + length cells)
+    branching_stands : (second : kernel.Statements) → b ≡ second → Branching second plan.vars x First Second last pc cells → CellsAt code exits pc cells → PieceAt code plan sides (kernel.if_then x a b) exits pc (pc + length cells)
     branching_stands kernel.no_more is h at_pc = one_side_stands h is at_pc
     branching_stands (kernel.more s ss) is h at_pc = two_sides_stand h at_pc
 
@@ -170,19 +174,34 @@ module _ (code : Code) (plan : Plan) where
           }
 
   -- a branch's cells, around which no block is open
-  branch_alone : (ss : kernel.Statements) (exits : List Exit) (last : Pos) (pc : ℕ) (cells : List Cell) → AreInside [] ss → AllEmit plan ss last pc cells → CellsAt code exits pc cells → CellsAt code [] pc cells
-  branch_alone ss exits last pc cells inside h at_pc =
-      cells_alone code exits (pc + length cells + 1) pc cells (all_good plan ss [] last (pc + length cells + 1) pc cells inside h (omega arith)) at_pc
+  branch_alone : (sides : Sides) (ss : kernel.Statements) (exits : List Exit) (last : Pos) (pc : ℕ) (cells : List Cell) → AreInside [] ss → AllEmit plan sides ss last pc cells → CellsAt code exits pc cells → CellsAt code [] pc cells
+  branch_alone sides ss exits last pc cells inside h at_pc =
+      cells_alone code exits (pc + length cells + 1) pc cells (all_good plan sides ss [] last (pc + length cells + 1) pc cells inside h (omega arith)) at_pc
+
+  -- a transfer, which has no code where there is no end
+  by_end_stands : (P : (end : ℕ) → ℕ → List Line → Type 0) (end : Option ℕ) (exits : List Exit) (last : Pos) (pc : ℕ) (cells : List Cell) → ByEnd P end last pc cells → CellsAt code exits pc cells → ByEndAt code plan P end pc (pc + length cells)
+  by_end_stands P None exits last pc cells h at_pc = let none : length cells ≡ 0 = ap length h in omega arith
+  by_end_stands P (Some end) exits last pc cells h at_pc = piece_stands (P end) last exits pc cells h at_pc
+
+  output_stands : (sides : Sides) (o : kernel.Output) (exits : List Exit) (last : Pos) (pc : ℕ) (cells : List Cell) (resource : KRes) → OutputEmits plan sides o resource last pc cells → CellsAt code exits pc cells → OutputAt code plan sides o resource pc (pc + length cells)
+  output_stands sides o exits last pc cells (Port p) h at_pc = (h.0, piece_stands _ last exits pc cells h.1 at_pc)
+  output_stands sides o exits last pc cells (Timer t) h at_pc = absurd h
+  output_stands sides o exits last pc cells (Chan c) h at_pc = by_end_stands _ (end_at plan.channels sides c) exits last pc cells h at_pc
+
+  input_stands : (sides : Sides) (i : kernel.Input) (exits : List Exit) (last : Pos) (pc : ℕ) (cells : List Cell) (resource : KRes) → InputEmits plan sides i resource last pc cells → CellsAt code exits pc cells → InputAt code plan sides i resource pc (pc + length cells)
+  input_stands sides i exits last pc cells (Port p) h at_pc = absurd h
+  input_stands sides i exits last pc cells (Timer t) h at_pc = absurd h
+  input_stands sides i exits last pc cells (Chan c) h at_pc = by_end_stands _ (end_at plan.channels sides c) exits last pc cells h at_pc
 
   mutual
-    statement_stands : (s : kernel.Statement) (around : List ℕ) (exits : List Exit) (last : Pos) (pc : ℕ) (cells : List Cell) → IsInside around s → Emits plan s last pc cells → CellsAt code exits pc cells → PieceAt code plan s exits pc (pc + length cells)
-    statement_stands (kernel.set_zero v) around exits last pc cells inside h at_pc = piece_stands _ last exits pc cells h at_pc
-    statement_stands (kernel.set place x) around exits last pc cells inside h at_pc = piece_stands _ last exits pc cells h at_pc
-    statement_stands (kernel.output o) around exits last pc cells inside (port, unstamped, h) at_pc = (port, unstamped, piece_stands _ last exits pc cells h at_pc)
-    statement_stands (kernel.input i) around exits last pc cells inside h at_pc = absurd h
-    statement_stands (kernel.if_then x a b) around exits last pc cells inside h at_pc =
-        branching_stands x a b (AllEmit plan a) (AllEmit plan b) exits last pc cells (λ l i cs k n. statements_stand a around exits l i cs inside.0 k n) (λ l i cs k n. statements_stand b around exits l i cs inside.1 k n) b refl h at_pc
-    statement_stands (kernel.loop x a b) around exits last pc cells inside h at_pc =
+    statement_stands : (sides : Sides) (s : kernel.Statement) (around : List ℕ) (exits : List Exit) (last : Pos) (pc : ℕ) (cells : List Cell) → IsInside around s → Emits plan sides s last pc cells → CellsAt code exits pc cells → PieceAt code plan sides s exits pc (pc + length cells)
+    statement_stands sides (kernel.set_zero v) around exits last pc cells inside h at_pc = piece_stands _ last exits pc cells h at_pc
+    statement_stands sides (kernel.set place x) around exits last pc cells inside h at_pc = piece_stands _ last exits pc cells h at_pc
+    statement_stands sides (kernel.output o) around exits last pc cells inside h at_pc = output_stands sides o exits last pc cells o.resource h at_pc
+    statement_stands sides (kernel.input i) around exits last pc cells inside h at_pc = input_stands sides i exits last pc cells i.resource h at_pc
+    statement_stands sides (kernel.if_then x a b) around exits last pc cells inside h at_pc =
+        branching_stands sides x a b (AllEmit plan sides a) (AllEmit plan sides b) exits last pc cells (λ l i cs k n. statements_stand sides a around exits l i cs inside.0 k n) (λ l i cs k n. statements_stand sides b around exits l i cs inside.1 k n) b refl h at_pc
+    statement_stands sides (kernel.loop x a b) around exits last pc cells inside h at_pc =
         let back = known (line (Brbu pc) (behind (behind last h.body) h.next)) in
         let tail = h.body ++ (h.next ++ back ∷ []) in
         let m = length-map h.test known in
@@ -192,44 +211,46 @@ module _ (code : Code) (plan : Plan) where
         let p = pc + length h.test + 1 in
         let at_next = cells_back code exits h.body (h.next ++ back ∷ []) (pc + length h.test + 1) at_test.1 in
         let at_back = cells_back code exits h.next (back ∷ []) (pc + length h.test + 1 + length h.body) at_next in
-        let body = statements_stand a around exits last (pc + length h.test + 1) h.body inside.0 h.body_is (cells_front code exits h.body (h.next ++ back ∷ []) (pc + length h.test + 1) at_test.1) in
-        let next = statements_stand b around exits (behind last h.body) (pc + length h.test + 1 + length h.body) h.next inside.1 h.next_is (cells_front code exits h.next (back ∷ []) (pc + length h.test + 1 + length h.body) at_next) in
+        let body = statements_stand sides a around exits last (pc + length h.test + 1) h.body inside.0 h.body_is (cells_front code exits h.body (h.next ++ back ∷ []) (pc + length h.test + 1) at_test.1) in
+        let next = statements_stand sides b around exits (behind last h.body) (pc + length h.test + 1 + length h.body) h.next inside.1 h.next_is (cells_front code exits h.next (back ∷ []) (pc + length h.test + 1 + length h.body) at_next) in
         (pc + length h.test + 1, pc + length h.test + 1 + length h.body, pc + length h.test + 1 + length h.body + length h.next, record { lines = h.test; place = last; stand = subst (λ k. StandAt code pc (h.test ++ line (Brff R0 k) last ∷ [])) n at_test.0; tests = h.tests; end = refl }, body, next, (pc, inr at_back.0.0, refl))
-    statement_stands (kernel.block n a) around exits last pc cells inside h at_pc =
+    statement_stands sides (kernel.block n a) around exits last pc cells inside h at_pc =
         let end = pc + length h.inside in
         let same : pc + length h.inside ≡ pc + length cells = ap (λ k. pc + k) (sym (ap length h.is ∙ length-map h.inside (closed n (pc + length h.inside)))) in
         let at_inside = cells_closed code exits n (pc + length h.inside) h.inside pc (subst (CellsAt code exits pc) h.is at_pc) in
-        subst (PieceAt code plan (kernel.block n a) exits pc) same
-        (statements_stand a (n ∷ around) (record { block = n; index = pc + length h.inside } ∷ exits) last pc h.inside inside h.inside_is at_inside)
-    statement_stands (kernel.exit n) around exits last pc cells inside h at_pc =
+        subst (PieceAt code plan sides (kernel.block n a) exits pc) same
+        (statements_stand sides a (n ∷ around) (record { block = n; index = pc + length h.inside } ∷ exits) last pc h.inside inside h.inside_is at_inside)
+    statement_stands sides (kernel.exit n) around exits last pc cells inside h at_pc =
         let here = subst (CellsAt code exits pc) h at_pc in
         (here.0.0, here.0.1, here.0.2, ap (λ k. pc + k) (ap length h))
-    statement_stands (kernel.select cs d pos) around exits last pc cells inside h at_pc = absurd h
-    statement_stands (kernel.par bs) around exits last pc cells inside h at_pc = par_stands bs exits last pc cells inside h at_pc
-    statement_stands (kernel.transaction c is_master a start close) around exits last pc cells inside h at_pc = absurd h
+    statement_stands sides (kernel.select cs d pos) around exits last pc cells inside h at_pc = absurd h
+    statement_stands sides (kernel.par bs) around exits last pc cells inside h at_pc = par_stands sides bs exits last pc cells inside h at_pc
+    statement_stands sides (kernel.transaction c is_master a start close) around exits last pc cells inside h at_pc = absurd h
 
-    statements_stand : (ss : kernel.Statements) (around : List ℕ) (exits : List Exit) (last : Pos) (pc : ℕ) (cells : List Cell) → AreInside around ss → AllEmit plan ss last pc cells → CellsAt code exits pc cells → PiecesAt code plan ss exits pc (pc + length cells)
-    statements_stand kernel.no_more around exits last pc cells inside h at_pc =
+    statements_stand : (sides : Sides) (ss : kernel.Statements) (around : List ℕ) (exits : List Exit) (last : Pos) (pc : ℕ) (cells : List Cell) → AreInside around ss → AllEmit plan sides ss last pc cells → CellsAt code exits pc cells → PiecesAt code plan sides ss exits pc (pc + length cells)
+    statements_stand sides kernel.no_more around exits last pc cells inside h at_pc =
         let none : length cells ≡ 0 = ap length h in
         omega arith
-    statements_stand (kernel.more s ss) around exits last pc cells inside h at_pc =
+    statements_stand sides (kernel.more s ss) around exits last pc cells inside h at_pc =
         let all = subst (CellsAt code exits pc) h.is at_pc in
         let end : pc + length h.first + length h.rest ≡ pc + length cells = omega (arith, ap length h.is, length-append h.first h.rest) in
-        (pc + length h.first, statement_stands s around exits last pc h.first inside.0 h.first_is (cells_front code exits h.first h.rest pc all), subst (PiecesAt code plan ss exits (pc + length h.first)) end (statements_stand ss around exits (behind last h.first) (pc + length h.first) h.rest inside.1 h.rest_is (cells_back code exits h.first h.rest pc all)))
+        (pc + length h.first, statement_stands sides s around exits last pc h.first inside.0 h.first_is (cells_front code exits h.first h.rest pc all), subst (PiecesAt code plan sides ss exits (pc + length h.first)) end (statements_stand sides ss around exits (behind last h.first) (pc + length h.first) h.rest inside.1 h.rest_is (cells_back code exits h.first h.rest pc all)))
 
-    par_stands : (bs : kernel.Branches) (exits : List Exit) (last : Pos) (pc : ℕ) (cells : List Cell) → BranchesAreInside bs → ParEmits plan bs last pc cells → CellsAt code exits pc cells → ParAt code plan bs pc (pc + length cells)
-    par_stands kernel.no_branch exits last pc cells inside h at_pc =
+    par_stands : (sides : Sides) (bs : kernel.Branches) (exits : List Exit) (last : Pos) (pc : ℕ) (cells : List Cell) → BranchesAreInside bs → ParEmits plan sides bs last pc cells → CellsAt code exits pc cells → ParAt code plan sides bs pc (pc + length cells)
+    par_stands sides kernel.no_branch exits last pc cells inside h at_pc =
         let none : length cells ≡ 0 = ap length h in
         omega arith
-    par_stands (kernel.more_branches (kernel.branch ss pos) kernel.no_branch) exits last pc cells inside h at_pc =
-        statements_stand ss [] [] last pc cells inside.0 h (branch_alone ss exits last pc cells inside.0 h at_pc)
-    par_stands (kernel.more_branches (kernel.branch ss pos) (kernel.more_branches b bs)) exits last pc cells inside h at_pc =
-        several_stand (branch_count (kernel.more_branches b bs)) (AllEmit plan ss) (PiecesAt code plan ss []) (SlavesEmit plan (kernel.more_branches b bs)) (SlavesAt code plan (kernel.more_branches b bs)) exits last pc cells (λ l i cs k n. statements_stand ss [] [] l i cs inside.0 k (branch_alone ss exits l i cs inside.0 k n)) (λ ns l i cs k n. slaves_stand (kernel.more_branches b bs) exits ns l i cs inside.1 k n) h at_pc
+    par_stands sides (kernel.more_branches (kernel.branch ss pos) kernel.no_branch) exits last pc cells inside h at_pc =
+        statements_stand (sides_in 0 [] ss [] sides) ss [] [] last pc cells inside.0 h (branch_alone (sides_in 0 [] ss [] sides) ss exits last pc cells inside.0 h at_pc)
+    par_stands sides (kernel.more_branches (kernel.branch ss pos) (kernel.more_branches b bs)) exits last pc cells inside h at_pc =
+        let own = sides_in 0 [] ss (codes_in (kernel.more_branches b bs)) sides in
+        several_stand (branch_count (kernel.more_branches b bs)) (AllEmit plan own ss) (PiecesAt code plan own ss []) (SlavesEmit plan sides (ss ∷ []) (kernel.more_branches b bs)) (SlavesAt code plan sides (ss ∷ []) (kernel.more_branches b bs)) exits last pc cells (λ l i cs k n. statements_stand own ss [] [] l i cs inside.0 k (branch_alone own ss exits l i cs inside.0 k n)) (λ ns l i cs k n. slaves_stand sides (ss ∷ []) (kernel.more_branches b bs) exits ns l i cs inside.1 k n) h at_pc
 
-    slaves_stand : (bs : kernel.Branches) (exits : List Exit) (starts : List ℕ) (last : Pos) (pc : ℕ) (cells : List Cell) → BranchesAreInside bs → SlavesEmit plan bs starts last pc cells → CellsAt code exits pc cells → SlavesAt code plan bs starts
-    slaves_stand kernel.no_branch exits starts last pc cells inside h at_pc = h.0
-    slaves_stand (kernel.more_branches (kernel.branch ss pos) bs) exits starts last pc cells inside h at_pc =
+    slaves_stand : (sides : Sides) (before : List kernel.Statements) (bs : kernel.Branches) (exits : List Exit) (starts : List ℕ) (last : Pos) (pc : ℕ) (cells : List Cell) → BranchesAreInside bs → SlavesEmit plan sides before bs starts last pc cells → CellsAt code exits pc cells → SlavesAt code plan sides before bs starts
+    slaves_stand sides before kernel.no_branch exits starts last pc cells inside h at_pc = h.0
+    slaves_stand sides before (kernel.more_branches (kernel.branch ss pos) bs) exits starts last pc cells inside h at_pc =
         let g = h.slave_is in
+        let own = sides_in 0 before ss (codes_in bs) sides in
         let end = known (line Ssync (behind last g.body)) in
         let all = subst (CellsAt code exits pc) h.is at_pc in
         let slave = subst (CellsAt code exits pc) g.is (cells_front code exits h.slave h.others pc all) in
@@ -238,9 +259,9 @@ module _ (code : Code) (plan : Plan) where
           h.later,
           pc + length g.body,
           h.starts_are,
-          statements_stand ss [] [] last pc g.body inside.0 g.body_is (branch_alone ss exits last pc g.body inside.0 g.body_is (cells_front code exits g.body (end ∷ []) pc slave)),
+          statements_stand own ss [] [] last pc g.body inside.0 g.body_is (branch_alone own ss exits last pc g.body inside.0 g.body_is (cells_front code exits g.body (end ∷ []) pc slave)),
           record { lines = line Ssync (behind last g.body) ∷ []; stand = (at_end.0.0, at_end.0.1, tt); ends = g.ends; instr = at_end.0.0 },
-          slaves_stand bs exits h.later (behind last h.slave) (pc + length h.slave) h.others inside.1 h.others_are (cells_back code exits h.slave h.others pc all),
+          slaves_stand sides (ss ∷ before) bs exits h.later (behind last h.slave) (pc + length h.slave) h.others inside.1 h.others_are (cells_back code exits h.slave h.others pc all),
         )
 
   line_front : (a b : List Line) (pc : ℕ) → StandAt code pc (a ++ b) → StandAt code pc a
@@ -254,13 +275,13 @@ module _ (code : Code) (plan : Plan) where
       subst (λ n. StandAt code n b) e (line_back a b (pc + 1) h.2)
 
 pub roots_stand : RootsStand
-roots_stand code plan body pos last pc lines h at_pc =
+roots_stand code plan sides body pos last pc lines h at_pc =
     let all = subst (StandAt code pc) h.is at_pc in
     let stand = cells_stand code [] h.front pc (line_front code plan h.front (line Freet pos ∷ []) pc all) in
     let same : pc + length (map known h.front) ≡ pc + length h.front = ap (λ k. pc + k) (length-map h.front known) in
     record {
       done = pc + length h.front;
-      pieces = subst (PiecesAt code plan body [] pc) same (statements_stand code plan body [] [] last pc (map known h.front) h.inside h.body_is stand);
+      pieces = subst (PiecesAt code plan sides body [] pc) same (statements_stand code plan sides body [] [] last pc (map known h.front) h.inside h.body_is stand);
       ends_here = line_back code plan h.front (line Freet pos ∷ []) pc all;
       ends = h.ends;
     }

@@ -5,6 +5,7 @@ use Rattle.xc_kernel.specs.declared.statement.Kst.{Kst}
 use Rattle.xc_kernel.specs.Kernels.{statement_of}
 use Rattle.xs_instr.specs.Lines.{Line, last_pos}
 use Rattle.xl_expr.specs.declared.plan.Plan.{Plan}
+use Rattle.xl_sides.specs.Ends.{Sides}
 use Rattle.xl_walk.specs.declared.walk.Leaving.{Leaving}
 use Rattle.xl_walk.specs.Built.{AreBuilt, AreShallow, ParsAreFew, most, most_of_all, statements_of}
 use Rattle.xl_walk.specs.Cells.{Cell, leaves, line_of}
@@ -47,7 +48,7 @@ pub lighter : (ss : List Kst) (i : ℕ) (x : Kst) → x ≡ get_or ss i x → i 
 lighter ss i x is lt = let l = item_weight ss i x x (sym is) lt in omega arith
 
 -- What the loop keeps: the cells so far are those of the statements, once the others' come behind them.
-pub record Walked (plan : Plan) (all rest : kernel.Statements) (e0 e : List Line) (before left : List Leaving) : Type 0 where
+pub record Walked (plan : Plan) (sides : Sides) (all rest : kernel.Statements) (e0 e : List Line) (before left : List Leaving) : Type 0 where
   pub built : AreBuilt rest
   pub shallow : AreShallow rest
   pub few : ParsAreFew rest
@@ -55,10 +56,10 @@ pub record Walked (plan : Plan) (all rest : kernel.Statements) (e0 e : List Line
   pub cells : List Cell
   pub lines : e ≡ e0 ++ map line_of cells
   pub leaving_ones : left ≡ before ++ leaves cells (length e0)
-  pub so : (more : List Cell) → AllEmit plan rest (last_pos e) (length e) more → AllEmit plan all (last_pos e0) (length e0) (cells ++ more)
+  pub so : (more : List Cell) → AllEmit plan sides rest (last_pos e) (length e) more → AllEmit plan sides all (last_pos e0) (length e0) (cells ++ more)
 
-pub walk_begins : (plan : Plan) (all : kernel.Statements) (e0 : List Line) (before : List Leaving) → AreBuilt all → AreShallow all → ParsAreFew all → Walked plan all all e0 e0 before before
-walk_begins plan all e0 before built shallow few = record {
+pub walk_begins : (plan : Plan) (sides : Sides) (all : kernel.Statements) (e0 : List Line) (before : List Leaving) → AreBuilt all → AreShallow all → ParsAreFew all → Walked plan sides all all e0 e0 before before
+walk_begins plan sides all e0 before built shallow few = record {
   built = built;
   shallow = shallow;
   few = few;
@@ -69,8 +70,8 @@ walk_begins plan all e0 before built shallow few = record {
   so = λ more h. h;
 }
 
-pub walk_goes_on : (plan : Plan) (all rest : kernel.Statements) (s : kernel.Statement) (e0 e1 e2 : List Line) (before left1 left2 : List Leaving) → Walked plan all (kernel.more s rest) e0 e1 before left1 → Emitted (Emits plan s) e1 e2 left1 left2 → length e2 ≤ length e1 + most plan.vars s → Walked plan all rest e0 e2 before left2
-walk_goes_on plan all rest s e0 e1 e2 before left1 left2 h g size = record {
+pub walk_goes_on : (plan : Plan) (sides : Sides) (all rest : kernel.Statements) (s : kernel.Statement) (e0 e1 e2 : List Line) (before left1 left2 : List Leaving) → Walked plan sides all (kernel.more s rest) e0 e1 before left1 → Emitted (Emits plan sides s) e1 e2 left1 left2 → length e2 ≤ length e1 + most plan.vars s → Walked plan sides all rest e0 e2 before left2
+walk_goes_on plan sides all rest s e0 e1 e2 before left1 left2 h g size = record {
   built = h.built.1;
   shallow = h.shallow.1;
   few = h.few.1;
@@ -84,20 +85,20 @@ walk_goes_on plan all rest s e0 e1 e2 before left1 left2 h g size = record {
       ∙ ap (λ k. before ++ (leaves h.cells (length e0) ++ leaves g.cells k)) (ap length h.lines ∙ lines_length e0 h.cells)
       ∙ ap (λ l. before ++ l) (sym (leaves_append h.cells g.cells (length e0)));
   so = λ more k.
-      subst (AllEmit plan all (last_pos e0) (length e0)) (sym (append_assoc h.cells g.cells more))
+      subst (AllEmit plan sides all (last_pos e0) (length e0)) (sym (append_assoc h.cells g.cells more))
       (h.so (g.cells ++ more) (record {
         first = g.cells;
         rest = more;
         is = refl;
         first_is = g.so;
-        rest_is = subst (λ p. AllEmit plan rest p (length e1 + length g.cells) more) (emitted_last (Emits plan s) e1 e2 left1 left2 g) (subst (λ n. AllEmit plan rest (last_pos e2) n more) (emitted_length (Emits plan s) e1 e2 left1 left2 g) k);
+        rest_is = subst (λ p. AllEmit plan sides rest p (length e1 + length g.cells) more) (emitted_last (Emits plan sides s) e1 e2 left1 left2 g) (subst (λ n. AllEmit plan sides rest (last_pos e2) n more) (emitted_length (Emits plan sides s) e1 e2 left1 left2 g) k);
       }));
 }
 
-pub walk_ends : (plan : Plan) (all : kernel.Statements) (e0 e : List Line) (before left : List Leaving) → Walked plan all kernel.no_more e0 e before left → Emitted (AllEmit plan all) e0 e before left
-walk_ends plan all e0 e before left h = record {
+pub walk_ends : (plan : Plan) (sides : Sides) (all : kernel.Statements) (e0 e : List Line) (before left : List Leaving) → Walked plan sides all kernel.no_more e0 e before left → Emitted (AllEmit plan sides all) e0 e before left
+walk_ends plan sides all e0 e before left h = record {
   cells = h.cells;
   lines = h.lines;
   leaving_ones = h.leaving_ones;
-  so = subst (AllEmit plan all (last_pos e0) (length e0)) (append-nil h.cells) (h.so [] refl);
+  so = subst (AllEmit plan sides all (last_pos e0) (length e0)) (append-nil h.cells) (h.so [] refl);
 }

@@ -1,11 +1,15 @@
 -- The code of statements: which cells a statement has, by the place of the instruction in front and the index of the first cell.
-use Rattle.std.specs.Prelude.{◌≡◌, ℕ, ◌+◌, ◌≤◌, List, [], ◌∷◌, ◌++◌, length, map, Option, None}
+use Rattle.std.specs.Prelude.{◌≡◌, ℕ, ◌+◌, ◌≤◌, true, List, [], ◌∷◌, ◌++◌, length, map, Option, Some, None}
 use Rattle.xw_words.specs.declared.pos.Pos.{Pos}
 use Rattle.xs_instr.specs.declared.instr.Instr.TheVariants.{Brff, Brfu, Brbu, Ssync}
 use Rattle.xs_instr.specs.declared.instr.Reg.TheVariants.{R0}
 use Rattle.xs_instr.specs.Lines.{Line, line, last_pos}
+use Rattle.xc_kernel.specs.declared.statement.KRes.{KRes}
+use Rattle.xc_kernel.specs.declared.statement.KRes.TheVariants.{Port, Timer, Chan}
 use Rattle.xc_kernel.specs.Plain as kernel
 use Rattle.xc_meaning.specs.Counts.KernelCounts.{branch_count}
+use Rattle.xc_meaning.specs.Settings.Sides.{sides_in}
+use Rattle.xl_chan.specs.Transfers.{Receives, SendsValue}
 use Rattle.xl_expr.specs.declared.plan.Plan.{Plan}
 use Rattle.xl_expr.specs.declared.plan.VarPlan.{VarPlan}
 use Rattle.xl_expr.specs.Targets.{AreAimed}
@@ -14,7 +18,7 @@ use Rattle.xl_flow.specs.Zeros.{Zeroes}
 use Rattle.xl_par.specs.Closing.{Closes as ClosesPar, EndsSlave}
 use Rattle.xl_par.specs.Opening.{AreAimedWith, Opens, filled}
 use Rattle.xl_port.specs.Outputs.{Outputs}
-use Rattle.xl_walk.specs.Built.{IsPort}
+use Rattle.xl_sides.specs.Ends.{Sides, codes_in, end_at}
 use Rattle.xl_walk.specs.declared.walk.Leaving.{Leaving}
 use Rattle.xl_walk.specs.Cells.{Cell, known, leaving, behind, closed, leaves, line_of}
 use Rattle.xl_walk.specs.Landing.{all_landed}
@@ -142,33 +146,51 @@ OneOrSeveral plan kernel.no_branch First Slaves last pc cells = First last pc ce
 OneOrSeveral plan (kernel.more_branches b bs) First Slaves last pc cells =
     SeveralBranches plan (branch_count (kernel.more_branches b bs)) First Slaves last pc cells
 
+-- The code of a transfer over a channel, by the end that the code around it uses. Where that stands in no side of the channel, it has none.
+abbrev pub ByEnd : (P : (end : ℕ) → ℕ → List Line → Type 0) → Option ℕ → Coded
+ByEnd P None last pc cells = cells ≡ []
+ByEnd P (Some end) last pc cells = AreLines (P end) last pc cells
+
 module _ (plan : Plan) where
+  -- an output, and an input, by its resource
+  abbrev pub OutputEmits : Sides → kernel.Output → KRes → Coded
+  OutputEmits sides o (Port p) last pc cells = (o.stamp ≡ None) × AreLines (Outputs plan o) last pc cells
+  OutputEmits sides o (Timer t) last pc cells = ⊥
+  OutputEmits sides o (Chan c) last pc cells = ByEnd (λ end. SendsValue plan end o.value true o.pos) (end_at plan.channels sides c) last pc cells
+
+  abbrev pub InputEmits : Sides → kernel.Input → KRes → Coded
+  InputEmits sides i (Port p) last pc cells = ⊥
+  InputEmits sides i (Timer t) last pc cells = ⊥
+  InputEmits sides i (Chan c) last pc cells = ByEnd (λ end. Receives plan end i.target true i.pos) (end_at plan.channels sides c) last pc cells
+
+  -- the code of a statement that stands in these sides of channels
   abbrev mutual
-    pub Emits : kernel.Statement → Coded
-    Emits (kernel.set_zero v) last pc cells = AreLines (Zeroes plan.vars v) last pc cells
-    Emits (kernel.set place x) last pc cells = AreLines (Sets plan.vars place x) last pc cells
-    Emits (kernel.output o) last pc cells = IsPort o.resource × (o.stamp ≡ None) × AreLines (Outputs plan o) last pc cells
-    Emits (kernel.if_then x a b) last pc cells = Branching b plan.vars x (AllEmit a) (AllEmit b) last pc cells
-    Emits (kernel.loop x a b) last pc cells = Turns plan.vars x (AllEmit a) (AllEmit b) last pc cells
-    Emits (kernel.block n a) last pc cells = Closes n (AllEmit a) last pc cells
-    Emits (kernel.exit n) last pc cells = cells ≡ leaving n last ∷ []
-    Emits (kernel.par bs) last pc cells = ParEmits bs last pc cells
-    Emits other last pc cells = ⊥
+    pub Emits : Sides → kernel.Statement → Coded
+    Emits sides (kernel.set_zero v) last pc cells = AreLines (Zeroes plan.vars v) last pc cells
+    Emits sides (kernel.set place x) last pc cells = AreLines (Sets plan.vars place x) last pc cells
+    Emits sides (kernel.output o) last pc cells = OutputEmits sides o o.resource last pc cells
+    Emits sides (kernel.input i) last pc cells = InputEmits sides i i.resource last pc cells
+    Emits sides (kernel.if_then x a b) last pc cells = Branching b plan.vars x (AllEmit sides a) (AllEmit sides b) last pc cells
+    Emits sides (kernel.loop x a b) last pc cells = Turns plan.vars x (AllEmit sides a) (AllEmit sides b) last pc cells
+    Emits sides (kernel.block n a) last pc cells = Closes n (AllEmit sides a) last pc cells
+    Emits sides (kernel.exit n) last pc cells = cells ≡ leaving n last ∷ []
+    Emits sides (kernel.par bs) last pc cells = ParEmits sides bs last pc cells
+    Emits sides other last pc cells = ⊥
 
-    pub AllEmit : kernel.Statements → Coded
-    AllEmit kernel.no_more last pc cells = cells ≡ []
-    AllEmit (kernel.more s ss) last pc cells = Follow (Emits s) (AllEmit ss) last pc cells
+    pub AllEmit : Sides → kernel.Statements → Coded
+    AllEmit sides kernel.no_more last pc cells = cells ≡ []
+    AllEmit sides (kernel.more s ss) last pc cells = Follow (Emits sides s) (AllEmit sides ss) last pc cells
 
-    pub ParEmits : kernel.Branches → Coded
-    ParEmits kernel.no_branch last pc cells = cells ≡ []
-    ParEmits (kernel.more_branches (kernel.branch ss pos) bs) last pc cells =
-        OneOrSeveral plan bs (AllEmit ss) (SlavesEmit bs) last pc cells
+    pub ParEmits : Sides → kernel.Branches → Coded
+    ParEmits sides kernel.no_branch last pc cells = cells ≡ []
+    ParEmits sides (kernel.more_branches (kernel.branch ss pos) bs) last pc cells =
+        OneOrSeveral plan bs (AllEmit (sides_in 0 [] ss (codes_in bs) sides) ss) (SlavesEmit sides (ss ∷ []) bs) last pc cells
 
-    -- the branches behind the first, by where they start
-    pub SlavesEmit : kernel.Branches → List ℕ → Coded
-    SlavesEmit kernel.no_branch starts last pc cells = (starts ≡ []) × (cells ≡ [])
-    SlavesEmit (kernel.more_branches (kernel.branch ss pos) bs) starts last pc cells =
-        SlaveThen (AllEmit ss) (SlavesEmit bs) starts last pc cells
+    -- the branches behind the first, by the code of those before them, the last one first, and by where they start
+    pub SlavesEmit : Sides → (before : List kernel.Statements) → kernel.Branches → List ℕ → Coded
+    SlavesEmit sides before kernel.no_branch starts last pc cells = (starts ≡ []) × (cells ≡ [])
+    SlavesEmit sides before (kernel.more_branches (kernel.branch ss pos) bs) starts last pc cells =
+        SlaveThen (AllEmit (sides_in 0 before ss (codes_in bs) sides) ss) (SlavesEmit sides (ss ∷ before) bs) starts last pc cells
 
 -- Such code was added to the lines, and its jumps out of blocks to those that are open.
 pub record Emitted (Code : Coded) (old new : List Line) (before after : List Leaving) : Type 0 where

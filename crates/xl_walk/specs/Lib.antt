@@ -1,6 +1,7 @@
 pub mod Cells
 pub mod Built
 pub mod Emits
+pub mod Branches
 pub mod Landing
 pub mod Inside
 pub mod Roots

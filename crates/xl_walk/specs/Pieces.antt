@@ -6,8 +6,12 @@ use Rattle.xs_instr.specs.declared.instr.Instr.TheVariants.{Brff, Brfu, Brbu, Fr
 use Rattle.xs_instr.specs.declared.instr.Reg.TheVariants.{R0}
 use Rattle.xs_instr.specs.Lines.{Line, line}
 use Rattle.xs_instr.specs.OwnSteps.{StandAt}
+use Rattle.xc_kernel.specs.declared.statement.KRes.{KRes}
+use Rattle.xc_kernel.specs.declared.statement.KRes.TheVariants.{Port, Timer, Chan}
 use Rattle.xc_kernel.specs.Plain as kernel
 use Rattle.xc_meaning.specs.Counts.KernelCounts.{branch_count}
+use Rattle.xc_meaning.specs.Settings.Sides.{sides_in}
+use Rattle.xl_chan.specs.Transfers.{Receives, SendsValue}
 use Rattle.xl_expr.specs.declared.plan.Plan.{Plan}
 use Rattle.xl_flow.specs.Flow.{Sets, Tests}
 use Rattle.xl_flow.specs.Zeros.{Zeroes}
@@ -15,7 +19,7 @@ use Rattle.xl_par.specs.Closing.{Closes, EndsSlave}
 use Rattle.xl_par.specs.Opening.{Opens, filled}
 use Rattle.xl_par.specs.Roots.{EndsRoot}
 use Rattle.xl_port.specs.Outputs.{Outputs}
-use Rattle.xl_walk.specs.Built.{IsPort}
+use Rattle.xl_sides.specs.Ends.{Sides, codes_in, end_at}
 
 -- an open block, and the index where it ends
 pub record Exit : Type 0 where
@@ -102,45 +106,63 @@ module _ (code : Code) where
     ParOf (kernel.more_branches b bs) First Slaves pc pc' =
         SeveralAt (branch_count (kernel.more_branches b bs)) First Slaves pc pc'
 
-    abbrev mutual
-      -- a statement's code, by where the open blocks end
-      pub PieceAt : kernel.Statement → List Exit → (pc pc' : ℕ) → Type 0
-      PieceAt (kernel.set_zero v) exits pc pc' = LinesAt (Zeroes plan.vars v) pc pc'
-      PieceAt (kernel.set place x) exits pc pc' = LinesAt (Sets plan.vars place x) pc pc'
-      PieceAt (kernel.output o) exits pc pc' = IsPort o.resource × (o.stamp ≡ None) × LinesAt (Outputs plan o) pc pc'
-      -- the test goes to the second side where its word is 0, and at most one jump leads from the first side past it
-      PieceAt (kernel.if_then x a b) exits pc pc' =
-          (first : ℕ) × (second : ℕ) × (done : ℕ) × (n : ℕ) × TestAt x pc first second
-          × PiecesAt a exits first done × Jumps n done pc' × (n ≤ 1) × PiecesAt b exits second pc'
-      -- the test leaves the loop where its word is 0, and behind each turn a jump leads back to it
-      PieceAt (kernel.loop x a b) exits pc pc' =
-          (body : ℕ) × (next : ℕ) × (done : ℕ) × TestAt x pc body pc'
-          × PiecesAt a exits body next × PiecesAt b exits next done × Jumps 1 done pc
-      PieceAt (kernel.block n a) exits pc pc' = PiecesAt a (record { block = n; index = pc' } ∷ exits) pc pc'
-      PieceAt (kernel.exit n) exits pc pc' =
-          (end : ℕ) × (exit_of exits n ≡ Some end) × (slice_get code.instrs pc ≡ Some (Brfu end)) × (pc' ≡ pc + 1)
-      PieceAt (kernel.par bs) exits pc pc' = ParAt bs pc pc'
-      PieceAt other exits pc pc' = ⊥
+    -- The code of a transfer over a channel, by the end that the code around it uses. Where that stands in no side of the channel, it has none.
+    abbrev pub ByEndAt : (P : (end : ℕ) → ℕ → List Line → Type 0) → Option ℕ → (pc pc' : ℕ) → Type 0
+    ByEndAt P None pc pc' = pc ≡ pc'
+    ByEndAt P (Some end) pc pc' = LinesAt (P end) pc pc'
 
-      pub PiecesAt : kernel.Statements → List Exit → (pc pc' : ℕ) → Type 0
-      PiecesAt kernel.no_more exits pc pc' = pc ≡ pc'
-      PiecesAt (kernel.more s ss) exits pc pc' = (p : ℕ) × PieceAt s exits pc p × PiecesAt ss exits p pc'
+    -- an output, and an input, by its resource
+    abbrev pub OutputAt : Sides → kernel.Output → KRes → (pc pc' : ℕ) → Type 0
+    OutputAt sides o (Port p) pc pc' = (o.stamp ≡ None) × LinesAt (Outputs plan o) pc pc'
+    OutputAt sides o (Timer t) pc pc' = ⊥
+    OutputAt sides o (Chan c) pc pc' = ByEndAt (λ end. SendsValue plan end o.value true o.pos) (end_at plan.channels sides c) pc pc'
+
+    abbrev pub InputAt : Sides → kernel.Input → KRes → (pc pc' : ℕ) → Type 0
+    InputAt sides i (Port p) pc pc' = ⊥
+    InputAt sides i (Timer t) pc pc' = ⊥
+    InputAt sides i (Chan c) pc pc' = ByEndAt (λ end. Receives plan end i.target true i.pos) (end_at plan.channels sides c) pc pc'
+
+    abbrev mutual
+      -- a statement's code, by the sides of channels in which it stands and where the open blocks end
+      pub PieceAt : Sides → kernel.Statement → List Exit → (pc pc' : ℕ) → Type 0
+      PieceAt sides (kernel.set_zero v) exits pc pc' = LinesAt (Zeroes plan.vars v) pc pc'
+      PieceAt sides (kernel.set place x) exits pc pc' = LinesAt (Sets plan.vars place x) pc pc'
+      PieceAt sides (kernel.output o) exits pc pc' = OutputAt sides o o.resource pc pc'
+      PieceAt sides (kernel.input i) exits pc pc' = InputAt sides i i.resource pc pc'
+      -- the test goes to the second side where its word is 0, and at most one jump leads from the first side past it
+      PieceAt sides (kernel.if_then x a b) exits pc pc' =
+          (first : ℕ) × (second : ℕ) × (done : ℕ) × (n : ℕ) × TestAt x pc first second
+          × PiecesAt sides a exits first done × Jumps n done pc' × (n ≤ 1) × PiecesAt sides b exits second pc'
+      -- the test leaves the loop where its word is 0, and behind each turn a jump leads back to it
+      PieceAt sides (kernel.loop x a b) exits pc pc' =
+          (body : ℕ) × (next : ℕ) × (done : ℕ) × TestAt x pc body pc'
+          × PiecesAt sides a exits body next × PiecesAt sides b exits next done × Jumps 1 done pc
+      PieceAt sides (kernel.block n a) exits pc pc' = PiecesAt sides a (record { block = n; index = pc' } ∷ exits) pc pc'
+      PieceAt sides (kernel.exit n) exits pc pc' =
+          (end : ℕ) × (exit_of exits n ≡ Some end) × (slice_get code.instrs pc ≡ Some (Brfu end)) × (pc' ≡ pc + 1)
+      PieceAt sides (kernel.par bs) exits pc pc' = ParAt sides bs pc pc'
+      PieceAt sides other exits pc pc' = ⊥
+
+      pub PiecesAt : Sides → kernel.Statements → List Exit → (pc pc' : ℕ) → Type 0
+      PiecesAt sides kernel.no_more exits pc pc' = pc ≡ pc'
+      PiecesAt sides (kernel.more s ss) exits pc pc' = (p : ℕ) × PieceAt sides s exits pc p × PiecesAt sides ss exits p pc'
 
       -- the branches of a `par`; no block around it is open in them
-      pub ParAt : kernel.Branches → (pc pc' : ℕ) → Type 0
-      ParAt kernel.no_branch pc pc' = pc ≡ pc'
-      ParAt (kernel.more_branches (kernel.branch ss pos) bs) pc pc' = ParOf bs (PiecesAt ss []) (SlavesAt bs) pc pc'
+      pub ParAt : Sides → kernel.Branches → (pc pc' : ℕ) → Type 0
+      ParAt sides kernel.no_branch pc pc' = pc ≡ pc'
+      ParAt sides (kernel.more_branches (kernel.branch ss pos) bs) pc pc' =
+          ParOf bs (PiecesAt (sides_in 0 [] ss (codes_in bs) sides) ss []) (SlavesAt sides (ss ∷ []) bs) pc pc'
 
-      -- the branches behind the first, by where they start
-      pub SlavesAt : kernel.Branches → (starts : List ℕ) → Type 0
-      SlavesAt kernel.no_branch starts = starts ≡ []
-      SlavesAt (kernel.more_branches (kernel.branch ss pos) bs) starts =
+      -- the branches behind the first, by the code of those before them, the last one first, and by where they start
+      pub SlavesAt : Sides → (before : List kernel.Statements) → kernel.Branches → (starts : List ℕ) → Type 0
+      SlavesAt sides before kernel.no_branch starts = starts ≡ []
+      SlavesAt sides before (kernel.more_branches (kernel.branch ss pos) bs) starts =
           (start : ℕ) × (others : List ℕ) × (end : ℕ) × (starts ≡ start ∷ others)
-          × PiecesAt ss [] start end × SlaveEndsAt end × SlavesAt bs others
+          × PiecesAt (sides_in 0 before ss (codes_in bs) sides) ss [] start end × SlaveEndsAt end × SlavesAt sides (ss ∷ before) bs others
 
     -- a root's code: its statements', and then the instruction that ends the root, at a place
-    pub record RootAt (body : kernel.Statements) (pos : Pos) (pc : ℕ) : Type 0 where
+    pub record RootAt (sides : Sides) (body : kernel.Statements) (pos : Pos) (pc : ℕ) : Type 0 where
       pub done : ℕ
-      pub pieces : PiecesAt body [] pc done
+      pub pieces : PiecesAt sides body [] pc done
       pub ends_here : StandAt code done (line Freet pos ∷ [])
       pub ends : EndsRoot done (line Freet pos ∷ [])

@@ -6,15 +6,16 @@ use Rattle.xs_instr.specs.Lines.{Line, line}
 use Rattle.xc_kernel.specs.Plain as kernel
 use Rattle.xl_expr.specs.declared.plan.Plan.{Plan}
 use Rattle.xl_par.specs.Roots.{EndsRoot}
+use Rattle.xl_sides.specs.Ends.{Sides}
 use Rattle.xl_walk.specs.Cells.{known}
 use Rattle.xl_walk.specs.Emits.{AllEmit}
 use Rattle.xl_walk.specs.Inside.{AreInside}
 
 -- the code of its statements, of which no jump is open and no `exit` leaves a branch, and behind it the instruction that ends the root
 pub record IsRoot
-    (plan : Plan) (body : kernel.Statements) (pos last : Pos) (pc : ℕ) (lines : List Line) : Type 0 where
+    (plan : Plan) (sides : Sides) (body : kernel.Statements) (pos last : Pos) (pc : ℕ) (lines : List Line) : Type 0 where
   pub front : List Line
   pub is : lines ≡ front ++ line Freet pos ∷ []
-  pub body_is : AllEmit plan body last pc (map known front)
+  pub body_is : AllEmit plan sides body last pc (map known front)
   pub inside : AreInside [] body
   pub ends : EndsRoot (pc + length front) (line Freet pos ∷ [])

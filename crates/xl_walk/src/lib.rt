@@ -3,6 +3,7 @@
 
 mod par;
 mod root;
+mod transfer;
 mod walk;
 
 pub use root::{emit_root, roots_stand};

@@ -3,17 +3,19 @@ ghost use Rattle.xc_kernel.specs.Kernels.{expression_of, statement_of};
 ghost use Rattle.xs_instr.specs.Extends.{Extends};
 ghost use Rattle.xs_instr.specs.Lines.{last_pos};
 ghost use Rattle.xl_expr.specs.Measures.{depth, nodes};
+ghost use Rattle.xl_sides.specs.Sides.{sides_of};
 ghost use Rattle.xl_walk.specs.Built.{AreBuilt, AreShallow, HasFewBranches, IsBuilt, IsShallow, ParsAreFew, most, most_levels, most_of_all, statements_of};
 ghost use Rattle.xl_walk.specs.Cells.{leaving};
 ghost use Rattle.xl_walk.specs.Emits.{AllEmit, Branching, Closes, Emits, Emitted, OneSide, Turns, TwoSides};
 ghost use Rattle.xl_walk.specs.Landing.{Closable, closed_lines, others_leaving};
 
 use crate::par::emit_par;
+use crate::transfer::{emit_input, emit_output};
 use std::alloc::Global;
 use xc_kernel::{Kst, Kx};
 use xl_expr::Plan;
 use xl_flow::{emit_back, emit_jump, emit_set, emit_test, emit_zero};
-use xl_port::emit_port_out;
+use xl_sides::Side;
 use xs_instr::{Emitter, Hole};
 use xw_words::{List, Memory};
 
@@ -24,13 +26,14 @@ pub struct Leaving {
     pub hole: Hole,
 }
 
-/// The code of statements, and the jumps out of blocks around them, which are still open.
+/// The code of statements that stand in these sides of channels, and the jumps out of blocks around them, which are still open.
 ///
 /// The one error is want of memory; the emitter then holds what it held, and perhaps further instructions behind it.
 pub fn emit_statements(
     alloc: Global,
     e: &mut Emitter,
     plan: &Plan,
+    sides: &[Option<Side>],
     statements: &[Kst],
 ) -> Result<List<Leaving>, Memory>
     requires built { AreBuilt (statements_of statements.now) }
@@ -39,13 +42,13 @@ pub fn emit_statements(
     requires stack { plan.now.first_stack ≤ 16384 }
     requires room { length e.old + most_of_all plan.now.vars (statements_of statements.now) < 2 ^ 32 }
     ensures code { IfOk result (λ left. Emitted
-        (AllEmit plan.now (statements_of statements.now)) e.old e.new [] left) }
+        (AllEmit plan.now (sides_of sides.now) (statements_of statements.now)) e.old e.new [] left) }
     ensures size { OnOk result
         (length e.new ≤ length e.old + most_of_all plan.now.vars (statements_of statements.now)) }
     ensures refused { OnErr result (Extends e.old e.new) }
 {
     let mut left = Vec::new(alloc);
-    emit_all(alloc, e, plan, statements, &mut left)?;
+    emit_all(alloc, e, plan, sides, statements, &mut left)?;
     Ok(List::from_vec(left))
 }
 
@@ -55,6 +58,7 @@ pub(crate) fn emit_all(
     alloc: Global,
     e: &mut Emitter,
     plan: &Plan,
+    sides: &[Option<Side>],
     statements: &[Kst],
     left: &mut Vec<Leaving>,
 ) -> Result<(), Memory>
@@ -63,14 +67,15 @@ pub(crate) fn emit_all(
     requires few { ParsAreFew (statements_of statements.now) }
     requires stack { plan.now.first_stack ≤ 16384 }
     requires room { length e.old + most_of_all plan.now.vars (statements_of statements.now) < 2 ^ 32 }
-    ensures code { OnOk result (Emitted (AllEmit plan.now (statements_of statements.now))
+    ensures code { OnOk result (Emitted
+        (AllEmit plan.now (sides_of sides.now) (statements_of statements.now))
         e.old e.new left.old.items left.new.items) }
     ensures size { OnOk result
         (length e.new ≤ length e.old + most_of_all plan.now.vars (statements_of statements.now)) }
     ensures refused { OnErr result (Extends e.old e.new) }
 {
     for statement in statements {
-        emit_one(alloc, e, plan, statement, left)?;
+        emit_one(alloc, e, plan, sides, statement, left)?;
     }
     Ok(())
 }
@@ -81,6 +86,7 @@ fn emit_one(
     alloc: Global,
     e: &mut Emitter,
     plan: &Plan,
+    sides: &[Option<Side>],
     statement: &Kst,
     left: &mut Vec<Leaving>,
 ) -> Result<(), Memory>
@@ -89,7 +95,8 @@ fn emit_one(
     requires few { HasFewBranches (statement_of statement.now) }
     requires stack { plan.now.first_stack ≤ 16384 }
     requires room { length e.old + most plan.now.vars (statement_of statement.now) < 2 ^ 32 }
-    ensures code { OnOk result (Emitted (Emits plan.now (statement_of statement.now))
+    ensures code { OnOk result (Emitted
+        (Emits plan.now (sides_of sides.now) (statement_of statement.now))
         e.old e.new left.old.items left.new.items) }
     ensures size { OnOk result
         (length e.new ≤ length e.old + most plan.now.vars (statement_of statement.now)) }
@@ -98,12 +105,14 @@ fn emit_one(
     match statement {
         Kst::Zero(v) => emit_zero(e, plan, *v),
         Kst::Set(place, x) => emit_set(e, plan, place, x),
-        Kst::Out(o) => emit_port_out(e, plan, o),
+        Kst::Out(output) => emit_output(e, plan, sides, output),
+        Kst::In(input) => emit_input(e, plan, sides, input),
         Kst::If(test, first, second) => {
             emit_if(
                 alloc,
                 e,
                 plan,
+                sides,
                 test,
                 first.as_slice(),
                 second.as_slice(),
@@ -111,12 +120,28 @@ fn emit_one(
             )
         }
         Kst::Loop(test, body, next) => {
-            emit_loop(alloc, e, plan, test, body.as_slice(), next.as_slice(), left)
+            emit_loop(
+                alloc,
+                e,
+                plan,
+                sides,
+                test,
+                body.as_slice(),
+                next.as_slice(),
+                left,
+            )
         }
-        Kst::Block(block, inside) => emit_block(alloc, e, plan, *block, inside.as_slice(), left),
+        Kst::Block(block, inside) => emit_block(
+            alloc,
+            e,
+            plan,
+            sides,
+            *block,
+            inside.as_slice(),
+            left,
+        ),
         Kst::Exit(block) => emit_exit(e, *block, left),
-        Kst::Par(branches) => emit_par(alloc, e, plan, branches.as_slice(), left),
-        Kst::In(_) => unreachable!(),
+        Kst::Par(branches) => emit_par(alloc, e, plan, sides, branches.as_slice(), left),
         Kst::Select(_) => unreachable!(),
         Kst::Tran { .. } => unreachable!(),
     }
@@ -127,6 +152,7 @@ fn emit_if(
     alloc: Global,
     e: &mut Emitter,
     plan: &Plan,
+    sides: &[Option<Side>],
     test: &Kx,
     first: &[Kst],
     second: &[Kst],
@@ -145,7 +171,8 @@ fn emit_if(
         + most_of_all plan.now.vars (statements_of second.now) + 2 < 2 ^ 32 }
     ensures code { OnOk result (Emitted
         (Branching (statements_of second.now) plan.now.vars (expression_of test.now)
-        (AllEmit plan.now (statements_of first.now)) (AllEmit plan.now (statements_of second.now)))
+        (AllEmit plan.now (sides_of sides.now) (statements_of first.now))
+        (AllEmit plan.now (sides_of sides.now) (statements_of second.now)))
         e.old e.new left.old.items left.new.items) }
     ensures size { OnOk result (length e.new ≤ length e.old + 8 * nodes (expression_of test.now)
         + most_of_all plan.now.vars (statements_of first.now)
@@ -153,9 +180,9 @@ fn emit_if(
     ensures refused { OnErr result (Extends e.old e.new) }
 {
     if second.len() == 0 {
-        emit_one_side(alloc, e, plan, test, first, left)
+        emit_one_side(alloc, e, plan, sides, test, first, left)
     } else {
-        emit_two_sides(alloc, e, plan, test, first, second, left)
+        emit_two_sides(alloc, e, plan, sides, test, first, second, left)
     }
 }
 
@@ -164,6 +191,7 @@ fn emit_one_side(
     alloc: Global,
     e: &mut Emitter,
     plan: &Plan,
+    sides: &[Option<Side>],
     test: &Kx,
     first: &[Kst],
     left: &mut Vec<Leaving>,
@@ -176,7 +204,8 @@ fn emit_one_side(
     requires room { length e.old + 8 * nodes (expression_of test.now)
         + most_of_all plan.now.vars (statements_of first.now) + 1 < 2 ^ 32 }
     ensures code { OnOk result (Emitted
-        (OneSide plan.now.vars (expression_of test.now) (AllEmit plan.now (statements_of first.now)))
+        (OneSide plan.now.vars (expression_of test.now)
+        (AllEmit plan.now (sides_of sides.now) (statements_of first.now)))
         e.old e.new left.old.items left.new.items) }
     ensures size { OnOk result (length e.new ≤ length e.old + 8 * nodes (expression_of test.now)
         + most_of_all plan.now.vars (statements_of first.now) + 1) }
@@ -184,7 +213,7 @@ fn emit_one_side(
 {
     let last = e.pos();
     let past = emit_test(e, plan, test, last)?;
-    emit_all(alloc, e, plan, first, left)?;
+    emit_all(alloc, e, plan, sides, first, left)?;
     e.land(past);
     Ok(())
 }
@@ -194,6 +223,7 @@ fn emit_two_sides(
     alloc: Global,
     e: &mut Emitter,
     plan: &Plan,
+    sides: &[Option<Side>],
     test: &Kx,
     first: &[Kst],
     second: &[Kst],
@@ -212,7 +242,8 @@ fn emit_two_sides(
         + most_of_all plan.now.vars (statements_of second.now) + 2 < 2 ^ 32 }
     ensures code { OnOk result (Emitted
         (TwoSides plan.now.vars (expression_of test.now)
-        (AllEmit plan.now (statements_of first.now)) (AllEmit plan.now (statements_of second.now)))
+        (AllEmit plan.now (sides_of sides.now) (statements_of first.now))
+        (AllEmit plan.now (sides_of sides.now) (statements_of second.now)))
         e.old e.new left.old.items left.new.items) }
     ensures size { OnOk result (length e.new ≤ length e.old + 8 * nodes (expression_of test.now)
         + most_of_all plan.now.vars (statements_of first.now)
@@ -221,11 +252,11 @@ fn emit_two_sides(
 {
     let last = e.pos();
     let past = emit_test(e, plan, test, last)?;
-    emit_all(alloc, e, plan, first, left)?;
+    emit_all(alloc, e, plan, sides, first, left)?;
     let last = e.pos();
     let over = emit_jump(e, last)?;
     e.land(past);
-    emit_all(alloc, e, plan, second, left)?;
+    emit_all(alloc, e, plan, sides, second, left)?;
     e.land(over);
     Ok(())
 }
@@ -235,6 +266,7 @@ fn emit_loop(
     alloc: Global,
     e: &mut Emitter,
     plan: &Plan,
+    sides: &[Option<Side>],
     test: &Kx,
     body: &[Kst],
     next: &[Kst],
@@ -253,7 +285,8 @@ fn emit_loop(
         + most_of_all plan.now.vars (statements_of next.now) + 2 < 2 ^ 32 }
     ensures code { OnOk result (Emitted
         (Turns plan.now.vars (expression_of test.now)
-        (AllEmit plan.now (statements_of body.now)) (AllEmit plan.now (statements_of next.now)))
+        (AllEmit plan.now (sides_of sides.now) (statements_of body.now))
+        (AllEmit plan.now (sides_of sides.now) (statements_of next.now)))
         e.old e.new left.old.items left.new.items) }
     ensures size { OnOk result (length e.new ≤ length e.old + 8 * nodes (expression_of test.now)
         + most_of_all plan.now.vars (statements_of body.now)
@@ -263,8 +296,8 @@ fn emit_loop(
     let start = e.here();
     let last = e.pos();
     let out = emit_test(e, plan, test, last)?;
-    emit_all(alloc, e, plan, body, left)?;
-    emit_all(alloc, e, plan, next, left)?;
+    emit_all(alloc, e, plan, sides, body, left)?;
+    emit_all(alloc, e, plan, sides, next, left)?;
     let last = e.pos();
     emit_back(e, start, last)?;
     e.land(out);
@@ -276,6 +309,7 @@ fn emit_block(
     alloc: Global,
     e: &mut Emitter,
     plan: &Plan,
+    sides: &[Option<Side>],
     block: u32,
     inside: &[Kst],
     left: &mut Vec<Leaving>,
@@ -286,14 +320,14 @@ fn emit_block(
     requires stack { plan.now.first_stack ≤ 16384 }
     requires room { length e.old + most_of_all plan.now.vars (statements_of inside.now) < 2 ^ 32 }
     ensures code { OnOk result (Emitted
-        (Closes block (AllEmit plan.now (statements_of inside.now)))
+        (Closes block (AllEmit plan.now (sides_of sides.now) (statements_of inside.now)))
         e.old e.new left.old.items left.new.items) }
     ensures size { OnOk result
         (length e.new ≤ length e.old + most_of_all plan.now.vars (statements_of inside.now)) }
     ensures refused { OnErr result (Extends e.old e.new) }
 {
     let outside = left.len();
-    emit_all(alloc, e, plan, inside, left)?;
+    emit_all(alloc, e, plan, sides, inside, left)?;
     let inner = left.split_off(outside)?;
     land_jumps(e, block, inner.as_slice());
     push_others(left, block, inner.as_slice())?;

@@ -4,19 +4,28 @@ use Rattle.std.specs.Prelude.{Bool, true, false, ◌&&◌, slice_get}
 use Rattle.std.proofs.lemmas.Option.{same_Some}
 use Rattle.xs_instr.specs.declared.image.Pair.{Pair}
 use Rattle.xs_instr.specs.declared.state.CoreState.{CoreState}
+use Rattle.xs_instr.specs.declared.state.Token.{Token}
+use Rattle.xs_instr.specs.Machine.{Machine, no_links}
 use Rattle.xc_laws.specs.Tree.{IsChild}
 use Rattle.xc_meaning.specs.States.Branches.{Branch, all_ended, has_ended}
-use Rattle.xr_match.specs.Implements.{AgreeNow, AllRootsEnded, ArrivalsAgree, QuietAgree}
+use Rattle.xc_meaning.specs.States.Channels.{Parcel, Side, first, second}
+use Rattle.xr_match.specs.Implements.{AgreeNow, AllRootsEnded, ArrivalsAgree, Arrives, ArrivesAt, Begins, QuietAgree, of_data, of_open}
 use Rattle.xr_match.specs.Lives.{Watched}
-use Rattle.xr_match.specs.Meanings.{of_kernel}
+use Rattle.xr_match.specs.Meanings.{HasParcel, of_kernel}
 use Rattle.xr_match.specs.Sources.{Told}
 use Rattle.xr_threads.specs.Images.{IsImageOf}
 use Rattle.xr_threads.specs.Roles.{Roles}
 use Rattle.xr_threads.specs.Runners.{Setting}
 use Rattle.xr_threads.specs.Standing.{IsMade, Standing, none_rests}
+use Rattle.xr_threads.specs.Wired.{IsLine, boxes_in}
+use Rattle.xr_threads.proofs.ChannelBoxes.{line_parcels}
 use Rattle.xr_threads.proofs.Counts.{living_some, none_living, root_counts}
 use Rattle.xr_threads.proofs.Quiet.{quiet_together}
 use Rattle.xr_threads.proofs.Standing.{core_at}
+use Rattle.xr_wires.specs.Wires.{ends_in, place, tokens_at, tokens_in}
+use Rattle.xr_wires.proofs.Frames.{parcels}
+use Rattle.xr_wires.proofs.Ready.{token_has_parcel}
+use Rattle.xr_wires.proofs.Seen.{Has, counts_as_parcel}
 
 -- all roots have ended, so those of a core have
 roots_at : (cores : List CoreState) (c : ℕ) (a : CoreState) → AllRootsEnded cores → slice_get cores c ≡ Some a → a.roots ≡ 0
@@ -34,9 +43,27 @@ ended_all : (bs : List Branch) → ((b : ℕ) (branch : Branch) → slice_get bs
 ended_all [] h = refl
 ended_all (d ∷ bs) h = ap (λ b. b && all_ended bs) (h 0 d refl) ∙ ended_all bs (λ b branch e. h (suc b) branch e)
 
--- where an image has no channels, none has a line
-no_line : (pairs : List Pair) (line : ℕ) (pair : Pair) → pairs ≡ [] → slice_get pairs line ≡ Some pair → ⊥
-no_line pairs line pair none e = let f : slice_get {X = Pair} [] line ≡ Some pair = subst (λ l. slice_get l line ≡ Some pair) none e in cc
+-- a token that begins something is of a parcel
+begins_parcel : (k : Token) → Begins k → counts_as_parcel k ≡ true
+begins_parcel k (of_data byte) = refl
+begins_parcel k of_open = refl
+
+-- it is among those that stand somewhere
+has_at : (ks : List Token) (i : ℕ) (k : Token) → slice_get ks i ≡ Some k → counts_as_parcel k ≡ true → Has counts_as_parcel ks
+has_at [] i k e counts = cc
+has_at (h ∷ ks) zero k e counts = inl (ap counts_as_parcel (same_Some h k e) ∙ counts)
+has_at (h ∷ ks) (suc i) k e counts = inr (has_at ks i k e counts)
+
+-- such a token stands at an end
+has_token : (m : Machine) (core end : ℕ) → Arrives m core end → Has counts_as_parcel (tokens_at m.cores core end)
+has_token m core end h =
+    let same : tokens_at m.cores core end ≡ h.of_end.tokens = ap (λ o. tokens_in (slice_get (ends_in o) end)) h.at_core ∙ ap tokens_in h.at_end in
+    subst (Has counts_as_parcel) (sym same) (has_at h.of_end.tokens h.place h.token h.stands (begins_parcel h.token h.begins))
+
+-- and at that of a line's side
+has_token_at : (m : Machine) (pair : Pair) (side : Side) → ArrivesAt m pair side → Has counts_as_parcel (tokens_at m.cores (place pair side).core (place pair side).end)
+has_token_at m pair first h = has_token m pair.core pair.end h
+has_token_at m pair second h = has_token m pair.peer_core pair.peer_end h
 
 module _ (g : Setting) (who : Roles) (w : Watched) (x : Told (of_kernel g.program)) (st : Standing g none_rests who w x) where
   module _ (over : AllRootsEnded w.machine.cores) where
@@ -85,10 +112,21 @@ module _ (g : Setting) (who : Roles) (w : Watched) (x : Told (of_kernel g.progra
     ended = (branches_over, λ h. roots_all w.machine.cores (λ c a e. st.roots c a e ∙ none_living c x.state.branches h));
   }
 
-  -- nothing arrives where there are no channels
-  pub arrivals_agree : g.image.chans ≡ [] → ArrivalsAgree g.image (of_kernel g.program) w.machine x.state
-  arrivals_agree no_channels = λ line pair side listed arrives. absurd (no_line g.image.chans line pair no_channels listed)
+  -- where something has arrived at a side's end, the side's inbox isn't empty
+  pub arrivals_agree : (first : Roles) → IsImageOf g first → ArrivalsAgree g.image (of_kernel g.program) w.machine x.state
+  arrivals_agree first_roles is line pair side listed arrives =
+      let channel = is.lines.channel line pair listed in
+      by channel.0 channel.1 (parcels x.state.inboxes channel.0 side) refl
+    where
+      not_empty : parcels (boxes_in g.program x.state.inboxes) line side ≡ [] → ⊥
+      not_empty none =
+          token_has_parcel g.image.chans is.lines.wired w.machine.cores no_links (boxes_in g.program x.state.inboxes) st.wired.ghosts st.wired.local.wires line pair side listed
+          (has_token_at w.machine pair side arrives) none
+
+      by : (c : ℕ) → IsLine g.program line c → (ps : List Parcel) → parcels x.state.inboxes c side ≡ ps → HasParcel g.program x.state line side
+      by c is_line [] e = absurd (not_empty (line_parcels g.program line c is_line x.state.inboxes side ∙ e))
+      by c is_line (p ∷ ps) e = record { channel = c; is_channel = is_line; oldest = p; others = ps; stand = e }
 
   -- where the machine is quiet, so is the program
   pub quiet_agree : (first : Roles) → IsImageOf g first → QuietAgree g.image (of_kernel g.program) g.stimulus w.machine x.state
-  quiet_agree first is = λ quiet. quiet_together g first is who w x st quiet
+  quiet_agree first_roles is = λ quiet. quiet_together g first_roles is who w x st quiet

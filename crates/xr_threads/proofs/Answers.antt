@@ -36,6 +36,7 @@ module _ (g : Setting) (r : Runner) (c : ℕ) (a : CoreState) (x : World) where
     world = h.acts.world;
     acted = h.acts.acted;
     next = record h.acts.branch { items = h.items };
+    transfer = r.transfer;
     is_next = h.acts.is_next;
     birth = refl;
     core = refl;
@@ -64,6 +65,7 @@ module _ (g : Setting) (r : Runner) (c : ℕ) (a : CoreState) (x : World) where
     pub syncs : b.syncs ≡ a.syncs
     pub words : b.words ≡ a.words
     pub ports : b.ports ≡ a.ports
+    pub channel_ends : b.ends ≡ a.ends
     pub there : slice_get b.threads r.thread ≡ Some (record thread { mode = Trapped })
 
   pub trap_leaves : (thread : Thread) → slice_get a.threads r.thread ≡ Some thread → HasTrapped (trapped a r.thread) thread
@@ -84,6 +86,7 @@ module _ (g : Setting) (r : Runner) (c : ℕ) (a : CoreState) (x : World) where
         syncs = refl;
         words = refl;
         ports = refl;
+        channel_ends = refl;
         there = get_set_same a.threads r.thread thread th' at;
       })
 
@@ -100,6 +103,7 @@ module _ (g : Setting) (r : Runner) (c : ℕ) (a : CoreState) (x : World) where
         world = h.acts.world;
         acted = h.acts.acted;
         next = failed h.acts.branch;
+        transfer = r.transfer;
         is_next = h.acts.is_next;
         birth = refl;
         core = refl;
@@ -124,6 +128,7 @@ module _ (g : Setting) (r : Runner) (c : ℕ) (a : CoreState) (x : World) where
     world = h.acts.world;
     acted = h.acts.acted;
     next = finished h.acts.branch;
+    transfer = r.transfer;
     is_next = h.acts.is_next;
     birth = refl;
     core = refl;
@@ -145,6 +150,7 @@ module _ (g : Setting) (r : Runner) (c : ℕ) (a : CoreState) (x : World) where
     world = h.acts.world;
     acted = h.acts.acted;
     next = finished h.acts.branch;
+    transfer = r.transfer;
     is_next = h.acts.is_next;
     birth = refl;
     core = refl;

@@ -146,6 +146,7 @@ module _ (g : Setting) (r : Runner) where
           made = step.made;
           world = refl;
           roots = ap (λ (c : CoreState). c.roots) step.left;
+          channel_ends = ap (λ (c : CoreState). c.ends) step.left;
           touched = record {
             clock = ap (λ (c : CoreState). c.clock) step.left;
             others = λ u ne not_held. others u ne;
@@ -197,6 +198,7 @@ module _ (g : Setting) (r : Runner) where
             made = step.made;
             world = refl;
             roots = ap (λ (c : CoreState). c.roots) step.left;
+            channel_ends = ap (λ (c : CoreState). c.ends) step.left;
             touched = record {
               clock = ap (λ (c : CoreState). c.clock) step.left;
               others = λ u ne not_held. others u ne;

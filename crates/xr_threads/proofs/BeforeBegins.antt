@@ -24,12 +24,15 @@ use Rattle.xr_threads.specs.Parents.{Parent}
 use Rattle.xr_threads.specs.Roles.{AreUsedSo, HandFits, Role, Roles, empty, got_by, gives_back, opens, unused, used_by}
 use Rattle.xr_threads.specs.Runners.{Setting, Runner, home}
 use Rattle.xr_threads.specs.Scenes.{Scene, held_in, running, sync_in}
-use Rattle.xr_threads.specs.Standing.{AreLoose, HasEnded, IfTrue, IsAtRest, IsOnItsWay, IsResuming, Stand, Standing, Stands, StandsBy, ThreadIs, none_rests}
+use Rattle.xr_threads.specs.Standing.{AreLoose, HasEnded, IfTrue, IsAtRest, IsOnItsWay, IsResuming, Stand, Standing, Stands, StandsBy, StandsWith, ThreadIs, none_rests}
 use Rattle.xr_threads.specs.Turns.{IsFree, Joins, Turns}
+use Rattle.xr_threads.specs.Wired.{AreWired, boxes_in}
 use Rattle.xr_threads.proofs.Begins.{entry, none_taken, set_on, set_there, set_watched, starts_there, set_life, unused_free, unused_there}
 use Rattle.xr_threads.proofs.Boot.{boot_length, set_regs, stack_leads}
 use Rattle.xr_threads.proofs.Scenes.{joins_stable, turns_stable}
 use Rattle.xr_threads.proofs.Starts.{RunsRoot, none_got, root_of}
+use Rattle.xr_threads.proofs.StartWires.{ends_same}
+use Rattle.xr_threads.proofs.Wiring.{local_still}
 use Rattle.xr_threads.proofs.Works.{own_thread_of, some_is}
 
 -- the four cores as they start
@@ -116,8 +119,8 @@ module _ (g : Setting) (who : Roles) (is : IsImageOf g who) where
       stack_leads g r (entry g who is r0 e) r0.stack first_instr second_instr boot_z (set_on g who is r0.core).threads starts_at set_at_two none_held no_sync (Joins g r p ps j) (joins_stable g r p ps j) n leads,
     )
 
-    pub stands_before : (items : List Item) (mode : Mode) (left : ℕ) → StandsBy g r false items mode left set_z → StandsBy g r false items mode (left + 2) boot_z
-    stands_before items runs left h =
+    pub stands_with : (items : List Item) (left : ℕ) → StandsWith g r false None items left set_z → StandsWith g r false None items (left + 2) boot_z
+    stands_with items left h =
         ⊎_elim
         (λ (on : IsOnItsWay g r left set_z). inl (way_before left on))
         (λ (other : IsResuming g r items left set_z ⊎ IfTrue g r false (IsAtRest g r items left set_z)).
@@ -126,12 +129,15 @@ module _ (g : Setting) (who : Roles) (is : IsImageOf g who) where
         (λ (none : IfTrue g r false (IsAtRest g r items left set_z)). absurd none)
         other)
         h
-    stands_before items (waits from count) left h = absurd h
-    stands_before items ended left h = ended_before r.parents left h
-    stands_before items erred left h = h
 
-    pub stand_before : (old life : Life) (branch : Branch) → old.steps ≡ 2 → life.steps ≡ 0 → Stand g r false hand (set_on g who is r0.core) x.state old x.actions branch → Stand g r false hand (boot_on r0.core) x.state life x.actions branch
-    stand_before old life branch two none h =
+    pub stands_before : r.transfer ≡ None → (items : List Item) (mode : Mode) (left : ℕ) → StandsBy g r false items mode left set_z → StandsBy g r false items mode (left + 2) boot_z
+    stands_before none items runs left h = subst (λ o. StandsWith g r false o items (left + 2) boot_z) (sym none) (stands_with items left (subst (λ o. StandsWith g r false o items left set_z) none h))
+    stands_before none items (waits from count) left h = absurd h
+    stands_before none items ended left h = ended_before r.parents left h
+    stands_before none items erred left h = h
+
+    pub stand_before : r.transfer ≡ None → (old life : Life) (branch : Branch) → old.steps ≡ 2 → life.steps ≡ 0 → Stand g r false hand (set_on g who is r0.core) x.state old x.actions branch → Stand g r false hand (boot_on r0.core) x.state life x.actions branch
+    stand_before no_transfer old life branch two none h =
         let has = h.thread in
         let same : has.thread ≡ running r.tie (entry g who is r0 e + 2) (set_regs r0) = same_Some has.thread _ (sym has.there ∙ set_at_two) in
         record {
@@ -147,13 +153,17 @@ module _ (g : Setting) (who : Roles) (is : IsImageOf g who) where
             is = subst (λ (i : Thread). ThreadIs r.parents branch.mode i.mode) same has.is;
           };
           in_hand = h.in_hand;
+          sides = h.sides;
+          done = h.done;
+          stops = h.stops;
           ends_tied = h.ends_tied;
           left = h.left + 2;
           bound = let within = h.bound in omega (arith, within, two, none);
-          by = stands_before branch.items branch.mode h.left h.by;
+          by = stands_before no_transfer branch.items branch.mode h.left h.by;
         }
 
-  module _ (who' : Roles) (x : Told (of_kernel g.program)) (st : Standing g none_rests who' (set_watched who g.image) x) where
+  module _ (who' : Roles) (x : Told (of_kernel g.program)) (st : Standing g none_rests who' (set_watched who g.image) x)
+      (none_begun : (c t : ℕ) (r : Runner) (hand : Option Hand) → who' c t ≡ used_by r hand → r.transfer ≡ None) where
     -- no runner has a synchroniser in hand
     none_in_hand : (c t : ℕ) (r : Runner) (hand : Option Hand) → c < 4 → who' c t ≡ used_by r hand → sync_in hand ≡ None
     none_in_hand c t r hand lt e = by (sync_in hand) refl
@@ -193,7 +203,7 @@ module _ (g : Setting) (who : Roles) (is : IsImageOf g who) where
           let core : r.core ≡ r0.core = st.roles.core c t r hand e ∙ sym k.core in
           let thread : r.thread ≡ r0.thread = st.roles.thread c t r hand e ∙ sym k.thread in
           let stand = subst (λ d. Stand g r false hand (set_on g who is d) x.state (set_life c t) x.actions own_stand.0) (sym k.core) own_stand.2 in
-          let before = stand_before r r0 at_home core thread tie x hand none_held no_sync (set_life c t) life own_stand.0 refl none stand in
+          let before = stand_before r r0 at_home core thread tie x hand none_held no_sync (none_begun c t r hand e) (set_life c t) life own_stand.0 refl none stand in
           subst (λ o. SomeIs o (Stand g r false hand (boot_on c) x.state life x.actions)) (sym own_stand.1)
           (subst (λ d. Stand g r false hand (boot_on d) x.state life x.actions own_stand.0) k.core before)
 
@@ -242,6 +252,21 @@ module _ (g : Setting) (who : Roles) (is : IsImageOf g who) where
           ports = λ p listed its nobody. let at = old.ports p listed its nobody in record { port = at.port; there = at.there; declared = at.declared };
         }
 
+    -- setting the stacks leaves the ends
+    wired_so : AreWired g who' (watched_start g.image).machine.cores x.state.inboxes
+    wired_so =
+        let old = st.wired in
+        record {
+          ghosts = old.ghosts;
+          local = local_still (set_watched who g.image).machine.cores (watched_start g.image).machine.cores (λ d. sym (ends_same g who is d)) g.image.chans (boxes_in g.program x.state.inboxes) old.ghosts old.local;
+          long = old.long;
+          ends = λ c a e. let d = boot_cores_are g.image c a e in ap (λ (i : CoreState). length i.ends) d.1 ∙ old.ends c (set_on g who is c) (set_core_at c d.0);
+          listed = old.listed;
+          inside = old.inside;
+          between_pieces = old.between_pieces;
+          one = old.one;
+        }
+
     pub standing_before : Standing g none_rests who' (watched_start g.image) x
     standing_before = record {
       clocks = st.clocks;
@@ -249,6 +274,9 @@ module _ (g : Setting) (who : Roles) (is : IsImageOf g who) where
       links = refl;
       cores = refl;
       lawful = st.lawful;
+      plain = st.plain;
+      wired = wired_so;
+      alone = st.alone;
       roles = st.roles;
       reserves = st.reserves;
       used = λ c a e. let d = boot_cores_are g.image c a e in subst (AreUsedSo who' c) (sym d.1) (used_so c d.0);

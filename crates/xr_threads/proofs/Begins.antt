@@ -6,7 +6,7 @@ use Rattle.std.proofs.lemmas.Option.{same_Some, slice_get_within}
 use Rattle.std.proofs.Math.Nat.{mul-le-mul_left}
 use Rattle.xs_instr.specs.declared.image.Image.{Image}
 use Rattle.xs_instr.specs.declared.state.CoreState.{CoreState}
-use Rattle.xs_instr.specs.Machine.{Machine, boot, boot_port, boot_threads, parts_in, root_thread, unused_thread}
+use Rattle.xs_instr.specs.Machine.{boot_port, boot_threads, parts_in, root_thread, unused_thread}
 use Rattle.xc_kernel.specs.Eval.{words_of}
 use Rattle.xc_disjoint.specs.Needs.{threads_on}
 use Rattle.xc_laws.proofs.Always.{laws_begin}
@@ -15,7 +15,7 @@ use Rattle.xc_meaning.specs.Runs.{kernel_start}
 use Rattle.xc_meaning.specs.States.Branches.{Branch, ended, runs}
 use Rattle.xc_meaning.specs.States.Items.{Item, ends, todo}
 use Rattle.xc_meaning.specs.States.Worlds.{World}
-use Rattle.xl_image.specs.Images.{decl_of}
+use Rattle.xl_image.specs.Images.{decl_of, no_sides}
 use Rattle.xr_match.specs.Lives.{Life, Watched, begun, of_root}
 use Rattle.xr_match.specs.Meanings.{of_kernel}
 use Rattle.xr_match.specs.Sources.{told_start}
@@ -26,23 +26,16 @@ use Rattle.xr_threads.specs.Parents.{syncs_of}
 use Rattle.xr_threads.specs.Roles.{AreUsedSo, IsParent, ParentsWait, Role, Roles, empty, got_by, unused, used_by}
 use Rattle.xr_threads.specs.Runners.{Setting, Runner, IsPort, anyone, code, footprint_of, home, plan, port_place}
 use Rattle.xr_threads.specs.Scenes.{Scene, giving_back, running}
-use Rattle.xr_threads.specs.Standing.{AreLoose, HasThread, Stand, Standing, Stands, StandsBy}
+use Rattle.xr_threads.specs.Standing.{AreLoose, HasThread, Stand, Standing, Stands, StandsBy, StandsWith}
+use Rattle.xr_threads.specs.Transfers.{StopsIn}
 use Rattle.xr_threads.specs.Turns.{HoldsNames, HoldsStore, IsFree, Rest, cost}
 use Rattle.xr_threads.proofs.Boot.{boot_length, boot_port_at, boot_thread_at, boot_thread_free, set_at, set_core, set_length, set_regs, set_thread}
 use Rattle.xr_threads.proofs.Reserves.{reserves_begin}
 use Rattle.xr_threads.proofs.RootCode.{root_items}
 use Rattle.xr_threads.proofs.Shrinks.{fits_here}
+use Rattle.xr_threads.proofs.SetMachine.{set_cores_are, set_machine}
+use Rattle.xr_threads.proofs.StartWires.{none_begun, wired_begin}
 use Rattle.xr_threads.proofs.Starts.{IsRootBranch, RunsRoot, branch_of, known_root, no_place, none_got, on_four, owns_none, roles_begin, root_of, roots_live, variable_length, variable_zero, words_zero}
-
--- the machine where all roots' threads have set their stacks, by two steps each
-abbrev pub set_machine : Roles → Image → Machine
-set_machine who L = record (boot L) {
-  cores = set_core (who 0) (parts_in L.cores 0)
-      ∷ set_core (who 1) (parts_in L.cores 1)
-      ∷ set_core (who 2) (parts_in L.cores 2)
-      ∷ set_core (who 3) (parts_in L.cores 3)
-      ∷ [];
-}
 
 -- a root's life has done two steps then
 abbrev pub set_life : (core thread : ℕ) → Life
@@ -53,14 +46,6 @@ set_watched who L = record { machine = set_machine who L; lives = set_life }
 
 abbrev pub all_rest : (core thread : ℕ) → Bool
 all_rest core thread = true
-
--- the four cores
-pub set_cores_are : (who : Roles) (L : Image) (c : ℕ) (a : CoreState) → slice_get (set_machine who L).cores c ≡ Some a → (c < 4) × (a ≡ set_core (who c) (parts_in L.cores c))
-set_cores_are who L zero a e = (omega arith, sym (same_Some _ a e))
-set_cores_are who L (suc zero) a e = (omega arith, sym (same_Some _ a e))
-set_cores_are who L (suc (suc zero)) a e = (omega arith, sym (same_Some _ a e))
-set_cores_are who L (suc (suc (suc zero))) a e = (omega arith, sym (same_Some _ a e))
-set_cores_are who L (suc (suc (suc (suc c)))) a e = cc
 
 -- no synchroniser is taken
 pub none_taken : (n m : ℕ) → slice_get (replicate m false) n ≡ Some true → ⊥
@@ -149,9 +134,10 @@ module _ (g : Setting) (who : Roles) (is : IsImageOf g who) where
         names = subst (λ l. HoldsNames r.core l (set_regs r)) (sym (ap syncs_of h.is_root.alone)) (record { by = λ place n at lt. absurd (none_there n at) });
       };
       at_code =
-          subst (λ tie. ItemsAt (plan g r) (code g r) (EndAt (plan g r) (code g r) tie r.parents) items [] (entry + 2) 0) (sym h.is_root.tie)
-          (subst (λ ps. ItemsAt (plan g r) (code g r) (EndAt (plan g r) (code g r) None ps) items [] (entry + 2) 0) (sym h.is_root.alone)
-          (root_items g.program (plan g r) (home g r).parts r.core r.thread h.root h.is_root.code));
+          subst (λ sides. ItemsAt (plan g r) (code g r) sides (EndAt (plan g r) (code g r) r.tie r.parents) items [] (entry + 2) 0) (sym h.is_root.sides)
+          (subst (λ tie. ItemsAt (plan g r) (code g r) (no_sides g.program) (EndAt (plan g r) (code g r) tie r.parents) items [] (entry + 2) 0) (sym h.is_root.tie)
+          (subst (λ ps. ItemsAt (plan g r) (code g r) (no_sides g.program) (EndAt (plan g r) (code g r) None ps) items [] (entry + 2) 0) (sym h.is_root.alone)
+          (root_items g.program (plan g r) (home g r).parts r.core r.thread h.root h.is_root.code)));
       fits = fits_here g r items h.is_root.fits h.is_root.footprint;
       has = record {
         branch = branch;
@@ -176,11 +162,14 @@ module _ (g : Setting) (who : Roles) (is : IsImageOf g who) where
       thread = subst (λ m. HasThread g r m (set_on r.core)) (sym b.mode)
           (record { thread = running r.tie (entry + 2) (set_regs r); there = set_there; tied = refl; no_events = refl; is = refl });
       in_hand = empty refl;
+      sides = is.outside r.branch branch known ∙ sym h.is_root.sides;
+      done = λ f. h.is_root.no_transfer;
+      stops = λ f. subst StopsIn (sym h.is_root.no_transfer) tt;
       ends_tied = λ f. let both : runs ≡ ended = sym b.mode ∙ f in cc;
       left = cost g r;
       bound = let within = start_bound (kernel_bound g.program) (greatest_count g.program) 0 refl in omega (arith, within, two);
       by = subst (λ m. StandsBy g r true branch.items m (cost g r) z) (sym b.mode)
-          (inr (inr (0, omega arith, refl, subst (λ l. Rest g r l 0 z) (sym b.items) (rest_of branch known b))));
+          (subst (λ o. StandsWith g r true o branch.items (cost g r) z) (sym h.is_root.no_transfer) (inr (inr (0, omega arith, refl, subst (λ l. Rest g r l 0 z) (sym b.items) (rest_of branch known b)))));
     }
 
     pub root_stands : (life : Life) → life.steps ≡ 2 → Stands g true (set_on r.core) start life (λ f. 0) (used_by r None)
@@ -240,6 +229,9 @@ module _ (g : Setting) (who : Roles) (is : IsImageOf g who) where
     links = refl;
     cores = refl;
     lawful = laws_begin g.program is.obeys;
+    plain = is.plain;
+    wired = wired_begin g who is;
+    alone = λ c t r hand transfer runs is_in. absurd (none_begun g who is c t r hand transfer runs is_in);
     roles = roles_begin g who is;
     reserves = reserves_begin g who start (laws_begin g.program is.obeys) (λ c t n r e. some_none (root_of g who is c t r _ e).none);
     used = λ c a e. let d = set_cores_are who g.image c a e in subst (AreUsedSo who c) (sym d.1) (used_begin c d.0);

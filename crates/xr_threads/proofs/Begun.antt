@@ -1,6 +1,6 @@
 -- The branches of a `par` are set off: each thread that was got runs one, and the thread itself the first.
 use Rattle.std.proofs.Common.{◌≡◌, ◌≢◌, ◌⊎◌, ℕ, zero, suc, ◌+◌, ◌-◌, ◌*◌, ◌<◌, ◌≤◌, Bool, true, false, List, [], ◌∷◌, length, Option, Some, None, option_map, refl, sym, ap, ◌∙◌, subst, inl, inr, ⊎_elim, arith, eq-eqb}
-use Rattle.std.specs.Prelude.{nat_eq, not, slice_get, slice_set, ◌&&◌, ◌++◌, ◌||◌}
+use Rattle.std.specs.Prelude.{nat_eq, not, slice_get, slice_set, ◌&&◌, ◌||◌}
 use Rattle.std.proofs.Math.Nat.{mul-le-mul_left}
 use Rattle.std.proofs.lemmas.Bool.{cases_eq, cases_lt, ne_eqb, or_left, or_right}
 use Rattle.std.proofs.lemmas.List.{length-set}
@@ -17,6 +17,7 @@ use Rattle.xc_meaning.specs.States.Branches.{Branch, ended, has_ended, runs, wai
 use Rattle.xc_meaning.specs.States.Worlds.{World, Action, go}
 use Rattle.xl_expr.proofs.Lists.{get_set_other, get_set_same}
 use Rattle.xl_par.specs.Hands.{Hand, IsAmong}
+use Rattle.xl_sides.specs.Ends.{Sides, codes_in}
 use Rattle.xr_match.specs.Lives.{Life, Watched}
 use Rattle.xr_match.specs.Meanings.{of_kernel}
 use Rattle.xr_match.specs.Sources.{Told}
@@ -29,126 +30,47 @@ use Rattle.xr_threads.proofs.Counts.{living_after}
 use Rattle.xr_threads.proofs.NamedLinks.{opens_linked}
 use Rattle.xr_threads.proofs.Standing.{Follows, parents_still, told_by}
 use Rattle.xr_threads.proofs.Steps.{answered, clocks_still, far_steps_still, has_stepped, steps_still, watched}
+use Rattle.xr_threads.proofs.Wiring.{TransfersAsBefore, wired_still}
 use Rattle.std.specs.Prelude.{option_map}
 use Rattle.xs_instr.specs.Machine.{Machine, and_then}
 use Rattle.xl_expr.specs.Frames.{Holds}
 use Rattle.xs_instr.specs.Pool.{all_started, is_tied, is_unused, started_by}
 use Rattle.xc_kernel.specs.Plain as kernel
-use Rattle.xc_kernel.specs.Things.{Thing, variable, by_branches, by_statement, by_statements}
-use Rattle.xc_laws.specs.Rules.{code_at}
+use Rattle.xc_kernel.specs.Things.{variable, by_branches}
 use Rattle.xc_meaning.specs.Counts.KernelCounts.{branch_count}
-use Rattle.xc_meaning.specs.Settings.Par.{Begun, all_begun, children, family_of}
-use Rattle.xc_meaning.specs.Settings.Setting.{Setting as Step'}
+use Rattle.xc_meaning.specs.Settings.Par.{all_begun, family_of}
 use Rattle.xc_meaning.specs.States.Items.{Item, does, ends, todo}
 use Rattle.xc_meaning.specs.Uses.{by_items}
 use Rattle.xr_match.specs.Lives.{child_of, in_use, is_got, life_by, stepped, thread_of, tie_of}
+use Rattle.xc_meaning.specs.Settings.Sides.{sides_in}
 use Rattle.xr_threads.specs.Fits.{FitOn}
+use Rattle.xr_threads.specs.Items.{EndAt, ItemsAt}
+use Rattle.xr_threads.specs.Transfers.{Transfer}
 use Rattle.xr_threads.specs.Roles.{AreRoles, AreUsedSo, HasReserves, IsParent, ParentsWait, Roles, empty, got_by, own_branches, unused, used_by}
 use Rattle.xr_threads.specs.Standing.{AreLoose, IsMade, IsRun, IsWanted, Stand, Standing, Stands, StandsBy, ThreadIs, counts, is_of_root, living_on, none_rests, one_where}
-use Rattle.xr_threads.specs.Turns.{AreSetOff, Begins, HoldsStore, IsFree, IsSetOff, IsWaitingTied, Rest, backwards, backwards_on, codes_in, cost}
+use Rattle.xr_threads.specs.Turns.{Begins, HoldsStore, IsFree, IsSetOff, IsWaitingTied, Placed, Rest, backwards, cost, placed_in}
 use Rattle.xr_threads.proofs.Holding.{loose_behind}
 use Rattle.xr_threads.proofs.Joined.{parents_below}
 use Rattle.xr_threads.proofs.Lives.{own_life}
 use Rattle.xr_threads.proofs.Moves.{Effect, laid_at, parent_there, same_hand, same_runner, works_at}
 use Rattle.xr_threads.proofs.OpensRoles as roles_after
-use Rattle.xr_threads.proofs.OpensRoles.{among_index, index_among, index_here, index_further, index_of, index_within, opens, roles_open}
+use Rattle.xr_threads.proofs.Indices.{among_index, index_among, index_of, index_within}
+use Rattle.xr_threads.proofs.OpensRoles.{opens, roles_open}
 use Rattle.xr_threads.proofs.OwnEvents.{bound_grows}
-use Rattle.xr_threads.proofs.ParWorlds.{IsNew, begun_length, codes_length, new_branches, made_there, maker_there, none_else, opened, others_there, par_acts, waiting}
+use Rattle.xr_threads.proofs.ParWorlds.{IsNew, begun_length, placed_code, placed_length, new_branches, made_there, maker_there, none_else, opened, others_there, par_acts, waiting}
 use Rattle.xr_threads.proofs.Pools.{num_is, started_at, started_length, started_other}
 use Rattle.xr_threads.proofs.Reserves.{GiveAsBefore, reserves_behind, reserves_of_others}
-use Rattle.xr_threads.proofs.Shrinks.{IsWithin, branch_fits, fits_everywhere, fits_here, within_of_uses}
+use Rattle.xr_threads.proofs.Shrinks.{IsWithin, branch_fits, fits_everywhere, fits_here}
+use Rattle.xr_threads.proofs.SetOff.{back_at, back_length, branch_within, code_of, living_both, living_new, off_at, off_length}
 
--- Codes the last one first.
-
-back_behind : {X : Type 0} (xs acc : List X) (k : ℕ) → slice_get (backwards_on xs acc) (length xs + k) ≡ slice_get acc k
-back_behind [] acc k = let e : 0 + k ≡ k = omega arith in ap (slice_get acc) e
-back_behind (x ∷ xs) acc k = let e : length (x ∷ xs) + k ≡ length xs + suc k = omega arith in ap (slice_get (backwards_on xs (x ∷ acc))) e ∙ back_behind xs (x ∷ acc) (suc k)
-
-back_at : {X : Type 0} (xs acc : List X) (m : ℕ) → m < length xs → slice_get (backwards_on xs acc) (length xs - suc m) ≡ slice_get xs m
-back_at [] acc m lt = absurd (omega arith)
-back_at (x ∷ xs) acc zero lt = let e : length (x ∷ xs) - 1 ≡ length xs + 0 = omega arith in ap (slice_get (backwards_on xs (x ∷ acc))) e ∙ back_behind xs (x ∷ acc) 0
-back_at (x ∷ xs) acc (suc m) lt = let e : length (x ∷ xs) - suc (suc m) ≡ length xs - suc m = omega arith in ap (slice_get (backwards_on xs (x ∷ acc))) e ∙ back_at xs (x ∷ acc) m (omega arith)
-
-back_length : {X : Type 0} (xs acc : List X) → length (backwards_on xs acc) ≡ length xs + length acc
-back_length [] acc = omega arith
-back_length (x ∷ xs) acc = let e = back_length xs (x ∷ acc) in omega (arith, e)
-
--- each thread that is set off is so with its code
-off_length : (g : Setting) (r : Runner) (left : CoreState) (sync : ℕ) (us : List ℕ) (codes : List kernel.Statements) → AreSetOff g r left sync us codes → length us ≡ length codes
-off_length g r left sync [] [] h = refl
-off_length g r left sync [] (ss ∷ codes) h = absurd h
-off_length g r left sync (u ∷ us) [] h = absurd h
-off_length g r left sync (u ∷ us) (ss ∷ codes) h = ap suc (off_length g r left sync us codes h.1)
-
-off_at : (g : Setting) (r : Runner) (left : CoreState) (sync : ℕ) (us : List ℕ) (codes : List kernel.Statements) → AreSetOff g r left sync us codes → (u i : ℕ) → index_among us u ≡ Some i → (ss : kernel.Statements) × IsSetOff g r left sync u ss × (slice_get codes (length us - i) ≡ Some ss)
-off_at g r left sync [] [] h u i e = absurd (let z : ⊥ = cc in z)
-off_at g r left sync [] (ss ∷ codes) h u i e = absurd h
-off_at g r left sync (v ∷ us) [] h u i e = absurd h
-off_at g r left sync (v ∷ us) (ss ∷ codes) h u i e =
-    ⊎_elim
-    (λ (here : u ≡ v).
-    let both : Some (suc (length us)) ≡ Some i = sym (index_here v u us here) ∙ e in
-    let same : suc (length us) ≡ i = cc in
-    let place : length (v ∷ us) - i ≡ 0 = omega arith in
-    (ss, subst (λ k. IsSetOff g r left sync k ss) (sym here) h.0, ap (slice_get (ss ∷ codes)) place))
-    (λ (ne : u ≢ v).
-    let further : index_among us u ≡ Some i = sym (index_further v u us ne) ∙ e in
-    let on = off_at g r left sync us codes h.1 u i further in
-    let le = (index_within us u i further).2 in
-    let place : length (v ∷ us) - i ≡ suc (length us - i) = omega arith in
-    (on.0, on.1, ap (slice_get (ss ∷ codes)) place ∙ on.2))
-    (cases_eq u v)
-
-code_of : (bs : kernel.Branches) (i : ℕ) (ss : kernel.Statements) → slice_get (codes_in bs) i ≡ Some ss → code_at bs i ≡ Some ss
-code_of kernel.no_branch i ss e = absurd (let z : ⊥ = cc in z)
-code_of (kernel.more_branches (kernel.branch body pos) bs) zero ss e = e
-code_of (kernel.more_branches (kernel.branch body pos) bs) (suc i) ss e = code_of bs i ss e
-
--- What a branch of a `par` uses the `par` does.
-
-or_then : (a b c : Bool) → (a || b) ≡ true → (a ≡ true → c ≡ true) → (b ≡ true → c ≡ true) → c ≡ true
-or_then true b c h f k = f refl
-or_then false b c h f k = k h
-
-todo_uses : (th : Thing) (ss : kernel.Statements) → by_items th (todo ss (ends ∷ [])) ≡ true → by_statements th ss ≡ true
-todo_uses th kernel.no_more h = h
-todo_uses th (kernel.more s ss) h =
-    or_then (by_statement th s) (by_items th (todo ss (ends ∷ []))) (by_statements th (kernel.more s ss)) h
-    (λ e. or_left (by_statement th s) (by_statements th ss) e)
-    (λ e. or_right (by_statement th s) (by_statements th ss) (todo_uses th ss e))
-
-code_uses : (th : Thing) (bs : kernel.Branches) (i : ℕ) (ss : kernel.Statements) → slice_get (codes_in bs) i ≡ Some ss → by_statements th ss ≡ true → by_branches th bs ≡ true
-code_uses th kernel.no_branch i ss e h = absurd (let z : ⊥ = cc in z)
-code_uses th (kernel.more_branches (kernel.branch body pos) bs) zero ss e h =
-    let same : body ≡ ss = cc in
-    or_left (by_statements th body) (by_branches th bs) (ap (by_statements th) same ∙ h)
-code_uses th (kernel.more_branches (kernel.branch body pos) bs) (suc i) ss e h = or_right (by_statements th body) (by_branches th bs) (code_uses th bs i ss e h)
-
-branch_within : (bs : kernel.Branches) (rest : List Item) (i : ℕ) (ss : kernel.Statements) → slice_get (codes_in bs) i ≡ Some ss → IsWithin (footprint_of (todo ss (ends ∷ []))) (footprint_of (does (kernel.par bs) ∷ rest))
-branch_within bs rest i ss e = within_of_uses (todo ss (ends ∷ [])) (does (kernel.par bs) ∷ rest) (λ th h. or_left (by_branches th bs) (by_items th rest) (code_uses th bs i ss e (todo_uses th ss h)))
-
--- Branches of roots: new ones are none.
-
-living_both : (k : ℕ) (xs ys : List Branch) → living_on k (xs ++ ys) ≡ living_on k xs + living_on k ys
-living_both k [] ys = omega arith
-living_both k (x ∷ xs) ys = let e = living_both k xs ys in omega (arith, e)
-
-both_false : (a b : Bool) → one_where (a && (b && false)) ≡ 0
-both_false true true = refl
-both_false true false = refl
-both_false false b = refl
-
-living_new : (k : ℕ) (s : Step') (among index : ℕ) (before : List kernel.Statements) (bs : List Begun) → living_on k (children s among index before bs) ≡ 0
-living_new k s among index before [] = refl
-living_new k s among index before (b ∷ bs) =
-    let e = living_new k s among (index + 1) (b.code ∷ before) bs in
-    let none = both_false (nat_eq s.branch.core k) true in
-    omega (arith, e, none)
-
--- the items of a code, where there is one
-abbrev pub items_at : Option kernel.Statements → List Item
+-- the items of a branch, and its sides, where there is one
+abbrev pub items_at : Option Placed → List Item
 items_at None = []
-items_at (Some ss) = todo ss (ends ∷ [])
+items_at (Some placed) = todo placed.code (ends ∷ [])
+
+abbrev pub sides_at : Option Placed → Sides
+sides_at None = []
+sides_at (Some placed) = placed.sides
 
 module _ (g : Setting) (first : Roles) (is : IsImageOf g first) (who : Roles) (w : Watched) (x : Told (of_kernel g.program)) (st : Standing g none_rests who w x)
     (c t : ℕ) (a : CoreState) (at_c : slice_get w.machine.cores c ≡ Some a) (r : Runner) (hand : Option Hand) (runs_r : who c t ≡ used_by r hand)
@@ -171,35 +93,42 @@ module _ (g : Setting) (first : Roles) (is : IsImageOf g first) (who : Roles) (w
   abbrev pub from : ℕ
   from = length x.state.branches
 
+  -- the branches, each with its sides
+  abbrev pub all_placed : List Placed
+  all_placed = placed_in r.sides [] all
+
   abbrev pub items_of : ℕ → List Item
-  items_of i = items_at (slice_get (codes_in all) i)
+  items_of i = items_at (slice_get all_placed i)
+
+  abbrev pub sides_of : ℕ → Sides
+  sides_of i = sides_at (slice_get all_placed i)
 
   abbrev pub first_items : List Item
   first_items = todo b.first (ends ∷ [])
 
   abbrev pub who' : Roles
-  who' = opens g who c t st.roles r b.hand runs_h b.sync b.sync_is from first_items b.rest items_of
+  who' = opens g who c t st.roles r b.hand runs_h b.sync b.sync_is from first_items b.rest items_of sides_of
 
   abbrev pub own : Runner
-  own = roles_after.own g who c t st.roles r b.hand runs_h b.sync b.sync_is from first_items b.rest items_of
+  own = roles_after.own g who c t st.roles r b.hand runs_h b.sync b.sync_is from first_items b.rest items_of sides_of
 
   abbrev pub kid : (index thread : ℕ) → Runner
-  kid i u = roles_after.kid g who c t st.roles r b.hand runs_h b.sync b.sync_is from first_items b.rest items_of i u
+  kid i u = roles_after.kid g who c t st.roles r b.hand runs_h b.sync b.sync_is from first_items b.rest items_of sides_of i u
 
   abbrev PlaceAt : (d u : ℕ) → Type 0
-  PlaceAt d u = roles_after.Place g who c t st.roles r b.hand runs_h b.sync b.sync_is from first_items b.rest items_of d u
+  PlaceAt d u = roles_after.Place g who c t st.roles r b.hand runs_h b.sync b.sync_is from first_items b.rest items_of sides_of d u
 
   place_at : (d u : ℕ) → PlaceAt d u
-  place_at d u = roles_after.place g who c t st.roles r b.hand runs_h b.sync b.sync_is from first_items b.rest items_of d u
+  place_at d u = roles_after.place g who c t st.roles r b.hand runs_h b.sync b.sync_is from first_items b.rest items_of sides_of d u
 
   own_there : who' c t ≡ used_by own None
-  own_there = roles_after.own_there g who c t st.roles r b.hand runs_h b.sync b.sync_is from first_items b.rest items_of
+  own_there = roles_after.own_there g who c t st.roles r b.hand runs_h b.sync b.sync_is from first_items b.rest items_of sides_of
 
   kid_there : (u i : ℕ) → index_among b.hand.threads u ≡ Some i → who' c u ≡ used_by (kid i u) None
-  kid_there u i e = roles_after.kid_there g who c t st.roles r b.hand runs_h b.sync b.sync_is from first_items b.rest items_of u i e
+  kid_there u i e = roles_after.kid_there g who c t st.roles r b.hand runs_h b.sync b.sync_is from first_items b.rest items_of sides_of u i e
 
   held_not_own : (u : ℕ) → IsAmong b.hand.threads u → u ≢ t
-  held_not_own u m = roles_after.not_own g who c t st.roles r b.hand runs_h b.sync b.sync_is from first_items b.rest items_of u m
+  held_not_own u m = roles_after.not_own g who c t st.roles r b.hand runs_h b.sync b.sync_is from first_items b.rest items_of sides_of u m
 
   -- all numbers of branches are below
   known_below : (k : ℕ) (branch : Branch) → slice_get x.state.branches k ≡ Some branch → k < from
@@ -216,7 +145,7 @@ module _ (g : Setting) (first : Roles) (is : IsImageOf g first) (who : Roles) (w
       m
 
   pub roles' : AreRoles g who'
-  roles' = roles_open g who c t st.roles r b.hand runs_h b.sync b.sync_is from first_items b.rest items_of below
+  roles' = roles_open g who c t st.roles r b.hand runs_h b.sync b.sync_is from first_items b.rest items_of sides_of below
 
   -- what the step leaves
   abbrev pub left : CoreState
@@ -254,28 +183,32 @@ module _ (g : Setting) (first : Roles) (is : IsImageOf g first) (who : Roles) (w
       by None e = started_at a.threads b.sync u ∙ ap (option_map (λ (i : Thread). started_by i (is_tied i b.sync))) e ∙ sym e
       by (Some thread) e = started_other a.threads b.sync u thread e (untied thread e (is_tied thread b.sync) refl) ∙ sym e
 
+  -- the branches behind the first
+  abbrev others_placed : List Placed
+  others_placed = placed_in r.sides (b.first ∷ []) b.others
+
   -- as many were got as branches are behind the first
   as_many : length b.hand.threads ≡ branch_count b.others
   as_many =
-      let codes = off_length g r left b.sync b.hand.threads (backwards (codes_in b.others)) b.set_off in
-      let back = back_length (codes_in b.others) [] in
-      let counted = codes_length b.others in
-      omega (arith, codes, back, counted)
+      let off = off_length g r left b.sync b.hand.threads (backwards others_placed) b.set_off in
+      let back = back_length others_placed [] in
+      let counted = placed_length r.sides (b.first ∷ []) b.others in
+      omega (arith, off, back, counted)
 
   -- each with its code
-  pub off_with : (u i : ℕ) → index_among b.hand.threads u ≡ Some i → (ss : kernel.Statements) × IsSetOff g r left b.sync u ss × (slice_get (codes_in all) i ≡ Some ss)
+  pub off_with : (u i : ℕ) → index_among b.hand.threads u ≡ Some i → (placed : Placed) × IsSetOff g r left b.sync u placed × (slice_get all_placed i ≡ Some placed)
   off_with u i e =
-      let off = off_at g r left b.sync b.hand.threads (backwards (codes_in b.others)) b.set_off u i e in
+      let off = off_at g r left b.sync b.hand.threads (backwards others_placed) b.set_off u i e in
       let within = index_within b.hand.threads u i e in
       by i within.1 (let le = within.2 in le) off.0 off.1 off.2
     where
-      by : (i : ℕ) → 1 ≤ i → i ≤ length b.hand.threads → (ss : kernel.Statements) → IsSetOff g r left b.sync u ss → slice_get (backwards (codes_in b.others)) (length b.hand.threads - i) ≡ Some ss → (ss : kernel.Statements) × IsSetOff g r left b.sync u ss × (slice_get (codes_in all) i ≡ Some ss)
-      by zero some le ss off there = absurd (omega (arith, some))
-      by (suc m) some le ss off there =
-          let counted = codes_length b.others in
+      by : (i : ℕ) → 1 ≤ i → i ≤ length b.hand.threads → (placed : Placed) → IsSetOff g r left b.sync u placed → slice_get (backwards others_placed) (length b.hand.threads - i) ≡ Some placed → (placed : Placed) × IsSetOff g r left b.sync u placed × (slice_get all_placed i ≡ Some placed)
+      by zero some le placed off there = absurd (omega (arith, some))
+      by (suc m) some le placed off there =
+          let counted = placed_length r.sides (b.first ∷ []) b.others in
           let many = as_many in
-          let place : length (codes_in b.others) - suc m ≡ length b.hand.threads - suc m = omega arith in
-          (ss, off, sym (back_at (codes_in b.others) [] m (omega arith)) ∙ ap (slice_get (backwards (codes_in b.others))) place ∙ there)
+          let place : length others_placed - suc m ≡ length b.hand.threads - suc m = omega arith in
+          (placed, off, sym (back_at others_placed [] m (omega arith)) ∙ ap (slice_get (backwards others_placed)) place ∙ there)
 
   -- The threads that the step changes.
   abbrev pub has_index : Option ℕ → Bool
@@ -359,7 +292,7 @@ module _ (g : Setting) (first : Roles) (is : IsImageOf g first) (who : Roles) (w
     got = λ u k m q other at its in_other. got_by_place u k m q other at its in_other (place_at c u) (place_at c k);
     taken = λ m now. let k = used.taken m now in taken_by m k.0 k.1 k.2 k.3 k.4 (place_at c k.0);
     owned = λ u m q other at owns.
-        let k = roles_after.owned_before g who c t st.roles r b.hand runs_h b.sync b.sync_is from first_items b.rest items_of c u m q other at owns in
+        let k = roles_after.owned_before g who c t st.roles r b.hand runs_h b.sync b.sync_is from first_items b.rest items_of sides_of c u m q other at owns in
         used.owned u m k.0 k.1 k.2 k.3;
   }
     where
@@ -419,7 +352,7 @@ module _ (g : Setting) (first : Roles) (is : IsImageOf g first) (who : Roles) (w
   wanted_by : (v : ℕ) (wanted : IsWanted who' c v) → PlaceAt c wanted.thread → IsWanted who c v ⊎ (r.footprint.uses v ≡ true)
   wanted_by v wanted (roles_after.at_own e f now) =
       ⊎_elim
-      (λ (new : wanted.parent ≡ roles_after.parent g who c t st.roles r b.hand runs_h b.sync b.sync_is from first_items b.rest items_of).
+      (λ (new : wanted.parent ≡ roles_after.parent g who c t st.roles r b.hand runs_h b.sync b.sync_is from first_items b.rest items_of sides_of).
       let uses : by_items (variable v) b.rest ≡ true = ap (λ (i : Parent). by_items (variable v) i.items) (sym new) ∙ wanted.uses in
       inr (ap (λ (i : Footprint). i.uses v) footprint_is ∙ or_right (by_branches (variable v) all) (by_items (variable v) b.rest) uses))
       (λ (old : IsParent r.parents wanted.parent).
@@ -446,6 +379,12 @@ module _ (g : Setting) (first : Roles) (is : IsImageOf g first) (who : Roles) (w
 
   -- The program's branches behind the step.
 
+  -- the maker stands in the runner's sides
+  maker_sides : b.branch.sides ≡ r.sides
+  maker_sides =
+      let works = works_at g first is none_rests who w x st c t r hand runs_r in
+      ap (λ (i : Branch). i.sides) (sym (branch_of works.branch works.known)) ∙ works.sides
+
   abbrev maker : Branch
   maker = waiting g.program g.stimulus r.branch x.state b.branch all b.rest
 
@@ -456,7 +395,7 @@ module _ (g : Setting) (first : Roles) (is : IsImageOf g first) (who : Roles) (w
   data WhichBranch (k : ℕ) (branch : Branch) : Type 0 where
     is_maker : k ≡ r.branch → branch ≡ maker → WhichBranch k branch
     is_old : k ≢ r.branch → slice_get x.state.branches k ≡ Some branch → WhichBranch k branch
-    is_new : (i : ℕ) (ss : kernel.Statements) → k ≡ from + i → i < branch_count all → slice_get (codes_in all) i ≡ Some ss → IsNew b.branch k i (length (all_begun all)) ss branch → WhichBranch k branch
+    is_new : (i : ℕ) (placed : Placed) → k ≡ from + i → i < branch_count all → slice_get all_placed i ≡ Some placed → IsNew b.branch k i (length (all_begun all)) placed branch → WhichBranch k branch
 
   which : (k : ℕ) (branch : Branch) → slice_get world.branches k ≡ Some branch → WhichBranch k branch
   which k branch there =
@@ -465,14 +404,14 @@ module _ (g : Setting) (first : Roles) (is : IsImageOf g first) (who : Roles) (w
       (λ (ne : k ≢ r.branch).
       ⊎_elim
       (λ (lt : k < from). is_old ne (sym (others_there g.program g.stimulus r.branch x.state b.branch all b.rest k ne lt) ∙ there))
-      (λ (le : from ≤ k). let n = none_else g.program g.stimulus r.branch x.state b.branch all b.rest k branch there le in is_new n.0 n.1 n.2 n.3 n.4 n.5)
+      (λ (le : from ≤ k). let n = none_else g.program g.stimulus r.branch x.state b.branch all b.rest r.sides maker_sides k branch there le in is_new n.0 n.1 n.2 n.3 n.4 n.5)
       (cases_lt k from))
       (cases_eq k r.branch)
 
   placed_by : (k : ℕ) (branch : Branch) → WhichBranch k branch → branch.core < 4
   placed_by k branch (is_maker e same) = subst (λ m. m < 4) (sym (ap (λ (i : Branch). i.core) same)) (st.placed r.branch b.branch b.does_par.known)
   placed_by k branch (is_old ne there) = st.placed k branch there
-  placed_by k branch (is_new i ss at few text new) = subst (λ m. m < 4) (sym new.core) (st.placed r.branch b.branch b.does_par.known)
+  placed_by k branch (is_new i placed at few text new) = subst (λ m. m < 4) (sym new.core) (st.placed r.branch b.branch b.does_par.known)
 
   goes_on : has_ended b.branch.mode ≡ false
   goes_on = ap has_ended b.does_par.running
@@ -502,7 +441,7 @@ module _ (g : Setting) (first : Roles) (is : IsImageOf g first) (who : Roles) (w
   made_by : (k : ℕ) (branch : Branch) → has_ended branch.mode ≡ false → WhichBranch k branch → IsMade (length g.program.roots) world.branches k
   made_by k branch on (is_maker e same) = subst (IsMade (length g.program.roots) world.branches) (sym e) (made_still r.branch (st.made r.branch b.branch b.does_par.known goes_on))
   made_by k branch on (is_old ne there) = made_still k (st.made k branch there on)
-  made_by k branch on (is_new i ss at few text new) =
+  made_by k branch on (is_new i placed at few text new) =
       let counted = begun_length all in
       inr (
         r.branch,
@@ -534,7 +473,7 @@ module _ (g : Setting) (first : Roles) (is : IsImageOf g first) (who : Roles) (w
   run_by : (k : ℕ) (branch : Branch) → has_ended branch.mode ≡ false → WhichBranch k branch → IsRun who' k
   run_by k branch on (is_maker e same) = record { core = c; thread = t; runner = own; hand = None; runs = own_there; branch = inr (inl e) }
   run_by k branch on (is_old ne there) = let q = st.run k branch there on in run_still k q (place_at q.core q.thread)
-  run_by k branch on (is_new i ss at few text new) = run_new k i at few
+  run_by k branch on (is_new i placed at few text new) = run_new k i at few
 
   -- as many roots' branches go on
   living_still : (k : ℕ) → living_on k world.branches ≡ living_on k x.state.branches
@@ -557,11 +496,15 @@ module _ (g : Setting) (first : Roles) (is : IsImageOf g first) (who : Roles) (w
   maker_core : b.branch.core ≡ r.core
   maker_core = ap (λ (i : Branch). i.core) (sym (branch_of b.has.branch b.has.runs.known)) ∙ b.has.core
 
-  less_of : (i : ℕ) (ss : kernel.Statements) → slice_get (codes_in all) i ≡ Some ss → IsWithin (footprint_of (todo ss (ends ∷ []))) r.footprint
-  less_of i ss code = subst (IsWithin (footprint_of (todo ss (ends ∷ [])))) (sym footprint_is) (branch_within all b.rest i ss code)
+  -- its code is that of the `par`'s branch, and it uses and needs no more than the maker
+  code_is : (i : ℕ) (placed : Placed) → slice_get all_placed i ≡ Some placed → slice_get (codes_in all) i ≡ Some placed.code
+  code_is i placed there = placed_code r.sides [] all i placed there
 
-  fits_of : (i : ℕ) (ss : kernel.Statements) → slice_get (codes_in all) i ≡ Some ss → FitOn g r.core (todo ss (ends ∷ []))
-  fits_of i ss code = branch_fits g r.core all b.rest (fits_everywhere g r (does (kernel.par all) ∷ b.rest) b.fits) i ss (code_of all i ss code)
+  less_of : (i : ℕ) (placed : Placed) → slice_get all_placed i ≡ Some placed → IsWithin (footprint_of (todo placed.code (ends ∷ []))) r.footprint
+  less_of i placed there = subst (IsWithin (footprint_of (todo placed.code (ends ∷ [])))) (sym footprint_is) (branch_within all b.rest i placed.code (code_is i placed there))
+
+  fits_of : (i : ℕ) (placed : Placed) → slice_get all_placed i ≡ Some placed → FitOn g r.core (todo placed.code (ends ∷ []))
+  fits_of i placed there = branch_fits g r.core all b.rest (fits_everywhere g r (does (kernel.par all) ∷ b.rest) b.fits) i placed.code (code_of all i placed.code (code_is i placed there))
 
   holds_within : (f : Footprint) → IsWithin f r.footprint → Holds (plan g r).vars f.uses r.base left.words world.store
   holds_within f less =
@@ -573,12 +516,15 @@ module _ (g : Setting) (first : Roles) (is : IsImageOf g first) (who : Roles) (w
 
   -- The thread itself, with the first branch.
 
-  first_code : slice_get (codes_in all) 0 ≡ Some b.first
-  first_code = refl
+  abbrev first_placed : Placed
+  first_placed = record { sides = sides_in 0 [] b.first (codes_in b.others) r.sides; code = b.first }
+
+  first_there : slice_get all_placed 0 ≡ Some first_placed
+  first_there = refl
 
   own_rest : (branch : Branch) → slice_get world.branches from ≡ Some branch → branch.mode ≡ runs → branch.core ≡ r.core → branch.items ≡ first_items → Rest g own first_items b.jumps (record { core = left; world = world; hand = None })
   own_rest branch there mode on_core items_are =
-      let less = less_of 0 b.first first_code in
+      let less = less_of 0 first_placed first_there in
       record {
         pc = b.pc + 1;
         regs = b.regs;
@@ -586,7 +532,7 @@ module _ (g : Setting) (first : Roles) (is : IsImageOf g first) (who : Roles) (w
         here = own_left;
         bases = record { base = b.bases.base; stack = b.bases.stack; names = b.bases.names };
         at_code = b.own_code from (suc (length b.hand.threads));
-        fits = fits_here g own first_items (fits_of 0 b.first first_code) refl;
+        fits = fits_here g own first_items (fits_of 0 first_placed first_there) refl;
         has = record {
           branch = branch;
           runs = record { known = there; running = mode; items_are = items_are };
@@ -603,11 +549,11 @@ module _ (g : Setting) (first : Roles) (is : IsImageOf g first) (who : Roles) (w
   is_inside : (u : ℕ) → IsAmong b.hand.threads u → u < threads_on g.program c
   is_inside u m = st.roles.inside c u (λ e. let both : got_by t ≡ unused = sym (st.roles.held c t u r (Some b.hand) runs_h m) ∙ e in let z : ⊥ = cc in z)
 
-  kid_rest : (u i : ℕ) (ss : kernel.Statements) → IsAmong b.hand.threads u → slice_get (codes_in all) i ≡ Some ss → IsSetOff g r left b.sync u ss → (branch : Branch) → slice_get world.branches (from + i) ≡ Some branch → branch.mode ≡ runs → branch.core ≡ r.core → branch.items ≡ todo ss (ends ∷ []) → Rest g (kid i u) (todo ss (ends ∷ [])) 0 (record { core = left; world = world; hand = None })
-  kid_rest u i ss m code off branch there mode on_core items_are =
-      let items = todo ss (ends ∷ []) in
-      let same : items_of i ≡ items = ap items_at code in
-      let less = subst (λ its. IsWithin (footprint_of its) r.footprint) (sym same) (less_of i ss code) in
+  kid_rest : (u i : ℕ) (placed : Placed) → IsAmong b.hand.threads u → slice_get all_placed i ≡ Some placed → IsSetOff g r left b.sync u placed → (branch : Branch) → slice_get world.branches (from + i) ≡ Some branch → branch.mode ≡ runs → branch.core ≡ r.core → branch.items ≡ todo placed.code (ends ∷ []) → Rest g (kid i u) (todo placed.code (ends ∷ [])) 0 (record { core = left; world = world; hand = None })
+  kid_rest u i placed m known off branch there mode on_core items_are =
+      let items = todo placed.code (ends ∷ []) in
+      let same : items_of i ≡ items = ap items_at known in
+      let less = subst (λ its. IsWithin (footprint_of its) r.footprint) (sym same) (less_of i placed known) in
       let inside = is_inside u m in
       let lt = st.roles.there c t r hand runs_r in
       let core = is.cores c lt (omega (arith, inside)) in
@@ -626,8 +572,8 @@ module _ (g : Setting) (first : Roles) (is : IsImageOf g first) (who : Roles) (w
           stack = omega (arith, sp, stacks, plan_is);
           names = record { by = λ place k e few. let none : None ≡ Some k = e in absurd (let z : ⊥ = cc in z) };
         };
-        at_code = off.at_code;
-        fits = fits_here g (kid i u) items (fits_of i ss code) (ap footprint_of same);
+        at_code = subst (λ sides. ItemsAt (plan g r) (code g r) sides (EndAt (plan g r) (code g r) (Some b.sync) []) items [] off.pc 0) (ap sides_at (sym known)) off.at_code;
+        fits = fits_here g (kid i u) items (fits_of i placed known) (ap footprint_of same);
         has = record {
           branch = branch;
           runs = record { known = there; running = mode; items_are = items_are };
@@ -670,7 +616,7 @@ module _ (g : Setting) (first : Roles) (is : IsImageOf g first) (who : Roles) (w
   kid_stand u i e =
       let within = index_within b.hand.threads u i e in
       let k = off_with u i e in
-      let made = made_there g.program g.stimulus r.branch x.state b.branch all b.rest i k.0 k.2 in
+      let made = made_there g.program g.stimulus r.branch x.state b.branch all b.rest r.sides maker_sides i k.0 k.2 in
       let branch : Branch = made.0 in
       let new : IsNew b.branch (from + i) i (length (all_begun all)) k.0 branch = made.2 in
       let on_core : branch.core ≡ r.core = new.core ∙ maker_core in
@@ -682,6 +628,9 @@ module _ (g : Setting) (first : Roles) (is : IsImageOf g first) (who : Roles) (w
         parents = tt;
         thread = record { thread = running (Some b.sync) k.1.pc k.1.regs; there = k.1.here; tied = refl; no_events = refl; is = subst (λ m. ThreadIs [] m Running) (sym new.mode) refl };
         in_hand = empty refl;
+        sides = new.sides ∙ ap sides_at (sym k.2);
+        done = λ over. refl;
+        stops = λ over. tt;
         ends_tied = λ over. let both : runs ≡ ended = sym new.mode ∙ over in absurd (let z : ⊥ = cc in z);
         left = cost g (kid i u);
         bound =
@@ -711,7 +660,7 @@ module _ (g : Setting) (first : Roles) (is : IsImageOf g first) (who : Roles) (w
       let its : 1 ≤ steps_of g.program g.stimulus b.branch.family (Some x.state) piece = omega (arith, one) in
       subst (λ f. 1 ≤ steps_of g.program g.stimulus f (Some x.state) piece) family its
 
-  module _ (stand : Stand g r false hand a x.state (w.lives c t) x.actions b.branch) (few : j ≤ stand.left) where
+  module _ (stand : Stand g r false hand a x.state (w.lives c t) x.actions b.branch) (none : r.transfer ≡ None) (few : j ≤ stand.left) where
     several : 1 ≤ length b.hand.threads
     several = let many = as_many in let some = b.several in omega (arith, many, some)
 
@@ -727,9 +676,9 @@ module _ (g : Setting) (first : Roles) (is : IsImageOf g first) (who : Roles) (w
 
     own_stand : Stands g true left world (watched'.lives c t) (told_by g.program g.stimulus x piece world).actions (used_by own None)
     own_stand =
-        let made = made_there g.program g.stimulus r.branch x.state b.branch all b.rest 0 b.first first_code in
+        let made = made_there g.program g.stimulus r.branch x.state b.branch all b.rest r.sides maker_sides 0 first_placed first_there in
         let branch : Branch = made.0 in
-        let new : IsNew b.branch (from + 0) 0 (length (all_begun all)) b.first branch = made.2 in
+        let new : IsNew b.branch (from + 0) 0 (length (all_begun all)) first_placed branch = made.2 in
         let at : from + 0 ≡ from = omega arith in
         let there : slice_get world.branches from ≡ Some branch = ap (slice_get world.branches) (sym at) ∙ made.1 in
         let on_core : branch.core ≡ r.core = new.core ∙ maker_core in
@@ -753,11 +702,15 @@ module _ (g : Setting) (first : Roles) (is : IsImageOf g first) (who : Roles) (w
               one = λ none. let both : Some b.sync ≡ None = none in absurd (let z : ⊥ = cc in z);
               several = λ k e. let some = several in omega (arith, some);
               fits = (fits_everywhere g r (does (kernel.par all) ∷ b.rest) b.fits).1;
+              sides = maker_sides;
             },
             waiting_still,
           );
           thread = record { thread = th'; there = own_left; tied = refl; no_events = refl; is = subst (λ m. ThreadIs own.parents m Running) (sym new.mode) refl };
           in_hand = empty refl;
+          sides = new.sides;
+          done = λ over. refl;
+          stops = λ over. tt;
           ends_tied = λ over. let both : runs ≡ ended = sym new.mode ∙ over in absurd (let z : ⊥ = cc in z);
           left = b.jumps + cost g own;
           bound =
@@ -793,6 +746,20 @@ module _ (g : Setting) (first : Roles) (is : IsImageOf g first) (who : Roles) (w
     far_by d u ne (roles_after.at_kid i e among now old) = absurd (ne e)
     far_by d u ne (roles_after.elsewhere same not_own no_kid) = same
 
+    -- each thread is in the transfer in which it was
+    transfers_still : TransfersAsBefore who who'
+    transfers_still = roles_after.opens_transfers g who c t st.roles r b.hand runs_h b.sync b.sync_is from first_items b.rest items_of sides_of none
+
+    -- the runner and the new ones are in none
+    none_inside : (u : ℕ) (q : Runner) (other : Option Hand) (transfer : Transfer) → moved u ≡ true → who' c u ≡ used_by q other → q.transfer ≡ Some transfer → PlaceAt c u → ⊥
+    none_inside u q other transfer m at its (roles_after.at_own e f now) =
+        let in_none : None ≡ Some transfer = ap (λ (i : Runner). i.transfer) (same_runner own q None other (sym now ∙ at)) ∙ its in let z : ⊥ = cc in z
+    none_inside u q other transfer m at its (roles_after.at_kid i e among now old) =
+        let in_none : None ≡ Some transfer = ap (λ (k : Runner). k.transfer) (same_runner (kid i u) q None other (sym now ∙ at)) ∙ its in let z : ⊥ = cc in z
+    none_inside u q other transfer m at its (roles_after.elsewhere same not_own no_kid) =
+        let k = moved_kid u (λ e. not_own (refl, e)) m in
+        no_kid refl (index_within b.hand.threads u k.0 k.1).0
+
     -- the program makes the branches, and all stand so again
     pub begins_followed : Follows g rests who w x watched'
     begins_followed = record {
@@ -816,6 +783,9 @@ module _ (g : Setting) (first : Roles) (is : IsImageOf g first) (who : Roles) (w
             steps = λ u m. steps_still g first is none_rests who w x st c t a at_c r hand runs_r moved own_moved left world effect None u m;
             far_steps = λ d u ne. far_steps_still g first is none_rests who w x st c t a at_c r hand runs_r moved own_moved left world effect None d u ne;
             stand = λ u m. stand_by u m (place_at c u);
+            wired = wired_still g who who' w watched' c a left x.state.inboxes world.inboxes transfers_still
+                (has_stepped g first is none_rests who w x st c t a at_c r hand runs_r moved own_moved left world effect None refl) refl refl st.wired;
+            alone = λ u q other transfer m at its. absurd (none_inside u q other transfer m at its (place_at c u));
             loose = loose';
             roots = st.roots c a at_c ∙ sym (living_still c);
             far_roots = λ d ne. living_still d;
@@ -827,6 +797,6 @@ module _ (g : Setting) (first : Roles) (is : IsImageOf g first) (who : Roles) (w
           let counted = begun_length all in
           let many = as_many in
           let begun : length (all_begun all) ≡ 1 + length b.hand.threads = omega (arith, counted, many) in
-          opens_linked g none_rests who w x st names watched'.machine c t a left at_c (get_set_same w.machine.cores c a left at_c) r b.hand runs_h b.sync b.sync_is first_items b.rest items_of b.branch all b.rest piece th'
+          opens_linked g none_rests who w x st names watched'.machine c t a left at_c (get_set_same w.machine.cores c a left at_c) r b.hand runs_h b.sync b.sync_is first_items b.rest items_of sides_of b.branch all b.rest piece th'
           b.does_par.known begun several refl (ap (λ k. slice_set started k th') thread_is) b.tied;
     }

@@ -147,6 +147,7 @@ module _ (g : Setting) (r : Runner) where
           made = fetched ∙ own y.core th ∙ ap (told (put_own y.core r.thread th)) (does y.core.words);
           world = refl;
           roots = refl;
+          channel_ends = refl;
           touched = record {
             clock = refl;
             others = λ u ne free. get_set_other y.core.threads r.thread u th' ne;

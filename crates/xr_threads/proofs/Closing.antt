@@ -54,6 +54,7 @@ module _ (g : Setting) (r : Runner) (n : ℕ) where
         made = step.made;
         world = refl;
         roots = ap (λ (c : CoreState). c.roots) step.left;
+        channel_ends = ap (λ (c : CoreState). c.ends) step.left;
         touched = record {
           clock = ap (λ (c : CoreState). c.clock) step.left;
           others = λ u ne not_held. others u ne;
@@ -86,7 +87,7 @@ module _ (g : Setting) (r : Runner) (p : Parent) (ps : List Parent) (n j : ℕ) 
   first_sync = ap syncs_of parents ∙ ap (λ o. sync_before o (syncs_of ps)) sync
 
   joins_at : (pc closed : ℕ) (old : List ℕ) (place : Pos) (y : Scene) →
-      ItemsAt (plan g r) (code g r) (EndAt (plan g r) (code g r) r.tie ps) p.items exits closed j →
+      ItemsAt (plan g r) (code g r) p.sides (EndAt (plan g r) (code g r) r.tie ps) p.items exits closed j →
       closing.Joins (home g r) (relied g r) r.thread n (running r.tie pc regs) old place closed y.core → y.hand ≡ None → JoinsAt g r p ps j y
   joins_at pc closed old place y behind h no_hand = record {
     sync = n;
@@ -101,7 +102,7 @@ module _ (g : Setting) (r : Runner) (p : Parent) (ps : List Parent) (n j : ℕ) 
       stack = h.others Sp refl ∙ bases.stack;
       names = names_back r.core n (syncs_of ps) regs h.regs outer h.outer (subst (λ syncs. HoldsNames r.core syncs regs) first_sync bases.names);
     };
-    at_code = subst (λ q. ItemsAt (plan g r) (code g r) (EndAt (plan g r) (code g r) r.tie ps) p.items exits q j) (sym h.next) behind;
+    at_code = subst (λ q. ItemsAt (plan g r) (code g r) p.sides (EndAt (plan g r) (code g r) r.tie ps) p.items exits q j) (sym h.next) behind;
     pauses = h.waits;
     joins = h.joins;
     frees = h.frees;
@@ -110,7 +111,7 @@ module _ (g : Setting) (r : Runner) (p : Parent) (ps : List Parent) (n j : ℕ) 
 pub closes_leads : (g : Setting) (r : Runner) (p : Parent) (ps : List Parent) (n j pc closed : ℕ) (z : Scene) (regs : Regs) (exits : List Exit) →
     r.parents ≡ p ∷ ps → p.sync ≡ Some n → n < 8 → length (syncs_of ps) ≤ 6 → slice_get z.core.syncs n ≡ Some true →
     IsAt g r z pc regs → HasBases g r regs → ClosesAt (code g r) (plan g r) pc closed →
-    ItemsAt (plan g r) (code g r) (EndAt (plan g r) (code g r) r.tie ps) p.items exits closed j → z.hand ≡ None → LeadsIn g r (Joins g r p ps j) 7 z
+    ItemsAt (plan g r) (code g r) p.sides (EndAt (plan g r) (code g r) r.tie ps) p.items exits closed j → z.hand ≡ None → LeadsIn g r (Joins g r p ps j) 7 z
 closes_leads g r p ps n j pc closed z regs exits parents sync few outer taken here bases closes behind no_hand =
     let first = first_sync g r p ps n j regs exits parents sync outer bases in
     let owned : (hand : Option Hand) → Owns r hand n = λ hand. inl (subst (λ syncs. IsAmong syncs n) (sym first) (inl refl)) in
@@ -119,7 +120,7 @@ closes_leads g r p ps n j pc closed z regs exits parents sync few outer taken he
     let Q : CoreState → Type 0 = λ b.
     (c : CoreState) → KeptSync (relied g r) r.thread n b c → closing.Joins (home g r) (relied g r) r.thread n (running r.tie pc regs) z.core.words closes.place at_end c in
     let way = closes.closes.by (home g r) (relied g r) r.thread n (running r.tie pc regs) z.core few name taken closes.stand (runs_at g r z pc regs here) in
-    let behind' = subst (λ q. ItemsAt (plan g r) (code g r) (EndAt (plan g r) (code g r) r.tie ps) p.items exits q j) closes.end behind in
+    let behind' = subst (λ q. ItemsAt (plan g r) (code g r) p.sides (EndAt (plan g r) (code g r) r.tie ps) p.items exits q j) closes.end behind in
     leads_as g r (λ x. Q x.core × (x.hand ≡ None)) (Joins g r p ps j) 7 z
     (λ x h y k. joins_at g r p ps n j regs exits parents sync outer bases pc at_end z.core.words closes.place y behind' (h.0 y.core (sync_kept g r n x y (owned x.hand) k)) (k.hand ∙ h.1))
     (quiet_leads g r n Q None 7 z no_hand (owned z.hand) (at_runs g r z pc regs here) way)
@@ -127,6 +128,6 @@ closes_leads g r p ps n j pc closed z regs exits parents sync few outer taken he
 pub closes_lead : (g : Setting) (r : Runner) (p : Parent) (ps : List Parent) (n j pc closed : ℕ) (z : Scene) (regs : Regs) (exits : List Exit) →
     r.parents ≡ p ∷ ps → p.sync ≡ Some n → n < 8 → length (syncs_of ps) ≤ 6 → slice_get z.core.syncs n ≡ Some true →
     IsAt g r z pc regs → HasBases g r regs → ClosesAt (code g r) (plan g r) pc closed →
-    ItemsAt (plan g r) (code g r) (EndAt (plan g r) (code g r) r.tie ps) p.items exits closed j → z.hand ≡ None → IsJoining g r p ps (7 + j) z
+    ItemsAt (plan g r) (code g r) p.sides (EndAt (plan g r) (code g r) r.tie ps) p.items exits closed j → z.hand ≡ None → IsJoining g r p ps (7 + j) z
 closes_lead g r p ps n j pc closed z regs exits parents sync few outer taken here bases closes behind no_hand =
     (7, j, omega arith, closes_leads g r p ps n j pc closed z regs exits parents sync few outer taken here bases closes behind no_hand)

@@ -33,6 +33,7 @@ use Rattle.xr_threads.proofs.NamedPieces.{goes_on}
 use Rattle.xr_threads.proofs.SettleAll.{standing_as}
 use Rattle.xr_threads.proofs.SettleStart.{settles_everywhere}
 use Rattle.xr_threads.proofs.Standing.{told_by}
+use Rattle.xr_threads.proofs.StartWires.{none_inside}
 use Rattle.xr_threads.proofs.Starts.{none_got}
 use Rattle.xr_threads.proofs.Together.{Comes, Together, named_like}
 
@@ -102,7 +103,8 @@ module _ (g : Setting) (who : Roles) (is : IsImageOf g who) where
   -- At the start the program's first piece leads to where the two stand so.
   comes_first : Comes g (told_start (of_kernel g.program)) (watched_start g.image)
   comes_first =
-      let q = settles_everywhere g who is (set_watched who g.image) all_rest who (told_start (of_kernel g.program)) (set_standing g who is) in
+      let settled = settles_everywhere g who is (set_watched who g.image) all_rest who (told_start (of_kernel g.program)) (set_standing g who is) in
+      let q = settled.follows in
       let x = told_by g.program g.stimulus (told_start (of_kernel g.program)) q.piece q.world in
       record {
         piece = q.piece;
@@ -110,7 +112,7 @@ module _ (g : Setting) (who : Roles) (is : IsImageOf g who) where
         acted = q.acted;
         together = record {
           who = q.who;
-          standing = standing_before g who is q.who x q.standing;
+          standing = standing_before g who is q.who x q.standing (settled.none_inside (none_inside g who is));
           named = named_like g q.who (set_watched who g.image) (watched_start g.image) x
               (λ c t. record { family = refl; pars = refl; tyings = λ n. refl })
               (λ c u t e. refl)
@@ -133,18 +135,18 @@ module _ (g : Setting) (who : Roles) (is : IsImageOf g who) where
       follows x w' (subst (Comes g x) (sym left.2) comes)
 
   -- they agree in all that an image promises
-  agrees : g.image.chans ≡ [] → (w : Watched) (x : Told (of_kernel g.program)) → Together g w x → AgreeWholly g.image (of_kernel g.program) g.stimulus w x
-  agrees no_channels w x t = record {
+  agrees : (w : Watched) (x : Told (of_kernel g.program)) → Together g w x → AgreeWholly g.image (of_kernel g.program) g.stimulus w x
+  agrees w x t = record {
     agree = agrees_now g t.who w x t.standing;
-    arrivals = arrivals_agree g t.who w x t.standing no_channels;
+    arrivals = arrivals_agree g t.who w x t.standing who is;
     quiet = quiet_agree g t.who w x t.standing who is;
     bounded = bounded g none_rests t.who w x t.standing t.named;
   }
 
   -- so the machine simulates the program
-  pub simulates : g.image.chans ≡ [] → frame.Simulates (machine_of g.image g.stimulus) (told_of (of_kernel g.program) g.stimulus) (Together g) (AgreeWholly g.image (of_kernel g.program) g.stimulus)
-  simulates no_channels = record {
-    holds = agrees no_channels;
+  pub simulates : frame.Simulates (machine_of g.image g.stimulus) (told_of (of_kernel g.program) g.stimulus) (Together g) (AgreeWholly g.image (of_kernel g.program) g.stimulus)
+  simulates = record {
+    holds = agrees;
     begins = follows (told_start (of_kernel g.program)) (watched_start g.image) comes_first;
     step = event;
   }
@@ -153,17 +155,17 @@ module _ (g : Setting) (who : Roles) (is : IsImageOf g who) where
 abbrev pub setting : kernel.Kernel → Image → (plans : (core : ℕ) → Plan) → Stim → Setting
 setting K L plans s = record { program = K; image = L; stimulus = s; plans = plans }
 
-module _ (K : kernel.Kernel) (L : Image) (who : Roles) (plans : (core : ℕ) → Plan) (is : (s : Stim) → IsImageOf (setting K L plans s) who) (no_channels : L.chans ≡ []) where
+module _ (K : kernel.Kernel) (L : Image) (who : Roles) (plans : (core : ℕ) → Plan) (is : (s : Stim) → IsImageOf (setting K L plans s) who) where
   -- the image keeps all that it promises
   pub wholly_implements : ImplementsWholly L (of_kernel K)
   wholly_implements = record {
-    by = λ s good. frame.refines_by (machine_of L s) (told_of (of_kernel K) s) (Together (setting K L plans s)) (AgreeWholly L (of_kernel K) s) (simulates (setting K L plans s) who (is s) no_channels);
+    by = λ s good. frame.refines_by (machine_of L s) (told_of (of_kernel K) s) (Together (setting K L plans s)) (AgreeWholly L (of_kernel K) s) (simulates (setting K L plans s) who (is s));
   }
 
   -- what everybody sees agrees
   agreeing : (s : Stim) → frame.Simulates (machine_of L s) (told_of (of_kernel K) s) (Together (setting K L plans s)) (AgreeNow (of_kernel K))
   agreeing s =
-      let sim = simulates (setting K L plans s) who (is s) no_channels in
+      let sim = simulates (setting K L plans s) who (is s) in
       record { holds = λ w x t. (sim.holds w x t).agree; begins = sim.begins; step = sim.step }
 
   -- so it implements the kernel

@@ -30,7 +30,8 @@ module _ (g : Setting) (r : Runner) where
     core = has.core;
     world = record y.world { branches = slice_set y.world.branches r.branch (finished has.branch) };
     acted = item_acts g.program g.stimulus r.branch y.world has.branch ends rest has.runs;
-    is_next = record { clocks = refl; branches = refl; store = λ v c. refl; inboxes = refl; trace = refl };
+    is_next = record { clocks = refl; branches = refl; store = λ v c. refl; trace = refl };
+    inboxes = refl;
   }
 
   -- the turn of a root's thread
@@ -53,6 +54,7 @@ module _ (g : Setting) (r : Runner) where
         };
         roots = refl;
         syncs = refl;
+        channel_ends = refl;
         words = refl;
         ports = refl;
         unused = subst IsFree (sym (get_set_same y.core.threads r.thread th th' here)) (record { unused = refl; no_events = refl; untied = root });
@@ -84,6 +86,7 @@ module _ (g : Setting) (r : Runner) where
         };
         roots = refl;
         syncs = refl;
+        channel_ends = refl;
         words = refl;
         ports = refl;
         waits = subst (IsWaitingTied n) (sym (get_set_same y.core.threads r.thread th th' here)) (record { waits = refl; no_events = refl; tied = tied });

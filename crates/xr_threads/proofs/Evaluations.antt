@@ -107,7 +107,8 @@ module _ (g : Setting) (r : Runner) where
         item_acts g.program g.stimulus r.branch x branch i rest runs
         ∙ erred
         ∙ ap (λ (c : ℕ). Some (record x { branches = slice_set x.branches r.branch (failed branch); trace = x.trace ++ Fault c pos kind ∷ [] })) core;
-    is_next = record { clocks = refl; branches = refl; store = λ v c. refl; inboxes = refl; trace = refl };
+    is_next = record { clocks = refl; branches = refl; store = λ v c. refl; trace = refl };
+    inboxes = refl;
   }
 
   -- where the thread's next step traps with the error that the branch's first item has, both err

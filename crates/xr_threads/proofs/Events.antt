@@ -1,7 +1,6 @@
 -- Each step of a thread is followed by a piece of the program's run, and the two stand as before; some threads may be at rest.
-use Rattle.std.proofs.Common.{◌≡◌, ℕ, zero, suc, ◌+◌, ◌<◌, ◌≤◌, ◌≢◌, ◌⊎◌, inl, inr, [], ◌∷◌, ◌++◌, List, Option, Some, None, refl, sym, ap, ◌∙◌, subst, arith}
-use Rattle.std.specs.Prelude.{Bool, true, false, ◌&&◌, nat_eq, slice_get, slice_set}
-use Rattle.std.proofs.lemmas.Bool.{ne_eqb}
+use Rattle.std.proofs.Common.{◌≡◌, ℕ, zero, suc, ◌+◌, ◌<◌, ◌≤◌, ◌≢◌, ◌⊎◌, inl, inr, [], ◌∷◌, List, Option, Some, None, refl, sym, ap, ◌∙◌, subst, arith}
+use Rattle.std.specs.Prelude.{Bool, true, false, nat_eq, slice_get, slice_set}
 use Rattle.std.proofs.lemmas.Option.{same_Some, slice_get_within}
 use Rattle.xs_instr.specs.declared.image.Home.{Home}
 use Rattle.xs_instr.specs.declared.state.CoreState.{CoreState}
@@ -12,9 +11,9 @@ use Rattle.xs_instr.specs.declared.trace.Record.{Record}
 use Rattle.xs_instr.specs.Did.{Did, Idle, Paused}
 use Rattle.xs_instr.specs.Machine.{Event, Machine, Move, Step, Tick, does, home_of, link_of, move_at, noted, step_at, stepped, tick_at}
 use Rattle.xs_instr.specs.Pool.{all_wait}
-use Rattle.xs_instr.specs.declared.trace.Record.TheVariants.{Fault}
-use Rattle.xs_instr.specs.Slot.{slot, trapped, turn_at, turn_of}
+use Rattle.xs_instr.specs.Slot.{slot, turn_at, turn_of}
 use Rattle.xc_meaning.specs.States.Branches.{Branch, Mode, runs, waits, ended, erred}
+use Rattle.xc_meaning.specs.States.Channels.{Side}
 use Rattle.xc_meaning.specs.States.Worlds.{World}
 use Rattle.xl_par.specs.Hands.{Hand}
 use Rattle.xr_match.specs.Lives.{Life, Watched, watched_after}
@@ -26,21 +25,31 @@ use Rattle.xr_threads.specs.Parents.{Parent}
 use Rattle.xr_threads.specs.Roles.{HandFits, Role, Roles, got_by, unused, used_by}
 use Rattle.xr_threads.specs.Runners.{Setting, Runner, footprint_of, home}
 use Rattle.xr_threads.specs.Scenes.{IsSilentStep, Kept, LeadsIn, Scene, giving_back}
-use Rattle.xr_threads.specs.Standing.{HasEnded, HasThread, Stand, Standing, Stands, StandsBy, ThreadIs, none_rests}
-use Rattle.xr_threads.specs.Turns.{Errs, Frees, GivesBack, Goes, IsFree, IsWaitingTied, Joins, JoinsAt, Turn, Turns, Waits, begins, cost, errs, frees, goes_on, pauses, waits_tied}
+use Rattle.xr_threads.specs.Standing.{HasEnded, HasThread, Stand, Standing, Stands, StandsBy, StandsWith, ThreadIs, none_rests}
+use Rattle.xr_threads.specs.Transfers.{StopsIn, Transfer, steps_left}
+use Rattle.xr_threads.specs.Turns.{Errs, Frees, GivesBack, Goes, InTransfer, IsFree, IsWaitingTied, Joins, JoinsAt, Offers, TakesIn, Turn, Turns, Waits, begins, cost, errs, frees, goes_on, offers, pauses, takes_in, waits_tied}
+use Rattle.xr_threads.proofs.AnswerRows.{answer_followed}
 use Rattle.xr_threads.proofs.Begun as begun
 use Rattle.xr_threads.proofs.Begun.{begins_followed}
 use Rattle.xr_threads.proofs.Hands.{hand_sync, silent_followed}
+use Rattle.xr_threads.proofs.InTransfers as rows
+use Rattle.xr_threads.proofs.InTransfers.{IsFollowed, followed, in_phase}
+use Rattle.xr_threads.proofs.InputRows.{input_followed}
 use Rattle.xr_threads.proofs.Joined as joined
 use Rattle.xr_threads.proofs.Joined.{joins_followed}
 use Rattle.xr_threads.proofs.Moves.{kept_now, works_at}
+use Rattle.xr_threads.proofs.OfferRows.{offer_followed}
 use Rattle.xr_threads.proofs.OwnEvents.{rests_alone}
 use Rattle.xr_threads.proofs.Resumes as resumes
 use Rattle.xr_threads.proofs.Resumes.{resumes_followed}
 use Rattle.xr_threads.proofs.Links.{link_empty}
 use Rattle.xr_threads.proofs.Standing.{Follows}
 use Rattle.xr_threads.proofs.Ticks.{no_machine, tick_followed}
-use Rattle.xr_threads.proofs.Turned.{errs_answered, frees_answered, goes_answered, waits_answered}
+use Rattle.xr_threads.proofs.TransferErrs.{errs_followed}
+use Rattle.xr_threads.proofs.TransferRows.{alone_elsewhere, checks_end_followed, sends_ack_followed, sends_end_followed}
+use Rattle.xr_threads.proofs.Turned.{frees_answered, goes_answered, waits_answered}
+use Rattle.xr_wires.specs.Phases.{Phase, awaits_ack, between, checks_end, closes, opens, sends_ack, sends_end, streams, was_closed}
+use Rattle.xr_wires.specs.Phases as wires
 
 -- a piece follows, behind which some threads of one core may be at rest
 pub record FollowsSo (g : Setting) (old : Roles) (before : Watched) (x : Told (of_kernel g.program)) (w : Watched) : Type 0 where
@@ -59,15 +68,14 @@ stand_as g r rests hand hand' a x life actions branch e h = record {
   parents = h.parents;
   thread = h.thread;
   in_hand = subst (HandFits branch.items) e h.in_hand;
+  sides = h.sides;
+  done = h.done;
+  stops = h.stops;
   ends_tied = h.ends_tied;
   left = h.left;
   bound = h.bound;
   by = subst (λ k. StandsBy g r rests branch.items branch.mode h.left (record { core = a; world = x; hand = k })) e h.by;
 }
-
--- nobody is at rest on another core
-alone_elsewhere : (c : ℕ) (b : Bool) (d : ℕ) → d ≢ c → (nat_eq d c && b) ≡ false
-alone_elsewhere c b d ne = ap (λ k. k && b) (ne_eqb d c ne)
 
 -- a thread that doesn't run has no step
 pub idle_thread : (h : Home) (a : CoreState) (t : ℕ) (thread : Thread) → slice_get a.threads t ≡ Some thread → (thread.mode ≡ Unused) ⊎ ((thread.mode ≡ Waiting) ⊎ (thread.mode ≡ Trapped)) → (slot h a t ≡ Idle) ⊎ (slot h a t ≡ Paused)
@@ -89,6 +97,9 @@ stand_of g r rests hand a x life actions branch branch' e h = record {
   parents = h.parents;
   thread = subst (λ (b : Branch). HasThread g r b.mode a) e h.thread;
   in_hand = subst (λ (b : Branch). HandFits b.items hand) e h.in_hand;
+  sides = subst (λ (b : Branch). b.sides ≡ r.sides) e h.sides;
+  done = subst (λ (b : Branch). b.mode ≡ ended → r.transfer ≡ None) e h.done;
+  stops = subst (λ (b : Branch). b.mode ≡ erred → StopsIn r.transfer) e h.stops;
   ends_tied = subst (λ (b : Branch). b.mode ≡ ended → r.parents ≡ [] → (n : ℕ) × (r.tie ≡ Some n)) e h.ends_tied;
   left = h.left;
   bound = h.bound;
@@ -123,7 +134,12 @@ module _ (g : Setting) (first : Roles) (is : IsImageOf g first) (who : Roles) (w
         ap (λ k. Some (record { cores = slice_set w.machine.cores k b; links = w.machine.links; trace = noted w.machine.trace made })) (sym core_is) ∙ sym is_step ∙ e in
         record { core = c; there = st.roles.there c t r hand runs_r; may_rest = may_rest; elsewhere = elsewhere; follows = subst (λ n. Follows g may_rest who w x (watched_after w (Step c t) n)) (same_Some _ m left_is) h }
 
-    -- the thread goes on, errs or ends, with nothing in hand
+    -- a slot that the program follows
+    by_followed : IsFollowed g who w x c t r a (slot (home g r) a r.thread) → Leaves (slot (home g r) a r.thread) → Goal
+    by_followed (rows.pauses p) e = no_step (home g r) w.machine m r.core r.thread a (slot (home g r) a r.thread) (inr p) e
+    by_followed (followed may_rest elsewhere b made is_step h) e = goal_of may_rest elsewhere b made is_step e h
+
+    -- the thread goes on, errs or ends, or takes a step of a transfer, with nothing in hand
     module _ (none : hand ≡ None) where
       abbrev alone : Scene
       alone = record { core = a; world = x.state; hand = None }
@@ -134,41 +150,58 @@ module _ (g : Setting) (first : Roles) (is : IsImageOf g first) (who : Roles) (w
       abbrev stand_alone : Stand g r false None a x.state (w.lives c t) x.actions branch
       stand_alone = stand_as g r false hand None a x.state (w.lives c t) x.actions branch none stand
 
-      err_goal : Errs g r alone → Leaves (slot (home g r) a r.thread) → Goal
-      err_goal h e =
-          goal_of none_rests (λ d u ne. refl) (trapped a r.thread) (Some (Fault r.core h.pos h.kind))
-          (ap (stepped (home g r) w.machine r.core r.thread a) h.traps
-          ∙ ap (λ f. Some (record { cores = slice_set w.machine.cores r.core (trapped a r.thread); links = w.machine.links; trace = w.machine.trace ++ f ∷ [] })) h.fault)
-          e (errs_answered g first is who w x st c t a at_c r runs_alone branch known stand_alone h)
+      -- inside a transfer
+      in_transfer : branch.mode ≡ runs → (channel : ℕ) (side : Side) (phase : Phase) → r.transfer ≡ Some (in_phase channel side phase) → (j : ℕ) → steps_left phase + j + cost g r ≤ stand.left → InTransfer g r (in_phase channel side phase) branch.items j alone → Leaves (slot (home g r) a r.thread) → Goal
+      in_transfer on channel side between its j few h e = absurd h.goes_with
+      in_transfer on channel side (sends_end v) its j few h e = by_followed (sends_end_followed g first is who w x st c t a at_c r runs_alone branch known stand_alone on channel side v its j few h) e
+      in_transfer on channel side (awaits_ack (wires.Question.offers v)) its j few h e = by_followed (answer_followed g first is who w x st c t a at_c r runs_alone branch known stand_alone on channel side v its j few h) e
+      in_transfer on channel side (awaits_ack opens) its j few h e = absurd h.goes_with
+      in_transfer on channel side (awaits_ack closes) its j few h e = absurd h.goes_with
+      in_transfer on channel side checks_end its j few h e = by_followed (checks_end_followed g first is who w x st c t a at_c r runs_alone branch known stand_alone on channel side its j few h) e
+      in_transfer on channel side sends_ack its j few h e = by_followed (sends_ack_followed g first is who w x st c t a at_c r runs_alone branch known stand_alone on channel side its j few h) e
+      in_transfer on channel side was_closed its j few h e = absurd h.goes_with
+      in_transfer on channel side streams its j few h e = absurd h.goes_with
 
-      go_goal : (j : ℕ) → j ≤ stand.left → Goes g r j alone → Leaves (slot (home g r) a r.thread) → Goal
-      go_goal j few h e =
+      -- outside of one
+      err_goal : r.transfer ≡ None → Errs g r alone → Leaves (slot (home g r) a r.thread) → Goal
+      err_goal outside h e = by_followed (errs_followed g first is who w x st c t a at_c r runs_alone branch known stand_alone (subst StopsIn (sym outside) tt) h) e
+
+      begin_goal : r.transfer ≡ None → branch.mode ≡ runs → (j : ℕ) → j ≤ stand.left → Offers g r j alone → Leaves (slot (home g r) a r.thread) → Goal
+      begin_goal outside on j few h e = by_followed (offer_followed g first is who w x st c t a at_c r runs_alone branch known stand_alone on outside j few h) e
+
+      input_goal : r.transfer ≡ None → branch.mode ≡ runs → (j : ℕ) → j ≤ stand.left → TakesIn g r j alone → Leaves (slot (home g r) a r.thread) → Goal
+      input_goal outside on j few h e = by_followed (input_followed g first is who w x st c t a at_c r runs_alone branch known stand_alone on outside j few h) e
+
+      go_goal : r.transfer ≡ None → (j : ℕ) → j ≤ stand.left → Goes g r j alone → Leaves (slot (home g r) a r.thread) → Goal
+      go_goal outside j few h e =
           goal_of (rests_alone c t) (λ d u ne. alone_elsewhere c (nat_eq u t) d ne) h.left h.made (ap (stepped (home g r) w.machine r.core r.thread a) h.made_is) e
-          (goes_answered g first is who w x st c t a at_c r runs_alone branch known stand_alone j few h h.touched.size)
+          (goes_answered g first is who w x st c t a at_c r runs_alone branch known stand_alone outside j few h h.touched.size)
 
-      free_goal : Frees g r alone → Leaves (slot (home g r) a r.thread) → Goal
-      free_goal h e =
+      free_goal : r.transfer ≡ None → Frees g r alone → Leaves (slot (home g r) a r.thread) → Goal
+      free_goal outside h e =
           goal_of none_rests (λ d u ne. refl) h.left None (ap (stepped (home g r) w.machine r.core r.thread a) h.made_is) e
-          (frees_answered g first is who w x st c t a at_c r runs_alone branch known stand_alone h)
+          (frees_answered g first is who w x st c t a at_c r runs_alone branch known stand_alone outside h)
 
-      wait_goal : Waits g r alone → Leaves (slot (home g r) a r.thread) → Goal
-      wait_goal h e =
+      wait_goal : r.transfer ≡ None → Waits g r alone → Leaves (slot (home g r) a r.thread) → Goal
+      wait_goal outside h e =
           goal_of none_rests (λ d u ne. refl) h.left None (ap (stepped (home g r) w.machine r.core r.thread a) h.made_is) e
-          (waits_answered g first is who w x st c t a at_c r runs_alone branch known stand_alone h)
+          (waits_answered g first is who w x st c t a at_c r runs_alone branch known stand_alone outside h)
 
     -- the turn at an item's own instruction
-    at_turn : (j : ℕ) → j ≤ stand.left → Turn g r j now → Leaves (slot (home g r) a r.thread) → Goal
-    at_turn j few (pauses p none) e = no_step (home g r) w.machine m r.core r.thread a (slot (home g r) a r.thread) (inr p) e
-    at_turn j few (errs h) e = err_goal h.no_hand (subst (λ k. Errs g r (record { core = a; world = x.state; hand = k })) h.no_hand h) e
-    at_turn j few (goes_on h) e = go_goal h.no_hand j few (subst (λ k. Goes g r j (record { core = a; world = x.state; hand = k })) h.no_hand h) e
-    at_turn j few (frees h) e = free_goal h.no_hand (subst (λ k. Frees g r (record { core = a; world = x.state; hand = k })) h.no_hand h) e
-    at_turn j few (waits_tied h) e = wait_goal h.no_hand (subst (λ k. Waits g r (record { core = a; world = x.state; hand = k })) h.no_hand h) e
-    at_turn j few (begins h) e =
+    at_turn : branch.mode ≡ runs → r.transfer ≡ None → (j : ℕ) → j ≤ stand.left → Turn g r j now → Leaves (slot (home g r) a r.thread) → Goal
+    at_turn on out j few (pauses p none) e = no_step (home g r) w.machine m r.core r.thread a (slot (home g r) a r.thread) (inr p) e
+    at_turn on out j few (errs h) e = err_goal h.no_hand out (subst (λ k. Errs g r (record { core = a; world = x.state; hand = k })) h.no_hand h) e
+    at_turn on out j few (goes_on h) e = go_goal h.no_hand out j few (subst (λ k. Goes g r j (record { core = a; world = x.state; hand = k })) h.no_hand h) e
+    at_turn on out j few (frees h) e = free_goal h.no_hand out (subst (λ k. Frees g r (record { core = a; world = x.state; hand = k })) h.no_hand h) e
+    at_turn on out j few (waits_tied h) e = wait_goal h.no_hand out (subst (λ k. Waits g r (record { core = a; world = x.state; hand = k })) h.no_hand h) e
+    at_turn on out j few (offers h) e = begin_goal h.no_hand out on j few (subst (λ k. Offers g r j (record { core = a; world = x.state; hand = k })) h.no_hand h) e
+    at_turn on out j few (takes_in h) e = input_goal h.no_hand out on j few (subst (λ k. TakesIn g r j (record { core = a; world = x.state; hand = k })) h.no_hand h) e
+    at_turn on out j few (begins h) e =
         let same : branch ≡ h.branch = same_Some branch h.branch (sym known ∙ h.does_par.known) in
         let stand' = stand_of g r false hand a x.state (w.lives c t) x.actions branch h.branch same stand in
         goal_of (begun.rests g first is who w x st c t a at_c r hand runs_r j h) (λ d u ne. alone_elsewhere c (begun.moved g first is who w x st c t a at_c r hand runs_r j h u) d ne) (begun.left g first is who w x st c t a at_c r hand runs_r j h) None
         (ap (stepped (home g r) w.machine r.core r.thread a) h.goes) e
-        (begins_followed g first is who w x st c t a at_c r hand runs_r j h stand' few)
+        (begins_followed g first is who w x st c t a at_c r hand runs_r j h stand' out few)
 
     -- a silent step
     on_the_way : (z : Scene) → ((mode : ThreadMode) → mode ≡ Running → ThreadIs r.parents branch.mode mode) → IsSilentStep g r now z → (left : ℕ) → suc left ≤ stand.left → StandsBy g r false branch.items branch.mode left z → Leaves (slot (home g r) a r.thread) → Goal
@@ -180,24 +213,24 @@ module _ (g : Setting) (first : Roles) (is : IsImageOf g first) (who : Roles) (w
     running_alive : branch.mode ≡ runs → (mode : ThreadMode) → mode ≡ Running → ThreadIs r.parents branch.mode mode
     running_alive is_running mode e = subst (λ k. ThreadIs r.parents k mode) (sym is_running) e
 
-    by_way : branch.mode ≡ runs → (n j : ℕ) → n + j ≤ stand.left → LeadsIn g r (Turns g r j) n now → Leaves (slot (home g r) a r.thread) → Goal
-    by_way running zero j few leads e = at_turn j (omega arith) (leads now here) e
-    by_way running (suc n) j few (inl leads) e = at_turn j (omega arith) (leads now here) e
-    by_way running (suc n) j few (inr on) e =
+    by_way : branch.mode ≡ runs → r.transfer ≡ None → (n j : ℕ) → n + j ≤ stand.left → LeadsIn g r (Turns g r j) n now → Leaves (slot (home g r) a r.thread) → Goal
+    by_way running out zero j few leads e = at_turn running out j (omega arith) (leads now here) e
+    by_way running out (suc n) j few (inl leads) e = at_turn running out j (omega arith) (leads now here) e
+    by_way running out (suc n) j few (inr on) e =
         let next = on now here in
         on_the_way next.0 (running_alive running) next.1 (n + j) (omega arith)
-        (subst (λ k. StandsBy g r false branch.items k (n + j) next.0) (sym running) (inl (n, j, omega arith, next.2))) e
+        (subst (λ k. StandsBy g r false branch.items k (n + j) next.0) (sym running) (subst (λ o. StandsWith g r false o branch.items (n + j) next.0) (sym out) (inl (n, j, omega arith, next.2)))) e
 
     -- one that gives a synchroniser back
-    by_resuming : branch.mode ≡ runs → (j : ℕ) → 1 + j + cost g r ≤ stand.left → GivesBack g r branch.items j now → Leaves (slot (home g r) a r.thread) → Goal
-    by_resuming running j few h e =
+    by_resuming : branch.mode ≡ runs → r.transfer ≡ None → (j : ℕ) → 1 + j + cost g r ≤ stand.left → GivesBack g r branch.items j now → Leaves (slot (home g r) a r.thread) → Goal
+    by_resuming running out j few h e =
         let in_hand : hand ≡ giving_back h.sync = h.in_hand in
         let stand' = stand_as g r false hand (giving_back h.sync) a x.state (w.lives c t) x.actions branch in_hand stand in
         let h' = subst (λ k. GivesBack g r branch.items j (record { core = a; world = x.state; hand = k })) in_hand h in
         let runs' : who c t ≡ used_by r (giving_back h.sync) = runs_r ∙ ap (used_by r) in_hand in
-        goal_of (rests_alone c t) (λ d u ne. alone_elsewhere c (nat_eq u t) d ne) (resumes.left g first is who w x st c t a at_c r h.sync runs' branch known running stand' j few h') None
-        (ap (stepped (home g r) w.machine r.core r.thread a) (resumes.made_is g first is who w x st c t a at_c r h.sync runs' branch known running stand' j few h')) e
-        (resumes_followed g first is who w x st c t a at_c r h.sync runs' branch known running stand' j few h')
+        goal_of (rests_alone c t) (λ d u ne. alone_elsewhere c (nat_eq u t) d ne) (resumes.left g first is who w x st c t a at_c r h.sync runs' branch known running stand' out j few h') None
+        (ap (stepped (home g r) w.machine r.core r.thread a) (resumes.made_is g first is who w x st c t a at_c r h.sync runs' branch known running stand' out j few h')) e
+        (resumes_followed g first is who w x st c t a at_c r h.sync runs' branch known running stand' out j few h')
 
     -- one that has ended, and others wait for it
     module _ (p : Parent) (ps : List Parent) (parents : r.parents ≡ p ∷ ps) (over : branch.mode ≡ ended) where
@@ -233,10 +266,16 @@ module _ (g : Setting) (first : Roles) (is : IsImageOf g first) (who : Roles) (w
     trapped_mode [] h = h
     trapped_mode (p ∷ ps) h = h
 
+    -- one that runs, outside of a transfer or inside one
+    by_transfer : branch.mode ≡ runs → (o : Option Transfer) → r.transfer ≡ o → StandsWith g r false o branch.items stand.left now → Leaves (slot (home g r) a r.thread) → Goal
+    by_transfer running None out (inl (n, j, few, leads)) e = by_way running out n j few leads e
+    by_transfer running None out (inr (inl (j, few, h))) e = by_resuming running out j few h e
+    by_transfer running None out (inr (inr h)) e = absurd h
+    by_transfer running (Some transfer) its (j, few, h) e =
+        in_transfer h.no_hand running transfer.channel transfer.side transfer.phase its j few (subst (λ k. InTransfer g r transfer branch.items j (record { core = a; world = x.state; hand = k })) h.no_hand h) e
+
     by_mode : (mode : Mode) → branch.mode ≡ mode → StandsBy g r false branch.items mode stand.left now → Leaves (slot (home g r) a r.thread) → Goal
-    by_mode runs is_running (inl (n, j, few, leads)) e = by_way is_running n j few leads e
-    by_mode runs is_running (inr (inl (j, few, h))) e = by_resuming is_running j few h e
-    by_mode runs is_running (inr (inr h)) e = absurd h
+    by_mode runs is_running h e = by_transfer is_running r.transfer refl h e
     by_mode (waits from count) is_waiting h e = absurd h
     by_mode ended over h e = by_parents r.parents refl over h e
     by_mode erred over h e =

@@ -1,6 +1,6 @@
 -- The plan of a root's core has all that the root's code uses, so each of its statements fits the core.
-use Rattle.std.proofs.Common.{zero, suc, [], ◌∷◌, ap, ◌≡◌, ℕ, ◌<◌, ◌≤◌, Bool, true, false, List, length, Option, Some, None, Contains, slice_get, refl, sym, subst, ◌∙◌, arith}
-use Rattle.std.specs.Prelude.{max}
+use Rattle.std.proofs.Common.{eq-eqb, zero, suc, [], ◌∷◌, ap, ◌≡◌, ℕ, ◌<◌, ◌≤◌, Bool, true, false, List, length, Option, Some, None, Contains, slice_get, refl, sym, subst, ◌∙◌, arith}
+use Rattle.std.specs.Prelude.{max, nat_eq, ◌&&◌}
 use Rattle.xc_tree.specs.declared.tree.TreeDir.{TreeDir}
 use Rattle.xc_tree.specs.declared.tree.TreeDir.TheVariants.{In, Out, Both}
 use Rattle.xc_tree.specs.Types.Entities.{drives}
@@ -10,21 +10,22 @@ use Rattle.xc_kernel.specs.declared.kernel.Var.{Var}
 use Rattle.xc_kernel.specs.declared.statement.KRes.{KRes}
 use Rattle.xc_kernel.specs.declared.statement.KRes.TheVariants.{Port, Timer, Chan}
 use Rattle.xc_kernel.specs.Plain as kernel
-use Rattle.xc_kernel.specs.Things.{Thing, variable, port, by_read, by_change, by_resource, by_expression, by_operands, by_place, by_target, by_some_expression, by_statement, by_statements, by_branches}
+use Rattle.xc_kernel.specs.Things.{Thing, variable, port, channel, by_read, by_change, by_resource, by_expression, by_operands, by_place, by_target, by_condition, by_some_expression, by_some_target, by_statement, by_statements, by_branches}
 use Rattle.xc_meaning.specs.Counts.KernelCounts.{of_statement, greatest_held, greatest_in, greatest_in_branches, words_in}
 use Rattle.xc_meaning.proofs.Basics.{none_given, same_number, or_left, or_right}
 use Rattle.xc_disjoint.specs.Checked.{IsChecked}
-use Rattle.xc_formed.specs.Each.{AnyExpression, AnyPlace, AnyNumber, AnyOutput, AnyInput, EachBranch, EachMaybe, EachStatement, EachOf}
+use Rattle.xc_formed.specs.Each.{AnyExpression, AnyPlace, AnyNumber, AnyOutput, AnyInput, EachBranch, EachMaybe, EachPlace, EachStatement, EachOf}
 use Rattle.xc_formed.specs.Numbers.{IsVariable, IsListed, NumbersInExpression, NumbersInOperands, NumbersInPlace}
-use Rattle.xc_formed.specs.Transfers.{GoesOut, ComesIn, OutputGoes}
+use Rattle.xc_formed.specs.Transfers.{GoesOut, ComesIn, InputComes, OutputGoes}
 use Rattle.xl_expr.specs.declared.plan.VarPlan.{VarPlan}
 use Rattle.xl_expr.specs.Frames.{HasVars, HaveVars, HasPlace, variable_of}
 use Rattle.xl_expr.specs.Plans.{var_in}
 use Rattle.xl_image.specs.Images.{dir_of}
-use Rattle.xl_plan.proofs.Lists.{some_given}
+use Rattle.xl_plan.specs.Layout.{is_used_by}
+use Rattle.xl_plan.proofs.Lists.{contained_at, some_given}
 use Rattle.xl_plan.proofs.UsedResources.{port_used}
-use Rattle.xr_threads.specs.Fits.{UsesSome, IsChanged, PutsOutAt, Fits, AllFit, BranchesFit, greatest}
-use Rattle.xr_threads.specs.Runners.{Setting, Runner, anyone, plan}
+use Rattle.xr_threads.specs.Fits.{ChangesAt, TakesInAt, UsesSome, IsChanged, PutsOutAt, Fits, AllFit, BranchesFit, greatest}
+use Rattle.xr_threads.specs.Runners.{Setting, Runner, IsChannel, anyone, plan}
 
 -- The statements of a root fit its core.
 
@@ -39,6 +40,17 @@ left_within a b n h = grind arith
 
 right_within : (a b n : ℕ) → max a b ≤ n → b ≤ n
 right_within a b n h = grind arith
+
+-- where a root on a core uses a channel, the core does
+pub used_by_root : (core c : ℕ) (rs : List kernel.Root) (i : ℕ) (root : kernel.Root) → slice_get rs i ≡ Some root → root.core ≡ core → by_statements (channel c) root.body ≡ true → is_used_by core c rs ≡ true
+used_by_root core c [] i root e here u = absurd (none_given e)
+used_by_root core c (r ∷ rs) zero root e here u =
+    let same = some_given e in
+    or_left (nat_eq r.core core && by_statements (channel c) r.body) (is_used_by core c rs)
+    (ap (λ (x : kernel.Root). nat_eq x.core core && by_statements (channel c) x.body) same
+    ∙ ap (λ n. nat_eq n core && by_statements (channel c) root.body) here
+    ∙ ap (λ b. b && by_statements (channel c) root.body) (eq-eqb core core refl) ∙ u)
+used_by_root core c (r ∷ rs) (suc i) root e here u = or_right (nat_eq r.core core && by_statements (channel c) r.body) (is_used_by core c rs) (used_by_root core c rs i root e here u)
 
 -- how many words a variable has
 pub words_there : (vs : List Var) (v : ℕ) (x : Var) → slice_get vs v ≡ Some x → words_in vs v ≡ x.words
@@ -99,6 +111,22 @@ module _ (g : Setting) (checked : IsChecked g.program) (core : ℕ) (root : kern
     some_fits None h k = tt
     some_fits (Some e) h k = expression_fits e h k
 
+    dest_fits : (p : Option kernel.Place) → EachPlace (NumbersInExpression V) (NumbersInPlace V) (IsListed g.program.variables) AnyOutput AnyInput AnyNumber p → AreOf (λ th. by_some_target th p) → ChangesAt g r p
+    dest_fits None h k = tt
+    dest_fits (Some p) h k = target_fits p h k
+
+    -- a channel that the root uses is one of its core's
+    channel_fits : (c : ℕ) → c < length g.program.channels → by_statements (channel c) root.body ≡ true → IsChannel g r c
+    channel_fits c lt u =
+        let at = contained_at g.program.roots root among in
+        record { known = lt; used = used_by_root core c g.program.roots at.0 root at.1 here u }
+
+    input_fits : (s : KRes) (time : Option kernel.Expression) (condition : Option kernel.Condition) (stamp : Option kernel.Place) →
+        InputComes g.program.ports (length g.program.channels) (length g.program.timers) s time condition stamp → AreOf (λ th. by_resource th s) → TakesInAt g r s
+    input_fits (Port p) time condition stamp h k = tt
+    input_fits (Timer t) time condition stamp h k = tt
+    input_fits (Chan c) time condition stamp h k = channel_fits c h.0 (k (channel c) (same_number c))
+
     resource_fits : (s : KRes) (time : Option kernel.Expression) (stamp : Option kernel.Place) →
         OutputGoes g.program.ports (length g.program.channels) (length g.program.timers) s time stamp → AreOf (λ th. by_resource th s) → PutsOutAt g r s
     resource_fits (Port p) time stamp h k =
@@ -111,7 +139,7 @@ module _ (g : Setting) (checked : IsChecked g.program) (core : ℕ) (root : kern
           sends = sends x.0.dir (subst (λ (y : PortUse). drives y.dir ≡ true) same h.direction);
         }
     resource_fits (Timer t) time stamp h k = tt
-    resource_fits (Chan c) time stamp h k = tt
+    resource_fits (Chan c) time stamp h k = channel_fits c h.0 (k (channel c) (same_number c))
 
     zero_fits : (v : ℕ) → IsListed g.program.variables v → AreOf (λ th. by_change th v) → IsChanged g r v
     zero_fits v is k =
@@ -152,11 +180,17 @@ module _ (g : Setting) (checked : IsChecked g.program) (core : ℕ) (root : kern
         record {
           time = some_fits o.time n.1.0 (λ th u. k th (or_right (by_resource th o.resource) _ (or_left (by_some_expression th o.time) _ u)));
           value = expression_fits o.value n.1.1.0 (λ th u. k th (or_right (by_resource th o.resource) _ (or_right (by_some_expression th o.time) _ (or_left (by_expression th o.value) _ u))));
-          port = resource_fits o.resource o.time o.stamp t.0 (λ th u. k th (or_left (by_resource th o.resource) _ u));
+          to = resource_fits o.resource o.time o.stamp t.0 (λ th u. k th (or_left (by_resource th o.resource) _ u));
         },
         one,
       )
-      statement_fits (kernel.input i) n t k one held = tt
+      statement_fits (kernel.input i) n t k one held = (
+        record {
+          target = dest_fits i.target n.1.1.1.0 (λ th u. k th (or_right (by_resource th i.resource) _ (or_right (by_some_expression th i.time) _ (or_right (by_condition th i.condition) _ (or_left (by_some_target th i.target) _ u)))));
+          from = input_fits i.resource i.time i.condition i.stamp t.0 (λ th u. k th (or_left (by_resource th i.resource) _ u));
+        },
+        one,
+      )
       statement_fits (kernel.if_then e a b) n t k one held = (
         expression_fits e n.0 (λ th u. k th (or_left _ _ u)),
         all_fit a n.1.0 t.1.0 (λ th u. k th (or_right (by_expression th e) _ (or_left _ _ u))) (left_within (greatest_in vs a) (greatest_in vs b) (greatest g r) held),

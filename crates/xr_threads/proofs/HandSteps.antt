@@ -61,6 +61,7 @@ module _ (g : Setting) (r : Runner) where
     record Left : Type 0 where
       touched : Touched g r y next
       roots : b.roots ≡ y.core.roots
+      channel_ends : b.ends ≡ y.core.ends
       change : HandChange g r y next
       on : StillRuns g r b
       words : (w : ℕ) → slice_get b.words w ≡ slice_get y.core.words w
@@ -81,6 +82,7 @@ module _ (g : Setting) (r : Runner) where
             ports = λ q mine. ap (λ (c : CoreState). slice_get c.ports q) left;
           };
           roots = ap (λ (c : CoreState). c.roots) left;
+          channel_ends = ap (λ (c : CoreState). c.ends) left;
           change = scenes.keeps (ap Some same ∙ sym is) (ap (λ (c : CoreState). c.syncs) left) (same_use g r y next others);
           on = runs_on y.core b step.thread y.core.threads after.pc after.regs running_on step.here refl (ap (λ (c : CoreState). c.threads) left);
           words = all_words;
@@ -99,6 +101,7 @@ module _ (g : Setting) (r : Runner) where
             ports = λ q mine. ap (λ (c : CoreState). slice_get c.ports q) left;
           };
           roots = ap (λ (c : CoreState). c.roots) left;
+          channel_ends = ap (λ (c : CoreState). c.ends) left;
           change = scenes.gets_sync hand n is none (first_free_is y.core.syncs n first) (ap (λ (c : CoreState). c.syncs) left) (ap Some same) (same_use g r y next others);
           on = runs_on y.core b step.thread y.core.threads (step.thread.pc + 1) regs running_on step.here refl (ap (λ (c : CoreState). c.threads) left);
           words = λ w. ap (λ (c : CoreState). slice_get c.words w) left;
@@ -121,6 +124,7 @@ module _ (g : Setting) (r : Runner) where
             ports = λ q mine. ap (λ (c : CoreState). slice_get c.ports q) left;
           };
           roots = ap (λ (c : CoreState). c.roots) left;
+          channel_ends = ap (λ (c : CoreState). c.ends) left;
           change = scenes.gets_thread hand n u x is sync least first there (ap (λ (c : CoreState). c.syncs) left) (ap Some same)
               (ap (λ (c : CoreState). slice_get c.threads u) left ∙ get_set_other threads r.thread u th' other ∙ get_set_same y.core.threads u x (tied_to n x) there) rest;
           on = runs_on y.core b step.thread threads (step.thread.pc + 1) regs running_on step.here (get_set_other y.core.threads u r.thread (tied_to n x) (λ e. other (sym e))) (ap (λ (c : CoreState). c.threads) left);
@@ -143,6 +147,7 @@ module _ (g : Setting) (r : Runner) where
             ports = λ q mine. ap (λ (c : CoreState). slice_get c.ports q) left;
           };
           roots = ap (λ (c : CoreState). c.roots) left;
+          channel_ends = ap (λ (c : CoreState). c.ends) left;
           change = scenes.keeps (ap Some same ∙ sym is) (ap (λ (c : CoreState). c.syncs) left) (record {
             by = λ v o ne at_v.
                 ⊎_elim
@@ -167,7 +172,7 @@ module _ (g : Setting) (r : Runner) where
 
     -- nobody sees it
     pub hand_silent : IsSilentStep g r y next
-    hand_silent = record { made = step.made; world = refl; roots = left.roots; touched = left.touched; hand = left.change; on = left.on }
+    hand_silent = record { made = step.made; world = refl; roots = left.roots; channel_ends = left.channel_ends; touched = left.touched; hand = left.change; on = left.on }
 
     -- the thread runs on
     pub still_on : StillRuns g r b

@@ -452,7 +452,7 @@ module _ (g : Setting) (first : Roles) (is : IsImageOf g first) (who : Roles) (w
   by_roles : (hand' : Option Hand) → z.hand ≡ hand' → (who' : Roles) (moved : ℕ → Bool) → SilentRoles g who who' c t r hand hand' a z.core branch moved → (AreNamed g who w x → AreNamed g who' (watched_after w (Step c t) silent_machine) nothing_told) →
       Follows g none_rests who w x (watched_after w (Step c t) silent_machine)
   by_roles hand' e who' moved roles named =
-      silent_answered g first is who w x st c t a at_c r hand runs_r branch known stand z.core hand' alive silent.on (scene_is hand' e (Touched g r before) silent.touched) silent.roots who' moved roles left few
+      silent_answered g first is who w x st c t a at_c r hand runs_r branch known stand z.core hand' alive silent.on (scene_is hand' e (Touched g r before) silent.touched) silent.roots silent.channel_ends who' moved roles left few
       (scene_is hand' e (StandsBy g r false branch.items branch.mode left) by) named
 
   by_change : HandChange g r before z → Follows g none_rests who w x (watched_after w (Step c t) silent_machine)

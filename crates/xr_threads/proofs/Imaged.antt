@@ -18,6 +18,8 @@ use Rattle.xc_formed.proofs.Formed.{of_programs}
 use Rattle.xc_laws.proofs.Checked.{checked_obey}
 use Rattle.xl_expr.specs.declared.plan.Plan.{Plan}
 use Rattle.xl_image.specs.Images.{IsImage, roots_on}
+use Rattle.xl_image.specs.Roots.{RootsAreBuilt}
+use Rattle.xl_plan.specs.Planned.{StayInRoots}
 use Rattle.xl_plan.proofs.Lists.{some_given, none_given, contains_at}
 use Rattle.xr_match.specs.Meanings.{root_among}
 use Rattle.xr_threads.specs.Fits.{FitOn}
@@ -27,8 +29,11 @@ use Rattle.xr_threads.specs.Runners.{Setting, Runner, anyone}
 use Rattle.xr_threads.proofs.Footprints.{all_fit}
 use Rattle.xr_threads.proofs.FootprintsLong.{each_has_words}
 use Rattle.xr_threads.proofs.ImagedLayout.{core_is, has_all}
+use Rattle.xr_threads.proofs.ImagedLines.{lines_are}
 use Rattle.xr_threads.proofs.ImagedPlans.{IsImaged, counted_at, imaged_at, placed_at, plans}
 use Rattle.xr_threads.proofs.Items as items
+use Rattle.xr_threads.proofs.StartPlain.{plain_begins}
+use Rattle.xr_threads.proofs.StartSides.{start_outside}
 use Rattle.xr_threads.proofs.Starts.{roots_live}
 use Rattle.xr_threads.proofs.Roots.{IsRunner, RootsThread, is_runner, listed_on, needed_is, of_none, of_root, root_inside, root_runs, roles, roots_thread, runner_of, some_root, thread_of}
 
@@ -61,7 +66,7 @@ few_on K core checked lt =
     (within_or_not (threads_on K core) 8)
 
 -- The setting of each stimulus.
-module _ (K : kernel.Kernel) (L : Image) (checked : IsChecked K) (is : IsImage K L) (valid : Valid L) where
+module _ (K : kernel.Kernel) (L : Image) (checked : IsChecked K) (is : IsImage K L) (valid : Valid L) (built : RootsAreBuilt K.roots) (stay : StayInRoots K) where
   abbrev pub setting : Stim → Setting
   setting s = record { program = K; image = L; stimulus = s; plans = plans K L is }
 
@@ -107,6 +112,8 @@ module _ (K : kernel.Kernel) (L : Image) (checked : IsChecked K) (is : IsImage K
         base = refl;
         tie = refl;
         alone = refl;
+        sides = refl;
+        no_transfer = refl;
         footprint = refl;
         inside = subst (λ n. n < threads_on K core) (sym place) (root_inside K core number root known here);
         stack = refl;
@@ -140,11 +147,14 @@ module _ (K : kernel.Kernel) (L : Image) (checked : IsChecked K) (is : IsImage K
     core_of : (c : ℕ) → c < 4 → 1 ≤ threads_on K c → IsCoreOf g c
     core_of c lt some =
         let root = some_root c K.roots some in
-        core_is g checked c lt (imaged_on c root.0 root.1 root.2 root.3)
+        core_is g checked stay c lt (imaged_on c root.0 root.1 root.2 root.3)
 
     pub is_image_of : IsImageOf g who
     is_image_of = record {
       obeys = checked_obey K checked;
+      plain = plain_begins K built;
+      outside = start_outside K stay;
+      lines = lines_are g checked is valid stay;
       roles = is_root_role;
       core = λ c t r e. ap (λ (x : Runner). x.core) (known_runner c t r e).is;
       thread = λ c t r e. ap (λ (x : Runner). x.thread) (known_runner c t r e).is;
@@ -158,6 +168,6 @@ module _ (K : kernel.Kernel) (L : Image) (checked : IsChecked K) (is : IsImage K
     }
 
 -- The image of a checked kernel is what the simulation asks, by one plan for each core, whatever the stimulus.
-pub image_is : (K : kernel.Kernel) (L : Image) → IsChecked K → IsImage K L → Valid L →
+pub image_is : (K : kernel.Kernel) (L : Image) → IsChecked K → IsImage K L → Valid L → RootsAreBuilt K.roots → StayInRoots K →
     (plan : ℕ → Plan) × ((s : Stim) → IsImageOf (record { program = K; image = L; stimulus = s; plans = plan }) (roles K))
-image_is K L checked is valid = (plans K L is, is_image_of K L checked is valid)
+image_is K L checked is valid built stay = (plans K L is, is_image_of K L checked is valid built stay)

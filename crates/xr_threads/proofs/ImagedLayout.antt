@@ -16,7 +16,7 @@ use Rattle.xl_expr.specs.Frames.{Frame, IsNear}
 use Rattle.xl_expr.specs.Plans.{var_in}
 use Rattle.xl_image.specs.Images.{decl_of}
 use Rattle.xl_plan.specs.Layout.{first_temporary, temporary_of, word_of, ports_here, core_of_port, identifier_if, named_by, port_name}
-use Rattle.xl_plan.specs.Planned.{ports_on}
+use Rattle.xl_plan.specs.Planned.{StayInRoots, ports_on}
 use Rattle.xl_plan.proofs.FewPorts.{few_ports}
 use Rattle.xl_plan.proofs.Lists.{some_given, within_all}
 use Rattle.xl_plan.proofs.Numbered.{listed}
@@ -25,6 +25,7 @@ use Rattle.xl_plan.proofs.Sizes.{few_words}
 use Rattle.xr_threads.specs.Images.{IsCoreOf}
 use Rattle.xr_threads.specs.Runners.{Setting, Runner, IsLaidOut, IsPort, anyone, is_among_words, is_word_among, port_place, relied}
 use Rattle.xr_threads.proofs.Footprints.{HasAll, words_there}
+use Rattle.xr_threads.proofs.ImagedEnds.{ends_planned}
 use Rattle.xr_threads.proofs.ImagedPlans.{IsImaged, first_stack_is}
 use Rattle.xr_threads.proofs.Names.{port_named}
 use Rattle.xr_threads.proofs.Places.{is_there, places_differ}
@@ -105,7 +106,7 @@ module _ (g : Setting) (checked : IsChecked g.program) (core : ℕ) (is_core : c
       omega (arith, a, b)
 
 -- A runner on its core.
-module _ (g : Setting) (checked : IsChecked g.program) (r : Runner) (is_core : r.core < 4) (im : IsImaged g.program r.core (parts_in g.image.cores r.core) (g.plans r.core))
+module _ (g : Setting) (checked : IsChecked g.program) (stay : StayInRoots g.program) (r : Runner) (is_core : r.core < 4) (im : IsImaged g.program r.core (parts_in g.image.cores r.core) (g.plans r.core))
     (inside : r.thread < threads_on g.program r.core) (base : r.base ≡ 0) (stack : r.stack ≡ temporary_of g.program r.core r.thread) where
   not_temporary : (v n i : ℕ) (found : VarPlan) → IsNear (g.plans r.core).vars v n found → i < found.words → IsApart r.stack (r.base + n + i)
   not_temporary v n i found near lt =
@@ -135,13 +136,14 @@ module _ (g : Setting) (checked : IsChecked g.program) (r : Runner) (is_core : r
         ∙ ap (named_by (port_name r.core) core_of_port r.core g.program.ports p) is.known
         ∙ ap (λ b. identifier_if b (port_name r.core (port_place g r p))) (eq_true x.core r.core is.core);
     names = λ p x is. port_named r.core (port_place g r p) (place_small g checked r.core is_core im p x is.known);
+    ends = λ c side is. ends_planned g checked stay r is_core im.planned c side is;
   }
 
 -- What the simulation asks of a core.
-pub core_is : (g : Setting) (checked : IsChecked g.program) (core : ℕ) (is_core : core < 4) → IsImaged g.program core (parts_in g.image.cores core) (g.plans core) → IsCoreOf g core
-core_is g checked core is_core im = record {
+pub core_is : (g : Setting) (checked : IsChecked g.program) → StayInRoots g.program → (core : ℕ) (is_core : core < 4) → IsImaged g.program core (parts_in g.image.cores core) (g.plans core) → IsCoreOf g core
+core_is g checked stay core is_core im = record {
   laid = λ r on inside base stack used.
-      laid_out g checked r (subst (λ c. c < 4) (sym on) is_core) (subst (λ c. IsImaged g.program c (parts_in g.image.cores c) (g.plans c)) (sym on) im)
+      laid_out g checked stay r (subst (λ c. c < 4) (sym on) is_core) (subst (λ c. IsImaged g.program c (parts_in g.image.cores c) (g.plans c)) (sym on) im)
       (subst (λ c. r.thread < threads_on g.program c) (sym on) inside) base (stack ∙ ap (λ c. temporary_of g.program c r.thread) (sym on)) used;
   room = room g checked core is_core im;
   stacks = first_stack_is g.program core (g.plans core) im.planned;

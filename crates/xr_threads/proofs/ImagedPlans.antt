@@ -5,7 +5,7 @@ use Rattle.xs_instr.specs.declared.image.Image.{Image}
 use Rattle.xs_instr.specs.Machine.{no_parts, parts_by, parts_in}
 use Rattle.xs_instr.specs.Valid.{AreGoodCores, Valid}
 use Rattle.xc_kernel.specs.Plain as kernel
-use Rattle.xc_disjoint.specs.Needs.{words_on}
+use Rattle.xc_disjoint.specs.Needs.{ends_on, words_on}
 use Rattle.xl_expr.specs.declared.plan.Plan.{Plan}
 use Rattle.xl_image.specs.Images.{IsCoreImage, IsImage, IsPlan, RootAt, decl_of, roots_on}
 use Rattle.xl_plan.specs.Layout.{temporary_of}
@@ -18,6 +18,7 @@ pub record IsImaged (K : kernel.Kernel) (core : ℕ) (part : CoreImage) (plan : 
   pub planned : IsPlan K core plan
   pub words : part.words ≡ words_on K core
   pub ports : part.ports ≡ map decl_of (ports_on core K.ports)
+  pub ends : part.ends ≡ ends_on K core
   pub as_many : length part.roots ≡ length (roots_on core K.roots)
   pub roots : (place : ℕ) (root : kernel.Root) → slice_get (roots_on core K.roots) place ≡ Some root → RootAt K plan part core place root
 
@@ -56,7 +57,7 @@ module _ (K : kernel.Kernel) where
       by false q (missing none is) = missing (none_here q none) (ap (parts_by p (parts_in ps core)) q ∙ is)
 
   abbrev no_plan : Plan
-  no_plan = record { vars = []; ports = []; timers = []; ends = []; first_stack = 0 }
+  no_plan = record { vars = []; ports = []; timers = []; ends = []; channels = []; first_stack = 0 }
 
   -- the plan of a core; one that has no root needs none
   abbrev pub plan_by : {parts : List CoreImage} {core : ℕ} → Part K parts core → Plan
@@ -68,6 +69,7 @@ module _ (K : kernel.Kernel) where
     planned = subst (λ c. IsPlan K c is.plan) n is.planned;
     words = is.words ∙ ap (words_on K) n;
     ports = is.ports ∙ ap (λ c. map decl_of (ports_on c K.ports)) n;
+    ends = is.ends ∙ ap (ends_on K) n;
     as_many = is.as_many ∙ ap (λ c. length (roots_on c K.roots)) n;
     roots = subst (λ c. (place : ℕ) (root : kernel.Root) → slice_get (roots_on c K.roots) place ≡ Some root → RootAt K is.plan (parts_in parts core) c place root) n is.roots;
   }

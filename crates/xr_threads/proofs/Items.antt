@@ -7,6 +7,7 @@ use Rattle.xc_meaning.specs.Settings.Flow.{from_mark_by, items_from_mark}
 use Rattle.xc_meaning.specs.States.Items.{Item, does, says, stores, mark, awaits, transaction_end, chooses, fixed, ends, todo}
 use Rattle.xl_expr.specs.declared.plan.Plan.{Plan}
 use Rattle.xr_threads.specs.Items.{ItemsAt}
+use Rattle.xl_sides.specs.Ends.{Sides}
 use Rattle.xl_walk.specs.Pieces.{Exit, Jumps, PiecesAt}
 use Rattle.xr_threads.specs.Fits.{AllFit, ItemsFit}
 use Rattle.xr_threads.specs.Runners.{Setting, Runner}
@@ -21,9 +22,9 @@ jumps_on code (suc n) m a b c h k =
     let all : Jumps code (suc (n + m)) a c = (h.0, h.1, jumps_on code n m h.0 b c h.2 k) in
     subst (λ l. Jumps code l a c) e all
 
-module _ (plan : Plan) (code : Code) (End : (pc j : ℕ) → Type 0) where
+module _ (plan : Plan) (code : Code) (sides : Sides) (End : (pc j : ℕ) → Type 0) where
   -- jumps lead to items
-  pub behind_jumps : (items : List Item) (exits : List Exit) (n a b j : ℕ) → Jumps code n a b → ItemsAt plan code End items exits b j → ItemsAt plan code End items exits a (n + j)
+  pub behind_jumps : (items : List Item) (exits : List Exit) (n a b j : ℕ) → Jumps code n a b → ItemsAt plan code sides End items exits b j → ItemsAt plan code sides End items exits a (n + j)
   behind_jumps [] exits n a b j h k = absurd k
   behind_jumps (i ∷ rest) exits n a b j h k = record {
     index = k.index;
@@ -35,8 +36,8 @@ module _ (plan : Plan) (code : Code) (End : (pc j : ℕ) → Type 0) where
   }
 
   -- statements before an item
-  code_stands : (ss : kernel.Statements) (item : Item) (rest : List Item) (exits : List Exit) (a b j : ℕ) → PiecesAt code plan ss exits a b → ItemsAt plan code End (item ∷ rest) exits b j → ItemsAt plan code End (todo ss (item ∷ rest)) exits a j
-  code_stands kernel.no_more item rest exits a b j h items = subst (λ q. ItemsAt plan code End (item ∷ rest) exits q j) (sym h) items
+  code_stands : (ss : kernel.Statements) (item : Item) (rest : List Item) (exits : List Exit) (a b j : ℕ) → PiecesAt code plan sides ss exits a b → ItemsAt plan code sides End (item ∷ rest) exits b j → ItemsAt plan code sides End (todo ss (item ∷ rest)) exits a j
+  code_stands kernel.no_more item rest exits a b j h items = subst (λ q. ItemsAt plan code sides End (item ∷ rest) exits q j) (sym h) items
   code_stands (kernel.more s ss) item rest exits a b j h items = record {
     index = a;
     here = 0;
@@ -47,7 +48,7 @@ module _ (plan : Plan) (code : Code) (End : (pc j : ℕ) → Type 0) where
   }
 
   -- statements before items
-  pub pieces_before : (ss : kernel.Statements) (rest : List Item) (exits : List Exit) (a b j : ℕ) → PiecesAt code plan ss exits a b → ItemsAt plan code End rest exits b j → ItemsAt plan code End (todo ss rest) exits a j
+  pub pieces_before : (ss : kernel.Statements) (rest : List Item) (exits : List Exit) (a b j : ℕ) → PiecesAt code plan sides ss exits a b → ItemsAt plan code sides End rest exits b j → ItemsAt plan code sides End (todo ss rest) exits a j
   pieces_before ss [] exits a b j h k = absurd k
   pieces_before ss (i ∷ rest) exits a b j h k = code_stands ss i rest exits a b j h k
 

@@ -32,6 +32,7 @@ use Rattle.xr_threads.specs.Roles.{AreRoles, AreUsedSo, HasReserves, ParentsWait
 use Rattle.xr_threads.specs.Runners.{Footprint, Setting, Runner, code, footprint_of, home, plan}
 use Rattle.xr_threads.specs.Scenes.{Owns, giving_back, held_in, running, sync_in}
 use Rattle.xr_threads.specs.Standing.{AreLoose, HasEnded, IsMade, IsRun, Stand, Standing, Stands, StandsBy, counts, is_of_root, living_on, none_rests, one_where}
+use Rattle.xr_threads.specs.Transfers.{Transfer}
 use Rattle.xr_threads.specs.Turns.{GivesBack, Has, IsFree, IsWaitingTied, JoinsAt, cost}
 use Rattle.xr_threads.proofs.Apartness.{room_of_role}
 use Rattle.xr_threads.proofs.Counts.{living_after}
@@ -49,6 +50,7 @@ use Rattle.xr_threads.proofs.Shrinks.{fits_here}
 use Rattle.xr_threads.proofs.NamedLinks.{joins_linked, told_one}
 use Rattle.xr_threads.proofs.Standing.{Follows, parents_still, told_by}
 use Rattle.xr_threads.proofs.Steps.{answered, clocks_still, far_steps_still, has_stepped, steps_still, watched}
+use Rattle.xr_threads.proofs.Wiring.{TransfersAsBefore, wired_still}
 
 -- branches that wait stand before the first of their `par`
 pub parents_below : (g : Setting) (x : World) (roots core family : ℕ) (forest : IsForest roots x.branches) (ps : List Parent) (first : ℕ) → ParentsWait g x core family ps first → (b : ℕ) → IsAmong (branches_of ps) b → b < first
@@ -591,7 +593,7 @@ module _ (g : Setting) (first : Roles) (is : IsImageOf g first) (who : Roles) (w
           exits = at_join.exits;
           here = own_left;
           bases = record { base = at_join.bases.base; stack = at_join.bases.stack; names = at_join.bases.names };
-          at_code = subst (λ q. ItemsAt (plan g r) (code g r) (EndAt (plan g r) (code g r) r.tie ps) p.items at_join.exits q j) behind at_join.at_code;
+          at_code = subst (λ q. ItemsAt (plan g r) (code g r) p.sides (EndAt (plan g r) (code g r) r.tie ps) p.items at_join.exits q j) behind at_join.at_code;
           fits = fits_here g maker p.items chain.0.fits refl;
           has = has';
           frees = λ d there taken untied.
@@ -620,6 +622,9 @@ module _ (g : Setting) (first : Roles) (is : IsImageOf g first) (who : Roles) (w
           (λ b m. other_there b (λ e. let lt = parents_below g x.state (length g.program.roots) r.core r.family forest ps p.branch chain.1 b m in let z : ⊥ = omega (arith, lt, e) in z)) chain.1;
       thread = record { thread = th'; there = own_left; tied = refl; no_events = refl; is = refl };
       in_hand = gives_back n refl;
+      sides = chain.0.sides;
+      done = λ over. refl;
+      stops = λ over. tt;
       ends_tied = λ over. let both : runs ≡ ended = over in absurd (let z : ⊥ = cc in z);
       left = 1 + j + cost g maker;
       bound =
@@ -651,6 +656,27 @@ module _ (g : Setting) (first : Roles) (is : IsImageOf g first) (who : Roles) (w
     far_by d u ne (roles_after.freed e nt now tied) = absurd (ne e)
     far_by d u ne (roles_after.elsewhere same not_own no_tie) = same
 
+    -- whose branch has ended is in no transfer
+    in_none : (u : ℕ) (q : Runner) (hand : Option Hand) → who c u ≡ used_by q hand → is_done (slice_get x.state.branches q.branch) ≡ true → q.transfer ≡ None
+    in_none u q hand at done =
+        let k = works_at g first is none_rests who w x st c u q hand at in
+        k.done (ended_is k.branch.mode (sym (ap is_done k.known) ∙ done))
+
+    -- each thread is in the transfer in which it was
+    transfers_still : TransfersAsBefore who who'
+    transfers_still =
+        roles_after.joins_transfers g who c t st.roles r runs_r p ps parents n sync (in_none t r None runs_r has_done)
+        (λ u s other at tie. let o = joined_thread u s other at tie in in_none u s other at (ap is_done o.run.known ∙ o.over))
+
+    -- the maker is in none
+    none_inside : (u : ℕ) (q : Runner) (hand : Option Hand) (transfer : Transfer) → moved u ≡ true → who' c u ≡ used_by q hand → q.transfer ≡ Some transfer → roles_after.Place g who c t st.roles r runs_r p ps parents n sync c u → ⊥
+    none_inside u q hand transfer m at its (roles_after.at_own e f now) =
+        let not_one : None ≡ Some transfer = ap (λ (i : Runner). i.transfer) (same_runner maker q (giving_back n) hand (sym now ∙ at)) ∙ its in let z : ⊥ = cc in z
+    none_inside u q hand transfer m at its (roles_after.freed e ne now tied) = let both : unused ≡ used_by q hand = sym now ∙ at in let z : ⊥ = cc in z
+    none_inside u q hand transfer m at its (roles_after.elsewhere same not_own no_tie) =
+        no_tie refl (roles_after.tied_then g who c t st.roles r runs_r p ps parents n sync (who c u)
+        (sym (ap (λ b. b || tied_role_of (who c u)) (ne_eqb u t (λ e. not_own (refl, e)))) ∙ m))
+
     -- the maker goes on in the program, too, and all stand so again
     pub joins_followed : Follows g (rests_alone c t) who w x watched'
     joins_followed = record {
@@ -674,6 +700,9 @@ module _ (g : Setting) (first : Roles) (is : IsImageOf g first) (who : Roles) (w
             steps = λ u m. steps_still g first is none_rests who w x st c t a at_c r None runs_r moved own_moved left world effect None u m;
             far_steps = λ d u ne. far_steps_still g first is none_rests who w x st c t a at_c r None runs_r moved own_moved left world effect None d u ne;
             stand = λ u m. stand_by u m (roles_after.place g who c t st.roles r runs_r p ps parents n sync c u);
+            wired = wired_still g who who' w watched' c a left x.state.inboxes world.inboxes transfers_still
+                (has_stepped g first is none_rests who w x st c t a at_c r None runs_r moved own_moved left world effect None refl) refl refl st.wired;
+            alone = λ u q hand transfer m at its. absurd (none_inside u q hand transfer m at its (roles_after.place g who c t st.roles r runs_r p ps parents n sync c u));
             loose = loose';
             roots = st.roots c a at_c ∙ sym (living_still c);
             far_roots = λ d ne. living_still d;

@@ -8,13 +8,15 @@ use Rattle.xr_threads.specs.Parents.{Parent, branches_of, sync_before, syncs_of}
 use Rattle.xr_threads.specs.Roles.{AreRoles, IsOnce, IsParent, Role, Roles, got_by, outermost, own_branches, unused, used_by}
 use Rattle.xr_threads.specs.Runners.{Setting, Runner, footprint_of}
 use Rattle.xr_threads.specs.Scenes.{Owns, giving_back, held_in, sync_in}
+use Rattle.xr_threads.specs.Transfers.{Transfer}
 use Rattle.xr_threads.proofs.Moves.{parent_sync, same_hand, same_runner}
 use Rattle.xr_threads.proofs.Pools.{num_is, num_same}
+use Rattle.xr_threads.proofs.Wiring.{TransfersAsBefore}
 
 module _ (g : Setting) (who : Roles) (c t : ℕ) (roles : AreRoles g who) (r : Runner) (was : who c t ≡ used_by r None) (p : Parent) (ps : List Parent) (chain : r.parents ≡ p ∷ ps) (n : ℕ) (sync : p.sync ≡ Some n) where
   -- the thread runs the maker again, with the synchroniser to be given back
   abbrev pub own : Runner
-  own = record r { branch = p.branch; parents = ps; footprint = footprint_of p.items }
+  own = record r { branch = p.branch; parents = ps; footprint = footprint_of p.items; sides = p.sides; transfer = None }
 
   -- a role of a thread that is tied to the synchroniser
   abbrev pub is_tied_role : Role → Bool
@@ -81,6 +83,25 @@ module _ (g : Setting) (who : Roles) (c t : ℕ) (roles : AreRoles g who) (r : R
 
   was_own : (d u : ℕ) → d ≡ c → u ≡ t → who d u ≡ used_by r None
   was_own d u e f = ap (λ k. who k u) e ∙ ap (who c) f ∙ was
+
+  -- Each thread is in the transfer in which it was, where the runner and those that are joined are in none.
+  pub joins_transfers : r.transfer ≡ None → ((u : ℕ) (s : Runner) (other : Option Hand) → who c u ≡ used_by s other → s.tie ≡ Some n → s.transfer ≡ None) → TransfersAsBefore who joins
+  joins_transfers none tied_none = record {
+    before = λ d u i other transfer at its. before_by d u i other transfer at its (place d u);
+    still = λ d u i other transfer at its. still_by d u i other transfer at its (place d u);
+  }
+    where
+      before_by : (d u : ℕ) (i : Runner) (other : Option Hand) (transfer : Transfer) → joins d u ≡ used_by i other → i.transfer ≡ Some transfer → Place d u → (j : Runner) × (old : Option Hand) × (who d u ≡ used_by j old) × (j.transfer ≡ Some transfer)
+      before_by d u i other transfer at its (at_own e f now) = let in_none : None ≡ Some transfer = ap (λ (k : Runner). k.transfer) (same_runner own i (giving_back n) other (sym now ∙ at)) ∙ its in absurd (let z : ⊥ = cc in z)
+      before_by d u i other transfer at its (freed e ne now tied) = let both : unused ≡ used_by i other = sym now ∙ at in absurd (let z : ⊥ = cc in z)
+      before_by d u i other transfer at its (elsewhere same apart no_tie) = (i, other, sym same ∙ at, its)
+
+      still_by : (d u : ℕ) (i : Runner) (other : Option Hand) (transfer : Transfer) → who d u ≡ used_by i other → i.transfer ≡ Some transfer → Place d u → (j : Runner) × (now : Option Hand) × (joins d u ≡ used_by j now) × (j.transfer ≡ Some transfer)
+      still_by d u i other transfer at its (at_own e f now) = let in_none : None ≡ Some transfer = sym none ∙ ap (λ (k : Runner). k.transfer) (same_runner r i None other (sym (was_own d u e f) ∙ at)) ∙ its in absurd (let z : ⊥ = cc in z)
+      still_by d u i other transfer at its (freed e ne now tied) =
+          let tie : i.tie ≡ Some n = ap (λ (k : Runner). k.tie) (sym (same_runner tied.0 i tied.1 other (sym tied.2 ∙ at))) ∙ tied.3 in
+          let in_none : None ≡ Some transfer = sym (tied_none u i other (ap (λ k. who k u) (sym e) ∙ at) tie) ∙ its in absurd (let z : ⊥ = cc in z)
+      still_by d u i other transfer at its (elsewhere same apart no_tie) = (i, other, same ∙ at, its)
 
   -- the synchroniser and those of the outer ones
   pub syncs_are : syncs_of r.parents ≡ n ∷ syncs_of ps

@@ -46,6 +46,7 @@ module _ (g : Setting) (r : Runner) where
         made = jump_made y pc p regs here at_pc;
         world = refl;
         roots = refl;
+        channel_ends = refl;
         touched = record {
           clock = refl;
           others = λ u ne not_held. get_set_other y.core.threads r.thread u th' ne;
@@ -95,8 +96,8 @@ module _ (g : Setting) (r : Runner) where
 
   -- the exit of a block is a jump to the code behind it
   pub exit_item_leads : (n : ℕ) → StatementLeads g r (kernel.exit n)
-  exit_item_leads n rest exits pc pc' j z regs laid (q, is, at_pc, end) fits behind rest_fits has here bases no_hand =
-      let on = exits_lead (plan g r) (code g r) (turn.EndOf g r) rest exits n q pc' j is behind in
+  exit_item_leads n rest exits pc pc' j z regs laid (q, is, at_pc, end) fits sided behind rest_fits has here bases no_hand =
+      let on = exits_lead (plan g r) (code g r) r.sides (turn.EndOf g r) rest exits n q pc' j is behind in
       leads_now g r (Turns g r j) (cost g r) z (λ y k.
       let has_y = has_kept g r (does (kernel.exit n) ∷ rest) z y k has in
       let here_y : IsAt g r y pc regs = k.thread ∙ here in

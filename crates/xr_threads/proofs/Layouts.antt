@@ -19,8 +19,9 @@ use Rattle.xl_expr.proofs.Lists.{room_kept}
 use Rattle.xr_threads.specs.Fits.{Uses, UsesAt}
 use Rattle.xr_threads.specs.Runners.{Setting, Runner, IsLaidOut, IsPort, is_among_words, is_word_among, is_word_at, is_word_of, plan, port_place, relied}
 use Rattle.xr_threads.specs.Scenes.{Scene, IsStable, Kept, running}
-use Rattle.xr_threads.specs.Standing.{IsAtRest, IsOnItsWay, IsResuming}
-use Rattle.xr_threads.specs.Turns.{GivesBack, HasBases, HoldsStore, Has, IsAt, PortsStand, Rest, Runs, Turns}
+use Rattle.xr_threads.specs.Standing.{IsAtRest, IsOnItsWay, IsResuming, IsTransferring}
+use Rattle.xr_threads.specs.Transfers.{Transfer}
+use Rattle.xr_threads.specs.Turns.{GivesBack, HasBases, HoldsStore, Has, InTransfer, IsAt, PortsStand, Rest, Runs, Turns}
 use Rattle.xr_threads.proofs.Scenes.{leads_in_stable, turns_stable}
 use Rattle.xr_threads.proofs.Arriving.{Since, among_words, any_port, stack_relied}
 
@@ -142,6 +143,25 @@ module _ (g : Setting) (r : Runner) where
   -- one at rest is at rest still
   pub at_rest_stable : (items : List Item) (most : ℕ) → IsStable g r (IsAtRest g r items most)
   at_rest_stable items most z y k h = (h.0, h.1, k.hand ∙ h.2, rest_kept items h.0 z y k h.3)
+
+  -- one inside a transfer is so still
+  pub transfer_stable : (transfer : Transfer) (items : List Item) (j : ℕ) → IsStable g r (InTransfer g r transfer items j)
+  transfer_stable transfer items j z y k h = record {
+    pos = h.pos;
+    goes_with = h.goes_with;
+    stands_in = h.stands_in;
+    no_hand = k.hand ∙ h.no_hand;
+    pc = h.pc;
+    regs = h.regs;
+    here = k.thread ∙ h.here;
+    steps = h.steps;
+    fits = h.fits;
+    has = has_kept items z y k h.has;
+  }
+
+  -- with the same steps before it
+  pub transferring_stable : (transfer : Transfer) (items : List Item) (most : ℕ) → IsStable g r (IsTransferring g r transfer items most)
+  transferring_stable transfer items most z y k h = (h.0, h.1, transfer_stable transfer items h.0 z y k h.2)
 
   -- What the runner itself leaves on its way. Its temporary words are there still, as the code that it runs says.
 

@@ -6,31 +6,32 @@ use Rattle.xc_meaning.specs.Settings.Flow.{from_mark_by, items_from_mark}
 use Rattle.xc_meaning.specs.States.Items.{Item, does, says, stores, mark, awaits, transaction_end, chooses, fixed, ends}
 use Rattle.xl_expr.specs.declared.plan.Plan.{Plan}
 use Rattle.xr_threads.specs.Items.{ItemsAt, MarkAt}
+use Rattle.xl_sides.specs.Ends.{Sides}
 use Rattle.xl_walk.specs.Pieces.{Exit, exit_by, exit_of}
 
-module _ (plan : Plan) (code : Code) (End : (pc j : ℕ) → Type 0) where
+module _ (plan : Plan) (code : Code) (sides : Sides) (End : (pc j : ℕ) → Type 0) where
   -- items stand at an index, with at most so many jumps between them
   pub record StandWithin (items : List Item) (pc most : ℕ) : Type 0 where
     pub exits : List Exit
     pub jumps : ℕ
     pub few : jumps ≤ most
-    pub stand : ItemsAt plan code End items exits pc jumps
+    pub stand : ItemsAt plan code sides End items exits pc jumps
 
   -- more jumps are allowed
   more_jumps : (items : List Item) (pc n m : ℕ) → n ≤ m → StandWithin items pc n → StandWithin items pc m
   more_jumps items pc n m le h = record { exits = h.exits; jumps = h.jumps; few = (let f = h.few in omega arith); stand = h.stand }
 
   -- at a mark
-  at_mark : (m : ℕ) (rest : List Item) (exits : List Exit) (n index j : ℕ) (same : Bool) → nat_eq n m ≡ same → (here further : ℕ) (h : MarkAt plan code m (ItemsAt plan code End rest) exits here further) → further ≤ j → exit_by same here (exit_of h.outer n) ≡ Some index → (exit_of h.outer n ≡ Some index → StandWithin (items_from_mark n rest) index further) → StandWithin (from_mark_by same (mark m ∷ rest) (items_from_mark n rest)) index j
+  at_mark : (m : ℕ) (rest : List Item) (exits : List Exit) (n index j : ℕ) (same : Bool) → nat_eq n m ≡ same → (here further : ℕ) (h : MarkAt plan code m (ItemsAt plan code sides End rest) exits here further) → further ≤ j → exit_by same here (exit_of h.outer n) ≡ Some index → (exit_of h.outer n ≡ Some index → StandWithin (items_from_mark n rest) index further) → StandWithin (from_mark_by same (mark m ∷ rest) (items_from_mark n rest)) index j
   at_mark m rest exits n index j true f here k h le e next = record {
     exits = exits;
     jumps = k;
     few = le;
-    stand = subst (λ p. ItemsAt plan code End (mark m ∷ rest) exits p k) (same_Some here index e) (record { index = here; here = 0; further = k; jumps = refl; stands = h; sum = omega arith });
+    stand = subst (λ p. ItemsAt plan code sides End (mark m ∷ rest) exits p k) (same_Some here index e) (record { index = here; here = 0; further = k; jumps = refl; stands = h; sum = omega arith });
   }
   at_mark m rest exits n index j false f here k h le e next = more_jumps (items_from_mark n rest) index k j le (next e)
 
-  pub exits_lead : (items : List Item) (exits : List Exit) (n index pc j : ℕ) → exit_of exits n ≡ Some index → ItemsAt plan code End items exits pc j → StandWithin (items_from_mark n items) index j
+  pub exits_lead : (items : List Item) (exits : List Exit) (n index pc j : ℕ) → exit_of exits n ≡ Some index → ItemsAt plan code sides End items exits pc j → StandWithin (items_from_mark n items) index j
   exits_lead [] exits n index pc j e h = absurd h
   exits_lead (does s ∷ rest) exits n index pc j e h =
       more_jumps (items_from_mark n rest) index h.further j (let s' = h.sum in omega arith) (exits_lead rest exits n index h.stands.0 h.further e h.stands.2)

@@ -12,6 +12,7 @@ use Rattle.xc_kernel.specs.declared.kernel.PortUse.{PortUse}
 use Rattle.xc_kernel.specs.Eval.{words_of}
 use Rattle.xc_meaning.specs.Runs.{acts_all}
 use Rattle.xc_meaning.specs.States.Branches.{Branch, has_ended}
+use Rattle.xc_meaning.specs.States.Channels.{Inboxes}
 use Rattle.xc_meaning.specs.States.Worlds.{World, Action}
 use Rattle.xl_par.specs.Hands.{Hand, IsAmong}
 use Rattle.xr_match.specs.Implements.{clock_of}
@@ -24,8 +25,13 @@ use Rattle.xr_threads.specs.Roles.{AreRoles, AreUsedSo, HasReserves, IsParent, P
 use Rattle.xr_threads.specs.Runners.{Setting, Runner, IsLaidOut, IsPort, MayChange, port_place}
 use Rattle.xr_threads.specs.Scenes.{Kept, Owns, SpareFor, sync_in}
 use Rattle.xr_threads.specs.Standing.{AreLoose, IsMade, IsRun, Standing, Stands, living_on}
+use Rattle.xr_threads.specs.Transfers.{Transfer}
+use Rattle.xr_threads.specs.Wired.{AreWired, HasAlone}
+use Rattle.xr_threads.proofs.Alone.{alone_behind}
 use Rattle.xr_threads.proofs.Apartness.{apart_of_runners, laid_of_role, own_variables}
 use Rattle.xr_threads.proofs.Holding.{far_wanted, loose_far}
+use Rattle.xr_threads.proofs.Lines.{line_known}
+use Rattle.xr_threads.proofs.Plains.{plain_behind}
 use Rattle.xr_threads.proofs.Reserves.{laws_behind}
 use Rattle.xr_threads.proofs.Rooms.{spare_for}
 use Rattle.xr_threads.proofs.Standing.{clock_at, core_at, runner_still, told_by}
@@ -62,6 +68,9 @@ pub record IsNextStanding
       Kept g s (record { core = a; world = x.state; hand = hand }) (record { core = b; world = y; hand = hand })
   pub far_kept : (d t : ℕ) (e : CoreState) (s : Runner) (hand : Option Hand) → d ≢ c → slice_get w.machine.cores d ≡ Some e → who d t ≡ used_by s hand →
       Kept g s (record { core = e; world = x.state; hand = hand }) (record { core = e; world = y; hand = hand })
+  pub wired : AreWired g who' w'.machine.cores y.inboxes
+  pub alone : (u : ℕ) (s : Runner) (hand : Option Hand) (transfer : Transfer) → moved u ≡ true → who' c u ≡ used_by s hand → s.transfer ≡ Some transfer →
+      HasAlone y.branches transfer.channel transfer.side s.branch
   pub loose : 1 ≤ threads_on g.program c → AreLoose g who' c b y
   pub far_loose : (d : ℕ) (e : CoreState) → d ≢ c → slice_get w.machine.cores d ≡ Some e → AreLoose g who d e x.state → AreLoose g who' d e y
   pub roots : b.roots ≡ living_on c y.branches
@@ -87,6 +96,12 @@ used_still who who' d e same h = record {
   owned = λ t n r hand is owns. h.owned t n r hand (sym (same t) ∙ is) owns;
 }
 
+-- a thread is inside a transfer on a channel of the program's
+pub channel_known : (g : Setting) (who : Roles) (cores : List CoreState) (boxes : List Inboxes) → AreWired g who cores boxes → (d u : ℕ) (s : Runner) (hand : Option Hand) (transfer : Transfer) → who d u ≡ used_by s hand → s.transfer ≡ Some transfer → transfer.channel < length g.program.channels
+channel_known g who cores boxes wired d u s hand transfer is its =
+    let k = wired.listed d u transfer.channel transfer.side (record { runner = s; hand = hand; runs = is; transfer = transfer; is = its; channel_is = refl; side_is = refl }) in
+    line_known g.program k.0 transfer.channel k.1
+
 -- then the two sides stand so again
 pub moves : (g : Setting) (may_rest may_rest' : (core thread : ℕ) → Bool) (who who' : Roles) (w w' : Watched) (x : Told (of_kernel g.program))
     (c : ℕ) (a b : CoreState) (moved : (thread : ℕ) → Bool) (piece : List Action) (y : World) →
@@ -100,6 +115,7 @@ moves g may_rest may_rest' who who' w w' x c a b moved piece y st step next =
       links = step.links ∙ st.links;
       cores = step.as_many ∙ st.cores;
       lawful = laws_behind g x.state st.lawful piece y next.acted;
+      plain = plain_behind g x.state st.lawful st.plain piece y next.acted;
       roles = next.roles;
       reserves = next.reserves;
       used = λ d e at.
@@ -122,6 +138,12 @@ moves g may_rest may_rest' who who' w w' x c a b moved piece y st step next =
           ⊎_elim
           (λ (h : d ≡ c). ap (λ (f : CoreState). length f.words) (sym (is_b d e h at)) ∙ step.size ∙ st.sizes c a step.was ∙ ap (λ k. (parts_in g.image.cores k).words) (sym h))
           (λ (ne : d ≢ c). st.sizes d e (far d e ne at))
+          (cases_eq d c);
+      wired = next.wired;
+      alone = λ d u s hand transfer is its.
+          ⊎_elim
+          (λ (h : d ≡ c). alone_here u s hand transfer (ap (λ k. who' k u) (sym h) ∙ is) its (moved u) refl)
+          (λ (ne : d ≢ c). alone_there d u s hand transfer ne (sym (next.far_role d u ne) ∙ is) its)
           (cases_eq d c);
       roots = λ d e at.
           ⊎_elim
@@ -160,6 +182,32 @@ moves g may_rest may_rest' who who' w w' x c a b moved piece y st step next =
 
     here : (t : ℕ) → Stands g (may_rest' c t) b y (w'.lives c t) (told_by g.program g.stimulus x piece y).actions (who' c t)
     here t = by_moved t (moved t) refl
+
+    -- a branch whose thread is inside a transfer, and which is what it was, has its side for itself still
+    alone_kept : (d u : ℕ) (e : CoreState) (s : Runner) (hand : Option Hand) (transfer : Transfer) → slice_get w.machine.cores d ≡ Some e → who d u ≡ used_by s hand → s.transfer ≡ Some transfer →
+        slice_get y.branches s.branch ≡ slice_get x.state.branches s.branch → HasAlone y.branches transfer.channel transfer.side s.branch
+    alone_kept d u e s hand transfer at is its same =
+        let works = works_of g s (may_rest d u) hand e x.state (w.lives d u) x.actions (subst (Stands g (may_rest d u) e x.state (w.lives d u) x.actions) is (st.threads d u e at)) in
+        alone_behind transfer.channel transfer.side g x.state st.lawful
+        (channel_known g who w.machine.cores x.state.inboxes st.wired d u s hand transfer is its) s.branch works.branch works.branch works.known (st.alone d u s hand transfer is its)
+        piece y next.acted (same ∙ works.known)
+        (λ over. none_some (sym (works.done over) ∙ its))
+      where
+        none_some : ◌≡◌ {A = Option Transfer} None (Some transfer) → ⊥
+        none_some f = cc
+
+    alone_here : (u : ℕ) (s : Runner) (hand : Option Hand) (transfer : Transfer) → who' c u ≡ used_by s hand → s.transfer ≡ Some transfer → (m : Bool) → moved u ≡ m → HasAlone y.branches transfer.channel transfer.side s.branch
+    alone_here u s hand transfer is its true m = next.alone u s hand transfer m is its
+    alone_here u s hand transfer is its false m =
+        let old = sym (next.same_role u m) ∙ is in
+        alone_kept c u a s hand transfer step.was old its (next.kept u s hand m old).branch
+
+    alone_there : (d u : ℕ) (s : Runner) (hand : Option Hand) (transfer : Transfer) → d ≢ c → who d u ≡ used_by s hand → s.transfer ≡ Some transfer → HasAlone y.branches transfer.channel transfer.side s.branch
+    alone_there d u s hand transfer ne is its =
+        let lt = st.roles.there d u s hand is in
+        let four = st.cores in
+        let e = core_at w.machine.cores d (omega arith) in
+        alone_kept d u e.0 s hand transfer e.1 is its (next.far_kept d u e.0 s hand ne e.1 is).branch
 
 -- What an event of one runner leaves as it was for all others: it changes threads that are its own, that it got or that are unused; ties them
 -- to synchronisers of its own; takes synchronisers that are free and gives back its own ones; and changes words, ports and variables within its

@@ -14,6 +14,7 @@ use Rattle.xc_meaning.specs.States.Branches.{Branch}
 use Rattle.xc_meaning.specs.States.Items.{Item}
 use Rattle.xc_meaning.specs.States.Worlds.{World, Action, go}
 use Rattle.xl_par.specs.Hands.{Hand, IsAmong, with_sync, with_thread_got}
+use Rattle.xl_sides.specs.Ends.{Sides}
 use Rattle.xr_match.specs.Lives.{Watched, life_after}
 use Rattle.xr_match.specs.Meanings.{of_kernel}
 use Rattle.xr_match.specs.Sources.{Told}
@@ -31,7 +32,8 @@ use Rattle.xr_threads.proofs.NamedFamilies.{AreBornOf, Grown, children_born, gro
 use Rattle.xr_threads.proofs.NamedOwn.{freed_named, gives_back_stays, goes_named, joined_named, joins_stays, resumed_named, started_named}
 use Rattle.xr_threads.proofs.NamedPieces.{Goes, goes_into, goes_on, grown_more, grown_one, grown_two}
 use Rattle.xr_threads.proofs.NamedSilent.{gets_sync_named, gets_thread_named, keeps_named}
-use Rattle.xr_threads.proofs.OpensRoles.{at_kid, at_own, elsewhere, index_among, index_further, index_here, index_within, kid, kid_there, opens, own as opens_own, own_there, place}
+use Rattle.xr_threads.proofs.Indices.{index_among, index_further, index_here, index_within}
+use Rattle.xr_threads.proofs.OpensRoles.{at_kid, at_own, elsewhere, kid, kid_there, opens, own as opens_own, own_there, place}
 use Rattle.xr_threads.proofs.JoinsRoles as joins_of
 use Rattle.xr_threads.proofs.JoinsRoles.{joins}
 use Rattle.xr_threads.proofs.Counts.{counts_one}
@@ -137,13 +139,13 @@ module _ (g : Setting) (may_rest : (core thread : ℕ) → Bool) (who : Roles) (
         ])
 
     -- The branches of a `par` are set off.
-    pub opens_linked : (h : Hand) (runs_r : who c t ≡ used_by r (Some h)) (n : ℕ) (sync_is : h.sync ≡ Some n) (first rest : List Item) (items_of : (index : ℕ) → List Item) (branch : Branch) (bs : kernel.Branches) (left : List Item) (piece : List Action) (own_thread : Thread) →
+    pub opens_linked : (h : Hand) (runs_r : who c t ≡ used_by r (Some h)) (n : ℕ) (sync_is : h.sync ≡ Some n) (first rest : List Item) (items_of : (index : ℕ) → List Item) (sides_of : (index : ℕ) → Sides) (branch : Branch) (bs : kernel.Branches) (left : List Item) (piece : List Action) (own_thread : Thread) →
         slice_get x.state.branches r.branch ≡ Some branch → length (all_begun bs) ≡ 1 + length h.threads → 1 ≤ length h.threads → b.syncs ≡ a.syncs → b.threads ≡ slice_set (all_started a.threads n) t own_thread →
         ((u : ℕ) (i : Thread) → slice_get a.threads u ≡ Some i → is_tied i n ≡ true → IsAmong h.threads u) →
-        AreNamed g (opens g who c t st.roles r h runs_r n sync_is (length x.state.branches) first rest items_of) w' (told_by g.program g.stimulus x piece (opened g.program g.stimulus r.branch x.state branch bs left))
-    opens_linked h runs_r n sync_is first rest items_of branch bs left piece own_thread known many some syncs threads tied =
+        AreNamed g (opens g who c t st.roles r h runs_r n sync_is (length x.state.branches) first rest items_of sides_of) w' (told_by g.program g.stimulus x piece (opened g.program g.stimulus r.branch x.state branch bs left))
+    opens_linked h runs_r n sync_is first rest items_of sides_of branch bs left piece own_thread known many some syncs threads tied =
         let from = length x.state.branches in
-        let who' = opens g who c t st.roles r h runs_r n sync_is from first rest items_of in
+        let who' = opens g who c t st.roles r h runs_r n sync_is from first rest items_of sides_of in
         let y = opened g.program g.stimulus r.branch x.state branch bs left in
         let more = new_branches g.program g.stimulus r.branch x.state branch bs left in
         let count = length (all_begun bs) in
@@ -153,11 +155,11 @@ module _ (g : Setting) (may_rest : (core thread : ℕ) → Bool) (who : Roles) (
         let born : AreBornOf r.family count 0 more = subst (λ f. AreBornOf f count 0 more) family (children_born (step_of g.program g.stimulus x.state r.branch branch left) count 0 [] (all_begun bs) (omega arith)) in
         started_named g may_rest who who' w m' x (told_by g.program g.stimulus x piece y) st named c t a b at_a at_b r h runs_r n sync_is own_thread syncs threads tied (told_not_less g x piece y) more count
         (grown_more x.state.branches y.branches more r.branch branch (waiting g.program g.stimulus r.branch x.state branch bs left) known refl refl) born (omega (arith, many, some)) (omega (arith, many))
-        (opens_own g who c t st.roles r h runs_r n sync_is from first rest items_of) (own_there g who c t st.roles r h runs_r n sync_is from first rest items_of) refl
+        (opens_own g who c t st.roles r h runs_r n sync_is from first rest items_of sides_of) (own_there g who c t st.roles r h runs_r n sync_is from first rest items_of sides_of) refl
         (begun_of_index who' c from h.threads (st.roles.held_once c t r (Some h) runs_r)
-        (λ u i e. (kid g who c t st.roles r h runs_r n sync_is from first rest items_of i u, kid_there g who c t st.roles r h runs_r n sync_is from first rest items_of u i e, refl)))
+        (λ u i e. (kid g who c t st.roles r h runs_r n sync_is from first rest items_of sides_of i u, kid_there g who c t st.roles r h runs_r n sync_is from first rest items_of sides_of u i e, refl)))
         (λ d u ne apart.
-        elim (place g who c t st.roles r h runs_r n sync_is from first rest items_of d u) [
+        elim (place g who c t st.roles r h runs_r n sync_is from first rest items_of sides_of d u) [
           | at_own e f now ↦ absurd (ne (e, f))
           | at_kid i e among now old ↦ absurd (apart e (index_within h.threads u i among).0)
           | elsewhere same not_own no_kid ↦ same

@@ -1,5 +1,5 @@
 -- What a piece of the program's run makes of the branches: the names stay, and a family makes one more `par`, or none.
-use Rattle.std.proofs.Common.{◌≡◌, ℕ, ◌<◌, ◌≤◌, ◌≢◌, List, [], ◌∷◌, ◌++◌, length, Some, refl, sym, ◌∙◌, subst, arith}
+use Rattle.std.proofs.Common.{◌≡◌, ℕ, ◌<◌, ◌≤◌, ◌≢◌, List, [], ◌∷◌, ◌++◌, length, Some, refl, sym, ◌∙◌, subst}
 use Rattle.std.specs.Prelude.{slice_get, slice_set}
 use Rattle.xc_meaning.specs.States.Branches.{Branch}
 use Rattle.xl_expr.proofs.Lists.{get_set_other}
@@ -8,12 +8,9 @@ use Rattle.xr_match.specs.Sources.{Told}
 use Rattle.xr_threads.specs.Living.{pars_of}
 use Rattle.xr_threads.specs.Runners.{Setting}
 use Rattle.xr_threads.proofs.Named.{Lengthens, lengthens_by, pars_still}
-use Rattle.xr_threads.proofs.NamedFamilies.{AreBornOf, Grown, born_of_below, born_of_one, grown_append, grown_same, grown_set}
+use Rattle.xr_threads.proofs.NamedFamilies.{AreBornOf, Grown, born_of_below, born_of_one, grown_append, grown_set}
 
--- the branches of two states are the same, or one of them is another of the same birth
-pub grown_as : (bs bs' : List Branch) → bs' ≡ bs → Grown bs bs' []
-grown_as bs bs' e = subst (λ l. Grown bs l []) (sym e) (grown_same bs)
-
+-- one of the branches is another of the same birth
 pub grown_one : (bs bs' : List Branch) (n : ℕ) (old new : Branch) → slice_get bs n ≡ Some old → new.birth ≡ old.birth → bs' ≡ slice_set bs n new → Grown bs bs' []
 grown_one bs bs' n old new h birth e = subst (λ l. Grown bs l []) (sym e) (grown_set bs n old new h birth)
 
@@ -39,16 +36,6 @@ grown_two bs bs' n m old new old' new' h birth h' birth' ne e =
 pub record Goes (g : Setting) (x x' : Told (of_kernel g.program)) : Type 0 where
   pub longer : Lengthens g x x'
   pub pars : (f : ℕ) → pars_of f x'.state.branches ≡ pars_of f x.state.branches
-
-pub goes_then : (g : Setting) (x y z : Told (of_kernel g.program)) → Goes g x y → Goes g y z → Goes g x z
-goes_then g x y z h k = record {
-  longer = record {
-    actions = λ f. let a = h.longer.actions f in let b = k.longer.actions f in omega (arith, a, b);
-    names = λ name f e. k.longer.names name f (h.longer.names name f e);
-    births = λ e. k.longer.births (h.longer.births e);
-  };
-  pars = λ f. k.pars f ∙ h.pars f;
-}
 
 -- no branch is added
 pub goes_on : (g : Setting) (x x' : Told (of_kernel g.program)) → ((f : ℕ) → x.actions f ≤ x'.actions f) → Grown x.state.branches x'.state.branches [] → Goes g x x'

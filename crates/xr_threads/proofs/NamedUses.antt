@@ -73,15 +73,6 @@ module _ (a b : CoreState) where
     threads = λ u. ⊎_elim (λ (e : u ≡ t). used_thread u (ap (λ k. in_use (slice_get a.threads k)) e ∙ own)) (λ (ne : u ≢ t). same_thread u (others u ne)) (cases_eq u t);
   }
 
-  -- all others are used alike
-  pub uses_alike : (t : ℕ) → b.syncs ≡ a.syncs → in_use (slice_get a.threads t) ≡ true → length b.threads ≡ length a.threads →
-      ((u : ℕ) (x : Thread) → u ≢ t → slice_get a.threads u ≡ Some x → (x' : Thread) × (slice_get b.threads u ≡ Some x') × (x'.mode ≡ x.mode)) → GetsNothing a b
-  uses_alike t syncs own as_many others = record {
-    syncs = same_syncs syncs;
-    threads = λ u.
-        ⊎_elim (λ (e : u ≡ t). used_thread u (ap (λ k. in_use (slice_get a.threads k)) e ∙ own)) (λ (ne : u ≢ t). alike_thread as_many u (λ x k. others u x ne k)) (cases_eq u t);
-  }
-
   -- one that starts was in use
   started_thread : (n u : ℕ) → ((x : Thread) → slice_get a.threads u ≡ Some x → is_tied x n ≡ true → in_use (slice_get a.threads u) ≡ true) → (not (in_use (slice_get a.threads u)) && in_use (slice_get (all_started a.threads n) u)) ≡ false
   started_thread n u used = by_thread (slice_get a.threads u) refl

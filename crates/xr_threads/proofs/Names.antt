@@ -1,7 +1,7 @@
--- A port's identifier names the port.
+-- A port's identifier names the port, and an end's the end.
 use Rattle.std.proofs.Common.{◌≡◌, ℕ, ◌/◌, ◌%◌, ◌^◌, ◌<◌, ap, ◌∙◌, arith, eq-eqb}
-use Rattle.xs_instr.specs.Resources.{APort, of_kind, named_by, named}
-use Rattle.xl_plan.specs.Layout.{port_name}
+use Rattle.xs_instr.specs.Resources.{AnEnd, APort, of_kind, named_by, named}
+use Rattle.xl_plan.specs.Layout.{end_name, port_name}
 
 name_core : (c p : ℕ) → p < 2 ^ 16 → port_name c p / 2 ^ 24 ≡ c
 name_core c p h = omega arith
@@ -18,3 +18,19 @@ port_named c p h =
     ap (named_by r) (eq-eqb (r / 2 ^ 24) c (name_core c p h))
     ∙ ap (λ (n : ℕ). of_kind n (r % 2 ^ 8)) (name_number c p h)
     ∙ ap (of_kind p) (name_kind c p h)
+
+end_core : (c e : ℕ) → e < 2 ^ 16 → end_name c e / 2 ^ 24 ≡ c
+end_core c e h = omega arith
+
+end_number_is : (c e : ℕ) → e < 2 ^ 16 → end_name c e / 2 ^ 8 % 2 ^ 16 ≡ e
+end_number_is c e h = omega arith
+
+end_kind : (c e : ℕ) → e < 2 ^ 16 → end_name c e % 2 ^ 8 ≡ 2
+end_kind c e h = omega arith
+
+pub end_named : (c e : ℕ) → e < 2 ^ 16 → named c (end_name c e) ≡ AnEnd e
+end_named c e h =
+    let r = end_name c e in
+    ap (named_by r) (eq-eqb (r / 2 ^ 24) c (end_core c e h))
+    ∙ ap (λ (n : ℕ). of_kind n (r % 2 ^ 8)) (end_number_is c e h)
+    ∙ ap (of_kind e) (end_kind c e h)

@@ -5,94 +5,23 @@ use Rattle.std.proofs.lemmas.Bool.{cases_eq, ne_eqb}
 use Rattle.xc_meaning.specs.States.Items.{Item}
 use Rattle.xl_par.specs.Hands.{Hand, IsAmong}
 use Rattle.xl_plan.specs.Layout.{temporary_of}
+use Rattle.xl_sides.specs.Ends.{Sides}
 use Rattle.xr_threads.specs.Parents.{Parent, syncs_of}
 use Rattle.xr_threads.specs.Roles.{AreRoles, IsOnce, IsParent, Role, Roles, got_by, outermost, own_branches, unused, used_by}
 use Rattle.xr_threads.specs.Runners.{Setting, Runner, footprint_of}
 use Rattle.xr_threads.specs.Scenes.{Owns, held_in, sync_in}
+use Rattle.xr_threads.specs.Transfers.{Transfer}
 use Rattle.xr_threads.proofs.Moves.{same_hand, same_runner}
+use Rattle.xr_threads.proofs.Wiring.{TransfersAsBefore}
+use Rattle.xr_threads.proofs.Indices.{among_index, index_among, index_of, index_once, index_within}
 
--- Threads that were got, the last one first, each by its index from 1 on.
-
-abbrev pub index_by : Bool → (here : ℕ) → (others : Option ℕ) → Option ℕ
-index_by true here others = Some here
-index_by false here others = others
-
-abbrev pub index_among : List ℕ → ℕ → Option ℕ
-index_among [] u = None
-index_among (v ∷ vs) u = index_by (nat_eq u v) (suc (length vs)) (index_among vs u)
-
-pub index_here : (v u : ℕ) (vs : List ℕ) → u ≡ v → index_among (v ∷ vs) u ≡ Some (suc (length vs))
-index_here v u vs e = ap (λ b. index_by b (suc (length vs)) (index_among vs u)) (eq-eqb u v e)
-
-pub index_further : (v u : ℕ) (vs : List ℕ) → u ≢ v → index_among (v ∷ vs) u ≡ index_among vs u
-index_further v u vs ne = ap (λ b. index_by b (suc (length vs)) (index_among vs u)) (ne_eqb u v ne)
-
--- one that has an index is among them
-pub index_within : (us : List ℕ) (u i : ℕ) → index_among us u ≡ Some i → IsAmong us u × (1 ≤ i) × (i ≤ length us)
-index_within [] u i e = absurd (let z : ⊥ = cc in z)
-index_within (v ∷ vs) u i e =
-    ⊎_elim
-    (λ (here : u ≡ v).
-    let both : Some (suc (length vs)) ≡ Some i = sym (index_here v u vs here) ∙ e in
-    let same : suc (length vs) ≡ i = cc in
-    (inl here, (omega arith), omega arith))
-    (λ (ne : u ≢ v).
-    let on = index_within vs u i (sym (index_further v u vs ne) ∙ e) in
-    (inr on.0, on.1, (let le = on.2 in omega arith)))
-    (cases_eq u v)
-
-pub among_index : (us : List ℕ) (u : ℕ) → IsAmong us u → (i : ℕ) × (index_among us u ≡ Some i)
-among_index [] u m = absurd m
-among_index (v ∷ vs) u m =
-    ⊎_elim
-    (λ (here : u ≡ v). (suc (length vs), index_here v u vs here))
-    (λ (ne : u ≢ v).
-    let on = among_index vs u (⊎_elim (λ (e : u ≡ v). absurd (ne e)) (λ (k : IsAmong vs u). k) m) in
-    (on.0, index_further v u vs ne ∙ on.1))
-    (cases_eq u v)
-
--- no two have the same index
-pub index_once : (us : List ℕ) (u v i : ℕ) → index_among us u ≡ Some i → index_among us v ≡ Some i → v ≡ u
-index_once [] u v i e f = absurd (let z : ⊥ = cc in z)
-index_once (w ∷ ws) u v i e f =
-    ⊎_elim
-    (λ (here : u ≡ w).
-    ⊎_elim
-    (λ (there : v ≡ w). there ∙ sym here)
-    (λ (ne : v ≢ w).
-    let both : Some (suc (length ws)) ≡ Some i = sym (index_here w u ws here) ∙ e in
-    let same : suc (length ws) ≡ i = cc in
-    let le = (index_within ws v i (sym (index_further w v ws ne) ∙ f)).2 in absurd (omega arith))
-    (cases_eq v w))
-    (λ (ne : u ≢ w).
-    ⊎_elim
-    (λ (there : v ≡ w).
-    let both : Some (suc (length ws)) ≡ Some i = sym (index_here w v ws there) ∙ f in
-    let same : suc (length ws) ≡ i = cc in
-    let le = (index_within ws u i (sym (index_further w u ws ne) ∙ e)).2 in absurd (omega arith))
-    (λ (nv : v ≢ w). index_once ws u v i (sym (index_further w u ws ne) ∙ e) (sym (index_further w v ws nv) ∙ f))
-    (cases_eq v w))
-    (cases_eq u w)
-
--- and each index is one's
-pub index_of : (us : List ℕ) (i : ℕ) → IsOnce us → 1 ≤ i → i ≤ length us → (u : ℕ) × (index_among us u ≡ Some i)
-index_of [] i once some few = absurd (omega arith)
-index_of (w ∷ ws) i once some few =
-    ⊎_elim
-    (λ (last : i ≡ suc (length ws)). (w, index_here w w ws refl ∙ ap Some (sym last)))
-    (λ (before : i ≢ suc (length ws)).
-    let on = index_of ws i once.1 some (let ne = before in omega (arith, few, ne)) in
-    let there = (index_within ws on.0 i on.1).0 in
-    (on.0, index_further w on.0 ws (λ e. once.0 (subst (IsAmong ws) e there)) ∙ on.1))
-    (cases_eq i (suc (length ws)))
-
-module _ (g : Setting) (who : Roles) (c t : ℕ) (roles : AreRoles g who) (r : Runner) (h : Hand) (was : who c t ≡ used_by r (Some h)) (sync : ℕ) (sync_is : h.sync ≡ Some sync) (from : ℕ) (first rest : List Item) (items_of : (index : ℕ) → List Item) where
+module _ (g : Setting) (who : Roles) (c t : ℕ) (roles : AreRoles g who) (r : Runner) (h : Hand) (was : who c t ≡ used_by r (Some h)) (sync : ℕ) (sync_is : h.sync ≡ Some sync) (from : ℕ) (first rest : List Item) (items_of : (index : ℕ) → List Item) (sides_of : (index : ℕ) → Sides) where
   abbrev pub parent : Parent
-  parent = record { branch = r.branch; from = from; count = suc (length h.threads); sync = Some sync; items = rest }
+  parent = record { branch = r.branch; from = from; count = suc (length h.threads); sync = Some sync; items = rest; sides = r.sides }
 
   -- the thread itself runs the first branch
   abbrev pub own : Runner
-  own = record r { branch = from; parents = parent ∷ r.parents; footprint = footprint_of first }
+  own = record r { branch = from; parents = parent ∷ r.parents; footprint = footprint_of first; sides = sides_of 0; transfer = None }
 
   -- and each that was got another one
   abbrev pub kid : (index thread : ℕ) → Runner
@@ -106,6 +35,8 @@ module _ (g : Setting) (who : Roles) (c t : ℕ) (roles : AreRoles g who) (r : R
     stack = temporary_of g.program c u;
     footprint = footprint_of (items_of i);
     parents = [];
+    sides = sides_of i;
+    transfer = None;
   }
 
   abbrev pub kid_role : (thread : ℕ) → Option ℕ → Role → Role
@@ -214,6 +145,23 @@ module _ (g : Setting) (who : Roles) (c t : ℕ) (roles : AreRoles g who) (r : R
 
   pub still : (d u : ℕ) (s : Runner) (other : Option Hand) → who d u ≡ used_by s other → IsStill d u s
   still d u s other is = still_by d u s other is (place d u)
+
+  -- Each thread is in the transfer in which it was, where the runner is in none.
+  pub opens_transfers : r.transfer ≡ None → TransfersAsBefore who opens
+  opens_transfers none = record {
+    before = λ d u i other transfer at its. before_by d u i other transfer at its (place d u);
+    still = λ d u i other transfer at its. still_inside d u i other transfer at its (place d u);
+  }
+    where
+      before_by : (d u : ℕ) (i : Runner) (other : Option Hand) (transfer : Transfer) → opens d u ≡ used_by i other → i.transfer ≡ Some transfer → Place d u → (j : Runner) × (old : Option Hand) × (who d u ≡ used_by j old) × (j.transfer ≡ Some transfer)
+      before_by d u i other transfer at its (at_own e f now) = let in_none : None ≡ Some transfer = ap (λ (k : Runner). k.transfer) (same_runner own i None other (sym now ∙ at)) ∙ its in absurd (let z : ⊥ = cc in z)
+      before_by d u i other transfer at its (at_kid k e among now old) = let in_none : None ≡ Some transfer = ap (λ (q : Runner). q.transfer) (same_runner (kid k u) i None other (sym now ∙ at)) ∙ its in absurd (let z : ⊥ = cc in z)
+      before_by d u i other transfer at its (elsewhere same apart no_kid) = (i, other, sym same ∙ at, its)
+
+      still_inside : (d u : ℕ) (i : Runner) (other : Option Hand) (transfer : Transfer) → who d u ≡ used_by i other → i.transfer ≡ Some transfer → Place d u → (j : Runner) × (now : Option Hand) × (opens d u ≡ used_by j now) × (j.transfer ≡ Some transfer)
+      still_inside d u i other transfer at its (at_own e f now) = let in_none : None ≡ Some transfer = sym none ∙ ap (λ (k : Runner). k.transfer) (same_runner r i (Some h) other (sym (was_own d u e f) ∙ at)) ∙ its in absurd (let z : ⊥ = cc in z)
+      still_inside d u i other transfer at its (at_kid k e among now old) = let both : got_by t ≡ used_by i other = sym old ∙ at in absurd (let z : ⊥ = cc in z)
+      still_inside d u i other transfer at its (elsewhere same apart no_kid) = (i, other, same ∙ at, its)
 
   -- The new branches are nobody's yet.
   module _ (below : (d u b : ℕ) (s : Runner) (other : Option Hand) → who d u ≡ used_by s other → IsAmong (own_branches s) b → b < from) where

@@ -1,4 +1,5 @@
--- An output to a port: the word goes out once the time is come, where there is one, and the thread waits with its branch till then.
+-- An output. To a port the word goes out once the time is come, where there is one, and the thread waits with its branch till then; over a channel
+-- it is offered.
 use Rattle.std.proofs.Common.{◌≡◌, ◌≢◌, ℕ, zero, suc, ◌+◌, ◌*◌, ◌≤◌, Bool, true, false, List, [], ◌∷◌, option_map, Option, Some, None, refl, sym, ap, ◌∙◌, subst, ⊎_elim, arith, eq-eqb}
 use Rattle.std.specs.Prelude.{nat_eq, slice_get, slice_index}
 use Rattle.std.proofs.lemmas.Bool.{cases_eq, ne_eqb}
@@ -37,18 +38,18 @@ use Rattle.xl_expr.proofs.Lists.{get_set_same, get_set_other}
 use Rattle.xl_plan.specs.Layout.{port_name}
 use Rattle.xl_port.specs.Outputs.{OutputOutcome, PortStands, PutsOut, ResourceIs, TimeIsLaid, ValueOutcome, gone_out, is_due, out_record, output_nodes, set_for, time_nodes}
 use Rattle.xl_port.specs.PortSteps.{WithinPort}
-use Rattle.xl_walk.specs.Built as built
-use Rattle.xl_walk.specs.Pieces.{Exit}
+use Rattle.xl_walk.specs.Pieces.{Exit, OutputAt}
 use Rattle.xr_threads.specs.Fits.{IsOutPort, ItemsFit, OutputFits, PutsOutAt, UsesSome}
 use Rattle.xr_threads.specs.Parents.{syncs_of}
-use Rattle.xr_threads.specs.Runners.{Setting, Runner, IsLaidOut, home, plan, port_place, relied}
+use Rattle.xr_threads.specs.Runners.{Setting, Runner, IsLaidOut, code, home, plan, port_place, relied}
 use Rattle.xr_threads.specs.Scenes.{Scene, Kept, running}
 use Rattle.xr_threads.specs.Turns as turn
-use Rattle.xr_threads.specs.Turns.{CannotAct, Errs, Goes, Has, HasBases, IsAt, ItemsFrom, PortIs, PortsStand, Runs, StatementLeads, Turn, Turns, cost}
+use Rattle.xr_threads.specs.Turns.{CannotAct, Errs, Goes, Has, HasBases, IsAt, IsOnSide, ItemsFrom, PortIs, PortsStand, Runs, StatementLeads, Turn, Turns, cost}
 use Rattle.xr_threads.proofs.Arriving.{Since, apart_of_changes, at_runs, arrives_at_port, but, port_kept, since_kept}
 use Rattle.xr_threads.proofs.Bases.{bases_worked}
 use Rattle.xr_threads.proofs.Evaluations.{err_acts, eval_still, item_acts, kinds_agree, nodes_are, runs_with, with_items}
 use Rattle.xr_threads.proofs.Layouts.{has_since_port, laid_at, room_of, runs_at, runs_kept, store_since}
+use Rattle.xr_threads.proofs.Offered.{offer_leads}
 use Rattle.xr_threads.proofs.Scenes.{leads_as, leads_more}
 
 -- two numbers are compared either way
@@ -285,6 +286,7 @@ module _ (g : Setting) (r : Runner) (laid : IsLaidOut g r) (o : kernel.Output) (
                 };
                 roots = refl;
                 syncs = refl;
+                channel_ends = refl;
                 no_hand = since.hand ∙ no_hand;
                 items = rest;
                 acts = record {
@@ -294,7 +296,8 @@ module _ (g : Setting) (r : Runner) (laid : IsLaidOut g r) (o : kernel.Output) (
                   core = has.core;
                   world = world;
                   acted = step_by true h;
-                  is_next = record { clocks = refl; branches = refl; store = λ u c. refl; inboxes = refl; trace = refl };
+                  is_next = record { clocks = refl; branches = refl; store = λ u c. refl; trace = refl };
+                  inboxes = refl;
                 };
                 jumps = j;
                 fewer = omega arith;
@@ -378,10 +381,10 @@ module _ (g : Setting) (r : Runner) (laid : IsLaidOut g r) (o : kernel.Output) (
         (λ y h. turns (option_map (eval store) o.time) (eval store o.value) refl refl y h.0 h.1)
         (arrives_at_port g r (IsApart r.stack) (apart_of_changes g r) p out.listed out.is (AtEnd (option_map (eval store) o.time) (eval store o.value)) n z (at_runs g r z pc regs here) way)
 
--- From the code of an output the thread comes to the instruction that puts the word out.
+-- From the code of an output the thread comes to the instruction that puts the word out, or to the first step of the protocol.
 module _ (g : Setting) (r : Runner) where
   pub output_leads : (o : kernel.Output) → StatementLeads g r (kernel.output o)
-  output_leads o rest exits pc pc' j z regs laid (is_port, no_stamp, code) (fits, counted) behind fit_rest has here bases no_hand = to o.resource refl is_port fits.port
+  output_leads o rest exits pc pc' j z regs laid piece (fits, counted) sided behind fit_rest has here bases no_hand = to o.resource refl piece fits.to sided
     where
       most : ℕ
       most = 8 * output_nodes o + 4
@@ -389,8 +392,8 @@ module _ (g : Setting) (r : Runner) where
       few : most ≤ cost g r
       few = omega (arith, counted, time_costs o.time, nodes_are o.value)
 
-      to : (res : KRes) → o.resource ≡ res → built.IsPort res → PutsOutAt g r res → turn.Leads g r (cost g r) j z
-      to (ToPort p) e h out = leads_more g r (Turns g r j) most (cost g r) z few (comes g r laid o fits p e no_stamp out rest z has exits pc pc' j regs here bases no_hand behind fit_rest most way)
+      to : (res : KRes) → o.resource ≡ res → OutputAt (code g r) (plan g r) r.sides o res pc pc' → PutsOutAt g r res → IsOnSide g r res → turn.Leads g r (cost g r) j z
+      to (ToPort p) e (no_stamp, code) out on = leads_more g r (Turns g r j) most (cost g r) z few (comes g r laid o fits p e no_stamp out rest z has exits pc pc' j regs here bases no_hand behind fit_rest most way)
         where
           its : PortIs g r p out.listed z
           its = has.ports p out.listed out.is
@@ -400,5 +403,5 @@ module _ (g : Setting) (r : Runner) where
               subst (λ q. WithinPort (home g r) (relied g r) (IsApart r.stack) r.thread (port_place g r p) (OutputOutcome (home g r) (relied g r) r.stack r.thread (running r.tie pc regs) z.core.words (port_place g r p) its.port o.pos q (option_map (eval z.world.store) o.time) (eval z.world.store o.value)) most z.core) (sym code.end)
               (code.so.by (home g r) (relied g r) r.stack r.thread (port_place g r p) its.port (running r.tie pc regs) z.world.store z.core code.stand (runs_at g r z pc regs here) (room_of g r laid z regs bases has.holds) (time_laid g r laid z regs o.time fits.time bases has.holds) (laid_at g r laid z regs o.value fits.value bases has.holds)
               (port_stands g r laid o fits p e no_stamp out rest z has exits pc pc' j regs here bases no_hand behind fit_rest))
-      to (ToTimer t) e h out = absurd h
-      to (ToChannel c) e h out = absurd h
+      to (ToTimer t) e h out on = absurd h
+      to (ToChannel c) e h out on = offer_leads g r o c e out rest exits pc pc' j z regs laid h (fits, counted) on behind fit_rest has here bases no_hand

@@ -11,7 +11,7 @@ use Rattle.xs_instr.specs.Machine.{noted}
 use Rattle.xc_disjoint.specs.Needs.{threads_on}
 use Rattle.xc_laws.specs.Tree.{IsWaiting}
 use Rattle.xc_meaning.specs.Runs.{acts, acts_all}
-use Rattle.xc_meaning.specs.States.Branches.{Branch, runs, waits, has_ended}
+use Rattle.xc_meaning.specs.States.Branches.{Branch, runs, waits, ended, has_ended}
 use Rattle.xc_meaning.specs.States.Worlds.{World, Action, go}
 use Rattle.xl_expr.proofs.Lists.{get_set_same, get_set_other}
 use Rattle.xl_par.specs.Hands.{Hand, IsAmong}
@@ -22,24 +22,25 @@ use Rattle.xr_match.specs.Systems.{SomeIs}
 use Rattle.xr_threads.specs.Images.{IsImageOf}
 use Rattle.xr_threads.specs.Parents.{Parent, branches_of}
 use Rattle.xr_threads.specs.Roles.{IsParent, ParentsWait, Role, Roles, got_by, own_branches, used_by}
-use Rattle.xr_threads.specs.Runners.{Setting, Runner, footprint_of}
+use Rattle.xr_threads.specs.Runners.{Runner, Setting, footprint_of}
 use Rattle.xr_threads.specs.Scenes.{Touched, giving_back}
 use Rattle.xr_threads.specs.Standing.{AreLoose, IsMade, IsRun, Stand, Standing, Stands, counts, living_on, none_rests}
-use Rattle.xr_threads.specs.Roles.{unused}
-use Rattle.xr_threads.proofs.Seating.{roles_leave}
-use Rattle.xr_threads.proofs.Usage.{used_leave}
-use Rattle.xr_threads.specs.Turns.{HoldsStore, IsFree, IsNext, PortsStand}
+use Rattle.xr_threads.specs.Transfers.{Transfer}
+use Rattle.xr_threads.specs.Turns.{HoldsStore, IsNext, PortsStand}
+use Rattle.xr_threads.specs.Wired.{AreWired, HasAlone}
+use Rattle.xr_threads.proofs.Alone.{alone_behind}
 use Rattle.xr_threads.proofs.Counts.{far_counts, living_after}
-use Rattle.xr_threads.proofs.NamedLinks.{leaves_linked, own_linked, told_one}
-use Rattle.xr_threads.proofs.NamedPieces.{Goes}
 use Rattle.xr_threads.proofs.Holding.{LeavesLoose, loose_behind}
-use Rattle.xr_threads.proofs.Moves.{Effect, laid_at, same_hand, same_runner, stands_at}
+use Rattle.xr_threads.proofs.Moves.{Effect, channel_known, laid_at, same_hand, same_runner, stands_at}
+use Rattle.xr_threads.proofs.NamedLinks.{own_linked, told_one}
+use Rattle.xr_threads.proofs.NamedPieces.{Goes}
 use Rattle.xr_threads.proofs.Pools.{num_is}
 use Rattle.xr_threads.proofs.Reserves.{GiveAsBefore, reserves_behind, reserves_of_others}
 use Rattle.xr_threads.proofs.Seats.{IsSeated, goes_on, role_cases, role_far, role_here, role_other, roles_go_on, with_role}
 use Rattle.xr_threads.proofs.Standing.{Follows, get_set_cases, told_by}
 use Rattle.xr_threads.proofs.Steps.{answered, clocks_still, far_steps_still, has_stepped, steps_still, watched}
 use Rattle.xr_threads.proofs.Usage.{OthersUsed, used_on}
+use Rattle.xr_threads.proofs.Wiring.{TransfersAsBefore, wired_still}
 
 -- a step of the family pays for the silent steps behind it
 pub bound_grows : (most greatest steps left j further actions more : ℕ) → most ≡ 8 * (greatest + 16) → steps + left ≤ most * (actions + 1) → j ≤ left → further ≤ j + 1 + (8 * greatest + 8) → 1 ≤ more → steps + 1 + further ≤ most * (actions + more + 1)
@@ -66,7 +67,7 @@ pub rests_there : (c t : ℕ) → rests_alone c t c t ≡ true
 rests_there c t = ap (λ b. b && nat_eq t t) (eq-eqb c c refl) ∙ eq-eqb t t refl
 
 -- What a branch's own step leaves of its core and of the program. As many roots and roots' branches go on, the thread is tied as before or to
--- nothing, and memory and ports are as the program has them.
+-- nothing, and memory and ports are as the program has them. The thread may be inside a transfer then.
 pub record OwnStep (g : Setting) (r : Runner) (c : ℕ) (a : CoreState) (x : World) : Type 0 where
   pub left : CoreState
   pub made : Option Record
@@ -76,6 +77,7 @@ pub record OwnStep (g : Setting) (r : Runner) (c : ℕ) (a : CoreState) (x : Wor
   pub world : World
   pub acted : acts g.program g.stimulus x (go r.branch) ≡ Some world
   pub next : Branch
+  pub transfer : Option Transfer
   pub birth : next.birth ≡ branch.birth
   pub is_next : IsNext g r x world next made
   pub core : next.core ≡ branch.core
@@ -88,10 +90,10 @@ pub record OwnStep (g : Setting) (r : Runner) (c : ℕ) (a : CoreState) (x : Wor
 
 module _ (g : Setting) (first : Roles) (is : IsImageOf g first) (who : Roles) (w : Watched) (x : Told (of_kernel g.program)) (st : Standing g none_rests who w x)
     (c t : ℕ) (a : CoreState) (at_c : slice_get w.machine.cores c ≡ Some a) (r : Runner) (runs_r : who c t ≡ used_by r None) (e : OwnStep g r c a x.state) where
-  core_is : r.core ≡ c
+  pub core_is : r.core ≡ c
   core_is = st.roles.core c t r None runs_r
 
-  thread_is : r.thread ≡ t
+  pub thread_is : r.thread ≡ t
   thread_is = st.roles.thread c t r None runs_r
 
   moved : ℕ → Bool
@@ -107,10 +109,10 @@ module _ (g : Setting) (first : Roles) (is : IsImageOf g first) (who : Roles) (w
   pub other_branch : (n : ℕ) → n ≢ r.branch → slice_get e.world.branches n ≡ slice_get x.state.branches n
   other_branch n ne = ap (λ l. slice_get l n) e.is_next.branches ∙ get_set_other x.state.branches r.branch n e.next ne
 
-  branch_cases : (n : ℕ) (branch : Branch) → slice_get e.world.branches n ≡ Some branch → ((n ≡ r.branch) × (branch ≡ e.next)) ⊎ ((n ≢ r.branch) × (slice_get x.state.branches n ≡ Some branch))
+  pub branch_cases : (n : ℕ) (branch : Branch) → slice_get e.world.branches n ≡ Some branch → ((n ≡ r.branch) × (branch ≡ e.next)) ⊎ ((n ≢ r.branch) × (slice_get x.state.branches n ≡ Some branch))
   branch_cases n branch there = get_set_cases x.state.branches r.branch n e.branch e.next branch e.known (ap (λ l. slice_get l n) (sym e.is_next.branches) ∙ there)
 
-  all_acted : acts_all g.program g.stimulus (Some x.state) piece ≡ Some e.world
+  pub all_acted : acts_all g.program g.stimulus (Some x.state) piece ≡ Some e.world
   all_acted = ap (λ o. acts_all g.program g.stimulus o []) e.acted
 
   not_t : (u : ℕ) → only_thread t u ≡ false → u ≢ t
@@ -143,7 +145,7 @@ module _ (g : Setting) (first : Roles) (is : IsImageOf g first) (who : Roles) (w
       none_is_some n f = cc
 
   -- the program's branches are placed, and made, as they were
-  own_placed : (n : ℕ) (branch : Branch) → slice_get e.world.branches n ≡ Some branch → branch.core < 4
+  pub own_placed : (n : ℕ) (branch : Branch) → slice_get e.world.branches n ≡ Some branch → branch.core < 4
   own_placed n branch there =
       ⊎_elim
       (λ (h : (n ≡ r.branch) × (branch ≡ e.next)). subst (λ k. k < 4) (sym (ap (λ (b : Branch). b.core) h.1 ∙ e.core)) (st.placed r.branch e.branch e.known))
@@ -169,14 +171,14 @@ module _ (g : Setting) (first : Roles) (is : IsImageOf g first) (who : Roles) (w
       runs_not_waits : (from count : ℕ) → runs ≡ waits from count → ⊥
       runs_not_waits from count f = cc
 
-  own_made : (n : ℕ) (branch : Branch) → slice_get e.world.branches n ≡ Some branch → has_ended branch.mode ≡ false → IsMade (length g.program.roots) e.world.branches n
+  pub own_made : (n : ℕ) (branch : Branch) → slice_get e.world.branches n ≡ Some branch → has_ended branch.mode ≡ false → IsMade (length g.program.roots) e.world.branches n
   own_made n branch there goes_on =
       ⊎_elim
       (λ (h : (n ≡ r.branch) × (branch ≡ e.next)). subst (IsMade (length g.program.roots) e.world.branches) (sym h.0) (made_still r.branch (st.made r.branch e.branch e.known (ap has_ended e.running))))
       (λ (h : (n ≢ r.branch) × (slice_get x.state.branches n ≡ Some branch)). made_still n (st.made n branch h.1 goes_on))
       (branch_cases n branch there)
 
-  own_roots : e.left.roots ≡ living_on c e.world.branches
+  pub own_roots : e.left.roots ≡ living_on c e.world.branches
   own_roots =
       let after = living_after c x.state.branches r.branch e.branch e.next e.known in
       let old = st.roots c a at_c in
@@ -190,7 +192,7 @@ module _ (g : Setting) (first : Roles) (is : IsImageOf g first) (who : Roles) (w
       stand_core : e.branch.core ≡ r.core
       stand_core = (subst (λ o. SomeIs o (Stand g r false None a x.state (w.lives c t) x.actions)) e.known (stands_at g first is none_rests who w x st c t a r None at_c runs_r)).core
 
-  own_far_roots : (d : ℕ) → d ≢ c → living_on d e.world.branches ≡ living_on d x.state.branches
+  pub own_far_roots : (d : ℕ) → d ≢ c → living_on d e.world.branches ≡ living_on d x.state.branches
   own_far_roots d ne =
       let after = living_after d x.state.branches r.branch e.branch e.next e.known in
       let far_old = far_counts d e.branch (λ f. ne (sym f ∙ core_of_branch)) in
@@ -198,10 +200,10 @@ module _ (g : Setting) (first : Roles) (is : IsImageOf g first) (who : Roles) (w
       let same : living_on d (slice_set x.state.branches r.branch e.next) ≡ living_on d x.state.branches = omega arith in
       ap (living_on d) e.is_next.branches ∙ same
 
-  leaves_loose : LeavesLoose g r a e.left x.state e.world
+  pub leaves_loose : LeavesLoose g r a e.left x.state e.world
   leaves_loose = record { words = e.touched.words; ports = e.touched.ports; store = e.is_next.store }
 
-  others_used : OthersUsed g who c t st.roles r None runs_r a e.left (st.used c a at_c)
+  pub others_used : OthersUsed g who c t st.roles r None runs_r a e.left (st.used c a at_c)
   others_used = record {
     as_many = e.touched.as_many;
     as_many_syncs = ap length e.syncs;
@@ -214,10 +216,10 @@ module _ (g : Setting) (first : Roles) (is : IsImageOf g first) (who : Roles) (w
   own_goes = told_one g x piece e.world r.branch e.branch e.next e.known e.birth e.is_next.branches
 
   -- the core behind the step, and its other threads
-  at_left : slice_get (slice_set w.machine.cores c e.left) c ≡ Some e.left
+  pub at_left : slice_get (slice_set w.machine.cores c e.left) c ≡ Some e.left
   at_left = get_set_same w.machine.cores c a e.left at_c
 
-  others_there : (u : ℕ) → u ≢ t → slice_get e.left.threads u ≡ slice_get a.threads u
+  pub others_there : (u : ℕ) → u ≢ t → slice_get e.left.threads u ≡ slice_get a.threads u
   others_there u ne = e.touched.others u (λ f. ne (f ∙ thread_is)) (λ k. k)
 
   -- what was there behind another role of the thread
@@ -225,13 +227,13 @@ module _ (g : Setting) (first : Roles) (is : IsImageOf g first) (who : Roles) (w
     abbrev who' : Roles
     who' = with_role who c t role
 
-    same_role : (u : ℕ) → only_thread t u ≡ false → who' c u ≡ who c u
+    pub same_role : (u : ℕ) → only_thread t u ≡ false → who' c u ≡ who c u
     same_role u m = role_other who c t role u (not_t u m)
 
   -- The thread goes on with its branch, or stands where that has ended or erred.
   module _ (may_rest' : (core thread : ℕ) → Bool) where
     abbrev pub s : Runner
-    s = record r { footprint = footprint_of e.next.items }
+    s = record r { footprint = footprint_of e.next.items; transfer = e.transfer }
 
     abbrev who_on : Roles
     who_on = with_role who c t (used_by s None)
@@ -301,7 +303,40 @@ module _ (g : Setting) (first : Roles) (is : IsImageOf g first) (who : Roles) (w
     abbrev pub watched_on : Watched
     watched_on = watched g first is none_rests who w x st c t a at_c r None runs_r (only_thread t) (eq-eqb t t refl) e.left e.world own_effect e.made
 
-    module _ (size : length e.left.words ≡ length a.words) (stand : Stand g s (may_rest' c t) None e.left e.world (watched_on.lives c t) (told_by g.program g.stimulus x piece e.world).actions e.next) where
+    -- where its thread is in the transfer in which it was, all threads are
+    own_transfers : e.transfer ≡ r.transfer → TransfersAsBefore who who_on
+    own_transfers same = record {
+      before = λ d u i other transfer at its.
+          ⊎_elim
+          (λ here. (r, None, ap (λ k. who k u) here.0 ∙ ap (who c) here.1 ∙ runs_r, sym same ∙ ap (λ (k : Runner). k.transfer) (same_runner s i None other (sym here.2 ∙ at)) ∙ its))
+          (λ there. (i, other, sym there.1 ∙ at, its))
+          (role_cases who c t (used_by s None) d u);
+      still = λ d u i other transfer at its.
+          ⊎_elim
+          (λ here.
+          let one : r ≡ i = same_runner r i None other (sym runs_r ∙ sym (ap (λ k. who k u) here.0 ∙ ap (who c) here.1) ∙ at) in
+          (s, None, here.2, same ∙ ap (λ (k : Runner). k.transfer) one ∙ its))
+          (λ there. (i, other, there.1 ∙ at, its))
+          (role_cases who c t (used_by s None) d u);
+    }
+
+    -- and where ends and inboxes stay, the channels are wired as before
+    pub wired_on : e.transfer ≡ r.transfer → length e.left.words ≡ length a.words → e.left.ends ≡ a.ends → e.world.inboxes ≡ x.state.inboxes → AreWired g who_on (slice_set w.machine.cores c e.left) e.world.inboxes
+    wired_on same size ends boxes =
+        wired_still g who who_on w watched_on c a e.left x.state.inboxes e.world.inboxes (own_transfers same)
+        (has_stepped g first is none_rests who w x st c t a at_c r None runs_r (only_thread t) (eq-eqb t t refl) e.left e.world own_effect e.made size) ends boxes st.wired
+
+    -- a branch that hasn't ended has its side for itself still
+    pub alone_on : e.transfer ≡ r.transfer → (e.next.mode ≡ ended → ⊥) → (transfer : Transfer) → e.transfer ≡ Some transfer → HasAlone e.world.branches transfer.channel transfer.side r.branch
+    alone_on same not_over transfer its =
+        let was = sym same ∙ its in
+        alone_behind transfer.channel transfer.side g x.state st.lawful
+        (channel_known g who w.machine.cores x.state.inboxes st.wired c t r None transfer runs_r was) r.branch e.branch e.next e.known (st.alone c t r None transfer runs_r was)
+        piece e.world all_acted own_branch not_over
+
+    module _ (wired : AreWired g who_on (slice_set w.machine.cores c e.left) e.world.inboxes)
+        (alone : (transfer : Transfer) → e.transfer ≡ Some transfer → HasAlone e.world.branches transfer.channel transfer.side r.branch)
+        (size : length e.left.words ≡ length a.words) (stand : Stand g s (may_rest' c t) None e.left e.world (watched_on.lives c t) (told_by g.program g.stimulus x piece e.world).actions e.next) where
       own_stand : (u : ℕ) → only_thread t u ≡ true → Stands g (may_rest' c u) e.left e.world (watched_on.lives c u) (told_by g.program g.stimulus x piece e.world).actions (who_on c u)
       own_stand u m =
           let actions = (told_by g.program g.stimulus x piece e.world).actions in
@@ -309,6 +344,12 @@ module _ (g : Setting) (first : Roles) (is : IsImageOf g first) (who : Roles) (w
           subst (λ k. Stands g (may_rest' c k) e.left e.world (watched_on.lives c k) actions (who_on c k)) (sym at)
           (subst (Stands g (may_rest' c t) e.left e.world (watched_on.lives c t) actions) (sym (role_here who c t (used_by s None)))
           (subst (λ o. SomeIs o (Stand g s (may_rest' c t) None e.left e.world (watched_on.lives c t) actions)) (sym own_branch) stand))
+
+      own_alone : (u : ℕ) (i : Runner) (hand : Option Hand) (transfer : Transfer) → only_thread t u ≡ true → who_on c u ≡ used_by i hand → i.transfer ≡ Some transfer → HasAlone e.world.branches transfer.channel transfer.side i.branch
+      own_alone u i hand transfer m at its =
+          let same : s ≡ i = same_runner s i None hand (sym (role_here who c t (used_by s None)) ∙ ap (who_on c) (sym (eqb-true u t m)) ∙ at) in
+          subst (λ (k : Runner). HasAlone e.world.branches transfer.channel transfer.side k.branch) same
+          (alone transfer (ap (λ (k : Runner). k.transfer) same ∙ its))
 
       pub goes_on_answered : Follows g may_rest' who w x watched_on
       goes_on_answered =
@@ -338,6 +379,8 @@ module _ (g : Setting) (first : Roles) (is : IsImageOf g first) (who : Roles) (w
                   steps = λ u m. steps_still g first is none_rests who w x st c t a at_c r None runs_r o self e.left e.world own_effect e.made u m;
                   far_steps = λ d u ne. far_steps_still g first is none_rests who w x st c t a at_c r None runs_r o self e.left e.world own_effect e.made d u ne;
                   stand = own_stand;
+                  wired = wired;
+                  alone = own_alone;
                   loose = loose_on;
                   roots = own_roots;
                   far_roots = own_far_roots;
@@ -350,93 +393,3 @@ module _ (g : Setting) (first : Roles) (is : IsImageOf g first) (who : Roles) (w
         where
           false_true : false ≡ true → ⊥
           false_true f = cc
-
-  -- The thread leaves its place: its branch, a root's, has ended, and it is free.
-  module _ (tie : r.tie ≡ None) (parents : r.parents ≡ []) (over : has_ended e.next.mode ≡ true) (free : IsFree (slice_get e.left.threads r.thread)) where
-    abbrev who_off : Roles
-    who_off = with_role who c t unused
-
-    before_off : (d u : ℕ) (i : Runner) (other : Option Hand) → who_off d u ≡ used_by i other → who d u ≡ used_by i other
-    before_off d u i other at =
-        ⊎_elim
-        (λ here. let both : unused ≡ used_by i other = sym here.2 ∙ at in cc)
-        (λ there. sym there.1 ∙ at)
-        (role_cases who c t unused d u)
-
-    still_off : (d u : ℕ) (i : Runner) (other : Option Hand) → who d u ≡ used_by i other → (r ≡ i) ⊎ (who_off d u ≡ used_by i other)
-    still_off d u i other at =
-        ⊎_elim
-        (λ here. inl (same_runner r i None other (sym runs_r ∙ sym (ap (λ k. who k u) here.0 ∙ ap (who c) here.1) ∙ at)))
-        (λ there. inr (there.1 ∙ at))
-        (role_cases who c t unused d u)
-
-    loose_off : 1 ≤ threads_on g.program c → AreLoose g who_off c e.left e.world
-    loose_off some =
-        loose_behind g who who_off c a e.left x.state e.world r core_is (st.roles.base c t r None runs_r) (laid_at g first is none_rests who w x st c t r None runs_r)
-        (st.loose c a at_c some) leaves_loose e.holds e.ports
-        (λ v nobody no u i other at. ⊎_elim (λ (same : r ≡ i). subst (λ (k : Runner). k.footprint.changes v ≡ false) same no) (λ now. nobody u i other now) (still_off c u i other at))
-        (λ v wanted. inl (record { thread = wanted.thread; runner = wanted.runner; hand = wanted.hand; runs = before_off c wanted.thread wanted.runner wanted.hand wanted.runs; parent = wanted.parent; waits = wanted.waits; uses = wanted.uses }))
-        (λ q nobody no u i other at. ⊎_elim (λ (same : r ≡ i). subst (λ (k : Runner). k.footprint.ports q ≡ false) same no) (λ now. nobody u i other now) (still_off c u i other at))
-
-    only_own : (n : ℕ) → IsAmong (own_branches r) n → n ≡ r.branch
-    only_own n (inl f) = f
-    only_own n (inr m) = absurd (subst (λ ps. IsAmong (branches_of ps) n) parents m)
-
-    run_off : (n : ℕ) (branch : Branch) → slice_get e.world.branches n ≡ Some branch → has_ended branch.mode ≡ false → IsRun who_off n
-    run_off n branch there on =
-        ⊎_elim
-        (λ (h : (n ≡ r.branch) × (branch ≡ e.next)). absurd (true_false (sym over ∙ ap (λ (b : Branch). has_ended b.mode) (sym h.1) ∙ on)))
-        (λ (h : (n ≢ r.branch) × (slice_get x.state.branches n ≡ Some branch)).
-        let q = st.run n branch h.1 on in
-        ⊎_elim
-        (λ (same : r ≡ q.runner). absurd (h.0 (only_own n (subst (λ (k : Runner). IsAmong (own_branches k) n) (sym same) q.branch))))
-        (λ now. record { core = q.core; thread = q.thread; runner = q.runner; hand = q.hand; runs = now; branch = q.branch })
-        (still_off q.core q.thread q.runner q.hand q.runs))
-        (branch_cases n branch there)
-      where
-        true_false : true ≡ false → ⊥
-        true_false f = cc
-
-    gives_off : GiveAsBefore who who_off
-    gives_off = record { before = λ d u n i at. (i, n, before_off d u i (giving_back n) at, refl) }
-
-    abbrev pub watched_off : Watched
-    watched_off = watched g first is none_rests who w x st c t a at_c r None runs_r (only_thread t) (eq-eqb t t refl) e.left e.world own_effect e.made
-
-    pub leaves_answered : length e.left.words ≡ length a.words → Follows g none_rests who w x watched_off
-    leaves_answered size =
-        let o = only_thread t in
-        let self = eq-eqb t t refl in
-        record {
-          who = who_off;
-          piece = piece;
-          world = e.world;
-          acted = all_acted;
-          standing = answered g first is none_rests who w x st c t a at_c r None runs_r o self e.left e.world own_effect none_rests who_off watched_off piece
-              (has_stepped g first is none_rests who w x st c t a at_c r None runs_r o self e.left e.world own_effect e.made size)
-              (record {
-                acted = all_acted;
-                clocks = clocks_still g first is none_rests who w x st c t a at_c r None runs_r o self e.left e.world own_effect e.made;
-                trace = ap (λ l. noted l e.made) st.trace ∙ sym e.is_next.trace;
-                roles = roles_leave g who c t st.roles r runs_r tie parents;
-                reserves = reserves_of_others g who e.world (reserves_behind g who x.state st.lawful st.reserves piece e.world all_acted) who_off gives_off;
-                used = used_leave g who c t st.roles r runs_r parents a e.left (st.used c a at_c) others_used e.syncs (subst (λ k. IsFree (slice_get e.left.threads k)) thread_is free);
-                same_role = same_role unused;
-                far_role = λ d u ne. role_far who c t unused d u ne;
-                rests = λ u m none. none;
-                far_rests = λ d u ne none. none;
-                steps = λ u m. steps_still g first is none_rests who w x st c t a at_c r None runs_r o self e.left e.world own_effect e.made u m;
-                far_steps = λ d u ne. far_steps_still g first is none_rests who w x st c t a at_c r None runs_r o self e.left e.world own_effect e.made d u ne;
-                stand = λ u m.
-                    let at : u ≡ t = eqb-true u t m in
-                    let actions = (told_by g.program g.stimulus x piece e.world).actions in
-                    subst (Stands g false e.left e.world (watched_off.lives c u) actions) (sym (ap (who_off c) at ∙ role_here who c t unused)) tt;
-                loose = loose_off;
-                roots = own_roots;
-                far_roots = own_far_roots;
-                placed = own_placed;
-                run = run_off;
-                made = own_made;
-              });
-          named = λ names. leaves_linked g none_rests who w x st names watched_off.machine c t a e.left at_c at_left r runs_r e.world e.next e.branch e.known e.birth e.is_next.branches e.syncs others_there;
-        }

@@ -66,6 +66,7 @@ module _ (g : Setting) (r : Runner) where
         };
         roots = refl;
         syncs = refl;
+        channel_ends = refl;
         no_hand = no_hand;
         items = items;
         acts = record {
@@ -75,7 +76,8 @@ module _ (g : Setting) (r : Runner) where
           core = has.core;
           world = x;
           acted = acted;
-          is_next = record { clocks = refl; branches = refl; store = same; inboxes = refl; trace = refl };
+          is_next = record { clocks = refl; branches = refl; store = same; trace = refl };
+          inboxes = refl;
         };
         jumps = jumps;
         fewer = fewer;

@@ -9,12 +9,14 @@ use Rattle.xs_instr.specs.Registers.{reg_get}
 use Rattle.xs_instr.specs.Resources.{sync_name}
 use Rattle.xc_kernel.specs.Plain as kernel
 use Rattle.xc_meaning.specs.Counts.KernelCounts.{branch_count}
+use Rattle.xc_meaning.specs.Settings.Sides.{sides_in}
 use Rattle.xc_meaning.specs.States.Items.{Item, does, ends, todo}
 use Rattle.xl_par.specs.Hands.{Hand, KeptHand, empty_hand}
 use Rattle.xl_par.specs.Opening.{HoldsSyncs, SetsOff}
 use Rattle.xr_threads.specs.Fits.{Fits, ItemsFit}
 use Rattle.xr_threads.specs.Items.{EndAt, ItemsAt}
 use Rattle.xr_threads.specs.Parents.{Parent, syncs_of}
+use Rattle.xl_sides.specs.Ends.{Sides, codes_in}
 use Rattle.xl_walk.specs.Pieces.{Exit, SeveralAt, PiecesAt, SlavesAt}
 use Rattle.xr_threads.specs.Runners.{Setting, Runner, code, home, plan, relied}
 use Rattle.xr_threads.specs.Scenes.{Scene, running}
@@ -23,8 +25,9 @@ use Rattle.xr_threads.specs.Turns as turn
 use Rattle.xr_threads.specs.Turns.{Begins, EndOf, Has, HasBases, HoldsNames, IsAt, ItemsFrom, Leads, StatementLeads, Turns, cost, name_register}
 use Rattle.xr_threads.proofs.Arriving.{at_runs}
 use Rattle.xr_threads.proofs.HandSteps.{Reached, hand_kept, hand_leads}
+use Rattle.xr_threads.proofs.Items.{behind_jumps}
 use Rattle.xr_threads.proofs.Layouts.{has_kept, runs_at}
-use Rattle.xr_threads.proofs.ParCode.{all_off, branch_stands, jumps_before}
+use Rattle.xr_threads.proofs.ParCode.{all_off, branch_stands}
 use Rattle.xr_threads.proofs.Scenes.{leads_as, leads_more}
 
 -- a new synchroniser's name is the first, and each other one stands in the next register
@@ -48,22 +51,26 @@ module _ (g : Setting) (r : Runner) (ss : kernel.Statements) (pos : Pos) (b : ke
   abbrev all : kernel.Branches
   all = kernel.more_branches (kernel.branch ss pos) others
 
+  -- the sides in which the first branch stands
+  abbrev first_sides : Sides
+  first_sides = sides_in 0 [] ss (codes_in others) r.sides
+
   abbrev Piece : (pc pc' : ℕ) → Type 0
-  Piece pc pc' = SeveralAt (code g r) (plan g r) (branch_count others) (PiecesAt (code g r) (plan g r) ss []) (SlavesAt (code g r) (plan g r) others) pc pc'
+  Piece pc pc' = SeveralAt (code g r) (plan g r) (branch_count others) (PiecesAt (code g r) (plan g r) first_sides ss []) (SlavesAt (code g r) (plan g r) r.sides (ss ∷ []) others) pc pc'
 
   module _ (rest : List Item) (exits : List Exit) (pc pc' j : ℕ) (piece : Piece pc pc') (fits : Fits g r (kernel.par all)) (behind : ItemsFrom g r rest exits pc' j) (rest_fits : ItemsFit g r rest) (z : Scene) (regs : Regs) (bases : HasBases g r regs) where
     -- the branch that makes them, while it waits
     abbrev parent : (sync from count : ℕ) → Parent
-    parent sync from count = record { branch = r.branch; from = from; count = count; sync = Some sync; items = rest }
+    parent sync from count = record { branch = r.branch; from = from; count = count; sync = Some sync; items = rest; sides = r.sides }
 
     abbrev EndWith : (sync from count : ℕ) → (pc j : ℕ) → Type 0
     EndWith sync from count = EndAt (plan g r) (code g r) r.tie (parent sync from count ∷ r.parents)
 
     -- the code of the first branch, behind which the `par` is closed
-    first_stands : (sync from count : ℕ) → ItemsAt (plan g r) (code g r) (EndWith sync from count) (todo ss (ends ∷ [])) [] piece.first (piece.jumps + j)
+    first_stands : (sync from count : ℕ) → ItemsAt (plan g r) (code g r) first_sides (EndWith sync from count) (todo ss (ends ∷ [])) [] piece.first (piece.jumps + j)
     first_stands sync from count =
-        branch_stands (plan g r) (code g r) (EndWith sync from count) ss piece.first piece.done (piece.jumps + j) piece.first_at
-        (piece.closed, piece.closes, (exits, jumps_before (plan g r) (code g r) (EndOf g r) rest exits piece.jumps piece.closed pc' j piece.past behind))
+        branch_stands (plan g r) (code g r) first_sides (EndWith sync from count) ss piece.first piece.done (piece.jumps + j) piece.first_at
+        (piece.closed, piece.closes, (exits, behind_jumps (plan g r) (code g r) r.sides (EndOf g r) rest exits piece.jumps piece.closed pc' j piece.past behind))
 
     -- once all are ready the next step sets them off
     sets_off : (y : Scene) (hand : Hand) → y.hand ≡ Some hand → Has g r (does (kernel.par all) ∷ rest) y →
@@ -95,8 +102,8 @@ module _ (g : Setting) (r : Runner) (ss : kernel.Statements) (pos : Pos) (b : ke
       jumps = piece.jumps + j;
       fewer = let one = piece.at_most_one in omega arith;
       own_code = λ from count.
-          subst (λ p. ItemsAt (plan g r) (code g r) (EndWith s.sync from count) (todo ss (ends ∷ [])) [] p (piece.jumps + j)) (sym s.next) (first_stands s.sync from count);
-      set_off = all_off g r y.core s.sync regs.dp s.index s.regs bases.base hand.threads piece.starts others s.ready piece.slaves_at;
+          subst (λ p. ItemsAt (plan g r) (code g r) first_sides (EndWith s.sync from count) (todo ss (ends ∷ [])) [] p (piece.jumps + j)) (sym s.next) (first_stands s.sync from count);
+      set_off = all_off g r y.core s.sync regs.dp s.index s.regs bases.base hand.threads piece.starts ss others s.ready piece.slaves_at;
       fits = (fits, rest_fits);
       has = has;
     }
@@ -123,5 +130,5 @@ pub par_leads : (g : Setting) (r : Runner) → r.core < 4 → (bs : kernel.Branc
 par_leads g r core kernel.no_branch several = absurd several
 par_leads g r core (kernel.more_branches b kernel.no_branch) several = absurd several
 par_leads g r core (kernel.more_branches (kernel.branch ss pos) (kernel.more_branches b bs)) several =
-    λ rest exits pc pc' j z regs laid piece fits behind rest_fits has here bases is.
+    λ rest exits pc pc' j z regs laid piece fits sided behind rest_fits has here bases is.
     leads_there g r ss pos b bs rest exits pc pc' j piece fits behind rest_fits z regs bases core has here is

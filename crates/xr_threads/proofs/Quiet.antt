@@ -3,9 +3,8 @@ use Rattle.std.proofs.Common.{◌≡◌, ◌⊎◌, ℕ, zero, suc, ◌+◌, ◌
 use Rattle.std.specs.Prelude.{Bool, true, false, slice_get, IsSome, IsTrue}
 use Rattle.xs_instr.specs.declared.state.CoreState.{CoreState}
 use Rattle.xs_instr.specs.declared.trace.Record.{Record}
-use Rattle.xs_instr.specs.declared.trace.Trap.{Trap}
-use Rattle.xs_instr.specs.Did.{Made, Traps}
-use Rattle.xs_instr.specs.Machine.{home_of, and_then, step_at, stepped}
+use Rattle.xs_instr.specs.Did.{Made}
+use Rattle.xs_instr.specs.Machine.{and_then}
 use Rattle.xs_instr.specs.Pool.{all_wait}
 use Rattle.xs_instr.specs.Slot.{slot}
 use Rattle.xc_laws.specs.Tree.{IsForest}
@@ -28,10 +27,13 @@ use Rattle.xr_threads.specs.Parents.{Parent, branches_of}
 use Rattle.xr_threads.specs.Roles.{ParentWaits, ParentsWait, Roles, used_by}
 use Rattle.xr_threads.specs.Runners.{Setting, Runner, home}
 use Rattle.xr_threads.specs.Scenes.{Kept, LeadsIn, Scene}
-use Rattle.xr_threads.specs.Standing.{HasEnded, IsRun, Stand, Standing, StandsBy, none_rests}
-use Rattle.xr_threads.specs.Turns.{CannotAct, GivesBack, Joins, Turn, Turns, begins, errs, frees, goes_on, pauses, waits_tied}
+use Rattle.xr_threads.specs.Standing.{HasEnded, IsRun, Stand, Standing, StandsBy, StandsWith, none_rests}
+use Rattle.xr_threads.specs.Transfers.{Transfer}
+use Rattle.xr_threads.specs.Turns.{CannotAct, GivesBack, Joins, Turn, Turns, begins, errs, frees, goes_on, offers, pauses, takes_in, waits_tied}
 use Rattle.xr_threads.proofs.Deciding.{done_each, joins_together}
 use Rattle.xr_threads.proofs.Moves.{core_of, kept_now, stands_at}
+use Rattle.xr_threads.proofs.QuietChannels.{inside_cannot, offers_goes, takes_in_cannot}
+use Rattle.xr_threads.proofs.QuietSlots as slots
 use Rattle.xr_threads.proofs.Resumes.{nobody_tied, taken}
 
 -- branch b can do nothing now
@@ -107,30 +109,20 @@ module _ (g : Setting) (first : Roles) (is : IsImageOf g first) (who : Roles) (w
     here : Kept g r now now
     here = kept_now g first is none_rests who w x st c t a r hand at_c runs_r
 
-    -- the thread's turn is no step
-    no_step : stepped (home g r) w.machine r.core r.thread a (slot (home g r) a r.thread) ≡ None
-    no_step =
-        let core = st.roles.core c t r hand runs_r in
-        let thread = st.roles.thread c t r hand runs_r in
-        ap (λ k. stepped (home_of g.image g.stimulus k) w.machine k r.thread a (slot (home_of g.image g.stimulus k) a r.thread)) core
-        ∙ ap (λ k. stepped (home_of g.image g.stimulus c) w.machine c k a (slot (home_of g.image g.stimulus c) a k)) thread
-        ∙ sym (ap (step_at (home_of g.image g.stimulus c) w.machine c t) at_c)
-        ∙ quiet.steps c t
-
+    -- the thread's slot is no step
     not_made : (left : CoreState) (made : Option Record) → slot (home g r) a r.thread ≡ Made left made [] → ⊥
-    not_made left made h = let e = sym (ap (stepped (home g r) w.machine r.core r.thread a) h) ∙ no_step in cc
+    not_made left made h = slots.not_made g none_rests who w x st quiet c t r hand runs_r a at_c left made h
 
-    not_trapped : (kind : Trap) → slot (home g r) a r.thread ≡ Traps kind → ⊥
-    not_trapped kind h = let e = sym (ap (stepped (home g r) w.machine r.core r.thread a) h) ∙ no_step in cc
-
-    -- so its turn is a pause, and the branch waits
-    turn_cannot : (j : ℕ) → Turn g r j now → CannotAct g r x.state
-    turn_cannot j (pauses p none) = none
-    turn_cannot j (errs h) = absurd (not_trapped h.kind h.traps)
-    turn_cannot j (goes_on h) = absurd (not_made h.left h.made h.made_is)
-    turn_cannot j (frees h) = absurd (not_made h.left None h.made_is)
-    turn_cannot j (waits_tied h) = absurd (not_made h.left None h.made_is)
-    turn_cannot j (begins h) = absurd (not_made _ None h.goes)
+    -- so its turn is a pause, or it waits for a word, and the branch waits
+    turn_cannot : (j : ℕ) → r.transfer ≡ None → Turn g r j now → CannotAct g r x.state
+    turn_cannot j none (pauses p cannot) = cannot
+    turn_cannot j none (errs h) = absurd (slots.not_trapped g none_rests who w x st quiet c t r hand runs_r a at_c h.kind h.traps)
+    turn_cannot j none (goes_on h) = absurd (not_made h.left h.made h.made_is)
+    turn_cannot j none (frees h) = absurd (not_made h.left None h.made_is)
+    turn_cannot j none (waits_tied h) = absurd (not_made h.left None h.made_is)
+    turn_cannot j none (begins h) = absurd (not_made _ None h.goes)
+    turn_cannot j none (offers h) = absurd (offers_goes g first is who w x st quiet c t a at_c r hand runs_r j none h)
+    turn_cannot j none (takes_in h) = takes_in_cannot g first is who w x st quiet c t a at_c r hand runs_r j none h
 
     -- no step on the way to somewhere is left
     arrived : (Q : Scene → Type 0) (n : ℕ) → LeadsIn g r Q n now → Q now
@@ -147,9 +139,13 @@ module _ (g : Setting) (first : Roles) (is : IsImageOf g first) (who : Roles) (w
 
     -- a branch that runs waits
     running_still : (items : List Item) (left : ℕ) → StandsBy g r false items runs left now → CannotAct g r x.state
-    running_still items left (inl (n, j, few, on)) = turn_cannot j (arrived (Turns g r j) n on now here)
-    running_still items left (inr (inl (j, few, gives))) = absurd (not_resuming items j gives)
-    running_still items left (inr (inr h)) = absurd h
+    running_still items left h = by r.transfer refl h
+      where
+        by : (o : Option Transfer) → r.transfer ≡ o → StandsWith g r false o items left now → CannotAct g r x.state
+        by None none (inl (n, j, few, on)) = turn_cannot j none (arrived (Turns g r j) n on now here)
+        by None none (inr (inl (j, few, gives))) = absurd (not_resuming items j gives)
+        by None none (inr (inr h)) = absurd h
+        by (Some transfer) its (j, few, h) = inside_cannot g first is who w x st quiet c t a at_c r hand runs_r transfer its items j h
 
     -- one that has ended waits for others of its `par`
     joining_waits : (p : Parent) (ps : List Parent) (left : ℕ) → r.parents ≡ p ∷ ps → is_done (slice_get x.state.branches r.branch) ≡ true → HasEnded g r (p ∷ ps) left now → all_done x.state p.from p.count ≡ false

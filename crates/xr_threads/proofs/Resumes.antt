@@ -25,7 +25,7 @@ use Rattle.xr_threads.specs.Parents.{Parent, syncs_of}
 use Rattle.xr_threads.specs.Roles.{AreRoles, AreUsedSo, IsParent, Role, Roles, empty, got_by, unused, used_by}
 use Rattle.xr_threads.specs.Runners.{Setting, Runner, home}
 use Rattle.xr_threads.specs.Scenes.{Owns, giving_back, held_in, running, sync_in}
-use Rattle.xr_threads.specs.Standing.{AreLoose, IsRun, Stand, Standing, Stands, StandsBy, ThreadIs, none_rests}
+use Rattle.xr_threads.specs.Standing.{AreLoose, IsRun, Stand, Standing, Stands, StandsBy, StandsWith, ThreadIs, none_rests}
 use Rattle.xr_threads.specs.Turns.{GivesBack, IsFree, IsWaitingTied, Rest, cost}
 use Rattle.xr_threads.proofs.OwnEvents.{rests_alone, rests_there}
 use Rattle.xr_threads.proofs.Deciding.{hand_has_sync, runs_at_thread}
@@ -38,6 +38,7 @@ use Rattle.xr_threads.proofs.NamedLinks.{resumes_linked, told_same}
 use Rattle.xr_threads.proofs.Standing.{Follows, told_by}
 use Rattle.xr_threads.proofs.Steps.{answered, clocks_still, far_steps_still, has_stepped, steps_still, watched}
 use Rattle.xr_threads.proofs.Usage.{OthersUsed, used_on}
+use Rattle.xr_threads.proofs.Wiring.{TransfersAsBefore, wired_still}
 
 module _ (g : Setting) (first : Roles) (is : IsImageOf g first) (who : Roles) (w : Watched) (x : Told (of_kernel g.program)) (st : Standing g none_rests who w x)
     (c t : ℕ) (a : CoreState) (at_c : slice_get w.machine.cores c ≡ Some a) (r : Runner) (n : ℕ) (runs_r : who c t ≡ used_by r (giving_back n)) where
@@ -89,7 +90,7 @@ module _ (g : Setting) (first : Roles) (is : IsImageOf g first) (who : Roles) (w
       by u thread there false e = e
 
   module _ (branch : Branch) (known : slice_get x.state.branches r.branch ≡ Some branch) (mode : branch.mode ≡ runs)
-      (stand : Stand g r false (giving_back n) a x.state (w.lives c t) x.actions branch) (j : ℕ) (few : 1 + j + cost g r ≤ stand.left)
+      (stand : Stand g r false (giving_back n) a x.state (w.lives c t) x.actions branch) (none : r.transfer ≡ None) (j : ℕ) (few : 1 + j + cost g r ≤ stand.left)
       (gives : GivesBack g r branch.items j (record { core = a; world = x.state; hand = giving_back n })) where
     sync_is : gives.sync ≡ n
     sync_is = let e : giving_back n ≡ giving_back gives.sync = gives.in_hand in let s : Some n ≡ Some gives.sync = ap sync_in e in cc
@@ -212,6 +213,13 @@ module _ (g : Setting) (first : Roles) (is : IsImageOf g first) (who : Roles) (w
               record { port = h.port; there = h.there; declared = h.declared };
         }
 
+    -- each thread is in the transfer in which it was
+    transfers_still : TransfersAsBefore who who'
+    transfers_still = record {
+      before = λ d u q hand transfer at its. let k = runner_before d u q hand at in (q, k.0, k.1, its);
+      still = λ d u q hand transfer at its. let k = runner_still d u q hand at in (q, k.0, k.1, its);
+    }
+
     run' : (b : ℕ) (other : Branch) → slice_get x.state.branches b ≡ Some other → has_ended other.mode ≡ false → IsRun who' b
     run' b other there on =
         let k = st.run b other there on in
@@ -254,6 +262,9 @@ module _ (g : Setting) (first : Roles) (is : IsImageOf g first) (who : Roles) (w
         is = subst (λ m. ThreadIs r.parents m Running) (sym mode) refl;
       };
       in_hand = empty refl;
+      sides = stand.sides;
+      done = stand.done;
+      stops = stand.stops;
       ends_tied = λ over. let both : runs ≡ ended = sym mode ∙ over in absurd (let z : ⊥ = cc in z);
       left = j + cost g r;
       bound =
@@ -261,7 +272,8 @@ module _ (g : Setting) (first : Roles) (is : IsImageOf g first) (who : Roles) (w
           let life : (watched'.lives c t).steps ≡ (w.lives c t).steps + 1 = ap (λ (l : Life). l.steps) (own_life w watched'.machine c t) in
           let none : x.actions r.family + 0 ≡ x.actions r.family = omega arith in
           subst (λ m. (watched'.lives c t).steps + (j + cost g r) ≤ kernel_bound g.program * (m + 1)) (sym none) (omega arith);
-      by = subst (λ m. StandsBy g r true branch.items m (j + cost g r) (record { core = left; world = x.state; hand = None })) (sym mode) (inr (inr (j, omega arith, refl, rest')));
+      by = subst (λ m. StandsBy g r true branch.items m (j + cost g r) (record { core = left; world = x.state; hand = None })) (sym mode)
+          (subst (λ o. StandsWith g r true o branch.items (j + cost g r) (record { core = left; world = x.state; hand = None })) (sym none) (inr (inr (j, omega arith, refl, rest'))));
     }
 
     own_stand : (u : ℕ) → nat_eq u t ≡ true → Stands g (rests_alone c t c u) left x.state (watched'.lives c u) (told_by g.program g.stimulus x [] x.state).actions (who' c u)
@@ -297,6 +309,9 @@ module _ (g : Setting) (first : Roles) (is : IsImageOf g first) (who : Roles) (w
                 steps = λ u m. steps_still g first is none_rests who w x st c t a at_c r (giving_back n) runs_r (λ u. nat_eq u t) self left x.state effect None u m;
                 far_steps = λ d u ne. far_steps_still g first is none_rests who w x st c t a at_c r (giving_back n) runs_r (λ u. nat_eq u t) self left x.state effect None d u ne;
                 stand = own_stand;
+                wired = wired_still g who who' w watched' c a left x.state.inboxes x.state.inboxes transfers_still
+                    (has_stepped g first is none_rests who w x st c t a at_c r (giving_back n) runs_r (λ u. nat_eq u t) self left x.state effect None refl) refl refl st.wired;
+                alone = λ u q hand transfer m at its. let k = runner_before c u q hand at in st.alone c u q k.0 transfer k.1 its;
                 loose = loose';
                 roots = st.roots c a at_c;
                 far_roots = λ d ne. refl;

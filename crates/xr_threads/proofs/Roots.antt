@@ -10,7 +10,7 @@ use Rattle.xc_disjoint.specs.Threads as threads
 use Rattle.xc_laws.specs.Needs.{needed_on}
 use Rattle.xc_laws.proofs.Needs.{statements_least}
 use Rattle.xl_par.specs.Hands.{Hand}
-use Rattle.xl_image.specs.Images.{roots_on}
+use Rattle.xl_image.specs.Images.{no_sides, roots_on}
 use Rattle.xl_plan.specs.Layout.{number_on, temporary_of}
 use Rattle.xl_plan.proofs.Lists.{some_given, none_given}
 use Rattle.xl_plan.proofs.Numbered.{listed}
@@ -30,6 +30,8 @@ runner_of K core thread number root = record {
   stack = temporary_of K core thread;
   footprint = footprint_of (todo root.body (ends ∷ []));
   parents = [];
+  sides = no_sides K;
+  transfer = None;
 }
 
 abbrev pub role_by : kernel.Kernel → (core thread number : ℕ) → Option kernel.Root → Role

@@ -23,13 +23,15 @@ use Rattle.xr_threads.specs.Roles.{Role, Roles, got_by, unused, used_by}
 use Rattle.xr_threads.specs.Runners.{Runner, Setting}
 use Rattle.xr_threads.specs.Scenes.{Kept, Scene}
 use Rattle.xr_threads.specs.Settled.{IsOwn}
-use Rattle.xr_threads.specs.Standing.{IsAtRest, Stand, Standing, Stands, StandsBy, none_rests}
+use Rattle.xr_threads.specs.Standing.{IsAtRest, Stand, Standing, Stands, StandsBy, StandsWith, none_rests}
+use Rattle.xr_threads.specs.Transfers.{Transfer}
 use Rattle.xr_threads.proofs.Moves.{kept_now, stands_at}
 use Rattle.xr_threads.proofs.SettleCases.{goes_its_way, settles_one}
 use Rattle.xr_threads.specs.Living.{AreNamed}
 use Rattle.xr_threads.proofs.NamedFamilies.{grown_same}
 use Rattle.xr_threads.proofs.NamedLinks.{alike_linked, told_same}
 use Rattle.xr_threads.proofs.NamedPieces.{goes_on}
+use Rattle.xr_threads.proofs.NoneInside.{Settles}
 use Rattle.xr_threads.proofs.Standing.{Follows, core_at, runner_still, told_by}
 use Rattle.xr_threads.proofs.Works.{some_is}
 use Rattle.xr_threads.proofs.Weights.{HasNone, own_or_none, thread_weight}
@@ -46,12 +48,22 @@ steps_append K s f (Some x) [] others = omega arith
 steps_append K s f (Some x) (m ∷ piece) others = let on = steps_append K s f (acts K s x m) piece others in omega (arith, on)
 
 -- A thread stands as well where others may be at rest, if it isn't at rest.
+by_transfer : (g : Setting) (r : Runner) (rests : Bool) (transfer : Option Transfer) (items : List Item) (left : ℕ) (z : Scene) → StandsWith g r rests transfer items left z →
+    ((rests' : Bool) → StandsWith g r rests' transfer items left z) ⊎ ((rests ≡ true) × (transfer ≡ None) × IsAtRest g r items left z)
+by_transfer g r rests None items left z (inl h) = inl (λ b. inl h)
+by_transfer g r rests None items left z (inr (inl h)) = inl (λ b. inr (inl h))
+by_transfer g r true None items left z (inr (inr h)) = inr (refl, refl, h)
+by_transfer g r false None items left z (inr (inr h)) = absurd h
+by_transfer g r rests (Some transfer) items left z h = inl (λ b. h)
+
+-- then it runs a branch, and is in no transfer
 by_cases : (g : Setting) (r : Runner) (rests : Bool) (items : List Item) (m : Mode) (left : ℕ) (z : Scene) → StandsBy g r rests items m left z →
-    ((rests' : Bool) → StandsBy g r rests' items m left z) ⊎ ((rests ≡ true) × (m ≡ runs) × IsAtRest g r items left z)
-by_cases g r rests items runs left z (inl h) = inl (λ b. inl h)
-by_cases g r rests items runs left z (inr (inl h)) = inl (λ b. inr (inl h))
-by_cases g r true items runs left z (inr (inr h)) = inr (refl, refl, h)
-by_cases g r false items runs left z (inr (inr h)) = absurd h
+    ((rests' : Bool) → StandsBy g r rests' items m left z) ⊎ ((rests ≡ true) × (m ≡ runs) × (r.transfer ≡ None) × IsAtRest g r items left z)
+by_cases g r rests items runs left z h =
+    ⊎_elim
+    (λ (by : (rests' : Bool) → StandsWith g r rests' r.transfer items left z). inl by)
+    (λ at_rest. inr (at_rest.0, refl, at_rest.1, at_rest.2))
+    (by_transfer g r rests r.transfer items left z h)
 by_cases g r rests items (waits from count) left z h = absurd h
 by_cases g r rests items ended left z h = inl (λ b. h)
 by_cases g r rests items erred left z h = inl (λ b. h)
@@ -66,6 +78,9 @@ stands_otherwise g r rests rests' hand a x life actions branch h by = record {
   parents = h.parents;
   thread = h.thread;
   in_hand = h.in_hand;
+  sides = h.sides;
+  done = h.done;
+  stops = h.stops;
   ends_tied = h.ends_tied;
   left = h.left;
   bound = h.bound;
@@ -90,12 +105,15 @@ module _ (g : Setting) (first : Roles) (is : IsImageOf g first) (w : Watched) wh
       links = st.links;
       cores = st.cores;
       lawful = st.lawful;
+      plain = st.plain;
       roles = st.roles;
       reserves = st.reserves;
       used = st.used;
       threads = threads;
       loose = st.loose;
       sizes = st.sizes;
+      wired = st.wired;
+      alone = st.alone;
       roots = st.roots;
       placed = st.placed;
       run = st.run;
@@ -149,6 +167,11 @@ module _ (g : Setting) (first : Roles) (is : IsImageOf g first) (w : Watched) wh
     named = λ names. alike_linked g may_rest' who w x st names w (told_by g.program g.stimulus x [] x.state) (told_same g x [] x.state refl) (λ d u. refl);
   }
 
+  -- then none gets into a transfer
+  pub nothing_settles : (may_rest' : (core thread : ℕ) → Bool) (who : Roles) (x : Told (of_kernel g.program)) → Standing g may_rest' who w x → Settles g may_rest' who w x w
+  unfolding nothing_follows
+  nothing_settles may_rest' who x st = record { follows = nothing_follows may_rest' who x st; none_inside = λ none. none }
+
   -- one piece after another
   pub follows_after : (may_rest' : (core thread : ℕ) → Bool) (old who : Roles) (before : Watched) (x : Told (of_kernel g.program)) (piece : List Action) (y : World) → acts_all g.program g.stimulus (Some x.state) piece ≡ Some y →
       (AreNamed g old before x → AreNamed g who w (told_by g.program g.stimulus x piece y)) →
@@ -174,16 +197,25 @@ module _ (g : Setting) (first : Roles) (is : IsImageOf g first) (w : Watched) wh
           let later : steps_of g.program g.stimulus f (acts_all g.program g.stimulus (Some x.state) piece) q.piece ≡ steps_of g.program g.stimulus f (Some y) q.piece = ap (λ o. steps_of g.program g.stimulus f o q.piece) acted in
           omega (arith, both, later)
 
+  -- one thread settles after the other
+  pub settles_after : (may_rest may_rest' : (core thread : ℕ) → Bool) (old : Roles) (x : Told (of_kernel g.program)) (q : Settles g may_rest old w x w) →
+      Settles g may_rest' q.follows.who w (told_by g.program g.stimulus x q.follows.piece q.follows.world) w → Settles g may_rest' old w x w
+  unfolding follows_after
+  settles_after may_rest may_rest' old x q next = record {
+    follows = follows_after may_rest' old q.follows.who w x q.follows.piece q.follows.world q.follows.acted q.follows.named next.follows;
+    none_inside = λ none. next.none_inside (q.none_inside none);
+  }
+
   -- 1. One thread.
   module _ (may_rest may_rest' : (core thread : ℕ) → Bool) (c t : ℕ) (a : CoreState) (at_c : slice_get w.machine.cores c ≡ Some a) (rests : (i u : ℕ) → ((i ≡ c) × (u ≡ t) → ⊥) → may_rest i u ≡ true → may_rest' i u ≡ true) where
     this_core : (e : CoreState) → slice_get w.machine.cores c ≡ Some e → a ≡ e
     this_core e at = same_Some a e (sym at_c ∙ at)
 
     -- it isn't at rest
-    calm_follows : (who : Roles) (x : Told (of_kernel g.program)) → Standing g may_rest who w x → (r : Runner) (hand : Option Hand) → who c t ≡ used_by r hand → (branch : Branch) → slice_get x.state.branches r.branch ≡ Some branch →
-        (stand : Stand g r (may_rest c t) hand a x.state (w.lives c t) x.actions branch) → ((b : Bool) → StandsBy g r b branch.items branch.mode stand.left (record { core = a; world = x.state; hand = hand })) → Follows g may_rest' who w x w
-    calm_follows who x st r hand runs_r branch known stand by =
-        nothing_follows may_rest' who x
+    calm_settles : (who : Roles) (x : Told (of_kernel g.program)) → Standing g may_rest who w x → (r : Runner) (hand : Option Hand) → who c t ≡ used_by r hand → (branch : Branch) → slice_get x.state.branches r.branch ≡ Some branch →
+        (stand : Stand g r (may_rest c t) hand a x.state (w.lives c t) x.actions branch) → ((b : Bool) → StandsBy g r b branch.items branch.mode stand.left (record { core = a; world = x.state; hand = hand })) → Settles g may_rest' who w x w
+    calm_settles who x st r hand runs_r branch known stand by =
+        nothing_settles may_rest' who x
         (standing_calm may_rest may_rest' who x st c t r hand runs_r rests branch known (λ e at.
         subst (λ k. Stand g r (may_rest' c t) hand k x.state (w.lives c t) x.actions branch) (this_core e at)
         (stands_otherwise g r (may_rest c t) (may_rest' c t) hand a x.state (w.lives c t) x.actions branch stand (by (may_rest' c t)))))
@@ -195,40 +227,44 @@ module _ (g : Setting) (first : Roles) (is : IsImageOf g first) (w : Watched) wh
 
     -- by how much it may do without an instruction
     settle_at : (n : ℕ) (who : Roles) (x : Told (of_kernel g.program)) → Standing g may_rest who w x → (r : Runner) → who c t ≡ used_by r None → (branch : Branch) → slice_get x.state.branches r.branch ≡ Some branch →
-        thread_weight r.parents branch.items < n → Follows g may_rest' who w x w
+        thread_weight r.parents branch.items < n → Settles g may_rest' who w x w
     settle_at zero who x st r runs_r branch known lt = absurd (let z : ⊥ = omega (arith, lt) in z)
     settle_at (suc n) who x st r runs_r branch known lt =
         let stand = stand_of who x st r None runs_r branch known in
         ⊎_elim
-        (λ (by : (b : Bool) → StandsBy g r b branch.items branch.mode stand.left (record { core = a; world = x.state; hand = None })). calm_follows who x st r None runs_r branch known stand by)
+        (λ (by : (b : Bool) → StandsBy g r b branch.items branch.mode stand.left (record { core = a; world = x.state; hand = None })). calm_settles who x st r None runs_r branch known stand by)
         (λ at_rest.
-        let rest = at_rest.2 in
+        let rest = at_rest.3 in
         ⊎_elim
-        (λ (own : IsOwn r.parents branch.items). goes_its_way g first is may_rest who w x st c t a at_c r runs_r branch known at_rest.1 stand rest.0 rest.1 branch.items refl rest.3 own may_rest' rests)
+        (λ (own : IsOwn r.parents branch.items). goes_its_way g first is may_rest who w x st c t a at_c r runs_r branch known at_rest.1 stand at_rest.2 rest.0 rest.1 branch.items refl rest.3 own may_rest' rests)
         (λ (none : HasNone r.parents branch.items).
-        let q = settles_one g first is may_rest who w x st c t a at_c r runs_r branch known at_rest.1 stand rest.0 rest.1 branch.items refl rest.3 at_rest.0 branch.items refl none in
-        follows_after may_rest' who q.who w x q.piece q.world q.acted q.named
+        let q = settles_one g first is may_rest who w x st c t a at_c r runs_r branch known at_rest.1 stand at_rest.2 rest.0 rest.1 branch.items refl rest.3 at_rest.0 branch.items refl none in
+        let here : Settles g may_rest who w x w = record {
+          follows = record { who = q.who; piece = q.piece; world = q.world; acted = q.acted; standing = q.standing; named = q.named };
+          none_inside = q.none_inside;
+        } in
+        settles_after may_rest may_rest' who x here
         (settle_at n q.who (told_by g.program g.stimulus x q.piece q.world) q.standing q.runner q.runs_there q.next q.known (let lighter = q.lighter in omega (arith, lt, lighter))))
         (own_or_none r.parents branch.items))
         (by_cases g r (may_rest c t) branch.items branch.mode stand.left (record { core = a; world = x.state; hand = None }) stand.by)
 
     -- whatever its role is
-    pub thread_settles : (who : Roles) (x : Told (of_kernel g.program)) → Standing g may_rest who w x → (role : Role) → who c t ≡ role → Follows g may_rest' who w x w
+    pub thread_settles : (who : Roles) (x : Told (of_kernel g.program)) → Standing g may_rest who w x → (role : Role) → who c t ≡ role → Settles g may_rest' who w x w
     thread_settles who x st (used_by r hand) e =
         let there = some_is (Stand g r (may_rest c t) hand a x.state (w.lives c t) x.actions) (slice_get x.state.branches r.branch) (stands_at g first is may_rest who w x st c t a r hand at_c e) in
         let branch = there.0 in
         let stand = there.2 in
         ⊎_elim
-        (λ (by : (b : Bool) → StandsBy g r b branch.items branch.mode stand.left (record { core = a; world = x.state; hand = hand })). calm_follows who x st r hand e branch there.1 stand by)
-        (λ at_rest. settle_at (suc (thread_weight r.parents branch.items)) who x st r (e ∙ ap (used_by r) at_rest.2.2) branch there.1 (omega arith))
+        (λ (by : (b : Bool) → StandsBy g r b branch.items branch.mode stand.left (record { core = a; world = x.state; hand = hand })). calm_settles who x st r hand e branch there.1 stand by)
+        (λ at_rest. settle_at (suc (thread_weight r.parents branch.items)) who x st r (e ∙ ap (used_by r) at_rest.3.2) branch there.1 (omega arith))
         (by_cases g r (may_rest c t) branch.items branch.mode stand.left (record { core = a; world = x.state; hand = hand }) stand.by)
     thread_settles who x st unused e =
-        nothing_follows may_rest' who x (standing_as may_rest may_rest' who x st x.actions (λ f. omega arith) (λ i u s hand runs_s. rests i u (λ h.
+        nothing_settles may_rest' who x (standing_as may_rest may_rest' who x st x.actions (λ f. omega arith) (λ i u s hand runs_s. rests i u (λ h.
         let both : unused ≡ used_by s hand = sym e ∙ sym (ap (λ k. who k u) h.0 ∙ ap (who c) h.1) ∙ runs_s in
         let z : ⊥ = cc in
         z)))
     thread_settles who x st (got_by k) e =
-        nothing_follows may_rest' who x (standing_as may_rest may_rest' who x st x.actions (λ f. omega arith) (λ i u s hand runs_s. rests i u (λ h.
+        nothing_settles may_rest' who x (standing_as may_rest may_rest' who x st x.actions (λ f. omega arith) (λ i u s hand runs_s. rests i u (λ h.
         let both : got_by k ≡ used_by s hand = sym e ∙ sym (ap (λ k. who k u) h.0 ∙ ap (who c) h.1) ∙ runs_s in
         let z : ⊥ = cc in
         z)))
@@ -257,15 +293,15 @@ module _ (g : Setting) (first : Roles) (is : IsImageOf g first) (w : Watched) wh
       less : u < suc n → u ≢ n → u < n
       less lt other = omega (arith, lt, other)
 
-  settle_below : (c : ℕ) (a : CoreState) → slice_get w.machine.cores c ≡ Some a → (n : ℕ) (who : Roles) (x : Told (of_kernel g.program)) → Standing g (rests_below c n) who w x → Follows g none_rests who w x w
+  settle_below : (c : ℕ) (a : CoreState) → slice_get w.machine.cores c ≡ Some a → (n : ℕ) (who : Roles) (x : Told (of_kernel g.program)) → Standing g (rests_below c n) who w x → Settles g none_rests who w x w
   settle_below c a at_c zero who x st =
-      nothing_follows none_rests who x (standing_as (rests_below c 0) none_rests who x st x.actions (λ f. omega arith) (λ i u s hand runs_s may. absurd (not_below_zero c i u may)))
+      nothing_settles none_rests who x (standing_as (rests_below c 0) none_rests who x st x.actions (λ f. omega arith) (λ i u s hand runs_s may. absurd (not_below_zero c i u may)))
   settle_below c a at_c (suc n) who x st =
       let q = thread_settles (rests_below c (suc n)) (rests_below c n) c n a at_c (below_others c n) who x st (who c n) refl in
-      follows_after none_rests who q.who w x q.piece q.world q.acted q.named (settle_below c a at_c n q.who (told_by g.program g.stimulus x q.piece q.world) q.standing)
+      settles_after (rests_below c n) none_rests who x q (settle_below c a at_c n q.follows.who (told_by g.program g.stimulus x q.follows.piece q.follows.world) q.follows.standing)
 
   -- Where threads of one core alone may be at rest, the program leads to where nobody is.
-  pub settles : (may_rest : (core thread : ℕ) → Bool) (who : Roles) (x : Told (of_kernel g.program)) (c : ℕ) → c < 4 → ((i u : ℕ) → i ≢ c → may_rest i u ≡ false) → Standing g may_rest who w x → Follows g none_rests who w x w
+  pub settles : (may_rest : (core thread : ℕ) → Bool) (who : Roles) (x : Told (of_kernel g.program)) (c : ℕ) → c < 4 → ((i u : ℕ) → i ≢ c → may_rest i u ≡ false) → Standing g may_rest who w x → Settles g none_rests who w x w
   settles may_rest who x c lt others st =
       let at = core_at w.machine.cores c (let four = st.cores in omega (arith, lt, four)) in
       settle_below c at.0 at.1 8 who x
@@ -280,4 +316,4 @@ module _ (g : Setting) (first : Roles) (is : IsImageOf g first) (w : Watched) wh
 
   -- so behind an event, where threads of its core may be at rest
   pub settles_behind : (old : Roles) (before : Watched) (may_rest : (core thread : ℕ) → Bool) (x : Told (of_kernel g.program)) (c : ℕ) → c < 4 → ((i u : ℕ) → i ≢ c → may_rest i u ≡ false) → Follows g may_rest old before x w → Follows g none_rests old before x w
-  settles_behind old before may_rest x c lt others q = follows_after none_rests old q.who before x q.piece q.world q.acted q.named (settles may_rest q.who (told_by g.program g.stimulus x q.piece q.world) c lt others q.standing)
+  settles_behind old before may_rest x c lt others q = follows_after none_rests old q.who before x q.piece q.world q.acted q.named (settles may_rest q.who (told_by g.program g.stimulus x q.piece q.world) c lt others q.standing).follows

@@ -1,36 +1,33 @@
 -- A thread at rest does its first item, where that has no instruction, and is at rest still, or where its branch has ended on its way to join
 -- others; or it comes on its way to the item's instruction.
 use Rattle.std.proofs.Common.{◌≡◌, ℕ, ◌+◌, ◌-◌, ◌*◌, ◌<◌, ◌≤◌, inl, inr, [], ◌∷◌, List, length, Option, Some, None, refl, sym, ap, ◌∙◌, subst, arith}
-use Rattle.std.proofs.Math.Nat.{mul-le-mul_left}
 use Rattle.std.proofs.lemmas.Option.{same_Some, slice_get_within}
 use Rattle.std.specs.Prelude.{Bool, true, slice_get, slice_set}
 use Rattle.xw_words.specs.declared.pos.Pos.{Pos}
-use Rattle.xs_instr.specs.Resources.{is_num}
 use Rattle.xs_instr.specs.declared.state.CoreState.{CoreState}
 use Rattle.xs_instr.specs.declared.state.Mode.TheVariants.{Running}
 use Rattle.xc_disjoint.specs.Needs.{threads_on}
 use Rattle.xc_kernel.specs.Plain as kernel
 use Rattle.xc_laws.proofs.Always.{laws_kept}
 use Rattle.xc_laws.specs.Lawful.{Lawful}
-use Rattle.xc_laws.specs.Needs.{total_of}
-use Rattle.xc_meaning.specs.Counts.KernelCounts.{branch_count, kernel_bound}
+use Rattle.xc_meaning.specs.Counts.KernelCounts.{kernel_bound}
 use Rattle.xc_meaning.specs.Runs.{acts, acts_all}
 use Rattle.xc_meaning.specs.States.Branches.{Branch, ended, runs}
-use Rattle.xc_meaning.specs.States.Items.{Item, awaits, chooses, does, ends, fixed, mark, says, stores, todo, transaction_end}
+use Rattle.xc_meaning.specs.States.Items.{Item, does, ends, mark, todo}
 use Rattle.xc_meaning.specs.States.Worlds.{Action, World, go}
 use Rattle.xl_expr.proofs.Lists.{get_set_other, get_set_same}
-use Rattle.xl_par.specs.Hands.{Hand, IsAmong, one_if, empty_hand}
-use Rattle.xr_match.specs.Lives.{Life, Watched}
+use Rattle.xl_par.specs.Hands.{Hand, IsAmong}
+use Rattle.xr_match.specs.Lives.{Watched}
 use Rattle.xr_match.specs.Meanings.{of_kernel}
 use Rattle.xr_match.specs.Sources.{Told}
 use Rattle.xr_threads.specs.Fits.{FitOn}
 use Rattle.xr_threads.specs.Images.{IsImageOf}
 use Rattle.xr_threads.specs.Parents.{Parent, sync_before, syncs_of}
-use Rattle.xr_threads.specs.Roles.{HandFits, IsOnce, ParentsWait, Roles, empty, opens, unused, used_by}
+use Rattle.xr_threads.specs.Roles.{HandFits, IsOnce, ParentsWait, Roles, empty, unused, used_by}
 use Rattle.xr_threads.specs.Runners.{Runner, Setting, anyone, footprint_of, shrunk}
-use Rattle.xr_threads.specs.Scenes.{Scene, held_in, running, sync_in}
+use Rattle.xr_threads.specs.Scenes.{Scene, running}
 use Rattle.xr_threads.specs.Settled.{IsOwn}
-use Rattle.xr_threads.specs.Standing.{AreLoose, HasEnded, IsOnItsWay, Stand, Standing, StandsBy, ThreadIs}
+use Rattle.xr_threads.specs.Standing.{AreLoose, HasEnded, IsOnItsWay, Stand, Standing, StandsBy, StandsWith, ThreadIs}
 use Rattle.xr_threads.specs.Turns.{HoldsStore, IsJoining, PortsStand, Rest, cost, finished, first_hand}
 use Rattle.xr_threads.proofs.Counts.{ended_counts, made_counts}
 use Rattle.xr_threads.proofs.Evaluations.{item_acts, with_items}
@@ -40,99 +37,18 @@ use Rattle.xr_threads.proofs.Moves.{laid_at}
 use Rattle.xr_threads.proofs.Seats.{role_here, seated_itself, with_role}
 use Rattle.xr_threads.proofs.SettleSteps.{IsSettled, loose_settled, settled, works_settled}
 use Rattle.xr_threads.proofs.SettleWorlds.{settled_risen, settled_set, settled_under}
-use Rattle.xr_threads.proofs.Settling.{EndsFirst, GoesUnder, Rises, StaysOn, block_settles, child_of, child_there, first_ends, maker_of, mark_settles, none_settles, one_settles, parents_beside, parents_risen, parents_under, risen, risen_branch, rises, under, waiting_one, with_child, with_ended, with_risen}
+use Rattle.xr_threads.proofs.Settling.{EndsFirst, GoesUnder, Rises, StaysOn, block_settles, child_of, child_there, first_ends, maker_of, mark_settles, none_settles, one_settles, parents_beside, parents_risen, parents_under, risen, risen_branch, rises, sides_under, under, waiting_one, with_child, with_ended, with_risen}
+use Rattle.xr_threads.proofs.Sided.{first_sided}
 use Rattle.xr_threads.proofs.Shrinks.{branch_fits, fits_everywhere, fits_here}
 use Rattle.xr_threads.proofs.Items.{all_fit as todo_fits}
-use Rattle.xr_threads.specs.Living.{AreNamed, opened, opens_by, some_more}
+use Rattle.xr_threads.specs.Living.{AreNamed}
 use Rattle.xr_threads.proofs.NamedOwn.{family_there}
 use Rattle.xr_threads.proofs.NamedLinks.{settles_linked, told_one, told_same, told_two, told_under}
+use Rattle.xr_threads.proofs.NoneInside.{NoneInside, Settles, none_with}
 use Rattle.xr_threads.proofs.Standing.{Follows, told_by}
-use Rattle.xr_threads.proofs.Sums.{some_named, sum, sum_most, sum_one, total_least, total_swap, named_true}
 use Rattle.xr_threads.proofs.Weights.{HasNone, block, block_end, block_lighter, branch_end, end_lighter, items_weight, mark_lighter, none_lighter, one_lighter, par_of_none, par_of_one, thread_weight}
 use Rattle.xr_threads.proofs.Works.{Works}
-
--- Differing numbers below seven are at most seven.
-
-seven : sum 7 (λ u. 1) ≡ 7
-seven = refl
-
-pub few_once : (ns : List ℕ) → IsOnce ns → ((n : ℕ) → IsAmong ns n → n < 7) → length ns ≤ 7
-few_once ns once below =
-    let each = total_least (λ n. sum 7 (λ u. one_if (is_num (Some u) n))) ns (λ n m.
-    let one = sum_one 7 n (λ u. one_if (is_num (Some u) n)) (below n m) in
-    let met : one_if (is_num (Some n) n) ≡ 1 = ap one_if (named_true (Some n) n refl) in
-    let z : 1 ≤ sum 7 (λ u. one_if (is_num (Some u) n)) = omega (arith, one, met) in
-    z) in
-    let swap = total_swap 7 (λ n u. one_if (is_num (Some u) n)) ns in
-    let most = sum_most 7 (λ u. total_of (λ n. one_if (is_num (Some u) n)) ns) (λ u. 1) (λ u lt. some_named (Some u) ns once) in
-    omega (arith, each, swap, most, seven)
-
--- the first of them is one more
-pub few_behind : (n : ℕ) (ns : List ℕ) → IsOnce (n ∷ ns) → ((m : ℕ) → IsAmong (n ∷ ns) m → m < 7) → length ns ≤ 6
-few_behind n ns once below = let most = few_once (n ∷ ns) once below in omega (arith, most)
-
--- What is in hand before a first item.
-
-first_held : (items : List Item) → HandFits items (first_hand items) × (held_in (first_hand items) ≡ []) × (sync_in (first_hand items) ≡ None)
-first_held [] = (empty refl, refl, refl)
-first_held (does (kernel.par kernel.no_branch) ∷ rest) = (empty refl, refl, refl)
-first_held (does (kernel.par (kernel.more_branches b kernel.no_branch)) ∷ rest) = (empty refl, refl, refl)
-first_held (does (kernel.par (kernel.more_branches b (kernel.more_branches c bs))) ∷ rest) =
-    (opens (empty_hand (branch_count (kernel.more_branches c bs))) (kernel.more_branches b (kernel.more_branches c bs)) rest refl refl (omega arith) (omega arith) (λ e. refl), refl, refl)
-first_held (does (kernel.set_zero v) ∷ rest) = (empty refl, refl, refl)
-first_held (does (kernel.set place x) ∷ rest) = (empty refl, refl, refl)
-first_held (does (kernel.output o) ∷ rest) = (empty refl, refl, refl)
-first_held (does (kernel.input i) ∷ rest) = (empty refl, refl, refl)
-first_held (does (kernel.if_then x a b) ∷ rest) = (empty refl, refl, refl)
-first_held (does (kernel.loop x a b) ∷ rest) = (empty refl, refl, refl)
-first_held (does (kernel.block n a) ∷ rest) = (empty refl, refl, refl)
-first_held (does (kernel.exit n) ∷ rest) = (empty refl, refl, refl)
-first_held (does (kernel.select cases otherwise pos) ∷ rest) = (empty refl, refl, refl)
-first_held (does (kernel.transaction c is_master ss start close) ∷ rest) = (empty refl, refl, refl)
-first_held (says i ∷ rest) = (empty refl, refl, refl)
-first_held (stores place v ∷ rest) = (empty refl, refl, refl)
-first_held (mark n ∷ rest) = (empty refl, refl, refl)
-first_held (awaits c pos ∷ rest) = (empty refl, refl, refl)
-first_held (transaction_end c is_master pos ∷ rest) = (empty refl, refl, refl)
-first_held (chooses choices otherwise ∷ rest) = (empty refl, refl, refl)
-first_held (fixed i v counter ∷ rest) = (empty refl, refl, refl)
-first_held (ends ∷ rest) = (empty refl, refl, refl)
-
--- without a synchroniser it opens no `par`
-none_opened : (hand : Option Hand) → sync_in hand ≡ None → opened hand ≡ 0
-none_opened None e = refl
-none_opened (Some hand) e = ap (λ o. opens_by o (some_more (length hand.threads) hand.lacks)) e
-
--- a family that has done more has no smaller bound
-bound_more : (most steps left actions more : ℕ) → steps + left ≤ most * (actions + 1) → actions ≤ more → steps + left ≤ most * (more + 1)
-bound_more most steps left actions more is le =
-    let one : actions + 1 ≤ more + 1 = omega (arith, le) in
-    let grown = mul-le-mul_left most one in
-    omega (arith, grown, is)
-
--- A runner at rest stands so.
-resting : (g : Setting) (s : Runner) (may : Bool) (a : CoreState) (y : World) (life : Life) (more : ℕ → ℕ) (next : Branch) (j left : ℕ) → may ≡ true → next.core ≡ s.core → next.family ≡ s.family → s.footprint ≡ footprint_of next.items →
-    ParentsWait g y s.core s.family s.parents s.branch → next.mode ≡ runs → Rest g s next.items j (record { core = a; world = y; hand = None }) → j + cost g s ≤ left → life.steps + left ≤ kernel_bound g.program * (more s.family + 1) →
-    Stand g s may None a y life more next
-resting g s may a y life more next j left may_be core family footprint parents mode rest few bound = record {
-  core = core;
-  family = family;
-  footprint = footprint;
-  parents = parents;
-  thread = record {
-    thread = running s.tie rest.pc rest.regs;
-    there = rest.here;
-    tied = refl;
-    no_events = refl;
-    is = subst (λ m. ThreadIs s.parents m Running) (sym mode) refl;
-  };
-  in_hand = empty refl;
-  ends_tied = λ over. let both : runs ≡ ended = sym mode ∙ over in absurd (let z : ⊥ = cc in z);
-  left = left;
-  bound = bound;
-  by = subst (λ m. StandsBy g s may next.items m left (record { core = a; world = y; hand = None })) (sym mode)
-      (subst (λ b. StandsBy g s b next.items runs left (record { core = a; world = y; hand = None })) (sym may_be) (inr (inr (j, few, refl, rest))));
-}
+use Rattle.xr_threads.proofs.Resting.{bound_more, few_behind, first_held, none_opened, resting}
 
 -- The program has done an item, all stand so again, and the thread has less to do without an instruction.
 pub record SettlesOne (g : Setting) (may_rest : (core thread : ℕ) → Bool) (old : Roles) (w : Watched) (x : Told (of_kernel g.program)) (c t weight : ℕ) : Type 0 where
@@ -142,6 +58,7 @@ pub record SettlesOne (g : Setting) (may_rest : (core thread : ℕ) → Bool) (o
   pub acted : acts_all g.program g.stimulus (Some x.state) piece ≡ Some world
   pub standing : Standing g may_rest who w (told_by g.program g.stimulus x piece world)
   pub named : AreNamed g old w x → AreNamed g who w (told_by g.program g.stimulus x piece world)
+  pub none_inside : NoneInside old → NoneInside who
   pub runner : Runner
   pub runs_there : who c t ≡ used_by runner None
   pub next : Branch
@@ -151,7 +68,7 @@ pub record SettlesOne (g : Setting) (may_rest : (core thread : ℕ) → Bool) (o
 module _ (g : Setting) (first : Roles) (is : IsImageOf g first) (may_rest : (core thread : ℕ) → Bool) (who : Roles) (w : Watched) (x : Told (of_kernel g.program)) (st : Standing g may_rest who w x)
     (c t : ℕ) (a : CoreState) (at_c : slice_get w.machine.cores c ≡ Some a) (r : Runner) (runs_r : who c t ≡ used_by r None)
     (branch : Branch) (known : slice_get x.state.branches r.branch ≡ Some branch) (running_is : branch.mode ≡ runs)
-    (stand : Stand g r (may_rest c t) None a x.state (w.lives c t) x.actions branch) (j : ℕ) (few : j + cost g r ≤ stand.left) (items : List Item) (items_are : branch.items ≡ items)
+    (stand : Stand g r (may_rest c t) None a x.state (w.lives c t) x.actions branch) (none : r.transfer ≡ None) (j : ℕ) (few : j + cost g r ≤ stand.left) (items : List Item) (items_are : branch.items ≡ items)
     (h : Rest g r items j (record { core = a; world = x.state; hand = None })) where
   abbrev z : Scene
   z = record { core = a; world = x.state; hand = None }
@@ -183,6 +100,8 @@ module _ (g : Setting) (first : Roles) (is : IsImageOf g first) (may_rest : (cor
           clocks = refl;
           trace = refl;
           store = refl;
+          inboxes = refl;
+          transfer = refl;
           seated = seated_itself r;
           held = held.1;
           sync = held.2;
@@ -198,7 +117,8 @@ module _ (g : Setting) (first : Roles) (is : IsImageOf g first) (may_rest : (cor
     on_its_way : IsOnItsWay g r stand.left (record { core = a; world = x.state; hand = hand })
     on_its_way =
         let lt : r.core < 4 = subst (λ k. k < 4) (sym (st.roles.core c t r None runs_r)) (st.roles.there c t r None runs_r) in
-        let leads = settled_leads g r (laid_at g first is may_rest who w x st c t r None runs_r) lt items j z h own in
+        let sided = first_sided g r x.state st.lawful branch known stand.sides items items_are h.fits in
+        let leads = settled_leads g r (laid_at g first is may_rest who w x st c t r None runs_r) lt items j z h own sided in
         (leads.0, leads.1, (let le = leads.2 in omega (arith, le, few)), leads.3)
 
     way_stand : Stand g r (may_rest' c t) hand a x.state (w.lives c t) (told_by g.program g.stimulus x [] x.state).actions branch
@@ -209,21 +129,29 @@ module _ (g : Setting) (first : Roles) (is : IsImageOf g first) (may_rest : (cor
       parents = stand.parents;
       thread = stand.thread;
       in_hand = subst (λ l. HandFits l hand) (sym items_are) (first_held items).0;
+      sides = stand.sides;
+      done = stand.done;
+      stops = stand.stops;
       ends_tied = stand.ends_tied;
       left = stand.left;
       bound = bound_behind [] x.state stand.left (omega arith);
-      by = subst (λ m. StandsBy g r (may_rest' c t) branch.items m stand.left (record { core = a; world = x.state; hand = hand })) (sym running_is) (inl on_its_way);
+      by = subst (λ m. StandsBy g r (may_rest' c t) branch.items m stand.left (record { core = a; world = x.state; hand = hand })) (sym running_is)
+          (subst (λ o. StandsWith g r (may_rest' c t) o branch.items stand.left (record { core = a; world = x.state; hand = hand })) (sym none) (inl on_its_way));
     }
 
-    pub goes_its_way : Follows g may_rest' who w x w
-    goes_its_way = record {
+    own_follows : Follows g may_rest' who w x w
+    own_follows = record {
       who = with_role who c t (used_by r hand);
       piece = [];
       world = x.state;
       acted = refl;
-      standing = settled g first is may_rest who w x st c t a at_c r runs_r r hand [] x.state nothing_done h.has.holds h.has.ports may_rest' rests branch known way_stand;
+      standing = settled g first is may_rest who w x st c t a at_c r runs_r r hand [] x.state nothing_done h.has.holds h.has.ports none may_rest' rests branch known way_stand;
       named = λ names. settles_linked g may_rest who w x st names c t r r None hand runs_r refl (inr (refl, none_opened hand (first_held items).2)) (told_by g.program g.stimulus x [] x.state) (told_same g x [] x.state refl);
     }
+
+    pub goes_its_way : Settles g may_rest' who w x w
+    unfolding own_follows
+    goes_its_way = record { follows = own_follows; none_inside = none_with who c t r hand none }
 
   module _ (may : may_rest c t ≡ true) where
     abbrev weight : ℕ
@@ -243,11 +171,12 @@ module _ (g : Setting) (first : Roles) (is : IsImageOf g first) (may_rest : (cor
           piece = piece;
           world = y;
           acted = d.acted;
-          standing = settled g first is may_rest who w x st c t a at_c r runs_r (shrunk r others) None piece y d h.has.holds h.has.ports may_rest (λ i u ne m. m) next there
+          standing = settled g first is may_rest who w x st c t a at_c r runs_r (shrunk r others) None piece y d h.has.holds h.has.ports none may_rest (λ i u ne m. m) next there
               (resting g (shrunk r others) (may_rest c t) a y (w.lives c t) (told_by g.program g.stimulus x piece y).actions next j stand.left may
               (ap (λ (b : Branch). b.core) (sym same) ∙ stand.core) (ap (λ (b : Branch). b.family) (sym same) ∙ stand.family) refl
-              (parents_beside g r x.state q.branch q.known q.running next r.parents r.branch stand.parents) q.running q.rest few (bound_behind piece y stand.left (omega arith)));
+              (parents_beside g r x.state q.branch q.known q.running next r.parents r.branch stand.parents) (ap (λ (b : Branch). b.sides) (sym same) ∙ stand.sides) none q.running q.rest few (bound_behind piece y stand.left (omega arith)));
           named = λ names. settles_linked g may_rest who w x st names c t r (shrunk r others) None None runs_r refl (inl refl) (told_by g.program g.stimulus x piece y) (told_one g x piece y r.branch q.branch next q.known refl refl);
+          none_inside = none_with who c t (shrunk r others) None none;
           runner = shrunk r others;
           runs_there = role_here who c t (used_by (shrunk r others) None);
           next = next;
@@ -257,7 +186,7 @@ module _ (g : Setting) (first : Roles) (is : IsImageOf g first) (may_rest : (cor
 
     -- 3. Another branch is made, for which its own one waits.
     under_settles : (ss : kernel.Statements) (pos : Pos) (rest : List Item) → items ≡ does (kernel.par (kernel.more_branches (kernel.branch ss pos) kernel.no_branch)) ∷ rest → FitOn g r.core rest → GoesUnder g r ss rest j z →
-        thread_weight (waiting_one r.branch (length x.state.branches) rest ∷ r.parents) (todo ss (ends ∷ [])) < weight → SettlesOne g may_rest who w x c t weight
+        thread_weight (waiting_one r.branch (length x.state.branches) rest r.sides ∷ r.parents) (todo ss (ends ∷ [])) < weight → SettlesOne g may_rest who w x c t weight
     under_settles ss pos rest these rest_fit q lighter =
         let s = under r (length x.state.branches) ss rest in
         let next : Branch = child_of q.branch ss in
@@ -266,6 +195,7 @@ module _ (g : Setting) (first : Roles) (is : IsImageOf g first) (may_rest : (cor
         let same = same_branch q.branch q.known in
         let core : q.branch.core ≡ r.core = ap (λ (b : Branch). b.core) (sym same) ∙ stand.core in
         let family : q.branch.family ≡ r.family = ap (λ (b : Branch). b.family) (sym same) ∙ stand.family in
+        let sides : q.branch.sides ≡ r.sides = ap (λ (b : Branch). b.sides) (sym same) ∙ stand.sides in
         let d = settled_under g r x.state q.branch q.known q.running ss pos rest (footprint ∙ ap footprint_of these) q.acted in
         let there = child_there g r x.state q.branch ss rest in
         let made_below : q.branch.family < length x.state.branches = subst (λ f. f < length x.state.branches) (sym family) (family_there g may_rest who w x st c t a at_c r None runs_r) in
@@ -274,10 +204,11 @@ module _ (g : Setting) (first : Roles) (is : IsImageOf g first) (may_rest : (cor
           piece = piece;
           world = y;
           acted = d.acted;
-          standing = settled g first is may_rest who w x st c t a at_c r runs_r s None piece y d h.has.holds h.has.ports may_rest (λ i u ne m. m) next there
+          standing = settled g first is may_rest who w x st c t a at_c r runs_r s None piece y d h.has.holds h.has.ports none may_rest (λ i u ne m. m) next there
               (resting g s (may_rest c t) a y (w.lives c t) (told_by g.program g.stimulus x piece y).actions next j stand.left may core family refl
-              (parents_under g r x.state q.branch q.known q.running ss rest core family rest_fit stand.parents) refl q.rest_there few (bound_behind piece y stand.left (omega arith)));
+              (parents_under g r x.state q.branch q.known q.running ss rest core family sides rest_fit stand.parents) (ap (sides_under ss) sides) none refl q.rest_there few (bound_behind piece y stand.left (omega arith)));
           named = λ names. settles_linked g may_rest who w x st names c t r s None None runs_r refl (inl refl) (told_by g.program g.stimulus x piece y) (told_under g x piece y r.branch q.branch.family q.branch (maker_of q.branch (length x.state.branches) rest) next q.known refl refl made_below refl);
+          none_inside = none_with who c t s None none;
           runner = s;
           runs_there = role_here who c t (used_by s None);
           next = next;
@@ -335,6 +266,9 @@ module _ (g : Setting) (first : Roles) (is : IsImageOf g first) (may_rest : (cor
       over_family : own_branch.family ≡ r.family
       over_family = ap (λ (b : Branch). b.family) (sym (same_branch own_branch own_known)) ∙ stand.family
 
+      over_sides : own_branch.sides ≡ r.sides
+      over_sides = ap (λ (b : Branch). b.sides) (sym (same_branch own_branch own_known)) ∙ stand.sides
+
       over_parents : ParentsWait g over_world r.core r.family r.parents r.branch
       over_parents = parents_beside g r x.state own_branch own_known own_running (finished own_branch) r.parents r.branch stand.parents
 
@@ -378,7 +312,10 @@ module _ (g : Setting) (first : Roles) (is : IsImageOf g first) (may_rest : (cor
             is = subst (λ l. ThreadIs l ended Running) (sym parents) refl;
           };
           in_hand = empty refl;
-          ends_tied = λ e none. let both : p ∷ ps ≡ [] = sym parents ∙ none in absurd (let z : ⊥ = cc in z);
+          sides = over_sides;
+          done = λ e. none;
+          stops = λ e. absurd (let z : ⊥ = cc in z);
+          ends_tied = λ e alone. let both : p ∷ ps ≡ [] = sym parents ∙ alone in absurd (let z : ⊥ = cc in z);
           left = 7 + j;
           bound = bound_behind (go r.branch ∷ []) over_world (7 + j) (omega (arith, few));
           by = subst (λ l. HasEnded g over l (7 + j) (record { core = a; world = over_world; hand = None })) (sym parents) joins;
@@ -390,8 +327,9 @@ module _ (g : Setting) (first : Roles) (is : IsImageOf g first) (may_rest : (cor
           piece = go r.branch ∷ [];
           world = over_world;
           acted = over_settled.acted;
-          standing = settled g first is may_rest who w x st c t a at_c r runs_r over None (go r.branch ∷ []) over_world over_settled h.has.holds h.has.ports may_rest (λ i u ne m. m) (finished own_branch) over_there joining_stand;
+          standing = settled g first is may_rest who w x st c t a at_c r runs_r over None (go r.branch ∷ []) over_world over_settled h.has.holds h.has.ports none may_rest (λ i u ne m. m) (finished own_branch) over_there joining_stand;
           named = λ names. settles_linked g may_rest who w x st names c t r over None None runs_r refl (inl refl) (told_by g.program g.stimulus x (go r.branch ∷ []) over_world) (told_one g x (go r.branch ∷ []) over_world r.branch own_branch (finished own_branch) own_known refl refl);
+          none_inside = none_with who c t over None none;
           runner = over;
           runs_there = role_here who c t (used_by over None);
           next = finished own_branch;
@@ -400,7 +338,7 @@ module _ (g : Setting) (first : Roles) (is : IsImageOf g first) (may_rest : (cor
         }
 
       -- 5. It was the only one of its `par`, and the branch that waits goes on.
-      module _ (none : p.sync ≡ None) where
+      module _ (alone : p.sync ≡ None) where
         abbrev who_over : Roles
         who_over = with_role who c t (used_by over None)
 
@@ -417,12 +355,15 @@ module _ (g : Setting) (first : Roles) (is : IsImageOf g first) (may_rest : (cor
           footprint = refl;
           parents = over_parents;
           in_hand = empty refl;
+          sides = over_sides;
+          done = λ e. none;
+          stops = λ e. absurd (let z : ⊥ = cc in z);
         }
 
         all_over : HaveEnded over_world p.from p.count
         all_over k b least less at =
             let starts = waiting.0.first_is in
-            let one = waiting.0.one none in
+            let one = waiting.0.one alone in
             let k_is : k ≡ r.branch = omega (arith, least, less, starts, one) in
             ap (λ (i : Branch). i.mode) (sym (same_Some (finished own_branch) b (sym over_there ∙ ap (slice_get over_world.branches) (sym k_is) ∙ at)))
 
@@ -458,7 +399,7 @@ module _ (g : Setting) (first : Roles) (is : IsImageOf g first) (may_rest : (cor
 
         goes_up : Rises g r p ps j z
         goes_up =
-            rises g r p ps rest j z parents none at_end waiting.0 (fits_here g above p.items waiting.0.fits refl)
+            rises g r p ps rest j z parents alone at_end waiting.0 (fits_here g above p.items waiting.0.fits refl)
             (record { holds = above_holds.holds; room = above_holds.room })
             (λ q listed its. let k = above_ports q listed its in record { port = k.port; there = k.there; declared = k.declared })
 
@@ -477,7 +418,7 @@ module _ (g : Setting) (first : Roles) (is : IsImageOf g first) (may_rest : (cor
             (subst (λ b. acts_all g.program g.stimulus (Some x.state) up_piece ≡ Some (with_risen x.state r.branch b p.branch goes_up.waiting)) same_own goes_up.acted)
 
         up_settled : IsSettled g r x.state above None up_piece risen_y
-        up_settled = settled_risen g r x.state own_branch own_known own_running p ps parents none waiting.0 st.lawful up_acted
+        up_settled = settled_risen g r x.state own_branch own_known own_running p ps parents alone waiting.0 st.lawful up_acted
 
         abbrev up_next : Branch
         up_next = risen_branch waiting.0.branch
@@ -499,10 +440,11 @@ module _ (g : Setting) (first : Roles) (is : IsImageOf g first) (may_rest : (cor
           piece = up_piece;
           world = risen_y;
           acted = up_settled.acted;
-          standing = settled g first is may_rest who w x st c t a at_c r runs_r above None up_piece risen_y up_settled h.has.holds h.has.ports may_rest (λ i u ne m. m) up_next up_there
+          standing = settled g first is may_rest who w x st c t a at_c r runs_r above None up_piece risen_y up_settled h.has.holds h.has.ports none may_rest (λ i u ne m. m) up_next up_there
               (resting g above (may_rest c t) a risen_y (w.lives c t) (told_by g.program g.stimulus x up_piece risen_y).actions up_next j stand.left may waiting.0.on_core waiting.0.of_family (ap footprint_of (sym waiting.0.items))
-              (parents_risen g r x.state own_branch own_known own_running (length g.program.roots) st.lawful.forest p ps waiting.0.branch waiting) refl up_rest few (bound_behind up_piece risen_y stand.left (omega arith)));
+              (parents_risen g r x.state own_branch own_known own_running (length g.program.roots) st.lawful.forest p ps waiting.0.branch waiting) waiting.0.sides none refl up_rest few (bound_behind up_piece risen_y stand.left (omega arith)));
           named = λ names. settles_linked g may_rest who w x st names c t r above None None runs_r refl (inl refl) (told_by g.program g.stimulus x up_piece risen_y) (told_two g x up_piece risen_y r.branch p.branch own_branch (finished own_branch) waiting.0.branch up_next own_known refl waiting.0.known refl goes_up.apart refl);
+          none_inside = none_with who c t above None none;
           runner = above;
           runs_there = role_here who c t (used_by above None);
           next = up_next;
@@ -539,5 +481,5 @@ module _ (g : Setting) (first : Roles) (is : IsImageOf g first) (may_rest : (cor
         let fit = subst (FitOn g r.core) e all_fit in
         let own_fit = branch_fits g r.core (kernel.more_branches (kernel.branch ss pos) kernel.no_branch) rest fit 0 ss refl in
         let q = one_settles g r ss pos rest j z (subst (λ k. Rest g r k j z) e h) (footprint ∙ ap footprint_of e) (fits_here g s these own_fit refl) in
-        under_settles ss pos rest e fit.1 q (subst (λ k. thread_weight (waiting_one r.branch (length x.state.branches) rest ∷ r.parents) these < thread_weight r.parents k) (sym e) (one_lighter r.parents (waiting_one r.branch (length x.state.branches) rest) ss pos))
+        under_settles ss pos rest e fit.1 q (subst (λ k. thread_weight (waiting_one r.branch (length x.state.branches) rest r.sides ∷ r.parents) these < thread_weight r.parents k) (sym e) (one_lighter r.parents (waiting_one r.branch (length x.state.branches) rest r.sides) ss pos))
     settles_one l e (branch_end p ps rest parents) = by_sync rest e p ps parents p.sync refl

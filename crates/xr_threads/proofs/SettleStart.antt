@@ -11,8 +11,9 @@ use Rattle.xr_threads.specs.Images.{IsImageOf}
 use Rattle.xr_threads.specs.Roles.{Roles, unused, used_by}
 use Rattle.xr_threads.specs.Runners.{Setting, Runner}
 use Rattle.xr_threads.specs.Standing.{Standing, none_rests}
-use Rattle.xr_threads.proofs.SettleAll.{follows_after, nothing_follows, standing_as, thread_settles}
-use Rattle.xr_threads.proofs.Standing.{Follows, core_at, told_by}
+use Rattle.xr_threads.proofs.SettleAll.{settles_after, nothing_settles, standing_as, thread_settles}
+use Rattle.xr_threads.proofs.NoneInside.{Settles}
+use Rattle.xr_threads.proofs.Standing.{core_at, told_by}
 
 module _ (g : Setting) (first : Roles) (is : IsImageOf g first) (w : Watched) where
   -- those of the cores below one may be at rest, and of that core those below a thread
@@ -37,12 +38,12 @@ module _ (g : Setting) (first : Roles) (is : IsImageOf g first) (w : Watched) wh
       less lt other = omega (arith, lt, other)
 
   -- those of one core
-  settle_threads : (c : ℕ) (a : CoreState) → slice_get w.machine.cores c ≡ Some a → ((who : Roles) (x : Told (of_kernel g.program)) → Standing g (rests_before c 0) who w x → Follows g none_rests who w x w) →
-      (n : ℕ) (who : Roles) (x : Told (of_kernel g.program)) → Standing g (rests_before c n) who w x → Follows g none_rests who w x w
+  settle_threads : (c : ℕ) (a : CoreState) → slice_get w.machine.cores c ≡ Some a → ((who : Roles) (x : Told (of_kernel g.program)) → Standing g (rests_before c 0) who w x → Settles g none_rests who w x w) →
+      (n : ℕ) (who : Roles) (x : Told (of_kernel g.program)) → Standing g (rests_before c n) who w x → Settles g none_rests who w x w
   settle_threads c a at_c next zero who x st = next who x st
   settle_threads c a at_c next (suc n) who x st =
       let q = thread_settles g first is w (rests_before c (suc n)) (rests_before c n) c n a at_c (before_others c n) who x st (who c n) refl in
-      follows_after g first is w none_rests who q.who w x q.piece q.world q.acted q.named (settle_threads c a at_c next n q.who (told_by g.program g.stimulus x q.piece q.world) q.standing)
+      settles_after g first is w (rests_before c n) none_rests who x q (settle_threads c a at_c next n q.follows.who (told_by g.program g.stimulus x q.follows.piece q.follows.world) q.follows.standing)
 
   none_before : (i u : ℕ) → rests_before 0 0 i u ≡ true → ⊥
   none_before i u may =
@@ -63,9 +64,9 @@ module _ (g : Setting) (first : Roles) (is : IsImageOf g first) (w : Watched) wh
   used_so s hand e = cc
 
   -- those of the first cores
-  settle_cores : (c : ℕ) → c ≤ 4 → (who : Roles) (x : Told (of_kernel g.program)) → Standing g (rests_before c 0) who w x → Follows g none_rests who w x w
+  settle_cores : (c : ℕ) → c ≤ 4 → (who : Roles) (x : Told (of_kernel g.program)) → Standing g (rests_before c 0) who w x → Settles g none_rests who w x w
   settle_cores zero le who x st =
-      nothing_follows g first is w none_rests who x (standing_as g first is w (rests_before 0 0) none_rests who x st x.actions (λ f. omega arith) (λ i u s hand runs_s may. absurd (none_before i u may)))
+      nothing_settles g first is w none_rests who x (standing_as g first is w (rests_before 0 0) none_rests who x st x.actions (λ f. omega arith) (λ i u s hand runs_s may. absurd (none_before i u may)))
   settle_cores (suc c) le who x st =
       let at = core_at w.machine.cores c (let four = st.cores in omega (arith, le, four)) in
       settle_threads c at.0 at.1 (settle_cores c (omega (arith, le))) 8 who x
@@ -77,7 +78,7 @@ module _ (g : Setting) (first : Roles) (is : IsImageOf g first) (w : Watched) wh
       (or_cases (nat_lt i (suc c)) (nat_eq i (suc c) && nat_lt u 0) may))))
 
   -- wherever threads may be at rest, the program leads to where nobody is
-  pub settles_everywhere : (may_rest : (core thread : ℕ) → Bool) (who : Roles) (x : Told (of_kernel g.program)) → Standing g may_rest who w x → Follows g none_rests who w x w
+  pub settles_everywhere : (may_rest : (core thread : ℕ) → Bool) (who : Roles) (x : Told (of_kernel g.program)) → Standing g may_rest who w x → Settles g none_rests who w x w
   settles_everywhere may_rest who x st =
       settle_cores 4 (omega arith) who x
       (standing_as g first is w may_rest (rests_before 4 0) who x st x.actions (λ f. omega arith) (λ i u s hand runs_s may.

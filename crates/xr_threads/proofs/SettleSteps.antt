@@ -25,6 +25,7 @@ use Rattle.xr_threads.specs.Roles.{AreRoles, AreUsedSo, HasReserves, IsParent, R
 use Rattle.xr_threads.specs.Runners.{Runner, Setting, plan}
 use Rattle.xr_threads.specs.Scenes.{Owns, giving_back, held_in, sync_in}
 use Rattle.xr_threads.specs.Standing.{AreLoose, IsMade, IsRun, IsWanted, Stand, Standing, Stands, living_on}
+use Rattle.xr_threads.specs.Transfers.{Transfer}
 use Rattle.xr_threads.specs.Turns.{HoldsStore, PortsStand}
 use Rattle.xr_threads.proofs.Holding.{loose_behind}
 use Rattle.xr_threads.proofs.Moves.{Effect, laid_at, parent_there, own_still, parents_left, same_hand, same_runner, stands_at, works_at}
@@ -34,6 +35,7 @@ use Rattle.xr_threads.proofs.Seats.{IsNobodys, IsSeated, role_cases, role_far, r
 use Rattle.xr_threads.proofs.Standing.{parents_still, told_by}
 use Rattle.xr_threads.proofs.Steps.{answered}
 use Rattle.xr_threads.proofs.Usage.{used_on}
+use Rattle.xr_threads.proofs.Wiring.{TransfersAsBefore, wired_as}
 use Rattle.xr_threads.proofs.Works.{Works, own_thread_of}
 
 -- What becomes of the runner and of the program: variables and clocks stay, other branches do so, too, and of the runner's own ones those that
@@ -43,6 +45,8 @@ pub record IsSettled (g : Setting) (r : Runner) (x : World) (s : Runner) (hand :
   pub clocks : y.clocks ≡ x.clocks
   pub trace : y.trace ≡ x.trace
   pub store : y.store ≡ x.store
+  pub inboxes : y.inboxes ≡ x.inboxes
+  pub transfer : s.transfer ≡ r.transfer
   pub seated : IsSeated s r
   pub held : held_in hand ≡ []
   pub sync : sync_in hand ≡ None
@@ -189,8 +193,8 @@ module _ (g : Setting) (first : Roles) (is : IsImageOf g first) (may_rest : (cor
         (λ v want. want_before v want)
         (λ q nobody no u i other at. ⊎_elim (λ (same : r ≡ i). subst (λ (k : Runner). k.footprint.ports q ≡ false) same no) (λ now. nobody u i other now) (runner_still c u i other at))
 
-    -- The runner stands so, and then all do.
-    module _ (may_rest' : (core thread : ℕ) → Bool) (rests : (i u : ℕ) → ((i ≡ c) × (u ≡ t) → ⊥) → may_rest i u ≡ true → may_rest' i u ≡ true) (next : Branch) (there : slice_get y.branches s.branch ≡ Some next)
+    -- The runner stands so, and then all do. It is in no transfer.
+    module _ (none : r.transfer ≡ None) (may_rest' : (core thread : ℕ) → Bool) (rests : (i u : ℕ) → ((i ≡ c) × (u ≡ t) → ⊥) → may_rest i u ≡ true → may_rest' i u ≡ true) (next : Branch) (there : slice_get y.branches s.branch ≡ Some next)
         (stand : Stand g s (may_rest' c t) hand a y (w.lives c t) (told_by g.program g.stimulus x piece y).actions next) where
       abbrev more : ℕ → ℕ
       more = (told_by g.program g.stimulus x piece y).actions
@@ -201,6 +205,30 @@ module _ (g : Setting) (first : Roles) (is : IsImageOf g first) (may_rest : (cor
           subst (λ k. Stands g (may_rest' c k) a y (w.lives c k) more (who_settled c k)) (sym at)
           (subst (Stands g (may_rest' c t) a y (w.lives c t) more) (sym (role_here who c t (used_by s hand)))
           (subst (λ o. SomeIs o (Stand g s (may_rest' c t) hand a y (w.lives c t) more)) (sym there) stand))
+
+      -- each thread is in the transfer in which it was
+      transfers_settled : TransfersAsBefore who who_settled
+      transfers_settled = record {
+        before = λ i u q other transfer at its.
+            ⊎_elim
+            (λ here. absurd (not_one transfer s (d.transfer ∙ none) q (same_runner s q hand other (sym here.2 ∙ at)) its))
+            (λ there. (q, other, sym there.1 ∙ at, its))
+            (role_cases who c t (used_by s hand) i u);
+        still = λ i u q other transfer at its.
+            ⊎_elim
+            (λ (same : r ≡ q). absurd (not_one transfer r none q same its))
+            (λ now. (q, other, now, its))
+            (runner_still i u q other at);
+      }
+        where
+          not_one : (transfer : Transfer) (i : Runner) → i.transfer ≡ None → (q : Runner) → i ≡ q → q.transfer ≡ Some transfer → ⊥
+          not_one transfer i in_none q same its = let both : None ≡ Some transfer = sym in_none ∙ ap (λ (k : Runner). k.transfer) same ∙ its in cc
+
+      -- the runner is in none
+      none_inside : (u : ℕ) (q : Runner) (other : Option Hand) (transfer : Transfer) → nat_eq u t ≡ true → who_settled c u ≡ used_by q other → q.transfer ≡ Some transfer → ⊥
+      none_inside u q other transfer m at its =
+          let now : used_by s hand ≡ used_by q other = sym (role_here who c t (used_by s hand)) ∙ sym (ap (who_settled c) (eqb-true u t m)) ∙ at in
+          let both : None ≡ Some transfer = sym (d.transfer ∙ none) ∙ ap (λ (k : Runner). k.transfer) (same_runner s q hand other now) ∙ its in cc
 
       pub settled : Standing g may_rest' who_settled w (told_by g.program g.stimulus x piece y)
       settled =
@@ -220,6 +248,8 @@ module _ (g : Setting) (first : Roles) (is : IsImageOf g first) (may_rest : (cor
             steps = λ u m. refl;
             far_steps = λ i u ne. refl;
             stand = own_stand;
+            wired = wired_as g who who_settled transfers_settled w.machine.cores x.state.inboxes y.inboxes d.inboxes st.wired;
+            alone = λ u i other transfer m at its. absurd (none_inside u i other transfer m at its);
             loose = loose_settled;
             roots = st.roots c a at_c ∙ sym (d.living c);
             far_roots = λ i ne. d.living i;
@@ -247,5 +277,8 @@ module _ (g : Setting) (first : Roles) (is : IsImageOf g first) (may_rest : (cor
         footprint = works.footprint;
         parents = parents_still g q x.state y q.core q.family q.parents q.branch (parents_left g first is may_rest who w x st c t a at_c r None runs_r (λ k. nat_eq k t) a y settled_effect i u q other other_one.0 was) works.parents;
         in_hand = works.in_hand;
+        sides = works.sides;
+        done = works.done;
+        stops = works.stops;
       })
       (role_cases who c t (used_by s hand) i u)

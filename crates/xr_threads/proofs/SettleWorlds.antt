@@ -64,6 +64,8 @@ module _ (g : Setting) (r : Runner) (x : World) (branch : Branch) (known : slice
       clocks = refl;
       trace = refl;
       store = refl;
+      inboxes = refl;
+      transfer = refl;
       seated = record { core = refl; thread = refl; tie = refl; family = refl; base = refl; stack = refl; outermost_is = refl; syncs = refl; there = λ p n e h. h; still = λ p n e h. h };
       held = refl;
       sync = refl;
@@ -150,7 +152,7 @@ module _ (g : Setting) (r : Runner) (x : World) (branch : Branch) (known : slice
         let last : n ≡ length x.branches = omega (arith, e, zero_is) in
         subst (IsMade (length g.program.roots) under_world.branches) (sym last) new_made
 
-    none_sync : (p : Parent) (n : ℕ) → p.sync ≡ Some n → p ≢ waiting_one r.branch (length x.branches) rest
+    none_sync : (p : Parent) (n : ℕ) → p.sync ≡ Some n → p ≢ waiting_one r.branch (length x.branches) rest r.sides
     none_sync p n sync e = let both : None ≡ Some n = sym (ap (λ (k : Parent). k.sync) e) ∙ sync in cc
 
     pub settled_under : acts g.program g.stimulus x (go r.branch) ≡ Some under_world → IsSettled g r x (under r (length x.branches) ss rest) None (go r.branch ∷ []) under_world
@@ -159,6 +161,8 @@ module _ (g : Setting) (r : Runner) (x : World) (branch : Branch) (known : slice
       clocks = refl;
       trace = refl;
       store = refl;
+      inboxes = refl;
+      transfer = refl;
       seated = record {
         core = refl;
         thread = refl;
@@ -168,7 +172,7 @@ module _ (g : Setting) (r : Runner) (x : World) (branch : Branch) (known : slice
         stack = refl;
         outermost_is = refl;
         syncs = refl;
-        there = λ p n sync h. ⊎_elim (λ (e : p ≡ waiting_one r.branch (length x.branches) rest). absurd (none_sync p n sync e)) (λ (m : IsParent r.parents p). m) h;
+        there = λ p n sync h. ⊎_elim (λ (e : p ≡ waiting_one r.branch (length x.branches) rest r.sides). absurd (none_sync p n sync e)) (λ (m : IsParent r.parents p). m) h;
         still = λ p n sync h. inr h;
       };
       held = refl;
@@ -181,7 +185,7 @@ module _ (g : Setting) (r : Runner) (x : World) (branch : Branch) (known : slice
       made = λ made n b at on. under_all_made made n b on (behind x.branches r.branch branch maker (child ∷ []) n b known at);
       wants = λ p v h uses.
           ⊎_elim
-          (λ (e : p ≡ waiting_one r.branch (length x.branches) rest).
+          (λ (e : p ≡ waiting_one r.branch (length x.branches) rest r.sides).
           let item = does (kernel.par (kernel.more_branches (kernel.branch ss pos) kernel.no_branch)) in
           let mine : by_items (variable v) rest ≡ true = subst (λ (k : Parent). by_items (variable v) k.items ≡ true) e uses in
           inr (ap (λ (f : Footprint). f.uses v) footprint ∙ or_right (by_item (variable v) item) (by_items (variable v) rest) mine))
@@ -287,6 +291,8 @@ module _ (g : Setting) (r : Runner) (x : World) (branch : Branch) (known : slice
       clocks = refl;
       trace = refl;
       store = refl;
+      inboxes = refl;
+      transfer = refl;
       seated = record {
         core = refl;
         thread = refl;

@@ -24,6 +24,7 @@ use Rattle.xl_par.specs.Hands.{Hand, IsAmong}
 use Rattle.xr_threads.specs.Fits.{FitOn, ItemsFit}
 use Rattle.xr_threads.specs.Items.{Behind, ClosingAt, EndAt, FirstAt, ItemsAt}
 use Rattle.xr_threads.specs.Parents.{Parent, sync_before, syncs_of}
+use Rattle.xl_sides.specs.Ends.{Sides}
 use Rattle.xl_walk.specs.Pieces.{ClosesAt, Exit, Jumps, PiecesAt}
 use Rattle.xr_threads.specs.Roles.{ParentWaits, ParentsWait}
 use Rattle.xr_threads.specs.Runners.{Footprint, Setting, Runner, IsPort, code, footprint_of, plan, port_place, shrunk}
@@ -75,14 +76,14 @@ get_before (y ∷ xs) ys (suc n) x h = get_before xs ys n x h
 pub one_action : (g : Setting) (x y : World) (m : Action) → acts g.program g.stimulus x m ≡ Some y → acts_all g.program g.stimulus (Some x) (m ∷ []) ≡ Some y
 one_action g x y m acted = ap (λ o. acts_all g.program g.stimulus o []) acted
 
--- the runner with another branch, which has these items, and for which these wait
-abbrev pub going : Runner → (branch : ℕ) → List Parent → List Item → Runner
-going r b ps items = record r { branch = b; parents = ps; footprint = footprint_of items }
+-- the runner with another branch, which stands in these sides and has these items, and for which these wait
+abbrev pub going : Runner → (branch : ℕ) → List Parent → Sides → List Item → Runner
+going r b ps sides items = record r { branch = b; parents = ps; sides = sides; footprint = footprint_of items }
 
 module _ (g : Setting) (r : Runner) where
   -- what it needs it has, where it uses no more than before
-  less_holds : (b : ℕ) (ps : List Parent) (items : List Item) (z y : Scene) → ((v : ℕ) → (footprint_of items).uses v ≡ true → r.footprint.uses v ≡ true) → y.core ≡ z.core → y.world.store ≡ z.world.store → HoldsStore g r z → HoldsStore g (going r b ps items) y
-  less_holds b ps items z y less same_core same_store h =
+  less_holds : (b : ℕ) (ps : List Parent) (sides : Sides) (items : List Item) (z y : Scene) → ((v : ℕ) → (footprint_of items).uses v ≡ true → r.footprint.uses v ≡ true) → y.core ≡ z.core → y.world.store ≡ z.world.store → HoldsStore g r z → HoldsStore g (going r b ps sides items) y
+  less_holds b ps sides items z y less same_core same_store h =
       let was : Holds (plan g r).vars r.footprint.uses r.base y.core.words y.world.store =
       subst (λ c. Holds (plan g r).vars r.footprint.uses r.base c.words y.world.store) (sym same_core)
       (subst (λ s. Holds (plan g r).vars r.footprint.uses r.base z.core.words s) (sym same_store) h.holds) in
@@ -95,18 +96,18 @@ module _ (g : Setting) (r : Runner) where
         room = let room = h.room in omega (arith, room, size);
       }
 
-  less_ports : (b : ℕ) (ps : List Parent) (items : List Item) (z y : Scene) → ((p : ℕ) → (footprint_of items).ports p ≡ true → r.footprint.ports p ≡ true) → y.core ≡ z.core → PortsStand g r z → PortsStand g (going r b ps items) y
-  less_ports b ps items z y less same_core h = λ p listed is.
+  less_ports : (b : ℕ) (ps : List Parent) (sides : Sides) (items : List Item) (z y : Scene) → ((p : ℕ) → (footprint_of items).ports p ≡ true → r.footprint.ports p ≡ true) → y.core ≡ z.core → PortsStand g r z → PortsStand g (going r b ps sides items) y
+  less_ports b ps sides items z y less same_core h = λ p listed is.
       let mine : IsPort g r p listed = record { mine = less p is.mine; known = is.known; core = is.core } in
       let old = h p listed mine in
       record { port = old.port; there = ap (λ c. slice_get c.ports (port_place g r p)) same_core ∙ old.there; declared = old.declared }
 
   -- The thread stands where it stood, and what its new branch has to do begins there.
-  going_rest : (b : ℕ) (ps : List Parent) (items : List Item) (j : ℕ) (z y : Scene) (branch : Branch) (pc : ℕ) (regs : Regs) (exits : List Exit) →
+  going_rest : (b : ℕ) (ps : List Parent) (sides : Sides) (items : List Item) (j : ℕ) (z y : Scene) (branch : Branch) (pc : ℕ) (regs : Regs) (exits : List Exit) →
       IsAt g r z pc regs → y.core ≡ z.core → HasBases g r regs → syncs_of ps ≡ syncs_of r.parents →
-      ItemsAt (plan g r) (code g r) (EndAt (plan g r) (code g r) r.tie ps) items exits pc j → ItemsFit g (going r b ps items) items →
-      Runs y.world b branch items → branch.core ≡ r.core → HoldsStore g (going r b ps items) y → PortsStand g (going r b ps items) y → Rest g (going r b ps items) items j y
-  going_rest b ps items j z y branch pc regs exits here same_core bases same_syncs at_code fits works core holds ports = record {
+      ItemsAt (plan g r) (code g r) sides (EndAt (plan g r) (code g r) r.tie ps) items exits pc j → ItemsFit g (going r b ps sides items) items →
+      Runs y.world b branch items → branch.core ≡ r.core → HoldsStore g (going r b ps sides items) y → PortsStand g (going r b ps sides items) y → Rest g (going r b ps sides items) items j y
+  going_rest b ps sides items j z y branch pc regs exits here same_core bases same_syncs at_code fits works core holds ports = record {
     pc = pc;
     regs = regs;
     exits = exits;
@@ -136,15 +137,15 @@ module _ (g : Setting) (r : Runner) where
         known = has.runs.known;
         running = has.runs.running;
         acted = acted;
-        rest = going_rest r.branch r.parents items j z y (record has.branch { items = items }) h.pc h.regs exits h.here refl h.bases refl at_code fits
+        rest = going_rest r.branch r.parents r.sides items j z y (record has.branch { items = items }) h.pc h.regs exits h.here refl h.bases refl at_code fits
             (runs_with z.world r.branch has.branch (item ∷ rest) items has.runs) has.core
-            (less_holds r.branch r.parents items z y (λ v u. ap (λ (f : Footprint). f.uses v) footprint ∙ less (variable v) u) refl refl has.holds)
-            (less_ports r.branch r.parents items z y (λ p u. ap (λ (f : Footprint). f.ports p) footprint ∙ less (port p) u) refl has.ports);
+            (less_holds r.branch r.parents r.sides items z y (λ v u. ap (λ (f : Footprint). f.uses v) footprint ∙ less (variable v) u) refl refl has.holds)
+            (less_ports r.branch r.parents r.sides items z y (λ p u. ap (λ (f : Footprint). f.ports p) footprint ∙ less (port p) u) refl has.ports);
       }
 
   -- jumps before items
   on_behind : (items : List Item) (exits : List Exit) (n a b j k : ℕ) → Jumps (code g r) n a b → ItemsFrom g r items exits b j → n + j ≡ k → ItemsFrom g r items exits a k
-  on_behind items exits n a b j k jumps h e = subst (ItemsFrom g r items exits a) e (behind_jumps (plan g r) (code g r) (EndOf g r) items exits n a b j jumps h)
+  on_behind items exits n a b j k jumps h e = subst (ItemsFrom g r items exits a) e (behind_jumps (plan g r) (code g r) r.sides (EndOf g r) items exits n a b j jumps h)
 
   -- a block begins
   pub block_settles : (n : ℕ) (ss : kernel.Statements) (rest : List Item) (j : ℕ) (z : Scene) → Rest g r (does (kernel.block n ss) ∷ rest) j z →
@@ -161,7 +162,7 @@ module _ (g : Setting) (r : Runner) where
         stands = record { outer = h.exits; innermost = refl; others = c.stands.2 };
         sum = omega arith;
       } in
-      let inside = pieces_before (plan g r) (code g r) (EndOf g r) ss (mark n ∷ rest) inner c.index next c.further c.stands.1 at_mark in
+      let inside = pieces_before (plan g r) (code g r) r.sides (EndOf g r) ss (mark n ∷ rest) inner c.index next c.further c.stands.1 at_mark in
       stays (does (kernel.block n ss)) rest (todo ss (mark n ∷ rest)) j z h footprint (λ th u. block_uses th n ss rest u)
       (item_acts g.program g.stimulus r.branch z.world h.has.branch (does (kernel.block n ss)) rest h.has.runs)
       inner (on_behind (todo ss (mark n ∷ rest)) inner c.here h.pc c.index c.further j c.jumps inside c.sum) fits
@@ -205,12 +206,16 @@ abbrev pub with_child : World → (b : ℕ) → Branch → kernel.Statements →
 with_child x b branch ss rest = record x { branches = slice_set x.branches b (maker_of branch (length x.branches) rest) ++ child_of branch ss ∷ [] }
 
 -- the maker, as it is known where it waits
-abbrev pub waiting_one : (branch child : ℕ) → List Item → Parent
-waiting_one b child rest = record { branch = b; from = child; count = 1; sync = None; items = rest }
+abbrev pub waiting_one : (branch child : ℕ) → List Item → Sides → Parent
+waiting_one b child rest sides = record { branch = b; from = child; count = 1; sync = None; items = rest; sides = sides }
+
+-- the sides of the branch that is made
+abbrev pub sides_under : kernel.Statements → Sides → Sides
+sides_under ss sides = sides_in 0 [] ss [] sides
 
 -- the runner of the branch that is made
 abbrev pub under : Runner → (child : ℕ) → kernel.Statements → List Item → Runner
-under r child ss rest = going r child (waiting_one r.branch child rest ∷ r.parents) (todo ss (ends ∷ []))
+under r child ss rest = going r child (waiting_one r.branch child rest r.sides ∷ r.parents) (sides_under ss r.sides) (todo ss (ends ∷ []))
 
 module _ (g : Setting) (r : Runner) where
   pub record GoesUnder (ss : kernel.Statements) (rest : List Item) (j : ℕ) (z : Scene) : Type 0 where
@@ -228,12 +233,12 @@ module _ (g : Setting) (r : Runner) where
       (get_last set (child_of branch ss))
 
   -- its code begins where that of the `par` does, and what is left to its maker follows
-  child_code : (ss : kernel.Statements) (rest : List Item) (exits : List Exit) (child a b j : ℕ) → PiecesAt (code g r) (plan g r) ss [] a b → ItemsFrom g r rest exits b j →
-      ItemsAt (plan g r) (code g r) (EndAt (plan g r) (code g r) r.tie (waiting_one r.branch child rest ∷ r.parents)) (todo ss (ends ∷ [])) [] a j
+  child_code : (ss : kernel.Statements) (rest : List Item) (exits : List Exit) (child a b j : ℕ) → PiecesAt (code g r) (plan g r) (sides_under ss r.sides) ss [] a b → ItemsFrom g r rest exits b j →
+      ItemsAt (plan g r) (code g r) (sides_under ss r.sides) (EndAt (plan g r) (code g r) r.tie (waiting_one r.branch child rest r.sides ∷ r.parents)) (todo ss (ends ∷ [])) [] a j
   child_code ss rest exits child a b j pieces others =
-      let End = EndAt (plan g r) (code g r) r.tie (waiting_one r.branch child rest ∷ r.parents) in
-      let at_end : ItemsAt (plan g r) (code g r) End (ends ∷ []) [] b j = record { index = b; here = 0; further = j; jumps = refl; stands = ((exits, others), refl); sum = omega arith } in
-      pieces_before (plan g r) (code g r) End ss (ends ∷ []) [] a b j pieces at_end
+      let End = EndAt (plan g r) (code g r) r.tie (waiting_one r.branch child rest r.sides ∷ r.parents) in
+      let at_end : ItemsAt (plan g r) (code g r) (sides_under ss r.sides) End (ends ∷ []) [] b j = record { index = b; here = 0; further = j; jumps = refl; stands = ((exits, others), refl); sum = omega arith } in
+      pieces_before (plan g r) (code g r) (sides_under ss r.sides) End ss (ends ∷ []) [] a b j pieces at_end
 
   pub one_settles : (ss : kernel.Statements) (pos : Pos) (rest : List Item) (j : ℕ) (z : Scene) → Rest g r (does (kernel.par (kernel.more_branches (kernel.branch ss pos) kernel.no_branch)) ∷ rest) j z →
       r.footprint ≡ footprint_of (does (kernel.par (kernel.more_branches (kernel.branch ss pos) kernel.no_branch)) ∷ rest) → ItemsFit g (under r (length z.world.branches) ss rest) (todo ss (ends ∷ [])) → GoesUnder ss rest j z
@@ -242,21 +247,22 @@ module _ (g : Setting) (r : Runner) where
       let has = h.has in
       let c = h.at_code in
       let child = length z.world.branches in
-      let parents = waiting_one r.branch child rest ∷ r.parents in
+      let parents = waiting_one r.branch child rest r.sides ∷ r.parents in
+      let sides = sides_under ss r.sides in
       let items = todo ss (ends ∷ []) in
       let y : Scene = record z { world = with_child z.world r.branch has.branch ss rest } in
       let End = EndAt (plan g r) (code g r) r.tie parents in
       let at_index = child_code ss rest h.exits child c.index c.stands.0 c.further c.stands.1 c.stands.2 in
-      let at_pc = subst (ItemsAt (plan g r) (code g r) End items [] h.pc) c.sum (behind_jumps (plan g r) (code g r) End items [] c.here h.pc c.index c.further c.jumps at_index) in
+      let at_pc = subst (ItemsAt (plan g r) (code g r) sides End items [] h.pc) c.sum (behind_jumps (plan g r) (code g r) sides End items [] c.here h.pc c.index c.further c.jumps at_index) in
       record {
         branch = has.branch;
         known = has.runs.known;
         running = has.runs.running;
         acted = item_acts g.program g.stimulus r.branch z.world has.branch item rest has.runs;
-        rest_there = going_rest g r child parents items j z y (child_of has.branch ss) h.pc h.regs [] h.here refl h.bases refl at_pc fits
+        rest_there = going_rest g r child parents sides items j z y (child_of has.branch ss) h.pc h.regs [] h.here refl h.bases refl at_pc fits
             (record { known = child_there z.world has.branch ss rest; running = refl; items_are = refl }) has.core
-            (less_holds g r child parents items z y (λ v u. ap (λ (f : Footprint). f.uses v) footprint ∙ child_uses (variable v) ss pos rest u) refl refl has.holds)
-            (less_ports g r child parents items z y (λ p u. ap (λ (f : Footprint). f.ports p) footprint ∙ child_uses (port p) ss pos rest u) refl has.ports);
+            (less_holds g r child parents sides items z y (λ v u. ap (λ (f : Footprint). f.uses v) footprint ∙ child_uses (variable v) ss pos rest u) refl refl has.holds)
+            (less_ports g r child parents sides items z y (λ p u. ap (λ (f : Footprint). f.ports p) footprint ∙ child_uses (port p) ss pos rest u) refl has.ports);
       }
 
 -- 3. The end of a branch for which another waits, of a `par` of one branch: it ends, and that one goes on.
@@ -274,7 +280,7 @@ with_risen x b branch parent waiting = record x { branches = slice_set (slice_se
 
 -- its runner
 abbrev pub risen : Runner → Parent → List Parent → Runner
-risen r p ps = going r p.branch ps p.items
+risen r p ps = going r p.branch ps p.sides p.items
 
 module _ (g : Setting) (r : Runner) (p : Parent) (ps : List Parent) where
   pub record Rises (j : ℕ) (z : Scene) : Type 0 where
@@ -320,9 +326,9 @@ module _ (g : Setting) (r : Runner) (p : Parent) (ps : List Parent) where
       let y : Scene = record z { world = with_risen z.world r.branch has.branch p.branch w.branch } in
       let x = with_ended z.world r.branch has.branch in
       let there : slice_get x.branches p.branch ≡ Some w.branch = get_set_other z.world.branches r.branch p.branch (finished has.branch) apart ∙ w.known in
-      let behind = subst (λ o. ClosingAt (plan g r) (code g r) o (λ q k. (exits : List Exit) × ItemsAt (plan g r) (code g r) End p.items exits q k) c.index c.further) none
+      let behind = subst (λ o. ClosingAt (plan g r) (code g r) o (λ q k. (exits : List Exit) × ItemsAt (plan g r) (code g r) p.sides End p.items exits q k) c.index c.further) none
       (subst (λ l. EndAt (plan g r) (code g r) r.tie l c.index c.further) parents c.stands.0) in
-      let at_pc = subst (ItemsAt (plan g r) (code g r) End p.items behind.0 h.pc) c.sum (behind_jumps (plan g r) (code g r) End p.items behind.0 c.here h.pc c.index c.further c.jumps behind.1) in
+      let at_pc = subst (ItemsAt (plan g r) (code g r) p.sides End p.items behind.0 h.pc) c.sum (behind_jumps (plan g r) (code g r) p.sides End p.items behind.0 c.here h.pc c.index c.further c.jumps behind.1) in
       record {
         branch = has.branch;
         known = has.runs.known;
@@ -333,7 +339,7 @@ module _ (g : Setting) (r : Runner) (p : Parent) (ps : List Parent) where
         acted =
             ap (λ o. acts_all g.program g.stimulus o (go p.branch ∷ [])) (item_acts g.program g.stimulus r.branch z.world has.branch ends rest has.runs)
             ∙ ap (λ o. acts_all g.program g.stimulus o []) (rises_acts z has.branch has.runs.known w none apart);
-        rest = going_rest g r p.branch ps p.items j z y (risen_branch w.branch) h.pc h.regs behind.0 h.here refl h.bases same_syncs at_pc fits
+        rest = going_rest g r p.branch ps p.sides p.items j z y (risen_branch w.branch) h.pc h.regs behind.0 h.here refl h.bases same_syncs at_pc fits
             (record { known = get_set_same x.branches p.branch w.branch (risen_branch w.branch) there; running = refl; items_are = w.items }) w.on_core holds ports;
       }
     where
@@ -377,7 +383,7 @@ module _ (g : Setting) (r : Runner) (p : Parent) (ps : List Parent) where
       y : Scene
       y = record z { world = with_ended z.world r.branch h.has.branch }
 
-      c : Behind (plan g r) (code g r) (FirstAt (plan g r) (code g r) (EndOf g r) ends (λ exits pc k. ItemsFrom g r rest exits pc k) h.exits) h.pc j
+      c : Behind (plan g r) (code g r) (FirstAt (plan g r) (code g r) r.sides (EndOf g r) ends (λ exits pc k. ItemsFrom g r rest exits pc k) h.exits) h.pc j
       c = h.at_code
 
       -- the synchroniser is taken, and the runner has nothing in hand
@@ -393,9 +399,9 @@ module _ (g : Setting) (r : Runner) (p : Parent) (ps : List Parent) where
       bases : HasBases g s h.regs
       bases = record { base = h.bases.base; stack = h.bases.stack; names = h.bases.names }
 
-      behind : (closed : ℕ) × ClosesAt (code g r) (plan g r) c.index closed × ((exits : List Exit) × ItemsAt (plan g r) (code g r) (EndAt (plan g r) (code g r) r.tie ps) p.items exits closed c.further)
+      behind : (closed : ℕ) × ClosesAt (code g r) (plan g r) c.index closed × ((exits : List Exit) × ItemsAt (plan g r) (code g r) p.sides (EndAt (plan g r) (code g r) r.tie ps) p.items exits closed c.further)
       behind =
-          subst (λ o. ClosingAt (plan g r) (code g r) o (λ q k. (exits : List Exit) × ItemsAt (plan g r) (code g r) (EndAt (plan g r) (code g r) r.tie ps) p.items exits q k) c.index c.further) sync
+          subst (λ o. ClosingAt (plan g r) (code g r) o (λ q k. (exits : List Exit) × ItemsAt (plan g r) (code g r) p.sides (EndAt (plan g r) (code g r) r.tie ps) p.items exits q k) c.index c.further) sync
           (subst (λ l. EndAt (plan g r) (code g r) r.tie l c.index c.further) parents c.stands.0)
 
 -- Those that wait do so still.
@@ -414,9 +420,9 @@ module _ (g : Setting) (r : Runner) (x : World) (branch : Branch) (known : slice
 
 module _ (g : Setting) (r : Runner) (x : World) (branch : Branch) (known : slice_get x.branches r.branch ≡ Some branch) (running : branch.mode ≡ runs) where
   -- and the maker of a `par` of one branch waits with them
-  pub parents_under : (ss : kernel.Statements) (rest : List Item) → branch.core ≡ r.core → branch.family ≡ r.family → FitOn g r.core rest → ParentsWait g x r.core r.family r.parents r.branch →
-      ParentsWait g (with_child x r.branch branch ss rest) r.core r.family (waiting_one r.branch (length x.branches) rest ∷ r.parents) (length x.branches)
-  parents_under ss rest core family fits h = (first, others)
+  pub parents_under : (ss : kernel.Statements) (rest : List Item) → branch.core ≡ r.core → branch.family ≡ r.family → branch.sides ≡ r.sides → FitOn g r.core rest → ParentsWait g x r.core r.family r.parents r.branch →
+      ParentsWait g (with_child x r.branch branch ss rest) r.core r.family (waiting_one r.branch (length x.branches) rest r.sides ∷ r.parents) (length x.branches)
+  parents_under ss rest core family sides fits h = (first, others)
     where
       maker : Branch
       maker = maker_of branch (length x.branches) rest
@@ -427,7 +433,7 @@ module _ (g : Setting) (r : Runner) (x : World) (branch : Branch) (known : slice
       there : slice_get (slice_set x.branches r.branch maker) r.branch ≡ Some maker
       there = get_set_same x.branches r.branch branch maker known
 
-      first : ParentWaits g (with_child x r.branch branch ss rest) r.core r.family (waiting_one r.branch (length x.branches) rest) (length x.branches)
+      first : ParentWaits g (with_child x r.branch branch ss rest) r.core r.family (waiting_one r.branch (length x.branches) rest r.sides) (length x.branches)
       first = record {
         branch = maker;
         known = get_before (slice_set x.branches r.branch maker) (child_of branch ss ∷ []) r.branch maker there;
@@ -439,6 +445,7 @@ module _ (g : Setting) (r : Runner) (x : World) (branch : Branch) (known : slice
         one = λ none. refl;
         several = λ n e. absurd (cc);
         fits = fits;
+        sides = sides;
       }
 
       still : ParentsWait g set r.core r.family r.parents r.branch

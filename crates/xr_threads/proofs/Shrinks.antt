@@ -1,5 +1,10 @@
 -- What a branch uses becomes less as it goes on, and what it needs of its runner holds all the while.
-use Rattle.std.proofs.Common.{◌≡◌, ℕ, zero, suc, Bool, true, false, ◌||◌, List, [], ◌∷◌, Option, Some, None, refl, sym, subst, ◌∙◌}
+use Rattle.std.proofs.Common.{◌≡◌, ℕ, zero, suc, ◌+◌, Bool, true, false, ◌||◌, List, [], ◌∷◌, Option, Some, None, refl, sym, subst, ◌∙◌}
+use Rattle.xw_words.specs.declared.pos.Pos.{Pos}
+use Rattle.xs_instr.specs.declared.image.Home.{Home}
+use Rattle.xs_instr.specs.declared.state.Regs.{Regs}
+use Rattle.xs_instr.specs.declared.state.Thread.{Thread}
+use Rattle.xs_instr.specs.Registers.{reg_set}
 use Rattle.xc_kernel.specs.declared.kernel.PortUse.{PortUse}
 use Rattle.xc_kernel.specs.declared.statement.KRes.{KRes}
 use Rattle.xc_kernel.specs.declared.statement.KRes.TheVariants.{Port, Timer, Chan}
@@ -9,13 +14,16 @@ use Rattle.xc_laws.specs.Rules.{code_at}
 use Rattle.xc_meaning.specs.States.Items.{Body, of_kernel, of_text, Choice, Item, does, says, stores, mark, awaits, transaction_end, chooses, fixed, ends, todo}
 use Rattle.xc_meaning.specs.Uses.{by_body, by_choices, by_item, by_items, by_some_body}
 use Rattle.xc_meaning.proofs.Basics.{none_given, or_left, or_right, same_number, some_given}
+use Rattle.xl_chan.specs.Protocols.{Act, ActsAll, Behind, sends, takes, takes_word}
 use Rattle.xl_expr.specs.declared.plan.VarPlan.{VarPlan}
 use Rattle.xl_expr.specs.Frames.{HaveVars, variable_of}
 use Rattle.xl_expr.specs.Plans.{var_in}
-use Rattle.xr_threads.specs.Fits.{AllFit, BranchesFit, FitOn, Fits, IsChanged, ItemFits, ItemsFit, OutputFits, PutsOutAt, Uses, UsesAt, UsesSome}
-use Rattle.xr_threads.specs.Runners.{Footprint, Setting, Runner, IsPort, anyone, footprint_of, plan, shrunk}
-use Rattle.xr_threads.specs.Scenes.{Scene}
-use Rattle.xr_threads.specs.Turns.{Has, HoldsStore, PortsStand, Rest}
+use Rattle.xl_plan.specs.Layout.{is_used_on}
+use Rattle.xr_threads.specs.Fits.{AllFit, BranchesFit, ChangesAt, FitOn, Fits, InputFits, IsChanged, ItemFits, ItemsFit, OutputFits, PutsOutAt, TakesInAt, Uses, UsesAt, UsesSome}
+use Rattle.xr_threads.specs.Runners.{Footprint, Setting, Runner, IsChannel, IsPort, anyone, end_place, footprint_of, home, plan, shrunk}
+use Rattle.xr_threads.specs.Scenes.{Scene, running}
+use Rattle.xr_threads.specs.Transfers.{Transfer, acts_left}
+use Rattle.xr_threads.specs.Turns.{Has, HasBases, HoldsStore, InTransfer, IsBehind, PortsStand, Rest}
 
 -- one footprint is within another
 pub record IsWithin (smaller larger : Footprint) : Type 0 where
@@ -191,6 +199,13 @@ module _ (g : Setting) (r s : Runner) (same : s.core ≡ r.core) where
   some_here None h k = tt
   some_here (Some e) h k = expression_here e h k
 
+  some_target_here : (p : Option kernel.Place) → ChangesAt g r p → AreHad (λ th. by_some_target th p) → ChangesAt g s p
+  some_target_here None h k = tt
+  some_target_here (Some p) h k = target_here p h.0 k
+
+  channel_here : (c : ℕ) → IsChannel g r c → IsChannel g s c
+  channel_here c h = record { known = h.known; used = subst (λ k. is_used_on g.program k c ≡ true) (sym same) h.used }
+
   resource_here : (o : KRes) → PutsOutAt g r o → AreHad (λ th. by_resource th o) → PutsOutAt g s o
   resource_here (Port p) h k = record {
     listed = h.listed;
@@ -198,7 +213,12 @@ module _ (g : Setting) (r s : Runner) (same : s.core ≡ r.core) where
     sends = h.sends;
   }
   resource_here (Timer t) h k = tt
-  resource_here (Chan c) h k = tt
+  resource_here (Chan c) h k = channel_here c h
+
+  source_here : (o : KRes) → TakesInAt g r o → TakesInAt g s o
+  source_here (Port p) h = tt
+  source_here (Timer t) h = tt
+  source_here (Chan c) h = channel_here c h
 
   zero_here : (v : ℕ) → IsChanged g r v → AreHad (λ th. by_change th v) → IsChanged g s v
   zero_here v h k = record {
@@ -214,7 +234,14 @@ module _ (g : Setting) (r s : Runner) (same : s.core ≡ r.core) where
   output_here o h k = record {
     time = some_here o.time h.time (λ th u. k th (or_right (by_resource th o.resource) _ (or_left (by_some_expression th o.time) _ u)));
     value = expression_here o.value h.value (λ th u. k th (or_right (by_resource th o.resource) _ (or_right (by_some_expression th o.time) _ (or_left (by_expression th o.value) _ u))));
-    port = resource_here o.resource h.port (λ th u. k th (or_left (by_resource th o.resource) _ u));
+    to = resource_here o.resource h.to (λ th u. k th (or_left (by_resource th o.resource) _ u));
+  }
+
+  input_here : (i : kernel.Input) → InputFits g r i → AreHad (λ th. by_input th i) → InputFits g s i
+  input_here i h k = record {
+    target = some_target_here i.target h.target
+        (λ th u. k th (or_right (by_resource th i.resource) _ (or_right (by_some_expression th i.time) _ (or_right (by_condition th i.condition) _ (or_left (by_some_target th i.target) _ u)))));
+    from = source_here i.resource h.from;
   }
 
   mutual
@@ -224,7 +251,7 @@ module _ (g : Setting) (r s : Runner) (same : s.core ≡ r.core) where
         let f = target_here p h.0 (λ th u. k th (or_left _ _ u)) in
         (f.0, expression_here e h.1 (λ th u. k th (or_right (by_target th p) _ u)), f.1, h.3)
     statement_here (kernel.output o) h k = (output_here o h.0 k, h.1)
-    statement_here (kernel.input i) h k = tt
+    statement_here (kernel.input i) h k = (input_here i h.0 k, h.1)
     statement_here (kernel.if_then e a b) h k = (
       expression_here e h.0 (λ th u. k th (or_left _ _ u)),
       all_here a h.1 (λ th u. k th (or_right (by_expression th e) _ (or_left _ _ u))),
@@ -255,9 +282,9 @@ module _ (g : Setting) (r s : Runner) (same : s.core ≡ r.core) where
   item_here : (i : Item) → ItemFits g r i → AreHad (λ th. by_item th i) → ItemFits g s i
   item_here (does t) h k = statement_here t h k
   item_here (says i) h k = tt
-  item_here (stores place w) h k = tt
+  item_here (stores place w) h k = (target_here place h.0.0 k, h.1)
   item_here (mark n) h k = tt
-  item_here (awaits c pos) h k = tt
+  item_here (awaits c pos) h k = channel_here c h
   item_here (transaction_end c is_master pos) h k = tt
   item_here (chooses choices otherwise) h k = tt
   item_here (fixed i w counter) h k = tt
@@ -306,6 +333,18 @@ branch_fits g core bs rest h i ss e = todo_fits g (anyone core) ss (ends ∷ [])
 pub rest_fits : (g : Setting) (core : ℕ) (item : Item) (rest : List Item) → FitOn g core (item ∷ rest) → FitOn g core rest
 rest_fits g core item rest h = h.1
 
+-- what holds behind the steps of a protocol
+module _ (home : Home) (t e : ℕ) (thread : Thread) (pos : Pos) where
+  behind_map : (act : Act) (P Q : Regs → Type 0) → ((regs : Regs) → P regs → Q regs) → (regs : Regs) → Behind home t e thread pos act P regs → Behind home t e thread pos act Q regs
+  behind_map (sends tokens) P Q f regs h = f regs h
+  behind_map (takes_word to) P Q f regs h = λ v. f (reg_set regs to v) (h v)
+  behind_map (takes control) P Q f regs h = f regs h
+
+  pub acts_map : (acts : List Act) (P Q : ℕ → Regs → Type 0) → ((index : ℕ) (regs : Regs) → P index regs → Q index regs) → (index : ℕ) (regs : Regs) → ActsAll home t e thread pos acts P index regs → ActsAll home t e thread pos acts Q index regs
+  acts_map [] P Q f index regs h = f index regs h
+  acts_map (act ∷ acts) P Q f index regs h =
+      (h.0, behind_map act (ActsAll home t e thread pos acts P (index + 1)) (ActsAll home t e thread pos acts Q (index + 1)) (acts_map acts P Q f (index + 1)) regs h.1)
+
 -- a runner with less
 module _ (g : Setting) (r : Runner) (items : List Item) (less : IsWithin (footprint_of items) r.footprint) where
   pub store_shrinks : (z : Scene) → HoldsStore g r z → HoldsStore g (shrunk r items) z
@@ -334,6 +373,36 @@ module _ (g : Setting) (r : Runner) (items : List Item) (less : IsWithin (footpr
     here = h.here;
     bases = record { base = h.bases.base; stack = h.bases.stack; names = h.bases.names };
     at_code = h.at_code;
+    fits = fits_here g (shrunk r items) items (fits_everywhere g r items h.fits) refl;
+    has = has_shrinks items z h.has;
+  }
+
+  -- what stands behind a transfer is the same code
+  bases_shrink : (regs : Regs) → HasBases g r regs → HasBases g (shrunk r items) regs
+  bases_shrink regs h = record { base = h.base; stack = h.stack; names = h.names }
+
+  behind_shrinks : (these : List Item) (j index : ℕ) (regs : Regs) → IsBehind g r these j index regs → IsBehind g (shrunk r items) these j index regs
+  behind_shrinks [] j index regs h = (bases_shrink regs h.0, h.1)
+  behind_shrinks (does s ∷ rest) j index regs h = (bases_shrink regs h.0, h.1)
+  behind_shrinks (says i ∷ rest) j index regs h = (bases_shrink regs h.0, h.1)
+  behind_shrinks (stores place v ∷ rest) j index regs h = (bases_shrink regs h.0, h.1, h.2)
+  behind_shrinks (mark n ∷ rest) j index regs h = (bases_shrink regs h.0, h.1)
+  behind_shrinks (awaits c pos ∷ rest) j index regs h = (bases_shrink regs h.0, h.1)
+  behind_shrinks (transaction_end c is_master pos ∷ rest) j index regs h = (bases_shrink regs h.0, h.1)
+  behind_shrinks (chooses choices otherwise ∷ rest) j index regs h = (bases_shrink regs h.0, h.1)
+  behind_shrinks (fixed i w counter ∷ rest) j index regs h = (bases_shrink regs h.0, h.1)
+  behind_shrinks (ends ∷ rest) j index regs h = (bases_shrink regs h.0, h.1)
+
+  pub transfer_shrinks : (transfer : Transfer) (j : ℕ) (z : Scene) → InTransfer g r transfer items j z → InTransfer g (shrunk r items) transfer items j z
+  transfer_shrinks transfer j z h = record {
+    pos = h.pos;
+    goes_with = h.goes_with;
+    stands_in = h.stands_in;
+    no_hand = h.no_hand;
+    pc = h.pc;
+    regs = h.regs;
+    here = h.here;
+    steps = acts_map (home g r) r.thread (end_place g r transfer.channel transfer.side) (running r.tie h.pc h.regs) h.pos (acts_left transfer.phase) (IsBehind g r items j) (IsBehind g (shrunk r items) items j) (behind_shrinks items j) h.pc h.regs h.steps;
     fits = fits_here g (shrunk r items) items (fits_everywhere g r items h.fits) refl;
     has = has_shrinks items z h.has;
   }

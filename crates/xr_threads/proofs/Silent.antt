@@ -35,6 +35,7 @@ use Rattle.xr_threads.proofs.Reserves.{GiveAsBefore, reserves_of_others}
 use Rattle.xr_threads.proofs.Standing.{Follows, told_by}
 use Rattle.xr_threads.proofs.Steps.{answered, clocks_still, far_steps_still, has_stepped, steps_still, watched}
 use Rattle.xr_threads.proofs.Places.{places_differ}
+use Rattle.xr_threads.proofs.Wiring.{TransfersAsBefore, wired_still}
 
 -- What nobody may change is as the program has it still, behind an event of a runner that changes none of it.
 module _ (g : Setting) (who who' : Roles) (c : ℕ) (a b : CoreState) (x y : World) (r : Runner) (on : r.core ≡ c) (base : r.base ≡ 0) (laid : IsLaidOut g r)
@@ -113,7 +114,7 @@ module _ (g : Setting) (first : Roles) (is : IsImageOf g first) (who : Roles) (w
     (branch : Branch) (known : slice_get x.state.branches r.branch ≡ Some branch) (stand : Stand g r false hand a x.state (w.lives c t) x.actions branch)
     (b : CoreState) (hand' : Option Hand) (alive : (mode : ThreadMode) → mode ≡ Running → ThreadIs r.parents branch.mode mode) (on : StillRuns g r b)
     (touched : Touched g r (record { core = a; world = x.state; hand = hand }) (record { core = b; world = x.state; hand = hand' }))
-    (roots : b.roots ≡ a.roots) (who' : Roles) (moved : (thread : ℕ) → Bool) (s : SilentRoles g who who' c t r hand hand' a b branch moved) where
+    (roots : b.roots ≡ a.roots) (ends : b.ends ≡ a.ends) (who' : Roles) (moved : (thread : ℕ) → Bool) (s : SilentRoles g who who' c t r hand hand' a b branch moved) where
   pub silent_effect : Effect g who c t r hand moved a b x.state x.state
   silent_effect = record {
     clock = touched.clock;
@@ -145,6 +146,13 @@ module _ (g : Setting) (first : Roles) (is : IsImageOf g first) (who : Roles) (w
       let k = s.still q.core q.thread q.runner q.hand q.runs in
       record { core = q.core; thread = q.thread; runner = q.runner; hand = k.0; runs = k.1; branch = q.branch }
 
+  -- each thread is in the transfer in which it was
+  silent_transfers : TransfersAsBefore who who'
+  silent_transfers = record {
+    before = λ d u i other transfer at its. let k = s.before d u i other at in (i, k.0, k.1, its);
+    still = λ d u i other transfer at its. let k = s.still d u i other at in (i, k.0, k.1, its);
+  }
+
   -- the thread is on its way still
   module _ (left : ℕ) (few : suc left ≤ stand.left) (by : StandsBy g r false branch.items branch.mode left (record { core = b; world = x.state; hand = hand' }))
       (named : AreNamed g who w x → AreNamed g who' silent_watched (told_by g.program g.stimulus x [] x.state)) where
@@ -159,6 +167,9 @@ module _ (g : Setting) (first : Roles) (is : IsImageOf g first) (who : Roles) (w
       parents = stand.parents;
       thread = record { thread = on.thread; there = on.there; tied = on.tied; no_events = on.no_events; is = alive on.thread.mode on.runs };
       in_hand = s.in_hand;
+      sides = stand.sides;
+      done = stand.done;
+      stops = stand.stops;
       ends_tied = stand.ends_tied;
       left = left;
       bound =
@@ -213,6 +224,9 @@ module _ (g : Setting) (first : Roles) (is : IsImageOf g first) (who : Roles) (w
             steps = λ u m. steps_still g first is none_rests who w x st c t a at_c r hand runs_r moved s.own b x.state silent_effect None u m;
             far_steps = λ d u ne. far_steps_still g first is none_rests who w x st c t a at_c r hand runs_r moved s.own b x.state silent_effect None d u ne;
             stand = silent_stand;
+            wired = wired_still g who who' w silent_watched c a b x.state.inboxes x.state.inboxes silent_transfers
+                (has_stepped g first is none_rests who w x st c t a at_c r hand runs_r moved s.own b x.state silent_effect None touched.size) ends refl st.wired;
+            alone = λ u i other transfer m at its. let k = s.before c u i other at in st.alone c u i k.0 transfer k.1 its;
             loose = silent_loose;
             roots = roots ∙ st.roots c a at_c;
             far_roots = λ d ne. refl;

@@ -24,9 +24,10 @@ use Rattle.xr_threads.specs.Parents.{Parent, branches_of}
 use Rattle.xr_threads.specs.Roles.{ParentWaits, ParentsWait, Roles, used_by}
 use Rattle.xr_threads.specs.Runners.{Setting, Runner}
 use Rattle.xr_threads.specs.Scenes.{IsStable, Kept, Scene}
-use Rattle.xr_threads.specs.Standing.{HasEnded, HasThread, IfTrue, IsAtRest, IsOnItsWay, IsResuming, Stand, Standing, Stands, StandsBy}
+use Rattle.xr_threads.specs.Standing.{HasEnded, HasThread, IfTrue, IsAtRest, IsOnItsWay, IsResuming, Stand, Standing, Stands, StandsBy, StandsWith}
+use Rattle.xr_threads.specs.Transfers.{Transfer}
 use Rattle.xr_threads.proofs.Scenes.{joining_stable}
-use Rattle.xr_threads.proofs.Layouts.{at_rest_stable, on_its_way_stable, resuming_stable}
+use Rattle.xr_threads.proofs.Layouts.{at_rest_stable, on_its_way_stable, resuming_stable, transferring_stable}
 
 -- a core by its number
 pub core_at : (cores : List CoreState) (c : ℕ) → c < length cores → (a : CoreState) × (slice_get cores c ≡ Some a)
@@ -71,9 +72,9 @@ module _ (g : Setting) (r : Runner) where
   has_ended_stable [] left z y k h = k.hand ∙ h
   has_ended_stable (p ∷ ps) left z y k h = joining_stable g r p ps left z y k h
 
-  -- what a branch's runner stands on is kept, so it stands as before
-  pub stands_by_still : (may_rest : Bool) (items : List Item) (mode : Mode) (left : ℕ) → IsStable g r (StandsBy g r may_rest items mode left)
-  stands_by_still may_rest items runs left z y k h =
+  -- by whether it is inside a transfer
+  stands_with_still : (may_rest : Bool) (transfer : Option Transfer) (items : List Item) (left : ℕ) → IsStable g r (StandsWith g r may_rest transfer items left)
+  stands_with_still may_rest None items left z y k h =
       ⊎_elim
       (λ (on : IsOnItsWay g r left z). inl (on_its_way_stable g r left z y k on))
       (λ other.
@@ -82,16 +83,25 @@ module _ (g : Setting) (r : Runner) where
       (λ rest. inr (inr (if_true_stable may_rest items left z y k rest)))
       other)
       h
+  stands_with_still may_rest (Some transfer) items left z y k h = transferring_stable g r transfer items left z y k h
+
+  -- what a branch's runner stands on is kept, so it stands as before
+  pub stands_by_still : (may_rest : Bool) (items : List Item) (mode : Mode) (left : ℕ) → IsStable g r (StandsBy g r may_rest items mode left)
+  stands_by_still may_rest items runs left z y k h = stands_with_still may_rest r.transfer items left z y k h
   stands_by_still may_rest items (waits from count) left z y k h = h
   stands_by_still may_rest items ended left z y k h = has_ended_stable r.parents left z y k h
   stands_by_still may_rest items erred left z y k h = k.hand ∙ h
 
   -- more threads may be at rest
+  rests_more_with : (a b : Bool) (transfer : Option Transfer) (items : List Item) (left : ℕ) (z : Scene) → (a ≡ true → b ≡ true) → StandsWith g r a transfer items left z → StandsWith g r b transfer items left z
+  rests_more_with false b None items left z le (inl h) = inl h
+  rests_more_with false b None items left z le (inr (inl h)) = inr (inl h)
+  rests_more_with false b None items left z le (inr (inr h)) = absurd h
+  rests_more_with true b None items left z le h = subst (λ c. StandsWith g r c None items left z) (sym (le refl)) h
+  rests_more_with a b (Some transfer) items left z le h = h
+
   pub rests_more : (a b : Bool) (items : List Item) (mode : Mode) (left : ℕ) (z : Scene) → (a ≡ true → b ≡ true) → StandsBy g r a items mode left z → StandsBy g r b items mode left z
-  rests_more false b items runs left z le (inl h) = inl h
-  rests_more false b items runs left z le (inr (inl h)) = inr (inl h)
-  rests_more false b items runs left z le (inr (inr h)) = absurd h
-  rests_more true b items runs left z le h = subst (λ c. StandsBy g r c items runs left z) (sym (le refl)) h
+  rests_more a b items runs left z le h = rests_more_with a b r.transfer items left z le h
   rests_more a b items (waits from count) left z le h = h
   rests_more a b items ended left z le h = h
   rests_more a b items erred left z le h = h
@@ -119,6 +129,7 @@ module _ (g : Setting) (r : Runner) where
     one = h.one;
     several = h.several;
     fits = h.fits;
+    sides = h.sides;
   }
 
   pub parents_still : (x y : World) (core family : ℕ) (ps : List Parent) (first : ℕ) → ((b : ℕ) → IsAmong (branches_of ps) b → slice_get y.branches b ≡ slice_get x.branches b) → ParentsWait g x core family ps first → ParentsWait g y core family ps first
@@ -137,6 +148,9 @@ module _ (g : Setting) (r : Runner) where
         parents = parents_still x y r.core r.family r.parents r.branch k.parents h.parents;
         thread = thread_still branch.mode z z' k h.thread;
         in_hand = h.in_hand;
+        sides = h.sides;
+        done = h.done;
+        stops = h.stops;
         ends_tied = h.ends_tied;
         left = h.left;
         bound =

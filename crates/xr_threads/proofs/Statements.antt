@@ -10,6 +10,7 @@ use Rattle.xr_threads.proofs.Jumps.{exit_item_leads}
 use Rattle.xr_threads.proofs.Outputs.{output_leads}
 use Rattle.xr_threads.proofs.ParLeads.{par_leads}
 use Rattle.xr_threads.proofs.Sets.{set_leads}
+use Rattle.xr_threads.proofs.TakenIn.{input_leads}
 use Rattle.xr_threads.proofs.Tests.{if_leads, loop_leads}
 use Rattle.xr_threads.proofs.Zeros.{zero_leads}
 
@@ -23,6 +24,6 @@ statement_leads g r core (kernel.loop x a b) rest own = loop_leads g r x a b
 statement_leads g r core (kernel.exit n) rest own = exit_item_leads g r n
 statement_leads g r core (kernel.block n a) rest own = absurd own
 statement_leads g r core (kernel.par bs) rest own = par_leads g r core bs own
-statement_leads g r core (kernel.input i) rest own = λ behind exits pc pc' j z regs laid piece. absurd piece
+statement_leads g r core (kernel.input i) rest own = input_leads g r i
 statement_leads g r core (kernel.select cases otherwise pos) rest own = λ behind exits pc pc' j z regs laid piece. absurd piece
 statement_leads g r core (kernel.transaction c is_master ss start close) rest own = λ behind exits pc pc' j z regs laid piece. absurd piece

@@ -21,6 +21,8 @@ use Rattle.xr_threads.specs.Images.{IsImageOf}
 use Rattle.xr_threads.specs.Roles.{AreRoles, AreUsedSo, HasReserves, Roles, used_by}
 use Rattle.xr_threads.specs.Runners.{Setting, Runner}
 use Rattle.xr_threads.specs.Standing.{AreLoose, IsMade, IsRun, Standing, Stands, living_on}
+use Rattle.xr_threads.specs.Transfers.{Transfer}
+use Rattle.xr_threads.specs.Wired.{AreWired, HasAlone}
 use Rattle.xr_threads.proofs.Lives.{far_life, other_life}
 use Rattle.xr_threads.proofs.Moves.{Effect, HasStepped, far_loose_still, far_others, kept_others, moves, own_still, parents_left, stands_at, works_at}
 use Rattle.xr_threads.proofs.Reserves.{laws_behind}
@@ -47,6 +49,9 @@ pub record IsAnswered
   pub far_steps : (d u : ℕ) → d ≢ c → (w'.lives d u).steps ≡ (w.lives d u).steps
   pub stand : (u : ℕ) → moved u ≡ true →
       Stands g (may_rest' c u) b y (w'.lives c u) (told_by g.program g.stimulus x piece y).actions (who' c u)
+  pub wired : AreWired g who' w'.machine.cores y.inboxes
+  pub alone : (u : ℕ) (s : Runner) (hand : Option Hand) (transfer : Transfer) → moved u ≡ true → who' c u ≡ used_by s hand → s.transfer ≡ Some transfer →
+      HasAlone y.branches transfer.channel transfer.side s.branch
   pub loose : 1 ≤ threads_on g.program c → AreLoose g who' c b y
   pub roots : b.roots ≡ living_on c y.branches
   pub far_roots : (d : ℕ) → d ≢ c → living_on d y.branches ≡ living_on d x.state.branches
@@ -75,6 +80,9 @@ module _ (g : Setting) (first : Roles) (is : IsImageOf g first) (may_rest : (cor
         footprint = works.footprint;
         parents = parents_still g s x.state y s.core s.family s.parents s.branch (parents_left g first is may_rest who w x st c t a at_c r hand runs_r moved b y effect c u s other ne runs_s) works.parents;
         in_hand = works.in_hand;
+        sides = works.sides;
+        done = works.done;
+        stops = works.stops;
       }
 
   -- and its thread is what it was
@@ -136,6 +144,8 @@ module _ (g : Setting) (first : Roles) (is : IsImageOf g first) (may_rest : (cor
               kept_others g first is may_rest who w x st c t a at_c r hand runs_r moved b y effect u s other (not_own u m) m runs_s
               (spare_for g who' y c b (crew_behind lt) u s other (answer.same_role u m ∙ runs_s));
           far_kept = λ d u e s other ne at_d runs_s. far_others g first is may_rest who w x st c t a at_c r hand runs_r moved b y effect d u e s other ne at_d runs_s;
+          wired = answer.wired;
+          alone = answer.alone;
           loose = answer.loose;
           far_loose = λ d e ne at_d loose. far_loose_still g first is may_rest who w x st c t a at_c r hand runs_r moved b y effect who' answer.far_role d e ne loose;
           roots = answer.roots;

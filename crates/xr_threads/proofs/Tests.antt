@@ -97,20 +97,20 @@ test_leads g r laid t rest x uses counted held other begins exits pc next target
 module _ (g : Setting) (r : Runner) where
   -- at most one jump leads from the first side past the second
   pub if_leads : (x : kernel.Expression) (a b : kernel.Statements) → StatementLeads g r (kernel.if_then x a b)
-  if_leads x a b rest exits pc pc' j z regs laid (first, second, done, n, test, at_a, jumps, few, at_b) (uses, fits_a, fits_b, counted) behind rest_fits has here bases no_hand =
-      let at_done = behind_jumps (plan g r) (code g r) (EndOf g r) rest exits n done pc' j jumps behind in
-      let held = pieces_before (plan g r) (code g r) (EndOf g r) a rest exits first done (n + j) at_a at_done in
-      let other = pieces_before (plan g r) (code g r) (EndOf g r) b rest exits second pc' j at_b behind in
+  if_leads x a b rest exits pc pc' j z regs laid (first, second, done, n, test, at_a, jumps, few, at_b) (uses, fits_a, fits_b, counted) sided behind rest_fits has here bases no_hand =
+      let at_done = behind_jumps (plan g r) (code g r) r.sides (EndOf g r) rest exits n done pc' j jumps behind in
+      let held = pieces_before (plan g r) (code g r) r.sides (EndOf g r) a rest exits first done (n + j) at_a at_done in
+      let other = pieces_before (plan g r) (code g r) r.sides (EndOf g r) b rest exits second pc' j at_b behind in
       test_leads g r laid (kernel.if_then x a b) rest x uses counted (todo a rest) (todo b rest) (λ w branch. refl) exits pc first second (n + j) j j test held (all_fit g r a rest fits_a rest_fits) (omega arith) other (all_fit g r b rest fits_b rest_fits) (omega arith) z regs has here bases no_hand
 
   -- behind a turn the loop comes again at the same index
   pub loop_leads : (x : kernel.Expression) (a b : kernel.Statements) → StatementLeads g r (kernel.loop x a b)
-  loop_leads x a b rest exits pc pc' j z regs laid (body, next, done, test, at_a, at_b, jumps) (uses, fits_a, fits_b, counted) behind rest_fits has here bases no_hand =
+  loop_leads x a b rest exits pc pc' j z regs laid (body, next, done, test, at_a, at_b, jumps) (uses, fits_a, fits_b, counted) sided behind rest_fits has here bases no_hand =
       let t = kernel.loop x a b in
       let again : ItemsFrom g r (does t ∷ rest) exits pc j = record { index = pc; here = 0; further = j; jumps = refl; sum = omega arith; stands = (pc', (body, next, done, test, at_a, at_b, jumps), behind) } in
       let again_fits : ItemsFit g r (does t ∷ rest) = ((uses, fits_a, fits_b, counted), rest_fits) in
-      let at_done = behind_jumps (plan g r) (code g r) (EndOf g r) (does t ∷ rest) exits 1 done pc j jumps again in
-      let at_next = pieces_before (plan g r) (code g r) (EndOf g r) b (does t ∷ rest) exits next done (1 + j) at_b at_done in
-      let held = pieces_before (plan g r) (code g r) (EndOf g r) a (todo b (does t ∷ rest)) exits body next (1 + j) at_a at_next in
+      let at_done = behind_jumps (plan g r) (code g r) r.sides (EndOf g r) (does t ∷ rest) exits 1 done pc j jumps again in
+      let at_next = pieces_before (plan g r) (code g r) r.sides (EndOf g r) b (does t ∷ rest) exits next done (1 + j) at_b at_done in
+      let held = pieces_before (plan g r) (code g r) r.sides (EndOf g r) a (todo b (does t ∷ rest)) exits body next (1 + j) at_a at_next in
       let held_fits = all_fit g r a (todo b (does t ∷ rest)) fits_a (all_fit g r b (does t ∷ rest) fits_b again_fits) in
       test_leads g r laid t rest x uses counted (turn_items x a b rest) rest (λ w branch. refl) exits pc body pc' (1 + j) j j test held held_fits (omega arith) behind rest_fits (omega arith) z regs has here bases no_hand

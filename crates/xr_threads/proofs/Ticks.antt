@@ -20,10 +20,11 @@ use Rattle.xr_threads.specs.Roles.{AreUsedSo, Roles, used_by}
 use Rattle.xr_threads.specs.Runners.{Setting, Runner, anyone, port_place}
 use Rattle.xr_threads.specs.Scenes.{Kept, SpareFor}
 use Rattle.xr_threads.specs.Standing.{AreLoose, Standing, none_rests}
-use Rattle.xr_threads.proofs.Moves.{kept_now, moves}
+use Rattle.xr_threads.proofs.Moves.{HasStepped, kept_now, moves}
 use Rattle.xr_threads.proofs.Reserves.{reserves_behind}
 use Rattle.xr_threads.proofs.NamedLinks.{alike_linked, told_same}
 use Rattle.xr_threads.proofs.Standing.{Follows, clock_at, told_by}
+use Rattle.xr_threads.proofs.Wiring.{TransfersAsBefore, wired_still}
 
 -- no machine is none
 pub no_machine : {A : Type 0} (m : Machine) → ◌≡◌ {A = Option Machine} None (Some m) → A
@@ -91,6 +92,19 @@ module _ (g : Setting) (first : Roles) (is : IsImageOf g first) (who : Roles) (w
         spare = k.spare;
       }
 
+  has_ticked : HasStepped w watched_ticked c a (ticked a)
+  has_ticked = record {
+    was = at_c;
+    is = get_set_same w.machine.cores c a (ticked a) at_c;
+    others = λ d ne. get_set_other w.machine.cores c d (ticked a) ne;
+    as_many = length-set w.machine.cores c (ticked a);
+    links = refl;
+    size = refl;
+  }
+
+  same_transfers : TransfersAsBefore who who
+  same_transfers = record { before = λ d u i other transfer at its. (i, other, at, its); still = λ d u i other transfer at its. (i, other, at, its) }
+
   -- where the clock is not at its last value the program can tick too
   after_tick : nat_lt a.clock last_clock ≡ true → Follows g none_rests who w x watched_ticked
   after_tick e =
@@ -101,15 +115,7 @@ module _ (g : Setting) (first : Roles) (is : IsImageOf g first) (who : Roles) (w
         piece = clock c ∷ [];
         world = later;
         acted = all_acted;
-        standing = moves g none_rests none_rests who who w watched_ticked x c a (ticked a) (λ u. false) (clock c ∷ []) later st
-            (record {
-              was = at_c;
-              is = get_set_same w.machine.cores c a (ticked a) at_c;
-              others = λ d ne. get_set_other w.machine.cores c d (ticked a) ne;
-              as_many = length-set w.machine.cores c (ticked a);
-              links = refl;
-              size = refl;
-            })
+        standing = moves g none_rests none_rests who who w watched_ticked x c a (ticked a) (λ u. false) (clock c ∷ []) later st has_ticked
             (record {
               acted = all_acted;
               clocks = map-set clock_of w.machine.cores c (ticked a) ∙ ap (λ l. slice_set l c (a.clock + 1)) st.clocks;
@@ -124,6 +130,8 @@ module _ (g : Setting) (first : Roles) (is : IsImageOf g first) (who : Roles) (w
               steps = λ u m. refl;
               far_steps = λ d u ne. refl;
               stand = λ u m. absurd (false_true m);
+              wired = wired_still g who who w watched_ticked c a (ticked a) x.state.inboxes x.state.inboxes same_transfers has_ticked refl refl st.wired;
+              alone = λ u s hand transfer m at its. absurd (false_true m);
               kept = λ u s hand m runs. kept_here u s hand runs;
               far_kept = λ d u e s hand ne at runs. kept_far d u e s hand ne at runs;
               loose = λ some. loose_later c a (ticked a) refl refl (st.loose c a at_c some);

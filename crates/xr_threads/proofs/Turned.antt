@@ -6,7 +6,7 @@ use Rattle.xs_instr.specs.declared.state.CoreState.{CoreState}
 use Rattle.xs_instr.specs.declared.state.Mode.TheVariants.{Trapped}
 use Rattle.xs_instr.specs.declared.state.Thread.{Thread}
 use Rattle.xs_instr.specs.Slot.{trapped}
-use Rattle.xc_laws.specs.Tree.{IsChild}
+use Rattle.xc_laws.specs.Tree.{IsWaiting}
 use Rattle.xc_meaning.specs.Counts.Families.{steps_of}
 use Rattle.xc_meaning.specs.Counts.KernelCounts.{greatest_count, kernel_bound}
 use Rattle.xc_meaning.specs.States.Branches.{Branch, runs, ended, erred, has_ended}
@@ -20,14 +20,16 @@ use Rattle.xr_threads.specs.Parents.{Parent, branches_of}
 use Rattle.xr_threads.specs.Roles.{IsParent, ParentWaits, ParentsWait, Roles, empty, outermost, used_by}
 use Rattle.xr_threads.specs.Runners.{Setting, Runner, footprint_of, shrunk}
 use Rattle.xr_threads.specs.Scenes.{Scene, running}
-use Rattle.xr_threads.specs.Standing.{HasEnded, Stand, Standing, StandsBy, ThreadIs, counts, none_rests}
+use Rattle.xr_threads.specs.Standing.{HasEnded, Stand, Standing, StandsBy, StandsWith, ThreadIs, counts, none_rests}
+use Rattle.xr_threads.specs.Transfers.{StopsIn, Transfer}
 use Rattle.xr_threads.specs.Turns.{Errs, Frees, Goes, IsTiedThread, IsWaitingTied, Waits, cost, failed, finished}
 use Rattle.xr_threads.proofs.Answers.{errs_step, frees_step, goes_step, trap_leaves, waits_step}
 use Rattle.xr_threads.proofs.Counts.{counts_one, made_counts, root_counts}
 use Rattle.xr_threads.proofs.Less.{uses_less}
 use Rattle.xr_threads.proofs.Lives.{own_life}
 use Rattle.xr_threads.proofs.Moves.{works_at}
-use Rattle.xr_threads.proofs.OwnEvents.{OwnStep, bound_grows, goes_on_answered, leaves_answered, other_branch, parent_waits, rests_alone, rests_there, watched_off, watched_on}
+use Rattle.xr_threads.proofs.OwnEvents.{OwnStep, alone_on, bound_grows, goes_on_answered, other_branch, parent_waits, rests_alone, rests_there, watched_on, wired_on}
+use Rattle.xr_threads.proofs.OwnLeaves.{leaves_answered, watched_off}
 use Rattle.xr_threads.proofs.Shrinks.{IsWithin, rest_shrinks, within_of_uses}
 use Rattle.xr_threads.proofs.Standing.{Follows, parents_still, rests_more, told_by}
 
@@ -36,6 +38,11 @@ pub parent_of : (g : Setting) (x : World) (core family first : ℕ) (ps : List P
 parent_of g x core family first [] p h m = absurd m
 parent_of g x core family first (q ∷ qs) p h (inl e) = (first, subst (λ k. ParentWaits g x core family k first) (sym e) h.0)
 parent_of g x core family first (q ∷ qs) p h (inr m) = parent_of g x core family q.branch qs p h.1 m
+
+-- a thread that is in no transfer may stop
+pub stops_outside : (o : Option Transfer) → o ≡ None → StopsIn o
+stops_outside None e = tt
+stops_outside (Some transfer) e = let both : ◌≡◌ {A = Option Transfer} (Some transfer) None = e in cc
 
 module _ (g : Setting) (first : Roles) (is : IsImageOf g first) (who : Roles) (w : Watched) (x : Told (of_kernel g.program)) (st : Standing g none_rests who w x)
     (c t : ℕ) (a : CoreState) (at_c : slice_get w.machine.cores c ≡ Some a) (r : Runner) (runs_r : who c t ≡ used_by r None)
@@ -66,7 +73,7 @@ module _ (g : Setting) (first : Roles) (is : IsImageOf g first) (who : Roles) (w
         subst (λ k. k + further ≤ kernel_bound g.program * ((told_by g.program g.stimulus x (go r.branch ∷ []) e.world).actions r.family + 1)) (sym life) all
 
     -- those that wait for the branch do so still
-    parents_behind : ParentsWait g e.world r.core r.family r.parents r.branch
+    pub parents_behind : ParentsWait g e.world r.core r.family r.parents r.branch
     parents_behind =
         parents_still g r x.state e.world r.core r.family r.parents r.branch
         (λ n m. other_branch g first is who w x st c t a at_c r runs_r e n (λ same. not_own n m same)) stand.parents
@@ -75,13 +82,13 @@ module _ (g : Setting) (first : Roles) (is : IsImageOf g first) (who : Roles) (w
         not_own n m same =
             let p = parent_waits g x.state r.core r.family r.branch r.parents n stand.parents m in
             let both : p.0 ≡ e.branch = same_Some p.0 e.branch (sym p.1 ∙ ap (slice_get x.state.branches) same ∙ e.known) in
-            runs_waits (subst (λ (b : Branch). Rattle.xc_laws.specs.Tree.IsWaiting b.mode) both p.2)
+            runs_waits (subst (λ (b : Branch). IsWaiting b.mode) both p.2)
           where
-            runs_waits : Rattle.xc_laws.specs.Tree.IsWaiting e.branch.mode → ⊥
-            runs_waits h = subst Rattle.xc_laws.specs.Tree.IsWaiting e.running h
+            runs_waits : IsWaiting e.branch.mode → ⊥
+            runs_waits h = subst IsWaiting e.running h
 
-  -- the thread does an item, and the branch goes on
-  module _ (j : ℕ) (few : j ≤ stand.left) (h : Goes g r j now) where
+  -- the thread, which is in no transfer, does an item, and the branch goes on
+  module _ (none : r.transfer ≡ None) (j : ℕ) (few : j ≤ stand.left) (h : Goes g r j now) where
     abbrev pub went : OwnStep g r c a x.state
     went = goes_step g r c a x.state j h
 
@@ -108,21 +115,32 @@ module _ (g : Setting) (first : Roles) (is : IsImageOf g first) (who : Roles) (w
           parents = parents_behind went;
           thread = record { thread = running r.tie h.rest.pc h.rest.regs; there = h.rest.here; tied = refl; no_events = refl; is = subst (λ m. ThreadIs r.parents m Rattle.xs_instr.specs.declared.state.Mode.TheVariants.Running) (sym h.acts.mode) refl };
           in_hand = empty refl;
+          sides = ap (λ (b : Branch). b.sides) (same_branch went) ∙ stand.sides;
+          done = λ f. none;
+          stops = λ f. stops_outside r.transfer none;
           ends_tied = λ f. absurd (runs_ended (sym h.acts.mode ∙ f));
           left = further;
           bound = bound_behind went j further few (omega arith);
           by = subst (λ m. StandsBy g (shrunk r h.items) (rests_alone c t c t) h.items m further z) (sym h.acts.mode)
-              (rests_more g (shrunk r h.items) true (rests_alone c t c t) h.items runs further z (λ f. rests_there c t) (inr (inr (h.jumps, omega arith, refl, rest))));
+              (rests_more g (shrunk r h.items) true (rests_alone c t c t) h.items runs further z (λ f. rests_there c t)
+              (subst (λ o. StandsWith g (shrunk r h.items) true o h.items further z) (sym none) (inr (inr (h.jumps, omega arith, refl, rest)))));
         }
       where
         runs_ended : runs ≡ ended → ⊥
         runs_ended f = cc
 
     pub goes_answered : length h.left.words ≡ length a.words → Follows g (rests_alone c t) who w x went_watched
-    goes_answered size = goes_on_answered g first is who w x st c t a at_c r runs_r went (rests_alone c t) size went_stand
+    goes_answered size =
+        goes_on_answered g first is who w x st c t a at_c r runs_r went (rests_alone c t)
+        (wired_on g first is who w x st c t a at_c r runs_r went (rests_alone c t) refl size h.channel_ends h.acts.inboxes)
+        (alone_on g first is who w x st c t a at_c r runs_r went (rests_alone c t) refl (λ f. runs_ended (sym h.acts.mode ∙ f)))
+        size went_stand
+      where
+        runs_ended : runs ≡ ended → ⊥
+        runs_ended f = cc
 
-  -- the thread traps, and the branch errs
-  module _ (h : Errs g r now) where
+  -- The thread traps, and the branch errs. Inside a transfer the thread was waiting for an answer.
+  module _ (stops : StopsIn r.transfer) (h : Errs g r now) where
     abbrev pub erring : OwnStep g r c a x.state
     erring = errs_step g r c a x.state stand.thread.thread stand.thread.there stand.thread.tied h
 
@@ -139,6 +157,9 @@ module _ (g : Setting) (first : Roles) (is : IsImageOf g first) (who : Roles) (w
           parents = parents_behind erring;
           thread = record { thread = record stand.thread.thread { mode = Trapped }; there = t'.there; tied = stand.thread.tied; no_events = stand.thread.no_events; is = trapped_is r.parents };
           in_hand = empty refl;
+          sides = ap (λ (b : Branch). b.sides) (same_branch erring) ∙ stand.sides;
+          done = λ f. absurd (erred_ended f);
+          stops = λ f. stops;
           ends_tied = λ f. absurd (erred_ended f);
           left = 0;
           bound = bound_behind erring 0 0 (omega arith) (omega arith);
@@ -153,10 +174,19 @@ module _ (g : Setting) (first : Roles) (is : IsImageOf g first) (who : Roles) (w
         trapped_is (p ∷ ps) = refl
 
     pub errs_answered : Follows g none_rests who w x erring_watched
-    errs_answered = goes_on_answered g first is who w x st c t a at_c r runs_r erring none_rests (ap length ((trap_leaves g r c a x.state stand.thread.thread stand.thread.there).words)) erring_stand
+    errs_answered =
+        let t' = trap_leaves g r c a x.state stand.thread.thread stand.thread.there in
+        let size = ap length t'.words in
+        goes_on_answered g first is who w x st c t a at_c r runs_r erring none_rests
+        (wired_on g first is who w x st c t a at_c r runs_r erring none_rests refl size t'.channel_ends h.acts.inboxes)
+        (alone_on g first is who w x st c t a at_c r runs_r erring none_rests refl (λ f. erred_ended f))
+        size erring_stand
+      where
+        erred_ended : erred ≡ ended → ⊥
+        erred_ended f = cc
 
-  -- a root's thread is freed
-  module _ (h : Frees g r now) where
+  -- a root's thread, which is in no transfer, is freed
+  module _ (none : r.transfer ≡ None) (h : Frees g r now) where
     -- its branch is the root's
     pub is_root : (b : Branch) → slice_get x.state.branches r.branch ≡ Some b → b.mode ≡ runs → counts c b ≡ 1
     is_root b at running =
@@ -178,10 +208,10 @@ module _ (g : Setting) (first : Roles) (is : IsImageOf g first) (who : Roles) (w
     freeing = frees_step g r c a x.state some_roots is_root h
 
     pub frees_answered : Follows g none_rests who w x (watched_off g first is who w x st c t a at_c r runs_r freeing h.root h.outermost refl h.unused)
-    frees_answered = leaves_answered g first is who w x st c t a at_c r runs_r freeing h.root h.outermost refl h.unused (ap length h.words)
+    frees_answered = leaves_answered g first is who w x st c t a at_c r runs_r freeing h.root h.outermost refl h.unused none h.channel_ends h.acts.inboxes (ap length h.words)
 
-  -- a tied thread waits
-  module _ (h : Waits g r now) where
+  -- a tied thread, which is in no transfer, waits
+  module _ (none : r.transfer ≡ None) (h : Waits g r now) where
     -- its branch is one that a `par` made
     pub is_made : (b : Branch) → slice_get x.state.branches r.branch ≡ Some b → counts c b ≡ 0
     is_made b at =
@@ -211,7 +241,10 @@ module _ (g : Setting) (first : Roles) (is : IsImageOf g first) (who : Roles) (w
           parents = parents_behind waiting;
           thread = record { thread = th.0; there = th.1; tied = th.2.tied ∙ sym h.tied; no_events = th.2.no_events; is = subst (λ ps. ThreadIs ps ended th.0.mode) (sym h.outermost) th.2.waits };
           in_hand = empty refl;
-          ends_tied = λ f none. (h.sync, h.tied);
+          sides = ap (λ (b : Branch). b.sides) (same_branch waiting) ∙ stand.sides;
+          done = λ f. none;
+          stops = λ f. stops_outside r.transfer none;
+          ends_tied = λ f bare. (h.sync, h.tied);
           left = 0;
           bound = bound_behind waiting 0 0 (omega arith) (omega arith);
           by = subst (λ ps. HasEnded g (shrunk r []) ps 0 (record { core = h.left; world = h.acts.world; hand = None })) (sym h.outermost) refl;
@@ -222,4 +255,11 @@ module _ (g : Setting) (first : Roles) (is : IsImageOf g first) (who : Roles) (w
         waits_thread (Some th) f k = (th, f, k)
 
     pub waits_answered : Follows g none_rests who w x waiting_watched
-    waits_answered = goes_on_answered g first is who w x st c t a at_c r runs_r waiting none_rests (ap length h.words) waiting_stand
+    waits_answered =
+        goes_on_answered g first is who w x st c t a at_c r runs_r waiting none_rests
+        (wired_on g first is who w x st c t a at_c r runs_r waiting none_rests refl (ap length h.words) h.channel_ends h.acts.inboxes)
+        (λ transfer f. absurd (none_some transfer (sym none ∙ f)))
+        (ap length h.words) waiting_stand
+      where
+        none_some : (transfer : Transfer) → ◌≡◌ {A = Option Transfer} None (Some transfer) → ⊥
+        none_some transfer f = cc

@@ -22,8 +22,9 @@ use Rattle.xr_threads.specs.Parents.{Parent}
 use Rattle.xr_threads.specs.Roles.{AreRoles, AreUsedSo, HandFits, HasReserves, ParentsWait, Roles, used_by}
 use Rattle.xr_threads.specs.Runners.{Setting, Runner, footprint_of}
 use Rattle.xr_threads.specs.Standing.{Stand, Standing, Stands, ThreadIs}
+use Rattle.xr_threads.specs.Transfers.{StopsIn}
 
--- a runner's branch, which doesn't wait
+-- A runner's branch, which doesn't wait. One that has ended is in no transfer, and one that has erred waited for an answer where it was in one.
 pub record Works (g : Setting) (x : World) (r : Runner) (hand : Option Hand) : Type 0 where
   pub branch : Branch
   pub known : slice_get x.branches r.branch ≡ Some branch
@@ -33,6 +34,9 @@ pub record Works (g : Setting) (x : World) (r : Runner) (hand : Option Hand) : T
   pub footprint : r.footprint ≡ footprint_of branch.items
   pub parents : ParentsWait g x r.core r.family r.parents r.branch
   pub in_hand : HandFits branch.items hand
+  pub sides : branch.sides ≡ r.sides
+  pub done : branch.mode ≡ ended → r.transfer ≡ None
+  pub stops : branch.mode ≡ erred → StopsIn r.transfer
 
 -- a runner's thread, which is in use
 pub record HasOwnThread (a : CoreState) (r : Runner) : Type 0 where
@@ -91,6 +95,9 @@ works_of g r may_rest hand a x life actions h =
       footprint = st.footprint;
       parents = st.parents;
       in_hand = st.in_hand;
+      sides = st.sides;
+      done = st.done;
+      stops = st.stops;
     }
 
 pub own_thread_of : (g : Setting) (r : Runner) (may_rest : Bool) (hand : Option Hand) (a : CoreState) (x : World) (life : Life) (actions : ℕ → ℕ) →

@@ -224,6 +224,7 @@ module _ (g : Setting) (r : Runner) (v : ℕ) (laid : IsLaidOut g r) (is : IsCha
             };
             roots = refl;
             syncs = refl;
+            channel_ends = refl;
             no_hand = since.hand ∙ no_hand;
             items = rest;
             acts = record {
@@ -237,9 +238,9 @@ module _ (g : Setting) (r : Runner) (v : ℕ) (laid : IsLaidOut g r) (is : IsCha
                 clocks = refl;
                 branches = refl;
                 store = λ u unchanged. words_other x.world.store v u (map zero_for (words_of x.world.store v)) (λ e. differs u unchanged e);
-                inboxes = refl;
                 trace = refl;
               };
+              inboxes = refl;
             };
             jumps = j;
             fewer = omega arith;
@@ -267,7 +268,7 @@ module _ (g : Setting) (r : Runner) (v : ℕ) (laid : IsLaidOut g r) (is : IsCha
 -- From the code that sets a variable's words to 0 the thread comes to the last store.
 module _ (g : Setting) (r : Runner) where
   pub zero_leads : (v : ℕ) → StatementLeads g r (kernel.set_zero v)
-  zero_leads v rest exits pc pc' j z regs laid code (is, counted) behind fits has here bases no_hand =
+  zero_leads v rest exits pc pc' j z regs laid code (is, counted) sided behind fits has here bases no_hand =
       leads_more g r (Turns g r j) (2 * (k + 1) + 1) (cost g r) z few
       (leads_as g r (λ y. AtLast y.core × Since g r (IsOutside (base g r v laid is) (k + 1)) any_port z y) (Turns g r j) (2 * (k + 1) + 1) z
       (λ y h x kept. turn.goes_on (last_goes g r v laid is rest z k is_k exits j pc' regs bases no_hand behind fits has pc x (since_kept g r (IsOutside (base g r v laid is) (k + 1)) any_port h.1 kept) (h.0 x.core (core_kept g r kept))))

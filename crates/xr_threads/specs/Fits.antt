@@ -6,13 +6,13 @@ use Rattle.xc_kernel.specs.declared.kernel.PortUse.{PortUse}
 use Rattle.xc_kernel.specs.declared.statement.KRes.{KRes}
 use Rattle.xc_kernel.specs.declared.statement.KRes.TheVariants.{Port, Timer, Chan}
 use Rattle.xc_kernel.specs.Plain as kernel
-use Rattle.xc_meaning.specs.Counts.KernelCounts.{greatest_count, of_statement, words_in}
-use Rattle.xc_meaning.specs.States.Items.{Item, does}
+use Rattle.xc_meaning.specs.Counts.KernelCounts.{greatest_count, of_place, of_statement, words_in}
+use Rattle.xc_meaning.specs.States.Items.{Item, awaits, does, stores}
 use Rattle.xl_expr.specs.declared.plan.VarPlan.{VarPlan}
 use Rattle.xl_expr.specs.Frames.{HasVars, HasPlace, variable_of}
 use Rattle.xl_expr.specs.Plans.{var_in}
 use Rattle.xl_image.specs.Images.{dir_of}
-use Rattle.xr_threads.specs.Runners.{Setting, Runner, IsPort, anyone, plan}
+use Rattle.xr_threads.specs.Runners.{Setting, Runner, IsChannel, IsPort, anyone, plan}
 
 module _ (g : Setting) (r : Runner) where
   -- no statement of the program counts more
@@ -42,6 +42,11 @@ module _ (g : Setting) (r : Runner) where
     pub uses : r.footprint.uses v ≡ true
     pub changes : r.footprint.changes v ≡ true
 
+  -- a place that the runner may change
+  abbrev pub ChangesAt : Option kernel.Place → Type 0
+  ChangesAt None = Unit {0}
+  ChangesAt (Some place) = UsesAt place × (r.footprint.changes (variable_of place) ≡ true)
+
   -- a port by which the runner may put words out
   pub record IsOutPort (p : ℕ) : Type 0 where
     pub listed : PortUse
@@ -51,12 +56,21 @@ module _ (g : Setting) (r : Runner) where
   abbrev pub PutsOutAt : KRes → Type 0
   PutsOutAt (Port p) = IsOutPort p
   PutsOutAt (Timer t) = Unit {0}
-  PutsOutAt (Chan c) = Unit {0}
+  PutsOutAt (Chan c) = IsChannel g r c
+
+  abbrev pub TakesInAt : KRes → Type 0
+  TakesInAt (Port p) = Unit {0}
+  TakesInAt (Timer t) = Unit {0}
+  TakesInAt (Chan c) = IsChannel g r c
 
   pub record OutputFits (o : kernel.Output) : Type 0 where
     pub time : UsesSome o.time
     pub value : Uses o.value
-    pub port : PutsOutAt o.resource
+    pub to : PutsOutAt o.resource
+
+  pub record InputFits (i : kernel.Input) : Type 0 where
+    pub target : ChangesAt i.target
+    pub from : TakesInAt i.resource
 
   -- an exit needs nothing, and of what isn't built nothing is said
   abbrev mutual
@@ -65,6 +79,7 @@ module _ (g : Setting) (r : Runner) where
     Fits (kernel.set place x) =
         UsesAt place × Uses x × (r.footprint.changes (variable_of place) ≡ true) × IsCounted (kernel.set place x)
     Fits (kernel.output o) = OutputFits o × IsCounted (kernel.output o)
+    Fits (kernel.input i) = InputFits i × IsCounted (kernel.input i)
     Fits (kernel.if_then x a b) = Uses x × AllFit a × AllFit b × IsCounted (kernel.if_then x a b)
     Fits (kernel.loop x a b) = Uses x × AllFit a × AllFit b × IsCounted (kernel.loop x a b)
     Fits (kernel.block n a) = AllFit a
@@ -81,6 +96,8 @@ module _ (g : Setting) (r : Runner) where
 
   abbrev pub ItemFits : Item → Type 0
   ItemFits (does s) = Fits s
+  ItemFits (stores place v) = ChangesAt (Some place) × (of_place place ≤ greatest)
+  ItemFits (awaits c pos) = IsChannel g r c
   ItemFits other = Unit {0}
 
   abbrev pub ItemsFit : List Item → Type 0

@@ -1,8 +1,10 @@
 -- What is asked of an image, so that it does what its kernel means: each root has a thread of its own, with its code, and no two of them are in each
 -- other's way.
 use Rattle.std.specs.Prelude.{◌≡◌, ℕ, ◌+◌, ◌<◌, ◌≤◌, true, [], ◌∷◌, length, Some, None, slice_get}
+use Rattle.xs_instr.specs.declared.image.Pair.{Pair}
 use Rattle.xs_instr.specs.Machine.{parts_in}
 use Rattle.xs_instr.specs.OwnSteps.{temporary}
+use Rattle.xs_instr.specs.Valid.{Valid}
 use Rattle.xc_kernel.specs.declared.kernel.PortUse.{PortUse}
 use Rattle.xc_kernel.specs.Plain as kernel
 use Rattle.xc_disjoint.specs.Needs.{threads_on}
@@ -10,16 +12,21 @@ use Rattle.xc_laws.specs.Lawful.{Obeys}
 use Rattle.xc_laws.specs.Needs.{needed_on}
 use Rattle.xc_meaning.specs.Counts.KernelCounts.{words_in}
 use Rattle.xc_meaning.specs.Runs.{kernel_start}
+use Rattle.xc_meaning.specs.States.Branches.{Branch}
+use Rattle.xc_meaning.specs.States.Channels.{Side}
 use Rattle.xc_meaning.specs.States.Items.{ends, todo}
 use Rattle.xl_expr.specs.declared.plan.VarPlan.{VarPlan}
 use Rattle.xl_expr.specs.Frames.{IsNear}
-use Rattle.xl_image.specs.Images.{RootAt, decl_of}
-use Rattle.xl_plan.specs.Layout.{temporary_of}
+use Rattle.xl_image.specs.Images.{RootAt, core_of, decl_of, no_sides, pair_of}
+use Rattle.xl_plan.specs.Layout.{is_used_on, temporary_of}
 use Rattle.xr_match.specs.Meanings.{root_among}
 use Rattle.xr_threads.specs.Fits.{FitOn}
 use Rattle.xr_threads.specs.Roles.{Role, Roles, unused, used_by}
 use Rattle.xr_threads.specs.Runners.{Setting, Runner, IsLaidOut, IsPort, anyone, footprint_of, home, plan, port_place}
+use Rattle.xr_threads.specs.Plain.{ArePlain}
 use Rattle.xr_threads.specs.Standing.{living_on}
+use Rattle.xr_threads.specs.Wired.{IsLine}
+use Rattle.xr_wires.specs.Wires.{IsWired, place}
 
 -- What is so of a core of which threads are needed, whoever runs there: each thread of which it has need, with any footprint, is laid out, and has
 -- its temporary words; the variables and ports are there.
@@ -44,6 +51,8 @@ pub record IsRoot (g : Setting) (r : Runner) (root : kernel.Root) : Type 0 where
   pub base : r.base ≡ 0
   pub tie : r.tie ≡ None
   pub alone : r.parents ≡ []
+  pub sides : r.sides ≡ no_sides g.program
+  pub no_transfer : r.transfer ≡ None
   pub footprint : r.footprint ≡ footprint_of (todo root.body (ends ∷ []))
   pub inside : r.thread < threads_on g.program r.core
   pub stack : r.stack ≡ temporary_of g.program r.core r.thread
@@ -56,9 +65,23 @@ IsRootRole g unused = Unit {0}
 IsRootRole g (used_by r None) = (root : kernel.Root) × IsRoot g r root
 IsRootRole g other = ⊥
 
+-- Each channel with two sides has its line in the image, with the ends of its sides; a core uses it where they are.
+pub record AreLines (g : Setting) : Type 0 where
+  pub valid : Valid g.image
+  pub wired : IsWired g.image.chans
+  pub line : (line c : ℕ) → IsLine g.program line c → slice_get g.image.chans line ≡ Some (pair_of g.program c)
+  pub channel : (line : ℕ) (p : Pair) → slice_get g.image.chans line ≡ Some p → (c : ℕ) × IsLine g.program line c
+  pub used : (core c : ℕ) → c < length g.program.channels → is_used_on g.program core c ≡ true →
+      (core_of g.program c ≡ core) × ((line : ℕ) × IsLine g.program line c)
+  pub ends : (line : ℕ) (p : Pair) (side : Side) → slice_get g.image.chans line ≡ Some p →
+      (place p side).end < (parts_in g.image.cores (place p side).core).ends
+
 -- The image has the code of the kernel's roots, each for a thread of its core.
 pub record IsImageOf (g : Setting) (who : Roles) : Type 0 where
   pub obeys : Obeys g.program
+  pub plain : ArePlain (kernel_start g.program).branches
+  pub outside : (n : ℕ) (b : Branch) → slice_get (kernel_start g.program).branches n ≡ Some b → b.sides ≡ no_sides g.program
+  pub lines : AreLines g
   pub roles : (c t : ℕ) → IsRootRole g (who c t)
   pub core : (c t : ℕ) (r : Runner) → who c t ≡ used_by r None → r.core ≡ c
   pub thread : (c t : ℕ) (r : Runner) → who c t ≡ used_by r None → r.thread ≡ t

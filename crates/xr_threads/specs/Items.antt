@@ -1,9 +1,10 @@
--- The code of what a branch has still to do: it begins at an index.
+-- The code of what a branch has still to do, by the sides of channels in which it stands: it begins at an index.
 use Rattle.std.specs.Prelude.{◌≡◌, ℕ, ◌+◌, List, [], ◌∷◌, Option, Some, None, slice_get}
 use Rattle.xs_instr.specs.declared.image.Code.{Code}
 use Rattle.xs_instr.specs.declared.instr.Instr.TheVariants.{Freet}
 use Rattle.xc_meaning.specs.States.Items.{Item, does, says, stores, mark, awaits, transaction_end, chooses, fixed, ends}
 use Rattle.xl_expr.specs.declared.plan.Plan.{Plan}
+use Rattle.xl_sides.specs.Ends.{Sides}
 use Rattle.xr_threads.specs.Parents.{Parent}
 use Rattle.xl_walk.specs.Pieces.{ClosesAt, Exit, Jumps, PieceAt, SlaveEndsAt}
 
@@ -24,22 +25,22 @@ module _ (plan : Plan) (code : Code) where
     pub others : Others outer pc j
 
   -- the first item's code, by what stands where the branch ends and by what holds of the code of the others
-  abbrev pub FirstAt : (End : (pc j : ℕ) → Type 0) → Item → (List Exit → (pc j : ℕ) → Type 0) → List Exit → (pc j : ℕ) → Type 0
-  FirstAt End (does s) Others exits pc j = (q : ℕ) × PieceAt code plan s exits pc q × Others exits q j
-  FirstAt End (mark n) Others exits pc j = MarkAt n Others exits pc j
-  FirstAt End ends Others exits pc j = End pc j × (exits ≡ [])
-  FirstAt End (says i) Others exits pc j = ⊥
-  FirstAt End (stores place v) Others exits pc j = ⊥
-  FirstAt End (awaits c pos) Others exits pc j = ⊥
-  FirstAt End (transaction_end c is_master pos) Others exits pc j = ⊥
-  FirstAt End (chooses choices otherwise) Others exits pc j = ⊥
-  FirstAt End (fixed i value counter) Others exits pc j = ⊥
+  abbrev pub FirstAt : Sides → (End : (pc j : ℕ) → Type 0) → Item → (List Exit → (pc j : ℕ) → Type 0) → List Exit → (pc j : ℕ) → Type 0
+  FirstAt sides End (does s) Others exits pc j = (q : ℕ) × PieceAt code plan sides s exits pc q × Others exits q j
+  FirstAt sides End (mark n) Others exits pc j = MarkAt n Others exits pc j
+  FirstAt sides End ends Others exits pc j = End pc j × (exits ≡ [])
+  FirstAt sides End (says i) Others exits pc j = ⊥
+  FirstAt sides End (stores place v) Others exits pc j = ⊥
+  FirstAt sides End (awaits c pos) Others exits pc j = ⊥
+  FirstAt sides End (transaction_end c is_master pos) Others exits pc j = ⊥
+  FirstAt sides End (chooses choices otherwise) Others exits pc j = ⊥
+  FirstAt sides End (fixed i value counter) Others exits pc j = ⊥
 
   -- The code of a branch's items begins at an index, by where the open blocks end: those whose marks are among the items. Between items there
   -- may be jumps, in all j of them.
-  abbrev pub ItemsAt : (End : (pc j : ℕ) → Type 0) → List Item → List Exit → (pc j : ℕ) → Type 0
-  ItemsAt End [] exits pc j = ⊥
-  ItemsAt End (i ∷ rest) exits pc j = Behind (FirstAt End i (ItemsAt End rest) exits) pc j
+  abbrev pub ItemsAt : Sides → (End : (pc j : ℕ) → Type 0) → List Item → List Exit → (pc j : ℕ) → Type 0
+  ItemsAt sides End [] exits pc j = ⊥
+  ItemsAt sides End (i ∷ rest) exits pc j = Behind (FirstAt sides End i (ItemsAt sides End rest) exits) pc j
 
   -- What stands where a branch ends. A root's thread is freed there, and a tied one waits.
   abbrev pub LastAt : (tie : Option ℕ) → (pc : ℕ) → Type 0
@@ -54,4 +55,4 @@ module _ (plan : Plan) (code : Code) where
   -- behind the first branch of a `par` it is closed, and what is left to its maker follows
   abbrev pub EndAt : (tie : Option ℕ) → List Parent → (pc j : ℕ) → Type 0
   EndAt tie [] pc j = LastAt tie pc
-  EndAt tie (p ∷ ps) pc j = ClosingAt p.sync (λ q k. (exits : List Exit) × ItemsAt (EndAt tie ps) p.items exits q k) pc j
+  EndAt tie (p ∷ ps) pc j = ClosingAt p.sync (λ q k. (exits : List Exit) × ItemsAt p.sides (EndAt tie ps) p.items exits q k) pc j

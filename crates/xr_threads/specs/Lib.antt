@@ -1,3 +1,4 @@
+pub mod Transfers
 pub mod Parents
 pub mod Items
 pub mod Runners
@@ -5,6 +6,8 @@ pub mod Fits
 pub mod Scenes
 pub mod Turns
 pub mod Roles
+pub mod Plain
+pub mod Wired
 pub mod Standing
 pub mod Settled
 pub mod Images

@@ -1,15 +1,17 @@
 -- The branches that wait for the one that a thread runs.
 use Rattle.std.specs.Prelude.{ℕ, List, [], ◌∷◌, Option, Some, None}
 use Rattle.xc_meaning.specs.States.Items.{Item}
+use Rattle.xl_sides.specs.Ends.{Sides}
 
 -- A branch that waits for those of its `par`, the first of which its own thread runs: its number, theirs, the synchroniser of the other
--- ones where there are some, and what is left to it.
+-- ones where there are some, what is left to it, and the sides of channels in which it stands.
 pub record Parent : Type 0 where
   pub branch : ℕ
   pub from : ℕ
   pub count : ℕ
   pub sync : Option ℕ
   pub items : List Item
+  pub sides : Sides
 
 -- `syncs_of`, by cases
 abbrev pub sync_before : Option ℕ → List ℕ → List ℕ

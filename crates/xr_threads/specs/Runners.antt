@@ -6,7 +6,7 @@ use Rattle.xs_instr.specs.declared.image.Image.{Image}
 use Rattle.xs_instr.specs.declared.image.Stim.{Stim}
 use Rattle.xs_instr.specs.Machine.{home_of}
 use Rattle.xs_instr.specs.OwnSteps.{temporary}
-use Rattle.xs_instr.specs.Resources.{APort, named}
+use Rattle.xs_instr.specs.Resources.{AnEnd, APort, named}
 use Rattle.xc_kernel.specs.declared.kernel.PortUse.{PortUse}
 use Rattle.xc_kernel.specs.Plain as kernel
 use Rattle.xl_expr.specs.declared.plan.Plan.{Plan}
@@ -15,12 +15,15 @@ use Rattle.xl_expr.specs.declared.plan.VarAt.{VarAt}
 use Rattle.xl_expr.specs.declared.plan.VarAt.TheVariants.{Near, Far, Through}
 use Rattle.xl_expr.specs.declared.plan.VarPlan.{VarPlan}
 use Rattle.xl_expr.specs.Frames.{Frame, IsNear}
-use Rattle.xl_expr.specs.Plans.{resource_at, var_in}
-use Rattle.xl_plan.specs.Layout.{port_name, port_number}
+use Rattle.xl_expr.specs.Plans.{end_in, resource_at, var_in}
+use Rattle.xl_plan.specs.Layout.{end_name, end_number, is_used_on, port_name, port_number}
 use Rattle.xc_kernel.specs.Things.{variable, change, port}
+use Rattle.xc_meaning.specs.States.Channels.{Side}
 use Rattle.xc_meaning.specs.States.Items.{Item}
 use Rattle.xc_meaning.specs.Uses.{by_items}
+use Rattle.xl_sides.specs.Ends.{Sides, end_of_side}
 use Rattle.xr_threads.specs.Parents.{Parent}
+use Rattle.xr_threads.specs.Transfers.{Transfer}
 
 -- a program, its image, a stimulus, and the plan of each core
 pub record Setting : Type 0 where
@@ -48,7 +51,7 @@ abbrev pub everything : Footprint
 everything = record { uses = λ v. true; changes = λ v. true; ports = λ p. true }
 
 -- A hardware thread that runs a branch: dp names word `base`, and its temporary words begin at word `stack`. Its steps count for a family.
--- Other branches may wait for that one, the innermost first.
+-- Other branches may wait for that one, the innermost first. It stands in sides of channels, and its thread may be inside a transfer.
 pub record Runner : Type 0 where
   pub core : ℕ
   pub thread : ℕ
@@ -59,6 +62,8 @@ pub record Runner : Type 0 where
   pub stack : ℕ
   pub footprint : Footprint
   pub parents : List Parent
+  pub sides : Sides
+  pub transfer : Option Transfer
 
 -- some thread of a core, with all variables and ports
 abbrev pub anyone : (core : ℕ) → Runner
@@ -72,6 +77,8 @@ anyone core = record {
   stack = 0;
   footprint = everything;
   parents = [];
+  sides = [];
+  transfer = None;
 }
 
 -- the runner with what some items use and change
@@ -124,14 +131,30 @@ module _ (g : Setting) (r : Runner) where
   abbrev pub port_place : (port : ℕ) → ℕ
   port_place p = port_number r.core g.program.ports p
 
+  -- the number of a side's end on the runner's core
+  abbrev pub end_place : (channel : ℕ) → Side → ℕ
+  end_place c side = end_number g.program r.core c side
+
+  -- a channel of the kernel's that the runner's core uses
+  pub record IsChannel (c : ℕ) : Type 0 where
+    pub known : c < length g.program.channels
+    pub used : is_used_on g.program r.core c ≡ true
+
+  -- the plan has the identifier of a side's end
+  pub record EndIsPlanned (c : ℕ) (side : Side) : Type 0 where
+    pub place : ℕ
+    pub is : end_of_side (slice_get plan.channels c) (Some side) ≡ Some place
+    pub identifier : end_in plan.ends place ≡ Some (Fixed (end_name r.core (end_place c side)))
+    pub names : named home.number (end_name r.core (end_place c side)) ≡ AnEnd (end_place c side)
+
   -- a port of the runner's, as the kernel has it
   pub record IsPort (p : ℕ) (listed : PortUse) : Type 0 where
     pub mine : r.footprint.ports p ≡ true
     pub known : slice_get g.program.ports p ≡ Some listed
     pub core : listed.core ≡ r.core
 
-  -- The variables of a runner's core stand near, no two of them share a word, and none is a temporary one of the runner's. Its ports have
-  -- the identifiers that the plan gives them.
+  -- The variables of a runner's core stand near, no two of them share a word, and none is a temporary one of the runner's. Its ports and its
+  -- channels' ends have the identifiers that the plan gives them.
   pub record IsLaidOut : Type 0 where
     pub frame : Frame plan.vars relied r.footprint.uses r.stack r.base
     pub changes : (v : ℕ) → r.footprint.changes v ≡ true → r.footprint.uses v ≡ true
@@ -139,3 +162,4 @@ module _ (g : Setting) (r : Runner) where
     pub identifiers : (p : ℕ) (listed : PortUse) → IsPort p listed →
         resource_at plan.ports p ≡ Some (Fixed (port_name r.core (port_place p)))
     pub names : (p : ℕ) (listed : PortUse) → IsPort p listed → named home.number (port_name r.core (port_place p)) ≡ APort (port_place p)
+    pub ends : (c : ℕ) (side : Side) → IsChannel c → EndIsPlanned c side

@@ -100,6 +100,7 @@ module _ (g : Setting) (r : Runner) where
     pub made : slot (home g r) y.core r.thread ≡ makes z.core
     pub world : z.world ≡ y.world
     pub roots : z.core.roots ≡ y.core.roots
+    pub channel_ends : z.core.ends ≡ y.core.ends
     pub touched : Touched y z
     pub hand : HandChange y z
     pub on : StillRuns z.core

@@ -26,7 +26,10 @@ use Rattle.xr_threads.specs.Parents.{Parent}
 use Rattle.xr_threads.specs.Roles.{AreRoles, AreUsedSo, HandFits, HasReserves, IsParent, ParentsWait, Role, Roles, got_by, own_branches, unused, used_by}
 use Rattle.xr_threads.specs.Runners.{Setting, Runner, IsPort, anyone, footprint_of}
 use Rattle.xr_threads.specs.Scenes.{Scene}
-use Rattle.xr_threads.specs.Turns.{GivesBack, IsJoining, Leads, PortIs, Rest, cost}
+use Rattle.xr_threads.specs.Plain.{ArePlain}
+use Rattle.xr_threads.specs.Transfers.{StopsIn, Transfer, steps_left}
+use Rattle.xr_threads.specs.Turns.{GivesBack, InTransfer, IsJoining, Leads, PortIs, Rest, cost}
+use Rattle.xr_threads.specs.Wired.{AreWired, HasAlone}
 
 -- one variable alone
 abbrev pub only : ℕ → ℕ → Bool
@@ -62,9 +65,19 @@ module _ (g : Setting) (r : Runner) where
   IfTrue true A = A
   IfTrue false A = ⊥
 
+  -- the thread is inside a transfer
+  abbrev pub IsTransferring : Transfer → List Item → (most : ℕ) → Scene → Type 0
+  IsTransferring transfer items most z =
+      (j : ℕ) × (steps_left transfer.phase + j + cost g r ≤ most) × InTransfer g r transfer items j z
+
+  -- by whether it is inside one
+  abbrev pub StandsWith : (may_rest : Bool) → Option Transfer → List Item → (left : ℕ) → Scene → Type 0
+  StandsWith may_rest None items left z = IsOnItsWay left z ⊎ (IsResuming items left z ⊎ IfTrue may_rest (IsAtRest items left z))
+  StandsWith may_rest (Some transfer) items left z = IsTransferring transfer items left z
+
   -- what a thread does, by how its branch is, with so many steps left to it before the branch's next one; it may stand at rest, or not
   abbrev pub StandsBy : (may_rest : Bool) → List Item → Mode → (left : ℕ) → Scene → Type 0
-  StandsBy may_rest items runs left z = IsOnItsWay left z ⊎ (IsResuming items left z ⊎ IfTrue may_rest (IsAtRest items left z))
+  StandsBy may_rest items runs left z = StandsWith may_rest r.transfer items left z
   StandsBy may_rest items (waits from count) left z = ⊥
   StandsBy may_rest items ended left z = HasEnded r.parents left z
   StandsBy may_rest items erred left z = z.hand ≡ None
@@ -87,6 +100,9 @@ module _ (g : Setting) (r : Runner) where
     pub parents : ParentsWait g x r.core r.family r.parents r.branch
     pub thread : HasThread branch.mode a
     pub in_hand : HandFits branch.items hand
+    pub sides : branch.sides ≡ r.sides
+    pub done : branch.mode ≡ ended → r.transfer ≡ None
+    pub stops : branch.mode ≡ erred → StopsIn r.transfer
     pub ends_tied : branch.mode ≡ ended → r.parents ≡ [] → (n : ℕ) × (r.tie ≡ Some n)
     pub left : ℕ
     pub bound : life.steps + left ≤ kernel_bound g.program * (actions r.family + 1)
@@ -151,8 +167,8 @@ pub record IsRun (who : Roles) (b : ℕ) : Type 0 where
 abbrev pub IsMade : (roots : ℕ) → List Branch → (b : ℕ) → Type 0
 IsMade roots bs b = (b < roots) ⊎ ((n : ℕ) × IsChild bs n b)
 
--- The two sides have the same clocks and trace, nothing is on its way between cores, each thread does what it should, and as many roots as
--- branches of roots go on. Some threads may stand at rest.
+-- The two sides have the same clocks and trace, nothing is on its way between cores, each thread does what it should, the channels are wired so, and as many
+-- roots as branches of roots go on. Some threads may stand at rest.
 pub record Standing
     (g : Setting) (may_rest : (core thread : ℕ) → Bool) (who : Roles) (w : Watched) (x : Told (of_kernel g.program)) : Type 0 where
   pub clocks : map clock_of w.machine.cores ≡ x.state.clocks
@@ -160,6 +176,7 @@ pub record Standing
   pub links : w.machine.links ≡ no_links
   pub cores : length w.machine.cores ≡ 4
   pub lawful : Lawful g.program x.state
+  pub plain : ArePlain x.state.branches
   pub roles : AreRoles g who
   pub reserves : HasReserves g who x.state
   pub used : (c : ℕ) (a : CoreState) → slice_get w.machine.cores c ≡ Some a → AreUsedSo who c a
@@ -167,6 +184,9 @@ pub record Standing
       Stands g (may_rest c t) a x.state (w.lives c t) x.actions (who c t)
   pub loose : (c : ℕ) (a : CoreState) → slice_get w.machine.cores c ≡ Some a → 1 ≤ threads_on g.program c → AreLoose g who c a x.state
   pub sizes : (c : ℕ) (a : CoreState) → slice_get w.machine.cores c ≡ Some a → length a.words ≡ (parts_in g.image.cores c).words
+  pub wired : AreWired g who w.machine.cores x.state.inboxes
+  pub alone : (c t : ℕ) (r : Runner) (hand : Option Hand) (transfer : Transfer) → who c t ≡ used_by r hand → r.transfer ≡ Some transfer →
+      HasAlone x.state.branches transfer.channel transfer.side r.branch
   pub roots : (c : ℕ) (a : CoreState) → slice_get w.machine.cores c ≡ Some a → a.roots ≡ living_on c x.state.branches
   pub placed : (b : ℕ) (branch : Branch) → slice_get x.state.branches b ≡ Some branch → branch.core < 4
   pub run : (b : ℕ) (branch : Branch) → slice_get x.state.branches b ≡ Some branch → has_ended branch.mode ≡ false → IsRun who b

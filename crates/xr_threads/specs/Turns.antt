@@ -1,9 +1,9 @@
 -- What a thread's next step is, once it stands at the own instruction of its branch's first item, and the branch's action that goes with it.
-use Rattle.std.specs.Prelude.{◌≡◌, ℕ, zero, suc, ◌+◌, ◌*◌, ◌-◌, ◌<◌, ◌≤◌, true, false, List, [], ◌∷◌, Option, Some, None, length, slice_get, slice_set}
+use Rattle.std.specs.Prelude.{◌≡◌, ℕ, zero, suc, ◌+◌, ◌*◌, ◌-◌, ◌<◌, ◌≤◌, true, false, List, [], ◌∷◌, Option, Some, None, length, slice_get, slice_index_or, slice_set}
 use Rattle.xw_words.specs.declared.pos.Pos.{Pos}
 use Rattle.xs_instr.specs.declared.state.CoreState.{CoreState}
 use Rattle.xs_instr.specs.declared.instr.Reg.{Reg}
-use Rattle.xs_instr.specs.declared.instr.Reg.TheVariants.{R1, R2, R3, R4, R5, R6, R7}
+use Rattle.xs_instr.specs.declared.instr.Reg.TheVariants.{R0, R1, R2, R3, R4, R5, R6, R7}
 use Rattle.xs_instr.specs.declared.state.Mode.TheVariants.{Unused, Waiting}
 use Rattle.xs_instr.specs.declared.state.Port.{Port}
 use Rattle.xs_instr.specs.declared.state.Regs.{Regs}
@@ -20,21 +20,30 @@ use Rattle.xs_instr.specs.Resources.{sync_name}
 use Rattle.xs_instr.specs.Rows.{goes_on as row_goes_on, put_syncs, put_threads}
 use Rattle.xs_instr.specs.Slot.{slot, fault_of}
 use Rattle.xc_kernel.specs.declared.kernel.PortUse.{PortUse}
+use Rattle.xc_kernel.specs.declared.statement.KRes.{KRes}
+use Rattle.xc_kernel.specs.declared.statement.KRes.TheVariants as resource
 use Rattle.xc_kernel.specs.Plain as kernel
-use Rattle.xc_kernel.specs.Eval.{words_of}
+use Rattle.xc_kernel.specs.Values.{word}
+use Rattle.xc_kernel.specs.Eval.{eval, words_of}
 use Rattle.xc_meaning.specs.Counts.KernelCounts.{branch_count}
-use Rattle.xc_meaning.specs.States.Items.{Item, does, ends, todo}
+use Rattle.xc_meaning.specs.Settings.Sides.{sides_in}
+use Rattle.xc_meaning.specs.States.Channels.{Side}
+use Rattle.xc_meaning.specs.States.Items.{Item, awaits, does, ends, stores, storing, todo}
 use Rattle.xc_meaning.specs.States.Branches.{Branch, runs, ended, erred}
 use Rattle.xc_meaning.specs.States.Worlds.{World, go, take, default}
 use Rattle.xc_meaning.specs.Runs.{acts}
+use Rattle.xl_chan.specs.Protocols.{Act, ActsAll, input_acts, output_acts}
 use Rattle.xl_expr.specs.Frames.{Holds}
+use Rattle.xl_expr.specs.Stores.{Stores}
+use Rattle.xl_sides.specs.Ends.{Sides, codes_in}
 use Rattle.xl_par.specs.Hands.{Hand, IsAmong, empty_hand}
 use Rattle.xl_image.specs.Images.{decl_of}
 use Rattle.xr_threads.specs.Items.{EndAt, ItemsAt}
 use Rattle.xr_threads.specs.Parents.{Parent, syncs_of}
-use Rattle.xl_walk.specs.Pieces.{Exit, PieceAt}
+use Rattle.xl_walk.specs.Pieces.{Exit, LinesAt, PieceAt}
 use Rattle.xr_threads.specs.Fits.{Fits, ItemsFit, greatest}
-use Rattle.xr_threads.specs.Runners.{Setting, Runner, IsLaidOut, IsPort, code, home, plan, port_place}
+use Rattle.xr_threads.specs.Runners.{Setting, Runner, IsLaidOut, IsPort, code, end_place, home, plan, port_place}
+use Rattle.xr_threads.specs.Transfers.{Transfer, AwaitsNothing, GoesWith, acts_left}
 use Rattle.xr_threads.specs.Scenes.{Scene, Kept, Touched, LeadsIn, after, giving_back, running}
 
 -- an unused thread, which takes no events and isn't tied
@@ -57,10 +66,16 @@ abbrev pub IsWaitingTied : (sync : ℕ) → Option Thread → Type 0
 IsWaitingTied n None = ⊥
 IsWaitingTied n (Some thread) = IsTiedThread n thread
 
--- the code of a `par`'s branches
-abbrev pub codes_in : kernel.Branches → List kernel.Statements
-codes_in kernel.no_branch = []
-codes_in (kernel.more_branches (kernel.branch ss pos) bs) = ss ∷ codes_in bs
+-- the code of a branch, and the sides of channels in which it stands
+pub record Placed : Type 0 where
+  pub sides : Sides
+  pub code : kernel.Statements
+
+-- the branches of a `par` whose maker stands in these sides, behind those with this code, of which the last one is first
+abbrev pub placed_in : Sides → (before : List kernel.Statements) → kernel.Branches → List Placed
+placed_in sides before kernel.no_branch = []
+placed_in sides before (kernel.more_branches (kernel.branch ss pos) bs) =
+    record { sides = sides_in 0 before ss (codes_in bs) sides; code = ss } ∷ placed_in sides (ss ∷ before) bs
 
 -- the last one first, before others
 abbrev pub backwards_on : {A : Type 0} → List A → List A → List A
@@ -139,7 +154,7 @@ module _ (g : Setting) (r : Runner) where
 
   -- the code of items stands at an index
   abbrev pub ItemsFrom : List Item → List Exit → (pc j : ℕ) → Type 0
-  ItemsFrom items exits pc j = ItemsAt (plan g r) (code g r) EndOf items exits pc j
+  ItemsFrom items exits pc j = ItemsAt (plan g r) (code g r) r.sides EndOf items exits pc j
 
   -- the branch has these items, and the core has its words and ports
   pub record Has (items : List Item) (z : Scene) : Type 0 where
@@ -187,7 +202,7 @@ module _ (g : Setting) (r : Runner) where
     pub exits : List Exit
     pub here : IsAt z pc regs
     pub bases : HasBasesBy (syncs_of ps) regs
-    pub at_code : ItemsAt (plan g r) (code g r) (EndAt (plan g r) (code g r) r.tie ps) p.items exits (pc + 2) j
+    pub at_code : ItemsAt (plan g r) (code g r) p.sides (EndAt (plan g r) (code g r) r.tie ps) p.items exits (pc + 2) j
     pub pauses : all_wait z.core.threads sync ≡ false → slot (home g r) z.core r.thread ≡ Paused
     pub joins : all_wait z.core.threads sync ≡ true → slot (home g r) z.core r.thread
         ≡ makes (row_goes_on (put_threads z.core (all_joined z.core.threads sync)) r.thread (running r.tie pc regs) regs)
@@ -208,7 +223,6 @@ module _ (g : Setting) (r : Runner) where
     pub clocks : y.clocks ≡ x.clocks
     pub branches : y.branches ≡ slice_set x.branches r.branch next
     pub store : (v : ℕ) → r.footprint.changes v ≡ false → words_of y.store v ≡ words_of x.store v
-    pub inboxes : y.inboxes ≡ x.inboxes
     pub trace : y.trace ≡ noted x.trace made
 
   -- the branch acts
@@ -220,6 +234,7 @@ module _ (g : Setting) (r : Runner) where
     pub world : World
     pub acted : acts g.program g.stimulus x (go r.branch) ≡ Some world
     pub is_next : IsNext x world (next branch) made
+    pub inboxes : world.inboxes ≡ x.inboxes
 
   -- the thread traps, and the branch errs
   pub record Errs (y : Scene) : Type 0 where
@@ -244,6 +259,7 @@ module _ (g : Setting) (r : Runner) where
     pub syncs : left.syncs ≡ y.core.syncs
     pub words : left.words ≡ y.core.words
     pub ports : left.ports ≡ y.core.ports
+    pub channel_ends : left.ends ≡ y.core.ends
     pub unused : IsFree (slice_get left.threads r.thread)
     pub no_hand : y.hand ≡ None
     pub acts : Acts y.world finished None
@@ -263,6 +279,7 @@ module _ (g : Setting) (r : Runner) where
     pub syncs : left.syncs ≡ y.core.syncs
     pub words : left.words ≡ y.core.words
     pub ports : left.ports ≡ y.core.ports
+    pub channel_ends : left.ends ≡ y.core.ends
     pub waits : IsWaitingTied sync (slice_get left.threads r.thread)
     pub no_hand : y.hand ≡ None
     pub acts : Acts y.world finished None
@@ -279,6 +296,7 @@ module _ (g : Setting) (r : Runner) where
     pub touched : Touched g r y (after g r y left)
     pub roots : left.roots ≡ y.core.roots
     pub syncs : left.syncs ≡ y.core.syncs
+    pub channel_ends : left.ends ≡ y.core.ends
     pub no_hand : y.hand ≡ None
     pub items : List Item
     pub acts : Acts y.world (λ b. record b { items = items }) made
@@ -287,20 +305,20 @@ module _ (g : Setting) (r : Runner) where
     pub rest : Rest items jumps (record { core = left; world = acts.world; hand = None })
 
   -- a branch behind the first of a `par` that is set off: its thread stands at its code
-  pub record IsSetOff (left : CoreState) (sync u : ℕ) (ss : kernel.Statements) : Type 0 where
+  pub record IsSetOff (left : CoreState) (sync u : ℕ) (placed : Placed) : Type 0 where
     pub pc : ℕ
     pub regs : Regs
     pub here : slice_get left.threads u ≡ Some (running (Some sync) pc regs)
     pub base : regs.dp ≡ 4 * r.base
     pub stack : regs.sp ≡ 4 * ((plan g r).first_stack + temporary * u)
-    pub at_code : ItemsAt (plan g r) (code g r) (EndAt (plan g r) (code g r) (Some sync) []) (todo ss (ends ∷ [])) [] pc 0
+    pub at_code : ItemsAt (plan g r) (code g r) placed.sides (EndAt (plan g r) (code g r) (Some sync) []) (todo placed.code (ends ∷ [])) [] pc 0
 
   -- each of them, by the threads that were got, the last one first
-  abbrev pub AreSetOff : (left : CoreState) → (sync : ℕ) → (threads : List ℕ) → List kernel.Statements → Type 0
+  abbrev pub AreSetOff : (left : CoreState) → (sync : ℕ) → (threads : List ℕ) → List Placed → Type 0
   AreSetOff left sync [] [] = Unit {0}
-  AreSetOff left sync [] (ss ∷ others) = ⊥
+  AreSetOff left sync [] (placed ∷ others) = ⊥
   AreSetOff left sync (u ∷ us) [] = ⊥
-  AreSetOff left sync (u ∷ us) (ss ∷ others) = IsSetOff left sync u ss × AreSetOff left sync us others
+  AreSetOff left sync (u ∷ us) (placed ∷ others) = IsSetOff left sync u placed × AreSetOff left sync us others
 
   -- The thread sets off the branches of a `par` of several, and goes on with the first. At most one more jump is to be done behind that.
   pub record Begins (j : ℕ) (y : Scene) : Type 0 where
@@ -325,14 +343,78 @@ module _ (g : Setting) (r : Runner) where
     pub goes : slot (home g r) y.core r.thread ≡ makes (row_goes_on (put_threads y.core (all_started y.core.threads sync)) r.thread (running r.tie pc regs) regs)
     pub jumps : ℕ
     pub fewer : jumps ≤ j + 1
-    pub own_code : (from count : ℕ) → ItemsAt (plan g r) (code g r)
+    pub own_code : (from count : ℕ) → ItemsAt (plan g r) (code g r) (sides_in 0 [] first (codes_in others) r.sides)
         (EndAt (plan g r) (code g r) r.tie
-        (record { branch = r.branch; from = from; count = count; sync = Some sync; items = rest } ∷ r.parents))
+        (record { branch = r.branch; from = from; count = count; sync = Some sync; items = rest; sides = r.sides } ∷ r.parents))
         (todo first (ends ∷ [])) [] (pc + 1) jumps
     pub set_off : AreSetOff (row_goes_on (put_threads y.core (all_started y.core.threads sync)) r.thread (running r.tie pc regs) regs)
-        sync hand.threads (backwards (codes_in others))
+        sync hand.threads (backwards (placed_in r.sides (first ∷ []) others))
     pub fits : ItemsFit g r (does (kernel.par (kernel.more_branches (kernel.branch first first_pos) others)) ∷ rest)
     pub has : Has (does (kernel.par (kernel.more_branches (kernel.branch first first_pos) others)) ∷ rest) y
+
+  -- Behind the last step of a transfer, at an index, stands the code of what is left to the branch, with j jumps between its items. Where the
+  -- word that has come in is to be stored next, it is in r0.
+  abbrev pub IsBehind : List Item → (j index : ℕ) → Regs → Type 0
+  IsBehind (awaits c pos ∷ rest) j index regs = HasBases regs × ((exits : List Exit) × ItemsFrom rest exits index j)
+  IsBehind (stores place v ∷ rest) j index regs =
+      HasBases regs × (regs.r0 ≡ v) × ((stored : ℕ) × (exits : List Exit)
+      × LinesAt (code g r) (Stores (plan g r).vars place R0) index stored × ItemsFrom rest exits stored j)
+  IsBehind items j index regs = HasBases regs × ((exits : List Exit) × ItemsFrom items exits index j)
+
+  -- the branch has this transfer to do next, on a side of its channel in which it stands
+  pub record IsOnChannel (used : KRes) : Type 0 where
+    pub channel : ℕ
+    pub is_channel : used ≡ resource.Chan channel
+    pub side : Side
+    pub stands_in : slice_index_or r.sides channel None ≡ Some side
+
+  -- from an index on the thread takes these steps on an end of its core, and then P holds of the index and the registers there
+  abbrev pub TakesSteps : (channel : ℕ) → Side → Pos → List Act → (P : ℕ → Regs → Type 0) → (pc : ℕ) → Regs → Type 0
+  TakesSteps c side pos acts P pc regs =
+      ActsAll (home g r) r.thread (end_place g r c side) (running r.tie pc regs) pos acts P pc regs
+
+  -- The thread is at the first step of an output's protocol, with the value's word.
+  pub record Offers (j : ℕ) (y : Scene) : Type 0 where
+    pub output : kernel.Output
+    pub rest : List Item
+    pub on : IsOnChannel output.resource
+    pub value : ℕ
+    pub value_is : eval y.world.store output.value ≡ word value
+    pub no_hand : y.hand ≡ None
+    pub pc : ℕ
+    pub regs : Regs
+    pub here : IsAt y pc regs
+    pub steps : TakesSteps on.channel on.side output.pos (output_acts value true) (IsBehind (awaits on.channel output.pos ∷ rest) j) pc regs
+    pub fits : ItemsFit g r (does (kernel.output output) ∷ rest)
+    pub has : Has (does (kernel.output output) ∷ rest) y
+
+  -- The thread is at the first step of an input's protocol, by which the word comes to r0.
+  pub record TakesIn (j : ℕ) (y : Scene) : Type 0 where
+    pub input : kernel.Input
+    pub rest : List Item
+    pub on : IsOnChannel input.resource
+    pub no_hand : y.hand ≡ None
+    pub pc : ℕ
+    pub regs : Regs
+    pub here : IsAt y pc regs
+    pub steps : TakesSteps on.channel on.side input.pos (input_acts R0 true)
+        (λ index last. IsBehind (storing input.target last.r0 rest) j index last) pc regs
+    pub awaits_nothing : AwaitsNothing rest
+    pub fits : ItemsFit g r (does (kernel.input input) ∷ rest)
+    pub has : Has (does (kernel.input input) ∷ rest) y
+
+  -- The thread is inside a transfer, and takes the steps that are left of it; behind them follows what is left to the branch.
+  pub record InTransfer (transfer : Transfer) (items : List Item) (j : ℕ) (z : Scene) : Type 0 where
+    pub pos : Pos
+    pub goes_with : GoesWith transfer.phase transfer.channel pos items
+    pub stands_in : slice_index_or r.sides transfer.channel None ≡ Some transfer.side
+    pub no_hand : z.hand ≡ None
+    pub pc : ℕ
+    pub regs : Regs
+    pub here : IsAt z pc regs
+    pub steps : TakesSteps transfer.channel transfer.side pos (acts_left transfer.phase) (IsBehind items j) pc regs
+    pub fits : ItemsFit g r items
+    pub has : Has items z
 
   -- the branch can do nothing now
   pub record CannotAct (x : World) : Type 0 where
@@ -348,6 +430,8 @@ module _ (g : Setting) (r : Runner) where
     frees : Frees y → Turn j y
     waits_tied : Waits y → Turn j y
     begins : Begins j y → Turn j y
+    offers : Offers j y → Turn j y
+    takes_in : TakesIn j y → Turn j y
 
   -- whatever the others do before it
   abbrev pub Turns : ℕ → Scene → Type 0
@@ -361,10 +445,21 @@ module _ (g : Setting) (r : Runner) where
   abbrev pub cost : ℕ
   cost = 8 * greatest g r + 8
 
+  -- a transfer over a channel is on a side of it in which the branch stands
+  abbrev pub IsOnSide : KRes → Type 0
+  IsOnSide (resource.Port p) = Unit {0}
+  IsOnSide (resource.Timer t) = Unit {0}
+  IsOnSide (resource.Chan c) = (side : Side) × (slice_index_or r.sides c None ≡ Some side)
+
+  abbrev pub StandsInSides : kernel.Statement → Type 0
+  StandsInSides (kernel.output o) = IsOnSide o.resource
+  StandsInSides (kernel.input i) = IsOnSide i.resource
+  StandsInSides other = Unit {0}
+
   -- From the code of a statement whose branch has it to do next, the thread comes soon to the statement's own instruction.
   abbrev pub StatementLeads : kernel.Statement → Type 0
   StatementLeads t =
       (rest : List Item) (exits : List Exit) (pc pc' j : ℕ) (z : Scene) (regs : Regs) →
-      IsLaidOut g r → PieceAt (code g r) (plan g r) t exits pc pc' → Fits g r t →
+      IsLaidOut g r → PieceAt (code g r) (plan g r) r.sides t exits pc pc' → Fits g r t → StandsInSides t →
       ItemsFrom rest exits pc' j → ItemsFit g r rest →
       Has (does t ∷ rest) z → IsAt z pc regs → HasBases regs → z.hand ≡ first_hand (does t ∷ rest) → Leads cost j z

@@ -1,28 +1,32 @@
-use Rattle.std.proofs.Common.{arith, ◌≡◌, ◌+◌, ◌-◌, ◌*◌, ◌<◌, ◌≤◌, ◌^◌, [], ◌∷◌, ◌++◌, length, drop, take, sym, ap, ◌∙◌, subst, length-append}
-use Rattle.std.proofs.lemmas.Slice.Zip.{zip_end, zip_turn}
-use Rattle.std.specs.Iterator.Adapters.{zip_first, zip_second}
-use Rattle.std.specs.Slice.Iter.{iter_rest}
+use Rattle.std.proofs.Common.{arith, ◌≡◌, ◌+◌, ◌-◌, ◌*◌, ◌<◌, ◌≤◌, ◌^◌, [], ◌∷◌, ◌++◌, length, get_or, map, drop, take, sym, ap, ◌∙◌, subst, length-append}
+use Rattle.std.proofs.lemmas.List.{length-map}
 use Rattle.std.proofs.Math.ListN.{drop_of_length-le}
-use Rattle.xc_kernel.specs.Kernels.{expression_of, output_of, place_of, statement_of}
+use Rattle.xc_kernel.specs.Kernels.{expression_of, input_of, output_of, place_of, statement_of}
 use Rattle.xc_kernel.specs.Plain as kernel
-use Rattle.xc_kernel.proofs.Forms.{statement-If, statement-Loop, statement-Block, statement-Par, statement-Zero, statement-Set, statement-Out}
+use Rattle.xc_kernel.proofs.Forms.{statement-If, statement-Loop, statement-Block, statement-Par, statement-Zero, statement-Set, statement-Out, statement-In}
 use Rattle.xs_instr.specs.Extends.{Extends}
 use Rattle.xc_meaning.specs.Counts.KernelCounts.{branch_count}
+use Rattle.xc_meaning.specs.Settings.Sides.{sides_in}
 use Rattle.xs_instr.specs.Lines.{landed, line, open_line}
 use Rattle.xs_instr.specs.declared.instr.Instr.TheVariants.{Brfu, Brbu}
 use Rattle.xl_flow.specs.Flow.{Sets}
 use Rattle.xl_flow.specs.Zeros.{Zeroes}
 use Rattle.xl_par.specs.Opening.{indices_of}
-use Rattle.xl_port.specs.Outputs.{Outputs}
-use Rattle.xl_walk.specs.Built.{AreBuilt, AreShallow, BranchesAreBuilt, BranchesAreShallow, HasFewBranches, IsBuilt, IsShallow, ParsAreFew, ParsInBranchesAreFew, branches_of, most, most_of_all, most_of_branches, statements_of}
-use Rattle.xl_walk.specs.Emits.{AllEmit, Branching, Emitted, ParEmits, SeveralBranches, Slave, SlavesEmit, TwoSides}
+use Rattle.xl_sides.specs.Branches.{sides_of_each}
+use Rattle.xl_sides.specs.Ends.{codes_in}
+use Rattle.xl_sides.specs.Sides.{sides_of}
+use Rattle.xl_walk.specs.Branches.{SlavesEmitIn}
+use Rattle.xl_walk.specs.Built.{BranchesAreBuilt, BranchesAreShallow, HasFewBranches, IsBuilt, IsShallow, ParsInBranchesAreFew, branches_of, most, most_of_all, most_of_branches, statements_of}
+use Rattle.xl_walk.specs.Emits.{AllEmit, Branching, Emitted, ParEmits, SeveralBranches, TwoSides}
 use Rattle.xl_walk.specs.Landing.{Lands, others_leaving}
-use Rattle.xl_walk.proofs.Arms.{ok_as, ok_within, on_err, piece_emits, slave_ends}
+use Rattle.xl_walk.proofs.Arms.{ok_as, ok_within, on_err, piece_emits, slave_ends, transfer_emits}
 use Rattle.xl_walk.proofs.Blocks.{block_emitted, block_extends, block_open, block_size}
 use Rattle.xl_walk.proofs.Seams.{extends_by, extends_on}
 use Rattle.xl_walk.proofs.Sides.{branch_two, extends_4, length_4, one_open, one_side_emitted, over_open, past_open, sides_emitted}
 use Rattle.xl_walk.proofs.Several.{aimed_so, holes_landable, jump_open, opened, opens_so, several_emitted, several_end, several_length, several_refused, starts_are, starts_length}
-use Rattle.xl_walk.proofs.Slaves.{SlavesWalked, branch_lighter, branches_at, branches_count, first_branch, holes_at, indices_length, one_branch, several_of, slave_refused, slaves_begin, slaves_end, slaves_go_on, start_open}
+use Rattle.xl_walk.proofs.NextSlave.{next_slave, slaves_over}
+use Rattle.xl_walk.proofs.OwnSides.{first_sides, one_in, others_sides, several_in, sides_count}
+use Rattle.xl_walk.proofs.Slaves.{branch_lighter, branches_count, first_branch, indices_length, one_branch, slave_refused, slaves_begin, slaves_go_on, start_open}
 use Rattle.xl_walk.proofs.Turns.{out_open, turns_emitted}
 use Rattle.xl_walk.proofs.Walks.{Walked, branch_weights, lighter, statements_at, walk_begins, walk_ends, walk_goes_on, weight, weights}
 use Rattle.xl_walk.proofs.+statement.Goals as goal
@@ -30,7 +34,7 @@ use Rattle.xl_walk.proofs.+statement.Goals as goal
 -- one after another
 
 pub walk::emit_all-loop-statement-init : goal.walk::emit_all-loop-statement-init
-walk::emit_all-loop-statement-init t c = walk_begins c.args.plan.now (statements_of c.args.statements.now) c.args.e.now c.args.left.now.items c.requires.built c.requires.shallow c.requires.few
+walk::emit_all-loop-statement-init t c = walk_begins c.args.plan.now (sides_of c.args.sides.now) (statements_of c.args.statements.now) c.args.e.now c.args.left.now.items c.requires.built c.requires.shallow c.requires.few
 
 pub walk::emit_all-emit_one-requires : goal.walk::emit_all-emit_one-requires
 walk::emit_all-emit_one-requires t c =
@@ -38,7 +42,7 @@ walk::emit_all-emit_one-requires t c =
     let i = c.loop-statement.statement-index in
     let x = c.statement-item.result in
     let l = lighter ss i x c.statement-item.is c.loop-statement-test.true in
-    let h = subst (λ p. Walked c.args.plan.now (statements_of ss) p c.args.e.now c.loop-statement.e c.args.left.now.items c.loop-statement.left.items) (statements_at ss i x c.statement-item.is c.loop-statement-test.true) c.loop-statement.invariant in
+    let h = subst (λ p. Walked c.args.plan.now (sides_of c.args.sides.now) (statements_of ss) p c.args.e.now c.loop-statement.e c.args.left.now.items c.loop-statement.left.items) (statements_at ss i x c.statement-item.is c.loop-statement-test.true) c.loop-statement.invariant in
     (omega (arith, l, c.decreases), (h.built.0, (h.shallow.0, (h.few.0, (c.requires.stack, omega (arith, h.room, c.requires.room))))))
 
 pub walk::emit_all-loop-statement-preserved : goal.walk::emit_all-loop-statement-preserved
@@ -46,8 +50,8 @@ walk::emit_all-loop-statement-preserved t c =
     let ss = c.args.statements.now in
     let i = c.loop-statement.statement-index in
     let x = c.statement-item.result in
-    let h = subst (λ p. Walked c.args.plan.now (statements_of ss) p c.args.e.now c.loop-statement.e c.args.left.now.items c.loop-statement.left.items) (statements_at ss i x c.statement-item.is c.loop-statement-test.true) c.loop-statement.invariant in
-    walk_goes_on c.args.plan.now (statements_of ss) (statements_of (drop (i + 1) ss)) (statement_of x) c.args.e.now c.loop-statement.e c.emit_one.new.e c.args.left.now.items c.loop-statement.left.items c.emit_one.new.left.items h c.in_ok-emit_one.ensures.code c.in_ok-emit_one.ensures.size
+    let h = subst (λ p. Walked c.args.plan.now (sides_of c.args.sides.now) (statements_of ss) p c.args.e.now c.loop-statement.e c.args.left.now.items c.loop-statement.left.items) (statements_at ss i x c.statement-item.is c.loop-statement-test.true) c.loop-statement.invariant in
+    walk_goes_on c.args.plan.now (sides_of c.args.sides.now) (statements_of ss) (statements_of (drop (i + 1) ss)) (statement_of x) c.args.e.now c.loop-statement.e c.emit_one.new.e c.args.left.now.items c.loop-statement.left.items c.emit_one.new.left.items h c.in_ok-emit_one.ensures.code c.in_ok-emit_one.ensures.size
 
 -- one side
 
@@ -57,11 +61,11 @@ walk::emit_one_side-emit_all-requires t c =
 
 pub walk::emit_one_side-land-requires : goal.walk::emit_one_side-land-requires
 walk::emit_one_side-land-requires t c =
-    one_open c.args.plan.now.vars (expression_of c.args.test.now) (AllEmit c.args.plan.now (statements_of c.args.first.now)) c.args.e.now c.emit_test.new.e c.emit_all.new.e c.args.left.now.items c.emit_all.new.left.items c.in_ok-past.past.index c.pos-last.result c.in_ok-past.ensures.tests c.in_ok-past.ensures.aimed c.in_ok-emit_all.ensures.code
+    one_open c.args.plan.now.vars (expression_of c.args.test.now) (AllEmit c.args.plan.now (sides_of c.args.sides.now) (statements_of c.args.first.now)) c.args.e.now c.emit_test.new.e c.emit_all.new.e c.args.left.now.items c.emit_all.new.left.items c.in_ok-past.past.index c.pos-last.result c.in_ok-past.ensures.tests c.in_ok-past.ensures.aimed c.in_ok-emit_all.ensures.code
 
 pub walk::emit_one_side-returns-clause-code : goal.walk::emit_one_side-returns-clause-code
 walk::emit_one_side-returns-clause-code t c =
-    one_side_emitted c.args.plan.now.vars (expression_of c.args.test.now) (AllEmit c.args.plan.now (statements_of c.args.first.now)) c.args.e.now c.emit_test.new.e c.emit_all.new.e c.args.left.now.items c.emit_all.new.left.items c.in_ok-past.past.index c.pos-last.result c.in_ok-past.ensures.tests c.in_ok-past.ensures.aimed c.in_ok-emit_all.ensures.code c.land.new.self c.land.ensures c.pos-last.ensures
+    one_side_emitted c.args.plan.now.vars (expression_of c.args.test.now) (AllEmit c.args.plan.now (sides_of c.args.sides.now) (statements_of c.args.first.now)) c.args.e.now c.emit_test.new.e c.emit_all.new.e c.args.left.now.items c.emit_all.new.left.items c.in_ok-past.past.index c.pos-last.result c.in_ok-past.ensures.tests c.in_ok-past.ensures.aimed c.in_ok-emit_all.ensures.code c.land.new.self c.land.ensures c.pos-last.ensures
 
 -- two sides
 
@@ -69,8 +73,8 @@ pub walk::emit_if-returns-else-second-eq0-clause-code : goal.walk::emit_if-retur
 walk::emit_if-returns-else-second-eq0-clause-code t c =
     let vars = c.args.plan.now.vars in
     let x = expression_of c.args.test.now in
-    let a = AllEmit c.args.plan.now (statements_of c.args.first.now) in
-    let b = AllEmit c.args.plan.now (statements_of c.args.second.now) in
+    let a = AllEmit c.args.plan.now (sides_of c.args.sides.now) (statements_of c.args.first.now) in
+    let b = AllEmit c.args.plan.now (sides_of c.args.sides.now) (statements_of c.args.second.now) in
     ok_as c.emit_two_sides.result (TwoSides vars x a b) (Branching (statements_of c.args.second.now) vars x a b) c.args.e.now c.emit_two_sides.new.e c.args.left.now.items c.emit_two_sides.new.left.items (branch_two c.args.second.now vars x a b (omega (arith, c.if-second-eq0.false))) c.emit_two_sides.ensures.code
 
 pub walk::emit_two_sides-emit_all-requires : goal.walk::emit_two_sides-emit_all-requires
@@ -79,26 +83,26 @@ walk::emit_two_sides-emit_all-requires t c =
 
 pub walk::emit_two_sides-land-requires : goal.walk::emit_two_sides-land-requires
 walk::emit_two_sides-land-requires t c =
-    past_open c.args.plan.now.vars (expression_of c.args.test.now) (AllEmit c.args.plan.now (statements_of c.args.first.now)) (AllEmit c.args.plan.now (statements_of c.args.second.now)) c.args.e.now c.emit_test.new.e c.emit_all.new.e c.emit_jump.new.e c.args.e.now c.args.left.now.items c.emit_all.new.left.items c.in_ok-past.past.index c.in_ok-over.over.index c.pos-last.result c.in_ok-past.ensures.tests c.in_ok-past.ensures.aimed c.in_ok-emit_all.ensures.code (c.in_ok-over.ensures.code ∙ ap (λ p. c.emit_all.new.e ++ open_line (Brfu 0) p ∷ []) c.pos-last-2.ensures) c.in_ok-over.ensures.index
+    past_open c.args.plan.now.vars (expression_of c.args.test.now) (AllEmit c.args.plan.now (sides_of c.args.sides.now) (statements_of c.args.first.now)) (AllEmit c.args.plan.now (sides_of c.args.sides.now) (statements_of c.args.second.now)) c.args.e.now c.emit_test.new.e c.emit_all.new.e c.emit_jump.new.e c.args.e.now c.args.left.now.items c.emit_all.new.left.items c.in_ok-past.past.index c.in_ok-over.over.index c.pos-last.result c.in_ok-past.ensures.tests c.in_ok-past.ensures.aimed c.in_ok-emit_all.ensures.code (c.in_ok-over.ensures.code ∙ ap (λ p. c.emit_all.new.e ++ open_line (Brfu 0) p ∷ []) c.pos-last-2.ensures) c.in_ok-over.ensures.index
 
 pub walk::emit_two_sides-emit_all-requires-2 : goal.walk::emit_two_sides-emit_all-requires-2
 walk::emit_two_sides-emit_all-requires-2 t c =
-    let same = length_4 c.args.plan.now.vars (expression_of c.args.test.now) (AllEmit c.args.plan.now (statements_of c.args.first.now)) (AllEmit c.args.plan.now (statements_of c.args.second.now)) c.args.e.now c.emit_test.new.e c.emit_all.new.e c.emit_jump.new.e c.land.new.self c.args.left.now.items c.emit_all.new.left.items c.in_ok-past.past.index c.in_ok-over.over.index c.pos-last.result c.in_ok-past.ensures.tests c.in_ok-past.ensures.aimed c.in_ok-emit_all.ensures.code (c.in_ok-over.ensures.code ∙ ap (λ p. c.emit_all.new.e ++ open_line (Brfu 0) p ∷ []) c.pos-last-2.ensures) c.in_ok-over.ensures.index c.land.ensures in
+    let same = length_4 c.args.plan.now.vars (expression_of c.args.test.now) (AllEmit c.args.plan.now (sides_of c.args.sides.now) (statements_of c.args.first.now)) (AllEmit c.args.plan.now (sides_of c.args.sides.now) (statements_of c.args.second.now)) c.args.e.now c.emit_test.new.e c.emit_all.new.e c.emit_jump.new.e c.land.new.self c.args.left.now.items c.emit_all.new.left.items c.in_ok-past.past.index c.in_ok-over.over.index c.pos-last.result c.in_ok-past.ensures.tests c.in_ok-past.ensures.aimed c.in_ok-emit_all.ensures.code (c.in_ok-over.ensures.code ∙ ap (λ p. c.emit_all.new.e ++ open_line (Brfu 0) p ∷ []) c.pos-last-2.ensures) c.in_ok-over.ensures.index c.land.ensures in
     let jump = ap length c.in_ok-over.ensures.code ∙ length-append c.emit_all.new.e (open_line (Brfu 0) c.pos-last-2.result ∷ []) in
     (omega (arith, c.decreases), (c.requires.built_second, (c.requires.shallow_second, (c.requires.few_second, (c.requires.stack, omega (arith, same, jump, c.in_ok-emit_all.ensures.size, c.in_ok-past.ensures.size, c.requires.room))))))
 
 pub walk::emit_two_sides-returns-in_err-emit_all-2-clause-refused : goal.walk::emit_two_sides-returns-in_err-emit_all-2-clause-refused
 walk::emit_two_sides-returns-in_err-emit_all-2-clause-refused t c =
     on_err c.from_residual-in_err-emit_all-2.result (Extends c.args.e.now c.emit_all-2.new.e)
-    (extends_on c.args.e.now c.land.new.self c.emit_all-2.new.e (extends_4 c.args.plan.now.vars (expression_of c.args.test.now) (AllEmit c.args.plan.now (statements_of c.args.first.now)) (AllEmit c.args.plan.now (statements_of c.args.second.now)) c.args.e.now c.emit_test.new.e c.emit_all.new.e c.emit_jump.new.e c.land.new.self c.args.left.now.items c.emit_all.new.left.items c.in_ok-past.past.index c.in_ok-over.over.index c.pos-last.result c.in_ok-past.ensures.tests c.in_ok-past.ensures.aimed c.in_ok-emit_all.ensures.code (c.in_ok-over.ensures.code ∙ ap (λ p. c.emit_all.new.e ++ open_line (Brfu 0) p ∷ []) c.pos-last-2.ensures) c.in_ok-over.ensures.index c.land.ensures) c.in_err-emit_all-2.ensures.refused)
+    (extends_on c.args.e.now c.land.new.self c.emit_all-2.new.e (extends_4 c.args.plan.now.vars (expression_of c.args.test.now) (AllEmit c.args.plan.now (sides_of c.args.sides.now) (statements_of c.args.first.now)) (AllEmit c.args.plan.now (sides_of c.args.sides.now) (statements_of c.args.second.now)) c.args.e.now c.emit_test.new.e c.emit_all.new.e c.emit_jump.new.e c.land.new.self c.args.left.now.items c.emit_all.new.left.items c.in_ok-past.past.index c.in_ok-over.over.index c.pos-last.result c.in_ok-past.ensures.tests c.in_ok-past.ensures.aimed c.in_ok-emit_all.ensures.code (c.in_ok-over.ensures.code ∙ ap (λ p. c.emit_all.new.e ++ open_line (Brfu 0) p ∷ []) c.pos-last-2.ensures) c.in_ok-over.ensures.index c.land.ensures) c.in_err-emit_all-2.ensures.refused)
 
 pub walk::emit_two_sides-land-requires-2 : goal.walk::emit_two_sides-land-requires-2
 walk::emit_two_sides-land-requires-2 t c =
-    over_open c.args.plan.now.vars (expression_of c.args.test.now) (AllEmit c.args.plan.now (statements_of c.args.first.now)) (AllEmit c.args.plan.now (statements_of c.args.second.now)) c.args.e.now c.emit_test.new.e c.emit_all.new.e c.emit_jump.new.e c.land.new.self c.args.left.now.items c.emit_all.new.left.items c.in_ok-past.past.index c.in_ok-over.over.index c.pos-last.result c.in_ok-past.ensures.tests c.in_ok-past.ensures.aimed c.in_ok-emit_all.ensures.code (c.in_ok-over.ensures.code ∙ ap (λ p. c.emit_all.new.e ++ open_line (Brfu 0) p ∷ []) c.pos-last-2.ensures) c.in_ok-over.ensures.index c.land.ensures c.emit_all-2.new.e c.emit_all-2.new.left.items c.in_ok-emit_all-2.ensures.code
+    over_open c.args.plan.now.vars (expression_of c.args.test.now) (AllEmit c.args.plan.now (sides_of c.args.sides.now) (statements_of c.args.first.now)) (AllEmit c.args.plan.now (sides_of c.args.sides.now) (statements_of c.args.second.now)) c.args.e.now c.emit_test.new.e c.emit_all.new.e c.emit_jump.new.e c.land.new.self c.args.left.now.items c.emit_all.new.left.items c.in_ok-past.past.index c.in_ok-over.over.index c.pos-last.result c.in_ok-past.ensures.tests c.in_ok-past.ensures.aimed c.in_ok-emit_all.ensures.code (c.in_ok-over.ensures.code ∙ ap (λ p. c.emit_all.new.e ++ open_line (Brfu 0) p ∷ []) c.pos-last-2.ensures) c.in_ok-over.ensures.index c.land.ensures c.emit_all-2.new.e c.emit_all-2.new.left.items c.in_ok-emit_all-2.ensures.code
 
 pub walk::emit_two_sides-returns-clause-code : goal.walk::emit_two_sides-returns-clause-code
 walk::emit_two_sides-returns-clause-code t c =
-    sides_emitted c.args.plan.now.vars (expression_of c.args.test.now) (AllEmit c.args.plan.now (statements_of c.args.first.now)) (AllEmit c.args.plan.now (statements_of c.args.second.now)) c.args.e.now c.emit_test.new.e c.emit_all.new.e c.emit_jump.new.e c.land.new.self c.args.left.now.items c.emit_all.new.left.items c.in_ok-past.past.index c.in_ok-over.over.index c.pos-last.result c.in_ok-past.ensures.tests c.in_ok-past.ensures.aimed c.in_ok-emit_all.ensures.code (c.in_ok-over.ensures.code ∙ ap (λ p. c.emit_all.new.e ++ open_line (Brfu 0) p ∷ []) c.pos-last-2.ensures) c.in_ok-over.ensures.index c.land.ensures c.emit_all-2.new.e c.emit_all-2.new.left.items c.in_ok-emit_all-2.ensures.code c.land-2.new.self c.land-2.ensures c.pos-last.ensures
+    sides_emitted c.args.plan.now.vars (expression_of c.args.test.now) (AllEmit c.args.plan.now (sides_of c.args.sides.now) (statements_of c.args.first.now)) (AllEmit c.args.plan.now (sides_of c.args.sides.now) (statements_of c.args.second.now)) c.args.e.now c.emit_test.new.e c.emit_all.new.e c.emit_jump.new.e c.land.new.self c.args.left.now.items c.emit_all.new.left.items c.in_ok-past.past.index c.in_ok-over.over.index c.pos-last.result c.in_ok-past.ensures.tests c.in_ok-past.ensures.aimed c.in_ok-emit_all.ensures.code (c.in_ok-over.ensures.code ∙ ap (λ p. c.emit_all.new.e ++ open_line (Brfu 0) p ∷ []) c.pos-last-2.ensures) c.in_ok-over.ensures.index c.land.ensures c.emit_all-2.new.e c.emit_all-2.new.left.items c.in_ok-emit_all-2.ensures.code c.land-2.new.self c.land-2.ensures c.pos-last.ensures
 
 -- a loop
 
@@ -112,51 +116,53 @@ walk::emit_loop-emit_all-requires-2 t c =
 
 pub walk::emit_loop-land-requires : goal.walk::emit_loop-land-requires
 walk::emit_loop-land-requires t c =
-    out_open c.args.plan.now.vars (expression_of c.args.test.now) (AllEmit c.args.plan.now (statements_of c.args.body.now)) (AllEmit c.args.plan.now (statements_of c.args.next.now)) c.args.e.now c.emit_test.new.e c.emit_all.new.e c.emit_all-2.new.e c.emit_back.new.e c.args.left.now.items c.emit_all.new.left.items c.emit_all-2.new.left.items c.here-start.result c.in_ok-out.out.index c.pos-last.result c.in_ok-out.ensures.tests c.in_ok-out.ensures.aimed c.in_ok-emit_all.ensures.code c.in_ok-emit_all-2.ensures.code c.here-start.ensures.next (c.in_ok-emit_back.ensures.code ∙ ap (λ p. c.emit_all-2.new.e ++ line (Brbu c.here-start.result) p ∷ []) c.pos-last-2.ensures)
+    out_open c.args.plan.now.vars (expression_of c.args.test.now) (AllEmit c.args.plan.now (sides_of c.args.sides.now) (statements_of c.args.body.now)) (AllEmit c.args.plan.now (sides_of c.args.sides.now) (statements_of c.args.next.now)) c.args.e.now c.emit_test.new.e c.emit_all.new.e c.emit_all-2.new.e c.emit_back.new.e c.args.left.now.items c.emit_all.new.left.items c.emit_all-2.new.left.items c.here-start.result c.in_ok-out.out.index c.pos-last.result c.in_ok-out.ensures.tests c.in_ok-out.ensures.aimed c.in_ok-emit_all.ensures.code c.in_ok-emit_all-2.ensures.code c.here-start.ensures.next (c.in_ok-emit_back.ensures.code ∙ ap (λ p. c.emit_all-2.new.e ++ line (Brbu c.here-start.result) p ∷ []) c.pos-last-2.ensures)
 
 pub walk::emit_loop-returns-clause-code : goal.walk::emit_loop-returns-clause-code
 walk::emit_loop-returns-clause-code t c =
-    turns_emitted c.args.plan.now.vars (expression_of c.args.test.now) (AllEmit c.args.plan.now (statements_of c.args.body.now)) (AllEmit c.args.plan.now (statements_of c.args.next.now)) c.args.e.now c.emit_test.new.e c.emit_all.new.e c.emit_all-2.new.e c.emit_back.new.e c.args.left.now.items c.emit_all.new.left.items c.emit_all-2.new.left.items c.here-start.result c.in_ok-out.out.index c.pos-last.result c.in_ok-out.ensures.tests c.in_ok-out.ensures.aimed c.in_ok-emit_all.ensures.code c.in_ok-emit_all-2.ensures.code c.here-start.ensures.next (c.in_ok-emit_back.ensures.code ∙ ap (λ p. c.emit_all-2.new.e ++ line (Brbu c.here-start.result) p ∷ []) c.pos-last-2.ensures) c.land.new.self c.land.ensures c.pos-last.ensures
+    turns_emitted c.args.plan.now.vars (expression_of c.args.test.now) (AllEmit c.args.plan.now (sides_of c.args.sides.now) (statements_of c.args.body.now)) (AllEmit c.args.plan.now (sides_of c.args.sides.now) (statements_of c.args.next.now)) c.args.e.now c.emit_test.new.e c.emit_all.new.e c.emit_all-2.new.e c.emit_back.new.e c.args.left.now.items c.emit_all.new.left.items c.emit_all-2.new.left.items c.here-start.result c.in_ok-out.out.index c.pos-last.result c.in_ok-out.ensures.tests c.in_ok-out.ensures.aimed c.in_ok-emit_all.ensures.code c.in_ok-emit_all-2.ensures.code c.here-start.ensures.next (c.in_ok-emit_back.ensures.code ∙ ap (λ p. c.emit_all-2.new.e ++ line (Brbu c.here-start.result) p ∷ []) c.pos-last-2.ensures) c.land.new.self c.land.ensures c.pos-last.ensures
 
 -- a block
 
 pub walk::emit_block-land_jumps-requires : goal.walk::emit_block-land_jumps-requires
 walk::emit_block-land_jumps-requires t c =
     let n : c.len-outside.result ≡ length c.args.left.now.items = omega (arith, c.len-outside.ensures, c.args.left.now.ok.0) in
-    block_open (AllEmit c.args.plan.now (statements_of c.args.inside.now)) c.args.block c.args.e.now c.emit_all.new.e c.args.left.now.items c.emit_all.new.left.items c.as_slice.result.now c.in_ok-emit_all.ensures.code (c.as_slice.ensures.value ∙ c.in_ok-inner.ensures.tail ∙ ap (λ k. drop k c.emit_all.new.left.items) n)
+    block_open (AllEmit c.args.plan.now (sides_of c.args.sides.now) (statements_of c.args.inside.now)) c.args.block c.args.e.now c.emit_all.new.e c.args.left.now.items c.emit_all.new.left.items c.as_slice.result.now c.in_ok-emit_all.ensures.code (c.as_slice.ensures.value ∙ c.in_ok-inner.ensures.tail ∙ ap (λ k. drop k c.emit_all.new.left.items) n)
 
 pub walk::emit_block-returns-in_err-push_others-clause-refused : goal.walk::emit_block-returns-in_err-push_others-clause-refused
 walk::emit_block-returns-in_err-push_others-clause-refused t c =
     let n : c.len-outside.result ≡ length c.args.left.now.items = omega (arith, c.len-outside.ensures, c.args.left.now.ok.0) in
     on_err c.from_residual-in_err-push_others.result (Extends c.args.e.now c.land_jumps.new.e)
-    (block_extends (AllEmit c.args.plan.now (statements_of c.args.inside.now)) c.args.block c.args.e.now c.emit_all.new.e c.args.left.now.items c.emit_all.new.left.items c.as_slice.result.now c.in_ok-emit_all.ensures.code (c.as_slice.ensures.value ∙ c.in_ok-inner.ensures.tail ∙ ap (λ k. drop k c.emit_all.new.left.items) n) c.land_jumps.new.e c.land_jumps.ensures)
+    (block_extends (AllEmit c.args.plan.now (sides_of c.args.sides.now) (statements_of c.args.inside.now)) c.args.block c.args.e.now c.emit_all.new.e c.args.left.now.items c.emit_all.new.left.items c.as_slice.result.now c.in_ok-emit_all.ensures.code (c.as_slice.ensures.value ∙ c.in_ok-inner.ensures.tail ∙ ap (λ k. drop k c.emit_all.new.left.items) n) c.land_jumps.new.e c.land_jumps.ensures)
 
 pub walk::emit_block-returns-clause-code : goal.walk::emit_block-returns-clause-code
 walk::emit_block-returns-clause-code t c =
     let n : c.len-outside.result ≡ length c.args.left.now.items = omega (arith, c.len-outside.ensures, c.args.left.now.ok.0) in
-    block_emitted (AllEmit c.args.plan.now (statements_of c.args.inside.now)) c.args.block c.args.e.now c.emit_all.new.e c.args.left.now.items c.emit_all.new.left.items c.as_slice.result.now c.in_ok-emit_all.ensures.code (c.as_slice.ensures.value ∙ c.in_ok-inner.ensures.tail ∙ ap (λ k. drop k c.emit_all.new.left.items) n) c.land_jumps.new.e c.land_jumps.ensures c.split_off.new.self.items c.push_others.new.left.items (c.in_ok-inner.ensures.items ∙ ap (λ k. take k c.emit_all.new.left.items) n) (c.in_ok-push_others.ensures ∙ ap (λ l. c.split_off.new.self.items ++ others_leaving c.args.block l) (c.as_slice-2.ensures.value ∙ sym c.as_slice.ensures.value))
+    block_emitted (AllEmit c.args.plan.now (sides_of c.args.sides.now) (statements_of c.args.inside.now)) c.args.block c.args.e.now c.emit_all.new.e c.args.left.now.items c.emit_all.new.left.items c.as_slice.result.now c.in_ok-emit_all.ensures.code (c.as_slice.ensures.value ∙ c.in_ok-inner.ensures.tail ∙ ap (λ k. drop k c.emit_all.new.left.items) n) c.land_jumps.new.e c.land_jumps.ensures c.split_off.new.self.items c.push_others.new.left.items (c.in_ok-inner.ensures.items ∙ ap (λ k. take k c.emit_all.new.left.items) n) (c.in_ok-push_others.ensures ∙ ap (λ l. c.split_off.new.self.items ++ others_leaving c.args.block l) (c.as_slice-2.ensures.value ∙ sym c.as_slice.ensures.value))
 
 pub walk::emit_block-returns-clause-size : goal.walk::emit_block-returns-clause-size
 walk::emit_block-returns-clause-size t c =
     let n : c.len-outside.result ≡ length c.args.left.now.items = omega (arith, c.len-outside.ensures, c.args.left.now.ok.0) in
-    let same = block_size (AllEmit c.args.plan.now (statements_of c.args.inside.now)) c.args.block c.args.e.now c.emit_all.new.e c.args.left.now.items c.emit_all.new.left.items c.as_slice.result.now c.in_ok-emit_all.ensures.code (c.as_slice.ensures.value ∙ c.in_ok-inner.ensures.tail ∙ ap (λ k. drop k c.emit_all.new.left.items) n) c.land_jumps.new.e c.land_jumps.ensures in
+    let same = block_size (AllEmit c.args.plan.now (sides_of c.args.sides.now) (statements_of c.args.inside.now)) c.args.block c.args.e.now c.emit_all.new.e c.args.left.now.items c.emit_all.new.left.items c.as_slice.result.now c.in_ok-emit_all.ensures.code (c.as_slice.ensures.value ∙ c.in_ok-inner.ensures.tail ∙ ap (λ k. drop k c.emit_all.new.left.items) n) c.land_jumps.new.e c.land_jumps.ensures in
     omega (arith, same, c.in_ok-emit_all.ensures.size)
 
 -- one statement
 
 pub walk::emit_one-returns-in-Zero-clause-code : goal.walk::emit_one-returns-in-Zero-clause-code
 walk::emit_one-returns-in-Zero-clause-code t c =
-    piece_emits c.emit_zero.result c.args.plan.now (statement_of c.args.statement.now) (kernel.set_zero c.in-Zero.v) (Zeroes c.args.plan.now.vars c.in-Zero.v) c.args.e.now c.emit_zero.new.e c.args.left.now.items (ap statement_of c.in-Zero.is ∙ statement-Zero c.in-Zero.v) (λ last pc cells h. h) c.emit_zero.ensures.zeroes c.emit_zero.ensures.aimed
+    piece_emits c.emit_zero.result c.args.plan.now (sides_of c.args.sides.now) (statement_of c.args.statement.now) (kernel.set_zero c.in-Zero.v) (Zeroes c.args.plan.now.vars c.in-Zero.v) c.args.e.now c.emit_zero.new.e c.args.left.now.items (ap statement_of c.in-Zero.is ∙ statement-Zero c.in-Zero.v) (λ last pc cells h. h) c.emit_zero.ensures.zeroes c.emit_zero.ensures.aimed
 
 pub walk::emit_one-returns-in-Set-clause-code : goal.walk::emit_one-returns-in-Set-clause-code
 walk::emit_one-returns-in-Set-clause-code t c =
-    piece_emits c.emit_set.result c.args.plan.now (statement_of c.args.statement.now) (kernel.set (place_of c.in-Set.place) (expression_of c.in-Set.x)) (Sets c.args.plan.now.vars (place_of c.in-Set.place) (expression_of c.in-Set.x)) c.args.e.now c.emit_set.new.e c.args.left.now.items (ap statement_of c.in-Set.is ∙ statement-Set c.in-Set.place c.in-Set.x) (λ last pc cells h. h) c.emit_set.ensures.sets c.emit_set.ensures.aimed
+    piece_emits c.emit_set.result c.args.plan.now (sides_of c.args.sides.now) (statement_of c.args.statement.now) (kernel.set (place_of c.in-Set.place) (expression_of c.in-Set.x)) (Sets c.args.plan.now.vars (place_of c.in-Set.place) (expression_of c.in-Set.x)) c.args.e.now c.emit_set.new.e c.args.left.now.items (ap statement_of c.in-Set.is ∙ statement-Set c.in-Set.place c.in-Set.x) (λ last pc cells h. h) c.emit_set.ensures.sets c.emit_set.ensures.aimed
 
 pub walk::emit_one-returns-in-Out-clause-code : goal.walk::emit_one-returns-in-Out-clause-code
 walk::emit_one-returns-in-Out-clause-code t c =
-    let same = ap statement_of c.in-Out.is ∙ statement-Out c.in-Out.o in
-    let built : IsBuilt (kernel.output (output_of c.in-Out.o)) = subst IsBuilt same c.requires.built in
-    piece_emits c.emit_port_out.result c.args.plan.now (statement_of c.args.statement.now) (kernel.output (output_of c.in-Out.o)) (Outputs c.args.plan.now (output_of c.in-Out.o)) c.args.e.now c.emit_port_out.new.e c.args.left.now.items same (λ last pc cells h. (built.0, built.1, h)) c.emit_port_out.ensures.outputs c.emit_port_out.ensures.aimed
+    transfer_emits c.emit_output.result c.args.plan.now (sides_of c.args.sides.now) (statement_of c.args.statement.now) (kernel.output (output_of c.in-Out.output)) c.args.e.now c.emit_output.new.e c.args.left.now.items (ap statement_of c.in-Out.is ∙ statement-Out c.in-Out.output) c.emit_output.ensures.code
+
+pub walk::emit_one-returns-in-In-clause-code : goal.walk::emit_one-returns-in-In-clause-code
+walk::emit_one-returns-in-In-clause-code t c =
+    transfer_emits c.emit_input.result c.args.plan.now (sides_of c.args.sides.now) (statement_of c.args.statement.now) (kernel.input (input_of c.in-In.input)) c.args.e.now c.emit_input.new.e c.args.left.now.items (ap statement_of c.in-In.is ∙ statement-In c.in-In.input) c.emit_input.ensures.code
 
 pub walk::emit_one-emit_if-requires : goal.walk::emit_one-emit_if-requires
 walk::emit_one-emit_if-requires t c =
@@ -206,7 +212,7 @@ pub walk::emit_all-returns-clause-code : goal.walk::emit_all-returns-clause-code
 walk::emit_all-returns-clause-code t c =
     let ss = c.args.statements.now in
     let none = ap statements_of (drop_of_length-le ss c.loop-statement-test.false) in
-    walk_ends c.args.plan.now (statements_of ss) c.args.e.now c.loop-statement.e c.args.left.now.items c.loop-statement.left.items (subst (λ p. Walked c.args.plan.now (statements_of ss) p c.args.e.now c.loop-statement.e c.args.left.now.items c.loop-statement.left.items) none c.loop-statement.invariant)
+    walk_ends c.args.plan.now (sides_of c.args.sides.now) (statements_of ss) c.args.e.now c.loop-statement.e c.args.left.now.items c.loop-statement.left.items (subst (λ p. Walked c.args.plan.now (sides_of c.args.sides.now) (statements_of ss) p c.args.e.now c.loop-statement.e c.args.left.now.items c.loop-statement.left.items) none c.loop-statement.invariant)
 
 -- the branches of a `par`
 
@@ -214,7 +220,7 @@ pub par::emit_par-emit_all-requires : goal.par::emit_par-emit_all-requires
 par::emit_par-emit_all-requires t c =
     let x = c.only-item.result in
     let vars = c.args.plan.now.vars in
-    let is : branches_of c.args.branches.now ≡ kernel.more_branches (kernel.branch (statements_of c.as_slice.result.now) x.pos) kernel.no_branch = one_branch c.args.branches.now x c.only-item.is c.in-len1.len_at_least c.in-len1.len_below ∙ ap (λ l. kernel.more_branches (kernel.branch (statements_of l) x.pos) kernel.no_branch) (sym c.as_slice.ensures) in
+    let is : branches_of c.args.branches.now ≡ kernel.more_branches (kernel.branch (statements_of c.as_slice-in-len1.result.now) x.pos) kernel.no_branch = one_branch c.args.branches.now x c.only-item.is c.in-len1.len_at_least c.in-len1.len_below ∙ ap (λ l. kernel.more_branches (kernel.branch (statements_of l) x.pos) kernel.no_branch) (sym c.as_slice-in-len1.ensures) in
     let size = ap (λ bs. most vars (kernel.par bs)) is in
     (omega (arith, ap branch_weights is, c.decreases), ((subst BranchesAreBuilt is c.requires.built).0, ((subst BranchesAreShallow is c.requires.shallow).0, ((subst ParsInBranchesAreFew is c.requires.few).0, (c.requires.stack, omega (arith, size, c.requires.room))))))
 
@@ -222,16 +228,21 @@ pub par::emit_par-returns-in-len1-clause-code : goal.par::emit_par-returns-in-le
 par::emit_par-returns-in-len1-clause-code t c =
     let x = c.only-item.result in
     let plan = c.args.plan.now in
-    let is : branches_of c.args.branches.now ≡ kernel.more_branches (kernel.branch (statements_of c.as_slice.result.now) x.pos) kernel.no_branch = one_branch c.args.branches.now x c.only-item.is c.in-len1.len_at_least c.in-len1.len_below ∙ ap (λ l. kernel.more_branches (kernel.branch (statements_of l) x.pos) kernel.no_branch) (sym c.as_slice.ensures) in
-    ok_as c.emit_all.result (AllEmit plan (statements_of c.as_slice.result.now)) (ParEmits plan (branches_of c.args.branches.now)) c.args.e.now c.emit_all.new.e c.args.left.now.items c.emit_all.new.left.items (λ last pc cells h. subst (λ bs. ParEmits plan bs last pc cells) (sym is) h) c.emit_all.ensures.code
+    let sides = sides_of c.args.sides.now in
+    let ss = statements_of c.as_slice-in-len1.result.now in
+    let is : branches_of c.args.branches.now ≡ kernel.more_branches (kernel.branch ss x.pos) kernel.no_branch = one_branch c.args.branches.now x c.only-item.is c.in-len1.len_at_least c.in-len1.len_below ∙ ap (λ l. kernel.more_branches (kernel.branch (statements_of l) x.pos) kernel.no_branch) (sym c.as_slice-in-len1.ensures) in
+    let each = ap (map sides_of) c.as_slice-each.ensures ∙ c.in_ok-each.ensures ∙ ap (sides_of_each sides []) is in
+    let own = ap sides_of c.as_slice.ensures ∙ first_sides c.as_slice-each.result.now (sides_in 0 [] ss [] sides) [] each c.index-each-0.result c.index-each-0.is in
+    ok_as c.emit_all.result (AllEmit plan (sides_of c.as_slice.result.now) ss) (ParEmits plan sides (branches_of c.args.branches.now)) c.args.e.now c.emit_all.new.e c.args.left.now.items c.emit_all.new.left.items
+    (λ last pc cells h. subst (λ bs. ParEmits plan sides bs last pc cells) (sym is) (one_in plan sides ss x.pos last pc cells (sides_of c.as_slice.result.now) own h)) c.emit_all.ensures.code
 
 pub par::emit_par-returns-in-len1-clause-size : goal.par::emit_par-returns-in-len1-clause-size
 par::emit_par-returns-in-len1-clause-size t c =
     let x = c.only-item.result in
     let vars = c.args.plan.now.vars in
-    let is : branches_of c.args.branches.now ≡ kernel.more_branches (kernel.branch (statements_of c.as_slice.result.now) x.pos) kernel.no_branch = one_branch c.args.branches.now x c.only-item.is c.in-len1.len_at_least c.in-len1.len_below ∙ ap (λ l. kernel.more_branches (kernel.branch (statements_of l) x.pos) kernel.no_branch) (sym c.as_slice.ensures) in
+    let is : branches_of c.args.branches.now ≡ kernel.more_branches (kernel.branch (statements_of c.as_slice-in-len1.result.now) x.pos) kernel.no_branch = one_branch c.args.branches.now x c.only-item.is c.in-len1.len_at_least c.in-len1.len_below ∙ ap (λ l. kernel.more_branches (kernel.branch (statements_of l) x.pos) kernel.no_branch) (sym c.as_slice-in-len1.ensures) in
     let size = ap (λ bs. most vars (kernel.par bs)) is in
-    ok_within c.emit_all.result (length c.emit_all.new.e) (length c.args.e.now + most_of_all vars (statements_of c.as_slice.result.now)) (length c.args.e.now + most vars (kernel.par (branches_of c.args.branches.now))) (omega (arith, size)) c.emit_all.ensures.size
+    ok_within c.emit_all.result (length c.emit_all.new.e) (length c.args.e.now + most_of_all vars (statements_of c.as_slice-in-len1.result.now)) (length c.args.e.now + most vars (kernel.par (branches_of c.args.branches.now))) (omega (arith, size)) c.emit_all.ensures.size
 
 pub par::emit_par-emit_several-requires : goal.par::emit_par-emit_several-requires
 par::emit_par-emit_several-requires t c =
@@ -247,21 +258,35 @@ par::emit_par-emit_several-requires t c =
     let n = branches_count bs in
     let m = branches_count others in
     let size = ap (λ bs. most vars (kernel.par bs)) is in
-    (omega (arith, ap branch_weights is, c.decreases), (built.0, (built.1, (shallow.0, (shallow.1, (few.0, (few.1, (omega (arith, count, n, m, c.in-len1-up.len_at_least), (omega (arith, count, n, m, c.requires.count), (c.requires.stack, omega (arith, size, count, m, c.requires.room)))))))))))
+    let sides = sides_of c.args.sides.now in
+    let ss = statements_of c.as_slice-in-len1-up.result.now in
+    let each = ap (map sides_of) c.as_slice-each.ensures ∙ c.in_ok-each.ensures ∙ ap (sides_of_each sides []) is in
+    let behind = others_sides c.as_slice-each.result.now (sides_in 0 [] ss (codes_in (branches_of others)) sides) (sides_of_each sides (ss ∷ []) (branches_of others)) each in
+    let many = sym (length-map (take (length c.as_slice-each.result.now - 1) (drop 1 c.as_slice-each.result.now)) sides_of) ∙ ap length behind ∙ sides_count sides (ss ∷ []) (branches_of others) ∙ m in
+    (omega (arith, ap branch_weights is, c.decreases), (built.0, (built.1, (shallow.0, (shallow.1, (few.0, (few.1, (omega (arith, count, n, m, c.in-len1-up.len_at_least), (omega (arith, count, n, m, c.requires.count), (many, (c.requires.stack, omega (arith, size, count, m, c.requires.room))))))))))))
 
-pub par::emit_par-returns-in-len1-up-clause-code : goal.par::emit_par-returns-in-len1-up-clause-code
-par::emit_par-returns-in-len1-up-clause-code t c =
+pub par::emit_par-returns-clause-code : goal.par::emit_par-returns-clause-code
+par::emit_par-returns-clause-code t c =
     let bs = c.args.branches.now in
     let others = take (length bs - 1) (drop 1 bs) in
     let x = c.first-item.result in
     let plan = c.args.plan.now in
+    let sides = sides_of c.args.sides.now in
     let ss = statements_of c.as_slice-in-len1-up.result.now in
-    let is : branches_of bs ≡ kernel.more_branches (kernel.branch (statements_of c.as_slice-in-len1-up.result.now) x.pos) (branches_of (take (length bs - 1) (drop 1 bs))) = first_branch bs x c.first-item.is c.in-len1-up.len_at_least ∙ ap (λ l. kernel.more_branches (kernel.branch (statements_of l) x.pos) (branches_of others)) (sym c.as_slice-in-len1-up.ensures) in
+    let is : branches_of bs ≡ kernel.more_branches (kernel.branch ss x.pos) (branches_of (take (length bs - 1) (drop 1 bs))) = first_branch bs x c.first-item.is c.in-len1-up.len_at_least ∙ ap (λ l. kernel.more_branches (kernel.branch (statements_of l) x.pos) (branches_of others)) (sym c.as_slice-in-len1-up.ensures) in
     let some : 1 ≤ length (take (length bs - 1) (drop 1 bs)) = let count = ap branch_count is in let n = branches_count bs in let m = branches_count others in omega (arith, count, n, m, c.in-len1-up.len_at_least) in
-    ok_as c.emit_several.result (SeveralBranches plan (branch_count (branches_of others)) (AllEmit plan ss) (SlavesEmit plan (branches_of others))) (ParEmits plan (branches_of bs)) c.args.e.now c.emit_several.new.e c.args.left.now.items c.emit_several.new.left.items (λ last pc cells h. subst (λ l. ParEmits plan l last pc cells) (sym is) (several_of others plan (AllEmit plan ss) (SlavesEmit plan (branches_of others)) last pc cells some h)) c.emit_several.ensures.code
+    let each = ap (map sides_of) c.as_slice-each.ensures ∙ c.in_ok-each.ensures ∙ ap (sides_of_each sides []) is in
+    let first = sides_in 0 [] ss (codes_in (branches_of others)) sides in
+    let later = sides_of_each sides (ss ∷ []) (branches_of others) in
+    let own = ap sides_of c.as_slice-own.ensures ∙ first_sides c.as_slice-each.result.now first later each c.index-each-0-in-len1-up.result c.index-each-0-in-len1-up.is in
+    let behind = others_sides c.as_slice-each.result.now first later each in
+    let own_sides = sides_of c.as_slice-own.result.now in
+    let behind_sides = map sides_of (take (length c.as_slice-each.result.now - 1) (drop 1 c.as_slice-each.result.now)) in
+    ok_as c.emit_several.result (SeveralBranches plan (branch_count (branches_of others)) (AllEmit plan own_sides ss) (SlavesEmitIn plan behind_sides (branches_of others))) (ParEmits plan sides (branches_of bs)) c.args.e.now c.emit_several.new.e c.args.left.now.items c.emit_several.new.left.items
+    (λ last pc cells h. subst (λ l. ParEmits plan sides l last pc cells) (sym is) (several_in plan sides ss x.pos last pc cells others own_sides behind_sides some own behind h)) c.emit_several.ensures.code
 
-pub par::emit_par-returns-in-len1-up-clause-size : goal.par::emit_par-returns-in-len1-up-clause-size
-par::emit_par-returns-in-len1-up-clause-size t c =
+pub par::emit_par-returns-clause-size : goal.par::emit_par-returns-clause-size
+par::emit_par-returns-clause-size t c =
     let bs = c.args.branches.now in
     let others = take (length bs - 1) (drop 1 bs) in
     let x = c.first-item.result in
@@ -288,19 +313,19 @@ par::emit_several-emit_slaves-requires t c =
     let plan = c.args.plan.now in
     let n = length c.args.others.now in
     let m : length c.args.others.now + 1 - 1 ≡ length c.args.others.now = omega arith in
-    let first = AllEmit plan (statements_of c.args.first.now) in
+    let first = AllEmit plan (sides_of c.args.own.now) (statements_of c.args.first.now) in
     let at_1 = opened plan.first_stack n (n + 1 - 1) c.pos-last.result c.args.e.now c.open_par.new.e c.pos-last.ensures m c.in_ok-starts.ensures.code in
     let holes = ap indices_of c.as_slice.ensures ∙ starts_are (length c.args.e.now + 9) n (n + 1 - 1) (indices_of c.in_ok-starts.starts) m c.in_ok-starts.ensures.holes in
     let count : length c.as_slice.result.now ≡ length c.args.others.now = sym (indices_length c.as_slice.result.now) ∙ ap length holes ∙ starts_length (length c.args.e.now + 9) n in
     let size = several_length plan n first c.args.e.now c.open_par.new.e c.emit_all.new.e c.emit_close.new.e c.args.left.now.items c.emit_all.new.left.items at_1 c.in_ok-emit_all.ensures.code c.in_ok-past.ensures.code in
-    (omega (arith, c.decreases), (c.requires.built_others, (c.requires.shallow_others, (c.requires.few_others, (c.requires.stack, (count, (holes_landable plan n first c.args.e.now c.open_par.new.e c.emit_all.new.e c.emit_close.new.e c.args.left.now.items c.emit_all.new.left.items at_1 c.in_ok-emit_all.ensures.code c.in_ok-past.ensures.code (indices_of c.as_slice.result.now) holes, omega (arith, size, c.in_ok-emit_all.ensures.size, c.in_ok-starts.ensures.size, c.requires.several, c.requires.room))))))))
+    (omega (arith, c.decreases), (c.requires.built_others, (c.requires.shallow_others, (c.requires.few_others, (c.requires.stack, (c.requires.as_many, (count, (holes_landable plan n first c.args.e.now c.open_par.new.e c.emit_all.new.e c.emit_close.new.e c.args.left.now.items c.emit_all.new.left.items at_1 c.in_ok-emit_all.ensures.code c.in_ok-past.ensures.code (indices_of c.as_slice.result.now) holes, omega (arith, size, c.in_ok-emit_all.ensures.size, c.in_ok-starts.ensures.size, c.requires.several, c.requires.room)))))))))
 
 pub par::emit_several-returns-in_err-emit_slaves-clause-refused : goal.par::emit_several-returns-in_err-emit_slaves-clause-refused
 par::emit_several-returns-in_err-emit_slaves-clause-refused t c =
     let plan = c.args.plan.now in
     let n = length c.args.others.now in
     let m : length c.args.others.now + 1 - 1 ≡ length c.args.others.now = omega arith in
-    let first = AllEmit plan (statements_of c.args.first.now) in
+    let first = AllEmit plan (sides_of c.args.own.now) (statements_of c.args.first.now) in
     let at_1 = opened plan.first_stack n (n + 1 - 1) c.pos-last.result c.args.e.now c.open_par.new.e c.pos-last.ensures m c.in_ok-starts.ensures.code in
     let holes = ap indices_of c.as_slice.ensures ∙ starts_are (length c.args.e.now + 9) n (n + 1 - 1) (indices_of c.in_ok-starts.starts) m c.in_ok-starts.ensures.holes in
     on_err c.from_residual-in_err-emit_slaves.result (Extends c.args.e.now c.emit_slaves.new.e)
@@ -311,111 +336,88 @@ par::emit_several-land-requires t c =
     let plan = c.args.plan.now in
     let n = length c.args.others.now in
     let m : length c.args.others.now + 1 - 1 ≡ length c.args.others.now = omega arith in
-    let first = AllEmit plan (statements_of c.args.first.now) in
+    let first = AllEmit plan (sides_of c.args.own.now) (statements_of c.args.first.now) in
     let at_1 = opened plan.first_stack n (n + 1 - 1) c.pos-last.result c.args.e.now c.open_par.new.e c.pos-last.ensures m c.in_ok-starts.ensures.code in
     let holes = ap indices_of c.as_slice.ensures ∙ starts_are (length c.args.e.now + 9) n (n + 1 - 1) (indices_of c.in_ok-starts.starts) m c.in_ok-starts.ensures.holes in
     let opens = opens_so plan.first_stack n (n + 1 - 1) c.pos-last.result c.args.e.now c.open_par.new.e c.pos-last.ensures m at_1 c.in_ok-starts.ensures.opens in
     let aims = aimed_so plan.first_stack n (n + 1 - 1) c.args.e.now c.open_par.new.e m at_1 c.in_ok-starts.ensures.aimed in
-    jump_open plan n first c.args.e.now c.open_par.new.e c.emit_all.new.e c.emit_close.new.e c.args.left.now.items c.emit_all.new.left.items at_1 c.in_ok-emit_all.ensures.code c.in_ok-past.ensures.code (indices_of c.as_slice.result.now) holes (branches_of c.args.others.now) (branches_count c.args.others.now) c.requires.count opens aims c.in_ok-past.ensures.closes c.in_ok-past.ensures.aimed c.in_ok-past.past.index c.in_ok-past.ensures.past c.emit_slaves.new.e c.emit_slaves.new.left.items c.in_ok-emit_slaves.ensures.code
+    jump_open plan n first c.args.e.now c.open_par.new.e c.emit_all.new.e c.emit_close.new.e c.args.left.now.items c.emit_all.new.left.items at_1 c.in_ok-emit_all.ensures.code c.in_ok-past.ensures.code (indices_of c.as_slice.result.now) holes (map sides_of c.args.each.now) (branches_of c.args.others.now) (branches_count c.args.others.now) c.requires.count opens aims c.in_ok-past.ensures.closes c.in_ok-past.ensures.aimed c.in_ok-past.past.index c.in_ok-past.ensures.past c.emit_slaves.new.e c.emit_slaves.new.left.items c.in_ok-emit_slaves.ensures.code
 
 pub par::emit_several-returns-clause-code : goal.par::emit_several-returns-clause-code
 par::emit_several-returns-clause-code t c =
     let plan = c.args.plan.now in
     let n = length c.args.others.now in
     let m : length c.args.others.now + 1 - 1 ≡ length c.args.others.now = omega arith in
-    let first = AllEmit plan (statements_of c.args.first.now) in
+    let first = AllEmit plan (sides_of c.args.own.now) (statements_of c.args.first.now) in
     let at_1 = opened plan.first_stack n (n + 1 - 1) c.pos-last.result c.args.e.now c.open_par.new.e c.pos-last.ensures m c.in_ok-starts.ensures.code in
     let holes = ap indices_of c.as_slice.ensures ∙ starts_are (length c.args.e.now + 9) n (n + 1 - 1) (indices_of c.in_ok-starts.starts) m c.in_ok-starts.ensures.holes in
     let opens = opens_so plan.first_stack n (n + 1 - 1) c.pos-last.result c.args.e.now c.open_par.new.e c.pos-last.ensures m at_1 c.in_ok-starts.ensures.opens in
     let aims = aimed_so plan.first_stack n (n + 1 - 1) c.args.e.now c.open_par.new.e m at_1 c.in_ok-starts.ensures.aimed in
-    several_emitted plan n first c.args.e.now c.open_par.new.e c.emit_all.new.e c.emit_close.new.e c.args.left.now.items c.emit_all.new.left.items at_1 c.in_ok-emit_all.ensures.code c.in_ok-past.ensures.code (indices_of c.as_slice.result.now) holes (branches_of c.args.others.now) (branches_count c.args.others.now) c.requires.count opens aims c.in_ok-past.ensures.closes c.in_ok-past.ensures.aimed c.in_ok-past.past.index c.in_ok-past.ensures.past c.emit_slaves.new.e c.emit_slaves.new.left.items c.in_ok-emit_slaves.ensures.code c.land.new.self c.land.ensures
+    several_emitted plan n first c.args.e.now c.open_par.new.e c.emit_all.new.e c.emit_close.new.e c.args.left.now.items c.emit_all.new.left.items at_1 c.in_ok-emit_all.ensures.code c.in_ok-past.ensures.code (indices_of c.as_slice.result.now) holes (map sides_of c.args.each.now) (branches_of c.args.others.now) (branches_count c.args.others.now) c.requires.count opens aims c.in_ok-past.ensures.closes c.in_ok-past.ensures.aimed c.in_ok-past.past.index c.in_ok-past.ensures.past c.emit_slaves.new.e c.emit_slaves.new.left.items c.in_ok-emit_slaves.ensures.code c.land.new.self c.land.ensures
 
 pub par::emit_several-returns-clause-size : goal.par::emit_several-returns-clause-size
 par::emit_several-returns-clause-size t c =
     let plan = c.args.plan.now in
     let n = length c.args.others.now in
     let m : length c.args.others.now + 1 - 1 ≡ length c.args.others.now = omega arith in
-    let first = AllEmit plan (statements_of c.args.first.now) in
+    let first = AllEmit plan (sides_of c.args.own.now) (statements_of c.args.first.now) in
     let at_1 = opened plan.first_stack n (n + 1 - 1) c.pos-last.result c.args.e.now c.open_par.new.e c.pos-last.ensures m c.in_ok-starts.ensures.code in
     let holes = ap indices_of c.as_slice.ensures ∙ starts_are (length c.args.e.now + 9) n (n + 1 - 1) (indices_of c.in_ok-starts.starts) m c.in_ok-starts.ensures.holes in
     let opens = opens_so plan.first_stack n (n + 1 - 1) c.pos-last.result c.args.e.now c.open_par.new.e c.pos-last.ensures m at_1 c.in_ok-starts.ensures.opens in
     let aims = aimed_so plan.first_stack n (n + 1 - 1) c.args.e.now c.open_par.new.e m at_1 c.in_ok-starts.ensures.aimed in
     let size = several_length plan n first c.args.e.now c.open_par.new.e c.emit_all.new.e c.emit_close.new.e c.args.left.now.items c.emit_all.new.left.items at_1 c.in_ok-emit_all.ensures.code c.in_ok-past.ensures.code in
-    let same = several_end plan n first c.args.e.now c.open_par.new.e c.emit_all.new.e c.emit_close.new.e c.args.left.now.items c.emit_all.new.left.items at_1 c.in_ok-emit_all.ensures.code c.in_ok-past.ensures.code (indices_of c.as_slice.result.now) holes (branches_of c.args.others.now) (branches_count c.args.others.now) c.requires.count opens aims c.in_ok-past.ensures.closes c.in_ok-past.ensures.aimed c.in_ok-past.past.index c.in_ok-past.ensures.past c.emit_slaves.new.e c.emit_slaves.new.left.items c.in_ok-emit_slaves.ensures.code c.land.new.self c.land.ensures in
+    let same = several_end plan n first c.args.e.now c.open_par.new.e c.emit_all.new.e c.emit_close.new.e c.args.left.now.items c.emit_all.new.left.items at_1 c.in_ok-emit_all.ensures.code c.in_ok-past.ensures.code (indices_of c.as_slice.result.now) holes (map sides_of c.args.each.now) (branches_of c.args.others.now) (branches_count c.args.others.now) c.requires.count opens aims c.in_ok-past.ensures.closes c.in_ok-past.ensures.aimed c.in_ok-past.past.index c.in_ok-past.ensures.past c.emit_slaves.new.e c.emit_slaves.new.left.items c.in_ok-emit_slaves.ensures.code c.land.new.self c.land.ensures in
     omega (arith, same, size, c.in_ok-emit_slaves.ensures.size, c.in_ok-emit_all.ensures.size, c.in_ok-starts.ensures.size, c.requires.several)
 
 -- the branches behind the first
 
 pub par::emit_slave-returns-clause-code : goal.par::emit_slave-returns-clause-code
 par::emit_slave-returns-clause-code t c =
-    slave_ends c.close_slave.result (AllEmit c.args.plan.now (statements_of c.args.body.now)) (landed c.args.e.now c.args.start.index (length c.args.e.now)) c.emit_all.new.e c.close_slave.new.e c.args.left.now.items c.emit_all.new.left.items (subst (λ ls. Emitted (AllEmit c.args.plan.now (statements_of c.args.body.now)) ls c.emit_all.new.e c.args.left.now.items c.emit_all.new.left.items) c.land.ensures c.in_ok-emit_all.ensures.code) c.pos-last.result c.pos-last.ensures c.close_slave.ensures.code c.close_slave.ensures.ends
+    slave_ends c.close_slave.result (AllEmit c.args.plan.now (sides_of c.args.sides.now) (statements_of c.args.body.now)) (landed c.args.e.now c.args.start.index (length c.args.e.now)) c.emit_all.new.e c.close_slave.new.e c.args.left.now.items c.emit_all.new.left.items (subst (λ ls. Emitted (AllEmit c.args.plan.now (sides_of c.args.sides.now) (statements_of c.args.body.now)) ls c.emit_all.new.e c.args.left.now.items c.emit_all.new.left.items) c.land.ensures c.in_ok-emit_all.ensures.code) c.pos-last.result c.pos-last.ensures c.close_slave.ensures.code c.close_slave.ensures.ends
 
-pub par::emit_slaves-loop-branch-init : goal.par::emit_slaves-loop-branch-init
-par::emit_slaves-loop-branch-init t c =
-    slaves_begin c.args.plan.now (branches_of c.args.branches.now) (indices_of c.args.starts.now) c.args.e.now c.args.left.now.items c.requires.built c.requires.shallow c.requires.few c.requires.landable
+pub par::emit_slaves-loop-index-init : goal.par::emit_slaves-loop-index-init
+par::emit_slaves-loop-index-init t c =
+    slaves_begin c.args.plan.now (map sides_of c.args.each.now) (branches_of c.args.branches.now) (indices_of c.args.starts.now) c.args.e.now c.args.left.now.items c.requires.built c.requires.shallow c.requires.few c.requires.landable
 
 pub par::emit_slaves-emit_slave-requires : goal.par::emit_slaves-emit_slave-requires
 par::emit_slaves-emit_slave-requires t c =
     let bs = c.args.branches.now in
     let hs = c.args.starts.now in
-    let i = length c.loop-branch.yielded in
-    let x = c.in-Some.branch.now in
-    let turn = zip_turn bs hs c.loop-branch.yielded c.into_iter-branch-iterator.result c.loop-branch.branch-iterator c.next.new.self c.next.result (ap (λ z. iter_rest (zip_first z)) c.into_iter-branch-iterator.ensures.into_iter_gives ∙ ap iter_rest c.zip-branch-items.ensures.first ∙ c.iter.ensures.rest) (ap (λ z. iter_rest (zip_second z)) c.into_iter-branch-iterator.ensures.into_iter_gives ∙ c.zip-branch-items.ensures.second.0) c.loop-branch.yielded_by (c.in-Some.branch, c.in-Some.start) c.in-Some.is c.next.ensures.steps in
-    let rest = branches_at bs i x (turn.2 x) turn.0 in
-    let holes = holes_at hs i c.in-Some.start.now (turn.3 c.in-Some.start.now) turn.1 in
-    let h = subst (λ l. SlavesWalked c.args.plan.now (branches_of bs) (branches_of (drop i bs)) (indices_of hs) l c.args.e.now c.loop-branch.e c.args.left.now.items c.loop-branch.left.items) holes c.loop-branch.invariant in
-    let g = subst (λ l. SlavesWalked c.args.plan.now (branches_of bs) l (indices_of hs) (c.in-Some.start.now.index ∷ indices_of (drop (i + 1) hs)) c.args.e.now c.loop-branch.e c.args.left.now.items c.loop-branch.left.items) rest h in
-    let w = branch_lighter bs i x (turn.2 x) turn.0 in
-    let same = ap statements_of c.as_slice.ensures in
-    let built = subst AreBuilt (sym same) g.built.0 in
-    let shallow = subst AreShallow (sym same) g.shallow.0 in
-    let few = subst ParsAreFew (sym same) g.few.0 in
-    (omega (arith, w, ap weights same, c.decreases), (built, (shallow, (few, (c.requires.stack, (start_open c.args.plan.now (branches_of bs) (branches_of (drop (i + 1) bs)) (statements_of x.body) x.pos (indices_of hs) (indices_of (drop (i + 1) hs)) c.in-Some.start.now.index c.args.e.now c.loop-branch.e c.args.left.now.items c.loop-branch.left.items g, omega (arith, ap (most_of_all c.args.plan.now.vars) same, g.room, c.requires.room)))))))
+    let i = c.loop-index.index in
+    let x = c.index-branches-index.result in
+    let body = c.as_slice.result.now in
+    let own = c.as_slice-own.result.now in
+    let h = next_slave c.args.plan.now c.args.each.now bs hs i c.args.e.now c.loop-index.e c.args.left.now.items c.loop-index.left.items c.requires.as_many c.requires.as_many_starts c.loop-index.invariant c.loop-index-test.true c.index-each-index.result own c.index-each-index.is c.as_slice-own.ensures x body c.index-branches-index.is c.as_slice.ensures (record { index = 0 }) in
+    let w = branch_lighter bs i x c.index-branches-index.is c.loop-index-test.true in
+    let same = ap weights (ap statements_of c.as_slice.ensures) in
+    (omega (arith, w, same, c.decreases), (h.built.0, (h.shallow.0, (h.few.0, (c.requires.stack, (start_open c.args.plan.now (map sides_of c.args.each.now) (map sides_of (drop (i + 1) c.args.each.now)) (sides_of own) (branches_of bs) (branches_of (drop (i + 1) bs)) (statements_of body) x.pos (indices_of hs) (indices_of (drop (i + 1) hs)) (get_or hs i (record { index = 0 })).index c.args.e.now c.loop-index.e c.args.left.now.items c.loop-index.left.items h, omega (arith, h.room, c.requires.room)))))))
 
-pub par::emit_slaves-loop-branch-preserved : goal.par::emit_slaves-loop-branch-preserved
-par::emit_slaves-loop-branch-preserved t c =
+pub par::emit_slaves-loop-index-preserved : goal.par::emit_slaves-loop-index-preserved
+par::emit_slaves-loop-index-preserved t c =
     let bs = c.args.branches.now in
     let hs = c.args.starts.now in
-    let i = length c.loop-branch.yielded in
-    let x = c.in-Some.branch.now in
-    let plan = c.args.plan.now in
-    let turn = zip_turn bs hs c.loop-branch.yielded c.into_iter-branch-iterator.result c.loop-branch.branch-iterator c.next.new.self c.next.result (ap (λ z. iter_rest (zip_first z)) c.into_iter-branch-iterator.ensures.into_iter_gives ∙ ap iter_rest c.zip-branch-items.ensures.first ∙ c.iter.ensures.rest) (ap (λ z. iter_rest (zip_second z)) c.into_iter-branch-iterator.ensures.into_iter_gives ∙ c.zip-branch-items.ensures.second.0) c.loop-branch.yielded_by (c.in-Some.branch, c.in-Some.start) c.in-Some.is c.next.ensures.steps in
-    let rest = branches_at bs i x (turn.2 x) turn.0 in
-    let holes = holes_at hs i c.in-Some.start.now (turn.3 c.in-Some.start.now) turn.1 in
-    let h = subst (λ l. SlavesWalked plan (branches_of bs) (branches_of (drop i bs)) (indices_of hs) l c.args.e.now c.loop-branch.e c.args.left.now.items c.loop-branch.left.items) holes c.loop-branch.invariant in
-    let g = subst (λ l. SlavesWalked plan (branches_of bs) l (indices_of hs) (c.in-Some.start.now.index ∷ indices_of (drop (i + 1) hs)) c.args.e.now c.loop-branch.e c.args.left.now.items c.loop-branch.left.items) rest h in
-    let same = ap statements_of c.as_slice.ensures in
-    let code = subst (λ ss. Emitted (Slave (AllEmit plan ss)) (landed c.loop-branch.e c.in-Some.start.now.index (length c.loop-branch.e)) c.emit_slave.new.e c.loop-branch.left.items c.emit_slave.new.left.items) same c.in_ok-emit_slave.ensures.code in
-    let size = subst (λ ss. length c.emit_slave.new.e ≤ length c.loop-branch.e + most_of_all plan.vars ss + 1) same c.in_ok-emit_slave.ensures.size in
-    let next : i + 1 ≡ length (c.loop-branch.yielded ++ (c.in-Some.branch, c.in-Some.start) ∷ []) = sym (length-append c.loop-branch.yielded ((c.in-Some.branch, c.in-Some.start) ∷ [])) in
-    subst (λ k. SlavesWalked plan (branches_of bs) (branches_of (drop k bs)) (indices_of hs) (indices_of (drop k hs)) c.args.e.now c.emit_slave.new.e c.args.left.now.items c.emit_slave.new.left.items) next
-    (slaves_go_on plan (branches_of bs) (branches_of (drop (i + 1) bs)) (statements_of x.body) x.pos (indices_of hs) (indices_of (drop (i + 1) hs)) c.in-Some.start.now.index c.args.e.now c.loop-branch.e c.args.left.now.items c.loop-branch.left.items g c.emit_slave.new.e c.emit_slave.new.left.items code size)
+    let i = c.loop-index.index in
+    let x = c.index-branches-index.result in
+    let body = c.as_slice.result.now in
+    let own = c.as_slice-own.result.now in
+    let h = next_slave c.args.plan.now c.args.each.now bs hs i c.args.e.now c.loop-index.e c.args.left.now.items c.loop-index.left.items c.requires.as_many c.requires.as_many_starts c.loop-index.invariant c.loop-index-test.true c.index-each-index.result own c.index-each-index.is c.as_slice-own.ensures x body c.index-branches-index.is c.as_slice.ensures (record { index = 0 }) in
+    slaves_go_on c.args.plan.now (map sides_of c.args.each.now) (map sides_of (drop (i + 1) c.args.each.now)) (sides_of own) (branches_of bs) (branches_of (drop (i + 1) bs)) (statements_of body) x.pos (indices_of hs) (indices_of (drop (i + 1) hs)) (get_or hs i (record { index = 0 })).index c.args.e.now c.loop-index.e c.args.left.now.items c.loop-index.left.items h c.emit_slave.new.e c.emit_slave.new.left.items c.in_ok-emit_slave.ensures.code c.in_ok-emit_slave.ensures.size
 
 pub par::emit_slaves-returns-in_err-emit_slave-clause-refused : goal.par::emit_slaves-returns-in_err-emit_slave-clause-refused
 par::emit_slaves-returns-in_err-emit_slave-clause-refused t c =
     let bs = c.args.branches.now in
     let hs = c.args.starts.now in
-    let i = length c.loop-branch.yielded in
-    let x = c.in-Some.branch.now in
-    let plan = c.args.plan.now in
-    let turn = zip_turn bs hs c.loop-branch.yielded c.into_iter-branch-iterator.result c.loop-branch.branch-iterator c.next.new.self c.next.result (ap (λ z. iter_rest (zip_first z)) c.into_iter-branch-iterator.ensures.into_iter_gives ∙ ap iter_rest c.zip-branch-items.ensures.first ∙ c.iter.ensures.rest) (ap (λ z. iter_rest (zip_second z)) c.into_iter-branch-iterator.ensures.into_iter_gives ∙ c.zip-branch-items.ensures.second.0) c.loop-branch.yielded_by (c.in-Some.branch, c.in-Some.start) c.in-Some.is c.next.ensures.steps in
-    let rest = branches_at bs i x (turn.2 x) turn.0 in
-    let holes = holes_at hs i c.in-Some.start.now (turn.3 c.in-Some.start.now) turn.1 in
-    let h = subst (λ l. SlavesWalked plan (branches_of bs) (branches_of (drop i bs)) (indices_of hs) l c.args.e.now c.loop-branch.e c.args.left.now.items c.loop-branch.left.items) holes c.loop-branch.invariant in
-    let g = subst (λ l. SlavesWalked plan (branches_of bs) l (indices_of hs) (c.in-Some.start.now.index ∷ indices_of (drop (i + 1) hs)) c.args.e.now c.loop-branch.e c.args.left.now.items c.loop-branch.left.items) rest h in
+    let i = c.loop-index.index in
+    let x = c.index-branches-index.result in
+    let body = c.as_slice.result.now in
+    let own = c.as_slice-own.result.now in
+    let h = next_slave c.args.plan.now c.args.each.now bs hs i c.args.e.now c.loop-index.e c.args.left.now.items c.loop-index.left.items c.requires.as_many c.requires.as_many_starts c.loop-index.invariant c.loop-index-test.true c.index-each-index.result own c.index-each-index.is c.as_slice-own.ensures x body c.index-branches-index.is c.as_slice.ensures (record { index = 0 }) in
     on_err c.from_residual.result (Lands (indices_of hs) c.args.e.now c.emit_slave.new.e)
-    (slave_refused plan (branches_of bs) (branches_of (drop (i + 1) bs)) (statements_of x.body) x.pos (indices_of hs) (indices_of (drop (i + 1) hs)) c.in-Some.start.now.index c.args.e.now c.loop-branch.e c.args.left.now.items c.loop-branch.left.items g c.emit_slave.new.e c.in_err-emit_slave.ensures.refused)
+    (slave_refused c.args.plan.now (map sides_of c.args.each.now) (map sides_of (drop (i + 1) c.args.each.now)) (sides_of own) (branches_of bs) (branches_of (drop (i + 1) bs)) (statements_of body) x.pos (indices_of hs) (indices_of (drop (i + 1) hs)) (get_or hs i (record { index = 0 })).index c.args.e.now c.loop-index.e c.args.left.now.items c.loop-index.left.items h c.emit_slave.new.e c.in_err-emit_slave.ensures.refused)
 
 pub par::emit_slaves-returns-clause-code : goal.par::emit_slaves-returns-clause-code
 par::emit_slaves-returns-clause-code t c =
-    let bs = c.args.branches.now in
-    let hs = c.args.starts.now in
-    let end = zip_end bs hs c.loop-branch.yielded c.into_iter-branch-iterator.result c.loop-branch.branch-iterator c.next.new.self c.next.result (ap (λ z. iter_rest (zip_first z)) c.into_iter-branch-iterator.ensures.into_iter_gives ∙ ap iter_rest c.zip-branch-items.ensures.first ∙ c.iter.ensures.rest) (ap (λ z. iter_rest (zip_second z)) c.into_iter-branch-iterator.ensures.into_iter_gives ∙ c.zip-branch-items.ensures.second.0) c.loop-branch.yielded_by c.in-None.is c.next.ensures.steps in
-    let no_branches = ap branches_of (drop_of_length-le bs (omega (arith, end, c.requires.as_many))) in
-    let no_holes = ap indices_of (drop_of_length-le hs (omega (arith, end, c.requires.as_many))) in
-    slaves_end c.args.plan.now (branches_of bs) (indices_of hs) c.args.e.now c.loop-branch.e c.args.left.now.items c.loop-branch.left.items
-    (subst (λ l. SlavesWalked c.args.plan.now (branches_of bs) kernel.no_branch (indices_of hs) l c.args.e.now c.loop-branch.e c.args.left.now.items c.loop-branch.left.items) no_holes
-    (subst (λ l. SlavesWalked c.args.plan.now (branches_of bs) l (indices_of hs) (indices_of (drop (length c.loop-branch.yielded) hs)) c.args.e.now c.loop-branch.e c.args.left.now.items c.loop-branch.left.items) no_branches c.loop-branch.invariant))
+    slaves_over c.args.plan.now c.args.each.now c.args.branches.now c.args.starts.now c.loop-index.index c.args.e.now c.loop-index.e c.args.left.now.items c.loop-index.left.items c.requires.as_many c.requires.as_many_starts c.loop-index.invariant c.loop-index-test.false
 
 pub par::emit_slaves-returns-clause-size : goal.par::emit_slaves-returns-clause-size
-par::emit_slaves-returns-clause-size t c = let room = c.loop-branch.invariant.room in omega (arith, room)
+par::emit_slaves-returns-clause-size t c = let room = c.loop-index.invariant.room in omega (arith, room)

@@ -1,13 +1,14 @@
-use Rattle.std.proofs.Common.{◌+◌, ◌*◌, drop, length}
+use Rattle.std.proofs.Common.{◌+◌, ◌*◌, drop, map}
 use Rattle.xc_kernel.specs.Kernels.{statement_of}
 use Rattle.xl_par.specs.Opening.{indices_of}
+use Rattle.xl_sides.specs.Sides.{sides_of}
 use Rattle.xl_walk.specs.Built.{branches_of, statements_of}
 use Rattle.xl_walk.proofs.Slaves.{SlavesWalked}
 use Rattle.xl_walk.proofs.Walks.{Walked, branch_weights, weight, weights}
 use Rattle.xl_walk.proofs.+statement.Given as goal
 
 abbrev pub invariant-walk::emit_all-loop-statement : goal.invariant-walk::emit_all-loop-statement
-invariant-walk::emit_all-loop-statement l = Walked l.plan (statements_of l.statements) (statements_of (drop l.statement-index l.statements)) l.initial.e l.e l.initial.left.items l.left.items
+invariant-walk::emit_all-loop-statement l = Walked l.plan (sides_of l.sides) (statements_of l.statements) (statements_of (drop l.statement-index l.statements)) l.initial.e l.e l.initial.left.items l.left.items
 
 abbrev pub decreases-walk::emit_all : goal.decreases-walk::emit_all
 decreases-walk::emit_all l = 2 * weights (statements_of l.statements.now)
@@ -42,6 +43,6 @@ decreases-par::emit_slaves l = 2 * branch_weights (branches_of l.branches.now)
 abbrev pub decreases-par::emit_slave : goal.decreases-par::emit_slave
 decreases-par::emit_slave l = 2 * weights (statements_of l.body.now) + 1
 
-abbrev pub invariant-par::emit_slaves-loop-branch : goal.invariant-par::emit_slaves-loop-branch
-invariant-par::emit_slaves-loop-branch l =
-    SlavesWalked l.plan (branches_of l.branches) (branches_of (drop (length l.yielded) l.branches)) (indices_of l.starts) (indices_of (drop (length l.yielded) l.starts)) l.initial.e l.e l.initial.left.items l.left.items
+abbrev pub invariant-par::emit_slaves-loop-index : goal.invariant-par::emit_slaves-loop-index
+invariant-par::emit_slaves-loop-index l =
+    SlavesWalked l.plan (map sides_of l.each) (map sides_of (drop l.index l.each)) (branches_of l.branches) (branches_of (drop l.index l.branches)) (indices_of l.starts) (indices_of (drop l.index l.starts)) l.initial.e l.e l.initial.left.items l.left.items

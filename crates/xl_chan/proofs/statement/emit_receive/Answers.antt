@@ -1,4 +1,4 @@
-use Rattle.std.proofs.Common.{◌++◌, ◌∙◌, ap, append_assoc, length, length-append, subst}
+use Rattle.std.proofs.Common.{◌++◌, ◌∙◌, ap, append_assoc, length, length-append, refl, subst}
 use Rattle.std.specs.Prelude.{option_map}
 use Rattle.xc_kernel.specs.Kernels.{place_of}
 use Rattle.xl_expr.specs.Targets.{AreAimed}
@@ -19,6 +19,25 @@ returns-clause-takes c =
       is = write.is ∙ ap (λ ls. ls ++ write.lines) transfer.is ∙ append_assoc old transfer.lines write.lines;
       so = joined_takes c.args.plan.now c.args.end c.args.plain c.args.pos (length old) transfer.lines write.lines transfer.so dest
           (subst (λ n. WritesTo c.args.plan.now.vars dest n write.lines) behind write.so);
+    }
+
+pub returns-clause-receives : goal.returns-clause-receives
+returns-clause-receives c =
+    let old = c.args.e.now in
+    let dest = option_map place_of c.args.dest.now in
+    let transfer = c.in_ok-emit_in.ensures.takes in
+    let write = c.in_ok-emit_dest.ensures.writes in
+    let behind = ap length transfer.is ∙ length-append old transfer.lines in
+    record {
+      lines = transfer.lines ++ write.lines;
+      is = write.is ∙ ap (λ ls. ls ++ write.lines) transfer.is ∙ append_assoc old transfer.lines write.lines;
+      so = record {
+        transfer = transfer.lines;
+        write = write.lines;
+        is = refl;
+        takes = transfer.so;
+        writes = subst (λ n. WritesTo c.args.plan.now.vars dest n write.lines) behind write.so;
+      };
     }
 
 pub returns-clause-aimed : goal.returns-clause-aimed

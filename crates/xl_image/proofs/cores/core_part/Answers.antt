@@ -1,4 +1,4 @@
-use Rattle.std.proofs.Common.{◌∙◌, List, length, map, sum_by, refl, sym, ap, arith}
+use Rattle.std.proofs.Common.{◌∙◌, List, length, map, sum_by, refl, ap, arith}
 use Rattle.xc_kernel.specs.declared.kernel.Kernel.{Kernel}
 use Rattle.xc_kernel.specs.declared.kernel.PortUse.{PortUse}
 use Rattle.xc_kernel.specs.declared.kernel.Timer.{Timer}
@@ -6,17 +6,26 @@ use Rattle.xc_kernel.specs.Kernels.{kernel_of}
 use Rattle.xc_disjoint.specs.Needs.{timers_of}
 use Rattle.xl_expr.proofs.GoodCode.{good_closed}
 use Rattle.xl_plan.specs.Planned.{ports_on}
+use Rattle.xl_plan.proofs.Ends.{ends_are_used, few_ends}
 use Rattle.xl_image.specs.Images.{decl_of}
 use Rattle.xl_image.proofs.GoodParts.{few_timers}
-use Rattle.xl_image.proofs.Threads.{no_ends}
+use Rattle.xl_image.proofs.GoodPairs.{ends_listed}
 use Rattle.xl_image.proofs.cores.core_part.Goals as goal
 
 pub timer_count-requires : goal.timer_count-requires
 timer_count-requires c =
     let k = kernel_of c.args.checked.now in
-    let few = few_timers k c.kernel-kernel.ensures.accepted c.requires.built c.args.core c.requires.is_core in
+    let few = few_timers k c.kernel-kernel.ensures.accepted c.args.core c.requires.is_core in
     let same = ap (λ (ts : List Timer). sum_by (timers_of c.args.core) ts) (c.as_slice-2.ensures ∙ ap (λ (q : Kernel). q.timers) c.kernel-kernel.ensures.kernel) in
     omega (arith, few, same)
+
+pub overflow_cast-result : goal.overflow_cast-result
+overflow_cast-result c =
+    let k = kernel_of c.args.checked.now in
+    let listed = c.len.ensures ∙ ends_listed k c.args.core c.kernel-kernel.ensures.accepted c.requires.stay c.in_ok-places.places.ends c.in_ok-places.ensures.ends in
+    let used = ends_are_used k c.args.core c.kernel-kernel.ensures.accepted c.requires.stay in
+    let few = few_ends k c.args.core c.kernel-kernel.ensures.accepted c.requires.stay c.requires.is_core in
+    omega (arith, listed, used, few)
 
 pub finish-requires : goal.finish-requires
 finish-requires c =
@@ -33,7 +42,7 @@ returns c =
         number = refl;
         words = c.word_count.ensures;
         timers = c.timer_count.ensures ∙ ap (λ (ts : List Timer). sum_by (timers_of core) ts) (c.as_slice-2.ensures ∙ ap (λ (q : Kernel). q.timers) c.kernel-kernel.ensures.kernel);
-        ends = sym (no_ends k core c.requires.built);
+        ends = c.len.ensures ∙ ends_listed k core c.kernel-kernel.ensures.accepted c.requires.stay c.in_ok-places.places.ends plan.ends;
         ports = c.in_ok-ports.ensures ∙ ap (λ (ps : List PortUse). map decl_of (ports_on core ps)) (c.as_slice.ensures ∙ ap (λ (q : Kernel). q.ports) c.kernel-kernel.ensures.kernel);
         code = record {
           plan = c.in_ok-places.places;
@@ -49,6 +58,7 @@ returns c =
             used_ports = plan.used_ports;
             used_timers = plan.used_timers;
             ends = plan.ends;
+            channels = plan.channels;
             first_stack = plan.first_stack;
           };
           lines = c.emit_roots.new.e;

@@ -1,4 +1,4 @@
-use Rattle.std.proofs.Common.{◌≡◌, List, Option, sym, ap, subst, ◌∙◌, sum_by, arith}
+use Rattle.std.proofs.Common.{◌≡◌, ℕ, List, length, Option, sym, ap, subst, ◌∙◌, sum_by, arith}
 use Rattle.xc_kernel.specs.declared.kernel.Kernel.{Kernel}
 use Rattle.xc_kernel.specs.declared.kernel.PortUse.{PortUse}
 use Rattle.xc_kernel.specs.declared.kernel.Timer.{Timer}
@@ -7,17 +7,19 @@ use Rattle.xc_kernel.specs.Kernels.{kernel_of}
 use Rattle.xs_instr.specs.Resources.{name_of}
 use Rattle.xl_expr.specs.declared.plan.ResAt.{ResAt}
 use Rattle.xl_expr.specs.declared.plan.VarPlan.{VarPlan}
-use Rattle.xl_plan.specs.Layout.{words_here, first_temporary, places_from, core_of_port, core_of_timer, identifiers_from}
+use Rattle.xl_plan.specs.Layout.{words_here, first_temporary, places_from, core_of_port, core_of_timer, identifiers_from, ends_below, ends_of_user, numbers_from}
 use Rattle.xl_plan.specs.Planned.{HasVariables, HasNoOther, HasUsedVariables, HasUsedPorts, HasUsedTimers, StandBelow, NoneShare, NoneIsTemporary, HasPorts, HasTimers}
+use Rattle.xl_plan.proofs.Ends.{few_ends}
 use Rattle.xl_plan.proofs.Laid.{none_share}
 use Rattle.xl_plan.proofs.Promised.{has_variables, has_no_other, has_used_variables, has_used_ports, has_used_timers, stand_below, none_is_temporary, ports_have_numbers, numbers_listed, timers_have_numbers}
 use Rattle.xl_plan.proofs.PortsDiffer.{ports_apart}
 use Rattle.xl_plan.proofs.Sizes.{few_variable_words}
+use Rattle.xl_plan.proofs.Users.{numbers_are_first, users_need}
 use Rattle.xl_plan.proofs.layout.plan.Goals as goal
 
 pub variable_places-requires : goal.variable_places-requires
 variable_places-requires c =
-    let few = few_variable_words (kernel_of c.args.checked.now) c.args.core c.kernel-kernel.ensures.accepted c.requires in
+    let few = few_variable_words (kernel_of c.args.checked.now) c.args.core c.kernel-kernel.ensures.accepted c.requires.is_core in
     let same = ap (λ (vs : List Var). sum_by (words_here c.args.core) vs) (c.as_slice.ensures ∙ ap (λ (k : Kernel). k.vars) c.kernel-kernel.ensures.kernel) in
     omega arith
 
@@ -61,28 +63,57 @@ pub returns-clause-ports : goal.returns-clause-ports
 returns-clause-ports c =
     let is : c.in_ok-ports.ports ≡ identifiers_from core_of_port c.args.core (name_of c.args.core 0 0) c.args.checked.now.ports =
     c.in_ok-ports.ensures ∙ ap (λ (ps : List PortUse). identifiers_from core_of_port c.args.core (name_of c.args.core 0 0) ps) (c.as_slice-2.ensures ∙ ap (λ (k : Kernel). k.ports) c.kernel-kernel.ensures.kernel) in
-    subst (λ (places : List (Option ResAt)). HasPorts (kernel_of c.args.checked.now) c.args.core places) (sym is) (ports_have_numbers (kernel_of c.args.checked.now) c.args.core c.kernel-kernel.ensures.accepted c.requires)
+    subst (λ (places : List (Option ResAt)). HasPorts (kernel_of c.args.checked.now) c.args.core places) (sym is) (ports_have_numbers (kernel_of c.args.checked.now) c.args.core c.kernel-kernel.ensures.accepted c.requires.is_core)
 
 pub returns-clause-timers : goal.returns-clause-timers
 returns-clause-timers c =
     let is : c.in_ok-timers.timers ≡ identifiers_from core_of_timer c.args.core (name_of c.args.core 0 1) c.args.checked.now.timers =
     c.in_ok-timers.ensures ∙ ap (λ (ts : List Timer). identifiers_from core_of_timer c.args.core (name_of c.args.core 0 1) ts) (c.as_slice-3.ensures ∙ ap (λ (k : Kernel). k.timers) c.kernel-kernel.ensures.kernel) in
-    subst (λ (places : List (Option ResAt)). HasTimers (kernel_of c.args.checked.now) c.args.core places) (sym is) (timers_have_numbers (kernel_of c.args.checked.now) c.args.core c.kernel-kernel.ensures.accepted c.requires)
+    subst (λ (places : List (Option ResAt)). HasTimers (kernel_of c.args.checked.now) c.args.core places) (sym is) (timers_have_numbers (kernel_of c.args.checked.now) c.args.core c.kernel-kernel.ensures.accepted c.requires.is_core)
 
 pub returns-clause-used_ports : goal.returns-clause-used_ports
 returns-clause-used_ports c =
     let is : c.in_ok-ports.ports ≡ identifiers_from core_of_port c.args.core (name_of c.args.core 0 0) c.args.checked.now.ports =
     c.in_ok-ports.ensures ∙ ap (λ (ps : List PortUse). identifiers_from core_of_port c.args.core (name_of c.args.core 0 0) ps) (c.as_slice-2.ensures ∙ ap (λ (k : Kernel). k.ports) c.kernel-kernel.ensures.kernel) in
-    subst (λ (places : List (Option ResAt)). HasUsedPorts (kernel_of c.args.checked.now) c.args.core places) (sym is) (has_used_ports (kernel_of c.args.checked.now) c.args.core c.kernel-kernel.ensures.accepted _ (ports_have_numbers (kernel_of c.args.checked.now) c.args.core c.kernel-kernel.ensures.accepted c.requires))
+    subst (λ (places : List (Option ResAt)). HasUsedPorts (kernel_of c.args.checked.now) c.args.core places) (sym is) (has_used_ports (kernel_of c.args.checked.now) c.args.core c.kernel-kernel.ensures.accepted _ (ports_have_numbers (kernel_of c.args.checked.now) c.args.core c.kernel-kernel.ensures.accepted c.requires.is_core))
 
 pub returns-clause-used_timers : goal.returns-clause-used_timers
 returns-clause-used_timers c =
     let is : c.in_ok-timers.timers ≡ identifiers_from core_of_timer c.args.core (name_of c.args.core 0 1) c.args.checked.now.timers =
     c.in_ok-timers.ensures ∙ ap (λ (ts : List Timer). identifiers_from core_of_timer c.args.core (name_of c.args.core 0 1) ts) (c.as_slice-3.ensures ∙ ap (λ (k : Kernel). k.timers) c.kernel-kernel.ensures.kernel) in
-    subst (λ (places : List (Option ResAt)). HasUsedTimers (kernel_of c.args.checked.now) c.args.core places) (sym is) (has_used_timers (kernel_of c.args.checked.now) c.args.core c.kernel-kernel.ensures.accepted _ (timers_have_numbers (kernel_of c.args.checked.now) c.args.core c.kernel-kernel.ensures.accepted c.requires))
+    subst (λ (places : List (Option ResAt)). HasUsedTimers (kernel_of c.args.checked.now) c.args.core places) (sym is) (has_used_timers (kernel_of c.args.checked.now) c.args.core c.kernel-kernel.ensures.accepted _ (timers_have_numbers (kernel_of c.args.checked.now) c.args.core c.kernel-kernel.ensures.accepted c.requires.is_core))
 
 pub returns-clause-listed : goal.returns-clause-listed
 returns-clause-listed c = numbers_listed (kernel_of c.args.checked.now) c.args.core
 
 pub returns-clause-differ : goal.returns-clause-differ
-returns-clause-differ c = ports_apart (kernel_of c.args.checked.now) c.args.core c.requires c.kernel-kernel.ensures.accepted.of_program
+returns-clause-differ c = ports_apart (kernel_of c.args.checked.now) c.args.core c.requires.is_core c.kernel-kernel.ensures.accepted.of_program
+
+pub end_count-requires : goal.end_count-requires
+end_count-requires c =
+    let k = kernel_of c.args.checked.now in
+    let few = few_ends k c.args.core c.kernel-kernel.ensures.accepted c.requires.stay c.requires.is_core in
+    let is = ap (λ (users : List (Option ℕ)). sum_by (ends_of_user c.args.core) users) (c.as_slice-4.ensures ∙ c.in_ok-users.ensures) in
+    let need = users_need k c.requires.stay c.args.core (length k.channels) in
+    omega (arith, few, is, need)
+
+pub end_identifiers-requires-clause-few : goal.end_identifiers-requires-clause-few
+end_identifiers-requires-clause-few c =
+    let k = kernel_of c.args.checked.now in
+    let few = few_ends k c.args.core c.kernel-kernel.ensures.accepted c.requires.stay c.requires.is_core in
+    let is = c.end_count.ensures ∙ ap (λ (users : List (Option ℕ)). sum_by (ends_of_user c.args.core) users) (c.as_slice-4.ensures ∙ c.in_ok-users.ensures) in
+    let need = users_need k c.requires.stay c.args.core (length k.channels) in
+    omega (arith, few, is, need)
+
+pub returns-clause-ends : goal.returns-clause-ends
+returns-clause-ends c =
+    let k = kernel_of c.args.checked.now in
+    let is = c.end_count.ensures ∙ ap (λ (users : List (Option ℕ)). sum_by (ends_of_user c.args.core) users) (c.as_slice-4.ensures ∙ c.in_ok-users.ensures) in
+    c.in_ok-ends.ensures ∙ ap (ends_below c.args.core) (is ∙ users_need k c.requires.stay c.args.core (length k.channels))
+
+pub returns-clause-channels : goal.returns-clause-channels
+returns-clause-channels c =
+    let k = kernel_of c.args.checked.now in
+    c.in_ok-channels.ensures
+    ∙ ap (λ (users : List (Option ℕ)). numbers_from c.args.core 0 users) (c.as_slice-5.ensures ∙ c.in_ok-users.ensures)
+    ∙ numbers_are_first k c.requires.stay c.args.core (length k.channels)

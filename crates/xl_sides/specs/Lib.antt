@@ -1,0 +1,4 @@
+pub mod Ends
+pub mod Sides
+pub mod Uses
+pub mod Branches

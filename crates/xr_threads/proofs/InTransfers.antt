@@ -1,0 +1,141 @@
+-- A thread inside a transfer: its side's line and spot, and what its steps without an action of the program's leave.
+use Rattle.std.proofs.Common.{◌≡◌, ℕ, suc, ◌+◌, ◌*◌, ◌≤◌, ◌≢◌, List, [], Option, Some, None, refl, sym, ap, ◌∙◌, subst, arith}
+use Rattle.std.specs.Prelude.{Bool, false, slice_get, slice_set}
+use Rattle.std.proofs.lemmas.Option.{none-some, same_Some}
+use Rattle.xs_instr.specs.declared.state.ChanEnd.{ChanEnd}
+use Rattle.xs_instr.specs.declared.state.CoreState.{CoreState}
+use Rattle.xs_instr.specs.declared.state.Mode.TheVariants.{Running}
+use Rattle.xs_instr.specs.declared.state.Regs.{Regs}
+use Rattle.xs_instr.specs.declared.trace.Record.{Record}
+use Rattle.xs_instr.specs.Did.{Did, Paused}
+use Rattle.xs_instr.specs.Machine.{Step, noted, stepped}
+use Rattle.xc_meaning.specs.Counts.KernelCounts.{kernel_bound}
+use Rattle.xc_meaning.specs.States.Branches.{Branch, runs, ended, erred}
+use Rattle.xc_meaning.specs.States.Channels.{Side}
+use Rattle.xl_image.specs.Images.{core_of}
+use Rattle.xl_par.specs.Hands.{Hand}
+use Rattle.xr_match.specs.Lives.{Life, Watched, watched_after}
+use Rattle.xr_match.specs.Meanings.{of_kernel}
+use Rattle.xr_match.specs.Sources.{Told}
+use Rattle.xr_threads.specs.Images.{IsImageOf}
+use Rattle.xr_threads.specs.Roles.{Roles, empty, used_by}
+use Rattle.xr_threads.specs.Runners.{Runner, Setting, home}
+use Rattle.xr_threads.specs.Scenes.{Scene, running}
+use Rattle.xr_threads.specs.Standing.{Stand, Standing, StandsBy, StandsWith, ThreadIs, none_rests}
+use Rattle.xr_threads.specs.Transfers.{Transfer}
+use Rattle.xr_threads.specs.Wired.{AreWired, HasAlone, IsLine, IsTransferring}
+use Rattle.xr_threads.proofs.Advances.{advances, watched_next, who_next}
+use Rattle.xr_threads.proofs.EndSteps as step
+use Rattle.xr_threads.proofs.EndSteps.{advance, gone_on}
+use Rattle.xr_threads.proofs.Lives.{own_life}
+use Rattle.xr_threads.proofs.Standing.{Follows, told_by}
+use Rattle.xr_threads.proofs.WiredMoves.{Moves}
+use Rattle.xr_wires.specs.Phases.{Phase, between, spot}
+
+-- What a thread's next slot is, and how the program follows it: the thread pauses; or the slot leaves this core and this record, and behind a
+-- piece of the program's run the two sides stand so again.
+pub data IsFollowed (g : Setting) (who : Roles) (w : Watched) (x : Told (of_kernel g.program)) (c t : ℕ) (r : Runner) (a : CoreState) (did : Did CoreState) : Type 0 where
+  pauses : did ≡ Paused → IsFollowed g who w x c t r a did
+  followed : (may_rest : (core thread : ℕ) → Bool) → ((d u : ℕ) → d ≢ c → may_rest d u ≡ false) → (left : CoreState) (made : Option Record) →
+      stepped (home g r) w.machine r.core r.thread a did ≡ Some (record { cores = slice_set w.machine.cores r.core left; links = w.machine.links; trace = noted w.machine.trace made }) →
+      Follows g may_rest who w x (watched_after w (Step c t) (record { cores = slice_set w.machine.cores c left; links = w.machine.links; trace = noted w.machine.trace made })) →
+      IsFollowed g who w x c t r a did
+
+-- a side of a channel, in a phase
+abbrev pub in_phase : (channel : ℕ) → Side → Phase → Transfer
+in_phase channel side phase = record { channel = channel; side = side; phase = phase }
+
+module _ (g : Setting) (may_rest : (core thread : ℕ) → Bool) (who : Roles) (w : Watched) (x : Told (of_kernel g.program)) (st : Standing g may_rest who w x)
+    (c t : ℕ) (r : Runner) (hand : Option Hand) (runs_r : who c t ≡ used_by r hand) (channel : ℕ) (side : Side) (phase : Phase) (its : r.transfer ≡ Some (in_phase channel side phase)) where
+  pub is_in : IsTransferring who c t channel side
+  is_in = record { runner = r; hand = hand; runs = runs_r; transfer = in_phase channel side phase; is = its; channel_is = refl; side_is = refl }
+
+  abbrev pub own_line : ℕ
+  own_line = (st.wired.listed c t channel side is_in).0
+
+  pub line_is : IsLine g.program own_line channel
+  line_is = (st.wired.listed c t channel side is_in).1
+
+  pub on_core : core_of g.program channel ≡ c
+  on_core = (st.wired.listed c t channel side is_in).2
+
+  pub spot_is : st.wired.ghosts.spots own_line side ≡ spot phase false
+  spot_is = st.wired.inside c t own_line r hand (in_phase channel side phase) runs_r its line_is
+
+  was_it : (transfer : Transfer) → r.transfer ≡ Some transfer → transfer ≡ in_phase channel side phase
+  was_it transfer is = same_Some transfer (in_phase channel side phase) (sym is ∙ its)
+
+  old : (transfer : Transfer) → r.transfer ≡ Some transfer → (transfer.channel ≡ channel) × (transfer.side ≡ side)
+  old transfer is = (ap (λ (k : Transfer). k.channel) (was_it transfer is), ap (λ (k : Transfer). k.side) (was_it transfer is))
+
+  -- it goes on in its transfer, or leaves it
+  pub moves_on : (s : Runner) (later : Phase) → s.transfer ≡ Some (in_phase channel side later) → Moves g who c t r s channel side later
+  moves_on s later is = record {
+    old = old;
+    new = λ transfer its'. same_Some transfer (in_phase channel side later) (sym its' ∙ is);
+    over = λ none. absurd (none-some (in_phase channel side later) (sym none ∙ is));
+    mine = λ d u other. st.wired.one c t d u channel side is_in other;
+  }
+
+  pub moves_out : (s : Runner) → s.transfer ≡ None → Moves g who c t r s channel side between
+  moves_out s none = record {
+    old = old;
+    new = λ transfer its'. absurd (none-some transfer (sym none ∙ its'));
+    over = λ e. refl;
+    mine = λ d u other. st.wired.one c t d u channel side is_in other;
+  }
+
+-- The thread goes on, and the program does nothing.
+module _ (g : Setting) (first : Roles) (is : IsImageOf g first) (who : Roles) (w : Watched) (x : Told (of_kernel g.program)) (st : Standing g none_rests who w x)
+    (c t : ℕ) (a : CoreState) (at_c : slice_get w.machine.cores c ≡ Some a) (r : Runner) (runs_r : who c t ≡ used_by r None)
+    (branch : Branch) (known : slice_get x.state.branches r.branch ≡ Some branch) (stand : Stand g r false None a x.state (w.lives c t) x.actions branch) (on : branch.mode ≡ runs)
+    (pc : ℕ) (regs : Regs) (here : slice_get a.threads r.thread ≡ Some (running r.tie pc regs)) (ends : List ChanEnd) (next : Option Transfer) where
+  abbrev pub left : CoreState
+  left = step.left g r a pc regs regs here ends
+
+  abbrev pub s : Runner
+  s = record r { transfer = next }
+
+  abbrev pub behind : Scene
+  behind = record { core = left; world = x.state; hand = None }
+
+  abbrev pub watched : Watched
+  watched = watched_next g first is who w x st c t a at_c r runs_r left (advance g r a pc regs regs here ends) next
+
+  abbrev more : ℕ → ℕ
+  more = (told_by g.program g.stimulus x [] x.state).actions
+
+  -- it is on its way still, by fewer steps
+  own_stand : (rests : Bool) (fewer : ℕ) → suc fewer ≤ stand.left → StandsWith g s rests next branch.items fewer behind → Stand g s rests None left x.state (watched.lives c t) more branch
+  own_stand rests fewer few by = record {
+    core = stand.core;
+    family = stand.family;
+    footprint = stand.footprint;
+    parents = stand.parents;
+    thread = record { thread = running r.tie (pc + 1) regs; there = gone_on g r a pc regs regs here ends; tied = refl; no_events = refl; is = subst (λ m. ThreadIs r.parents m Running) (sym on) refl };
+    in_hand = empty refl;
+    sides = stand.sides;
+    done = λ over. absurd (runs_ended (sym on ∙ over));
+    stops = λ over. absurd (runs_erred (sym on ∙ over));
+    ends_tied = λ over. absurd (runs_ended (sym on ∙ over));
+    left = fewer;
+    bound =
+        let old = stand.bound in
+        let same : x.actions r.family + 0 ≡ x.actions r.family = omega arith in
+        let life : (watched.lives c t).steps ≡ (w.lives c t).steps + 1 = ap (λ (l : Life). l.steps) (own_life w watched.machine c t) in
+        subst (λ m. (watched.lives c t).steps + fewer ≤ kernel_bound g.program * (m + 1)) (sym same) (omega arith);
+    by = subst (λ m. StandsBy g s rests branch.items m fewer behind) (sym on) by;
+  }
+    where
+      runs_ended : runs ≡ ended → ⊥
+      runs_ended f = cc
+
+      runs_erred : runs ≡ erred → ⊥
+      runs_erred f = cc
+
+  -- so the two sides stand so again
+  pub goes_on_so : (may_rest' : (core thread : ℕ) → Bool) (fewer : ℕ) → suc fewer ≤ stand.left → StandsWith g s (may_rest' c t) next branch.items fewer behind →
+      AreWired g (who_next g first is who w x st c t a at_c r runs_r left (advance g r a pc regs regs here ends) next) (slice_set w.machine.cores c left) x.state.inboxes →
+      ((transfer : Transfer) → next ≡ Some transfer → HasAlone x.state.branches transfer.channel transfer.side r.branch) → Follows g may_rest' who w x watched
+  goes_on_so may_rest' fewer few by wired alone =
+      advances g first is who w x st c t a at_c r runs_r left (advance g r a pc regs regs here ends) next may_rest' branch known wired alone (own_stand (may_rest' c t) fewer few by)

@@ -1,0 +1,152 @@
+-- A root's branch ends by a step of its own, and its thread leaves its place: it is free.
+use Rattle.std.proofs.Common.{◌≡◌, ℕ, ◌≤◌, ◌≢◌, ◌⊎◌, inl, inr, [], ◌∷◌, List, length, Option, Some, None, refl, sym, ap, ◌∙◌, subst, ⊎_elim, eq-eqb}
+use Rattle.std.specs.Prelude.{true, false, slice_get}
+use Rattle.std.proofs.lemmas.Bool.{eqb-true}
+use Rattle.xs_instr.specs.declared.state.CoreState.{CoreState}
+use Rattle.xs_instr.specs.Machine.{noted}
+use Rattle.xc_disjoint.specs.Needs.{threads_on}
+use Rattle.xc_meaning.specs.Runs.{acts_all}
+use Rattle.xc_meaning.specs.States.Branches.{Branch, has_ended}
+use Rattle.xc_meaning.specs.States.Worlds.{Action, go}
+use Rattle.xl_par.specs.Hands.{Hand, IsAmong}
+use Rattle.xr_match.specs.Lives.{Watched}
+use Rattle.xr_match.specs.Meanings.{of_kernel}
+use Rattle.xr_match.specs.Sources.{Told}
+use Rattle.xr_threads.specs.Images.{IsImageOf}
+use Rattle.xr_threads.specs.Parents.{branches_of}
+use Rattle.xr_threads.specs.Roles.{Roles, own_branches, unused, used_by}
+use Rattle.xr_threads.specs.Runners.{Runner, Setting}
+use Rattle.xr_threads.specs.Scenes.{giving_back}
+use Rattle.xr_threads.specs.Standing.{AreLoose, IsRun, Standing, Stands, none_rests}
+use Rattle.xr_threads.specs.Transfers.{Transfer}
+use Rattle.xr_threads.specs.Turns.{IsFree}
+use Rattle.xr_threads.proofs.Holding.{loose_behind}
+use Rattle.xr_threads.proofs.Moves.{Effect, laid_at, same_runner}
+use Rattle.xr_threads.proofs.NamedLinks.{leaves_linked}
+use Rattle.xr_threads.proofs.OwnEvents.{OwnStep, all_acted, at_left, branch_cases, core_is, leaves_loose, only_thread, others_there, others_used, own_effect, own_far_roots, own_made, own_placed, own_roots, same_role, thread_is}
+use Rattle.xr_threads.proofs.Reserves.{GiveAsBefore, reserves_behind, reserves_of_others}
+use Rattle.xr_threads.proofs.Seating.{roles_leave}
+use Rattle.xr_threads.proofs.Seats.{role_cases, role_far, role_here, with_role}
+use Rattle.xr_threads.proofs.Standing.{Follows, told_by}
+use Rattle.xr_threads.proofs.Steps.{answered, clocks_still, far_steps_still, has_stepped, steps_still, watched}
+use Rattle.xr_threads.proofs.Usage.{used_leave}
+use Rattle.xr_threads.proofs.Wiring.{TransfersAsBefore, wired_still}
+
+module _ (g : Setting) (first : Roles) (is : IsImageOf g first) (who : Roles) (w : Watched) (x : Told (of_kernel g.program)) (st : Standing g none_rests who w x)
+    (c t : ℕ) (a : CoreState) (at_c : slice_get w.machine.cores c ≡ Some a) (r : Runner) (runs_r : who c t ≡ used_by r None) (e : OwnStep g r c a x.state)
+    (tie : r.tie ≡ None) (parents : r.parents ≡ []) (over : has_ended e.next.mode ≡ true) (free : IsFree (slice_get e.left.threads r.thread)) where
+  abbrev piece : List Action
+  piece = go r.branch ∷ []
+
+  abbrev effect : Effect g who c t r None (only_thread t) a e.left x.state e.world
+  effect = own_effect g first is who w x st c t a at_c r runs_r e
+
+  acted : acts_all g.program g.stimulus (Some x.state) piece ≡ Some e.world
+  acted = all_acted g first is who w x st c t a at_c r runs_r e
+
+  abbrev who_off : Roles
+  who_off = with_role who c t unused
+
+  before_off : (d u : ℕ) (i : Runner) (other : Option Hand) → who_off d u ≡ used_by i other → who d u ≡ used_by i other
+  before_off d u i other at =
+      ⊎_elim
+      (λ here. let both : unused ≡ used_by i other = sym here.2 ∙ at in cc)
+      (λ there. sym there.1 ∙ at)
+      (role_cases who c t unused d u)
+
+  still_off : (d u : ℕ) (i : Runner) (other : Option Hand) → who d u ≡ used_by i other → (r ≡ i) ⊎ (who_off d u ≡ used_by i other)
+  still_off d u i other at =
+      ⊎_elim
+      (λ here. inl (same_runner r i None other (sym runs_r ∙ sym (ap (λ k. who k u) here.0 ∙ ap (who c) here.1) ∙ at)))
+      (λ there. inr (there.1 ∙ at))
+      (role_cases who c t unused d u)
+
+  loose_off : 1 ≤ threads_on g.program c → AreLoose g who_off c e.left e.world
+  loose_off some =
+      loose_behind g who who_off c a e.left x.state e.world r (core_is g first is who w x st c t a at_c r runs_r e) (st.roles.base c t r None runs_r) (laid_at g first is none_rests who w x st c t r None runs_r)
+      (st.loose c a at_c some) (leaves_loose g first is who w x st c t a at_c r runs_r e) e.holds e.ports
+      (λ v nobody no u i other at. ⊎_elim (λ (same : r ≡ i). subst (λ (k : Runner). k.footprint.changes v ≡ false) same no) (λ now. nobody u i other now) (still_off c u i other at))
+      (λ v wanted. inl (record { thread = wanted.thread; runner = wanted.runner; hand = wanted.hand; runs = before_off c wanted.thread wanted.runner wanted.hand wanted.runs; parent = wanted.parent; waits = wanted.waits; uses = wanted.uses }))
+      (λ q nobody no u i other at. ⊎_elim (λ (same : r ≡ i). subst (λ (k : Runner). k.footprint.ports q ≡ false) same no) (λ now. nobody u i other now) (still_off c u i other at))
+
+  only_own : (n : ℕ) → IsAmong (own_branches r) n → n ≡ r.branch
+  only_own n (inl f) = f
+  only_own n (inr m) = absurd (subst (λ ps. IsAmong (branches_of ps) n) parents m)
+
+  run_off : (n : ℕ) (branch : Branch) → slice_get e.world.branches n ≡ Some branch → has_ended branch.mode ≡ false → IsRun who_off n
+  run_off n branch there on =
+      ⊎_elim
+      (λ (h : (n ≡ r.branch) × (branch ≡ e.next)). absurd (true_false (sym over ∙ ap (λ (b : Branch). has_ended b.mode) (sym h.1) ∙ on)))
+      (λ (h : (n ≢ r.branch) × (slice_get x.state.branches n ≡ Some branch)).
+      let q = st.run n branch h.1 on in
+      ⊎_elim
+      (λ (same : r ≡ q.runner). absurd (h.0 (only_own n (subst (λ (k : Runner). IsAmong (own_branches k) n) (sym same) q.branch))))
+      (λ now. record { core = q.core; thread = q.thread; runner = q.runner; hand = q.hand; runs = now; branch = q.branch })
+      (still_off q.core q.thread q.runner q.hand q.runs))
+      (branch_cases g first is who w x st c t a at_c r runs_r e n branch there)
+    where
+      true_false : true ≡ false → ⊥
+      true_false f = cc
+
+  gives_off : GiveAsBefore who who_off
+  gives_off = record { before = λ d u n i at. (i, n, before_off d u i (giving_back n) at, refl) }
+
+  abbrev pub watched_off : Watched
+  watched_off = watched g first is none_rests who w x st c t a at_c r None runs_r (only_thread t) (eq-eqb t t refl) e.left e.world effect e.made
+
+  -- it was in no transfer
+  off_transfers : r.transfer ≡ None → TransfersAsBefore who who_off
+  off_transfers none = record {
+    before = λ d u i other transfer at its. (i, other, before_off d u i other at, its);
+    still = λ d u i other transfer at its.
+        ⊎_elim
+        (λ (same : r ≡ i). absurd (none_some transfer (sym none ∙ ap (λ (k : Runner). k.transfer) same ∙ its)))
+        (λ now. (i, other, now, its))
+        (still_off d u i other at);
+  }
+    where
+      none_some : (transfer : Transfer) → ◌≡◌ {A = Option Transfer} None (Some transfer) → ⊥
+      none_some transfer f = cc
+
+  pub leaves_answered : r.transfer ≡ None → e.left.ends ≡ a.ends → e.world.inboxes ≡ x.state.inboxes → length e.left.words ≡ length a.words → Follows g none_rests who w x watched_off
+  leaves_answered none ends boxes size =
+      let o = only_thread t in
+      let self = eq-eqb t t refl in
+      record {
+        who = who_off;
+        piece = piece;
+        world = e.world;
+        acted = acted;
+        standing = answered g first is none_rests who w x st c t a at_c r None runs_r o self e.left e.world effect none_rests who_off watched_off piece
+            (has_stepped g first is none_rests who w x st c t a at_c r None runs_r o self e.left e.world effect e.made size)
+            (record {
+              acted = acted;
+              clocks = clocks_still g first is none_rests who w x st c t a at_c r None runs_r o self e.left e.world effect e.made;
+              trace = ap (λ l. noted l e.made) st.trace ∙ sym e.is_next.trace;
+              roles = roles_leave g who c t st.roles r runs_r tie parents;
+              reserves = reserves_of_others g who e.world (reserves_behind g who x.state st.lawful st.reserves piece e.world acted) who_off gives_off;
+              used = used_leave g who c t st.roles r runs_r parents a e.left (st.used c a at_c) (others_used g first is who w x st c t a at_c r runs_r e) e.syncs (subst (λ k. IsFree (slice_get e.left.threads k)) (thread_is g first is who w x st c t a at_c r runs_r e) free);
+              same_role = same_role g first is who w x st c t a at_c r runs_r e unused;
+              far_role = λ d u ne. role_far who c t unused d u ne;
+              rests = λ u m none. none;
+              far_rests = λ d u ne none. none;
+              steps = λ u m. steps_still g first is none_rests who w x st c t a at_c r None runs_r o self e.left e.world effect e.made u m;
+              far_steps = λ d u ne. far_steps_still g first is none_rests who w x st c t a at_c r None runs_r o self e.left e.world effect e.made d u ne;
+              stand = λ u m.
+                  let at : u ≡ t = eqb-true u t m in
+                  let actions = (told_by g.program g.stimulus x piece e.world).actions in
+                  subst (Stands g false e.left e.world (watched_off.lives c u) actions) (sym (ap (who_off c) at ∙ role_here who c t unused)) tt;
+              wired = wired_still g who who_off w watched_off c a e.left x.state.inboxes e.world.inboxes (off_transfers none)
+                  (has_stepped g first is none_rests who w x st c t a at_c r None runs_r o self e.left e.world effect e.made size) ends boxes st.wired;
+              alone = λ u i hand transfer m at its.
+                  let both : unused ≡ used_by i hand = sym (role_here who c t unused) ∙ ap (who_off c) (sym (eqb-true u t m)) ∙ at in
+                  cc;
+              loose = loose_off;
+              roots = own_roots g first is who w x st c t a at_c r runs_r e;
+              far_roots = own_far_roots g first is who w x st c t a at_c r runs_r e;
+              placed = own_placed g first is who w x st c t a at_c r runs_r e;
+              run = run_off;
+              made = own_made g first is who w x st c t a at_c r runs_r e;
+            });
+        named = λ names. leaves_linked g none_rests who w x st names watched_off.machine c t a e.left at_c (at_left g first is who w x st c t a at_c r runs_r e) r runs_r e.world e.next e.branch e.known e.birth e.is_next.branches e.syncs (others_there g first is who w x st c t a at_c r runs_r e);
+      }

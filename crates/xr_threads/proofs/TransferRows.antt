@@ -1,0 +1,272 @@
+-- The steps of a transfer without an action of the program's: an output's END, and CHKCT END and ACK of an input.
+use Rattle.std.proofs.Common.{◌≡◌, ℕ, suc, ◌+◌, ◌≤◌, ◌≢◌, ◌⊎◌, inl, inr, List, [], ◌∷◌, Option, Some, None, refl, sym, ap, ◌∙◌, subst, arith}
+use Rattle.std.specs.Prelude.{Bool, false, ◌&&◌, nat_eq, slice_get}
+use Rattle.std.proofs.lemmas.Bool.{ne_eqb}
+use Rattle.std.proofs.lemmas.Option.{none-some, same_Some}
+use Rattle.xw_words.specs.declared.pos.Pos.{Pos}
+use Rattle.xs_instr.specs.declared.state.ChanEnd.{ChanEnd}
+use Rattle.xs_instr.specs.declared.state.CoreState.{CoreState}
+use Rattle.xs_instr.specs.declared.state.Regs.{Regs}
+use Rattle.xs_instr.specs.declared.state.Thread.{Thread}
+use Rattle.xs_instr.specs.declared.state.Token.{Token}
+use Rattle.xs_instr.specs.Did.{Made}
+use Rattle.xs_instr.specs.Ends.{control_token}
+use Rattle.xs_instr.specs.Machine.{stepped}
+use Rattle.xs_instr.specs.Slot.{slot}
+use Rattle.xc_kernel.specs.Plain as kernel
+use Rattle.xc_meaning.specs.States.Branches.{Branch, runs}
+use Rattle.xc_meaning.specs.States.Channels.{Inboxes, Side}
+use Rattle.xc_meaning.specs.States.Items.{Item, awaits, chooses, does, ends, fixed, mark, says, stores, transaction_end}
+use Rattle.xl_chan.specs.Protocols.{Acts, sends, takes}
+use Rattle.xl_image.specs.Images.{core_of, pair_of}
+use Rattle.xl_walk.specs.Pieces.{Exit}
+use Rattle.xr_match.specs.Lives.{Watched}
+use Rattle.xr_match.specs.Meanings.{of_kernel}
+use Rattle.xr_match.specs.Sources.{Told}
+use Rattle.xr_threads.specs.Fits.{ItemsFit}
+use Rattle.xr_threads.specs.Images.{IsImageOf}
+use Rattle.xr_threads.specs.Roles.{Roles, used_by}
+use Rattle.xr_threads.specs.Runners.{Runner, Setting, end_place, home}
+use Rattle.xr_threads.specs.Scenes.{Scene, running}
+use Rattle.xr_threads.specs.Standing.{IfTrue, IsAtRest, Stand, Standing, StandsWith, none_rests}
+use Rattle.xr_threads.specs.Transfers.{AwaitsNothing, GoesWith, Transfer, acts_left, steps_left}
+use Rattle.xr_threads.specs.Turns.{Has, HasBases, InTransfer, IsBehind, ItemsFrom, TakesSteps, cost}
+use Rattle.xr_threads.specs.Wired.{HasAlone, IsLine, boxes_in}
+use Rattle.xr_threads.proofs.Answers as answers
+use Rattle.xr_threads.proofs.ChannelEnds.{acts_there, end, end_is, is_near, left_local}
+use Rattle.xr_threads.proofs.EndSteps as step
+use Rattle.xr_threads.proofs.EndSteps.{gone_on}
+use Rattle.xr_threads.proofs.InTransfers.{IsFollowed, followed, goes_on_so, in_phase, line_is, moves_on, moves_out, on_core, own_line, pauses, spot_is}
+use Rattle.xr_threads.proofs.Moves.{laid_at}
+use Rattle.xr_threads.proofs.OwnEvents.{rests_alone, rests_there}
+use Rattle.xr_threads.proofs.Protocols.{ack_sent, end_sent, end_taken}
+use Rattle.xr_threads.proofs.Stored.{stored_leads}
+use Rattle.xr_threads.proofs.Transferred.{behind_as, fits_as, has_as, laid_as, rest_as, steps_as}
+use Rattle.xr_threads.proofs.WiredMoves.{Moves, wired_moves}
+use Rattle.xr_wires.specs.Phases.{Phase, awaits_ack, between, checks_end, offers, sends_ack, sends_end, spot}
+use Rattle.xr_wires.proofs.Near as near
+use Rattle.xr_wires.proofs.Near.{NearEndCheck, IsNear, Next, NearSend, end_makes, end_pauses, sends_makes, sends_pauses}
+
+-- nobody is at rest on another core
+pub alone_elsewhere : (c : ℕ) (b : Bool) (d : ℕ) → d ≢ c → (nat_eq d c && b) ≡ false
+alone_elsewhere c b d ne = ap (λ k. k && b) (ne_eqb d c ne)
+
+-- Behind an input the code of what is left begins, or the word that has come in is stored first.
+module _ (g : Setting) (r : Runner) (j index : ℕ) (regs : Regs) where
+  abbrev IsStored : List Item → Type 0
+  IsStored items = (place : kernel.Place) × (v : ℕ) × (rest : List Item) × (items ≡ stores place v ∷ rest)
+
+  abbrev IsCode : List Item → Type 0
+  IsCode items = HasBases g r regs × ((exits : List Exit) × ItemsFrom g r items exits index j)
+
+  rests_or_stores : (items : List Item) → AwaitsNothing items → IsBehind g r items j index regs → IsStored items ⊎ IsCode items
+  rests_or_stores [] n h = inr h
+  rests_or_stores (does t ∷ rest) n h = inr h
+  rests_or_stores (says i ∷ rest) n h = inr h
+  rests_or_stores (stores place v ∷ rest) n h = inl (place, v, rest, refl)
+  rests_or_stores (mark k ∷ rest) n h = inr h
+  rests_or_stores (awaits c pos ∷ rest) n h = absurd n
+  rests_or_stores (transaction_end c is_master pos ∷ rest) n h = inr h
+  rests_or_stores (chooses choices otherwise ∷ rest) n h = inr h
+  rests_or_stores (fixed i w counter ∷ rest) n h = inr h
+  rests_or_stores (ends ∷ rest) n h = inr h
+
+module _ (g : Setting) (first : Roles) (is : IsImageOf g first) (who : Roles) (w : Watched) (x : Told (of_kernel g.program)) (st : Standing g none_rests who w x)
+    (c t : ℕ) (a : CoreState) (at_c : slice_get w.machine.cores c ≡ Some a) (r : Runner) (runs_r : who c t ≡ used_by r None)
+    (branch : Branch) (known : slice_get x.state.branches r.branch ≡ Some branch) (stand : Stand g r false None a x.state (w.lives c t) x.actions branch) (on : branch.mode ≡ runs)
+    (channel : ℕ) (side : Side) where
+  abbrev now : Scene
+  now = record { core = a; world = x.state; hand = None }
+
+  abbrev Goal : Type 0
+  Goal = IsFollowed g who w x c t r a (slot (home g r) a r.thread)
+
+  -- the branch has these items still, where the thread goes on
+  has_still : (pc : ℕ) (regs : Regs) (here : slice_get a.threads r.thread ≡ Some (running r.tie pc regs)) (es : List ChanEnd) → Has g r branch.items now → Has g r branch.items (record { core = step.left g r a pc regs regs here es; world = x.state; hand = None })
+  has_still pc regs here es h =
+      let then : Scene = record { core = step.left g r a pc regs regs here es; world = x.state; hand = None } in
+      record {
+        branch = h.branch;
+        runs = h.runs;
+        core = h.core;
+        holds = answers.store_as g r c a x.state now then refl refl h.holds;
+        ports = answers.ports_as g r c a x.state now then (λ p listed its. refl) h.ports;
+      }
+
+  -- The thread is inside a transfer on a side of the channel.
+  module _ (phase : Phase) (its : r.transfer ≡ Some (in_phase channel side phase)) (pc : ℕ) (regs : Regs) (here : slice_get a.threads r.thread ≡ Some (running r.tie pc regs)) where
+    abbrev line : ℕ
+    line = own_line g none_rests who w x st c t r None runs_r channel side phase its
+
+    abbrev at : IsLine g.program line channel
+    at = line_is g none_rests who w x st c t r None runs_r channel side phase its
+
+    abbrev there : core_of g.program channel ≡ c
+    there = on_core g none_rests who w x st c t r None runs_r channel side phase its
+
+    abbrev spot_now : st.wired.ghosts.spots line side ≡ spot phase false
+    spot_now = spot_is g none_rests who w x st c t r None runs_r channel side phase its
+
+    abbrev boxes : List Inboxes
+    boxes = boxes_in g.program x.state.inboxes
+
+    abbrev own_end : ChanEnd
+    own_end = end g first is who w x st c t a at_c r None runs_r channel side line at there
+
+    abbrev near_it : IsNear g.image.chans w.machine.cores line (pair_of g.program channel) side (home g r) a own_end
+    near_it = is_near g first is who w x st c t a at_c r None runs_r channel side line at there
+
+    abbrev thread : Thread
+    thread = running r.tie pc regs
+
+    -- A step leaves other ends, and the side of the channel in a later phase.
+    module _ (next : Option Transfer) (later : Phase) (moves : Moves g who c t r (record r { transfer = next }) channel side later) (alone : (transfer : Transfer) → next ≡ Some transfer → HasAlone x.state.branches transfer.channel transfer.side r.branch)
+        (rests : (core thread : ℕ) → Bool) (elsewhere : (d u : ℕ) → d ≢ c → rests d u ≡ false) (fewer : ℕ) (few : suc fewer ≤ stand.left)
+        (by : (es : List ChanEnd) → StandsWith g (record r { transfer = next }) (rests c t) next branch.items fewer (record { core = step.left g r a pc regs regs here es; world = x.state; hand = None })) where
+      made_so : (es : List ChanEnd) → slot (home g r) a r.thread ≡ Made (step.left g r a pc regs regs here es) None [] →
+          Next g.image.chans is.lines.wired w.machine.cores boxes st.wired.ghosts st.wired.local line (pair_of g.program channel) side (home g r) a own_end near_it r.thread thread (step.left g r a pc regs regs here es) boxes (spot later false) → Goal
+      made_so es is_made made =
+          let left = step.left g r a pc regs regs here es in
+          followed rests elsewhere left None (ap (stepped (home g r) w.machine r.core r.thread a) is_made)
+          (goes_on_so g first is who w x st c t a at_c r runs_r branch known stand on pc regs here es next rests fewer few (by es)
+          (wired_moves g is.lines who w.machine.cores x.state.inboxes st.wired c t a at_c r None runs_r (record r { transfer = next }) None channel side line at there later moves left x.state.inboxes made.size refl
+          (left_local g first is who w x st c t a at_c r None runs_r channel side line at there left boxes (spot later false) made.local))
+          alone)
+
+      -- tokens go out
+      sends_so : (pos : Pos) (ks : List Token) → Acts (home g r) r.thread (end_place g r channel side) thread pos (sends ks) pc regs →
+          NearSend g.image.chans is.lines.wired w.machine.cores boxes st.wired.ghosts st.wired.local line (pair_of g.program channel) side (home g r) a own_end near_it r.thread thread ks boxes (spot later false) → Goal
+      sends_so pos ks acts result =
+          by_row ((acts_there g first is who w x st c t a at_c r None runs_r channel side line at there r.tie pos (sends ks) pc regs acts).by a own_end here (end_is g first is who w x st c t a at_c r None runs_r channel side line at there)) result
+        where
+          by_row : slot (home g r) a r.thread ≡ near.sent_did g.image.chans is.lines.wired w.machine.cores boxes st.wired.ghosts st.wired.local line (pair_of g.program channel) side (home g r) a own_end near_it r.thread thread ks →
+              NearSend g.image.chans is.lines.wired w.machine.cores boxes st.wired.ghosts st.wired.local line (pair_of g.program channel) side (home g r) a own_end near_it r.thread thread ks boxes (spot later false) → Goal
+          by_row e (sends_pauses did none) = pauses (e ∙ did)
+          by_row e (sends_makes did made) =
+              made_so (near.sent_gone g.image.chans is.lines.wired w.machine.cores boxes st.wired.ghosts st.wired.local line (pair_of g.program channel) side (home g r) a own_end near_it r.thread thread ks).ends (e ∙ did) made
+
+      -- an END is taken
+      checks_so : (pos : Pos) → Acts (home g r) r.thread (end_place g r channel side) thread pos (takes 1) pc regs →
+          NearEndCheck g.image.chans is.lines.wired w.machine.cores boxes st.wired.ghosts st.wired.local line (pair_of g.program channel) side (home g r) a own_end near_it r.thread thread (spot later false) → Goal
+      checks_so pos acts result =
+          by_row ((acts_there g first is who w x st c t a at_c r None runs_r channel side line at there r.tie pos (takes 1) pc regs acts).by a own_end here (end_is g first is who w x st c t a at_c r None runs_r channel side line at there)) result
+        where
+          by_row : slot (home g r) a r.thread ≡ near.check_did g.image.chans is.lines.wired w.machine.cores boxes st.wired.ghosts st.wired.local line (pair_of g.program channel) side (home g r) a own_end near_it r.thread thread 1 →
+              NearEndCheck g.image.chans is.lines.wired w.machine.cores boxes st.wired.ghosts st.wired.local line (pair_of g.program channel) side (home g r) a own_end near_it r.thread thread (spot later false) → Goal
+          by_row e (end_pauses did none) = pauses (e ∙ did)
+          by_row e (end_makes did made) =
+              made_so (near.taken_gone g.image.chans is.lines.wired w.machine.cores boxes st.wired.ghosts st.wired.local line (pair_of g.program channel) side (home g r) a own_end near_it r.thread thread 1).ends (e ∙ did) made
+
+    -- it goes on in its transfer
+    still_alone : (later : Phase) (transfer : Transfer) → Some (in_phase channel side later) ≡ Some transfer → HasAlone x.state.branches transfer.channel transfer.side r.branch
+    still_alone later transfer e = subst (λ (k : Transfer). HasAlone x.state.branches k.channel k.side r.branch) (same_Some (in_phase channel side later) transfer e) (st.alone c t r None (in_phase channel side phase) runs_r its)
+
+  -- the thread is at the next step of its transfer
+  later_steps : (phase later : Phase) (j fewer : ℕ) → steps_left later + j + cost g r ≤ fewer → (h : InTransfer g r (in_phase channel side phase) branch.items j now) → GoesWith later channel h.pos branch.items →
+      TakesSteps g r channel side h.pos (acts_left later) (IsBehind g r branch.items j) (h.pc + 1) h.regs → (es : List ChanEnd) →
+      StandsWith g (record r { transfer = Some (in_phase channel side later) }) false (Some (in_phase channel side later)) branch.items fewer (record { core = step.left g r a h.pc h.regs h.regs h.here es; world = x.state; hand = None })
+  later_steps phase later j fewer few h goes steps es =
+      let next = Some (in_phase channel side later) in (
+        j,
+        few,
+        record {
+          pos = h.pos;
+          goes_with = goes;
+          stands_in = h.stands_in;
+          no_hand = refl;
+          pc = h.pc + 1;
+          regs = h.regs;
+          here = gone_on g r a h.pc h.regs h.regs h.here es;
+          steps = steps_as g r next channel side h.pos (acts_left later) branch.items j (h.pc + 1) h.regs steps;
+          fits = fits_as g r next branch.items stand.footprint h.fits;
+          has = has_as g r next branch.items (record { core = step.left g r a h.pc h.regs h.regs h.here es; world = x.state; hand = None }) (has_still h.pc h.regs h.here es h.has);
+        },
+      )
+
+  -- END of an output
+  pub sends_end_followed : (v : ℕ) → r.transfer ≡ Some (in_phase channel side (sends_end v)) → (j : ℕ) → 2 + j + cost g r ≤ stand.left → InTransfer g r (in_phase channel side (sends_end v)) branch.items j now → Goal
+  sends_end_followed v its j few h =
+      let later = awaits_ack (offers v) in
+      let phase = sends_end v in
+      sends_so phase its h.pc h.regs h.here (Some (in_phase channel side later)) later
+      (moves_on g none_rests who w x st c t r None runs_r channel side phase its (record r { transfer = Some (in_phase channel side later) }) later refl)
+      (still_alone phase its h.pc h.regs h.here later) none_rests (λ d u ne. refl) (1 + j + cost g r) (omega (arith, few))
+      (later_steps phase later j (1 + j + cost g r) (omega arith) h h.goes_with (end_sent g r channel side h.pos (IsBehind g r branch.items j) h.pc h.regs v h.steps))
+      h.pos (control_token 1 ∷ []) h.steps.0
+      (near.outct_end g.image.chans is.lines.wired w.machine.cores (boxes phase its h.pc h.regs h.here) st.wired.ghosts st.wired.local (line phase its h.pc h.regs h.here) (pair_of g.program channel) side (home g r) a (own_end phase its h.pc h.regs h.here) (near_it phase its h.pc h.regs h.here) r.thread (running r.tie h.pc h.regs)
+      v false (spot_now phase its h.pc h.regs h.here))
+
+  -- CHKCT END of an input
+  pub checks_end_followed : r.transfer ≡ Some (in_phase channel side checks_end) → (j : ℕ) → 2 + j + cost g r ≤ stand.left → InTransfer g r (in_phase channel side checks_end) branch.items j now → Goal
+  checks_end_followed its j few h =
+      let later = sends_ack in
+      let phase = checks_end in
+      checks_so phase its h.pc h.regs h.here (Some (in_phase channel side later)) later
+      (moves_on g none_rests who w x st c t r None runs_r channel side phase its (record r { transfer = Some (in_phase channel side later) }) later refl)
+      (still_alone phase its h.pc h.regs h.here later) none_rests (λ d u ne. refl) (1 + j + cost g r) (omega (arith, few))
+      (later_steps phase later j (1 + j + cost g r) (omega arith) h h.goes_with (end_taken g r channel side h.pos (IsBehind g r branch.items j) h.pc h.regs h.steps))
+      h.pos h.steps.0
+      (near.chkct_end g.image.chans is.lines.wired w.machine.cores (boxes phase its h.pc h.regs h.here) st.wired.ghosts st.wired.local (line phase its h.pc h.regs h.here) (pair_of g.program channel) side (home g r) a (own_end phase its h.pc h.regs h.here) (near_it phase its h.pc h.regs h.here) r.thread (running r.tie h.pc h.regs)
+      false (spot_now phase its h.pc h.regs h.here))
+
+  -- the thread has left its transfer, and is at the code of what is left, or on its way to the store of the word that has come in
+  module _ (j : ℕ) (h : InTransfer g r (in_phase channel side sends_ack) branch.items j now) (es : List ChanEnd) where
+    abbrev then : Scene
+    then = record { core = step.left g r a h.pc h.regs h.regs h.here es; world = x.state; hand = None }
+
+    abbrev out : Runner
+    out = record r { transfer = None }
+
+    out_has : Has g out branch.items then
+    out_has = has_as g r None branch.items then (has_still h.pc h.regs h.here es h.has)
+
+    out_fits : ItemsFit g out branch.items
+    out_fits = fits_as g r None branch.items stand.footprint h.fits
+
+    out_here : slice_get then.core.threads r.thread ≡ Some (running r.tie (h.pc + 1) h.regs)
+    out_here = gone_on g r a h.pc h.regs h.regs h.here es
+
+    out_behind : IsBehind g r branch.items j (h.pc + 1) h.regs
+    out_behind = ack_sent g r channel side h.pos (IsBehind g r branch.items j) h.pc h.regs h.steps
+
+    by_code : IsStored g r j (h.pc + 1) h.regs branch.items ⊎ IsCode g r j (h.pc + 1) h.regs branch.items → StandsWith g out (rests_alone c t c t) None branch.items (j + cost g r) then
+    by_code (inl (place, v, rest, e)) =
+        inl (
+          cost g r,
+          j,
+          omega arith,
+          stored_leads g out (laid_as g r None (laid_at g first is none_rests who w x st c t r None runs_r)) place v rest j (h.pc + 1) h.regs then
+              (subst (λ items. IsBehind g out items j (h.pc + 1) h.regs) e (behind_as g r None branch.items j (h.pc + 1) h.regs out_behind)) out_here
+              (subst (λ items. Has g out items then) e out_has) (subst (ItemsFit g out) e out_fits) refl,
+        )
+    by_code (inr (bases, (exits, code))) =
+        inr (inr (subst (λ b. IfTrue g out b (IsAtRest g out branch.items (j + cost g r) then)) (sym (rests_there c t)) (
+          j,
+          omega arith,
+          refl,
+          rest_as g r None branch.items j then stand.footprint (record {
+            pc = h.pc + 1;
+            regs = h.regs;
+            exits = exits;
+            here = out_here;
+            bases = bases;
+            at_code = code;
+            fits = h.fits;
+            has = has_still h.pc h.regs h.here es h.has;
+          }),
+        )))
+
+    left_it : StandsWith g out (rests_alone c t c t) None branch.items (j + cost g r) then
+    left_it = by_code (rests_or_stores g r j (h.pc + 1) h.regs branch.items h.goes_with out_behind)
+
+  -- ACK of an input
+  pub sends_ack_followed : r.transfer ≡ Some (in_phase channel side sends_ack) → (j : ℕ) → 1 + j + cost g r ≤ stand.left → InTransfer g r (in_phase channel side sends_ack) branch.items j now → Goal
+  sends_ack_followed its j few h =
+      let phase = sends_ack in
+      sends_so phase its h.pc h.regs h.here None between
+      (moves_out g none_rests who w x st c t r None runs_r channel side phase its (record r { transfer = None }) refl)
+      (λ transfer e. absurd (none-some transfer e)) (rests_alone c t) (λ d u ne. alone_elsewhere c (nat_eq u t) d ne) (j + cost g r) (omega (arith, few))
+      (left_it j h)
+      h.pos (control_token 3 ∷ []) h.steps.0
+      (near.outct_ack g.image.chans is.lines.wired w.machine.cores (boxes phase its h.pc h.regs h.here) st.wired.ghosts st.wired.local (line phase its h.pc h.regs h.here) (pair_of g.program channel) side (home g r) a (own_end phase its h.pc h.regs h.here) (near_it phase its h.pc h.regs h.here) r.thread (running r.tie h.pc h.regs)
+      false (spot_now phase its h.pc h.regs h.here))

@@ -1,0 +1,231 @@
+-- One side of a channel goes on in its transfer, and the relation of all channels holds again.
+use Rattle.std.proofs.Common.{◌≡◌, ◌≢◌, ◌⊎◌, inl, inr, ℕ, Bool, true, false, List, [], length, Option, Some, None, refl, sym, ap, ◌∙◌, subst, ⊎_elim, eq-eqb}
+use Rattle.std.specs.Prelude.{◌&&◌, nat_eq, slice_get, slice_set}
+use Rattle.std.proofs.lemmas.Bool.{cases_eq, ne_eqb}
+use Rattle.std.proofs.lemmas.Option.{same_Some}
+use Rattle.xs_instr.specs.declared.state.CoreState.{CoreState}
+use Rattle.xs_instr.specs.Machine.{parts_in}
+use Rattle.xc_meaning.specs.States.Channels.{Inboxes, Side, first, second}
+use Rattle.xl_image.specs.Images.{core_of, pair_of}
+use Rattle.xl_par.specs.Hands.{Hand}
+use Rattle.xr_threads.specs.Images.{AreLines}
+use Rattle.xr_threads.specs.Roles.{Roles, used_by}
+use Rattle.xr_threads.specs.Runners.{Setting, Runner}
+use Rattle.xr_threads.specs.Transfers.{Transfer}
+use Rattle.xr_threads.specs.Wired.{AreWired, IsLine, IsTransferring, boxes_in}
+use Rattle.xr_threads.proofs.Moves.{same_runner}
+use Rattle.xr_threads.proofs.Seats.{role_cases, role_here, with_role}
+use Rattle.xr_threads.proofs.Standing.{get_set_cases}
+use Rattle.xr_wires.specs.Balance.{Local}
+use Rattle.xr_wires.specs.Phases.{Phase, Spot, between, spot}
+use Rattle.xr_wires.specs.Wires.{Ghosts}
+use Rattle.xr_wires.proofs.Updates.{moved_to, pick, same_side}
+
+-- sides are the same, or not
+side_cases : (x y : Side) → (x ≡ y) ⊎ (x ≢ y)
+side_cases first first = inl refl
+side_cases first second = inr (λ e. let no : true ≡ false = ap (same_side first) e in cc)
+side_cases second first = inr (λ e. let no : true ≡ false = ap (same_side second) e in cc)
+side_cases second second = inl refl
+
+-- where a side that moves stands
+moved_here : (g : Ghosts) (k : ℕ) (side : Side) (s : Spot) → (moved_to g k side s []).spots k side ≡ s
+moved_here g k first s = ap (λ b. pick (b && true) s (g.spots k first)) (eq-eqb k k refl)
+moved_here g k second s = ap (λ b. pick (b && true) s (g.spots k second)) (eq-eqb k k refl)
+
+-- and where another one does
+other_sides : (x y : Side) → x ≢ y → same_side x y ≡ false
+other_sides first first ne = absurd (ne refl)
+other_sides first second ne = refl
+other_sides second first ne = refl
+other_sides second second ne = absurd (ne refl)
+
+not_both : (a : Bool) → (a && false) ≡ false
+not_both true = refl
+not_both false = refl
+
+moved_elsewhere : (g : Ghosts) (k : ℕ) (side : Side) (s : Spot) (j : ℕ) (x : Side) → ((j ≡ k) × (x ≡ side) → ⊥) → (moved_to g k side s []).spots j x ≡ g.spots j x
+moved_elsewhere g k side s j x ne =
+    ⊎_elim
+    (λ (same : j ≡ k). ap (λ b. pick b s (g.spots j x)) (ap (λ b. nat_eq j k && b) (other_sides x side (λ e. ne (same, e))) ∙ not_both (nat_eq j k)))
+    (λ (other : j ≢ k). ap (λ b. pick (b && same_side x side) s (g.spots j x)) (ne_eqb j k other))
+    (cases_eq j k)
+
+-- one channel has one line, and one line one channel
+pub one_line : (g : Setting) → AreLines g → (i j c : ℕ) → IsLine g.program i c → IsLine g.program j c → i ≡ j
+one_line g lines i j c at_i at_j = (lines.wired.once i (pair_of g.program c) first j (pair_of g.program c) first (lines.line i c at_i) (lines.line j c at_j) refl).0
+
+one_channel : (g : Setting) (line c d : ℕ) → IsLine g.program line c → IsLine g.program line d → c ≡ d
+one_channel g line c d at_c at_d = same_Some c d (sym at_c ∙ at_d)
+
+-- A thread's runner is another one, which is inside a transfer on this side of the channel, or no more; only it can be inside one there.
+pub record Moves (g : Setting) (who : Roles) (c t : ℕ) (r s : Runner) (channel : ℕ) (side : Side) (phase : Phase) : Type 0 where
+  pub old : (transfer : Transfer) → r.transfer ≡ Some transfer → (transfer.channel ≡ channel) × (transfer.side ≡ side)
+  pub new : (transfer : Transfer) → s.transfer ≡ Some transfer → transfer ≡ record { channel = channel; side = side; phase = phase }
+  pub over : s.transfer ≡ None → phase ≡ between
+  pub mine : (d u : ℕ) → IsTransferring who d u channel side → (d ≡ c) × (u ≡ t)
+
+module _ (g : Setting) (lines : AreLines g) (who : Roles) (cores : List CoreState) (boxes : List Inboxes) (h : AreWired g who cores boxes) (c t : ℕ) (a : CoreState) (at_c : slice_get cores c ≡ Some a) (r : Runner) (hand : Option Hand) (runs_r : who c t ≡ used_by r hand) (s : Runner) (hand' : Option Hand)
+    (channel : ℕ) (side : Side) (line : ℕ) (is_line : IsLine g.program line channel) (on_core : core_of g.program channel ≡ c) (phase : Phase) (moves : Moves g who c t r s channel side phase) where
+  abbrev who' : Roles
+  who' = with_role who c t (used_by s hand')
+
+  abbrev next : Ghosts
+  next = moved_to h.ghosts line side (spot phase false) []
+
+  abbrev Here : (d u : ℕ) → Type 0
+  Here d u = (d ≡ c) × (u ≡ t)
+
+  -- who is inside a transfer then: the thread itself, on this side; or another one that was before
+  abbrev IsNow : (d u k : ℕ) → Side → Type 0
+  IsNow d u k x = (Here d u × (k ≡ channel) × (x ≡ side) × (s.transfer ≡ Some (record { channel = channel; side = side; phase = phase }))) ⊎ ((Here d u → ⊥) × IsTransferring who d u k x)
+
+  is_now : (d u k : ℕ) (x : Side) → IsTransferring who' d u k x → IsNow d u k x
+  is_now d u k x i =
+      ⊎_elim
+      (λ here.
+      let same : s ≡ i.runner = same_runner s i.runner hand' i.hand (sym here.2 ∙ i.runs) in
+      let is : s.transfer ≡ Some i.transfer = ap (λ (v : Runner). v.transfer) same ∙ i.is in
+      let new : i.transfer ≡ record { channel = channel; side = side; phase = phase } = moves.new i.transfer is in
+      inl ((here.0, here.1), sym i.channel_is ∙ ap (λ (v : Transfer). v.channel) new, sym i.side_is ∙ ap (λ (v : Transfer). v.side) new, is ∙ ap Some new))
+      (λ there.
+      inr (
+        there.0,
+        record {
+          runner = i.runner;
+          hand = i.hand;
+          runs = sym there.1 ∙ i.runs;
+          transfer = i.transfer;
+          is = i.is;
+          channel_is = i.channel_is;
+          side_is = i.side_is;
+        },
+      ))
+      (role_cases who c t (used_by s hand') d u)
+
+  -- another one that was inside one is so still
+  still : (d u k : ℕ) (x : Side) → (Here d u → ⊥) → IsTransferring who d u k x → IsTransferring who' d u k x
+  still d u k x ne i = record {
+    runner = i.runner;
+    hand = i.hand;
+    runs = ⊎_elim (λ here. absurd (ne (here.0, here.1))) (λ there. there.1 ∙ i.runs) (role_cases who c t (used_by s hand') d u);
+    transfer = i.transfer;
+    is = i.is;
+    channel_is = i.channel_is;
+    side_is = i.side_is;
+  }
+
+  -- the thread was inside one on this side alone
+  was_here : (k : ℕ) (x : Side) → IsTransferring who c t k x → (k ≡ channel) × (x ≡ side)
+  was_here k x i =
+      let same : r ≡ i.runner = same_runner r i.runner hand i.hand (sym runs_r ∙ i.runs) in
+      let old = moves.old i.transfer (ap (λ (v : Runner). v.transfer) same ∙ i.is) in
+      (sym i.channel_is ∙ old.0, sym i.side_is ∙ old.1)
+
+  listed : (d u k : ℕ) (x : Side) → IsTransferring who' d u k x → (l : ℕ) × IsLine g.program l k × (core_of g.program k ≡ d)
+  listed d u k x i =
+      ⊎_elim
+      (λ own. (line, subst (IsLine g.program line) (sym own.1) is_line, ap (core_of g.program) own.1 ∙ on_core ∙ sym own.0.0))
+      (λ other. h.listed d u k x other.1)
+      (is_now d u k x i)
+
+  -- where the sides stand
+  elsewhere : (l : ℕ) (x : Side) → ((l ≡ line) × (x ≡ side) → ⊥) → next.spots l x ≡ h.ghosts.spots l x
+  elsewhere l x ne = moved_elsewhere h.ghosts line side (spot phase false) l x ne
+
+  here_is : (l : ℕ) (x : Side) → l ≡ line → x ≡ side → next.spots l x ≡ spot phase false
+  here_is l x e f = ap (λ k. next.spots k x) e ∙ ap (next.spots line) f ∙ moved_here h.ghosts line side (spot phase false)
+
+  inside : (d u l : ℕ) (i : Runner) (other : Option Hand) (transfer : Transfer) → who' d u ≡ used_by i other → i.transfer ≡ Some transfer → IsLine g.program l transfer.channel → next.spots l transfer.side ≡ spot transfer.phase false
+  inside d u l i other transfer runs is at_l =
+      ⊎_elim
+      (λ here.
+      let same : s ≡ i = same_runner s i hand' other (sym here.2 ∙ runs) in
+      let new : transfer ≡ record { channel = channel; side = side; phase = phase } = moves.new transfer (ap (λ (v : Runner). v.transfer) same ∙ is) in
+      let l_is : l ≡ line = one_line g lines l line channel (subst (IsLine g.program l) (ap (λ (v : Transfer). v.channel) new) at_l) is_line in
+      here_is l transfer.side l_is (ap (λ (v : Transfer). v.side) new) ∙ ap (λ (v : Transfer). spot v.phase false) (sym new))
+      (λ there.
+      let was : who d u ≡ used_by i other = sym there.1 ∙ runs in
+      elsewhere l transfer.side
+      (λ e.
+      let on_channel : transfer.channel ≡ channel = one_channel g line transfer.channel channel (subst (λ k. IsLine g.program k transfer.channel) e.0 at_l) is_line in
+      there.0 (moves.mine d u (record { runner = i; hand = other; runs = was; transfer = transfer; is = is; channel_is = on_channel; side_is = e.1 })))
+      ∙ h.inside d u l i other transfer was is at_l)
+      (role_cases who c t (used_by s hand') d u)
+
+  between_pieces : (l k : ℕ) (x : Side) → IsLine g.program l k → ((d u : ℕ) → IsTransferring who' d u k x → ⊥) → next.spots l x ≡ spot between false
+  between_pieces l k x at_l nobody = by (cases_eq l line) (side_cases x side)
+    where
+      away : ((l ≡ line) × (x ≡ side) → ⊥) → next.spots l x ≡ spot between false
+      away ne =
+          elsewhere l x ne
+          ∙ h.between_pieces l k x at_l
+          (λ d u i.
+          ⊎_elim
+          (λ (same : d ≡ c).
+          ⊎_elim
+          (λ (at : u ≡ t).
+          let own = was_here k x (subst (λ v. IsTransferring who c v k x) at (subst (λ v. IsTransferring who v u k x) same i)) in
+          ne (one_line g lines l line channel (subst (IsLine g.program l) own.0 at_l) is_line, own.1))
+          (λ (no : u ≢ t). nobody d u (still d u k x (λ e. no e.1) i))
+          (cases_eq u t))
+          (λ (no : d ≢ c). nobody d u (still d u k x (λ e. no e.0) i))
+          (cases_eq d c))
+
+      by : (l ≡ line) ⊎ (l ≢ line) → (x ≡ side) ⊎ (x ≢ side) → next.spots l x ≡ spot between false
+      by (inl e) (inl f) = here_is l x e f ∙ ap (λ v. spot v false) (moves.over (none s.transfer refl))
+        where
+          k_is : k ≡ channel
+          k_is = one_channel g line k channel (subst (λ v. IsLine g.program v k) e at_l) is_line
+
+          none : (o : Option Transfer) → s.transfer ≡ o → s.transfer ≡ None
+          none None is = is
+          none (Some transfer) is =
+              let new = moves.new transfer is in
+              absurd (nobody c t (record {
+                runner = s;
+                hand = hand';
+                runs = role_here who c t (used_by s hand');
+                transfer = transfer;
+                is = is;
+                channel_is = ap (λ (v : Transfer). v.channel) new ∙ sym k_is;
+                side_is = ap (λ (v : Transfer). v.side) new ∙ sym f;
+              }))
+      by (inl e) (inr ne) = away (λ both. ne both.1)
+      by (inr ne) f = away (λ both. ne both.0)
+
+  one : (d u d' u' k : ℕ) (x : Side) → IsTransferring who' d u k x → IsTransferring who' d' u' k x → (d' ≡ d) × (u' ≡ u)
+  one d u d' u' k x i i' =
+      ⊎_elim
+      (λ own.
+      ⊎_elim
+      (λ own'. (own'.0.0 ∙ sym own.0.0, own'.0.1 ∙ sym own.0.1))
+      (λ other'. absurd (other'.0 (moves.mine d' u' (subst (λ v. IsTransferring who d' u' channel v) own.2 (subst (λ v. IsTransferring who d' u' v x) own.1 other'.1)))))
+      (is_now d' u' k x i'))
+      (λ other.
+      ⊎_elim
+      (λ own'. absurd (other.0 (moves.mine d u (subst (λ v. IsTransferring who d u channel v) own'.2 (subst (λ v. IsTransferring who d u v x) own'.1 other.1)))))
+      (λ other'. h.one d u d' u' k x other.1 other'.1)
+      (is_now d' u' k x i'))
+      (is_now d u k x i)
+
+  -- what the row leaves of the core's ends, and the program of the inboxes
+  module _ (left : CoreState) (boxes' : List Inboxes) where
+    ends_still : length left.ends ≡ length a.ends → (d : ℕ) (b : CoreState) → slice_get (slice_set cores c left) d ≡ Some b → length b.ends ≡ (parts_in g.image.cores d).ends
+    ends_still size d b at =
+        ⊎_elim
+        (λ (set : (d ≡ c) × (b ≡ left)). ap (λ (v : CoreState). length v.ends) set.1 ∙ size ∙ h.ends c a at_c ∙ ap (λ k. (parts_in g.image.cores k).ends) (sym set.0))
+        (λ (old : (d ≢ c) × (slice_get cores d ≡ Some b)). h.ends d b old.1)
+        (get_set_cases cores c d a left b at_c at)
+
+    pub wired_moves : length left.ends ≡ length a.ends → length boxes' ≡ length boxes → Local g.image.chans (slice_set cores c left) (boxes_in g.program boxes') (moved_to h.ghosts line side (spot phase false) []) → AreWired g (with_role who c t (used_by s hand')) (slice_set cores c left) boxes'
+    wired_moves size long local = record {
+      ghosts = next;
+      local = local;
+      long = long ∙ h.long;
+      ends = ends_still size;
+      listed = listed;
+      inside = inside;
+      between_pieces = between_pieces;
+      one = one;
+    }

@@ -1,0 +1,116 @@
+-- The channels are wired as before where ends and inboxes stay, and the threads are in the transfers in which they were.
+use Rattle.std.proofs.Common.{◌≡◌, ◌≢◌, ℕ, List, length, Option, Some, sym, ap, ◌∙◌, subst, ⊎_elim, arith}
+use Rattle.std.specs.Prelude.{slice_get}
+use Rattle.std.proofs.lemmas.Bool.{cases_eq}
+use Rattle.xs_instr.specs.declared.image.Pair.{Pair}
+use Rattle.xs_instr.specs.declared.state.CoreState.{CoreState}
+use Rattle.xs_instr.specs.Ends.{Peer}
+use Rattle.xs_instr.specs.Machine.{no_links, parts_in}
+use Rattle.xc_meaning.specs.States.Channels.{Inboxes, Side, first, second, other_side}
+use Rattle.xl_par.specs.Hands.{Hand}
+use Rattle.xr_match.specs.Lives.{Watched}
+use Rattle.xr_wires.specs.Balance.{Balanced, IsEight, Local, credits_in}
+use Rattle.xr_wires.specs.Fresh.{Stands}
+use Rattle.xr_wires.specs.Wires.{Ghosts, TalkAt, Wires, ends_in, line, place, tokens_at, tokens_in}
+use Rattle.xr_threads.specs.Roles.{Roles, used_by}
+use Rattle.xr_threads.specs.Runners.{Setting, Runner}
+use Rattle.xr_threads.specs.Transfers.{Transfer}
+use Rattle.xr_threads.specs.Wired.{AreWired, IsTransferring}
+use Rattle.xr_threads.proofs.Moves.{HasStepped}
+
+-- each thread is in the transfer in which it was
+pub record TransfersAsBefore (who who' : Roles) : Type 0 where
+  pub before : (d u : ℕ) (i : Runner) (other : Option Hand) (transfer : Transfer) → who' d u ≡ used_by i other → i.transfer ≡ Some transfer →
+      (j : Runner) × (old : Option Hand) × (who d u ≡ used_by j old) × (j.transfer ≡ Some transfer)
+  pub still : (d u : ℕ) (j : Runner) (old : Option Hand) (transfer : Transfer) → who d u ≡ used_by j old → j.transfer ≡ Some transfer →
+      (i : Runner) × (other : Option Hand) × (who' d u ≡ used_by i other) × (i.transfer ≡ Some transfer)
+
+-- Each core has the ends that it had.
+module _ (cores cores' : List CoreState) (ends_same : (x : ℕ) → ends_in (slice_get cores' x) ≡ ends_in (slice_get cores x)) where
+  tokens_same : (x e : ℕ) → tokens_at cores' x e ≡ tokens_at cores x e
+  tokens_same x e = ap (λ l. tokens_in (slice_get l e)) (ends_same x)
+
+  talks_still : (boxes : List Inboxes) (g : Ghosts) (p : Pair) (k : ℕ) → TalkAt cores no_links boxes g p k first → TalkAt cores' no_links boxes g p k first
+  talks_still boxes g p k h =
+      let from : (side : Side) → line cores no_links boxes g p k side ≡ line cores' no_links boxes g p k side =
+      λ side. ap (λ ks. record (line cores no_links boxes g p k side) { buffer = ks }) (sym (tokens_same (place p side).core (place p side).end)) in
+      subst (λ l. Stands (g.spots k first) (g.spots k second) (line cores' no_links boxes g p k second) l) (from first)
+      (subst (λ l. Stands (g.spots k first) (g.spots k second) l (line cores no_links boxes g p k first)) (from second) h)
+
+  wires_still : (pairs : List Pair) (boxes : List Inboxes) (g : Ghosts) → Wires pairs cores no_links boxes g → Wires pairs cores' no_links boxes g
+  wires_still pairs boxes g h = record {
+    talks = λ k p at. talks_still boxes g p k (h.talks k p at);
+    boxes = h.boxes;
+    prompt = h.prompt;
+    selves = h.selves;
+  }
+
+  eight_still : (here there : Peer) → IsEight cores here there → IsEight cores' here there
+  eight_still here there old =
+      let credits = ap (λ l. credits_in (slice_get l here.end)) (ends_same here.core) in
+      let tokens = ap length (tokens_same there.core there.end) in
+      omega (arith, old, credits, tokens)
+
+  balanced_still : (pairs : List Pair) → Balanced pairs cores → Balanced pairs cores'
+  balanced_still pairs h = record {
+    ends = λ k p side at. let old = h.ends k p side at in let size = ap length (ends_same (place p side).core) in omega (arith, old, size);
+    eight = λ k p side at. eight_still (place p side) (place p (other_side side)) (h.eight k p side at);
+  }
+
+  pub local_still : (pairs : List Pair) (boxes : List Inboxes) (g : Ghosts) → Local pairs cores boxes g → Local pairs cores' boxes g
+  local_still pairs boxes g h = record { wires = wires_still pairs boxes g h.wires; balanced = balanced_still pairs h.balanced }
+
+-- Each thread is in the transfer in which it was.
+module _ (g : Setting) (who who' : Roles) (as_before : TransfersAsBefore who who') where
+  was_in : (d u c : ℕ) (side : Side) → IsTransferring who' d u c side → IsTransferring who d u c side
+  was_in d u c side h =
+      let k = as_before.before d u h.runner h.hand h.transfer h.runs h.is in
+      record { runner = k.0; hand = k.1; runs = k.2; transfer = h.transfer; is = k.3; channel_is = h.channel_is; side_is = h.side_is }
+
+  is_in : (d u c : ℕ) (side : Side) → IsTransferring who d u c side → IsTransferring who' d u c side
+  is_in d u c side h =
+      let k = as_before.still d u h.runner h.hand h.transfer h.runs h.is in
+      record { runner = k.0; hand = k.1; runs = k.2; transfer = h.transfer; is = k.3; channel_is = h.channel_is; side_is = h.side_is }
+
+  -- the machine stands still
+  pub wired_as : (cores : List CoreState) (boxes boxes' : List Inboxes) → boxes' ≡ boxes → AreWired g who cores boxes → AreWired g who' cores boxes'
+  wired_as cores boxes boxes' same h =
+      subst (AreWired g who' cores) (sym same)
+      (record {
+        ghosts = h.ghosts;
+        local = h.local;
+        long = h.long;
+        ends = h.ends;
+        listed = λ d u c side is. h.listed d u c side (was_in d u c side is);
+        inside = λ d u k r hand transfer runs is on.
+            let old = as_before.before d u r hand transfer runs is in
+            h.inside d u k old.0 old.1 transfer old.2 old.3 on;
+        between_pieces = λ k c side on nobody. h.between_pieces k c side on (λ d u is. nobody d u (is_in d u c side is));
+        one = λ d u d' u' c side is also. h.one d u d' u' c side (was_in d u c side is) (was_in d' u' c side also);
+      })
+
+-- a core steps, and leaves its ends
+pub wired_still : (g : Setting) (who who' : Roles) (w w' : Watched) (c : ℕ) (a b : CoreState) (boxes boxes' : List Inboxes) → TransfersAsBefore who who' →
+    HasStepped w w' c a b → b.ends ≡ a.ends → boxes' ≡ boxes → AreWired g who w.machine.cores boxes → AreWired g who' w'.machine.cores boxes'
+wired_still g who who' w w' c a b boxes boxes' as_before step left same h =
+    wired_as g who who' as_before w'.machine.cores boxes boxes' same (record {
+      ghosts = h.ghosts;
+      local = local_still w.machine.cores w'.machine.cores ends_same g.image.chans _ h.ghosts h.local;
+      long = h.long;
+      ends = λ d e at.
+          ⊎_elim
+          (λ (is : d ≡ c). ap length (ap (λ o. ends_in o) (sym at) ∙ ends_same d ∙ ap (λ k. ends_in (slice_get w.machine.cores k)) is ∙ ap ends_in step.was) ∙ h.ends c a step.was ∙ ap (λ k. (parts_in g.image.cores k).ends) (sym is))
+          (λ (ne : d ≢ c). h.ends d e (sym (step.others d ne) ∙ at))
+          (cases_eq d c);
+      listed = h.listed;
+      inside = h.inside;
+      between_pieces = h.between_pieces;
+      one = h.one;
+    })
+  where
+    ends_same : (x : ℕ) → ends_in (slice_get w'.machine.cores x) ≡ ends_in (slice_get w.machine.cores x)
+    ends_same x =
+        ⊎_elim
+        (λ (is : x ≡ c). ap (λ k. ends_in (slice_get w'.machine.cores k)) is ∙ ap ends_in step.is ∙ left ∙ ap ends_in (sym step.was) ∙ ap (λ k. ends_in (slice_get w.machine.cores k)) (sym is))
+        (λ (ne : x ≢ c). ap ends_in (step.others x ne))
+        (cases_eq x c)
