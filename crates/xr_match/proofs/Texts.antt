@@ -1,19 +1,21 @@
 -- An image that implements a program's kernel implements the program's text.
 use Rattle.std.proofs.Common.{◌≡◌, ℕ, List, [], ◌∷◌, ◌++◌, Option, Some, None, refl, sym, subst, ap, ◌∙◌}
-use Rattle.std.specs.Prelude.{IsSome}
+use Rattle.std.specs.Prelude.{IsSome, slice_index_or}
 use Rattle.std.proofs.lemmas.Option.{same_Some}
+use Rattle.xs_instr.specs.declared.image.Image.{Image}
 use Rattle.xs_instr.specs.declared.image.Stim.{Stim}
 use Rattle.xs_instr.specs.Machine.{and_then}
 use Rattle.xc_tree.specs.Plain as tree
-use Rattle.xc_kernel.specs.Copies.{copy_of}
+use Rattle.xc_kernel.specs.Copies.{Copies, copy_of}
 use Rattle.xc_kernel.specs.Plain as kernel
 use Rattle.xc_meaning.specs.Follows.{AreAlike, StandAlike, StandAlong, HasBeside}
 use Rattle.xc_meaning.specs.Runs.{acts, acts_all, kernel_run, kernel_start, program_run, program_start}
+use Rattle.xc_meaning.specs.States.Channels.{Side, no_parcels, parcels_at}
 use Rattle.xc_meaning.specs.States.Worlds.{World, Action}
 use Rattle.xc_meaning.proofs.Recursion.Typed.{typed_text_follows}
 use Rattle.xr_match.specs.Implements.{AgreeNow}
 use Rattle.xr_match.specs.Lives.{Watched, machine_of}
-use Rattle.xr_match.specs.Meanings.{of_kernel, of_text, of_worlds, KernelsCarry}
+use Rattle.xr_match.specs.Meanings.{HasParcel, of_kernel, of_text, of_worlds, KernelsCarry}
 use Rattle.xr_match.specs.Sources.{Told, allowed, told_after, told_of, told_start}
 use Rattle.xr_match.specs.Systems.{SomeIs, IsRun, leads, Along, Beside}
 use Rattle.xr_match.proofs.Counted.{counted, uncounted}
@@ -101,10 +103,23 @@ module _ (P : List tree.Item) (K : kernel.Kernel) (s : Stim) where
       let there = there_get (λ z. Unit {0}) (leads (told_of (of_kernel K) s) (told_start (of_kernel K)) ms) run in
       is_some (kernel_run K s ms) there.0.state (same_run K s (kernel_start K) (of_kernel K).bound ms (kernel_start K) ∙ uncounted (of_kernel K) s ms (told_start (of_kernel K)) there.0 there.1)
 
-  agree : (w : Watched) (x : Told (of_kernel K)) (y : Told (of_text P)) → AgreeNow (of_kernel K) w x → Alike x y → AgreeNow (of_text P) w y
-  agree w x y a k = record {
+  -- what stands in the kernel's inbox stands in the text's
+  has_parcel : (copies : Copies P K) (x y : World) → AreAlike x y → (place : ℕ) (side : Side) → HasParcel K x place side → HasParcel (copy_of P) y place side
+  has_parcel copies x y k place side h =
+      subst (λ k. HasParcel k y place side) copies.is_copy
+      (record {
+        channel = h.channel;
+        is_channel = h.is_channel;
+        oldest = h.oldest;
+        others = h.others;
+        stand = ap (λ boxes. parcels_at (slice_index_or boxes h.channel no_parcels) side) (sym k.inboxes) ∙ h.stand;
+      })
+
+  agree : (L : Image) (copies : Copies P K) (w : Watched) (x : Told (of_kernel K)) (y : Told (of_text P)) → AgreeNow L (of_kernel K) w x → Alike x y → AgreeNow L (of_text P) w y
+  agree L copies w x y a k = record {
     clocks = a.clocks ∙ k.clocks;
     trace = a.trace ∙ k.trace;
+    arrivals = λ line pair side at arrives. has_parcel copies x.state y.state k line side (a.arrivals line pair side at arrives);
     ended = ((λ h. sym k.ended ∙ a.ended.0 h), (λ h. a.ended.1 (k.ended ∙ h)));
   }
 
@@ -116,10 +131,10 @@ kernels_carry L P K named types typed copies of_K = record {
       (machine_of L s)
       (told_of (of_kernel K) s)
       (told_of (of_text P) s)
-      (AgreeNow (of_kernel K))
+      (AgreeNow L (of_kernel K))
       (Alike P K s)
-      (AgreeNow (of_text P))
-      (agree P K s)
+      (AgreeNow L (of_text P))
+      (agree P K s L copies)
       (of_K.by s good)
       (record { by = λ ms run. beside P K s ms (typed_text_follows P K named types typed copies s ms (is_run P K s ms run)) });
 }

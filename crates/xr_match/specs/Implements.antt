@@ -21,23 +21,6 @@ AllRootsEnded (core ∷ cores) = (core.roots ≡ 0) × AllRootsEnded cores
 abbrev pub clock_of : CoreState → ℕ
 clock_of core = core.clock
 
--- What is the same on both sides at each moment: each core's clock, the trace, and whether all has ended.
-pub record Agree (P : Source) (m : Machine) (x : P.State) : Type 0 where
-  pub clocks : map clock_of m.cores ≡ P.clocks x
-  pub trace : m.trace ≡ P.trace x
-  pub ended : AllRootsEnded m.cores ↔ P.HasEnded x
-
-abbrev pub AgreeNow : (P : Source) → Watched → Told P → Type 0
-AgreeNow P w x = Agree P w.machine x.state
-
--- Under every good stimulus each run of the machine, whatever the order of its events, has a run of the program beside it, which is cut
--- into a first piece and one piece for each event.
-pub record Implements (L : Image) (P : Source) : Type 0 where
-  pub by : (s : Stim) → IsGoodStim s → Refines (machine_of L s) (told_of P s) (AgreeNow P)
-
--- What an image promises besides, once it promises all: what has arrived, that it waits only where the program does, and that it doesn't
--- go on and on without the program.
-
 -- a token that begins something on its channel: a data token or an OPEN, which is the control token 16
 pub data Begins : Token → Type 0 where
   of_data : (byte : ℕ) → Begins (record { control = false; byte = byte })
@@ -64,6 +47,25 @@ abbrev pub ArrivalsAgree : Image → (P : Source) → Machine → P.State → Ty
 ArrivalsAgree L P m x =
     (line : ℕ) (pair : Pair) (side : Side) → slice_get L.chans line ≡ Some pair → ArrivesAt m pair side → P.HasArrived x line side
 
+-- What is so on both sides at each moment: each core's clock and the trace are the same, whatever stands at an end of a channel has arrived in the
+-- program, and both have ended or neither has.
+pub record Agree (L : Image) (P : Source) (m : Machine) (x : P.State) : Type 0 where
+  pub clocks : map clock_of m.cores ≡ P.clocks x
+  pub trace : m.trace ≡ P.trace x
+  pub arrivals : ArrivalsAgree L P m x
+  pub ended : AllRootsEnded m.cores ↔ P.HasEnded x
+
+abbrev pub AgreeNow : Image → (P : Source) → Watched → Told P → Type 0
+AgreeNow L P w x = Agree L P w.machine x.state
+
+-- Under every good stimulus each run of the machine, whatever the order of its events, has a run of the program beside it, which is cut
+-- into a first piece and one piece for each event.
+pub record Implements (L : Image) (P : Source) : Type 0 where
+  pub by : (s : Stim) → IsGoodStim s → Refines (machine_of L s) (told_of P s) (AgreeNow L P)
+
+-- What an image promises besides, once it promises all: that it waits only where the program does, and that it doesn't go on and on
+-- without the program.
+
 -- no thread's step and no move is enabled
 pub record IsQuietMachine (L : Image) (s : Stim) (m : Machine) : Type 0 where
   pub steps : (core thread : ℕ) → does L s m (Step core thread) ≡ None
@@ -79,8 +81,7 @@ StepsAreBounded P w x =
 
 -- all that is so at each moment
 pub record AgreeWholly (L : Image) (P : Source) (s : Stim) (w : Watched) (x : Told P) : Type 0 where
-  pub agree : AgreeNow P w x
-  pub arrivals : ArrivalsAgree L P w.machine x.state
+  pub agree : AgreeNow L P w x
   pub quiet : QuietAgree L P s w.machine x.state
   pub bounded : StepsAreBounded P w x
 

@@ -1,5 +1,5 @@
 -- The meanings of a kernel and of a text.
-use Rattle.std.specs.Prelude.{◌≡◌, ◌+◌, ◌*◌, ℕ, zero, Bool, true, List, [], ◌∷◌, Option, Some, None, IsSome, nat_eq, slice_get}
+use Rattle.std.specs.Prelude.{◌≡◌, ◌+◌, ℕ, Bool, true, List, [], ◌∷◌, Option, Some, None, nat_eq, slice_get}
 use Rattle.xs_instr.specs.declared.image.Image.{Image}
 use Rattle.xs_instr.specs.Machine.{and_then}
 use Rattle.xc_tree.specs.Plain as tree

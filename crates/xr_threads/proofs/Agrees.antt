@@ -104,16 +104,8 @@ module _ (g : Setting) (who : Roles) (w : Watched) (x : Told (of_kernel g.progra
     branches_over : all_ended x.state.branches ≡ true
     branches_over = ended_all x.state.branches (λ b branch known. over_below (b + 1) b branch (omega arith) known)
 
-  -- the clocks and the trace are the same, and all has ended on both sides or on none
-  pub agrees_now : AgreeNow (of_kernel g.program) w x
-  agrees_now = record {
-    clocks = st.clocks;
-    trace = st.trace;
-    ended = (branches_over, λ h. roots_all w.machine.cores (λ c a e. st.roots c a e ∙ none_living c x.state.branches h));
-  }
-
   -- where something has arrived at a side's end, the side's inbox isn't empty
-  pub arrivals_agree : (first : Roles) → IsImageOf g first → ArrivalsAgree g.image (of_kernel g.program) w.machine x.state
+  arrivals_agree : (first : Roles) → IsImageOf g first → ArrivalsAgree g.image (of_kernel g.program) w.machine x.state
   arrivals_agree first_roles is line pair side listed arrives =
       let channel = is.lines.channel line pair listed in
       by channel.0 channel.1 (parcels x.state.inboxes channel.0 side) refl
@@ -126,6 +118,15 @@ module _ (g : Setting) (who : Roles) (w : Watched) (x : Told (of_kernel g.progra
       by : (c : ℕ) → IsLine g.program line c → (ps : List Parcel) → parcels x.state.inboxes c side ≡ ps → HasParcel g.program x.state line side
       by c is_line [] e = absurd (not_empty (line_parcels g.program line c is_line x.state.inboxes side ∙ e))
       by c is_line (p ∷ ps) e = record { channel = c; is_channel = is_line; oldest = p; others = ps; stand = e }
+
+  -- the clocks and the trace are the same, what has arrived has arrived in the program, and all has ended on both sides or on none
+  pub agrees_now : (first : Roles) → IsImageOf g first → AgreeNow g.image (of_kernel g.program) w x
+  agrees_now first_roles is = record {
+    clocks = st.clocks;
+    trace = st.trace;
+    arrivals = arrivals_agree first_roles is;
+    ended = (branches_over, λ h. roots_all w.machine.cores (λ c a e. st.roots c a e ∙ none_living c x.state.branches h));
+  }
 
   -- where the machine is quiet, so is the program
   pub quiet_agree : (first : Roles) → IsImageOf g first → QuietAgree g.image (of_kernel g.program) g.stimulus w.machine x.state

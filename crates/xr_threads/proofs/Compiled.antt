@@ -22,7 +22,7 @@ use Rattle.xr_threads.specs.Living.{AreNamed}
 use Rattle.xr_threads.specs.Roles.{Roles}
 use Rattle.xr_threads.specs.Runners.{Setting}
 use Rattle.xr_threads.specs.Standing.{none_rests}
-use Rattle.xr_threads.proofs.Agrees.{agrees_now, arrivals_agree, quiet_agree}
+use Rattle.xr_threads.proofs.Agrees.{agrees_now, quiet_agree}
 use Rattle.xr_threads.proofs.BeforeBegins.{standing_before}
 use Rattle.xr_threads.proofs.Begins.{all_rest, set_life, set_standing, set_watched}
 use Rattle.xr_threads.proofs.Followed.{event_followed}
@@ -137,8 +137,7 @@ module _ (g : Setting) (who : Roles) (is : IsImageOf g who) where
   -- they agree in all that an image promises
   agrees : (w : Watched) (x : Told (of_kernel g.program)) → Together g w x → AgreeWholly g.image (of_kernel g.program) g.stimulus w x
   agrees w x t = record {
-    agree = agrees_now g t.who w x t.standing;
-    arrivals = arrivals_agree g t.who w x t.standing who is;
+    agree = agrees_now g t.who w x t.standing who is;
     quiet = quiet_agree g t.who w x t.standing who is;
     bounded = bounded g none_rests t.who w x t.standing t.named;
   }
@@ -163,7 +162,7 @@ module _ (K : kernel.Kernel) (L : Image) (who : Roles) (plans : (core : ℕ) →
   }
 
   -- what everybody sees agrees
-  agreeing : (s : Stim) → frame.Simulates (machine_of L s) (told_of (of_kernel K) s) (Together (setting K L plans s)) (AgreeNow (of_kernel K))
+  agreeing : (s : Stim) → frame.Simulates (machine_of L s) (told_of (of_kernel K) s) (Together (setting K L plans s)) (AgreeNow L (of_kernel K))
   agreeing s =
       let sim = simulates (setting K L plans s) who (is s) in
       record { holds = λ w x t. (sim.holds w x t).agree; begins = sim.begins; step = sim.step }
@@ -171,5 +170,5 @@ module _ (K : kernel.Kernel) (L : Image) (who : Roles) (plans : (core : ℕ) →
   -- so it implements the kernel
   pub implements : Implements L (of_kernel K)
   implements = record {
-    by = λ s good. frame.refines_by (machine_of L s) (told_of (of_kernel K) s) (Together (setting K L plans s)) (AgreeNow (of_kernel K)) (agreeing s);
+    by = λ s good. frame.refines_by (machine_of L s) (told_of (of_kernel K) s) (Together (setting K L plans s)) (AgreeNow L (of_kernel K)) (agreeing s);
   }
