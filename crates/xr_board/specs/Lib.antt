@@ -3,6 +3,5 @@ pub mod CellState
 pub mod ForCores
 pub mod Gathers
 pub mod Inbox
-pub mod Mails
 pub mod Short
 pub mod Turns

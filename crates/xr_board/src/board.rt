@@ -169,11 +169,11 @@ impl<U: RunName> Board<U> {
         requires fourth { StartsAs U.listing U.stimulus U.ticks 3 fourth }
     {
         match copies(alloc, image, stim) {
-            Ok((image, stim)) => with_room(Board {
-                first: Seat::new(alloc, first),
-                second: Seat::new(alloc, second),
-                third: Seat::new(alloc, third),
-                fourth: Seat::new(alloc, fourth),
+            Ok((image, stim)) => Ok(Board {
+                first: Seat::new(first),
+                second: Seat::new(second),
+                third: Seat::new(third),
+                fourth: Seat::new(fourth),
                 image,
                 stim,
                 ticks,
@@ -188,14 +188,6 @@ impl<U: RunName> Board<U> {
         }
     }
 
-    // Makes room for what is on its way.
-    fn make_room(&mut self) -> Result<(), Memory> {
-        self.first.make_room()?;
-        self.second.make_room()?;
-        self.third.make_room()?;
-        self.fourth.make_room()
-    }
-
     /// A core's turn under its lock, after what was handed to the core has come into its cell, and then each batch handed to its core. A
     /// batch that a cell gives back is dropped. What the cell was when the lock was taken no clause can say, so of an answer it is known what it can be.
     pub fn turn<G: Gate, R: Wait>(&self, rt: &R, alloc: Global, core: u8, gate: &G) -> BoardTurn
@@ -205,7 +197,28 @@ impl<U: RunName> Board<U> {
     {
         let (answer, out) = self.turn_at(rt, alloc, core, gate);
         self.hand_all(rt, out);
+        if let BoardTurn::Ran(window) = answer {
+            self.tell(core, window + 1);
+        }
         answer
+    }
+
+    // Lets those that wait for a core know how many windows it has handed over.
+    fn tell(&self, core: u8, windows: u32) {
+        match core {
+            0 => self.first.tell(windows),
+            1 => self.second.tell(windows),
+            2 => self.third.tell(windows),
+            _ => self.fourth.tell(windows),
+        }
+    }
+
+    /// Whether each core seems to have handed over so many windows: a hint, of which no clause knows what it says. It takes no lock.
+    pub(crate) fn seem_handed(&self, windows: u32) -> bool {
+        self.first.told() >= windows
+            && self.second.told() >= windows
+            && self.third.told() >= windows
+            && self.fourth.told() >= windows
     }
 
     // A core's turn under its lock, and the batches that are to be handed over.
@@ -296,17 +309,6 @@ impl<U: RunName> Board<U> {
             fourth: fourth.into_cell(),
         };
         (cells, image, stim)
-    }
-}
-
-/// The board with room for what is on its way. The one error is want of memory.
-fn with_room<U: RunName>(mut board: Board<U>) -> Result<Board<U>, Memory> {
-    match board.make_room() {
-        Ok(()) => Ok(board),
-        Err(Memory) => {
-            board.cells().let_go();
-            Err(Memory)
-        }
     }
 }
 

@@ -1,83 +1,59 @@
-// What was sent to a core and hasn't come into its cell yet.
+// What one core has sent to another and hasn't come into that one's cell yet.
 
-ghost use Rattle.std.specs.Prelude.{◌≡◌, [], All};
-ghost use Rattle.xr_windows.specs.Sending.{Sending};
+ghost use Rattle.std.specs.Option.{ForSome};
+ghost use Rattle.std.specs.Prelude.{◌≡◌};
 
 use crate::cell::Cell;
 use crate::core_name::CoreName;
-use std::alloc::Global;
-use std::marker::{Model, PhantomData};
+use std::marker::PhantomData;
 use xr_windows::{Batch, RunName};
-use xw_words::Memory;
 
-/// How many batches can be on their way to a core: from each of three other cores those of two windows.
-const MOST: usize = 6;
-
-/// Batches to the core that C names, which haven't come into its cell yet.
+/// Batches to the core that C names, which haven't come into its cell yet. A neighbour is at most two windows ahead of what has come, so two
+/// places are enough. They stand in the mail itself, so that they move from one processor to another with its lock.
 #[derive(Drop)]
 pub struct Mail<U: RunName, C: CoreName> {
-    batches: Vec<Batch<U>>,
+    first: Option<Batch<U>>,
+    second: Option<Batch<U>>,
     of: PhantomData<C>,
-}
-
-impl<U: RunName, C: CoreName> Model for Mail<U, C> {
-    ghost use Rattle.std.specs.Prelude.{◌≡◌, All, List};
-    ghost use Rattle.xr_windows.specs.Sending.{Sending};
-
-    ghost Value = { List Sending };
-
-    ghost view = { λ m. m.batches.items };
-
-    ghost invariant = { λ m. All (λ (b : Sending). b.to ≡ C.number) m.batches.items };
+    ghost first_is: { ForSome first (λ batch. batch.to ≡ C.number) },
+    ghost second_is: { ForSome second (λ batch. batch.to ≡ C.number) },
 }
 
 impl<U: RunName, C: CoreName> Mail<U, C> {
-    ghost use Rattle.xr_board.specs.Mails.{IsPut};
+    ghost use Rattle.std.specs.Prelude.{◌≡◌, IfSome};
 
-    /// No batch, and no room. It takes no memory.
-    pub fn new(alloc: Global) -> Mail<U, C>
-        ensures { result ≡ [] }
-    {
+    /// No batch.
+    pub fn new() -> Mail<U, C> {
         Mail {
-            batches: Vec::new(alloc),
+            first: None,
+            second: None,
             of: PhantomData,
         }
     }
 
-    /// Makes room for all that can be on its way. The one error is want of memory.
-    pub fn make_room(&mut self) -> Result<(), Memory>
-        ensures { self.new ≡ self.old }
-    {
-        self.batches.reserve(MOST)?;
-        Ok(())
-    }
-
-    /// Puts a batch to this core last, or gives it back where there is no room, and then nothing changes. It takes no memory.
+    /// Puts a batch to this core last, or gives it back where both places are taken. It takes no memory.
     pub fn put(&mut self, batch: Batch<U>) -> Option<Batch<U>>
         requires { batch.to ≡ C.number }
-        ensures { IsPut self.old batch result self.new }
+        ensures { IfSome result (λ given. given ≡ batch) }
     {
-        if self.batches.len() == self.batches.capacity() {
-            return Some(batch);
+        if self.first.is_none() {
+            self.first = Some(batch);
+            return None;
         }
-        self.batches.push_reserved(batch);
-        None
+        if self.second.is_none() {
+            self.second = Some(batch);
+            return None;
+        }
+        Some(batch)
     }
 
     /// Puts each batch into its place in the core's cell. One that the cell gives back is dropped.
-    pub fn deliver(&mut self, cell: &mut Cell<U, C>)
-        ensures { self.new ≡ [] }
-    {
-        deliver_all::<U, C>(&mut self.batches, cell);
-    }
-}
-
-/// Puts batches to a core into their places in its cell. One that the cell gives back is dropped.
-fn deliver_all<U: RunName, C: CoreName>(batches: &mut Vec<Batch<U>>, cell: &mut Cell<U, C>)
-    requires { All (λ (b : Sending). b.to ≡ C.number) batches.old.items }
-    ensures { batches.new.items ≡ [] }
-{
-    'batches: while let Some(batch) = batches.pop() {
-        drop(cell.accept(batch));
+    pub fn deliver(&mut self, cell: &mut Cell<U, C>) {
+        if let Some(batch) = self.first.take() {
+            drop(cell.accept(batch));
+        }
+        if let Some(batch) = self.second.take() {
+            drop(cell.accept(batch));
+        }
     }
 }

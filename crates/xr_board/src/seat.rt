@@ -11,69 +11,46 @@ use crate::mail::Mail;
 use crate::turned::Turned;
 use std::alloc::Global;
 use std::hint::spin_loop;
+use std::sync::atomic::{AtomicU32, Ordering};
 use std::sync::{Mutex, Wait};
 use xr_windows::{Batch, Part, RunName};
-use xw_words::{List, Memory};
+use xw_words::List;
 
-/// How often the lock of a core's mail is tried before a thread sleeps for it.
+/// How often the lock of a mail is tried before a thread sleeps for it.
 const TRIES: u32 = 1_000;
 
 /// How many words a line of the cache has.
 const LINE: usize = 8;
 
-/// A core's cell and its mail, each under a lock of its own. The lock of the cell is held for a whole turn, that of the mail only while
-/// batches are moved, so nobody waits for a core that runs a window. Who holds the lock of the mail takes no other. Unused bytes stand
-/// beside the mail, so that who writes to it doesn't take lines of the cache from a core that works.
+/// The mail from one core to another under its lock. Unused bytes stand beside it, so that who writes here takes no other line of the cache from
+/// a core that works.
 #[repr(C)]
-pub struct Seat<U: RunName, C: CoreName> {
-    cell: Mutex<Cell<U, C>>,
+struct MailBox<U: RunName, C: CoreName> {
     before: [u64; LINE],
     mail: Mutex<Mail<U, C>>,
     after: [u64; LINE],
 }
 
-impl<U: RunName, C: CoreName> Seat<U, C> {
+impl<U: RunName, C: CoreName> MailBox<U, C> {
     ghost use Rattle.std.specs.Prelude.{◌≡◌};
-    ghost use Rattle.xr_board.specs.BoardTurns.{CanAnswer, IsInRange};
-    ghost use Rattle.xr_windows.specs.Parts.{IsPartOf};
 
-    /// The seat of a core before its first window, without room in its mail. It takes no memory.
-    pub fn new(alloc: Global, part: Part) -> Seat<U, C>
-        requires part { IsPartOf U.listing U.stimulus U.ticks part }
-        requires number { part.home.number ≡ C.number }
-        requires start { part.ran ≡ 0 }
-    {
-        Seat {
-            cell: Mutex::new(Cell::new(part)),
+    // A box without mail. It takes no memory.
+    fn new() -> MailBox<U, C> {
+        MailBox {
             before: [0; LINE],
-            mail: Mutex::new(Mail::new(alloc)),
+            mail: Mutex::new(Mail::new()),
             after: [0; LINE],
         }
     }
 
-    /// Makes room in the mail. The one error is want of memory.
-    pub fn make_room(&mut self) -> Result<(), Memory> {
-        self.mail.get_mut().make_room()
+    // What is in the mail comes into the cell.
+    fn empty<R: Wait>(&self, rt: &R, cell: &mut Cell<U, C>) {
+        self.mail.lock(rt).deliver(cell);
     }
 
-    /// A turn under the cell's lock, after what is in the mail has come, and the batches that are to be handed over.
-    pub fn turn<G: Gate, R: Wait>(
-        &self,
-        rt: &R,
-        alloc: Global,
-        gate: &G,
-    ) -> (BoardTurn, List<Batch<U>>)
-        ensures answer { CanAnswer U.ticks C.number result.0 }
-        ensures range { IsInRange result.0 }
-    {
-        let mut cell = self.cell.lock(rt);
-        self.mail.lock(rt).deliver(&mut cell);
-        turn_of::<U, C, G>(&mut cell, alloc, gate)
-    }
-
-    /// Puts a batch into the mail. One for which there is no room is dropped. The lock is held for a short time alone, so it is tried for
-    /// a while before its thread sleeps.
-    pub fn hand<R: Wait>(&self, rt: &R, batch: Batch<U>)
+    // Puts a batch into the mail. One for which there is no room is dropped. The lock is held for a short time alone, so it is tried for a while
+    // before its thread sleeps.
+    fn put<R: Wait>(&self, rt: &R, batch: Batch<U>)
         requires { batch.to ≡ C.number }
     {
         for _ in 0..TRIES {
@@ -86,22 +63,147 @@ impl<U: RunName, C: CoreName> Seat<U, C> {
         drop(self.mail.lock(rt).put(batch));
     }
 
+    // What is in the mail comes into the cell, and the box is let go.
+    fn pour(self, cell: &mut Cell<U, C>) {
+        let MailBox {
+            before: _,
+            mail,
+            after: _,
+        } = self;
+        let mut mail = mail.into_inner();
+        mail.deliver(cell);
+    }
+}
+
+/// How many windows a core has handed over: a hint for who waits for it. No clause knows what it says, so nothing but time depends on it, and to
+/// look at it takes no lock. It stands apart from the mails, since who looks at a line of the cache again and again holds up who writes there.
+#[derive(Drop)]
+#[repr(C)]
+struct Count {
+    before: [u64; LINE],
+    windows: AtomicU32,
+    after: [u64; LINE],
+}
+
+impl Count {
+    // No window.
+    fn new() -> Count {
+        Count {
+            before: [0; LINE],
+            windows: AtomicU32::new(0),
+            after: [0; LINE],
+        }
+    }
+}
+
+/// A core's cell and what has been sent to it, by the number of the sender, each under a lock of its own. The lock of the cell is held for a
+/// whole turn, that of a mail only while batches are moved, so nobody waits for a core that runs a window, and no two cores for one mail
+/// but its sender and its receiver. Who holds the lock of a mail takes no other.
+#[repr(C)]
+pub struct Seat<U: RunName, C: CoreName> {
+    cell: Mutex<Cell<U, C>>,
+    from0: MailBox<U, C>,
+    from1: MailBox<U, C>,
+    from2: MailBox<U, C>,
+    from3: MailBox<U, C>,
+    handed: Count,
+}
+
+impl<U: RunName, C: CoreName> Seat<U, C> {
+    ghost use Rattle.std.specs.Prelude.{◌≡◌};
+    ghost use Rattle.xr_board.specs.BoardTurns.{CanAnswer, IsInRange};
+    ghost use Rattle.xr_windows.specs.Parts.{IsPartOf};
+
+    /// The seat of a core before its first window. It takes no memory.
+    pub fn new(part: Part) -> Seat<U, C>
+        requires part { IsPartOf U.listing U.stimulus U.ticks part }
+        requires number { part.home.number ≡ C.number }
+        requires start { part.ran ≡ 0 }
+    {
+        Seat {
+            cell: Mutex::new(Cell::new(part)),
+            from0: MailBox::new(),
+            from1: MailBox::new(),
+            from2: MailBox::new(),
+            from3: MailBox::new(),
+            handed: Count::new(),
+        }
+    }
+
+    /// A turn under the cell's lock, after what is in the mails has come, and the batches that are to be handed over.
+    pub fn turn<G: Gate, R: Wait>(
+        &self,
+        rt: &R,
+        alloc: Global,
+        gate: &G,
+    ) -> (BoardTurn, List<Batch<U>>)
+        ensures answer { CanAnswer U.ticks C.number result.0 }
+        ensures range { IsInRange result.0 }
+    {
+        let mut cell = self.cell.lock(rt);
+        self.empty_mails(rt, &mut cell);
+        turn_of::<U, C, G>(&mut cell, alloc, gate)
+    }
+
+    // What is in the mails comes into the cell. No core sends to itself.
+    fn empty_mails<R: Wait>(&self, rt: &R, cell: &mut Cell<U, C>) {
+        let number = cell.part().number();
+        if number != 0 {
+            self.from0.empty(rt, cell);
+        }
+        if number != 1 {
+            self.from1.empty(rt, cell);
+        }
+        if number != 2 {
+            self.from2.empty(rt, cell);
+        }
+        if number != 3 {
+            self.from3.empty(rt, cell);
+        }
+    }
+
+    /// Puts a batch into the mail from its sender. One for which there is no room is dropped.
+    pub fn hand<R: Wait>(&self, rt: &R, batch: Batch<U>)
+        requires { batch.to ≡ C.number }
+    {
+        match batch.from {
+            0 => self.from0.put(rt, batch),
+            1 => self.from1.put(rt, batch),
+            2 => self.from2.put(rt, batch),
+            _ => self.from3.put(rt, batch),
+        }
+    }
+
+    /// Lets those that wait for this core know how many windows it has handed over.
+    pub fn tell(&self, windows: u32) {
+        self.handed.windows.store(windows, Ordering::SeqCst);
+    }
+
+    /// How many windows this core has handed over, as far as is told.
+    pub fn told(&self) -> u32 {
+        self.handed.windows.load(Ordering::SeqCst)
+    }
+
     /// Sets the stop mark of the cell.
     pub fn stop<R: Wait>(&self, rt: &R) {
         self.cell.lock(rt).stop();
     }
 
-    /// The cell out of its lock, after what is in the mail has come.
+    /// The cell out of its lock, after what is in the mails has come.
     pub fn into_cell(self) -> Cell<U, C> {
         let Seat {
             cell,
-            before: _,
-            mail,
-            after: _,
+            from0,
+            from1,
+            from2,
+            from3,
+            handed: _,
         } = self;
         let mut cell = cell.into_inner();
-        let mut mail = mail.into_inner();
-        mail.deliver(&mut cell);
+        from0.pour(&mut cell);
+        from1.pour(&mut cell);
+        from2.pour(&mut cell);
+        from3.pour(&mut cell);
         cell
     }
 }

@@ -16,12 +16,18 @@ use xr_windows::{Run, RunName};
 use xs_instr::{Image, Stim};
 use xw_words::Memory;
 
-/// How often a worker looks for a batch that lacks before it lets other threads go on: few times, for where other work goes on beside it, the
-/// core that it waits for may be without a processor.
-const TRIES: u32 = 2;
+/// How often a patient worker looks, a pause apart, whether the batches that it waits for are there, before it lets other threads go on. A
+/// window takes a microsecond or two, and these looks somewhat more.
+const MOST_LOOKS: u32 = 64;
 
-/// How many pauses it makes between two looks.
-const PAUSES: u32 = 4;
+/// How often an impatient one looks.
+const FEWEST_LOOKS: u32 = 2;
+
+/// Each wait of so many is a patient one.
+const PATIENT: u32 = 32;
+
+/// How often it lets other threads go on, with a look each, before it takes a turn all the same.
+const YIELDS: u32 = 1_000;
 
 /// The run of the board, by 1 to 16 workers: what the run in lockstep tells. With W the lesser of their number and 4, worker w serves
 /// the cores whose number modulo W is w. The caller is worker 0, and serves the cores of a worker that can't be started too. Where
@@ -108,6 +114,16 @@ impl Seen {
         }
     }
 
+    // How many windows of a core.
+    fn of(self, core: u8) -> u32 {
+        match core {
+            0 => self.first,
+            1 => self.second,
+            2 => self.third,
+            _ => self.fourth,
+        }
+    }
+
     // Of the cores served the one that has run the fewest windows, the least among them.
     fn next(self, served: Served) -> Option<u8>
         ensures { IfSome result (λ core. core < 4) }
@@ -144,6 +160,53 @@ fn better(best: Option<(u8, u32)>, core: u8, served: bool, ran: u32) -> Option<(
     }
 }
 
+/// How long a worker looks for batches before it lets other threads go on. Where each worker has a processor, what it waits for comes soon,
+/// and to let others go on costs more than to look. Where some have none, looking keeps those waiting that it waits for.
+#[derive(Clone, Copy)]
+struct Patience {
+    looks: u32,
+    waits: u32,
+}
+
+impl Patience {
+    fn new() -> Patience {
+        Patience {
+            looks: MOST_LOOKS,
+            waits: 0,
+        }
+    }
+
+    // How often it looks this time.
+    fn looks(self) -> u32
+        ensures { result ≤ 64 }
+    {
+        if self.waits % PATIENT == 0 || self.looks > MOST_LOOKS {
+            MOST_LOOKS
+        } else {
+            self.looks
+        }
+    }
+
+    // After a wait in which the batches were there at that look.
+    fn after(self, look: u32) -> Patience {
+        let looks = if look >= self.looks() {
+            if self.looks / 2 > FEWEST_LOOKS {
+                self.looks / 2
+            } else {
+                FEWEST_LOOKS
+            }
+        } else if look > self.looks {
+            MOST_LOOKS
+        } else {
+            self.looks
+        };
+        Patience {
+            looks,
+            waits: self.waits.wrapping_add(1),
+        }
+    }
+}
+
 /// Serves cores until all are at their end, or the board is stopped, and answers whether memory was there. Where memory is wanting it
 /// stops the board.
 fn serve<U: RunName, G: Gate, R: Wait>(
@@ -154,26 +217,21 @@ fn serve<U: RunName, G: Gate, R: Wait>(
     gate: &G,
 ) -> bool {
     let mut left = served;
+    let mut patience = Patience::new();
     let mut seen = Seen {
         first: 0,
         second: 0,
         third: 0,
         fourth: 0,
     };
-    let mut tries = 0;
     for _ in rt.forever() {
         let Some(core) = seen.next(left) else {
             return true;
         };
+        patience = wait_a_while(board, seen.of(core), patience);
         match board.turn(rt, alloc, core, gate) {
-            BoardTurn::Ran(window) => {
-                seen = seen.with(core, window + 1);
-                tries = 0;
-            }
-            BoardTurn::Lacks { window, .. } => {
-                seen = seen.with(core, window + 1);
-                tries = wait_a_little(tries);
-            }
+            BoardTurn::Ran(window) => seen = seen.with(core, window + 1),
+            BoardTurn::Lacks { window, .. } => seen = seen.with(core, window + 1),
             BoardTurn::AtEnd => left = left.without(core),
             BoardTurn::Stopped => return true,
             BoardTurn::Memory => {
@@ -185,17 +243,21 @@ fn serve<U: RunName, G: Gate, R: Wait>(
     unreachable!()
 }
 
-/// Waits after so many tries in vain, and answers how many they are then. A window takes a microsecond or two, so a worker first looks again
-/// soon, and lets others go on only when that didn't help.
-fn wait_a_little(tries: u32) -> u32 {
-    if tries >= TRIES {
-        thread::yield_now();
-        return tries;
+/// Waits until each core seems to have handed over so many windows, but no longer than a while, and answers how patient the worker is then. No
+/// lock is taken.
+fn wait_a_while<U: RunName>(board: &Board<U>, windows: u32, patience: Patience) -> Patience {
+    let looks = patience.looks();
+    for look in 0..looks + YIELDS {
+        if board.seem_handed(windows) {
+            return patience.after(look);
+        }
+        if look < looks {
+            spin_loop();
+        } else {
+            thread::yield_now();
+        }
     }
-    for _ in 0..PAUSES {
-        spin_loop();
-    }
-    tries + 1
+    patience.after(looks)
 }
 
 /// What a worker in a thread of its own answered. One that wasn't started lacked nothing.
