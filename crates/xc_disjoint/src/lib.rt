@@ -15,3 +15,4 @@ mod threads;
 
 pub use checked::Checked;
 pub use disjointness::{DisErr, disjoint};
+pub use needs::thread_count;

@@ -31,10 +31,10 @@ pub fn too_many_threads(kernel: &Kernel) -> bool
 {
     let roots = kernel.roots.as_slice();
     let needed = [
-        core_threads(roots, 0),
-        core_threads(roots, 1),
-        core_threads(roots, 2),
-        core_threads(roots, 3),
+        thread_count(roots, 0),
+        thread_count(roots, 1),
+        thread_count(roots, 2),
+        thread_count(roots, 3),
     ];
     is_above(MOST_THREADS, &needed)
 }
@@ -94,9 +94,10 @@ fn is_above(limit: u64, needed: &[u64]) -> bool
     false
 }
 
-/// The threads that the roots on a core need.
+/// The threads that the roots on a core need: a `par` as many as its branches together, and a sequence as many as its greatest part. It is
+/// 2 ^ 64 - 1 where they are more.
 #[tactic(auto, unfolding(crate::specs::Sums::capped))]
-fn core_threads(roots: &[Root], core: u8) -> u64
+pub fn thread_count(roots: &[Root], core: u8) -> u64
     ensures { result ≡ capped (sum_by (threads_of_root core) (map root_of roots.now)) }
 {
     let mut sum: u64 = 0;
@@ -142,7 +143,7 @@ fn core_words(kernel: &Kernel, core: u8) -> u64
 {
     let instances = instance_words(kernel.insts.as_slice(), core);
     let variables = variable_words(kernel.vars.as_slice(), core);
-    let threads = core_threads(kernel.roots.as_slice(), core);
+    let threads = thread_count(kernel.roots.as_slice(), core);
     instances
         .saturating_add(variables)
         .saturating_add(threads.saturating_mul(WORDS_OF_THREAD))

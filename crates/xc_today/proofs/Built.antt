@@ -1,5 +1,6 @@
 -- The code of the roots of kernels is built whose programs are built today: no statement of a later form is in them, and as they have no timer and
 -- no port that is read, each input comes from a channel. As no branch is placed, main is the one root, and no channel leaves it.
+use Rattle.std.proofs.lemmas.Option.{same_Some}
 use Rattle.std.proofs.Common.{◌≡◌, ℕ, zero, suc, ◌<◌, Bool, true, false, ◌&&◌, ◌||◌, List, [], ◌∷◌, length, Option, None, Some, is_some, map, slice_get, nat_lt, refl, sym, ap, subst, ◌∙◌, true≢false, arith}
 use Rattle.xc_tree.specs.Derives.{unlimited}
 use Rattle.xc_tree.specs.declared.tree.TreeDir.{TreeDir}
@@ -186,4 +187,5 @@ pub channels_stay : ChannelsStay
 channels_stay toks P K derived today copies c i j r s first second uses too =
     let early = program_early toks today.words unlimited 0 (length toks) P derived in
     let one : IsOneRoot K.roots = subst (λ (k : kernel.Kernel). IsOneRoot k.roots) (sym copies.is_copy) (copy_one P (functions_early P early today.stamps)) in
-    one i j r s first second
+    let same : r ≡ s = same_Some r s (sym first ∙ ap (slice_get K.roots) (one i j r s first second) ∙ second) in
+    ap (λ (x : kernel.Root). x.core) same

@@ -13,7 +13,7 @@ use Rattle.xc_kernel.specs.Copies.{Copies}
 use Rattle.xc_kernel.specs.Plain as kernel
 use Rattle.xc_kernel.specs.Sound.{IsTyped}
 use Rattle.xl_image.specs.Roots.{RootsAreBuilt}
-use Rattle.xl_plan.specs.Planned.{StayInRoots}
+use Rattle.xl_plan.specs.Planned.{StayOnCores}
 use Rattle.xc_today.specs.Today.{IsBuiltToday}
 
 -- Where tokens are a program that is built today, which breaks no rule of names, types and shapes, and whose tree no node is too
@@ -24,11 +24,11 @@ KernelsAreBuilt =
     IsProgram toks P → depth.of_program P ≤ deepest → IsBuiltToday toks P → IsTyped P n types → Copies P K →
     RootsAreBuilt K.roots
 
--- Where tokens are a program that is built today, each channel of its kernel is used in one root alone.
+-- Where tokens are a program that is built today, both sides of each channel of its kernel are on one core.
 abbrev pub ChannelsStay : Type 0
 ChannelsStay =
     (toks : List Tok) (P : List tree.Item) (K : kernel.Kernel) →
-    IsProgram toks P → IsBuiltToday toks P → Copies P K → StayInRoots K
+    IsProgram toks P → IsBuiltToday toks P → Copies P K → StayOnCores K
 
 -- where it is a port, a parameter is an `out port`
 abbrev pub IsOutKind : ParamKind → Type 0

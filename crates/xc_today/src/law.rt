@@ -8,7 +8,7 @@ pub fn kernels_are_built()
     ensures { KernelsAreBuilt }
 {}
 
-/// Each channel of a kernel is used in one root alone whose program is built today.
+/// Both sides of each channel of a kernel are on one core whose program is built today: main is its one root.
 pub fn channels_stay()
     ensures { ChannelsStay }
 {}

@@ -25,7 +25,7 @@ use Rattle.xc_kernel.specs.Plain.{Kernel}
 use Rattle.xc_kernel.specs.Size.{Breaks509, IsTooLarge}
 use Rattle.xc_kernel.specs.Sound.{IsOfText, IsTyped}
 use Rattle.xc_today.proofs.Built.{channels_stay, kernels_are_built}
-use Rattle.xl_plan.specs.Planned.{StayInRoots}
+use Rattle.xl_plan.specs.Planned.{StayOnCores}
 use Rattle.xc_today.specs.Today.{IsBuiltToday}
 use Rattle.xl_image.specs.Roots.{RootsAreBuilt}
 use Rattle.xcsim.specs.Rules.{First, IsKernelOf, IsResolved}
@@ -110,7 +110,7 @@ module _ (text : List ℕ) (items : List Item) (r : IsReadAs text items) where
         pub built : RootsAreBuilt K.roots
         built = kernels_are_built r.toks items (named_of named) types K r.derives r.shallow r.form typed_is copies
 
-        pub stays : StayInRoots K
+        pub stays : StayOnCores K
         stays = channels_stay r.toks items K r.derives r.form copies
 
 -- the same of a program with types that holds what was read and named
@@ -152,5 +152,5 @@ module _
     pub built_too : RootsAreBuilt K.roots
     built_too = built text (program_of tree) r named is_named names typed.unsigned_at types_are sound K its_small its_copies
 
-    pub stays_too : StayInRoots K
+    pub stays_too : StayOnCores K
     stays_too = stays text (program_of tree) r named is_named names typed.unsigned_at types_are sound K its_small its_copies

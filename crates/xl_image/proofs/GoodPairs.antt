@@ -16,7 +16,7 @@ use Rattle.xc_disjoint.specs.Needs.{ends_on}
 use Rattle.xl_expr.specs.declared.plan.ResAt.{ResAt}
 use Rattle.xl_expr.specs.declared.plan.ResAt.TheVariants.{Fixed}
 use Rattle.xl_plan.specs.Layout.{end_name, ends_before, ends_below, ends_of_user, user_core}
-use Rattle.xl_plan.specs.Planned.{HasEnds, StayInRoots}
+use Rattle.xl_plan.specs.Planned.{HasEnds, StayOnCores}
 use Rattle.xl_plan.proofs.Ends.{ends_are_used}
 use Rattle.xl_plan.proofs.Lists.{some_given, none_given}
 use Rattle.xl_plan.proofs.Users.{ends_there}
@@ -76,7 +76,7 @@ ends_below_number core (suc n) =
     let l = length-append (ends_below core n) (Fixed (end_name core n) ∷ []) in
     omega (arith, h, l)
 
-pub ends_listed : (k : kernel.Kernel) (core : ℕ) → IsChecked k → StayInRoots k → (ends : List ResAt) → HasEnds k core ends → length ends ≡ ends_on k core
+pub ends_listed : (k : kernel.Kernel) (core : ℕ) → IsChecked k → StayOnCores k → (ends : List ResAt) → HasEnds k core ends → length ends ≡ ends_on k core
 ends_listed k core checked stay ends has =
     ap length has ∙ ends_below_number core (ends_before k core (length k.channels)) ∙ sym (ends_are_used k core checked stay)
 
@@ -109,7 +109,7 @@ module _ (k : kernel.Kernel) where
       by false e others = others
 
 -- The channels of a kernel.
-module _ (k : kernel.Kernel) (checked : IsChecked k) (stay : StayInRoots k) where
+module _ (k : kernel.Kernel) (checked : IsChecked k) (stay : StayOnCores k) where
   -- a channel more has two ends on its user's core, and none elsewhere
   more_ends : (core c : ℕ) (user : Option ℕ) → user_core c k.roots ≡ user → ends_before k core (suc c) ≡ ends_before k core c + ends_of_user core user
   more_ends core c user e = ap (λ n. ends_before k core c + n) (sym (ends_there k stay c core) ∙ ap (ends_of_user core) e)

@@ -17,34 +17,35 @@ use Rattle.xc_disjoint.specs.Rules.{most_threads, most_timers, needs, timers}
 use Rattle.xl_expr.specs.declared.plan.Plan.{Plan}
 use Rattle.xl_expr.proofs.GoodCode.{good_instrs}
 use Rattle.xl_plan.specs.Planned as planned
-use Rattle.xl_plan.specs.Planned.{StayInRoots, ports_on}
+use Rattle.xl_plan.specs.Planned.{StayOnCores, ports_on}
 use Rattle.xl_plan.proofs.Ends.{ends_are_used, few_ends}
 use Rattle.xl_plan.proofs.PortsDiffer.{ports_apart}
 use Rattle.xl_plan.proofs.Sizes.{few_words}
 use Rattle.xl_sides.specs.Ends.{Sides}
-use Rattle.xl_image.specs.Images.{decl_of, pairs_below, roots_on}
+use Rattle.xl_image.specs.Images.{SidedRoot, decl_of, pairs_below, roots_on, sided_on, sided_roots}
 use Rattle.xl_image.specs.Roots.{AreRoots, IsRootCode}
 use Rattle.xl_image.specs.Parts.{IsPartOf, below, cores_of, has_root, is_some_root, number_of}
 use Rattle.xl_image.proofs.GoodPairs.{all_good, named_once}
+use Rattle.xl_image.proofs.Sided.{as_many_there}
 use Rattle.xl_image.proofs.Threads.{few_threads, roots_have_threads}
 
 module _ (k : kernel.Kernel) (core : ℕ) (plan : Plan) where
   -- each root has an index
-  pub as_many : (rs : List kernel.Root) (thread pc : ℕ) (lines : List Line) (entries : List ℕ) → AreRoots k core plan rs thread pc lines entries → length entries ≡ length rs
+  pub as_many : (ss : List SidedRoot) (thread pc : ℕ) (lines : List Line) (entries : List ℕ) → AreRoots k core plan ss thread pc lines entries → length entries ≡ length ss
   as_many [] thread pc lines entries h = ap length h.1
-  as_many (r ∷ rs) thread pc lines entries h = ap length h.entry ∙ ap suc (as_many rs (suc thread) (pc + length h.first) h.others h.later h.others_are)
+  as_many (s ∷ ss) thread pc lines entries h = ap length h.entry ∙ ap suc (as_many ss (suc thread) (pc + length h.first) h.others h.later h.others_are)
 
   -- its code has some instruction
   some_line : (sides : Sides) (word : ℕ) (r : kernel.Root) (pc : ℕ) (lines : List Line) → IsRootCode plan sides word r pc lines → 1 ≤ length lines
   some_line sides word r pc lines h = let l = ap length h.is in omega (arith, l)
 
-  indices : (rs : List kernel.Root) (thread pc : ℕ) (lines : List Line) (entries : List ℕ) (size : ℕ) → AreRoots k core plan rs thread pc lines entries → pc + length lines ≤ size → AreIndices size entries
+  indices : (ss : List SidedRoot) (thread pc : ℕ) (lines : List Line) (entries : List ℕ) (size : ℕ) → AreRoots k core plan ss thread pc lines entries → pc + length lines ≤ size → AreIndices size entries
   indices [] thread pc lines entries size h le = subst (AreIndices size) (sym h.1) tt
-  indices (r ∷ rs) thread pc lines entries size h le =
+  indices (s ∷ ss) thread pc lines entries size h le =
       let n = ap length h.is ∙ length-append h.first h.others in
-      let one = some_line _ _ r pc h.first h.first_is in
+      let one = some_line _ _ s.root pc h.first h.first_is in
       subst (AreIndices size) (sym h.entry)
-      (omega (arith, n, one, le), indices rs (suc thread) (pc + length h.first) h.others h.later size h.others_are (omega (arith, n, le)))
+      (omega (arith, n, one, le), indices ss (suc thread) (pc + length h.first) h.others h.later size h.others_are (omega (arith, n, le)))
 
 within_or_not : (n most : ℕ) → (n ≤ most) ⊎ (most < n)
 within_or_not n most = grind arith
@@ -63,10 +64,10 @@ module _ (k : kernel.Kernel) (checked : IsChecked k) (core : ℕ) (is_core : cor
   some_there [] e = absurd (let q : false ≡ true = e in cc)
   some_there (r ∷ rs) e = omega arith
 
-  pub good_core : (part : CoreImage) → StayInRoots k → IsPartOf k core part → has_root k core ≡ true → AreGoodPorts part.ports → IsGoodCore part
+  pub good_core : (part : CoreImage) → StayOnCores k → IsPartOf k core part → has_root k core ≡ true → AreGoodPorts part.ports → IsGoodCore part
   good_core part stay is rooted ports =
       let code = is.code in
-      let many = as_many k core code.plan (roots_on core k.roots) 0 0 code.lines part.roots code.roots in
+      let many = as_many k core code.plan (sided_on core (sided_roots k)) 0 0 code.lines part.roots code.roots ∙ as_many_there k core in
       let instrs : length part.code.instrs ≡ length code.lines = ap length code.instrs ∙ length-map code.lines instr_of in
       let places : length part.code.«at» ≡ length code.lines = ap length code.places ∙ length-map code.lines pos_of in
       record {
@@ -78,7 +79,7 @@ module _ (k : kernel.Kernel) (checked : IsChecked k) (core : ℕ) (is_core : cor
         few_roots = let t = few_threads k checked core is_core in let e = roots_have_threads core k.roots in omega (arith, many, t, e);
         few = let f = code.few in omega (arith, f, instrs);
         places = places ∙ sym instrs;
-        roots = indices k core code.plan (roots_on core k.roots) 0 0 code.lines part.roots (length part.code.instrs) code.roots (omega (arith, instrs));
+        roots = indices k core code.plan (sided_on core (sided_roots k)) 0 0 code.lines part.roots (length part.code.instrs) code.roots (omega (arith, instrs));
         code = subst (λ is. AreGoodInstrs (length part.code.instrs) 0 is) (sym code.instrs) (good_instrs (length part.code.instrs) 0 code.lines (code.alone.by (length part.code.instrs) (omega (arith, instrs))));
       }
 
@@ -114,7 +115,7 @@ ascend_filtered p n (m ∷ ms) h = ascend_by n m ms (filter p ms) h (ascend_filt
 passes : (p : ℕ → Bool) (ms : List ℕ) → All (λ m. p m ≡ true) (filter p ms)
 passes p ms = filter_passes p ms
 
-module _ (k : kernel.Kernel) (checked : IsChecked k) (stay : StayInRoots k) where
+module _ (k : kernel.Kernel) (checked : IsChecked k) (stay : StayOnCores k) where
   abbrev AreParts : List CoreImage → Type 0
   AreParts = All (λ (part : CoreImage). IsPartOf k part.number part)
 

@@ -15,11 +15,12 @@ use Rattle.xl_plan.specs.Layout.{temporary_of}
 use Rattle.xl_plan.proofs.Lists.{some_given, none_given, contains_at}
 use Rattle.xl_walk.proofs.Stands as walk
 use Rattle.xc_disjoint.specs.Checked.{IsChecked}
-use Rattle.xl_image.specs.Images.{IsCoreImage, IsImage, no_sides, pairs_below, roots_on}
+use Rattle.xl_image.specs.Images.{IsCoreImage, IsImage, SidedRoot, pairs_below, root_sides, roots_on, sided_on, sided_roots, thread_of}
 use Rattle.xl_image.specs.Parts.{IsPartOf, cores_of, is_some_root, number_of}
 use Rattle.xl_image.specs.Roots.{AreRoots, IsRootCode, stack_code}
 use Rattle.xl_image.proofs.GoodParts.{as_many}
 use Rattle.xl_image.proofs.Rooted.{core_listed}
+use Rattle.xl_image.proofs.Sided.{as_many_there, sided_there}
 
 at_behind : {A B : Type 0} (f : A → B) (xs ys : List A) (y : A) → slice_get (map f (xs ++ (y ∷ ys))) (length xs) ≡ Some (f y)
 at_behind f [] ys y = refl
@@ -37,32 +38,32 @@ stand_behind code front (l ∷ ls) is at =
     )
 
 -- the root at a place, its index and its lines
-record Found (k : kernel.Kernel) (core : ℕ) (plan : Plan) (code : Code) (entries : List ℕ) (thread place : ℕ) (r : kernel.Root) : Type 0 where
+record Found (k : kernel.Kernel) (core : ℕ) (plan : Plan) (code : Code) (entries : List ℕ) (thread place : ℕ) (s : SidedRoot) : Type 0 where
   index : ℕ
   listed : slice_get entries place ≡ Some index
   lines : List Line
   stand : StandAt code index lines
-  is : IsRootCode plan (no_sides k) (temporary_of k core thread) r index lines
+  is : IsRootCode plan s.sides (temporary_of k core thread) s.root index lines
 
 module _ (k : kernel.Kernel) (core : ℕ) (plan : Plan) (code : Code) where
-  found : (rs : List kernel.Root) (thread pc : ℕ) (lines : List Line) (entries : List ℕ) → AreRoots k core plan rs thread pc lines entries → StandAt code pc lines →
-      (place : ℕ) (r : kernel.Root) → slice_get rs place ≡ Some r → Found k core plan code entries (thread + place) place r
-  found [] thread pc lines entries h stand place r e = absurd (none_given e)
-  found (q ∷ rs) thread pc lines entries h stand zero r e = record {
+  found : (ss : List SidedRoot) (thread pc : ℕ) (lines : List Line) (entries : List ℕ) → AreRoots k core plan ss thread pc lines entries → StandAt code pc lines →
+      (place : ℕ) (s : SidedRoot) → slice_get ss place ≡ Some s → Found k core plan code entries (thread + place) place s
+  found [] thread pc lines entries h stand place s e = absurd (none_given e)
+  found (q ∷ ss) thread pc lines entries h stand zero s e = record {
     index = pc;
     listed = ap (λ ns. slice_get ns 0) h.entry;
     lines = h.first;
     stand = stand_front code pc h.first h.others (subst (StandAt code pc) h.is stand);
-    is = subst (λ n. IsRootCode plan (no_sides k) (temporary_of k core n) r pc h.first) (let z : thread ≡ thread + 0 = omega arith in z) (subst (λ (x : kernel.Root). IsRootCode plan (no_sides k) (temporary_of k core thread) x pc h.first) (some_given e) h.first_is);
+    is = subst (λ n. IsRootCode plan s.sides (temporary_of k core n) s.root pc h.first) (let z : thread ≡ thread + 0 = omega arith in z) (subst (λ (x : SidedRoot). IsRootCode plan x.sides (temporary_of k core thread) x.root pc h.first) (some_given e) h.first_is);
   }
-  found (q ∷ rs) thread pc lines entries h stand (suc place) r e =
-      let f = found rs (suc thread) (pc + length h.first) h.others h.later h.others_are (stand_back code pc h.first h.others (subst (StandAt code pc) h.is stand)) place r e in
+  found (q ∷ ss) thread pc lines entries h stand (suc place) s e =
+      let f = found ss (suc thread) (pc + length h.first) h.others h.later h.others_are (stand_back code pc h.first h.others (subst (StandAt code pc) h.is stand)) place s e in
       record {
         index = f.index;
         listed = ap (λ ns. slice_get ns (suc place)) h.entry ∙ f.listed;
         lines = f.lines;
         stand = f.stand;
-        is = subst (λ n. IsRootCode plan (no_sides k) (temporary_of k core n) r f.index f.lines) (let z : suc thread + place ≡ thread + suc place = omega arith in z) f.is;
+        is = subst (λ n. IsRootCode plan s.sides (temporary_of k core n) s.root f.index f.lines) (let z : suc thread + place ≡ thread + suc place = omega arith in z) f.is;
       }
 
 pub core_imaged : (k : kernel.Kernel) (part : CoreImage) → IsPartOf k part.number part → IsCoreImage k part
@@ -73,12 +74,14 @@ core_imaged k part is = record {
   timers = is.timers;
   ends = is.ends;
   ports = is.ports;
-  as_many = as_many k part.number is.code.plan (roots_on part.number k.roots) 0 0 is.code.lines part.roots is.code.roots;
-  roots = λ place r e.
-      let f = found k part.number is.code.plan part.code (roots_on part.number k.roots) 0 0 is.code.lines part.roots is.code.roots (stand_behind part.code [] is.code.lines is.code.instrs is.code.places) place r e in
+  as_many = as_many k part.number is.code.plan (sided_on part.number (sided_roots k)) 0 0 is.code.lines part.roots is.code.roots ∙ as_many_there k part.number;
+  roots = λ number r known here.
+      let place = thread_of part.number k.roots number in
+      let sides = root_sides k number in
+      let f = found k part.number is.code.plan part.code (sided_on part.number (sided_roots k)) 0 0 is.code.lines part.roots is.code.roots (stand_behind part.code [] is.code.lines is.code.instrs is.code.places) place (record { root = r; sides = sides }) (sided_there k part.number number r known here) in
       let all = subst (StandAt part.code f.index) f.is.is f.stand in
       let rest = stand_back part.code f.index (stack_code (temporary_of k part.number (0 + place)) r.pos) f.is.rest all in
-      let root = walk.roots_stand part.code is.code.plan (no_sides k) r.body r.pos r.pos (f.index + 2) f.is.rest f.is.root rest in
+      let root = walk.roots_stand part.code is.code.plan sides r.body r.pos r.pos (f.index + 2) f.is.rest f.is.root rest in
       let same : 0 + place ≡ place = omega arith in
       record {
         index = f.index;

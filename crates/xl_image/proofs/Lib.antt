@@ -1,5 +1,6 @@
 pub mod Threads
 pub mod Ready
+pub mod Sided
 pub mod Begun
 pub mod ThreadCode
 pub mod Rooted

@@ -11,7 +11,7 @@ use Rattle.xc_disjoint.specs.Rules.{apart}
 use Rattle.xc_meaning.specs.Runs.{no_side}
 use Rattle.xl_sides.specs.Ends.{Sides}
 use Rattle.xl_plan.specs.Layout.{cores_of_users, ends_before, ends_of_user, user_core}
-use Rattle.xl_plan.specs.Planned.{StayInRoots}
+use Rattle.xl_plan.specs.Planned.{StayOnCores}
 use Rattle.xl_plan.proofs.Lists.{some_given, none_given}
 use Rattle.xl_plan.proofs.TwoSides.{two_sides}
 use Rattle.xl_plan.proofs.Users.{users_need}
@@ -91,7 +91,7 @@ module _ (k : kernel.Kernel) (users : List (Option ℕ)) (is : users ≡ cores_o
       ∙ get_or-map-range_with_len (λ d. user_core d k.roots) 0 (length k.channels) c c None (omega (arith, lt, n)) (let z : 0 + c ≡ c = omega arith in z)
 
   -- those before a channel tell where its ends begin
-  pub before_need : StayInRoots k → (core c : ℕ) → c < length users → sum_by (ends_of_user core) (take c users) ≡ ends_before k core c
+  pub before_need : StayOnCores k → (core c : ℕ) → c < length users → sum_by (ends_of_user core) (take c users) ≡ ends_before k core c
   before_need stay core c lt =
       let n = user_count in
       ap (λ us. sum_by (ends_of_user core) (take c us)) is

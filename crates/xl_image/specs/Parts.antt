@@ -8,7 +8,7 @@ use Rattle.xs_instr.specs.Lines.{Line, instr_of, pos_of}
 use Rattle.xl_expr.specs.declared.plan.Plan.{Plan}
 use Rattle.xl_plan.specs.Planned.{ports_on}
 use Rattle.xl_walk.specs.Inside.{StandAlone}
-use Rattle.xl_image.specs.Images.{IsPlan, decl_of, roots_on}
+use Rattle.xl_image.specs.Images.{IsPlan, decl_of, roots_on, sided_on, sided_roots}
 use Rattle.xl_image.specs.Roots.{AreRoots}
 
 -- The code is that of the core's roots in the kernel's order, with their indices, by a plan of the core. The targets of jumps lie in it.
@@ -18,7 +18,7 @@ pub record HasRoots (k : kernel.Kernel) (core : ℕ) (part : CoreImage) : Type 0
   pub lines : List Line
   pub instrs : part.code.instrs ≡ map instr_of lines
   pub places : part.code.«at» ≡ map pos_of lines
-  pub roots : AreRoots k core plan (roots_on core k.roots) 0 0 lines part.roots
+  pub roots : AreRoots k core plan (sided_on core (sided_roots k)) 0 0 lines part.roots
   pub alone : StandAlone 0 lines
   pub few : length lines < 2 ^ 32
 

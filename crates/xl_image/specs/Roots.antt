@@ -7,7 +7,7 @@ use Rattle.xs_instr.specs.Lines.{Line, at_pos}
 use Rattle.xc_kernel.specs.Plain as kernel
 use Rattle.xl_expr.specs.declared.plan.Plan.{Plan}
 use Rattle.xl_expr.specs.declared.plan.VarPlan.{VarPlan}
-use Rattle.xl_image.specs.Images.{no_sides}
+use Rattle.xl_image.specs.Images.{SidedRoot}
 use Rattle.xl_plan.specs.Layout.{temporary_of}
 use Rattle.xl_sides.specs.Ends.{Sides}
 use Rattle.xl_walk.specs.Built.{AreBuilt, AreShallow, ParsAreFew, most_of_all}
@@ -55,10 +55,10 @@ pub record BeginsWith
 
 -- The code of roots of a core, one behind the other, from an index on, and where each begins; the first is that of this thread.
 module _ (k : kernel.Kernel) (core : ℕ) (plan : Plan) where
-  abbrev pub AreRoots : List kernel.Root → (thread pc : ℕ) → List Line → (entries : List ℕ) → Type 0
+  abbrev pub AreRoots : List SidedRoot → (thread pc : ℕ) → List Line → (entries : List ℕ) → Type 0
   AreRoots [] thread pc lines entries = (lines ≡ []) × (entries ≡ [])
-  AreRoots (r ∷ rs) thread pc lines entries =
-      BeginsWith (IsRootCode plan (no_sides k) (temporary_of k core thread) r) (AreRoots rs (suc thread)) pc lines entries
+  AreRoots (s ∷ ss) thread pc lines entries =
+      BeginsWith (IsRootCode plan s.sides (temporary_of k core thread) s.root) (AreRoots ss (suc thread)) pc lines entries
 
 -- the most instructions that a root has: those of its statements, two that set its stack, and the one that ends it
 abbrev pub most_of_root : List (Option VarPlan) → kernel.Root → ℕ

@@ -6,7 +6,7 @@ ghost use Rattle.xc_kernel.specs.Kernels.{kernel_of};
 ghost use Rattle.xl_image.specs.Images.{pairs_below};
 ghost use Rattle.xl_image.specs.Parts.{pair_on};
 ghost use Rattle.xl_plan.specs.Layout.{ends_of_user};
-ghost use Rattle.xl_plan.specs.Planned.{StayInRoots};
+ghost use Rattle.xl_plan.specs.Planned.{StayOnCores};
 
 use std::alloc::Global;
 use xc_disjoint::Checked;
@@ -19,7 +19,7 @@ use xw_words::{List, Memory};
 /// It takes time for each channel, and for each pair of a channel that is used and one before it: a core has ends for sixteen at most.
 pub fn channel_pairs(alloc: Global, checked: &Checked) -> Result<List<Pair>, Memory>
     requires accepted { IsChecked (kernel_of checked.now) }
-    requires stay { StayInRoots (kernel_of checked.now) }
+    requires stay { StayOnCores (kernel_of checked.now) }
     ensures { IfOk result (λ pairs. pairs
         ≡ pairs_below (kernel_of checked.now) (length (kernel_of checked.now).channels)) }
 {

@@ -5,7 +5,7 @@ ghost use Rattle.xc_disjoint.specs.Cores.{last_core};
 ghost use Rattle.xc_disjoint.specs.Rules.{most_words};
 ghost use Rattle.xc_kernel.specs.Kernels.{kernel_of, root_of};
 ghost use Rattle.xs_instr.specs.Adds.{Adds};
-ghost use Rattle.xl_image.specs.Images.{IsPlan, roots_on};
+ghost use Rattle.xl_image.specs.Images.{IsPlan, sided_on, sided_roots};
 ghost use Rattle.xl_image.specs.Roots.{AreRoots, IsReady, IsRootCode, RootsAreBuilt, most_of_root};
 ghost use Rattle.xl_sides.specs.Sides.{sides_of};
 ghost use Rattle.xl_walk.specs.Inside.{StandAlone};
@@ -15,7 +15,7 @@ use xc_disjoint::Checked;
 use xc_kernel::Root;
 use xl_expr::Plan;
 use xl_plan::temporary_words;
-use xl_sides::{Side, no_sides};
+use xl_sides::{Side, sides_of_roots};
 use xl_walk::emit_root;
 use xs_instr::{Emitter, Instr, Reg};
 use xw_words::{List, Memory};
@@ -36,19 +36,21 @@ pub fn emit_roots(
     requires planned { IsPlan (kernel_of checked.now) core plan.now }
     requires empty { e.old ≡ [] }
     ensures code { IfOk result (λ entries. AreRoots (kernel_of checked.now) core plan.now
-        (roots_on core (kernel_of checked.now).roots) 0 0 e.new entries) }
+        (sided_on core (sided_roots (kernel_of checked.now))) 0 0 e.new entries) }
     ensures alone { OnOk result (StandAlone 0 e.new) }
     ensures few { OnOk result (length e.new < 2 ^ 32) }
 {
     let kernel = checked.kernel();
-    let sides = no_sides(alloc, kernel.chans.len())?;
+    let roots = kernel.roots.as_slice();
+    let sides = sides_of_roots(alloc, kernel.chans.len(), roots)?;
+    let sides = sides.as_slice();
     let mut entries = List::new(alloc);
-    for root in kernel.roots.as_slice() {
+    for (number, root) in roots.iter().enumerate() {
         if root.core == core {
             let thread = entries.len() as u32;
             let word = temporary_words(checked, core, thread);
             entries.push(e.here())?;
-            emit_thread(alloc, e, plan, sides.as_slice(), word, root)?;
+            emit_thread(alloc, e, plan, sides[number].as_slice(), word, root)?;
         }
     }
     Ok(entries)

@@ -1,16 +1,18 @@
--- Three kernels, laid out by hand.
+-- Four kernels, laid out by hand.
 use Rattle.std.proofs.Common.{◌≡◌, ℕ, Bool, true, false, List, [], ◌∷◌, Option, Some, None, refl}
 use Rattle.xw_words.specs.declared.pos.Pos.{Pos}
 use Rattle.xc_tree.specs.declared.tree.TreeDir.TheVariants.{Out}
+use Rattle.xc_kernel.specs.declared.kernel.Chan.{Chan as Channel}
 use Rattle.xc_kernel.specs.declared.kernel.Inst.{Inst}
 use Rattle.xc_kernel.specs.declared.kernel.PortUse.{PortUse}
 use Rattle.xc_kernel.specs.declared.kernel.Var.{Var}
+use Rattle.xc_kernel.specs.declared.statement.KRes.TheVariants.{Chan}
 use Rattle.xc_kernel.specs.Plain as kernel
-use Rattle.xc_disjoint.specs.Needs.{words_on}
+use Rattle.xc_disjoint.specs.Needs.{ends_on, words_on}
 use Rattle.xl_expr.specs.declared.plan.ResAt.TheVariants.{Fixed}
 use Rattle.xl_expr.specs.declared.plan.VarAt.TheVariants.{Near}
 use Rattle.xl_expr.specs.declared.plan.VarPlan.{VarPlan}
-use Rattle.xl_plan.specs.Layout.{temporary_of, places_from, port_at}
+use Rattle.xl_plan.specs.Layout.{temporary_of, places_from, port_at, first_ends, cores_of_users}
 
 pos : Pos
 pos = record { line = 1; col = 1 }
@@ -94,3 +96,54 @@ second_port = refl
 
 other_port : port_at 1 (port 1 0 ∷ port 0 0 ∷ port 1 5 ∷ []) 1 ≡ None
 other_port = refl
+
+-- Two roots on core 1 are the two sides of channel 1, and the root on core 0 has both sides of channel 0 in it: each core needs two ends.
+abbrev sends : (channel : ℕ) → kernel.Statement
+sends channel = kernel.output (record { resource = Chan channel; time = None; value = kernel.number 7; stamp = None; pos = pos })
+
+abbrev takes : (channel : ℕ) → kernel.Statement
+takes channel = kernel.input (record { resource = Chan channel; time = None; condition = None; target = None; stamp = None; pos = pos })
+
+abbrev one : kernel.Statement → kernel.Statements
+one s = kernel.more s kernel.no_more
+
+abbrev root_of : (core : ℕ) → kernel.Statement → kernel.Root
+root_of core s = record { core = core; place = pos; body = one s; pos = pos }
+
+abbrev plain_channel : Channel
+plain_channel = record { streaming = false; path = []; pos = pos }
+
+shared : kernel.Kernel
+shared = record {
+  roots = root_of 1 (sends 1)
+      ∷ root_of 0 (kernel.par (kernel.more_branches (kernel.branch (one (sends 0)) pos) (kernel.more_branches (kernel.branch (one (takes 0)) pos) kernel.no_branch)))
+      ∷ root_of 1 (takes 1)
+      ∷ [];
+  variables = [];
+  channels = plain_channel ∷ plain_channel ∷ [];
+  timers = [];
+  ports = [];
+  instances = [];
+  main = pos;
+}
+
+shared_needs : ends_on shared 1 ≡ 2
+unfolding shared
+shared_needs = refl
+
+alone_needs : ends_on shared 0 ≡ 2
+unfolding shared
+alone_needs = refl
+
+-- each has the first two ends of its core
+shared_has : first_ends shared 1 2 ≡ 0 ∷ 0 ∷ []
+unfolding shared
+shared_has = refl
+
+alone_has : first_ends shared 0 2 ≡ 0 ∷ 2 ∷ []
+unfolding shared
+alone_has = refl
+
+shared_users : cores_of_users shared ≡ Some 0 ∷ Some 1 ∷ []
+unfolding shared
+shared_users = refl

@@ -13,6 +13,6 @@ pub mod PortsDiffer
 pub mod FewPorts
 pub mod Unused
 pub mod TwoSides
+pub mod Together
 pub mod Ends
 pub mod Users
-mod ThreadSteps

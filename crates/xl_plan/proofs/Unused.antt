@@ -1,15 +1,14 @@
 -- Code that doesn't use a channel has no `par` whose branches are the channel's sides.
-use Rattle.std.proofs.Common.{◌≡◌, ℕ, zero, suc, false, ◌&&◌, ◌||◌, List, [], ◌∷◌, ◌++◌, Some, slice_get, nat_eq, refl, sym, ap, ◌∙◌, arith}
+use Rattle.std.proofs.Common.{◌≡◌, ℕ, false, ◌&&◌, ◌||◌, List, [], ◌∷◌, ◌++◌, nat_eq, refl, ap, ◌∙◌, arith}
 use Rattle.xc_kernel.specs.Plain as kernel
 use Rattle.xc_kernel.specs.Things.{channel, by_statement, by_statements, by_cases, by_default, by_branch, by_branches}
 use Rattle.xc_kernel.specs.Uses.{once}
 use Rattle.xc_kernel.specs.Branches.{uses_in, users, some_has_sides}
 use Rattle.xc_kernel.specs.Pars as pars
 use Rattle.xc_kernel.proofs.Used.{or_false}
-use Rattle.xl_plan.proofs.Lists.{some_given, none_given}
 
 module _ (c : ℕ) where
-  pub no_users : (bs : kernel.Branches) → by_branches (channel c) bs ≡ false → users c bs ≡ 0
+  no_users : (bs : kernel.Branches) → by_branches (channel c) bs ≡ false → users c bs ≡ 0
   no_users kernel.no_branch h = refl
   no_users (kernel.more_branches b bs) h =
       let g = or_false (by_branch (channel c) b) (by_branches (channel c) bs) h in
@@ -71,8 +70,3 @@ module _ (c : ℕ) where
   none_has_sides count [] h = refl
   none_has_sides count (bs ∷ ps) h =
       ap (λ n. nat_eq n 2 && nat_eq (uses_in c bs) count || some_has_sides c count ps) h.0 ∙ none_has_sides count ps h.1
-
-  pub none_at : (ps : List kernel.Branches) (place : ℕ) (p : kernel.Branches) → AreUnused ps → slice_get ps place ≡ Some p → users c p ≡ 0
-  none_at [] place p h e = absurd (none_given e)
-  none_at (q ∷ ps) zero p h e = ap (users c) (sym (some_given e)) ∙ h.0
-  none_at (q ∷ ps) (suc place) p h e = none_at ps place p h.1 e

@@ -1,15 +1,17 @@
--- What the cores of channels' users tell of a core's ends, where each channel is used in one root alone.
+-- What the cores of channels' users tell of a core's ends, where both sides of each channel are on one core.
 use Rattle.std.specs.List.{range_with_len}
-use Rattle.std.proofs.Common.{◌≡◌, ℕ, zero, suc, ◌+◌, ◌<◌, Bool, true, false, ◌&&◌, ◌||◌, cond, List, [], ◌∷◌, ◌++◌, map, Option, Some, nat_eq, slice_index_or, sum_by, refl, sym, ap, ◌∙◌, arith}
+use Rattle.std.proofs.Common.{◌≡◌, ℕ, zero, suc, ◌+◌, ◌<◌, Bool, true, false, ◌&&◌, cond, List, [], ◌∷◌, ◌++◌, map, Option, Some, None, nat_eq, slice_index_or, sum_by, refl, sym, ap, ◌∙◌, arith}
 use Rattle.std.proofs.lemmas.List.FromFn.{get_or-map-range_with_len, map-range_with_len_more, sum_by-map-range_with_len_more}
 use Rattle.std.proofs.lemmas.List.Sums.{sum_by-cons}
 use Rattle.xc_kernel.specs.Plain as kernel
-use Rattle.xc_kernel.specs.Things.{channel, by_statements}
+use Rattle.xc_kernel.specs.Branches.{branches_of}
+use Rattle.xc_kernel.specs.Things.{channel, by_statements, by_branches}
+use Rattle.xc_disjoint.specs.Cores.{if_so}
 use Rattle.xl_sides.specs.Uses.{uses_among}
 use Rattle.xl_plan.specs.Layout.{ends_before, ends_if, ends_of_user, first_ends, is_used_by, is_used_on, numbers_from, user_core}
-use Rattle.xl_plan.specs.Planned.{StayInRoots}
+use Rattle.xl_plan.specs.Planned.{StayOnCores}
 use Rattle.xl_plan.specs.Users.{user_among, uses_of_root}
-use Rattle.xl_plan.proofs.Ends.{Lone, here_alone, lone_others, not_here, unused_behind, unused_here, uses}
+use Rattle.xl_plan.proofs.Together.{Together, used_there, user_of}
 
 -- the answers of roots tell the user
 pub user_found : (n c : ℕ) (rs : List kernel.Root) → c < n → user_among c (map (uses_of_root n) rs) ≡ user_core c rs
@@ -21,20 +23,24 @@ user_found n c (r ∷ rs) lt =
     ∙ ap (cond (by_statements (channel c) r.body) (Some r.core)) (user_found n c rs lt)
 
 -- a user's core has the ends of its channel
-ends_by_user : (c core : ℕ) (rs : List kernel.Root) → Lone c rs → ends_of_user core (user_core c rs) ≡ ends_if (is_used_by core c rs)
-ends_by_user c core [] h = refl
-ends_by_user c core (r ∷ rs) h = by (uses c r) refl (ends_by_user c core rs (lone_others c r rs h))
+ends_by_user : (c core : ℕ) (rs : List kernel.Root) → Together c rs → ends_of_user core (user_core c rs) ≡ ends_if (is_used_by core c rs)
+ends_by_user c core rs together =
+    let user = user_of c rs together in
+    ap (ends_of_user core) user.is
+    ∙ by user.core (by_branches (channel c) (branches_of rs))
+    ∙ ap ends_if (sym (used_there c user.core core rs user.there))
   where
-    by : (b : Bool) → uses c r ≡ b → ends_of_user core (user_core c rs) ≡ ends_if (is_used_by core c rs) → ends_of_user core (user_core c (r ∷ rs)) ≡ ends_if (is_used_by core c (r ∷ rs))
-    by true e others =
-        let unused = unused_here c core rs (unused_behind c r rs h e) in
-        ap (λ b. ends_of_user core (cond b (Some r.core) (user_core c rs))) e
-        ∙ here_alone c core (nat_eq r.core core) true (is_used_by core c rs) refl unused.0
-        ∙ ap (λ b. ends_if ((nat_eq r.core core && b) || is_used_by core c rs)) (sym e)
-    by false e others =
-        ap (λ b. ends_of_user core (cond b (Some r.core) (user_core c rs))) e
-        ∙ others
-        ∙ ap ends_if (sym (not_here c core (nat_eq r.core core) (uses c r) (is_used_by core c rs) e))
+    here : (b : Bool) → if_so b 2 ≡ ends_if (b && true)
+    here true = refl
+    here false = refl
+
+    none : (b : Bool) → 0 ≡ ends_if (b && false)
+    none true = refl
+    none false = refl
+
+    by : (user : ℕ) (used : Bool) → ends_of_user core (cond used (Some user) None) ≡ ends_if (nat_eq user core && used)
+    by user true = here (nat_eq user core)
+    by user false = none (nat_eq user core)
 
 numbers_append : (core n : ℕ) (users : List (Option ℕ)) (user : Option ℕ) → numbers_from core n (users ++ user ∷ []) ≡ numbers_from core n users ++ (n + sum_by (ends_of_user core) users) ∷ []
 numbers_append core n [] user = ap (λ m. m ∷ []) (let z : n ≡ n + 0 = omega arith in z)
@@ -43,7 +49,7 @@ numbers_append core n (u ∷ users) user =
     let e : n + ends_of_user core u + sum_by (ends_of_user core) users ≡ n + sum_by (ends_of_user core) (u ∷ users) = omega (arith, s) in
     ap (λ l. n ∷ l) (numbers_append core (n + ends_of_user core u) users user ∙ ap (λ m. numbers_from core (n + ends_of_user core u) users ++ m ∷ []) e)
 
-module _ (k : kernel.Kernel) (stay : StayInRoots k) where
+module _ (k : kernel.Kernel) (stay : StayOnCores k) where
   -- the users of the channels below a number
   abbrev pub users_below : ℕ → List (Option ℕ)
   users_below n = map (λ c. user_core c k.roots) (range_with_len 0 n)

@@ -142,7 +142,7 @@ abbrev pub ends_below : (core number : ℕ) → List ResAt
 ends_below core zero = []
 ends_below core (suc n) = ends_below core n ++ Fixed (end_name core n) ∷ []
 
--- What follows says the same by the core of each channel's user, where each is used in one root alone.
+-- What follows says the same by the core of the first root that uses a channel, where both sides of each are on one core.
 
 -- the core of the first root that uses a channel
 abbrev pub user_core : (channel : ℕ) → List kernel.Root → Option ℕ

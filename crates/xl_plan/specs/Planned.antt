@@ -87,11 +87,11 @@ HasEnds k core ends = ends ≡ ends_below core (ends_before k core (length k.cha
 abbrev pub HasChannels : kernel.Kernel → (core : ℕ) → List ℕ → Type 0
 HasChannels k core channels = channels ≡ first_ends k core (length k.channels)
 
--- a channel is used in one root alone, so both its sides are on that root's core
-abbrev pub StayInRoots : kernel.Kernel → Type 0
-StayInRoots k =
+-- both sides of a channel are on one core
+abbrev pub StayOnCores : kernel.Kernel → Type 0
+StayOnCores k =
     (c i j : ℕ) (r s : kernel.Root) → slice_get k.roots i ≡ Some r → slice_get k.roots j ≡ Some s →
-    by_statements (channel c) r.body ≡ true → by_statements (channel c) s.body ≡ true → i ≡ j
+    by_statements (channel c) r.body ≡ true → by_statements (channel c) s.body ≡ true → r.core ≡ s.core
 
 -- a port's number is its place among the core's ports
 abbrev pub NumbersAreListed : kernel.Kernel → (core : ℕ) → Type 0

@@ -2,7 +2,7 @@ ghost use Rattle.std.specs.Prelude.{◌≡◌, ◌≤◌, IfOk, OnOk};
 ghost use Rattle.xc_disjoint.specs.Cores.{last_core};
 ghost use Rattle.xc_kernel.specs.Kernels.{kernel_of};
 ghost use Rattle.xl_plan.specs.Layout.{first_temporary, temporary_of};
-ghost use Rattle.xl_plan.specs.Planned.{ArePortsApart, HasChannels, HasEnds, HasNoOther, HasPorts, HasTimers, HasUsedPorts, HasUsedTimers, HasUsedVariables, HasVariables, NoneIsTemporary, NoneShare, NumbersAreListed, StandBelow, StayInRoots, ports_on};
+ghost use Rattle.xl_plan.specs.Planned.{ArePortsApart, HasChannels, HasEnds, HasNoOther, HasPorts, HasTimers, HasUsedPorts, HasUsedTimers, HasUsedVariables, HasVariables, NoneIsTemporary, NoneShare, NumbersAreListed, StandBelow, StayOnCores, ports_on};
 
 use crate::channels::{channel_cores, end_count, first_ends};
 use crate::resources::{end_identifiers, port_identifiers, timer_identifiers};
@@ -21,7 +21,7 @@ use xw_words::Memory;
 /// roots' statements once. The one error is want of memory.
 pub fn plan(alloc: Global, checked: &Checked, core: u8) -> Result<Plan, Memory>
     requires is_core { core ≤ last_core }
-    requires stay { StayInRoots (kernel_of checked.now) }
+    requires stay { StayOnCores (kernel_of checked.now) }
     ensures variables { IfOk result
         (λ plan. HasVariables (kernel_of checked.now) core plan.vars) }
     ensures no_other { IfOk result (λ plan. HasNoOther (kernel_of checked.now) core plan.vars) }

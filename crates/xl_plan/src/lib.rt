@@ -5,7 +5,6 @@ mod channels;
 mod layout;
 mod resources;
 mod temporary;
-mod threads;
 mod variables;
 
 pub use channels::{channel_cores, end_count};

@@ -5,8 +5,7 @@ ghost use Rattle.xc_disjoint.specs.Rules.{most_words};
 ghost use Rattle.xc_kernel.specs.Kernels.{kernel_of};
 ghost use Rattle.xl_plan.specs.Layout.{temporary_of};
 
-use crate::threads::thread_count;
-use xc_disjoint::Checked;
+use xc_disjoint::{Checked, thread_count};
 use xc_kernel::{Inst, Var};
 
 /// The temporary words of a thread.

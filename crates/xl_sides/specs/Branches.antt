@@ -1,6 +1,6 @@
 -- The sides in which the branches of a `par` stand.
 use Rattle.std.specs.List.{list_any}
-use Rattle.std.specs.Prelude.{ℕ, ◌+◌, Bool, false, List, [], ◌∷◌, Option, Some, None, slice_index_or}
+use Rattle.std.specs.Prelude.{ℕ, ◌+◌, Bool, false, List, [], ◌∷◌, ◌++◌, Option, Some, None, slice_index_or}
 use Rattle.xc_kernel.specs.Plain as kernel
 use Rattle.xc_meaning.specs.Settings.Sides.{side_by, sides_in}
 use Rattle.xc_meaning.specs.States.Channels.{Side}
@@ -35,3 +35,8 @@ abbrev pub sides_by : ℕ → (before : List (List Bool)) (here : List Bool) (be
 sides_by c before here behind [] = []
 sides_by c before here behind (side ∷ sides) =
     side_or_by (uses_at c here) (one_uses_at c before) (one_uses_at c behind) side ∷ sides_by (c + 1) before here behind sides
+
+-- the same for each of some codes, by the channels that those before it, it itself and those behind it use
+abbrev pub sides_by_each : Sides → (before used : List (List Bool)) → List Sides
+sides_by_each sides before [] = []
+sides_by_each sides before (here ∷ behind) = sides_by 0 before here behind sides ∷ sides_by_each sides (before ++ here ∷ []) behind

@@ -1,14 +1,16 @@
-ghost use Rattle.std.specs.Prelude.{◌≡◌, [], map, option_map, IfOk};
-ghost use Rattle.xc_kernel.specs.Kernels.{branch_of};
+ghost use Rattle.std.specs.Prelude.{◌≡◌, [], None, map, option_map, replicate, IfOk};
+ghost use Rattle.xc_kernel.specs.Branches.{branches_of};
+ghost use Rattle.xc_kernel.specs.Kernels.{branch_of, root_of};
 ghost use Rattle.xc_kernel.specs.Plain as kernel;
 ghost use Rattle.xc_meaning.specs.Settings.Sides.{side_by};
-ghost use Rattle.xl_sides.specs.Branches.{one_uses_at, sides_by, sides_of_each, uses_at, uses_of_branch};
+ghost use Rattle.xl_sides.specs.Branches.{one_uses_at, sides_by, sides_by_each, sides_of_each, uses_at, uses_of_branch};
 ghost use Rattle.xl_sides.specs.Sides.{side_of, sides_of};
+ghost use Rattle.xl_sides.specs.Uses.{uses_among};
 
-use crate::sides::Side;
+use crate::sides::{Side, no_sides};
 use crate::used::used_channels;
 use std::alloc::Global;
-use xc_kernel::KBranch;
+use xc_kernel::{KBranch, Root};
 use xw_words::{List, Memory};
 
 /// The sides in which each branch of a `par` stands, by those in which the `par` stands. The one error is want of memory.
@@ -21,14 +23,22 @@ pub fn sides_of_branches(
         ≡ sides_of_each (sides_of sides.now) [] (kernel.branches (map branch_of branches.now))) }
 {
     let used = used_in_branches(alloc, sides.len(), branches)?;
-    let used = used.as_slice();
-    let mut each = List::new(alloc);
-    for (index, here) in used.iter().enumerate() {
-        let behind = &used[index + 1..];
-        let own = sides_of_branch(alloc, sides, &used[..index], here.as_slice(), behind)?;
-        each.push(own)?;
-    }
-    Ok(each)
+    sides_by_use(alloc, sides, used.as_slice())
+}
+
+/// The sides in which the code of each root stands: the roots are the branches of one `par`, which stands in no side of any of so many
+/// channels. The one error is want of memory.
+pub fn sides_of_roots(
+    alloc: Global,
+    channels: usize,
+    roots: &[Root],
+) -> Result<List<List<Option<Side>>>, Memory>
+    ensures { IfOk result (λ each. map sides_of each
+        ≡ sides_of_each (replicate channels None) [] (branches_of (map root_of roots.now))) }
+{
+    let sides = no_sides(alloc, channels)?;
+    let used = used_in_roots(alloc, channels, roots)?;
+    sides_by_use(alloc, sides.as_slice(), used.as_slice())
 }
 
 /// Whether each branch uses each of so many channels.
@@ -46,6 +56,37 @@ fn used_in_branches(
         used.push(own)?;
     }
     Ok(used)
+}
+
+/// Whether each root uses each of so many channels.
+fn used_in_roots(alloc: Global, channels: usize, roots: &[Root]) -> Result<List<List<bool>>, Memory>
+    ensures { IfOk result (λ used. used
+        ≡ map (λ r. uses_among channels (root_of r).body) roots.now) }
+{
+    let mut used = List::new(alloc);
+    for root in roots {
+        let own = used_channels(alloc, channels, root.body.as_slice())?;
+        used.push(own)?;
+    }
+    Ok(used)
+}
+
+/// The sides in which each branch stands, by the channels that each uses.
+fn sides_by_use(
+    alloc: Global,
+    sides: &[Option<Side>],
+    used: &[List<bool>],
+) -> Result<List<List<Option<Side>>>, Memory>
+    ensures { IfOk result (λ each. map sides_of each
+        ≡ sides_by_each (sides_of sides.now) [] used.now) }
+{
+    let mut each = List::new(alloc);
+    for (index, here) in used.iter().enumerate() {
+        let behind = &used[index + 1..];
+        let own = sides_of_branch(alloc, sides, &used[..index], here.as_slice(), behind)?;
+        each.push(own)?;
+    }
+    Ok(each)
 }
 
 /// The sides in which a branch stands, by the channels that those before it, it itself and those behind it use.

@@ -7,6 +7,6 @@ mod sides;
 mod tests;
 mod used;
 
-pub use branches::sides_of_branches;
+pub use branches::{sides_of_branches, sides_of_roots};
 pub use sides::{Side, end_at, no_sides};
 pub use used::used_channels;

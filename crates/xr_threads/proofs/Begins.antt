@@ -15,7 +15,7 @@ use Rattle.xc_meaning.specs.Runs.{kernel_start}
 use Rattle.xc_meaning.specs.States.Branches.{Branch, ended, runs}
 use Rattle.xc_meaning.specs.States.Items.{Item, ends, todo}
 use Rattle.xc_meaning.specs.States.Worlds.{World}
-use Rattle.xl_image.specs.Images.{decl_of, no_sides}
+use Rattle.xl_image.specs.Images.{decl_of, root_sides}
 use Rattle.xr_match.specs.Lives.{Life, Watched, begun, of_root}
 use Rattle.xr_match.specs.Meanings.{of_kernel}
 use Rattle.xr_match.specs.Sources.{told_start}
@@ -135,9 +135,9 @@ module _ (g : Setting) (who : Roles) (is : IsImageOf g who) where
       };
       at_code =
           subst (λ sides. ItemsAt (plan g r) (code g r) sides (EndAt (plan g r) (code g r) r.tie r.parents) items [] (entry + 2) 0) (sym h.is_root.sides)
-          (subst (λ tie. ItemsAt (plan g r) (code g r) (no_sides g.program) (EndAt (plan g r) (code g r) tie r.parents) items [] (entry + 2) 0) (sym h.is_root.tie)
-          (subst (λ ps. ItemsAt (plan g r) (code g r) (no_sides g.program) (EndAt (plan g r) (code g r) None ps) items [] (entry + 2) 0) (sym h.is_root.alone)
-          (root_items g.program (plan g r) (home g r).parts r.core r.thread h.root h.is_root.code)));
+          (subst (λ tie. ItemsAt (plan g r) (code g r) (root_sides g.program r.branch) (EndAt (plan g r) (code g r) tie r.parents) items [] (entry + 2) 0) (sym h.is_root.tie)
+          (subst (λ ps. ItemsAt (plan g r) (code g r) (root_sides g.program r.branch) (EndAt (plan g r) (code g r) None ps) items [] (entry + 2) 0) (sym h.is_root.alone)
+          (root_items g.program (plan g r) (home g r).parts r.core r.thread h.root (root_sides g.program r.branch) h.is_root.code)));
       fits = fits_here g r items h.is_root.fits h.is_root.footprint;
       has = record {
         branch = branch;
@@ -162,7 +162,7 @@ module _ (g : Setting) (who : Roles) (is : IsImageOf g who) where
       thread = subst (λ m. HasThread g r m (set_on r.core)) (sym b.mode)
           (record { thread = running r.tie (entry + 2) (set_regs r); there = set_there; tied = refl; no_events = refl; is = refl });
       in_hand = empty refl;
-      sides = is.outside r.branch branch known ∙ sym h.is_root.sides;
+      sides = is.sides r.branch branch known ∙ sym h.is_root.sides;
       done = λ f. h.is_root.no_transfer;
       stops = λ f. subst StopsIn (sym h.is_root.no_transfer) tt;
       ends_tied = λ f. let both : runs ≡ ended = sym b.mode ∙ f in cc;

@@ -17,9 +17,9 @@ use Rattle.xc_formed.specs.Each.{EachOf, EachRoot}
 use Rattle.xc_formed.proofs.Formed.{of_programs}
 use Rattle.xc_laws.proofs.Checked.{checked_obey}
 use Rattle.xl_expr.specs.declared.plan.Plan.{Plan}
-use Rattle.xl_image.specs.Images.{IsImage, roots_on}
+use Rattle.xl_image.specs.Images.{IsImage, RootAt, root_sides, thread_of}
 use Rattle.xl_image.specs.Roots.{RootsAreBuilt}
-use Rattle.xl_plan.specs.Planned.{StayInRoots}
+use Rattle.xl_plan.specs.Planned.{StayOnCores}
 use Rattle.xl_plan.proofs.Lists.{some_given, none_given, contains_at}
 use Rattle.xr_match.specs.Meanings.{root_among}
 use Rattle.xr_threads.specs.Fits.{FitOn}
@@ -33,9 +33,9 @@ use Rattle.xr_threads.proofs.ImagedLines.{lines_are}
 use Rattle.xr_threads.proofs.ImagedPlans.{IsImaged, counted_at, imaged_at, placed_at, plans}
 use Rattle.xr_threads.proofs.Items as items
 use Rattle.xr_threads.proofs.StartPlain.{plain_begins}
-use Rattle.xr_threads.proofs.StartSides.{start_outside}
+use Rattle.xr_threads.proofs.StartSides.{start_sides}
 use Rattle.xr_threads.proofs.Starts.{roots_live}
-use Rattle.xr_threads.proofs.Roots.{IsRunner, RootsThread, is_runner, listed_on, needed_is, of_none, of_root, root_inside, root_runs, roles, roots_thread, runner_of, some_root, thread_of}
+use Rattle.xr_threads.proofs.Roots.{IsRunner, RootsThread, is_runner, needed_is, of_none, of_root, root_inside, root_runs, roles, roots_thread, runner_of, some_root}
 
 -- what holds in the code of all roots holds in that of one
 each_at : (E : kernel.Expression → Type 0) (P : kernel.Place → Type 0) (Z : ℕ → Type 0) (O : kernel.Output → Type 0) (I : kernel.Input → Type 0) (T : ℕ → Type 0) (rs : List kernel.Root) (i : ℕ) (root : kernel.Root) →
@@ -66,7 +66,7 @@ few_on K core checked lt =
     (within_or_not (threads_on K core) 8)
 
 -- The setting of each stimulus.
-module _ (K : kernel.Kernel) (L : Image) (checked : IsChecked K) (is : IsImage K L) (valid : Valid L) (built : RootsAreBuilt K.roots) (stay : StayInRoots K) where
+module _ (K : kernel.Kernel) (L : Image) (checked : IsChecked K) (is : IsImage K L) (valid : Valid L) (built : RootsAreBuilt K.roots) (stay : StayOnCores K) where
   abbrev pub setting : Stim → Setting
   setting s = record { program = K; image = L; stimulus = s; plans = plans K L is }
 
@@ -117,7 +117,7 @@ module _ (K : kernel.Kernel) (L : Image) (checked : IsChecked K) (is : IsImage K
         footprint = refl;
         inside = subst (λ n. n < threads_on K core) (sym place) (root_inside K core number root known here);
         stack = refl;
-        code = im.roots thread root (ap (slice_get (roots_on core K.roots)) place ∙ listed_on K core number root known here);
+        code = subst (λ n. RootAt K (plans K L is core) (parts_in L.cores core) core n root (root_sides K number)) (sym place) (im.roots number root known here);
         fits = fits;
       }
 
@@ -153,7 +153,7 @@ module _ (K : kernel.Kernel) (L : Image) (checked : IsChecked K) (is : IsImage K
     is_image_of = record {
       obeys = checked_obey K checked;
       plain = plain_begins K built;
-      outside = start_outside K stay;
+      sides = start_sides K;
       lines = lines_are g checked is valid stay;
       roles = is_root_role;
       core = λ c t r e. ap (λ (x : Runner). x.core) (known_runner c t r e).is;
@@ -168,6 +168,6 @@ module _ (K : kernel.Kernel) (L : Image) (checked : IsChecked K) (is : IsImage K
     }
 
 -- The image of a checked kernel is what the simulation asks, by one plan for each core, whatever the stimulus.
-pub image_is : (K : kernel.Kernel) (L : Image) → IsChecked K → IsImage K L → Valid L → RootsAreBuilt K.roots → StayInRoots K →
+pub image_is : (K : kernel.Kernel) (L : Image) → IsChecked K → IsImage K L → Valid L → RootsAreBuilt K.roots → StayOnCores K →
     (plan : ℕ → Plan) × ((s : Stim) → IsImageOf (record { program = K; image = L; stimulus = s; plans = plan }) (roles K))
 image_is K L checked is valid built stay = (plans K L is, is_image_of K L checked is valid built stay)

@@ -9,7 +9,7 @@ use Rattle.xl_expr.specs.declared.plan.ResAt.TheVariants.{Fixed}
 use Rattle.xl_expr.specs.Plans.{end_in}
 use Rattle.xl_image.specs.Images.{IsPlan}
 use Rattle.xl_plan.specs.Layout.{end_name, ends_before, ends_below, ends_if, first_ends, is_used_on}
-use Rattle.xl_plan.specs.Planned.{StayInRoots}
+use Rattle.xl_plan.specs.Planned.{StayOnCores}
 use Rattle.xl_plan.proofs.Ends.{few_ends}
 use Rattle.xl_sides.specs.Ends.{end_of_side}
 use Rattle.xr_threads.specs.Runners.{EndIsPlanned, IsChannel, Runner, Setting, plan}
@@ -76,7 +76,7 @@ module _ (K : kernel.Kernel) (core : ℕ) where
       omega (arith, two, here))
       (cases_lt c n)
 
-module _ (g : Setting) (checked : IsChecked g.program) (stay : StayInRoots g.program) (r : Runner) (is_core : r.core < 4) (planned : IsPlan g.program r.core (plan g r)) where
+module _ (g : Setting) (checked : IsChecked g.program) (stay : StayOnCores g.program) (r : Runner) (is_core : r.core < 4) (planned : IsPlan g.program r.core (plan g r)) where
   few : ends_before g.program r.core (length g.program.channels) ≤ 32
   few = few_ends g.program r.core checked stay (omega (arith, is_core))
 

@@ -16,7 +16,7 @@ use Rattle.xl_expr.specs.Frames.{Frame, IsNear}
 use Rattle.xl_expr.specs.Plans.{var_in}
 use Rattle.xl_image.specs.Images.{decl_of}
 use Rattle.xl_plan.specs.Layout.{first_temporary, temporary_of, word_of, ports_here, core_of_port, identifier_if, named_by, port_name}
-use Rattle.xl_plan.specs.Planned.{StayInRoots, ports_on}
+use Rattle.xl_plan.specs.Planned.{StayOnCores, ports_on}
 use Rattle.xl_plan.proofs.FewPorts.{few_ports}
 use Rattle.xl_plan.proofs.Lists.{some_given, within_all}
 use Rattle.xl_plan.proofs.Numbered.{listed}
@@ -106,7 +106,7 @@ module _ (g : Setting) (checked : IsChecked g.program) (core : ℕ) (is_core : c
       omega (arith, a, b)
 
 -- A runner on its core.
-module _ (g : Setting) (checked : IsChecked g.program) (stay : StayInRoots g.program) (r : Runner) (is_core : r.core < 4) (im : IsImaged g.program r.core (parts_in g.image.cores r.core) (g.plans r.core))
+module _ (g : Setting) (checked : IsChecked g.program) (stay : StayOnCores g.program) (r : Runner) (is_core : r.core < 4) (im : IsImaged g.program r.core (parts_in g.image.cores r.core) (g.plans r.core))
     (inside : r.thread < threads_on g.program r.core) (base : r.base ≡ 0) (stack : r.stack ≡ temporary_of g.program r.core r.thread) where
   not_temporary : (v n i : ℕ) (found : VarPlan) → IsNear (g.plans r.core).vars v n found → i < found.words → IsApart r.stack (r.base + n + i)
   not_temporary v n i found near lt =
@@ -140,7 +140,7 @@ module _ (g : Setting) (checked : IsChecked g.program) (stay : StayInRoots g.pro
   }
 
 -- What the simulation asks of a core.
-pub core_is : (g : Setting) (checked : IsChecked g.program) → StayInRoots g.program → (core : ℕ) (is_core : core < 4) → IsImaged g.program core (parts_in g.image.cores core) (g.plans core) → IsCoreOf g core
+pub core_is : (g : Setting) (checked : IsChecked g.program) → StayOnCores g.program → (core : ℕ) (is_core : core < 4) → IsImaged g.program core (parts_in g.image.cores core) (g.plans core) → IsCoreOf g core
 core_is g checked stay core is_core im = record {
   laid = λ r on inside base stack used.
       laid_out g checked stay r (subst (λ c. c < 4) (sym on) is_core) (subst (λ c. IsImaged g.program c (parts_in g.image.cores c) (g.plans c)) (sym on) im)

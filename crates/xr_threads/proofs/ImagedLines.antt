@@ -2,7 +2,7 @@
 use Rattle.std.proofs.Common.{◌≡◌, ◌⊎◌, inl, inr, ⊎_elim, ℕ, zero, suc, ◌<◌, ◌≤◌, Bool, true, false, List, [], ◌∷◌, ◌++◌, map, length, option_map, Some, slice_get, refl, sym, ap, subst, ◌∙◌, true≢false, arith}
 use Rattle.std.specs.Prelude.{◌&&◌, ◌||◌, cond, nat_eq}
 use Rattle.std.proofs.lemmas.Bool.{cases_lt}
-use Rattle.std.proofs.lemmas.Option.{same_Some, slice_get-map}
+use Rattle.std.proofs.lemmas.Option.{slice_get-map}
 use Rattle.xs_instr.specs.declared.image.CoreImage.{CoreImage}
 use Rattle.xs_instr.specs.declared.image.Pair.{Pair}
 use Rattle.xs_instr.specs.Machine.{parts_in}
@@ -16,7 +16,7 @@ use Rattle.xc_meaning.specs.States.Channels.{Side, first, second}
 use Rattle.xc_meaning.proofs.Basics.{none_given, some_given}
 use Rattle.xl_image.specs.Images.{IsImage, core_by, core_of, is_used, one_root_uses, pair_of, pair_where, pairs_below}
 use Rattle.xl_plan.specs.Layout.{is_used_by, is_used_on}
-use Rattle.xl_plan.specs.Planned.{StayInRoots}
+use Rattle.xl_plan.specs.Planned.{StayOnCores}
 use Rattle.xl_plan.proofs.TwoSides.{two_sides}
 use Rattle.xr_match.specs.Sides.{two_sided, two_sided_among, where_so}
 use Rattle.xr_threads.specs.Images.{AreLines}
@@ -136,7 +136,7 @@ pair_there ks (q ∷ qs) zero p h e first = subst (λ (x : Pair). x.end < (parts
 pair_there ks (q ∷ qs) zero p h e second = subst (λ (x : Pair). x.peer_end < (parts_in ks x.peer_core).ends) (some_given e) h.1
 pair_there ks (q ∷ qs) (suc line) p h e side = pair_there ks qs line p h.2 e side
 
-module _ (g : Setting) (checked : IsChecked g.program) (is : IsImage g.program g.image) (valid : Valid g.image) (stay : StayInRoots g.program) where
+module _ (g : Setting) (checked : IsChecked g.program) (is : IsImage g.program g.image) (valid : Valid g.image) (stay : StayOnCores g.program) where
   -- a channel has two sides where it is used
   two_is_used : (c : ℕ) → c < length g.program.channels → has_two_sides g.program c ≡ is_used g.program c
   two_is_used c lt = two_sides g.program (λ b h. checked.unbroken b (apart h)) c lt ∙ sym (uses_root c g.program.roots)
@@ -148,9 +148,7 @@ module _ (g : Setting) (checked : IsChecked g.program) (is : IsImage g.program g
   used_at core c lt used =
       let u = user_on core c g.program.roots used in
       let f = first_user c g.program.roots u.0 u.1 u.2 u.4 in
-      let one = stay c f.place u.0 f.root u.1 f.known u.2 f.uses u.4 in
-      let same : f.root ≡ u.1 = same_Some f.root u.1 (sym f.known ∙ ap (slice_get g.program.roots) one ∙ u.2) in
-      (f.core ∙ ap (λ (r : kernel.Root). r.core) same ∙ u.3, listed_at g.program (length g.program.channels) c lt (two_is_used c lt ∙ f.some))
+      (f.core ∙ stay c f.place u.0 f.root u.1 f.known u.2 f.uses u.4 ∙ u.3, listed_at g.program (length g.program.channels) c lt (two_is_used c lt ∙ f.some))
 
   pub lines_are : AreLines g
   lines_are = record {

@@ -7,11 +7,11 @@ use Rattle.xs_instr.specs.Valid.{AreGoodCores, Valid}
 use Rattle.xc_kernel.specs.Plain as kernel
 use Rattle.xc_disjoint.specs.Needs.{ends_on, words_on}
 use Rattle.xl_expr.specs.declared.plan.Plan.{Plan}
-use Rattle.xl_image.specs.Images.{IsCoreImage, IsImage, IsPlan, RootAt, decl_of, roots_on}
+use Rattle.xl_image.specs.Images.{IsCoreImage, IsImage, IsPlan, RootAt, decl_of, root_sides, roots_on, thread_of}
 use Rattle.xl_plan.specs.Layout.{temporary_of}
 use Rattle.xl_plan.specs.Planned.{ports_on}
 use Rattle.xl_plan.proofs.Lists.{some_given, none_given, contained_at, contains_at}
-use Rattle.xr_threads.proofs.Roots.{thread_of, listed_on}
+use Rattle.xr_threads.proofs.Roots.{listed_on}
 
 -- what an image's part of a core has for the core's roots, by a plan
 pub record IsImaged (K : kernel.Kernel) (core : ℕ) (part : CoreImage) (plan : Plan) : Type 0 where
@@ -20,7 +20,7 @@ pub record IsImaged (K : kernel.Kernel) (core : ℕ) (part : CoreImage) (plan : 
   pub ports : part.ports ≡ map decl_of (ports_on core K.ports)
   pub ends : part.ends ≡ ends_on K core
   pub as_many : length part.roots ≡ length (roots_on core K.roots)
-  pub roots : (place : ℕ) (root : kernel.Root) → slice_get (roots_on core K.roots) place ≡ Some root → RootAt K plan part core place root
+  pub roots : (number : ℕ) (root : kernel.Root) → slice_get K.roots number ≡ Some root → root.core ≡ core → RootAt K plan part core (thread_of core K.roots number) root (root_sides K number)
 
 -- where the temporary words of the core's threads begin; this is to be a field of `IsPlan`
 pub first_stack_is : (K : kernel.Kernel) (core : ℕ) (plan : Plan) → IsPlan K core plan → plan.first_stack ≡ temporary_of K core 0
@@ -71,7 +71,7 @@ module _ (K : kernel.Kernel) where
     ports = is.ports ∙ ap (λ c. map decl_of (ports_on c K.ports)) n;
     ends = is.ends ∙ ap (ends_on K) n;
     as_many = is.as_many ∙ ap (λ c. length (roots_on c K.roots)) n;
-    roots = subst (λ c. (place : ℕ) (root : kernel.Root) → slice_get (roots_on c K.roots) place ≡ Some root → RootAt K is.plan (parts_in parts core) c place root) n is.roots;
+    roots = subst (λ c. (number : ℕ) (root : kernel.Root) → slice_get K.roots number ≡ Some root → root.core ≡ c → RootAt K is.plan (parts_in parts core) c (thread_of c K.roots number) root (root_sides K number)) n is.roots;
   }
   imaged_by parts core (missing none is) place part e s = absurd (none place part e s)
 

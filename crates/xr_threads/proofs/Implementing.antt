@@ -5,14 +5,14 @@ use Rattle.xc_kernel.specs.Plain as kernel
 use Rattle.xc_disjoint.specs.Checked.{IsChecked}
 use Rattle.xl_image.specs.Images.{IsImage}
 use Rattle.xl_image.specs.Roots.{RootsAreBuilt}
-use Rattle.xl_plan.specs.Planned.{StayInRoots}
+use Rattle.xl_plan.specs.Planned.{StayOnCores}
 use Rattle.xr_match.specs.Implements.{Implements, ImplementsWholly}
 use Rattle.xr_match.specs.Meanings.{of_kernel}
 use Rattle.xr_threads.proofs.Compiled as compiled
 use Rattle.xr_threads.proofs.Imaged.{image_is}
 use Rattle.xr_threads.proofs.Roots.{roles}
 
-module _ (K : kernel.Kernel) (L : Image) (checked : IsChecked K) (is : IsImage K L) (valid : Valid L) (built : RootsAreBuilt K.roots) (stay : StayInRoots K) where
+module _ (K : kernel.Kernel) (L : Image) (checked : IsChecked K) (is : IsImage K L) (valid : Valid L) (built : RootsAreBuilt K.roots) (stay : StayOnCores K) where
   pub wholly_implements : ImplementsWholly L (of_kernel K)
   wholly_implements =
       let i = image_is K L checked is valid built stay in

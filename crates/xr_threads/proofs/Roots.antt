@@ -10,8 +10,8 @@ use Rattle.xc_disjoint.specs.Threads as threads
 use Rattle.xc_laws.specs.Needs.{needed_on}
 use Rattle.xc_laws.proofs.Needs.{statements_least}
 use Rattle.xl_par.specs.Hands.{Hand}
-use Rattle.xl_image.specs.Images.{no_sides, roots_on}
-use Rattle.xl_plan.specs.Layout.{number_on, temporary_of}
+use Rattle.xl_image.specs.Images.{core_of_root, root_sides, roots_on, thread_of}
+use Rattle.xl_plan.specs.Layout.{temporary_of}
 use Rattle.xl_plan.proofs.Lists.{some_given, none_given}
 use Rattle.xl_plan.proofs.Numbered.{listed}
 use Rattle.xr_match.specs.Meanings.{root_among}
@@ -30,7 +30,7 @@ runner_of K core thread number root = record {
   stack = temporary_of K core thread;
   footprint = footprint_of (todo root.body (ends ∷ []));
   parents = [];
-  sides = no_sides K;
+  sides = root_sides K number;
   transfer = None;
 }
 
@@ -47,12 +47,6 @@ abbrev pub roles : kernel.Kernel → Roles
 roles K core thread = role_with K core thread (root_among core 0 K.roots thread)
 
 -- The place of a root among those of its core.
-
-abbrev pub core_of_root : kernel.Root → ℕ
-core_of_root r = r.core
-
-abbrev pub thread_of : (core : ℕ) → List kernel.Root → (place : ℕ) → ℕ
-thread_of core rs place = number_on core_of_root core rs place
 
 -- what stands in a list of roots from a number on, and is the root of a core with this place among them
 pub record IsNumbered (core number : ℕ) (rs : List kernel.Root) (thread found : ℕ) : Type 0 where

@@ -13,7 +13,7 @@ use Rattle.xc_meaning.specs.Runs.{kernel_root, kernel_start, no_side, root_branc
 use Rattle.xc_meaning.specs.States.Branches.{Branch, runs}
 use Rattle.xc_meaning.specs.States.Channels.{Side}
 use Rattle.xc_meaning.specs.States.Items.{ends, todo}
-use Rattle.xl_image.specs.Images.{roots_on}
+use Rattle.xl_image.specs.Images.{roots_on, thread_of}
 use Rattle.xl_par.specs.Hands.{Hand, IsAmong}
 use Rattle.xl_plan.specs.Layout.{temporary_of}
 use Rattle.xr_match.specs.Meanings.{root_among}
@@ -23,7 +23,7 @@ use Rattle.xr_threads.specs.Roles.{AreRoles, IsOnce, IsParent, Role, Roles, got_
 use Rattle.xr_threads.specs.Runners.{Setting, Runner}
 use Rattle.xr_threads.specs.Scenes.{Owns, held_in, sync_in}
 use Rattle.xr_threads.specs.Standing.{living_on, one_where}
-use Rattle.xr_threads.proofs.Roots.{none_found, numbered, thread_of}
+use Rattle.xr_threads.proofs.Roots.{none_found, numbered}
 
 -- a root as it starts
 pub record IsRootBranch (root : kernel.Root) (number : ℕ) (branch : Branch) : Type 0 where

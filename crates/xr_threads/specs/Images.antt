@@ -17,7 +17,7 @@ use Rattle.xc_meaning.specs.States.Channels.{Side}
 use Rattle.xc_meaning.specs.States.Items.{ends, todo}
 use Rattle.xl_expr.specs.declared.plan.VarPlan.{VarPlan}
 use Rattle.xl_expr.specs.Frames.{IsNear}
-use Rattle.xl_image.specs.Images.{RootAt, core_of, decl_of, no_sides, pair_of}
+use Rattle.xl_image.specs.Images.{RootAt, core_of, decl_of, pair_of, root_sides}
 use Rattle.xl_plan.specs.Layout.{is_used_on, temporary_of}
 use Rattle.xr_match.specs.Meanings.{root_among}
 use Rattle.xr_threads.specs.Fits.{FitOn}
@@ -51,12 +51,12 @@ pub record IsRoot (g : Setting) (r : Runner) (root : kernel.Root) : Type 0 where
   pub base : r.base ≡ 0
   pub tie : r.tie ≡ None
   pub alone : r.parents ≡ []
-  pub sides : r.sides ≡ no_sides g.program
+  pub sides : r.sides ≡ root_sides g.program r.branch
   pub no_transfer : r.transfer ≡ None
   pub footprint : r.footprint ≡ footprint_of (todo root.body (ends ∷ []))
   pub inside : r.thread < threads_on g.program r.core
   pub stack : r.stack ≡ temporary_of g.program r.core r.thread
-  pub code : RootAt g.program (plan g r) (home g r).parts r.core r.thread root
+  pub code : RootAt g.program (plan g r) (home g r).parts r.core r.thread root (root_sides g.program r.branch)
   pub fits : FitOn g r.core (todo root.body (ends ∷ []))
 
 -- a thread that runs nothing is unused, one that runs something is a root's, with nothing in hand
@@ -80,7 +80,7 @@ pub record AreLines (g : Setting) : Type 0 where
 pub record IsImageOf (g : Setting) (who : Roles) : Type 0 where
   pub obeys : Obeys g.program
   pub plain : ArePlain (kernel_start g.program).branches
-  pub outside : (n : ℕ) (b : Branch) → slice_get (kernel_start g.program).branches n ≡ Some b → b.sides ≡ no_sides g.program
+  pub sides : (n : ℕ) (b : Branch) → slice_get (kernel_start g.program).branches n ≡ Some b → b.sides ≡ root_sides g.program n
   pub lines : AreLines g
   pub roles : (c t : ℕ) → IsRootRole g (who c t)
   pub core : (c t : ℕ) (r : Runner) → who c t ≡ used_by r None → r.core ≡ c

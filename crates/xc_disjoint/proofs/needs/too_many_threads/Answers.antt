@@ -9,8 +9,8 @@ use Rattle.xc_disjoint.proofs.needs.too_many_threads.Goals as goal
 
 pub returns : goal.returns
 returns c =
-    decides most_threads (omega arith) (threads_on (kernel_of c.args.kernel.now)) c.is_above.result c.core_threads.result c.core_threads-2.result c.core_threads-3.result c.core_threads-4.result c.is_above.ensures
-    (c.core_threads.ensures ∙ ap (λ (rs : List Root). capped (sum_by (threads_of_root 0) (map root_of rs))) c.as_slice-roots.ensures)
-    (c.core_threads-2.ensures ∙ ap (λ (rs : List Root). capped (sum_by (threads_of_root 1) (map root_of rs))) c.as_slice-roots.ensures)
-    (c.core_threads-3.ensures ∙ ap (λ (rs : List Root). capped (sum_by (threads_of_root 2) (map root_of rs))) c.as_slice-roots.ensures)
-    (c.core_threads-4.ensures ∙ ap (λ (rs : List Root). capped (sum_by (threads_of_root 3) (map root_of rs))) c.as_slice-roots.ensures)
+    decides most_threads (omega arith) (threads_on (kernel_of c.args.kernel.now)) c.is_above.result c.thread_count.result c.thread_count-2.result c.thread_count-3.result c.thread_count-4.result c.is_above.ensures
+    (c.thread_count.ensures ∙ ap (λ (rs : List Root). capped (sum_by (threads_of_root 0) (map root_of rs))) c.as_slice-roots.ensures)
+    (c.thread_count-2.ensures ∙ ap (λ (rs : List Root). capped (sum_by (threads_of_root 1) (map root_of rs))) c.as_slice-roots.ensures)
+    (c.thread_count-3.ensures ∙ ap (λ (rs : List Root). capped (sum_by (threads_of_root 2) (map root_of rs))) c.as_slice-roots.ensures)
+    (c.thread_count-4.ensures ∙ ap (λ (rs : List Root). capped (sum_by (threads_of_root 3) (map root_of rs))) c.as_slice-roots.ensures)

@@ -11,7 +11,7 @@ use Rattle.xcsim.proofs.Firsts.{first_in_bytes, first_in_tokens, first_of_form}
 use Rattle.xcsim.proofs.Order.{tokens_few}
 use Rattle.xc_today.specs.Today.{IsBuiltToday}
 use Rattle.xl_image.specs.Roots.{RootsAreBuilt}
-use Rattle.xl_plan.specs.Planned.{StayInRoots}
+use Rattle.xl_plan.specs.Planned.{StayOnCores}
 use Rattle.xcsim.proofs.Reading.{err_by, ok_by, read_as, of_names, of_types, typed_too, shallow_too, size_too, needs_too, kernel_too, built_too, stays_too}
 use Rattle.xcsim.proofs.front.read_text.Goals as goal
 
@@ -130,7 +130,7 @@ returns-clause-stay c =
     let stay = stays_too c.args.text.now c.in_ok-tree.tree read c.in_ok-named.named c.in_ok-named.ensures.tree c.in_ok-named.ensures.named c.in_ok-named.ensures.unbroken
     c.in_ok-typed.typed c.in_ok-typed.ensures.named c.in_ok-typed.ensures.types c.in_ok-typed.ensures.unbroken
     (kernel_of c.in_ok-kernel.kernel) c.in_ok-kernel.ensures.small c.in_ok-kernel.ensures.copies in
-    ok_by c.disjoint.result (λ x same unbroken. subst (λ k. StayInRoots (kernel_of k)) (sym same) stay)
+    ok_by c.disjoint.result (λ x same unbroken. subst (λ k. StayOnCores (kernel_of k)) (sym same) stay)
     c.disjoint.ensures.kernel c.disjoint.ensures.unbroken
 
 pub returns-clause-first : goal.returns-clause-first

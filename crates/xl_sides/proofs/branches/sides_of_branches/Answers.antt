@@ -1,24 +1,22 @@
-use Rattle.std.proofs.Common.{◌+◌, Bool, List, length, drop, map, option_map, sym, ap, ap₂, ◌∙◌, ◌∷◌, [], arith}
-use Rattle.std.proofs.lemmas.List.{length-drop, length-map, map-append}
-use Rattle.std.proofs.Math.Seq.{take-length}
-use Rattle.std.proofs.Common.{take}
-use Rattle.xl_sides.specs.Branches.{sides_by}
+use Rattle.std.proofs.Common.{length, map, option_map, ap, ◌∙◌, arith}
+use Rattle.std.proofs.lemmas.List.{length-map}
+use Rattle.std.proofs.lemmas.Result.{IfOk-weaker}
+use Rattle.std.specs.Prelude.{[], ◌≡◌}
+use Rattle.xc_kernel.specs.Kernels.{branch_of}
+use Rattle.xc_kernel.specs.Plain as kernel
+use Rattle.xl_sides.specs.Branches.{sides_by_each, sides_of_each}
 use Rattle.xl_sides.specs.Sides.{side_of, sides_of}
-use Rattle.xl_sides.proofs.Telling.{walk_goes_on}
+use Rattle.xl_sides.proofs.Telling.{all_told, used_by_branches}
 use Rattle.xl_sides.proofs.branches.sides_of_branches.Goals as goal
 
-pub loop-index-preserved : goal.loop-index-preserved
-loop-index-preserved c =
+pub returns : goal.returns
+returns c =
     let sides = sides_of c.args.sides.now in
-    let used = c.as_slice-used.result.now in
-    let i = c.loop-index.index in
-    let behind = drop (i + 1) used in
-    walk_goes_on (length c.args.sides.now) sides c.args.branches.now used
-    (omega (arith, length-map c.args.sides.now (option_map side_of)))
-    (c.as_slice-used.ensures ∙ c.in_ok-used.ensures)
-    i c.index-used-index.result (map sides_of c.loop-index.each) (map sides_of c.push.new.self) (sides_of c.in_ok-own.own)
-    c.index-used-index.is c.loop-index-test.true c.loop-index.invariant
-    (c.in_ok-own.ensures
-    ∙ ap₂ (λ (here : List Bool) (rest : List (List Bool)). sides_by 0 (take i used) here rest sides) c.as_slice.ensures
-    (ap (λ n. take n behind) (sym (length-drop (i + 1) used)) ∙ take-length behind))
-    (ap (map sides_of) c.in_ok-push.ensures.ok ∙ map-append sides_of c.loop-index.each (c.in_ok-own.own ∷ []))
+    let n = length c.args.sides.now in
+    let bs = kernel.branches (map branch_of c.args.branches.now) in
+    IfOk-weaker c.sides_by_use.result (λ each. map sides_of each ≡ sides_by_each sides [] c.as_slice.result.now) (λ each. map sides_of each ≡ sides_of_each sides [] bs)
+    (λ each is.
+    is
+    ∙ ap (sides_by_each sides []) (c.as_slice.ensures ∙ c.in_ok-used.ensures ∙ used_by_branches n c.args.branches.now)
+    ∙ all_told n sides (let z = length-map c.args.sides.now (option_map side_of) in omega (arith, z)) bs)
+    c.sides_by_use.ensures

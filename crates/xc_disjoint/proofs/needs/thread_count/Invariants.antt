@@ -2,7 +2,7 @@ use Rattle.std.proofs.Common.{◌≡◌, ◌+◌, ◌-◌, ◌^◌, ◌≤◌, d
 use Rattle.xc_kernel.specs.Kernels.{root_of}
 use Rattle.xc_disjoint.specs.Needs.{threads_of_root}
 use Rattle.xc_disjoint.specs.Sums.{capped}
-use Rattle.xc_disjoint.proofs.needs.core_threads.Given as goal
+use Rattle.xc_disjoint.proofs.needs.thread_count.Given as goal
 
 abbrev pub invariant-loop-root : goal.invariant-loop-root
 invariant-loop-root l =
