@@ -9,16 +9,13 @@ ghost use Rattle.xc_tree.specs.Refusals.{IfBroken};
 ghost use Rattle.xc_tree.specs.Symbol as symbol;
 ghost use Rattle.xc_tree.specs.Trees.{item_of, program_of};
 ghost use Rattle.xw_words.specs.declared.pos.Broken.{Broken};
-ghost use Rattle.xc_parser.specs.Follows.{OneOf, first};
-ghost use Rattle.xc_parser.specs.Programs.{Halted};
-ghost use Rattle.xc_parser.specs.Reading.{Reads};
-ghost use Rattle.xc_parser.specs.Stops.{Stopped};
+ghost use Rattle.xc_phrases.specs.Follows.{OneOf, first};
+ghost use Rattle.xc_phrases.specs.Programs.{Halted};
+ghost use Rattle.xc_phrases.specs.Reading.{Reads};
+ghost use Rattle.xc_phrases.specs.Stops.{Stopped};
 
-use crate::functions::FunctionHead;
-use crate::parser::{Parser, Read};
-use crate::stop::Stop;
-use crate::tokens::{begins_type, is_symbol, is_word};
 use std::alloc::Global;
+use xc_phrases::{FunctionHead, Parser, Read, Stop, begins_type, is_symbol, is_word};
 use xc_tree::symbols::SEMICOLON;
 use xc_tree::words::VOID_WORD;
 use xc_tree::{FuncItem, Item, Refusal, Tok, Tree};
@@ -50,98 +47,96 @@ pub fn parse(alloc: Global, toks: &List<Tok>, end: Pos) -> Result<Tree, ParseErr
         alloc,
         toks: toks.as_slice(),
     };
-    match parser.program() {
+    match program(&parser) {
         Ok(items) => Ok(Tree { items }),
-        Err(Stop::Wrong(at)) => Err(parser.broken(201, at, end)),
-        Err(Stop::Deep(at)) => Err(parser.broken(202, at, end)),
+        Err(Stop::Wrong(at)) => Err(broken(&parser, 201, at, end)),
+        Err(Stop::Deep(at)) => Err(broken(&parser, 202, at, end)),
         Err(Stop::Memory) => Err(ParseErr::Memory),
     }
 }
 
-impl<'a> Parser<'a> {
-    /// A rule that is broken at a token, or at the end of the text.
-    fn broken(&self, rule: u16, at: usize, end: Pos) -> ParseErr
-        ensures { result
-            ≡ Refusal.Broken (record { rule = rule; pos = place_at self.now.toks.now end at }) }
-    {
-        let pos = if at < self.toks.len() {
-            self.toks[at].pos
-        } else {
-            end
-        };
-        ParseErr::Broken(Broken { rule, pos })
-    }
+/// A rule that is broken at a token, or at the end of the text.
+fn broken(parser: &Parser, rule: u16, at: usize, end: Pos) -> ParseErr
+    ensures { result
+        ≡ Refusal.Broken (record { rule = rule; pos = place_at parser.now.toks.now end at }) }
+{
+    let pos = if at < parser.toks.len() {
+        parser.toks[at].pos
+    } else {
+        end
+    };
+    ParseErr::Broken(Broken { rule, pos })
+}
 
-    /// All items.
-    fn program(&self) -> Result<List<Item>, Stop>
-        requires short { length self.now.toks.now < 2 ^ 32 }
-        ensures read { IfOk result (λ items. Reads self.now.toks.now deepest symbol.program 0
-            (length self.now.toks.now) (map item_of items)) }
-        ensures stopped { IfErr result (λ e. Halted self.now.toks.now e) }
-    {
-        let mut items = List::new(self.alloc);
-        let mut end = 0;
-        'items: while end < self.toks.len() {
-            let Read { value, end: behind } = self.item(end)?;
-            match value {
-                Some(item) => items.push(item)?,
-                None => {}
-            }
-            end = behind;
+/// All items.
+fn program(parser: &Parser) -> Result<List<Item>, Stop>
+    requires short { length parser.now.toks.now < 2 ^ 32 }
+    ensures read { IfOk result (λ items. Reads parser.now.toks.now deepest symbol.program 0
+        (length parser.now.toks.now) (map item_of items)) }
+    ensures stopped { IfErr result (λ e. Halted parser.now.toks.now e) }
+{
+    let mut items = List::new(parser.alloc);
+    let mut end = 0;
+    'items: while end < parser.toks.len() {
+        let Read { value, end: behind } = item(parser, end)?;
+        match value {
+            Some(item) => items.push(item)?,
+            None => {}
         }
-        Ok(items)
+        end = behind;
     }
+    Ok(items)
+}
 
-    /// A port, a function, or a prototype, which is dropped.
-    fn item(&self, at: usize) -> Result<Read<Option<Item>>, Stop>
-        requires short { length self.now.toks.now < 2 ^ 32 }
-        requires at { at ≤ length self.now.toks.now }
-        ensures bounds { IfOk result (λ r. (at < r.end) × (r.end ≤ length self.now.toks.now)) }
-        ensures read { IfOk result (λ r. Reads self.now.toks.now deepest symbol.item at r.end
-            (option_map item_of r.value)) }
-        ensures stopped { IfErr result (λ e. Stopped self.now.toks.now deepest symbol.item at e) }
-    {
-        if !self.begins_head(at) {
-            let port = self.portdecl(at, DEEPEST)?;
-            return Ok(Read {
-                value: Some(Item::Port(port.value)),
-                end: port.end,
-            });
-        }
-        let head = self.head(at)?;
-        if is_symbol(self.toks, head.end, SEMICOLON) {
-            return Ok(Read {
-                value: None,
-                end: head.end + 1,
-            });
-        }
-        let body = self.body(head.end, DEEPEST)?;
-        let FunctionHead {
+/// A port, a function, or a prototype, which is dropped.
+fn item(parser: &Parser, at: usize) -> Result<Read<Option<Item>>, Stop>
+    requires short { length parser.now.toks.now < 2 ^ 32 }
+    requires at { at ≤ length parser.now.toks.now }
+    ensures bounds { IfOk result (λ r. (at < r.end) × (r.end ≤ length parser.now.toks.now)) }
+    ensures read { IfOk result (λ r. Reads parser.now.toks.now deepest symbol.item at r.end
+        (option_map item_of r.value)) }
+    ensures stopped { IfErr result (λ e. Stopped parser.now.toks.now deepest symbol.item at e) }
+{
+    if !begins_head(parser, at) {
+        let port = parser.portdecl(at, DEEPEST)?;
+        return Ok(Read {
+            value: Some(Item::Port(port.value)),
+            end: port.end,
+        });
+    }
+    let head = parser.head(at)?;
+    if is_symbol(parser.toks, head.end, SEMICOLON) {
+        return Ok(Read {
+            value: None,
+            end: head.end + 1,
+        });
+    }
+    let body = parser.body(head.end, DEEPEST)?;
+    let FunctionHead {
+        result,
+        name,
+        params,
+        own,
+    } = head.value;
+    Ok(Read {
+        value: Some(Item::Func(FuncItem {
             result,
             name,
             params,
+            body: body.value,
             own,
-        } = head.value;
-        Ok(Read {
-            value: Some(Item::Func(FuncItem {
-                result,
-                name,
-                params,
-                body: body.value,
-                own,
-            })),
-            end: body.end,
-        })
-    }
+        })),
+        end: body.end,
+    })
+}
 
-    /// Whether a token that the head of a function can begin with stands at a place.
-    fn begins_head(&self, at: usize) -> bool
-        ensures yes { IsTrue result → OneOf self.now.toks.now at (first symbol.head) }
-        ensures no { (result ≡ false) → OneOf self.now.toks.now at (first symbol.head) → ⊥ }
-    {
-        if is_word(self.toks, at, VOID_WORD) {
-            return true;
-        }
-        begins_type(self.toks, at)
+/// Whether a token that the head of a function can begin with stands at a place.
+fn begins_head(parser: &Parser, at: usize) -> bool
+    ensures yes { IsTrue result → OneOf parser.now.toks.now at (first symbol.head) }
+    ensures no { (result ≡ false) → OneOf parser.now.toks.now at (first symbol.head) → ⊥ }
+{
+    if is_word(parser.toks, at, VOID_WORD) {
+        return true;
     }
+    begins_type(parser.toks, at)
 }

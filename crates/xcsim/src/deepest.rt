@@ -1,9 +1,9 @@
 // The deepest program: its calls and branches are nearly as deep as a program's may be. `bench/image` compares its whole listing with one that it
 // works out by rules of its own.
 
-use crate::top::xcsim;
 use std::alloc::{AllocError, Global};
 use std::test::Fail;
+use xr_commands::xcsim;
 use xw_io::{File, MemShelf, MemSink, OpenGate};
 use xw_words::List;
 
@@ -50,19 +50,31 @@ fn repeat(text: &mut String, piece: &str) -> Result<(), AllocError> {
     Ok(())
 }
 
+/// A shelf with this file alone.
+fn shelf(alloc: Global) -> Result<MemShelf, Fail> {
+    let text = deepest(alloc)?;
+    let name = Vec::from_slice(alloc, b"a.xc")?;
+    let mut files = List::new(alloc);
+    files.push(File {
+        name: List::from_vec(name),
+        bytes: List::from_vec(text.into_bytes()),
+    })?;
+    Ok(MemShelf::new(files, List::new(alloc)))
+}
+
+fn words(alloc: Global) -> Result<Vec<String>, AllocError> {
+    let mut words = Vec::new(alloc);
+    for word in ["asm", "a.xc"] {
+        words.push(String::from_str(alloc, word)?)?;
+    }
+    Ok(words)
+}
+
 #[test]
 fn deepest_program(rt: HostRuntime) -> Result<(), Fail> {
     let alloc = rt.alloc();
-    let text = deepest(alloc)?;
-    let mut files = List::new(alloc);
-    files.push(File {
-        name: List::from_vec(Vec::from_slice(alloc, b"a.xc")?),
-        bytes: List::from_vec(Vec::from_slice(alloc, text.as_bytes())?),
-    })?;
-    let mut shelf = MemShelf::new(files, List::new(alloc));
-    let mut words = Vec::new(alloc);
-    words.push(String::from_str(alloc, "asm")?)?;
-    words.push(String::from_str(alloc, "a.xc")?)?;
+    let words = words(alloc)?;
+    let mut shelf = shelf(alloc)?;
     let mut out = MemSink::new(alloc, 65_536, List::new(alloc))?;
     let mut err = MemSink::new(alloc, 1_000, List::new(alloc))?;
     let status = xcsim(

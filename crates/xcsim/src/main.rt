@@ -1,21 +1,12 @@
 //! The program.
 #![tactic(auto)]
 
-mod decide;
-mod deliver;
-mod front;
-mod law;
-mod run;
-mod still;
-mod top;
-mod words;
-
 use std::alloc::Global;
 use std::io::ErrorKind;
 use std::process::ExitCode;
 use std::rt::Env;
 use std::{env, io};
-use top::xcsim;
+use xr_commands::xcsim;
 use xw_io::{FsShelf, OpenGate, StdSink};
 
 /// The words after the program's name.
@@ -57,5 +48,3 @@ fn main(rt: HostRuntime) -> ExitCode {
 
 #[cfg(test)]
 mod deepest;
-#[cfg(test)]
-mod tests;

@@ -1,13 +1,13 @@
 -- Code that an emitter holds, and that may stand in an image.
-use Rattle.std.proofs.Common.{◌≡◌, ℕ, suc, ◌+◌, ◌<◌, List, [], ◌∷◌, ◌++◌, length, map, refl, sym, ap, subst, arith, length-append}
+use Rattle.std.proofs.Common.{◌≡◌, ℕ, suc, ◌+◌, ◌<◌, List, [], ◌∷◌, ◌++◌, length, refl, sym, ap, subst, arith, length-append}
 use Rattle.xw_words.specs.declared.pos.Pos.{Pos}
 use Rattle.xs_instr.specs.declared.instr.Instr.{Instr}
 use Rattle.xs_instr.specs.declared.instr.Instr.TheVariants.{Freet}
 use Rattle.xs_instr.specs.Adds.{Adds}
-use Rattle.xs_instr.specs.Lines.{HasNoHole, Line, instr_of, line}
-use Rattle.xs_instr.specs.Valid.{AreGoodInstrs, IsGoodInstr}
+use Rattle.xs_instr.specs.Lines.{HasNoHole, Line, line}
+use Rattle.xs_instr.specs.Valid.{IsGoodInstr}
 use Rattle.xl_expr.specs.Targets.{AreAimed, AreGoodLines}
-use Rattle.xl_expr.proofs.GoodCode.{aimed_append, good_append, good_closed, good_instrs}
+use Rattle.xl_expr.proofs.GoodCode.{aimed_append, good_append, good_closed}
 
 -- behind what was there
 pub aimed_on : (old new : List Line) → AreAimed 0 old → Adds old new (AreAimed (length old)) → AreAimed 0 new
@@ -26,12 +26,3 @@ whole_good old new pos h e =
 
 pub whole_closed : (old new : List Line) (pos : Pos) → AreAimed 0 old → new ≡ old ++ line Freet pos ∷ [] → HasNoHole new
 whole_closed old new pos h e = good_closed (length new) 0 new (whole_good old new pos h e)
-
-size_of_map : (ls : List Line) → length (map instr_of ls) ≡ length ls
-size_of_map [] = refl
-size_of_map (l ∷ ls) = ap suc (size_of_map ls)
-
-pub whole_instrs : (old new : List Line) (pos : Pos) (instrs : List Instr) → AreAimed 0 old → new ≡ old ++ line Freet pos ∷ [] → instrs ≡ map instr_of new → AreGoodInstrs (length instrs) 0 instrs
-whole_instrs old new pos instrs h e m =
-    subst (λ (is : List Instr). AreGoodInstrs (length is) 0 is) (sym m)
-    (subst (λ n. AreGoodInstrs n 0 (map instr_of new)) (sym (size_of_map new)) (good_instrs (length new) 0 new (whole_good old new pos h e)))

@@ -1,3 +1,2 @@
 pub mod Aimed
-pub mod Measured
 pub mod Loops

@@ -17,12 +17,6 @@ module _ (i : Instr) (forward : (size n k : ℕ) → IsForward size n k → IsGo
   pub is_open : IsOpen all h
   is_open = open_behind front rest all h i pos h_is all_is
 
-  pub landed_size : (new : List Line) → new ≡ landed all h (length all) → length new ≡ length all
-  landed_size new new_is =
-      let l = line (with_target i (length all)) pos in
-      let is : new ≡ front ++ l ∷ rest = new_is ∙ landed_behind front rest all h (length all) i pos h_is all_is in
-      omega (arith, ap length is, ap length all_is, length-append front (l ∷ rest), length-append front (open_line i pos ∷ rest))
-
   pub lands : (new : List Line) → new ≡ landed all h (length all) → AreAimed 0 front → ((size : ℕ) → length all < size → AreGoodLines size (length front + 1) rest) → AreAimed 0 new
   lands new new_is aimed good =
       let target = length all in
@@ -58,9 +52,6 @@ module _ (pos : Pos) (e0 e1 e2 e3 : List Line) (h : ℕ) (test : AddsTest e0 e1 
   pub loop_open : IsOpen e3 h
   loop_open = is_open (Brff R0 0) (λ size n k f. f) pos front rest e3 h index_is all_is
 
-  pub loop_size : (e4 : List Line) → e4 ≡ landed e3 h (length e3) → length e4 ≡ length e3
-  loop_size = landed_size (Brff R0 0) (λ size n k f. f) pos front rest e3 h index_is all_is
-
   before : length e1 ≡ length front + 1
   before = omega (arith, ap length test.is, length-append e0 (test.lines ++ open_line (Brff R0 0) pos ∷ []), length-append test.lines (open_line (Brff R0 0) pos ∷ []), length-append e0 test.lines)
 
@@ -86,9 +77,6 @@ module _ (pos : Pos) (e0 e1 e2 : List Line) (h : ℕ) (jump : e1 ≡ e0 ++ open_
 
   pub over_open : IsOpen e2 h
   over_open = is_open (Brfu 0) (λ size n k f. f) pos e0 body.lines e2 h h_is over_is
-
-  pub over_size : (e3 : List Line) → e3 ≡ landed e2 h (length e2) → length e3 ≡ length e2
-  over_size = landed_size (Brfu 0) (λ size n k f. f) pos e0 body.lines e2 h h_is over_is
 
   pub over_lands : (e3 : List Line) → e3 ≡ landed e2 h (length e2) → AreAimed 0 e0 → AreAimed 0 e3
   over_lands e3 e3_is aimed =

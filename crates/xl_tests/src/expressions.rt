@@ -1,79 +1,123 @@
-//! Expressions made by hand.
+// Expressions as the cases write them: operands stand before their operator.
 
-ghost use Rattle.std.specs.Prelude.{◌≡◌, ◌+◌, ◌≤◌, max, IfOk};
-ghost use Rattle.xc_kernel.specs.Kernels.{expression_of};
-ghost use Rattle.xl_expr.specs.Measures.{depth, nodes};
+ghost use Rattle.std.specs.Prelude.{◌≤◌, IfOk};
+ghost use Rattle.xc_kernel.specs.Kernels.{expression_of, place_of};
+ghost use Rattle.xl_expr.specs.Measures.{depth, depth_at, nodes, nodes_at};
 
-use std::alloc::{AllocError, Global};
+use crate::sizes::is_small;
+use crate::trouble::Trouble;
+use std::alloc::Global;
 use xc_kernel::{Kx, Place};
-use xc_tree::symbols::QUESTION;
-use xw_words::{List, Memory, Pos};
+use xc_tree::SYMBOLS;
+use xw_words::{List, Pos};
 
+/// The place of what is written without one.
+const AT: Pos = Pos { line: 7, col: 9 };
+
+/// The expression that a text is.
+pub fn expression(alloc: Global, text: &str) -> Result<Kx, Trouble>
+    ensures nodes { IfOk result (λ x. nodes (expression_of x) ≤ 1000) }
+    ensures depth { IfOk result (λ x. depth (expression_of x) ≤ 400) }
+{
+    let x = read(alloc, text)?;
+    if !is_small(&x) {
+        return Err(Trouble::Large);
+    }
+    Ok(x)
+}
+
+/// The place that a text is.
 #[tactic(auto, using(xc_kernel::proofs::Forms::forms))]
-pub fn number(value: u32) -> Kx
-    ensures nodes { nodes (expression_of result) ≡ 1 }
-    ensures depth { depth (expression_of result) ≡ 1 }
+pub fn place(alloc: Global, text: &str) -> Result<Place, Trouble>
+    ensures nodes { IfOk result (λ place. nodes_at (place_of place) ≤ 1000) }
+    ensures depth { IfOk result (λ place. depth_at (place_of place) ≤ 400) }
 {
-    Kx::Num(value)
+    match expression(alloc, text)? {
+        Kx::Read(place) => Ok(place),
+        _ => Err(Trouble::Line),
+    }
 }
 
-/// The word of a variable.
-#[tactic(auto, using(xc_kernel::proofs::Forms::forms))]
-pub fn variable(v: u32) -> Kx
-    ensures nodes { nodes (expression_of result) ≡ 1 }
-    ensures depth { depth (expression_of result) ≡ 1 }
-{
-    Kx::Read(Place::Word(v))
+fn read(alloc: Global, text: &str) -> Result<Kx, Trouble> {
+    let mut stack = Vec::new(alloc);
+    for word in text.split(' ') {
+        let x = made(alloc, &mut stack, word)?;
+        stack.push(x)?;
+    }
+    let x = stack.pop().ok_or(Trouble::Line)?;
+    if !stack.is_empty() {
+        return Err(Trouble::Line);
+    }
+    Ok(x)
 }
 
-/// An element of an array.
-#[tactic(auto, using(xc_kernel::proofs::Forms::forms))]
-pub fn element(alloc: Global, v: u32, index: Kx, pos: Pos) -> Result<Kx, AllocError>
-    ensures nodes { IfOk result (λ x. nodes (expression_of x) ≡ 1 + nodes (expression_of index)) }
-    ensures depth { IfOk result (λ x. depth (expression_of x) ≡ 1 + depth (expression_of index)) }
-{
-    let index = Box::new(alloc, index)?;
-    Ok(Kx::Read(Place::Elem(v, index, pos)))
+/// What a word makes of the expressions behind which it stands.
+fn made(alloc: Global, stack: &mut Vec<Kx>, word: &str) -> Result<Kx, Trouble> {
+    if let Ok(number) = word.parse::<u32>() {
+        return Ok(Kx::Num(number));
+    }
+    let (word, pos) = placed(word)?;
+    if let Some(v) = word.strip_prefix('v') {
+        return Ok(Kx::Read(Place::Word(number(v)?)));
+    }
+    if let Some(v) = word.strip_prefix('a') {
+        let v = number(v)?;
+        let index = stack.pop().ok_or(Trouble::Line)?;
+        return Ok(Kx::Read(Place::Elem(v, Box::new(alloc, index)?, pos)));
+    }
+    operation(stack, word, pos)
 }
 
-pub fn one(alloc: Global, symbol: u8, is_unsigned: bool, only: Kx, pos: Pos) -> Result<Kx, Memory>
-    ensures nodes { IfOk result (λ x. nodes (expression_of x) ≡ 1 + nodes (expression_of only)) }
-    ensures depth { IfOk result (λ x. depth (expression_of x) ≡ 1 + depth (expression_of only)) }
-{
-    let mut operands = List::new(alloc);
-    operands.push(only)?;
-    Ok(Kx::Op(symbol, is_unsigned, operands, pos))
+/// A word without its place, and that place.
+fn placed(word: &str) -> Result<(&str, Pos), Trouble> {
+    let Some((word, pos)) = word.split_once('@') else {
+        return Ok((word, AT));
+    };
+    let (line, col) = pos.split_once(':').ok_or(Trouble::Line)?;
+    let line = number(line)?;
+    let col = number(col)?;
+    Ok((word, Pos { line, col }))
 }
 
-pub fn two(
-    alloc: Global,
-    symbol: u8,
+/// An operation with the last expressions as its operands: with one, where an `x` stands behind its symbol, with three where the symbol is
+/// `?`, and with two else. A `u` stands behind the symbols of `unsigned` words.
+fn operation(stack: &mut Vec<Kx>, word: &str, pos: Pos) -> Result<Kx, Trouble> {
+    if let Some(symbol) = word.strip_suffix('x') {
+        return with_operands(stack, symbol, false, 1, pos);
+    }
+    if let Some(symbol) = word.strip_suffix('u') {
+        return with_operands(stack, symbol, true, 2, pos);
+    }
+    let count = if word == "?" { 3 } else { 2 };
+    with_operands(stack, word, false, count, pos)
+}
+
+fn with_operands(
+    stack: &mut Vec<Kx>,
+    symbol: &str,
     is_unsigned: bool,
-    first: Kx,
-    second: Kx,
+    count: usize,
     pos: Pos,
-) -> Result<Kx, Memory>
-    ensures nodes { IfOk result (λ x. nodes (expression_of x)
-        ≡ 1 + nodes (expression_of first) + nodes (expression_of second)) }
-    ensures depth { IfOk result (λ x. depth (expression_of x)
-        ≡ 1 + max (depth (expression_of first)) (depth (expression_of second))) }
-{
-    let mut operands = List::new(alloc);
-    operands.push(first)?;
-    operands.push(second)?;
-    Ok(Kx::Op(symbol, is_unsigned, operands, pos))
+) -> Result<Kx, Trouble> {
+    let symbol = symbol_of(symbol)?;
+    if stack.len() < count {
+        return Err(Trouble::Line);
+    }
+    let operands = stack.split_off(stack.len() - count)?;
+    Ok(Kx::Op(symbol, is_unsigned, List::from_vec(operands), pos))
 }
 
-/// `first ? second : third`
-pub fn choice(alloc: Global, first: Kx, second: Kx, third: Kx, pos: Pos) -> Result<Kx, Memory>
-    ensures nodes { IfOk result (λ x. nodes (expression_of x) ≡ 1 + nodes (expression_of first)
-        + nodes (expression_of second) + nodes (expression_of third)) }
-    ensures depth { IfOk result (λ x. depth (expression_of x) ≡ 1
-        + max (depth (expression_of first)) (max (depth (expression_of second)) (depth (expression_of third)))) }
-{
-    let mut operands = List::new(alloc);
-    operands.push(first)?;
-    operands.push(second)?;
-    operands.push(third)?;
-    Ok(Kx::Op(QUESTION, false, operands, pos))
+/// The place of a symbol among all symbols.
+fn symbol_of(text: &str) -> Result<u8, Trouble> {
+    match SYMBOLS.iter().position(|symbol| *symbol == text.as_bytes()) {
+        Some(n) if n < 255 => Ok(n as u8),
+        _ => Err(Trouble::Line),
+    }
+}
+
+pub fn number(text: &str) -> Result<u32, Trouble> {
+    match text.parse::<u32>() {
+        Ok(number) => Ok(number),
+        Err(_) => Err(Trouble::Line),
+    }
 }

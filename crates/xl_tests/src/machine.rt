@@ -4,11 +4,13 @@ ghost use Rattle.std.specs.Prelude.{◌≡◌, ℕ, ◌+◌, ◌<◌, ◌≤◌,
 ghost use Rattle.xc_kernel.specs.Kernels.{expression_of};
 ghost use Rattle.xl_expr.specs.Measures.{depth, nodes};
 ghost use Rattle.xl_expr.specs.Targets.{AreAimed};
-ghost use Rattle.xs_instr.specs.Valid.{AreGoodInstrs, IsGoodCore, IsGoodInstr, Valid};
+ghost use Rattle.xs_instr.specs.Valid.{IsGoodInstr};
 
+use crate::trouble::Trouble;
 use std::alloc::Global;
 use xc_kernel::Kx;
 use xl_expr::{Plan, emit_expr};
+use xr_listed::is_valid;
 use xs_core::{Core, Did};
 use xs_instr::{Code, CoreImage, Dir, Emitter, Image, Instr, PortDecl, Record, Reg, Stim, Trap};
 use xw_words::{List, Memory, Pos};
@@ -25,39 +27,19 @@ const STACK: u32 = 4 * 400;
 /// The most steps of a run.
 const MOST_STEPS: u32 = 10_000;
 
+/// The most instructions of a case.
+const MOST_CODE: u32 = 30_000;
+
 /// The place of the instructions that no piece emits.
 const START: Pos = Pos { line: 1, col: 1 };
 
 /// How a run ends.
-#[derive(Clone, Copy, PartialEq, Eq, Debug)]
+#[derive(Clone, Copy)]
 pub enum End {
     /// The first word that goes out, and the port's counter then.
     Out(u16, u32),
     Trapped(Trap, Pos),
     Stopped,
-}
-
-/// How the run of code ends that has these words at dp + 4n, evaluates an expression to r5, and puts it out.
-pub fn end_of(alloc: Global, words: &[(u32, u32)], plan: &Plan, x: &Kx) -> Result<End, Memory>
-    requires words { length words.now ≤ 100 }
-    requires nodes { nodes (expression_of x.now) ≤ 1000 }
-    requires depth { depth (expression_of x.now) ≤ 400 }
-{
-    let e = begun(alloc, words)?;
-    let code = put_out(e, plan, x)?;
-    run(alloc, code)
-}
-
-/// A plan that has nothing.
-pub fn no_plan(alloc: Global) -> Plan {
-    Plan {
-        vars: List::new(alloc),
-        ports: List::new(alloc),
-        timers: List::new(alloc),
-        ends: List::new(alloc),
-        channels: List::new(alloc),
-        first_stack: 0,
-    }
 }
 
 /// The code that sets sp, and the words at dp + 4n.
@@ -76,24 +58,6 @@ pub fn begun(alloc: Global, words: &[(u32, u32)]) -> Result<Emitter, Memory>
     Ok(e)
 }
 
-/// The code that puts out the word of an expression.
-pub fn put_out(e: Emitter, plan: &Plan, x: &Kx) -> Result<Code, Memory>
-    requires few { length e ≤ 30000 }
-    requires aimed { AreAimed 0 e }
-    requires nodes { nodes (expression_of x.now) ≤ 1000 }
-    requires depth { depth (expression_of x.now) ≤ 400 }
-    ensures good { IfOk result (λ code. AreGoodInstrs (length code.instrs) 0 code.instrs) }
-    ensures places { IfOk result (λ code. length code.«at» ≡ length code.instrs) }
-    ensures some { IfOk result (λ code. 1 ≤ length code.instrs) }
-    ensures few { IfOk result (λ code. length code.instrs < 2 ^ 32) }
-{
-    let mut e = e;
-    add_expression(&mut e, plan, x, Reg::R5)?;
-    add(&mut e, Instr::Ldc(Reg::R11, 0))?;
-    add(&mut e, Instr::Out(Reg::R11, Reg::R5))?;
-    finished(e)
-}
-
 /// An instruction without a target.
 pub fn add(e: &mut Emitter, instr: Instr) -> Result<(), Memory>
     requires few { length e.old + 1 < 2 ^ 32 }
@@ -108,7 +72,7 @@ pub fn add(e: &mut Emitter, instr: Instr) -> Result<(), Memory>
 
 /// An expression's code.
 pub fn add_expression(e: &mut Emitter, plan: &Plan, x: &Kx, to: Reg) -> Result<(), Memory>
-    requires few { length e.old ≤ 30000 }
+    requires few { length e.old ≤ 2000 }
     requires aimed { AreAimed 0 e.old }
     requires nodes { nodes (expression_of x.now) ≤ 1000 }
     requires depth { depth (expression_of x.now) ≤ 400 }
@@ -120,31 +84,28 @@ pub fn add_expression(e: &mut Emitter, plan: &Plan, x: &Kx, to: Reg) -> Result<(
 }
 
 /// The code, with the end of its root.
-pub fn finished(e: Emitter) -> Result<Code, Memory>
-    requires few { length e + 1 < 2 ^ 32 }
+pub fn finished(e: Emitter) -> Result<Code, Trouble>
     requires aimed { AreAimed 0 e }
-    ensures good { IfOk result (λ code. AreGoodInstrs (length code.instrs) 0 code.instrs) }
-    ensures places { IfOk result (λ code. length code.«at» ≡ length code.instrs) }
-    ensures few { IfOk result (λ code. length code.instrs ≡ length e + 1) }
 {
+    if e.here() > MOST_CODE {
+        return Err(Trouble::Long);
+    }
     let mut e = e;
     e.put(Instr::Freet, START)?;
     Ok(e.finish())
 }
 
 /// How a run of this code ends, on a core with port 32A.
-pub fn run(alloc: Global, code: Code) -> Result<End, Memory>
-    requires good { AreGoodInstrs (length code.instrs) 0 code.instrs }
-    requires places { length code.«at» ≡ length code.instrs }
-    requires some { 1 ≤ length code.instrs }
-    requires few { length code.instrs < 2 ^ 32 }
-{
+pub fn run(alloc: Global, code: Code) -> Result<End, Trouble> {
     let image = image_of(alloc, code)?;
+    if !is_valid(&image) {
+        return Err(Trouble::Image);
+    }
     let stim = Stim {
         lines: List::new(alloc),
     };
     let mut core = Core::new(alloc, &image, 0, &stim)?;
-    end_of_run(&mut core)
+    Ok(end_of_run(&mut core)?)
 }
 
 /// How a core's run ends. A tick passes at each pause.
@@ -171,13 +132,7 @@ fn wait(core: &mut Core) {
 }
 
 /// An image of core 0 with this code.
-fn image_of(alloc: Global, code: Code) -> Result<Image, Memory>
-    requires good { AreGoodInstrs (length code.instrs) 0 code.instrs }
-    requires places { length code.«at» ≡ length code.instrs }
-    requires some { 1 ≤ length code.instrs }
-    requires few { length code.instrs < 2 ^ 32 }
-    ensures valid { IfOk result Valid }
-{
+fn image_of(alloc: Global, code: Code) -> Result<Image, Memory> {
     let core = one_core(alloc, code)?;
     let mut cores = List::new(alloc);
     cores.push(core)?;
@@ -187,15 +142,7 @@ fn image_of(alloc: Global, code: Code) -> Result<Image, Memory>
     })
 }
 
-fn one_core(alloc: Global, code: Code) -> Result<CoreImage, Memory>
-    requires good { AreGoodInstrs (length code.instrs) 0 code.instrs }
-    requires places { length code.«at» ≡ length code.instrs }
-    requires some { 1 ≤ length code.instrs }
-    requires few { length code.instrs < 2 ^ 32 }
-    ensures number { IfOk result (λ core. core.number ≡ 0) }
-    ensures ends { IfOk result (λ core. core.ends ≡ 0) }
-    ensures good { IfOk result IsGoodCore }
-{
+fn one_core(alloc: Global, code: Code) -> Result<CoreImage, Memory> {
     let mut ports = List::new(alloc);
     ports.push(PortDecl {
         port: PORT_32A,

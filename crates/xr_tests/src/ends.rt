@@ -7,9 +7,10 @@ use std::test::Fail;
 use xs_chanend::{Checked1, Ends, Taken};
 use xs_instr::Token;
 
-#[derive(Clone, Copy, Debug)]
+#[derive(Clone, Copy)]
 enum Call {
-    Put(Token),
+    Data(u8),
+    Control(u8),
     Word,
     Byte,
     Check(u8),
@@ -19,7 +20,7 @@ enum Call {
     Credit,
 }
 
-#[derive(Clone, Copy, PartialEq, Debug)]
+#[derive(Clone, Copy, PartialEq)]
 enum Answer {
     Flag(bool),
     Count(u32),
@@ -28,18 +29,8 @@ enum Answer {
     Done,
 }
 
-fn data(byte: u8) -> Token {
-    Token {
-        control: false,
-        byte,
-    }
-}
-
-fn control(byte: u8) -> Token {
-    Token {
-        control: true,
-        byte,
-    }
+fn token(control: bool, byte: u8) -> Token {
+    Token { control, byte }
 }
 
 fn called(rt: &impl Abort, ends: &mut Ends, end: u32, call: Call) -> Answer
@@ -47,7 +38,8 @@ fn called(rt: &impl Abort, ends: &mut Ends, end: u32, call: Call) -> Answer
     ensures { length ends.new ≡ length ends.old }
 {
     match call {
-        Call::Put(t) => Answer::Flag(ends.put(end, t)),
+        Call::Data(byte) => Answer::Flag(ends.put(end, token(false, byte))),
+        Call::Control(byte) => Answer::Flag(ends.put(end, token(true, byte))),
         Call::Word => Answer::Found(ends.take_word(end)),
         Call::Byte => Answer::Found(ends.take_byte(end)),
         Call::Check(c) => Answer::Checked(ends.check(end, c)),
@@ -68,111 +60,100 @@ fn run(rt: &impl Abort, ends: &mut Ends, table: &[(u32, Call, Answer)])
 {
     for (i, (end, call, want)) in table.iter().enumerate() {
         assert!(rt; *end < 2);
-        assert_eq!(rt; called(rt, ends, *end, *call), *want, "call {i}, {call:?}");
+        assert!(rt; called(rt, ends, *end, *call) == *want, "call {i}");
     }
 }
 
-#[test]
-fn tokens(rt: HostRuntime) -> Result<(), Fail> {
-    let mut ends = Ends::new(rt.alloc(), 2)?;
-    // Nothing is there, then a word byte by byte, behind which a control token waits.
-    run(
-        &rt,
-        &mut ends,
-        &[
-            (0, Call::Any, Answer::Flag(false)),
-            (0, Call::Word, Answer::Found(Taken::NotYet)),
-            (0, Call::Byte, Answer::Found(Taken::NotYet)),
-            (0, Call::Check(1), Answer::Checked(Checked1::NotYet)),
-            (0, Call::Put(data(0x12)), Answer::Flag(true)),
-            (0, Call::Any, Answer::Flag(true)),
-            (1, Call::Any, Answer::Flag(false)),
-            (0, Call::Put(data(0x34)), Answer::Flag(true)),
-            (0, Call::Put(data(0x56)), Answer::Flag(true)),
-            (0, Call::Word, Answer::Found(Taken::NotYet)),
-            (
-                0,
-                Call::Check(0x12),
-                Answer::Checked(Checked1::Other(data(0x12))),
-            ),
-            (0, Call::Put(data(0x78)), Answer::Flag(true)),
-            (0, Call::Put(control(1)), Answer::Flag(true)),
-            (0, Call::Word, Answer::Found(Taken::Word(0x1234_5678))),
-            (0, Call::Word, Answer::Found(Taken::Control(1))),
-            (0, Call::Byte, Answer::Found(Taken::Control(1))),
-            (
-                0,
-                Call::Check(2),
-                Answer::Checked(Checked1::Other(control(1))),
-            ),
-            (0, Call::Check(1), Answer::Checked(Checked1::Passed)),
-            (0, Call::Any, Answer::Flag(false)),
-        ],
-    );
-    // A control token is told where fewer than four are there.
-    run(
-        &rt,
-        &mut ends,
-        &[
-            (1, Call::Put(data(1)), Answer::Flag(true)),
-            (1, Call::Put(data(0xfe)), Answer::Flag(true)),
-            (1, Call::Put(control(7)), Answer::Flag(true)),
-            (1, Call::Word, Answer::Found(Taken::Control(7))),
-            (1, Call::Byte, Answer::Found(Taken::Word(1))),
-            (1, Call::Byte, Answer::Found(Taken::Word(0xfe))),
-            (1, Call::Check(7), Answer::Checked(Checked1::Passed)),
-            (1, Call::Byte, Answer::Found(Taken::NotYet)),
-        ],
-    );
-    Ok(())
-}
+/// Nothing is there, then a word byte by byte, behind which a control token waits.
+const WORD: [(u32, Call, Answer); 19] = [
+    (0, Call::Any, Answer::Flag(false)),
+    (0, Call::Word, Answer::Found(Taken::NotYet)),
+    (0, Call::Byte, Answer::Found(Taken::NotYet)),
+    (0, Call::Check(1), Answer::Checked(Checked1::NotYet)),
+    (0, Call::Data(0x12), Answer::Flag(true)),
+    (0, Call::Any, Answer::Flag(true)),
+    (1, Call::Any, Answer::Flag(false)),
+    (0, Call::Data(0x34), Answer::Flag(true)),
+    (0, Call::Data(0x56), Answer::Flag(true)),
+    (0, Call::Word, Answer::Found(Taken::NotYet)),
+    (
+        0,
+        Call::Check(0x12),
+        Answer::Checked(Checked1::Other(Token {
+            control: false,
+            byte: 0x12,
+        })),
+    ),
+    (0, Call::Data(0x78), Answer::Flag(true)),
+    (0, Call::Control(1), Answer::Flag(true)),
+    (0, Call::Word, Answer::Found(Taken::Word(0x1234_5678))),
+    (0, Call::Word, Answer::Found(Taken::Control(1))),
+    (0, Call::Byte, Answer::Found(Taken::Control(1))),
+    (
+        0,
+        Call::Check(2),
+        Answer::Checked(Checked1::Other(Token {
+            control: true,
+            byte: 1,
+        })),
+    ),
+    (0, Call::Check(1), Answer::Checked(Checked1::Passed)),
+    (0, Call::Any, Answer::Flag(false)),
+];
+
+/// A control token is told where fewer than four are there.
+const CONTROL: [(u32, Call, Answer); 8] = [
+    (1, Call::Data(1), Answer::Flag(true)),
+    (1, Call::Data(0xfe), Answer::Flag(true)),
+    (1, Call::Control(7), Answer::Flag(true)),
+    (1, Call::Word, Answer::Found(Taken::Control(7))),
+    (1, Call::Byte, Answer::Found(Taken::Word(1))),
+    (1, Call::Byte, Answer::Found(Taken::Word(0xfe))),
+    (1, Call::Check(7), Answer::Checked(Checked1::Passed)),
+    (1, Call::Byte, Answer::Found(Taken::NotYet)),
+];
+
+/// Eight tokens and no ninth; then the ring goes round.
+const FULL: [(u32, Call, Answer); 14] = [
+    (1, Call::Data(0), Answer::Flag(true)),
+    (1, Call::Data(1), Answer::Flag(true)),
+    (1, Call::Data(2), Answer::Flag(true)),
+    (1, Call::Data(3), Answer::Flag(true)),
+    (1, Call::Data(4), Answer::Flag(true)),
+    (1, Call::Data(5), Answer::Flag(true)),
+    (1, Call::Data(6), Answer::Flag(true)),
+    (1, Call::Data(7), Answer::Flag(true)),
+    (1, Call::Data(8), Answer::Flag(false)),
+    (1, Call::Word, Answer::Found(Taken::Word(0x0001_0203))),
+    (1, Call::Data(8), Answer::Flag(true)),
+    (1, Call::Word, Answer::Found(Taken::Word(0x0405_0607))),
+    (1, Call::Byte, Answer::Found(Taken::Word(8))),
+    (1, Call::Byte, Answer::Found(Taken::NotYet)),
+];
+
+/// Credits are spent as far as they are there.
+const CREDITS: [(u32, Call, Answer); 11] = [
+    (0, Call::Credits, Answer::Count(8)),
+    (0, Call::Spend(9), Answer::Flag(false)),
+    (0, Call::Credits, Answer::Count(8)),
+    (0, Call::Spend(8), Answer::Flag(true)),
+    (0, Call::Credits, Answer::Count(0)),
+    (0, Call::Spend(1), Answer::Flag(false)),
+    (0, Call::Spend(0), Answer::Flag(true)),
+    (0, Call::Credit, Answer::Done),
+    (0, Call::Credits, Answer::Count(1)),
+    (0, Call::Spend(1), Answer::Flag(true)),
+    (1, Call::Credits, Answer::Count(8)),
+];
 
 #[test]
-fn full_end(rt: HostRuntime) -> Result<(), Fail> {
+fn ends_answer(rt: HostRuntime) -> Result<(), Fail> {
     let mut ends = Ends::new(rt.alloc(), 2)?;
-    // Eight tokens and no ninth; then the ring goes round.
-    run(
-        &rt,
-        &mut ends,
-        &[
-            (1, Call::Put(data(0)), Answer::Flag(true)),
-            (1, Call::Put(data(1)), Answer::Flag(true)),
-            (1, Call::Put(data(2)), Answer::Flag(true)),
-            (1, Call::Put(data(3)), Answer::Flag(true)),
-            (1, Call::Put(data(4)), Answer::Flag(true)),
-            (1, Call::Put(data(5)), Answer::Flag(true)),
-            (1, Call::Put(data(6)), Answer::Flag(true)),
-            (1, Call::Put(data(7)), Answer::Flag(true)),
-            (1, Call::Put(data(8)), Answer::Flag(false)),
-            (1, Call::Word, Answer::Found(Taken::Word(0x0001_0203))),
-            (1, Call::Put(data(8)), Answer::Flag(true)),
-            (1, Call::Word, Answer::Found(Taken::Word(0x0405_0607))),
-            (1, Call::Byte, Answer::Found(Taken::Word(8))),
-            (1, Call::Byte, Answer::Found(Taken::NotYet)),
-        ],
-    );
-    Ok(())
-}
-
-#[test]
-fn credits(rt: HostRuntime) -> Result<(), Fail> {
+    run(&rt, &mut ends, &WORD);
+    run(&rt, &mut ends, &CONTROL);
     let mut ends = Ends::new(rt.alloc(), 2)?;
-    run(
-        &rt,
-        &mut ends,
-        &[
-            (0, Call::Credits, Answer::Count(8)),
-            (0, Call::Spend(9), Answer::Flag(false)),
-            (0, Call::Credits, Answer::Count(8)),
-            (0, Call::Spend(8), Answer::Flag(true)),
-            (0, Call::Credits, Answer::Count(0)),
-            (0, Call::Spend(1), Answer::Flag(false)),
-            (0, Call::Spend(0), Answer::Flag(true)),
-            (0, Call::Credit, Answer::Done),
-            (0, Call::Credits, Answer::Count(1)),
-            (0, Call::Spend(1), Answer::Flag(true)),
-            (1, Call::Credits, Answer::Count(8)),
-        ],
-    );
+    run(&rt, &mut ends, &FULL);
+    let mut ends = Ends::new(rt.alloc(), 2)?;
+    run(&rt, &mut ends, &CREDITS);
     Ok(())
 }

@@ -1,11 +1,19 @@
-//! Tests of the parts of the machine and of the texts that are written, each by its public calls. The crate has
-//! nothing for others to use.
+//! Tests of the parts of the machine, of machines of several cores, of boards with workers, and of the texts that are read and written, each
+//! by its public calls. The crate has nothing for others to use.
 #![tactic(auto)]
 
+#[cfg(test)]
+mod boards;
 #[cfg(test)]
 mod ends;
 #[cfg(test)]
 mod events;
+#[cfg(test)]
+mod listings;
+#[cfg(test)]
+mod machines;
+#[cfg(test)]
+mod meetings;
 #[cfg(test)]
 mod memory;
 #[cfg(test)]

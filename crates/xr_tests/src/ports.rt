@@ -10,7 +10,7 @@ use xs_instr::{Cond, Dir, PortDecl, PortGot, Stim, StimLine};
 use xs_port::Ports;
 use xw_words::List;
 
-#[derive(Clone, Copy, Debug)]
+#[derive(Clone, Copy)]
 enum Call {
     Pins,
     SetCond(Cond),
@@ -23,7 +23,7 @@ enum Call {
     Stamp,
 }
 
-#[derive(Clone, Copy, PartialEq, Debug)]
+#[derive(Clone, Copy, PartialEq)]
 enum Answer {
     Value(u32),
     Flag(bool),
@@ -75,7 +75,7 @@ fn run(rt: &impl Abort, ports: &mut Ports, table: &[(u32, Call, Answer)])
 {
     for (i, (p, call, want)) in table.iter().enumerate() {
         assert!(rt; *p < 3);
-        assert_eq!(rt; made(rt, ports, *p, *call), *want, "call {i}, {call:?}");
+        assert!(rt; made(rt, ports, *p, *call) == *want, "call {i}");
     }
 }
 

@@ -6,7 +6,7 @@ use std::test::Fail;
 use xr_stim::{StimErr, read_stim};
 use xs_instr::StimLine;
 
-// A line of a stimulus: tick, core, the port's place, value.
+/// A line of a stimulus: tick, core, the port's place, value.
 type Line = (u32, u8, u8, u32);
 
 const READ: [(&str, &[Line]); 10] = [
@@ -35,19 +35,18 @@ const READ: [(&str, &[Line]); 10] = [
 fn good_texts_are_read(rt: HostRuntime) -> Result<(), Fail> {
     for (text, lines) in READ {
         let stim = read_stim(rt.alloc(), text.as_bytes())?;
-        let read = stim.lines.as_slice();
-        assert_eq!(rt; read.len(), lines.len());
-        for (line, &(tick, core, port, value)) in read.iter().zip(lines) {
-            let expected = StimLine {
-                tick,
-                core,
-                port,
-                value,
-            };
-            assert_eq!(rt; *line, expected);
-        }
+        assert!(rt; are_same(stim.lines.as_slice(), lines), "{text}");
     }
     Ok(())
+}
+
+fn are_same(read: &[StimLine], lines: &[Line]) -> bool {
+    for (line, wanted) in read.iter().zip(lines) {
+        if (line.tick, line.core, line.port, line.value) != *wanted {
+            return false;
+        }
+    }
+    read.len() == lines.len()
 }
 
 // Texts, each with the line and the rule that it is refused by.
@@ -83,18 +82,18 @@ const REFUSED: [(&str, u32, u16); 28] = [
 ];
 
 #[test]
-fn bad_texts_are_refused(rt: HostRuntime) -> Result<(), Fail> {
+fn bad_texts_are_refused(rt: HostRuntime) {
     for (text, line, rule) in REFUSED {
         assert_refused(&rt, rt.alloc(), text.as_bytes(), line, rule);
     }
-    Ok(())
 }
 
 fn assert_refused(rt: &impl Abort, alloc: Global, text: &[u8], line: u32, rule: u16) {
-    match read_stim(alloc, text) {
-        Err(StimErr::Line { line: n, rule: r }) => assert_eq!(rt; (n, r), (line, rule)),
-        _ => panic!(rt; "line {line} breaks rule {rule}"),
-    }
+    let is_refused = match read_stim(alloc, text) {
+        Err(StimErr::Line { line: n, rule: r }) => n == line && r == rule,
+        _ => false,
+    };
+    assert!(rt; is_refused, "line {line} breaks rule {rule}");
 }
 
 #[test]

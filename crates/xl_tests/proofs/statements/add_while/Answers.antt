@@ -1,7 +1,7 @@
-use Rattle.std.proofs.Common.{◌≡◌, ◌++◌, [], ◌∷◌, ◌∙◌, ap, arith, length, length-append}
+use Rattle.std.proofs.Common.{◌++◌, [], ◌∷◌, ◌∙◌, ap}
 use Rattle.xs_instr.specs.declared.instr.Instr.TheVariants.{Brbu}
 use Rattle.xs_instr.specs.Lines.{line}
-use Rattle.xl_tests.proofs.Loops.{loop_lands, loop_open, loop_size}
+use Rattle.xl_tests.proofs.Loops.{loop_lands, loop_open}
 use Rattle.xl_tests.proofs.statements.add_while.Goals as goal
 
 pub land-requires : goal.land-requires
@@ -9,14 +9,7 @@ land-requires c =
     let back = c.in_ok-emit_back.ensures.code ∙ ap (λ n. c.emit_set.new.e ++ line (Brbu n) c.args.pos ∷ []) c.here-top.ensures.next in
     loop_open c.args.pos c.args.e.now c.emit_test.new.e c.emit_set.new.e c.emit_back.new.e c.in_ok-out.out.index c.in_ok-out.ensures.aimed c.in_ok-emit_set.ensures.aimed back
 
-pub returns-clause-aimed : goal.returns-clause-aimed
-returns-clause-aimed c =
+pub returns : goal.returns
+returns c =
     let back = c.in_ok-emit_back.ensures.code ∙ ap (λ n. c.emit_set.new.e ++ line (Brbu n) c.args.pos ∷ []) c.here-top.ensures.next in
-    loop_lands c.args.pos c.args.e.now c.emit_test.new.e c.emit_set.new.e c.emit_back.new.e c.in_ok-out.out.index c.in_ok-out.ensures.aimed c.in_ok-emit_set.ensures.aimed back c.land.new.self c.land.ensures c.requires.aimed
-
-pub returns-clause-length : goal.returns-clause-length
-returns-clause-length c =
-    let l = line (Brbu c.here-top.result) c.args.pos in
-    let back = c.in_ok-emit_back.ensures.code ∙ ap (λ n. c.emit_set.new.e ++ line (Brbu n) c.args.pos ∷ []) c.here-top.ensures.next in
-    let size = loop_size c.args.pos c.args.e.now c.emit_test.new.e c.emit_set.new.e c.emit_back.new.e c.in_ok-out.out.index c.in_ok-out.ensures.aimed c.in_ok-emit_set.ensures.aimed back c.land.new.self c.land.ensures in
-    omega (arith, size, ap length c.in_ok-emit_back.ensures.code, length-append c.emit_set.new.e (l ∷ []), c.in_ok-out.ensures.size, c.in_ok-emit_set.ensures.size, c.requires.nodes, c.requires.nodes_at, c.requires.nodes_test)
+    record { aimed = loop_lands c.args.pos c.args.e.now c.emit_test.new.e c.emit_set.new.e c.emit_back.new.e c.in_ok-out.out.index c.in_ok-out.ensures.aimed c.in_ok-emit_set.ensures.aimed back c.land.new.self c.land.ensures c.requires.aimed }

@@ -1,0 +1,27 @@
+use Rattle.std.proofs.Common.{refl, ◌+◌}
+use Rattle.xc_tree.specs.Symbol.{statement}
+use Rattle.xc_tree.proofs.Forms.{action-Output}
+use Rattle.xc_phrases.proofs.Reading.Exits.{handed_on}
+use Rattle.xc_phrases.proofs.Stating.Marks.{name_stops}
+use Rattle.xc_phrases.proofs.Stating.Transferring.{sent_stops, output_read}
+use Rattle.xc_phrases.proofs.parser.Parser.transfer.Goals as goal
+
+pub returns-in_err-name-clause-stopped : goal.returns-in_err-name-clause-stopped
+returns-in_err-name-clause-stopped c =
+    handed_on _ c.from_residual.result c.from_residual.ensures.1
+    (name_stops c.args.self.now.toks.now c.args.at (c.args.room + 1) statement c.requires.name _ (c.in_err-name.ensures.stopped _))
+
+pub returns-in_err-tail-clause-stopped : goal.returns-in_err-tail-clause-stopped
+returns-in_err-tail-clause-stopped c =
+    let on = (c.is_symbol.ensures.yes c.if-not-is_symbol.false).1.1 in
+    handed_on _ c.from_residual-in_err-tail.result c.from_residual-in_err-tail.ensures.1
+    (sent_stops c.args.self.now.toks.now c.args.room c.args.at (c.in_ok-name.ensures.read _) on _ c.in_err-tail.ensures.stopped)
+
+pub returns-clause-read : goal.returns-clause-read
+returns-clause-read c =
+    let on = (c.is_symbol.ensures.yes c.if-not-is_symbol.false).1.1 in
+    rw (c.whole.ensures.value, c.whole.ensures.end, action-Output, c.output_of-output.ensures)
+    (output_read c.args.self.now.toks.now c.args.room c.args.at (c.in_ok-name.ensures.read _) on c.in_ok-tail.ensures.read.2)
+
+pub whole-requires-clause-held : goal.whole-requires-clause-held
+whole-requires-clause-held c = rw action-Output refl

@@ -1,0 +1,151 @@
+//! The program that tries the pieces of code: the cases stand in the files of data/. What is emitted for them runs on a core. It prints how
+//! many cases each file has, and each of which something else comes than is wanted.
+#![tactic(auto)]
+
+mod counted;
+mod expressions;
+mod machine;
+mod places;
+mod shown;
+mod sizes;
+mod statements;
+mod trouble;
+
+use counted::count_of;
+use machine::run;
+use places::plan;
+use shown::ShownEnd;
+use statements::code_of;
+use std::alloc::Global;
+use std::process::ExitCode;
+use trouble::Trouble;
+use xw_io::{FsShelf, Out, Shelf, Sink, StdSink};
+
+/// The files of cases.
+#[derive(Clone, Copy)]
+enum File {
+    /// Operators with two operands.
+    Operators,
+    /// Other code.
+    Code,
+}
+
+impl File {
+    fn name(self) -> &'static str {
+        match self {
+            File::Operators => "operators.txt",
+            File::Code => "code.txt",
+        }
+    }
+}
+
+/// Ends with 1 where a case differs, a file can't be read or the output fails.
+fn main(rt: HostRuntime) -> ExitCode {
+    let mut shelf = FsShelf::new(&rt);
+    let mut sink = StdSink::new(rt.stdout());
+    let mut out = Out::new(&mut sink);
+    let operators_hold = report(rt.alloc(), &mut shelf, &mut out, File::Operators);
+    let code_holds = report(rt.alloc(), &mut shelf, &mut out, File::Code);
+    out.settle();
+    ExitCode::from(u8::from(!operators_hold || !code_holds || out.outcome().is_err()))
+}
+
+/// Reports on the cases of a file. Whether of each comes what is wanted.
+fn report<S: Shelf, O: Sink>(
+    alloc: Global,
+    shelf: &mut S,
+    out: &mut Out<'_, O>,
+    file: File,
+) -> bool {
+    let Ok(bytes) = shelf.load(alloc, file.name()) else {
+        tell(out, file.name(), "not loaded");
+        return false;
+    };
+    let Ok(text) = str::from_utf8(bytes.as_slice()) else {
+        tell(out, file.name(), "not in UTF-8");
+        return false;
+    };
+    report_on(alloc, out, file, text)
+}
+
+/// Tries the cases of a file's text, each of which is a line, and counts them.
+fn report_on<O: Sink>(alloc: Global, out: &mut Out<'_, O>, file: File, text: &str) -> bool {
+    let mut count = 0u32;
+    let mut differing = 0u32;
+    for line in text.split('\n') {
+        if !line.is_empty() && !line.starts_with('#') {
+            count = count.saturating_add(1);
+            if !holds(alloc, out, file, line) {
+                differing = differing.saturating_add(1);
+            }
+        }
+    }
+    match format!(in alloc; "{}: {count} cases, {differing} differ\n", file.name()) {
+        Ok(line) => out.add(line.as_bytes()),
+        Err(_) => out.add(b"out of memory\n"),
+    }
+    differing == 0
+}
+
+/// Whether of a line comes what it wants. What comes else is told.
+fn holds<O: Sink>(alloc: Global, out: &mut Out<'_, O>, file: File, line: &str) -> bool {
+    let tried = match file {
+        File::Operators => are_operands_right(alloc, out, line),
+        File::Code => is_right(alloc, out, line),
+    };
+    match tried {
+        Ok(holds) => holds,
+        Err(trouble) => {
+            tell(out, line, trouble.message());
+            false
+        }
+    }
+}
+
+/// How two operands are written: as numbers, which one instruction brings to a register, or turned twice, which takes several.
+const WRITTEN: [(&str, &str); 3] = [("", ""), ("", " ~x ~x"), (" ~x ~x", " ~x ~x")];
+
+/// Whether of a line `FIRST SECOND OPERATOR = WANTED` comes what it wants, however the operands are written.
+fn are_operands_right<O: Sink>(
+    alloc: Global,
+    out: &mut Out<'_, O>,
+    line: &str,
+) -> Result<bool, Trouble> {
+    let (first, rest) = line.split_once(' ').ok_or(Trouble::Line)?;
+    let (second, rest) = rest.split_once(' ').ok_or(Trouble::Line)?;
+    for (of_first, of_second) in WRITTEN {
+        let line = format!(in alloc; "give {first}{of_first} {second}{of_second} {rest}")?;
+        if !is_right(alloc, out, line.as_str())? {
+            return Ok(false);
+        }
+    }
+    Ok(true)
+}
+
+/// Whether of a line `CODE = WANTED` comes what it wants. What comes else is told.
+fn is_right<O: Sink>(alloc: Global, out: &mut Out<'_, O>, line: &str) -> Result<bool, Trouble> {
+    let (code, wanted) = line.split_once(" = ").ok_or(Trouble::Line)?;
+    let came = came_of(alloc, code)?;
+    let is_right = came.as_str() == wanted;
+    if !is_right {
+        tell(out, line, came.as_str());
+    }
+    Ok(is_right)
+}
+
+/// What comes of code: how its run ends, or how much it is.
+fn came_of(alloc: Global, code: &str) -> Result<String, Trouble> {
+    let plan = plan(alloc)?;
+    if let Some(pieces) = code.strip_prefix("count ") {
+        return count_of(alloc, &plan, pieces);
+    }
+    let code = code_of(alloc, &plan, code)?;
+    let end = run(alloc, code)?;
+    Ok(format!(in alloc; "{}", ShownEnd(end))?)
+}
+
+fn tell<O: Sink>(out: &mut Out<'_, O>, line: &str, what: &str) {
+    for piece in [line, "\ncame: ", what, "\n"] {
+        out.add(piece.as_bytes());
+    }
+}

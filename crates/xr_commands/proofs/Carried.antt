@@ -1,0 +1,20 @@
+-- An image that implements a text's kernel is what the text compiles to.
+use Rattle.std.proofs.Common.{ℕ, List}
+use Rattle.xc_kernel.specs.Plain.{Kernel}
+use Rattle.xr_match.specs.Implements.{Implements}
+use Rattle.xr_match.specs.Meanings.{of_kernel}
+use Rattle.xr_match.proofs.Texts.{kernels_carry}
+use Rattle.xs_instr.specs.declared.image.Image.{Image}
+use Rattle.xs_instr.specs.Valid.{Valid}
+use Rattle.xs_instr.specs.Words.{HasWords}
+use Rattle.xr_commands.specs.Rules.{IsKernelOf}
+use Rattle.xr_commands.specs.Runs.{IsCompiled}
+
+pub compiled : (text : List ℕ) (K : Kernel) (L : Image) → IsKernelOf text K → Valid L → HasWords L → Implements L (of_kernel K) → IsCompiled text L
+compiled text K L is valid words implements = record {
+  program = is.program;
+  means_so = is.accepted;
+  valid = valid;
+  words = words;
+  implements = kernels_carry L is.program K is.named is.types is.typed is.copies implements;
+}

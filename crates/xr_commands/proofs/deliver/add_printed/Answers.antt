@@ -1,0 +1,15 @@
+use Rattle.xr_commands.specs.Lines.{code_section, run_output}
+use Rattle.xr_text.proofs.Draws.{◌▸◌}
+use Rattle.xr_commands.proofs.Given.{◌▹◌}
+use Rattle.xr_commands.proofs.deliver.add_printed.Goals as goal
+
+pub returns-in-Code-clause-drew : goal.returns-in-Code-clause-drew
+unfolding code_section
+returns-in-Code-clause-drew g c = rw c.in-Code.is (c.add-in-Code.ensures.drew ▸ c.add_image.ensures.drew)
+
+pub returns-in-Whole-clause-drew : goal.returns-in-Whole-clause-drew
+unfolding run_output
+returns-in-Whole-clause-drew g c =
+    let p = c.add-in-Whole.ensures.drew ▸ c.add_image-in-Whole.ensures.drew ▹ c.settle.ensures.drew ▸ c.add-in-Whole-2.ensures.drew ▸ c.add_records.ensures.drew
+    ▹ c.settle-in-Whole.ensures.drew ▸ c.add-in-Whole-3.ensures.drew ▸ c.add_word.ensures.drew ▸ c.add-in-Whole-4.ensures.drew in
+    rw c.in-Whole.is (rw c.trace.ensures at p)

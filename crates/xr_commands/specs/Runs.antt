@@ -1,0 +1,38 @@
+-- What a text compiles to, and the run that is written.
+use Rattle.std.specs.Prelude.{◌≡◌, ℕ, Bool, List, [], Option, None}
+use Rattle.xw_io.specs.declared.file.File.{File}
+use Rattle.xs_instr.specs.declared.image.Image.{Image}
+use Rattle.xs_instr.specs.declared.image.Stim.{Stim}
+use Rattle.xs_instr.specs.declared.trace.EndWord.{EndWord}
+use Rattle.xs_instr.specs.declared.trace.Record.{Record}
+use Rattle.xs_instr.specs.Valid.{Valid}
+use Rattle.xs_fabric.specs.EndWord.{end_of, has_trap}
+use Rattle.xs_fabric.specs.Lockstep.{lockstep}
+use Rattle.xc_tree.specs.Plain.{Item}
+use Rattle.xr_match.specs.Implements.{Implements}
+use Rattle.xr_match.specs.Meanings.{of_text}
+use Rattle.xs_instr.specs.Words.{HasWords}
+use Rattle.xr_commands.specs.Rules.{IsAccepted}
+
+-- a valid image that implements the program that the text means. Its numbers are words, so no other such image has its
+-- listing
+pub record IsCompiled (text : List ℕ) (L : Image) : Type 0 where
+  pub program : List Item
+  pub means_so : IsAccepted text program
+  pub valid : Valid L
+  pub words : HasWords L
+  pub implements : Implements L (of_text program)
+
+-- pins that are never driven
+abbrev pub no_stim : Stim
+no_stim = record { lines = [] }
+
+-- the stimulus of a run, by the file that is named for it: none is named, and there are no lines
+pub data IsStimOf (files : Option (List File)) : Option (List ℕ) → Stim → Type 0 where
+  unnamed : IsStimOf files None no_stim
+
+-- what the run in lockstep recorded in so many rounds from the start, how it ended, and whether a thread trapped
+pub record IsLockstep (L : Image) (s : Stim) (rounds : ℕ) (lines : List Record) (word : EndWord) (trapped : Bool) : Type 0 where
+  pub lines_are : lines ≡ (lockstep L s rounds).trace
+  pub word_is : word ≡ end_of L s (lockstep L s rounds)
+  pub trapped_is : trapped ≡ has_trap L s (lockstep L s rounds)

@@ -1,0 +1,15 @@
+//! The commands: what the words of a command line mean, what is answered to them, and what is written. The program only has its words,
+//! files and streams besides.
+#![tactic(auto)]
+
+mod decide;
+mod deliver;
+mod front;
+mod law;
+mod run;
+mod still;
+mod top;
+mod words;
+
+pub use law::at_most_one_answer;
+pub use top::xcsim;

@@ -1,0 +1,117 @@
+// Two cores at the same time.
+
+ghost use Rattle.std.specs.Prelude.{◌≤◌};
+ghost use Rattle.xs_instr.specs.Valid.{Valid};
+
+use crate::boards::by_workers;
+use crate::listings::ENDLESS;
+use std::alloc::Global;
+use std::sync::Wait;
+use std::sync::atomic::{AtomicU64, Ordering};
+use std::test::Fail;
+use std::thread::{self, Threads};
+use xr_board::Gate;
+use xr_listed::read_image;
+use xr_windows::Run;
+use xs_instr::{Image, Stim};
+use xw_words::{List, Memory};
+
+/// Holds up cores 0 and 1 before their window 1 until both stand there, and counts all calls.
+#[derive(Drop)]
+struct Meeting {
+    first: AtomicU64,
+    second: AtomicU64,
+    met: AtomicU64,
+    calls: AtomicU64,
+}
+
+/// Sets a flag, and looks for another one, for half a minute or longer. Counts where that is seen.
+fn meet(own: &AtomicU64, other: &AtomicU64, met: &AtomicU64) {
+    own.store(1, Ordering::SeqCst);
+    for _ in 0..100_000_000 {
+        if other.load(Ordering::SeqCst) == 1 {
+            met.fetch_add(1, Ordering::SeqCst);
+            return;
+        }
+        thread::yield_now();
+    }
+}
+
+/// Counts a call, in a byte of its own for each core and window.
+fn count(calls: &AtomicU64, core: u32, window: u32) {
+    if core < 4 && window < 2 {
+        calls.fetch_add(1 << (8 * (2 * core + window)), Ordering::SeqCst);
+    }
+}
+
+/// Each core ran each of the two windows once.
+const EACH_ONCE: u64 = 0x0101_0101_0101_0101;
+
+impl Gate for Meeting {
+    fn before(&self, core: u32, window: u32) {
+        count(&self.calls, core, window);
+        if core == 0 && window == 1 {
+            meet(&self.first, &self.second, &self.met);
+        }
+        if core == 1 && window == 1 {
+            meet(&self.second, &self.first, &self.met);
+        }
+    }
+}
+
+/// Counts all calls, and holds nobody up.
+#[derive(Drop)]
+struct Counting {
+    calls: AtomicU64,
+}
+
+impl Gate for Counting {
+    fn before(&self, core: u32, window: u32) {
+        count(&self.calls, core, window);
+    }
+}
+
+/// Whether so many workers run each window once, and tell what others told.
+fn is_same<R: Threads + Wait + Sync>(
+    rt: &R,
+    alloc: Global,
+    image: &Image,
+    workers: u32,
+    told: &Run,
+) -> Result<bool, Memory>
+    requires image { Valid image.now }
+    requires workers { (1 ≤ workers) × (workers ≤ 16) }
+{
+    let stim = Stim {
+        lines: List::new(alloc),
+    };
+    let counting = Counting {
+        calls: AtomicU64::new(0),
+    };
+    let run = by_workers(rt, alloc, image, &stim, 16, workers, &counting)?;
+    let is_each_once = counting.calls.load(Ordering::SeqCst) == EACH_ONCE;
+    Ok(is_each_once && run.trace == told.trace && run.end == told.end)
+}
+
+/// Two workers run two cores at the same time, and each window once. One worker and sixteen run each window once too, and tell the
+/// same.
+#[test]
+fn two_cores_at_once(rt: HostRuntime) -> Result<(), Fail> {
+    let alloc = rt.alloc();
+    let image = read_image(alloc, ENDLESS)?;
+    let stim = Stim {
+        lines: List::new(alloc),
+    };
+    let meeting = Meeting {
+        first: AtomicU64::new(0),
+        second: AtomicU64::new(0),
+        met: AtomicU64::new(0),
+        calls: AtomicU64::new(0),
+    };
+    let two = by_workers(&rt, alloc, &image, &stim, 16, 2, &meeting)?;
+    assert_eq!(rt; meeting.met.load(Ordering::SeqCst), 2);
+    assert_eq!(rt; meeting.calls.load(Ordering::SeqCst), EACH_ONCE);
+    assert!(rt; is_same(&rt, alloc, &image, 1, &two)?);
+    assert!(rt; is_same(&rt, alloc, &image, 16, &two)?);
+    Ok(())
+}

@@ -1,2 +1,0 @@
-mod FourCores
-mod TwoOfFour

@@ -1,9 +1,0 @@
-use Rattle.xs_machines.proofs.boards.table.Given as goal
-
--- the run of the image that is lent, of 16 ticks
-abbrev pub ghosts-gathered_at_once : goal.ghosts-gathered_at_once
-ghosts-gathered_at_once g a = record { listing = a.image.now; stimulus = a.stim.now; ticks = 16 }
-
--- the same run
-abbrev pub ghosts-table_named : goal.ghosts-table_named
-ghosts-table_named g a = record { listing = a.image.now; stimulus = a.stim.now; ticks = 16 }
