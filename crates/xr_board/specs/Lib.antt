@@ -4,4 +4,5 @@ pub mod ForCores
 pub mod Gathers
 pub mod Inbox
 pub mod Short
+pub mod Telling
 pub mod Turns

@@ -11,11 +11,12 @@ use crate::core_name::{Core0, Core1, Core2, Core3};
 use crate::gate::Gate;
 use crate::seat::Seat;
 use crate::start::part_of;
+use crate::told::AllTold;
 use std::alloc::Global;
 use std::sync::Wait;
 use xr_windows::{Batch, Part, RunName};
 use xs_instr::{Image, Stim};
-use xw_words::{List, Memory};
+use xw_words::Memory;
 
 /// What came of a turn on the board.
 #[derive(Clone, Copy, PartialEq, Eq, Debug)]
@@ -39,6 +40,7 @@ pub struct Board<U: RunName> {
     second: Seat<U, Core1>,
     third: Seat<U, Core2>,
     fourth: Seat<U, Core3>,
+    pub(crate) told: AllTold<U>,
     image: Image,
     stim: Stim,
     ticks: u32,
@@ -170,10 +172,11 @@ impl<U: RunName> Board<U> {
     {
         match copies(alloc, image, stim) {
             Ok((image, stim)) => Ok(Board {
-                first: Seat::new(first),
-                second: Seat::new(second),
-                third: Seat::new(third),
-                fourth: Seat::new(fourth),
+                first: Seat::new(alloc, first),
+                second: Seat::new(alloc, second),
+                third: Seat::new(alloc, third),
+                fourth: Seat::new(alloc, fourth),
+                told: AllTold::new(),
                 image,
                 stim,
                 ticks,
@@ -195,61 +198,21 @@ impl<U: RunName> Board<U> {
         ensures answer { CanAnswer U.ticks core result }
         ensures range { IsInRange result }
     {
-        let (answer, out) = self.turn_at(rt, alloc, core, gate);
-        self.hand_all(rt, out);
-        if let BoardTurn::Ran(window) = answer {
-            self.tell(core, window + 1);
-        }
-        answer
-    }
-
-    // Lets those that wait for a core know how many windows it has handed over.
-    fn tell(&self, core: u8, windows: u32) {
         match core {
-            0 => self.first.tell(windows),
-            1 => self.second.tell(windows),
-            2 => self.third.tell(windows),
-            _ => self.fourth.tell(windows),
+            0 => self.first.turn(rt, alloc, gate, self, &self.told.first),
+            1 => self.second.turn(rt, alloc, gate, self, &self.told.second),
+            2 => self.third.turn(rt, alloc, gate, self, &self.told.third),
+            _ => self.fourth.turn(rt, alloc, gate, self, &self.told.fourth),
         }
     }
 
     /// Whether each core seems to have handed over so many windows: a hint, of which no clause knows what it says. It takes no lock.
     pub(crate) fn seem_handed(&self, windows: u32) -> bool {
-        self.first.told() >= windows
-            && self.second.told() >= windows
-            && self.third.told() >= windows
-            && self.fourth.told() >= windows
+        windows == 0 || self.told.have(windows - 1)
     }
 
-    // A core's turn under its lock, and the batches that are to be handed over.
-    fn turn_at<G: Gate, R: Wait>(
-        &self,
-        rt: &R,
-        alloc: Global,
-        core: u8,
-        gate: &G,
-    ) -> (BoardTurn, List<Batch<U>>)
-        requires { core < 4 }
-        ensures answer { CanAnswer U.ticks core result.0 }
-        ensures range { IsInRange result.0 }
-    {
-        match core {
-            0 => self.first.turn(rt, alloc, gate),
-            1 => self.second.turn(rt, alloc, gate),
-            2 => self.third.turn(rt, alloc, gate),
-            _ => self.fourth.turn(rt, alloc, gate),
-        }
-    }
-
-    // Hands each batch to its core.
-    fn hand_all<R: Wait>(&self, rt: &R, out: List<Batch<U>>) {
-        for batch in out.into_vec() {
-            self.hand(rt, batch);
-        }
-    }
-
-    // Hands a batch to its core.
-    fn hand<R: Wait>(&self, rt: &R, batch: Batch<U>) {
+    /// Puts a batch into the mail of its core.
+    pub(crate) fn hand<R: Wait>(&self, rt: &R, batch: Batch<U>) {
         batch.is_sent();
         match batch.to {
             0 => self.first.hand(rt, batch),
@@ -298,15 +261,16 @@ impl<U: RunName> Board<U> {
             second,
             third,
             fourth,
+            told,
             image,
             stim,
             ticks: _,
         } = self;
         let cells = Cells {
-            first: first.into_cell(),
-            second: second.into_cell(),
-            third: third.into_cell(),
-            fourth: fourth.into_cell(),
+            first: first.into_cell(&told),
+            second: second.into_cell(&told),
+            third: third.into_cell(&told),
+            fourth: fourth.into_cell(&told),
         };
         (cells, image, stim)
     }

@@ -8,10 +8,14 @@ mod cell;
 mod cells;
 mod core_name;
 mod gate;
+mod kept;
 mod mail;
 mod places;
+mod quiet;
 mod seat;
+mod spare;
 mod start;
+mod told;
 mod turned;
 mod workers;
 

@@ -3,24 +3,22 @@
 ghost use Rattle.std.specs.Prelude.{◌≡◌};
 ghost use Rattle.xr_board.specs.BoardTurns.{IsAnswer, IsInRange};
 
-use crate::board::BoardTurn;
+use crate::board::{Board, BoardTurn};
 use crate::cell::Cell;
-use crate::core_name::CoreName;
+use crate::core_name::{Core0, Core1, Core2, Core3, CoreName};
 use crate::gate::Gate;
+use crate::kept::Kept;
 use crate::mail::Mail;
+use crate::told::{AllTold, LINE, Told};
 use crate::turned::Turned;
 use std::alloc::Global;
 use std::hint::spin_loop;
-use std::sync::atomic::{AtomicU32, Ordering};
 use std::sync::{Mutex, Wait};
 use xr_windows::{Batch, Part, RunName};
 use xw_words::List;
 
 /// How often the lock of a mail is tried before a thread sleeps for it.
 const TRIES: u32 = 1_000;
-
-/// How many words a line of the cache has.
-const LINE: usize = 8;
 
 /// The mail from one core to another under its lock. Unused bytes stand beside it, so that who writes here takes no other line of the cache from
 /// a core that works.
@@ -75,38 +73,16 @@ impl<U: RunName, C: CoreName> MailBox<U, C> {
     }
 }
 
-/// How many windows a core has handed over: a hint for who waits for it. No clause knows what it says, so nothing but time depends on it, and to
-/// look at it takes no lock. It stands apart from the mails, since who looks at a line of the cache again and again holds up who writes there.
-#[derive(Drop)]
-#[repr(C)]
-struct Count {
-    before: [u64; LINE],
-    windows: AtomicU32,
-    after: [u64; LINE],
-}
-
-impl Count {
-    // No window.
-    fn new() -> Count {
-        Count {
-            before: [0; LINE],
-            windows: AtomicU32::new(0),
-            after: [0; LINE],
-        }
-    }
-}
-
 /// A core's cell and what has been sent to it, by the number of the sender, each under a lock of its own. The lock of the cell is held for a
 /// whole turn, that of a mail only while batches are moved, so nobody waits for a core that runs a window, and no two cores for one mail
-/// but its sender and its receiver. Who holds the lock of a mail takes no other.
+/// but its sender and its receiver. Who holds the lock of a mail takes no other, and who holds that of a cell only those of mails.
 #[repr(C)]
 pub struct Seat<U: RunName, C: CoreName> {
-    cell: Mutex<Cell<U, C>>,
+    kept: Mutex<Kept<U, C>>,
     from0: MailBox<U, C>,
     from1: MailBox<U, C>,
     from2: MailBox<U, C>,
     from3: MailBox<U, C>,
-    handed: Count,
 }
 
 impl<U: RunName, C: CoreName> Seat<U, C> {
@@ -115,50 +91,57 @@ impl<U: RunName, C: CoreName> Seat<U, C> {
     ghost use Rattle.xr_windows.specs.Parts.{IsPartOf};
 
     /// The seat of a core before its first window. It takes no memory.
-    pub fn new(part: Part) -> Seat<U, C>
+    pub fn new(alloc: Global, part: Part) -> Seat<U, C>
         requires part { IsPartOf U.listing U.stimulus U.ticks part }
         requires number { part.home.number ≡ C.number }
         requires start { part.ran ≡ 0 }
     {
         Seat {
-            cell: Mutex::new(Cell::new(part)),
+            kept: Mutex::new(Kept::new(alloc, part)),
             from0: MailBox::new(),
             from1: MailBox::new(),
             from2: MailBox::new(),
             from3: MailBox::new(),
-            handed: Count::new(),
         }
     }
 
-    /// A turn under the cell's lock, after what is in the mails has come, and the batches that are to be handed over.
+    /// A turn under the cell's lock, after what was handed over to the core has come into its cell, and then all batches handed over.
     pub fn turn<G: Gate, R: Wait>(
         &self,
         rt: &R,
         alloc: Global,
         gate: &G,
-    ) -> (BoardTurn, List<Batch<U>>)
-        ensures answer { CanAnswer U.ticks C.number result.0 }
-        ensures range { IsInRange result.0 }
+        board: &Board<U>,
+        told: &Told<U, C>,
+    ) -> BoardTurn
+        ensures answer { CanAnswer U.ticks C.number result }
+        ensures range { IsInRange result }
     {
-        let mut cell = self.cell.lock(rt);
-        self.empty_mails(rt, &mut cell);
-        turn_of::<U, C, G>(&mut cell, alloc, gate)
+        let mut kept = self.kept.lock(rt);
+        let kept = &mut *kept;
+        self.take_all(rt, &board.told, kept);
+        let (answer, out) = turn_of::<U, C, G>(&mut kept.cell, alloc, gate);
+        kept.hand_over(rt, board, told, answer, out);
+        answer
     }
 
-    // What is in the mails comes into the cell. No core sends to itself.
-    fn empty_mails<R: Wait>(&self, rt: &R, cell: &mut Cell<U, C>) {
-        let number = cell.part().number();
-        if number != 0 {
-            self.from0.empty(rt, cell);
+    // What the others have handed over that the next window needs comes into the cell.
+    fn take_all<R: Wait>(&self, rt: &R, told: &AllTold<U>, kept: &mut Kept<U, C>) {
+        let ran = kept.cell.ran();
+        if ran == 0 {
+            return;
         }
-        if number != 1 {
-            self.from1.empty(rt, cell);
+        if kept.take::<Core0>(&told.first, 0, ran - 1) {
+            self.from0.empty(rt, &mut kept.cell);
         }
-        if number != 2 {
-            self.from2.empty(rt, cell);
+        if kept.take::<Core1>(&told.second, 1, ran - 1) {
+            self.from1.empty(rt, &mut kept.cell);
         }
-        if number != 3 {
-            self.from3.empty(rt, cell);
+        if kept.take::<Core2>(&told.third, 2, ran - 1) {
+            self.from2.empty(rt, &mut kept.cell);
+        }
+        if kept.take::<Core3>(&told.fourth, 3, ran - 1) {
+            self.from3.empty(rt, &mut kept.cell);
         }
     }
 
@@ -174,32 +157,23 @@ impl<U: RunName, C: CoreName> Seat<U, C> {
         }
     }
 
-    /// Lets those that wait for this core know how many windows it has handed over.
-    pub fn tell(&self, windows: u32) {
-        self.handed.windows.store(windows, Ordering::SeqCst);
-    }
-
-    /// How many windows this core has handed over, as far as is told.
-    pub fn told(&self) -> u32 {
-        self.handed.windows.load(Ordering::SeqCst)
-    }
-
     /// Sets the stop mark of the cell.
     pub fn stop<R: Wait>(&self, rt: &R) {
-        self.cell.lock(rt).stop();
+        self.kept.lock(rt).cell.stop();
     }
 
-    /// The cell out of its lock, after what is in the mails has come.
-    pub fn into_cell(self) -> Cell<U, C> {
+    /// The cell out of its lock, after all that was handed over to the core has come.
+    pub fn into_cell(self, told: &AllTold<U>) -> Cell<U, C> {
         let Seat {
-            cell,
+            kept,
             from0,
             from1,
             from2,
             from3,
-            handed: _,
         } = self;
-        let mut cell = cell.into_inner();
+        let mut kept = kept.into_inner();
+        kept.take_quiet(told);
+        let mut cell = kept.into_cell();
         from0.pour(&mut cell);
         from1.pour(&mut cell);
         from2.pour(&mut cell);
