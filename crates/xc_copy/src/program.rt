@@ -10,26 +10,20 @@ ghost use Rattle.xw_words.specs.Ports.{identifiers};
 ghost use Rattle.xc_kernel.specs.Kernels.{kernel_of, root_of};
 ghost use Rattle.xc_kernel.specs.Ports as ports_spec;
 ghost use Rattle.xc_kernel.specs.Programs as programs;
-ghost use Rattle.xc_copy.specs.Contexts.{functions_of, ports_from};
-ghost use Rattle.xc_copy.specs.Functions.{HasFewParameters, function_of};
-ghost use Rattle.xc_copy.specs.Instances.{instance_count};
-ghost use Rattle.xc_copy.specs.Numbers.{numbering_of};
+ghost use Rattle.xc_roots.specs.Contexts.{functions_of, ports_from};
+ghost use Rattle.xc_roots.specs.Functions.{HasFewParameters, function_of};
+ghost use Rattle.xc_roots.specs.Instances.{instance_count};
+ghost use Rattle.xc_roots.specs.Numbers.{numbering_of};
 ghost use Rattle.xc_copy.specs.Ports.{names_among, names_of_ports};
-ghost use Rattle.xc_copy.specs.Roots.{numbering_by, rooted_by, rooted_of};
+ghost use Rattle.xc_roots.specs.Roots.{numbering_by, rooted_by, rooted_of};
 
-use crate::context::Context;
-use crate::functions::Functions;
-use crate::memory::{beside, both};
-use crate::numbers::Numbers;
-use crate::roots::{Rooted, core_of, pos_of_place};
-use crate::scope::Scope;
 use std::alloc::Global;
 use xc_kernel::{Kernel, PortUse};
+use xc_roots::{
+    Functions, Numbers, Rooted, beside, both, core_outside, pos_of_place, roots_by_numbers,
+};
 use xc_tree::{FuncItem, Item, PortItem, Tree};
 use xw_words::{List, Memory, PORT_COUNT, Pos, identifier_place};
-
-/// The name of the function that is run.
-const MAIN: &[u8] = b"main";
 
 /// The kernel of a program: the program with each call replaced by its function's body over instances of its own. The tree is
 /// walked twice, for the instances and then for the statements, which mean instances by their places. The one error is want of
@@ -46,7 +40,7 @@ pub fn copy(alloc: Global, tree: &Tree) -> Result<Kernel, Memory>
     let walked = walked(alloc, &functions, names.as_slice());
     let ports = port_uses(alloc, tree);
     let ((numbers, rooted), ports) = both(walked, ports)?;
-    let main = main_pos(functions.named(MAIN));
+    let main = main_pos(functions.main());
     Ok(kernel_by(numbers, rooted, ports, main))
 }
 
@@ -68,7 +62,7 @@ fn walked<'a>(
         (numbering_by (functions_of functions.now) (ports_from 0 ports.now))) }
 {
     let numbers = numbered(alloc, functions, ports)?;
-    let rooted = rooted(alloc, functions, ports, &numbers);
+    let rooted = roots_by_numbers(alloc, functions, ports, &numbers);
     let (numbers, rooted) = beside(numbers, rooted)?;
     Ok((numbers, rooted))
 }
@@ -86,7 +80,7 @@ fn numbered<'a>(
         ≡ numbering_by (functions_of functions.now) (ports_from 0 ports.now)) }
 {
     let none = Numbers::none(alloc);
-    let walked = rooted(alloc, functions, ports, &none);
+    let walked = roots_by_numbers(alloc, functions, ports, &none);
     drop(none);
     let first = walked?;
     let numbers = Numbers::of_copy(alloc, first.made)?;
@@ -118,34 +112,6 @@ fn kernel_by(numbers: Numbers, rooted: Rooted, ports: List<PortUse>, main: Pos) 
         insts,
         main,
     }
-}
-
-/// The roots of a program with their instances, by a numbering of instances. The one error is as for `copy`.
-fn rooted<'a>(
-    alloc: Global,
-    functions: &Functions<'a>,
-    ports: &[&'a [u8]],
-    numbers: &Numbers,
-) -> Result<Rooted, Memory>
-    requires ports { length ports.now < 2 ^ 32 }
-    ensures { IfOk result (λ r. rooted_of r (rooted_by (functions_of functions.now)
-        (ports_from 0 ports.now) (numbering_of numbers.now)).made.scope ≡ rooted_by
-        (functions_of functions.now) (ports_from 0 ports.now) (numbering_of numbers.now)) }
-{
-    let context = Context {
-        functions,
-        ports,
-        numbers,
-        core: 0,
-        path: &[],
-        result: &[],
-        returns: &[],
-        breaks: &[],
-        continues: &[],
-    };
-    let main = functions.named(MAIN);
-    let rooted = context.roots(alloc, functions.len(), main)?;
-    Ok(rooted)
 }
 
 /// The place of main's name.
@@ -216,7 +182,7 @@ fn add_port_use(alloc: Global, ports: &mut List<PortUse>, item: &Item) -> Result
 fn port_use(alloc: Global, port: &PortItem) -> Result<PortUse, Memory>
     ensures { IfOk result (λ entry. entry ≡ ports_spec.port_use (port_of port.now)) }
 {
-    let core = core_of(alloc, &port.place, &Scope::new(alloc))?;
+    let core = core_outside(alloc, &port.place)?;
     Ok(PortUse {
         id: port_of(port.ident.text.as_slice()),
         dir: port.dir,

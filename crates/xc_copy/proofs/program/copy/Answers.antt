@@ -1,4 +1,4 @@
-use Rattle.std.proofs.Common.{◌≡◌, ◌+◌, ◌*◌, ◌<◌, ◌≤◌, ◌^◌, ℕ, List, [], length, arith, refl, ap, sym, subst, ◌∙◌}
+use Rattle.std.proofs.Common.{◌≡◌, ◌<◌, ◌≤◌, ◌^◌, ℕ, List, [], length, arith, refl, ap, sym, subst, ◌∙◌}
 use Rattle.std.specs.Borrow.{Bor}
 use Rattle.std.proofs.lemmas.List.{length-map}
 use Rattle.xc_tree.specs.Trees.{program_of}
@@ -11,12 +11,12 @@ use Rattle.xc_kernel.specs.Programs.{Function, function_named, name_of_main, cou
 use Rattle.xc_kernel.specs.Scopes.{Scope}
 use Rattle.xc_kernel.specs.Size.{most_statements}
 use Rattle.xc_kernel.specs.Statements.{calls_copy}
-use Rattle.xc_copy.specs.Contexts.{ports_from}
-use Rattle.xc_copy.specs.Instances.{instance_count}
+use Rattle.xc_roots.specs.Contexts.{ports_from}
+use Rattle.xc_roots.specs.Instances.{instance_count}
 use Rattle.xc_copy.specs.Ports.{names_among, names_of_ports}
-use Rattle.xc_copy.specs.Roots.{numbering_by, rooted_by}
-use Rattle.xc_copy.proofs.Laws.Instances.{all_roots_few, calls_few}
-use Rattle.xc_copy.proofs.Laws.Ports.{ports_named}
+use Rattle.xc_roots.specs.Roots.{numbering_by, rooted_by}
+use Rattle.xc_roots.proofs.Laws.Instances.{all_roots_few, calls_few}
+use Rattle.xc_copy.proofs.Ports.{ports_named}
 use Rattle.xc_copy.proofs.program.copy.Goals as goal
 
 -- by functions and names of ports
@@ -60,7 +60,7 @@ returns c =
     let ports = rw c.in_ok-numbers.ensures.second at c.port_uses-ports.ensures in
     let numbers = (rw c.in_ok-numbers.ensures.first at c.walked-walked.ensures.numbers) ∙ λ i. numbering_by (functions i) (known i) in
     let roots = (rw c.in_ok-numbers.ensures.first at c.walked-walked.ensures.roots) ∙ λ i. rooted_by (functions i) (known i) (numbering_by (functions i) (known i)) in
-    let main = c.main_pos-main.ensures ∙ ap programs.pos_of_function (c.named.ensures.function ∙ ap (λ fs. programs.function_named fs programs.name_of_main) functions) in
+    let main = c.main_pos-main.ensures ∙ ap programs.pos_of_function (c.main.ensures.function ∙ ap (λ fs. programs.function_named fs programs.name_of_main) functions) in
     record {
       is_copy = c.kernel_by.ensures ∙ λ i. record {
         roots = (roots i).roots;

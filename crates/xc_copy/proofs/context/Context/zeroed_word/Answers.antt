@@ -1,5 +1,0 @@
-use Rattle.xc_copy.proofs.Laws.Flow.{stored_made}
-use Rattle.xc_copy.proofs.context.Context.zeroed_word.Goals as goal
-
-pub returns : goal.returns
-returns c = λ behind. stored_made c.set_zero.ensures (c.in_ok-zeroed.ensures behind) c.in_ok-variable.ensures (c.in_ok-copied.ensures behind)

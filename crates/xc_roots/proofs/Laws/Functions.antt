@@ -1,0 +1,35 @@
+-- The functions of a program, one behind the other.
+use Rattle.std.proofs.Common.{◌≡◌, ℕ, suc, zero, ◌+◌, ◌<◌, List, [], ◌∷◌, ◌++◌, length, drop, get_or, map, bytes_eq, arith, refl, ap, sym, subst, ◌∙◌}
+use Rattle.std.specs.Borrow.{Bor}
+use Rattle.std.specs.List.{All}
+use Rattle.xc_tree.specs.Plain as tree
+use Rattle.xc_tree.specs.Trees.{item_of}
+use Rattle.xc_tree.specs.declared.tree.Item.{Item}
+use Rattle.xc_tree.specs.declared.tree.FuncItem.{FuncItem}
+use Rattle.xc_kernel.specs.Programs.{functions, function_named, function_by}
+use Rattle.xc_roots.proofs.Laws.Lists.{drop_item}
+use Rattle.xc_roots.specs.Functions.{HasFewParameters, function_of, functions_among, deepest}
+
+functions_cons : (i : tree.Item) (items : List tree.Item) → functions (i ∷ items) ≡ functions (i ∷ []) ++ functions items
+functions_cons (tree.function head body) items = refl
+functions_cons (tree.port p) items = refl
+
+-- the item at a place gives its function before those of the rest
+pub functions_step : (items : List Item) (i : ℕ) (x : Item) → x ≡ get_or items i x → i < length items → functions (map item_of (drop i items)) ≡ functions (item_of x ∷ []) ++ functions (map item_of (drop (i + 1) items))
+functions_step items i x e h =
+    ap (λ xs. functions (map item_of xs)) (drop_item items i x e h)
+    ∙ functions_cons (item_of x) (map item_of (drop (i + 1) items))
+
+-- the function at a place, or those behind it
+pub named_step : (fs : List (Bor FuncItem)) (i : ℕ) (f : Bor FuncItem) (name : List ℕ) → f ≡ get_or fs i f → i < length fs → function_named (functions_among (drop i fs)) name ≡ function_by (bytes_eq f.now.name.text name) (function_of f.now) (function_named (functions_among (drop (i + 1) fs)) name)
+named_step fs i f name e h =
+    ap (λ xs. function_named (functions_among xs) name) (drop_item fs i f e h)
+
+pub deepest_step : (fs : List (Bor FuncItem)) (i : ℕ) (f : Bor FuncItem) → f ≡ get_or fs i f → i < length fs → deepest (drop i fs) ≡ deepest (f ∷ drop (i + 1) fs)
+deepest_step fs i f e h = ap deepest (drop_item fs i f e h)
+
+-- the function at a place has few parameters, where all have
+pub few_at : (fs : List (Bor FuncItem)) (i : ℕ) (f : Bor FuncItem) → All HasFewParameters (functions_among fs) → f ≡ get_or fs i f → i < length fs → HasFewParameters (function_of f.now)
+few_at [] i f few e h = absurd (omega (arith, h))
+few_at (x ∷ fs) zero f few e h = subst (λ (g : Bor FuncItem). HasFewParameters (function_of g.now)) (sym e) (few 0 (function_of f.now) (omega arith))
+few_at (x ∷ fs) (suc i) f few e h = few_at fs i f (λ k d l. few (suc k) d (omega (arith, l))) e (omega (arith, h))

@@ -1,0 +1,21 @@
+use Rattle.std.proofs.Common.{ap, ◌∙◌}
+use Rattle.xc_kernel.specs.Calls as calls
+use Rattle.xc_kernel.specs.Copy.{joined, in_scope_of}
+use Rattle.xc_roots.specs.Contexts.{context_of}
+use Rattle.xc_roots.specs.Copied.{copy_of}
+use Rattle.xc_roots.proofs.context.Context.around_body.Goals as goal
+
+pub returns : goal.returns
+returns c = λ entered inner behind whole is.
+    let passed = ap (λ x. copy_of x entered) (c.in_ok-passed-2.ensures.value ∙ c.in_ok-passed.ensures.value) in
+    let body = rw c.in_ok-passed.ensures.made at is in
+    let made = rw c.in_ok-passed-2.ensures.made at c.as_block-block.ensures in
+    let block = made inner ∙ ap (calls.as_block (context_of c.args.self.now) c.args.own.now) body in
+    let inside = rw c.in_ok-zeroed.ensures.second at c.followed_by-inside.ensures in
+    let zeroed = rw c.in_ok-zeroed.ensures.first at c.zeroed_result-zeroed.ensures in
+    let rest = rw c.in_ok-made.ensures.second at c.followed_by-behind.ensures in
+    let made = rw c.in_ok-made.ensures.first at c.instance-made.ensures in
+    let body = inside entered inner ∙ λ i. joined (passed i) (block i) in
+    let called = rest behind inner ∙ λ i. joined (zeroed behind i) (body i) in
+    let all = c.in_ok-copied.ensures behind inner ∙ λ i. joined (made behind i) (called i) in
+    c.naming_none.ensures behind ∙ ap (λ all. in_scope_of behind (calls.naming_none all)) all

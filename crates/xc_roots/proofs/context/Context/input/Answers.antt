@@ -1,0 +1,17 @@
+use Rattle.std.proofs.Common.{ap, ◌∙◌}
+use Rattle.xc_tree.specs.Trees as tree
+use Rattle.xc_kernel.proofs.Forms.{statement-In}
+use Rattle.xc_kernel.specs.Plain as plain
+use Rattle.xc_kernel.specs.Transfers as spec
+use Rattle.xc_roots.specs.Contexts.{context_of}
+use Rattle.xc_roots.specs.Scopes.{scope_of}
+use Rattle.xc_roots.proofs.Laws.Transfers.{coded, target_code}
+use Rattle.xc_roots.proofs.context.Context.input.Goals as goal
+
+pub returns : goal.returns
+returns c =
+    let here = context_of c.args.self.now in
+    let scope = scope_of c.args.scope.now in
+    let i = tree.input_of c.args.i.now in
+    coded (spec.input_names here scope i) (target_code here scope i.target) c.in_ok-received.ensures.names
+    (statement-In c.in_ok-received.received.head ∙ ap plain.input c.in_ok-received.ensures.head) (c.in_ok-copied.ensures (scope_of c.received.new.scope))

@@ -1,0 +1,7 @@
+use Rattle.std.proofs.Common.{ap, ◌∙◌}
+use Rattle.xc_kernel.specs.Copy as copies
+use Rattle.xc_roots.specs.Scopes.{scope_of}
+use Rattle.xc_roots.proofs.context.Context.leaves.Goals as goal
+
+pub returns : goal.returns
+returns c = c.in_ok-copied.ensures (scope_of c.args.scope.now) ∙ ap (copies.one_statement (scope_of c.args.scope.now)) c.leave.ensures

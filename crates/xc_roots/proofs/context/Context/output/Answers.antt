@@ -1,0 +1,22 @@
+use Rattle.std.proofs.Common.{ap, refl, ◌∙◌}
+use Rattle.xc_tree.specs.Trees as tree
+use Rattle.xc_kernel.proofs.Forms.{statement-Out}
+use Rattle.xc_kernel.specs.Copy as copies
+use Rattle.xc_kernel.specs.Plain as plain
+use Rattle.xc_kernel.specs.Transfers as spec
+use Rattle.xc_roots.specs.Contexts.{context_of}
+use Rattle.xc_roots.specs.Scopes.{scope_of}
+use Rattle.xc_roots.proofs.Laws.Transfers.{names_joined}
+use Rattle.xc_roots.proofs.context.Context.output.Goals as goal
+
+pub returns : goal.returns
+returns c =
+    let here = context_of c.args.self.now in
+    let scope = scope_of c.args.scope.now in
+    let o = tree.output_of c.args.o.now in
+    let named = rw c.in_ok-named.ensures.first at c.channel_named-named.ensures in
+    let one = rw c.in_ok-named.ensures.second at c.one_statement-one.ensures in
+    names_joined scope o.name.text (copies.one_statement scope (plain.output (spec.output_of here scope o)))
+    (named scope ∙ ap (λ t. spec.naming scope t (copies.no_copy scope)) c.as_slice.ensures)
+    (one scope ∙ ap (copies.one_statement scope) (statement-Out c.in_ok-output.output ∙ ap plain.output c.in_ok-output.ensures))
+    refl (c.in_ok-copied.ensures scope scope)

@@ -1,0 +1,30 @@
+use Rattle.std.proofs.Common.{ap, sym, ◌∙◌, refl, []}
+use Rattle.xc_kernel.specs.Calls.{instance_of}
+use Rattle.xc_kernel.specs.Roots as spec
+use Rattle.xc_kernel.specs.Statements.{calls_copy}
+use Rattle.xc_roots.specs.Contexts.{context_of}
+use Rattle.xc_roots.specs.Functions.{function_of}
+use Rattle.xc_roots.specs.Roots.{rooted_of}
+use Rattle.xc_roots.specs.Scopes.{scope_of}
+use Rattle.xc_roots.proofs.Laws.Roots.{block_step, block_done, own_scope}
+use Rattle.xc_roots.proofs.context.Context.placed_roots.Goals as goal
+
+pub loop-s-init : goal.loop-s-init
+loop-s-init c =
+    let here = context_of c.args.self.now in
+    let f = function_of c.args.main.now in
+    let scope = scope_of c.in_ok-scope.scope in
+    let instance = c.in_ok-instance.ensures scope ∙ ap (instance_of here f) c.in_ok-scope.ensures in
+    let made = c.in_ok-add_copy.ensures [] scope ∙ λ i. spec.and_roots (c.none-rooted.ensures [] i) (spec.no_roots (instance i)) in
+    λ i. spec.roots_then (made i) (spec.block_roots (calls_copy c.args.calls) f.head.name.pos (c.in_block-block.ensures i) here)
+
+pub loop-s-preserved : goal.loop-s-preserved
+loop-s-preserved c =
+    block_step (calls_copy c.args.calls) c.args.main.now.name.pos (context_of c.args.self.now) c.in_block-block.result.now c.loop-s.s-index c.s-item.result (rooted_of c.loop-s.rooted (scope_of c.loop-s.scope)) c.s-item.is c.loop-s-test.true
+    c.in_ok-statement_roots.ensures c.loop-s.invariant
+
+pub returns : goal.returns
+returns c =
+    let copies = calls_copy c.args.calls in
+    let whole = sym (block_done copies c.args.main.now.name.pos (context_of c.args.self.now) c.in_block-block.result.now c.loop-s.s-index (rooted_of c.loop-s.rooted (scope_of c.loop-s.scope)) c.loop-s-test.false) ∙ c.loop-s.invariant in
+    own_scope (rooted_of c.loop-s.rooted) whole (λ s. refl)

@@ -1,0 +1,7 @@
+use Rattle.std.proofs.Common.{ap, ◌∙◌, [], ◌∷◌, ◌++◌}
+use Rattle.xc_kernel.specs.Copy as spec
+use Rattle.xc_kernel.specs.Kernels.{statement_of}
+use Rattle.xc_roots.proofs.copied.Copied.one_statement.Goals as goal
+
+pub returns : goal.returns
+returns c = λ scope. c.in_ok-copied.ensures scope ∙ ap (λ x. spec.with_code x (x.code ++ statement_of c.args.statement ∷ [])) (c.nothing-nothing.ensures scope)
