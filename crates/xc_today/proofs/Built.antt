@@ -1,4 +1,4 @@
--- The code of the roots of kernels is built whose programs are built today: no statement of a later form is in them, and as they have no timer and
+-- Kernels are built so far whose programs are built today: no statement of a later form is in them, and as they have no timer and
 -- no port that is read, each input comes from a channel. As no branch is placed, main is the one root, and no channel leaves it.
 use Rattle.std.proofs.lemmas.Option.{same_Some}
 use Rattle.std.proofs.Common.{◌≡◌, ℕ, zero, suc, ◌<◌, Bool, true, false, ◌&&◌, ◌||◌, List, [], ◌∷◌, length, Option, None, Some, is_some, map, slice_get, nat_lt, refl, sym, ap, subst, ◌∙◌, true≢false, arith}
@@ -26,9 +26,9 @@ use Rattle.xc_formed.specs.Transfers.{OutputGoes, InputComes, GoesOut, ComesIn, 
 use Rattle.xc_formed.proofs.Formed.{transfers_right}
 use Rattle.xc_formed.proofs.Grammar.{AllOf, MaybeOf}
 use Rattle.xl_walk.specs.Built.{IsSent, IsReceived, IsBuilt, AreBuilt, BranchesAreBuilt}
-use Rattle.xl_image.specs.Roots.{RootsAreBuilt}
+use Rattle.xl_image.specs.Roots.{RootsAreBuilt, StayOnCores}
 use Rattle.xc_today.specs.Today.{AreItemsUnstamped}
-use Rattle.xc_today.specs.Laws.{AreOutItems, ChannelsStay, KernelsAreBuilt}
+use Rattle.xc_today.specs.Laws.{AreOutItems, KernelsAreBuilt}
 use Rattle.xc_today.proofs.Early.{IsEarlyAction, IsEarly, AreEarly, IsEarlyBranch, AreEarlyBranches, IsEarlyItem, program_early}
 use Rattle.xc_today.proofs.Ports.{items_go_out}
 use Rattle.xc_today.proofs.Copied.{IsEarlyCode, AreEarlyCode, HaveEarlyCode, IsEarlyFunction, CallsEarly, as_statements, named_early, function_early, calls_early}
@@ -174,6 +174,11 @@ module _ (K : kernel.Kernel) (unread : NoneIsRead K.ports) (none : K.timers ≡ 
   roots_built [] h g = tt
   roots_built (r ∷ rs) h g = (statements_built r.body h.0 g.0, roots_built rs h.1 g.1)
 
+-- where no branch is placed, main is the one root
+stay_where_one : (K : kernel.Kernel) → IsOneRoot K.roots → StayOnCores K
+stay_where_one K one c i j r s first second uses too =
+    ap (λ (x : kernel.Root). x.core) (same_Some r s (sym first ∙ ap (slice_get K.roots) (one i j r s first second) ∙ second))
+
 pub kernels_are_built : KernelsAreBuilt
 kernels_are_built toks P n types K derived deep today typed copies =
     let early = program_early toks today.words unlimited 0 (length toks) P derived in
@@ -181,11 +186,7 @@ kernels_are_built toks P n types K derived deep today typed copies =
     let unread : NoneIsRead K.ports = subst (λ (k : kernel.Kernel). NoneIsRead k.ports) (sym copies.is_copy) (copy_ports P (items_go_out toks today.words today.ports P derived)) in
     let none : K.timers ≡ [] = ap (λ (k : kernel.Kernel). k.timers) copies.is_copy ∙ copy_timers P fs in
     let roots : AllOf IsEarlyRoot K.roots = subst (λ (k : kernel.Kernel). AllOf IsEarlyRoot k.roots) (sym copies.is_copy) (copy_roots P fs) in
-    roots_built K unread none K.roots roots (transfers_right P n types K typed deep copies)
-
-pub channels_stay : ChannelsStay
-channels_stay toks P K derived today copies c i j r s first second uses too =
-    let early = program_early toks today.words unlimited 0 (length toks) P derived in
-    let one : IsOneRoot K.roots = subst (λ (k : kernel.Kernel). IsOneRoot k.roots) (sym copies.is_copy) (copy_one P (functions_early P early today.stamps)) in
-    let same : r ≡ s = same_Some r s (sym first ∙ ap (slice_get K.roots) (one i j r s first second) ∙ second) in
-    ap (λ (x : kernel.Root). x.core) same
+    record {
+      roots = roots_built K unread none K.roots roots (transfers_right P n types K typed deep copies);
+      stay = stay_where_one K (subst (λ (k : kernel.Kernel). IsOneRoot k.roots) (sym copies.is_copy) (copy_one P fs));
+    }

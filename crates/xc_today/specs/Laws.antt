@@ -12,23 +12,16 @@ use Rattle.xc_tree.specs.Types.Named.{NamedProgram}
 use Rattle.xc_kernel.specs.Copies.{Copies}
 use Rattle.xc_kernel.specs.Plain as kernel
 use Rattle.xc_kernel.specs.Sound.{IsTyped}
-use Rattle.xl_image.specs.Roots.{RootsAreBuilt}
-use Rattle.xl_plan.specs.Planned.{StayOnCores}
+use Rattle.xl_image.specs.Roots.{KernelIsBuilt}
 use Rattle.xc_today.specs.Today.{IsBuiltToday}
 
 -- Where tokens are a program that is built today, which breaks no rule of names, types and shapes, and whose tree no node is too
--- deep in, the code of each root of its kernel is built.
+-- deep in, its kernel is built so far: the code of each root is, and both sides of each channel are on one core.
 abbrev pub KernelsAreBuilt : Type 0
 KernelsAreBuilt =
     (toks : List Tok) (P : List tree.Item) (n : NamedProgram) (types : List Bool) (K : kernel.Kernel) →
     IsProgram toks P → depth.of_program P ≤ deepest → IsBuiltToday toks P → IsTyped P n types → Copies P K →
-    RootsAreBuilt K.roots
-
--- Where tokens are a program that is built today, both sides of each channel of its kernel are on one core.
-abbrev pub ChannelsStay : Type 0
-ChannelsStay =
-    (toks : List Tok) (P : List tree.Item) (K : kernel.Kernel) →
-    IsProgram toks P → IsBuiltToday toks P → Copies P K → StayOnCores K
+    KernelIsBuilt K
 
 -- where it is a port, a parameter is an `out port`
 abbrev pub IsOutKind : ParamKind → Type 0

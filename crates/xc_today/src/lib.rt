@@ -1,5 +1,4 @@
-//! The programs that are built today: which texts hold nothing of a later form, that the code of their kernels' roots is built, and
-//! that their channels stay in one root.
+//! The programs that are built today: which texts hold nothing of a later form, and that their kernels are built so far.
 #![tactic(auto)]
 
 mod law;
@@ -7,5 +6,5 @@ mod stamps;
 mod today;
 mod tokens;
 
-pub use law::{channels_stay, kernels_are_built, ports_go_out};
+pub use law::{kernels_are_built, ports_go_out};
 pub use today::is_built_today;

@@ -27,16 +27,23 @@ pub struct VarPlan {
     pub words: u32,
 }
 
+/// Where the ends of a channel's two sides stand among the ends of a core. For a side that is on another core the place means nothing.
+#[derive(Clone, Copy, Debug, PartialEq, Eq)]
+pub struct EndPlaces {
+    pub first: u32,
+    pub second: u32,
+}
+
 /// Where things stand for one body of code, by their places in the kernel's lists; and the word where the temporary words of the core's
 /// thread 0 begin, behind which those of the others follow, one thread's behind the other's. A channel has two ends, one a side: `channels`
-/// has for each channel the place of its first side's end among the ends, and the place of its second side's end is the next one.
+/// has for each channel the places of these among the ends.
 #[derive(Drop)]
 pub struct Plan {
     pub vars: List<Option<VarPlan>>,
     pub ports: List<Option<ResAt>>,
     pub timers: List<Option<ResAt>>,
     pub ends: List<ResAt>,
-    pub channels: List<u32>,
+    pub channels: List<EndPlaces>,
     pub first_stack: u32,
 }
 

@@ -1,5 +1,5 @@
 -- Each end that a channel names is there, and each that is there is named once.
-use Rattle.std.proofs.Common.{◌≡◌, ◌∙◌, ◌⊎◌, inl, inr, ℕ, zero, suc, ◌+◌, ◌<◌, ◌≤◌, Bool, true, false, List, [], ◌∷◌, ◌++◌, length, map, Option, Some, None, slice_get, refl, sym, ap, subst, true≢false, arith, eq-eqb, length-append}
+use Rattle.std.proofs.Common.{◌≡◌, ◌∙◌, ◌⊎◌, inl, inr, ℕ, zero, suc, ◌+◌, ◌<◌, ◌≤◌, Bool, true, false, List, [], ◌∷◌, ◌++◌, length, map, Option, Some, None, slice_get, sum_by, take, refl, sym, ap, ap₂, subst, true≢false, arith, eq-eqb, length-append}
 use Rattle.std.proofs.lemmas.Bool.{eqb-true}
 use Rattle.std.specs.Prelude.{◌&&◌, nat_eq}
 use Rattle.std.specs.List.{All}
@@ -13,17 +13,18 @@ use Rattle.xc_kernel.specs.Plain as kernel
 use Rattle.xc_disjoint.specs.Checked.{IsChecked}
 use Rattle.xc_disjoint.specs.Cores.{if_so}
 use Rattle.xc_disjoint.specs.Needs.{ends_on}
+use Rattle.xc_disjoint.specs.Rules.{most_ends}
 use Rattle.xl_expr.specs.declared.plan.ResAt.{ResAt}
 use Rattle.xl_expr.specs.declared.plan.ResAt.TheVariants.{Fixed}
-use Rattle.xl_plan.specs.Layout.{end_name, ends_before, ends_below, ends_of_user, user_core}
-use Rattle.xl_plan.specs.Planned.{HasEnds, StayOnCores}
-use Rattle.xl_plan.proofs.Ends.{ends_are_used}
+use Rattle.xl_plan.specs.declared.channels.SideCores.{SideCores}
+use Rattle.xl_plan.specs.Layout.{end_name, ends_before, ends_below, ends_there, cores_of_channels, first_there, side_cores}
+use Rattle.xl_plan.specs.Planned.{HasEnds}
+use Rattle.xl_plan.proofs.Ends.{ends_are_used, few_ends}
 use Rattle.xl_plan.proofs.Lists.{some_given, none_given}
-use Rattle.xl_plan.proofs.Users.{ends_there}
 use Rattle.xl_image.specs.Images.{pairs_below}
-use Rattle.xl_image.specs.Parts.{IsPartOf, cores_of, number_of, pair_on}
-use Rattle.xl_image.proofs.Rooted.{core_listed}
-use Rattle.xl_image.proofs.Users.{no_pair_more, one_pair_more, user_rooted}
+use Rattle.xl_image.specs.Parts.{IsPartOf, cores_of, has_root, number_of}
+use Rattle.xl_image.proofs.Rooted.{core_is_low, core_listed}
+use Rattle.xl_image.proofs.Users.{before_need, channel_count, first_rooted, no_pair_more, one_pair_more, pair_at, second_rooted}
 
 -- How often an end is named: once below a number, and from there on never.
 record Named (times end number : ℕ) : Type 0 where
@@ -33,24 +34,28 @@ record Named (times end number : ℕ) : Type 0 where
 differ : (a b : ℕ) → nat_eq a b ≡ false → a ≡ b → ⊥
 differ a b e same = true≢false (sym (eq-eqb a b same) ∙ e)
 
-neither : (e m : ℕ) → e < m + 2 → (m ≡ e → ⊥) → (m + 1 ≡ e → ⊥) → e < m
-neither e m lt f g = grind arith
+neither : (e m : ℕ) → e < m + 1 → (m ≡ e → ⊥) → e < m
+neither e m lt f = grind arith
 
--- two ends more, each of them named
-two_more : (t e m : ℕ) → Named t e m → (a b : Bool) → nat_eq m e ≡ a → nat_eq (m + 1) e ≡ b → Named (t + count_by (count_by 0 b) a) e (m + 2)
-two_more t e m h true true p q = let x = eqb-true m e p in let y = eqb-true (m + 1) e q in absurd (let z : ⊥ = omega (arith, x, y) in z)
-two_more t e m h true false p q =
+-- a side that is there has one end more, which is named
+side_more : (t e m : ℕ) → Named t e m → (here is : Bool) → nat_eq m e ≡ is → Named (t + count_by 0 (here && is)) e (m + if_so here 1)
+side_more t e m h false is p = record {
+  below = λ lt. let t_is = h.below (omega (arith, lt)) in omega (arith, t_is);
+  above = λ le. let t_is = h.above (omega (arith, le)) in omega (arith, t_is);
+}
+side_more t e m h true true p =
     let x = eqb-true m e p in
     let t_is : t ≡ 0 = h.above (omega (arith, x)) in
     record { below = λ lt. omega (arith, t_is); above = λ le. absurd (let z : ⊥ = omega (arith, x, le) in z) }
-two_more t e m h false true p q =
-    let x = eqb-true (m + 1) e q in
-    let t_is : t ≡ 0 = h.above (omega (arith, x)) in
-    record { below = λ lt. omega (arith, t_is); above = λ le. absurd (let z : ⊥ = omega (arith, x, le) in z) }
-two_more t e m h false false p q = record {
-  below = λ lt. let t_is = h.below (neither e m lt (differ m e p) (differ (m + 1) e q)) in omega (arith, t_is);
+side_more t e m h true false p = record {
+  below = λ lt. let t_is = h.below (neither e m lt (differ m e p)) in omega (arith, t_is);
   above = λ le. let t_is = h.above (omega (arith, le)) in omega (arith, t_is);
 }
+
+-- a side's number tells only where the side is there
+where_there : (here : Bool) (n m e : ℕ) → (here ≡ true → n ≡ m) → (here && nat_eq n e) ≡ (here && nat_eq m e)
+where_there true n m e same = ap (λ x. nat_eq x e) (same refl)
+where_there false n m e same = refl
 
 count_more : (t u : ℕ) (a b : Bool) → count_by (count_by (t + u) b) a ≡ count_by (count_by t b) a + u
 count_more t u true true = omega arith
@@ -76,9 +81,9 @@ ends_below_number core (suc n) =
     let l = length-append (ends_below core n) (Fixed (end_name core n) ∷ []) in
     omega (arith, h, l)
 
-pub ends_listed : (k : kernel.Kernel) (core : ℕ) → IsChecked k → StayOnCores k → (ends : List ResAt) → HasEnds k core ends → length ends ≡ ends_on k core
-ends_listed k core checked stay ends has =
-    ap length has ∙ ends_below_number core (ends_before k core (length k.channels)) ∙ sym (ends_are_used k core checked stay)
+pub ends_listed : (k : kernel.Kernel) (core : ℕ) → IsChecked k → (ends : List ResAt) → HasEnds k core ends → length ends ≡ ends_on k core
+ends_listed k core checked ends has =
+    ap length has ∙ ends_below_number core (ends_before k core (length k.channels)) ∙ sym (ends_are_used k core checked)
 
 -- The ends of a core's part.
 module _ (k : kernel.Kernel) where
@@ -109,10 +114,10 @@ module _ (k : kernel.Kernel) where
       by false e others = others
 
 -- The channels of a kernel.
-module _ (k : kernel.Kernel) (checked : IsChecked k) (stay : StayOnCores k) where
-  -- a channel more has two ends on its user's core, and none elsewhere
-  more_ends : (core c : ℕ) (user : Option ℕ) → user_core c k.roots ≡ user → ends_before k core (suc c) ≡ ends_before k core c + ends_of_user core user
-  more_ends core c user e = ap (λ n. ends_before k core c + n) (sym (ends_there k stay c core) ∙ ap (ends_of_user core) e)
+module _ (k : kernel.Kernel) where
+  -- a channel more has an end for each side that is there
+  more_ends : (core c : ℕ) (cores : Option SideCores) → side_cores c k.roots ≡ cores → ends_before k core (suc c) ≡ ends_before k core c + ends_there core cores
+  more_ends core c cores e = ap (λ x. ends_before k core c + ends_there core x) e
 
   pub grows : (core n m : ℕ) → n ≤ m → ends_before k core n ≤ ends_before k core m
   grows core n zero le = ap_le (let z : n ≡ 0 = omega (arith, le) in z)
@@ -128,60 +133,87 @@ module _ (k : kernel.Kernel) (checked : IsChecked k) (stay : StayOnCores k) wher
       by others (inl l) = let h = others l in omega (arith, h)
       by others (inr e) = let s = ap (ends_before k core) e in omega (arith, s)
 
+  -- the two ends of a channel more
+  pair_named : (core e c : ℕ) (cores : SideCores) (t : ℕ) → Named t e (ends_before k core c) →
+      Named (t + count_by (count_by 0 (is_second (pair_at k c cores) core e)) (is_first (pair_at k c cores) core e)) e (ends_before k core c + ends_there core (Some cores))
+  pair_named core e c cores t h =
+      let m = ends_before k core c in
+      let here = nat_eq cores.first core in
+      let there = nat_eq cores.second core in
+      let next = m + if_so here 1 in
+      let one = side_more t e m h here (nat_eq m e) refl in
+      let two = side_more (t + count_by 0 (here && nat_eq m e)) e next one there (nat_eq next e) refl in
+      let is_one = where_there here (ends_before k cores.first c) m e (λ same. ap (λ x. ends_before k x c) (eqb-true cores.first core same)) in
+      let is_two = where_there there (ends_before k cores.second c + first_there cores.second (Some cores)) next e
+      (λ same. ap (λ x. ends_before k x c + first_there x (Some cores)) (eqb-true cores.second core same)) in
+      let times = counted t (here && nat_eq m e) (there && nat_eq next e) ∙ ap₂ (λ a b. t + count_by (count_by 0 b) a) (sym is_one) (sym is_two) in
+      let ends : next + if_so there 1 ≡ m + ends_there core (Some cores) = omega arith in
+      subst (λ n. Named n e (m + ends_there core (Some cores))) times
+      (subst (Named (t + count_by 0 (here && nat_eq m e) + count_by 0 (there && nat_eq next e)) e) ends two)
+    where
+      counted : (t : ℕ) (a b : Bool) → t + count_by 0 a + count_by 0 b ≡ t + count_by (count_by 0 b) a
+      counted t true true = omega arith
+      counted t true false = omega arith
+      counted t false true = omega arith
+      counted t false false = omega arith
+
   named : (n core e : ℕ) → Named (times_named (pairs_below k n) core e) e (ends_before k core n)
   named zero core e = record { below = λ lt. absurd (let z : ⊥ = omega (arith, lt) in z); above = λ le. refl }
-  named (suc n) core e = by (user_core n k.roots) refl (named n core e)
+  named (suc n) core e = by (side_cores n k.roots) refl (named n core e)
     where
-      same_named : {t t' m m' : ℕ} → t' ≡ t + 0 → m' ≡ m + 0 → Named t e m → Named t' e m'
-      same_named p q h = record {
-        below = λ lt. let x = h.below (omega (arith, lt, q)) in omega (arith, p, x);
-        above = λ le. let x = h.above (omega (arith, le, q)) in omega (arith, p, x);
-      }
-
-      here : (user : ℕ) (b : Bool) → user_core n k.roots ≡ Some user → nat_eq user core ≡ b → Named (times_named (pairs_below k n) core e) e (ends_before k core n) → Named (times_named (pairs_below k (suc n)) core e) e (ends_before k core (suc n))
-      here user true u same h =
-          let user_is = eqb-true user core same in
-          let pairs = one_pair_more k n core (u ∙ ap (λ (x : ℕ). Some x) user_is) in
-          let m = ends_before k core n in
-          let own : times_named (pair_on core m ∷ []) core e ≡ count_by (count_by 0 (nat_eq (m + 1) e)) (nat_eq m e) =
-          ap (λ b. count_by (count_by 0 (b && nat_eq (m + 1) e)) (b && nat_eq m e)) (eq-eqb core core refl) in
-          let times = ap (λ ps. times_named ps core e) pairs ∙ times_append (pairs_below k n) (pair_on core m ∷ []) core e ∙ ap (λ t. times_named (pairs_below k n) core e + t) own in
-          let ends = more_ends core n (Some user) u ∙ ap (λ b. m + if_so b 2) same in
-          subst (λ t. Named t e (ends_before k core (suc n))) (sym times) (subst (λ l. Named (times_named (pairs_below k n) core e + count_by (count_by 0 (nat_eq (m + 1) e)) (nat_eq m e)) e l) (sym ends) (two_more (times_named (pairs_below k n) core e) e m h (nat_eq m e) (nat_eq (m + 1) e) refl refl))
-      here user false u other h =
-          let m = ends_before k user n in
-          let own : times_named (pair_on user m ∷ []) core e ≡ 0 = ap (λ b. count_by (count_by 0 (b && nat_eq (m + 1) e)) (b && nat_eq m e)) other in
-          let times : times_named (pairs_below k (suc n)) core e ≡ times_named (pairs_below k n) core e + 0 =
-          ap (λ ps. times_named ps core e) (one_pair_more k n user u) ∙ times_append (pairs_below k n) (pair_on user m ∷ []) core e ∙ ap (λ t. times_named (pairs_below k n) core e + t) own in
-          let ends : ends_before k core (suc n) ≡ ends_before k core n + 0 = more_ends core n (Some user) u ∙ ap (λ b. ends_before k core n + if_so b 2) other in
-          same_named times ends h
-
-      by : (user : Option ℕ) → user_core n k.roots ≡ user → Named (times_named (pairs_below k n) core e) e (ends_before k core n) → Named (times_named (pairs_below k (suc n)) core e) e (ends_before k core (suc n))
+      by : (cores : Option SideCores) → side_cores n k.roots ≡ cores → Named (times_named (pairs_below k n) core e) e (ends_before k core n) →
+          Named (times_named (pairs_below k (suc n)) core e) e (ends_before k core (suc n))
       by None u h =
           let times = ap (λ ps. times_named ps core e) (no_pair_more k n u) in
           let ends = more_ends core n None u in
-          same_named (let z : times_named (pairs_below k (suc n)) core e ≡ times_named (pairs_below k n) core e + 0 = omega (arith, times) in z) ends h
-      by (Some user) u h = here user (nat_eq user core) u refl h
+          record {
+            below = λ lt. let x = h.below (omega (arith, lt, ends)) in omega (arith, times, x);
+            above = λ le. let x = h.above (omega (arith, le, ends)) in omega (arith, times, x);
+          }
+      by (Some cores) u h =
+          let times = ap (λ ps. times_named ps core e) (one_pair_more k n cores u) ∙ times_append (pairs_below k n) (pair_at k n cores ∷ []) core e in
+          subst (λ t. Named t e (ends_before k core (suc n))) (sym times)
+          (subst (Named (times_named (pairs_below k n) core e + times_named (pair_at k n cores ∷ []) core e) e) (sym (more_ends core n (Some cores) u))
+          (pair_named core e n cores (times_named (pairs_below k n) core e) h))
 
-  module _ (cores : List CoreImage) (numbers : map number_of cores ≡ cores_of k) (parts : AreParts k cores) where
-    -- each end that is there is named once
-    pub named_once : (core e : ℕ) → IsThere cores core e → times_named (pairs_below k (length k.channels)) core e ≡ 1
-    named_once core e there =
-        let need = ends_are_used k core checked stay in
-        let within = within_need k cores core parts in
-        (named (length k.channels) core e).below (omega (arith, there, need, within))
+module _ (k : kernel.Kernel) (checked : IsChecked k) (cores : List CoreImage) (numbers : map number_of cores ≡ cores_of k) (parts : AreParts k cores) where
+  -- each end that is there is named once
+  pub named_once : (core e : ℕ) → IsThere cores core e → times_named (pairs_below k (length k.channels)) core e ≡ 1
+  named_once core e there =
+      let need = ends_are_used k core checked in
+      let within = within_need k cores core parts in
+      (named k (length k.channels) core e).below (omega (arith, there, need, within))
 
-    pub all_good : (n : ℕ) → n ≤ length k.channels → AreGoodPairs cores (pairs_below k n)
-    all_good zero le = tt
-    all_good (suc n) le = by (user_core n k.roots) refl (all_good n (omega (arith, le)))
-      where
-        by : (user : Option ℕ) → user_core n k.roots ≡ user → AreGoodPairs cores (pairs_below k n) → AreGoodPairs cores (pairs_below k (suc n))
-        by None u others = subst (AreGoodPairs cores) (sym (no_pair_more k n u)) others
-        by (Some user) u others =
-            let listed = core_listed k checked user (user_rooted k n user u) in
-            let there = all_needed k cores user listed.0 parts (ap (λ ns. slice_get ns listed.0) numbers ∙ listed.1) in
-            let need = ends_are_used k user checked stay in
-            let grown = grows user (suc n) (length k.channels) le in
-            let ends = more_ends user n (Some user) u ∙ ap (λ b. ends_before k user n + if_so b 2) (eq-eqb user user refl) in
-            subst (AreGoodPairs cores) (sym (one_pair_more k n user u))
-            (good_append cores (pairs_below k n) (pair_on user (ends_before k user n) ∷ []) others (omega (arith, there, need, grown, ends), omega (arith, there, need, grown, ends), tt))
+  -- so many ends of a core with a root are there
+  ends_within : (core n : ℕ) → has_root k core ≡ true → n ≤ length k.channels → ends_before k core n ≤ (parts_in cores core).ends
+  ends_within core n rooted le =
+      let listed = core_listed k checked core rooted in
+      let there = all_needed k cores core listed.0 parts (ap (λ ns. slice_get ns listed.0) numbers ∙ listed.1) in
+      let need = ends_are_used k core checked in
+      let grown = grows k core n (length k.channels) le in
+      omega (arith, there, need, grown)
+
+  pub all_good : (n : ℕ) → n ≤ length k.channels → AreGoodPairs cores (pairs_below k n)
+  all_good zero le = tt
+  all_good (suc n) le = by (side_cores n k.roots) refl (all_good n (omega (arith, le)))
+    where
+      by : (sides : Option SideCores) → side_cores n k.roots ≡ sides → AreGoodPairs cores (pairs_below k n) → AreGoodPairs cores (pairs_below k (suc n))
+      by None u others = subst (AreGoodPairs cores) (sym (no_pair_more k n u)) others
+      by (Some sides) u others =
+          let first = ends_within sides.first (suc n) (first_rooted k n sides u) le in
+          let second = ends_within sides.second (suc n) (second_rooted k n sides u) le in
+          let more = more_ends k sides.first n (Some sides) u in
+          let and_more = more_ends k sides.second n (Some sides) u in
+          let here = ap (λ b. if_so b 1) (eq-eqb sides.first sides.first refl) in
+          let there = ap (λ b. if_so b 1) (eq-eqb sides.second sides.second refl) in
+          subst (AreGoodPairs cores) (sym (one_pair_more k n sides u))
+          (good_append cores (pairs_below k n) (pair_at k n sides ∷ []) others (omega (arith, first, more, here), omega (arith, second, and_more, there), tt))
+
+-- the ends of the channels before one are few, on a core with a root
+pub few_before : (k : kernel.Kernel) → IsChecked k → (channels : List (Option SideCores)) → channels ≡ cores_of_channels k → (core c : ℕ) → has_root k core ≡ true → c < length channels → sum_by (ends_there core) (take c channels) ≤ most_ends
+few_before k checked channels is core c rooted lt =
+    let need = before_need k channels is core c lt in
+    let count = channel_count k channels is in
+    let grown = grows k core c (length k.channels) (omega (arith, count, lt)) in
+    let few = few_ends k core checked (core_is_low k checked core rooted) in
+    omega (arith, need, grown, few)

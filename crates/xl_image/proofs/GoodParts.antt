@@ -17,7 +17,7 @@ use Rattle.xc_disjoint.specs.Rules.{most_threads, most_timers, needs, timers}
 use Rattle.xl_expr.specs.declared.plan.Plan.{Plan}
 use Rattle.xl_expr.proofs.GoodCode.{good_instrs}
 use Rattle.xl_plan.specs.Planned as planned
-use Rattle.xl_plan.specs.Planned.{StayOnCores, ports_on}
+use Rattle.xl_plan.specs.Planned.{ports_on}
 use Rattle.xl_plan.proofs.Ends.{ends_are_used, few_ends}
 use Rattle.xl_plan.proofs.PortsDiffer.{ports_apart}
 use Rattle.xl_plan.proofs.Sizes.{few_words}
@@ -64,8 +64,8 @@ module _ (k : kernel.Kernel) (checked : IsChecked k) (core : ℕ) (is_core : cor
   some_there [] e = absurd (let q : false ≡ true = e in cc)
   some_there (r ∷ rs) e = omega arith
 
-  pub good_core : (part : CoreImage) → StayOnCores k → IsPartOf k core part → has_root k core ≡ true → AreGoodPorts part.ports → IsGoodCore part
-  good_core part stay is rooted ports =
+  pub good_core : (part : CoreImage) → IsPartOf k core part → has_root k core ≡ true → AreGoodPorts part.ports → IsGoodCore part
+  good_core part is rooted ports =
       let code = is.code in
       let many = as_many k core code.plan (sided_on core (sided_roots k)) 0 0 code.lines part.roots code.roots ∙ as_many_there k core in
       let instrs : length part.code.instrs ≡ length code.lines = ap length code.instrs ∙ length-map code.lines instr_of in
@@ -73,7 +73,7 @@ module _ (k : kernel.Kernel) (checked : IsChecked k) (core : ℕ) (is_core : cor
       record {
         words = let w = few_words k core checked is_core in let e = is.words in omega (arith, w, e);
         timers = let w = few_timers in let e = is.timers in omega (arith, w, e);
-        ends = let e = is.ends in let n = ends_are_used k core checked stay in let f = few_ends k core checked stay is_core in omega (arith, e, n, f);
+        ends = let e = is.ends in let n = ends_are_used k core checked in let f = few_ends k core checked is_core in omega (arith, e, n, f);
         ports = ports;
         some_root = let s = some_there (roots_on core k.roots) rooted in omega (arith, many, s);
         few_roots = let t = few_threads k checked core is_core in let e = roots_have_threads core k.roots in omega (arith, many, t, e);
@@ -115,7 +115,7 @@ ascend_filtered p n (m ∷ ms) h = ascend_by n m ms (filter p ms) h (ascend_filt
 passes : (p : ℕ → Bool) (ms : List ℕ) → All (λ m. p m ≡ true) (filter p ms)
 passes p ms = filter_passes p ms
 
-module _ (k : kernel.Kernel) (checked : IsChecked k) (stay : StayOnCores k) where
+module _ (k : kernel.Kernel) (checked : IsChecked k) where
   abbrev AreParts : List CoreImage → Type 0
   AreParts = All (λ (part : CoreImage). IsPartOf k part.number part)
 
@@ -133,7 +133,7 @@ module _ (k : kernel.Kernel) (checked : IsChecked k) (stay : StayOnCores k) wher
       let is = All-head (λ (p : CoreImage). IsPartOf k p.number p) part cores parts in
       let apart = ports_apart k part.number (omega (arith, most)) checked.of_program in
       let ports = subst AreGoodPorts (sym is.ports) (good_ports (ports_on part.number k.ports) apart) in
-      let one = good_core k checked part.number (omega (arith, most)) part stay is has ports in
+      let one = good_core k checked part.number (omega (arith, most)) part is has ports in
       let others = good_cores (m + 1) ms cores es.1 up.2 (All-tail (λ c. has_root k c ≡ true) m ms rooted) (All-tail (λ (p : CoreImage). IsPartOf k p.number p) part cores parts) in
       (least, most, one, subst (λ c. AreGoodCores (c + 1) cores) (sym es.0) others)
 
@@ -142,6 +142,6 @@ module _ (k : kernel.Kernel) (checked : IsChecked k) (stay : StayOnCores k) wher
   valid_image image some numbers parts channels = record {
     some_core = let l = sym (length-map image.cores number_of) ∙ ap length numbers in omega (arith, l, some);
     cores = good_cores 0 (cores_of k) image.cores numbers (ascend_filtered (has_root k) 0 (below 4) ((omega arith, omega arith, (omega arith, omega arith, (omega arith, omega arith, (omega arith, omega arith, tt)))))) (passes (has_root k) (below 4)) parts;
-    pairs = subst (AreGoodPairs image.cores) (sym channels) (all_good k checked stay image.cores numbers parts (length k.channels) (omega arith));
-    once = λ c e there. ap (λ ps. times_named ps c e) channels ∙ named_once k checked stay image.cores numbers parts c e there;
+    pairs = subst (AreGoodPairs image.cores) (sym channels) (all_good k checked image.cores numbers parts (length k.channels) (omega arith));
+    once = λ c e there. ap (λ ps. times_named ps c e) channels ∙ named_once k checked image.cores numbers parts c e there;
   }

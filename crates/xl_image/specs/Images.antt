@@ -1,5 +1,5 @@
 -- The image of a kernel.
-use Rattle.std.specs.Prelude.{◌≡◌, ℕ, zero, suc, ◌+◌, ◌*◌, Bool, true, false, ◌||◌, cond, List, [], ◌∷◌, ◌++◌, length, map, filter, Contains, Option, Some, None, nat_eq, slice_get}
+use Rattle.std.specs.Prelude.{◌≡◌, ℕ, zero, suc, ◌+◌, ◌*◌, Bool, true, false, ◌||◌, List, [], ◌∷◌, ◌++◌, length, map, filter, Contains, Option, Some, None, nat_eq, slice_get}
 use Rattle.xs_instr.specs.declared.image.CoreImage.{CoreImage}
 use Rattle.xs_instr.specs.declared.image.Dir.{Dir}
 use Rattle.xs_instr.specs.declared.image.Dir.TheVariants as dir
@@ -19,7 +19,7 @@ use Rattle.xc_meaning.specs.Settings.Sides.{sides_in}
 use Rattle.xc_meaning.specs.States.Channels.{first, second}
 use Rattle.xc_disjoint.specs.Needs.{ends_on, timers_on, words_on}
 use Rattle.xl_expr.specs.declared.plan.Plan.{Plan}
-use Rattle.xl_plan.specs.Layout.{end_number, first_temporary, number_on, temporary_of}
+use Rattle.xl_plan.specs.Layout.{core_of, end_number, first_temporary, number_on, temporary_of}
 use Rattle.xl_plan.specs.Planned.{HasChannels, HasEnds, HasNoOther, HasPorts, HasTimers, HasUsedPorts, HasUsedTimers, HasUsedVariables, HasVariables, NoneIsTemporary, NoneShare, StandBelow, ports_on}
 use Rattle.xl_sides.specs.Ends.{Sides, codes_in}
 use Rattle.xl_walk.specs.Pieces.{PiecesAt}
@@ -116,15 +116,7 @@ pub record IsCoreImage (k : kernel.Kernel) (image : CoreImage) : Type 0 where
   pub roots : (number : ℕ) (r : kernel.Root) → slice_get k.roots number ≡ Some r → r.core ≡ image.number →
       RootAt k plan image image.number (thread_of image.number k.roots number) r (root_sides k number)
 
--- the core of the first root that uses a channel
-abbrev pub core_by : (channel : ℕ) → List kernel.Root → ℕ
-core_by c [] = 0
-core_by c (r ∷ rs) = cond (by_statements (channel c) r.body) r.core (core_by c rs)
-
-abbrev pub core_of : kernel.Kernel → (channel : ℕ) → ℕ
-core_of k c = core_by c k.roots
-
--- whether some root uses it
+-- whether some root uses a channel
 abbrev pub one_root_uses : (channel : ℕ) → List kernel.Root → Bool
 one_root_uses c [] = false
 one_root_uses c (r ∷ rs) = by_statements (channel c) r.body || one_root_uses c rs
@@ -132,13 +124,13 @@ one_root_uses c (r ∷ rs) = by_statements (channel c) r.body || one_root_uses c
 abbrev pub is_used : kernel.Kernel → (channel : ℕ) → Bool
 is_used k c = one_root_uses c k.roots
 
--- the ends of a channel's two sides
+-- the ends of a channel's two sides, each on its side's core
 abbrev pub pair_of : kernel.Kernel → (channel : ℕ) → Pair
 pair_of k c = record {
-  core = core_of k c;
-  end = end_number k (core_of k c) c first;
-  peer_core = core_of k c;
-  peer_end = end_number k (core_of k c) c second;
+  core = core_of k c first;
+  end = end_number k (core_of k c first) c first;
+  peer_core = core_of k c second;
+  peer_end = end_number k (core_of k c second) c second;
 }
 
 abbrev pub pair_where : Bool → Pair → List Pair

@@ -1,11 +1,13 @@
 -- A core's part of the image, with its code line by line.
-use Rattle.std.specs.Prelude.{◌≡◌, ℕ, zero, suc, ◌+◌, ◌^◌, ◌<◌, Bool, true, false, List, [], ◌∷◌, ◌++◌, filter, length, map}
+use Rattle.std.specs.Prelude.{◌≡◌, ℕ, zero, suc, ◌+◌, ◌^◌, ◌<◌, Bool, true, false, List, [], ◌∷◌, ◌++◌, Option, Some, filter, length, map, sum_by}
 use Rattle.xc_kernel.specs.Plain as kernel
 use Rattle.xc_disjoint.specs.Needs.{words_on, timers_on, ends_on}
 use Rattle.xs_instr.specs.declared.image.CoreImage.{CoreImage}
 use Rattle.xs_instr.specs.declared.image.Pair.{Pair}
 use Rattle.xs_instr.specs.Lines.{Line, instr_of, pos_of}
 use Rattle.xl_expr.specs.declared.plan.Plan.{Plan}
+use Rattle.xl_plan.specs.declared.channels.SideCores.{SideCores}
+use Rattle.xl_plan.specs.Layout.{ends_there, first_there}
 use Rattle.xl_plan.specs.Planned.{ports_on}
 use Rattle.xl_walk.specs.Inside.{StandAlone}
 use Rattle.xl_image.specs.Images.{IsPlan, decl_of, roots_on, sided_on, sided_roots}
@@ -56,6 +58,12 @@ cores_of k = filter (has_root k) (below core_count)
 abbrev pub number_of : CoreImage → ℕ
 number_of part = part.number
 
--- a channel whose two ends follow each other on a core
-abbrev pub pair_on : (core first : ℕ) → Pair
-pair_on core first = record { core = core; end = first; peer_core = core; peer_end = first + 1 }
+-- A channel whose sides are on these cores, by the cores of the channels before it: each side's end stands behind theirs, the second one's
+-- behind the first one's where both are on one core.
+abbrev pub pair_behind : (before : List (Option SideCores)) → SideCores → Pair
+pair_behind before cores = record {
+  core = cores.first;
+  end = sum_by (ends_there cores.first) before;
+  peer_core = cores.second;
+  peer_end = sum_by (ends_there cores.second) before + first_there cores.second (Some cores);
+}

@@ -1,10 +1,11 @@
 -- The code of a core's roots, line by line.
-use Rattle.std.specs.Prelude.{◌≡◌, ℕ, suc, ◌+◌, ◌*◌, List, [], ◌∷◌, ◌++◌, length, Option}
+use Rattle.std.specs.Prelude.{◌≡◌, ℕ, suc, ◌+◌, ◌*◌, true, List, [], ◌∷◌, ◌++◌, length, Option, Some, slice_get}
 use Rattle.xw_words.specs.declared.pos.Pos.{Pos}
 use Rattle.xs_instr.specs.declared.instr.Instr.TheVariants.{Ldc, Setsp}
 use Rattle.xs_instr.specs.declared.instr.Reg.TheVariants.{R0}
 use Rattle.xs_instr.specs.Lines.{Line, at_pos}
 use Rattle.xc_kernel.specs.Plain as kernel
+use Rattle.xc_kernel.specs.Things.{channel, by_statements}
 use Rattle.xl_expr.specs.declared.plan.Plan.{Plan}
 use Rattle.xl_expr.specs.declared.plan.VarPlan.{VarPlan}
 use Rattle.xl_image.specs.Images.{SidedRoot}
@@ -18,6 +19,17 @@ use Rattle.xl_walk.specs.Roots.{IsRoot}
 abbrev pub RootsAreBuilt : List kernel.Root → Type 0
 RootsAreBuilt [] = Unit {0}
 RootsAreBuilt (r ∷ rs) = AreBuilt r.body × RootsAreBuilt rs
+
+-- both sides of each channel are on one core
+abbrev pub StayOnCores : kernel.Kernel → Type 0
+StayOnCores k =
+    (c i j : ℕ) (r s : kernel.Root) → slice_get k.roots i ≡ Some r → slice_get k.roots j ≡ Some s →
+    by_statements (channel c) r.body ≡ true → by_statements (channel c) s.body ≡ true → r.core ≡ s.core
+
+-- What is built so far: the code of each root is, and both sides of each channel are on one core.
+pub record KernelIsBuilt (k : kernel.Kernel) : Type 0 where
+  pub roots : RootsAreBuilt k.roots
+  pub stay : StayOnCores k
 
 -- a root whose code is built, with shallow expressions, with few branches in each `par`, and exits of blocks around them alone
 pub record IsReady (r : kernel.Root) : Type 0 where

@@ -4,13 +4,12 @@ ghost use Rattle.std.specs.Prelude.{◌≡◌, ◌+◌, ◌<◌, ◌^◌, length
 ghost use Rattle.xc_disjoint.specs.Checked.{IsChecked};
 ghost use Rattle.xc_kernel.specs.Kernels.{kernel_of};
 ghost use Rattle.xl_image.specs.Images.{pairs_below};
-ghost use Rattle.xl_image.specs.Parts.{pair_on};
-ghost use Rattle.xl_plan.specs.Layout.{ends_of_user};
-ghost use Rattle.xl_plan.specs.Planned.{StayOnCores};
+ghost use Rattle.xl_image.specs.Parts.{pair_behind};
+ghost use Rattle.xl_plan.specs.Layout.{ends_there};
 
 use std::alloc::Global;
 use xc_disjoint::Checked;
-use xl_plan::{channel_cores, end_count};
+use xl_plan::{SideCores, channel_cores, end_count, first_there};
 use xs_instr::Pair;
 use xw_words::{List, Memory};
 
@@ -19,31 +18,30 @@ use xw_words::{List, Memory};
 /// It takes time for each channel, and for each pair of a channel that is used and one before it: a core has ends for sixteen at most.
 pub fn channel_pairs(alloc: Global, checked: &Checked) -> Result<List<Pair>, Memory>
     requires accepted { IsChecked (kernel_of checked.now) }
-    requires stay { StayOnCores (kernel_of checked.now) }
     ensures { IfOk result (λ pairs. pairs
         ≡ pairs_below (kernel_of checked.now) (length (kernel_of checked.now).channels)) }
 {
-    let users = channel_cores(alloc, checked)?;
-    let users = users.as_slice();
+    let channels = channel_cores(alloc, checked)?;
+    let channels = channels.as_slice();
     let mut pairs = List::new(alloc);
-    for (channel, user) in users.iter().enumerate() {
-        if let Some(core) = user {
-            pairs.push(pair(&users[..channel], *core))?;
+    for (channel, cores) in channels.iter().enumerate() {
+        if let Some(cores) = cores {
+            pairs.push(pair(&channels[..channel], *cores))?;
         }
     }
     Ok(pairs)
 }
 
-/// The ends of a channel with its user on a core, by the users of the channels before it.
-fn pair(before: &[Option<u8>], core: u8) -> Pair
-    requires { sum_by (ends_of_user core) before.now + 1 < 2 ^ 32 }
-    ensures { result ≡ pair_on core (sum_by (ends_of_user core) before.now) }
+/// The ends of a channel whose sides are on these cores, by the cores of the channels before it.
+fn pair(before: &[Option<SideCores>], cores: SideCores) -> Pair
+    requires first { sum_by (ends_there cores.first) before.now < 2 ^ 32 }
+    requires second { sum_by (ends_there cores.second) before.now + 1 < 2 ^ 32 }
+    ensures { result ≡ pair_behind before.now cores }
 {
-    let first = end_count(before, core);
     Pair {
-        core,
-        end: first,
-        peer_core: core,
-        peer_end: first + 1,
+        core: cores.first,
+        end: end_count(before, cores.first),
+        peer_core: cores.second,
+        peer_end: end_count(before, cores.second) + first_there(Some(cores), cores.second),
     }
 }

@@ -8,7 +8,6 @@ ghost use Rattle.xs_instr.specs.Valid.{Valid};
 ghost use Rattle.xl_image.specs.Images.{IsImage, pairs_below};
 ghost use Rattle.xl_image.specs.Parts.{IsPartOf, cores_of, has_root as is_rooted, number_of};
 ghost use Rattle.xl_image.specs.Roots.{RootsAreBuilt};
-ghost use Rattle.xl_plan.specs.Planned.{StayOnCores};
 
 use crate::channels::channel_pairs;
 use crate::needs::{declarations, has_root, timer_count};
@@ -29,7 +28,6 @@ const CORES: u8 = 4;
 /// grows with the depth of the kernel. The one error is want of memory.
 pub fn image(alloc: Global, checked: &Checked) -> Result<Image, Memory>
     requires built { RootsAreBuilt (kernel_of checked.now).roots }
-    requires stay { StayOnCores (kernel_of checked.now) }
     ensures cores { IfOk result
         (λ image. map number_of image.cores ≡ cores_of (kernel_of checked.now)) }
     ensures parts { IfOk result (λ image. All
@@ -55,7 +53,6 @@ pub fn image(alloc: Global, checked: &Checked) -> Result<Image, Memory>
 fn core_part(alloc: Global, checked: &Checked, core: u8) -> Result<CoreImage, Memory>
     requires is_core { core ≤ last_core }
     requires built { RootsAreBuilt (kernel_of checked.now).roots }
-    requires stay { StayOnCores (kernel_of checked.now) }
     requires rooted { is_rooted (kernel_of checked.now) core ≡ true }
     ensures part { IfOk result (IsPartOf (kernel_of checked.now) core) }
 {

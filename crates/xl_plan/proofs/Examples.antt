@@ -1,4 +1,4 @@
--- Four kernels, laid out by hand.
+-- Five kernels, laid out by hand.
 use Rattle.std.proofs.Common.{◌≡◌, ℕ, Bool, true, false, List, [], ◌∷◌, Option, Some, None, refl}
 use Rattle.xw_words.specs.declared.pos.Pos.{Pos}
 use Rattle.xc_tree.specs.declared.tree.TreeDir.TheVariants.{Out}
@@ -8,11 +8,14 @@ use Rattle.xc_kernel.specs.declared.kernel.PortUse.{PortUse}
 use Rattle.xc_kernel.specs.declared.kernel.Var.{Var}
 use Rattle.xc_kernel.specs.declared.statement.KRes.TheVariants.{Chan}
 use Rattle.xc_kernel.specs.Plain as kernel
+use Rattle.xc_meaning.specs.States.Channels.{first, second}
 use Rattle.xc_disjoint.specs.Needs.{ends_on, words_on}
+use Rattle.xl_expr.specs.declared.plan.EndPlaces.{EndPlaces}
 use Rattle.xl_expr.specs.declared.plan.ResAt.TheVariants.{Fixed}
 use Rattle.xl_expr.specs.declared.plan.VarAt.TheVariants.{Near}
 use Rattle.xl_expr.specs.declared.plan.VarPlan.{VarPlan}
-use Rattle.xl_plan.specs.Layout.{temporary_of, places_from, port_at, first_ends, cores_of_users}
+use Rattle.xl_plan.specs.declared.channels.SideCores.{SideCores}
+use Rattle.xl_plan.specs.Layout.{temporary_of, places_from, port_at, core_of, cores_of_channels, end_number, end_places}
 
 pos : Pos
 pos = record { line = 1; col = 1 }
@@ -135,15 +138,61 @@ alone_needs : ends_on shared 0 ≡ 2
 unfolding shared
 alone_needs = refl
 
--- each has the first two ends of its core
-shared_has : first_ends shared 1 2 ≡ 0 ∷ 0 ∷ []
+abbrev both : (n m : ℕ) → EndPlaces
+both n m = record { first = n; second = m }
+
+abbrev on : (core other : ℕ) → Option SideCores
+on core other = Some (record { first = core; second = other })
+
+-- each has the first two ends of its core; where a channel isn't, its places are those that follow
+shared_has : end_places shared 1 2 ≡ both 0 0 ∷ both 0 1 ∷ []
 unfolding shared
 shared_has = refl
 
-alone_has : first_ends shared 0 2 ≡ 0 ∷ 2 ∷ []
+alone_has : end_places shared 0 2 ≡ both 0 1 ∷ both 2 2 ∷ []
 unfolding shared
 alone_has = refl
 
-shared_users : cores_of_users shared ≡ Some 0 ∷ Some 1 ∷ []
+shared_cores : cores_of_channels shared ≡ on 0 0 ∷ on 1 1 ∷ []
 unfolding shared
-shared_users = refl
+shared_cores = refl
+
+-- Channel 0 goes from core 0 to core 1, and channel 1 back: each core needs an end for its side of each. Channel 2 is not used.
+apart : kernel.Kernel
+apart = record {
+  roots = record { core = 0; place = pos; body = kernel.more (sends 0) (one (takes 1)); pos = pos }
+      ∷ record { core = 1; place = pos; body = kernel.more (takes 0) (one (sends 1)); pos = pos }
+      ∷ [];
+  variables = [];
+  channels = plain_channel ∷ plain_channel ∷ plain_channel ∷ [];
+  timers = [];
+  ports = [];
+  instances = [];
+  main = pos;
+}
+
+apart_cores : cores_of_channels apart ≡ on 0 1 ∷ on 0 1 ∷ None ∷ []
+unfolding apart
+apart_cores = refl
+
+first_needs : ends_on apart 0 ≡ 2
+unfolding apart
+first_needs = refl
+
+second_needs : ends_on apart 1 ≡ 2
+unfolding apart
+second_needs = refl
+
+-- core 0 has the first sides, and core 1 the second ones
+first_has : end_places apart 0 3 ≡ both 0 1 ∷ both 1 2 ∷ both 2 2 ∷ []
+unfolding apart
+first_has = refl
+
+second_has : end_places apart 1 3 ≡ both 0 0 ∷ both 1 1 ∷ both 2 2 ∷ []
+unfolding apart
+second_has = refl
+
+-- the numbers of channel 1's two ends, each on its core
+sides_of_1 : (core_of apart 1 first ≡ 0) × (end_number apart 0 1 first ≡ 1) × (core_of apart 1 second ≡ 1) × (end_number apart 1 1 second ≡ 1)
+unfolding apart
+sides_of_1 = (refl, refl, refl, refl)

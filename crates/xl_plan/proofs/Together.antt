@@ -1,5 +1,5 @@
--- Roots of which all that use a channel are on one core.
-use Rattle.std.proofs.Common.{◌≡◌, ℕ, zero, suc, ◌+◌, ◌≤◌, Bool, true, false, ◌&&◌, ◌||◌, cond, List, [], ◌∷◌, Some, None, slice_get, sum_by, nat_eq, nat_lt, refl, sym, ap, ap₂, ◌∙◌, true≢false, arith}
+-- Which roots use a channel, and on which cores its sides are.
+use Rattle.std.proofs.Common.{◌≡◌, ℕ, zero, suc, ◌+◌, ◌≤◌, Bool, true, false, ◌||◌, cond, List, [], ◌∷◌, Option, Some, None, slice_get, sum_by, nat_eq, nat_lt, refl, sym, ap, ◌∙◌, true≢false, arith}
 use Rattle.std.proofs.lemmas.List.Sums.{sum_by-cons}
 use Rattle.xc_kernel.specs.Plain as kernel
 use Rattle.xc_kernel.specs.Things.{channel, by_statements, by_branches}
@@ -8,7 +8,8 @@ use Rattle.xc_kernel.specs.Uses.{once, count_of}
 use Rattle.xc_kernel.specs.Branches.{branches_of, uses_in, users}
 use Rattle.xc_kernel.proofs.Used.{branches_use, count_append, statements_use}
 use Rattle.xc_disjoint.specs.Cores.{if_so, on_core}
-use Rattle.xl_plan.specs.Layout.{is_used_by, user_core}
+use Rattle.xl_plan.specs.declared.channels.SideCores.{SideCores}
+use Rattle.xl_plan.specs.Layout.{ends_there, second_or, side_cores}
 use Rattle.xl_plan.proofs.Lists.{some_given, none_given}
 
 -- the sum over roots of which each has nothing
@@ -20,16 +21,24 @@ sum_of_none f (r ∷ rs) h =
     let others = sum_of_none f rs (λ i q. h (suc i) q) in
     omega (arith, s, own, others)
 
+-- both sides on one core
+abbrev pub both_on : (core : ℕ) → SideCores
+both_on core = record { first = core; second = core }
+
+-- the sides of a channel that a root on this core uses, before others that have these
+abbrev pub with_first : (core : ℕ) → Option SideCores → SideCores
+with_first core cores = record { first = core; second = second_or core cores }
+
+-- a root more that uses a channel, or doesn't
+pub met : (c : ℕ) (r : kernel.Root) (rs : List kernel.Root) → by_statements (channel c) r.body ≡ true → side_cores c (r ∷ rs) ≡ Some (with_first r.core (side_cores c rs))
+met c r rs u = ap (λ b. cond b (Some (with_first r.core (side_cores c rs))) (side_cores c rs)) u
+
+pub passed : (c : ℕ) (r : kernel.Root) (rs : List kernel.Root) → by_statements (channel c) r.body ≡ false → side_cores c (r ∷ rs) ≡ side_cores c rs
+passed c r rs u = ap (λ b. cond b (Some (with_first r.core (side_cores c rs))) (side_cores c rs)) u
+
 module _ (c : ℕ) where
   abbrev pub uses : kernel.Root → Bool
   uses r = by_statements (channel c) r.body
-
-  -- each that uses it is on this core
-  abbrev pub AreOn : (core : ℕ) → List kernel.Root → Type 0
-  AreOn core rs = (i : ℕ) (r : kernel.Root) → slice_get rs i ≡ Some r → uses r ≡ true → r.core ≡ core
-
-  abbrev pub Together : List kernel.Root → Type 0
-  Together rs = (i j : ℕ) (r s : kernel.Root) → slice_get rs i ≡ Some r → slice_get rs j ≡ Some s → uses r ≡ true → uses s ≡ true → r.core ≡ s.core
 
   -- what a root uses is used
   pub used_among : (rs : List kernel.Root) (i : ℕ) (r : kernel.Root) → slice_get rs i ≡ Some r → uses r ≡ true → by_branches (channel c) (branches_of rs) ≡ true
@@ -49,68 +58,6 @@ module _ (c : ℕ) where
       by true e = absurd (true≢false (sym (used_among rs i r at e) ∙ none))
       by false e = e
 
-  -- The core of the first that uses it is that of all others.
-  pub record UserOf (rs : List kernel.Root) : Type 0 where
-    pub core : ℕ
-    pub is : user_core c rs ≡ cond (by_branches (channel c) (branches_of rs)) (Some core) None
-    pub there : AreOn core rs
-
-  pub user_of : (rs : List kernel.Root) → Together rs → UserOf rs
-  user_of [] h = record { core = 0; is = refl; there = λ i r e u. absurd (none_given e) }
-  user_of (r ∷ rs) h = by (uses r) refl (user_of rs (λ i j q s. h (suc i) (suc j) q s))
-    where
-      by : (b : Bool) → uses r ≡ b → UserOf rs → UserOf (r ∷ rs)
-      by true e others = record {
-        core = r.core;
-        is = ap (λ b. cond b (Some r.core) (user_core c rs)) e ∙ ap (λ b. cond (b || by_branches (channel c) (branches_of rs)) (Some r.core) None) (sym e);
-        there = λ i s at u. h i 0 s r at refl u e;
-      }
-      by false e others = record {
-        core = others.core;
-        is = ap (λ b. cond b (Some r.core) (user_core c rs)) e ∙ others.is ∙ ap (λ b. cond (b || by_branches (channel c) (branches_of rs)) (Some others.core) None) (sym e);
-        there = on;
-      }
-        where
-          on : AreOn others.core (r ∷ rs)
-          on zero s at u = absurd (true≢false (sym (ap uses (some_given at) ∙ u) ∙ e))
-          on (suc i) s at u = others.there i s at u
-
-  module _ (user core : ℕ) where
-    -- a core's roots use it where it is used, and the core is its users'
-    pub used_there : (rs : List kernel.Root) → AreOn user rs → is_used_by core c rs ≡ (nat_eq user core && by_branches (channel c) (branches_of rs))
-    used_there [] on = by (nat_eq user core)
-      where
-        by : (b : Bool) → false ≡ (b && false)
-        by true = refl
-        by false = refl
-    used_there (r ∷ rs) on = by (uses r) refl (used_there rs (λ i s. on (suc i) s))
-      where
-        both : (here others : Bool) → ((here && true) || (here && others)) ≡ here
-        both true others = refl
-        both false others = refl
-
-        left : (here : Bool) → here ≡ (here && true)
-        left true = refl
-        left false = refl
-
-        none : (here : Bool) → (here && false) ≡ false
-        none true = refl
-        none false = refl
-
-        by : (b : Bool) → uses r ≡ b → is_used_by core c rs ≡ (nat_eq user core && by_branches (channel c) (branches_of rs)) →
-            is_used_by core c (r ∷ rs) ≡ (nat_eq user core && by_branches (channel c) (branches_of (r ∷ rs)))
-        by true e others =
-            ap₂ (λ b x. (nat_eq x core && b) || is_used_by core c rs) e (on 0 r refl e)
-            ∙ ap (λ x. (nat_eq user core && true) || x) others
-            ∙ both (nat_eq user core) (by_branches (channel c) (branches_of rs))
-            ∙ left (nat_eq user core)
-            ∙ ap (λ b. nat_eq user core && (b || by_branches (channel c) (branches_of rs))) (sym e)
-        by false e others =
-            ap (λ b. (nat_eq r.core core && b) || is_used_by core c rs) e
-            ∙ ap (λ b. b || is_used_by core c rs) (none (nat_eq r.core core))
-            ∙ others
-            ∙ ap (λ b. nat_eq user core && (b || by_branches (channel c) (branches_of rs))) (sym e)
-
   -- what has no uses doesn't use it
   not_used : (ss : kernel.Statements) → count_of c (kernel_uses.of_statements ss) ≡ 0 → by_statements (channel c) ss ≡ false
   not_used ss z = sym (statements_use c ss) ∙ ap (nat_lt 0) z ∙ (let e : nat_lt 0 0 ≡ false = grind arith in e)
@@ -129,38 +76,8 @@ module _ (c : ℕ) where
       let h = uses_within rs i r e in
       omega (arith, s, h)
 
-  -- What only its users have, a core has all of, or nothing.
+  -- What only its users have.
   module _ (f : kernel.Root → ℕ) (no_other : (r : kernel.Root) → uses r ≡ false → f r ≡ 0) where
-    pub sum_there : (user core : ℕ) (rs : List kernel.Root) → AreOn user rs → sum_by (λ (r : kernel.Root). on_core core r.core (f r)) rs ≡ if_so (nat_eq user core) (sum_by f rs)
-    sum_there user core [] on = by (nat_eq user core)
-      where
-        by : (b : Bool) → 0 ≡ if_so b 0
-        by true = refl
-        by false = refl
-    sum_there user core (r ∷ rs) on = by (uses r) refl (sum_there user core rs (λ i s. on (suc i) s))
-      where
-        together : (b : Bool) (n m : ℕ) → if_so b n + if_so b m ≡ if_so b (n + m)
-        together true n m = refl
-        together false n m = refl
-
-        none : (b : Bool) → if_so b 0 ≡ 0
-        none true = refl
-        none false = refl
-
-        own : (b : Bool) → uses r ≡ b → on_core core r.core (f r) ≡ if_so (nat_eq user core) (f r)
-        own true e = ap (λ x. if_so (nat_eq x core) (f r)) (on 0 r refl e)
-        own false e =
-            let z = no_other r e in
-            ap (if_so (nat_eq r.core core)) z ∙ none (nat_eq r.core core) ∙ sym (ap (if_so (nat_eq user core)) z ∙ none (nat_eq user core))
-
-        by : (b : Bool) → uses r ≡ b → sum_by (λ (r : kernel.Root). on_core core r.core (f r)) rs ≡ if_so (nat_eq user core) (sum_by f rs) →
-            sum_by (λ (r : kernel.Root). on_core core r.core (f r)) (r ∷ rs) ≡ if_so (nat_eq user core) (sum_by f (r ∷ rs))
-        by b e others =
-            sum_by-cons (λ (r : kernel.Root). on_core core r.core (f r)) r rs
-            ∙ ap₂ ◌+◌ (own b e) others
-            ∙ together (nat_eq user core) (f r) (sum_by f rs)
-            ∙ ap (if_so (nat_eq user core)) (sym (sum_by-cons f r rs))
-
     -- where one root has all uses, it has all
     pub sum_of_one : (rs : List kernel.Root) (i : ℕ) (r : kernel.Root) → slice_get rs i ≡ Some r → uses_in c (branches_of rs) ≤ count_of c (kernel_uses.of_statements r.body) → sum_by f rs ≡ f r
     sum_of_one [] i r e all = absurd (none_given e)
@@ -180,7 +97,90 @@ module _ (c : ℕ) where
         let others = sum_of_one rs i r e (omega (arith, n, all)) in
         omega (arith, s, own, others)
 
-  -- as many as use it
-  pub users_are : (rs : List kernel.Root) → sum_by (λ (r : kernel.Root). once (uses r)) rs ≡ users c (branches_of rs)
-  users_are [] = refl
-  users_are (r ∷ rs) = let s = sum_by-cons (λ (r : kernel.Root). once (uses r)) r rs in let h = users_are rs in omega (arith, s, h)
+  -- The cores of its sides.
+
+  -- what no root uses has none
+  pub no_cores : (rs : List kernel.Root) → ((i : ℕ) (r : kernel.Root) → slice_get rs i ≡ Some r → uses r ≡ false) → side_cores c rs ≡ None
+  no_cores [] none = refl
+  no_cores (r ∷ rs) none = passed c r rs (none 0 r refl) ∙ no_cores rs (λ i q. none (suc i) q)
+
+  -- where one root has all uses, it has both sides
+  pub cores_of_one : (rs : List kernel.Root) (i : ℕ) (r : kernel.Root) → slice_get rs i ≡ Some r → uses r ≡ true → uses_in c (branches_of rs) ≤ count_of c (kernel_uses.of_statements r.body) → side_cores c rs ≡ Some (both_on r.core)
+  cores_of_one [] i r e used all = absurd (none_given e)
+  cores_of_one (q ∷ rs) zero r e used all =
+      let n = count_append c (kernel_uses.of_statements q.body) (kernel_uses.of_branches (branches_of rs)) in
+      let same = ap (λ (x : kernel.Root). count_of c (kernel_uses.of_statements x.body)) (some_given e) in
+      let unused = none_used (branches_of rs) (omega (arith, n, same, all)) in
+      met c q rs (ap uses (some_given e) ∙ used)
+      ∙ ap (λ cores. Some (with_first q.core cores)) (no_cores rs (unused_by rs unused))
+      ∙ ap (λ (x : kernel.Root). Some (both_on x.core)) (some_given e)
+  cores_of_one (q ∷ rs) (suc i) r e used all =
+      let n = count_append c (kernel_uses.of_statements q.body) (kernel_uses.of_branches (branches_of rs)) in
+      let within = uses_within rs i r e in
+      passed c q rs (not_used q.body (omega (arith, n, within, all))) ∙ cores_of_one rs i r e used (omega (arith, n, all))
+
+  -- Where two roots use it, each has a side.
+  module _ (core : ℕ) where
+    -- one for each root that uses it and is on the core
+    abbrev pub users_on : List kernel.Root → ℕ
+    users_on rs = sum_by (λ (r : kernel.Root). on_core core r.core (once (uses r))) rs
+
+    one_more : (r : kernel.Root) (rs : List kernel.Root) → uses r ≡ true → users_on (r ∷ rs) ≡ on_core core r.core 1 + users_on rs
+    one_more r rs u =
+        sum_by-cons (λ (r : kernel.Root). on_core core r.core (once (uses r))) r rs
+        ∙ ap (λ b. on_core core r.core (once b) + users_on rs) u
+
+    no_more : (r : kernel.Root) (rs : List kernel.Root) → uses r ≡ false → users_on (r ∷ rs) ≡ users_on rs
+    no_more r rs u =
+        sum_by-cons (λ (r : kernel.Root). on_core core r.core (once (uses r))) r rs
+        ∙ ap (λ b. on_core core r.core (once b) + users_on rs) u
+        ∙ ap (λ n. n + users_on rs) (none (nat_eq r.core core))
+        ∙ (let z : 0 + users_on rs ≡ users_on rs = omega arith in z)
+      where
+        none : (b : Bool) → if_so b 0 ≡ 0
+        none true = refl
+        none false = refl
+
+    no_user : (rs : List kernel.Root) → users c (branches_of rs) ≡ 0 → (side_cores c rs ≡ None) × (users_on rs ≡ 0)
+    no_user [] z = (refl, refl)
+    no_user (r ∷ rs) z = by (uses r) refl (no_user rs)
+      where
+        by : (b : Bool) → uses r ≡ b → (users c (branches_of rs) ≡ 0 → (side_cores c rs ≡ None) × (users_on rs ≡ 0)) → (side_cores c (r ∷ rs) ≡ None) × (users_on (r ∷ rs) ≡ 0)
+        by true u others = let n = ap once u in absurd (let q : ⊥ = omega (arith, n, z) in q)
+        by false u others =
+            let n = ap once u in
+            let h = others (omega (arith, n, z)) in
+            (passed c r rs u ∙ h.0, no_more r rs u ∙ h.1)
+
+    one_user : (rs : List kernel.Root) → users c (branches_of rs) ≡ 1 → (its_core : ℕ) × (side_cores c rs ≡ Some (both_on its_core)) × (users_on rs ≡ on_core core its_core 1)
+    one_user [] z = absurd (let q : ⊥ = omega (arith, z) in q)
+    one_user (r ∷ rs) z = by (uses r) refl (one_user rs)
+      where
+        by : (b : Bool) → uses r ≡ b →
+            (users c (branches_of rs) ≡ 1 → (its_core : ℕ) × (side_cores c rs ≡ Some (both_on its_core)) × (users_on rs ≡ on_core core its_core 1)) →
+            (its_core : ℕ) × (side_cores c (r ∷ rs) ≡ Some (both_on its_core)) × (users_on (r ∷ rs) ≡ on_core core its_core 1)
+        by true u others =
+            let n = ap once u in
+            let h = no_user rs (omega (arith, n, z)) in
+            let e = one_more r rs u in
+            let none = h.1 in
+            (r.core, met c r rs u ∙ ap (λ cores. Some (with_first r.core cores)) h.0, omega (arith, e, none))
+        by false u others =
+            let n = ap once u in
+            let h = others (omega (arith, n, z)) in
+            (h.0, passed c r rs u ∙ h.1, no_more r rs u ∙ h.2)
+
+    pub two_users : (rs : List kernel.Root) → users c (branches_of rs) ≡ 2 → users_on rs ≡ ends_there core (side_cores c rs)
+    two_users [] z = absurd (let q : ⊥ = omega (arith, z) in q)
+    two_users (r ∷ rs) z = by (uses r) refl (two_users rs)
+      where
+        by : (b : Bool) → uses r ≡ b → (users c (branches_of rs) ≡ 2 → users_on rs ≡ ends_there core (side_cores c rs)) → users_on (r ∷ rs) ≡ ends_there core (side_cores c (r ∷ rs))
+        by true u others =
+            let n = ap once u in
+            let h = one_user rs (omega (arith, n, z)) in
+            one_more r rs u
+            ∙ ap (λ m. on_core core r.core 1 + m) h.2
+            ∙ ap (ends_there core) (sym (met c r rs u ∙ ap (λ cores. Some (with_first r.core cores)) h.1))
+        by false u others =
+            let n = ap once u in
+            no_more r rs u ∙ others (omega (arith, n, z)) ∙ ap (ends_there core) (sym (passed c r rs u))

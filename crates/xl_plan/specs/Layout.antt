@@ -11,12 +11,14 @@ use Rattle.xc_kernel.specs.Plain as kernel
 use Rattle.xc_kernel.specs.Things.{channel, by_statements}
 use Rattle.xc_meaning.specs.States.Channels.{Side, first, second}
 use Rattle.xs_instr.specs.Resources.{name_of}
+use Rattle.xl_expr.specs.declared.plan.EndPlaces.{EndPlaces}
 use Rattle.xl_expr.specs.declared.plan.ResAt.{ResAt}
 use Rattle.xl_expr.specs.declared.plan.ResAt.TheVariants.{Fixed}
 use Rattle.xl_expr.specs.declared.plan.VarAt.TheVariants.{Near}
 use Rattle.xl_expr.specs.declared.plan.VarPlan.{VarPlan}
 use Rattle.xc_disjoint.specs.Cores.{on_core}
 use Rattle.xc_disjoint.specs.Needs.{words_of_instance, words_of_thread, words_of_variable}
+use Rattle.xl_plan.specs.declared.channels.SideCores.{SideCores}
 
 -- the words of a variable that is on the core
 abbrev pub words_here : (core : ℕ) → Var → ℕ
@@ -114,51 +116,72 @@ is_used_by core c (r ∷ rs) = (nat_eq r.core core && by_statements (channel c) 
 abbrev pub is_used_on : kernel.Kernel → (core channel : ℕ) → Bool
 is_used_on k core c = is_used_by core c k.roots
 
--- two ends where a channel is used
-abbrev pub ends_if : Bool → ℕ
-ends_if true = 2
-ends_if false = 0
+-- The cores of a channel's two sides: those of the first root that uses it and of the last one, which are the same where all is in one root.
+
+abbrev pub second_or : (core : ℕ) → Option SideCores → ℕ
+second_or core None = core
+second_or core (Some cores) = cores.second
+
+abbrev pub side_cores : (channel : ℕ) → List kernel.Root → Option SideCores
+side_cores c [] = None
+side_cores c (r ∷ rs) =
+    cond (by_statements (channel c) r.body)
+    (Some (record { first = r.core; second = second_or r.core (side_cores c rs) }))
+    (side_cores c rs)
+
+abbrev pub core_in : Option SideCores → Side → ℕ
+core_in None side = 0
+core_in (Some cores) first = cores.first
+core_in (Some cores) second = cores.second
+
+abbrev pub core_of : kernel.Kernel → (channel : ℕ) → Side → ℕ
+core_of k c side = core_in (side_cores c k.roots) side
+
+-- those of all channels
+abbrev pub cores_of_channels : kernel.Kernel → List (Option SideCores)
+cores_of_channels k = map (λ c. side_cores c k.roots) (range_with_len 0 (length k.channels))
+
+-- A channel has an end on a core for each of its sides that is there, the first side's before the second one's.
+
+abbrev pub first_there : (core : ℕ) → Option SideCores → ℕ
+first_there core None = 0
+first_there core (Some cores) = on_core core cores.first 1
+
+abbrev pub second_there : (core : ℕ) → Option SideCores → ℕ
+second_there core None = 0
+second_there core (Some cores) = on_core core cores.second 1
+
+abbrev pub ends_there : (core : ℕ) → Option SideCores → ℕ
+ends_there core cores = first_there core cores + second_there core cores
 
 -- the ends of the core's channels below a number
 abbrev pub ends_before : kernel.Kernel → (core channels : ℕ) → ℕ
 ends_before k core zero = 0
-ends_before k core (suc c) = ends_before k core c + ends_if (is_used_on k core c)
+ends_before k core (suc c) = ends_before k core c + ends_there core (side_cores c k.roots)
 
 -- the number that the end of a side has on its core
 abbrev pub end_number : kernel.Kernel → (core channel : ℕ) → Side → ℕ
 end_number k core c first = ends_before k core c
-end_number k core c second = ends_before k core c + 1
+end_number k core c second = ends_before k core c + first_there core (side_cores c k.roots)
 
 abbrev pub end_name : (core number : ℕ) → ℕ
 end_name core number = name_of core number 2
 
--- the numbers of the first sides' ends, of the channels below a number
-abbrev pub first_ends : kernel.Kernel → (core channels : ℕ) → List ℕ
-first_ends k core zero = []
-first_ends k core (suc c) = first_ends k core c ++ ends_before k core c ∷ []
+-- the numbers of both sides' ends on a core, of the channels below a number
+abbrev pub places_on : kernel.Kernel → (core channel : ℕ) → EndPlaces
+places_on k core c = record { first = end_number k core c first; second = end_number k core c second }
+
+abbrev pub end_places : kernel.Kernel → (core channels : ℕ) → List EndPlaces
+end_places k core zero = []
+end_places k core (suc c) = end_places k core c ++ places_on k core c ∷ []
+
+-- the same of channels with these cores, of which the first one's first end has this number
+abbrev pub end_places_from : (core number : ℕ) → List (Option SideCores) → List EndPlaces
+end_places_from core n [] = []
+end_places_from core n (cores ∷ others) =
+    record { first = n; second = n + first_there core cores } ∷ end_places_from core (n + ends_there core cores) others
 
 -- the identifiers of the ends below a number
 abbrev pub ends_below : (core number : ℕ) → List ResAt
 ends_below core zero = []
 ends_below core (suc n) = ends_below core n ++ Fixed (end_name core n) ∷ []
-
--- What follows says the same by the core of the first root that uses a channel, where both sides of each are on one core.
-
--- the core of the first root that uses a channel
-abbrev pub user_core : (channel : ℕ) → List kernel.Root → Option ℕ
-user_core c [] = None
-user_core c (r ∷ rs) = cond (by_statements (channel c) r.body) (Some r.core) (user_core c rs)
-
--- of each channel the core of its user, if it has one
-abbrev pub cores_of_users : kernel.Kernel → List (Option ℕ)
-cores_of_users k = map (λ c. user_core c k.roots) (range_with_len 0 (length k.channels))
-
--- the ends of a channel on a core, by its user's
-abbrev pub ends_of_user : (core : ℕ) → Option ℕ → ℕ
-ends_of_user core None = 0
-ends_of_user core (Some user) = on_core core user 2
-
--- the numbers of the first sides' ends of channels with these users, of which the first has this one
-abbrev pub numbers_from : (core number : ℕ) → List (Option ℕ) → List ℕ
-numbers_from core n [] = []
-numbers_from core n (user ∷ users) = n ∷ numbers_from core (n + ends_of_user core user) users

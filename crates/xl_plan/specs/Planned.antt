@@ -4,15 +4,16 @@ use Rattle.xw_words.specs.Ports.{port_count}
 use Rattle.xc_kernel.specs.declared.kernel.PortUse.{PortUse}
 use Rattle.xc_kernel.specs.declared.kernel.Var.{Var}
 use Rattle.xc_kernel.specs.Plain as kernel
-use Rattle.xc_kernel.specs.Things.{variable, channel, port, timer, by_statements}
+use Rattle.xc_kernel.specs.Things.{variable, port, timer, by_statements}
 use Rattle.xc_formed.specs.Cores.{IsOn}
 use Rattle.xs_instr.specs.OwnSteps.{IsApart}
+use Rattle.xl_expr.specs.declared.plan.EndPlaces.{EndPlaces}
 use Rattle.xl_expr.specs.declared.plan.ResAt.{ResAt}
 use Rattle.xl_expr.specs.declared.plan.VarAt.TheVariants.{Near}
 use Rattle.xl_expr.specs.declared.plan.VarPlan.{VarPlan}
 use Rattle.xl_expr.specs.Plans.{var_in, resource_at}
 use Rattle.xl_expr.specs.Frames.{IsNear}
-use Rattle.xl_plan.specs.Layout.{word_of, temporary_of, port_number, port_at, timer_at, ends_before, ends_below, first_ends}
+use Rattle.xl_plan.specs.Layout.{word_of, temporary_of, port_number, port_at, timer_at, end_places, ends_before, ends_below}
 
 -- each variable of the core stands at its word, with all its words
 abbrev pub HasVariables : kernel.Kernel → (core : ℕ) → List (Option VarPlan) → Type 0
@@ -80,18 +81,13 @@ HasUsedTimers k core places =
     (r : kernel.Root) (t : ℕ) → Contains k.roots r → r.core ≡ core → by_statements (timer t) r.body ≡ true →
     (found : ResAt) × (resource_at places t ≡ Some found)
 
--- the ends of the core have the identifiers of their numbers, and each channel's first side has its end's number
+-- The ends of the core have the identifiers of their numbers, one for each side of a channel that is there, and each channel has the numbers of
+-- its ends.
 abbrev pub HasEnds : kernel.Kernel → (core : ℕ) → List ResAt → Type 0
 HasEnds k core ends = ends ≡ ends_below core (ends_before k core (length k.channels))
 
-abbrev pub HasChannels : kernel.Kernel → (core : ℕ) → List ℕ → Type 0
-HasChannels k core channels = channels ≡ first_ends k core (length k.channels)
-
--- both sides of a channel are on one core
-abbrev pub StayOnCores : kernel.Kernel → Type 0
-StayOnCores k =
-    (c i j : ℕ) (r s : kernel.Root) → slice_get k.roots i ≡ Some r → slice_get k.roots j ≡ Some s →
-    by_statements (channel c) r.body ≡ true → by_statements (channel c) s.body ≡ true → r.core ≡ s.core
+abbrev pub HasChannels : kernel.Kernel → (core : ℕ) → List EndPlaces → Type 0
+HasChannels k core channels = channels ≡ end_places k core (length k.channels)
 
 -- a port's number is its place among the core's ports
 abbrev pub NumbersAreListed : kernel.Kernel → (core : ℕ) → Type 0

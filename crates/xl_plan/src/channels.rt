@@ -1,18 +1,25 @@
-// Which root uses a channel, and the numbers of a core's channel ends.
+// The cores of channels' sides, and the numbers of a core's channel ends.
 
 ghost use Rattle.std.specs.Prelude.{◌≡◌, ◌<◌, ◌^◌, false, map, slice_index_or, sum_by, IfOk};
+ghost use Rattle.xc_disjoint.specs.Cores.{if_so};
 ghost use Rattle.xc_kernel.specs.Kernels.{kernel_of, root_of};
-ghost use Rattle.xl_plan.specs.Layout.{cores_of_users, ends_of_user as ends_there, numbers_from};
-ghost use Rattle.xl_plan.specs.Users.{user_among, uses_of_root};
+ghost use Rattle.xl_plan.specs.Layout.{cores_of_channels, end_places_from};
+ghost use Rattle.xl_plan.specs.Layout as layout;
+ghost use Rattle.xl_plan.specs.Users.{cores_among, first_or, uses_of_root};
 
 use std::alloc::Global;
 use xc_disjoint::Checked;
 use xc_kernel::Root;
+use xl_expr::EndPlaces;
 use xl_sides::used_channels;
 use xw_words::{List, Memory};
 
-/// The ends of a channel where it is used: one for each side.
-const ENDS: u32 = 2;
+/// The cores of a channel's two sides, which are the same where all that use it are on one core.
+#[derive(Clone, Copy, Debug, PartialEq, Eq)]
+pub struct SideCores {
+    pub first: u8,
+    pub second: u8,
+}
 
 /// A root's core, and whether the root uses each channel.
 #[derive(Drop)]
@@ -21,18 +28,19 @@ struct RootUses {
     used: List<bool>,
 }
 
-/// Of each channel the core of the first root that uses it, if one does. The one error is want of memory.
+/// Of each channel the cores of its sides, if it is used: those of the first root and of the last one that use it. The one error is want of
+/// memory.
 ///
 /// It goes over each root once, and takes memory for each root and each channel.
-pub fn channel_cores(alloc: Global, checked: &Checked) -> Result<List<Option<u8>>, Memory>
-    ensures { IfOk result (λ cores. cores ≡ cores_of_users (kernel_of checked.now)) }
+pub fn channel_cores(alloc: Global, checked: &Checked) -> Result<List<Option<SideCores>>, Memory>
+    ensures { IfOk result (λ cores. cores ≡ cores_of_channels (kernel_of checked.now)) }
 {
     let kernel = checked.kernel();
     let channels = kernel.chans.len();
     let uses = uses_of_roots(alloc, kernel.roots.as_slice(), channels)?;
     let mut cores = List::new(alloc);
     for channel in 0..channels {
-        cores.push(core_of_user(uses.as_slice(), channel))?;
+        cores.push(cores_of_sides(uses.as_slice(), channel))?;
     }
     Ok(cores)
 }
@@ -52,16 +60,32 @@ fn uses_of_roots(alloc: Global, roots: &[Root], channels: usize) -> Result<List<
     Ok(uses)
 }
 
-/// The core of the first root that uses a channel.
-fn core_of_user(uses: &[RootUses], channel: usize) -> Option<u8>
-    ensures { result ≡ user_among channel uses.now }
+/// The cores of the first root and of the last one that use a channel.
+fn cores_of_sides(uses: &[RootUses], channel: usize) -> Option<SideCores>
+    ensures { result ≡ cores_among channel uses.now }
 {
+    let mut cores = None;
     for root in uses {
         if is_used(root.used.as_slice(), channel) {
-            return Some(root.core);
+            cores = Some(with_last(cores, root.core));
         }
     }
-    None
+    cores
+}
+
+/// The cores of a channel's sides with one more root that uses it, on this core.
+fn with_last(cores: Option<SideCores>, core: u8) -> SideCores
+    ensures first { result.first ≡ first_or core cores }
+    ensures second { result.second ≡ core }
+{
+    let first = match cores {
+        Some(SideCores { first, .. }) => first,
+        None => core,
+    };
+    SideCores {
+        first,
+        second: core,
+    }
 }
 
 fn is_used(used: &[bool], channel: usize) -> bool
@@ -73,38 +97,66 @@ fn is_used(used: &[bool], channel: usize) -> bool
     }
 }
 
-/// How many ends a core has for channels, by the cores of their users.
-pub fn end_count(users: &[Option<u8>], core: u8) -> u32
-    requires { sum_by (ends_there core) users.now < 2 ^ 32 }
-    ensures { result ≡ sum_by (ends_there core) users.now }
+/// How many ends a core has for channels, by the cores of their sides: one for each side that is there.
+pub fn end_count(channels: &[Option<SideCores>], core: u8) -> u32
+    requires { sum_by (layout.ends_there core) channels.now < 2 ^ 32 }
+    ensures { result ≡ sum_by (layout.ends_there core) channels.now }
 {
     let mut count: u32 = 0;
-    for user in users {
-        count += ends_of_user(*user, core);
+    for cores in channels {
+        count += ends_there(*cores, core);
     }
     count
 }
 
-/// Of each channel the number of its first side's end on a core, by the cores of the channels' users: what follows next where it has
-/// none there.
-pub fn first_ends(alloc: Global, users: &[Option<u8>], core: u8) -> Result<List<u32>, Memory>
-    requires { sum_by (ends_there core) users.now < 2 ^ 32 }
-    ensures { IfOk result (λ firsts. firsts ≡ numbers_from core 0 users.now) }
+/// Of each channel the numbers of its sides' ends on a core, by the cores of the channels' sides.
+pub fn end_places(
+    alloc: Global,
+    channels: &[Option<SideCores>],
+    core: u8,
+) -> Result<List<EndPlaces>, Memory>
+    requires { sum_by (layout.ends_there core) channels.now < 2 ^ 32 }
+    ensures { IfOk result (λ places. places ≡ end_places_from core 0 channels.now) }
 {
-    let mut firsts = List::new(alloc);
+    let mut places = List::new(alloc);
     let mut next: u32 = 0;
-    for user in users {
-        firsts.push(next)?;
-        next += ends_of_user(*user, core);
+    for cores in channels {
+        places.push(EndPlaces {
+            first: next,
+            second: next + first_there(*cores, core),
+        })?;
+        next += ends_there(*cores, core);
     }
-    Ok(firsts)
+    Ok(places)
 }
 
-fn ends_of_user(user: Option<u8>, core: u8) -> u32
-    ensures { result ≡ ends_there core user }
+fn ends_there(cores: Option<SideCores>, core: u8) -> u32
+    ensures { result ≡ layout.ends_there core cores }
 {
-    match user {
-        Some(its_core) => { if its_core == core { ENDS } else { 0 } }
+    first_there(cores, core) + second_there(cores, core)
+}
+
+/// 1 where the first side of a channel is on a core, else 0.
+pub fn first_there(cores: Option<SideCores>, core: u8) -> u32
+    ensures { result ≡ layout.first_there core cores }
+{
+    match cores {
+        Some(cores) => one_if(cores.first == core),
         None => 0,
     }
+}
+
+fn second_there(cores: Option<SideCores>, core: u8) -> u32
+    ensures { result ≡ layout.second_there core cores }
+{
+    match cores {
+        Some(cores) => one_if(cores.second == core),
+        None => 0,
+    }
+}
+
+fn one_if(is_so: bool) -> u32
+    ensures { result ≡ if_so is_so 1 }
+{
+    if is_so { 1 } else { 0 }
 }

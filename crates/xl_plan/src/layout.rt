@@ -2,9 +2,9 @@ ghost use Rattle.std.specs.Prelude.{◌≡◌, ◌≤◌, IfOk, OnOk};
 ghost use Rattle.xc_disjoint.specs.Cores.{last_core};
 ghost use Rattle.xc_kernel.specs.Kernels.{kernel_of};
 ghost use Rattle.xl_plan.specs.Layout.{first_temporary, temporary_of};
-ghost use Rattle.xl_plan.specs.Planned.{ArePortsApart, HasChannels, HasEnds, HasNoOther, HasPorts, HasTimers, HasUsedPorts, HasUsedTimers, HasUsedVariables, HasVariables, NoneIsTemporary, NoneShare, NumbersAreListed, StandBelow, StayOnCores, ports_on};
+ghost use Rattle.xl_plan.specs.Planned.{ArePortsApart, HasChannels, HasEnds, HasNoOther, HasPorts, HasTimers, HasUsedPorts, HasUsedTimers, HasUsedVariables, HasVariables, NoneIsTemporary, NoneShare, NumbersAreListed, StandBelow, ports_on};
 
-use crate::channels::{channel_cores, end_count, first_ends};
+use crate::channels::{channel_cores, end_count, end_places};
 use crate::resources::{end_identifiers, port_identifiers, timer_identifiers};
 use crate::temporary::temporary_words;
 use crate::variables::variable_places;
@@ -15,13 +15,13 @@ use xw_words::Memory;
 
 /// Where the variables, ports, timers and channel ends of a core stand: the variables from word 0 on, one behind the other in the kernel's
 /// order, below the temporary words of all threads, of which those of thread 0 are the first; the ports, timers and ends by the identifiers
-/// of their numbers, which go by the kernel's order too. Each channel that a root on the core uses has two ends there, one behind the other.
+/// of their numbers, which go by the kernel's order too. Each channel has an end there for each of its sides that is on the core, the first
+/// side's before the second one's.
 ///
 /// It takes time and memory for each of the kernel's variables, ports and timers once, and for each root and each channel; it goes over the
 /// roots' statements once. The one error is want of memory.
 pub fn plan(alloc: Global, checked: &Checked, core: u8) -> Result<Plan, Memory>
     requires is_core { core ≤ last_core }
-    requires stay { StayOnCores (kernel_of checked.now) }
     ensures variables { IfOk result
         (λ plan. HasVariables (kernel_of checked.now) core plan.vars) }
     ensures no_other { IfOk result (λ plan. HasNoOther (kernel_of checked.now) core plan.vars) }
@@ -51,9 +51,9 @@ pub fn plan(alloc: Global, checked: &Checked, core: u8) -> Result<Plan, Memory>
     let vars = variable_places(alloc, kernel.vars.as_slice(), core)?;
     let ports = port_identifiers(alloc, kernel.ports.as_slice(), core)?;
     let timers = timer_identifiers(alloc, kernel.timers.as_slice(), core)?;
-    let users = channel_cores(alloc, checked)?;
-    let ends = end_identifiers(alloc, core, end_count(users.as_slice(), core))?;
-    let channels = first_ends(alloc, users.as_slice(), core)?;
+    let cores = channel_cores(alloc, checked)?;
+    let ends = end_identifiers(alloc, core, end_count(cores.as_slice(), core))?;
+    let channels = end_places(alloc, cores.as_slice(), core)?;
     Ok(Plan {
         vars,
         ports,

@@ -7,6 +7,6 @@ mod resources;
 mod temporary;
 mod variables;
 
-pub use channels::{channel_cores, end_count};
+pub use channels::{SideCores, channel_cores, end_count, first_there};
 pub use layout::plan;
 pub use temporary::{temporary_words, word_count};

@@ -3,6 +3,7 @@ ghost use Rattle.xl_sides.specs.Ends as ends;
 ghost use Rattle.xl_sides.specs.Sides.{side_of, sides_of};
 
 use std::alloc::Global;
+use xl_expr::EndPlaces;
 use xw_words::{List, Memory};
 
 /// The two sides of a channel, in the order of their branches.
@@ -20,13 +21,13 @@ pub fn no_sides(alloc: Global, channels: usize) -> Result<List<Option<Side>>, Me
     Ok(List::from_vec(sides))
 }
 
-/// The place of the end that code uses of a channel, by the places of the ends of first sides and by the sides in which the code stands.
-pub fn end_at(channels: &[u32], sides: &[Option<Side>], channel: u32) -> Option<u32>
+/// The place of the end that code uses of a channel, by the places of all channels' ends and by the sides in which the code stands.
+pub fn end_at(channels: &[EndPlaces], sides: &[Option<Side>], channel: u32) -> Option<u32>
     ensures { result ≡ ends.end_at channels.now (sides_of sides.now) channel }
 {
     match (channels.get(channel as usize), side_at(sides, channel)) {
-        (Some(first), Some(Side::First)) => Some(*first),
-        (Some(first), Some(Side::Second)) => Some(first.wrapping_add(1)),
+        (Some(places), Some(Side::First)) => Some(places.first),
+        (Some(places), Some(Side::Second)) => Some(places.second),
         _ => None,
     }
 }

@@ -19,7 +19,8 @@ use statements::code_of;
 use std::alloc::Global;
 use std::process::ExitCode;
 use trouble::Trouble;
-use xw_io::{FsShelf, Out, Shelf, Sink, StdSink};
+use xw_cases::{CaseFile, Cases, report, tell};
+use xw_io::{FsShelf, Out, Sink, StdSink};
 
 /// The files of cases.
 #[derive(Clone, Copy)]
@@ -31,10 +32,28 @@ enum File {
 }
 
 impl File {
-    fn name(self) -> &'static str {
-        match self {
+    fn file(self) -> CaseFile {
+        let name = match self {
             File::Operators => "operators.txt",
             File::Code => "code.txt",
+        };
+        CaseFile { name, gap: "\n" }
+    }
+}
+
+impl Cases for File {
+    /// Whether of a line comes what it wants. What comes else is told.
+    fn holds<O: Sink>(&self, alloc: Global, out: &mut Out<'_, O>, case: &str) -> bool {
+        let tried = match *self {
+            File::Operators => are_operands_right(alloc, out, case),
+            File::Code => is_right(alloc, out, case),
+        };
+        match tried {
+            Ok(holds) => holds,
+            Err(trouble) => {
+                tell(out, case, trouble.message());
+                false
+            }
         }
     }
 }
@@ -44,62 +63,13 @@ fn main(rt: HostRuntime) -> ExitCode {
     let mut shelf = FsShelf::new(&rt);
     let mut sink = StdSink::new(rt.stdout());
     let mut out = Out::new(&mut sink);
-    let operators_hold = report(rt.alloc(), &mut shelf, &mut out, File::Operators);
-    let code_holds = report(rt.alloc(), &mut shelf, &mut out, File::Code);
+    let mut all_hold = true;
+    for file in [File::Operators, File::Code] {
+        let holds = report(rt.alloc(), &mut shelf, &mut out, file.file(), &file);
+        all_hold = all_hold && holds;
+    }
     out.settle();
-    ExitCode::from(u8::from(!operators_hold || !code_holds || out.outcome().is_err()))
-}
-
-/// Reports on the cases of a file. Whether of each comes what is wanted.
-fn report<S: Shelf, O: Sink>(
-    alloc: Global,
-    shelf: &mut S,
-    out: &mut Out<'_, O>,
-    file: File,
-) -> bool {
-    let Ok(bytes) = shelf.load(alloc, file.name()) else {
-        tell(out, file.name(), "not loaded");
-        return false;
-    };
-    let Ok(text) = str::from_utf8(bytes.as_slice()) else {
-        tell(out, file.name(), "not in UTF-8");
-        return false;
-    };
-    report_on(alloc, out, file, text)
-}
-
-/// Tries the cases of a file's text, each of which is a line, and counts them.
-fn report_on<O: Sink>(alloc: Global, out: &mut Out<'_, O>, file: File, text: &str) -> bool {
-    let mut count = 0u32;
-    let mut differing = 0u32;
-    for line in text.split('\n') {
-        if !line.is_empty() && !line.starts_with('#') {
-            count = count.saturating_add(1);
-            if !holds(alloc, out, file, line) {
-                differing = differing.saturating_add(1);
-            }
-        }
-    }
-    match format!(in alloc; "{}: {count} cases, {differing} differ\n", file.name()) {
-        Ok(line) => out.add(line.as_bytes()),
-        Err(_) => out.add(b"out of memory\n"),
-    }
-    differing == 0
-}
-
-/// Whether of a line comes what it wants. What comes else is told.
-fn holds<O: Sink>(alloc: Global, out: &mut Out<'_, O>, file: File, line: &str) -> bool {
-    let tried = match file {
-        File::Operators => are_operands_right(alloc, out, line),
-        File::Code => is_right(alloc, out, line),
-    };
-    match tried {
-        Ok(holds) => holds,
-        Err(trouble) => {
-            tell(out, line, trouble.message());
-            false
-        }
-    }
+    ExitCode::from(u8::from(!all_hold || out.outcome().is_err()))
 }
 
 /// How two operands are written: as numbers, which one instruction brings to a register, or turned twice, which takes several.
@@ -142,10 +112,4 @@ fn came_of(alloc: Global, code: &str) -> Result<String, Trouble> {
     let code = code_of(alloc, &plan, code)?;
     let end = run(alloc, code)?;
     Ok(format!(in alloc; "{}", ShownEnd(end))?)
-}
-
-fn tell<O: Sink>(out: &mut Out<'_, O>, line: &str, what: &str) {
-    for piece in [line, "\ncame: ", what, "\n"] {
-        out.add(piece.as_bytes());
-    }
 }

@@ -1,2 +1,1 @@
-pub mod Channels
 pub mod Reading

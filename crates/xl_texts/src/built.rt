@@ -2,47 +2,12 @@
 
 ghost use Rattle.std.specs.Bool.{OnTrue};
 ghost use Rattle.std.specs.Prelude.{map};
-ghost use Rattle.xc_kernel.specs.Kernels.{input_of, kernel_of, output_of, root_of, statement_of};
+ghost use Rattle.xc_kernel.specs.Kernels.{input_of, output_of, root_of, statement_of};
 ghost use Rattle.xc_kernel.specs.Plain as plain;
 ghost use Rattle.xl_image.specs.Roots.{RootsAreBuilt};
-ghost use Rattle.xl_plan.specs.Planned.{StayOnCores};
-ghost use Rattle.xl_texts.specs.Cores.{AreOn, AreOnOneCore};
 ghost use Rattle.xl_walk.specs.Built.{AreBuilt, BranchesAreBuilt, IsBuilt, branches_of, statements_of};
 
-use xc_disjoint::Checked;
 use xc_kernel::{KBranch, KHead, KOut, KRes, Kst, Root};
-
-/// Whether both sides of each channel are on one core, as far as that is told by there being no channel, or by all roots being on one core.
-pub fn do_channels_stay(checked: &Checked) -> bool
-    ensures { OnTrue result (StayOnCores (kernel_of checked.now)) }
-{
-    let kernel = checked.kernel();
-    kernel.chans.len() == 0 || are_on_one_core(kernel.roots.as_slice())
-}
-
-/// Whether all roots are on one core: that of the first.
-fn are_on_one_core(roots: &[Root]) -> bool
-    ensures { OnTrue result (AreOnOneCore (map root_of roots.now)) }
-{
-    match roots {
-        [first, ..] => are_on(roots, first.core),
-        [] => true,
-    }
-}
-
-/// Whether all roots are on a core.
-fn are_on(roots: &[Root], core: u8) -> bool
-    ensures { OnTrue result (AreOn core (map root_of roots.now)) }
-{
-    let mut rest = roots;
-    'each: while let [first, behind @ ..] = rest {
-        if first.core != core {
-            return false;
-        }
-        rest = behind;
-    }
-    true
-}
 
 /// Whether the code of each root is built.
 pub fn are_roots_built(roots: &[Root]) -> bool

@@ -57,8 +57,6 @@ pub enum Trouble {
     Lines,
     /// The text is too long or breaks a rule, or memory was wanting for its kernel.
     Text,
-    /// Two roots of the text may use one channel.
-    Channel,
     /// The text has a statement whose code isn't built.
     Statement,
     /// What comes of it is longer than a case's may be.
@@ -72,7 +70,6 @@ impl Trouble {
         match self {
             Trouble::Lines => "no text, or no line that must come of it",
             Trouble::Text => "a text without a checked kernel",
-            Trouble::Channel => "two roots that may use one channel",
             Trouble::Statement => "a statement whose code isn't built",
             Trouble::Long => "more comes than a case may have",
             Trouble::Memory => "out of memory",

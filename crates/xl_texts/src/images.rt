@@ -3,11 +3,11 @@
 ghost use Rattle.std.specs.Prelude.{IfOk};
 ghost use Rattle.xs_instr.specs.Valid.{Valid};
 
-use crate::built::{are_roots_built, do_channels_stay};
+use crate::built::are_roots_built;
 use crate::cases::Trouble;
 use crate::texts::checked;
 use std::alloc::Global;
-use xr_threads::compile;
+use xl_image::image;
 use xs_instr::Image;
 
 /// The most bytes that a text has.
@@ -24,8 +24,5 @@ pub fn image_of(alloc: Global, text: &[u8]) -> Result<Image, Trouble>
     if !are_roots_built(checked.kernel().roots.as_slice()) {
         return Err(Trouble::Statement);
     }
-    if !do_channels_stay(&checked) {
-        return Err(Trouble::Channel);
-    }
-    Ok(compile(alloc, &checked)?)
+    Ok(image(alloc, &checked)?)
 }

@@ -24,10 +24,9 @@ use Rattle.xc_kernel.specs.Copies.{Copies}
 use Rattle.xc_kernel.specs.Plain.{Kernel}
 use Rattle.xc_kernel.specs.Size.{Breaks509, IsTooLarge}
 use Rattle.xc_kernel.specs.Sound.{IsOfText, IsTyped}
-use Rattle.xc_today.proofs.Built.{channels_stay, kernels_are_built}
-use Rattle.xl_plan.specs.Planned.{StayOnCores}
+use Rattle.xc_today.proofs.Built.{kernels_are_built}
 use Rattle.xc_today.specs.Today.{IsBuiltToday}
-use Rattle.xl_image.specs.Roots.{RootsAreBuilt}
+use Rattle.xl_image.specs.Roots.{KernelIsBuilt}
 use Rattle.xr_commands.specs.Rules.{First, IsKernelOf, IsResolved}
 use Rattle.xr_commands.proofs.Order.{tokens_few}
 use Rattle.xr_commands.proofs.Firsts.{accepts, first_in_names, first_in_needs, first_in_size, first_in_types}
@@ -107,11 +106,8 @@ module _ (text : List ℕ) (items : List Item) (r : IsReadAs text items) where
           copies = copies;
         }
 
-        pub built : RootsAreBuilt K.roots
+        pub built : KernelIsBuilt K
         built = kernels_are_built r.toks items (named_of named) types K r.derives r.shallow r.form typed_is copies
-
-        pub stays : StayOnCores K
-        stays = channels_stay r.toks items K r.derives r.form copies
 
 -- the same of a program with types that holds what was read and named
 module _
@@ -149,8 +145,5 @@ module _
     pub kernel_too : ((b : Broken) → BreaksInNeeds K b → ⊥) → IsKernelOf text K
     kernel_too = kernel_is text (program_of tree) r named is_named names typed.unsigned_at types_are sound K its_small its_copies
 
-    pub built_too : RootsAreBuilt K.roots
+    pub built_too : KernelIsBuilt K
     built_too = built text (program_of tree) r named is_named names typed.unsigned_at types_are sound K its_small its_copies
-
-    pub stays_too : StayOnCores K
-    stays_too = stays text (program_of tree) r named is_named names typed.unsigned_at types_are sound K its_small its_copies

@@ -2,8 +2,7 @@
 
 ghost use Rattle.std.specs.Prelude.{◌≡◌, ◌≤◌, map, string_bytes, IfOk};
 ghost use Rattle.xc_kernel.specs.Kernels.{kernel_of};
-ghost use Rattle.xl_image.specs.Roots.{RootsAreBuilt};
-ghost use Rattle.xl_plan.specs.Planned.{StayOnCores};
+ghost use Rattle.xl_image.specs.Roots.{KernelIsBuilt};
 ghost use Rattle.xr_match.specs.Implements.{Implements};
 ghost use Rattle.xr_match.specs.Meanings.{of_kernel};
 ghost use Rattle.xs_instr.specs.Valid.{Valid};
@@ -96,8 +95,7 @@ pub fn decide<'w, S: Shelf>(alloc: Global, words: &'w [String], shelf: &mut S) -
 
 /// The image of a kernel, and its run for so many ticks without a stimulus. The kernel is dropped before the run.
 fn compile_and_run(alloc: Global, checked: Checked, ticks: u32) -> Result<(Image, Run), Memory>
-    requires built { RootsAreBuilt (kernel_of checked).roots }
-    requires stay { StayOnCores (kernel_of checked) }
+    requires built { KernelIsBuilt (kernel_of checked) }
     ensures implements { IfOk result (λ r. Implements r.0 (of_kernel (kernel_of checked))) }
     ensures valid { IfOk result (λ r. Valid r.0) }
     ensures words { IfOk result (λ r. HasWords r.0) }

@@ -3,8 +3,7 @@
 ghost use Rattle.std.specs.Prelude.{◌≤◌, length, IfOk, IfErr};
 ghost use Rattle.xc_kernel.specs.Kernels.{kernel_of};
 ghost use Rattle.xc_tree.specs.Refusals.{IfBroken};
-ghost use Rattle.xl_image.specs.Roots.{RootsAreBuilt};
-ghost use Rattle.xl_plan.specs.Planned.{StayOnCores};
+ghost use Rattle.xl_image.specs.Roots.{KernelIsBuilt};
 ghost use Rattle.xr_commands.specs.Rules.{First, IsKernelOf};
 
 use std::alloc::Global;
@@ -28,8 +27,7 @@ const NOT_BUILT: Broken = Broken {
 pub fn read_text(alloc: Global, text: &[u8]) -> Result<Checked, Refusal>
     requires { length text.now ≤ 4194304 }
     ensures accepted { IfOk result (λ checked. IsKernelOf text.now (kernel_of checked)) }
-    ensures built { IfOk result (λ checked. RootsAreBuilt (kernel_of checked).roots) }
-    ensures stay { IfOk result (λ checked. StayOnCores (kernel_of checked)) }
+    ensures built { IfOk result (λ checked. KernelIsBuilt (kernel_of checked)) }
     ensures first { IfErr result (λ refusal. IfBroken refusal (λ broken. First text.now broken)) }
 {
     let toks = lex(alloc, text)?;

@@ -15,7 +15,7 @@ use Rattle.xc_meaning.specs.States.Channels.{Inboxes, Parcel, Side, taken}
 use Rattle.xc_meaning.specs.States.Items.{Item, awaits}
 use Rattle.xc_meaning.specs.States.Worlds.{World, go}
 use Rattle.xl_chan.specs.Protocols.{takes}
-use Rattle.xl_image.specs.Images.{core_of, pair_of}
+use Rattle.xl_image.specs.Images.{pair_of}
 use Rattle.xr_match.specs.Lives.{Watched}
 use Rattle.xr_match.specs.Meanings.{of_kernel}
 use Rattle.xr_match.specs.Sources.{Told}
@@ -27,7 +27,7 @@ use Rattle.xr_threads.specs.Scenes.{Scene, running}
 use Rattle.xr_threads.specs.Standing.{IfTrue, IsAtRest, Stand, Standing, StandsWith, none_rests}
 use Rattle.xr_threads.specs.Transfers.{StopsIn}
 use Rattle.xr_threads.specs.Turns.{Errs, InTransfer, IsBehind, IsNext, Runs, cost}
-use Rattle.xr_threads.specs.Wired.{IsLine, boxes_in}
+use Rattle.xr_threads.specs.Wired.{AreSidesOn, IsLine, boxes_in}
 use Rattle.xr_threads.proofs.ChannelBoxes.{line_boxed, line_parcels}
 use Rattle.xr_threads.proofs.ChannelEnds.{acts_there, end, end_is, is_near, left_local}
 use Rattle.xr_threads.proofs.ChannelWorlds.{answered, answered_boxes, awaiting_errs, takes_answer}
@@ -66,7 +66,7 @@ module _ (g : Setting) (first : Roles) (is : IsImageOf g first) (who : Roles) (w
   at : IsLine g.program line channel
   at = line_is g none_rests who w x st c t r None runs_r channel side (awaits_ack (offers v)) its
 
-  there : core_of g.program channel ≡ c
+  there : AreSidesOn g.program channel c
   there = on_core g none_rests who w x st c t r None runs_r channel side (awaits_ack (offers v)) its
 
   abbrev boxes : List Inboxes

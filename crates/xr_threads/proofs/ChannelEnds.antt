@@ -8,7 +8,7 @@ use Rattle.xs_instr.specs.declared.state.CoreState.{CoreState}
 use Rattle.xs_instr.specs.declared.state.Regs.{Regs}
 use Rattle.xc_meaning.specs.States.Channels.{Inboxes, Side, first, second, other_side}
 use Rattle.xl_chan.specs.Protocols.{Act, Acts}
-use Rattle.xl_image.specs.Images.{core_of, pair_of}
+use Rattle.xl_image.specs.Images.{pair_of}
 use Rattle.xl_par.specs.Hands.{Hand}
 use Rattle.xl_plan.specs.Layout.{end_number}
 use Rattle.xr_match.specs.Lives.{Watched}
@@ -19,7 +19,7 @@ use Rattle.xr_threads.specs.Roles.{Roles, used_by}
 use Rattle.xr_threads.specs.Runners.{Setting, Runner, end_place, home}
 use Rattle.xr_threads.specs.Scenes.{running}
 use Rattle.xr_threads.specs.Standing.{Standing, none_rests}
-use Rattle.xr_threads.specs.Wired.{IsLine, boxes_in}
+use Rattle.xr_threads.specs.Wired.{AreSidesOn, IsLine, boxes_in}
 use Rattle.xr_wires.specs.Balance.{Local}
 use Rattle.xr_wires.specs.Phases.{Spot}
 use Rattle.xr_wires.specs.Wires.{ends_in, place}
@@ -29,7 +29,7 @@ use Rattle.xr_wires.proofs.Updates.{moved_to}
 
 module _ (g : Setting) (first_roles : Roles) (is : IsImageOf g first_roles) (who : Roles) (w : Watched) (x : Told (of_kernel g.program)) (st : Standing g none_rests who w x)
     (c t : ℕ) (a : CoreState) (at_c : slice_get w.machine.cores c ≡ Some a) (r : Runner) (hand : Option Hand) (runs_r : who c t ≡ used_by r hand)
-    (channel : ℕ) (side : Side) (line : ℕ) (is_line : IsLine g.program line channel) (on_core : core_of g.program channel ≡ c) where
+    (channel : ℕ) (side : Side) (line : ℕ) (is_line : IsLine g.program line channel) (on_core : AreSidesOn g.program channel c) where
   abbrev pub pair : Pair
   pair = pair_of g.program channel
 
@@ -44,12 +44,12 @@ module _ (g : Setting) (first_roles : Roles) (is : IsImageOf g first_roles) (who
 
   -- where the channel's ends are
   place_core : (s : Side) → (place pair s).core ≡ c
-  place_core first = on_core
-  place_core second = on_core
+  place_core first = on_core first
+  place_core second = on_core second
 
   place_end : (s : Side) → (place pair s).end ≡ end_place g r channel s
-  place_end first = ap (λ d. end_number g.program d channel first) (on_core ∙ sym core_is)
-  place_end second = ap (λ d. end_number g.program d channel second) (on_core ∙ sym core_is)
+  place_end first = ap (λ d. end_number g.program d channel first) (on_core first ∙ sym core_is)
+  place_end second = ap (λ d. end_number g.program d channel second) (on_core second ∙ sym core_is)
 
   at_place : slice_get w.machine.cores (place pair side).core ≡ Some a
   at_place = ap (slice_get w.machine.cores) (place_core side) ∙ at_c

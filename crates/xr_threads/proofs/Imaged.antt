@@ -18,8 +18,7 @@ use Rattle.xc_formed.proofs.Formed.{of_programs}
 use Rattle.xc_laws.proofs.Checked.{checked_obey}
 use Rattle.xl_expr.specs.declared.plan.Plan.{Plan}
 use Rattle.xl_image.specs.Images.{IsImage, RootAt, root_sides, thread_of}
-use Rattle.xl_image.specs.Roots.{RootsAreBuilt}
-use Rattle.xl_plan.specs.Planned.{StayOnCores}
+use Rattle.xl_image.specs.Roots.{KernelIsBuilt}
 use Rattle.xl_plan.proofs.Lists.{some_given, none_given, contains_at}
 use Rattle.xr_match.specs.Meanings.{root_among}
 use Rattle.xr_threads.specs.Fits.{FitOn}
@@ -66,7 +65,7 @@ few_on K core checked lt =
     (within_or_not (threads_on K core) 8)
 
 -- The setting of each stimulus.
-module _ (K : kernel.Kernel) (L : Image) (checked : IsChecked K) (is : IsImage K L) (valid : Valid L) (built : RootsAreBuilt K.roots) (stay : StayOnCores K) where
+module _ (K : kernel.Kernel) (L : Image) (checked : IsChecked K) (is : IsImage K L) (valid : Valid L) (built : KernelIsBuilt K) where
   abbrev pub setting : Stim → Setting
   setting s = record { program = K; image = L; stimulus = s; plans = plans K L is }
 
@@ -147,14 +146,14 @@ module _ (K : kernel.Kernel) (L : Image) (checked : IsChecked K) (is : IsImage K
     core_of : (c : ℕ) → c < 4 → 1 ≤ threads_on K c → IsCoreOf g c
     core_of c lt some =
         let root = some_root c K.roots some in
-        core_is g checked stay c lt (imaged_on c root.0 root.1 root.2 root.3)
+        core_is g checked built.stay c lt (imaged_on c root.0 root.1 root.2 root.3)
 
     pub is_image_of : IsImageOf g who
     is_image_of = record {
       obeys = checked_obey K checked;
-      plain = plain_begins K built;
+      plain = plain_begins K built.roots;
       sides = start_sides K;
-      lines = lines_are g checked is valid stay;
+      lines = lines_are g checked is valid built.stay;
       roles = is_root_role;
       core = λ c t r e. ap (λ (x : Runner). x.core) (known_runner c t r e).is;
       thread = λ c t r e. ap (λ (x : Runner). x.thread) (known_runner c t r e).is;
@@ -168,6 +167,6 @@ module _ (K : kernel.Kernel) (L : Image) (checked : IsChecked K) (is : IsImage K
     }
 
 -- The image of a checked kernel is what the simulation asks, by one plan for each core, whatever the stimulus.
-pub image_is : (K : kernel.Kernel) (L : Image) → IsChecked K → IsImage K L → Valid L → RootsAreBuilt K.roots → StayOnCores K →
+pub image_is : (K : kernel.Kernel) (L : Image) → IsChecked K → IsImage K L → Valid L → KernelIsBuilt K →
     (plan : ℕ → Plan) × ((s : Stim) → IsImageOf (record { program = K; image = L; stimulus = s; plans = plan }) (roles K))
-image_is K L checked is valid built stay = (plans K L is, is_image_of K L checked is valid built stay)
+image_is K L checked is valid built = (plans K L is, is_image_of K L checked is valid built)

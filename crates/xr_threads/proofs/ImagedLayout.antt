@@ -15,8 +15,9 @@ use Rattle.xl_expr.specs.declared.plan.VarPlan.{VarPlan}
 use Rattle.xl_expr.specs.Frames.{Frame, IsNear}
 use Rattle.xl_expr.specs.Plans.{var_in}
 use Rattle.xl_image.specs.Images.{decl_of}
+use Rattle.xl_image.specs.Roots.{StayOnCores}
 use Rattle.xl_plan.specs.Layout.{first_temporary, temporary_of, word_of, ports_here, core_of_port, identifier_if, named_by, port_name}
-use Rattle.xl_plan.specs.Planned.{StayOnCores, ports_on}
+use Rattle.xl_plan.specs.Planned.{ports_on}
 use Rattle.xl_plan.proofs.FewPorts.{few_ports}
 use Rattle.xl_plan.proofs.Lists.{some_given, within_all}
 use Rattle.xl_plan.proofs.Numbered.{listed}
@@ -26,7 +27,7 @@ use Rattle.xr_threads.specs.Images.{IsCoreOf}
 use Rattle.xr_threads.specs.Runners.{Setting, Runner, IsLaidOut, IsPort, anyone, is_among_words, is_word_among, port_place, relied}
 use Rattle.xr_threads.proofs.Footprints.{HasAll, words_there}
 use Rattle.xr_threads.proofs.ImagedEnds.{ends_planned}
-use Rattle.xr_threads.proofs.ImagedPlans.{IsImaged, first_stack_is}
+use Rattle.xr_threads.proofs.ImagedPlans.{IsImaged}
 use Rattle.xr_threads.proofs.Names.{port_named}
 use Rattle.xr_threads.proofs.Places.{is_there, places_differ}
 
@@ -146,7 +147,7 @@ core_is g checked stay core is_core im = record {
       laid_out g checked stay r (subst (λ c. c < 4) (sym on) is_core) (subst (λ c. IsImaged g.program c (parts_in g.image.cores c) (g.plans c)) (sym on) im)
       (subst (λ c. r.thread < threads_on g.program c) (sym on) inside) base (stack ∙ ap (λ c. temporary_of g.program c r.thread) (sym on)) used;
   room = room g checked core is_core im;
-  stacks = first_stack_is g.program core (g.plans core) im.planned;
+  stacks = im.planned.first_stack;
   sizes = sizes_are g checked core is_core im;
   ports = ports_are g checked core is_core im;
   ports_differ = λ p q listed other is is' same. places_differ g.program.ports core p q listed other is.known is'.known is.core is'.core same;

@@ -1,6 +1,6 @@
 -- The lines of an image's channels are those of the kernel's channels with two sides.
-use Rattle.std.proofs.Common.{◌≡◌, ◌⊎◌, inl, inr, ⊎_elim, ℕ, zero, suc, ◌<◌, ◌≤◌, Bool, true, false, List, [], ◌∷◌, ◌++◌, map, length, option_map, Some, slice_get, refl, sym, ap, subst, ◌∙◌, true≢false, arith}
-use Rattle.std.specs.Prelude.{◌&&◌, ◌||◌, cond, nat_eq}
+use Rattle.std.proofs.Common.{◌≡◌, ⊎_elim, ℕ, zero, suc, ◌<◌, ◌≤◌, Bool, true, false, List, [], ◌∷◌, ◌++◌, map, length, option_map, Some, slice_get, refl, sym, ap, subst, ◌∙◌, arith}
+use Rattle.std.specs.Prelude.{◌||◌}
 use Rattle.std.proofs.lemmas.Bool.{cases_lt}
 use Rattle.std.proofs.lemmas.Option.{slice_get-map}
 use Rattle.xs_instr.specs.declared.image.CoreImage.{CoreImage}
@@ -14,14 +14,15 @@ use Rattle.xc_disjoint.specs.Checked.{IsChecked}
 use Rattle.xc_disjoint.specs.Rules.{apart}
 use Rattle.xc_meaning.specs.States.Channels.{Side, first, second}
 use Rattle.xc_meaning.proofs.Basics.{none_given, some_given}
-use Rattle.xl_image.specs.Images.{IsImage, core_by, core_of, is_used, one_root_uses, pair_of, pair_where, pairs_below}
-use Rattle.xl_plan.specs.Layout.{is_used_by, is_used_on}
-use Rattle.xl_plan.specs.Planned.{StayOnCores}
+use Rattle.xl_image.specs.Images.{IsImage, is_used, one_root_uses, pair_of, pair_where, pairs_below}
+use Rattle.xl_image.specs.Roots.{StayOnCores}
+use Rattle.xl_plan.specs.Layout.{is_used_on}
 use Rattle.xl_plan.proofs.TwoSides.{two_sides}
 use Rattle.xr_match.specs.Sides.{two_sided, two_sided_among, where_so}
 use Rattle.xr_threads.specs.Images.{AreLines}
 use Rattle.xr_threads.specs.Runners.{Setting}
-use Rattle.xr_threads.specs.Wired.{IsLine}
+use Rattle.xr_threads.specs.Wired.{AreSidesOn, IsLine}
+use Rattle.xr_threads.proofs.ImagedSides.{known, sides_on}
 use Rattle.xr_wires.specs.Wires.{place}
 use Rattle.xr_wires.proofs.Wired.{valid_wired}
 
@@ -30,59 +31,6 @@ use Rattle.xr_wires.proofs.Wired.{valid_wired}
 uses_root : (c : ℕ) (rs : List kernel.Root) → one_root_uses c rs ≡ by_branches (channel c) (branches_of rs)
 uses_root c [] = refl
 uses_root c (r ∷ rs) = ap (λ b. by_statements (channel c) r.body || b) (uses_root c rs)
-
-both_true : (a b : Bool) → (a && b) ≡ true → (a ≡ true) × (b ≡ true)
-both_true true b e = (refl, e)
-both_true false b e = absurd (true≢false (sym e))
-
-or_true : (a b : Bool) → (a || b) ≡ true → (a ≡ true) ⊎ (b ≡ true)
-or_true true b e = inl refl
-or_true false b e = inr e
-
-eq_from : (a b : ℕ) → nat_eq a b ≡ true → a ≡ b
-eq_from a b e = grind arith
-
--- a root of the core that uses it
-user_on : (core c : ℕ) (rs : List kernel.Root) → is_used_by core c rs ≡ true → (i : ℕ) × (r : kernel.Root) × (slice_get rs i ≡ Some r) × (r.core ≡ core) × (by_statements (channel c) r.body ≡ true)
-user_on core c [] e = absurd (true≢false (sym e))
-user_on core c (r ∷ rs) e =
-    ⊎_elim
-    (λ here. let both = both_true (nat_eq r.core core) (by_statements (channel c) r.body) here in (0, r, refl, eq_from r.core core both.0, both.1))
-    (λ later. let k = user_on core c rs later in (suc k.0, k.1, k.2, k.3, k.4))
-    (or_true (nat_eq r.core core && by_statements (channel c) r.body) (is_used_by core c rs) e)
-
--- the first root that uses it
-record FirstUser (c : ℕ) (rs : List kernel.Root) : Type 0 where
-  some : one_root_uses c rs ≡ true
-  place : ℕ
-  root : kernel.Root
-  known : slice_get rs place ≡ Some root
-  uses : by_statements (channel c) root.body ≡ true
-  core : core_by c rs ≡ root.core
-
-first_by : (c : ℕ) (q : kernel.Root) (rs : List kernel.Root) (b : Bool) → by_statements (channel c) q.body ≡ b → (by_statements (channel c) q.body ≡ true) ⊎ FirstUser c rs → FirstUser c (q ∷ rs)
-first_by c q rs true f h = record {
-  some = ap (λ b. b || one_root_uses c rs) f;
-  place = 0;
-  root = q;
-  known = refl;
-  uses = f;
-  core = ap (λ b. cond b q.core (core_by c rs)) f;
-}
-first_by c q rs false f (inl g) = absurd (true≢false (sym g ∙ f))
-first_by c q rs false f (inr h) = record {
-  some = ap (λ b. b || one_root_uses c rs) f ∙ h.some;
-  place = suc h.place;
-  root = h.root;
-  known = h.known;
-  uses = h.uses;
-  core = ap (λ b. cond b q.core (core_by c rs)) f ∙ h.core;
-}
-
-first_user : (c : ℕ) (rs : List kernel.Root) (i : ℕ) (r : kernel.Root) → slice_get rs i ≡ Some r → by_statements (channel c) r.body ≡ true → FirstUser c rs
-first_user c [] i r e u = absurd (none_given e)
-first_user c (q ∷ rs) zero r e u = first_by c q rs (by_statements (channel c) q.body) refl (inl (ap (λ (x : kernel.Root). by_statements (channel c) x.body) (some_given e) ∙ u))
-first_user c (q ∷ rs) (suc i) r e u = first_by c q rs (by_statements (channel c) q.body) refl (inr (first_user c rs i r e u))
 
 -- the channels with two sides, and the image's lines
 
@@ -144,11 +92,9 @@ module _ (g : Setting) (checked : IsChecked g.program) (is : IsImage g.program g
   chans_are : g.image.chans ≡ map (pair_of g.program) (two_sided g.program)
   chans_are = is.channels ∙ pairs_are g.program (length g.program.channels) two_is_used
 
-  used_at : (core c : ℕ) → c < length g.program.channels → is_used_on g.program core c ≡ true → (core_of g.program c ≡ core) × ((line : ℕ) × IsLine g.program line c)
+  used_at : (core c : ℕ) → c < length g.program.channels → is_used_on g.program core c ≡ true → AreSidesOn g.program c core × ((line : ℕ) × IsLine g.program line c)
   used_at core c lt used =
-      let u = user_on core c g.program.roots used in
-      let f = first_user c g.program.roots u.0 u.1 u.2 u.4 in
-      (f.core ∙ stay c f.place u.0 f.root u.1 f.known u.2 f.uses u.4 ∙ u.3, listed_at g.program (length g.program.channels) c lt (two_is_used c lt ∙ f.some))
+      (sides_on g.program stay core c used, listed_at g.program (length g.program.channels) c lt (two_is_used c lt ∙ (known g.program stay core c used).some))
 
   pub lines_are : AreLines g
   lines_are = record {

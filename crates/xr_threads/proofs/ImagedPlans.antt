@@ -8,7 +8,6 @@ use Rattle.xc_kernel.specs.Plain as kernel
 use Rattle.xc_disjoint.specs.Needs.{ends_on, words_on}
 use Rattle.xl_expr.specs.declared.plan.Plan.{Plan}
 use Rattle.xl_image.specs.Images.{IsCoreImage, IsImage, IsPlan, RootAt, decl_of, root_sides, roots_on, thread_of}
-use Rattle.xl_plan.specs.Layout.{temporary_of}
 use Rattle.xl_plan.specs.Planned.{ports_on}
 use Rattle.xl_plan.proofs.Lists.{some_given, none_given, contained_at, contains_at}
 use Rattle.xr_threads.proofs.Roots.{listed_on}
@@ -21,10 +20,6 @@ pub record IsImaged (K : kernel.Kernel) (core : ℕ) (part : CoreImage) (plan : 
   pub ends : part.ends ≡ ends_on K core
   pub as_many : length part.roots ≡ length (roots_on core K.roots)
   pub roots : (number : ℕ) (root : kernel.Root) → slice_get K.roots number ≡ Some root → root.core ≡ core → RootAt K plan part core (thread_of core K.roots number) root (root_sides K number)
-
--- where the temporary words of the core's threads begin; this is to be a field of `IsPlan`
-pub first_stack_is : (K : kernel.Kernel) (core : ℕ) (plan : Plan) → IsPlan K core plan → plan.first_stack ≡ temporary_of K core 0
-first_stack_is K core plan planned = planned.first_stack
 
 -- a core's part, where the image has one
 pub data Part (K : kernel.Kernel) (parts : List CoreImage) (core : ℕ) : Type 0 where

@@ -12,7 +12,6 @@ use Rattle.xs_instr.specs.Machine.{Step, noted, stepped}
 use Rattle.xc_meaning.specs.Counts.KernelCounts.{kernel_bound}
 use Rattle.xc_meaning.specs.States.Branches.{Branch, runs, ended, erred}
 use Rattle.xc_meaning.specs.States.Channels.{Side}
-use Rattle.xl_image.specs.Images.{core_of}
 use Rattle.xl_par.specs.Hands.{Hand}
 use Rattle.xr_match.specs.Lives.{Life, Watched, watched_after}
 use Rattle.xr_match.specs.Meanings.{of_kernel}
@@ -23,7 +22,7 @@ use Rattle.xr_threads.specs.Runners.{Runner, Setting, home}
 use Rattle.xr_threads.specs.Scenes.{Scene, running}
 use Rattle.xr_threads.specs.Standing.{Stand, Standing, StandsBy, StandsWith, ThreadIs, none_rests}
 use Rattle.xr_threads.specs.Transfers.{Transfer}
-use Rattle.xr_threads.specs.Wired.{AreWired, HasAlone, IsLine, IsTransferring}
+use Rattle.xr_threads.specs.Wired.{AreSidesOn, AreWired, HasAlone, IsLine, IsTransferring}
 use Rattle.xr_threads.proofs.Advances.{advances, watched_next, who_next}
 use Rattle.xr_threads.proofs.EndSteps as step
 use Rattle.xr_threads.proofs.EndSteps.{advance, gone_on}
@@ -56,7 +55,7 @@ module _ (g : Setting) (may_rest : (core thread : ℕ) → Bool) (who : Roles) (
   pub line_is : IsLine g.program own_line channel
   line_is = (st.wired.listed c t channel side is_in).1
 
-  pub on_core : core_of g.program channel ≡ c
+  pub on_core : AreSidesOn g.program channel c
   on_core = (st.wired.listed c t channel side is_in).2
 
   pub spot_is : st.wired.ghosts.spots own_line side ≡ spot phase false

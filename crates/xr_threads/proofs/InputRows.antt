@@ -26,7 +26,7 @@ use Rattle.xc_meaning.specs.States.Items.{Item, does, storing}
 use Rattle.xc_meaning.specs.States.Worlds.{World, go}
 use Rattle.xc_meaning.specs.Uses.{by_items}
 use Rattle.xl_chan.specs.Protocols.{takes_word}
-use Rattle.xl_image.specs.Images.{core_of, pair_of}
+use Rattle.xl_image.specs.Images.{pair_of}
 use Rattle.xr_match.specs.Lives.{Watched}
 use Rattle.xr_match.specs.Meanings.{of_kernel}
 use Rattle.xr_match.specs.Sources.{Told}
@@ -38,7 +38,7 @@ use Rattle.xr_threads.specs.Scenes.{Scene, running}
 use Rattle.xr_threads.specs.Standing.{Stand, Standing, StandsWith, none_rests}
 use Rattle.xr_threads.specs.Transfers.{AwaitsNothing, StopsIn, Transfer}
 use Rattle.xr_threads.specs.Turns.{Errs, Has, InTransfer, IsNext, Runs, TakesIn, cost}
-use Rattle.xr_threads.specs.Wired.{HasAlone, IsLine, boxes_in}
+use Rattle.xr_threads.specs.Wired.{AreSidesOn, HasAlone, IsLine, boxes_in}
 use Rattle.xr_threads.proofs.ChannelBoxes.{line_boxed, line_parcels}
 use Rattle.xr_threads.proofs.ChannelEnds.{acts_there, end, end_is, is_near, left_local}
 use Rattle.xr_threads.proofs.ChannelWorlds.{input_errs, received, received_boxes, takes_offer}
@@ -117,7 +117,7 @@ module _ (g : Setting) (first : Roles) (is : IsImageOf g first) (who : Roles) (w
   at : IsLine g.program line ch
   at = begin.line_there g first is none_rests who w x st c t r None runs_r none branch known on ch side is_channel uses stands
 
-  there : core_of g.program ch ≡ c
+  there : AreSidesOn g.program ch c
   there = begin.core_there g first is none_rests who w x st c t r None runs_r none branch known on ch side is_channel uses stands
 
   abbrev boxes : List Inboxes

@@ -34,6 +34,7 @@ pub mod ImagedEnds
 pub mod ImagedLayout
 pub mod ImagedLines
 pub mod ImagedPlans
+pub mod ImagedSides
 pub mod Implementing
 pub mod InTransfers
 pub mod Indices

@@ -25,7 +25,7 @@ use Rattle.xc_meaning.specs.States.Worlds.{World}
 use Rattle.xc_meaning.specs.Uses.{by_items}
 use Rattle.xl_chan.specs.Protocols as protocol
 use Rattle.xl_chan.specs.Protocols.{Act, Acts, sends, takes_word}
-use Rattle.xl_image.specs.Images.{core_of, pair_of}
+use Rattle.xl_image.specs.Images.{pair_of}
 use Rattle.xl_par.specs.Hands.{Hand}
 use Rattle.xr_match.specs.Implements.{IsQuietMachine}
 use Rattle.xr_match.specs.Lives.{Watched}
@@ -39,7 +39,7 @@ use Rattle.xr_threads.specs.Scenes.{Scene, running}
 use Rattle.xr_threads.specs.Standing.{Standing, none_rests}
 use Rattle.xr_threads.specs.Transfers.{GoesWith, IsAwaiting, Transfer, acts_left}
 use Rattle.xr_threads.specs.Turns.{CannotAct, InTransfer, IsBehind, Offers, Runs, TakesIn, TakesSteps}
-use Rattle.xr_threads.specs.Wired.{IsLine, boxes_in}
+use Rattle.xr_threads.specs.Wired.{AreSidesOn, IsLine, boxes_in}
 use Rattle.xr_threads.proofs.ChannelBoxes.{line_parcels}
 use Rattle.xr_threads.proofs.ChannelEnds.{end, is_near}
 use Rattle.xr_threads.proofs.Evaluations.{item_acts}
@@ -130,7 +130,7 @@ module _ (g : Setting) (first : Roles) (is : IsImageOf g first) (who : Roles) (w
     stands_on branch known channel side stands_in = ap (λ l. slice_index_or l channel None) (sides_are branch known) ∙ stands_in
 
     -- At a side of a channel.
-    module _ (channel : ℕ) (side : Side) (line : ℕ) (is_line : IsLine g.program line channel) (on_core : core_of g.program channel ≡ c) where
+    module _ (channel : ℕ) (side : Side) (line : ℕ) (is_line : IsLine g.program line channel) (on_core : AreSidesOn g.program channel c) where
       abbrev its_pair : Pair
       its_pair = pair_of g.program channel
 
@@ -190,7 +190,7 @@ module _ (g : Setting) (first : Roles) (is : IsImageOf g first) (who : Roles) (w
     record BeginsOn (channel : ℕ) (side : Side) : Type 0 where
       line : ℕ
       is_line : IsLine g.program line channel
-      on_core : core_of g.program channel ≡ c
+      on_core : AreSidesOn g.program channel c
       spot_is : ghosts.spots line side ≡ spot between false
 
     -- where the next item uses the channel, and the thread is inside no transfer
@@ -241,7 +241,7 @@ module _ (g : Setting) (first : Roles) (is : IsImageOf g first) (who : Roles) (w
         side : Side
         side = transfer.side
 
-        at : (line : ℕ) × IsLine g.program line channel × (core_of g.program channel ≡ c)
+        at : (line : ℕ) × IsLine g.program line channel × AreSidesOn g.program channel c
         at = st.wired.listed c t channel side (record { runner = r; hand = hand; runs = runs_r; transfer = transfer; is = its; channel_is = refl; side_is = refl })
 
         line : ℕ

@@ -16,7 +16,7 @@ use Rattle.xc_meaning.specs.States.Channels.{Inboxes, Side}
 use Rattle.xc_meaning.specs.States.Items.{Item}
 use Rattle.xl_chan.specs.Protocols as protocol
 use Rattle.xl_chan.specs.Protocols.{Act, Acts, sends, takes_word}
-use Rattle.xl_image.specs.Images.{core_of, pair_of}
+use Rattle.xl_image.specs.Images.{pair_of}
 use Rattle.xl_par.specs.Hands.{Hand}
 use Rattle.xr_match.specs.Implements.{IsQuietMachine}
 use Rattle.xr_match.specs.Lives.{Watched}
@@ -29,7 +29,7 @@ use Rattle.xr_threads.specs.Scenes.{Scene, running}
 use Rattle.xr_threads.specs.Standing.{Stand, Standing, StandsBy, StandsWith, none_rests}
 use Rattle.xr_threads.specs.Transfers.{GoesWith, IsAwaiting, StopsIn, Transfer, acts_left}
 use Rattle.xr_threads.specs.Turns.{IsBehind, TakesSteps}
-use Rattle.xr_threads.specs.Wired.{IsLine, IsTransferring, boxes_in}
+use Rattle.xr_threads.specs.Wired.{AreSidesOn, IsLine, IsTransferring, boxes_in}
 use Rattle.xr_threads.proofs.ChannelEnds.{acts_there, end, end_is, is_near}
 use Rattle.xr_threads.proofs.Moves.{core_of as the_core, stands_at}
 use Rattle.xr_threads.proofs.QuietSlots.{lacks_credits, lacks_tokens, lacks_word}
@@ -93,7 +93,7 @@ module _ (g : Setting) (first : Roles) (is : IsImageOf g first) (who : Roles) (w
 
   -- A thread is at a step on the end of a side of a channel: that waits.
   module _ (c t : ℕ) (a : CoreState) (at_c : slice_get w.machine.cores c ≡ Some a) (r : Runner) (hand : Option Hand) (runs_r : who c t ≡ used_by r hand)
-      (channel : ℕ) (side : Side) (line : ℕ) (is_line : IsLine g.program line channel) (on_core : core_of g.program channel ≡ c)
+      (channel : ℕ) (side : Side) (line : ℕ) (is_line : IsLine g.program line channel) (on_core : AreSidesOn g.program channel c)
       (pos : Pos) (pc : ℕ) (regs : Regs) (here : slice_get a.threads r.thread ≡ Some (running r.tie pc regs)) where
     abbrev own_end : ChanEnd
     own_end = end g first is who w x st c t a at_c r hand runs_r channel side line is_line on_core
@@ -155,7 +155,7 @@ module _ (g : Setting) (first : Roles) (is : IsImageOf g first) (who : Roles) (w
   -- the side of a thread that is inside a transfer
   module _ (d u line : ℕ) (r : Runner) (hand : Option Hand) (runs_r : who d u ≡ used_by r hand) (transfer : Transfer) (its : r.transfer ≡ Some transfer) (is_line : IsLine g.program line transfer.channel) (a : CoreState) (at_d : slice_get w.machine.cores d ≡ Some a) where
     -- its channel is on its core
-    on_core : core_of g.program transfer.channel ≡ d
+    on_core : AreSidesOn g.program transfer.channel d
     on_core = (st.wired.listed d u transfer.channel transfer.side (record { runner = r; hand = hand; runs = runs_r; transfer = transfer; is = its; channel_is = refl; side_is = refl })).2
 
     -- and the side stands where the thread does

@@ -8,7 +8,6 @@ use Rattle.xc_laws.specs.Tree.{IsWaiting}
 use Rattle.xc_meaning.specs.States.Branches.{Branch, runs, side_of}
 use Rattle.xc_meaning.specs.States.Channels.{Side, first, second, other_side}
 use Rattle.xc_meaning.specs.Uses.{by_items}
-use Rattle.xl_image.specs.Images.{core_of}
 use Rattle.xl_par.specs.Hands.{Hand}
 use Rattle.xr_match.specs.Lives.{Watched}
 use Rattle.xr_match.specs.Meanings.{of_kernel}
@@ -17,7 +16,7 @@ use Rattle.xr_threads.specs.Images.{IsImageOf}
 use Rattle.xr_threads.specs.Roles.{Roles, used_by}
 use Rattle.xr_threads.specs.Runners.{IsChannel, Runner, Setting}
 use Rattle.xr_threads.specs.Standing.{Standing}
-use Rattle.xr_threads.specs.Wired.{HasAlone, IsLine, IsTransferring}
+use Rattle.xr_threads.specs.Wired.{AreSidesOn, HasAlone, IsLine, IsTransferring}
 use Rattle.xr_threads.proofs.Alone.{alone_begins, alone_excludes}
 use Rattle.xr_threads.proofs.InTransfers.{in_phase}
 use Rattle.xr_threads.proofs.Moves.{same_runner, works_at}
@@ -37,7 +36,7 @@ module _ (g : Setting) (roots : Roles) (is : IsImageOf g roots) (may_rest : (cor
   awake h = subst IsWaiting on h
 
   -- its line
-  pub lines_there : (core_of g.program d ≡ r.core) × ((line : ℕ) × IsLine g.program line d)
+  pub lines_there : AreSidesOn g.program d r.core × ((line : ℕ) × IsLine g.program line d)
   lines_there = is.lines.used r.core d is_channel.known is_channel.used
 
   abbrev pub line : ℕ
@@ -46,8 +45,8 @@ module _ (g : Setting) (roots : Roles) (is : IsImageOf g roots) (may_rest : (cor
   pub line_there : IsLine g.program line d
   line_there = lines_there.1.1
 
-  pub core_there : core_of g.program d ≡ c
-  core_there = lines_there.0 ∙ st.roles.core c t r hand runs_r
+  pub core_there : AreSidesOn g.program d c
+  core_there s = lines_there.0 s ∙ st.roles.core c t r hand runs_r
 
   -- a thread that is inside a transfer there would run this very branch
   pub nobody : (e u : ℕ) → IsTransferring who e u d side → ⊥

@@ -18,7 +18,7 @@ use Rattle.xc_meaning.specs.States.Branches.{Branch, runs}
 use Rattle.xc_meaning.specs.States.Channels.{Inboxes, Side}
 use Rattle.xc_meaning.specs.States.Items.{Item, awaits, chooses, does, ends, fixed, mark, says, stores, transaction_end}
 use Rattle.xl_chan.specs.Protocols.{Acts, sends, takes}
-use Rattle.xl_image.specs.Images.{core_of, pair_of}
+use Rattle.xl_image.specs.Images.{pair_of}
 use Rattle.xl_walk.specs.Pieces.{Exit}
 use Rattle.xr_match.specs.Lives.{Watched}
 use Rattle.xr_match.specs.Meanings.{of_kernel}
@@ -31,7 +31,7 @@ use Rattle.xr_threads.specs.Scenes.{Scene, running}
 use Rattle.xr_threads.specs.Standing.{IfTrue, IsAtRest, Stand, Standing, StandsWith, none_rests}
 use Rattle.xr_threads.specs.Transfers.{AwaitsNothing, GoesWith, Transfer, acts_left, steps_left}
 use Rattle.xr_threads.specs.Turns.{Has, HasBases, InTransfer, IsBehind, ItemsFrom, TakesSteps, cost}
-use Rattle.xr_threads.specs.Wired.{HasAlone, IsLine, boxes_in}
+use Rattle.xr_threads.specs.Wired.{AreSidesOn, HasAlone, IsLine, boxes_in}
 use Rattle.xr_threads.proofs.Answers as answers
 use Rattle.xr_threads.proofs.ChannelEnds.{acts_there, end, end_is, is_near, left_local}
 use Rattle.xr_threads.proofs.EndSteps as step
@@ -101,7 +101,7 @@ module _ (g : Setting) (first : Roles) (is : IsImageOf g first) (who : Roles) (w
     abbrev at : IsLine g.program line channel
     at = line_is g none_rests who w x st c t r None runs_r channel side phase its
 
-    abbrev there : core_of g.program channel ≡ c
+    abbrev there : AreSidesOn g.program channel c
     there = on_core g none_rests who w x st c t r None runs_r channel side phase its
 
     abbrev spot_now : st.wired.ghosts.spots line side ≡ spot phase false

@@ -6,13 +6,14 @@ use Rattle.std.proofs.lemmas.Option.{same_Some}
 use Rattle.xs_instr.specs.declared.state.CoreState.{CoreState}
 use Rattle.xs_instr.specs.Machine.{parts_in}
 use Rattle.xc_meaning.specs.States.Channels.{Inboxes, Side, first, second}
-use Rattle.xl_image.specs.Images.{core_of, pair_of}
+use Rattle.xl_image.specs.Images.{pair_of}
 use Rattle.xl_par.specs.Hands.{Hand}
+use Rattle.xl_plan.specs.Layout.{core_of}
 use Rattle.xr_threads.specs.Images.{AreLines}
 use Rattle.xr_threads.specs.Roles.{Roles, used_by}
 use Rattle.xr_threads.specs.Runners.{Setting, Runner}
 use Rattle.xr_threads.specs.Transfers.{Transfer}
-use Rattle.xr_threads.specs.Wired.{AreWired, IsLine, IsTransferring, boxes_in}
+use Rattle.xr_threads.specs.Wired.{AreSidesOn, AreWired, IsLine, IsTransferring, boxes_in}
 use Rattle.xr_threads.proofs.Moves.{same_runner}
 use Rattle.xr_threads.proofs.Seats.{role_cases, role_here, with_role}
 use Rattle.xr_threads.proofs.Standing.{get_set_cases}
@@ -66,7 +67,7 @@ pub record Moves (g : Setting) (who : Roles) (c t : ℕ) (r s : Runner) (channel
   pub mine : (d u : ℕ) → IsTransferring who d u channel side → (d ≡ c) × (u ≡ t)
 
 module _ (g : Setting) (lines : AreLines g) (who : Roles) (cores : List CoreState) (boxes : List Inboxes) (h : AreWired g who cores boxes) (c t : ℕ) (a : CoreState) (at_c : slice_get cores c ≡ Some a) (r : Runner) (hand : Option Hand) (runs_r : who c t ≡ used_by r hand) (s : Runner) (hand' : Option Hand)
-    (channel : ℕ) (side : Side) (line : ℕ) (is_line : IsLine g.program line channel) (on_core : core_of g.program channel ≡ c) (phase : Phase) (moves : Moves g who c t r s channel side phase) where
+    (channel : ℕ) (side : Side) (line : ℕ) (is_line : IsLine g.program line channel) (on_core : AreSidesOn g.program channel c) (phase : Phase) (moves : Moves g who c t r s channel side phase) where
   abbrev who' : Roles
   who' = with_role who c t (used_by s hand')
 
@@ -122,10 +123,10 @@ module _ (g : Setting) (lines : AreLines g) (who : Roles) (cores : List CoreStat
       let old = moves.old i.transfer (ap (λ (v : Runner). v.transfer) same ∙ i.is) in
       (sym i.channel_is ∙ old.0, sym i.side_is ∙ old.1)
 
-  listed : (d u k : ℕ) (x : Side) → IsTransferring who' d u k x → (l : ℕ) × IsLine g.program l k × (core_of g.program k ≡ d)
+  listed : (d u k : ℕ) (x : Side) → IsTransferring who' d u k x → (l : ℕ) × IsLine g.program l k × AreSidesOn g.program k d
   listed d u k x i =
       ⊎_elim
-      (λ own. (line, subst (IsLine g.program line) (sym own.1) is_line, ap (core_of g.program) own.1 ∙ on_core ∙ sym own.0.0))
+      (λ own. (line, subst (IsLine g.program line) (sym own.1) is_line, λ s. ap (λ k. core_of g.program k s) own.1 ∙ on_core s ∙ sym own.0.0))
       (λ other. h.listed d u k x other.1)
       (is_now d u k x i)
 

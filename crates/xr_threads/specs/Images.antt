@@ -17,7 +17,7 @@ use Rattle.xc_meaning.specs.States.Channels.{Side}
 use Rattle.xc_meaning.specs.States.Items.{ends, todo}
 use Rattle.xl_expr.specs.declared.plan.VarPlan.{VarPlan}
 use Rattle.xl_expr.specs.Frames.{IsNear}
-use Rattle.xl_image.specs.Images.{RootAt, core_of, decl_of, pair_of, root_sides}
+use Rattle.xl_image.specs.Images.{RootAt, decl_of, pair_of, root_sides}
 use Rattle.xl_plan.specs.Layout.{is_used_on, temporary_of}
 use Rattle.xr_match.specs.Meanings.{root_among}
 use Rattle.xr_threads.specs.Fits.{FitOn}
@@ -25,7 +25,7 @@ use Rattle.xr_threads.specs.Roles.{Role, Roles, unused, used_by}
 use Rattle.xr_threads.specs.Runners.{Setting, Runner, IsLaidOut, IsPort, anyone, footprint_of, home, plan, port_place}
 use Rattle.xr_threads.specs.Plain.{ArePlain}
 use Rattle.xr_threads.specs.Standing.{living_on}
-use Rattle.xr_threads.specs.Wired.{IsLine}
+use Rattle.xr_threads.specs.Wired.{AreSidesOn, IsLine}
 use Rattle.xr_wires.specs.Wires.{IsWired, place}
 
 -- What is so of a core of which threads are needed, whoever runs there: each thread of which it has need, with any footprint, is laid out, and has
@@ -72,7 +72,7 @@ pub record AreLines (g : Setting) : Type 0 where
   pub line : (line c : ℕ) → IsLine g.program line c → slice_get g.image.chans line ≡ Some (pair_of g.program c)
   pub channel : (line : ℕ) (p : Pair) → slice_get g.image.chans line ≡ Some p → (c : ℕ) × IsLine g.program line c
   pub used : (core c : ℕ) → c < length g.program.channels → is_used_on g.program core c ≡ true →
-      (core_of g.program c ≡ core) × ((line : ℕ) × IsLine g.program line c)
+      AreSidesOn g.program c core × ((line : ℕ) × IsLine g.program line c)
   pub ends : (line : ℕ) (p : Pair) (side : Side) → slice_get g.image.chans line ≡ Some p →
       (place p side).end < (parts_in g.image.cores (place p side).core).ends
 

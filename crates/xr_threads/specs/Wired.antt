@@ -8,8 +8,8 @@ use Rattle.xc_laws.specs.Tree.{Above}
 use Rattle.xc_meaning.specs.States.Branches.{Branch, side_of}
 use Rattle.xc_meaning.specs.States.Channels.{Inboxes, Side, no_parcels, other_side}
 use Rattle.xc_meaning.specs.Uses.{by_items}
-use Rattle.xl_image.specs.Images.{core_of}
 use Rattle.xl_par.specs.Hands.{Hand}
+use Rattle.xl_plan.specs.Layout.{core_of}
 use Rattle.xr_match.specs.Sides.{two_sided}
 use Rattle.xr_threads.specs.Roles.{Roles, used_by}
 use Rattle.xr_threads.specs.Runners.{Setting, Runner}
@@ -21,6 +21,10 @@ use Rattle.xr_wires.specs.Wires.{Ghosts}
 -- the inboxes of the channels with two sides, in the order of the image's lines
 abbrev pub boxes_in : kernel.Kernel → List Inboxes → List Inboxes
 boxes_in K boxes = map (λ c. slice_index_or boxes c no_parcels) (two_sided K)
+
+-- both sides of a channel are on a core
+abbrev pub AreSidesOn : kernel.Kernel → (channel core : ℕ) → Type 0
+AreSidesOn K c core = (side : Side) → core_of K c side ≡ core
 
 -- the line of a channel in the image
 abbrev pub IsLine : kernel.Kernel → (line channel : ℕ) → Type 0
@@ -37,14 +41,14 @@ pub record IsTransferring (who : Roles) (core thread : ℕ) (c : ℕ) (side : Si
   pub side_is : transfer.side ≡ side
 
 -- The one relation of all channels: a side of a channel stands where the thread does that has begun a transfer on it, and else in no piece; and
--- there is at most one such thread. It is on the channel's core.
+-- there is at most one such thread. It is on the core of the channel's sides.
 pub record AreWired (g : Setting) (who : Roles) (cores : List CoreState) (boxes : List Inboxes) : Type 0 where
   pub ghosts : Ghosts
   pub local : Local g.image.chans cores (boxes_in g.program boxes) ghosts
   pub long : length boxes ≡ length g.program.channels
   pub ends : (c : ℕ) (a : CoreState) → slice_get cores c ≡ Some a → length a.ends ≡ (parts_in g.image.cores c).ends
   pub listed : (core thread c : ℕ) (side : Side) → IsTransferring who core thread c side →
-      (line : ℕ) × IsLine g.program line c × (core_of g.program c ≡ core)
+      (line : ℕ) × IsLine g.program line c × AreSidesOn g.program c core
   pub inside : (core thread line : ℕ) (r : Runner) (hand : Option Hand) (transfer : Transfer) → who core thread ≡ used_by r hand → r.transfer ≡ Some transfer →
       IsLine g.program line transfer.channel → ghosts.spots line transfer.side ≡ spot transfer.phase false
   pub between_pieces : (line c : ℕ) (side : Side) → IsLine g.program line c → ((core thread : ℕ) → IsTransferring who core thread c side → ⊥) →

@@ -2,8 +2,7 @@
 
 ghost use Rattle.std.specs.Prelude.{IfOk};
 ghost use Rattle.xc_kernel.specs.Kernels.{kernel_of};
-ghost use Rattle.xl_image.specs.Roots.{RootsAreBuilt};
-ghost use Rattle.xl_plan.specs.Planned.{StayOnCores};
+ghost use Rattle.xl_image.specs.Roots.{KernelIsBuilt};
 ghost use Rattle.xr_match.specs.Implements.{Implements, ImplementsWholly};
 ghost use Rattle.xr_match.specs.Meanings.{of_kernel};
 ghost use Rattle.xs_instr.specs.Valid.{Valid};
@@ -16,14 +15,13 @@ use xl_image::image;
 use xs_instr::Image;
 use xw_words::Memory;
 
-/// The image of a checked kernel whose roots' code is built, and of whose channels each has both sides on one core. It can be loaded, and it
-/// implements the kernel: what a machine with it does under a stimulus, whatever the order of its events, is what the kernel may do.
+/// The image of a checked kernel that is built so far: the code of its roots is, and both sides of each channel are on one core. It can be
+/// loaded, and it implements the kernel: what a machine with it does under a stimulus, whatever the order of its events, is what the kernel may do.
 ///
 /// It takes time and memory for each of the kernel's statements, nodes of expressions, words that are set to 0, and resources, and its
 /// stack grows with the depth of the kernel. The one error is want of memory.
 pub fn compile(alloc: Global, checked: &Checked) -> Result<Image, Memory>
-    requires built { RootsAreBuilt (kernel_of checked.now).roots }
-    requires stay { StayOnCores (kernel_of checked.now) }
+    requires built { KernelIsBuilt (kernel_of checked.now) }
     ensures implements { IfOk result
         (λ image. Implements image (of_kernel (kernel_of checked.now))) }
     ensures wholly { IfOk result

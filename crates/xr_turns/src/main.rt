@@ -17,10 +17,11 @@ use std::process::ExitCode;
 use trouble::Trouble;
 use values::{Line, line_of};
 use xs_core::Core;
-use xw_io::{FsShelf, Out, Shelf, Sink, StdSink};
+use xw_cases::{CaseFile, Cases, report, tell};
+use xw_io::{FsShelf, Out, Sink, StdSink};
 
 /// The files of cases.
-#[derive(Clone, Copy, PartialEq)]
+#[derive(Clone, Copy)]
 enum File {
     /// Single instructions.
     Values,
@@ -29,19 +30,28 @@ enum File {
 }
 
 impl File {
-    fn name(self) -> &'static str {
+    fn file(self) -> CaseFile {
         match self {
-            File::Values => "values.txt",
-            File::Turns => "turns.txt",
+            File::Values => CaseFile {
+                name: "values.txt",
+                gap: "\n",
+            },
+            File::Turns => CaseFile {
+                name: "turns.txt",
+                gap: "\n\n",
+            },
         }
     }
+}
 
-    /// What stands between its cases.
-    fn gap(self) -> &'static str {
-        match self {
-            File::Values => "\n",
-            File::Turns => "\n\n",
+impl Cases for File {
+    fn holds<O: Sink>(&self, alloc: Global, out: &mut Out<'_, O>, case: &str) -> bool {
+        match difference_of(alloc, *self, case) {
+            Ok(None) => return true,
+            Ok(Some(difference)) => tell(out, case, difference.as_str()),
+            Err(trouble) => tell(out, case, trouble.message()),
         }
+        false
     }
 }
 
@@ -51,57 +61,13 @@ fn main(rt: HostRuntime) -> ExitCode {
     let mut shelf = FsShelf::new(&rt);
     let mut sink = StdSink::new(rt.stdout());
     let mut out = Out::new(&mut sink);
-    let values = report(alloc, &mut shelf, &mut out, File::Values);
-    let turns = report(alloc, &mut shelf, &mut out, File::Turns);
+    let mut all_hold = true;
+    for file in [File::Values, File::Turns] {
+        let holds = report(alloc, &mut shelf, &mut out, file.file(), &file);
+        all_hold = all_hold && holds;
+    }
     out.settle();
-    ExitCode::from(u8::from(!values || !turns || out.outcome().is_err()))
-}
-
-/// Reports on the cases of a file. Whether of each comes what is wanted.
-fn report<S: Shelf, O: Sink>(
-    alloc: Global,
-    shelf: &mut S,
-    out: &mut Out<'_, O>,
-    file: File,
-) -> bool {
-    let Ok(bytes) = shelf.load(alloc, file.name()) else {
-        tell(out, file.name(), "not loaded");
-        return false;
-    };
-    let Ok(text) = str::from_utf8(bytes.as_slice()) else {
-        tell(out, file.name(), "not in UTF-8");
-        return false;
-    };
-    report_on(alloc, out, file, text)
-}
-
-/// Tries the cases of a file's text, and counts them.
-fn report_on<O: Sink>(alloc: Global, out: &mut Out<'_, O>, file: File, text: &str) -> bool {
-    let mut count = 0u32;
-    let mut differing = 0u32;
-    for case in text.split(file.gap()) {
-        if !case.is_empty() && !case.starts_with('#') {
-            count = count.saturating_add(1);
-            if !holds(alloc, out, file, case) {
-                differing = differing.saturating_add(1);
-            }
-        }
-    }
-    match format!(in alloc; "{}: {count} cases, {differing} differ\n", file.name()) {
-        Ok(line) => out.add(line.as_bytes()),
-        Err(_) => out.add(b"out of memory\n"),
-    }
-    differing == 0
-}
-
-/// Whether of a case comes what is wanted. What comes else is told below the case's first line.
-fn holds<O: Sink>(alloc: Global, out: &mut Out<'_, O>, file: File, case: &str) -> bool {
-    match difference_of(alloc, file, case) {
-        Ok(None) => return true,
-        Ok(Some(difference)) => tell(out, case, difference.as_str()),
-        Err(trouble) => tell(out, case, trouble.message()),
-    }
-    false
+    ExitCode::from(u8::from(!all_hold || out.outcome().is_err()))
 }
 
 /// What comes of a case, where it isn't what is wanted.
@@ -136,12 +102,5 @@ impl Asked<'_> {
             Asked::Calls(case) => difference_of_calls(alloc, core, case),
             Asked::Value(line) => line.difference(alloc, core),
         }
-    }
-}
-
-fn tell<O: Sink>(out: &mut Out<'_, O>, case: &str, difference: &str) {
-    let (name, _) = case.split_once('\n').unwrap_or((case, ""));
-    for piece in [name, "\n", difference, "\n"] {
-        out.add(piece.as_bytes());
     }
 }

@@ -22,9 +22,9 @@ timer_count-requires c =
 pub overflow_cast-result : goal.overflow_cast-result
 overflow_cast-result c =
     let k = kernel_of c.args.checked.now in
-    let listed = c.len.ensures ∙ ends_listed k c.args.core c.kernel-kernel.ensures.accepted c.requires.stay c.in_ok-places.places.ends c.in_ok-places.ensures.ends in
-    let used = ends_are_used k c.args.core c.kernel-kernel.ensures.accepted c.requires.stay in
-    let few = few_ends k c.args.core c.kernel-kernel.ensures.accepted c.requires.stay c.requires.is_core in
+    let listed = c.len.ensures ∙ ends_listed k c.args.core c.kernel-kernel.ensures.accepted c.in_ok-places.places.ends c.in_ok-places.ensures.ends in
+    let used = ends_are_used k c.args.core c.kernel-kernel.ensures.accepted in
+    let few = few_ends k c.args.core c.kernel-kernel.ensures.accepted c.requires.is_core in
     omega (arith, listed, used, few)
 
 pub finish-requires : goal.finish-requires
@@ -42,7 +42,7 @@ returns c =
         number = refl;
         words = c.word_count.ensures;
         timers = c.timer_count.ensures ∙ ap (λ (ts : List Timer). sum_by (timers_of core) ts) (c.as_slice-2.ensures ∙ ap (λ (q : Kernel). q.timers) c.kernel-kernel.ensures.kernel);
-        ends = c.len.ensures ∙ ends_listed k core c.kernel-kernel.ensures.accepted c.requires.stay c.in_ok-places.places.ends plan.ends;
+        ends = c.len.ensures ∙ ends_listed k core c.kernel-kernel.ensures.accepted c.in_ok-places.places.ends plan.ends;
         ports = c.in_ok-ports.ensures ∙ ap (λ (ps : List PortUse). map decl_of (ports_on core ps)) (c.as_slice.ensures ∙ ap (λ (q : Kernel). q.ports) c.kernel-kernel.ensures.kernel);
         code = record {
           plan = c.in_ok-places.places;

@@ -38,4 +38,4 @@ returns-clause-valid c =
     let last : c.loop-core.core ≡ 4 = omega (arith, c.loop-core-test.false, c.loop-core.auto.core-end) in
     let h = subst (λ n. Gathered k n c.loop-core.cores) last c.loop-core.invariant in
     let whole : Image = record { cores = c.loop-core.cores; chans = c.in_ok-chans.chans } in
-    valid_image k c.kernel.ensures.accepted c.requires.stay whole (some_core k c.kernel.ensures.accepted) h.numbers h.parts c.in_ok-chans.ensures
+    valid_image k c.kernel.ensures.accepted whole (some_core k c.kernel.ensures.accepted) h.numbers h.parts c.in_ok-chans.ensures

@@ -1,8 +1,7 @@
-use Rattle.std.proofs.Common.{◌≡◌, map}
-use Rattle.std.specs.List.{range_with_len}
+use Rattle.std.proofs.Common.{◌≡◌}
 use Rattle.xc_kernel.specs.Kernels.{kernel_of}
-use Rattle.xl_plan.specs.Layout.{user_core}
+use Rattle.xl_plan.proofs.Users.{cores_below}
 use Rattle.xl_plan.proofs.channels.channel_cores.Given as goal
 
 abbrev pub invariant-loop-channel : goal.invariant-loop-channel
-invariant-loop-channel l = l.cores ≡ map (λ c. user_core c (kernel_of l.checked).roots) (range_with_len 0 l.channel)
+invariant-loop-channel l = l.cores ≡ cores_below (kernel_of l.checked) l.channel

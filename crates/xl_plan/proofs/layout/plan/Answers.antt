@@ -1,4 +1,4 @@
-use Rattle.std.proofs.Common.{◌≡◌, ℕ, List, length, Option, sym, ap, subst, ◌∙◌, sum_by, arith}
+use Rattle.std.proofs.Common.{◌≡◌, List, length, Option, sym, ap, subst, ◌∙◌, sum_by, arith}
 use Rattle.xc_kernel.specs.declared.kernel.Kernel.{Kernel}
 use Rattle.xc_kernel.specs.declared.kernel.PortUse.{PortUse}
 use Rattle.xc_kernel.specs.declared.kernel.Timer.{Timer}
@@ -7,14 +7,15 @@ use Rattle.xc_kernel.specs.Kernels.{kernel_of}
 use Rattle.xs_instr.specs.Resources.{name_of}
 use Rattle.xl_expr.specs.declared.plan.ResAt.{ResAt}
 use Rattle.xl_expr.specs.declared.plan.VarPlan.{VarPlan}
-use Rattle.xl_plan.specs.Layout.{words_here, first_temporary, places_from, core_of_port, core_of_timer, identifiers_from, ends_below, ends_of_user, numbers_from}
+use Rattle.xl_plan.specs.declared.channels.SideCores.{SideCores}
+use Rattle.xl_plan.specs.Layout.{words_here, first_temporary, places_from, core_of_port, core_of_timer, identifiers_from, end_places_from, ends_below, ends_there}
 use Rattle.xl_plan.specs.Planned.{HasVariables, HasNoOther, HasUsedVariables, HasUsedPorts, HasUsedTimers, StandBelow, NoneShare, NoneIsTemporary, HasPorts, HasTimers}
 use Rattle.xl_plan.proofs.Ends.{few_ends}
 use Rattle.xl_plan.proofs.Laid.{none_share}
 use Rattle.xl_plan.proofs.Promised.{has_variables, has_no_other, has_used_variables, has_used_ports, has_used_timers, stand_below, none_is_temporary, ports_have_numbers, numbers_listed, timers_have_numbers}
 use Rattle.xl_plan.proofs.PortsDiffer.{ports_apart}
 use Rattle.xl_plan.proofs.Sizes.{few_variable_words}
-use Rattle.xl_plan.proofs.Users.{numbers_are_first, users_need}
+use Rattle.xl_plan.proofs.Users.{cores_need, places_are}
 use Rattle.xl_plan.proofs.layout.plan.Goals as goal
 
 pub variable_places-requires : goal.variable_places-requires
@@ -92,28 +93,28 @@ returns-clause-differ c = ports_apart (kernel_of c.args.checked.now) c.args.core
 pub end_count-requires : goal.end_count-requires
 end_count-requires c =
     let k = kernel_of c.args.checked.now in
-    let few = few_ends k c.args.core c.kernel-kernel.ensures.accepted c.requires.stay c.requires.is_core in
-    let is = ap (λ (users : List (Option ℕ)). sum_by (ends_of_user c.args.core) users) (c.as_slice-4.ensures ∙ c.in_ok-users.ensures) in
-    let need = users_need k c.requires.stay c.args.core (length k.channels) in
+    let few = few_ends k c.args.core c.kernel-kernel.ensures.accepted c.requires.is_core in
+    let is = ap (λ (cores : List (Option SideCores)). sum_by (ends_there c.args.core) cores) (c.as_slice-4.ensures ∙ c.in_ok-cores.ensures) in
+    let need = cores_need k c.args.core (length k.channels) in
     omega (arith, few, is, need)
 
 pub end_identifiers-requires-clause-few : goal.end_identifiers-requires-clause-few
 end_identifiers-requires-clause-few c =
     let k = kernel_of c.args.checked.now in
-    let few = few_ends k c.args.core c.kernel-kernel.ensures.accepted c.requires.stay c.requires.is_core in
-    let is = c.end_count.ensures ∙ ap (λ (users : List (Option ℕ)). sum_by (ends_of_user c.args.core) users) (c.as_slice-4.ensures ∙ c.in_ok-users.ensures) in
-    let need = users_need k c.requires.stay c.args.core (length k.channels) in
+    let few = few_ends k c.args.core c.kernel-kernel.ensures.accepted c.requires.is_core in
+    let is = c.end_count.ensures ∙ ap (λ (cores : List (Option SideCores)). sum_by (ends_there c.args.core) cores) (c.as_slice-4.ensures ∙ c.in_ok-cores.ensures) in
+    let need = cores_need k c.args.core (length k.channels) in
     omega (arith, few, is, need)
 
 pub returns-clause-ends : goal.returns-clause-ends
 returns-clause-ends c =
     let k = kernel_of c.args.checked.now in
-    let is = c.end_count.ensures ∙ ap (λ (users : List (Option ℕ)). sum_by (ends_of_user c.args.core) users) (c.as_slice-4.ensures ∙ c.in_ok-users.ensures) in
-    c.in_ok-ends.ensures ∙ ap (ends_below c.args.core) (is ∙ users_need k c.requires.stay c.args.core (length k.channels))
+    let is = c.end_count.ensures ∙ ap (λ (cores : List (Option SideCores)). sum_by (ends_there c.args.core) cores) (c.as_slice-4.ensures ∙ c.in_ok-cores.ensures) in
+    c.in_ok-ends.ensures ∙ ap (ends_below c.args.core) (is ∙ cores_need k c.args.core (length k.channels))
 
 pub returns-clause-channels : goal.returns-clause-channels
 returns-clause-channels c =
     let k = kernel_of c.args.checked.now in
     c.in_ok-channels.ensures
-    ∙ ap (λ (users : List (Option ℕ)). numbers_from c.args.core 0 users) (c.as_slice-5.ensures ∙ c.in_ok-users.ensures)
-    ∙ numbers_are_first k c.requires.stay c.args.core (length k.channels)
+    ∙ ap (λ (cores : List (Option SideCores)). end_places_from c.args.core 0 cores) (c.as_slice-5.ensures ∙ c.in_ok-cores.ensures)
+    ∙ places_are k c.args.core (length k.channels)

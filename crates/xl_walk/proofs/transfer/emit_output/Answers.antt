@@ -1,5 +1,6 @@
-use Rattle.std.proofs.Common.{List, ℕ, sym, ap, subst, ◌∙◌}
+use Rattle.std.proofs.Common.{List, sym, ap, subst, ◌∙◌}
 use Rattle.xc_kernel.specs.Kernels.{output_of}
+use Rattle.xl_expr.specs.declared.plan.EndPlaces.{EndPlaces}
 use Rattle.xl_sides.specs.Ends.{end_at}
 use Rattle.xl_sides.specs.Sides.{sides_of}
 use Rattle.xl_walk.specs.Built.{IsSent}
@@ -16,4 +17,4 @@ pub returns-in-Some-clause-code : goal.returns-in-Some-clause-code
 returns-in-Some-clause-code c =
     let sides = sides_of c.args.sides.now in
     sent c.emit_send.result c.args.plan.now sides c.args.e.now c.emit_send.new.e (output_of c.args.output.now) c.in-Chan.channel c.in-Some.end c.in-Chan.is
-    (ap (λ (channels : List ℕ). end_at channels sides c.in-Chan.channel) (sym c.as_slice.ensures) ∙ sym c.end_at.ensures ∙ c.in-Some.is) c.emit_send.ensures.sends c.emit_send.ensures.aimed
+    (ap (λ (channels : List EndPlaces). end_at channels sides c.in-Chan.channel) (sym c.as_slice.ensures) ∙ sym c.end_at.ensures ∙ c.in-Some.is) c.emit_send.ensures.sends c.emit_send.ensures.aimed

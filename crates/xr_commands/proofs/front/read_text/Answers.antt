@@ -10,9 +10,8 @@ use Rattle.xr_commands.specs.Rules.{First, IsKernelOf}
 use Rattle.xr_commands.proofs.Firsts.{first_in_bytes, first_in_tokens, first_of_form}
 use Rattle.xr_commands.proofs.Order.{tokens_few}
 use Rattle.xc_today.specs.Today.{IsBuiltToday}
-use Rattle.xl_image.specs.Roots.{RootsAreBuilt}
-use Rattle.xl_plan.specs.Planned.{StayOnCores}
-use Rattle.xr_commands.proofs.Reading.{err_by, ok_by, read_as, of_names, of_types, typed_too, shallow_too, size_too, needs_too, kernel_too, built_too, stays_too}
+use Rattle.xl_image.specs.Roots.{KernelIsBuilt}
+use Rattle.xr_commands.proofs.Reading.{err_by, ok_by, read_as, of_names, of_types, typed_too, shallow_too, size_too, needs_too, kernel_too, built_too}
 use Rattle.xr_commands.proofs.front.read_text.Goals as goal
 
 pub parse-requires : goal.parse-requires
@@ -115,22 +114,10 @@ returns-clause-built c =
     let read =
     read_as c.args.text.now c.in_ok-toks.toks (program_of c.in_ok-tree.tree) c.in_ok-toks.ensures.tokens c.in_ok-toks.ensures.rising
     c.in_ok-tree.ensures.tree c.in_ok-tree.ensures.only c.in_ok-tree.ensures.unbroken c.in_ok-tree.ensures.shallow form in
-    let roots = built_too c.args.text.now c.in_ok-tree.tree read c.in_ok-named.named c.in_ok-named.ensures.tree c.in_ok-named.ensures.named c.in_ok-named.ensures.unbroken
+    let built = built_too c.args.text.now c.in_ok-tree.tree read c.in_ok-named.named c.in_ok-named.ensures.tree c.in_ok-named.ensures.named c.in_ok-named.ensures.unbroken
     c.in_ok-typed.typed c.in_ok-typed.ensures.named c.in_ok-typed.ensures.types c.in_ok-typed.ensures.unbroken
     (kernel_of c.in_ok-kernel.kernel) c.in_ok-kernel.ensures.small c.in_ok-kernel.ensures.copies in
-    ok_by c.disjoint.result (λ x same unbroken. subst (λ k. RootsAreBuilt (kernel_of k).roots) (sym same) roots)
-    c.disjoint.ensures.kernel c.disjoint.ensures.unbroken
-
-pub returns-clause-stay : goal.returns-clause-stay
-returns-clause-stay c =
-    let form = subst (λ ts. IsBuiltToday ts (program_of c.in_ok-tree.tree)) c.as_slice.ensures (c.is_built_today.ensures.0 c.if-not-is_built_today.false) in
-    let read =
-    read_as c.args.text.now c.in_ok-toks.toks (program_of c.in_ok-tree.tree) c.in_ok-toks.ensures.tokens c.in_ok-toks.ensures.rising
-    c.in_ok-tree.ensures.tree c.in_ok-tree.ensures.only c.in_ok-tree.ensures.unbroken c.in_ok-tree.ensures.shallow form in
-    let stay = stays_too c.args.text.now c.in_ok-tree.tree read c.in_ok-named.named c.in_ok-named.ensures.tree c.in_ok-named.ensures.named c.in_ok-named.ensures.unbroken
-    c.in_ok-typed.typed c.in_ok-typed.ensures.named c.in_ok-typed.ensures.types c.in_ok-typed.ensures.unbroken
-    (kernel_of c.in_ok-kernel.kernel) c.in_ok-kernel.ensures.small c.in_ok-kernel.ensures.copies in
-    ok_by c.disjoint.result (λ x same unbroken. subst (λ k. StayOnCores (kernel_of k)) (sym same) stay)
+    ok_by c.disjoint.result (λ x same unbroken. subst (λ k. KernelIsBuilt (kernel_of k)) (sym same) built)
     c.disjoint.ensures.kernel c.disjoint.ensures.unbroken
 
 pub returns-clause-first : goal.returns-clause-first

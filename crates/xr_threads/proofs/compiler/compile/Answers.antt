@@ -4,8 +4,8 @@ use Rattle.xr_threads.proofs.compiler.compile.Goals as goal
 
 pub returns-clause-implements : goal.returns-clause-implements
 returns-clause-implements c =
-    implements (kernel_of c.args.checked.now) c.in_ok-image.image c.kernel.ensures.accepted c.in_ok-image.ensures.pieces c.in_ok-image.ensures.valid c.requires.built c.requires.stay
+    implements (kernel_of c.args.checked.now) c.in_ok-image.image c.kernel.ensures.accepted c.in_ok-image.ensures.pieces c.in_ok-image.ensures.valid c.requires.built
 
 pub returns-clause-wholly : goal.returns-clause-wholly
 returns-clause-wholly c =
-    wholly_implements (kernel_of c.args.checked.now) c.in_ok-image.image c.kernel.ensures.accepted c.in_ok-image.ensures.pieces c.in_ok-image.ensures.valid c.requires.built c.requires.stay
+    wholly_implements (kernel_of c.args.checked.now) c.in_ok-image.image c.kernel.ensures.accepted c.in_ok-image.ensures.pieces c.in_ok-image.ensures.valid c.requires.built
