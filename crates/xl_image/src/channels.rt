@@ -15,7 +15,7 @@ use xw_words::{List, Memory};
 
 /// The two ends of each channel that a root uses, in the kernel's order. The one error is want of memory.
 ///
-/// It takes time for each channel, and for each pair of a channel that is used and one before it: a core has ends for sixteen at most.
+/// It takes time for each channel, and for each pair of a channel that is used and one before it: a core has at most 32 ends.
 pub fn channel_pairs(alloc: Global, checked: &Checked) -> Result<List<Pair>, Memory>
     requires accepted { IsChecked (kernel_of checked.now) }
     ensures { IfOk result (λ pairs. pairs
