@@ -206,9 +206,22 @@ impl<U: RunName> Board<U> {
         }
     }
 
-    /// Whether each core seems to have handed over so many windows: a hint, of which no clause knows what it says. It takes no lock.
-    pub(crate) fn seem_handed(&self, windows: u32) -> bool {
-        windows == 0 || self.told.have(windows - 1)
+    /// How many cores seem to have handed over so many windows: a hint, of which no clause knows what it says. It takes no lock.
+    pub(crate) fn handed(&self, windows: u32) -> u32 {
+        if windows == 0 {
+            return 4;
+        }
+        self.told.count(windows - 1)
+    }
+
+    /// What was handed over to a core so far comes into its cell, under its lock, as far as its next window needs it.
+    pub(crate) fn fetch<R: Wait>(&self, rt: &R, core: u8) {
+        match core {
+            0 => self.first.fetch(rt, &self.told),
+            1 => self.second.fetch(rt, &self.told),
+            2 => self.third.fetch(rt, &self.told),
+            _ => self.fourth.fetch(rt, &self.told),
+        }
     }
 
     /// Puts a batch into the mail of its core.

@@ -1,6 +1,6 @@
 // A core's seat on a board.
 
-ghost use Rattle.std.specs.Prelude.{◌≡◌};
+ghost use Rattle.std.specs.Prelude.{◌≡◌, ◌<◌};
 ghost use Rattle.xr_board.specs.BoardTurns.{IsAnswer, IsInRange};
 
 use crate::board::{Board, BoardTurn};
@@ -125,24 +125,18 @@ impl<U: RunName, C: CoreName> Seat<U, C> {
         answer
     }
 
-    // What the others have handed over that the next window needs comes into the cell.
+    /// What the others have handed over so far that the next window needs comes into the cell.
+    pub fn fetch<R: Wait>(&self, rt: &R, told: &AllTold<U>) {
+        let mut kept = self.kept.lock(rt);
+        self.take_all(rt, told, &mut kept);
+    }
+
+    // The same, under the cell's lock.
     fn take_all<R: Wait>(&self, rt: &R, told: &AllTold<U>, kept: &mut Kept<U, C>) {
-        let ran = kept.cell.ran();
-        if ran == 0 {
-            return;
-        }
-        if kept.take::<Core0>(&told.first, 0, ran - 1) {
-            self.from0.empty(rt, &mut kept.cell);
-        }
-        if kept.take::<Core1>(&told.second, 1, ran - 1) {
-            self.from1.empty(rt, &mut kept.cell);
-        }
-        if kept.take::<Core2>(&told.third, 2, ran - 1) {
-            self.from2.empty(rt, &mut kept.cell);
-        }
-        if kept.take::<Core3>(&told.fourth, 3, ran - 1) {
-            self.from3.empty(rt, &mut kept.cell);
-        }
+        take_from::<U, Core0, C, R>(rt, &told.first, 0, &self.from0, kept);
+        take_from::<U, Core1, C, R>(rt, &told.second, 1, &self.from1, kept);
+        take_from::<U, Core2, C, R>(rt, &told.third, 2, &self.from2, kept);
+        take_from::<U, Core3, C, R>(rt, &told.fourth, 3, &self.from3, kept);
     }
 
     /// Puts a batch into the mail from its sender. One for which there is no room is dropped.
@@ -179,6 +173,24 @@ impl<U: RunName, C: CoreName> Seat<U, C> {
         from2.pour(&mut cell);
         from3.pour(&mut cell);
         cell
+    }
+}
+
+/// The batch of another core that the next window needs comes into the cell, where it was handed over and isn't there yet.
+fn take_from<U: RunName, J: CoreName, C: CoreName, R: Wait>(
+    rt: &R,
+    told: &Told<U, J>,
+    from: u8,
+    mail: &MailBox<U, C>,
+    kept: &mut Kept<U, C>,
+)
+    requires few { from < 4 }
+    requires number { from ≡ J.number }
+{
+    if let Some(window) = kept.cell.lacks_from(from) {
+        if kept.take::<J>(told, from, window) {
+            mail.empty(rt, &mut kept.cell);
+        }
     }
 }
 

@@ -121,6 +121,8 @@ pub struct AllTold<U: RunName> {
 }
 
 impl<U: RunName> AllTold<U> {
+    ghost use Rattle.std.specs.Prelude.{◌≤◌};
+
     /// No window was handed over.
     pub fn new() -> AllTold<U> {
         AllTold {
@@ -131,11 +133,13 @@ impl<U: RunName> AllTold<U> {
         }
     }
 
-    /// Whether each core has handed over a window, as far as is told.
-    pub fn have(&self, window: u32) -> bool {
-        self.first.has(window)
-            && self.second.has(window)
-            && self.third.has(window)
-            && self.fourth.has(window)
+    /// How many cores have handed over a window, as far as is told.
+    pub fn count(&self, window: u32) -> u32
+        ensures { result ≤ 4 }
+    {
+        self.first.has(window) as u32
+            + self.second.has(window) as u32
+            + self.third.has(window) as u32
+            + self.fourth.has(window) as u32
     }
 }

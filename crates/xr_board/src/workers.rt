@@ -26,6 +26,9 @@ const FEWEST_LOOKS: u32 = 2;
 /// Each wait of so many is a patient one.
 const PATIENT: u32 = 32;
 
+/// How many cores there are.
+const CORES: u32 = 4;
+
 /// How often it lets other threads go on, with a look each, before it takes a turn all the same.
 const YIELDS: u32 = 1_000;
 
@@ -228,7 +231,7 @@ fn serve<U: RunName, G: Gate, R: Wait>(
         let Some(core) = seen.next(left) else {
             return true;
         };
-        patience = wait_a_while(board, seen.of(core), patience);
+        patience = wait_a_while(rt, board, core, seen.of(core), patience);
         match board.turn(rt, alloc, core, gate) {
             BoardTurn::Ran(window) => seen = seen.with(core, window + 1),
             BoardTurn::Lacks { window, .. } => seen = seen.with(core, window + 1),
@@ -243,13 +246,25 @@ fn serve<U: RunName, G: Gate, R: Wait>(
     unreachable!()
 }
 
-/// Waits until each core seems to have handed over so many windows, but no longer than a while, and answers how patient the worker is then. No
-/// lock is taken.
-fn wait_a_while<U: RunName>(board: &Board<U>, windows: u32, patience: Patience) -> Patience {
+/// Waits until each core seems to have handed over the windows before a core's next one, but no longer than a while, and answers how patient the
+/// worker is then. What comes meanwhile is fetched at once, so that the batch of the slowest core alone is left to fetch. Who looks takes no lock.
+fn wait_a_while<U: RunName, R: Wait>(
+    rt: &R,
+    board: &Board<U>,
+    core: u8,
+    ran: u32,
+    patience: Patience,
+) -> Patience {
     let looks = patience.looks();
+    let mut fetched = 1;
     for look in 0..looks + YIELDS {
-        if board.seem_handed(windows) {
+        let handed = board.handed(ran);
+        if handed == CORES {
             return patience.after(look);
+        }
+        if handed > fetched {
+            board.fetch(rt, core);
+            fetched = handed;
         }
         if look < looks {
             spin_loop();
