@@ -48,7 +48,9 @@ fn run_named<U: RunName>(
     ensures { IfOk result (λ run. IsLockstep U.listing U.stimulus U.ticks run) }
 {
     let mut first = part_of::<U>(alloc, image, stim, ticks, 0)?;
-    with_first::<U>(alloc, image, stim, ticks, &mut first)
+    let run = with_first::<U>(alloc, image, stim, ticks, &mut first);
+    drop(first);
+    run
 }
 
 /// The same, where the cores before the second one are there.
@@ -70,7 +72,9 @@ fn with_first<U: RunName>(
     ensures { IfOk result (λ run. IsLockstep U.listing U.stimulus U.ticks run) }
 {
     let mut second = part_of::<U>(alloc, image, stim, ticks, 1)?;
-    with_second::<U>(alloc, image, stim, ticks, first, &mut second)
+    let run = with_second::<U>(alloc, image, stim, ticks, first, &mut second);
+    drop(second);
+    run
 }
 
 /// The same, where the cores before the third one are there.
@@ -94,7 +98,9 @@ fn with_second<U: RunName>(
     ensures { IfOk result (λ run. IsLockstep U.listing U.stimulus U.ticks run) }
 {
     let mut third = part_of::<U>(alloc, image, stim, ticks, 2)?;
-    with_third::<U>(alloc, image, stim, ticks, first, second, &mut third)
+    let run = with_third::<U>(alloc, image, stim, ticks, first, second, &mut third);
+    drop(third);
+    run
 }
 
 /// The same, where the cores before the fourth one are there.
@@ -120,7 +126,9 @@ fn with_third<U: RunName>(
     ensures { IfOk result (λ run. IsLockstep U.listing U.stimulus U.ticks run) }
 {
     let mut fourth = part_of::<U>(alloc, image, stim, ticks, 3)?;
-    run_borrowed::<U>(alloc, ticks, first, second, third, &mut fourth)
+    let run = run_borrowed::<U>(alloc, ticks, first, second, third, &mut fourth);
+    drop(fourth);
+    run
 }
 
 /// The same, where all four cores are there.
@@ -215,7 +223,7 @@ fn run_core<U: RunName>(
         next.new.to2 next.new.to3) }
 {
     let mut got = Needs::of(got);
-    let out = part.run_with::<U>(alloc, &mut got)?;
-    next.add_all(out)?;
-    Ok(())
+    let out = part.run_with::<U>(alloc, &mut got);
+    drop(got);
+    next.add_all(out?)
 }

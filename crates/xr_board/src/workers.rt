@@ -11,7 +11,7 @@ use std::alloc::Global;
 use std::hint::spin_loop;
 use std::sync::Wait;
 use std::thread;
-use std::thread::{JoinHandle, Threads};
+use std::thread::{JoinHandle, Scope, Threads};
 use xr_windows::{Run, RunName};
 use xs_instr::{Image, Stim};
 use xw_words::Memory;
@@ -64,7 +64,7 @@ struct Served {
 }
 
 impl Served {
-    // The cores whose number modulo `workers` is `worker`.
+    // The cores whose number modulo `workers` is `worker`: none where there is no such worker.
     fn of(worker: u8, workers: u8) -> Served
         requires { 0 < workers }
     {
@@ -74,6 +74,11 @@ impl Served {
             third: 2 % workers == worker,
             fourth: 3 % workers == worker,
         }
+    }
+
+    // Whether it is none.
+    fn is_empty(self) -> bool {
+        !self.first && !self.second && !self.third && !self.fourth
     }
 
     // These and those of another worker.
@@ -283,6 +288,28 @@ fn answer<R: Threads>(rt: &R, child: Option<JoinHandle<bool>>) -> bool {
     }
 }
 
+/// Starts a thread that serves these cores, if any. Where it can't be started they come to those of the caller.
+fn started<'s, E: 's, U: RunName + Send + Sync, G: Gate + Sync, R: Threads + Wait + Sync>(
+    scope: &Scope<'s, E>,
+    rt: &'s R,
+    alloc: Global,
+    board: &'s Board<U>,
+    gate: &'s G,
+    served: Served,
+    callers: &mut Served,
+) -> Option<JoinHandle<bool>> {
+    if served.is_empty() {
+        return None;
+    }
+    match scope.spawn(move || serve::<U, G, R>(rt, alloc, board, served, gate)) {
+        Ok(child) => Some(child),
+        Err(_) => {
+            *callers = callers.and(served);
+            None
+        }
+    }
+}
+
 /// All workers serve the board, the caller as worker 0. Answers whether memory was there for all.
 fn serve_all<U: RunName + Send + Sync, G: Gate + Sync, R: Threads + Wait + Sync>(
     rt: &R,
@@ -300,30 +327,33 @@ fn serve_all<U: RunName + Send + Sync, G: Gate + Sync, R: Threads + Wait + Sync>
             requires { (0 < workers) × (workers ≤ 4) }
         {
             let mut mine = Served::of(0, workers);
-            let mut one = None;
-            let mut two = None;
-            let mut three = None;
-            if workers > 1 {
-                let served = Served::of(1, workers);
-                match scope.spawn(move || serve::<U, G, R>(rt, alloc, board, served, gate)) {
-                    Ok(child) => one = Some(child),
-                    Err(_) => mine = mine.and(served),
-                }
-            }
-            if workers > 2 {
-                let served = Served::of(2, workers);
-                match scope.spawn(move || serve::<U, G, R>(rt, alloc, board, served, gate)) {
-                    Ok(child) => two = Some(child),
-                    Err(_) => mine = mine.and(served),
-                }
-            }
-            if workers > 3 {
-                let served = Served::of(3, workers);
-                match scope.spawn(move || serve::<U, G, R>(rt, alloc, board, served, gate)) {
-                    Ok(child) => three = Some(child),
-                    Err(_) => mine = mine.and(served),
-                }
-            }
+            let one = started(
+                scope,
+                rt,
+                alloc,
+                board,
+                gate,
+                Served::of(1, workers),
+                &mut mine,
+            );
+            let two = started(
+                scope,
+                rt,
+                alloc,
+                board,
+                gate,
+                Served::of(2, workers),
+                &mut mine,
+            );
+            let three = started(
+                scope,
+                rt,
+                alloc,
+                board,
+                gate,
+                Served::of(3, workers),
+                &mut mine,
+            );
             let own = serve::<U, G, R>(rt, alloc, board, mine, gate);
             let one = answer(rt, one);
             let two = answer(rt, two);

@@ -75,7 +75,7 @@ fn merged(
     requires rising { Rising 1 a.now × Rising 1 b.now × Rising 1 c.now × Rising 1 d.now }
     ensures { IfOk result (λ trace. trace.items ≡ rounds_of a.now b.now c.now d.now ticks) }
 {
-    let mut trace = Vec::new(alloc);
+    let mut trace = Vec::with_capacity(alloc, count_of(a, b, c, d))?;
     let (mut i, mut j, mut k, mut l) = (0, 0, 0, 0);
     'ticks: for before in 0..ticks {
         let tick = before + 1;
@@ -85,6 +85,14 @@ fn merged(
         l = add_tick(&mut trace, d, l, tick)?;
     }
     Ok(trace)
+}
+
+/// How many records there are: a trace with room for so many needn't grow.
+fn count_of(a: &[Stamped], b: &[Stamped], c: &[Stamped], d: &[Stamped]) -> usize {
+    a.len()
+        .saturating_add(b.len())
+        .saturating_add(c.len())
+        .saturating_add(d.len())
 }
 
 /// Adds the records of a tick that come next, and answers where they end.
