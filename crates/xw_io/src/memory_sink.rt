@@ -119,12 +119,23 @@ mod tests {
         sink.bytes() == taken && sink.faults == 1
     }
 
+    /// The same of a new sink.
+    fn starts_so(
+        alloc: Global,
+        room: usize,
+        fails: &[u32],
+        pieces: &[(&[u8], Put)],
+        taken: &[u8],
+    ) -> Result<bool, Memory> {
+        let fails = List::from_vec(fails.to_vec(alloc)?);
+        let mut sink = MemSink::new(alloc, room, fails)?;
+        Ok(answers_so(&mut sink, pieces, taken))
+    }
+
     /// The place of the first sink that answers otherwise.
     fn wrong_sink(alloc: Global) -> Result<Option<usize>, Memory> {
         for (place, (room, fails, pieces, taken)) in SINKS.iter().enumerate() {
-            let fails = List::from_vec(fails.to_vec(alloc)?);
-            let mut sink = MemSink::new(alloc, *room, fails)?;
-            if !answers_so(&mut sink, pieces, taken) {
+            if !starts_so(alloc, *room, fails, pieces, taken)? {
                 return Ok(Some(place));
             }
         }

@@ -159,20 +159,25 @@ mod tests {
         if out.flush().is_err() { 3 } else { 4 }
     }
 
+    /// How many calls go well, how many bytes the sink has then, and whether they begin and end as they should.
+    fn handed_on(
+        alloc: Global,
+        room: usize,
+        length: usize,
+        end: &[u8],
+    ) -> Result<(usize, usize, bool), Memory> {
+        let long = vec![in alloc; b'x'; length]?;
+        let mut sink = MemSink::new(alloc, room, List::new(alloc))?;
+        let well = calls_that_go_well(&mut sink, long.as_slice());
+        let bytes = sink.bytes();
+        let is_framed = bytes.starts_with(b"abx") && bytes.ends_with(end);
+        Ok((well, bytes.len(), is_framed))
+    }
+
     /// The place of the first long piece that is handed on otherwise.
     fn wrong_long_piece(alloc: Global) -> Result<Option<usize>, Memory> {
         for (place, (room, length, calls, count, end)) in LONG_PIECES.iter().enumerate() {
-            let long = vec![in alloc; b'x'; *length]?;
-            let mut sink = MemSink::new(alloc, *room, List::new(alloc))?;
-            let well = calls_that_go_well(&mut sink, long.as_slice());
-            let bytes = sink.bytes();
-            let told = (
-                well,
-                bytes.len(),
-                bytes.starts_with(b"abx"),
-                bytes.ends_with(end),
-            );
-            if told != (*calls, *count, true, true) {
+            if handed_on(alloc, *room, *length, end)? != (*calls, *count, true) {
                 return Ok(Some(place));
             }
         }
