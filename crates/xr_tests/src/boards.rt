@@ -153,17 +153,20 @@ fn table<R: Wait>(rt: &R, alloc: Global, image: &Image, stim: &Stim) -> Result<T
 
 /// What the boards of one image tell: call by call; how many records, and which end, where a core was ahead from the start; and
 /// whether two cores ran at the same time.
-fn told<R: Threads + Wait + Sync>(
-    rt: &R,
-    alloc: Global,
-) -> Result<(Table, (usize, EndWord), bool), ListingErr> {
+type Told = (
+    Result<Table, Memory>,
+    Result<(usize, EndWord), Memory>,
+    Result<bool, Memory>,
+);
+
+fn told<R: Threads + Wait + Sync>(rt: &R, alloc: Global) -> Result<Told, ListingErr> {
     let image = read_image(alloc, ENDLESS)?;
     let stim = Stim {
         lines: List::new(alloc),
     };
-    let table = table(rt, alloc, &image, &stim)?;
-    let ahead = one_ahead(rt, alloc, &image, &stim)?;
-    let have_met = meet_at_once(rt, alloc, &image, &stim)?;
+    let table = table(rt, alloc, &image, &stim);
+    let ahead = one_ahead(rt, alloc, &image, &stim);
+    let have_met = meet_at_once(rt, alloc, &image, &stim);
     Ok((table, ahead, have_met))
 }
 
@@ -173,6 +176,7 @@ fn told<R: Threads + Wait + Sync>(
 #[test]
 fn boards_answer(rt: HostRuntime) {
     let short = GatherErr::Short { core: 0, window: 0 };
-    let want = ((Some(short), true, None), (2, EndWord::Stopped), true);
+    let table = (Some(short), true, None);
+    let want = (Ok(table), Ok((2, EndWord::Stopped)), Ok(true));
     assert_eq!(rt; told(&rt, rt.alloc()), Ok(want));
 }

@@ -109,7 +109,7 @@ pub fn meet_at_once<R: Threads + Wait + Sync>(
     let two = by_workers(rt, alloc, image, stim, 16, 2, &meeting)?;
     let have_met = meeting.met.load(Ordering::SeqCst) == 2;
     let are_each_once = meeting.calls.load(Ordering::SeqCst) == EACH_ONCE;
-    let by_one = is_same(rt, alloc, image, stim, 1, &two)?;
-    let by_sixteen = is_same(rt, alloc, image, stim, 16, &two)?;
+    let by_one = is_same(rt, alloc, image, stim, 1, &two) == Ok(true);
+    let by_sixteen = is_same(rt, alloc, image, stim, 16, &two) == Ok(true);
     Ok(have_met && are_each_once && by_one && by_sixteen)
 }

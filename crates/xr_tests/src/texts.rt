@@ -162,16 +162,16 @@ fn has_front(alloc: Global, image: &Image) -> Result<bool, Memory>
     )
 }
 
-fn are_listings_so(alloc: Global) -> Result<(bool, bool), ListingErr> {
+fn are_listings_so(alloc: Global) -> Result<[Result<bool, Memory>; 2], ListingErr> {
     let image = read_image(alloc, LISTING)?;
-    Ok((has_listing(alloc, &image)?, has_front(alloc, &image)?))
+    Ok([has_listing(alloc, &image), has_front(alloc, &image)])
 }
 
 /// Instructions, small pieces and records have their texts, and an image its listing; a fault in between leaves a front of it.
 #[test]
 fn texts_are_written(rt: HostRuntime) {
     let told = (have_texts(rt.alloc()), are_listings_so(rt.alloc()));
-    assert_eq!(rt; told, (Ok(true), Ok((true, true))));
+    assert_eq!(rt; told, (Ok(true), Ok([Ok(true); 2])));
 }
 
 /// Good stimuli are read, bad ones are refused by the line and the rule, and so is a line behind 100,000.
