@@ -1,5 +1,7 @@
 //! Tests of the parts of the machine, of machines of several cores, of boards with workers, and of the texts that are read and written, each
 //! by its public calls. The crate has nothing for others to use.
+//!
+//! A module tells what answers otherwise than its tables say, by a row's place from 0, and few tests compare that with nothing.
 #![tactic(auto)]
 
 #[cfg(test)]
@@ -16,6 +18,8 @@ mod machines;
 mod meetings;
 #[cfg(test)]
 mod memory;
+#[cfg(test)]
+mod parts;
 #[cfg(test)]
 mod pool;
 #[cfg(test)]

@@ -4,9 +4,7 @@ ghost use Rattle.xs_instr.specs.Valid.{Valid};
 
 use crate::listings::{FULL, NO_WORD, OUTPUT, THREE_WORDS};
 use std::alloc::Global;
-use std::process::Abort;
-use std::test::Fail;
-use xr_listed::read_image;
+use xr_listed::{ListingErr, read_image};
 use xs_fabric::{Event, Machine};
 use xs_instr::{EndWord, Image, Record, Stim};
 use xw_words::{List, Memory};
@@ -160,60 +158,72 @@ const RUNS: [(&str, &[Asked], &[Record]); 5] = [
     (OUTPUT, &EVENTS, &PUT_OUT),
 ];
 
+/// Five machines answer what was worked out by hand. One that doesn't is told by its place among the runs, and a call of it by its place in its
+/// table: behind the last one for what is recorded in the end.
 #[test]
-fn machines_answer(rt: HostRuntime) -> Result<(), Fail> {
-    for (listing, calls, trace) in &RUNS {
-        let image = read_image(rt.alloc(), listing)?;
-        ask_all(&rt, rt.alloc(), &image, calls, trace)?;
-    }
-    Ok(())
+fn machines_answer(rt: HostRuntime) {
+    assert_eq!(rt; wrong_run(rt.alloc()), Ok(None));
 }
 
-fn ask_all(
-    rt: &impl Abort,
+/// The first run whose machine answers otherwise, and the place of the call.
+fn wrong_run(alloc: Global) -> Result<Option<(usize, usize)>, ListingErr> {
+    for (run, (listing, calls, trace)) in RUNS.iter().enumerate() {
+        let image = read_image(alloc, listing)?;
+        if let Some(call) = wrong_call(alloc, &image, calls, trace)? {
+            return Ok(Some((run, call)));
+        }
+    }
+    Ok(None)
+}
+
+/// The place of the first call that the image's machine answers otherwise.
+fn wrong_call(
     alloc: Global,
     image: &Image,
     calls: &[Asked],
     trace: &[Record],
-) -> Result<(), Memory>
+) -> Result<Option<usize>, Memory>
     requires { Valid image.now }
 {
     let stim = Stim {
         lines: List::new(alloc),
     };
     let mut machine = Machine::boot(alloc, image, &stim)?;
-    for asked in calls {
-        ask(rt, &mut machine, *asked)?;
-    }
-    assert_eq!(rt; machine.trace(), trace);
-    assert!(rt; !machine.trapped());
-    Ok(())
+    wrong_of(&mut machine, calls, trace)
 }
 
-fn ask(rt: &impl Abort, machine: &mut Machine, asked: Asked) -> Result<(), Memory> {
-    machine.reserve(32)?;
-    match asked {
-        Asked::Rounds(rounds, events) => return go_round(rt, machine, rounds, events),
-        Asked::Step(core, thread, event) => assert_eq!(rt; machine.step(core, thread), event),
-        Asked::Tick(core, event) => assert_eq!(rt; machine.tick(core), event),
-        Asked::Move(from, to, event) => assert_eq!(rt; machine.move_one(from, to), event),
-        Asked::Seen(records, end) => {
-            assert_eq!(rt; machine.trace().len(), records);
-            assert_eq!(rt; machine.end(), end);
+fn wrong_of(
+    machine: &mut Machine,
+    calls: &[Asked],
+    trace: &[Record],
+) -> Result<Option<usize>, Memory> {
+    for (place, asked) in calls.iter().enumerate() {
+        if !answers_so(machine, *asked)? {
+            return Ok(Some(place));
         }
     }
-    Ok(())
+    let is_so = machine.trace() == trace && !machine.trapped();
+    Ok(if is_so { None } else { Some(calls.len()) })
 }
 
-fn go_round(
-    rt: &impl Abort,
-    machine: &mut Machine,
-    rounds: u32,
-    events: u32,
-) -> Result<(), Memory> {
+fn answers_so(machine: &mut Machine, asked: Asked) -> Result<bool, Memory> {
+    machine.reserve(32)?;
+    Ok(match asked {
+        Asked::Rounds(rounds, events) => return have_events(machine, rounds, events),
+        Asked::Step(core, thread, event) => machine.step(core, thread) == event,
+        Asked::Tick(core, event) => machine.tick(core) == event,
+        Asked::Move(from, to, event) => machine.move_one(from, to) == event,
+        Asked::Seen(records, end) => machine.trace().len() == records && machine.end() == end,
+    })
+}
+
+/// Whether each of so many rounds has that many events.
+fn have_events(machine: &mut Machine, rounds: u32, events: u32) -> Result<bool, Memory> {
     for _round in 0..rounds {
         machine.reserve(32)?;
-        assert_eq!(rt; machine.round(), events);
+        if machine.round() != events {
+            return Ok(false);
+        }
     }
-    Ok(())
+    Ok(true)
 }

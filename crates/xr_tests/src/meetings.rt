@@ -1,17 +1,14 @@
 // Two cores at the same time.
 
 ghost use Rattle.std.specs.Prelude.{◌≤◌};
-ghost use Rattle.xs_instr.specs.Valid.{Valid};
+ghost use Rattle.xs_instr.specs.Valid.{IsGoodStim, Valid};
 
 use crate::boards::by_workers;
-use crate::listings::ENDLESS;
 use std::alloc::Global;
 use std::sync::Wait;
 use std::sync::atomic::{AtomicU64, Ordering};
-use std::test::Fail;
 use std::thread::{self, Threads};
 use xr_board::Gate;
-use xr_listed::read_image;
 use xr_windows::Run;
 use xs_instr::{Image, Stim};
 use xw_words::{List, Memory};
@@ -76,42 +73,43 @@ fn is_same<R: Threads + Wait + Sync>(
     rt: &R,
     alloc: Global,
     image: &Image,
+    stim: &Stim,
     workers: u32,
     told: &Run,
 ) -> Result<bool, Memory>
     requires image { Valid image.now }
+    requires stim { IsGoodStim stim.now }
     requires workers { (1 ≤ workers) × (workers ≤ 16) }
 {
-    let stim = Stim {
-        lines: List::new(alloc),
-    };
     let counting = Counting {
         calls: AtomicU64::new(0),
     };
-    let run = by_workers(rt, alloc, image, &stim, 16, workers, &counting)?;
+    let run = by_workers(rt, alloc, image, stim, 16, workers, &counting)?;
     let is_each_once = counting.calls.load(Ordering::SeqCst) == EACH_ONCE;
     Ok(is_each_once && run.trace == told.trace && run.end == told.end)
 }
 
-/// Two workers run two cores at the same time, and each window once. One worker and sixteen run each window once too, and tell the
-/// same.
-#[test]
-fn two_cores_at_once(rt: HostRuntime) -> Result<(), Fail> {
-    let alloc = rt.alloc();
-    let image = read_image(alloc, ENDLESS)?;
-    let stim = Stim {
-        lines: List::new(alloc),
-    };
+/// Whether two workers run two cores at the same time, and each window once, and one worker and sixteen run each window once too, and
+/// tell the same.
+pub fn meet_at_once<R: Threads + Wait + Sync>(
+    rt: &R,
+    alloc: Global,
+    image: &Image,
+    stim: &Stim,
+) -> Result<bool, Memory>
+    requires image { Valid image.now }
+    requires stim { IsGoodStim stim.now }
+{
     let meeting = Meeting {
         first: AtomicU64::new(0),
         second: AtomicU64::new(0),
         met: AtomicU64::new(0),
         calls: AtomicU64::new(0),
     };
-    let two = by_workers(&rt, alloc, &image, &stim, 16, 2, &meeting)?;
-    assert_eq!(rt; meeting.met.load(Ordering::SeqCst), 2);
-    assert_eq!(rt; meeting.calls.load(Ordering::SeqCst), EACH_ONCE);
-    assert!(rt; is_same(&rt, alloc, &image, 1, &two)?);
-    assert!(rt; is_same(&rt, alloc, &image, 16, &two)?);
-    Ok(())
+    let two = by_workers(rt, alloc, image, stim, 16, 2, &meeting)?;
+    let have_met = meeting.met.load(Ordering::SeqCst) == 2;
+    let are_each_once = meeting.calls.load(Ordering::SeqCst) == EACH_ONCE;
+    let by_one = is_same(rt, alloc, image, stim, 1, &two) == Ok(true);
+    let by_sixteen = is_same(rt, alloc, image, stim, 16, &two) == Ok(true);
+    Ok(have_met && are_each_once && by_one && by_sixteen)
 }

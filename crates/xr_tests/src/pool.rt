@@ -38,14 +38,18 @@ const CALLS: [Call; 27] = [
     Call::Taken(PoolKind::Thread, 255, false),
 ];
 
-#[test]
-fn least_free_numbers_are_taken(rt: HostRuntime) {
+/// The place of the first call that is answered otherwise.
+pub fn wrong_call() -> Option<usize> {
     let mut pool = Pool::new();
-    for call in &CALLS {
-        match call {
-            Call::Get(k, number) => assert_eq!(rt; pool.get(*k), *number),
-            Call::Free(k, n, was_taken) => assert_eq!(rt; pool.free(*k, *n), *was_taken),
-            Call::Taken(k, n, taken) => assert_eq!(rt; pool.taken(*k, *n), *taken),
+    for (place, call) in CALLS.iter().enumerate() {
+        let is_so = match call {
+            Call::Get(k, number) => pool.get(*k) == *number,
+            Call::Free(k, n, was_taken) => pool.free(*k, *n) == *was_taken,
+            Call::Taken(k, n, taken) => pool.taken(*k, *n) == *taken,
+        };
+        if !is_so {
+            return Some(place);
         }
     }
+    None
 }

@@ -22,14 +22,28 @@ const ALL: [Reg; 16] = [
     Reg::Lr,
 ];
 
-#[test]
-fn each_register_keeps_its_own_word(rt: HostRuntime) {
+/// The place of the first register that doesn't start with 0, or doesn't keep a word of its own.
+pub fn wrong_register() -> Option<usize> {
     let mut regs = Regs::new();
-    for (n, r) in ALL.iter().enumerate() {
-        assert_eq!(rt; regs.get(*r), 0);
-        regs.set(*r, 100 + n as u32);
+    let wrong = set_each(&mut regs);
+    if wrong.is_some() {
+        return wrong;
     }
-    for (n, r) in ALL.iter().enumerate() {
-        assert_eq!(rt; regs.get(*r), 100 + n as u32);
+    for (place, register) in ALL.iter().enumerate() {
+        if regs.get(*register) != 100 + place as u32 {
+            return Some(place);
+        }
     }
+    None
+}
+
+/// Sets each register. The place of the first that isn't 0 before.
+fn set_each(regs: &mut Regs) -> Option<usize> {
+    for (place, register) in ALL.iter().enumerate() {
+        if regs.get(*register) != 0 {
+            return Some(place);
+        }
+        regs.set(*register, 100 + place as u32);
+    }
+    None
 }

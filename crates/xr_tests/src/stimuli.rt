@@ -1,10 +1,9 @@
 //! Stimuli, as they are read.
 
 use std::alloc::Global;
-use std::process::Abort;
-use std::test::Fail;
 use xr_stim::{StimErr, read_stim};
 use xs_instr::StimLine;
+use xw_words::Memory;
 
 /// A line of a stimulus: tick, core, the port's place, value.
 type Line = (u32, u8, u8, u32);
@@ -31,13 +30,21 @@ const READ: [(&str, &[Line]); 10] = [
     ),
 ];
 
-#[test]
-fn good_texts_are_read(rt: HostRuntime) -> Result<(), Fail> {
-    for (text, lines) in READ {
-        let stim = read_stim(rt.alloc(), text.as_bytes())?;
-        assert!(rt; are_same(stim.lines.as_slice(), lines), "{text}");
+/// The place of the first good text that isn't read so.
+pub fn wrong_good_text(alloc: Global) -> Option<usize> {
+    for (place, (text, lines)) in READ.iter().enumerate() {
+        if !is_read_so(alloc, text.as_bytes(), lines) {
+            return Some(place);
+        }
     }
-    Ok(())
+    None
+}
+
+fn is_read_so(alloc: Global, text: &[u8], lines: &[Line]) -> bool {
+    match read_stim(alloc, text) {
+        Ok(stim) => are_same(stim.lines.as_slice(), lines),
+        Err(_) => false,
+    }
 }
 
 fn are_same(read: &[StimLine], lines: &[Line]) -> bool {
@@ -49,7 +56,7 @@ fn are_same(read: &[StimLine], lines: &[Line]) -> bool {
     read.len() == lines.len()
 }
 
-// Texts, each with the line and the rule that it is refused by.
+/// Texts, each with the line and the rule that it is refused by.
 const REFUSED: [(&str, u32, u16); 28] = [
     ("7 0 1B", 1, 801),
     ("7 0 1B 1 1", 1, 801),
@@ -81,35 +88,47 @@ const REFUSED: [(&str, u32, u16); 28] = [
     ("7 0 1B 2\n6", 1, 804),
 ];
 
-#[test]
-fn bad_texts_are_refused(rt: HostRuntime) {
-    for (text, line, rule) in REFUSED {
-        assert_refused(&rt, rt.alloc(), text.as_bytes(), line, rule);
+/// The place of the first bad text that isn't refused so.
+pub fn wrong_bad_text(alloc: Global) -> Option<usize> {
+    for (place, (text, line, rule)) in REFUSED.iter().enumerate() {
+        if !is_refused_so(alloc, text.as_bytes(), *line, *rule) {
+            return Some(place);
+        }
     }
+    None
 }
 
-fn assert_refused(rt: &impl Abort, alloc: Global, text: &[u8], line: u32, rule: u16) {
-    let is_refused = match read_stim(alloc, text) {
+fn is_refused_so(alloc: Global, text: &[u8], line: u32, rule: u16) -> bool {
+    match read_stim(alloc, text) {
         Err(StimErr::Line { line: n, rule: r }) => n == line && r == rule,
         _ => false,
-    };
-    assert!(rt; is_refused, "line {line} breaks rule {rule}");
+    }
 }
 
-#[test]
-fn only_100000_lines_are_read(rt: HostRuntime) -> Result<(), Fail> {
-    let mut text = vec![in rt.alloc(); b'\n'; 100_000]?;
-    assert_eq!(rt; read_stim(rt.alloc(), text.as_slice())?.lines.len(), 0);
-    for (last, rule) in [
-        (" ", 805),
-        ("#", 805),
-        ("7 0 1B 1", 805),
-        ("x", 801),
-        ("7 0 1B 2", 804),
-    ] {
+/// What line 100,001 is refused by.
+const LAST_LINES: [(&str, u16); 5] = [
+    (" ", 805),
+    ("#", 805),
+    ("7 0 1B 1", 805),
+    ("x", 801),
+    ("7 0 1B 2", 804),
+];
+
+/// Whether 100,000 lines that say nothing are read.
+pub fn are_100000_lines_read(alloc: Global) -> Result<bool, Memory> {
+    let text = vec![in alloc; b'\n'; 100_000]?;
+    Ok(is_read_so(alloc, text.as_slice(), &[]))
+}
+
+/// The place of the first line behind 100,000 that isn't refused so.
+pub fn wrong_last_line(alloc: Global) -> Result<Option<usize>, Memory> {
+    let mut text = vec![in alloc; b'\n'; 100_000]?;
+    for (place, (last, rule)) in LAST_LINES.iter().enumerate() {
         text.truncate(100_000);
         text.extend_from_slice(last.as_bytes())?;
-        assert_refused(&rt, rt.alloc(), text.as_slice(), 100_001, rule);
+        if !is_refused_so(alloc, text.as_slice(), 100_001, *rule) {
+            return Ok(Some(place));
+        }
     }
-    Ok(())
+    Ok(None)
 }

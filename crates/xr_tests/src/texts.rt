@@ -1,10 +1,12 @@
-//! Listings and records, as they are written.
+//! Listings and records, as they are written, and stimuli, as they are read.
 
+ghost use Rattle.xs_instr.specs.Valid.{Valid};
+
+use crate::stimuli;
 use std::alloc::Global;
-use std::test::Fail;
-use xr_listed::read_image;
+use xr_listed::{ListingErr, read_image};
 use xr_text::{add_instr, add_number, add_pos, add_record, add_word, write_code, write_record};
-use xs_instr::{Cond, EndWord, GetKind, Instr, Record, Reg, Trap};
+use xs_instr::{Cond, EndWord, GetKind, Image, Instr, Record, Reg, Trap};
 use xw_io::{MemSink, Out, SinkFault};
 use xw_words::{List, Memory, Pos};
 
@@ -62,12 +64,11 @@ in 3 16B @0 1
 err 2 12:5 index
 ";
 
-#[test]
-fn texts_are_written(rt: HostRuntime) -> Result<(), Fail> {
-    let mut sink = sink_of(rt.alloc(), 4096)?;
-    let mut out = Out::new(&mut sink);
-    for instr in INSTRUCTIONS {
-        add_instr(&mut out, instr);
+/// Writes the instructions and the small pieces.
+fn add_pieces(sink: &mut MemSink) {
+    let mut out = Out::new(sink);
+    for instr in &INSTRUCTIONS {
+        add_instr(&mut out, *instr);
         out.add(b"\n");
     }
     add_word(&mut out, EndWord::Stuck);
@@ -75,13 +76,26 @@ fn texts_are_written(rt: HostRuntime) -> Result<(), Fail> {
     add_pos(&mut out, Pos { line: 3, col: 40 });
     add_record(&mut out, &Record::Com { core: 0, value: 7 });
     out.settle();
-    for record in RECORDS {
-        let mut out = Out::new(&mut sink);
-        assert_eq!(rt; write_record(&mut out, &record), Ok(()));
+}
+
+/// Whether the records are written, each for itself.
+fn are_records_written(sink: &mut MemSink) -> bool {
+    for record in &RECORDS {
+        let mut out = Out::new(sink);
+        if write_record(&mut out, record).is_err() {
+            return false;
+        }
         out.settle();
     }
-    assert_eq!(rt; sink.bytes(), TEXTS.as_bytes());
-    Ok(())
+    true
+}
+
+/// Whether the instructions, the pieces and the records have their texts.
+fn have_texts(alloc: Global) -> Result<bool, Memory> {
+    let mut sink = sink_of(alloc, 4096)?;
+    add_pieces(&mut sink);
+    let are_written = are_records_written(&mut sink);
+    Ok(are_written && sink.bytes() == TEXTS.as_bytes())
 }
 
 fn sink_of(alloc: Global, room: usize) -> Result<MemSink, Memory> {
@@ -111,25 +125,64 @@ const LISTING: &str = "\
 .chan 3 0 0 0
 ";
 
-/// An image has its listing, and a fault in between leaves a front of it.
-#[test]
-fn listings_are_written(rt: HostRuntime) -> Result<(), Fail> {
-    let image = read_image(rt.alloc(), LISTING)?;
-    let mut sink = sink_of(rt.alloc(), 4096)?;
-    let mut out = Out::new(&mut sink);
-    assert_eq!(rt; write_code(&mut out, &image), Ok(()));
+/// What comes of a listing behind so many bytes, and of these.
+fn written(sink: &mut MemSink, before: &[u8], image: &Image) -> [Result<(), SinkFault>; 2]
+    requires { Valid image.now }
+{
+    let mut out = Out::new(sink);
+    let outcome = out.write(before);
+    if outcome.is_err() {
+        return [outcome, outcome];
+    }
+    let listed = write_code(&mut out, image);
     out.settle();
-    assert_eq!(rt; sink.bytes(), LISTING.as_bytes());
-    let mut sink = sink_of(rt.alloc(), 4050)?;
-    let mut out = Out::new(&mut sink);
-    assert_eq!(rt; out.write(&[b'-'; 4000]), Ok(()));
-    assert_eq!(rt; write_code(&mut out, &image), Err(SinkFault));
-    out.settle();
+    [outcome, listed]
+}
+
+/// Whether an image has its listing.
+fn has_listing(alloc: Global, image: &Image) -> Result<bool, Memory>
+    requires { Valid image.now }
+{
+    let mut sink = sink_of(alloc, 4096)?;
+    let outcomes = written(&mut sink, b"", image);
+    Ok(outcomes == [Ok(()), Ok(())] && sink.bytes() == LISTING.as_bytes())
+}
+
+/// Whether a fault in between leaves a front of it: 50 bytes behind 4,000 others.
+fn has_front(alloc: Global, image: &Image) -> Result<bool, Memory>
+    requires { Valid image.now }
+{
+    let mut sink = sink_of(alloc, 4050)?;
+    let outcomes = written(&mut sink, &[b'-'; 4000], image);
     let bytes = sink.bytes();
-    assert_eq!(rt; bytes.len(), 4050);
-    assert_eq!(rt;
-        &bytes[4000..],
-        b".core 0\n.words 16384\n.timers 10\n.ends 1\n.port 1A o".as_slice()
-    );
-    Ok(())
+    Ok(
+        outcomes == [Ok(()), Err(SinkFault)]
+            && bytes.len() == 4050
+            && bytes.ends_with(b"-.core 0\n.words 16384\n.timers 10\n.ends 1\n.port 1A o"),
+    )
+}
+
+fn are_listings_so(alloc: Global) -> Result<[Result<bool, Memory>; 2], ListingErr> {
+    let image = read_image(alloc, LISTING)?;
+    Ok([has_listing(alloc, &image), has_front(alloc, &image)])
+}
+
+/// Instructions, small pieces and records have their texts, and an image its listing; a fault in between leaves a front of it.
+#[test]
+fn texts_are_written(rt: HostRuntime) {
+    let told = (have_texts(rt.alloc()), are_listings_so(rt.alloc()));
+    assert_eq!(rt; told, (Ok(true), Ok([Ok(true); 2])));
+}
+
+/// Good stimuli are read, bad ones are refused by the line and the rule, and so is a line behind 100,000.
+#[test]
+fn stimuli_are_read_and_refused(rt: HostRuntime) {
+    let alloc = rt.alloc();
+    let wrong = [
+        Ok(stimuli::wrong_good_text(alloc)),
+        Ok(stimuli::wrong_bad_text(alloc)),
+        stimuli::wrong_last_line(alloc),
+    ];
+    let told = (wrong, stimuli::are_100000_lines_read(alloc));
+    assert_eq!(rt; told, ([Ok(None); 3], Ok(true)));
 }

@@ -108,73 +108,105 @@ fn look_up(
 #[cfg(test)]
 mod tests {
     use super::*;
-    use std::alloc::AllocError;
-    use std::test::Fail;
+    use xw_words::Memory;
 
-    fn file(alloc: Global, name: &str, bytes: Vec<u8>) -> Result<File, AllocError> {
+    /// Files: the name, the front of the bytes, and their number. The rest are sevens.
+    const FILES: [(&str, &[u8], usize); 5] = [
+        ("a.xc", b"main", 4),
+        ("empty.xc", b"", 0),
+        ("full.xc", b"", 4_194_304),
+        ("long.xc", b"", 4_194_305),
+        ("a.xc", b"other", 5),
+    ];
+
+    /// What is loaded where no load is to fail: the name, the number of bytes, and their front.
+    const LOADS: [(&str, Result<usize, LoadErr>, &[u8]); 8] = [
+        ("a.xc", Ok(4), b"main"),
+        ("empty.xc", Ok(0), b""),
+        ("full.xc", Ok(4_194_304), b"\x07\x07"),
+        ("long.xc", Err(LoadErr::TooLong), b""),
+        ("b.xc", Err(LoadErr::Missing), b""),
+        ("a.x", Err(LoadErr::Missing), b""),
+        ("", Err(LoadErr::Missing), b""),
+        ("a.xc", Ok(4), b"main"),
+    ];
+
+    const COUNTS: Counts = Counts {
+        faults: 0,
+        misses: 3,
+        longs: 1,
+    };
+
+    /// What is loaded where the first load and the third are to fail.
+    const LOADS_THAT_FAIL: [(&str, Result<usize, LoadErr>, &[u8]); 4] = [
+        ("a.xc", Err(LoadErr::Failed), b""),
+        ("a.xc", Ok(4), b"main"),
+        ("b.xc", Err(LoadErr::Failed), b""),
+        ("b.xc", Err(LoadErr::Missing), b""),
+    ];
+
+    const COUNTS_THAT_FAIL: Counts = Counts {
+        faults: 2,
+        misses: 1,
+        longs: 0,
+    };
+
+    fn file(alloc: Global, name: &str, front: &[u8], length: usize) -> Result<File, Memory> {
+        let name = List::from_vec(name.as_bytes().to_vec(alloc)?);
+        let mut bytes = front.to_vec(alloc)?;
+        bytes.resize(length, 7)?;
         Ok(File {
-            name: List::from_vec(name.as_bytes().to_vec(alloc)?),
+            name,
             bytes: List::from_vec(bytes),
         })
     }
 
-    /// Files of 4, 0, 4,194,304 and 4,194,305 bytes, and a second one of the first's name.
-    fn shelf(alloc: Global, fails: Vec<u32>) -> Result<MemShelf, AllocError> {
-        let mut files = Vec::new(alloc);
-        files.push(file(alloc, "a.xc", b"main".to_vec(alloc)?)?)?;
-        files.push(file(alloc, "empty.xc", Vec::new(alloc))?)?;
-        files.push(file(alloc, "full.xc", vec![in alloc; 7; 4_194_304]?)?)?;
-        files.push(file(alloc, "long.xc", vec![in alloc; 7; 4_194_305]?)?)?;
-        files.push(file(alloc, "a.xc", b"other".to_vec(alloc)?)?)?;
-        Ok(MemShelf::new(List::from_vec(files), List::from_vec(fails)))
+    fn shelf(alloc: Global, fails: &[u32]) -> Result<MemShelf, Memory> {
+        let fails = List::from_vec(fails.to_vec(alloc)?);
+        let mut files = List::new(alloc);
+        for (name, front, length) in &FILES {
+            files.push(file(alloc, name, front, *length)?)?;
+        }
+        Ok(MemShelf::new(files, fails))
     }
 
-    #[test]
-    fn gives_and_refuses(rt: HostRuntime) -> Result<(), Fail> {
-        let mut shelf = shelf(rt.alloc(), Vec::new(rt.alloc()))?;
-        let table = [
-            ("a.xc", Ok(4)),
-            ("empty.xc", Ok(0)),
-            ("full.xc", Ok(4_194_304)),
-            ("long.xc", Err(LoadErr::TooLong)),
-            ("b.xc", Err(LoadErr::Missing)),
-            ("a.x", Err(LoadErr::Missing)),
-            ("", Err(LoadErr::Missing)),
-        ];
-        for (name, want) in table {
-            let got = shelf.load(rt.alloc(), name).map(|text| text.len());
-            assert_eq!(rt; got, want, "{name}");
+    /// Whether a load gives a file of this length and front, or this refusal.
+    fn loads_so(
+        alloc: Global,
+        shelf: &mut MemShelf,
+        name: &str,
+        length: Result<usize, LoadErr>,
+        front: &[u8],
+    ) -> bool {
+        match shelf.load(alloc, name) {
+            Ok(text) => length == Ok(text.len()) && text.starts_with(front),
+            Err(refusal) => length == Err(refusal),
         }
-        let text = shelf.load(rt.alloc(), "a.xc")?;
-        assert_eq!(rt; text.as_slice(), b"main".as_slice());
-        let counts = Counts {
-            faults: 0,
-            misses: 3,
-            longs: 1,
-        };
-        assert_eq!(rt; shelf.counts, counts);
-        Ok(())
     }
 
-    #[test]
-    fn fails_where_listed(rt: HostRuntime) -> Result<(), Fail> {
-        let mut shelf = shelf(rt.alloc(), [1, 3].to_vec(rt.alloc())?)?;
-        let table = [
-            ("a.xc", Err(LoadErr::Failed)),
-            ("a.xc", Ok(4)),
-            ("b.xc", Err(LoadErr::Failed)),
-            ("b.xc", Err(LoadErr::Missing)),
-        ];
-        for (name, want) in table {
-            let got = shelf.load(rt.alloc(), name).map(|text| text.len());
-            assert_eq!(rt; got, want, "{name}");
+    /// The place of the first load that gives something else, and what is counted.
+    fn wrong_load(
+        alloc: Global,
+        fails: &[u32],
+        loads: &[(&str, Result<usize, LoadErr>, &[u8])],
+    ) -> Result<(Option<usize>, Counts), Memory> {
+        let mut shelf = shelf(alloc, fails)?;
+        for (place, (name, length, front)) in loads.iter().enumerate() {
+            if !loads_so(alloc, &mut shelf, name, *length, front) {
+                return Ok((Some(place), shelf.counts));
+            }
         }
-        let counts = Counts {
-            faults: 2,
-            misses: 1,
-            longs: 0,
-        };
-        assert_eq!(rt; shelf.counts, counts);
-        Ok(())
+        Ok((None, shelf.counts))
+    }
+
+    /// A shelf gives the first file of a name, refuses names that it has no file of and files that are too long, fails
+    /// at the loads that are listed, and counts each refusal.
+    #[test]
+    fn gives_refuses_and_fails(rt: HostRuntime) {
+        let told = (
+            wrong_load(rt.alloc(), &[], &LOADS),
+            wrong_load(rt.alloc(), &[1, 3], &LOADS_THAT_FAIL),
+        );
+        assert_eq!(rt; told, (Ok((None, COUNTS)), Ok((None, COUNTS_THAT_FAIL))));
     }
 }

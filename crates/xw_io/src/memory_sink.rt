@@ -84,27 +84,67 @@ impl Sink for MemSink {
 #[cfg(test)]
 mod tests {
     use super::*;
-    use std::test::Fail;
 
-    #[test]
-    fn takes_what_fits(rt: HostRuntime) -> Result<(), Fail> {
-        let mut sink = MemSink::new(rt.alloc(), 5, List::new(rt.alloc()))?;
-        assert_eq!(rt; sink.put(b"abc"), Put::Took(3));
-        assert_eq!(rt; sink.put(b"def"), Put::Took(2));
-        assert_eq!(rt; sink.put(b"f"), Put::Failed);
-        assert_eq!(rt; sink.bytes(), b"abcde".as_slice());
-        assert_eq!(rt; sink.faults, 1);
-        Ok(())
+    /// Sinks: the room, the puts that are to fail, three pieces with their answers, and all that is taken.
+    const SINKS: [(usize, &[u32], [(&[u8], Put); 3], &[u8]); 2] = [
+        (
+            5,
+            &[],
+            [
+                (b"abc", Put::Took(3)),
+                (b"def", Put::Took(2)),
+                (b"f", Put::Failed),
+            ],
+            b"abcde",
+        ),
+        (
+            100,
+            &[2],
+            [
+                (b"ab", Put::Took(2)),
+                (b"cd", Put::Failed),
+                (b"cd", Put::Took(2)),
+            ],
+            b"abcd",
+        ),
+    ];
+
+    /// Whether a sink answers each piece so, and then has these bytes and has failed once.
+    fn answers_so(sink: &mut MemSink, pieces: &[(&[u8], Put)], taken: &[u8]) -> bool {
+        for (piece, want) in pieces {
+            if piece.is_empty() || sink.put(piece) != *want {
+                return false;
+            }
+        }
+        sink.bytes() == taken && sink.faults == 1
     }
 
+    /// The same of a new sink.
+    fn starts_so(
+        alloc: Global,
+        room: usize,
+        fails: &[u32],
+        pieces: &[(&[u8], Put)],
+        taken: &[u8],
+    ) -> Result<bool, Memory> {
+        let fails = List::from_vec(fails.to_vec(alloc)?);
+        let mut sink = MemSink::new(alloc, room, fails)?;
+        Ok(answers_so(&mut sink, pieces, taken))
+    }
+
+    /// The place of the first sink that answers otherwise.
+    fn wrong_sink(alloc: Global) -> Result<Option<usize>, Memory> {
+        for (place, (room, fails, pieces, taken)) in SINKS.iter().enumerate() {
+            if !starts_so(alloc, *room, fails, pieces, taken)? {
+                return Ok(Some(place));
+            }
+        }
+        Ok(None)
+    }
+
+    /// A sink takes what fits and then fails, and it fails at a put that is listed and goes on after it.
     #[test]
-    fn fails_where_listed(rt: HostRuntime) -> Result<(), Fail> {
-        let mut sink = MemSink::new(rt.alloc(), 100, List::from_vec([2].to_vec(rt.alloc())?))?;
-        assert_eq!(rt; sink.put(b"ab"), Put::Took(2));
-        assert_eq!(rt; sink.put(b"cd"), Put::Failed);
-        assert_eq!(rt; sink.put(b"cd"), Put::Took(2));
-        assert_eq!(rt; sink.bytes(), b"abcd".as_slice());
-        assert_eq!(rt; sink.faults, 1);
-        Ok(())
+    fn takes_what_fits_and_fails_where_listed(rt: HostRuntime) {
+        assert_eq!(rt; wrong_sink(rt.alloc()), Ok(None));
     }
 }

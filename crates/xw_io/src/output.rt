@@ -134,50 +134,82 @@ fn put_all<O: Sink>(sink: &mut O, text: &[u8]) -> Result<(), SinkFault>
 mod tests {
     use super::*;
     use crate::MemSink;
-    use std::test::Fail;
-    use xw_words::List;
+    use std::alloc::Global;
+    use xw_words::{List, Memory};
 
-    #[test]
-    fn gathers_and_hands_on(rt: HostRuntime) -> Result<(), Fail> {
-        let mut sink = MemSink::new(rt.alloc(), 20_000, List::new(rt.alloc()))?;
-        let long = vec![in rt.alloc(); b'x'; 10_000]?;
-        let mut out = Out::new(&mut sink);
-        out.write(b"ab")?;
-        out.write(long.as_slice())?;
-        out.write(b"cd")?;
-        out.flush()?;
-        let bytes = sink.bytes();
-        assert_eq!(rt; bytes.len(), 10_004);
-        assert!(rt; bytes.starts_with(b"abx"));
-        assert!(rt; bytes.ends_with(b"xcd"));
-        Ok(())
+    /// The room of a sink, the length of a long piece, how many calls go well, and of the bytes that the sink has
+    /// then how many there are and the last three.
+    const LONG_PIECES: [(usize, usize, usize, usize, &[u8]); 2] = [
+        (20_000, 10_000, 4, 10_004, b"xcd"),
+        (5_000, 9_000, 1, 5_000, b"xxx"),
+    ];
+
+    /// How many of these calls go well, before the first that does not.
+    fn calls_that_go_well(sink: &mut MemSink, long: &[u8]) -> usize {
+        let mut out = Out::new(sink);
+        if out.write(b"ab").is_err() {
+            return 0;
+        }
+        if out.write(long).is_err() {
+            return 1;
+        }
+        if out.write(b"cd").is_err() {
+            return 2;
+        }
+        if out.flush().is_err() { 3 } else { 4 }
     }
 
-    #[test]
-    fn faults_in_mid_stream(rt: HostRuntime) -> Result<(), Fail> {
-        let mut sink = MemSink::new(rt.alloc(), 5_000, List::new(rt.alloc()))?;
-        let long = vec![in rt.alloc(); b'x'; 9_000]?;
-        let mut out = Out::new(&mut sink);
-        out.write(b"ab")?;
-        assert_eq!(rt; out.write(long.as_slice()), Err(SinkFault));
+    /// How many calls go well, how many bytes the sink has then, and whether they begin and end as they should.
+    fn handed_on(
+        alloc: Global,
+        room: usize,
+        length: usize,
+        end: &[u8],
+    ) -> Result<(usize, usize, bool), Memory> {
+        let long = vec![in alloc; b'x'; length]?;
+        let mut sink = MemSink::new(alloc, room, List::new(alloc))?;
+        let well = calls_that_go_well(&mut sink, long.as_slice());
         let bytes = sink.bytes();
-        assert_eq!(rt; bytes.len(), 5_000);
-        assert!(rt; bytes.starts_with(b"abx"));
-        Ok(())
+        let is_framed = bytes.starts_with(b"abx") && bytes.ends_with(end);
+        Ok((well, bytes.len(), is_framed))
     }
 
-    #[test]
-    fn adds_nothing_after_a_fault(rt: HostRuntime) -> Result<(), Fail> {
-        let mut sink = MemSink::new(rt.alloc(), 3, List::new(rt.alloc()))?;
-        let mut out = Out::new(&mut sink);
+    /// The place of the first long piece that is handed on otherwise.
+    fn wrong_long_piece(alloc: Global) -> Result<Option<usize>, Memory> {
+        for (place, (room, length, calls, count, end)) in LONG_PIECES.iter().enumerate() {
+            if handed_on(alloc, *room, *length, end)? != (*calls, *count, true) {
+                return Ok(Some(place));
+            }
+        }
+        Ok(None)
+    }
+
+    /// The outcome before a sink fails, once it has failed, and after more is added then.
+    fn outcomes(sink: &mut MemSink) -> [Result<(), SinkFault>; 3] {
+        let mut out = Out::new(sink);
         out.add(b"hello");
-        assert_eq!(rt; out.outcome(), Ok(()));
+        let before = out.outcome();
         out.settle();
-        assert_eq!(rt; out.outcome(), Err(SinkFault));
+        let failed = out.outcome();
         out.add(b"lost");
         out.settle();
-        assert_eq!(rt; out.outcome(), Err(SinkFault));
-        assert_eq!(rt; sink.bytes(), b"hel".as_slice());
-        Ok(())
+        [before, failed, out.outcome()]
+    }
+
+    /// Whether a sink with room for three bytes is told to have failed, and has no more than what it took.
+    fn adds_nothing_after_a_fault(alloc: Global) -> Result<bool, Memory> {
+        let mut sink = MemSink::new(alloc, 3, List::new(alloc))?;
+        let told = outcomes(&mut sink);
+        Ok(told == [Ok(()), Err(SinkFault), Err(SinkFault)] && sink.bytes() == b"hel".as_slice())
+    }
+
+    /// What is written is gathered and handed on, up to a fault in mid-stream, and nothing is added after a fault.
+    #[test]
+    fn gathers_up_to_a_fault(rt: HostRuntime) {
+        let told = (
+            wrong_long_piece(rt.alloc()),
+            adds_nothing_after_a_fault(rt.alloc()),
+        );
+        assert_eq!(rt; told, (Ok(None), Ok(true)));
     }
 }

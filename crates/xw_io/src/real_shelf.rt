@@ -92,7 +92,6 @@ fn read_to_end<F: Read>(alloc: Global, file: &mut F) -> Result<Vec<u8>, LoadErr>
 mod tests {
     use super::*;
     use std::io;
-    use std::test::Fail;
 
     /// Gives a number of bytes, in parts as large as are asked for, and then fails or ends.
     #[derive(Drop)]
@@ -112,29 +111,40 @@ mod tests {
         }
     }
 
-    #[test]
-    fn reads_to_the_end(rt: HostRuntime) {
-        let table = [
-            (0, true, Ok(0)),
-            (5_000, true, Ok(5_000)),
-            (5_000, false, Err(LoadErr::Failed)),
-            (4_194_304, true, Ok(4_194_304)),
-            (4_194_305, true, Err(LoadErr::TooLong)),
-        ];
-        for (left, ends, want) in table {
-            let got = read_to_end(rt.alloc(), &mut Tape { left, ends }).map(|text| text.len());
-            assert_eq!(rt; got, want, "{left}");
+    /// How many bytes a tape gives, whether it ends, and how many are read.
+    const TAPES: [(usize, bool, Result<usize, LoadErr>); 5] = [
+        (0, true, Ok(0)),
+        (5_000, true, Ok(5_000)),
+        (5_000, false, Err(LoadErr::Failed)),
+        (4_194_304, true, Ok(4_194_304)),
+        (4_194_305, true, Err(LoadErr::TooLong)),
+    ];
+
+    /// The place of the first tape that is read otherwise.
+    fn wrong_tape(alloc: Global) -> Option<usize> {
+        for (place, (left, ends, want)) in TAPES.iter().enumerate() {
+            let mut tape = Tape {
+                left: *left,
+                ends: *ends,
+            };
+            if length_of(read_to_end(alloc, &mut tape)) != *want {
+                return Some(place);
+            }
         }
+        None
     }
 
+    fn length_of(read: Result<Vec<u8>, LoadErr>) -> Result<usize, LoadErr> {
+        Ok(read?.len())
+    }
+
+    /// Tapes are read to their ends, and a file that isn't there is told and counted.
     #[test]
-    fn misses_no_file(rt: HostRuntime) -> Result<(), Fail> {
+    fn reads_to_the_end_and_misses_no_file(rt: HostRuntime) {
+        let wrong = wrong_tape(rt.alloc());
         let mut shelf = FsShelf::new(&rt);
-        let refused = shelf
-            .load(rt.alloc(), "no/such/file.xc")
-            .map(|text| text.len());
-        assert_eq!(rt; refused, Err(LoadErr::Missing));
-        assert_eq!(rt; shelf.counts.misses, 1);
-        Ok(())
+        let refused = length_of(shelf.load(rt.alloc(), "no/such/file.xc"));
+        let told = (wrong, refused, shelf.counts.misses);
+        assert_eq!(rt; told, (None, Err(LoadErr::Missing), 1));
     }
 }

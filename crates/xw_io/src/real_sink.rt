@@ -100,25 +100,34 @@ mod tests {
         }
     }
 
-    #[test]
-    fn puts_to_a_stream(rt: HostRuntime) {
+    /// What each put of five bytes answers, how many bytes are flushed then, and how many puts have failed.
+    const PUTS: [(Put, usize, u64); 5] = [
+        (Put::Took(2), 2, 0),
+        (Put::Failed, 2, 1),
+        (Put::Failed, 2, 2),
+        (Put::Took(5), 7, 2),
+        (Put::Failed, 7, 3),
+    ];
+
+    /// The place of the first put that is answered otherwise.
+    fn wrong_put() -> Option<usize> {
         let mut sink = StdSink::new(Planned {
             plan: [Some(2), Some(0), None, Some(9)],
             next: 0,
             taken: 0,
             flushed: 0,
         });
-        let table = [
-            (Put::Took(2), 2, 0),
-            (Put::Failed, 2, 1),
-            (Put::Failed, 2, 2),
-            (Put::Took(5), 7, 2),
-            (Put::Failed, 7, 3),
-        ];
-        for (want, flushed, faults) in table {
-            assert_eq!(rt; sink.put(b"hello"), want);
-            assert_eq!(rt; sink.stream.flushed, flushed);
-            assert_eq!(rt; sink.faults, faults);
+        for (place, want) in PUTS.iter().enumerate() {
+            if (sink.put(b"hello"), sink.stream.flushed, sink.faults) != *want {
+                return Some(place);
+            }
         }
+        None
+    }
+
+    /// A put writes and flushes once, and fails where nothing is taken.
+    #[test]
+    fn puts_to_a_stream(rt: HostRuntime) {
+        assert_eq!(rt; wrong_put(), None);
     }
 }
