@@ -31,12 +31,28 @@ fn add_piece(alloc: Global, e: &mut Emitter, plan: &Plan, piece: &str) -> Result
     requires few { length e.old ≤ 2000 }
 {
     match piece.split_once(' ') {
-        Some(("give", x)) => emit_expr(e, plan, &expression(alloc, x)?, Reg::R5)?,
-        Some(("test", x)) => {
-            let _hole = emit_test(e, plan, &expression(alloc, x)?, NAME)?;
-        }
-        _ => add_word(e, piece)?,
+        Some(("give", x)) => add_give(alloc, e, plan, x),
+        Some(("test", x)) => add_test(alloc, e, plan, x),
+        _ => add_word(e, piece),
     }
+}
+
+fn add_give(alloc: Global, e: &mut Emitter, plan: &Plan, x: &str) -> Result<(), Trouble>
+    requires few { length e.old ≤ 2000 }
+{
+    let x = expression(alloc, x)?;
+    let given = emit_expr(e, plan, &x, Reg::R5);
+    drop(x);
+    Ok(given?)
+}
+
+fn add_test(alloc: Global, e: &mut Emitter, plan: &Plan, x: &str) -> Result<(), Trouble>
+    requires few { length e.old ≤ 2000 }
+{
+    let x = expression(alloc, x)?;
+    let tested = emit_test(e, plan, &x, NAME);
+    drop(x);
+    let _hole = tested?;
     Ok(())
 }
 

@@ -98,14 +98,25 @@ pub fn finished(e: Emitter) -> Result<Code, Trouble>
 /// How a run of this code ends, on a core with port 32A.
 pub fn run(alloc: Global, code: Code) -> Result<End, Trouble> {
     let image = image_of(alloc, code)?;
-    if !is_valid(&image) {
+    let end = end_of_image(alloc, &image);
+    drop(image);
+    end
+}
+
+/// How the run of an image's core 0 ends.
+fn end_of_image(alloc: Global, image: &Image) -> Result<End, Trouble> {
+    if !is_valid(image) {
         return Err(Trouble::Image);
     }
     let stim = Stim {
         lines: List::new(alloc),
     };
-    let mut core = Core::new(alloc, &image, 0, &stim)?;
-    Ok(end_of_run(&mut core)?)
+    let core = Core::new(alloc, image, 0, &stim);
+    drop(stim);
+    let mut core = core?;
+    let end = end_of_run(&mut core);
+    drop(core);
+    Ok(end?)
 }
 
 /// How a core's run ends. A tick passes at each pause.

@@ -19,6 +19,7 @@ use statements::code_of;
 use std::alloc::Global;
 use std::process::ExitCode;
 use trouble::Trouble;
+use xl_expr::Plan;
 use xw_cases::{CaseFile, Cases, report, tell};
 use xw_io::{FsShelf, Out, Sink, StdSink};
 
@@ -85,7 +86,9 @@ fn are_operands_right<O: Sink>(
     let (second, rest) = rest.split_once(' ').ok_or(Trouble::Line)?;
     for (of_first, of_second) in WRITTEN {
         let line = format!(in alloc; "give {first}{of_first} {second}{of_second} {rest}")?;
-        if !is_right(alloc, out, line.as_str())? {
+        let is_right = is_right(alloc, out, line.as_str());
+        drop(line);
+        if !is_right? {
             return Ok(false);
         }
     }
@@ -106,10 +109,17 @@ fn is_right<O: Sink>(alloc: Global, out: &mut Out<'_, O>, line: &str) -> Result<
 /// What comes of code: how its run ends, or how much it is.
 fn came_of(alloc: Global, code: &str) -> Result<String, Trouble> {
     let plan = plan(alloc)?;
-    if let Some(pieces) = code.strip_prefix("count ") {
-        return count_of(alloc, &plan, pieces);
-    }
-    let code = code_of(alloc, &plan, code)?;
+    let came = match code.strip_prefix("count ") {
+        Some(pieces) => count_of(alloc, &plan, pieces),
+        None => ended_as(alloc, &plan, code),
+    };
+    drop(plan);
+    came
+}
+
+/// How the run of code ends.
+fn ended_as(alloc: Global, plan: &Plan, code: &str) -> Result<String, Trouble> {
+    let code = code_of(alloc, plan, code)?;
     let end = run(alloc, code)?;
     Ok(format!(in alloc; "{}", ShownEnd(end))?)
 }

@@ -78,8 +78,10 @@ fn add_set(alloc: Global, e: &mut Emitter, plan: &Plan, text: &str) -> Result<()
     let (dst, x) = text.split_once(" | ").ok_or(Trouble::Line)?;
     let dst = place(alloc, dst)?;
     let x = expression(alloc, x)?;
-    emit_set(e, plan, &dst, &x)?;
-    Ok(())
+    let set = emit_set(e, plan, &dst, &x);
+    drop(dst);
+    drop(x);
+    Ok(set?)
 }
 
 /// `VARIABLE`
@@ -116,8 +118,9 @@ fn add_output(e: &mut Emitter, plan: &Plan, text: &str) -> Result<(), Trouble>
     ensures aimed { OnOk result (AreAimed 0 e.new) }
 {
     let output = output_of(text)?;
-    emit_port_out(e, plan, &output)?;
-    Ok(())
+    let added = emit_port_out(e, plan, &output);
+    drop(output);
+    Ok(added?)
 }
 
 fn output_of(text: &str) -> Result<KOut, Trouble>
@@ -163,7 +166,11 @@ fn add_loop(alloc: Global, e: &mut Emitter, plan: &Plan, text: &str) -> Result<(
     let test = expression(alloc, test)?;
     let dst = place(alloc, dst)?;
     let x = expression(alloc, x)?;
-    Ok(add_while(e, plan, &test, &dst, &x, NAME)?)
+    let added = add_while(e, plan, &test, &dst, &x, NAME);
+    drop(test);
+    drop(dst);
+    drop(x);
+    Ok(added?)
 }
 
 /// The code that sets a place while an expression isn't 0.
@@ -202,7 +209,10 @@ fn add_pass(alloc: Global, e: &mut Emitter, plan: &Plan, text: &str) -> Result<(
     let (dst, x) = text.split_once(" | ").ok_or(Trouble::Line)?;
     let dst = place(alloc, dst)?;
     let x = expression(alloc, x)?;
-    Ok(add_passed(e, plan, &dst, &x, NAME)?)
+    let added = add_passed(e, plan, &dst, &x, NAME);
+    drop(dst);
+    drop(x);
+    Ok(added?)
 }
 
 /// The code of an assignment, and of a jump over it.
