@@ -66,8 +66,7 @@ impl<'p, 'a> Context<'p, 'a> {
             cases = after(added, cases)?;
             scope.leave(known);
         }
-        let copied = cases.as_select(alloc, pos)?;
-        Ok(copied)
+        cases.as_select(alloc, pos)
     }
 
     /// One more case, or the `default`, behind others. The one error is want of memory.
@@ -140,8 +139,7 @@ impl<'p, 'a> Context<'p, 'a> {
             ≡ calls_spec.as_block (context_of self.now) path whole) }
     {
         let (path, body) = beside(path, body)?;
-        let block = self.as_block(alloc, path.as_slice(), body)?;
-        Ok(block)
+        self.as_block(alloc, path.as_slice(), body)
     }
 
     /// One more case behind others, by what came of it before its body, and by its body, which is a block of this path. The one

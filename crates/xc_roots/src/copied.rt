@@ -49,8 +49,7 @@ impl Copied {
             ≡ spec.one_statement scope (statement_of statement)) }
     {
         let nothing = Copied::nothing(alloc);
-        let copied = nothing.and_statement(statement)?;
-        Ok(copied)
+        nothing.and_statement(statement)
     }
 
     /// One more statement, behind the others. The one error is want of memory.
@@ -60,8 +59,7 @@ impl Copied {
     {
         let mut copied = self;
         let added = push_back(&mut copied.code, statement);
-        let copied = after(added, copied)?;
-        Ok(copied)
+        after(added, copied)
     }
 
     /// The instances of a copy, with one statement in place of its own. The one error is want of memory.
@@ -71,8 +69,7 @@ impl Copied {
     {
         let mut made = self;
         let _replaced = made.take_code(alloc);
-        let copied = made.and_statement(statement)?;
-        Ok(copied)
+        made.and_statement(statement)
     }
 
     /// The copy followed by another. The one error is want of memory.
@@ -83,8 +80,7 @@ impl Copied {
     {
         let mut copied = self;
         let joined = copied.join(other);
-        let copied = after(joined, copied)?;
-        Ok(copied)
+        after(joined, copied)
     }
 
     /// The copy followed by another, where that could be made. The one error is want of memory.
@@ -95,8 +91,7 @@ impl Copied {
             ≡ spec.joined (copy_of self before) other) }
     {
         let (first, next) = beside(self, next)?;
-        let both = first.followed_by(next)?;
-        Ok(both)
+        first.followed_by(next)
     }
 
     /// One more variable, seen before the others. The one error is want of memory.
@@ -106,8 +101,7 @@ impl Copied {
     {
         let mut copied = self;
         let added = push_front(&mut copied.variables, variable);
-        let copied = after(added, copied)?;
-        Ok(copied)
+        after(added, copied)
     }
 
     /// One more block, seen before the others. The one error is want of memory.
@@ -117,8 +111,7 @@ impl Copied {
     {
         let mut copied = self;
         let added = push_front(&mut copied.blocks, path);
-        let copied = after(added, copied)?;
-        Ok(copied)
+        after(added, copied)
     }
 
     /// One more channel, behind the others. The one error is want of memory.
@@ -128,8 +121,7 @@ impl Copied {
     {
         let mut copied = self;
         let added = push_back(&mut copied.channels, channel);
-        let copied = after(added, copied)?;
-        Ok(copied)
+        after(added, copied)
     }
 
     /// One more timer, behind the others. The one error is want of memory.
@@ -139,8 +131,7 @@ impl Copied {
     {
         let mut copied = self;
         let added = push_back(&mut copied.timers, timer);
-        let copied = after(added, copied)?;
-        Ok(copied)
+        after(added, copied)
     }
 
     /// One more instance of a function, behind the others. The one error is want of memory.
@@ -151,8 +142,7 @@ impl Copied {
     {
         let mut copied = self;
         let added = push_back(&mut copied.instances, instance);
-        let copied = after(added, copied)?;
-        Ok(copied)
+        after(added, copied)
     }
 
     /// Another copy behind this one, in place. The one error is want of memory.

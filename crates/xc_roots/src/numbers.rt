@@ -72,8 +72,7 @@ pub fn each_once<T: HasPath + Drop>(alloc: Global, seen: VecDeque<T>) -> Result<
         paths: IndexSet::new(alloc),
     };
     let kept = keep_all(alloc, &mut once, seen);
-    let once = after(kept, once)?;
-    Ok(once)
+    after(kept, once)
 }
 
 /// Keeps each instance whose path is new. The one error is want of memory.

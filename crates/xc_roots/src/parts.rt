@@ -55,8 +55,7 @@ impl Branched {
             ≡ spec.par_copy (branched_before self (spec.no_branches behind))) }
     {
         let Branched { made, branches } = self;
-        let copied = made.with_statement(alloc, Kst::Par(branches))?;
-        Ok(copied)
+        made.with_statement(alloc, Kst::Par(branches))
     }
 }
 
@@ -146,8 +145,7 @@ impl Cased {
             otherwise,
             pos,
         });
-        let copied = made.with_statement(alloc, select)?;
-        Ok(copied)
+        made.with_statement(alloc, select)
     }
 }
 

@@ -114,8 +114,7 @@ pub fn roots_by_numbers<'a>(
         continues: &[],
     };
     let main = functions.main();
-    let rooted = context.roots(alloc, functions.len(), main)?;
-    Ok(rooted)
+    context.roots(alloc, functions.len(), main)
 }
 
 impl<'p, 'a> Context<'p, 'a> {
@@ -136,10 +135,7 @@ impl<'p, 'a> Context<'p, 'a> {
     {
         match main {
             None => Ok(Rooted::none(alloc)),
-            Some(main) => {
-                let rooted = self.roots_by_main(alloc, calls, main)?;
-                Ok(rooted)
-            }
+            Some(main) => { self.roots_by_main(alloc, calls, main) }
         }
     }
 
@@ -158,11 +154,9 @@ impl<'p, 'a> Context<'p, 'a> {
             (calls_copy calls) (Some (function_of main.now)) (context_of self.now)) }
     {
         if block_has_placed(in_block(&main.body)) {
-            let rooted = self.placed_roots(alloc, calls, main)?;
-            Ok(rooted)
+            self.placed_roots(alloc, calls, main)
         } else {
-            let rooted = self.main_root(alloc, calls, main)?;
-            Ok(rooted)
+            self.main_root(alloc, calls, main)
         }
     }
 
@@ -180,8 +174,7 @@ impl<'p, 'a> Context<'p, 'a> {
         let copied = (&*self).function(alloc, calls, own, main, arguments, &scope)?;
         let mut root = Rooted::none(alloc);
         let added = root.add_root(alloc, 0, main.name.pos, main.name.pos, copied);
-        let rooted = after(added, root)?;
-        Ok(rooted)
+        after(added, root)
     }
 
     /// Where a branch of main's is placed: main's instance and its branches. The one error is as for `roots`.
@@ -353,8 +346,10 @@ pub fn core_outside(alloc: Global, place: &Option<At>) -> Result<u8, Memory>
     ensures { IfOk result (λ core. core
         ≡ ports_spec.core_of [] (option_map tree.place_of place.now)) }
 {
-    let core = core_of(alloc, place, &Scope::new(alloc))?;
-    Ok(core)
+    let none = Scope::new(alloc);
+    let core = core_of(alloc, place, &none);
+    drop(none);
+    core
 }
 
 /// The first token of a place's expression, or else another position.

@@ -50,8 +50,7 @@ impl<'p, 'a> Context<'p, 'a> {
         let one = Copied::one_statement(alloc, Kst::Out(output));
         let named = channel_named(alloc, scope, o.name.as_slice());
         let (named, one) = both(named, one)?;
-        let copied = named.followed_by(one)?;
-        Ok(copied)
+        named.followed_by(one)
     }
 
     /// The kernel's output. The one error is want of memory.
@@ -83,8 +82,7 @@ impl<'p, 'a> Context<'p, 'a> {
             ≡ spec.input_copy (context_of self.now) (scope_of scope.old) (tree.input_of i.now)) }
     {
         let received = self.received(alloc, scope, i)?;
-        let copied = received.names.and_statement(Kst::In(received.head))?;
-        Ok(copied)
+        received.names.and_statement(Kst::In(received.head))
     }
 
     /// The kernel's input, and what it declares and names. The one error is want of memory.
@@ -228,8 +226,7 @@ impl<'p, 'a> Context<'p, 'a> {
         let variable = self.word_variable(alloc, true, path.as_slice(), pos);
         let declared = scope.declare(name, Entity::Word(path, unsigned));
         let (_, variable) = both(declared, variable)?;
-        let copied = Copied::nothing(alloc).and_variable(variable)?;
-        Ok(copied)
+        Copied::nothing(alloc).and_variable(variable)
     }
 }
 

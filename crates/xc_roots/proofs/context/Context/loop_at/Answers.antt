@@ -5,10 +5,11 @@ use Rattle.xc_kernel.specs.Kernels as kernel
 use Rattle.xc_roots.specs.Contexts.{context_of}
 use Rattle.xc_roots.specs.Copied.{copy_of}
 use Rattle.xc_roots.proofs.Laws.Flow.{loop_made}
+use Rattle.xc_roots.proofs.Laws.Results.{given_on}
 use Rattle.xc_roots.proofs.context.Context.loop_at.Goals as goal
 
 pub returns : goal.returns
-returns c = λ between behind.
+returns c = given_on c.and_block-2.result c.and_block-2.ensures (λ _ h. λ between behind.
     let here = context_of c.args.self.now in
     let last = option_to_list (option_map kernel.statement_of c.args.last) in
     let round = rw c.in_ok-round.ensures.first at c.round-round.ensures in
@@ -21,4 +22,4 @@ returns c = λ between behind.
     c.requires (c.take_code-followed.ensures.left between) (c.take_code-done.ensures.left behind) (made between behind)
     refl
     (c.block_at.ensures ∙ λ i. contexts.block_at here (whole i) (round i))
-    (c.in_ok-looped.ensures behind) (c.in_ok-inner.ensures behind) (c.in_ok-outer.ensures behind)
+    (c.in_ok-looped.ensures behind) (c.in_ok-inner.ensures behind) (h behind))

@@ -7,10 +7,11 @@ use Rattle.xc_kernel.specs.Transfers as spec
 use Rattle.xc_roots.specs.Contexts.{context_of}
 use Rattle.xc_roots.specs.Scopes.{scope_of}
 use Rattle.xc_roots.proofs.Laws.Transfers.{names_joined}
+use Rattle.xc_roots.proofs.Laws.Results.{given_on}
 use Rattle.xc_roots.proofs.context.Context.output.Goals as goal
 
 pub returns : goal.returns
-returns c =
+returns c = given_on c.followed_by.result c.followed_by.ensures (λ _ h.
     let here = context_of c.args.self.now in
     let scope = scope_of c.args.scope.now in
     let o = tree.output_of c.args.o.now in
@@ -19,4 +20,4 @@ returns c =
     names_joined scope o.name.text (copies.one_statement scope (plain.output (spec.output_of here scope o)))
     (named scope ∙ ap (λ t. spec.naming scope t (copies.no_copy scope)) c.as_slice.ensures)
     (one scope ∙ ap (copies.one_statement scope) (statement-Out c.in_ok-output.output ∙ ap plain.output c.in_ok-output.ensures))
-    refl (c.in_ok-copied.ensures scope scope)
+    refl (h scope scope))
