@@ -165,7 +165,8 @@ impl<'p, 'a> Context<'p, 'a> {
             (contexts.word_variable (context_of self.now) false path.now pos)) }
     {
         let variable = self.word_variable(alloc, false, path, pos)?;
-        let zeroed = Copied::one_statement(alloc, self.set_zero(path))?;
+        let zeroed = Copied::one_statement(alloc, self.set_zero(path));
+        let (variable, zeroed) = beside(variable, zeroed)?;
         zeroed.and_variable(variable)
     }
 }

@@ -91,8 +91,7 @@ impl<'p, 'a> Context<'p, 'a> {
         let body = (&*self)
             .in_case(path.as_slice())
             .statements(alloc, calls, case.body.as_slice(), scope);
-        self.add_case(alloc, path, opened, body, cases)?;
-        Ok(())
+        self.add_case(alloc, path, opened, body, cases)
     }
 
     /// What comes of a case before its body, whose names then are known: its guard, and what it receives; nothing of a `default`.
@@ -162,14 +161,8 @@ impl<'p, 'a> Context<'p, 'a> {
         let block = self.block_of(alloc, path, body);
         let (opened, block) = beside(opened, block)?;
         match opened {
-            None => {
-                cases.add_default(alloc, block)?;
-                Ok(())
-            }
-            Some(opened) => {
-                cases.add_case(alloc, opened.guard, opened.received, block)?;
-                Ok(())
-            }
+            None => { cases.add_default(alloc, block) }
+            Some(opened) => { cases.add_case(alloc, opened.guard, opened.received, block) }
         }
     }
 

@@ -152,7 +152,9 @@ impl Copied {
             ≡ spec.joined (copy_of self.old before) (copy_of other after)) }
     {
         let mut other = other;
-        self.append(&mut other)
+        let joined = self.append(&mut other);
+        drop(other);
+        joined
     }
 
     /// All that another copy holds behind what this one does. The one error is want of memory.

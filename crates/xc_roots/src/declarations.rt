@@ -15,7 +15,7 @@ ghost use Rattle.xc_roots.specs.Scopes.{scope_of};
 use crate::context::Context;
 use crate::copied::Copied;
 use crate::expressions::place;
-use crate::memory::both;
+use crate::memory::{beside, both};
 use crate::paths::{path_at, same_path};
 use crate::scope::{Entity, Scope};
 use std::alloc::Global;
@@ -139,7 +139,8 @@ impl<'p, 'a> Context<'p, 'a> {
             (contexts.array_variable (context_of self.now) words path.now pos)) }
     {
         let variable = self.array_variable(alloc, words, path, pos)?;
-        let zeroed = Copied::one_statement(alloc, self.set_zero(path))?;
+        let zeroed = Copied::one_statement(alloc, self.set_zero(path));
+        let (variable, zeroed) = beside(variable, zeroed)?;
         zeroed.and_variable(variable)
     }
 

@@ -83,9 +83,11 @@ impl<'p, 'a> Context<'p, 'a> {
         let round = self.round(alloc, paths.turn.as_slice(), test, done, last, followed);
         let made = next.followed_by(body);
         let (round, made) = both(round, made)?;
-        let looped = made.and_statement(self.block_at(paths.whole.as_slice(), round))?;
-        let inner = looped.and_block(paths.turn)?;
-        inner.and_block(paths.whole)
+        let looped = made.and_statement(self.block_at(paths.whole.as_slice(), round));
+        let (paths, looped) = beside(paths, looped)?;
+        let inner = looped.and_block(paths.turn);
+        let (whole, inner) = beside(paths.whole, inner)?;
+        inner.and_block(whole)
     }
 
     /// The loop alone: its test, the body in a block of this path with what else is done in each turn, and what follows each. The
@@ -106,7 +108,7 @@ impl<'p, 'a> Context<'p, 'a> {
             (plain.statements (map kernel.statement_of followed)) ∷ []) }
     {
         let turn = self.turn(alloc, path, body, last);
-        let (test, turn) = beside(test, turn)?;
+        let ((test, followed), turn) = beside((test, followed), turn)?;
         one(alloc, Kst::Loop(test, turn, followed))
     }
 

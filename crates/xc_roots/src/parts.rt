@@ -106,8 +106,7 @@ impl Cased {
         let pushed = self.cases.push(KCase { guard, head, body });
         let inside = names.followed_by(block);
         let (_, inside) = both(pushed, inside)?;
-        self.made.join(inside)?;
-        Ok(())
+        self.made.join(inside)
     }
 
     /// A `default` behind the others, which counts where none was before. The one error is want of memory.
@@ -125,8 +124,7 @@ impl Cased {
         let body = block.take_code(alloc);
         let before = mem::replace(&mut self.otherwise, None);
         self.otherwise = first_of(before, body);
-        self.made.join(block)?;
-        Ok(())
+        self.made.join(block)
     }
 
     /// A `select` of the cases, whose word stands at a place. The one error is want of memory.

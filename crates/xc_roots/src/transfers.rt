@@ -147,6 +147,7 @@ impl<'p, 'a> Context<'p, 'a> {
             Dest::Fresh(unsigned, name, pos) => {
                 let path = path_at(alloc, self.path, *pos)?;
                 let number = self.numbers.variable(path.as_slice());
+                drop(path);
                 let names = self.declares_word(alloc, scope, name.as_slice(), *pos, *unsigned)?;
                 Ok(Target {
                     place: Some(Place::Word(number)),

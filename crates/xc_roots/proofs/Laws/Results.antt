@@ -10,6 +10,10 @@ module _ {T E : Type 0} where
   given_on_both (Ok x) h k f = f x h k
   given_on_both (Err why) h k f = h
 
+  pub given_on_ok : (r : Result T E) {P Q : Type 0} → OnOk r P → (P → Q) → OnOk r Q
+  given_on_ok (Ok x) h f = f h
+  given_on_ok (Err why) h f = h
+
   -- what is so in any case
   pub if_given : (r : Result T E) {P : Type 0} → P → OnOk r P
   if_given (Ok x) p = p

@@ -30,7 +30,7 @@ use Rattle.xc_kernel.specs.Scopes as scopes
 use Rattle.xc_roots.specs.Parts.{branched_before, cased_before}
 use Rattle.xc_roots.proofs.Laws.Loops.{statement_below, branch_below, branches_below, case_below, body_below, for_grows, grown_from, grown_where, numbered_grows, case_done}
 use Rattle.xc_roots.proofs.Laws.Walks.{statements_more, statements_all, declarations_more, declarations_all, branches_more, branches_all, and_made, cases_more, cases_all, numbered_begun, numbered_more, numbered_all}
-use Rattle.xc_roots.proofs.Laws.Results.{given_on}
+use Rattle.xc_roots.proofs.Laws.Results.{given_on, given_on_ok}
 use Rattle.xc_roots.proofs.context.Context.+statement.Goals as goal
 
 pub statement-returns-in-Empty : goal.statement-returns-in-Empty
@@ -746,20 +746,20 @@ select-case-added-requires t c =
     (case_below c.args.calls (deepest c.args.self.now.functions.now.all.items) c.args.cs.now c.loop-case.case-index c.case-item.result c.decreases c.case-item.is c.loop-case-test.true, tt)
 
 pub case-returns-clause-cases : goal.case-returns-clause-cases
-case-returns-clause-cases t c =
+case-returns-clause-cases t c = given_on_ok c.add_case.result c.add_case.ensures.cases (λ h.
     let path = rw c.in_ok-path.ensures.first at c.path_at-path.ensures in
     let names = rw c.in_ok-path.ensures.second at c.opened-opened.ensures.names in
     let head = rw c.in_ok-path.ensures.second at c.opened-opened.ensures.head in
     case_done (spec.calls_copy c.args.calls) (context_of c.args.self.now) (scope_of c.args.scope.now) c.args.case.now _ c.args.cases.now c.add_case.new.cases
     path c.as_slice.ensures c.in_case.ensures.context c.as_slice-2.ensures names head
-    refl (c.in_ok-add_case.ensures.cases (scope_of c.opened-opened.new.scope) (scope_of c.statements-body.new.scope) _ c.statements-body.ensures)
+    refl (h (scope_of c.opened-opened.new.scope) (scope_of c.statements-body.new.scope) _ c.statements-body.ensures))
 
 pub case-returns-clause-names : goal.case-returns-clause-names
-case-returns-clause-names t c =
+case-returns-clause-names t c = given_on_ok c.add_case.result c.add_case.ensures.made (λ h.
     let ss = plain.statements (map tree.statement_of c.as_slice-2.result.now) in
     let inner = scope_of c.opened-opened.new.scope in
     let grows = rw c.in_ok-path.ensures.second at c.opened-opened.ensures.grows in
-    further grows (grown_where c.statements-body.result inner (scope_of c.statements-body.new.scope) _ c.in_ok-add_case.ensures.made c.statements-body.ensures (statements_grow (spec.calls_copy c.args.calls) (calls_keep c.args.calls) ss (context_of c.in_case.result) inner))
+    further grows (grown_where c.statements-body.result inner (scope_of c.statements-body.new.scope) _ h c.statements-body.ensures (statements_grow (spec.calls_copy c.args.calls) (calls_keep c.args.calls) ss (context_of c.in_case.result) inner)))
 
 pub case-statements-body-requires : goal.case-statements-body-requires
 case-statements-body-requires t c = (
