@@ -209,8 +209,7 @@ impl<'p, 'a> Context<'p, 'a> {
             (context_of self.now) (scope_of scope.now) (tree.right_of right.now))))) }
     {
         let stored = self.value_stored(alloc, path, right, scope);
-        let (called, stored) = both(called, stored)?;
-        called.followed_by(stored)
+        Copied::joined(called, stored)
     }
 
     /// A right side's copy, and behind it what assigns its value to a place. The one error is want of memory.
@@ -230,8 +229,7 @@ impl<'p, 'a> Context<'p, 'a> {
             (context_of self.now) (scope_of scope.now) (tree.right_of right.now))))) }
     {
         let stored = self.value_assigned(alloc, to, right, scope);
-        let (called, stored) = both(called, stored)?;
-        called.followed_by(stored)
+        Copied::joined(called, stored)
     }
 
     /// A right side's copy, and behind it what stores its value in the function's result and leaves the body. The one error is
@@ -252,8 +250,7 @@ impl<'p, 'a> Context<'p, 'a> {
             (scope_of scope.now) (contexts.leave (context_of self.now) self.now.returns.now)))) }
     {
         let returned = self.value_returned(alloc, right, scope);
-        let (called, returned) = both(called, returned)?;
-        called.followed_by(returned)
+        Copied::joined(called, returned)
     }
 
     /// What stores a right side's value in the variable of this path. The one error is want of memory.
@@ -307,7 +304,6 @@ impl<'p, 'a> Context<'p, 'a> {
     {
         let stored = self.value_stored(alloc, self.result, right, scope);
         let left = self.leaves(alloc, self.returns, scope);
-        let (stored, left) = both(stored, left)?;
-        stored.followed_by(left)
+        Copied::joined(stored, left)
     }
 }

@@ -120,8 +120,7 @@ impl<'p, 'a> Context<'p, 'a> {
         let (zeroed, inside) = both(zeroed, inside)?;
         let behind = zeroed.followed_by(inside);
         let made = self.instance(alloc, function);
-        let (made, behind) = both(made, behind)?;
-        let copied = made.followed_by(behind)?;
+        let copied = Copied::joined(made, behind)?;
         Ok(copied.naming_none(alloc))
     }
 

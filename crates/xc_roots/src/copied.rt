@@ -6,7 +6,7 @@ ghost use Rattle.xc_kernel.specs.Flow.{first_of};
 ghost use Rattle.xc_kernel.specs.Kernels.{statement_of};
 ghost use Rattle.xc_roots.specs.Copied.{copy_of};
 
-use crate::memory::{after, append, beside, push_back, push_front};
+use crate::memory::{after, append, beside, both, push_back, push_front};
 use std::alloc::Global;
 use std::collections::VecDeque;
 use std::mem;
@@ -94,6 +94,20 @@ impl Copied {
         first.followed_by(next)
     }
 
+    /// Two copies, one behind the other, where both could be made. The one error is want of memory.
+    #[inline(never)]
+    pub fn joined(
+        first: Result<Copied, Memory>,
+        second: Result<Copied, Memory>,
+    ) -> Result<Copied, Memory>
+        ensures { IfOk result (λ both. (before after : Names) (one other : spec.Copy) →
+            IfOk first (λ f. copy_of f before ≡ one) → IfOk second (λ s. copy_of s after ≡ other) →
+            copy_of both after ≡ spec.joined one other) }
+    {
+        let (first, second) = both(first, second)?;
+        first.followed_by(second)
+    }
+
     /// One more variable, seen before the others. The one error is want of memory.
     pub fn and_variable(self, variable: Var) -> Result<Copied, Memory>
         ensures { IfOk result (λ copied. (scope : Names) → copy_of copied scope
@@ -168,8 +182,7 @@ impl Copied {
         append(&mut self.timers, &mut other.timers)?;
         append(&mut self.blocks, &mut other.blocks)?;
         append(&mut self.instances, &mut other.instances)?;
-        append(&mut self.named, &mut other.named)?;
-        Ok(())
+        append(&mut self.named, &mut other.named)
     }
 
     /// A call's channels aren't named by the caller.

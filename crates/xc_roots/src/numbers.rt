@@ -4,7 +4,7 @@ ghost use Rattle.xc_kernel.specs.Paths as spec_paths;
 ghost use Rattle.xc_kernel.specs.Paths.{Path, place_of_path, has_path, with_new};
 ghost use Rattle.xc_roots.specs.PathSets.{itself, paths_in};
 
-use crate::memory::after;
+use crate::memory::{after, push};
 use indexmap::IndexSet;
 use std::alloc::Global;
 use std::collections::VecDeque;
@@ -107,10 +107,7 @@ fn keep<T: HasPath + Drop>(alloc: Global, once: &mut Once<T>, instance: T) -> Re
     if !add(alloc, &mut once.paths, instance.path())? {
         return Ok(());
     }
-    match once.items.push(instance) {
-        Ok(()) => Ok(()),
-        Err(_) => Err(Memory),
-    }
+    push(&mut once.items, instance)
 }
 
 #[tactic(auto, using(crate::proofs::Laws::PathSets::path_added, crate::proofs::Laws::PathSets::has_is))]

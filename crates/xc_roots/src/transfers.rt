@@ -15,7 +15,7 @@ use crate::context::Context;
 use crate::copied::Copied;
 use crate::entities::resource;
 use crate::expressions::{place, word};
-use crate::memory::{beside, both, push_back};
+use crate::memory::{after, beside, both, push_back};
 use crate::paths::path_at;
 use crate::scope::{Entity, Scope};
 use std::alloc::Global;
@@ -49,8 +49,7 @@ impl<'p, 'a> Context<'p, 'a> {
         let output = self.sent(alloc, scope, o)?;
         let one = Copied::one_statement(alloc, Kst::Out(output));
         let named = channel_named(alloc, scope, o.name.as_slice());
-        let (named, one) = both(named, one)?;
-        named.followed_by(one)
+        Copied::joined(named, one)
     }
 
     /// The kernel's output. The one error is want of memory.
@@ -272,6 +271,6 @@ fn one_path(alloc: Global, path: &List<u32>) -> Result<VecDeque<List<u32>>, Memo
 {
     let own = path.copy(alloc)?;
     let mut paths = VecDeque::new(alloc);
-    push_back(&mut paths, own)?;
-    Ok(paths)
+    let pushed = push_back(&mut paths, own);
+    after(pushed, paths)
 }
