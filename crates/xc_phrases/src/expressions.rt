@@ -82,7 +82,9 @@ impl<'a> Parser<'a> {
                 Err(e) => return Err(e),
             };
             if !is_symbol(self.toks, operand.end, END_PAREN) {
-                return Err(Stop::Wrong(operand.end));
+                let end = operand.end;
+                drop(operand);
+                return Err(Stop::Wrong(end));
             }
             operand.end += 1;
             start -= 1;
@@ -122,7 +124,9 @@ impl<'a> Parser<'a> {
             return Ok(test);
         }
         if test.depth >= room {
-            return Err(Stop::Deep(test.end));
+            let end = test.end;
+            drop(test);
+            return Err(Stop::Deep(end));
         }
         self.choice(test, room)
     }
@@ -148,6 +152,8 @@ impl<'a> Parser<'a> {
         };
         let colon = first.end;
         if !is_symbol(self.toks, colon, COLON) {
+            drop(first);
+            drop(test);
             return Err(Stop::Wrong(colon));
         }
         let both = (test, first);
@@ -178,11 +184,16 @@ impl<'a> Parser<'a> {
         let mut left = first;
         'operators: while let Some(operator) = operator_at(self.toks, left.end, level) {
             if left.depth >= room {
-                return Err(Stop::Deep(left.end));
+                let end = left.end;
+                drop(left);
+                return Err(Stop::Deep(end));
             }
             let right = match self.level(left.end + 1, operator.level - 1, room - 1) {
                 Ok(right) => right,
-                Err(e) => return Err(e),
+                Err(e) => {
+                    drop(left);
+                    return Err(e);
+                }
             };
             let depth = left.depth.max(right.depth) + 1;
             let end = right.end;

@@ -92,6 +92,8 @@ impl<'a> Parser<'a> {
         };
         let end = place.end;
         if !is_symbol(self.toks, end, END_BRACKET) {
+            drop(place);
+            drop(text);
             return Err(Stop::Wrong(end));
         }
         let depth = place.depth + 1;

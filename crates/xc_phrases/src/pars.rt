@@ -14,7 +14,7 @@ ghost use Rattle.xc_phrases.specs.Stops.{Stopped};
 ghost use Rattle.xc_phrases.specs.Values.{numeral_of};
 
 use crate::expected::Numeral;
-use crate::memory::boxed;
+use crate::memory::{beside, boxed};
 use crate::parser::{Parser, Read};
 use crate::stop::Stop;
 use crate::tokens::is_symbol;
@@ -79,13 +79,14 @@ impl<'a> Parser<'a> {
         ensures stopped { IfErr result (λ e. Stopped self.now.toks.now room symbol.branch at e) }
     {
         let place = self.maybe_place(at, room)?;
-        let body = self.statement(place.end, room)?;
+        let start = place.end;
+        let (place, body) = beside(place.value, self.statement(start, room))?;
         Ok(Holder {
             value: Branch {
-                place: place.value,
+                place,
                 body: body.value,
             },
-            held: body.end - place.end,
+            held: body.end - start,
             end: body.end,
         })
     }

@@ -169,10 +169,10 @@ impl<'a> Parser<'a> {
             }
         }
         let guard = self.guard(at, room)?;
-        let input = self.awaited(guard.end, room)?;
+        let (guard, input) = beside(guard.value, self.awaited(guard.end, room))?;
         Ok(Read {
             value: Event {
-                guard: Some(guard.value),
+                guard: Some(guard),
                 input: input.value,
             },
             end: input.end,

@@ -184,6 +184,8 @@ impl<'a> Parser<'a> {
         };
         let end = arguments.end;
         if !is_symbol(self.toks, end, END_PAREN) {
+            drop(arguments);
+            drop(name);
             return Err(Stop::Wrong(end));
         }
         Ok(Read {

@@ -53,8 +53,7 @@ impl<'p, 'a> Context<'p, 'a> {
             return self.update(alloc, to, symbol, pos, value, scope);
         }
         let called = self.right(alloc, calls, right, scope);
-        let copied = self.assigned_behind(alloc, called, to, right, scope)?;
-        Ok(copied)
+        self.assigned_behind(alloc, called, to, right, scope)
     }
 
     /// The copy of `return`: the value is stored in the result, and the body is left.
@@ -72,14 +71,10 @@ impl<'p, 'a> Context<'p, 'a> {
             (scope_of scope.now) (option_map tree.right_of right.now)) }
     {
         match right {
-            None => {
-                let left = self.leaves(alloc, self.returns, scope)?;
-                Ok(left)
-            }
+            None => { self.leaves(alloc, self.returns, scope) }
             Some(right) => {
                 let called = self.right(alloc, calls, right, scope);
-                let copied = self.returned_behind(alloc, called, right, scope)?;
-                Ok(copied)
+                self.returned_behind(alloc, called, right, scope)
             }
         }
     }
@@ -127,8 +122,7 @@ impl<'p, 'a> Context<'p, 'a> {
         let stored = updated(alloc, self.numbers, scope, to, symbol, pos, right);
         let place = place(alloc, self.numbers, scope, to);
         let (place, stored) = both(place, stored)?;
-        let copied = Copied::one_statement(alloc, Kst::Set(place, stored))?;
-        Ok(copied)
+        Copied::one_statement(alloc, Kst::Set(place, stored))
     }
 
     /// The copy of a step by 1. The one error is want of memory.
@@ -149,8 +143,7 @@ impl<'p, 'a> Context<'p, 'a> {
             value: Kx::Num(1),
             unsigned: false,
         };
-        let copied = self.update(alloc, to, symbol, pos, one, scope)?;
-        Ok(copied)
+        self.update(alloc, to, symbol, pos, one, scope)
     }
 
     /// What a right side stands for once its call, if it is one, is done. The one error is want of memory.
@@ -216,9 +209,7 @@ impl<'p, 'a> Context<'p, 'a> {
             (context_of self.now) (scope_of scope.now) (tree.right_of right.now))))) }
     {
         let stored = self.value_stored(alloc, path, right, scope);
-        let (called, stored) = both(called, stored)?;
-        let copied = called.followed_by(stored)?;
-        Ok(copied)
+        Copied::joined(called, stored)
     }
 
     /// A right side's copy, and behind it what assigns its value to a place. The one error is want of memory.
@@ -238,9 +229,7 @@ impl<'p, 'a> Context<'p, 'a> {
             (context_of self.now) (scope_of scope.now) (tree.right_of right.now))))) }
     {
         let stored = self.value_assigned(alloc, to, right, scope);
-        let (called, stored) = both(called, stored)?;
-        let copied = called.followed_by(stored)?;
-        Ok(copied)
+        Copied::joined(called, stored)
     }
 
     /// A right side's copy, and behind it what stores its value in the function's result and leaves the body. The one error is
@@ -261,9 +250,7 @@ impl<'p, 'a> Context<'p, 'a> {
             (scope_of scope.now) (contexts.leave (context_of self.now) self.now.returns.now)))) }
     {
         let returned = self.value_returned(alloc, right, scope);
-        let (called, returned) = both(called, returned)?;
-        let copied = called.followed_by(returned)?;
-        Ok(copied)
+        Copied::joined(called, returned)
     }
 
     /// What stores a right side's value in the variable of this path. The one error is want of memory.
@@ -280,8 +267,7 @@ impl<'p, 'a> Context<'p, 'a> {
             (context_of self.now) (scope_of scope.now) (tree.right_of right.now)))) }
     {
         let value = self.value(alloc, right, scope)?;
-        let stored = Copied::one_statement(alloc, self.set_word(path, value))?;
-        Ok(stored)
+        Copied::one_statement(alloc, self.set_word(path, value))
     }
 
     /// What assigns a right side's value to a place. The one error is want of memory.
@@ -300,8 +286,7 @@ impl<'p, 'a> Context<'p, 'a> {
         let value = self.value(alloc, right, scope);
         let place = place(alloc, self.numbers, scope, to);
         let (place, value) = both(place, value)?;
-        let stored = Copied::one_statement(alloc, Kst::Set(place, value))?;
-        Ok(stored)
+        Copied::one_statement(alloc, Kst::Set(place, value))
     }
 
     /// What stores a right side's value in the function's result and leaves the body. The one error is want of memory.
@@ -319,8 +304,6 @@ impl<'p, 'a> Context<'p, 'a> {
     {
         let stored = self.value_stored(alloc, self.result, right, scope);
         let left = self.leaves(alloc, self.returns, scope);
-        let (stored, left) = both(stored, left)?;
-        let returned = stored.followed_by(left)?;
-        Ok(returned)
+        Copied::joined(stored, left)
     }
 }

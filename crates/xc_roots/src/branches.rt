@@ -42,8 +42,7 @@ impl<'p, 'a> Context<'p, 'a> {
             let (before, copied) = beside(branches, copied)?;
             branches = before.and(alloc, b.body.pos, copied)?;
         }
-        let copied = branches.as_par(alloc)?;
-        Ok(copied)
+        branches.as_par(alloc)
     }
 
     /// The copy of the branch of a `par` with this index.
@@ -64,8 +63,9 @@ impl<'p, 'a> Context<'p, 'a> {
         let path = path_of_branch(alloc, self.path, index)?;
         let copied = (&*self)
             .in_branch(path.as_slice())
-            .statement(alloc, calls, &b.body, scope)?;
-        Ok(copied)
+            .statement(alloc, calls, &b.body, scope);
+        drop(path);
+        copied
     }
 
     /// The copy of a replicated `par`: of its branch for each number, in which a name stands for the number.
@@ -93,8 +93,7 @@ impl<'p, 'a> Context<'p, 'a> {
             let (before, copied) = beside(branches, copied)?;
             branches = before.and(alloc, b.body.pos, copied)?;
         }
-        let copied = branches.as_par(alloc)?;
-        Ok(copied)
+        branches.as_par(alloc)
     }
 
     /// The copy of a replicated branch with this index, in which a name stands for a number.

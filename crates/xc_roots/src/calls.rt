@@ -81,15 +81,14 @@ impl<'p, 'a> Context<'p, 'a> {
         let body = (&*self)
             .in_function(own, result.as_slice())
             .statement(alloc, calls, &function.body, &mut entered.scope);
-        let copied = self.around_body(
+        self.around_body(
             alloc,
             own,
             result.as_slice(),
             function,
             entered.copied,
             body,
-        )?;
-        Ok(copied)
+        )
     }
 
     /// A call, by the copies of its arguments and of its function's body: its instance and its result stand before them. The
@@ -121,8 +120,7 @@ impl<'p, 'a> Context<'p, 'a> {
         let (zeroed, inside) = both(zeroed, inside)?;
         let behind = zeroed.followed_by(inside);
         let made = self.instance(alloc, function);
-        let (made, behind) = both(made, behind)?;
-        let copied = made.followed_by(behind)?;
+        let copied = Copied::joined(made, behind)?;
         Ok(copied.naming_none(alloc))
     }
 
@@ -134,11 +132,10 @@ impl<'p, 'a> Context<'p, 'a> {
             ≡ calls_spec.instance_of (context_of self.now) (function_of function.now) behind) }
     {
         let params = function.params.len() as u32;
-        let copied = Copied::nothing(alloc).and_instance(Inst {
+        Copied::nothing(alloc).and_instance(Inst {
             core: self.core,
             params,
-        })?;
-        Ok(copied)
+        })
     }
 
     /// The word of a function's result becomes 0, where it has one. The one error is want of memory.
@@ -155,10 +152,7 @@ impl<'p, 'a> Context<'p, 'a> {
     {
         match function.result {
             None => Ok(Copied::nothing(alloc)),
-            Some(_) => {
-                let zeroed = self.zeroed_word(alloc, path, function.name.pos)?;
-                Ok(zeroed)
-            }
+            Some(_) => { self.zeroed_word(alloc, path, function.name.pos) }
         }
     }
 
@@ -170,8 +164,8 @@ impl<'p, 'a> Context<'p, 'a> {
             (contexts.word_variable (context_of self.now) false path.now pos)) }
     {
         let variable = self.word_variable(alloc, false, path, pos)?;
-        let zeroed = Copied::one_statement(alloc, self.set_zero(path))?;
-        let copied = zeroed.and_variable(variable)?;
-        Ok(copied)
+        let zeroed = Copied::one_statement(alloc, self.set_zero(path));
+        let (variable, zeroed) = beside(variable, zeroed)?;
+        zeroed.and_variable(variable)
     }
 }

@@ -66,8 +66,7 @@ impl<'p, 'a> Context<'p, 'a> {
             cases = after(added, cases)?;
             scope.leave(known);
         }
-        let copied = cases.as_select(alloc, pos)?;
-        Ok(copied)
+        cases.as_select(alloc, pos)
     }
 
     /// One more case, or the `default`, behind others. The one error is want of memory.
@@ -92,8 +91,7 @@ impl<'p, 'a> Context<'p, 'a> {
         let body = (&*self)
             .in_case(path.as_slice())
             .statements(alloc, calls, case.body.as_slice(), scope);
-        self.add_case(alloc, path, opened, body, cases)?;
-        Ok(())
+        self.add_case(alloc, path, opened, body, cases)
     }
 
     /// What comes of a case before its body, whose names then are known: its guard, and what it receives; nothing of a `default`.
@@ -140,8 +138,7 @@ impl<'p, 'a> Context<'p, 'a> {
             ≡ calls_spec.as_block (context_of self.now) path whole) }
     {
         let (path, body) = beside(path, body)?;
-        let block = self.as_block(alloc, path.as_slice(), body)?;
-        Ok(block)
+        self.as_block(alloc, path.as_slice(), body)
     }
 
     /// One more case behind others, by what came of it before its body, and by its body, which is a block of this path. The one
@@ -164,14 +161,8 @@ impl<'p, 'a> Context<'p, 'a> {
         let block = self.block_of(alloc, path, body);
         let (opened, block) = beside(opened, block)?;
         match opened {
-            None => {
-                cases.add_default(alloc, block)?;
-                Ok(())
-            }
-            Some(opened) => {
-                cases.add_case(alloc, opened.guard, opened.received, block)?;
-                Ok(())
-            }
+            None => { cases.add_default(alloc, block) }
+            Some(opened) => { cases.add_case(alloc, opened.guard, opened.received, block) }
         }
     }
 

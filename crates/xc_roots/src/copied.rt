@@ -6,7 +6,7 @@ ghost use Rattle.xc_kernel.specs.Flow.{first_of};
 ghost use Rattle.xc_kernel.specs.Kernels.{statement_of};
 ghost use Rattle.xc_roots.specs.Copied.{copy_of};
 
-use crate::memory::{after, append, beside, push_back, push_front};
+use crate::memory::{after, append, beside, both, push_back, push_front};
 use std::alloc::Global;
 use std::collections::VecDeque;
 use std::mem;
@@ -49,8 +49,7 @@ impl Copied {
             ≡ spec.one_statement scope (statement_of statement)) }
     {
         let nothing = Copied::nothing(alloc);
-        let copied = nothing.and_statement(statement)?;
-        Ok(copied)
+        nothing.and_statement(statement)
     }
 
     /// One more statement, behind the others. The one error is want of memory.
@@ -60,8 +59,7 @@ impl Copied {
     {
         let mut copied = self;
         let added = push_back(&mut copied.code, statement);
-        let copied = after(added, copied)?;
-        Ok(copied)
+        after(added, copied)
     }
 
     /// The instances of a copy, with one statement in place of its own. The one error is want of memory.
@@ -71,8 +69,7 @@ impl Copied {
     {
         let mut made = self;
         let _replaced = made.take_code(alloc);
-        let copied = made.and_statement(statement)?;
-        Ok(copied)
+        made.and_statement(statement)
     }
 
     /// The copy followed by another. The one error is want of memory.
@@ -83,8 +80,7 @@ impl Copied {
     {
         let mut copied = self;
         let joined = copied.join(other);
-        let copied = after(joined, copied)?;
-        Ok(copied)
+        after(joined, copied)
     }
 
     /// The copy followed by another, where that could be made. The one error is want of memory.
@@ -95,8 +91,21 @@ impl Copied {
             ≡ spec.joined (copy_of self before) other) }
     {
         let (first, next) = beside(self, next)?;
-        let both = first.followed_by(next)?;
-        Ok(both)
+        first.followed_by(next)
+    }
+
+    /// Two copies, one behind the other, where both could be made. The one error is want of memory.
+    #[inline(never)]
+    pub fn joined(
+        first: Result<Copied, Memory>,
+        second: Result<Copied, Memory>,
+    ) -> Result<Copied, Memory>
+        ensures { IfOk result (λ both. (before after : Names) (one other : spec.Copy) →
+            IfOk first (λ f. copy_of f before ≡ one) → IfOk second (λ s. copy_of s after ≡ other) →
+            copy_of both after ≡ spec.joined one other) }
+    {
+        let (first, second) = both(first, second)?;
+        first.followed_by(second)
     }
 
     /// One more variable, seen before the others. The one error is want of memory.
@@ -106,8 +115,7 @@ impl Copied {
     {
         let mut copied = self;
         let added = push_front(&mut copied.variables, variable);
-        let copied = after(added, copied)?;
-        Ok(copied)
+        after(added, copied)
     }
 
     /// One more block, seen before the others. The one error is want of memory.
@@ -117,8 +125,7 @@ impl Copied {
     {
         let mut copied = self;
         let added = push_front(&mut copied.blocks, path);
-        let copied = after(added, copied)?;
-        Ok(copied)
+        after(added, copied)
     }
 
     /// One more channel, behind the others. The one error is want of memory.
@@ -128,8 +135,7 @@ impl Copied {
     {
         let mut copied = self;
         let added = push_back(&mut copied.channels, channel);
-        let copied = after(added, copied)?;
-        Ok(copied)
+        after(added, copied)
     }
 
     /// One more timer, behind the others. The one error is want of memory.
@@ -139,8 +145,7 @@ impl Copied {
     {
         let mut copied = self;
         let added = push_back(&mut copied.timers, timer);
-        let copied = after(added, copied)?;
-        Ok(copied)
+        after(added, copied)
     }
 
     /// One more instance of a function, behind the others. The one error is want of memory.
@@ -151,8 +156,7 @@ impl Copied {
     {
         let mut copied = self;
         let added = push_back(&mut copied.instances, instance);
-        let copied = after(added, copied)?;
-        Ok(copied)
+        after(added, copied)
     }
 
     /// Another copy behind this one, in place. The one error is want of memory.
@@ -162,7 +166,9 @@ impl Copied {
             ≡ spec.joined (copy_of self.old before) (copy_of other after)) }
     {
         let mut other = other;
-        self.append(&mut other)
+        let joined = self.append(&mut other);
+        drop(other);
+        joined
     }
 
     /// All that another copy holds behind what this one does. The one error is want of memory.
@@ -176,8 +182,7 @@ impl Copied {
         append(&mut self.timers, &mut other.timers)?;
         append(&mut self.blocks, &mut other.blocks)?;
         append(&mut self.instances, &mut other.instances)?;
-        append(&mut self.named, &mut other.named)?;
-        Ok(())
+        append(&mut self.named, &mut other.named)
     }
 
     /// A call's channels aren't named by the caller.

@@ -15,7 +15,7 @@ ghost use Rattle.xc_roots.specs.Scopes.{scope_of};
 use crate::context::Context;
 use crate::copied::Copied;
 use crate::expressions::place;
-use crate::memory::both;
+use crate::memory::{beside, both};
 use crate::paths::{path_at, same_path};
 use crate::scope::{Entity, Scope};
 use std::alloc::Global;
@@ -67,8 +67,7 @@ impl<'p, 'a> Context<'p, 'a> {
             DeclKind::Word(unsigned, right) => {
                 let declared = self.declares_word(alloc, scope, name, pos, *unsigned)?;
                 let initial = self.initial(alloc, calls, pos, right, scope);
-                let copied = declared.with_next(initial)?;
-                Ok(copied)
+                declared.with_next(initial)
             }
             DeclKind::Array(unsigned, words, _) => {
                 self.array(alloc, scope, name, pos, *unsigned, *words)
@@ -96,14 +95,10 @@ impl<'p, 'a> Context<'p, 'a> {
     {
         let path = path_at(alloc, self.path, pos)?;
         match right {
-            None => {
-                let zeroed = Copied::one_statement(alloc, self.set_zero(path.as_slice()))?;
-                Ok(zeroed)
-            }
+            None => { Copied::one_statement(alloc, self.set_zero(path.as_slice())) }
             Some(right) => {
                 let called = self.right(alloc, calls, right, scope);
-                let copied = self.stored_behind(alloc, called, path.as_slice(), right, scope)?;
-                Ok(copied)
+                self.stored_behind(alloc, called, path.as_slice(), right, scope)
             }
         }
     }
@@ -144,9 +139,9 @@ impl<'p, 'a> Context<'p, 'a> {
             (contexts.array_variable (context_of self.now) words path.now pos)) }
     {
         let variable = self.array_variable(alloc, words, path, pos)?;
-        let zeroed = Copied::one_statement(alloc, self.set_zero(path))?;
-        let copied = zeroed.and_variable(variable)?;
-        Ok(copied)
+        let zeroed = Copied::one_statement(alloc, self.set_zero(path));
+        let (variable, zeroed) = beside(variable, zeroed)?;
+        zeroed.and_variable(variable)
     }
 
     /// The copy of a channel that a name at a place declares. The one error is want of memory.
@@ -167,12 +162,11 @@ impl<'p, 'a> Context<'p, 'a> {
         let own = same_path(alloc, path.as_slice());
         let declared = scope.declare(name, Entity::Channel(path));
         let (_, own) = both(declared, own)?;
-        let copied = Copied::nothing(alloc).and_channel(Chan {
+        Copied::nothing(alloc).and_channel(Chan {
             streaming,
             path: own,
             pos,
-        })?;
-        Ok(copied)
+        })
     }
 
     /// The copy of a timer that a name at a place declares. The one error is want of memory.
@@ -192,11 +186,10 @@ impl<'p, 'a> Context<'p, 'a> {
         let own = same_path(alloc, path.as_slice());
         let declared = scope.declare(name, Entity::Timer(path));
         let (_, own) = both(declared, own)?;
-        let copied = Copied::nothing(alloc).and_timer(Timer {
+        Copied::nothing(alloc).and_timer(Timer {
             core: self.core,
             path: own,
             pos,
-        })?;
-        Ok(copied)
+        })
     }
 }

@@ -46,8 +46,7 @@ impl<'p, 'a> Context<'p, 'a> {
         let whole = copied.and_statement(self.block_at(path, code));
         let own = same_path(alloc, path);
         let (whole, own) = both(whole, own)?;
-        let block = whole.and_block(own)?;
-        Ok(block)
+        whole.and_block(own)
     }
 
     /// The block of this path.
@@ -84,10 +83,11 @@ impl<'p, 'a> Context<'p, 'a> {
         let round = self.round(alloc, paths.turn.as_slice(), test, done, last, followed);
         let made = next.followed_by(body);
         let (round, made) = both(round, made)?;
-        let looped = made.and_statement(self.block_at(paths.whole.as_slice(), round))?;
-        let inner = looped.and_block(paths.turn)?;
-        let outer = inner.and_block(paths.whole)?;
-        Ok(outer)
+        let looped = made.and_statement(self.block_at(paths.whole.as_slice(), round));
+        let (paths, looped) = beside(paths, looped)?;
+        let inner = looped.and_block(paths.turn);
+        let (whole, inner) = beside(paths.whole, inner)?;
+        inner.and_block(whole)
     }
 
     /// The loop alone: its test, the body in a block of this path with what else is done in each turn, and what follows each. The
@@ -108,9 +108,8 @@ impl<'p, 'a> Context<'p, 'a> {
             (plain.statements (map kernel.statement_of followed)) ∷ []) }
     {
         let turn = self.turn(alloc, path, body, last);
-        let (test, turn) = beside(test, turn)?;
-        let round = one(alloc, Kst::Loop(test, turn, followed))?;
-        Ok(round)
+        let ((test, followed), turn) = beside((test, followed), turn)?;
+        one(alloc, Kst::Loop(test, turn, followed))
     }
 
     /// The statements of a loop's turn: the body in a block of this path, and what else is done. The one error is want of memory.
@@ -127,14 +126,8 @@ impl<'p, 'a> Context<'p, 'a> {
     {
         let block = self.block_at(path, body);
         match last {
-            None => {
-                let turn = one(alloc, block)?;
-                Ok(turn)
-            }
-            Some(last) => {
-                let turn = two(alloc, block, last)?;
-                Ok(turn)
-            }
+            None => { one(alloc, block) }
+            Some(last) => { two(alloc, block, last) }
         }
     }
 
@@ -144,8 +137,7 @@ impl<'p, 'a> Context<'p, 'a> {
         ensures { IfOk result (λ copied. copy_of copied (scope_of scope.now) ≡ copies.one_statement
             (scope_of scope.now) (contexts.leave (context_of self.now) path.now)) }
     {
-        let copied = Copied::one_statement(alloc, self.leave(path))?;
-        Ok(copied)
+        Copied::one_statement(alloc, self.leave(path))
     }
 
     /// The block of this path is left where the test is 0. The one error is want of memory.
@@ -187,6 +179,5 @@ pub fn if_copy(
     let otherwise = second.take_code(alloc);
     let made = first.followed_by(second);
     let (test, made) = beside(test, made)?;
-    let copied = made.and_statement(Kst::If(test, then, otherwise))?;
-    Ok(copied)
+    made.and_statement(Kst::If(test, then, otherwise))
 }

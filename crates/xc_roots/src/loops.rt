@@ -57,8 +57,7 @@ impl<'p, 'a> Context<'p, 'a> {
             .in_loop(paths.whole.as_slice(), paths.turn.as_slice())
             .statement(alloc, calls, body, scope);
         let next = Copied::nothing(alloc);
-        let copied = self.looped(alloc, paths, test.value, next, body)?;
-        Ok(copied)
+        self.looped(alloc, paths, test.value, next, body)
     }
 
     /// The copy of `do`, whose word stands at a place.
@@ -82,8 +81,7 @@ impl<'p, 'a> Context<'p, 'a> {
         let body = (&*self)
             .in_loop(paths.whole.as_slice(), paths.turn.as_slice())
             .statement(alloc, calls, body, scope);
-        let copied = self.looped_until(alloc, paths, body, test, scope)?;
-        Ok(copied)
+        self.looped_until(alloc, paths, body, test, scope)
     }
 
     /// The copy of `for`, whose word stands at a place, and which is a scope.
@@ -145,8 +143,7 @@ impl<'p, 'a> Context<'p, 'a> {
         let body = (&*self)
             .in_loop(paths.whole.as_slice(), paths.turn.as_slice())
             .statement(alloc, calls, body, scope);
-        let copied = self.looped(alloc, paths, test, next, body)?;
-        Ok(copied)
+        self.looped(alloc, paths, test, next, body)
     }
 
     /// A loop of these paths by its test, what follows each turn, and its body, if that could be made. The one error is want of
@@ -168,8 +165,7 @@ impl<'p, 'a> Context<'p, 'a> {
             (copies.code_of (copy_of next between)) (copies.joined (copy_of next between) done)) }
     {
         let (((paths, test), next), body) = beside(((paths, test), next), body)?;
-        let copied = self.loop_at(alloc, paths, test, next, body, None)?;
-        Ok(copied)
+        self.loop_at(alloc, paths, test, next, body, None)
     }
 
     /// A loop of these paths by its body, if that could be made, and the test behind each turn. The one error is want of memory.
@@ -196,8 +192,7 @@ impl<'p, 'a> Context<'p, 'a> {
         let last = self.leave_unless(alloc, paths.whole.as_slice(), test.value);
         let ((paths, body), last) = beside((paths, body), last)?;
         let next = Copied::nothing(alloc);
-        let copied = self.loop_at(alloc, paths, Kx::Num(1), next, body, Some(last))?;
-        Ok(copied)
+        self.loop_at(alloc, paths, Kx::Num(1), next, body, Some(last))
     }
 
     /// The test of a `for`, which holds for ever where there is none. The one error is want of memory.

@@ -16,7 +16,10 @@ pub fn both<A: Drop, B: Drop>(
     ensures first { IfOk result (λ r. first ≡ Ok r.0) }
     ensures second { IfOk result (λ r. second ≡ Ok r.1) }
 {
-    Ok((first?, second?))
+    match first {
+        Ok(first) => beside(first, second),
+        Err(Memory) => Err(Memory),
+    }
 }
 
 /// A value with another, where that could be made.
@@ -24,7 +27,10 @@ pub fn beside<A: Drop, B: Drop>(value: A, made: Result<B, Memory>) -> Result<(A,
     ensures value { IfOk result (λ r. r.0 ≡ value) }
     ensures made { IfOk result (λ r. made ≡ Ok r.1) }
 {
-    Ok((value, made?))
+    match made {
+        Ok(made) => Ok((value, made)),
+        Err(Memory) => Err(Memory),
+    }
 }
 
 /// A value, where what had to be done could be done.
@@ -32,8 +38,10 @@ pub fn after<T: Drop>(done: Result<(), Memory>, value: T) -> Result<T, Memory>
     ensures value { IfOk result (λ r. r ≡ value) }
     ensures done { IfOk result (λ r. done ≡ Ok tt) }
 {
-    done?;
-    Ok(value)
+    match done {
+        Ok(()) => Ok(value),
+        Err(Memory) => Err(Memory),
+    }
 }
 
 /// A value in memory of its own. The one error is want of memory.
@@ -81,8 +89,8 @@ pub fn one<T: Drop>(alloc: Global, item: T) -> Result<List<T>, Memory>
     ensures { IfOk result (λ list. list ≡ item ∷ []) }
 {
     let mut list = List::new(alloc);
-    list.push(item)?;
-    Ok(list)
+    let pushed = list.push(item);
+    after(pushed, list)
 }
 
 /// The list of two items. The one error is want of memory.
@@ -90,8 +98,8 @@ pub fn two<T: Drop>(alloc: Global, first: T, second: T) -> Result<List<T>, Memor
     ensures { IfOk result (λ list. list ≡ first ∷ second ∷ []) }
 {
     let mut list = one(alloc, first)?;
-    list.push(second)?;
-    Ok(list)
+    let pushed = list.push(second);
+    after(pushed, list)
 }
 
 /// The list of three items. The one error is want of memory.
@@ -99,8 +107,8 @@ pub fn three<T: Drop>(alloc: Global, first: T, second: T, third: T) -> Result<Li
     ensures { IfOk result (λ list. list ≡ first ∷ second ∷ third ∷ []) }
 {
     let mut list = two(alloc, first, second)?;
-    list.push(third)?;
-    Ok(list)
+    let pushed = list.push(third);
+    after(pushed, list)
 }
 
 /// The items of two queues, one behind the other, in the first; the second is left empty. The one error is want of memory.

@@ -66,8 +66,17 @@ impl Numbers {
             variables,
             channels,
             timers,
-            ..
+            blocks,
+            variable_paths,
+            channel_paths,
+            timer_paths,
+            block_paths,
         } = self;
+        drop(blocks);
+        drop(variable_paths);
+        drop(channel_paths);
+        drop(timer_paths);
+        drop(block_paths);
         (
             List::from_vec(variables),
             List::from_vec(channels),

@@ -4,7 +4,7 @@ ghost use Rattle.xc_kernel.specs.Paths as spec_paths;
 ghost use Rattle.xc_kernel.specs.Paths.{Path, place_of_path, has_path, with_new};
 ghost use Rattle.xc_roots.specs.PathSets.{itself, paths_in};
 
-use crate::memory::after;
+use crate::memory::{after, push};
 use indexmap::IndexSet;
 use std::alloc::Global;
 use std::collections::VecDeque;
@@ -72,8 +72,7 @@ pub fn each_once<T: HasPath + Drop>(alloc: Global, seen: VecDeque<T>) -> Result<
         paths: IndexSet::new(alloc),
     };
     let kept = keep_all(alloc, &mut once, seen);
-    let once = after(kept, once)?;
-    Ok(once)
+    after(kept, once)
 }
 
 /// Keeps each instance whose path is new. The one error is want of memory.
@@ -108,10 +107,7 @@ fn keep<T: HasPath + Drop>(alloc: Global, once: &mut Once<T>, instance: T) -> Re
     if !add(alloc, &mut once.paths, instance.path())? {
         return Ok(());
     }
-    match once.items.push(instance) {
-        Ok(()) => Ok(()),
-        Err(_) => Err(Memory),
-    }
+    push(&mut once.items, instance)
 }
 
 #[tactic(auto, using(crate::proofs::Laws::PathSets::path_added, crate::proofs::Laws::PathSets::has_is))]

@@ -237,8 +237,7 @@ impl<'p, 'a> Context<'p, 'a> {
             (scope_of scope.now) (tree.expression_of index.now) words pos) }
     {
         let index = word(alloc, self.numbers, scope, index)?;
-        let test = index_test(alloc, index.value, words, pos)?;
-        Ok(test)
+        index_test(alloc, index.value, words, pos)
     }
 
     /// The copy of a parameter's variable of this path, which holds a word. The one error is want of memory.
@@ -252,8 +251,7 @@ impl<'p, 'a> Context<'p, 'a> {
         let stored = Copied::one_statement(alloc, self.set_word(path, value));
         let variable = self.word_variable(alloc, false, path, pos);
         let (stored, variable) = both(stored, variable)?;
-        let copied = stored.and_variable(variable)?;
-        Ok(copied)
+        stored.and_variable(variable)
     }
 }
 

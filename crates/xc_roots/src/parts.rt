@@ -55,8 +55,7 @@ impl Branched {
             ≡ spec.par_copy (branched_before self (spec.no_branches behind))) }
     {
         let Branched { made, branches } = self;
-        let copied = made.with_statement(alloc, Kst::Par(branches))?;
-        Ok(copied)
+        made.with_statement(alloc, Kst::Par(branches))
     }
 }
 
@@ -107,8 +106,7 @@ impl Cased {
         let pushed = self.cases.push(KCase { guard, head, body });
         let inside = names.followed_by(block);
         let (_, inside) = both(pushed, inside)?;
-        self.made.join(inside)?;
-        Ok(())
+        self.made.join(inside)
     }
 
     /// A `default` behind the others, which counts where none was before. The one error is want of memory.
@@ -126,8 +124,7 @@ impl Cased {
         let body = block.take_code(alloc);
         let before = mem::replace(&mut self.otherwise, None);
         self.otherwise = first_of(before, body);
-        self.made.join(block)?;
-        Ok(())
+        self.made.join(block)
     }
 
     /// A `select` of the cases, whose word stands at a place. The one error is want of memory.
@@ -146,8 +143,7 @@ impl Cased {
             otherwise,
             pos,
         });
-        let copied = made.with_statement(alloc, select)?;
-        Ok(copied)
+        made.with_statement(alloc, select)
     }
 }
 

@@ -61,8 +61,7 @@ impl Rooted {
     {
         let mut copied = copied;
         let _code = copied.take_code(alloc);
-        self.made.join(copied)?;
-        Ok(())
+        self.made.join(copied)
     }
 
     /// One more root behind, by the copy of its statement. The one error is want of memory.
@@ -79,14 +78,14 @@ impl Rooted {
     {
         let mut copied = copied;
         let body = copied.take_code(alloc);
-        self.made.join(copied)?;
+        let joined = self.made.join(copied);
+        let body = after(joined, body)?;
         self.roots.push(Root {
             core,
             place,
             body,
             pos,
-        })?;
-        Ok(())
+        })
     }
 }
 
@@ -114,8 +113,7 @@ pub fn roots_by_numbers<'a>(
         continues: &[],
     };
     let main = functions.main();
-    let rooted = context.roots(alloc, functions.len(), main)?;
-    Ok(rooted)
+    context.roots(alloc, functions.len(), main)
 }
 
 impl<'p, 'a> Context<'p, 'a> {
@@ -136,10 +134,7 @@ impl<'p, 'a> Context<'p, 'a> {
     {
         match main {
             None => Ok(Rooted::none(alloc)),
-            Some(main) => {
-                let rooted = self.roots_by_main(alloc, calls, main)?;
-                Ok(rooted)
-            }
+            Some(main) => { self.roots_by_main(alloc, calls, main) }
         }
     }
 
@@ -158,11 +153,9 @@ impl<'p, 'a> Context<'p, 'a> {
             (calls_copy calls) (Some (function_of main.now)) (context_of self.now)) }
     {
         if block_has_placed(in_block(&main.body)) {
-            let rooted = self.placed_roots(alloc, calls, main)?;
-            Ok(rooted)
+            self.placed_roots(alloc, calls, main)
         } else {
-            let rooted = self.main_root(alloc, calls, main)?;
-            Ok(rooted)
+            self.main_root(alloc, calls, main)
         }
     }
 
@@ -177,11 +170,12 @@ impl<'p, 'a> Context<'p, 'a> {
         let scope: Scope<'a> = self.scope_of_ports(alloc)?;
         let own: &[u32] = &[];
         let arguments: &'a [Arg] = &[];
-        let copied = (&*self).function(alloc, calls, own, main, arguments, &scope)?;
+        let made = (&*self).function(alloc, calls, own, main, arguments, &scope);
+        drop(scope);
+        let copied = made?;
         let mut root = Rooted::none(alloc);
         let added = root.add_root(alloc, 0, main.name.pos, main.name.pos, copied);
-        let rooted = after(added, root)?;
-        Ok(rooted)
+        after(added, root)
     }
 
     /// Where a branch of main's is placed: main's instance and its branches. The one error is as for `roots`.
@@ -197,12 +191,33 @@ impl<'p, 'a> Context<'p, 'a> {
             ≡ spec.placed_roots (calls_copy calls) (function_of main.now) (context_of self.now)) }
     {
         let mut scope = self.scope_of_ports(alloc)?;
+        let rooted = self.roots_in_block(alloc, calls, main, &mut scope);
+        drop(scope);
+        rooted
+    }
+
+    /// The same, where the ports' names are known. The one error is as for `roots`.
+    fn roots_in_block(
+        &self,
+        alloc: Global,
+        calls: usize,
+        main: &'a FuncItem,
+        scope: &mut Scope<'a>,
+    ) -> Result<Rooted, Memory>
+        requires parameters { length main.now.params < 2 ^ 32 }
+        requires ports { scope_of scope.old ≡ (context_of self.now).ports }
+        ensures { IfOk result (λ r. rooted_of r (spec.placed_roots (calls_copy calls)
+            (function_of main.now) (context_of self.now)).made.scope
+            ≡ spec.placed_roots (calls_copy calls) (function_of main.now) (context_of self.now)) }
+    {
         let instance = self.instance(alloc, main)?;
-        let mut rooted = Rooted::none(alloc);
-        rooted.add_copy(alloc, instance)?;
+        let mut begun = Rooted::none(alloc);
+        let added = begun.add_copy(alloc, instance);
+        let mut rooted = after(added, begun)?;
         let block = in_block(&main.body);
         for s in block {
-            self.statement_roots(alloc, calls, main.name.pos, s, &mut rooted, &mut scope)?;
+            let more = self.statement_roots(alloc, calls, main.name.pos, s, &mut rooted, scope);
+            rooted = after(more, rooted)?;
         }
         Ok(rooted)
     }
@@ -224,23 +239,16 @@ impl<'p, 'a> Context<'p, 'a> {
         match &s.kind {
             St::Decl(ds) => {
                 let copied = self.declarations(alloc, calls, ds.as_slice(), scope)?;
-                rooted.add_copy(alloc, copied)?;
-                Ok(())
+                rooted.add_copy(alloc, copied)
             }
-            St::Par(bs) => {
-                self.branch_roots(alloc, calls, main, bs.as_slice(), rooted, scope)?;
-                Ok(())
-            }
+            St::Par(bs) => { self.branch_roots(alloc, calls, main, bs.as_slice(), rooted, scope) }
             St::Repl {
                 first,
                 from,
                 to,
                 body,
                 ..
-            } => {
-                self.numbered_roots(alloc, calls, main, first, *from, *to, body, rooted, scope)?;
-                Ok(())
-            }
+            } => { self.numbered_roots(alloc, calls, main, first, *from, *to, body, rooted, scope) }
             _ => Ok(()),
         }
     }
@@ -261,9 +269,11 @@ impl<'p, 'a> Context<'p, 'a> {
     {
         for (index, b) in bs.iter().enumerate() {
             let path = path_of_branch(alloc, self.path, index)?;
-            (&*self)
+            let added = (&*self)
                 .in_branch(path.as_slice())
-                .branch_root(alloc, calls, main, b, rooted, scope)?;
+                .branch_root(alloc, calls, main, b, rooted, scope);
+            drop(path);
+            added?;
         }
         Ok(())
     }
@@ -289,10 +299,13 @@ impl<'p, 'a> Context<'p, 'a> {
         let known = scope.len();
         for number in from..until {
             let path = path_of_branch(alloc, self.path, (number - from) as usize)?;
-            scope.declare(name.text.as_slice(), Entity::Constant(number))?;
-            (&*self)
+            let declared = scope.declare(name.text.as_slice(), Entity::Constant(number));
+            let path = after(declared, path)?;
+            let added = (&*self)
                 .in_branch(path.as_slice())
-                .branch_root(alloc, calls, main, b, rooted, scope)?;
+                .branch_root(alloc, calls, main, b, rooted, scope);
+            drop(path);
+            added?;
             scope.leave(known);
         }
         Ok(())
@@ -317,8 +330,7 @@ impl<'p, 'a> Context<'p, 'a> {
             .on_core(core)
             .statement(alloc, calls, &b.body, scope)?;
         let place = pos_of_place(main, &b.place);
-        rooted.add_root(alloc, core, place, b.body.pos, copied)?;
-        Ok(())
+        rooted.add_root(alloc, core, place, b.body.pos, copied)
     }
 }
 
@@ -336,6 +348,7 @@ fn core_of(alloc: Global, place: &Option<At>, scope: &Scope) -> Result<u8, Memor
             drop(none);
             let value = read?.value;
             let number = eval(&value);
+            drop(value);
             match number {
                 Some(number) => Ok(if number <= LAST_CORE {
                     number as u8
@@ -353,8 +366,10 @@ pub fn core_outside(alloc: Global, place: &Option<At>) -> Result<u8, Memory>
     ensures { IfOk result (λ core. core
         ≡ ports_spec.core_of [] (option_map tree.place_of place.now)) }
 {
-    let core = core_of(alloc, place, &Scope::new(alloc))?;
-    Ok(core)
+    let none = Scope::new(alloc);
+    let core = core_of(alloc, place, &none);
+    drop(none);
+    core
 }
 
 /// The first token of a place's expression, or else another position.

@@ -155,8 +155,7 @@ impl<'p, 'a> Context<'p, 'a> {
         let first = self.statement(alloc, calls, first, scope);
         let (test, first) = beside(test, first)?;
         let second = self.maybe(alloc, calls, second, scope);
-        let copied = if_copy(alloc, test.value, first, second)?;
-        Ok(copied)
+        if_copy(alloc, test.value, first, second)
     }
 
     /// The copy of a transaction, on the one channel that its communications name.
@@ -182,13 +181,12 @@ impl<'p, 'a> Context<'p, 'a> {
         scope.leave(known);
         let chan = self.numbers.channel(inside.first_named());
         let body = inside.take_code(alloc);
-        let copied = inside.and_statement(Kst::Tran {
+        inside.and_statement(Kst::Tran {
             chan,
             master,
             body,
             open_at: start,
             close_at: close,
-        })?;
-        Ok(copied)
+        })
     }
 }

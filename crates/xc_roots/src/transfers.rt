@@ -15,7 +15,7 @@ use crate::context::Context;
 use crate::copied::Copied;
 use crate::entities::resource;
 use crate::expressions::{place, word};
-use crate::memory::{beside, both, push_back};
+use crate::memory::{after, beside, both, push_back};
 use crate::paths::path_at;
 use crate::scope::{Entity, Scope};
 use std::alloc::Global;
@@ -49,9 +49,7 @@ impl<'p, 'a> Context<'p, 'a> {
         let output = self.sent(alloc, scope, o)?;
         let one = Copied::one_statement(alloc, Kst::Out(output));
         let named = channel_named(alloc, scope, o.name.as_slice());
-        let (named, one) = both(named, one)?;
-        let copied = named.followed_by(one)?;
-        Ok(copied)
+        Copied::joined(named, one)
     }
 
     /// The kernel's output. The one error is want of memory.
@@ -83,8 +81,7 @@ impl<'p, 'a> Context<'p, 'a> {
             ≡ spec.input_copy (context_of self.now) (scope_of scope.old) (tree.input_of i.now)) }
     {
         let received = self.received(alloc, scope, i)?;
-        let copied = received.names.and_statement(Kst::In(received.head))?;
-        Ok(copied)
+        received.names.and_statement(Kst::In(received.head))
     }
 
     /// The kernel's input, and what it declares and names. The one error is want of memory.
@@ -149,6 +146,7 @@ impl<'p, 'a> Context<'p, 'a> {
             Dest::Fresh(unsigned, name, pos) => {
                 let path = path_at(alloc, self.path, *pos)?;
                 let number = self.numbers.variable(path.as_slice());
+                drop(path);
                 let names = self.declares_word(alloc, scope, name.as_slice(), *pos, *unsigned)?;
                 Ok(Target {
                     place: Some(Place::Word(number)),
@@ -228,8 +226,7 @@ impl<'p, 'a> Context<'p, 'a> {
         let variable = self.word_variable(alloc, true, path.as_slice(), pos);
         let declared = scope.declare(name, Entity::Word(path, unsigned));
         let (_, variable) = both(declared, variable)?;
-        let copied = Copied::nothing(alloc).and_variable(variable)?;
-        Ok(copied)
+        Copied::nothing(alloc).and_variable(variable)
     }
 }
 
@@ -274,6 +271,6 @@ fn one_path(alloc: Global, path: &List<u32>) -> Result<VecDeque<List<u32>>, Memo
 {
     let own = path.copy(alloc)?;
     let mut paths = VecDeque::new(alloc);
-    push_back(&mut paths, own)?;
-    Ok(paths)
+    let pushed = push_back(&mut paths, own);
+    after(pushed, paths)
 }

@@ -27,19 +27,23 @@ branch-returns-in_err-place-clause-stopped t c =
     handed_on _ c.from_residual.result c.from_residual.ensures.1
     (place_stops c.args.self.now.toks.now c.args.room c.args.at _ c.in_err-place.ensures.stopped)
 
-pub branch-returns-in_err-body-clause-stopped : goal.branch-returns-in_err-body-clause-stopped
-branch-returns-in_err-body-clause-stopped t c =
-    handed_on _ c.from_residual-in_err-body.result c.from_residual-in_err-body.ensures.1
-    (body_stops c.in_ok-place.ensures.read _ c.in_err-body.ensures.stopped)
+pub branch-returns-in_err-place-2-clause-stopped : goal.branch-returns-in_err-place-2-clause-stopped
+branch-returns-in_err-place-2-clause-stopped t c =
+    let body = rw c.in_err-place-2.ensures.stopped at c.statement.ensures.stopped in
+    handed_on _ c.from_residual-in_err-place-2.result c.from_residual-in_err-place-2.ensures.1
+    (body_stops c.in_ok-place.ensures.read _ body)
 
 pub branch-returns-clause-holds : goal.branch-returns-clause-holds
 branch-returns-clause-holds t c =
     let h = c.in_ok-place.ensures.bounds in
-    let l = c.in_ok-body.ensures.bounds in
-    (rw branch-made (held_branch (option_map place_of c.in_ok-place.place.value) c.in_ok-body.ensures.read.derives), omega arith)
+    let l = rw c.in_ok-place-2.ensures.next at c.statement.ensures.bounds in
+    let body = rw c.in_ok-place-2.ensures.next at c.statement.ensures.read in
+    (rw branch-made (held_branch (option_map place_of c.in_ok-place-2.place) body.derives), omega arith)
 
 pub branch-returns-clause-read : goal.branch-returns-clause-read
-branch-returns-clause-read t c = rw branch-made (branch_reads c.in_ok-place.ensures.read c.in_ok-body.ensures.read)
+branch-returns-clause-read t c =
+    let body = rw c.in_ok-place-2.ensures.next at c.statement.ensures.read in
+    rw branch-made (rw c.in_ok-place-2.ensures.value (branch_reads c.in_ok-place.ensures.read body))
 
 pub replicated-returns-in_err-open-clause-stopped : goal.replicated-returns-in_err-open-clause-stopped
 replicated-returns-in_err-open-clause-stopped t c =

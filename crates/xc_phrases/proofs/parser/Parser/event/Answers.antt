@@ -28,11 +28,11 @@ returns-in_err-guard-clause-stopped c =
       | else-is_name w ↦ guard_stops c.args.self.now.toks.now c.args.room c.args.at (no_name (c.is_name.ensures.no w.if-is_name.false)) _ stopped (any_guard c.args.self.now.toks.now c.args.room c.args.at _ stopped)
     ])
 
-pub returns-in_err-input-2-clause-stopped : goal.returns-in_err-input-2-clause-stopped
-returns-in_err-input-2-clause-stopped c =
+pub returns-in_err-guard-2-clause-stopped : goal.returns-in_err-guard-2-clause-stopped
+returns-in_err-guard-2-clause-stopped c =
     let behind = c.in_ok-guard.ensures.bounds.0 in
-    let stopped = c.in_err-input-2.ensures.stopped in
-    handed_on _ c.from_residual-in_err-input-2.result c.from_residual-in_err-input-2.ensures.1
+    let stopped = rw c.in_err-guard-2.ensures.stopped at c.awaited-2.ensures.stopped in
+    handed_on _ c.from_residual-in_err-guard-2.result c.from_residual-in_err-guard-2.ensures.1
     (elim c.if-is_name.branch [
       | then-is_name+else-is_transfer+else-room-eq0 w ↦
           let on = (c.is_name.ensures.yes w.if-is_name.true).1.2 in
@@ -43,9 +43,9 @@ returns-in_err-input-2-clause-stopped c =
 pub returns-clause-read : goal.returns-clause-read
 returns-clause-read c =
     let behind = c.in_ok-guard.ensures.bounds.0 in
-    let read = c.in_ok-input-2.ensures.read in (
+    let read = rw c.in_ok-guard-2.ensures.next at c.awaited-2.ensures.read in (
       read.0,
-      elim c.if-is_name.branch [
+      rw c.in_ok-guard-2.ensures.value elim c.if-is_name.branch [
         | then-is_name+else-is_transfer+else-room-eq0 w ↦
             let on = (c.is_name.ensures.yes w.if-is_name.true).1.2 in
             guarded_reads c.args.self.now.toks.now c.args.room c.args.at (no_transfer on (w.is_transfer.ensures.no w.if-is_transfer.false)) c.in_ok-guard.ensures.read (omega arith) read.1

@@ -30,6 +30,7 @@ use Rattle.xc_kernel.specs.Scopes as scopes
 use Rattle.xc_roots.specs.Parts.{branched_before, cased_before}
 use Rattle.xc_roots.proofs.Laws.Loops.{statement_below, branch_below, branches_below, case_below, body_below, for_grows, grown_from, grown_where, numbered_grows, case_done}
 use Rattle.xc_roots.proofs.Laws.Walks.{statements_more, statements_all, declarations_more, declarations_all, branches_more, branches_all, and_made, cases_more, cases_all, numbered_begun, numbered_more, numbered_all}
+use Rattle.xc_roots.proofs.Laws.Results.{given_on, given_on_ok}
 use Rattle.xc_roots.proofs.context.Context.+statement.Goals as goal
 
 pub statement-returns-in-Empty : goal.statement-returns-in-Empty
@@ -210,8 +211,8 @@ pub block-statements-requires : goal.block-statements-requires
 block-statements-requires t c =
     (down c.args.calls (deepest c.args.self.now.functions.now.all.items) (deepest c.args.self.now.functions.now.all.items) (heights.height_of_statements (plain.statements (map tree.statement_of c.args.ss.now))) 2 (heights.height_of_statements (plain.statements (map tree.statement_of c.args.ss.now))) 1 c.decreases refl (omega arith), tt)
 
-pub declaration-returns-in_ok-copied-in-Word : goal.declaration-returns-in_ok-copied-in-Word
-declaration-returns-in_ok-copied-in-Word t c =
+pub declaration-returns-in_ok-declared-in-Word : goal.declaration-returns-in_ok-declared-in-Word
+declaration-returns-in_ok-declared-in-Word t c = given_on c.with_next.result c.with_next.ensures (λ _ h.
     let here = context_of c.args.self.now in
     let copies' = spec.calls_copy c.args.calls in
     let before = scope_of c.args.scope.now in
@@ -219,8 +220,8 @@ declaration-returns-in_ok-copied-in-Word t c =
     let d = c.args.d.now in
     followed_done (declarations.initial_copy copies' here (path_at here.path d.name.pos) (option_map tree.right_of c.in-Word.right))
     (c.in_ok-declared-in-Word.ensures ∙ ap (λ name. contexts.declares_word here name d.name.pos c.in-Word.unsigned before) c.as_slice-name.ensures)
-    refl (c.in_ok-copied-in-Word.ensures inner inner _ c.initial-initial.ensures)
-    ∙ ap (λ k. declarations.kind_copy copies' here before d.name.text d.name.pos (tree.kind_of k)) (sym c.in-Word.is)
+    refl (h inner inner _ c.initial-initial.ensures)
+    ∙ ap (λ k. declarations.kind_copy copies' here before d.name.text d.name.pos (tree.kind_of k)) (sym c.in-Word.is))
 
 pub declaration-returns-in-Array : goal.declaration-returns-in-Array
 declaration-returns-in-Array t c =
@@ -260,24 +261,24 @@ declaration-initial-initial-requires t c =
     (down c.args.calls (deepest c.args.self.now.functions.now.all.items) (deepest c.args.self.now.functions.now.all.items) 0 5 0 4 c.decreases refl (omega arith), tt)
 
 pub initial-returns-in-None : goal.initial-returns-in-None
-initial-returns-in-None t c =
+initial-returns-in-None t c = given_on c.one_statement.result c.one_statement.ensures (λ _ h.
     let here = context_of c.args.self.now in
     let scope = scope_of c.args.scope.now in
     let path = path_at here.path c.args.pos in
-    c.in_ok-zeroed-in-None.ensures scope
+    h scope
     ∙ ap (copies.one_statement scope) (c.set_zero.ensures ∙ ap (contexts.set_zero here) (c.as_slice.ensures ∙ c.in_ok-path.ensures))
-    ∙ ap (λ r. declarations.initial_copy (spec.calls_copy c.args.calls) here path (option_map tree.right_of r) scope) (sym c.in-None.is)
+    ∙ ap (λ r. declarations.initial_copy (spec.calls_copy c.args.calls) here path (option_map tree.right_of r) scope) (sym c.in-None.is))
 
 pub initial-returns : goal.initial-returns
-initial-returns t c =
+initial-returns t c = given_on c.stored_behind.result c.stored_behind.ensures (λ _ h.
     let here = context_of c.args.self.now in
     let scope = scope_of c.args.scope.now in
     let path = path_at here.path c.args.pos in
     let copies' = spec.calls_copy c.args.calls in
     let value = calls_spec.value_of here scope (tree.right_of c.in-Some.right) in
-    c.in_ok-copied-in-Some.ensures scope _ c.right-called.ensures
+    h scope _ c.right-called.ensures
     ∙ (λ i. copies.joined (calls_spec.right_copy copies' here scope (tree.right_of c.in-Some.right)) (copies.one_statement scope (contexts.set_word here ((c.as_slice-in-Some.ensures ∙ c.in_ok-path.ensures) i) value)))
-    ∙ ap (λ r. declarations.initial_copy copies' here path (option_map tree.right_of r) scope) (sym c.in-Some.is)
+    ∙ ap (λ r. declarations.initial_copy copies' here path (option_map tree.right_of r) scope) (sym c.in-Some.is))
 
 pub initial-right-called-requires : goal.initial-right-called-requires
 initial-right-called-requires t c =
@@ -296,33 +297,33 @@ assign-returns-then-symbol-ne-EQUALS t c =
     c.update.ensures
 
 pub assign-returns : goal.assign-returns
-assign-returns t c =
+assign-returns t c = given_on c.assigned_behind.result c.assigned_behind.ensures (λ _ h.
     let here = context_of c.args.self.now in
     let scope = scope_of c.args.scope.now in
     let to = tree.expression_of c.args.to.now in
     let right = tree.right_of c.args.right.now in
     let copies' = spec.calls_copy c.args.calls in
     let same : nat_eq c.args.symbol 22 ≡ true = ap (λ s. nat_eq s 22) c.if-symbol-ne-EQUALS.false in
-    set_done copies' here scope to right refl refl refl (c.in_ok-copied.ensures scope _ c.right-called.ensures)
-    ∙ ap (spec.assign_by copies' here scope to c.args.symbol c.args.pos right) (sym same)
+    set_done copies' here scope to right refl refl refl (h scope _ c.right-called.ensures)
+    ∙ ap (spec.assign_by copies' here scope to c.args.symbol c.args.pos right) (sym same))
 
 pub assign-right-called-requires : goal.assign-right-called-requires
 assign-right-called-requires t c =
     (down c.args.calls (deepest c.args.self.now.functions.now.all.items) (deepest c.args.self.now.functions.now.all.items) 0 4 0 3 c.decreases refl (omega arith), tt)
 
-pub return_with-returns-in_ok-left-in-None : goal.return_with-returns-in_ok-left-in-None
-return_with-returns-in_ok-left-in-None t c =
+pub return_with-returns-in-None : goal.return_with-returns-in-None
+return_with-returns-in-None t c = given_on c.leaves.result c.leaves.ensures (λ _ h.
     let here = context_of c.args.self.now in
     let scope = scope_of c.args.scope.now in
-    c.in_ok-left-in-None.ensures ∙ ap (λ r. spec.return_copy (spec.calls_copy c.args.calls) here scope (option_map tree.right_of r)) (sym c.in-None.is)
+    h ∙ ap (λ r. spec.return_copy (spec.calls_copy c.args.calls) here scope (option_map tree.right_of r)) (sym c.in-None.is))
 
-pub return_with-returns-in_ok-copied-in-Some : goal.return_with-returns-in_ok-copied-in-Some
-return_with-returns-in_ok-copied-in-Some t c =
+pub return_with-returns-in-Some : goal.return_with-returns-in-Some
+return_with-returns-in-Some t c = given_on c.returned_behind.result c.returned_behind.ensures (λ _ h.
     let here = context_of c.args.self.now in
     let scope = scope_of c.args.scope.now in
     let copies' = spec.calls_copy c.args.calls in
-    return_done copies' here scope (tree.right_of c.in-Some.right) refl refl refl refl refl refl (c.in_ok-copied-in-Some.ensures scope _ c.right-called.ensures)
-    ∙ ap (λ r. spec.return_copy copies' here scope (option_map tree.right_of r)) (sym c.in-Some.is)
+    return_done copies' here scope (tree.right_of c.in-Some.right) refl refl refl refl refl refl (h scope _ c.right-called.ensures)
+    ∙ ap (λ r. spec.return_copy copies' here scope (option_map tree.right_of r)) (sym c.in-Some.is))
 
 pub return_with-right-called-requires : goal.return_with-right-called-requires
 return_with-right-called-requires t c =
@@ -388,7 +389,7 @@ call-function-requires t c =
     (enters_below c.args.calls d d 0 2 1 c.decreases refl c.if-calls-eq0.false (omega arith), (c.requires.height, c.requires.parameters))
 
 pub function-returns : goal.function-returns
-function-returns t c =
+function-returns t c = given_on c.around_body.result c.around_body.ensures (λ _ h.
     let here = context_of c.args.self.now in
     let scope = scope_of c.args.scope.now in
     let own = c.args.own.now in
@@ -404,19 +405,19 @@ function-returns t c =
     (ap (λ p. calls_spec.result_copy here p f.head.name.pos scope f.head.result) (c.as_slice-3.ensures ∙ result))
     (passed ∙ ap (λ ps. parameters.all_passed here scope own ps args) c.as_slice.ensures)
     refl
-    refl refl refl refl (c.in_ok-copied.ensures (scope_of c.in_ok-result.entered.scope) inner scope _ (copied_in (scope_of c.in_ok-result.entered.scope) (copies' f.body) inner c.statement-body.result around c.statement-body.ensures))
+    refl refl refl refl (h (scope_of c.in_ok-result.entered.scope) inner scope _ (copied_in (scope_of c.in_ok-result.entered.scope) (copies' f.body) inner c.statement-body.result around c.statement-body.ensures)))
 
 pub function-statement-body-requires : goal.function-statement-body-requires
 function-statement-body-requires t c =
     (down c.args.calls (deepest c.args.self.now.functions.now.all.items) (deepest c.in_function.result.functions.now.all.items) (deepest c.args.self.now.functions.now.all.items) 1 (heights.height (tree.statement_of c.args.function.now.body)) 0 c.decreases (ap (λ f. deepest f.now.all.items) c.in_function.ensures.functions) (omega (arith, c.requires.height)), tt)
 
 pub choice-returns : goal.choice-returns
-choice-returns t c =
+choice-returns t c = given_on c.if_copy.result c.if_copy.ensures (λ _ h.
     let here = context_of c.args.self.now in
     let test = ap (λ w. kernel.expression_of w.value) c.in_ok-test-2.ensures.value ∙ c.in_ok-test.ensures.value in
     let first = rw c.in_ok-test-2.ensures.made at c.statement-first.ensures in
     if_done (spec.maybe_copy (spec.calls_copy c.args.calls) (tree.maybe_of c.args.second.now) here) test first refl
-    (c.in_ok-copied.ensures (scope_of c.statement-first.new.scope) (scope_of c.maybe-second.new.scope) _ c.maybe-second.ensures)
+    (h (scope_of c.statement-first.new.scope) (scope_of c.maybe-second.new.scope) _ c.maybe-second.ensures))
 
 pub choice-statement-first-requires : goal.choice-statement-first-requires
 choice-statement-first-requires t c =
@@ -432,7 +433,7 @@ while_loop-looped-requires t c =
     (rw c.in_ok-paths.ensures.first at c.loop_paths-paths.ensures.turn) ∙ ap paths.path_of_turn (sym whole)
 
 pub while_loop-returns : goal.while_loop-returns
-while_loop-returns t c =
+while_loop-returns t c = given_on c.looped.result c.looped.ensures (λ _ h.
     let here = context_of c.args.self.now in
     let scope = scope_of c.args.scope.now in
     let inner = scope_of c.statement-body.new.scope in
@@ -442,7 +443,7 @@ while_loop-returns t c =
     let copy = spec.statement_copy (spec.calls_copy c.args.calls) (tree.statement_of c.args.body.now) in
     let around = c.in_loop.ensures.context ∙ λ i. record here { breaks = (c.as_slice.ensures ∙ whole) i; continues = (c.as_slice-2.ensures ∙ turn) i } in
     while_done here c.args.pos scope (copy (contexts.in_loop here c.args.pos) scope) test whole (c.nothing-next.ensures scope)
-    (c.in_ok-copied.ensures scope inner (copy (contexts.in_loop here c.args.pos) scope) (copied_in scope copy inner c.statement-body.result around c.statement-body.ensures))
+    (h scope inner (copy (contexts.in_loop here c.args.pos) scope) (copied_in scope copy inner c.statement-body.result around c.statement-body.ensures)))
 
 pub while_loop-statement-body-requires : goal.while_loop-statement-body-requires
 while_loop-statement-body-requires t c =
@@ -461,8 +462,9 @@ do_while-returns t c =
     let around = c.in_loop.ensures.context ∙ λ i. record here { breaks = (c.as_slice.ensures ∙ whole) i; continues = (c.as_slice-2.ensures ∙ c.in_ok-paths.ensures.turn) i } in
     let body = copy (contexts.in_loop here c.args.pos) scope in
     let known = copied_in scope copy inner c.statement-body.result around c.statement-body.ensures in
-    do_done here c.args.pos (tree.expression_of c.args.test.now) scope refl whole refl refl
-    (c.in_ok-copied.ensures body known)
+    let test = tree.expression_of c.args.test.now in
+    given_on c.looped_until.result {Q = λ x. copy_of x inner ≡ flow.do_while_copy here c.args.pos test body} c.looped_until.ensures
+    (λ _ h. do_done here c.args.pos test scope refl whole refl refl (h body known))
 
 pub do_while-statement-body-requires : goal.do_while-statement-body-requires
 do_while-statement-body-requires t c =
@@ -512,7 +514,7 @@ for_turns-looped-requires t c =
     ap (λ p. p.0.turn) paths' ∙ turn ∙ ap paths.path_of_turn (sym (ap (λ p. p.0.whole) paths' ∙ whole))
 
 pub for_turns-returns : goal.for_turns-returns
-for_turns-returns t c =
+for_turns-returns t c = given_on c.looped.result c.looped.ensures (λ _ h.
     let here = context_of c.args.self.now in
     let scope = scope_of c.args.scope.now in
     let inner = scope_of c.statement-body.new.scope in
@@ -526,8 +528,8 @@ for_turns-returns t c =
     let around = c.in_loop.ensures.context ∙ λ i. record here { breaks = (c.as_slice.ensures ∙ whole) i; continues = (c.as_slice-2.ensures ∙ turn) i } in
     let copy = spec.statement_copy copies' (tree.statement_of c.args.body.now) in
     let body = copy (contexts.in_loop here c.args.pos) scope in
-    c.in_ok-copied.ensures (scope_of c.maybe-next.new.scope) inner body (copied_as inner c.statement-body.result (λ i. copy (around i) (left i)) c.statement-body.ensures)
-    ∙ λ i. flow.loop_at here (whole i) (test i) (flow.turn here (whole i) body.code []) (copies.code_of (next i)) (copies.joined (next i) body)
+    h (scope_of c.maybe-next.new.scope) inner body (copied_as inner c.statement-body.result (λ i. copy (around i) (left i)) c.statement-body.ensures)
+    ∙ λ i. flow.loop_at here (whole i) (test i) (flow.turn here (whole i) body.code []) (copies.code_of (next i)) (copies.joined (next i) body))
 
 pub for_turns-maybe-next-requires : goal.for_turns-maybe-next-requires
 for_turns-maybe-next-requires t c =
@@ -544,7 +546,7 @@ transaction-leave-requires t c =
     grown_fits (grown_by scope c.in_ok-inside.ensures (statements_grow (spec.calls_copy c.args.calls) (calls_keep c.args.calls) ss (context_of c.args.self.now) scope)) c.len-known.ensures
 
 pub transaction-returns : goal.transaction-returns
-transaction-returns t c =
+transaction-returns t c = given_on c.and_statement.result c.and_statement.ensures (λ _ h.
     let here = context_of c.args.self.now in
     let scope = scope_of c.args.scope.now in
     let inner = scope_of c.statements.new.scope in
@@ -555,7 +557,7 @@ transaction-returns t c =
     let tran = kernel.statement_of (Tran c.channel-chan.result c.args.master c.take_code-body.result c.args.start c.args.close) in
     transaction_done here scope c.args.master c.args.start c.args.close c.in_ok-inside.ensures (c.first_named.ensures inner) c.channel-chan.ensures (c.take_code-body.ensures.code inner) (c.take_code-body.ensures.left inner)
     (statement-Tran c.channel-chan.result c.args.master c.take_code-body.result c.args.start c.args.close)
-    (c.in_ok-copied.ensures (scope_of c.leave.new.self) ∙ λ i. copies.in_scope_of (ends i) (copies.with_code left (left.code ++ tran ∷ [])))
+    (h (scope_of c.leave.new.self) ∙ λ i. copies.in_scope_of (ends i) (copies.with_code left (left.code ++ tran ∷ []))))
 
 pub transaction-statements-requires : goal.transaction-statements-requires
 transaction-statements-requires t c =
@@ -616,10 +618,10 @@ par-loop-index-preserved t c =
     c.loop-index.invariant
 
 pub par-returns : goal.par-returns
-par-returns t c =
+par-returns t c = given_on c.as_par.result c.as_par.ensures (λ _ h.
     let scope = scope_of c.loop-index.scope in
-    c.in_ok-copied.ensures scope
-    ∙ ap flow.par_copy (branches_all (spec.calls_copy c.args.calls) (context_of c.args.self.now) c.args.bs.now c.loop-index.index c.loop-index-test.false scope c.loop-index.branches c.loop-index.invariant)
+    h scope
+    ∙ ap flow.par_copy (branches_all (spec.calls_copy c.args.calls) (context_of c.args.self.now) c.args.bs.now c.loop-index.index c.loop-index-test.false scope c.loop-index.branches c.loop-index.invariant))
 
 pub par-branch-copied-requires : goal.par-branch-copied-requires
 par-branch-copied-requires t c = (
@@ -628,16 +630,16 @@ par-branch-copied-requires t c = (
 )
 
 pub branch-returns : goal.branch-returns
-branch-returns t c =
+branch-returns t c = given_on c.statement-copied.result c.statement-copied.ensures (λ _ h.
     let here = context_of c.args.self.now in
     let copies' = spec.calls_copy c.args.calls in
     let scope = scope_of c.args.scope.now in
     let b = c.args.b.now in
     let context = c.in_branch.ensures.context ∙ ap (λ p. record here { path = p }) (c.as_slice.ensures ∙ c.in_ok-path.ensures) in
-    c.in_ok-copied.ensures ∙ ap (λ x. spec.statement_copy copies' (tree.statement_of b.body) x scope) context ∙ in_branch_of copies' b (contexts.in_branch here c.args.index) scope
+    h ∙ ap (λ x. spec.statement_copy copies' (tree.statement_of b.body) x scope) context ∙ in_branch_of copies' b (contexts.in_branch here c.args.index) scope)
 
-pub branch-statement-requires : goal.branch-statement-requires
-branch-statement-requires t c =
+pub branch-statement-copied-requires : goal.branch-statement-copied-requires
+branch-statement-copied-requires t c =
     (branch_below c.args.calls (deepest c.args.self.now.functions.now.all.items) (deepest c.in_branch.result.functions.now.all.items) c.args.b.now c.decreases (ap (λ f. deepest f.now.all.items) c.in_branch.ensures.functions), tt)
 
 pub replicated-loop-number-init : goal.replicated-loop-number-init
@@ -670,15 +672,15 @@ replicated-loop-number-preserved t c =
     }
 
 pub replicated-returns : goal.replicated-returns
-replicated-returns t c =
+replicated-returns t c = given_on c.as_par.result c.as_par.ensures (λ _ h.
     let here = context_of c.args.self.now in
     let scope = scope_of c.args.scope.now in
     let b = c.args.b.now in
     let inv = c.loop-number.invariant in
     let copy = flow.numbered_copy (spec.branch_copy (spec.calls_copy c.args.calls) (tree.branch_of b)) here scope c.args.name.now.text in
-    c.in_ok-copied.ensures (scope_of c.loop-number.scope)
+    h (scope_of c.loop-number.scope)
     ∙ ap (λ s. flow.par_copy (branched_before c.loop-number.branches (flow.no_branches s))) inv.scope
-    ∙ ap flow.par_copy (numbered_all copy (spec.pos_of_branch (tree.branch_of b)) scope c.args.from c.args.until c.loop-number.number c.loop-number-test.false c.loop-number.branches inv.branches)
+    ∙ ap flow.par_copy (numbered_all copy (spec.pos_of_branch (tree.branch_of b)) scope c.args.from c.args.until c.loop-number.number c.loop-number-test.false c.loop-number.branches inv.branches))
 
 pub replicated-numbered-copied-requires : goal.replicated-numbered-copied-requires
 replicated-numbered-copied-requires t c =
@@ -732,32 +734,32 @@ select-loop-case-preserved t c =
     }
 
 pub select-returns : goal.select-returns
-select-returns t c =
+select-returns t c = given_on c.as_select.result c.as_select.ensures (λ _ h.
     let scope = scope_of c.args.scope.now in
     let inv = c.loop-case.invariant in
-    c.in_ok-copied.ensures (scope_of c.loop-case.scope)
+    h (scope_of c.loop-case.scope)
     ∙ ap (λ s. flow.select_copy s c.args.pos (cased_before c.loop-case.cases (flow.no_cases s))) inv.scope
-    ∙ ap (flow.select_copy scope c.args.pos) (cases_all (spec.calls_copy c.args.calls) (context_of c.args.self.now) c.args.cs.now c.loop-case.case-index c.loop-case-test.false scope c.loop-case.cases inv.cases)
+    ∙ ap (flow.select_copy scope c.args.pos) (cases_all (spec.calls_copy c.args.calls) (context_of c.args.self.now) c.args.cs.now c.loop-case.case-index c.loop-case-test.false scope c.loop-case.cases inv.cases))
 
 pub select-case-added-requires : goal.select-case-added-requires
 select-case-added-requires t c =
     (case_below c.args.calls (deepest c.args.self.now.functions.now.all.items) c.args.cs.now c.loop-case.case-index c.case-item.result c.decreases c.case-item.is c.loop-case-test.true, tt)
 
 pub case-returns-clause-cases : goal.case-returns-clause-cases
-case-returns-clause-cases t c =
+case-returns-clause-cases t c = given_on_ok c.add_case.result c.add_case.ensures.cases (λ h.
     let path = rw c.in_ok-path.ensures.first at c.path_at-path.ensures in
     let names = rw c.in_ok-path.ensures.second at c.opened-opened.ensures.names in
     let head = rw c.in_ok-path.ensures.second at c.opened-opened.ensures.head in
     case_done (spec.calls_copy c.args.calls) (context_of c.args.self.now) (scope_of c.args.scope.now) c.args.case.now _ c.args.cases.now c.add_case.new.cases
     path c.as_slice.ensures c.in_case.ensures.context c.as_slice-2.ensures names head
-    refl (c.in_ok-add_case.ensures.cases (scope_of c.opened-opened.new.scope) (scope_of c.statements-body.new.scope) _ c.statements-body.ensures)
+    refl (h (scope_of c.opened-opened.new.scope) (scope_of c.statements-body.new.scope) _ c.statements-body.ensures))
 
 pub case-returns-clause-names : goal.case-returns-clause-names
-case-returns-clause-names t c =
+case-returns-clause-names t c = given_on_ok c.add_case.result c.add_case.ensures.made (λ h.
     let ss = plain.statements (map tree.statement_of c.as_slice-2.result.now) in
     let inner = scope_of c.opened-opened.new.scope in
     let grows = rw c.in_ok-path.ensures.second at c.opened-opened.ensures.grows in
-    further grows (grown_where c.statements-body.result inner (scope_of c.statements-body.new.scope) _ c.in_ok-add_case.ensures.made c.statements-body.ensures (statements_grow (spec.calls_copy c.args.calls) (calls_keep c.args.calls) ss (context_of c.in_case.result) inner))
+    further grows (grown_where c.statements-body.result inner (scope_of c.statements-body.new.scope) _ h c.statements-body.ensures (statements_grow (spec.calls_copy c.args.calls) (calls_keep c.args.calls) ss (context_of c.in_case.result) inner)))
 
 pub case-statements-body-requires : goal.case-statements-body-requires
 case-statements-body-requires t c = (

@@ -1,10 +1,6 @@
-use Rattle.std.proofs.Common.{◌∙◌}
-use Rattle.xc_kernel.specs.Copy.{joined}
 use Rattle.xc_roots.specs.Scopes.{scope_of}
+use Rattle.xc_roots.proofs.Laws.Results.{given_on}
 use Rattle.xc_roots.proofs.context.Context.assigned_behind.Goals as goal
 
 pub returns : goal.returns
-returns c = λ within call is.
-    let called = rw c.in_ok-called.ensures.first at is in
-    let behind = rw c.in_ok-called.ensures.second at c.value_assigned-stored.ensures in
-    c.in_ok-copied.ensures within (scope_of c.args.scope.now) ∙ λ i. joined (called i) (behind i)
+returns c = given_on c.joined.result c.joined.ensures (λ _ h. λ within call is. h within (scope_of c.args.scope.now) call _ is c.value_assigned-stored.ensures)

@@ -5,11 +5,12 @@ use Rattle.xc_roots.specs.Contexts.{context_of}
 use Rattle.xc_roots.specs.Roots.{rooted_of}
 use Rattle.xc_roots.specs.Scopes.{scope_of}
 use Rattle.xc_roots.proofs.Laws.Roots.{branch_done}
+use Rattle.xc_roots.proofs.Laws.Results.{given_on_ok}
 use Rattle.xc_roots.proofs.context.Context.branch_root.Goals as goal
 
 pub returns : goal.returns
-returns c =
+returns c = given_on_ok c.add_root.result c.add_root.ensures (λ h.
     let scope = scope_of c.args.scope.now in
-    c.in_ok-add_root.ensures scope (scope_of c.statement.new.scope)
+    h scope (scope_of c.statement.new.scope)
     ∙ ap (spec.and_roots (rooted_of c.args.rooted.now scope))
-    (branch_done (calls_copy c.args.calls) c.args.main (context_of c.args.self.now) scope c.args.b.now c.in_ok-core.ensures c.pos_of_place-place.ensures c.on_core.ensures.context c.in_ok-copied.ensures)
+    (branch_done (calls_copy c.args.calls) c.args.main (context_of c.args.self.now) scope c.args.b.now c.in_ok-core.ensures c.pos_of_place-place.ensures c.on_core.ensures.context c.in_ok-copied.ensures))

@@ -17,7 +17,7 @@ loop-index-preserved c =
     let before = rooted_of c.loop-index.rooted (scope_of c.loop-index.scope) in
     let context = c.in_branch.ensures.context ∙ λ i. record here { path = (c.as_slice.ensures ∙ c.in_ok-path.ensures) i } in
     branch_step copies main here c.args.bs.now c.loop-index.index b before c.index-bs-index.is c.loop-index-test.true
-    (c.in_ok-branch_root.ensures ∙ ap (λ x. spec.roots_then before (spec.branch_root copies main (tree.branch_of b) x)) context)
+    (c.in_ok-added.ensures ∙ ap (λ x. spec.roots_then before (spec.branch_root copies main (tree.branch_of b) x)) context)
     c.loop-index.invariant
 
 pub returns : goal.returns

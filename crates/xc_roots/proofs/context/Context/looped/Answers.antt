@@ -5,6 +5,7 @@ use Rattle.xc_kernel.specs.Kernels.{expression_of}
 use Rattle.xc_kernel.specs.Paths.{path_of_turn}
 use Rattle.xc_roots.specs.Contexts.{context_of}
 use Rattle.xc_roots.specs.Copied.{copy_of}
+use Rattle.xc_roots.proofs.Laws.Results.{given_on}
 use Rattle.xc_roots.proofs.context.Context.looped.Goals as goal
 
 pub loop_at-requires : goal.loop_at-requires
@@ -13,12 +14,12 @@ loop_at-requires c =
     ap (λ p. p.0.0.turn) same ∙ c.requires ∙ sym (ap (λ p. path_of_turn p.0.0.whole) same)
 
 pub returns : goal.returns
-returns c = λ between behind done is.
+returns c = given_on c.loop_at.result c.loop_at.ensures (λ _ h. λ between behind done is.
     let here = context_of c.args.self.now in
     let same = c.in_ok-paths.ensures.value in
     let body = rw c.in_ok-paths.ensures.made at is in
     let next = ap (λ p. copy_of p.1 between) same in
     let whole = ap (λ p. p.0.0.whole) same in
     let test = ap (λ p. expression_of p.0.1) same in
-    c.in_ok-copied.ensures between behind
-    ∙ λ i. flow.loop_at here (whole i) (test i) (flow.turn here (whole i) (body i).code []) (copies.code_of (next i)) (copies.joined (next i) (body i))
+    h between behind
+    ∙ λ i. flow.loop_at here (whole i) (test i) (flow.turn here (whole i) (body i).code []) (copies.code_of (next i)) (copies.joined (next i) (body i)))

@@ -8,6 +8,7 @@ use Rattle.xc_kernel.specs.Paths.{path_of_turn}
 use Rattle.xc_roots.specs.Contexts.{context_of}
 use Rattle.xc_roots.specs.Copied.{copy_of}
 use Rattle.xc_roots.specs.Scopes.{scope_of}
+use Rattle.xc_roots.proofs.Laws.Results.{given_on}
 use Rattle.xc_roots.proofs.context.Context.looped_until.Goals as goal
 
 pub loop_at-requires : goal.loop_at-requires
@@ -16,7 +17,7 @@ loop_at-requires c =
     ap (λ p. p.turn) same ∙ c.requires ∙ sym (ap (λ p. path_of_turn p.whole) same)
 
 pub returns : goal.returns
-returns c = λ done is.
+returns c = given_on c.loop_at.result c.loop_at.ensures (λ _ h. λ done is.
     let here = context_of c.args.self.now in
     let behind = scope_of c.args.scope.now in
     let ends = rw c.in_ok-paths.ensures.made at c.both-ends.ensures in
@@ -28,5 +29,5 @@ returns c = λ done is.
     let test = (rw ends.second at c.word-test.ensures.value) ∙ ap (λ copy. contexts.expression here copy.scope (tree.expression_of c.args.test.now)) done in
     let last = (rw c.in_ok-paths-2.ensures.made at c.leave_unless-last.ensures) ∙ λ i. flow.leave_unless here ((c.as_slice.ensures ∙ ap (λ p. p.whole) first) i) (test i) in
     let none = c.nothing-next.ensures behind in
-    c.in_ok-copied.ensures behind behind
-    ∙ λ i. flow.loop_at here (whole i) (expression-Num 1 i) (flow.turn here (whole i) (body i).code (last i ∷ [])) (copies.code_of (none i)) (copies.joined (none i) (body i))
+    h behind behind
+    ∙ λ i. flow.loop_at here (whole i) (expression-Num 1 i) (flow.turn here (whole i) (body i).code (last i ∷ [])) (copies.code_of (none i)) (copies.joined (none i) (body i)))

@@ -6,13 +6,14 @@ use Rattle.xc_roots.specs.Contexts.{context_of}
 use Rattle.xc_roots.specs.Copied.{copy_of}
 use Rattle.xc_roots.specs.Functions.{function_of}
 use Rattle.xc_roots.specs.Roots.{rooted_of}
+use Rattle.xc_roots.proofs.Laws.Results.{given_on_both}
 use Rattle.xc_roots.proofs.context.Context.main_root.Goals as goal
 
 pub returns : goal.returns
-returns c =
+returns c = given_on_both c.after.result c.after.ensures.value c.after.ensures.done (λ made same done.
     let here = context_of c.args.self.now in
     let pos = c.args.main.now.name.pos in
     let scope = c.in_ok-scope.ensures in
     let copy = sym (ap (copy_of c.in_ok-copied.copied) scope) ∙ c.in_ok-copied.ensures ∙ ap (λ s. function_copy (statement_copy (calls_copy c.args.calls)) here s [] (function_of c.args.main.now) []) scope in
-    let added = rw c.in_ok-rooted.ensures.done at c.add_root-added.ensures in
-    ap (λ r. rooted_of r here.ports) c.in_ok-rooted.ensures.value ∙ added [] here.ports ∙ λ i. spec.and_roots (c.none-root.ensures [] i) (spec.root_of 0 pos pos (copy i))
+    let added = rw done at c.add_root-added.ensures in
+    ap (λ r. rooted_of r here.ports) same ∙ added [] here.ports ∙ λ i. spec.and_roots (c.none-root.ensures [] i) (spec.root_of 0 pos pos (copy i)))

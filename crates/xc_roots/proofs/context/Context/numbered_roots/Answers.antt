@@ -26,8 +26,8 @@ pub leave-requires : goal.leave-requires
 leave-requires c =
     let scope = scope_of c.args.scope.now in
     let inv = c.loop-number.invariant in
-    let inside = c.in_ok-declare.ensures ∙ λ i. with_name (inv.scope i) (c.as_slice.ensures i) (a_constant c.loop-number.number) in
-    let grows : Grows scope (scope_of c.branch_root.new.scope) = number_grows c.args.calls c.args.main (tree.branch_of c.args.b.now) (context_of c.in_branch.result) (rooted_of c.loop-number.rooted (scope_of c.declare.new.self)) inside c.in_ok-branch_root.ensures refl in
+    let inside = (rw c.in_ok-path-2.ensures.done at c.declare-declared.ensures) ∙ λ i. with_name (inv.scope i) (c.as_slice.ensures i) (a_constant c.loop-number.number) in
+    let grows : Grows scope (scope_of c.branch_root-added.new.scope) = number_grows c.args.calls c.args.main (tree.branch_of c.args.b.now) (context_of c.in_branch.result) (rooted_of c.loop-number.rooted (scope_of c.declare-declared.new.self)) inside c.in_ok-added.ensures refl in
     omega (arith, inv.known, grown_length grows)
 
 pub loop-number-preserved : goal.loop-number-preserved
@@ -43,12 +43,12 @@ loop-number-preserved c =
     let number = c.loop-number.number in
     let inv = c.loop-number.invariant in
     let before = rooted_of c.loop-number.rooted scope in
-    let after = rooted_of c.branch_root.new.rooted scope in
-    let inside = c.in_ok-declare.ensures ∙ λ i. with_name (inv.scope i) (c.as_slice.ensures i) (a_constant number) in
-    let context = c.in_branch.ensures.context ∙ λ i. record here { path = (c.as_slice-in-loop-number.ensures ∙ c.in_ok-path.ensures) i } in
-    let grows : Grows scope (scope_of c.branch_root.new.scope) = number_grows c.args.calls main b (context_of c.in_branch.result) (rooted_of c.loop-number.rooted (scope_of c.declare.new.self)) inside c.in_ok-branch_root.ensures refl in
+    let after = rooted_of c.branch_root-added.new.rooted scope in
+    let inside = (rw c.in_ok-path-2.ensures.done at c.declare-declared.ensures) ∙ λ i. with_name (inv.scope i) (c.as_slice.ensures i) (a_constant number) in
+    let context = c.in_branch.ensures.context ∙ λ i. record here { path = (c.as_slice-in-loop-number.ensures ∙ c.in_ok-path-2.ensures.value ∙ c.in_ok-path.ensures) i } in
+    let grows : Grows scope (scope_of c.branch_root-added.new.scope) = number_grows c.args.calls main b (context_of c.in_branch.result) (rooted_of c.loop-number.rooted (scope_of c.declare-declared.new.self)) inside c.in_ok-added.ensures refl in
     let one : after ≡ spec.and_roots before (spec.root_in_scope_of copies scope (spec.branch_root copies main b (in_branch here (number - from)) (with_name scope name (a_constant number)))) =
-    ap (spec.root_in_scope_of copies scope) (c.in_ok-branch_root.ensures ∙ λ i. spec.and_roots before (spec.branch_root copies main b (context i) (inside i))) in
+    ap (spec.root_in_scope_of copies scope) (c.in_ok-added.ensures ∙ λ i. spec.and_roots before (spec.branch_root copies main b (context i) (inside i))) in
     let next : ◌≡◌ {A = ℕ} (number + 1 - from) ((number - from) + 1) = omega (arith, c.loop-number.auto.number) in
     let less : ◌≡◌ {A = ℕ} (until - number) (suc (until - (number + 1))) = omega (arith, c.loop-number-test.true) in
     record {

@@ -10,37 +10,38 @@ use Rattle.xc_roots.specs.Roots.{rooted_of}
 use Rattle.xc_roots.specs.Scopes.{scope_of}
 use Rattle.xc_roots.proofs.Laws.Roots.{nothing_made}
 use Rattle.xc_roots.proofs.Laws.Kinds.{rootless}
+use Rattle.xc_roots.proofs.Laws.Results.{given_on_ok}
 use Rattle.xc_roots.proofs.context.Context.statement_roots.Goals as goal
 
-pub returns-in_ok-add_copy-in-Decl : goal.returns-in_ok-add_copy-in-Decl
-returns-in_ok-add_copy-in-Decl c =
+pub returns-in_ok-copied-in-Decl : goal.returns-in_ok-copied-in-Decl
+returns-in_ok-copied-in-Decl c = given_on_ok c.add_copy.result c.add_copy.ensures (λ h.
     let copies = calls_copy c.args.calls in
     let here = context_of c.args.self.now in
     let scope = scope_of c.args.scope.now in
     let before = rooted_of c.args.rooted.now scope in
     let copied = c.in_ok-copied-in-Decl.ensures ∙ ap (λ ds. declarations_copy copies here (map tree.declaration_of ds) scope) c.as_slice.ensures in
-    c.in_ok-add_copy-in-Decl.ensures scope (scope_of c.declarations.new.scope)
+    h scope (scope_of c.declarations.new.scope)
     ∙ ap (λ x. spec.and_roots before (spec.no_roots x)) copied
-    ∙ ap (λ a. spec.roots_then before (spec.action_roots copies c.args.main a here)) (sym (ap tree.action_of c.in-Decl.is ∙ action-Decl c.in-Decl.ds))
+    ∙ ap (λ a. spec.roots_then before (spec.action_roots copies c.args.main a here)) (sym (ap tree.action_of c.in-Decl.is ∙ action-Decl c.in-Decl.ds)))
 
-pub returns-in_ok-branch_roots-in-Par : goal.returns-in_ok-branch_roots-in-Par
-returns-in_ok-branch_roots-in-Par c =
+pub returns-in-Par : goal.returns-in-Par
+returns-in-Par c = given_on_ok c.branch_roots.result c.branch_roots.ensures (λ h.
     let copies = calls_copy c.args.calls in
     let here = context_of c.args.self.now in
     let before = rooted_of c.args.rooted.now (scope_of c.args.scope.now) in
-    c.in_ok-branch_roots-in-Par.ensures
+    h
     ∙ ap (λ bs. spec.roots_then before (spec.branch_roots copies c.args.main (plain.branches (map tree.branch_of bs)) 0 here)) c.as_slice-in-Par.ensures
-    ∙ ap (λ a. spec.roots_then before (spec.action_roots copies c.args.main a here)) (sym (ap tree.action_of c.in-Par.is ∙ action-Par c.in-Par.bs))
+    ∙ ap (λ a. spec.roots_then before (spec.action_roots copies c.args.main a here)) (sym (ap tree.action_of c.in-Par.is ∙ action-Par c.in-Par.bs)))
 
-pub returns-in_ok-numbered_roots-in-Repl : goal.returns-in_ok-numbered_roots-in-Repl
-returns-in_ok-numbered_roots-in-Repl c =
+pub returns-in-Repl : goal.returns-in-Repl
+returns-in-Repl c = given_on_ok c.numbered_roots.result c.numbered_roots.ensures (λ h.
     let copies = calls_copy c.args.calls in
     let here = context_of c.args.self.now in
     let scope = scope_of c.args.scope.now in
     let before = rooted_of c.args.rooted.now scope in
-    c.in_ok-numbered_roots-in-Repl.ensures
+    h
     ∙ ap (λ b. spec.and_roots before (spec.numbered_roots copies c.args.main (tree.branch_of b) c.in-Repl.first.text here scope (c.in-Repl.to - c.in-Repl.from) 0 c.in-Repl.from)) c.deref.ensures
-    ∙ ap (λ a. spec.roots_then before (spec.action_roots copies c.args.main a here)) (sym (ap tree.action_of c.in-Repl.is ∙ action-Repl c.in-Repl.first c.in-Repl.second c.in-Repl.third c.in-Repl.from c.in-Repl.to c.in-Repl.body))
+    ∙ ap (λ a. spec.roots_then before (spec.action_roots copies c.args.main a here)) (sym (ap tree.action_of c.in-Repl.is ∙ action-Repl c.in-Repl.first c.in-Repl.second c.in-Repl.third c.in-Repl.from c.in-Repl.to c.in-Repl.body)))
 
 pub returns-in_default : goal.returns-in_default
 returns-in_default c =

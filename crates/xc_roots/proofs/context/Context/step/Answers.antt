@@ -4,9 +4,10 @@ use Rattle.xc_kernel.proofs.Forms.{expression-Num}
 use Rattle.xc_kernel.specs.Statements as spec
 use Rattle.xc_roots.specs.Contexts.{context_of}
 use Rattle.xc_roots.specs.Scopes.{scope_of}
+use Rattle.xc_roots.proofs.Laws.Results.{given_on}
 use Rattle.xc_roots.proofs.context.Context.step.Goals as goal
 
 pub returns : goal.returns
-returns c =
-    c.in_ok-copied.ensures
-    ∙ ap (spec.update_copy (context_of c.args.self.now) (scope_of c.args.scope.now) (tree.expression_of c.args.to.now) c.args.symbol c.args.pos false) (expression-Num 1)
+returns c = given_on c.update.result c.update.ensures (λ _ h.
+    h
+    ∙ ap (spec.update_copy (context_of c.args.self.now) (scope_of c.args.scope.now) (tree.expression_of c.args.to.now) c.args.symbol c.args.pos false) (expression-Num 1))

@@ -3,9 +3,10 @@ use Rattle.xc_kernel.specs.Context.{set_word}
 use Rattle.xc_kernel.specs.Copy.{one_statement}
 use Rattle.xc_roots.specs.Contexts.{context_of}
 use Rattle.xc_roots.specs.Scopes.{scope_of}
+use Rattle.xc_roots.proofs.Laws.Results.{given_on}
 use Rattle.xc_roots.proofs.context.Context.value_stored.Goals as goal
 
 pub returns : goal.returns
-returns c =
+returns c = given_on c.one_statement.result c.one_statement.ensures (λ _ h.
     let scope = scope_of c.args.scope.now in
-    c.in_ok-stored.ensures scope ∙ ap (one_statement scope) (c.set_word.ensures ∙ ap (set_word (context_of c.args.self.now) c.args.path.now) c.in_ok-value.ensures)
+    h scope ∙ ap (one_statement scope) (c.set_word.ensures ∙ ap (set_word (context_of c.args.self.now) c.args.path.now) c.in_ok-value.ensures))

@@ -6,11 +6,12 @@ use Rattle.xc_kernel.specs.Plain as plain
 use Rattle.xc_roots.specs.Copied.{copy_of}
 use Rattle.xc_roots.proofs.Laws.Growth.{joined_last}
 use Rattle.xc_roots.proofs.Laws.Parts.{branches_all}
+use Rattle.xc_roots.proofs.Laws.Results.{given_on}
 use Rattle.xc_roots.proofs.parts.Branched.as_par.Goals as goal
 
 pub returns : goal.returns
-returns c = λ behind.
+returns c = given_on c.with_statement.result c.with_statement.ensures (λ _ h. λ behind.
     let bs = c.args.self.branches in
     let made = sym (joined_last (copy_of c.args.self.made behind)) in
     let par = statement-Par bs ∙ ap plain.par (sym (branches_all (map kernel.branch_of bs))) in
-    c.in_ok-copied.ensures behind ∙ λ i. copies.with_code (made i) (par i ∷ [])
+    h behind ∙ λ i. copies.with_code (made i) (par i ∷ []))

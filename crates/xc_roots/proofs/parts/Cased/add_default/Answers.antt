@@ -5,14 +5,15 @@ use Rattle.xc_kernel.specs.Plain as plain
 use Rattle.xc_roots.specs.Copied.{copy_of}
 use Rattle.xc_roots.specs.Parts.{cases_before, default_before}
 use Rattle.xc_roots.proofs.Laws.Growth.{joined_assoc}
+use Rattle.xc_roots.proofs.Laws.Results.{given_on_ok}
 use Rattle.xc_roots.proofs.parts.Cased.add_default.Goals as goal
 
 pub returns : goal.returns
-returns c = λ behind others.
+returns c = given_on_ok c.join.result c.join.ensures (λ h. λ behind others.
     let made = copy_of c.args.self.now.made [] in
-    let copied = ap (λ x. copies.joined x others.made) (c.in_ok-join.ensures [] [] ∙ ap (copies.joined made) (c.take_code-body.ensures.left []))
+    let copied = ap (λ x. copies.joined x others.made) (h [] [] ∙ ap (copies.joined made) (c.take_code-body.ensures.left []))
     ∙ joined_assoc made (copies.with_code (copy_of c.args.block []) []) others.made in
     let otherwise = c.first_of.ensures others.otherwise
     ∙ ap (λ b. default_before b (plain.default (plain.statements (map kernel.statement_of c.take_code-body.result)))) c.replace-before.ensures.value
     ∙ ap (λ ss. default_before c.args.self.now.otherwise (plain.default (plain.statements ss))) (c.take_code-body.ensures.code behind) in
-    λ i. record { made = copied i; cases = cases_before (map kernel.case_of c.args.self.now.cases) others.cases; otherwise = otherwise i }
+    λ i. record { made = copied i; cases = cases_before (map kernel.case_of c.args.self.now.cases) others.cases; otherwise = otherwise i })

@@ -7,21 +7,22 @@ use Rattle.xc_roots.specs.Functions.{function_of}
 use Rattle.xc_roots.specs.Roots.{rooted_of}
 use Rattle.xc_roots.specs.Scopes.{scope_of}
 use Rattle.xc_roots.proofs.Laws.Roots.{block_step, block_done, own_scope}
-use Rattle.xc_roots.proofs.context.Context.placed_roots.Goals as goal
+use Rattle.xc_roots.proofs.context.Context.roots_in_block.Goals as goal
 
 pub loop-s-init : goal.loop-s-init
 loop-s-init c =
     let here = context_of c.args.self.now in
     let f = function_of c.args.main.now in
-    let scope = scope_of c.in_ok-scope.scope in
-    let instance = c.in_ok-instance.ensures scope ∙ ap (instance_of here f) c.in_ok-scope.ensures in
-    let made = c.in_ok-add_copy.ensures [] scope ∙ λ i. spec.and_roots (c.none-rooted.ensures [] i) (spec.no_roots (instance i)) in
+    let scope = scope_of c.args.scope.now in
+    let instance = c.in_ok-instance.ensures scope ∙ ap (instance_of here f) c.requires.ports in
+    let added = rw c.in_ok-rooted.ensures.done at c.add_copy-added.ensures in
+    let made = ap (λ r. rooted_of r scope) c.in_ok-rooted.ensures.value ∙ added [] scope ∙ λ i. spec.and_roots (c.none-begun.ensures [] i) (spec.no_roots (instance i)) in
     λ i. spec.roots_then (made i) (spec.block_roots (calls_copy c.args.calls) f.head.name.pos (c.in_block-block.ensures i) here)
 
 pub loop-s-preserved : goal.loop-s-preserved
 loop-s-preserved c =
     block_step (calls_copy c.args.calls) c.args.main.now.name.pos (context_of c.args.self.now) c.in_block-block.result.now c.loop-s.s-index c.s-item.result (rooted_of c.loop-s.rooted (scope_of c.loop-s.scope)) c.s-item.is c.loop-s-test.true
-    c.in_ok-statement_roots.ensures c.loop-s.invariant
+    (ap (λ r. rooted_of r (scope_of c.statement_roots-more.new.scope)) c.in_ok-rooted-2.ensures.value ∙ (rw c.in_ok-rooted-2.ensures.done at c.statement_roots-more.ensures)) c.loop-s.invariant
 
 pub returns : goal.returns
 returns c =

@@ -7,7 +7,7 @@ use Rattle.xc_roots.specs.Contexts.{context_of}
 use Rattle.xc_roots.specs.Functions.{function_of}
 use Rattle.xc_roots.specs.Roots.{rooted_of}
 use Rattle.xc_roots.specs.Scopes.{scope_of}
-use Rattle.xc_roots.proofs.context.Context.placed_roots.Given as goal
+use Rattle.xc_roots.proofs.context.Context.roots_in_block.Given as goal
 
 abbrev pub invariant-loop-s : goal.invariant-loop-s
 invariant-loop-s l =
