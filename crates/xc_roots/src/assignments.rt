@@ -71,7 +71,7 @@ impl<'p, 'a> Context<'p, 'a> {
             (scope_of scope.now) (option_map tree.right_of right.now)) }
     {
         match right {
-            None => { self.leaves(alloc, self.returns, scope) }
+            None => self.leaves(alloc, self.returns, scope),
             Some(right) => {
                 let called = self.right(alloc, calls, right, scope);
                 self.returned_behind(alloc, called, right, scope)

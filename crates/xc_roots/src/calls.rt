@@ -152,7 +152,7 @@ impl<'p, 'a> Context<'p, 'a> {
     {
         match function.result {
             None => Ok(Copied::nothing(alloc)),
-            Some(_) => { self.zeroed_word(alloc, path, function.name.pos) }
+            Some(_) => self.zeroed_word(alloc, path, function.name.pos),
         }
     }
 

@@ -161,8 +161,8 @@ impl<'p, 'a> Context<'p, 'a> {
         let block = self.block_of(alloc, path, body);
         let (opened, block) = beside(opened, block)?;
         match opened {
-            None => { cases.add_default(alloc, block) }
-            Some(opened) => { cases.add_case(alloc, opened.guard, opened.received, block) }
+            None => cases.add_default(alloc, block),
+            Some(opened) => cases.add_case(alloc, opened.guard, opened.received, block),
         }
     }
 

@@ -95,7 +95,7 @@ impl<'p, 'a> Context<'p, 'a> {
     {
         let path = path_at(alloc, self.path, pos)?;
         match right {
-            None => { Copied::one_statement(alloc, self.set_zero(path.as_slice())) }
+            None => Copied::one_statement(alloc, self.set_zero(path.as_slice())),
             Some(right) => {
                 let called = self.right(alloc, calls, right, scope);
                 self.stored_behind(alloc, called, path.as_slice(), right, scope)

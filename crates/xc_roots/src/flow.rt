@@ -126,8 +126,8 @@ impl<'p, 'a> Context<'p, 'a> {
     {
         let block = self.block_at(path, body);
         match last {
-            None => { one(alloc, block) }
-            Some(last) => { two(alloc, block, last) }
+            None => one(alloc, block),
+            Some(last) => two(alloc, block, last),
         }
     }
 

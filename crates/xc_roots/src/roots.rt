@@ -134,7 +134,7 @@ impl<'p, 'a> Context<'p, 'a> {
     {
         match main {
             None => Ok(Rooted::none(alloc)),
-            Some(main) => { self.roots_by_main(alloc, calls, main) }
+            Some(main) => self.roots_by_main(alloc, calls, main),
         }
     }
 
@@ -241,14 +241,14 @@ impl<'p, 'a> Context<'p, 'a> {
                 let copied = self.declarations(alloc, calls, ds.as_slice(), scope)?;
                 rooted.add_copy(alloc, copied)
             }
-            St::Par(bs) => { self.branch_roots(alloc, calls, main, bs.as_slice(), rooted, scope) }
+            St::Par(bs) => self.branch_roots(alloc, calls, main, bs.as_slice(), rooted, scope),
             St::Repl {
                 first,
                 from,
                 to,
                 body,
                 ..
-            } => { self.numbered_roots(alloc, calls, main, first, *from, *to, body, rooted, scope) }
+            } => self.numbered_roots(alloc, calls, main, first, *from, *to, body, rooted, scope),
             _ => Ok(()),
         }
     }
