@@ -1,5 +1,6 @@
 -- What goes to each of four cores.
 use Rattle.std.specs.Prelude.{ℕ, ◌≡◌, ◌++◌, Bool, true, false, List, [], ◌∷◌, nat_eq}
+use Rattle.xr_board.specs.declared.parts.Parts.{Parts}
 use Rattle.xr_windows.specs.Parts.{IsPartOf, Standing as Part}
 use Rattle.xr_windows.specs.Sending.{Sending, batches_to}
 use Rattle.xs_instr.specs.declared.image.Image.{Image}
@@ -27,6 +28,13 @@ pub record StartsAs (L : Image) (s : Stim) (n i : ℕ) (p : Part) : Type 0 where
   pub part : IsPartOf L s n p
   pub number : p.home.number ≡ i
   pub start : p.ran ≡ 0
+
+-- all four cores' parts of the run before its first window
+pub record AllStart (L : Image) (s : Stim) (n : ℕ) (p : Parts) : Type 0 where
+  pub first : StartsAs L s n 0 p.first
+  pub second : StartsAs L s n 1 p.second
+  pub third : StartsAs L s n 2 p.third
+  pub fourth : StartsAs L s n 3 p.fourth
 
 -- core i's part of the run after k windows, and what its next window needs
 pub record IsReady (L : Image) (s : Stim) (n k i : ℕ) (p : Part) (got : List Sending) : Type 0 where

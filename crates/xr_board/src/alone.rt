@@ -1,7 +1,7 @@
 // A run without locks.
 
 ghost use Rattle.std.specs.Prelude.{◌≡◌, ◌<◌, ◌≤◌, ◌+◌, IfOk, OnOk};
-ghost use Rattle.xr_board.specs.ForCores.{AreAdded, AreReady, StartsAs};
+ghost use Rattle.xr_board.specs.ForCores.{AllStart, AreAdded, AreReady, StartsAs};
 ghost use Rattle.xr_windows.specs.Parts.{IsLast, IsPartOf};
 ghost use Rattle.xr_windows.specs.Sending.{batches_from, batches_to};
 ghost use Rattle.xr_windows.specs.Telling.{IsLockstep};
@@ -9,7 +9,7 @@ ghost use Rattle.xr_windows.specs.Windows.{windows_of};
 ghost use Rattle.xs_instr.specs.Valid.{IsGoodStim, Valid};
 
 use crate::batches::Batches;
-use crate::start::part_of;
+use crate::parts::Parts;
 use std::alloc::Global;
 use std::marker::Brand;
 use std::mem;
@@ -47,107 +47,25 @@ fn run_named<U: RunName>(
     requires few { ticks ≤ 200000 }
     ensures { IfOk result (λ run. IsLockstep U.listing U.stimulus U.ticks run) }
 {
-    let mut first = part_of::<U>(alloc, image, stim, ticks, 0)?;
-    let run = with_first::<U>(alloc, image, stim, ticks, &mut first);
-    drop(first);
+    let mut parts = Parts::new::<U>(alloc, image, stim, ticks)?;
+    let run = run_parts::<U>(alloc, ticks, &mut parts);
+    drop(parts);
     run
 }
 
-/// The same, where the cores before the second one are there.
-fn with_first<U: RunName>(
-    alloc: Global,
-    image: &Image,
-    stim: &Stim,
-    ticks: u32,
-    first: &mut Part,
-) -> Result<Run, Memory>
-    requires image { image.now ≡ U.listing }
-    requires valid { Valid image.now }
-    requires stim { stim.now ≡ U.stimulus }
-    requires good { IsGoodStim stim.now }
-    requires ticks { ticks ≡ U.ticks }
-    requires some { 1 ≤ ticks }
-    requires few { ticks ≤ 200000 }
-    requires first { StartsAs U.listing U.stimulus U.ticks 0 first.old }
-    ensures { IfOk result (λ run. IsLockstep U.listing U.stimulus U.ticks run) }
-{
-    let mut second = part_of::<U>(alloc, image, stim, ticks, 1)?;
-    let run = with_second::<U>(alloc, image, stim, ticks, first, &mut second);
-    drop(second);
-    run
-}
-
-/// The same, where the cores before the third one are there.
-fn with_second<U: RunName>(
-    alloc: Global,
-    image: &Image,
-    stim: &Stim,
-    ticks: u32,
-    first: &mut Part,
-    second: &mut Part,
-) -> Result<Run, Memory>
-    requires image { image.now ≡ U.listing }
-    requires valid { Valid image.now }
-    requires stim { stim.now ≡ U.stimulus }
-    requires good { IsGoodStim stim.now }
-    requires ticks { ticks ≡ U.ticks }
-    requires some { 1 ≤ ticks }
-    requires few { ticks ≤ 200000 }
-    requires first { StartsAs U.listing U.stimulus U.ticks 0 first.old }
-    requires second { StartsAs U.listing U.stimulus U.ticks 1 second.old }
-    ensures { IfOk result (λ run. IsLockstep U.listing U.stimulus U.ticks run) }
-{
-    let mut third = part_of::<U>(alloc, image, stim, ticks, 2)?;
-    let run = with_third::<U>(alloc, image, stim, ticks, first, second, &mut third);
-    drop(third);
-    run
-}
-
-/// The same, where the cores before the fourth one are there.
-fn with_third<U: RunName>(
-    alloc: Global,
-    image: &Image,
-    stim: &Stim,
-    ticks: u32,
-    first: &mut Part,
-    second: &mut Part,
-    third: &mut Part,
-) -> Result<Run, Memory>
-    requires image { image.now ≡ U.listing }
-    requires valid { Valid image.now }
-    requires stim { stim.now ≡ U.stimulus }
-    requires good { IsGoodStim stim.now }
-    requires ticks { ticks ≡ U.ticks }
-    requires some { 1 ≤ ticks }
-    requires few { ticks ≤ 200000 }
-    requires first { StartsAs U.listing U.stimulus U.ticks 0 first.old }
-    requires second { StartsAs U.listing U.stimulus U.ticks 1 second.old }
-    requires third { StartsAs U.listing U.stimulus U.ticks 2 third.old }
-    ensures { IfOk result (λ run. IsLockstep U.listing U.stimulus U.ticks run) }
-{
-    let mut fourth = part_of::<U>(alloc, image, stim, ticks, 3)?;
-    let run = run_borrowed::<U>(alloc, ticks, first, second, third, &mut fourth);
-    drop(fourth);
-    run
-}
-
-/// The same, where all four cores are there.
-fn run_borrowed<U: RunName>(
-    alloc: Global,
-    ticks: u32,
-    first: &mut Part,
-    second: &mut Part,
-    third: &mut Part,
-    fourth: &mut Part,
-) -> Result<Run, Memory>
+/// The same, where the cores are lent.
+fn run_parts<U: RunName>(alloc: Global, ticks: u32, parts: &mut Parts) -> Result<Run, Memory>
     requires ticks { ticks ≡ U.ticks }
     requires few { ticks ≤ 200000 }
-    requires first { StartsAs U.listing U.stimulus U.ticks 0 first.old }
-    requires second { StartsAs U.listing U.stimulus U.ticks 1 second.old }
-    requires third { StartsAs U.listing U.stimulus U.ticks 2 third.old }
-    requires fourth { StartsAs U.listing U.stimulus U.ticks 3 fourth.old }
+    requires start { AllStart U.listing U.stimulus U.ticks parts.old }
     ensures { IfOk result (λ run. IsLockstep U.listing U.stimulus U.ticks run) }
 {
+    let Parts {
+        first,
+        second,
+        third,
+        fourth,
+    } = parts;
     run_cores::<U>(alloc, ticks, first, second, third, fourth)?;
     told::<U>(alloc, first, second, third, fourth)
 }

@@ -3,18 +3,18 @@
 ghost use Rattle.std.specs.Prelude.{◌≡◌, ◌<◌, ◌≤◌, IfOk};
 ghost use Rattle.xr_board.specs.BoardTurns.{CanAnswer, IsInRange};
 ghost use Rattle.xr_board.specs.CellState.{IsCell};
-ghost use Rattle.xr_board.specs.ForCores.{StartsAs};
+ghost use Rattle.xr_board.specs.ForCores.{AllStart};
 ghost use Rattle.xs_instr.specs.Valid.{IsGoodStim, Valid};
 
 use crate::cells::Cells;
 use crate::core_name::{Core0, Core1, Core2, Core3};
 use crate::gate::Gate;
+use crate::parts::Parts;
 use crate::seat::Seat;
-use crate::start::part_of;
-use crate::told::AllTold;
+use crate::told::{AllTold, CORES};
 use std::alloc::Global;
 use std::sync::Wait;
-use xr_windows::{Batch, Part, RunName};
+use xr_windows::{Batch, RunName};
 use xs_instr::{Image, Stim};
 use xw_words::Memory;
 
@@ -60,95 +60,8 @@ impl<U: RunName> Board<U> {
         requires some { 1 ≤ ticks }
         requires few { ticks ≤ 200000 }
     {
-        let first = part_of::<U>(alloc, image, stim, ticks, 0)?;
-        Board::with_first(alloc, image, stim, ticks, first)
-    }
-
-    // The same, where the cores before the second one are there.
-    fn with_first(
-        alloc: Global,
-        image: &Image,
-        stim: &Stim,
-        ticks: u32,
-        first: Part,
-    ) -> Result<Board<U>, Memory>
-        requires image { image.now ≡ U.listing }
-        requires valid { Valid image.now }
-        requires stim { stim.now ≡ U.stimulus }
-        requires good { IsGoodStim stim.now }
-        requires ticks { ticks ≡ U.ticks }
-        requires some { 1 ≤ ticks }
-        requires few { ticks ≤ 200000 }
-        requires first { StartsAs U.listing U.stimulus U.ticks 0 first }
-    {
-        match part_of::<U>(alloc, image, stim, ticks, 1) {
-            Ok(second) => Board::with_second(alloc, image, stim, ticks, first, second),
-            Err(Memory) => {
-                drop(first);
-                Err(Memory)
-            }
-        }
-    }
-
-    // The same, where the cores before the third one are there.
-    fn with_second(
-        alloc: Global,
-        image: &Image,
-        stim: &Stim,
-        ticks: u32,
-        first: Part,
-        second: Part,
-    ) -> Result<Board<U>, Memory>
-        requires image { image.now ≡ U.listing }
-        requires valid { Valid image.now }
-        requires stim { stim.now ≡ U.stimulus }
-        requires good { IsGoodStim stim.now }
-        requires ticks { ticks ≡ U.ticks }
-        requires some { 1 ≤ ticks }
-        requires few { ticks ≤ 200000 }
-        requires first { StartsAs U.listing U.stimulus U.ticks 0 first }
-        requires second { StartsAs U.listing U.stimulus U.ticks 1 second }
-    {
-        match part_of::<U>(alloc, image, stim, ticks, 2) {
-            Ok(third) => Board::with_third(alloc, image, stim, ticks, first, second, third),
-            Err(Memory) => {
-                drop(first);
-                drop(second);
-                Err(Memory)
-            }
-        }
-    }
-
-    // The same, where the cores before the fourth one are there.
-    fn with_third(
-        alloc: Global,
-        image: &Image,
-        stim: &Stim,
-        ticks: u32,
-        first: Part,
-        second: Part,
-        third: Part,
-    ) -> Result<Board<U>, Memory>
-        requires image { image.now ≡ U.listing }
-        requires valid { Valid image.now }
-        requires stim { stim.now ≡ U.stimulus }
-        requires good { IsGoodStim stim.now }
-        requires ticks { ticks ≡ U.ticks }
-        requires some { 1 ≤ ticks }
-        requires few { ticks ≤ 200000 }
-        requires first { StartsAs U.listing U.stimulus U.ticks 0 first }
-        requires second { StartsAs U.listing U.stimulus U.ticks 1 second }
-        requires third { StartsAs U.listing U.stimulus U.ticks 2 third }
-    {
-        match part_of::<U>(alloc, image, stim, ticks, 3) {
-            Ok(fourth) => Board::of(alloc, image, stim, ticks, first, second, third, fourth),
-            Err(Memory) => {
-                drop(first);
-                drop(second);
-                drop(third);
-                Err(Memory)
-            }
-        }
+        let parts = Parts::new::<U>(alloc, image, stim, ticks)?;
+        Board::of(alloc, image, stim, ticks, parts)
     }
 
     // The board of four cores, of which none has run a window.
@@ -157,37 +70,44 @@ impl<U: RunName> Board<U> {
         image: &Image,
         stim: &Stim,
         ticks: u32,
-        first: Part,
-        second: Part,
-        third: Part,
-        fourth: Part,
+        parts: Parts,
     ) -> Result<Board<U>, Memory>
         requires image { image.now ≡ U.listing }
         requires stim { stim.now ≡ U.stimulus }
         requires ticks { ticks ≡ U.ticks }
-        requires first { StartsAs U.listing U.stimulus U.ticks 0 first }
-        requires second { StartsAs U.listing U.stimulus U.ticks 1 second }
-        requires third { StartsAs U.listing U.stimulus U.ticks 2 third }
-        requires fourth { StartsAs U.listing U.stimulus U.ticks 3 fourth }
+        requires start { AllStart U.listing U.stimulus U.ticks parts }
     {
         match copies(alloc, image, stim) {
-            Ok((image, stim)) => Ok(Board {
-                first: Seat::new(alloc, first),
-                second: Seat::new(alloc, second),
-                third: Seat::new(alloc, third),
-                fourth: Seat::new(alloc, fourth),
-                told: AllTold::new(),
-                image,
-                stim,
-                ticks,
-            }),
+            Ok((image, stim)) => Ok(Board::with(image, stim, ticks, alloc, parts)),
             Err(Memory) => {
-                drop(first);
-                drop(second);
-                drop(third);
-                drop(fourth);
+                drop(parts);
                 Err(Memory)
             }
+        }
+    }
+
+    // The same, where the copies are there.
+    fn with(image: Image, stim: Stim, ticks: u32, alloc: Global, parts: Parts) -> Board<U>
+        requires image { image ≡ U.listing }
+        requires stim { stim ≡ U.stimulus }
+        requires ticks { ticks ≡ U.ticks }
+        requires start { AllStart U.listing U.stimulus U.ticks parts }
+    {
+        let Parts {
+            first,
+            second,
+            third,
+            fourth,
+        } = parts;
+        Board {
+            first: Seat::new(alloc, first),
+            second: Seat::new(alloc, second),
+            third: Seat::new(alloc, third),
+            fourth: Seat::new(alloc, fourth),
+            told: AllTold::new(),
+            image,
+            stim,
+            ticks,
         }
     }
 
@@ -209,7 +129,7 @@ impl<U: RunName> Board<U> {
     /// How many cores seem to have handed over so many windows: a hint, of which no clause knows what it says. It takes no lock.
     pub(crate) fn handed(&self, windows: u32) -> u32 {
         if windows == 0 {
-            return 4;
+            return CORES;
         }
         self.told.count(windows - 1)
     }

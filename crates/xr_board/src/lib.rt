@@ -10,6 +10,7 @@ mod core_name;
 mod gate;
 mod kept;
 mod mail;
+mod parts;
 mod places;
 mod quiet;
 mod seat;

@@ -12,6 +12,9 @@ use xr_windows::RunName;
 /// How many words a line of the cache has.
 pub const LINE: usize = 8;
 
+/// How many cores there are.
+pub const CORES: u32 = 4;
+
 /// What each word keeps that the core C tells.
 struct Telling<U: RunName, C: CoreName> {
     run: PhantomData<U>,
@@ -121,8 +124,6 @@ pub struct AllTold<U: RunName> {
 }
 
 impl<U: RunName> AllTold<U> {
-    ghost use Rattle.std.specs.Prelude.{◌≤◌};
-
     /// No window was handed over.
     pub fn new() -> AllTold<U> {
         AllTold {
@@ -134,9 +135,7 @@ impl<U: RunName> AllTold<U> {
     }
 
     /// How many cores have handed over a window, as far as is told.
-    pub fn count(&self, window: u32) -> u32
-        ensures { result ≤ 4 }
-    {
+    pub fn count(&self, window: u32) -> u32 {
         self.first.has(window) as u32
             + self.second.has(window) as u32
             + self.third.has(window) as u32

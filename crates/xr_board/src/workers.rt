@@ -7,6 +7,7 @@ use crate::alone::run_alone;
 use crate::board::{Board, BoardTurn};
 use crate::cells::{Cells, GatherErr};
 use crate::gate::Gate;
+use crate::told::CORES;
 use std::alloc::Global;
 use std::hint::spin_loop;
 use std::sync::Wait;
@@ -25,9 +26,6 @@ const FEWEST_LOOKS: u32 = 2;
 
 /// Each wait of so many is a patient one.
 const PATIENT: u32 = 32;
-
-/// How many cores there are.
-const CORES: u32 = 4;
 
 /// How often it lets other threads go on, with a look each, before it takes a turn all the same.
 const YIELDS: u32 = 1_000;
