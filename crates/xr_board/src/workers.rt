@@ -18,8 +18,9 @@ use xs_instr::{Image, Stim};
 use xw_words::Memory;
 
 /// How often a patient worker looks, a pause apart, whether the batches that it waits for are there, before it lets other threads go on. A
-/// window takes a microsecond or two, and these looks somewhat more.
-const MOST_LOOKS: u32 = 64;
+/// window takes one to three microseconds, and these looks ten or twenty times as long: so a core that is held up for a while doesn't make its
+/// neighbours give way.
+const MOST_LOOKS: u32 = 512;
 
 /// How often an impatient one looks.
 const FEWEST_LOOKS: u32 = 2;
@@ -184,7 +185,7 @@ impl Patience {
 
     // How often it looks this time.
     fn looks(self) -> u32
-        ensures { result ≤ 64 }
+        ensures { result ≤ 512 }
     {
         if self.waits % PATIENT == 0 || self.looks > MOST_LOOKS {
             MOST_LOOKS
