@@ -1,10 +1,11 @@
 -- What goes to each of four cores.
-use Rattle.std.specs.Prelude.{ℕ, ◌≡◌, ◌++◌, Bool, true, false, List, [], ◌∷◌, nat_eq}
+use Rattle.std.specs.Prelude.{ℕ, ◌≡◌, ◌≤◌, ◌++◌, Bool, true, false, List, [], ◌∷◌, nat_eq}
 use Rattle.xr_board.specs.declared.parts.Parts.{Parts}
 use Rattle.xr_windows.specs.Parts.{IsPartOf, Standing as Part}
 use Rattle.xr_windows.specs.Sending.{Sending, batches_to}
 use Rattle.xs_instr.specs.declared.image.Image.{Image}
 use Rattle.xs_instr.specs.declared.image.Stim.{Stim}
+use Rattle.xs_instr.specs.Valid.{IsGoodStim, Valid}
 
 -- `for_core`, by cases
 abbrev pub for_by : Sending → List Sending → Bool → List Sending
@@ -22,6 +23,16 @@ pub record AreAdded (out a b c d a' b' c' d' : List Sending) : Type 0 where
   pub to1 : b' ≡ b ++ for_core 1 out
   pub to2 : c' ≡ c ++ for_core 2 out
   pub to3 : d' ≡ d ++ for_core 3 out
+
+-- a valid image, a good stimulus and a number of ticks within the bounds, which are those of a run
+pub record IsTask (L : Image) (s : Stim) (n : ℕ) (image : Image) (stim : Stim) (ticks : ℕ) : Type 0 where
+  pub listing : image ≡ L
+  pub valid : Valid image
+  pub stimulus : stim ≡ s
+  pub good : IsGoodStim stim
+  pub length : ticks ≡ n
+  pub some : 1 ≤ ticks
+  pub few : ticks ≤ 200000
 
 -- core i's part of the run before its first window
 pub record StartsAs (L : Image) (s : Stim) (n i : ℕ) (p : Part) : Type 0 where

@@ -1,7 +1,7 @@
 // A run without locks.
 
 ghost use Rattle.std.specs.Prelude.{◌≡◌, ◌<◌, ◌≤◌, ◌+◌, IfOk, OnOk};
-ghost use Rattle.xr_board.specs.ForCores.{AllStart, AreAdded, AreReady, StartsAs};
+ghost use Rattle.xr_board.specs.ForCores.{AllStart, AreAdded, AreReady, IsTask, StartsAs};
 ghost use Rattle.xr_windows.specs.Parts.{IsLast, IsPartOf};
 ghost use Rattle.xr_windows.specs.Sending.{batches_from, batches_to};
 ghost use Rattle.xr_windows.specs.Telling.{IsLockstep};
@@ -38,13 +38,7 @@ fn run_named<U: RunName>(
     stim: &Stim,
     ticks: u32,
 ) -> Result<Run, Memory>
-    requires image { image.now ≡ U.listing }
-    requires valid { Valid image.now }
-    requires stim { stim.now ≡ U.stimulus }
-    requires good { IsGoodStim stim.now }
-    requires ticks { ticks ≡ U.ticks }
-    requires some { 1 ≤ ticks }
-    requires few { ticks ≤ 200000 }
+    requires task { IsTask U.listing U.stimulus U.ticks image.now stim.now ticks }
     ensures { IfOk result (λ run. IsLockstep U.listing U.stimulus U.ticks run) }
 {
     let mut parts = Parts::new::<U>(alloc, image, stim, ticks)?;

@@ -10,11 +10,13 @@ use crate::cells::Cells;
 use crate::core_name::{Core0, Core1, Core2, Core3};
 use crate::gate::Gate;
 use crate::parts::Parts;
+use crate::rings::AllEnds;
 use crate::seat::Seat;
+use crate::task::Task;
 use crate::told::{AllTold, CORES};
 use std::alloc::Global;
 use std::sync::Wait;
-use xr_windows::{Batch, RunName};
+use xr_windows::RunName;
 use xs_instr::{Image, Stim};
 use xw_words::Memory;
 
@@ -40,13 +42,8 @@ pub struct Board<U: RunName> {
     second: Seat<U, Core1>,
     third: Seat<U, Core2>,
     fourth: Seat<U, Core3>,
-    pub(crate) told: AllTold<U>,
-    image: Image,
-    stim: Stim,
-    ticks: u32,
-    ghost image_is: { image ≡ U.listing },
-    ghost stim_is: { stim ≡ U.stimulus },
-    ghost ticks_are: { ticks ≡ U.ticks },
+    told: AllTold<U>,
+    task: Task<U>,
 }
 
 impl<U: RunName> Board<U> {
@@ -60,38 +57,33 @@ impl<U: RunName> Board<U> {
         requires some { 1 ≤ ticks }
         requires few { ticks ≤ 200000 }
     {
-        let parts = Parts::new::<U>(alloc, image, stim, ticks)?;
-        Board::of(alloc, image, stim, ticks, parts)
+        let task = Task::new(alloc, image, stim, ticks)?;
+        match Parts::new::<U>(alloc, image, stim, ticks) {
+            Ok(parts) => Board::of(alloc, task, parts),
+            Err(Memory) => {
+                drop(task);
+                Err(Memory)
+            }
+        }
     }
 
     // The board of four cores, of which none has run a window.
-    fn of(
-        alloc: Global,
-        image: &Image,
-        stim: &Stim,
-        ticks: u32,
-        parts: Parts,
-    ) -> Result<Board<U>, Memory>
-        requires image { image.now ≡ U.listing }
-        requires stim { stim.now ≡ U.stimulus }
-        requires ticks { ticks ≡ U.ticks }
-        requires start { AllStart U.listing U.stimulus U.ticks parts }
+    fn of(alloc: Global, task: Task<U>, parts: Parts) -> Result<Board<U>, Memory>
+        requires { AllStart U.listing U.stimulus U.ticks parts }
     {
-        match copies(alloc, image, stim) {
-            Ok((image, stim)) => Ok(Board::with(image, stim, ticks, alloc, parts)),
+        match AllEnds::new(alloc) {
+            Ok(ends) => Ok(Board::with(alloc, task, parts, ends)),
             Err(Memory) => {
+                drop(task);
                 drop(parts);
                 Err(Memory)
             }
         }
     }
 
-    // The same, where the copies are there.
-    fn with(image: Image, stim: Stim, ticks: u32, alloc: Global, parts: Parts) -> Board<U>
-        requires image { image ≡ U.listing }
-        requires stim { stim ≡ U.stimulus }
-        requires ticks { ticks ≡ U.ticks }
-        requires start { AllStart U.listing U.stimulus U.ticks parts }
+    // The same, where the rings are there.
+    fn with(alloc: Global, task: Task<U>, parts: Parts, ends: AllEnds<U>) -> Board<U>
+        requires { AllStart U.listing U.stimulus U.ticks parts }
     {
         let Parts {
             first,
@@ -100,14 +92,12 @@ impl<U: RunName> Board<U> {
             fourth,
         } = parts;
         Board {
-            first: Seat::new(alloc, first),
-            second: Seat::new(alloc, second),
-            third: Seat::new(alloc, third),
-            fourth: Seat::new(alloc, fourth),
+            first: Seat::new(alloc, first, ends.first),
+            second: Seat::new(alloc, second, ends.second),
+            third: Seat::new(alloc, third, ends.third),
+            fourth: Seat::new(alloc, fourth, ends.fourth),
             told: AllTold::new(),
-            image,
-            stim,
-            ticks,
+            task,
         }
     }
 
@@ -119,10 +109,18 @@ impl<U: RunName> Board<U> {
         ensures range { IsInRange result }
     {
         match core {
-            0 => self.first.turn(rt, alloc, gate, self, &self.told.first),
-            1 => self.second.turn(rt, alloc, gate, self, &self.told.second),
-            2 => self.third.turn(rt, alloc, gate, self, &self.told.third),
-            _ => self.fourth.turn(rt, alloc, gate, self, &self.told.fourth),
+            0 => self
+                .first
+                .turn(rt, alloc, gate, &self.told, &self.told.first),
+            1 => self
+                .second
+                .turn(rt, alloc, gate, &self.told, &self.told.second),
+            2 => self
+                .third
+                .turn(rt, alloc, gate, &self.told, &self.told.third),
+            _ => self
+                .fourth
+                .turn(rt, alloc, gate, &self.told, &self.told.fourth),
         }
     }
 
@@ -141,17 +139,6 @@ impl<U: RunName> Board<U> {
             1 => self.second.fetch(rt, &self.told),
             2 => self.third.fetch(rt, &self.told),
             _ => self.fourth.fetch(rt, &self.told),
-        }
-    }
-
-    /// Puts a batch into the mail of its core.
-    pub(crate) fn hand<R: Wait>(&self, rt: &R, batch: Batch<U>) {
-        batch.is_sent();
-        match batch.to {
-            0 => self.first.hand(rt, batch),
-            1 => self.second.hand(rt, batch),
-            2 => self.third.hand(rt, batch),
-            _ => self.fourth.hand(rt, batch),
         }
     }
 
@@ -181,7 +168,7 @@ impl<U: RunName> Board<U> {
     pub fn ticks(&self) -> u32
         ensures { result ≡ U.ticks }
     {
-        self.ticks
+        self.task.ticks()
     }
 
     /// The four cells out of their locks, and the copies of the image and the stimulus.
@@ -195,9 +182,7 @@ impl<U: RunName> Board<U> {
             third,
             fourth,
             told,
-            image,
-            stim,
-            ticks: _,
+            task,
         } = self;
         let cells = Cells {
             first: first.into_cell(&told),
@@ -205,16 +190,7 @@ impl<U: RunName> Board<U> {
             third: third.into_cell(&told),
             fourth: fourth.into_cell(&told),
         };
+        let (image, stim) = task.into_copies();
         (cells, image, stim)
     }
-}
-
-/// Copies of an image and a stimulus. The one error is want of memory.
-fn copies(alloc: Global, image: &Image, stim: &Stim) -> Result<(Image, Stim), Memory>
-    ensures image { IfOk result (λ both. both.0 ≡ image.now) }
-    ensures stim { IfOk result (λ both. both.1 ≡ stim.now) }
-{
-    let image = image.copy(alloc)?;
-    let stim = stim.copy(alloc)?;
-    Ok((image, stim))
 }

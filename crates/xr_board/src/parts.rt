@@ -1,12 +1,12 @@
 // The four cores of a run.
 
-ghost use Rattle.std.specs.Prelude.{◌≡◌, ◌≤◌, IfOk};
-ghost use Rattle.xr_board.specs.ForCores.{AllStart, StartsAs};
-ghost use Rattle.xs_instr.specs.Valid.{IsGoodStim, Valid};
+ghost use Rattle.std.specs.Prelude.{◌≡◌, ◌<◌, IfOk};
+ghost use Rattle.xr_board.specs.ForCores.{AllStart, IsTask, StartsAs};
+ghost use Rattle.xr_windows.specs.Parts.{IsPartOf};
 
-use crate::start::part_of;
 use std::alloc::Global;
 use xr_windows::{Part, RunName};
+use xs_core::Core;
 use xs_instr::{Image, Stim};
 use xw_words::Memory;
 
@@ -27,13 +27,7 @@ impl Parts {
         stim: &Stim,
         ticks: u32,
     ) -> Result<Parts, Memory>
-        requires image { image.now ≡ U.listing }
-        requires valid { Valid image.now }
-        requires stim { stim.now ≡ U.stimulus }
-        requires good { IsGoodStim stim.now }
-        requires ticks { ticks ≡ U.ticks }
-        requires some { 1 ≤ ticks }
-        requires few { ticks ≤ 200000 }
+        requires task { IsTask U.listing U.stimulus U.ticks image.now stim.now ticks }
         ensures { IfOk result (AllStart U.listing U.stimulus U.ticks) }
     {
         let first = part_of::<U>(alloc, image, stim, ticks, 0)?;
@@ -49,13 +43,7 @@ fn with_first<U: RunName>(
     ticks: u32,
     first: Part,
 ) -> Result<Parts, Memory>
-    requires image { image.now ≡ U.listing }
-    requires valid { Valid image.now }
-    requires stim { stim.now ≡ U.stimulus }
-    requires good { IsGoodStim stim.now }
-    requires ticks { ticks ≡ U.ticks }
-    requires some { 1 ≤ ticks }
-    requires few { ticks ≤ 200000 }
+    requires task { IsTask U.listing U.stimulus U.ticks image.now stim.now ticks }
     requires first { StartsAs U.listing U.stimulus U.ticks 0 first }
     ensures { IfOk result (AllStart U.listing U.stimulus U.ticks) }
 {
@@ -77,13 +65,7 @@ fn with_second<U: RunName>(
     first: Part,
     second: Part,
 ) -> Result<Parts, Memory>
-    requires image { image.now ≡ U.listing }
-    requires valid { Valid image.now }
-    requires stim { stim.now ≡ U.stimulus }
-    requires good { IsGoodStim stim.now }
-    requires ticks { ticks ≡ U.ticks }
-    requires some { 1 ≤ ticks }
-    requires few { ticks ≤ 200000 }
+    requires task { IsTask U.listing U.stimulus U.ticks image.now stim.now ticks }
     requires first { StartsAs U.listing U.stimulus U.ticks 0 first }
     requires second { StartsAs U.listing U.stimulus U.ticks 1 second }
     ensures { IfOk result (AllStart U.listing U.stimulus U.ticks) }
@@ -108,13 +90,7 @@ fn with_third<U: RunName>(
     second: Part,
     third: Part,
 ) -> Result<Parts, Memory>
-    requires image { image.now ≡ U.listing }
-    requires valid { Valid image.now }
-    requires stim { stim.now ≡ U.stimulus }
-    requires good { IsGoodStim stim.now }
-    requires ticks { ticks ≡ U.ticks }
-    requires some { 1 ≤ ticks }
-    requires few { ticks ≤ 200000 }
+    requires task { IsTask U.listing U.stimulus U.ticks image.now stim.now ticks }
     requires first { StartsAs U.listing U.stimulus U.ticks 0 first }
     requires second { StartsAs U.listing U.stimulus U.ticks 1 second }
     requires third { StartsAs U.listing U.stimulus U.ticks 2 third }
@@ -134,4 +110,22 @@ fn with_third<U: RunName>(
             Err(Memory)
         }
     }
+}
+
+/// Core `number` of the run that U names, before its first window. The one error is want of memory.
+fn part_of<U: RunName>(
+    alloc: Global,
+    image: &Image,
+    stim: &Stim,
+    ticks: u32,
+    number: u8,
+) -> Result<Part, Memory>
+    requires task { IsTask U.listing U.stimulus U.ticks image.now stim.now ticks }
+    requires number { number < 4 }
+    ensures part { IfOk result (λ part. IsPartOf U.listing U.stimulus U.ticks part) }
+    ensures number { IfOk result (λ part. part.home.number ≡ number) }
+    ensures start { IfOk result (λ part. part.ran ≡ 0) }
+{
+    let core = Core::new(alloc, image, number, stim)?;
+    Ok(Part::new(alloc, core, ticks))
 }

@@ -32,8 +32,8 @@ pub enum Says {
     NotYet,
     /// The batch of the window has no items.
     Nothing,
-    /// The batch was put into the mail.
-    Mail,
+    /// The batch was put into the ring.
+    Sent,
 }
 
 /// What the core that C names tells the others: how many windows it has handed over, and to whom nothing went out. The words of windows with an
@@ -109,7 +109,7 @@ impl<U: RunName, C: CoreName> Told<U, C> {
         if word / 16 == window as u64 + 1 && bit == 1 {
             Says::Nothing
         } else {
-            Says::Mail
+            Says::Sent
         }
     }
 }
