@@ -9,8 +9,8 @@ use std::marker::PhantomData;
 use xr_windows::{Batch, RunName};
 use xw_words::Memory;
 
-/// How many batches a ring has room for. A core runs a window only where it has what the others sent in the one before, and so they have taken what
-/// it sent in the one before that: so two are enough.
+/// How many batches a ring has room for. A core runs a window with what the others sent in the one before, and they ran that with what it had sent yet
+/// one before: so two are enough.
 const PLACES: usize = 2;
 
 /// What goes by a ring to the core that C names: batches to it.
