@@ -1,5 +1,5 @@
 -- Footprints by their sets of numbers.
-use Rattle.std.proofs.Common.{◌≡◌, ℕ, Bool, true, false, ◌||◌, cond, List, [], ◌∷◌, nat_eq, Result, Ok, Err, OnOk, refl, sym, ap, ◌∙◌, arith}
+use Rattle.std.proofs.Common.{◌≡◌, ℕ, Bool, true, false, ◌||◌, cond, List, [], ◌∷◌, nat_eq, Result, Ok, Err, OnOk, IfOk, refl, sym, ap, ◌∙◌, arith}
 use Rattle.std.specs.List.{list_any}
 use Rattle.std.proofs.lemmas.Bool.Decides.{nat_tests}
 use Rattle.xc_kernel.specs.declared.statement.KRes.{KRes}
@@ -12,6 +12,10 @@ use Rattle.xc_apart.proofs.FootprintSteps.{same_uses, or_false, both_nothing}
 pub on_ok : {A E P Q : Type 0} (r : Result A E) → (P → Q) → OnOk r P → OnOk r Q
 on_ok (Ok a) f p = f p
 on_ok (Err e) f p = tt
+
+pub if_ok : {A E : Type 0} {P Q : A → Type 0} (r : Result A E) → ((x : A) → P x → Q x) → IfOk r P → IfOk r Q
+if_ok (Ok a) f p = f a p
+if_ok (Err e) f p = tt
 
 same_numbers : {f g : Numbers} → ((n : ℕ) → f n ≡ g n) → f ≡ g
 same_numbers h = λ j n. h n j

@@ -2,8 +2,8 @@ ghost use Rattle.std.specs.Prelude.{◌≡◌, map, IfOk, OnOk};
 ghost use Rattle.xc_apart.specs.Behind.{ClashesBehind, ClashesBy};
 ghost use Rattle.xc_apart.specs.Clashes.{Clashes};
 ghost use Rattle.xc_apart.specs.Footprints as uses;
-ghost use Rattle.xc_apart.specs.Footprints.{both, uses_in};
-ghost use Rattle.xc_kernel.specs.Branches.{pars_of};
+ghost use Rattle.xc_apart.specs.Footprints.{both, nothing, uses_in};
+ghost use Rattle.xc_kernel.specs.Branches.{branches_of, pars_of};
 ghost use Rattle.xc_kernel.specs.Kernels.{branch_of, case_of, input_of, output_of, root_of, statement_of};
 ghost use Rattle.xc_kernel.specs.Pars as pars;
 ghost use Rattle.xc_kernel.specs.Plain as plain;
@@ -23,9 +23,23 @@ pub fn first_clash(alloc: Global, roots: &[Root]) -> Result<Option<Broken>, Memo
     ensures { IfOk result (λ first. IsLeastOf (Clashes (pars_of (map root_of roots.now))) first) }
 {
     let mut whole = Footprint::new(alloc);
+    let first = behind_each(alloc, &mut whole, roots);
+    drop(whole);
+    first
+}
+
+/// Goes on behind each of the roots, and gives the first rule that is broken.
+fn behind_each(
+    alloc: Global,
+    whole: &mut Footprint,
+    roots: &[Root],
+) -> Result<Option<Broken>, Memory>
+    ensures { IfOk result (λ first. IsLeastOf
+        (ClashesBehind (uses_in whole.old) (branches_of (map root_of roots.now))) first) }
+{
     let mut best = None;
     for root in roots {
-        let clash = branch(alloc, &mut whole, root.body.as_slice(), root.pos)?;
+        let clash = branch(alloc, whole, root.body.as_slice(), root.pos)?;
         best = earlier(best, clash);
     }
     Ok(best)
@@ -46,9 +60,30 @@ fn branch(
         (ClashesBy (uses_in whole.old) (plain.statements (map statement_of body.now)) pos) first) }
 {
     let mut own = Footprint::new(alloc);
-    let inside = statements(alloc, &mut own, body)?;
-    let here = whole.clash(&own, pos);
-    whole.join(alloc, own)?;
+    let first = behind(alloc, whole, &mut own, body, pos);
+    drop(own);
+    first
+}
+
+/// Goes on behind a branch, whose own footprint is begun.
+#[cycle(statements)]
+#[tactic(auto, using(crate::proofs::CodeSteps::steps))]
+fn behind(
+    alloc: Global,
+    whole: &mut Footprint,
+    own: &mut Footprint,
+    body: &[Kst],
+    pos: Pos,
+) -> Result<Option<Broken>, Memory>
+    requires { uses_in own.now ≡ nothing }
+    ensures uses { OnOk result (uses_in whole.new ≡ both (uses_in whole.old)
+        (uses.of_statements (plain.statements (map statement_of body.now)))) }
+    ensures first { IfOk result (λ first. IsLeastOf
+        (ClashesBy (uses_in whole.old) (plain.statements (map statement_of body.now)) pos) first) }
+{
+    let inside = statements(alloc, own, body)?;
+    let here = whole.clash(own, pos);
+    whole.join(own)?;
     Ok(earlier(here, inside))
 }
 
@@ -139,14 +174,44 @@ fn statement(alloc: Global, footprint: &mut Footprint, s: &Kst) -> Result<Option
                 }
             }
         }
-        Kst::Par(all) => {
-            let mut whole = Footprint::new(alloc);
-            let clash = branches(alloc, &mut whole, all.as_slice())?;
-            footprint.join(alloc, whole)?;
-            Ok(clash)
-        }
+        Kst::Par(all) => par(alloc, footprint, all.as_slice()),
         Kst::Tran { body, .. } => statements(alloc, footprint, body.as_slice()),
     }
+}
+
+/// Goes on behind a `par`, and gives the first rule that is broken in it.
+#[cycle(statements)]
+#[tactic(auto, using(crate::proofs::CodeSteps::steps))]
+fn par(alloc: Global, footprint: &mut Footprint, all: &[KBranch]) -> Result<Option<Broken>, Memory>
+    ensures uses { OnOk result (uses_in footprint.new ≡ both (uses_in footprint.old)
+        (uses.of_statement (plain.par (plain.branches (map branch_of all.now))))) }
+    ensures first { IfOk result (λ first. IsLeastOf
+        (Clashes (pars.of_statement (plain.par (plain.branches (map branch_of all.now))))) first) }
+{
+    let mut whole = Footprint::new(alloc);
+    let first = in_par(alloc, footprint, &mut whole, all);
+    drop(whole);
+    first
+}
+
+/// Goes on behind a `par`, whose footprint is begun.
+#[cycle(statements)]
+#[tactic(auto, using(crate::proofs::CodeSteps::steps))]
+fn in_par(
+    alloc: Global,
+    footprint: &mut Footprint,
+    whole: &mut Footprint,
+    all: &[KBranch],
+) -> Result<Option<Broken>, Memory>
+    requires { uses_in whole.now ≡ nothing }
+    ensures uses { OnOk result (uses_in footprint.new ≡ both (uses_in footprint.old)
+        (uses.of_statement (plain.par (plain.branches (map branch_of all.now))))) }
+    ensures first { IfOk result (λ first. IsLeastOf
+        (Clashes (pars.of_statement (plain.par (plain.branches (map branch_of all.now))))) first) }
+{
+    let first = branches(alloc, whole, all)?;
+    footprint.join(whole)?;
+    Ok(first)
 }
 
 #[cycle(statements)]

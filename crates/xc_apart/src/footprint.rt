@@ -58,20 +58,14 @@ impl Footprint {
         }
     }
 
-    /// What other statements use is used too. It goes through the smaller of both sets of each kind.
-    pub fn join(&mut self, alloc: Global, other: Footprint) -> Result<(), Memory>
-        ensures { OnOk result (uses_in self.new ≡ both (uses_in self.old) (uses_in other)) }
+    /// What other statements use is used too. It goes through the smaller of both sets of each kind; the other footprint is of no use then.
+    pub fn join(&mut self, other: &mut Footprint) -> Result<(), Memory>
+        ensures { OnOk result (uses_in self.new ≡ both (uses_in self.old) (uses_in other.old)) }
     {
-        let Footprint {
-            used,
-            changed,
-            ports,
-            timers,
-        } = other;
-        insert_all(&mut self.used, alloc, used)?;
-        insert_all(&mut self.changed, alloc, changed)?;
-        insert_all(&mut self.ports, alloc, ports)?;
-        insert_all(&mut self.timers, alloc, timers)
+        insert_all(&mut self.used, &mut other.used)?;
+        insert_all(&mut self.changed, &mut other.changed)?;
+        insert_all(&mut self.ports, &mut other.ports)?;
+        insert_all(&mut self.timers, &mut other.timers)
     }
 
     /// The least of the rules that a branch at this place breaks by what it uses, where its earlier ones use this.
@@ -108,19 +102,15 @@ fn insert(numbers: &mut IndexSet<u32>, number: u32) -> Result<(), Memory>
     }
 }
 
-/// The numbers of two sets, in the larger of them.
-fn insert_all(
-    numbers: &mut IndexSet<u32>,
-    alloc: Global,
-    others: IndexSet<u32>,
-) -> Result<(), Memory>
+/// Has the numbers of two sets in the first, which takes the place of the second where that is the larger.
+fn insert_all(numbers: &mut IndexSet<u32>, others: &mut IndexSet<u32>) -> Result<(), Memory>
     ensures { OnOk result
-        (members numbers.new.keys ≡ with_all (members numbers.old.keys) (members others.keys)) }
+        (members numbers.new.keys ≡ with_all (members numbers.old.keys) (members others.old.keys)) }
 {
-    let first = mem::replace(numbers, IndexSet::new(alloc));
-    let (larger, smaller) = larger_first(first, others);
-    *numbers = larger;
-    insert_each(numbers, &smaller)
+    if numbers.len() < others.len() {
+        mem::swap(numbers, others);
+    }
+    insert_each(numbers, others)
 }
 
 fn insert_each(numbers: &mut IndexSet<u32>, others: &IndexSet<u32>) -> Result<(), Memory>
@@ -131,18 +121,6 @@ fn insert_each(numbers: &mut IndexSet<u32>, others: &IndexSet<u32>) -> Result<()
         insert(numbers, number_at(others, at))?;
     }
     Ok(())
-}
-
-/// Two sets, of which the first has no fewer numbers than the second.
-fn larger_first(first: IndexSet<u32>, second: IndexSet<u32>) -> (IndexSet<u32>, IndexSet<u32>)
-    ensures { with_all (members result.0.keys) (members result.1.keys)
-        ≡ with_all (members first.keys) (members second.keys) }
-{
-    if first.len() < second.len() {
-        (second, first)
-    } else {
-        (first, second)
-    }
 }
 
 fn number_at(numbers: &IndexSet<u32>, at: usize) -> u32

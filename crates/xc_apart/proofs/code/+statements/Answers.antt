@@ -49,10 +49,10 @@ branches-returns-clause-first t c =
     goes_end (ClashesBehind (uses_in c.args.whole.now) (plain.branches (map branch_of c.args.all.now))) (ClashesBehind (uses_in c.loop-b.whole) plain.no_branch) c.loop-b.best (λ b h. h)
     (subst (λ (xs : List KBranch). Goes (ClashesBehind (uses_in c.args.whole.now) (plain.branches (map branch_of c.args.all.now))) (ClashesBehind (uses_in c.loop-b.whole) (plain.branches (map branch_of xs))) c.loop-b.best) (drop_past c.args.all.now c.loop-b.b-index c.loop-b-test.false) c.loop-b.invariant.1)
 
-pub branch-returns-clause-first : goal.branch-returns-clause-first
-branch-returns-clause-first t c =
+pub behind-returns-clause-first : goal.behind-returns-clause-first
+behind-returns-clause-first t c =
     let body = plain.statements (map statement_of c.args.body.now) in
-    let own : uses_in c.statements.new.footprint ≡ of_statements body = c.in_ok-inside.ensures.uses ∙ ap (λ (f : Uses). both f (of_statements body)) c.new-own.ensures ∙ nothing_both (of_statements body) in
+    let own : uses_in c.statements.new.footprint ≡ of_statements body = c.in_ok-inside.ensures.uses ∙ ap (λ (f : Uses). both f (of_statements body)) c.requires ∙ nothing_both (of_statements body) in
     rw c.earlier.ensures
     (either (ClashesAt (uses_in c.args.whole.now) (of_statements body) c.args.pos) (Clashes (pars.of_statements body)) c.clash-here.result c.in_ok-inside.inside
     (subst (λ (f : Uses). IsLeastOf (ClashesAt (uses_in c.args.whole.now) f c.args.pos) c.clash-here.result) own c.clash-here.ensures)
