@@ -5,7 +5,6 @@ use Rattle.xc_kernel.specs.declared.statement.KBranch.{KBranch}
 use Rattle.xc_kernel.specs.declared.statement.KCase.{KCase}
 use Rattle.xc_kernel.specs.Kernels.{statement_of, branch_of, case_of}
 use Rattle.xc_kernel.specs.Plain.{statements, branches, cases}
-use Rattle.xc_kernel.proofs.Forms.{forms}
 use Rattle.xc_disjoint.specs.Sides.{Sides, Shares, no_sides, all_after, all_with, of_statement, of_statements, of_branch, RootUse, with_branches, of_case, of_cases}
 use Rattle.xc_disjoint.specs.declared.ends.RootSides.{RootSides}
 use Rattle.xc_disjoint.specs.Tables.{seen_in}
@@ -37,5 +36,3 @@ branches_step shares xs i x e h = ap (λ ys. with_branches shares (branches (map
 pub pushed_root : (ts : List RootSides) (t : RootSides) (r : RootUse) (rs : List RootUse) → seen_in t ≡ r → map seen_in ts ++ r ∷ rs ≡ map seen_in (ts ++ t ∷ []) ++ rs
 pushed_root [] t r rs e = ap (λ s. s ∷ rs) (sym e)
 pushed_root (x ∷ ts) t r rs e = ap (λ ss. seen_in x ∷ ss) (pushed_root ts t r rs e)
-
-pub ruleset steps = (forms, after_none, none_before, after_each, statements_step, cases_step, branches_step)

@@ -8,7 +8,6 @@ use Rattle.xc_kernel.specs.declared.statement.KBranch.{KBranch}
 use Rattle.xc_kernel.specs.declared.statement.KCase.{KCase}
 use Rattle.xc_kernel.specs.Kernels.{statement_of, branch_of, case_of}
 use Rattle.xc_kernel.specs.Plain.{statements, branches, cases}
-use Rattle.xc_kernel.proofs.Forms.{forms}
 use Rattle.xc_tree.specs.Least.{first_of}
 use Rattle.xc_disjoint.specs.Leasts.{first_among}
 use Rattle.xc_disjoint.specs.Places.{rule_of_use}
@@ -43,5 +42,3 @@ first_of_none (Some b) = refl
 pub channel_step : (ports : List PortUse) (core : ℕ) (best : Option Broken) (channel : ℕ) (pos : Pos) (us : List Use) → first_among (rule_of_use ports core) best (of_channel channel pos ∷ us) ≡ first_among (rule_of_use ports core) best us
 unfolding rule_of_use
 channel_step ports core best channel pos us = ap (λ b. first_among (rule_of_use ports core) b us) (first_of_none best)
-
-pub ruleset steps = (forms, first_append, channel_step, statements_step, branches_step, cases_step)

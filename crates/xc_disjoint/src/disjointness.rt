@@ -1,4 +1,4 @@
-ghost use Rattle.std.specs.Prelude.{◌≡◌, Some, IfErr, IfOk};
+ghost use Rattle.std.specs.Prelude.{◌≡◌, Some, IfErr, IfOk, OnOk};
 ghost use Rattle.xw_words.specs.declared.pos.Broken.{Broken as Wrong};
 ghost use Rattle.xc_kernel.specs.Sound.{IsOfProgram};
 ghost use Rattle.xc_disjoint.specs.Disjoint.{NotApart};
@@ -37,9 +37,24 @@ pub fn disjoint(alloc: Global, kernel: Kernel) -> Result<Checked, DisErr>
     ensures unbroken { IfOk result (λ checked. (b : Wrong) → Breaks (kernel_of kernel) b → ⊥) }
     ensures broken { IfErr result (λ e. IfBroken e (λ b. IsFirst (Breaks (kernel_of kernel)) b)) }
 {
-    match first_broken(alloc, &kernel)? {
+    match unbroken(alloc, &kernel) {
+        Ok(()) => Ok(Checked::new(kernel)),
+        Err(refusal) => {
+            drop(kernel);
+            Err(refusal)
+        }
+    }
+}
+
+/// Whether a kernel breaks no rule; else the first that it breaks.
+fn unbroken(alloc: Global, kernel: &Kernel) -> Result<(), DisErr>
+    ensures unbroken { OnOk result ((b : Wrong) → Breaks (kernel_of kernel.now) b → ⊥) }
+    ensures broken { IfErr result
+        (λ e. IfBroken e (λ b. IsFirst (Breaks (kernel_of kernel.now)) b)) }
+{
+    match first_broken(alloc, kernel)? {
         Some(broken) => Err(DisErr::Broken(broken)),
-        None => Ok(Checked::new(kernel)),
+        None => Ok(()),
     }
 }
 

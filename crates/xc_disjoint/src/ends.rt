@@ -1,6 +1,6 @@
-ghost use Rattle.std.specs.Prelude.{◌≡◌, map, sum_by, OnOk, IfOk};
+ghost use Rattle.std.specs.Prelude.{◌≡◌, [], ◌∷◌, ◌++◌, map, sum_by, OnOk, IfOk};
 ghost use Rattle.xc_disjoint.specs.Sides as sides;
-ghost use Rattle.xc_disjoint.specs.Sides.{all_after, ends_at, ends_below, ends_by, no_shares, seen_of};
+ghost use Rattle.xc_disjoint.specs.Sides.{all_after, all_with, ends_at, ends_below, ends_by, no_shares, seen_of, sides_of};
 ghost use Rattle.xc_disjoint.specs.Sums.{capped};
 ghost use Rattle.xc_disjoint.specs.Tables.{seen_in, shares_in, shares_of, sides_in};
 ghost use Rattle.xc_kernel.specs.Kernels.{branch_of, case_of, root_of, statement_of};
@@ -33,24 +33,51 @@ pub fn channels_of(alloc: Global, roots: &[Root]) -> Result<Channels, Memory>
     ensures among_roots { IfOk result
         (λ c. shares_in c.among_roots ≡ sides.with_roots no_shares (map root_of roots.now)) }
 {
-    let mut in_roots = List::new(alloc);
-    let mut among_roots = ShareTable::new(alloc);
-    for root in roots {
-        let mut sides = SideTable::new(alloc);
-        statements(alloc, &mut sides, root.body.as_slice())?;
-        among_roots.add_branch(&sides)?;
-        in_roots.push(RootSides {
-            core: root.core,
-            sides,
-        })?;
-    }
-    Ok(Channels {
-        in_roots,
-        among_roots,
+    let mut channels = Channels {
+        in_roots: List::new(alloc),
+        among_roots: ShareTable::new(alloc),
+    };
+    channels.add_each(alloc, roots)?;
+    Ok(channels)
+}
+
+/// How far the sides of channels are settled in a root.
+fn root_sides(alloc: Global, root: &Root) -> Result<RootSides, Memory>
+    ensures { IfOk result (λ sides. seen_in sides ≡ seen_of (root_of root.now)) }
+{
+    let mut sides = SideTable::new(alloc);
+    statements(alloc, &mut sides, root.body.as_slice())?;
+    Ok(RootSides {
+        core: root.core,
+        sides,
     })
 }
 
 impl Channels {
+    /// Goes on to more roots.
+    fn add_each(&mut self, alloc: Global, roots: &[Root]) -> Result<(), Memory>
+        ensures in_roots { OnOk result (map seen_in self.new.in_roots
+            ≡ map seen_in self.old.in_roots ++ map seen_of (map root_of roots.now)) }
+        ensures among_roots { OnOk result (shares_in self.new.among_roots
+            ≡ sides.with_roots (shares_in self.old.among_roots) (map root_of roots.now)) }
+    {
+        for root in roots {
+            self.add(root_sides(alloc, root)?)?;
+        }
+        Ok(())
+    }
+
+    /// Goes on to one more root.
+    fn add(&mut self, root: RootSides) -> Result<(), Memory>
+        ensures in_roots { OnOk result
+            (self.new.in_roots ≡ self.old.in_roots ++ root ∷ []) }
+        ensures among_roots { OnOk result (shares_in self.new.among_roots
+            ≡ all_with (shares_in self.old.among_roots) (sides_in root.sides)) }
+    {
+        self.among_roots.add_branch(&root.sides)?;
+        self.in_roots.push(root)
+    }
+
     /// The ends that the roots on a core need for so many channels.
     #[tactic(auto, unfolding(crate::specs::Sums::capped))]
     pub fn ends_on(&self, core: u8, channels: usize) -> u64
@@ -105,7 +132,6 @@ fn channel_ends(share: Share, side: Side) -> u64
 
 /// Goes on in a table behind some statements.
 #[cycle(channels)]
-#[tactic(auto, using(crate::proofs::SideSteps::steps))]
 fn statements(alloc: Global, table: &mut SideTable, ss: &[Kst]) -> Result<(), Memory>
     ensures { OnOk result (sides_in table.new ≡ all_after (sides_in table.old)
         (sides.of_statements (plain.statements (map statement_of ss.now)))) }
@@ -117,7 +143,6 @@ fn statements(alloc: Global, table: &mut SideTable, ss: &[Kst]) -> Result<(), Me
 }
 
 #[cycle(channels)]
-#[tactic(auto, using(crate::proofs::SideSteps::steps))]
 fn statement(alloc: Global, table: &mut SideTable, s: &Kst) -> Result<(), Memory>
     ensures { OnOk result (sides_in table.new
         ≡ all_after (sides_in table.old) (sides.of_statement (statement_of s.now))) }
@@ -144,11 +169,7 @@ fn statement(alloc: Global, table: &mut SideTable, s: &Kst) -> Result<(), Memory
                 Some(body) => statements(alloc, table, body.as_slice()),
             }
         }
-        Kst::Par(all) => {
-            let mut par = ParTable::new(alloc);
-            branches(alloc, &mut par, all.as_slice())?;
-            table.follow_all(alloc, par.sides()?)
-        }
+        Kst::Par(all) => par(alloc, table, all.as_slice()),
         Kst::Tran { chan, body, .. } => {
             table.follow(*chan as usize, Side::Apart)?;
             statements(alloc, table, body.as_slice())
@@ -157,7 +178,6 @@ fn statement(alloc: Global, table: &mut SideTable, s: &Kst) -> Result<(), Memory
 }
 
 #[cycle(channels)]
-#[tactic(auto, using(crate::proofs::SideSteps::steps))]
 fn cases(alloc: Global, table: &mut SideTable, all: &[KCase]) -> Result<(), Memory>
     ensures { OnOk result (sides_in table.new
         ≡ all_after (sides_in table.old) (sides.of_cases (plain.cases (map case_of all.now)))) }
@@ -169,7 +189,6 @@ fn cases(alloc: Global, table: &mut SideTable, all: &[KCase]) -> Result<(), Memo
 }
 
 #[cycle(channels)]
-#[tactic(auto, using(crate::proofs::SideSteps::steps))]
 fn case(alloc: Global, table: &mut SideTable, c: &KCase) -> Result<(), Memory>
     ensures { OnOk result
         (sides_in table.new ≡ all_after (sides_in table.old) (sides.of_case (case_of c.now))) }
@@ -178,9 +197,35 @@ fn case(alloc: Global, table: &mut SideTable, c: &KCase) -> Result<(), Memory>
     statements(alloc, table, c.body.as_slice())
 }
 
+/// Goes on behind a `par`.
+#[cycle(channels)]
+fn par(alloc: Global, table: &mut SideTable, all: &[KBranch]) -> Result<(), Memory>
+    ensures { OnOk result (sides_in table.new ≡ all_after (sides_in table.old)
+        (sides_of (sides.with_branches no_shares (plain.branches (map branch_of all.now))))) }
+{
+    let mut par = ParTable::new(alloc);
+    let followed = in_par(alloc, table, &mut par, all);
+    drop(par);
+    followed
+}
+
+/// Goes on behind a `par` whose table is begun.
+#[cycle(channels)]
+fn in_par(
+    alloc: Global,
+    table: &mut SideTable,
+    par: &mut ParTable,
+    all: &[KBranch],
+) -> Result<(), Memory>
+    ensures { OnOk result (sides_in table.new ≡ all_after (sides_in table.old) (sides_of
+        (sides.with_branches (shares_of par.old) (plain.branches (map branch_of all.now))))) }
+{
+    branches(alloc, par, all)?;
+    table.follow_par(par)
+}
+
 /// Goes on to more branches of a `par`.
 #[cycle(channels)]
-#[tactic(auto, using(crate::proofs::SideSteps::steps))]
 fn branches(alloc: Global, par: &mut ParTable, all: &[KBranch]) -> Result<(), Memory>
     ensures { OnOk result (shares_of par.new
         ≡ sides.with_branches (shares_of par.old) (plain.branches (map branch_of all.now))) }
@@ -192,18 +237,32 @@ fn branches(alloc: Global, par: &mut ParTable, all: &[KBranch]) -> Result<(), Me
 }
 
 #[cycle(channels)]
-#[tactic(auto, using(crate::proofs::SideSteps::steps))]
 fn branch(alloc: Global, par: &mut ParTable, b: &KBranch) -> Result<(), Memory>
     ensures { OnOk result (shares_of par.new
         ≡ sides.all_with (shares_of par.old) (sides.of_branch (branch_of b.now))) }
 {
     let mut table = SideTable::new(alloc);
-    statements(alloc, &mut table, b.body.as_slice())?;
-    par.add(alloc, table)
+    let added = in_branch(alloc, par, &mut table, b.body.as_slice());
+    drop(table);
+    added
+}
+
+/// Goes on to a branch of a `par`, whose table is begun.
+#[cycle(channels)]
+fn in_branch(
+    alloc: Global,
+    par: &mut ParTable,
+    table: &mut SideTable,
+    body: &[Kst],
+) -> Result<(), Memory>
+    ensures { OnOk result (shares_of par.new ≡ all_with (shares_of par.old) (all_after
+        (sides_in table.old) (sides.of_statements (plain.statements (map statement_of body.now))))) }
+{
+    statements(alloc, table, body)?;
+    par.add(table)
 }
 
 /// Goes on behind a use.
-#[tactic(auto, using(crate::proofs::SideSteps::steps))]
 fn used(table: &mut SideTable, resource: KRes) -> Result<(), Memory>
     ensures { OnOk result
         (sides_in table.new ≡ all_after (sides_in table.old) (sides.of_resource resource)) }

@@ -35,7 +35,6 @@ struct Here<'a> {
 impl<'a> Here<'a> {
     /// Goes on with the first such use through some statements.
     #[cycle(uses)]
-    #[tactic(auto, using(crate::proofs::UseSteps::steps))]
     fn in_statements(&self, best: Option<Broken>, ss: &[Kst]) -> Option<Broken>
         ensures { result ≡ first_among (rule_of_use self.now.ports.now self.now.core) best
             (uses.of_statements (plain.statements (map statement_of ss.now))) }
@@ -48,7 +47,6 @@ impl<'a> Here<'a> {
     }
 
     #[cycle(uses)]
-    #[tactic(auto, using(crate::proofs::UseSteps::steps))]
     fn in_statement(&self, best: Option<Broken>, s: &Kst) -> Option<Broken>
         ensures { result ≡ first_among (rule_of_use self.now.ports.now self.now.core) best
             (uses.of_statement (statement_of s.now)) }
@@ -81,7 +79,6 @@ impl<'a> Here<'a> {
     }
 
     #[cycle(uses)]
-    #[tactic(auto, using(crate::proofs::UseSteps::steps))]
     fn in_cases(&self, best: Option<Broken>, cases: &[KCase]) -> Option<Broken>
         ensures { result ≡ first_among (rule_of_use self.now.ports.now self.now.core) best
             (uses.of_cases (plain.cases (map case_of cases.now))) }
@@ -94,7 +91,6 @@ impl<'a> Here<'a> {
     }
 
     #[cycle(uses)]
-    #[tactic(auto, using(crate::proofs::UseSteps::steps))]
     fn in_case(&self, best: Option<Broken>, c: &KCase) -> Option<Broken>
         ensures { result ≡ first_among (rule_of_use self.now.ports.now self.now.core) best
             (uses.of_case (case_of c.now)) }
@@ -104,7 +100,6 @@ impl<'a> Here<'a> {
     }
 
     #[cycle(uses)]
-    #[tactic(auto, using(crate::proofs::UseSteps::steps))]
     fn in_branches(&self, best: Option<Broken>, branches: &[KBranch]) -> Option<Broken>
         ensures { result ≡ first_among (rule_of_use self.now.ports.now self.now.core) best
             (uses.of_branches (plain.branches (map branch_of branches.now))) }
@@ -117,7 +112,6 @@ impl<'a> Here<'a> {
     }
 
     #[cycle(uses)]
-    #[tactic(auto, using(crate::proofs::UseSteps::steps))]
     fn in_branch(&self, best: Option<Broken>, b: &KBranch) -> Option<Broken>
         ensures { result ≡ first_among (rule_of_use self.now.ports.now self.now.core) best
             (uses.of_branch (branch_of b.now)) }

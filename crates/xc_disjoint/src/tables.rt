@@ -1,4 +1,4 @@
-ghost use Rattle.std.specs.Prelude.{◌≡◌, ◌<◌, slice_get, Some, IfOk, OnOk};
+ghost use Rattle.std.specs.Prelude.{◌≡◌, ◌<◌, slice_get, Some, OnOk};
 ghost use Rattle.indexmap.specs.IndexMap.{index_map_len};
 ghost use Rattle.xc_disjoint.specs.Sides.{after as behind, Shares, all_after, all_with, no_shares, no_sides, only, side_of as side_by, sides_of, with_branch as with_one_more};
 ghost use Rattle.xc_disjoint.specs.Tables.{settled_at, shares_in, shares_of, sides_in};
@@ -53,14 +53,15 @@ impl SideTable {
         }
     }
 
-    /// Goes on behind statements that use channels like this. It goes through the smaller of both tables.
-    pub fn follow_all(&mut self, alloc: Global, next: SideTable) -> Result<(), Memory>
-        ensures { OnOk result (sides_in self.new ≡ all_after (sides_in self.old) (sides_in next)) }
+    /// Goes on behind a `par`. It goes through what its branches but the largest share, and through the smaller of two tables,
+    /// this one and that of the largest branch; the table of the `par` is of no use then.
+    pub fn follow_par(&mut self, par: &mut ParTable) -> Result<(), Memory>
+        ensures { OnOk result
+            (sides_in self.new ≡ all_after (sides_in self.old) (sides_of (shares_of par.old))) }
     {
-        let first = mem::replace(self, SideTable::new(alloc));
-        let (larger, smaller) = larger_first(first, next);
-        *self = larger;
-        self.follow_each(&smaller)
+        par.largest.settle_each(&par.others)?;
+        larger_first(self, &mut par.largest);
+        self.follow_each(&par.largest)
     }
 
     fn follow_each(&mut self, next: &SideTable) -> Result<(), Memory>
@@ -70,6 +71,18 @@ impl SideTable {
         for at in 0..next.entries.len() {
             let (channel, side) = entry_at(&next.entries, at);
             self.follow(channel, side)?;
+        }
+        Ok(())
+    }
+
+    /// Takes the sides in one branch of a `par` for those in the whole, where the others share channels like this.
+    fn settle_each(&mut self, others: &ShareTable) -> Result<(), Memory>
+        ensures { OnOk result
+            (sides_in self.new ≡ sides_of (all_with (shares_in others.now) (sides_in self.old))) }
+    {
+        for at in 0..others.entries.len() {
+            let (channel, share) = entry_at(&others.entries, at);
+            self.settle(channel, share)?;
         }
         Ok(())
     }
@@ -149,44 +162,27 @@ impl ParTable {
         }
     }
 
-    /// Goes on to one more branch. It goes through this branch's table or the largest so far, the smaller of both.
-    pub fn add(&mut self, alloc: Global, sides: SideTable) -> Result<(), Memory>
+    /// Goes on to one more branch. It goes through this branch's table or the largest so far, the smaller of both; the branch's
+    /// table is of no use then.
+    pub fn add(&mut self, sides: &mut SideTable) -> Result<(), Memory>
         ensures { OnOk result
-            (shares_of self.new ≡ all_with (shares_of self.old) (sides_in sides)) }
+            (shares_of self.new ≡ all_with (shares_of self.old) (sides_in sides.old)) }
     {
-        let largest = mem::replace(&mut self.largest, SideTable::new(alloc));
-        let (larger, smaller) = larger_first(largest, sides);
-        self.largest = larger;
-        self.others.add_branch(&smaller)
-    }
-
-    /// The sides in the whole `par`. It goes through what the branches but the largest share.
-    pub fn sides(self) -> Result<SideTable, Memory>
-        ensures { IfOk result (λ sides. sides_in sides ≡ sides_of (shares_of self)) }
-    {
-        let ParTable {
-            mut largest,
-            others,
-        } = self;
-        for at in 0..others.entries.len() {
-            let (channel, share) = entry_at(&others.entries, at);
-            largest.settle(channel, share)?;
-        }
-        Ok(largest)
+        larger_first(&mut self.largest, sides);
+        self.others.add_branch(sides)
     }
 }
 
-/// Two tables, of which the first has no fewer entries than the second.
-fn larger_first(first: SideTable, second: SideTable) -> (SideTable, SideTable)
-    ensures followed { all_after (sides_in result.0) (sides_in result.1)
-        ≡ all_after (sides_in first) (sides_in second) }
-    ensures shared { (shares : Shares) → all_with (all_with shares (sides_in result.1))
-        (sides_in result.0) ≡ all_with (all_with shares (sides_in first)) (sides_in second) }
+/// Has two tables so that the first has no fewer entries than the second.
+fn larger_first(first: &mut SideTable, second: &mut SideTable)
+    ensures followed { all_after (sides_in first.new) (sides_in second.new)
+        ≡ all_after (sides_in first.old) (sides_in second.old) }
+    ensures shared { (shares : Shares) → all_with (all_with shares (sides_in second.new))
+        (sides_in first.new)
+        ≡ all_with (all_with shares (sides_in first.old)) (sides_in second.old) }
 {
     if first.entries.len() < second.entries.len() {
-        (second, first)
-    } else {
-        (first, second)
+        mem::swap(first, second);
     }
 }
 

@@ -8,7 +8,6 @@ use xc_kernel::{KBranch, KCase, Kst};
 
 /// How many threads a sequence of statements needs.
 #[cycle(threads)]
-#[tactic(auto, using(crate::proofs::ThreadSteps::steps), unfolding(crate::specs::Sums::capped))]
 pub fn of_sequence(ss: &[Kst]) -> u64
     ensures { result ≡ capped (of_statements (plain.statements (map statement_of ss.now))) }
 {
@@ -20,7 +19,6 @@ pub fn of_sequence(ss: &[Kst]) -> u64
 }
 
 #[cycle(threads)]
-#[tactic(auto, using(crate::proofs::ThreadSteps::steps), unfolding(crate::specs::Sums::capped))]
 fn of_one(s: &Kst) -> u64
     ensures { result ≡ capped (of_statement (statement_of s.now)) }
 {
@@ -48,7 +46,6 @@ fn of_one(s: &Kst) -> u64
 }
 
 #[cycle(threads)]
-#[tactic(auto, using(crate::proofs::ThreadSteps::steps), unfolding(crate::specs::Sums::capped))]
 fn of_all_cases(cases: &[KCase]) -> u64
     ensures { result ≡ capped (of_cases (plain.cases (map case_of cases.now))) }
 {
@@ -60,7 +57,6 @@ fn of_all_cases(cases: &[KCase]) -> u64
 }
 
 #[cycle(threads)]
-#[tactic(auto, using(crate::proofs::ThreadSteps::steps), unfolding(crate::specs::Sums::capped))]
 fn of_one_case(case: &KCase) -> u64
     ensures { result ≡ capped (of_case (case_of case.now)) }
 {
@@ -68,7 +64,6 @@ fn of_one_case(case: &KCase) -> u64
 }
 
 #[cycle(threads)]
-#[tactic(auto, using(crate::proofs::ThreadSteps::steps), unfolding(crate::specs::Sums::capped))]
 fn of_all_branches(branches: &[KBranch]) -> u64
     ensures { result ≡ capped (of_branches (plain.branches (map branch_of branches.now))) }
 {

@@ -1,12 +1,9 @@
-use Rattle.std.proofs.Common.{◌⊎◌, inl, inr, List, map, subst}
-use Rattle.xw_words.specs.declared.pos.Broken.{Broken}
-use Rattle.xc_tree.specs.Least.{IsLeastOf, first_of}
-use Rattle.xc_tree.proofs.Leasts.{either, of_same}
+use Rattle.std.proofs.Common.{List, map, subst}
+use Rattle.xc_tree.specs.Least.{IsLeastOf}
 use Rattle.xc_kernel.specs.declared.kernel.Root.{Root}
 use Rattle.xc_kernel.specs.Branches.{all_pars, pars_of}
 use Rattle.xc_kernel.specs.Kernels.{kernel_of, root_of}
 use Rattle.xc_apart.specs.Clashes.{Clashes}
-use Rattle.xc_sides.specs.Rules.{WithoutSides}
 use Rattle.xc_disjoint.proofs.Whole.{least_apart}
 use Rattle.xc_disjoint.proofs.disjointness.first_not_apart.Goals as goal
 
