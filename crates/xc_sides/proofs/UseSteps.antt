@@ -1,5 +1,5 @@
 -- How a walk's table of channels goes on by what stands at its place.
-use Rattle.std.proofs.Common.{◌≡◌, ℕ, ◌+◌, ◌<◌, List, length, drop, get_or, map, Option, Some, None, refl, sym, ap, ◌∙◌}
+use Rattle.std.proofs.Common.{◌≡◌, ℕ, ◌+◌, ◌<◌, List, length, drop, get_or, map, Option, Some, None, refl, ap, ◌∙◌}
 use Rattle.xc_kernel.specs.declared.statement.Kst.{Kst}
 use Rattle.xc_kernel.specs.declared.statement.KBranch.{KBranch}
 use Rattle.xc_kernel.specs.declared.statement.KCase.{KCase}
@@ -7,7 +7,7 @@ use Rattle.xc_kernel.specs.Kernels.{statement_of, branch_of, case_of}
 use Rattle.xc_kernel.specs.Plain.{statements, branches, cases, more_branches}
 use Rattle.xc_kernel.specs.Plain as kernel
 use Rattle.xc_apart.proofs.Firsts.{first_assoc}
-use Rattle.xc_kernel.proofs.Forms.{forms, branch-KBranch}
+use Rattle.xc_kernel.proofs.Forms.{branch-KBranch}
 use Rattle.xc_sides.specs.declared.uses.Use.{Use}
 use Rattle.xc_sides.specs.declared.uses.Held.TheVariants.{Apart}
 use Rattle.xc_sides.specs.Uses.{Uses, Shares, no_uses, some_after, all_after, all_with, of_statement, of_statements, with_branches, of_case, of_cases}
@@ -52,9 +52,3 @@ pub branches_step : (shares : Shares) (xs : List KBranch) (i : ℕ) (x : KBranch
 branches_step shares xs i x e h =
     ap (λ ys. with_branches shares (branches (map branch_of ys))) (drop_item xs i x e h)
     ∙ ap (λ (b : kernel.Branch). with_branches shares (more_branches b (branches (map branch_of (drop (i + 1) xs))))) (branch-KBranch x)
-
--- code without a use of a channel
-pub after_leaf : (f : Uses) (s t : kernel.Statement) → s ≡ t → of_statement t ≡ no_uses → f ≡ all_after f (of_statement s)
-after_leaf f s t e h = sym (ap (λ x. all_after f (of_statement x)) e ∙ ap (all_after f) h ∙ after_none f)
-
-pub ruleset steps = (forms, after_none, none_before, after_each, statements_step, cases_step, branches_step)

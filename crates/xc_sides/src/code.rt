@@ -3,13 +3,13 @@ ghost use Rattle.xc_kernel.specs.Kernels.{branch_of, case_of, statement_of};
 ghost use Rattle.xc_kernel.specs.Plain as plain;
 ghost use Rattle.xc_sides.specs.Tables.{shares_in, uses_in};
 ghost use Rattle.xc_sides.specs.Uses as uses;
-ghost use Rattle.xc_sides.specs.Uses.{all_after, all_with};
+ghost use Rattle.xc_sides.specs.Uses.{all_after, all_with, no_shares, uses_of};
 
 use crate::tables::{ParTable, UseTable};
 use crate::uses::{Held, Use};
 use std::alloc::Global;
 use xc_kernel::{KBranch, KCase, KRes, Kst};
-use xw_words::Memory;
+use xw_words::{Memory, Pos};
 
 /// One use, and no `par`.
 const ONE_USE: Use = Use {
@@ -19,8 +19,7 @@ const ONE_USE: Use = Use {
 
 /// Goes on in a table behind some statements.
 #[cycle(channels)]
-#[tactic(auto, using(crate::proofs::UseSteps::steps))]
-pub fn statements(alloc: Global, table: &mut UseTable, ss: &[Kst]) -> Result<(), Memory>
+fn statements(alloc: Global, table: &mut UseTable, ss: &[Kst]) -> Result<(), Memory>
     ensures { OnOk result (uses_in table.new ≡ all_after (uses_in table.old)
         (uses.of_statements (plain.statements (map statement_of ss.now)))) }
 {
@@ -31,7 +30,6 @@ pub fn statements(alloc: Global, table: &mut UseTable, ss: &[Kst]) -> Result<(),
 }
 
 #[cycle(channels)]
-#[tactic(auto, using(crate::proofs::UseSteps::steps))]
 fn statement(alloc: Global, table: &mut UseTable, s: &Kst) -> Result<(), Memory>
     ensures { OnOk result (uses_in table.new
         ≡ all_after (uses_in table.old) (uses.of_statement (statement_of s.now))) }
@@ -58,11 +56,7 @@ fn statement(alloc: Global, table: &mut UseTable, s: &Kst) -> Result<(), Memory>
                 Some(body) => statements(alloc, table, body.as_slice()),
             }
         }
-        Kst::Par(all) => {
-            let mut par = ParTable::new(alloc);
-            branches(alloc, &mut par, all.as_slice())?;
-            table.follow_all(alloc, par.uses()?)
-        }
+        Kst::Par(all) => par(alloc, table, all.as_slice()),
         Kst::Tran { chan, body, .. } => {
             table.follow(*chan, ONE_USE)?;
             statements(alloc, table, body.as_slice())
@@ -71,7 +65,6 @@ fn statement(alloc: Global, table: &mut UseTable, s: &Kst) -> Result<(), Memory>
 }
 
 #[cycle(channels)]
-#[tactic(auto, using(crate::proofs::UseSteps::steps))]
 fn cases(alloc: Global, table: &mut UseTable, all: &[KCase]) -> Result<(), Memory>
     ensures { OnOk result (uses_in table.new
         ≡ all_after (uses_in table.old) (uses.of_cases (plain.cases (map case_of all.now)))) }
@@ -83,7 +76,6 @@ fn cases(alloc: Global, table: &mut UseTable, all: &[KCase]) -> Result<(), Memor
 }
 
 #[cycle(channels)]
-#[tactic(auto, using(crate::proofs::UseSteps::steps))]
 fn case(alloc: Global, table: &mut UseTable, c: &KCase) -> Result<(), Memory>
     ensures { OnOk result
         (uses_in table.new ≡ all_after (uses_in table.old) (uses.of_case (case_of c.now))) }
@@ -92,32 +84,74 @@ fn case(alloc: Global, table: &mut UseTable, c: &KCase) -> Result<(), Memory>
     statements(alloc, table, c.body.as_slice())
 }
 
+/// Goes on behind a `par`.
+#[cycle(channels)]
+fn par(alloc: Global, table: &mut UseTable, all: &[KBranch]) -> Result<(), Memory>
+    ensures { OnOk result (uses_in table.new ≡ all_after (uses_in table.old)
+        (uses_of (uses.with_branches no_shares (plain.branches (map branch_of all.now))))) }
+{
+    let mut par = ParTable::new(alloc);
+    let followed = in_par(alloc, table, &mut par, all);
+    drop(par);
+    followed
+}
+
+/// Goes on behind a `par` whose table is begun.
+#[cycle(channels)]
+fn in_par(
+    alloc: Global,
+    table: &mut UseTable,
+    par: &mut ParTable,
+    all: &[KBranch],
+) -> Result<(), Memory>
+    ensures { OnOk result (uses_in table.new ≡ all_after (uses_in table.old) (uses_of
+        (uses.with_branches (shares_in par.old) (plain.branches (map branch_of all.now))))) }
+{
+    branches(alloc, par, all)?;
+    table.follow_par(par)
+}
+
 /// Goes on to more branches of a `par`.
 #[cycle(channels)]
-#[tactic(auto, using(crate::proofs::UseSteps::steps))]
 fn branches(alloc: Global, par: &mut ParTable, all: &[KBranch]) -> Result<(), Memory>
     ensures { OnOk result (shares_in par.new
         ≡ uses.with_branches (shares_in par.old) (plain.branches (map branch_of all.now))) }
 {
     for b in all {
-        branch(alloc, par, b)?;
+        branch(alloc, par, b.body.as_slice(), b.pos)?;
     }
     Ok(())
 }
 
+/// Goes on to one more branch, which stands at this place.
 #[cycle(channels)]
-#[tactic(auto, using(crate::proofs::UseSteps::steps))]
-fn branch(alloc: Global, par: &mut ParTable, b: &KBranch) -> Result<(), Memory>
-    ensures { OnOk result (shares_in par.new ≡ all_with b.now.pos (shares_in par.old)
-        (uses.of_statements (plain.statements (map statement_of b.now.body)))) }
+pub fn branch(alloc: Global, par: &mut ParTable, body: &[Kst], pos: Pos) -> Result<(), Memory>
+    ensures { OnOk result (shares_in par.new ≡ all_with pos (shares_in par.old)
+        (uses.of_statements (plain.statements (map statement_of body.now)))) }
 {
     let mut table = UseTable::new(alloc);
-    statements(alloc, &mut table, b.body.as_slice())?;
-    par.add(alloc, table, b.pos)
+    let added = in_branch(alloc, par, &mut table, body, pos);
+    drop(table);
+    added
+}
+
+/// Goes on to a branch whose table is begun.
+#[cycle(channels)]
+fn in_branch(
+    alloc: Global,
+    par: &mut ParTable,
+    table: &mut UseTable,
+    body: &[Kst],
+    pos: Pos,
+) -> Result<(), Memory>
+    ensures { OnOk result (shares_in par.new ≡ all_with pos (shares_in par.old) (all_after
+        (uses_in table.old) (uses.of_statements (plain.statements (map statement_of body.now))))) }
+{
+    statements(alloc, table, body)?;
+    par.add(alloc, table, pos)
 }
 
 /// Goes on behind a use.
-#[tactic(auto, using(crate::proofs::UseSteps::steps))]
 fn used(table: &mut UseTable, resource: KRes) -> Result<(), Memory>
     ensures { OnOk result
         (uses_in table.new ≡ all_after (uses_in table.old) (uses.of_resource resource)) }

@@ -1,14 +1,14 @@
 ghost use Rattle.std.specs.Option.{option_copied};
-ghost use Rattle.std.specs.Prelude.{◌≡◌, map, IfOk};
+ghost use Rattle.std.specs.Prelude.{◌≡◌, map, IfOk, OnOk};
 ghost use Rattle.xc_kernel.specs.Branches.{branches_of};
 ghost use Rattle.xc_kernel.specs.Kernels.{kernel_of, root_of};
 ghost use Rattle.xc_sides.specs.Judged.{rule_by as by_held, rule_of as rule_at};
 ghost use Rattle.xc_sides.specs.Rules.{WithoutSides};
-ghost use Rattle.xc_sides.specs.Tables.{uses_in};
+ghost use Rattle.xc_sides.specs.Tables.{shares_in, uses_in};
 ghost use Rattle.xc_sides.specs.Uses.{no_shares, uses_of, with_branches};
 ghost use Rattle.xc_tree.specs.Least.{IsLeastOf};
 
-use crate::code::statements;
+use crate::code::branch;
 use crate::tables::{ParTable, UseTable, entry_at};
 use crate::uses::{Held, Use};
 use std::alloc::Global;
@@ -22,28 +22,50 @@ use xw_words::{Broken, Memory};
 pub fn first_without_sides(alloc: Global, kernel: &Kernel) -> Result<Option<Broken>, Memory>
     ensures { IfOk result (λ first. IsLeastOf (WithoutSides (kernel_of kernel.now)) first) }
 {
-    let table = uses_of_roots(alloc, kernel.roots.as_slice())?;
+    let mut par = ParTable::new(alloc);
+    let first = by_roots(alloc, &mut par, kernel);
+    drop(par);
+    first
+}
+
+/// The same by the table of the roots, as the branches of one `par`, which is begun.
+fn by_roots(
+    alloc: Global,
+    par: &mut ParTable,
+    kernel: &Kernel,
+) -> Result<Option<Broken>, Memory>
+    requires { shares_in par.now ≡ no_shares }
+    ensures { IfOk result (λ first. IsLeastOf (WithoutSides (kernel_of kernel.now)) first) }
+{
+    add_roots(alloc, par, kernel.roots.as_slice())?;
+    par.settle()?;
+    Ok(first_of(kernel, &par.largest))
+}
+
+/// Goes on to more roots.
+fn add_roots(alloc: Global, par: &mut ParTable, roots: &[Root]) -> Result<(), Memory>
+    ensures { OnOk result (shares_in par.new
+        ≡ with_branches (shares_in par.old) (branches_of (map root_of roots.now))) }
+{
+    for root in roots {
+        branch(alloc, par, root.body.as_slice(), root.pos)?;
+    }
+    Ok(())
+}
+
+/// The first rule that a channel breaks, by how the roots use channels.
+fn first_of(kernel: &Kernel, table: &UseTable) -> Option<Broken>
+    requires { uses_in table.now
+        ≡ uses_of (with_branches no_shares (branches_of (kernel_of kernel.now).roots)) }
+    ensures { IsLeastOf (WithoutSides (kernel_of kernel.now)) result }
+{
     let channels = kernel.chans.as_slice();
     let mut best = None;
     for at in 0..table.entries.len() {
         let (channel, u) = entry_at(&table.entries, at);
         best = earlier(best, rule_of(channels, channel, u));
     }
-    Ok(best)
-}
-
-/// How the roots use channels, as the branches of one `par`.
-fn uses_of_roots(alloc: Global, roots: &[Root]) -> Result<UseTable, Memory>
-    ensures { IfOk result (λ table. uses_in table
-        ≡ uses_of (with_branches no_shares (branches_of (map root_of roots.now)))) }
-{
-    let mut par = ParTable::new(alloc);
-    for root in roots {
-        let mut table = UseTable::new(alloc);
-        statements(alloc, &mut table, root.body.as_slice())?;
-        par.add(alloc, table, root.pos)?;
-    }
-    par.uses()
+    best
 }
 
 /// The rule that is broken by a channel that is used like this.

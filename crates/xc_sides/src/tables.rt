@@ -35,14 +35,15 @@ impl UseTable {
         put(&mut self.entries, channel, joined)
     }
 
-    /// Goes on behind code that uses channels like this. It goes through the smaller of both tables.
-    pub fn follow_all(&mut self, alloc: Global, next: UseTable) -> Result<(), Memory>
-        ensures { OnOk result (uses_in self.new ≡ all_after (uses_in self.old) (uses_in next)) }
+    /// Goes on behind a `par`. It goes through what its branches share, and through the smaller of two tables, this one and that
+    /// of the largest branch; the table of the `par` is of no use then.
+    pub fn follow_par(&mut self, par: &mut ParTable) -> Result<(), Memory>
+        ensures { OnOk result
+            (uses_in self.new ≡ all_after (uses_in self.old) (uses_of (shares_in par.old))) }
     {
-        let first = mem::replace(self, UseTable::new(alloc));
-        let (larger, smaller) = larger_first(first, next);
-        *self = larger;
-        self.follow_each(&smaller)
+        par.settle()?;
+        larger_first(self, &mut par.largest);
+        self.follow_each(&par.largest)
     }
 
     fn follow_each(&mut self, next: &UseTable) -> Result<(), Memory>
@@ -75,31 +76,40 @@ impl ParTable {
         }
     }
 
-    /// Goes on to one more branch. It goes through this branch's table only where that isn't far larger than the others.
-    pub fn add(&mut self, alloc: Global, branch: UseTable, pos: Pos) -> Result<(), Memory>
+    /// Goes on to one more branch. It goes through this branch's table only where that isn't far larger than the others; the
+    /// branch's table is of no use then.
+    pub fn add(&mut self, alloc: Global, branch: &mut UseTable, pos: Pos) -> Result<(), Memory>
         ensures { OnOk result
-            (shares_in self.new ≡ all_with pos (shares_in self.old) (uses_in branch)) }
+            (shares_in self.new ≡ all_with pos (shares_in self.old) (uses_in branch.old)) }
     {
         if branch.entries.len() / 2 <= self.largest.entries.len() {
-            add_each(&mut self.shared, &self.largest, &branch, pos)
+            add_each(&mut self.shared, &self.largest, branch, pos)
         } else {
-            spell_out(&mut self.shared, &self.largest)?;
-            self.shared = with_larger(alloc, &self.shared, &branch, pos)?;
-            self.largest = branch;
-            Ok(())
+            self.add_larger(alloc, branch, pos)
         }
     }
 
-    /// The uses in the whole `par`. It goes through what is shared.
-    pub fn uses(self) -> Result<UseTable, Memory>
-        ensures { IfOk result (λ table. uses_in table ≡ uses_of (shares_in self)) }
+    /// Goes on to one more branch, whose table takes the place of the largest.
+    fn add_larger(
+        &mut self,
+        alloc: Global,
+        branch: &mut UseTable,
+        pos: Pos,
+    ) -> Result<(), Memory>
+        ensures { OnOk result
+            (shares_in self.new ≡ all_with pos (shares_in self.old) (uses_in branch.old)) }
     {
-        let ParTable {
-            mut largest,
-            shared,
-        } = self;
-        settle(&mut largest, &shared)?;
-        Ok(largest)
+        spell_out(&mut self.shared, &self.largest)?;
+        self.shared = with_larger(alloc, &self.shared, branch, pos)?;
+        mem::swap(&mut self.largest, branch);
+        Ok(())
+    }
+
+    /// Has the uses in the whole `par` in the largest of the tables. It goes through what is shared, which is of no use then.
+    pub fn settle(&mut self) -> Result<(), Memory>
+        ensures { OnOk result (uses_in self.new.largest ≡ uses_of (shares_in self.old)) }
+    {
+        settle(&mut self.largest, &self.shared)
     }
 }
 
@@ -209,15 +219,13 @@ fn joined(first: Option<&Use>, next: Use) -> Use
     }
 }
 
-/// Two tables, of which the first has no fewer entries than the second.
-fn larger_first(first: UseTable, second: UseTable) -> (UseTable, UseTable)
-    ensures { all_after (uses_in result.0) (uses_in result.1)
-        ≡ all_after (uses_in first) (uses_in second) }
+/// Has two tables so that the first has no fewer entries than the second.
+fn larger_first(first: &mut UseTable, second: &mut UseTable)
+    ensures { all_after (uses_in first.new) (uses_in second.new)
+        ≡ all_after (uses_in first.old) (uses_in second.old) }
 {
     if first.entries.len() < second.entries.len() {
-        (second, first)
-    } else {
-        (first, second)
+        mem::swap(first, second);
     }
 }
 
