@@ -1,6 +1,6 @@
 -- Pieces that are emitted one after another, and holes that land.
-use Rattle.std.proofs.Common.{◌≡◌, ℕ, ◌+◌, Bool, List, [], ◌∷◌, ◌++◌, length, Option, Some, None, Result, Ok, Err, refl, sym, ap, ◌∙◌, subst, arith, append_assoc, length-append}
-use Rattle.std.specs.Prelude.{slice_get, slice_set, OnErr}
+use Rattle.std.proofs.Common.{◌≡◌, ℕ, ◌+◌, Bool, List, [], ◌∷◌, ◌++◌, length, Option, Some, None, Result, Ok, Err, refl, sym, ap, ◌∙◌, subst, arith, append-nil, append_assoc, length-append}
+use Rattle.std.specs.Prelude.{slice_get, slice_set, OnOk, OnErr}
 use Rattle.xw_words.specs.declared.pos.Pos.{Pos}
 use Rattle.xs_instr.specs.declared.instr.Instr.{Instr}
 use Rattle.xs_instr.specs.declared.instr.Instr.TheVariants.{Ldwsp, Stwsp, Brff, Brfu}
@@ -197,3 +197,23 @@ two_longer old new l m e = ap length e ∙ length-append old (l ∷ m ∷ [])
 pub on_err : {A B : Type 0} (r : Result A B) (P : Type 0) → P → OnErr r P
 on_err (Ok x) P h = tt
 on_err (Err x) P h = h
+
+-- lines that were refused behind others extend these
+pub same_extends : (old new : List Line) → new ≡ old → Extends old new
+same_extends old new e = record { more = []; is = e ∙ sym (append-nil old) }
+
+pub behind_extends : (old mid new ls : List Line) → mid ≡ old ++ ls → Extends mid new → Extends old new
+behind_extends old mid new ls e x = record { more = ls ++ x.more; is = x.is ∙ ap (λ y. y ++ x.more) e ∙ append_assoc old ls x.more }
+
+pub on_err_behind : {A B : Type 0} (r : Result A B) (old mid new ls : List Line) → mid ≡ old ++ ls → OnErr r (Extends mid new) → OnErr r (Extends old new)
+on_err_behind (Ok x) old mid new ls e h = tt
+on_err_behind (Err x) old mid new ls e h = behind_extends old mid new ls e h
+
+-- lines that were added are these, and so with others before them
+pub on_code : {A B : Type 0} (r : Result A B) (old new a b : List Line) → a ≡ b → OnOk r (new ≡ old ++ a) → OnOk r (new ≡ old ++ b)
+on_code (Ok x) old new a b e h = h ∙ ap (λ ls. old ++ ls) e
+on_code (Err x) old new a b e h = tt
+
+pub on_code_behind : {A B : Type 0} (r : Result A B) (old mid new a b : List Line) (f : ℕ → List Line) → mid ≡ old ++ a → a ++ f (length old + length a) ≡ b → OnOk r (new ≡ mid ++ f (length mid)) → OnOk r (new ≡ old ++ b)
+on_code_behind (Ok x) old mid new a b f h e g = then_code old mid new a f h g ∙ ap (λ ls. old ++ ls) e
+on_code_behind (Err x) old mid new a b f h e g = tt

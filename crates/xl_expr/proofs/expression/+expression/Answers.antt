@@ -10,7 +10,7 @@ use Rattle.xc_kernel.specs.Meant.{operator_meant}
 use Rattle.xl_expr.specs.Operands.{operands_of}
 use Rattle.xl_expr.proofs.Sizes.{longer}
 use Rattle.xl_expr.proofs.Denoted.{nodes_read, depth_read, nodes_op, depth_op, nodes_elem, nodes_first, nodes_two, nodes_three, depth_nth, two_operands, no_word, no_element, depth_elem}
-use Rattle.xl_expr.proofs.Emitted.{one_longer, two_longer, on_err, short_emitted, short_extends, short_length, past_open, over_open, length4, choice_emitted, choice_extends}
+use Rattle.xl_expr.proofs.Emitted.{same_extends, behind_extends, on_err_behind, one_longer, two_longer, on_err, short_emitted, short_extends, short_length, past_open, over_open, length4, choice_emitted, choice_extends}
 use Rattle.xl_expr.proofs.expression.+expression.Goals as goal
 
 pub emit_at-emit_place-requires : goal.emit_at-emit_place-requires
@@ -176,3 +176,114 @@ emit_choice-returns-clause-ok t c =
     let b : ℕ → List Line = λ n. expression_code c.args.plan.now.vars (expression_of c.args.second.now) (c.args.k + 1) n c.args.pos in
     let d : ℕ → List Line = λ n. expression_code c.args.plan.now.vars (expression_of c.args.third.now) (c.args.k + 1) n c.args.pos in
     choice_emitted c.args.pos c.args.e.now c.hole.new.self c.emit_at.new.e c.hole-2.new.self c.land.new.self b c.in_ok-past.past.index c.in_ok-over.over.index c.in_ok-past.ensures.index c.in_ok-over.ensures.index c.in_ok-past.ensures.ok c.in_ok-emit_at.ensures.ok c.in_ok-over.ensures.ok c.land.ensures c.emit_at-2.new.e d c.in_ok-emit_at-2.ensures.ok c.land-2.new.self c.land-2.ensures
+
+pub emit_at-returns-in-Num-clause-refused : goal.emit_at-returns-in-Num-clause-refused
+emit_at-returns-in-Num-clause-refused t c = c.put_all.ensures.refused
+
+pub emit_at-returns-in-Read-clause-refused : goal.emit_at-returns-in-Read-clause-refused
+emit_at-returns-in-Read-clause-refused t c = c.emit_place.ensures.refused
+
+pub emit_at-returns-in-Op-clause-refused : goal.emit_at-returns-in-Op-clause-refused
+emit_at-returns-in-Op-clause-refused t c = c.emit_operation.ensures.refused
+
+pub emit_choice-returns-in_err-past-clause-refused : goal.emit_choice-returns-in_err-past-clause-refused
+emit_choice-returns-in_err-past-clause-refused t c = on_err _ _ (same_extends _ _ c.in_err-past.ensures.refused)
+
+pub emit_choice-returns-in_err-emit_at-clause-refused : goal.emit_choice-returns-in_err-emit_at-clause-refused
+emit_choice-returns-in_err-emit_at-clause-refused t c = on_err _ _ (behind_extends _ _ _ _ c.in_ok-past.ensures.ok c.in_err-emit_at.ensures.refused)
+
+pub emit_choice-returns-in_err-over-clause-refused : goal.emit_choice-returns-in_err-over-clause-refused
+emit_choice-returns-in_err-over-clause-refused t c = on_err _ _ (behind_extends _ _ _ _ c.in_ok-past.ensures.ok (behind_extends _ _ _ _ c.in_ok-emit_at.ensures.ok (same_extends _ _ c.in_err-over.ensures.refused)))
+
+pub emit_element-returns-in_err-emit_at-in-Near-None-clause-refused : goal.emit_element-returns-in_err-emit_at-in-Near-None-clause-refused
+emit_element-returns-in_err-emit_at-in-Near-None-clause-refused t c = on_err _ _ c.in_err-emit_at-in-Near-None.ensures.refused
+
+pub emit_element-returns-in_ok-emit_at-in-Near-None-clause-refused : goal.emit_element-returns-in_ok-emit_at-in-Near-None-clause-refused
+emit_element-returns-in_ok-emit_at-in-Near-None-clause-refused t c = on_err_behind _ _ _ _ _ c.in_ok-emit_at-in-Near-None.ensures.ok c.put_element.ensures.refused
+
+pub emit_element-returns-in_err-emit_at-in-Far-None-clause-refused : goal.emit_element-returns-in_err-emit_at-in-Far-None-clause-refused
+emit_element-returns-in_err-emit_at-in-Far-None-clause-refused t c = on_err _ _ c.in_err-emit_at-in-Far-None.ensures.refused
+
+pub emit_element-returns-in_ok-emit_at-in-Far-None-clause-refused : goal.emit_element-returns-in_ok-emit_at-in-Far-None-clause-refused
+emit_element-returns-in_ok-emit_at-in-Far-None-clause-refused t c = on_err_behind _ _ _ _ _ c.in_ok-emit_at-in-Far-None.ensures.ok c.put_element-in-Far-None.ensures.refused
+
+pub emit_element-returns-in-Near-Some-clause-refused : goal.emit_element-returns-in-Near-Some-clause-refused
+emit_element-returns-in-Near-Some-clause-refused t c = c.put_all.ensures.refused
+
+pub emit_element-returns-in-Far-Some-clause-refused : goal.emit_element-returns-in-Far-Some-clause-refused
+emit_element-returns-in-Far-Some-clause-refused t c = c.put_held.ensures.refused
+
+pub emit_element-returns-in-Through-default-clause-refused : goal.emit_element-returns-in-Through-default-clause-refused
+emit_element-returns-in-Through-default-clause-refused t c = c.put_held-in-Through-default.ensures.refused
+
+pub emit_joined-returns-in_err-emit_at-in_default-Some-clause-refused : goal.emit_joined-returns-in_err-emit_at-in_default-Some-clause-refused
+emit_joined-returns-in_err-emit_at-in_default-Some-clause-refused t c = on_err _ _ c.in_err-emit_at-in_default-Some.ensures.refused
+
+pub emit_joined-returns-in_ok-emit_at-in_default-Some-clause-refused : goal.emit_joined-returns-in_ok-emit_at-in_default-Some-clause-refused
+emit_joined-returns-in_ok-emit_at-in_default-Some-clause-refused t c = on_err_behind _ _ _ _ _ c.in_ok-emit_at-in_default-Some.ensures.ok c.put_direct_tail.ensures.refused
+
+pub emit_joined-returns-in_err-emit_at-in-Some-None-clause-refused : goal.emit_joined-returns-in_err-emit_at-in-Some-None-clause-refused
+emit_joined-returns-in_err-emit_at-in-Some-None-clause-refused t c = on_err _ _ c.in_err-emit_at-in-Some-None.ensures.refused
+
+pub emit_joined-returns-in_ok-emit_at-in-Some-None-clause-refused : goal.emit_joined-returns-in_ok-emit_at-in-Some-None-clause-refused
+emit_joined-returns-in_ok-emit_at-in-Some-None-clause-refused t c = on_err_behind _ _ _ _ _ c.in_ok-emit_at-in-Some-None.ensures.ok c.put_direct_tail-in-Some-None.ensures.refused
+
+pub emit_joined-returns-in_err-emit_at-in-None-None-clause-refused : goal.emit_joined-returns-in_err-emit_at-in-None-None-clause-refused
+emit_joined-returns-in_err-emit_at-in-None-None-clause-refused t c = on_err _ _ c.in_err-emit_at-in-None-None.ensures.refused
+
+pub emit_joined-returns-in_ok-emit_at-in-None-None-clause-refused : goal.emit_joined-returns-in_ok-emit_at-in-None-None-clause-refused
+emit_joined-returns-in_ok-emit_at-in-None-None-clause-refused t c = on_err_behind _ _ _ _ _ c.in_ok-emit_at-in-None-None.ensures.ok c.emit_kept.ensures.refused
+
+pub emit_kept-returns-in_err-put_all-clause-refused : goal.emit_kept-returns-in_err-put_all-clause-refused
+emit_kept-returns-in_err-put_all-clause-refused t c = on_err _ _ c.in_err-put_all.ensures.refused
+
+pub emit_kept-returns-in_err-emit_at-clause-refused : goal.emit_kept-returns-in_err-emit_at-clause-refused
+emit_kept-returns-in_err-emit_at-clause-refused t c = on_err _ _ (behind_extends _ _ _ _ c.in_ok-put_all.ensures.ok c.in_err-emit_at.ensures.refused)
+
+pub emit_kept-returns-in_err-put_all-2-clause-refused : goal.emit_kept-returns-in_err-put_all-2-clause-refused
+emit_kept-returns-in_err-put_all-2-clause-refused t c = on_err _ _ (behind_extends _ _ _ _ c.in_ok-put_all.ensures.ok (behind_extends _ _ _ _ c.in_ok-emit_at.ensures.ok c.in_err-put_all-2.ensures.refused))
+
+pub emit_kept-returns-in_err-put_after_main-clause-refused : goal.emit_kept-returns-in_err-put_after_main-clause-refused
+emit_kept-returns-in_err-put_after_main-clause-refused t c = on_err _ _ (behind_extends _ _ _ _ c.in_ok-put_all.ensures.ok (behind_extends _ _ _ _ c.in_ok-emit_at.ensures.ok (behind_extends _ _ _ _ c.in_ok-put_all-2.ensures.ok c.in_err-put_after_main.ensures.refused)))
+
+pub emit_operation-returns-in_err-emit_at-in-len1-clause-refused : goal.emit_operation-returns-in_err-emit_at-in-len1-clause-refused
+emit_operation-returns-in_err-emit_at-in-len1-clause-refused t c = on_err _ _ c.in_err-emit_at-in-len1.ensures.refused
+
+pub emit_operation-returns-in_ok-emit_at-in-len1-clause-refused : goal.emit_operation-returns-in_ok-emit_at-in-len1-clause-refused
+emit_operation-returns-in_ok-emit_at-in-len1-clause-refused t c = on_err_behind _ _ _ _ _ c.in_ok-emit_at-in-len1.ensures.ok c.put_one_tail.ensures.refused
+
+pub emit_operation-returns-in_err-emit_at-in-len3-up-clause-refused : goal.emit_operation-returns-in_err-emit_at-in-len3-up-clause-refused
+emit_operation-returns-in_err-emit_at-in-len3-up-clause-refused t c = on_err _ _ c.in_err-emit_at-in-len3-up.ensures.refused
+
+pub emit_operation-returns-in_ok-emit_at-in-len3-up-clause-refused : goal.emit_operation-returns-in_ok-emit_at-in-len3-up-clause-refused
+emit_operation-returns-in_ok-emit_at-in-len3-up-clause-refused t c = on_err_behind _ _ _ _ _ c.in_ok-emit_at-in-len3-up.ensures.ok c.emit_choice.ensures.refused
+
+pub emit_operation-returns-in-empty-clause-refused : goal.emit_operation-returns-in-empty-clause-refused
+emit_operation-returns-in-empty-clause-refused t c = c.put_all.ensures.refused
+
+pub emit_operation-returns-in-len2-clause-refused : goal.emit_operation-returns-in-len2-clause-refused
+emit_operation-returns-in-len2-clause-refused t c = c.emit_two.ensures.refused
+
+pub emit_place-returns-in-Some-clause-refused : goal.emit_place-returns-in-Some-clause-refused
+emit_place-returns-in-Some-clause-refused t c = c.put_word.ensures.refused
+
+pub emit_place-returns-in-Some-placed-clause-refused : goal.emit_place-returns-in-Some-placed-clause-refused
+emit_place-returns-in-Some-placed-clause-refused t c = c.emit_element.ensures.refused
+
+pub emit_short-returns-in_err-skip-clause-refused : goal.emit_short-returns-in_err-skip-clause-refused
+emit_short-returns-in_err-skip-clause-refused t c = on_err _ _ (same_extends _ _ c.in_err-skip.ensures.refused)
+
+pub emit_short-returns-in_err-emit_at-clause-refused : goal.emit_short-returns-in_err-emit_at-clause-refused
+emit_short-returns-in_err-emit_at-clause-refused t c = on_err _ _ (behind_extends _ _ _ _ c.in_ok-skip.ensures.ok c.in_err-emit_at.ensures.refused)
+
+pub emit_two-returns-in_err-emit_at-in-Both-clause-refused : goal.emit_two-returns-in_err-emit_at-in-Both-clause-refused
+emit_two-returns-in_err-emit_at-in-Both-clause-refused t c = on_err _ _ c.in_err-emit_at-in-Both.ensures.refused
+
+pub emit_two-returns-in_ok-emit_at-in-Both-clause-refused : goal.emit_two-returns-in_ok-emit_at-in-Both-clause-refused
+emit_two-returns-in_ok-emit_at-in-Both-clause-refused t c = on_err_behind _ _ _ _ _ c.in_ok-emit_at-in-Both.ensures.ok c.emit_short.ensures.refused
+
+pub emit_two-returns-in_err-emit_at-in-Either-clause-refused : goal.emit_two-returns-in_err-emit_at-in-Either-clause-refused
+emit_two-returns-in_err-emit_at-in-Either-clause-refused t c = on_err _ _ c.in_err-emit_at-in-Either.ensures.refused
+
+pub emit_two-returns-in_ok-emit_at-in-Either-clause-refused : goal.emit_two-returns-in_ok-emit_at-in-Either-clause-refused
+emit_two-returns-in_ok-emit_at-in-Either-clause-refused t c = on_err_behind _ _ _ _ _ c.in_ok-emit_at-in-Either.ensures.ok c.emit_short-in-Either.ensures.refused
