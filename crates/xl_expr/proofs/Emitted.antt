@@ -9,7 +9,7 @@ use Rattle.xs_instr.specs.declared.instr.Reg.TheVariants.{R0, R11}
 use Rattle.xs_instr.specs.Lines.{Line, line, open_line, aimed, with_target, IsOpen, IsOpenLine, landed, landed_at, at_pos, first_pos, last_or, last_pos}
 use Rattle.xc_kernel.specs.Operators as operator
 use Rattle.xl_expr.specs.declared.direct_operand.Direct.{Direct}
-use Rattle.xl_expr.specs.Code.{after_main, main_instr, moved_to, two_tail, brought, direct_tail, with_move}
+use Rattle.xl_expr.specs.Code.{Piece, added, added_to, after_main, joined_code, made_truth, main_instr, moved_to, short_code, two_tail, brought, direct_tail, with_move}
 use Rattle.xs_instr.specs.Extends.{Extends}
 use Rattle.xl_expr.specs.Parts.{aimed_code, either_code}
 
@@ -202,18 +202,44 @@ on_err (Err x) P h = h
 pub same_extends : (old new : List Line) → new ≡ old → Extends old new
 same_extends old new e = record { more = []; is = e ∙ sym (append-nil old) }
 
-pub behind_extends : (old mid new ls : List Line) → mid ≡ old ++ ls → Extends mid new → Extends old new
-behind_extends old mid new ls e x = record { more = ls ++ x.more; is = x.is ∙ ap (λ y. y ++ x.more) e ∙ append_assoc old ls x.more }
+pub behind_extends : (old held new ls : List Line) → held ≡ old ++ ls → Extends held new → Extends old new
+behind_extends old held new ls e x = record { more = ls ++ x.more; is = x.is ∙ ap (λ y. y ++ x.more) e ∙ append_assoc old ls x.more }
 
-pub on_err_behind : {A B : Type 0} (r : Result A B) (old mid new ls : List Line) → mid ≡ old ++ ls → OnErr r (Extends mid new) → OnErr r (Extends old new)
-on_err_behind (Ok x) old mid new ls e h = tt
-on_err_behind (Err x) old mid new ls e h = behind_extends old mid new ls e h
+pub on_err_behind : {A B : Type 0} (r : Result A B) (old held new ls : List Line) → held ≡ old ++ ls → OnErr r (Extends held new) → OnErr r (Extends old new)
+on_err_behind (Ok x) old held new ls e h = tt
+on_err_behind (Err x) old held new ls e h = behind_extends old held new ls e h
 
 -- lines that were added are these, and so with others before them
 pub on_code : {A B : Type 0} (r : Result A B) (old new a b : List Line) → a ≡ b → OnOk r (new ≡ old ++ a) → OnOk r (new ≡ old ++ b)
 on_code (Ok x) old new a b e h = h ∙ ap (λ ls. old ++ ls) e
 on_code (Err x) old new a b e h = tt
 
-pub on_code_behind : {A B : Type 0} (r : Result A B) (old mid new a b : List Line) (f : ℕ → List Line) → mid ≡ old ++ a → a ++ f (length old + length a) ≡ b → OnOk r (new ≡ mid ++ f (length mid)) → OnOk r (new ≡ old ++ b)
-on_code_behind (Ok x) old mid new a b f h e g = then_code old mid new a f h g ∙ ap (λ ls. old ++ ls) e
-on_code_behind (Err x) old mid new a b f h e g = tt
+pub on_code_behind : {A B : Type 0} (r : Result A B) (old held new a b : List Line) (f : ℕ → List Line) → held ≡ old ++ a → a ++ f (length old + length a) ≡ b → OnOk r (new ≡ held ++ f (length held)) → OnOk r (new ≡ old ++ b)
+on_code_behind (Ok x) old held new a b f h e g = then_code old held new a f h g ∙ ap (λ ls. old ++ ls) e
+on_code_behind (Err x) old held new a b f h e g = tt
+
+-- and so behind the code of an operation's first operand
+module _ (o : operator.Operator) (u : Bool) (pos : Pos) (a b : Piece) (d e : Option Direct) (k here : ℕ) (last : Pos) where
+  pub second_direct : (operand : Direct) (sum : Option ℕ) → e ≡ Some operand → sum ≡ added o operand → a k here last ++ at_pos pos (direct_tail o u operand sum R0 R11) ≡ joined_code o u pos a b d e k here last
+  second_direct operand sum f g =
+      ap (λ (s : Option ℕ). a k here last ++ at_pos pos (direct_tail o u operand s R0 R11)) g
+      ∙ ap (λ (x : Option Direct). joined_code o u pos a b d x k here last) (sym f)
+
+  pub first_direct : (operand : Direct) (sum : Option ℕ) → d ≡ Some operand → e ≡ None → sum ≡ added_to o operand → b k here last ++ at_pos pos (direct_tail o u operand sum R11 R0) ≡ joined_code o u pos a b d e k here last
+  first_direct operand sum f none g =
+      ap (λ (s : Option ℕ). b k here last ++ at_pos pos (direct_tail o u operand s R11 R0)) g
+      ∙ ap (λ (x : Option Direct). joined_code o u pos a b x None k here last) (sym f)
+      ∙ ap (λ (x : Option Direct). joined_code o u pos a b d x k here last) (sym none)
+
+  pub none_direct : d ≡ None → e ≡ None → a k here last ++ aimed_code (λ target. Stwsp R0 k) pos (λ n. b (k + 1) n pos) (Ldwsp R11 k ∷ two_tail o u R11 R0) (here + length (a k here last)) ≡ joined_code o u pos a b d e k here last
+  none_direct f g =
+      let cb = b (k + 1) (here + length (a k here last) + 1) pos in
+      sym (append_assoc (a k here last) (line (Stwsp R0 k) pos ∷ cb) (at_pos pos (Ldwsp R11 k ∷ two_tail o u R11 R0)))
+      ∙ ap (λ (x : Option Direct). joined_code o u pos a b x None k here last) (sym f)
+      ∙ ap (λ (x : Option Direct). joined_code o u pos a b d x k here last) (sym g)
+
+pub short_chained : (jump : ℕ → Instr) (pos : Pos) (a b : Piece) (k here : ℕ) (last : Pos) → a k here last ++ aimed_code jump pos (λ n. b (k + 1) n pos) made_truth (here + length (a k here last)) ≡ short_code jump pos a b k here last
+short_chained jump pos a b k here last =
+    let here' = here + length (a k here last) in
+    let cb = b (k + 1) (here' + 1) pos in
+    sym (append_assoc (a k here last) (line (jump (here' + 1 + length cb)) pos ∷ cb) (at_pos pos made_truth))

@@ -1,16 +1,20 @@
-use Rattle.std.proofs.Common.{◌≡◌, ◌+◌, ℕ, arith, sym, subst, List, length, ◌++◌}
+use Rattle.std.proofs.Common.{◌≡◌, ◌+◌, ◌∙◌, ℕ, arith, ap, refl, sym, subst, List, [], ◌∷◌, length, ◌++◌, Some, None}
 use Rattle.std.specs.Prelude.{OnOk}
 use Rattle.xc_kernel.specs.declared.statement.Kx.{Kx}
 use Rattle.xc_kernel.specs.Kernels.{expression_of}
-use Rattle.xs_instr.specs.Lines.{Line, line, open_line}
-use Rattle.xs_instr.specs.declared.instr.Instr.TheVariants.{Brff, Brfu, Stwsp, Ldwsp}
+use Rattle.xc_kernel.specs.declared.operators.Operator.{Operator}
+use Rattle.xs_instr.specs.Lines.{Line, line, open_line, at_pos}
+use Rattle.xs_instr.specs.declared.instr.Instr.{Instr}
+use Rattle.xs_instr.specs.declared.instr.Instr.TheVariants.{Brff, Brft, Brfu, Stwsp, Ldwsp, Ldwdp, Ldawdp}
 use Rattle.xs_instr.specs.declared.instr.Reg.TheVariants.{R0, R11}
-use Rattle.xl_expr.specs.Code.{made_truth, codes, expression_code, operation_code}
+use Rattle.xl_expr.specs.declared.plan.VarAt.TheVariants.{Near, Far, Through}
+use Rattle.xl_expr.specs.Code.{made_truth, codes, direct_of, direct_tail, element_read, expression_code, fixed_index, one_tail, operand_of, operation_code, two_code}
+use Rattle.xl_expr.specs.Parts.{choice_code, kept_behind, short_behind}
 use Rattle.xc_kernel.specs.Meant.{operator_meant}
 use Rattle.xl_expr.specs.Operands.{operands_of}
 use Rattle.xl_expr.proofs.Sizes.{longer}
-use Rattle.xl_expr.proofs.Denoted.{nodes_read, depth_read, nodes_op, depth_op, nodes_elem, nodes_first, nodes_two, nodes_three, depth_nth, two_operands, no_word, no_element, depth_elem}
-use Rattle.xl_expr.proofs.Emitted.{same_extends, behind_extends, on_err_behind, one_longer, two_longer, on_err, short_emitted, short_extends, short_length, past_open, over_open, length4, choice_emitted, choice_extends}
+use Rattle.xl_expr.proofs.Denoted.{num_code, read_code, op_code, word_found, element_found, element_at, of_none, of_one, of_three, nodes_read, depth_read, nodes_op, depth_op, nodes_elem, nodes_first, nodes_two, nodes_three, depth_nth, two_operands, no_word, no_element, depth_elem}
+use Rattle.xl_expr.proofs.Emitted.{on_code, on_code_behind, second_direct, first_direct, none_direct, short_chained, kept_emitted, same_extends, behind_extends, on_err_behind, one_longer, two_longer, on_err, short_emitted, short_extends, short_length, past_open, over_open, length4, choice_emitted, choice_extends}
 use Rattle.xl_expr.proofs.expression.+expression.Goals as goal
 
 pub emit_at-emit_place-requires : goal.emit_at-emit_place-requires
@@ -287,3 +291,95 @@ emit_two-returns-in_err-emit_at-in-Either-clause-refused t c = on_err _ _ c.in_e
 
 pub emit_two-returns-in_ok-emit_at-in-Either-clause-refused : goal.emit_two-returns-in_ok-emit_at-in-Either-clause-refused
 emit_two-returns-in_ok-emit_at-in-Either-clause-refused t c = on_err_behind _ _ _ _ _ c.in_ok-emit_at-in-Either.ensures.ok c.emit_short-in-Either.ensures.refused
+
+pub emit_at-returns-in-Num-clause-ok : goal.emit_at-returns-in-Num-clause-ok
+emit_at-returns-in-Num-clause-ok t c =
+    on_code _ _ _ _ _ (num_code c.args.plan.now.vars c.args.k (length c.args.e.now) c.args.last c.args.x.now c.in-Num.value c.in-Num.is) c.put_all.ensures.ok
+
+pub emit_at-returns-in-Read-clause-ok : goal.emit_at-returns-in-Read-clause-ok
+emit_at-returns-in-Read-clause-ok t c =
+    on_code _ _ _ _ _ (read_code c.args.plan.now.vars c.args.k (length c.args.e.now) c.args.last c.args.x.now c.in-Read.place c.in-Read.is) c.emit_place.ensures.ok
+
+pub emit_at-returns-in-Op-clause-ok : goal.emit_at-returns-in-Op-clause-ok
+emit_at-returns-in-Op-clause-ok t c =
+    on_code _ _ _ _ _ (op_code c.args.plan.now.vars c.args.k (length c.args.e.now) c.args.last c.args.x.now c.in-Op.symbol c.in-Op.unsigned c.in-Op.operands c.as_slice.result.now c.in-Op.pos (operator_meant c.operator_at.result) c.in-Op.is c.as_slice.ensures c.operator_at.ensures) c.emit_operation.ensures.ok
+
+pub emit_place-returns-in-Some-clause-ok : goal.emit_place-returns-in-Some-clause-ok
+emit_place-returns-in-Some-clause-ok t c =
+    on_code _ _ _ _ _ (word_found c.args.plan.now.vars c.args.k (length c.args.e.now) c.args.last c.args.place.now c.in-Word.v c.placed.result c.in-Some.found c.in-Word.is c.in-Some.is c.placed.ensures) c.put_word.ensures.ok
+
+pub emit_place-returns-in-Some-placed-clause-ok : goal.emit_place-returns-in-Some-placed-clause-ok
+emit_place-returns-in-Some-placed-clause-ok t c =
+    on_code _ _ _ _ _ (element_found c.args.plan.now.vars c.args.k (length c.args.e.now) c.args.last c.args.place.now c.in-Elem.v c.in-Elem.index c.in-Elem.pos c.deref.result.now c.placed-in-Elem.result c.in-Some-placed.found c.in-Elem.is c.deref.ensures c.in-Some-placed.is c.placed-in-Elem.ensures) c.emit_element.ensures.ok
+
+pub emit_element-returns-in-Near-Some-clause-ok : goal.emit_element-returns-in-Near-Some-clause-ok
+emit_element-returns-in-Near-Some-clause-ok t c =
+    on_code _ _ _ _ _ (element_at c.args.found.place (Near c.in-Near-Some.n) c.args.found.words (fixed_index (expression_of c.args.index.now) c.args.found.words) (Some c.in-Near-Some.i) c.args.pos (expression_code c.args.plan.now.vars (expression_of c.args.index.now)) c.args.k (length c.args.e.now) c.args.last c.in-Near-Some.is-0 (sym c.fixed_index.ensures ∙ c.in-Near-Some.is-1)) c.put_all.ensures.ok
+
+pub emit_element-returns-in-Far-Some-clause-ok : goal.emit_element-returns-in-Far-Some-clause-ok
+emit_element-returns-in-Far-Some-clause-ok t c =
+    on_code _ _ _ _ _ (element_at c.args.found.place (Far c.in-Far-Some.n) c.args.found.words (fixed_index (expression_of c.args.index.now) c.args.found.words) (Some c.in-Far-Some.i) c.args.pos (expression_code c.args.plan.now.vars (expression_of c.args.index.now)) c.args.k (length c.args.e.now) c.args.last c.in-Far-Some.is-0 (sym c.fixed_index.ensures ∙ c.in-Far-Some.is-1)) c.put_held.ensures.ok
+
+pub emit_element-returns-in-Through-default-clause-ok : goal.emit_element-returns-in-Through-default-clause-ok
+emit_element-returns-in-Through-default-clause-ok t c =
+    on_code _ _ _ _ _ (element_at c.args.found.place (Through c.in-Through-default.n) c.args.found.words (fixed_index (expression_of c.args.index.now) c.args.found.words) (fixed_index (expression_of c.args.index.now) c.args.found.words) c.args.pos (expression_code c.args.plan.now.vars (expression_of c.args.index.now)) c.args.k (length c.args.e.now) c.args.last c.in-Through-default.is-0 refl) c.put_held-in-Through-default.ensures.ok
+
+pub emit_element-returns-in_ok-emit_at-in-Near-None-clause-ok : goal.emit_element-returns-in_ok-emit_at-in-Near-None-clause-ok
+emit_element-returns-in_ok-emit_at-in-Near-None-clause-ok t c =
+    on_code_behind _ _ _ _ _ _ (λ n. at_pos c.args.pos (element_read (Ldawdp R11 c.in-Near-None.n) c.args.found.words)) c.in_ok-emit_at-in-Near-None.ensures.ok
+    (element_at c.args.found.place (Near c.in-Near-None.n) c.args.found.words (fixed_index (expression_of c.args.index.now) c.args.found.words) None c.args.pos (expression_code c.args.plan.now.vars (expression_of c.args.index.now)) c.args.k (length c.args.e.now) c.args.last c.in-Near-None.is-0 (sym c.fixed_index.ensures ∙ c.in-Near-None.is-1)) c.put_element.ensures.ok
+
+pub emit_element-returns-in_ok-emit_at-in-Far-None-clause-ok : goal.emit_element-returns-in_ok-emit_at-in-Far-None-clause-ok
+emit_element-returns-in_ok-emit_at-in-Far-None-clause-ok t c =
+    on_code_behind _ _ _ _ _ _ (λ n. at_pos c.args.pos (element_read (Ldwdp R11 c.in-Far-None.n) c.args.found.words)) c.in_ok-emit_at-in-Far-None.ensures.ok
+    (element_at c.args.found.place (Far c.in-Far-None.n) c.args.found.words (fixed_index (expression_of c.args.index.now) c.args.found.words) None c.args.pos (expression_code c.args.plan.now.vars (expression_of c.args.index.now)) c.args.k (length c.args.e.now) c.args.last c.in-Far-None.is-0 (sym c.fixed_index.ensures ∙ c.in-Far-None.is-1)) c.put_element-in-Far-None.ensures.ok
+
+pub emit_joined-returns-in_ok-emit_at-in_default-Some-clause-ok : goal.emit_joined-returns-in_ok-emit_at-in_default-Some-clause-ok
+emit_joined-returns-in_ok-emit_at-in_default-Some-clause-ok t c =
+    on_code_behind _ _ _ _ _ _ (λ n. at_pos c.args.operation.pos (direct_tail (operator_meant c.args.operation.operator) c.args.operation.is_unsigned c.in_default-Some.operand c.added-sum.result R0 R11)) c.in_ok-emit_at-in_default-Some.ensures.ok
+    (second_direct (operator_meant c.args.operation.operator) c.args.operation.is_unsigned c.args.operation.pos (expression_code c.args.plan.now.vars (expression_of c.args.first.now)) (expression_code c.args.plan.now.vars (expression_of c.args.second.now)) (direct_of c.args.plan.now.vars (expression_of c.args.first.now)) (direct_of c.args.plan.now.vars (expression_of c.args.second.now)) c.args.k (length c.args.e.now) c.args.last c.in_default-Some.operand c.added-sum.result (sym c.direct_of-2.ensures ∙ c.in_default-Some.is-1) c.added-sum.ensures) c.put_direct_tail.ensures.ok
+
+pub emit_joined-returns-in_ok-emit_at-in-Some-None-clause-ok : goal.emit_joined-returns-in_ok-emit_at-in-Some-None-clause-ok
+emit_joined-returns-in_ok-emit_at-in-Some-None-clause-ok t c =
+    on_code_behind _ _ _ _ _ _ (λ n. at_pos c.args.operation.pos (direct_tail (operator_meant c.args.operation.operator) c.args.operation.is_unsigned c.in-Some-None.operand c.added_to-sum.result R11 R0)) c.in_ok-emit_at-in-Some-None.ensures.ok
+    (first_direct (operator_meant c.args.operation.operator) c.args.operation.is_unsigned c.args.operation.pos (expression_code c.args.plan.now.vars (expression_of c.args.first.now)) (expression_code c.args.plan.now.vars (expression_of c.args.second.now)) (direct_of c.args.plan.now.vars (expression_of c.args.first.now)) (direct_of c.args.plan.now.vars (expression_of c.args.second.now)) c.args.k (length c.args.e.now) c.args.last c.in-Some-None.operand c.added_to-sum.result (sym c.direct_of.ensures ∙ c.in-Some-None.is-0) (sym c.direct_of-2.ensures ∙ c.in-Some-None.is-1) c.added_to-sum.ensures) c.put_direct_tail-in-Some-None.ensures.ok
+
+pub emit_joined-returns-in_ok-emit_at-in-None-None-clause-ok : goal.emit_joined-returns-in_ok-emit_at-in-None-None-clause-ok
+emit_joined-returns-in_ok-emit_at-in-None-None-clause-ok t c =
+    on_code_behind _ _ _ _ _ _ (kept_behind c.args.plan.now.vars (operator_meant c.args.operation.operator) c.args.operation.is_unsigned c.args.operation.pos (expression_of c.args.second.now) c.args.k) c.in_ok-emit_at-in-None-None.ensures.ok
+    (none_direct (operator_meant c.args.operation.operator) c.args.operation.is_unsigned c.args.operation.pos (expression_code c.args.plan.now.vars (expression_of c.args.first.now)) (expression_code c.args.plan.now.vars (expression_of c.args.second.now)) (direct_of c.args.plan.now.vars (expression_of c.args.first.now)) (direct_of c.args.plan.now.vars (expression_of c.args.second.now)) c.args.k (length c.args.e.now) c.args.last (sym c.direct_of.ensures ∙ c.in-None-None.is-0) (sym c.direct_of-2.ensures ∙ c.in-None-None.is-1)) c.emit_kept.ensures.ok
+
+pub emit_kept-returns-clause-ok : goal.emit_kept-returns-clause-ok
+emit_kept-returns-clause-ok t c =
+    let pos = c.args.operation.pos in
+    let b : ℕ → List Line = λ n. expression_code c.args.plan.now.vars (expression_of c.args.second.now) (c.args.k + 1) n pos in
+    kept_emitted (operator_meant c.args.operation.operator) c.args.operation.is_unsigned pos c.args.k c.args.e.now c.put_all.new.self c.emit_at.new.e c.put_all-2.new.self c.put_after_main.new.e b c.in_ok-put_all.ensures.ok c.in_ok-emit_at.ensures.ok
+    (c.in_ok-put_all-2.ensures.ok ∙ ap (λ (i : Instr). c.emit_at.new.e ++ at_pos pos (Ldwsp R11 c.args.k ∷ i ∷ [])) c.main_instr.ensures) c.in_ok-put_after_main.ensures.ok
+
+pub emit_operation-returns-in-empty-clause-ok : goal.emit_operation-returns-in-empty-clause-ok
+emit_operation-returns-in-empty-clause-ok t c =
+    on_code _ _ _ _ _ (of_none (operator_meant c.args.operation.operator) c.args.operation.is_unsigned c.args.operation.pos c.args.plan.now.vars c.args.operands.now c.args.k (length c.args.e.now) c.args.last c.in-empty.len_below) c.put_all.ensures.ok
+
+pub emit_operation-returns-in_ok-emit_at-in-len1-clause-ok : goal.emit_operation-returns-in_ok-emit_at-in-len1-clause-ok
+emit_operation-returns-in_ok-emit_at-in-len1-clause-ok t c =
+    on_code_behind _ _ _ _ _ _ (λ n. at_pos c.args.operation.pos (one_tail (operator_meant c.args.operation.operator))) c.in_ok-emit_at-in-len1.ensures.ok
+    (of_one (operator_meant c.args.operation.operator) c.args.operation.is_unsigned c.args.operation.pos c.args.plan.now.vars c.args.operands.now c.args.k (length c.args.e.now) c.args.last c.only-item.result c.in-len1.len_at_least c.in-len1.len_below c.only-item.is) c.put_one_tail.ensures.ok
+
+pub emit_operation-returns-in_ok-emit_at-in-len3-up-clause-ok : goal.emit_operation-returns-in_ok-emit_at-in-len3-up-clause-ok
+emit_operation-returns-in_ok-emit_at-in-len3-up-clause-ok t c =
+    on_code_behind _ _ _ _ _ _ (choice_code c.args.plan.now.vars c.args.operation.pos (expression_of c.second-item-2.result) (expression_of c.third-item.result) c.args.k) c.in_ok-emit_at-in-len3-up.ensures.ok
+    (of_three (operator_meant c.args.operation.operator) c.args.operation.is_unsigned c.args.operation.pos c.args.plan.now.vars c.args.operands.now c.args.k (length c.args.e.now) c.args.last c.test-item.result c.second-item-2.result c.third-item.result c.in-len3-up.len_at_least c.test-item.is c.second-item-2.is c.third-item.is) c.emit_choice.ensures.ok
+
+pub emit_two-returns-in_ok-emit_at-in-Both-clause-ok : goal.emit_two-returns-in_ok-emit_at-in-Both-clause-ok
+emit_two-returns-in_ok-emit_at-in-Both-clause-ok t c =
+    let x = operand_of c.args.plan.now.vars (expression_of c.args.first.now) in
+    let y = operand_of c.args.plan.now.vars (expression_of c.args.second.now) in
+    on_code_behind _ _ _ _ _ _ (short_behind c.args.plan.now.vars (Brff R0 0) c.args.operation.pos (expression_of c.args.second.now) c.args.k) c.in_ok-emit_at-in-Both.ensures.ok
+    (short_chained (Brff R0) c.args.operation.pos x.piece y.piece c.args.k (length c.args.e.now) c.args.last ∙ ap (λ (o : Operator). two_code (operator_meant o) c.args.operation.is_unsigned c.args.operation.pos x y c.args.k (length c.args.e.now) c.args.last) (sym c.in-Both.is)) c.emit_short.ensures.ok
+
+pub emit_two-returns-in_ok-emit_at-in-Either-clause-ok : goal.emit_two-returns-in_ok-emit_at-in-Either-clause-ok
+emit_two-returns-in_ok-emit_at-in-Either-clause-ok t c =
+    let x = operand_of c.args.plan.now.vars (expression_of c.args.first.now) in
+    let y = operand_of c.args.plan.now.vars (expression_of c.args.second.now) in
+    on_code_behind _ _ _ _ _ _ (short_behind c.args.plan.now.vars (Brft R0 0) c.args.operation.pos (expression_of c.args.second.now) c.args.k) c.in_ok-emit_at-in-Either.ensures.ok
+    (short_chained (Brft R0) c.args.operation.pos x.piece y.piece c.args.k (length c.args.e.now) c.args.last ∙ ap (λ (o : Operator). two_code (operator_meant o) c.args.operation.is_unsigned c.args.operation.pos x y c.args.k (length c.args.e.now) c.args.last) (sym c.in-Either.is)) c.emit_short-in-Either.ensures.ok
