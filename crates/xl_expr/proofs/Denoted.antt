@@ -20,7 +20,7 @@ use Rattle.xl_expr.specs.Code.{Piece, operation_code, codes, word_at_place, word
 use Rattle.xl_expr.specs.Measures.{nodes, nodes_of, nodes_at, depth, depth_of, depth_at}
 use Rattle.xl_expr.specs.Operands.{operands_of}
 use Rattle.xs_instr.specs.declared.instr.Reg.{Reg}
-use Rattle.xl_expr.specs.Stores.{store_code, word_store, element_store}
+use Rattle.xl_expr.specs.Stores.{store_code, word_store, element_store, element_store_at}
 use Rattle.xl_expr.proofs.StoreClause.{some_place}
 
 pub nodes_read : (x : Kx) (p : Place) → x ≡ E.Read p → nodes (expression_of x) ≡ nodes_at (place_of p)
@@ -167,3 +167,8 @@ no_element_store vars p v i pos from here last found ls e f g =
     ∙ ap (λ (o : Option VarPlan). ls ++ element_store o (expression_of i.value) from pos (λ n. expression_code vars (expression_of i.value) 1 n pos) here) (sym f ∙ g)
     ∙ ap (λ q. ls ++ store_code vars q from here last) (sym (place-Elem v i pos))
     ∙ ap (λ q. ls ++ store_code vars (place_of q) from here last) (sym e)
+
+pub element_stored_at : (place p : VarAt) (words : ℕ) (fixed f : Option ℕ) (from : Reg) (pos : Pos) (index : ℕ → List Line) (here : ℕ) → place ≡ p → fixed ≡ f → element_store_at p words f from pos index here ≡ element_store_at place words fixed from pos index here
+element_stored_at place p words fixed f from pos index here e g =
+    ap (λ (q : VarAt). element_store_at q words f from pos index here) (sym e)
+    ∙ ap (λ (h : Option ℕ). element_store_at place words h from pos index here) (sym g)

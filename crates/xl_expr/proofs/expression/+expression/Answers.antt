@@ -12,9 +12,10 @@ use Rattle.xl_expr.specs.Code.{made_truth, codes, direct_of, direct_tail, elemen
 use Rattle.xl_expr.specs.Parts.{choice_code, kept_behind, short_behind}
 use Rattle.xc_kernel.specs.Meant.{operator_meant}
 use Rattle.xl_expr.specs.Operands.{operands_of}
+use Rattle.xl_expr.proofs.Evaluates.{some_nodes}
 use Rattle.xl_expr.proofs.Sizes.{longer}
-use Rattle.xl_expr.proofs.Denoted.{num_code, read_code, op_code, word_found, element_found, element_at, of_none, of_one, of_three, nodes_read, depth_read, nodes_op, depth_op, nodes_elem, nodes_first, nodes_two, nodes_three, depth_nth, two_operands, no_word, no_element, depth_elem}
-use Rattle.xl_expr.proofs.Emitted.{on_code, on_code_behind, second_direct, first_direct, none_direct, short_chained, kept_emitted, same_extends, behind_extends, on_err_behind, one_longer, two_longer, on_err, short_emitted, short_extends, short_length, past_open, over_open, length4, choice_emitted, choice_extends}
+use Rattle.xl_expr.proofs.Denoted.{nodes_some, num_code, read_code, op_code, word_found, element_found, element_at, of_none, of_one, of_three, nodes_read, depth_read, nodes_op, depth_op, nodes_elem, nodes_first, nodes_two, nodes_three, depth_nth, two_operands, no_word, no_element, depth_elem}
+use Rattle.xl_expr.proofs.Emitted.{short_open, on_code, on_code_behind, second_direct, first_direct, none_direct, short_chained, kept_emitted, same_extends, behind_extends, on_err_behind, one_longer, two_longer, on_err, short_emitted, short_extends, short_length, past_open, over_open, length4, choice_emitted, choice_extends}
 use Rattle.xl_expr.proofs.expression.+expression.Goals as goal
 
 pub emit_at-emit_place-requires : goal.emit_at-emit_place-requires
@@ -383,3 +384,18 @@ emit_two-returns-in_ok-emit_at-in-Either-clause-ok t c =
     let y = operand_of c.args.plan.now.vars (expression_of c.args.second.now) in
     on_code_behind _ _ _ _ _ _ (short_behind c.args.plan.now.vars (Brft R0 0) c.args.operation.pos (expression_of c.args.second.now) c.args.k) c.in_ok-emit_at-in-Either.ensures.ok
     (short_chained (Brft R0) c.args.operation.pos x.piece y.piece c.args.k (length c.args.e.now) c.args.last ∙ ap (λ (o : Operator). two_code (operator_meant o) c.args.operation.is_unsigned c.args.operation.pos x y c.args.k (length c.args.e.now) c.args.last) (sym c.in-Either.is)) c.emit_short-in-Either.ensures.ok
+
+pub emit_at-put_all-requires : goal.emit_at-put_all-requires
+emit_at-put_all-requires t c =
+    let n = some_nodes (expression_of c.args.x.now) in
+    omega (arith, n, c.requires.room)
+
+pub emit_place-put_word-requires : goal.emit_place-put_word-requires
+emit_place-put_word-requires t c =
+    let n = nodes_some c.args.place.now in
+    omega (arith, n, c.requires.room)
+
+pub emit_short-land-requires : goal.emit_short-land-requires
+emit_short-land-requires t c =
+    let b : ℕ → List Line = λ n. expression_code c.args.plan.now.vars (expression_of c.args.second.now) (c.args.k + 1) n c.args.pos in
+    short_open c.args.jump c.args.pos c.args.e.now c.hole.new.self c.emit_at.new.e b c.in_ok-skip.skip.index c.in_ok-skip.ensures.index c.in_ok-skip.ensures.ok c.in_ok-emit_at.ensures.ok
