@@ -20,7 +20,7 @@ use Rattle.xl_expr.specs.Code.{Piece, operation_code, codes, word_at_place, word
 use Rattle.xl_expr.specs.Measures.{nodes, nodes_of, nodes_at, depth, depth_of, depth_at}
 use Rattle.xl_expr.specs.Operands.{operands_of}
 use Rattle.xs_instr.specs.declared.instr.Reg.{Reg}
-use Rattle.xl_expr.specs.Stores.{store_code, word_store, element_store, element_store_at}
+use Rattle.xl_expr.specs.Stores.{store_code, word_store, word_write, element_store, element_store_at}
 use Rattle.xl_expr.proofs.StoreClause.{some_place}
 
 pub nodes_read : (x : Kx) (p : Place) → x ≡ E.Read p → nodes (expression_of x) ≡ nodes_at (place_of p)
@@ -172,3 +172,16 @@ pub element_stored_at : (place p : VarAt) (words : ℕ) (fixed f : Option ℕ) (
 element_stored_at place p words fixed f from pos index here e g =
     ap (λ (q : VarAt). element_store_at q words f from pos index here) (sym e)
     ∙ ap (λ (h : Option ℕ). element_store_at place words h from pos index here) (sym g)
+
+pub word_stored : (vars : List (Option VarPlan)) (p : Place) (v : ℕ) (from : Reg) (here : ℕ) (last : Pos) (r : Option VarPlan) (found : VarPlan) → p ≡ P.Word v → r ≡ Some found → r ≡ var_in vars v → at_pos last (word_write found.place from) ≡ store_code vars (place_of p) from here last
+word_stored vars p v from here last r found e f g =
+    ap (λ (o : Option VarPlan). word_store o from last) (sym f ∙ g)
+    ∙ ap (λ q. store_code vars q from here last) (sym (place-Word v))
+    ∙ ap (λ q. store_code vars (place_of q) from here last) (sym e)
+
+pub element_stored : (vars : List (Option VarPlan)) (p : Place) (v : ℕ) (i : Box Kx Global) (pos : Pos) (x : Kx) (from : Reg) (here : ℕ) (last : Pos) (r : Option VarPlan) (found : VarPlan) → p ≡ P.Elem v i pos → x ≡ i.value → r ≡ Some found → r ≡ var_in vars v → element_store (Some found) (expression_of x) from pos (λ n. expression_code vars (expression_of x) 1 n pos) here ≡ store_code vars (place_of p) from here last
+element_stored vars p v i pos x from here last r found e h f g =
+    ap (λ (y : Kx). element_store (Some found) (expression_of y) from pos (λ n. expression_code vars (expression_of y) 1 n pos) here) h
+    ∙ ap (λ (o : Option VarPlan). element_store o (expression_of i.value) from pos (λ n. expression_code vars (expression_of i.value) 1 n pos) here) (sym f ∙ g)
+    ∙ ap (λ q. store_code vars q from here last) (sym (place-Elem v i pos))
+    ∙ ap (λ q. store_code vars (place_of q) from here last) (sym e)

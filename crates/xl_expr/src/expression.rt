@@ -77,7 +77,6 @@ fn put_move(e: &mut Emitter, to: Reg, pos: Pos) -> Result<(), Memory>
 /// The code that gives an expression's word in r0; the thread's temporary words from number `k` on serve it. An instruction
 /// without a place of its own has the place `last`.
 #[cycle(expression)]
-#[tactic(auto, using(xc_kernel::proofs::Forms::forms))]
 pub fn emit_at(e: &mut Emitter, plan: &Plan, x: &Kx, k: u32, last: Pos) -> Result<(), Memory>
     requires room { length e.old + 8 * nodes (expression_of x.now) < 2 ^ 32 }
     requires deep { k + depth (expression_of x.now) < 2 ^ 32 }
@@ -101,7 +100,6 @@ pub fn emit_at(e: &mut Emitter, plan: &Plan, x: &Kx, k: u32, last: Pos) -> Resul
 
 /// The code that reads a place.
 #[cycle(expression)]
-#[tactic(auto, using(xc_kernel::proofs::Forms::forms))]
 fn emit_place(e: &mut Emitter, plan: &Plan, place: &Place, k: u32, last: Pos) -> Result<(), Memory>
     requires room { length e.old + 8 * nodes_at (place_of place.now) < 2 ^ 32 }
     requires deep { k + depth_at (place_of place.now) < 2 ^ 32 }

@@ -37,7 +37,6 @@ pub fn emit_store(e: &mut Emitter, plan: &Plan, dst: &Place, from: Reg) -> Resul
     Ok(())
 }
 
-#[tactic(auto, using(xc_kernel::proofs::Forms::forms))]
 fn emit_write(e: &mut Emitter, plan: &Plan, dst: &Place, from: Reg, last: Pos) -> Result<(), Memory>
     requires room { length e.old + 8 * nodes_at (place_of dst.now) < 2 ^ 32 }
     requires shallow { depth_at (place_of dst.now) ≤ 400 }
