@@ -3,6 +3,7 @@ pub mod Holders
 pub mod Joins
 pub mod Steps
 pub mod Unnamed
+pub mod Givens
 pub mod Nodes
 pub mod Talks
 pub mod Firsts

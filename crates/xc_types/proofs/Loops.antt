@@ -26,7 +26,7 @@ abbrev declared_by : Declared → Decl
 declared_by x = record { name = (declaration_of x).name; what = marks.what_of (declaration_of x).kind }
 
 -- behind the first of some parts, where the others have these marks and, by how many names there are, these sites
-behind : (s t : Findings) (first others : List Mark) (here : List Site) (there : ℕ → List Site) → t ≡ saw s first here → saw s (first ++ others) (here ++ there (past s.names first)) ≡ saw t others (there t.names)
+pub behind : (s t : Findings) (first others : List Mark) (here : List Site) (there : ℕ → List Site) → t ≡ saw s first here → saw s (first ++ others) (here ++ there (past s.names first)) ≡ saw t others (there t.names)
 behind s t first others here there e =
     saw_join s first others here (there (past s.names first))
     ∙ ap (λ (z : Findings). saw z others (there (past s.names first))) (sym e)

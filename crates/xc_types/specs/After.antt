@@ -1,5 +1,5 @@
 -- What a walk has found behind a part of a program, as the code has the part: all that its marks and its sites say.
-use Rattle.std.specs.Prelude.{Bool, true, List, Option, map, option_map}
+use Rattle.std.specs.Prelude.{ℕ, Bool, true, List, ◌∷◌, Option, map, option_map}
 use Rattle.std.specs.declared.boxed.Box.{Box}
 use Rattle.std.specs.declared.alloc.Global.{Global}
 use Rattle.xw_words.specs.declared.pos.Pos.{Pos}
@@ -26,6 +26,7 @@ use Rattle.xc_tree.specs.Plain as plain
 use Rattle.xc_tree.specs.Trees as tree
 use Rattle.xc_tree.specs.Types.Named.{named_of}
 use Rattle.xc_tree.specs.Types.Sites as sites
+use Rattle.xc_tree.specs.Types.Words.{form_is_unsigned, gives_unsigned, is_unsigned}
 use Rattle.xc_types.specs.declared.around.Around.{Around}
 use Rattle.xc_types.specs.declared.findings.Findings.{Findings}
 use Rattle.xc_types.specs.Around.{around_of}
@@ -35,6 +36,20 @@ abbrev pub expression : Named → Expr → Findings → Findings
 expression named e f =
     saw f (marks.of_expression (tree.expression_of e))
     (sites.of_expression (named_of named) f.names (tree.expression_of e))
+
+-- an operator before its operand
+abbrev pub unary : Named → ℕ → Expr → Findings → Findings
+unary named symbol operand f =
+    saw f (marks.of_expression (tree.expression_of operand))
+    (sites.node (form_is_unsigned (named_of named) f.names (plain.unary symbol (tree.expression_of operand)))
+    ∷ sites.of_expression (named_of named) f.names (tree.expression_of operand))
+
+-- an operator and its right operand, behind a left one that is `unsigned` or not as this says
+abbrev pub right_operand : Named → ℕ → Bool → Expr → Findings → Findings
+right_operand named symbol left right f =
+    saw f (marks.of_expression (tree.expression_of right))
+    (sites.node (gives_unsigned symbol left (is_unsigned (named_of named) f.names (tree.expression_of right)))
+    ∷ sites.of_expression (named_of named) f.names (tree.expression_of right))
 
 abbrev pub lval : Named → Expr → Findings → Findings
 lval named e f =

@@ -66,7 +66,11 @@ with_call around meant number j r p s =
     (with_broken (not (has_number_of meant number)) 405 p
     (with_broken (not (is_some meant)) 404 p s)))))
 
+-- what is said of these arguments too, by what was found before them
+abbrev pub judged_further : Named → List Param → List Arg → Findings → Judged → Judged
+judged_further named params args f j =
+    judged j (calls.arguments (named_of named) f.names params (map argument_of args))
+
 -- what is said of these arguments, by what was found before them
 abbrev pub judged_arguments : Named → List Param → List Arg → Findings → Judged
-judged_arguments named params args f =
-    judged judged_nothing (calls.arguments (named_of named) f.names params (map argument_of args))
+judged_arguments named params args f = judged_further named params args f judged_nothing

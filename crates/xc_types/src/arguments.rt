@@ -3,13 +3,13 @@ ghost use Rattle.std.specs.Option.{option_copied};
 ghost use Rattle.std.specs.Prelude.{◌≡◌};
 ghost use Rattle.xc_tree.specs.Names.Marks as marks;
 ghost use Rattle.xc_tree.specs.Types.Calls as call;
-ghost use Rattle.xc_types.specs.Given.{argument, given, variable_at};
+ghost use Rattle.xc_types.specs.Given.{argument, element_given as element_of, given, name_given as name_of, variable_at};
 
 use crate::entities::{
     declaration_of, is_array_of, is_channel, is_channel_of, is_port_of, is_variable, is_word_of,
     length_does, length_of, what_of,
 };
-use xc_tree::{Ex, Expr, Named, ParamKind, TreeDir};
+use xc_tree::{Ex, Expr, Named, ParamKind, TreeDir, What};
 use xw_words::Pos;
 
 /// Whether an argument, before which the text has k names, fits its parameter, where it has one.
@@ -38,83 +38,62 @@ fn number_of(length: &Option<(u32, Pos)>) -> Option<u32>
     }
 }
 
-#[tactic(auto, using(crate::proofs::Steps::steps))]
+/// What the name means that is given by itself, before which the text has k names.
+fn name_given<'a>(named: &'a Named, k: usize, e: &Expr) -> Option<&'a What>
+    ensures { option_copied result ≡ name_of (given named.now k e.now) }
+{
+    match &e.kind {
+        Ex::Name(_) => what_of(named, k),
+        _ => None,
+    }
+}
+
+/// What the name means of which an element is given, before which the text has k names.
+fn element_given<'a>(named: &'a Named, k: usize, e: &Expr) -> Option<&'a What>
+    ensures { option_copied result ≡ element_of (given named.now k e.now) }
+{
+    match &e.kind {
+        Ex::Index(_, _) => what_of(named, k),
+        _ => None,
+    }
+}
+
+#[tactic(auto, using(crate::proofs::Givens::fitting))]
 fn fits_reference(named: &Named, k: usize, is_unsigned: bool, e: &Expr) -> bool
     ensures { result ≡ call.fits_reference is_unsigned (given named.now k e.now) }
 {
-    match &e.kind {
-        Ex::Name(_) => is_word_of(is_unsigned, what_of(named, k)),
-        Ex::Index(_, _) => is_array_of(is_unsigned, what_of(named, k)),
-        Ex::Num(_, _) => false,
-        Ex::Un(_, _) => false,
-        Ex::Bin(_, _, _) => false,
-        Ex::Cond(_, _, _) => false,
-        Ex::Cast(_, _) => false,
-    }
+    is_word_of(is_unsigned, name_given(named, k, e))
+        || is_array_of(is_unsigned, element_given(named, k, e))
 }
 
-#[tactic(auto, using(crate::proofs::Steps::steps))]
+#[tactic(auto, using(crate::proofs::Givens::fitting))]
 fn fits_array(named: &Named, k: usize, is_unsigned: bool, length: Option<u32>, e: &Expr) -> bool
     ensures { result ≡ call.fits_array is_unsigned length (given named.now k e.now) }
 {
-    match &e.kind {
-        Ex::Name(_) => {
-            let what = what_of(named, k);
-            is_array_of(is_unsigned, what) && length_does(length, length_of(what))
-        }
-        Ex::Index(_, _) => false,
-        Ex::Num(_, _) => false,
-        Ex::Un(_, _) => false,
-        Ex::Bin(_, _, _) => false,
-        Ex::Cond(_, _, _) => false,
-        Ex::Cast(_, _) => false,
-    }
+    let what = name_given(named, k, e);
+    is_array_of(is_unsigned, what) && length_does(length, length_of(what))
 }
 
-#[tactic(auto, using(crate::proofs::Steps::steps))]
+#[tactic(auto, using(crate::proofs::Givens::fitting))]
 fn fits_end(named: &Named, k: usize, is_streaming: bool, e: &Expr) -> bool
     ensures { result ≡ call.fits_end is_streaming (given named.now k e.now) }
 {
-    match &e.kind {
-        Ex::Name(_) => is_channel_of(is_streaming, what_of(named, k)),
-        Ex::Index(_, _) => false,
-        Ex::Num(_, _) => false,
-        Ex::Un(_, _) => false,
-        Ex::Bin(_, _, _) => false,
-        Ex::Cond(_, _, _) => false,
-        Ex::Cast(_, _) => false,
-    }
+    is_channel_of(is_streaming, name_given(named, k, e))
 }
 
-#[tactic(auto, using(crate::proofs::Steps::steps))]
+#[tactic(auto, using(crate::proofs::Givens::fitting))]
 fn fits_port(named: &Named, k: usize, dir: TreeDir, e: &Expr) -> bool
     ensures { result ≡ call.fits_port dir (given named.now k e.now) }
 {
-    match &e.kind {
-        Ex::Name(_) => is_port_of(dir, what_of(named, k)),
-        Ex::Index(_, _) => false,
-        Ex::Num(_, _) => false,
-        Ex::Un(_, _) => false,
-        Ex::Bin(_, _, _) => false,
-        Ex::Cond(_, _, _) => false,
-        Ex::Cast(_, _) => false,
-    }
+    is_port_of(dir, name_given(named, k, e))
 }
 
 /// Whether an argument, before which the text has k names, is a channel.
-#[tactic(auto, using(crate::proofs::Steps::steps))]
+#[tactic(auto, using(crate::proofs::Givens::fitting))]
 pub fn is_channel_given(named: &Named, k: usize, e: &Expr) -> bool
     ensures { result ≡ call.is_channel_given (given named.now k e.now) }
 {
-    match &e.kind {
-        Ex::Name(_) => is_channel(what_of(named, k)),
-        Ex::Index(_, _) => false,
-        Ex::Num(_, _) => false,
-        Ex::Un(_, _) => false,
-        Ex::Bin(_, _, _) => false,
-        Ex::Cond(_, _, _) => false,
-        Ex::Cast(_, _) => false,
-    }
+    is_channel(name_given(named, k, e))
 }
 
 /// The variable that a call may change through an argument: for an `&` or array parameter the one that is given by itself or

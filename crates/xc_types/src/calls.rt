@@ -4,7 +4,7 @@ ghost use Rattle.xc_tree.specs.Types.Named.{function_of as function, named_of};
 ghost use Rattle.xc_tree.specs.Types.Rules as rule;
 ghost use Rattle.xc_tree.specs.Types.Sites as sites;
 ghost use Rattle.xc_types.specs.Around.{around_of, is_in_transaction};
-ghost use Rattle.xc_types.specs.Judged.{has_number_of, judged_arguments, kind_of, with_call};
+ghost use Rattle.xc_types.specs.Judged.{has_number_of, judged_arguments, judged_further, kind_of, with_call};
 ghost use Rattle.xc_types.specs.After as after;
 ghost use Rattle.xc_types.specs.Given.{head};
 
@@ -146,7 +146,6 @@ fn gives_word(called: Option<&FuncItem>) -> bool
 }
 
 /// Checks the arguments of a call, and says what is to be said of them together.
-#[tactic(auto, using(crate::proofs::Judging::passing))]
 fn arguments(
     found: &mut Findings,
     named: &Named,
@@ -159,12 +158,30 @@ fn arguments(
         (λ j. j ≡ judged_arguments named.now params.now args.now found.old) }
 {
     let mut judged = Judged::new(found.alloc);
+    judge_each(found, named, params, args, &mut judged)?;
+    Ok(judged)
+}
+
+/// Checks the arguments of a call, one behind the other, and judges each.
+#[tactic(auto, using(crate::proofs::Judging::passing))]
+fn judge_each(
+    found: &mut Findings,
+    named: &Named,
+    params: &[Param],
+    args: &[Arg],
+    judged: &mut Judged,
+) -> Result<(), Memory>
+    ensures found { OnOk result
+        (found.new ≡ after.arguments named.now params.now args.now found.old) }
+    ensures judged { OnOk result
+        (judged.new ≡ judged_further named.now params.now args.now found.old judged.old) }
+{
     for (i, arg) in args.iter().enumerate() {
         let parameter = parameter_at(params, i);
         judged.judge(named, found.names.count(), parameter, arg)?;
         argument(found, named, parameter, &arg.value)?;
     }
-    Ok(judged)
+    Ok(())
 }
 
 /// What the parameter at a place is, if there is one.

@@ -10,7 +10,7 @@ use crate::findings::Findings;
 use crate::program::program;
 use std::alloc::Global;
 use xc_tree::{Named, Refusal, Typed};
-use xw_words::Memory;
+use xw_words::{List, Memory};
 
 /// Why a program has no types.
 pub type TypeErr = Refusal;
@@ -26,13 +26,20 @@ pub fn check(alloc: Global, named: Named) -> Result<Typed, TypeErr>
     ensures unbroken { IfOk result (λ typed. (b : Broken) → Breaks (named_of named) b → ⊥) }
     ensures broken { IfErr result (λ e. IfBroken e (IsFirst (Breaks (named_of named)))) }
 {
-    let Findings { types, best, .. } = findings_of(alloc, &named)?;
+    let unsigned_at = unsigned_of(alloc, &named)?;
+    Ok(Typed { named, unsigned_at })
+}
+
+/// The types of the expressions, where no rule is broken, or else the first that is.
+fn unsigned_of(alloc: Global, named: &Named) -> Result<List<bool>, TypeErr>
+    ensures types { IfOk result (λ types. types ≡ unsigned_at (named_of named.now)) }
+    ensures unbroken { IfOk result (λ types. (b : Broken) → Breaks (named_of named.now) b → ⊥) }
+    ensures broken { IfErr result (λ e. IfBroken e (IsFirst (Breaks (named_of named.now)))) }
+{
+    let Findings { types, best, .. } = findings_of(alloc, named)?;
     match best {
         Some(broken) => Err(TypeErr::Broken(broken)),
-        None => Ok(Typed {
-            named,
-            unsigned_at: types,
-        }),
+        None => Ok(types),
     }
 }
 

@@ -1,8 +1,9 @@
-ghost use Rattle.std.specs.Prelude.{◌≡◌, ◌||◌, IfOk, OnOk};
+ghost use Rattle.std.specs.Prelude.{◌≡◌, ◌||◌, false, length, IfOk, OnOk};
+ghost use Rattle.xc_tree.specs.Plain as plain;
 ghost use Rattle.xc_tree.specs.Trees.{expression_of};
 ghost use Rattle.xc_tree.specs.Types.Named.{named_of};
-ghost use Rattle.xc_tree.specs.Types.Words.{gives_unsigned as gives, is_unsigned};
-ghost use Rattle.xc_types.specs.Findings.{after_indexed, after_word, next_has_unsigned, next_is_unsigned};
+ghost use Rattle.xc_tree.specs.Types.Words.{form_is_unsigned, gives_unsigned as gives, is_unsigned};
+ghost use Rattle.xc_types.specs.Findings.{after_indexed, after_word, next_has_unsigned, next_is_unsigned, with_type};
 ghost use Rattle.xc_types.specs.After as after;
 
 use crate::entities::{elements_are_unsigned, is_array, is_word, what_of, word_is_unsigned};
@@ -69,38 +70,102 @@ pub fn expression(found: &mut Findings, named: &Named, e: &Expr) -> Result<bool,
             Ok(*is_unsigned)
         }
         Ex::Name(_) => word(found, named, e.pos),
-        Ex::Index(_, index) => {
-            let is_unsigned = indexed(found, named, e.pos)?;
-            expression(found, named, index)?;
-            Ok(is_unsigned)
-        }
-        Ex::Un(symbol, operand) => {
-            let node = found.add_type(false)?;
-            let is_unsigned = gives_unsigned(*symbol, expression(found, named, operand)?, false);
-            found.set_type(node, is_unsigned);
-            Ok(is_unsigned)
-        }
+        Ex::Index(_, index) => element(found, named, index, e.pos),
+        Ex::Un(symbol, operand) => unary(found, named, *symbol, operand),
         Ex::Bin(symbol, left, right) => {
             let first = expression(found, named, left)?;
-            let node = found.add_type(false)?;
-            let second = expression(found, named, right)?;
-            let is_unsigned = gives_unsigned(*symbol, first, second);
-            found.set_type(node, is_unsigned);
-            Ok(is_unsigned)
+            right_operand(found, named, *symbol, first, right)
         }
         Ex::Cond(test, first, second) => {
-            expression(found, named, test)?;
-            let node = found.add_type(false)?;
+            let node = condition(found, named, test)?;
             let first = expression(found, named, first)?;
             let second = expression(found, named, second)?;
             let is_unsigned = either(first, second);
             found.set_type(node, is_unsigned);
             Ok(is_unsigned)
         }
-        Ex::Cast(is_unsigned, operand) => {
-            found.add_type(*is_unsigned)?;
-            expression(found, named, operand)?;
-            Ok(*is_unsigned)
-        }
+        Ex::Cast(is_unsigned, operand) => cast(found, named, *is_unsigned, operand),
     }
+}
+
+/// Checks an element of an array, whose name stands at this place, and says whether it is `unsigned`.
+#[cycle(expression)]
+#[tactic(auto, using(crate::proofs::Steps::expression_steps))]
+fn element(found: &mut Findings, named: &Named, index: &Expr, pos: Pos) -> Result<bool, Memory>
+    ensures found { OnOk result (found.new
+        ≡ after.expression named.now index.now (after_indexed (named_of named.now) pos found.old)) }
+    ensures is_unsigned { IfOk result (λ u. u ≡ next_has_unsigned (named_of named.now) found.old) }
+{
+    let is_unsigned = indexed(found, named, pos)?;
+    expression(found, named, index)?;
+    Ok(is_unsigned)
+}
+
+/// Checks an expression behind `(unsigned)` or `(int)`, and says which it was.
+#[cycle(expression)]
+#[tactic(auto, using(crate::proofs::Steps::expression_steps))]
+fn cast(
+    found: &mut Findings,
+    named: &Named,
+    becomes_unsigned: bool,
+    operand: &Expr,
+) -> Result<bool, Memory>
+    ensures found { OnOk result (found.new
+        ≡ after.expression named.now operand.now (with_type becomes_unsigned found.old)) }
+    ensures is_unsigned { IfOk result (λ u. u ≡ becomes_unsigned) }
+{
+    found.add_type(becomes_unsigned)?;
+    expression(found, named, operand)?;
+    Ok(becomes_unsigned)
+}
+
+/// Checks an operator before its operand, and says whether it gives an `unsigned`.
+#[cycle(expression)]
+#[tactic(auto, using(crate::proofs::Steps::expression_steps))]
+fn unary(found: &mut Findings, named: &Named, symbol: u8, operand: &Expr) -> Result<bool, Memory>
+    ensures found { OnOk result
+        (found.new ≡ after.unary named.now symbol operand.now found.old) }
+    ensures is_unsigned { IfOk result (λ u. u ≡ form_is_unsigned (named_of named.now)
+        found.old.names (plain.unary symbol (expression_of operand.now))) }
+{
+    let node = found.add_type(false)?;
+    let inside = expression(found, named, operand)?;
+    let is_unsigned = gives_unsigned(symbol, inside, false);
+    found.set_type(node, is_unsigned);
+    Ok(is_unsigned)
+}
+
+/// Checks an operator and its right operand, behind the left one, and says whether it gives an `unsigned`.
+#[cycle(expression)]
+#[tactic(auto, using(crate::proofs::Steps::expression_steps))]
+fn right_operand(
+    found: &mut Findings,
+    named: &Named,
+    symbol: u8,
+    first: bool,
+    right: &Expr,
+) -> Result<bool, Memory>
+    ensures found { OnOk result
+        (found.new ≡ after.right_operand named.now symbol first right.now found.old) }
+    ensures is_unsigned { IfOk result (λ u. u ≡ gives symbol first
+        (is_unsigned (named_of named.now) found.old.names (expression_of right.now))) }
+{
+    let node = found.add_type(false)?;
+    let second = expression(found, named, right)?;
+    let is_unsigned = gives_unsigned(symbol, first, second);
+    found.set_type(node, is_unsigned);
+    Ok(is_unsigned)
+}
+
+/// Checks what stands before a `?`, and gives the place of that node, whose type isn't known yet.
+#[cycle(expression)]
+#[tactic(auto, using(crate::proofs::Steps::expression_steps))]
+fn condition(found: &mut Findings, named: &Named, test: &Expr) -> Result<usize, Memory>
+    ensures found { OnOk result
+        (found.new ≡ with_type false (after.expression named.now test.now found.old)) }
+    ensures place { IfOk result
+        (λ place. place ≡ length (after.expression named.now test.now found.old).types) }
+{
+    expression(found, named, test)?;
+    found.add_type(false)
 }

@@ -6,7 +6,7 @@ use Rattle.xc_tree.specs.Types.Named.{named_of}
 use Rattle.xc_types.specs.Around.{around_of}
 use Rattle.xc_types.specs.Findings.{with_broken}
 use Rattle.xc_types.proofs.Holders.{around-Inside}
-use Rattle.xc_types.proofs.Shaping.{channels_grow, whole_transaction}
+use Rattle.xc_types.proofs.Shaping.{channels_grow, statement_steps, whole_transaction}
 use Rattle.xc_types.proofs.statements.+statement.Goals as goal
 
 pub transaction-names_one_channel-names_one-requires : goal.transaction-names_one_channel-names_one-requires
@@ -26,3 +26,54 @@ transaction-returns t c =
     ∙ whole_transaction (named_of c.args.named.now) c.args.found.now around _ ss c.args.pos c.breaks_where.new.self found (around-Inside _ _)
     (c.breaks_where.ensures ∙ ap (λ (b : Bool). with_broken b 506 c.args.pos c.args.found.now) c.in_transaction.ensures)
     c.in_ok-statements.ensures
+
+pub statement-returns-in-Empty : goal.statement-returns-in-Empty
+statement-returns-in-Empty t c = grind (arith, statement_steps)
+
+pub statement-returns-in-Block : goal.statement-returns-in-Block
+statement-returns-in-Block t c = grind (arith, statement_steps)
+
+pub statement-returns-in-Decl : goal.statement-returns-in-Decl
+statement-returns-in-Decl t c = grind (arith, statement_steps)
+
+pub statement-returns-in_ok-lval-in-Assign : goal.statement-returns-in_ok-lval-in-Assign
+statement-returns-in_ok-lval-in-Assign t c = grind (arith, statement_steps)
+
+pub statement-returns-in-Step : goal.statement-returns-in-Step
+statement-returns-in-Step t c = grind (arith, statement_steps)
+
+pub statement-returns-in-Do : goal.statement-returns-in-Do
+statement-returns-in-Do t c = grind (arith, statement_steps)
+
+pub statement-returns-in-Output : goal.statement-returns-in-Output
+statement-returns-in-Output t c = grind (arith, statement_steps)
+
+pub statement-returns-in-Input : goal.statement-returns-in-Input
+statement-returns-in-Input t c = grind (arith, statement_steps)
+
+pub statement-returns-in_ok-statement-in-If : goal.statement-returns-in_ok-statement-in-If
+statement-returns-in_ok-statement-in-If t c = grind (arith, statement_steps)
+
+pub statement-returns-in_ok-part-in-While : goal.statement-returns-in_ok-part-in-While
+statement-returns-in_ok-part-in-While t c = grind (arith, statement_steps)
+
+pub statement-returns-in_ok-statement-in-DoWhile : goal.statement-returns-in_ok-statement-in-DoWhile
+statement-returns-in_ok-statement-in-DoWhile t c = grind (arith, statement_steps)
+
+pub statement-returns-in-Return : goal.statement-returns-in-Return
+statement-returns-in-Return t c = grind (arith, statement_steps)
+
+pub statement-returns-in-Break : goal.statement-returns-in-Break
+statement-returns-in-Break t c = grind (arith, statement_steps)
+
+pub statement-returns-in-Continue : goal.statement-returns-in-Continue
+statement-returns-in-Continue t c = grind (arith, statement_steps)
+
+pub statement-returns-in-Par : goal.statement-returns-in-Par
+statement-returns-in-Par t c = grind (arith, statement_steps)
+
+pub statement-returns-in_ok-begin_replicated-in-Repl : goal.statement-returns-in_ok-begin_replicated-in-Repl
+statement-returns-in_ok-begin_replicated-in-Repl t c = grind (arith, statement_steps)
+
+pub statement-returns-in-Select : goal.statement-returns-in-Select
+statement-returns-in-Select t c = grind (arith, statement_steps)
