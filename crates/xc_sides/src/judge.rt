@@ -29,11 +29,7 @@ pub fn first_without_sides(alloc: Global, kernel: &Kernel) -> Result<Option<Brok
 }
 
 /// The same by the table of the roots, as the branches of one `par`, which is begun.
-fn by_roots(
-    alloc: Global,
-    par: &mut ParTable,
-    kernel: &Kernel,
-) -> Result<Option<Broken>, Memory>
+fn by_roots(alloc: Global, par: &mut ParTable, kernel: &Kernel) -> Result<Option<Broken>, Memory>
     requires { shares_in par.now ≡ no_shares }
     ensures { IfOk result (λ first. IsLeastOf (WithoutSides (kernel_of kernel.now)) first) }
 {

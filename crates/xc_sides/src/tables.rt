@@ -90,12 +90,7 @@ impl ParTable {
     }
 
     /// Goes on to one more branch, whose table takes the place of the largest.
-    fn add_larger(
-        &mut self,
-        alloc: Global,
-        branch: &mut UseTable,
-        pos: Pos,
-    ) -> Result<(), Memory>
+    fn add_larger(&mut self, alloc: Global, branch: &mut UseTable, pos: Pos) -> Result<(), Memory>
         ensures { OnOk result
             (shares_in self.new ≡ all_with pos (shares_in self.old) (uses_in branch.old)) }
     {
