@@ -182,6 +182,8 @@ emit_choice-returns-clause-ok t c =
     let d : ℕ → List Line = λ n. expression_code c.args.plan.now.vars (expression_of c.args.third.now) (c.args.k + 1) n c.args.pos in
     choice_emitted c.args.pos c.args.e.now c.hole.new.self c.emit_at.new.e c.hole-2.new.self c.land.new.self b c.in_ok-past.past.index c.in_ok-over.over.index c.in_ok-past.ensures.index c.in_ok-over.ensures.index c.in_ok-past.ensures.ok c.in_ok-emit_at.ensures.ok c.in_ok-over.ensures.ok c.land.ensures c.emit_at-2.new.e d c.in_ok-emit_at-2.ensures.ok c.land-2.new.self c.land-2.ensures
 
+-- where memory is wanting, what was held stands in front
+
 pub emit_at-returns-in-Num-clause-refused : goal.emit_at-returns-in-Num-clause-refused
 emit_at-returns-in-Num-clause-refused t c = c.put_all.ensures.refused
 
@@ -293,6 +295,8 @@ emit_two-returns-in_err-emit_at-in-Either-clause-refused t c = on_err _ _ c.in_e
 pub emit_two-returns-in_ok-emit_at-in-Either-clause-refused : goal.emit_two-returns-in_ok-emit_at-in-Either-clause-refused
 emit_two-returns-in_ok-emit_at-in-Either-clause-refused t c = on_err_behind _ _ _ _ _ c.in_ok-emit_at-in-Either.ensures.ok c.emit_short-in-Either.ensures.refused
 
+-- the code of each way
+
 pub emit_at-returns-in-Num-clause-ok : goal.emit_at-returns-in-Num-clause-ok
 emit_at-returns-in-Num-clause-ok t c =
     on_code _ _ _ _ _ (num_code c.args.plan.now.vars c.args.k (length c.args.e.now) c.args.last c.args.x.now c.in-Num.value c.in-Num.is) c.put_all.ensures.ok
@@ -384,6 +388,8 @@ emit_two-returns-in_ok-emit_at-in-Either-clause-ok t c =
     let y = operand_of c.args.plan.now.vars (expression_of c.args.second.now) in
     on_code_behind _ _ _ _ _ _ (short_behind c.args.plan.now.vars (Brft R0 0) c.args.operation.pos (expression_of c.args.second.now) c.args.k) c.in_ok-emit_at-in-Either.ensures.ok
     (short_chained (Brft R0) c.args.operation.pos x.piece y.piece c.args.k (length c.args.e.now) c.args.last ∙ ap (λ (o : Operator). two_code (operator_meant o) c.args.operation.is_unsigned c.args.operation.pos x y c.args.k (length c.args.e.now) c.args.last) (sym c.in-Either.is)) c.emit_short-in-Either.ensures.ok
+
+-- room, and a target that is open
 
 pub emit_at-put_all-requires : goal.emit_at-put_all-requires
 emit_at-put_all-requires t c =
