@@ -3,6 +3,7 @@ use Rattle.std.proofs.Common.{◌≡◌, ℕ, ◌≤◌, List, [], ◌∷◌, �
 use Rattle.xw_words.specs.declared.pos.Pos.{Pos}
 use Rattle.xc_kernel.specs.Plain as kernel
 use Rattle.xs_instr.specs.Adds.{Adds}
+use Rattle.xs_instr.specs.Extends.{Extends}
 use Rattle.xs_instr.specs.declared.instr.Instr.TheVariants.{Ssync}
 use Rattle.xs_instr.specs.Lines.{Line, last_pos, line}
 use Rattle.xl_expr.specs.declared.plan.Plan.{Plan}
@@ -13,6 +14,7 @@ use Rattle.xl_walk.specs.declared.walk.Leaving.{Leaving}
 use Rattle.xl_walk.specs.Cells.{Cell}
 use Rattle.xl_walk.specs.Emits.{AreLines, Coded, Emits, Emitted, Slave}
 use Rattle.xl_walk.proofs.Parts.{emitted_as, piece_emitted}
+use Rattle.xl_walk.proofs.Seams.{extends_on}
 use Rattle.xl_walk.proofs.Slaves.{slave_emitted}
 
 pub on_ok : {A B : Type 0} (r : Result A B) (P : Type 0) → P → OnOk r P
@@ -22,6 +24,11 @@ on_ok (Err x) P h = tt
 pub on_err : {A B : Type 0} (r : Result A B) (P : Type 0) → P → OnErr r P
 on_err (Ok x) P h = tt
 on_err (Err x) P h = h
+
+-- further lines behind further lines, where it is an error
+pub on_err_on : {A B : Type 0} (r : Result A B) (old held new : List Line) → Extends old held → OnErr r (Extends held new) → OnErr r (Extends old new)
+on_err_on (Ok x) old held new h g = tt
+on_err_on (Err x) old held new h g = extends_on old held new h g
 
 pub piece_emits : {A B : Type 0} (r : Result A B) (plan : Plan) (sides : Sides) (s s' : kernel.Statement) (P : ℕ → List Line → Type 0) (old new : List Line) (left : List Leaving) → s ≡ s' → ((last : Pos) (pc : ℕ) (cells : List Cell) → AreLines P last pc cells → Emits plan sides s' last pc cells) → OnOk r (Adds old new (P (length old))) → OnOk r (Adds old new (AreAimed (length old))) → OnOk r (Emitted (Emits plan sides s) old new left left)
 piece_emits (Ok x) plan sides s s' P old new left is f h g = subst (λ t. Emitted (Emits plan sides t) old new left left) (sym is) (emitted_as (AreLines P) (Emits plan sides s') old new left left f (piece_emitted P old new left h g))

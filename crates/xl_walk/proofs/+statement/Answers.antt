@@ -19,7 +19,7 @@ use Rattle.xl_walk.specs.Branches.{SlavesEmitIn}
 use Rattle.xl_walk.specs.Built.{BranchesAreBuilt, BranchesAreShallow, HasFewBranches, IsBuilt, IsShallow, ParsInBranchesAreFew, branches_of, most, most_of_all, most_of_branches, statements_of}
 use Rattle.xl_walk.specs.Emits.{AllEmit, Branching, Emitted, ParEmits, SeveralBranches, TwoSides}
 use Rattle.xl_walk.specs.Landing.{Lands, others_leaving}
-use Rattle.xl_walk.proofs.Arms.{ok_as, ok_within, on_err, piece_emits, slave_ends, transfer_emits}
+use Rattle.xl_walk.proofs.Arms.{ok_as, ok_within, on_err, on_err_on, piece_emits, slave_ends, transfer_emits}
 use Rattle.xl_walk.proofs.Blocks.{block_emitted, block_extends, block_open, block_size}
 use Rattle.xl_walk.proofs.Seams.{extends_by, extends_on}
 use Rattle.xl_walk.proofs.Sides.{branch_two, extends_4, length_4, one_open, one_side_emitted, over_open, past_open, sides_emitted}
@@ -421,3 +421,92 @@ par::emit_slaves-returns-clause-code t c =
 
 pub par::emit_slaves-returns-clause-size : goal.par::emit_slaves-returns-clause-size
 par::emit_slaves-returns-clause-size t c = let room = c.loop-index.invariant.room in omega (arith, room)
+
+-- where memory is wanting, what was held stands in front
+
+pub walk::emit_one_side-returns-in_err-past-clause-refused : goal.walk::emit_one_side-returns-in_err-past-clause-refused
+walk::emit_one_side-returns-in_err-past-clause-refused t c = on_err _ _ c.in_err-past.ensures.refused
+
+pub walk::emit_one_side-returns-in_err-emit_all-clause-refused : goal.walk::emit_one_side-returns-in_err-emit_all-clause-refused
+walk::emit_one_side-returns-in_err-emit_all-clause-refused t c = on_err _ _ (extends_on _ _ _ (extends_by _ _ _ c.in_ok-past.ensures.tests.is) c.in_err-emit_all.ensures.refused)
+
+pub walk::emit_two_sides-returns-in_err-past-clause-refused : goal.walk::emit_two_sides-returns-in_err-past-clause-refused
+walk::emit_two_sides-returns-in_err-past-clause-refused t c = on_err _ _ c.in_err-past.ensures.refused
+
+pub walk::emit_two_sides-returns-in_err-emit_all-clause-refused : goal.walk::emit_two_sides-returns-in_err-emit_all-clause-refused
+walk::emit_two_sides-returns-in_err-emit_all-clause-refused t c = on_err _ _ (extends_on _ _ _ (extends_by _ _ _ c.in_ok-past.ensures.tests.is) c.in_err-emit_all.ensures.refused)
+
+pub walk::emit_two_sides-returns-in_err-over-clause-refused : goal.walk::emit_two_sides-returns-in_err-over-clause-refused
+walk::emit_two_sides-returns-in_err-over-clause-refused t c = on_err _ _ (extends_on _ _ _ (extends_by _ _ _ c.in_ok-past.ensures.tests.is) (extends_on _ _ _ (extends_by _ _ _ c.in_ok-emit_all.ensures.code.lines) c.in_err-over.ensures.refused))
+
+pub walk::emit_loop-returns-in_err-out-clause-refused : goal.walk::emit_loop-returns-in_err-out-clause-refused
+walk::emit_loop-returns-in_err-out-clause-refused t c = on_err _ _ c.in_err-out.ensures.refused
+
+pub walk::emit_loop-returns-in_err-emit_all-clause-refused : goal.walk::emit_loop-returns-in_err-emit_all-clause-refused
+walk::emit_loop-returns-in_err-emit_all-clause-refused t c = on_err _ _ (extends_on _ _ _ (extends_by _ _ _ c.in_ok-out.ensures.tests.is) c.in_err-emit_all.ensures.refused)
+
+pub walk::emit_loop-returns-in_err-emit_all-2-clause-refused : goal.walk::emit_loop-returns-in_err-emit_all-2-clause-refused
+walk::emit_loop-returns-in_err-emit_all-2-clause-refused t c = on_err _ _ (extends_on _ _ _ (extends_by _ _ _ c.in_ok-out.ensures.tests.is) (extends_on _ _ _ (extends_by _ _ _ c.in_ok-emit_all.ensures.code.lines) c.in_err-emit_all-2.ensures.refused))
+
+pub walk::emit_loop-returns-in_err-emit_back-clause-refused : goal.walk::emit_loop-returns-in_err-emit_back-clause-refused
+walk::emit_loop-returns-in_err-emit_back-clause-refused t c = on_err _ _ (extends_on _ _ _ (extends_by _ _ _ c.in_ok-out.ensures.tests.is) (extends_on _ _ _ (extends_by _ _ _ c.in_ok-emit_all.ensures.code.lines) (extends_on _ _ _ (extends_by _ _ _ c.in_ok-emit_all-2.ensures.code.lines) c.in_err-emit_back.ensures.refused)))
+
+pub walk::emit_block-returns-in_err-emit_all-clause-refused : goal.walk::emit_block-returns-in_err-emit_all-clause-refused
+walk::emit_block-returns-in_err-emit_all-clause-refused t c = on_err _ _ c.in_err-emit_all.ensures.refused
+
+pub walk::emit_block-returns-in_err-inner-clause-refused : goal.walk::emit_block-returns-in_err-inner-clause-refused
+walk::emit_block-returns-in_err-inner-clause-refused t c = on_err _ _ (extends_by _ _ _ c.in_ok-emit_all.ensures.code.lines)
+
+pub walk::emit_one-returns-in-Zero-clause-refused : goal.walk::emit_one-returns-in-Zero-clause-refused
+walk::emit_one-returns-in-Zero-clause-refused t c = c.emit_zero.ensures.refused
+
+pub walk::emit_one-returns-in-Set-clause-refused : goal.walk::emit_one-returns-in-Set-clause-refused
+walk::emit_one-returns-in-Set-clause-refused t c = c.emit_set.ensures.refused
+
+pub walk::emit_one-returns-in-Out-clause-refused : goal.walk::emit_one-returns-in-Out-clause-refused
+walk::emit_one-returns-in-Out-clause-refused t c = c.emit_output.ensures.refused
+
+pub walk::emit_one-returns-in-In-clause-refused : goal.walk::emit_one-returns-in-In-clause-refused
+walk::emit_one-returns-in-In-clause-refused t c = c.emit_input.ensures.refused
+
+pub walk::emit_one-returns-in-If-clause-refused : goal.walk::emit_one-returns-in-If-clause-refused
+walk::emit_one-returns-in-If-clause-refused t c = c.emit_if.ensures.refused
+
+pub walk::emit_one-returns-in-Loop-clause-refused : goal.walk::emit_one-returns-in-Loop-clause-refused
+walk::emit_one-returns-in-Loop-clause-refused t c = c.emit_loop.ensures.refused
+
+pub walk::emit_one-returns-in-Block-clause-refused : goal.walk::emit_one-returns-in-Block-clause-refused
+walk::emit_one-returns-in-Block-clause-refused t c = c.emit_block.ensures.refused
+
+pub walk::emit_one-returns-in-Exit-clause-refused : goal.walk::emit_one-returns-in-Exit-clause-refused
+walk::emit_one-returns-in-Exit-clause-refused t c = c.emit_exit.ensures.refused
+
+pub walk::emit_one-returns-in-Par-clause-refused : goal.walk::emit_one-returns-in-Par-clause-refused
+walk::emit_one-returns-in-Par-clause-refused t c = c.emit_par.ensures.refused
+
+pub walk::emit_if-returns-then-second-eq0-clause-refused : goal.walk::emit_if-returns-then-second-eq0-clause-refused
+walk::emit_if-returns-then-second-eq0-clause-refused t c = c.emit_one_side.ensures.refused
+
+pub walk::emit_if-returns-else-second-eq0-clause-refused : goal.walk::emit_if-returns-else-second-eq0-clause-refused
+walk::emit_if-returns-else-second-eq0-clause-refused t c = c.emit_two_sides.ensures.refused
+
+pub par::emit_par-returns-in-len1-clause-refused : goal.par::emit_par-returns-in-len1-clause-refused
+par::emit_par-returns-in-len1-clause-refused t c = c.emit_all.ensures.refused
+
+pub par::emit_par-returns-clause-refused : goal.par::emit_par-returns-clause-refused
+par::emit_par-returns-clause-refused t c = c.emit_several.ensures.refused
+
+pub par::emit_several-returns-in_err-starts-clause-refused : goal.par::emit_several-returns-in_err-starts-clause-refused
+par::emit_several-returns-in_err-starts-clause-refused t c = on_err _ _ c.in_err-starts.ensures.refused
+
+pub par::emit_several-returns-in_err-emit_all-clause-refused : goal.par::emit_several-returns-in_err-emit_all-clause-refused
+par::emit_several-returns-in_err-emit_all-clause-refused t c = on_err _ _ (extends_on _ _ _ (extends_by _ _ _ c.in_ok-starts.ensures.code) c.in_err-emit_all.ensures.refused)
+
+pub par::emit_several-returns-in_err-past-clause-refused : goal.par::emit_several-returns-in_err-past-clause-refused
+par::emit_several-returns-in_err-past-clause-refused t c = on_err _ _ (extends_on _ _ _ (extends_by _ _ _ c.in_ok-starts.ensures.code) (extends_on _ _ _ (extends_by _ _ _ c.in_ok-emit_all.ensures.code.lines) c.in_err-past.ensures.refused))
+
+pub par::emit_slave-returns-in_err-emit_all-clause-refused : goal.par::emit_slave-returns-in_err-emit_all-clause-refused
+par::emit_slave-returns-in_err-emit_all-clause-refused t c = on_err _ _ (subst (λ ls. Extends ls c.emit_all.new.e) c.land.ensures c.in_err-emit_all.ensures.refused)
+
+pub par::emit_slave-returns-clause-refused : goal.par::emit_slave-returns-clause-refused
+par::emit_slave-returns-clause-refused t c = on_err_on _ _ _ _ (subst (λ ls. Extends ls c.emit_all.new.e) c.land.ensures (extends_by _ _ _ c.in_ok-emit_all.ensures.code.lines)) c.close_slave.ensures.refused
