@@ -1,5 +1,5 @@
 -- Lines one behind the other, and an open one among them that lands.
-use Rattle.std.proofs.Common.{◌≡◌, ℕ, ◌+◌, ◌<◌, List, [], ◌∷◌, ◌++◌, length, Some, refl, sym, ap, ◌∙◌, subst, arith, append_assoc, length-append}
+use Rattle.std.proofs.Common.{◌≡◌, ℕ, ◌+◌, ◌<◌, ◌≤◌, List, [], ◌∷◌, ◌++◌, length, Some, refl, sym, ap, ◌∙◌, subst, arith, append_assoc, length-append}
 use Rattle.std.specs.Prelude.{slice_get, slice_set}
 use Rattle.std.proofs.lemmas.Option.{slice_get-get_or}
 use Rattle.std.proofs.Math.Seq.{get_or-append_seam}
@@ -46,3 +46,6 @@ extends_on a b c h g = record {
 
 pub extends_by : (a b more : List Line) → b ≡ a ++ more → Extends a b
 extends_by a b more h = record { more = more; is = h }
+
+pub as_long : {A : Type 0} (a b more : List A) → b ≡ a ++ more → length a ≤ length b
+as_long a b more h = omega (arith, ap length h, length-append a more)

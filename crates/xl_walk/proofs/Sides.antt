@@ -88,6 +88,11 @@ module _
           });
         }
 
+-- there is no second side
+pub branch_one : (ss : List Kst) (vars : List (Option VarPlan)) (x : kernel.Expression) (First Second : Coded) → length ss ≡ 0 → (last : Pos) (pc : ℕ) (cells : List Cell) → OneSide vars x First last pc cells → Branching (statements_of ss) vars x First Second last pc cells
+branch_one [] vars x First Second none last pc cells h = h
+branch_one (s ∷ ss) vars x First Second none last pc cells h = absurd (omega (arith, none))
+
 -- there is a second side
 pub branch_two : (ss : List Kst) (vars : List (Option VarPlan)) (x : kernel.Expression) (First Second : Coded) → 0 < length ss → (last : Pos) (pc : ℕ) (cells : List Cell) → TwoSides vars x First Second last pc cells → Branching (statements_of ss) vars x First Second last pc cells
 branch_two [] vars x First Second some last pc cells h = absurd (omega arith)

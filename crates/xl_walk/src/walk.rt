@@ -81,7 +81,6 @@ pub(crate) fn emit_all(
 }
 
 #[cycle(statement)]
-#[tactic(auto, using(xc_kernel::proofs::Forms::forms))]
 fn emit_one(
     alloc: Global,
     e: &mut Emitter,
