@@ -46,7 +46,6 @@ pub fn marks_of_statement(alloc: Global, s: &Stmt) -> Result<List<Mark>, Memory>
     Ok(all)
 }
 
-#[tactic(auto, using(crate::proofs::Steps::steps))]
 fn add_item(alloc: Global, out: &mut List<Mark>, k: u32, item: &Item) -> Result<(), Memory>
     ensures { OnOk result (out.new ≡ out.old ++ names.of_item k (tree.item_of item.now)) }
 {
@@ -56,7 +55,6 @@ fn add_item(alloc: Global, out: &mut List<Mark>, k: u32, item: &Item) -> Result<
     }
 }
 
-#[tactic(auto, using(crate::proofs::Steps::steps))]
 fn add_port(alloc: Global, out: &mut List<Mark>, port: &PortItem) -> Result<(), Memory>
     ensures { OnOk result (out.new ≡ out.old ++ listed.of_port port.now) }
 {
@@ -70,7 +68,6 @@ fn add_port(alloc: Global, out: &mut List<Mark>, port: &PortItem) -> Result<(), 
     )
 }
 
-#[tactic(auto, using(crate::proofs::Steps::steps))]
 fn add_function(
     alloc: Global,
     out: &mut List<Mark>,
@@ -92,7 +89,6 @@ fn add_function(
     out.push(Mark::Closes)
 }
 
-#[tactic(auto, using(crate::proofs::Steps::steps))]
 fn params(alloc: Global, out: &mut List<Mark>, params: &[Param]) -> Result<(), Memory>
     ensures { OnOk result (out.new ≡ out.old ++ names.each names.of_param params.now) }
 {
@@ -119,7 +115,6 @@ fn what_of_param(kind: &ParamKind) -> What
 }
 
 /// Adds the names of a function's block, whose scope is that of its parameters.
-#[tactic(auto, using(crate::proofs::Steps::steps))]
 fn body(alloc: Global, out: &mut List<Mark>, s: &Stmt) -> Result<(), Memory>
     ensures { OnOk result (out.new ≡ out.old ++ names.of_body (tree.statement_of s.now)) }
 {
@@ -131,7 +126,6 @@ fn body(alloc: Global, out: &mut List<Mark>, s: &Stmt) -> Result<(), Memory>
 
 /// Adds the names of an expression.
 #[cycle(expression)]
-#[tactic(auto, using(crate::proofs::Steps::steps))]
 fn expression(alloc: Global, out: &mut List<Mark>, e: &Expr) -> Result<(), Memory>
     ensures { OnOk result (out.new ≡ out.old ++ names.of_expression (tree.expression_of e.now)) }
 {
@@ -193,7 +187,6 @@ fn add_declaration(
 }
 
 /// Adds the names of a call.
-#[tactic(auto, using(crate::proofs::Steps::steps))]
 fn call(
     alloc: Global,
     out: &mut List<Mark>,
@@ -207,7 +200,6 @@ fn call(
     arguments(alloc, out, args.as_slice())
 }
 
-#[tactic(auto, using(crate::proofs::Steps::steps))]
 fn arguments(alloc: Global, out: &mut List<Mark>, args: &[Arg]) -> Result<(), Memory>
     ensures { OnOk result (out.new ≡ out.old ++ listed.of_arguments args.now) }
 {
@@ -218,7 +210,6 @@ fn arguments(alloc: Global, out: &mut List<Mark>, args: &[Arg]) -> Result<(), Me
 }
 
 /// Adds the names of what stands at the right of an `=`.
-#[tactic(auto, using(crate::proofs::Steps::steps))]
 fn right_side(alloc: Global, out: &mut List<Mark>, rhs: &Rhs) -> Result<(), Memory>
     ensures { OnOk result (out.new ≡ out.old ++ names.of_right (tree.right_of rhs.now)) }
 {
@@ -228,7 +219,6 @@ fn right_side(alloc: Global, out: &mut List<Mark>, rhs: &Rhs) -> Result<(), Memo
     }
 }
 
-#[tactic(auto, using(crate::proofs::Steps::steps))]
 fn right_side_if_any(alloc: Global, out: &mut List<Mark>, rhs: &Option<Rhs>) -> Result<(), Memory>
     ensures { OnOk result (out.new ≡ out.old ++ listed.of_right_if_any rhs.now) }
 {
@@ -238,7 +228,6 @@ fn right_side_if_any(alloc: Global, out: &mut List<Mark>, rhs: &Option<Rhs>) -> 
     }
 }
 
-#[tactic(auto, using(crate::proofs::Steps::steps))]
 fn expression_if_any(alloc: Global, out: &mut List<Mark>, e: &Option<Expr>) -> Result<(), Memory>
     ensures { OnOk result (out.new ≡ out.old ++ listed.of_expression_if_any e.now) }
 {
@@ -249,7 +238,6 @@ fn expression_if_any(alloc: Global, out: &mut List<Mark>, e: &Option<Expr>) -> R
 }
 
 /// Adds the names of a time or a stamp.
-#[tactic(auto, using(crate::proofs::Steps::steps))]
 fn timing(alloc: Global, out: &mut List<Mark>, time: &Option<Timed>) -> Result<(), Memory>
     ensures { OnOk result (out.new ≡ out.old ++ listed.of_timing time.now) }
 {
@@ -259,7 +247,6 @@ fn timing(alloc: Global, out: &mut List<Mark>, time: &Option<Timed>) -> Result<(
     }
 }
 
-#[tactic(auto, using(crate::proofs::Steps::steps))]
 fn condition(alloc: Global, out: &mut List<Mark>, cond: &Option<When>) -> Result<(), Memory>
     ensures { OnOk result (out.new ≡ out.old ++ listed.of_condition cond.now) }
 {
@@ -269,7 +256,6 @@ fn condition(alloc: Global, out: &mut List<Mark>, cond: &Option<When>) -> Result
     }
 }
 
-#[tactic(auto, using(crate::proofs::Steps::steps))]
 fn output(alloc: Global, out: &mut List<Mark>, send: &Send) -> Result<(), Memory>
     ensures { OnOk result (out.new ≡ out.old ++ names.of_output (tree.output_of send.now)) }
 {
@@ -280,7 +266,6 @@ fn output(alloc: Global, out: &mut List<Mark>, send: &Send) -> Result<(), Memory
 }
 
 /// Adds the names of where an input goes, one of which may be declared there.
-#[tactic(auto, using(crate::proofs::Steps::steps))]
 fn target(alloc: Global, out: &mut List<Mark>, dest: &Dest) -> Result<(), Memory>
     ensures { OnOk result (out.new ≡ out.old ++ names.of_target (tree.target_of dest.now)) }
 {
@@ -293,7 +278,6 @@ fn target(alloc: Global, out: &mut List<Mark>, dest: &Dest) -> Result<(), Memory
     }
 }
 
-#[tactic(auto, using(crate::proofs::Steps::steps))]
 fn input(alloc: Global, out: &mut List<Mark>, head: &Head) -> Result<(), Memory>
     ensures { OnOk result (out.new ≡ out.old ++ names.of_input (tree.input_of head.now)) }
 {
@@ -304,7 +288,6 @@ fn input(alloc: Global, out: &mut List<Mark>, head: &Head) -> Result<(), Memory>
     timing(alloc, out, &head.stamp)
 }
 
-#[tactic(auto, using(crate::proofs::Steps::steps))]
 fn input_if_any(alloc: Global, out: &mut List<Mark>, head: &Option<Head>) -> Result<(), Memory>
     ensures { OnOk result (out.new ≡ out.old ++ listed.of_input_if_any head.now) }
 {
@@ -327,7 +310,6 @@ fn what_of(kind: &DeclKind) -> What
 }
 
 /// Adds the names of an initial value.
-#[tactic(auto, using(crate::proofs::Steps::steps))]
 fn initial(alloc: Global, out: &mut List<Mark>, kind: &DeclKind) -> Result<(), Memory>
     ensures { OnOk result (out.new ≡ out.old ++ names.of_initial (tree.kind_of kind.now)) }
 {
@@ -339,7 +321,6 @@ fn initial(alloc: Global, out: &mut List<Mark>, kind: &DeclKind) -> Result<(), M
     }
 }
 
-#[tactic(auto, using(crate::proofs::Steps::steps))]
 fn declarations(alloc: Global, out: &mut List<Mark>, declared: &[Declared]) -> Result<(), Memory>
     ensures { OnOk result (out.new ≡ out.old ++ listed.of_declarations declared.now) }
 {
@@ -350,7 +331,6 @@ fn declarations(alloc: Global, out: &mut List<Mark>, declared: &[Declared]) -> R
     Ok(())
 }
 
-#[tactic(auto, using(crate::proofs::Steps::steps))]
 fn place(alloc: Global, out: &mut List<Mark>, place: &Option<At>) -> Result<(), Memory>
     ensures { OnOk result (out.new ≡ out.old ++ listed.of_place place.now) }
 {
@@ -362,7 +342,6 @@ fn place(alloc: Global, out: &mut List<Mark>, place: &Option<At>) -> Result<(), 
 
 /// Adds the names of a statement.
 #[cycle(statement)]
-#[tactic(auto, using(crate::proofs::Steps::steps))]
 fn statement(alloc: Global, out: &mut List<Mark>, s: &Stmt) -> Result<(), Memory>
     ensures { OnOk result (out.new ≡ out.old ++ names.of_statement (tree.statement_of s.now)) }
 {
@@ -424,7 +403,6 @@ fn statement(alloc: Global, out: &mut List<Mark>, s: &Stmt) -> Result<(), Memory
 }
 
 #[cycle(statement)]
-#[tactic(auto, using(crate::proofs::Steps::steps))]
 fn statement_if_any(
     alloc: Global,
     out: &mut List<Mark>,
@@ -440,7 +418,6 @@ fn statement_if_any(
 
 /// Adds the names of statements in a scope of their own.
 #[cycle(statement)]
-#[tactic(auto, using(crate::proofs::Steps::steps))]
 fn scope(alloc: Global, out: &mut List<Mark>, ss: &[Stmt]) -> Result<(), Memory>
     ensures { OnOk result (out.new ≡ out.old ++ names.in_scope (listed.of_statements ss.now)) }
 {
@@ -450,7 +427,6 @@ fn scope(alloc: Global, out: &mut List<Mark>, ss: &[Stmt]) -> Result<(), Memory>
 }
 
 #[cycle(statement)]
-#[tactic(auto, using(crate::proofs::Steps::steps))]
 fn statements(alloc: Global, out: &mut List<Mark>, ss: &[Stmt]) -> Result<(), Memory>
     ensures { OnOk result (out.new ≡ out.old ++ listed.of_statements ss.now) }
 {
@@ -461,7 +437,6 @@ fn statements(alloc: Global, out: &mut List<Mark>, ss: &[Stmt]) -> Result<(), Me
 }
 
 #[cycle(statement)]
-#[tactic(auto, using(crate::proofs::Steps::steps))]
 fn branch(alloc: Global, out: &mut List<Mark>, b: &Branch) -> Result<(), Memory>
     ensures { OnOk result (out.new ≡ out.old ++ names.of_branch (tree.branch_of b.now)) }
 {
@@ -470,7 +445,6 @@ fn branch(alloc: Global, out: &mut List<Mark>, b: &Branch) -> Result<(), Memory>
 }
 
 #[cycle(statement)]
-#[tactic(auto, using(crate::proofs::Steps::steps))]
 fn branches(alloc: Global, out: &mut List<Mark>, bs: &[Branch]) -> Result<(), Memory>
     ensures { OnOk result (out.new ≡ out.old ++ listed.of_branches bs.now) }
 {
@@ -481,7 +455,6 @@ fn branches(alloc: Global, out: &mut List<Mark>, bs: &[Branch]) -> Result<(), Me
 }
 
 #[cycle(statement)]
-#[tactic(auto, using(crate::proofs::Steps::steps))]
 fn case(alloc: Global, out: &mut List<Mark>, c: &Case) -> Result<(), Memory>
     ensures { OnOk result (out.new ≡ out.old ++ names.of_case (tree.case_of c.now)) }
 {
@@ -493,7 +466,6 @@ fn case(alloc: Global, out: &mut List<Mark>, c: &Case) -> Result<(), Memory>
 }
 
 #[cycle(statement)]
-#[tactic(auto, using(crate::proofs::Steps::steps))]
 fn cases(alloc: Global, out: &mut List<Mark>, cs: &[Case]) -> Result<(), Memory>
     ensures { OnOk result (out.new ≡ out.old ++ listed.of_cases cs.now) }
 {
