@@ -1,6 +1,7 @@
 // Instructions.
 ghost use Rattle.std.specs.Prelude.{◌≡◌, codes, decimal};
 ghost use Rattle.xs_instr.specs.Texts.{cond_text, get_text, instr_text, one_operand, reg_text, three_operands, two_operands};
+ghost use Rattle.xr_text.specs.Names.{name_of};
 ghost use Rattle.xw_io.specs.Gathering.{Drew};
 
 use crate::numbers::add_number;
@@ -15,76 +16,150 @@ pub fn add_instr<O: Sink>(out: &mut Out<'_, O>, instr: Instr)
     ensures same_sink { out.new.sink.ghost_name ≡ out.old.sink.ghost_name }
     ensures drew { Drew O.bytes O.faults out.old out.new (instr_text instr) }
 {
+    let name = name(instr);
     match instr {
-        Instr::Add(a, b, c) => three_registers(out, b"ADD", a, b, c),
-        Instr::Sub(a, b, c) => three_registers(out, b"SUB", a, b, c),
-        Instr::Mul(a, b, c) => three_registers(out, b"MUL", a, b, c),
-        Instr::And(a, b, c) => three_registers(out, b"AND", a, b, c),
-        Instr::Or(a, b, c) => three_registers(out, b"OR", a, b, c),
-        Instr::Xor(a, b, c) => three_registers(out, b"XOR", a, b, c),
-        Instr::Addi(a, b, c) => two_registers_and_number(out, b"ADDI", a, b, c),
-        Instr::Neg(a, b) => two_registers(out, b"NEG", a, b),
-        Instr::Not(a, b) => two_registers(out, b"NOT", a, b),
-        Instr::Eq(a, b, c) => three_registers(out, b"EQ", a, b, c),
-        Instr::Lss(a, b, c) => three_registers(out, b"LSS", a, b, c),
-        Instr::Lsu(a, b, c) => three_registers(out, b"LSU", a, b, c),
-        Instr::Shl(a, b, c) => three_registers(out, b"SHL", a, b, c),
-        Instr::Shr(a, b, c) => three_registers(out, b"SHR", a, b, c),
-        Instr::Ashr(a, b, c) => three_registers(out, b"ASHR", a, b, c),
-        Instr::Divs(a, b, c) => three_registers(out, b"DIVS", a, b, c),
-        Instr::Rems(a, b, c) => three_registers(out, b"REMS", a, b, c),
-        Instr::Divu(a, b, c) => three_registers(out, b"DIVU", a, b, c),
-        Instr::Remu(a, b, c) => three_registers(out, b"REMU", a, b, c),
-        Instr::Ecallf(a) => one_register(out, b"ECALLF", a),
-        Instr::Ecallt(a) => one_register(out, b"ECALLT", a),
-        Instr::Ldc(a, b) => register_and_number(out, b"LDC", a, b),
-        Instr::Ldwdp(a, b) => register_and_number(out, b"LDWDP", a, b),
-        Instr::Stwdp(a, b) => register_and_number(out, b"STWDP", a, b),
-        Instr::Ldawdp(a, b) => register_and_number(out, b"LDAWDP", a, b),
-        Instr::Ldwsp(a, b) => register_and_number(out, b"LDWSP", a, b),
-        Instr::Stwsp(a, b) => register_and_number(out, b"STWSP", a, b),
-        Instr::Ldawsp(a, b) => register_and_number(out, b"LDAWSP", a, b),
-        Instr::Ldw(a, b, c) => three_registers(out, b"LDW", a, b, c),
-        Instr::Stw(a, b, c) => three_registers(out, b"STW", a, b, c),
-        Instr::Setdp(a) => one_register(out, b"SETDP", a),
-        Instr::Setsp(a) => one_register(out, b"SETSP", a),
-        Instr::Brft(a, b) => register_and_number(out, b"BRFT", a, b),
-        Instr::Brff(a, b) => register_and_number(out, b"BRFF", a, b),
-        Instr::Brfu(a) => one_number(out, b"BRFU", a),
-        Instr::Brbt(a, b) => register_and_number(out, b"BRBT", a, b),
-        Instr::Brbf(a, b) => register_and_number(out, b"BRBF", a, b),
-        Instr::Brbu(a) => one_number(out, b"BRBU", a),
-        Instr::Blrf(a) => one_number(out, b"BLRF", a),
-        Instr::Blrb(a) => one_number(out, b"BLRB", a),
-        Instr::Entsp(a) => one_number(out, b"ENTSP", a),
-        Instr::Retsp(a) => one_number(out, b"RETSP", a),
-        Instr::Getr(a, b) => register_and_kind(out, b"GETR", a, b),
-        Instr::Freer(a) => one_register(out, b"FREER", a),
-        Instr::Getst(a, b) => two_registers(out, b"GETST", a, b),
-        Instr::Tinitpc(a, b) => register_and_number(out, b"TINITPC", a, b),
-        Instr::Tinitdp(a, b) => two_registers(out, b"TINITDP", a, b),
-        Instr::Tinitsp(a, b) => two_registers(out, b"TINITSP", a, b),
-        Instr::Msync(a) => one_register(out, b"MSYNC", a),
-        Instr::Ssync => out.add(b"SSYNC"),
-        Instr::Mjoin(a) => one_register(out, b"MJOIN", a),
-        Instr::Freet => out.add(b"FREET"),
-        Instr::Out(a, b) => two_registers(out, b"OUT", a, b),
-        Instr::Outt(a, b) => two_registers(out, b"OUTT", a, b),
-        Instr::Outct(a, b) => register_and_number(out, b"OUTCT", a, b),
-        Instr::In(a, b) => two_registers(out, b"IN", a, b),
-        Instr::Int(a, b) => two_registers(out, b"INT", a, b),
-        Instr::Chkct(a, b) => register_and_number(out, b"CHKCT", a, b),
-        Instr::Setc(a, b) => register_and_condition(out, b"SETC", a, b),
-        Instr::Setd(a, b) => two_registers(out, b"SETD", a, b),
-        Instr::Setpt(a, b) => two_registers(out, b"SETPT", a, b),
-        Instr::Getts(a, b) => two_registers(out, b"GETTS", a, b),
-        Instr::Setv(a, b) => register_and_number(out, b"SETV", a, b),
-        Instr::Eeu(a) => one_register(out, b"EEU", a),
-        Instr::Edu(a) => one_register(out, b"EDU", a),
-        Instr::Clre => out.add(b"CLRE"),
-        Instr::Waiteu => out.add(b"WAITEU"),
-        Instr::Setsr(a) => one_number(out, b"SETSR", a),
-        Instr::Clrsr(a) => one_number(out, b"CLRSR", a),
+        Instr::Add(a, b, c)
+        | Instr::Sub(a, b, c)
+        | Instr::Mul(a, b, c)
+        | Instr::And(a, b, c)
+        | Instr::Or(a, b, c)
+        | Instr::Xor(a, b, c)
+        | Instr::Eq(a, b, c)
+        | Instr::Lss(a, b, c)
+        | Instr::Lsu(a, b, c)
+        | Instr::Shl(a, b, c)
+        | Instr::Shr(a, b, c)
+        | Instr::Ashr(a, b, c)
+        | Instr::Divs(a, b, c)
+        | Instr::Rems(a, b, c)
+        | Instr::Divu(a, b, c)
+        | Instr::Remu(a, b, c) => three_registers(out, name, a, b, c),
+        Instr::Ldw(a, b, c) | Instr::Stw(a, b, c) => { three_registers(out, name, a, b, c) }
+        Instr::Addi(a, b, c) => two_registers_and_number(out, name, a, b, c),
+        Instr::Neg(a, b)
+        | Instr::Not(a, b)
+        | Instr::Getst(a, b)
+        | Instr::Tinitdp(a, b)
+        | Instr::Tinitsp(a, b)
+        | Instr::Out(a, b)
+        | Instr::Outt(a, b)
+        | Instr::In(a, b)
+        | Instr::Int(a, b)
+        | Instr::Setd(a, b)
+        | Instr::Setpt(a, b)
+        | Instr::Getts(a, b) => two_registers(out, name, a, b),
+        Instr::Ecallf(a)
+        | Instr::Ecallt(a)
+        | Instr::Setdp(a)
+        | Instr::Setsp(a)
+        | Instr::Freer(a)
+        | Instr::Msync(a)
+        | Instr::Mjoin(a)
+        | Instr::Eeu(a)
+        | Instr::Edu(a) => one_register(out, name, a),
+        Instr::Ldc(a, b)
+        | Instr::Ldwdp(a, b)
+        | Instr::Stwdp(a, b)
+        | Instr::Ldawdp(a, b)
+        | Instr::Ldwsp(a, b)
+        | Instr::Stwsp(a, b)
+        | Instr::Ldawsp(a, b)
+        | Instr::Brft(a, b)
+        | Instr::Brff(a, b)
+        | Instr::Brbt(a, b)
+        | Instr::Brbf(a, b)
+        | Instr::Tinitpc(a, b)
+        | Instr::Outct(a, b)
+        | Instr::Chkct(a, b)
+        | Instr::Setv(a, b) => register_and_number(out, name, a, b),
+        Instr::Brfu(a)
+        | Instr::Brbu(a)
+        | Instr::Blrf(a)
+        | Instr::Blrb(a)
+        | Instr::Entsp(a)
+        | Instr::Retsp(a)
+        | Instr::Setsr(a)
+        | Instr::Clrsr(a) => one_number(out, name, a),
+        Instr::Getr(a, b) => register_and_kind(out, name, a, b),
+        Instr::Ssync | Instr::Freet | Instr::Clre | Instr::Waiteu => out.add(name),
+        Instr::Setc(a, b) => register_and_condition(out, name, a, b),
+    }
+}
+
+// An instruction's name.
+fn name(instr: Instr) -> &'static [u8]
+    ensures { result.now ≡ name_of instr }
+{
+    match instr {
+        Instr::Add(..) => b"ADD",
+        Instr::Sub(..) => b"SUB",
+        Instr::Mul(..) => b"MUL",
+        Instr::And(..) => b"AND",
+        Instr::Or(..) => b"OR",
+        Instr::Xor(..) => b"XOR",
+        Instr::Addi(..) => b"ADDI",
+        Instr::Neg(..) => b"NEG",
+        Instr::Not(..) => b"NOT",
+        Instr::Eq(..) => b"EQ",
+        Instr::Lss(..) => b"LSS",
+        Instr::Lsu(..) => b"LSU",
+        Instr::Shl(..) => b"SHL",
+        Instr::Shr(..) => b"SHR",
+        Instr::Ashr(..) => b"ASHR",
+        Instr::Divs(..) => b"DIVS",
+        Instr::Rems(..) => b"REMS",
+        Instr::Divu(..) => b"DIVU",
+        Instr::Remu(..) => b"REMU",
+        Instr::Ecallf(..) => b"ECALLF",
+        Instr::Ecallt(..) => b"ECALLT",
+        Instr::Ldc(..) => b"LDC",
+        Instr::Ldwdp(..) => b"LDWDP",
+        Instr::Stwdp(..) => b"STWDP",
+        Instr::Ldawdp(..) => b"LDAWDP",
+        Instr::Ldwsp(..) => b"LDWSP",
+        Instr::Stwsp(..) => b"STWSP",
+        Instr::Ldawsp(..) => b"LDAWSP",
+        Instr::Ldw(..) => b"LDW",
+        Instr::Stw(..) => b"STW",
+        Instr::Setdp(..) => b"SETDP",
+        Instr::Setsp(..) => b"SETSP",
+        Instr::Brft(..) => b"BRFT",
+        Instr::Brff(..) => b"BRFF",
+        Instr::Brfu(..) => b"BRFU",
+        Instr::Brbt(..) => b"BRBT",
+        Instr::Brbf(..) => b"BRBF",
+        Instr::Brbu(..) => b"BRBU",
+        Instr::Blrf(..) => b"BLRF",
+        Instr::Blrb(..) => b"BLRB",
+        Instr::Entsp(..) => b"ENTSP",
+        Instr::Retsp(..) => b"RETSP",
+        Instr::Getr(..) => b"GETR",
+        Instr::Freer(..) => b"FREER",
+        Instr::Getst(..) => b"GETST",
+        Instr::Tinitpc(..) => b"TINITPC",
+        Instr::Tinitdp(..) => b"TINITDP",
+        Instr::Tinitsp(..) => b"TINITSP",
+        Instr::Msync(..) => b"MSYNC",
+        Instr::Ssync => b"SSYNC",
+        Instr::Mjoin(..) => b"MJOIN",
+        Instr::Freet => b"FREET",
+        Instr::Out(..) => b"OUT",
+        Instr::Outt(..) => b"OUTT",
+        Instr::Outct(..) => b"OUTCT",
+        Instr::In(..) => b"IN",
+        Instr::Int(..) => b"INT",
+        Instr::Chkct(..) => b"CHKCT",
+        Instr::Setc(..) => b"SETC",
+        Instr::Setd(..) => b"SETD",
+        Instr::Setpt(..) => b"SETPT",
+        Instr::Getts(..) => b"GETTS",
+        Instr::Setv(..) => b"SETV",
+        Instr::Eeu(..) => b"EEU",
+        Instr::Edu(..) => b"EDU",
+        Instr::Clre => b"CLRE",
+        Instr::Waiteu => b"WAITEU",
+        Instr::Setsr(..) => b"SETSR",
+        Instr::Clrsr(..) => b"CLRSR",
     }
 }
 
@@ -189,23 +264,30 @@ fn add_register<O: Sink>(out: &mut Out<'_, O>, reg: Reg)
     ensures same_sink { out.new.sink.ghost_name ≡ out.old.sink.ghost_name }
     ensures drew { Drew O.bytes O.faults out.old out.new (reg_text reg) }
 {
+    out.add(register_name(reg));
+}
+
+// A register's name.
+fn register_name(reg: Reg) -> &'static [u8]
+    ensures { result.now ≡ reg_text reg }
+{
     match reg {
-        Reg::R0 => out.add(b"r0"),
-        Reg::R1 => out.add(b"r1"),
-        Reg::R2 => out.add(b"r2"),
-        Reg::R3 => out.add(b"r3"),
-        Reg::R4 => out.add(b"r4"),
-        Reg::R5 => out.add(b"r5"),
-        Reg::R6 => out.add(b"r6"),
-        Reg::R7 => out.add(b"r7"),
-        Reg::R8 => out.add(b"r8"),
-        Reg::R9 => out.add(b"r9"),
-        Reg::R10 => out.add(b"r10"),
-        Reg::R11 => out.add(b"r11"),
-        Reg::Cp => out.add(b"cp"),
-        Reg::Dp => out.add(b"dp"),
-        Reg::Sp => out.add(b"sp"),
-        Reg::Lr => out.add(b"lr"),
+        Reg::R0 => b"r0",
+        Reg::R1 => b"r1",
+        Reg::R2 => b"r2",
+        Reg::R3 => b"r3",
+        Reg::R4 => b"r4",
+        Reg::R5 => b"r5",
+        Reg::R6 => b"r6",
+        Reg::R7 => b"r7",
+        Reg::R8 => b"r8",
+        Reg::R9 => b"r9",
+        Reg::R10 => b"r10",
+        Reg::R11 => b"r11",
+        Reg::Cp => b"cp",
+        Reg::Dp => b"dp",
+        Reg::Sp => b"sp",
+        Reg::Lr => b"lr",
     }
 }
 

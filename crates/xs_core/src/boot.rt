@@ -7,7 +7,7 @@ ghost use Rattle.xs_core.specs.Seen.{home_of as home_in, state_of};
 ghost use Rattle.xs_core.specs.Start.{started};
 ghost use Rattle.xs_core.specs.Wired.{ArePeers, peer_as};
 ghost use Rattle.xs_instr.specs.Ends.{peer_of};
-ghost use Rattle.xs_instr.specs.Machine.{boot_core, boot_threads, boot_timer, home_of, no_parts, parts_in, root_thread, unused_thread};
+ghost use Rattle.xs_instr.specs.Machine.{boot_core, boot_end, boot_events, boot_threads, boot_timer, home_of, no_parts, parts_in, root_thread, unused_thread};
 ghost use Rattle.xs_instr.specs.Pool.{lock_free};
 ghost use Rattle.xs_instr.specs.Valid.{Valid, IsGoodStim, AreGoodPorts};
 
@@ -46,13 +46,32 @@ fn parts_for(alloc: Global, fixed: Fixed, number: u8, stim: &Stim) -> Result<Sta
 {
     let ports = Ports::new(alloc, &fixed.parts.ports, stim, number)?;
     let words = Ram::new(alloc, fixed.parts.words)?;
-    let timers = timers(alloc, fixed.parts.timers)?;
-    let ends = Ends::new(alloc, fixed.parts.ends)?;
-    let events = Events::new(alloc)?;
-    let threads = threads(&fixed.parts.roots);
-    Ok(State {
+    let resources = resources_for(alloc, fixed.parts.timers, fixed.parts.ends)?;
+    Ok(state_of_parts(fixed, ports, words, resources))
+}
+
+/// A core as it starts, of its parts.
+fn state_of_parts(fixed: Fixed, ports: Ports, words: Ram, resources: Resources) -> State
+    requires { length fixed.parts.roots ≤ 8 }
+    ensures fixed { result.fixed ≡ fixed }
+    ensures ports { result.ports ≡ ports }
+    ensures state { state_of result ≡ record (boot_core fixed.parts) {
+      clock = ports.clock;
+      words = words;
+      ports = ports.ports;
+      timers = resources.timers;
+      ends = resources.ends;
+      events = resources.events;
+    } }
+{
+    let Resources {
+        timers,
+        ends,
+        events,
+    } = resources;
+    State {
         roots: fixed.parts.roots.len() as u32,
-        threads,
+        threads: threads(&fixed.parts.roots),
         words,
         pool: Pool::new(),
         locks: [free_lock(); LOCKS],
@@ -61,6 +80,29 @@ fn parts_for(alloc: Global, fixed: Fixed, number: u8, stim: &Stim) -> Result<Sta
         ends,
         events,
         fixed,
+    }
+}
+
+/// The timers, the channel ends and the events of a core as it starts.
+struct Resources {
+    timers: List<Timer>,
+    ends: Ends,
+    events: Events,
+}
+
+/// So many timers and ends, and no events.
+fn resources_for(alloc: Global, timers_wanted: u32, ends_wanted: u32) -> Result<Resources, Memory>
+    ensures timers { IfOk result (λ resources. resources.timers ≡ replicate timers_wanted boot_timer) }
+    ensures ends { IfOk result (λ resources. resources.ends ≡ replicate ends_wanted boot_end) }
+    ensures events { IfOk result (λ resources. resources.events ≡ boot_events) }
+{
+    let timers = timers(alloc, timers_wanted)?;
+    let ends = Ends::new(alloc, ends_wanted)?;
+    let events = Events::new(alloc)?;
+    Ok(Resources {
+        timers,
+        ends,
+        events,
     })
 }
 
