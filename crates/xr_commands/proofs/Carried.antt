@@ -1,5 +1,6 @@
 -- An image that implements a text's kernel is what the text compiles to.
 use Rattle.std.proofs.Common.{ℕ, List}
+use Rattle.std.specs.Prelude.{Result, Ok, Err, IfOk}
 use Rattle.xc_kernel.specs.Plain.{Kernel}
 use Rattle.xr_match.specs.Implements.{Implements}
 use Rattle.xr_match.specs.Meanings.{of_kernel}
@@ -18,3 +19,9 @@ compiled text K L is valid words implements = record {
   words = words;
   implements = kernels_carry L is.program K is.named is.types is.typed is.copies implements;
 }
+
+-- the same of a result
+pub all_compiled : {E : Type 0} (K : Kernel) (r : Result Image E) → IfOk r (λ L. Valid L) → IfOk r (λ L. HasWords L) →
+    IfOk r (λ L. Implements L (of_kernel K)) → IfOk r (λ L. (text : List ℕ) → IsKernelOf text K → IsCompiled text L)
+all_compiled K (Ok L) valid words implements = λ text is. compiled text K L is valid words implements
+all_compiled K (Err e) valid words implements = valid

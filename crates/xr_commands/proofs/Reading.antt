@@ -1,5 +1,5 @@
 -- From what the phases say of a text to its first broken rule, or its kernel.
-use Rattle.std.proofs.Common.{◌≡◌, ◌<◌, ◌≤◌, ◌^◌, ℕ, Bool, List, length, sym, ap, subst, ◌∙◌, arith}
+use Rattle.std.proofs.Common.{◌≡◌, ◌≤◌, ℕ, Bool, List, sym, ap, subst, ◌∙◌, arith}
 use Rattle.std.specs.Prelude.{Result, Ok, Err, IfErr, IfOk}
 use Rattle.xw_words.specs.declared.pos.Broken.{Broken}
 use Rattle.xc_tree.specs.declared.names.Named.{Named}
@@ -27,21 +27,10 @@ use Rattle.xc_kernel.specs.Sound.{IsOfText, IsTyped}
 use Rattle.xc_today.proofs.Built.{kernels_are_built}
 use Rattle.xc_today.specs.Today.{IsBuiltToday}
 use Rattle.xl_image.specs.Roots.{KernelIsBuilt}
+use Rattle.xr_commands.specs.Reads.{IsReadAs}
 use Rattle.xr_commands.specs.Rules.{First, IsKernelOf, IsResolved}
 use Rattle.xr_commands.proofs.Order.{tokens_few}
 use Rattle.xr_commands.proofs.Firsts.{accepts, first_in_names, first_in_needs, first_in_size, first_in_types}
-
--- a text has these tokens, which are this program alone, and it breaks no rule up to names
-pub record IsReadAs (text : List ℕ) (items : List Item) : Type 0 where
-  pub toks : List Tok
-  pub lexes : Lexes text toks
-  pub rising : Rise toks
-  pub few : length toks < 2 ^ 32
-  pub derives : IsProgram toks items
-  pub only : (v : List Item) → IsProgram toks v → v ≡ items
-  pub unbroken : (rule i : ℕ) → BreaksRule toks rule i → ⊥
-  pub shallow : depth.of_program items ≤ deepest
-  pub form : IsBuiltToday toks items
 
 pub read_as : (text : List ℕ) (toks : List Tok) (items : List Item) → Lexes text toks → Rise toks → IsProgram toks items →
     ((v : List Item) → IsProgram toks v → v ≡ items) → ((rule i : ℕ) → BreaksRule toks rule i → ⊥) →

@@ -7,3 +7,5 @@ pub mod Outside
 pub mod Answers
 pub mod Causes
 pub mod Decision
+pub mod Parts
+pub mod Reads

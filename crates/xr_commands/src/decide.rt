@@ -1,27 +1,28 @@
 // What is answered, before anything is written.
 
-ghost use Rattle.std.specs.Prelude.{◌≡◌, ◌≤◌, map, string_bytes, IfOk};
+ghost use Rattle.std.specs.Prelude.{◌≡◌, ◌≤◌, ℕ, List, None, length, map, string_bytes, IfErr, IfOk};
 ghost use Rattle.xc_kernel.specs.Kernels.{kernel_of};
+ghost use Rattle.xc_tree.specs.Refusals.{IfBroken};
 ghost use Rattle.xl_image.specs.Roots.{KernelIsBuilt};
-ghost use Rattle.xr_match.specs.Implements.{Implements};
-ghost use Rattle.xr_match.specs.Meanings.{of_kernel};
 ghost use Rattle.xs_instr.specs.Valid.{Valid};
-ghost use Rattle.xs_instr.specs.Words.{HasWords};
 ghost use Rattle.xr_commands.specs.Answers.{Decided, status_of_run};
-ghost use Rattle.xr_commands.specs.Decision.{outcome_of, IsPrintable};
+ghost use Rattle.xr_commands.specs.Command.{Asm as MeansAsm, Run as MeansRun};
+ghost use Rattle.xr_commands.specs.Decision.{command_of, outcome_of, IsPrintable};
 ghost use Rattle.xr_commands.specs.Outside.{loads};
-ghost use Rattle.xr_commands.specs.Runs.{IsLockstep, no_stim};
+ghost use Rattle.xr_commands.specs.Parts.{IsAnswer, IsAnswerOnText};
+ghost use Rattle.xr_commands.specs.Rules.{First, IsKernelOf};
+ghost use Rattle.xr_commands.specs.Runs.{IsCompiled};
 
 use crate::front::read_text;
-use crate::run::{Run, run_lockstep};
+use crate::run::{Run, run_alone};
 use crate::words::{Command, meaning};
 use std::alloc::Global;
 use xc_disjoint::Checked;
 use xc_tree::Refusal;
 use xr_threads::compile;
-use xs_instr::{EndWord, Image, Stim};
+use xs_instr::{EndWord, Image};
 use xw_io::{LoadErr, Shelf};
-use xw_words::{Broken, List, Memory};
+use xw_words::{Broken, Memory};
 
 /// What is due on `out`.
 #[derive(Drop)]
@@ -60,55 +61,123 @@ pub fn decide<'w, S: Shelf>(alloc: Global, words: &'w [String], shelf: &mut S) -
     ensures files { S.files shelf.new ≡ S.files shelf.old }
     ensures faults { S.faults shelf.old ≤ S.faults shelf.new }
 {
-    let command = match meaning(words) {
-        Some(command) => command,
-        None => return saying(2, Line::Usage),
-    };
-    let file = command.file();
-    let text = match shelf.load(alloc, file) {
-        Ok(text) => text,
-        Err(LoadErr::Missing) => return saying(6, Line::NoFile(file)),
-        Err(LoadErr::TooLong) => return saying(7, Line::TooLong(file)),
-        Err(LoadErr::Failed) => return saying(8, Line::ReadFault(file)),
-        Err(LoadErr::Memory) => return saying(12, Line::NoMemory),
-    };
-    let checked = match read_text(alloc, text.as_slice()) {
-        Ok(checked) => checked,
-        Err(Refusal::Broken(broken)) => return saying(1, Line::Broken(file, broken)),
-        Err(Refusal::Memory) => return saying(12, Line::NoMemory),
-    };
-    match command {
-        Command::Check(_) => printing(0, Printed::Accepted),
-        Command::Asm(_) => match compile(alloc, &checked) {
-            Ok(image) => printing(0, Printed::Code(image)),
-            Err(Memory) => saying(12, Line::NoMemory),
-        },
-        Command::Run { ticks, .. } => match compile_and_run(alloc, checked, ticks) {
-            Ok((image, run)) => {
-                let status = status(run.trapped, run.end);
-                printing(status, Printed::Whole(image, run))
-            }
-            Err(Memory) => saying(12, Line::NoMemory),
-        },
+    match meaning(words) {
+        Some(command) => answer(alloc, command, shelf),
+        None => saying(2, Line::Usage),
     }
 }
 
-/// The image of a kernel, and its run for so many ticks without a stimulus. The kernel is dropped before the run.
-fn compile_and_run(alloc: Global, checked: Checked, ticks: u32) -> Result<(Image, Run), Memory>
-    requires built { KernelIsBuilt (kernel_of checked) }
-    ensures implements { IfOk result (λ r. Implements r.0 (of_kernel (kernel_of checked))) }
-    ensures valid { IfOk result (λ r. Valid r.0) }
-    ensures words { IfOk result (λ r. HasWords r.0) }
-    ensures lockstep { IfOk result (λ r.
-        IsLockstep r.0 no_stim ticks r.1.machine.state.trace r.1.end r.1.trapped) }
+/// What is answered to a command: first its file is loaded.
+fn answer<'w, S: Shelf>(alloc: Global, command: Command<'w>, shelf: &mut S) -> Decision<'w>
+    ensures decided { IsAnswer (loads S.files S.faults S.misses S.longs shelf.old shelf.new)
+        (command_of command.entry) (outcome_of result) }
+    ensures printable { IsPrintable result.printed }
+    ensures files { S.files shelf.new ≡ S.files shelf.old }
+    ensures faults { S.faults shelf.old ≤ S.faults shelf.new }
 {
-    let image = compile(alloc, &checked)?;
+    let file = command.file();
+    match shelf.load(alloc, file) {
+        Ok(text) => answer_on_text(alloc, command, text),
+        Err(LoadErr::Missing) => saying(6, Line::NoFile(file)),
+        Err(LoadErr::TooLong) => saying(7, Line::TooLong(file)),
+        Err(LoadErr::Failed) => saying(8, Line::ReadFault(file)),
+        Err(LoadErr::Memory) => saying(12, Line::NoMemory),
+    }
+}
+
+/// What is answered to a command whose file has this text.
+fn answer_on_text<'w>(alloc: Global, command: Command<'w>, text: Vec<u8>) -> Decision<'w>
+    requires { length text.items ≤ 4194304 }
+    ensures decided { IsAnswerOnText (command_of command.entry) text.items (outcome_of result) }
+    ensures printable { IsPrintable result.printed }
+{
+    match read_whole(alloc, text) {
+        Ok(checked) => carry_out(alloc, command, checked),
+        Err(Refusal::Broken(broken)) => saying(1, Line::Broken(command.file(), broken)),
+        Err(Refusal::Memory) => saying(12, Line::NoMemory),
+    }
+}
+
+/// Reads a text, which is dropped then.
+fn read_whole(alloc: Global, text: Vec<u8>) -> Result<Checked, Refusal>
+    requires { length text.items ≤ 4194304 }
+    ensures accepted { IfOk result (λ checked. IsKernelOf text.items (kernel_of checked)) }
+    ensures built { IfOk result (λ checked. KernelIsBuilt (kernel_of checked)) }
+    ensures first { IfErr result
+        (λ refusal. IfBroken refusal (λ broken. First text.items broken)) }
+{
+    read_text(alloc, text.as_slice())
+}
+
+/// What is answered to a command whose text is accepted and has this kernel.
+fn carry_out<'w>(alloc: Global, command: Command<'w>, checked: Checked) -> Decision<'w>
+    requires built { KernelIsBuilt (kernel_of checked) }
+    ensures decided { (text : List ℕ) → IsKernelOf text (kernel_of checked) →
+        IsAnswerOnText (command_of command.entry) text (outcome_of result) }
+    ensures printable { IsPrintable result.printed }
+{
+    match command {
+        Command::Check(_) => {
+            drop(checked);
+            printing(0, Printed::Accepted)
+        }
+        Command::Asm(_) => assemble(alloc, checked),
+        Command::Run { ticks, .. } => compile_and_run(alloc, checked, ticks),
+    }
+}
+
+/// The listing of a kernel's image.
+fn assemble<'w>(alloc: Global, checked: Checked) -> Decision<'w>
+    requires built { KernelIsBuilt (kernel_of checked) }
+    ensures decided { (file text : List ℕ) → IsKernelOf text (kernel_of checked) →
+        IsAnswerOnText (MeansAsm file) text (outcome_of result) }
+    ensures printable { IsPrintable result.printed }
+{
+    match compile_whole(alloc, checked) {
+        Ok(image) => printing(0, Printed::Code(image)),
+        Err(Memory) => saying(12, Line::NoMemory),
+    }
+}
+
+/// The image of a kernel and its run for so many ticks. The kernel is dropped before the run.
+fn compile_and_run<'w>(alloc: Global, checked: Checked, ticks: u32) -> Decision<'w>
+    requires built { KernelIsBuilt (kernel_of checked) }
+    ensures decided { (file text : List ℕ) → IsKernelOf text (kernel_of checked) →
+        IsAnswerOnText (MeansRun file ticks None) text (outcome_of result) }
+    ensures printable { IsPrintable result.printed }
+{
+    match compile_whole(alloc, checked) {
+        Ok(image) => run_image(alloc, image, ticks),
+        Err(Memory) => saying(12, Line::NoMemory),
+    }
+}
+
+/// The image of a kernel, which is dropped then.
+fn compile_whole(alloc: Global, checked: Checked) -> Result<Image, Memory>
+    requires built { KernelIsBuilt (kernel_of checked) }
+    ensures compiled { IfOk result (λ image. (text : List ℕ) →
+        IsKernelOf text (kernel_of checked) → IsCompiled text image) }
+    ensures valid { IfOk result (λ image. Valid image) }
+{
+    let image = compile(alloc, &checked);
     drop(checked);
-    let stim = Stim {
-        lines: List::new(alloc),
-    };
-    let run = run_lockstep(alloc, &image, &stim, ticks)?;
-    Ok((image, run))
+    image
+}
+
+/// An image and its run for so many ticks.
+fn run_image<'w>(alloc: Global, image: Image, ticks: u32) -> Decision<'w>
+    requires valid { Valid image }
+    ensures decided { (file text : List ℕ) → IsCompiled text image →
+        IsAnswerOnText (MeansRun file ticks None) text (outcome_of result) }
+    ensures printable { IsPrintable result.printed }
+{
+    match run_alone(alloc, &image, ticks) {
+        Ok(run) => {
+            let status = status(run.trapped, run.end);
+            printing(status, Printed::Whole(image, run))
+        }
+        Err(Memory) => saying(12, Line::NoMemory),
+    }
 }
 
 /// A status with a line and no output.

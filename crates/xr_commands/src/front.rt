@@ -1,19 +1,28 @@
 //! From a text to the kernel of the program that it means, or the first rule that it breaks.
 
-ghost use Rattle.std.specs.Prelude.{◌≤◌, length, IfOk, IfErr};
+ghost use Rattle.std.specs.Prelude.{◌≤◌, ℕ, List, length, IfOk, IfErr};
+ghost use Rattle.xc_kernel.specs.Copies.{Copies};
 ghost use Rattle.xc_kernel.specs.Kernels.{kernel_of};
+ghost use Rattle.xc_kernel.specs.Size.{Breaks509, IsTooLarge};
+ghost use Rattle.xc_kernel.specs.Sound.{IsOfProgram, IsTyped};
+ghost use Rattle.xc_tree.specs.Depth.{of_program};
+ghost use Rattle.xc_tree.specs.Derives.{deepest};
 ghost use Rattle.xc_tree.specs.Refusals.{IfBroken};
+ghost use Rattle.xc_tree.specs.Trees.{program_of};
+ghost use Rattle.xc_tree.specs.Types.Named.{named_of};
 ghost use Rattle.xl_image.specs.Roots.{KernelIsBuilt};
+ghost use Rattle.xr_commands.specs.Reads.{IsReadAs};
 ghost use Rattle.xr_commands.specs.Rules.{First, IsKernelOf};
 
 use std::alloc::Global;
 use xc_disjoint::{Checked, disjoint};
 use xc_flat::flatten;
+use xc_kernel::Kernel;
 use xc_lexer::lex;
 use xc_names::resolve;
 use xc_parser::{end_pos, parse};
 use xc_today::is_built_today;
-use xc_tree::Refusal;
+use xc_tree::{Refusal, Tree, Typed};
 use xc_types::check;
 use xw_words::{Broken, Pos};
 
@@ -35,8 +44,33 @@ pub fn read_text(alloc: Global, text: &[u8]) -> Result<Checked, Refusal>
     if !is_built_today(toks.as_slice(), &tree) {
         return Err(Refusal::Broken(NOT_BUILT));
     }
+    check_tree(alloc, tree)
+}
+
+/// The kernel of a tree, or the first rule that its names, types, size and needs break.
+fn check_tree(alloc: Global, tree: Tree) -> Result<Checked, Refusal>
+    requires read { (text : List ℕ) × IsReadAs text (program_of tree) }
+    ensures accepted { (text : List ℕ) → IsReadAs text (program_of tree) →
+        IfOk result (λ checked. IsKernelOf text (kernel_of checked)) }
+    ensures built { IfOk result (λ checked. KernelIsBuilt (kernel_of checked)) }
+    ensures first { (text : List ℕ) → IsReadAs text (program_of tree) →
+        IfErr result (λ refusal. IfBroken refusal (λ broken. First text broken)) }
+{
     let named = resolve(alloc, tree)?;
     let typed = check(alloc, named)?;
-    let kernel = flatten(alloc, &typed)?;
+    let kernel = copy_of(alloc, typed)?;
     disjoint(alloc, kernel)
+}
+
+/// The kernel of a program, which is dropped then, or the rule of size that it breaks.
+fn copy_of(alloc: Global, typed: Typed) -> Result<Kernel, Refusal>
+    requires typed { IsTyped (program_of typed.named.tree)
+        (named_of typed.named) typed.unsigned_at }
+    requires shallow { of_program (program_of typed.named.tree) ≤ deepest }
+    ensures of_program { IfOk result (λ k. IsOfProgram (kernel_of k)) }
+    ensures copies { IfOk result (λ k. Copies (program_of typed.named.tree) (kernel_of k)) }
+    ensures small { IfOk result (λ k. IsTooLarge (program_of typed.named.tree) → ⊥) }
+    ensures broken { IfErr result (λ e. IfBroken e (Breaks509 (program_of typed.named.tree))) }
+{
+    flatten(alloc, &typed)
 }

@@ -1,3 +1,4 @@
+use Rattle.std.proofs.Common.{◌∙◌}
 use Rattle.xr_commands.specs.Lines.{no_file_line, too_long_line, read_fault_line, broken_line}
 use Rattle.xr_text.proofs.Draws.{◌▸◌}
 use Rattle.xr_commands.proofs.deliver.add_line.Goals as goal
@@ -29,3 +30,23 @@ returns-in-Broken-clause-drew g c =
     let p = c.add-in-Broken.ensures.drew ▸ c.add-in-Broken-2.ensures.drew ▸ c.add_pos.ensures.drew ▸ c.add-in-Broken-3.ensures.drew
     ▸ c.add_number.ensures.drew ▸ c.add-in-Broken-4.ensures.drew in
     rw c.in-Broken.is (rw c.as_bytes-in-Broken.ensures.value at p)
+
+pub returns-in-Usage-clause-same_sink : goal.returns-in-Usage-clause-same_sink
+returns-in-Usage-clause-same_sink g c =
+    c.add.ensures.same_sink
+
+pub returns-in-NoFile-clause-same_sink : goal.returns-in-NoFile-clause-same_sink
+returns-in-NoFile-clause-same_sink g c =
+    c.add-in-NoFile-3.ensures.same_sink ∙ c.add-in-NoFile-2.ensures.same_sink ∙ c.add-in-NoFile.ensures.same_sink
+
+pub returns-in-TooLong-clause-same_sink : goal.returns-in-TooLong-clause-same_sink
+returns-in-TooLong-clause-same_sink g c =
+    c.add-in-TooLong-3.ensures.same_sink ∙ c.add-in-TooLong-2.ensures.same_sink ∙ c.add-in-TooLong.ensures.same_sink
+
+pub returns-in-ReadFault-clause-same_sink : goal.returns-in-ReadFault-clause-same_sink
+returns-in-ReadFault-clause-same_sink g c =
+    c.add-in-ReadFault-3.ensures.same_sink ∙ c.add-in-ReadFault-2.ensures.same_sink ∙ c.add-in-ReadFault.ensures.same_sink
+
+pub returns-in-Broken-clause-same_sink : goal.returns-in-Broken-clause-same_sink
+returns-in-Broken-clause-same_sink g c =
+    c.add-in-Broken-4.ensures.same_sink ∙ c.add_number.ensures.same_sink ∙ c.add-in-Broken-3.ensures.same_sink ∙ c.add_pos.ensures.same_sink ∙ c.add-in-Broken-2.ensures.same_sink ∙ c.add-in-Broken.ensures.same_sink

@@ -27,3 +27,33 @@ returns-clause-delivered g c =
     let p = gave_all _ _ _ (sym c.is_err.ensures.value ∙ c.if-is_err.false) c.put_printed.ensures in
     let q = gave_all _ _ _ (sym c.is_err-2.ensures.value ∙ c.if-is_err-2.false) c.put_line.ensures in
     whole p.1 q.1
+
+pub returns-then-is_err-clause-out_counts : goal.returns-then-is_err-clause-out_counts
+returns-then-is_err-clause-out_counts g c =
+    let p = gave_front _ _ _ (sym c.is_err.ensures.value ∙ c.if-is_err.true) c.put_printed.ensures in
+    p.0
+
+pub returns-then-not-is_due-clause-out_counts : goal.returns-then-not-is_due-clause-out_counts
+returns-then-not-is_due-clause-out_counts g c =
+    let p = gave_all _ _ _ (sym c.is_err.ensures.value ∙ c.if-is_err.false) c.put_printed.ensures in
+    p.0
+
+pub returns-then-is_err-2-clause-out_counts : goal.returns-then-is_err-2-clause-out_counts
+returns-then-is_err-2-clause-out_counts g c =
+    let p = gave_all _ _ _ (sym c.is_err.ensures.value ∙ c.if-is_err.false) c.put_printed.ensures in
+    p.0
+
+pub returns-then-is_err-2-clause-err_counts : goal.returns-then-is_err-2-clause-err_counts
+returns-then-is_err-2-clause-err_counts g c =
+    let p = gave_front _ _ _ (sym c.is_err-2.ensures.value ∙ c.if-is_err-2.true) c.put_line.ensures in
+    p.0
+
+pub returns-clause-out_counts : goal.returns-clause-out_counts
+returns-clause-out_counts g c =
+    let p = gave_all _ _ _ (sym c.is_err.ensures.value ∙ c.if-is_err.false) c.put_printed.ensures in
+    p.0
+
+pub returns-clause-err_counts : goal.returns-clause-err_counts
+returns-clause-err_counts g c =
+    let p = gave_all _ _ _ (sym c.is_err-2.ensures.value ∙ c.if-is_err-2.false) c.put_line.ensures in
+    p.0

@@ -1,6 +1,6 @@
-use Rattle.std.proofs.Common.{ap, ◌∙◌}
+use Rattle.std.proofs.Common.{ap, arith, ◌∙◌}
 use Rattle.xs_fabric.specs.Seen.{Running}
-use Rattle.xr_commands.proofs.Rounds.{next_round, no_round}
+use Rattle.xr_commands.proofs.Rounds.{next_round, no_round, over}
 use Rattle.xr_commands.proofs.run.run_lockstep.Goals as goal
 
 pub loop-round-init : goal.loop-round-init
@@ -19,3 +19,10 @@ loop-round-preserved c =
       of = c.round.ensures.run ∙ of;
       state = next_round L s c.reserve.new.self.state c.round.new.self.state c.loop-round._round (ap (λ (m : Running). m.state) c.in_ok-reserve.ensures.rest ∙ inv.state) (c.round.ensures.state L s of);
     }
+
+pub returns : goal.returns
+returns c =
+    let inv = c.loop-round.invariant in
+    let most = c.loop-round.auto._round-end in
+    let least = c.loop-round-test.false in
+    over c.args.image.now c.args.stim.now _ _ _ _ _ inv.state (omega (arith, most, least)) (c.end-end.ensures _ _ inv.of) (c.trapped-trapped.ensures _ _ inv.of)
