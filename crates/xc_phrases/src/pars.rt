@@ -6,7 +6,7 @@ ghost use Rattle.xc_tree.specs.Plain as plain;
 ghost use Rattle.xc_tree.specs.Symbol as symbol;
 ghost use Rattle.xc_tree.specs.Symbol.{key};
 ghost use Rattle.xc_tree.specs.Trees as trees;
-ghost use Rattle.xc_phrases.specs.Counting.{bound_row, step_row};
+ghost use Rattle.xc_phrases.specs.Counting.{ReadsCounts, bound_row, step_row};
 ghost use Rattle.xc_phrases.specs.Follows.{StandsAt};
 ghost use Rattle.xc_phrases.specs.Reading.{Reads};
 ghost use Rattle.xc_phrases.specs.RowReading.{ReadsRow, StoppedRow};
@@ -36,6 +36,14 @@ pub struct Holder<T> {
 struct Bound {
     name: Id,
     number: Numeral,
+}
+
+/// The names of a replicated `par`, and the numbers that it counts from and to.
+#[derive(Drop)]
+struct Counts {
+    first: Bound,
+    second: Bound,
+    third: Id,
 }
 
 impl<'a> Parser<'a> {
@@ -103,21 +111,48 @@ impl<'a> Parser<'a> {
         ensures stopped { IfErr result
             (λ e. Stopped self.now.toks.now (room + 1) symbol.statement at e) }
     {
+        let counts = self.counts(at)?;
+        let (counts, branch) = beside(counts.value, self.branch(counts.end, room))?;
+        let (counts, body) = beside(counts, boxed(self.alloc, branch.value))?;
+        let Counts {
+            first,
+            second,
+            third,
+        } = counts;
+        let kind = St::Repl {
+            first: first.name,
+            second: second.name,
+            third,
+            from: first.number.value,
+            to: second.number.value,
+            body,
+        };
+        Ok(self.whole(at, branch.end, branch.held, kind))
+    }
+
+    /// What stands between the word of a replicated `par` and its branch, from the word on.
+    fn counts(&self, at: usize) -> Result<Read<Counts>, Stop>
+        requires short { length self.now.toks.now < 2 ^ 32 }
+        requires word { StandsAt self.now.toks.now at (key 15) }
+        requires bracket { StandsAt self.now.toks.now (at + 1) (symbol.sym 0) }
+        ensures bounds { IfOk result (λ r. (at < r.end) × (r.end ≤ length self.now.toks.now)) }
+        ensures read { IfOk result (λ r. ReadsCounts self.now.toks.now at r.end r.value) }
+        ensures stopped { IfErr result (λ e. (room : ℕ) →
+            Stopped self.now.toks.now (room + 1) symbol.statement at e) }
+    {
         let open = self.symbol(at + 1, PAREN)?;
         let int = self.word(open.end, INT_WORD)?;
         let first = self.bound(int.end, EQUALS)?;
         let second = self.bound(first.end, BELOW)?;
         let third = self.step(second.end)?;
-        let branch = self.branch(third.end, room)?;
-        let kind = St::Repl {
-            first: first.value.name,
-            second: second.value.name,
-            third: third.value,
-            from: first.value.number.value,
-            to: second.value.number.value,
-            body: boxed(self.alloc, branch.value)?,
-        };
-        Ok(self.whole(at, branch.end, branch.held, kind))
+        Ok(Read {
+            value: Counts {
+                first: first.value,
+                second: second.value,
+                third: third.value,
+            },
+            end: third.end,
+        })
     }
 
     /// A name, a symbol by its place in `SYMBOLS`, a number and a `;`.

@@ -1,6 +1,7 @@
 -- Symbols that are one token.
-use Rattle.std.proofs.Common.{◌≡◌, ℕ, ◌+◌, ◌≤◌, ◌⊎◌, inl, inr, Bool, true, false, List, [], Option, Some, None, refl, sym as sym', ap, ◌∙◌, arith}
+use Rattle.std.proofs.Common.{◌≡◌, ℕ, ◌+◌, ◌≤◌, ◌⊎◌, inl, inr, Bool, true, false, nat_eq, List, [], Option, Some, None, refl, sym as sym', ap, ◌∙◌, arith}
 use Rattle.std.proofs.Common.{get_or, ◌<◌, length}
+use Rattle.std.proofs.lemmas.Bool.{eq-eqb}
 use Rattle.std.proofs.lemmas.Option.{get_or_from_slice_get, slice_get-get_or, slice_get_within}
 use Rattle.xc_tree.specs.declared.token.Tok.{Tok}
 use Rattle.xc_tree.specs.declared.token.Kind.{Kind}
@@ -11,6 +12,7 @@ use Rattle.xc_tree.specs.Symbol.{Symbol, sym, key, a_name, a_number, Value, Nume
 use Rattle.xc_tree.specs.Derives.{On, Room, Derives, a_sym, a_key, named, counted, by_rule, Prefix, nothing, whole, begins}
 use Rattle.xc_phrases.specs.Follows.{OneOf, has}
 use Rattle.xc_phrases.specs.Reading.{Reads, Refuses}
+use Rattle.xc_phrases.proofs.Derivations.TokenSets.{false_true}
 
 abbrev kind_in : Option Tok → Kind
 kind_in None = Key 0
@@ -31,6 +33,16 @@ value_in _ = 0
 abbrev sign_in : Kind → Bool
 sign_in (Num n u) = u
 sign_in _ = false
+
+-- which of the kinds it is
+abbrev which : Kind → ℕ
+which (Name t) = 0
+which (Num n u) = 1
+which (Key w) = 2
+which (Sym o) = 3
+
+pub unlike : {k k' : Kind} → k ≡ k' → nat_eq (which k) (which k') ≡ false → ⊥
+unlike {k} {k'} e f = false_true (sym' f ∙ (ap (λ x. nat_eq (which k) (which x)) (sym' e) ∙ eq-eqb (which k) (which k) refl))
 
 pub one_pos : {toks : List Tok} {i : ℕ} {k k' : Kind} {p p' : Pos} → On toks i k p → On toks i k' p' → p ≡ p'
 one_pos a b = ap pos_in (sym' a.there ∙ b.there)

@@ -11,12 +11,16 @@ use Rattle.xc_phrases.specs.Follows.{StandsAt, is_same, has, OneOf}
 use Rattle.xc_phrases.specs.Reading.{IsFront}
 use Rattle.xc_phrases.proofs.Rests.Opening.{fronts, within, is_disjoint}
 
+-- what computes to another truth value
+pub false_true : false ≡ true → ⊥
+false_true e = cc
+
 pub is_same_eq : (x t : Symbol) → is_same x t ≡ true → x ≡ t
 is_same_eq (sym a) (sym b) e = ap sym (eqb-true a b e)
 is_same_eq (key a) (key b) e = ap key (eqb-true a b e)
 is_same_eq a_name a_name e = refl
 is_same_eq a_number a_number e = refl
-is_same_eq _ _ e = absurd (cc)
+is_same_eq _ _ e = absurd (false_true e)
 
 pub has_append : (xs ys : List Symbol) (t : Symbol) → has (xs ++ ys) t ≡ true → (has xs t ≡ true) ⊎ (has ys t ≡ true)
 has_append [] ys t e = inr e

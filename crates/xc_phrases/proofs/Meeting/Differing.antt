@@ -7,7 +7,7 @@ use Rattle.xc_tree.specs.Grammar.{Rule, rules}
 use Rattle.xc_phrases.specs.Follows.{OneOf, follows}
 use Rattle.xc_phrases.specs.Reading.{IsFront}
 use Rattle.xc_phrases.proofs.Rests.Opening.{fronts, within, is_disjoint, is_token}
-use Rattle.xc_phrases.proofs.Derivations.TokenSets.{one_disjoint, one_within, front}
+use Rattle.xc_phrases.proofs.Derivations.TokenSets.{false_true, one_disjoint, one_within, front}
 use Rattle.xc_phrases.proofs.Derivations.Covers.{row_firsts, row_nullable, implies}
 use Rattle.xc_phrases.proofs.Derivations.Statures.{RowBy, By, Tree, row_begin, opened_same}
 use Rattle.xc_phrases.proofs.Meeting.Meetings.{AllMeet, is_listed, Differ, DifferFrom, AllDiffer}
@@ -43,7 +43,7 @@ equal_same argument argument e = refl
 equal_same lval lval e = refl
 equal_same time time e = refl
 equal_same expr expr e = refl
-equal_same _ _ e = absurd (cc)
+equal_same _ _ e = absurd (false_true e)
 
 -- no token begins both rows, and where one of them reads nothing the other begins with what the symbol goes on with
 abbrev pub by_firsts : List Symbol → List Symbol → List Symbol → Bool

@@ -1,8 +1,9 @@
--- What is read with the room inside a statement.
-use Rattle.std.proofs.Common.{◌≡◌, ℕ, ◌+◌, List, subst, arith}
+-- What is read with the room inside a statement, and what stops for want of memory.
+use Rattle.std.proofs.Common.{◌≡◌, ℕ, ◌+◌, List, sym, subst, arith}
 use Rattle.xc_tree.specs.declared.token.Tok.{Tok}
 use Rattle.xc_tree.specs.Symbol.{Symbol, Value}
 use Rattle.xc_phrases.specs.declared.stop.Stop.{Stop}
+use Rattle.xc_phrases.specs.declared.stop.Stop.TheVariants.{Memory}
 use Rattle.xc_phrases.specs.Reading.{Reads, Unfit}
 use Rattle.xc_phrases.specs.Stops.{Stopped}
 use Rattle.xc_phrases.proofs.Rests.Rests.{Rest, left}
@@ -22,3 +23,7 @@ inner_unfit {toks} room {s} {i} {j} r = subst (λ (n : ℕ). Unfit toks n s i j)
 
 pub inner_roomy : {toks : List Tok} (room : ℕ) {s : Symbol} {i k : ℕ} {rs : List (Rest (Value s))} → Roomy toks room s i k rs → Roomy toks (left (room + 1) 1) s i k rs
 inner_roomy {toks} room {s} {i} {k} {rs} r = subst (λ (n : ℕ). Roomy toks n s i k rs) (one_left room) r
+
+-- want of memory stops every symbol
+pub memory_stops : (toks : List Tok) (room : ℕ) (s : Symbol) (i : ℕ) {e : Stop} → e ≡ Memory → Stopped toks room s i e
+memory_stops toks room s i h = subst (Stopped toks room s i) (sym h) tt

@@ -1,6 +1,6 @@
 -- What the answers of the functions that read statements need besides the paths.
 use Rattle.std.proofs.Common.{◌≡◌, ℕ, zero, suc, ◌+◌, Bool, true, false, if◌then◌else◌, IsTrue, List, [], ◌∷◌, Some, slice_get, refl, subst}
-use Rattle.std.specs.Prelude.{Result, Ok, Err, IfOk, IfErr}
+use Rattle.std.specs.Prelude.{Result, Ok, Err, Option, None, IfOk, IfErr, IfSome, IfNone}
 use Rattle.xw_words.specs.declared.pos.Pos.{Pos}
 use Rattle.xc_tree.specs.declared.token.Tok.{Tok}
 use Rattle.xc_tree.specs.declared.token.Kind.TheVariants.{Key, Sym}
@@ -40,6 +40,14 @@ ok_with P Q (Err e) f h = tt
 pub err_with : {T E : Type 0} (P Q : E → Type 0) (r : Result T E) → ((e : E) → P e → Q e) → IfErr r P → IfErr r Q
 err_with P Q (Ok x) f h = tt
 err_with P Q (Err e) f h = f e h
+
+pub some_with : {T : Type 0} (P Q : T → Type 0) (r : Option T) → ((x : T) → P x → Q x) → IfSome r P → IfSome r Q
+some_with P Q (Some x) f h = f x h
+some_with P Q None f h = tt
+
+pub none_with : {T : Type 0} {A B : Type 0} (r : Option T) → (A → B) → IfNone r A → IfNone r B
+none_with (Some x) f h = tt
+none_with None f h = f h
 
 -- which word begins a jump
 module _ {toks : List Tok} {i : ℕ} {p : Pos} where

@@ -10,6 +10,7 @@ use Rattle.xc_tree.specs.Derives.{On}
 use Rattle.xc_phrases.specs.Follows.{OneOf, StandsAt, has, is_same, follows, begins_operand, after_expression, binary_operators}
 use Rattle.xc_phrases.specs.Levels.{IsOperator}
 use Rattle.xc_phrases.specs.Operands.{IsSymbol, IsType}
+use Rattle.xc_phrases.proofs.Derivations.TokenSets.{false_true}
 use Rattle.xc_phrases.proofs.Derivations.Inverse.{same_kind}
 use Rattle.xc_phrases.proofs.Valued.Operators.{operator_goes_on, bracket_goes_on, Onward, goes_onward}
 use Rattle.xc_phrases.proofs.Valued.Atoms.{each_sign}
@@ -22,10 +23,10 @@ Among s (x ∷ xs) = (x ≡ sym s) ⊎ Among s xs
 
 same_token : (x : Symbol) (s : ℕ) → is_same x (sym s) ≡ true → x ≡ sym s
 same_token (sym a) s e = ap sym (eqb-true a s e)
-same_token x s e = absurd (cc)
+same_token x s e = absurd (false_true e)
 
 pub among_of : (xs : List Symbol) (s : ℕ) → has xs (sym s) ≡ true → Among s xs
-among_of [] s e = absurd (cc)
+among_of [] s e = absurd (false_true e)
 among_of (x ∷ xs) s e = elim (or_cases (is_same x (sym s)) (has xs (sym s)) e) [ inl h ↦ inl (same_token x s h) | inr h ↦ inr (among_of xs s h) ]
 
 -- the kinds of token that an expression begins with
@@ -80,7 +81,8 @@ module _ {toks : List Tok} {i : ℕ} where
   begins_by a_name on e = (Name on.0, on.1, on.2, tt)
   begins_by a_number on e = (Num on.0 on.1, on.2, on.3, tt)
   begins_by (sym s) on e = (Sym s, on.0, on.1, from_among s (among_of begins_operand s e))
-  begins_by t on e = absurd (cc)
+  begins_by (key w) on e = absurd (false_true e)
+  begins_by t on e = absurd on
 
   -- the token there is one that an expression begins with
   pub begins_as : {k : Kind} {p : Pos} → On toks i k p → OneOf toks i begins_operand → BeginsAs k
@@ -104,7 +106,10 @@ module _ {toks : List Tok} {i : ℕ} where
     | inl h ↦ inl (on.0, subst (λ x. On toks i (Sym x) on.0) (sym' (eqb-true 9 s h)) on.1)
     | inr h ↦ inr (goes_onward toks 10 i (record { token = sym s; stands = on; among = has_within (sym 4 ∷ binary_operators) (follows (level 10)) (sym s) refl h }))
   ]
-  after_by t on e = absurd (cc)
+  after_by (key w) on e = absurd (false_true e)
+  after_by a_name on e = absurd (false_true e)
+  after_by a_number on e = absurd (false_true e)
+  after_by t on e = absurd on
 
   pub after_is : OneOf toks i after_expression → IsSymbol toks i 9 ⊎ Onward toks 10 i
   after_is o = after_by o.token o.stands o.among
@@ -114,10 +119,13 @@ module _ {toks : List Tok} {i : ℕ} where
     | inl h ↦ inl (on.0, subst (λ x. On toks i (Key x) on.0) (sym' (eqb-true 11 w h)) on.1)
     | inr h ↦ elim (or_cases (nat_eq 26 w) false h) [
       | inl h ↦ inr (on.0, subst (λ x. On toks i (Key x) on.0) (sym' (eqb-true 26 w h)) on.1)
-      | inr h ↦ absurd (cc)
+      | inr h ↦ absurd (false_true h)
     ]
   ]
-  type_by t on e = absurd (cc)
+  type_by (sym o) on e = absurd (false_true e)
+  type_by a_name on e = absurd (false_true e)
+  type_by a_number on e = absurd (false_true e)
+  type_by t on e = absurd on
 
   pub type_is : OneOf toks i (key 11 ∷ key 26 ∷ []) → IsType toks i
   type_is o = type_by o.token o.stands o.among
@@ -127,6 +135,16 @@ past_end : (xs : List Tok) (i : ℕ) (t : Tok) → slice_get xs i ≡ Some t →
 past_end [] i t e = absurd (cc)
 past_end (x ∷ xs) zero t e = omega arith
 past_end (x ∷ xs) (suc i) t e = let h = past_end xs i t e in omega arith
+
+stands_within : (toks : List Tok) (i : ℕ) (t : Symbol) → StandsAt toks i t → i < length toks
+stands_within toks i (sym o) s = past_end toks i _ s.1.there
+stands_within toks i (key w) s = past_end toks i _ s.1.there
+stands_within toks i a_name s = past_end toks i _ s.2.there
+stands_within toks i a_number s = past_end toks i _ s.3.there
+stands_within toks i _ s = absurd s
+
+pub nothing_past : {toks : List Tok} {i : ℕ} {xs : List Symbol} → length toks ≤ i → OneOf toks i xs → ⊥
+nothing_past {toks} {i} h o = let g = stands_within toks i o.token o.stands in absurd (omega arith)
 
 pub none_past : (toks : List Tok) (i : ℕ) → length toks ≤ i → OneOf toks i begins_operand → ⊥
 none_past toks i h o = let y = begins_by o.token o.stands o.among in let g = past_end toks i _ y.2.there in absurd (omega arith)

@@ -10,7 +10,7 @@ use Rattle.xc_tree.specs.Grammar.{Rule, rules}
 use Rattle.xc_tree.specs.Derives.{On, Among, Room, Derives, a_sym, a_key, named, counted, by_rule, Prefix, nothing, whole, begins}
 use Rattle.xc_phrases.specs.Follows.{StandsAt}
 use Rattle.xc_phrases.proofs.Rests.Opening.{is_token, as_token}
-use Rattle.xc_phrases.proofs.Derivations.TokenSets.{same_kind}
+use Rattle.xc_phrases.proofs.Derivations.TokenSets.{false_true, same_kind}
 
 -- this token stands at a place, with this value
 abbrev pub TokenAt : List Tok → ℕ → (t : Symbol) → Value t → Type 0
@@ -32,7 +32,7 @@ no_rule (sym o) e a = let h = a.there in absurd (cc)
 no_rule (key w) e a = let h = a.there in absurd (cc)
 no_rule a_name e a = let h = a.there in absurd (cc)
 no_rule a_number e a = let h = a.there in absurd (cc)
-no_rule _ e a = absurd (cc)
+no_rule _ e a = absurd (false_true e)
 
 pub token_derives : {toks : List Tok} {room : Room} (t : Symbol) {k : ℕ} {v : Value t} → TokenAt toks k t v → Derives toks room t k (k + 1) v
 token_derives (sym o) on = a_sym on

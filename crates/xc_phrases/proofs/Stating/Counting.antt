@@ -1,15 +1,24 @@
--- The rows between the brackets of a replicated `par`.
-use Rattle.std.proofs.Common.{ℕ, List, [], ◌∷◌, refl}
+-- The rows between the brackets of a replicated `par`, and the path through it.
+use Rattle.std.proofs.Common.{ℕ, ◌+◌, List, [], ◌∷◌, refl, arith}
 use Rattle.xw_words.specs.declared.pos.Pos.{Pos}
 use Rattle.xc_tree.specs.declared.token.Tok.{Tok}
+use Rattle.xc_tree.specs.declared.token.Kind.TheVariants.{Key, Sym}
 use Rattle.xc_tree.specs.declared.tree.Id.{Id}
-use Rattle.xc_tree.specs.Symbol.{Numeral, sym, a_name, a_number}
+use Rattle.xc_tree.specs.Plain as plain
+use Rattle.xc_tree.specs.Symbol.{Numeral, sym, key, a_name, a_number, branch, statement}
+use Rattle.xc_tree.specs.Grammar.{statement_of}
+use Rattle.xc_tree.specs.Derives.{On, extent}
 use Rattle.xc_phrases.specs.declared.stop.Stop.{Stop}
 use Rattle.xc_phrases.specs.Counting.{bound_row, step_row}
 use Rattle.xc_phrases.specs.Reading.{Reads}
 use Rattle.xc_phrases.specs.RowReading.{ReadsRow, StoppedRow}
 use Rattle.xc_phrases.specs.Stops.{Stopped}
+use Rattle.xc_phrases.proofs.Rests.Rests.{left}
+use Rattle.xc_phrases.proofs.Reading.Paths.{begin, at_symbol, over_word, read, stops}
+use Rattle.xc_phrases.proofs.Reading.Insides.{inner_reads, inner_stopped}
+use Rattle.xc_phrases.proofs.Reading.Lasts.{read_last, stops_last}
 use Rattle.xc_phrases.proofs.Reading.RowReads.{row_read, row_goes, row_stops, no_more_row}
+use Rattle.xc_phrases.proofs.Reading.RowSteps.{read_row, stops_row}
 
 module _ (toks : List Tok) (room o i : ℕ) where
   -- a name, a symbol, a number and a semicolon
@@ -53,3 +62,31 @@ module _ (toks : List Tok) (room i : ℕ) where
 
       pub step_read : {l : ℕ} {q : Pos} → Reads toks room (sym 1) k l q → ReadsRow toks room step_row i l (n, (p, (q, tt)))
       step_read x = row_read name (row_read symbol (row_read x no_more_row refl) refl) refl
+
+-- a replicated `par`, from its word on
+module _ {toks : List Tok} (room : ℕ) {at : ℕ} {p q : Pos} (w : On toks at (Key 15) p) (b : On toks (at + 1) (Sym 0) q) where
+  pub counts_paren_stops : (e : Stop) → Stopped toks (left (room + 1) 1) (sym 0) (at + 1) e → Stopped toks (room + 1) statement at e
+  counts_paren_stops e x = stops e (at_symbol (over_word (begin refl (omega arith)) w refl) b) x refl
+
+  module _ {k : ℕ} {r : Pos} (paren : Reads toks (left (room + 1) 1) (sym 0) (at + 1) k r) where
+    pub counts_int_stops : (e : Stop) → Stopped toks (left (room + 1) 1) (key 11) k e → Stopped toks (room + 1) statement at e
+    counts_int_stops e x = stops e (read (at_symbol (over_word (begin refl (omega arith)) w refl) b) paren refl) x refl
+
+    module _ {l : ℕ} {s : Pos} (int : Reads toks (left (room + 1) 1) (key 11) k l s) where
+      pub counts_first_stops : (e : Stop) → StoppedRow toks (left (room + 1) 1) (bound_row 22) l e → Stopped toks (room + 1) statement at e
+      counts_first_stops e x = stops_row 1 (bound_row 22) _ e (read (read (at_symbol (over_word (begin refl (omega arith)) w refl) b) paren refl) int refl) x refl
+
+      module _ {m : ℕ} {n : Id} {v : Numeral} {a c : Pos} (first : ReadsRow toks (left (room + 1) 1) (bound_row 22) l m (n, (a, (v, (c, tt))))) where
+        pub counts_second_stops : (e : Stop) → StoppedRow toks (left (room + 1) 1) (bound_row 20) m e → Stopped toks (room + 1) statement at e
+        counts_second_stops e x = stops_row 1 (bound_row 20) _ e (read_row 1 (bound_row 22) _ (read (read (at_symbol (over_word (begin refl (omega arith)) w refl) b) paren refl) int refl) first refl refl) x refl
+
+        module _ {m' : ℕ} {n' : Id} {v' : Numeral} {a' c' : Pos} (second : ReadsRow toks (left (room + 1) 1) (bound_row 20) m m' (n', (a', (v', (c', tt))))) where
+          pub counts_third_stops : (e : Stop) → StoppedRow toks (left (room + 1) 1) step_row m' e → Stopped toks (room + 1) statement at e
+          counts_third_stops e x = stops_row 1 step_row _ e (read_row 1 (bound_row 20) _ (read_row 1 (bound_row 22) _ (read (read (at_symbol (over_word (begin refl (omega arith)) w refl) b) paren refl) int refl) first refl refl) second refl refl) x refl
+
+          module _ {j : ℕ} {o : Id} {d f : Pos} (third : ReadsRow toks (left (room + 1) 1) step_row m' j (o, (d, (f, tt)))) where
+            pub counted_stops : (e : Stop) → Stopped toks room branch j e → Stopped toks (room + 1) statement at e
+            counted_stops e x = stops_last e (read_row 1 step_row _ (read_row 1 (bound_row 20) _ (read_row 1 (bound_row 22) _ (read (read (at_symbol (over_word (begin refl (omega arith)) w refl) b) paren refl) int refl) first refl refl) second refl refl) third refl refl) (inner_stopped toks room branch j e x) refl (λ e x h. h)
+
+            pub counted_reads : {g : ℕ} {y : plain.Branch} → Reads toks room branch j g y → Reads toks (room + 1) statement at g (statement_of (extent toks at g) (plain.replicated n n' o v.value v'.value y))
+            counted_reads x = read_last (read_row 1 step_row _ (read_row 1 (bound_row 20) _ (read_row 1 (bound_row 22) _ (read (read (at_symbol (over_word (begin refl (omega arith)) w refl) b) paren refl) int refl) first refl refl) second refl refl) third refl refl) (inner_reads room x) refl refl (λ e x h. h)

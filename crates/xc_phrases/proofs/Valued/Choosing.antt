@@ -14,6 +14,7 @@ use Rattle.xc_phrases.specs.Follows.{has, is_same, follows}
 use Rattle.xc_phrases.specs.Reading.{GoesOn, IsFront, Reads, Refuses, TooDeep}
 use Rattle.xc_phrases.specs.Stops.{Stopped}
 use Rattle.xc_phrases.specs.Levels.{level_of}
+use Rattle.xc_phrases.proofs.Derivations.TokenSets.{false_true}
 use Rattle.xc_phrases.proofs.Derivations.Inverse.{Begun, by_rules, from_rules, by_starts, from_starts, widen, widen_prefix, any_wider, below_wider, same_kind, same_pos}
 use Rattle.xc_phrases.proofs.Valued.Operators.{token_is, token_prefix, Onward, index, operates, goes_onward}
 use Rattle.xc_phrases.proofs.Derivations.Heights.{p_level, depth_fits, shallow, no_room}
@@ -31,11 +32,11 @@ has_same xs (sym a) (sym b) e h = subst (λ y. has xs (sym y) ≡ true) (eqb-tru
 has_same xs (key a) (key b) e h = subst (λ y. has xs (key y) ≡ true) (eqb-true a b h) e
 has_same xs a_name a_name e h = e
 has_same xs a_number a_number e h = e
-has_same xs (sym a) t e h = absurd (cc)
-has_same xs (key a) t e h = absurd (cc)
-has_same xs a_name t e h = absurd (cc)
-has_same xs a_number t e h = absurd (cc)
-has_same xs s t e h = absurd (cc)
+has_same xs (sym a) t e h = absurd (false_true h)
+has_same xs (key a) t e h = absurd (false_true h)
+has_same xs a_name t e h = absurd (false_true h)
+has_same xs a_number t e h = absurd (false_true h)
+has_same xs s t e h = absurd (false_true h)
 
 pub has_within : (xs ys : List Symbol) (t : Symbol) → within xs ys ≡ true → has xs t ≡ true → has ys t ≡ true
 has_within [] ys t w h = absurd (cc)

@@ -11,6 +11,7 @@ use Rattle.xc_tree.specs.Derives.{On, Room, unlimited, at_most, HasRoom, Derives
 use Rattle.xc_phrases.specs.Follows.{StandsAt, has, is_same, operators_to}
 use Rattle.xc_phrases.specs.Reading.{GoesOn}
 use Rattle.xc_phrases.specs.Levels.{levels, level_of, IsOperator}
+use Rattle.xc_phrases.proofs.Derivations.TokenSets.{false_true}
 use Rattle.xc_phrases.proofs.Derivations.Inverse.{Ends, Starts, by_rules, from_rules, by_starts}
 
 abbrev Member : ℕ → List ℕ → Type 0
@@ -193,7 +194,7 @@ module _ (toks : List Tok) where
 
   index_onward : (m i : ℕ) (t : Symbol) → StandsAt toks i t → is_same (sym 4) t ≡ true → Onward m i
   index_onward m i (sym s) on e = index (subst (λ k. On toks i (Sym k) on.0) (sym' (eqb-true 4 s e)) on.1)
-  index_onward m i t on e = absurd (cc)
+  index_onward m i t on e = absurd (false_true e)
 
   pub goes_onward : (m i : ℕ) → GoesOn toks (level m) i → Onward m i
   goes_onward m i g = elim (or_cases (is_same (sym 4) g.token) (has (operators_to m) g.token) g.among) [

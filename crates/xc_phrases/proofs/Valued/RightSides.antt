@@ -8,7 +8,7 @@ use Rattle.xc_tree.specs.declared.tree.Rhs.{Rhs}
 use Rattle.xc_tree.specs.declared.token.Tok.{Tok}
 use Rattle.xc_tree.specs.declared.token.Kind.TheVariants.{Name, Sym}
 use Rattle.xc_tree.specs.Plain as plain
-use Rattle.xc_tree.specs.Symbol.{Symbol, sym, a_name, a_number, expr, level, lval, place_value, atom, argument, arguments, call, rhs, initial, time, stamp}
+use Rattle.xc_tree.specs.Symbol.{Symbol, sym, key, a_name, a_number, expr, level, lval, place_value, atom, argument, arguments, call, rhs, initial, time, stamp}
 use Rattle.xc_tree.specs.Depth.{of_expression}
 use Rattle.xc_tree.specs.Derives.{On, Room, unlimited, at_most, HasRoom, Derives, named, by_rule, Prefix, nothing, whole, begins, position}
 use Rattle.xc_tree.specs.Trees.{argument_of}
@@ -25,6 +25,7 @@ use Rattle.xc_phrases.proofs.Rests.Choices.{all_open, no_one, stuck}
 use Rattle.xc_phrases.proofs.Rests.Aheads.{alone_read, not_first, read_ahead, stops_ahead}
 use Rattle.xc_phrases.proofs.Reading.Loops.{Run, listing}
 use Rattle.xc_phrases.proofs.Reading.Rows.{with_comma, last_one, row_stops}
+use Rattle.xc_phrases.proofs.Derivations.TokenSets.{false_true}
 use Rattle.xc_phrases.proofs.Derivations.Inverse.{by_rules, by_starts, from_rules, from_starts, widen, widen_prefix, below_wider, same_kind}
 use Rattle.xc_phrases.proofs.Valued.Operators.{token_is, token_prefix, is_operator, Onward, index, operates}
 use Rattle.xc_phrases.proofs.Derivations.Heights.{p_expr, depth_fits, no_room}
@@ -42,7 +43,10 @@ place_is (x ∷ xs) (suc i) t h = place_is xs i t (omega arith)
 
 name_by : {toks : List Tok} {i : ℕ} (t : Symbol) → StandsAt toks i t → has (a_name ∷ []) t ≡ true → StandsAt toks i a_name
 name_by a_name on e = on
-name_by t on e = absurd (cc)
+name_by (sym o) on e = absurd (false_true e)
+name_by (key w) on e = absurd (false_true e)
+name_by a_number on e = absurd (false_true e)
+name_by t on e = absurd on
 
 pub name_only : {toks : List Tok} {i : ℕ} → OneOf toks i (a_name ∷ []) → StandsAt toks i a_name
 name_only o = name_by o.token o.stands o.among
@@ -165,7 +169,8 @@ module _ {toks : List Tok} {at : ℕ} where
         | inl z ↦ at_symbol (begin refl tt) (subst (λ x. On toks at (Sym x) on.0) z on.1)
         | inr z ↦ each_sign (λ x. On toks at (Sym x) on.0 → Roomy toks room arguments at at (listing list_of_arguments [] ∷ [])) (λ y. at_symbol (begin refl tt) y) (λ y. at_symbol (begin refl tt) y) (λ y. at_symbol (begin refl tt) y) (λ y. at_symbol (begin refl tt) y) s z.0 z.1 on.1
       ]
-      listed_by t on e = absurd (cc)
+      listed_by (key w) on e = absurd (false_true e)
+      listed_by t on e = absurd on
 
   pub first_listed : {room end : ℕ} {v : plain.Argument} → OneOf toks at begins_operand → Reads toks room argument at end v → Listed toks room at end (v ∷ [])
   first_listed {room} {end} {v} o r = record { from = at; before = []; last = v; stands = listed_at o; read = r; all_are = refl }

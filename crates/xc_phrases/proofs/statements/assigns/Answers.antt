@@ -1,10 +1,11 @@
-use Rattle.std.proofs.Common.{◌≡◌, sym, ◌∙◌, true, arith}
+use Rattle.std.proofs.Common.{refl, ◌≡◌, sym, ◌∙◌, true, arith}
 use Rattle.xc_tree.specs.Symbol as symbol
 use Rattle.xc_tree.specs.declared.token.Kind.TheVariants.{Sym}
 use Rattle.xc_tree.specs.Derives.{On}
 use Rattle.xc_phrases.specs.Begun.{assigning}
 use Rattle.xc_phrases.specs.Follows.{has}
-use Rattle.xc_phrases.proofs.Derivations.Single.{one_symbol, other_kind}
+use Rattle.xc_phrases.proofs.Derivations.TokenSets.{false_true}
+use Rattle.xc_phrases.proofs.Derivations.Single.{one_symbol, other_kind, unlike}
 use Rattle.xc_phrases.proofs.Reading.Stated.{among_assigning, only_symbols}
 use Rattle.xc_phrases.proofs.Reading.Tests.{stands_there}
 use Rattle.xc_phrases.proofs.statements.assigns.Goals as goal
@@ -17,13 +18,13 @@ returns-in-Sym-clause-yes c =
 pub returns-in-Sym-clause-no : goal.returns-in-Sym-clause-no
 returns-in-Sym-clause-no c =
     let on : On c.args.toks.now c.args.at (Sym c.in-Sym.symbol) _ = stands_there c.args.toks.now c.args.at c.index-toks-at.result _ (omega arith) c.index-toks-at.is c.in-Sym.is in
-    λ h o. let e = among_assigning on o in let f = c.assigns_by.ensures in absurd (cc)
+    λ h o. false_true (sym h ∙ c.assigns_by.ensures ∙ among_assigning on o)
 
 pub returns-in-Key-clause-no : goal.returns-in-Key-clause-no
-returns-in-Key-clause-no c = λ h. only_symbols (λ n p on. let e = other_kind c.args.toks.now c.args.at _ _ _ p (omega arith) c.in-Key.is on in absurd (cc))
+returns-in-Key-clause-no c = λ h. only_symbols (λ n p on. unlike (other_kind c.args.toks.now c.args.at _ _ _ p (omega arith) c.in-Key.is on) refl)
 
 pub returns-in-Name-clause-no : goal.returns-in-Name-clause-no
-returns-in-Name-clause-no c = λ h. only_symbols (λ n p on. let e = other_kind c.args.toks.now c.args.at _ _ _ p (omega arith) c.in-Name.is on in absurd (cc))
+returns-in-Name-clause-no c = λ h. only_symbols (λ n p on. unlike (other_kind c.args.toks.now c.args.at _ _ _ p (omega arith) c.in-Name.is on) refl)
 
 pub returns-in-Num-clause-no : goal.returns-in-Num-clause-no
-returns-in-Num-clause-no c = λ h. only_symbols (λ n p on. let e = other_kind c.args.toks.now c.args.at _ _ _ p (omega arith) c.in-Num.is on in absurd (cc))
+returns-in-Num-clause-no c = λ h. only_symbols (λ n p on. unlike (other_kind c.args.toks.now c.args.at _ _ _ p (omega arith) c.in-Num.is on) refl)

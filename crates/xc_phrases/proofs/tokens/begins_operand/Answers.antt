@@ -1,6 +1,7 @@
-use Rattle.std.proofs.Common.{arith}
+use Rattle.std.proofs.Common.{sym, ◌∙◌, arith}
 use Rattle.xc_tree.specs.declared.token.Kind.TheVariants.{Name, Num, Key, Sym}
 use Rattle.xc_tree.specs.Derives.{On}
+use Rattle.xc_phrases.proofs.Derivations.TokenSets.{false_true}
 use Rattle.xc_phrases.proofs.Reading.Tests.{stands_there, name_begins, number_begins, symbol_begins, begins_as}
 use Rattle.xc_phrases.proofs.tokens.begins_operand.Goals as goal
 
@@ -22,7 +23,7 @@ returns-in-Sym-clause-yes c =
 pub returns-in-Sym-clause-no : goal.returns-in-Sym-clause-no
 returns-in-Sym-clause-no c =
     let on : On c.args.toks.now c.args.at (Sym c.in-Sym.symbol) _ = stands_there c.args.toks.now c.args.at c.index-toks-at.result _ (omega arith) c.index-toks-at.is c.in-Sym.is in
-    λ h o. let t = c.begins_operand_as.ensures.1 (begins_as on o) in absurd (cc)
+    λ h o. false_true (sym h ∙ c.begins_operand_as.ensures.1 (begins_as on o))
 
 pub returns-in-Key-clause-no : goal.returns-in-Key-clause-no
 returns-in-Key-clause-no c =

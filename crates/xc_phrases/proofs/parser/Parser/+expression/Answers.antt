@@ -1,4 +1,4 @@
-use Rattle.std.proofs.Common.{rules, ◌≡◌, ◌≤◌, inl, inr, ◌+◌, ◌-◌, refl, sym, subst, arith}
+use Rattle.std.proofs.Common.{rules, ◌≡◌, ◌≤◌, inl, inr, ◌+◌, ◌-◌, refl, sym, subst, ◌∙◌, arith}
 use Rattle.xc_tree.specs.declared.token.Kind.TheVariants.{Name, Num, Key, Sym}
 use Rattle.xw_words.specs.declared.pos.Pos.{Pos}
 use Rattle.xc_tree.specs.Plain as plain
@@ -9,6 +9,8 @@ use Rattle.xc_tree.specs.Trees.{expression_of}
 use Rattle.xc_phrases.specs.Reading.{Reads, Refuses, TooDeep}
 use Rattle.xc_phrases.specs.Stops.{Stopped}
 use Rattle.xc_phrases.specs.Operands.{IsSymbol}
+use Rattle.xc_phrases.proofs.Derivations.TokenSets.{false_true}
+use Rattle.xc_phrases.proofs.Reading.Insides.{memory_stops}
 use Rattle.xc_phrases.proofs.Reading.Tests.{is_symbol, stands_there, stands_here, begins_as, none_past, lower}
 use Rattle.xc_phrases.proofs.Valued.Atoms.{reads_number, deep_number, no_operand, reads_name, deep_name, reads_element, open_element, stops_element, reads_variable, deep_variable, reads_place, open_place, stops_place, reads_signed, stops_signed, deep_sign, open_int, open_unsigned, stops_int, stops_unsigned, deep_int, deep_unsigned, cast_reads}
 use Rattle.xc_phrases.proofs.Reading.Runs.{Run, out_of_all, stops_inside, not_closed, closed, no_first, no_operand_of, climb_from, climbs, right_stops, too_deep, climbed}
@@ -45,7 +47,7 @@ bare-returns-else-is_sign-clause-stopped t c =
       | inl e ↦
           let paren : IsSymbol c.args.self.now.toks.now c.args.at 0 = is_symbol 0 on e in
           c.requires.no_bracket (record { paren = paren; no_type = λ y. c.is_cast.ensures.no c.if-is_cast.false (record { paren = paren; type = y }) })
-      | inr h ↦ let y = c.is_sign.ensures.1 h in absurd (cc)
+      | inr h ↦ false_true (sym c.if-is_sign.false ∙ c.is_sign.ensures.1 h)
     ])
 
 pub bare-returns-in-Key-clause-stopped : goal.bare-returns-in-Key-clause-stopped
@@ -286,3 +288,21 @@ variable-returns-in-Ok-index-clause-lval t c =
     let close = c.is_symbol-2.ensures.yes c.if-not-is_symbol-2.false in
     let r = subst (λ i. Reads c.args.self.now.toks.now (c.args.room - 1) expr i c.in-Ok-expression.place.end (expression_of c.in-Ok-expression.place.tree)) e c.in-Ok-expression.ensures.read in
     subst (Reads c.args.self.now.toks.now c.args.room lval c.args.at (c.in-Ok-expression.place.end + 1)) (sym c.in-Ok-index.ensures.made) (subst (λ x. Reads c.args.self.now.toks.now c.args.room lval c.args.at (c.in-Ok-expression.place.end + 1) (plain.expression (plain.index x (expression_of c.in-Ok-expression.place.tree)) c.args.pos)) (sym c.in-Ok.ensures) (reads_place h on opened.1.1 r close.1.1))
+
+pub choice-returns-in-Err-choice-clause-stopped : goal.choice-returns-in-Err-choice-clause-stopped
+choice-returns-in-Err-choice-clause-stopped t c = λ at r. memory_stops c.args.self.now.toks.now c.args.room expr at c.in-Err-choice.ensures.memory
+
+pub climb-returns-in-Err-binary-clause-stopped : goal.climb-returns-in-Err-binary-clause-stopped
+climb-returns-in-Err-binary-clause-stopped t c = λ at r. memory_stops c.args.self.now.toks.now c.args.room (level c.args.level) at c.in-Err-binary.ensures.memory
+
+pub signed-returns-in-Err-unary-clause-stopped : goal.signed-returns-in-Err-unary-clause-stopped
+signed-returns-in-Err-unary-clause-stopped t c = memory_stops c.args.self.now.toks.now c.args.room (level 0) c.args.at c.in-Err-unary.ensures.memory
+
+pub cast-returns-in-Err-cast-clause-stopped : goal.cast-returns-in-Err-cast-clause-stopped
+cast-returns-in-Err-cast-clause-stopped t c = memory_stops c.args.self.now.toks.now c.args.room (level 0) c.args.at c.in-Err-cast.ensures.memory
+
+pub variable-returns-in-Err-index-clause-stopped : goal.variable-returns-in-Err-index-clause-stopped
+variable-returns-in-Err-index-clause-stopped t c = memory_stops c.args.self.now.toks.now c.args.room (level 0) c.args.at c.in-Err-index.ensures.memory
+
+pub variable-returns-in-Err-index-clause-no_lval : goal.variable-returns-in-Err-index-clause-no_lval
+variable-returns-in-Err-index-clause-no_lval t c = memory_stops c.args.self.now.toks.now c.args.room lval c.args.at c.in-Err-index.ensures.memory

@@ -5,17 +5,14 @@ use Rattle.xc_phrases.proofs.Stating.Branches.{body_stops, branch_added, branch_
 use Rattle.xc_phrases.proofs.Stating.CaseLists.{case_added, case_missing, case_stops, first_case, select_closed, select_unopened}
 use Rattle.xc_phrases.proofs.Stating.CaseSteps.{case_body_stops, case_body_tokens, default_colon_stops, default_reads, default_stops, default_word_stops, case_event_stops, leads_end, leads_more, leads_none, leads_open, leads_stop, reads_case, case_word_stops}
 use Rattle.xc_phrases.proofs.Stating.Conditionals.{close_stops, else_reads, else_stops, open_stops, test_stops, then_reads, then_stops}
+use Rattle.xc_phrases.proofs.Stating.Counting.{counted_reads, counted_stops}
 use Rattle.xc_phrases.proofs.Derivations.Counts.{branches_tokens_push, cases_tokens_push, held_branch, held_while, held_do, held_for, held_block, held_if, held_if_else, held_transaction}
 use Rattle.xc_phrases.proofs.Reading.Exits.{handed_on}
-use Rattle.xc_phrases.proofs.Reading.Insides.{inner_reads, inner_stopped}
-use Rattle.xc_phrases.proofs.Reading.Lasts.{read_last, stops_last}
-use Rattle.xc_phrases.proofs.Reading.Paths.{at_symbol, begin, over_word, read, stops}
-use Rattle.xc_phrases.proofs.Reading.RowSteps.{read_row, stops_row}
+use Rattle.xc_phrases.proofs.Reading.Insides.{memory_stops}
 use Rattle.xc_phrases.proofs.Reading.Rounds.{while_open_stops, while_test_stops, while_close_stops, while_body_stops, while_reads, do_body_stops, do_tail_stops, do_reads, for_body_stops, for_reads, for_made}
 use Rattle.xc_phrases.proofs.Stating.Simples.{deep_begins, none_begins, semicolon_reads}
 use Rattle.xc_phrases.proofs.Reading.Stated.{begins_all, err_room, err_with, from_place, ok_room, ok_with, stopped_from, symbol_there}
 use Rattle.xc_phrases.specs.Begun.{token_of}
-use Rattle.xc_phrases.specs.Counting.{bound_row, step_row}
 use Rattle.xc_tree.proofs.Forms.{action-Par, action-Repl, action-Select, branch-made, case-made, action-While, action-DoWhile, action-Block, action-Empty, action-If, action-Tran}
 use Rattle.xc_tree.specs.Trees.{place_of, expression_of}
 use Rattle.xc_tree.specs.Symbol as symbol
@@ -45,65 +42,36 @@ branch-returns-clause-read t c =
     let body = rw c.in_ok-place-2.ensures.next at c.statement.ensures.read in
     rw branch-made (rw c.in_ok-place-2.ensures.value (branch_reads c.in_ok-place.ensures.read body))
 
-pub replicated-returns-in_err-open-clause-stopped : goal.replicated-returns-in_err-open-clause-stopped
-replicated-returns-in_err-open-clause-stopped t c =
-    let s0 = at_symbol (over_word (begin refl (omega arith)) c.requires.word.1 refl) c.requires.bracket.1 in
-    handed_on _ c.from_residual.result c.from_residual.ensures.1 (stops _ s0 (c.in_err-open.ensures.stopped _) refl)
+pub replicated-returns-in_err-counts-clause-stopped : goal.replicated-returns-in_err-counts-clause-stopped
+replicated-returns-in_err-counts-clause-stopped t c =
+    handed_on _ c.from_residual.result c.from_residual.ensures.1 (c.in_err-counts.ensures.stopped c.args.room)
 
-pub replicated-returns-in_err-int-clause-stopped : goal.replicated-returns-in_err-int-clause-stopped
-replicated-returns-in_err-int-clause-stopped t c =
-    let s0 = at_symbol (over_word (begin refl (omega arith)) c.requires.word.1 refl) c.requires.bracket.1 in
-    let s1 = read s0 (c.in_ok-open.ensures.read _) refl in
-    handed_on _ c.from_residual-in_err-int.result c.from_residual-in_err-int.ensures.1 (stops _ s1 (c.in_err-int.ensures.stopped _) refl)
+pub replicated-returns-in_err-counts-2-clause-stopped : goal.replicated-returns-in_err-counts-2-clause-stopped
+replicated-returns-in_err-counts-2-clause-stopped t c =
+    let r = c.in_ok-counts.ensures.read in
+    let branch = rw c.in_err-counts-2.ensures.stopped at c.branch-self.ensures.stopped in
+    handed_on _ c.from_residual-in_err-counts-2.result c.from_residual-in_err-counts-2.ensures.1
+    (counted_stops c.args.room c.requires.word.1 c.requires.bracket.1 (r.opens _) (r.types _) (r.firsts.2 _) (r.seconds.2 _) (r.thirds.2 _) _ branch)
 
-pub replicated-returns-in_err-first-clause-stopped : goal.replicated-returns-in_err-first-clause-stopped
-replicated-returns-in_err-first-clause-stopped t c =
-    let s0 = at_symbol (over_word (begin refl (omega arith)) c.requires.word.1 refl) c.requires.bracket.1 in
-    let s1 = read s0 (c.in_ok-open.ensures.read _) refl in
-    let s2 = read s1 (c.in_ok-int.ensures.read _) refl in
-    handed_on _ c.from_residual-in_err-first.result c.from_residual-in_err-first.ensures.1 (stops_row 1 (bound_row 22) _ _ s2 (c.in_err-first.ensures.stopped _) refl)
-
-pub replicated-returns-in_err-second-clause-stopped : goal.replicated-returns-in_err-second-clause-stopped
-replicated-returns-in_err-second-clause-stopped t c =
-    let s0 = at_symbol (over_word (begin refl (omega arith)) c.requires.word.1 refl) c.requires.bracket.1 in
-    let s1 = read s0 (c.in_ok-open.ensures.read _) refl in
-    let s2 = read s1 (c.in_ok-int.ensures.read _) refl in
-    let s3 = read_row 1 (bound_row 22) _ s2 (c.in_ok-first.ensures.read.2 _) refl refl in
-    handed_on _ c.from_residual-in_err-second.result c.from_residual-in_err-second.ensures.1 (stops_row 1 (bound_row 20) _ _ s3 (c.in_err-second.ensures.stopped _) refl)
-
-pub replicated-returns-in_err-third-clause-stopped : goal.replicated-returns-in_err-third-clause-stopped
-replicated-returns-in_err-third-clause-stopped t c =
-    let s0 = at_symbol (over_word (begin refl (omega arith)) c.requires.word.1 refl) c.requires.bracket.1 in
-    let s1 = read s0 (c.in_ok-open.ensures.read _) refl in
-    let s2 = read s1 (c.in_ok-int.ensures.read _) refl in
-    let s3 = read_row 1 (bound_row 22) _ s2 (c.in_ok-first.ensures.read.2 _) refl refl in
-    let s4 = read_row 1 (bound_row 20) _ s3 (c.in_ok-second.ensures.read.2 _) refl refl in
-    handed_on _ c.from_residual-in_err-third.result c.from_residual-in_err-third.ensures.1 (stops_row 1 step_row _ _ s4 (c.in_err-third.ensures.stopped _) refl)
-
-pub replicated-returns-in_err-branch-clause-stopped : goal.replicated-returns-in_err-branch-clause-stopped
-replicated-returns-in_err-branch-clause-stopped t c =
-    let s0 = at_symbol (over_word (begin refl (omega arith)) c.requires.word.1 refl) c.requires.bracket.1 in
-    let s1 = read s0 (c.in_ok-open.ensures.read _) refl in
-    let s2 = read s1 (c.in_ok-int.ensures.read _) refl in
-    let s3 = read_row 1 (bound_row 22) _ s2 (c.in_ok-first.ensures.read.2 _) refl refl in
-    let s4 = read_row 1 (bound_row 20) _ s3 (c.in_ok-second.ensures.read.2 _) refl refl in
-    let s5 = read_row 1 step_row _ s4 (c.in_ok-third.ensures.read.2 _) refl refl in
-    handed_on _ c.from_residual-in_err-branch.result c.from_residual-in_err-branch.ensures.1
-    (stops_last _ s5 (inner_stopped c.args.self.now.toks.now c.args.room symbol.branch _ _ c.in_err-branch.ensures.stopped) refl (λ e x h. h))
+pub replicated-returns-in_err-counts-3-clause-stopped : goal.replicated-returns-in_err-counts-3-clause-stopped
+replicated-returns-in_err-counts-3-clause-stopped t c =
+    let memory = rw c.in_err-counts-3.ensures.stopped at c.boxed.ensures.memory in
+    handed_on _ c.from_residual-in_err-counts-3.result c.from_residual-in_err-counts-3.ensures.1
+    (memory_stops c.args.self.now.toks.now (c.args.room + 1) symbol.statement c.args.at memory)
 
 pub replicated-whole-requires-clause-held : goal.replicated-whole-requires-clause-held
-replicated-whole-requires-clause-held t c = rw (action-Repl, c.in_ok-boxed.ensures.value) c.in_ok-branch.ensures.holds.0
+replicated-whole-requires-clause-held t c =
+    let holds = rw c.in_ok-counts-2.ensures.next at c.branch-self.ensures.holds in
+    let body = rw c.in_ok-counts-3.ensures.next at c.boxed.ensures.value in
+    rw (action-Repl, body) holds.0
 
 pub replicated-returns-clause-read : goal.replicated-returns-clause-read
 replicated-returns-clause-read t c =
-    let s0 = at_symbol (over_word (begin refl (omega arith)) c.requires.word.1 refl) c.requires.bracket.1 in
-    let s1 = read s0 (c.in_ok-open.ensures.read _) refl in
-    let s2 = read s1 (c.in_ok-int.ensures.read _) refl in
-    let s3 = read_row 1 (bound_row 22) _ s2 (c.in_ok-first.ensures.read.2 _) refl refl in
-    let s4 = read_row 1 (bound_row 20) _ s3 (c.in_ok-second.ensures.read.2 _) refl refl in
-    let s5 = read_row 1 step_row _ s4 (c.in_ok-third.ensures.read.2 _) refl refl in
-    rw (c.whole.ensures.end, c.whole.ensures.value, action-Repl, c.in_ok-boxed.ensures.value)
-    (read_last s5 (inner_reads c.args.room c.in_ok-branch.ensures.read) refl refl (λ e x h. h))
+    let r = c.in_ok-counts.ensures.read in
+    let branch = rw c.in_ok-counts-2.ensures.next at c.branch-self.ensures.read in
+    let body = rw c.in_ok-counts-3.ensures.next at c.boxed.ensures.value in
+    rw (c.whole.ensures.end, c.whole.ensures.value, action-Repl, body, c.in_ok-counts-3.ensures.value, c.in_ok-counts-2.ensures.value)
+    (counted_reads c.args.room c.requires.word.1 c.requires.bracket.1 (r.opens _) (r.types _) (r.firsts.2 _) (r.seconds.2 _) (r.thirds.2 _) branch)
 
 pub par-returns-in_err-open-clause-stopped : goal.par-returns-in_err-open-clause-stopped
 par-returns-in_err-open-clause-stopped t c =
@@ -128,6 +96,10 @@ par-returns-in_err-branch-clause-stopped t c =
     let none = c.is_symbol-in-branches.ensures.no c.branches-test.true in
     handed_on _ c.from_residual-in_err-branch.result c.from_residual-in_err-branch.ensures.1
     (branch_stops c.branches.invariant.runs _ none c.in_err-branch.ensures.stopped)
+
+pub par-returns-in_err-push-clause-stopped : goal.par-returns-in_err-push-clause-stopped
+par-returns-in_err-push-clause-stopped t c =
+    handed_on _ c.from_residual-in_err-push.result c.from_residual-in_err-push.ensures.1 tt
 
 pub par-branches-preserved : goal.par-branches-preserved
 par-branches-preserved t c =
@@ -162,6 +134,10 @@ select-returns-in_err-first-clause-stopped t c =
     handed_on _ c.from_residual-in_err-first.result c.from_residual-in_err-first.ensures.1
     (case_missing c.args.room c.requires.word.1 (c.in_ok-open.ensures.read c.args.room) _ c.in_err-first.ensures.stopped)
 
+pub select-returns-in_err-push-clause-stopped : goal.select-returns-in_err-push-clause-stopped
+select-returns-in_err-push-clause-stopped t c =
+    handed_on _ c.from_residual-in_err-push.result c.from_residual-in_err-push.ensures.1 tt
+
 pub select-cases-init : goal.select-cases-init
 select-cases-init t c =
     let l = c.in_ok-open.ensures.bounds.0 in
@@ -180,6 +156,10 @@ select-returns-in_err-next-clause-stopped t c =
     let none = c.is_symbol.ensures.no c.cases-test.true in
     handed_on _ c.from_residual-in_err-next.result c.from_residual-in_err-next.ensures.1
     (case_stops c.cases.invariant.all _ none c.in_err-next.ensures.stopped)
+
+pub select-returns-in_err-push-2-clause-stopped : goal.select-returns-in_err-push-2-clause-stopped
+select-returns-in_err-push-2-clause-stopped t c =
+    handed_on _ c.from_residual-in_err-push-2.result c.from_residual-in_err-push-2.ensures.1 tt
 
 pub select-cases-preserved : goal.select-cases-preserved
 select-cases-preserved t c =
@@ -215,6 +195,10 @@ pub case_body-returns-in_err-item-clause-stopped : goal.case_body-returns-in_err
 case_body-returns-in_err-item-clause-stopped t c =
     handed_on _ c.from_residual.result c.from_residual.ensures.1
     (leads_stop c.items.invariant.leads _ (c.is_word.ensures.no c.items-test.true) c.in_err-item.ensures.stopped)
+
+pub case_body-returns-in_err-push-clause-stopped : goal.case_body-returns-in_err-push-clause-stopped
+case_body-returns-in_err-push-clause-stopped t c =
+    handed_on _ c.from_residual-in_err-push.result c.from_residual-in_err-push.ensures.1 tt
 
 pub case_body-items-preserved : goal.case_body-items-preserved
 case_body-items-preserved t c =
@@ -459,6 +443,11 @@ pub boxed_statement-returns-in_err-read-clause-stopped : goal.boxed_statement-re
 boxed_statement-returns-in_err-read-clause-stopped t c =
     handed_on _ c.from_residual.result c.from_residual.ensures.1 c.in_err-read.ensures.stopped
 
+pub boxed_statement-returns-in_err-boxed-clause-stopped : goal.boxed_statement-returns-in_err-boxed-clause-stopped
+boxed_statement-returns-in_err-boxed-clause-stopped t c =
+    handed_on _ c.from_residual-in_err-boxed.result c.from_residual-in_err-boxed.ensures.1
+    (memory_stops c.args.self.now.toks.now c.args.room symbol.statement c.args.at c.in_err-boxed.ensures.memory)
+
 pub boxed_statement-returns-clause-read : goal.boxed_statement-returns-clause-read
 boxed_statement-returns-clause-read t c = rw c.in_ok-boxed.ensures.value c.in_ok-read.ensures.read
 
@@ -503,6 +492,10 @@ pub block-returns-in_err-item-clause-stopped : goal.block-returns-in_err-item-cl
 block-returns-in_err-item-clause-stopped t c =
     handed_on _ c.from_residual-in_err-item.result c.from_residual-in_err-item.ensures.1
     (item_stops c.items.invariant.holds _ (c.is_symbol.ensures.no c.items-test.true) c.in_err-item.ensures.stopped)
+
+pub block-returns-in_err-push-clause-stopped : goal.block-returns-in_err-push-clause-stopped
+block-returns-in_err-push-clause-stopped t c =
+    handed_on _ c.from_residual-in_err-push.result c.from_residual-in_err-push.ensures.1 tt
 
 pub block-items-preserved : goal.block-items-preserved
 block-items-preserved t c =

@@ -1,5 +1,5 @@
-use Rattle.std.proofs.Common.{arith}
-use Rattle.xc_phrases.proofs.Derivations.Single.{on_kind, other_kind, past_all}
+use Rattle.std.proofs.Common.{refl, arith}
+use Rattle.xc_phrases.proofs.Derivations.Single.{on_kind, other_kind, past_all, unlike}
 use Rattle.xc_phrases.proofs.Stating.Marks.{mark_reads, mark_refuses, other_mark}
 use Rattle.xc_phrases.proofs.parser.Parser.assign_op.Goals as goal
 use Rattle.xc_phrases.proofs.parser.Parser.assign_op.Goals.{then-symbol-lt-PLUS_EQUALS-via-then-symbol-lt-PLUS_EQUALS, then-symbol-lt-PLUS_EQUALS-via-else-symbol-lt-PLUS_EQUALS+then-symbol-gt-SHIFT_EQUALS}
@@ -20,10 +20,10 @@ returns-else-symbol-gt-SHIFT_EQUALS-clause-read c =
     mark_reads c.in-Sym.symbol (omega arith) (omega arith) _ (on_kind c.args.self.now.toks.now c.args.at _ _ (omega arith) c.in-Sym.is)
 
 pub returns-in-Name-clause-stopped : goal.returns-in-Name-clause-stopped
-returns-in-Name-clause-stopped c = mark_refuses (λ o p l h on. let e = other_kind c.args.self.now.toks.now c.args.at _ _ _ p (omega arith) c.in-Name.is on in absurd (cc))
+returns-in-Name-clause-stopped c = mark_refuses (λ o p l h on. unlike (other_kind c.args.self.now.toks.now c.args.at _ _ _ p (omega arith) c.in-Name.is on) refl)
 
 pub returns-in-Num-clause-stopped : goal.returns-in-Num-clause-stopped
-returns-in-Num-clause-stopped c = mark_refuses (λ o p l h on. let e = other_kind c.args.self.now.toks.now c.args.at _ _ _ p (omega arith) c.in-Num.is on in absurd (cc))
+returns-in-Num-clause-stopped c = mark_refuses (λ o p l h on. unlike (other_kind c.args.self.now.toks.now c.args.at _ _ _ p (omega arith) c.in-Num.is on) refl)
 
 pub returns-in-Key-clause-stopped : goal.returns-in-Key-clause-stopped
-returns-in-Key-clause-stopped c = mark_refuses (λ o p l h on. let e = other_kind c.args.self.now.toks.now c.args.at _ _ _ p (omega arith) c.in-Key.is on in absurd (cc))
+returns-in-Key-clause-stopped c = mark_refuses (λ o p l h on. unlike (other_kind c.args.self.now.toks.now c.args.at _ _ _ p (omega arith) c.in-Key.is on) refl)

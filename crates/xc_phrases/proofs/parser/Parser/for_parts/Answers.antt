@@ -1,5 +1,7 @@
-use Rattle.std.proofs.Common.{◌∙◌, arith}
+use Rattle.std.proofs.Common.{◌∙◌, ◌+◌, arith}
+use Rattle.xc_tree.specs.Symbol.{statement}
 use Rattle.xc_phrases.proofs.Reading.Exits.{handed_on}
+use Rattle.xc_phrases.proofs.Reading.Insides.{memory_stops}
 use Rattle.xc_phrases.proofs.Reading.Rounds.{for_open_stops, for_start_stops, for_first_stops, for_test_stops, for_second_stops, for_step_stops, for_close_stops, boxed_is}
 use Rattle.xc_phrases.proofs.parser.Parser.for_parts.Goals as goal
 
@@ -37,6 +39,16 @@ pub returns-in_err-close-clause-stopped : goal.returns-in_err-close-clause-stopp
 returns-in_err-close-clause-stopped c =
     handed_on _ c.from_residual-in_err-close.result c.from_residual-in_err-close.ensures.1
     (for_close_stops c.args.room c.requires.word.1 (c.in_ok-open.ensures.read _) c.in_ok-start.ensures.read (c.in_ok-first.ensures.read.1 _) c.in_ok-test.ensures.read (c.in_ok-second.ensures.read.1 _) c.in_ok-step.ensures.read _ (c.in_err-close.ensures.stopped _))
+
+pub returns-in_err-begun-clause-stopped : goal.returns-in_err-begun-clause-stopped
+returns-in_err-begun-clause-stopped c =
+    handed_on _ c.from_residual-in_err-begun.result c.from_residual-in_err-begun.ensures.1
+    (memory_stops c.args.self.now.toks.now (c.args.room + 1) statement c.args.at c.in_err-begun.ensures.memory)
+
+pub returns-in_err-stepped-clause-stopped : goal.returns-in_err-stepped-clause-stopped
+returns-in_err-stepped-clause-stopped c =
+    handed_on _ c.from_residual-in_err-stepped.result c.from_residual-in_err-stepped.ensures.1
+    (memory_stops c.args.self.now.toks.now (c.args.room + 1) statement c.args.at c.in_err-stepped.ensures.memory)
 
 pub returns-clause-read : goal.returns-clause-read
 returns-clause-read c =

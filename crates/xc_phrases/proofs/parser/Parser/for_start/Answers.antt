@@ -49,6 +49,10 @@ returns-in_default-clause-read c =
 pub whole-whole-requires-clause-held : goal.whole-whole-requires-clause-held
 whole-whole-requires-clause-held c = rw action-Decl refl
 
+pub returns-in_err-push-clause-stopped : goal.returns-in_err-push-clause-stopped
+returns-in_err-push-clause-stopped c =
+    handed_on _ c.from_residual-in_err-push.result c.from_residual-in_err-push.ensures.1 tt
+
 pub returns-clause-read : goal.returns-clause-read
 returns-clause-read c =
     let begins = c.begins_type.ensures.yes c.if-not-begins_type.false in

@@ -29,6 +29,10 @@ returns-in_err-first-clause-stopped c =
     handed_on _ c.from_residual.result c.from_residual.ensures.1
     (λ room. row_stops row_of_params [] _ (unfinished (lacks_word 27 (begin refl tt) none) one) (c.in_err-first.ensures.stopped room) refl)
 
+pub returns-in_err-push-clause-stopped : goal.returns-in_err-push-clause-stopped
+returns-in_err-push-clause-stopped c =
+    handed_on _ c.from_residual-in_err-push.result c.from_residual-in_err-push.ensures.1 (λ room. tt)
+
 pub params-init : goal.params-init
 params-init c =
     let none = c.is_word.ensures.no c.if-is_word.false in
@@ -44,6 +48,10 @@ returns-in_err-next-clause-stopped c =
     let on = (c.is_symbol.ensures.yes c.params-test.true).1.1 in
     handed_on _ c.from_residual-in_err-next.result c.from_residual-in_err-next.ensures.1
     (λ room. next_stops row_of_params _ (c.params.invariant.listed room) on refl (c.in_err-next.ensures.stopped room))
+
+pub returns-in_err-push-2-clause-stopped : goal.returns-in_err-push-2-clause-stopped
+returns-in_err-push-2-clause-stopped c =
+    handed_on _ c.from_residual-in_err-push-2.result c.from_residual-in_err-push-2.ensures.1 (λ room. tt)
 
 pub params-preserved : goal.params-preserved
 params-preserved c =
