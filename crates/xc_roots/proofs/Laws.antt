@@ -9,12 +9,14 @@ pub mod Expressions
 pub mod Flow
 pub mod Parameters
 pub mod Unknown
+pub mod Forms
 pub mod Transfers
 pub mod Growth
 pub mod Parts
 pub mod Depths
 pub mod Pieces
 pub mod Words
+pub mod Cores
 pub mod Roots
 pub mod Kinds
 pub mod Walks

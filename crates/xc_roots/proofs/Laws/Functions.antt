@@ -1,13 +1,14 @@
 -- The functions of a program, one behind the other.
-use Rattle.std.proofs.Common.{◌≡◌, ℕ, suc, zero, ◌+◌, ◌<◌, List, [], ◌∷◌, ◌++◌, length, drop, get_or, map, bytes_eq, arith, refl, ap, sym, subst, ◌∙◌}
+use Rattle.std.proofs.Common.{◌≡◌, ℕ, suc, zero, ◌+◌, ◌<◌, ◌≤◌, List, [], ◌∷◌, ◌++◌, length, drop, get_or, map, bytes_eq, arith, refl, ap, sym, subst, ◌∙◌}
+use Rattle.std.proofs.lemmas.List.{append-nil, append_assoc}
 use Rattle.std.specs.Borrow.{Bor}
 use Rattle.std.specs.List.{All}
 use Rattle.xc_tree.specs.Plain as tree
 use Rattle.xc_tree.specs.Trees.{item_of}
 use Rattle.xc_tree.specs.declared.tree.Item.{Item}
 use Rattle.xc_tree.specs.declared.tree.FuncItem.{FuncItem}
-use Rattle.xc_kernel.specs.Programs.{functions, function_named, function_by}
-use Rattle.xc_roots.proofs.Laws.Lists.{drop_item}
+use Rattle.xc_kernel.specs.Programs.{Function, functions, function_named, function_by}
+use Rattle.xc_roots.proofs.Laws.Lists.{drop_item, drop_end}
 use Rattle.xc_roots.specs.Functions.{HasFewParameters, function_of, functions_among, deepest}
 
 functions_cons : (i : tree.Item) (items : List tree.Item) → functions (i ∷ items) ≡ functions (i ∷ []) ++ functions items
@@ -19,6 +20,19 @@ pub functions_step : (items : List Item) (i : ℕ) (x : Item) → x ≡ get_or i
 functions_step items i x e h =
     ap (λ xs. functions (map item_of xs)) (drop_item items i x e h)
     ∙ functions_cons (item_of x) (map item_of (drop (i + 1) items))
+
+-- what has been added, before the functions of the rest, is the functions of all
+pub functions_more : (items xs : List Item) (i : ℕ) (x : Item) (before : List Function) {made whole : List Function} → xs ≡ items → x ≡ get_or xs i x → i < length xs → made ≡ before ++ functions (item_of x ∷ []) →
+    before ++ functions (map item_of (drop i items)) ≡ whole → made ++ functions (map item_of (drop (i + 1) items)) ≡ whole
+functions_more items xs i x before same e h added so_far =
+    let rest = functions (map item_of (drop (i + 1) items)) in
+    let step = functions_step items i x (subst (λ (ys : List Item). x ≡ get_or ys i x) same e) (subst (λ (ys : List Item). i < length ys) same h) in
+    ap (λ m. m ++ rest) added ∙ append_assoc before (functions (item_of x ∷ [])) rest ∙ sym (ap (λ r. before ++ r) step) ∙ so_far
+
+pub functions_all : (items xs : List Item) (i : ℕ) (made : List Function) {whole : List Function} → xs ≡ items → length xs ≤ i → made ++ functions (map item_of (drop i items)) ≡ whole → made ≡ whole
+functions_all items xs i made same h so_far =
+    let none = ap (λ ys. functions (map item_of ys)) (drop_end items i (subst (λ (ys : List Item). length ys ≤ i) same h)) in
+    sym (append-nil made) ∙ sym (ap (λ r. made ++ r) none) ∙ so_far
 
 -- the function at a place, or those behind it
 pub named_step : (fs : List (Bor FuncItem)) (i : ℕ) (f : Bor FuncItem) (name : List ℕ) → f ≡ get_or fs i f → i < length fs → function_named (functions_among (drop i fs)) name ≡ function_by (bytes_eq f.now.name.text name) (function_of f.now) (function_named (functions_among (drop (i + 1) fs)) name)

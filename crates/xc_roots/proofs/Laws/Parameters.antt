@@ -1,5 +1,5 @@
 -- What is handed to the parameters of a function.
-use Rattle.std.proofs.Common.{◌≡◌, ℕ, zero, suc, ◌+◌, ◌<◌, List, [], ◌∷◌, length, drop, get_or, map, min, arith, refl, ap, subst, sym, ◌∙◌}
+use Rattle.std.proofs.Common.{◌≡◌, ℕ, zero, suc, ◌+◌, ◌-◌, ◌<◌, ◌≤◌, List, [], ◌∷◌, length, drop, get_or, map, min, arith, refl, ap, subst, sym, ◌∙◌}
 use Rattle.std.specs.Borrow.{Bor}
 use Rattle.xc_tree.specs.declared.tree.Param.{Param}
 use Rattle.xc_tree.specs.declared.tree.Arg.{Arg}
@@ -60,3 +60,25 @@ pub passed_step : (c : Context) (scope : Scope) (own : Path) (ps : List Param) (
 passed_step c scope own ps args n m p a e ip ia lp la =
     ap (λ k. and_passed p.name.text (passed c scope own p.name.pos p.kind (argument_of a).value) (all_passed c scope own (drop k ps) (map argument_of (drop k args)))) e
     ∙ sym (λ i. all_passed c scope own (drop_item ps m p ip lp i) (map argument_of (drop_item args m a ia la i)))
+
+-- from the first on all are passed
+pub passed_all : (c : Context) (scope : Scope) (own : Path) (ps : List Param) (args : List Arg) (n : ℕ) {made : Copy} → n ≤ 0 → made ≡ all_passed c scope own (drop n ps) (map argument_of (drop n args)) → made ≡ all_passed c scope own ps (map argument_of args)
+passed_all c scope own ps args zero none made = made
+passed_all c scope own ps args (suc n) none made = absurd (omega (arith, none))
+
+-- numbers that go down to 0
+
+pub goes_down : (n : ℕ) → 0 < n → ◌≡◌ {A = ℕ} n ((n - 1) + 1)
+goes_down n some = omega (arith, some)
+
+pub stays_below : (n k : ℕ) → 0 < n → n ≤ k → n - 1 < k
+stays_below n k some h = omega (arith, some, h)
+
+pub stays_within : (n k : ℕ) → n ≤ k → n - 1 ≤ k
+stays_within n k h = omega (arith, h)
+
+pub least_first : (n a b : ℕ) → n ≡ min a b → n ≤ a
+least_first n a b h = omega (arith, h)
+
+pub least_second : (n a b : ℕ) → n ≡ min a b → n ≤ b
+least_second n a b h = omega (arith, h)

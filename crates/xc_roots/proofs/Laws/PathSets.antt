@@ -8,7 +8,7 @@ use Rattle.std.proofs.lemmas.List.{length-append, map_push, length-map}
 use Rattle.std.specs.Vec.{vec_items}
 use Rattle.std.specs.declared.vec.Vec.{Vec}
 use Rattle.std.specs.declared.alloc.Global.{Global}
-use Rattle.xc_kernel.specs.Paths.{Path, is_same, place_by, place_of_path, has_path, with_by, with_new}
+use Rattle.xc_kernel.specs.Paths.{Path, is_same, place_by, place_of_path, has_path, with_by, with_new, with_all}
 use Rattle.xc_roots.specs.PathSets.{itself}
 
 -- whether a key of a set is this path
@@ -95,3 +95,10 @@ grown_by_one xs x false = let h = length-append xs (x ∷ []) in omega (arith, h
 -- one path more at most
 pub one_more : {V : Type 0} (path_of : V → Path) (xs : List V) (x : V) → length (with_new path_of xs x) ≤ length xs + 1
 one_more path_of xs x = grown_by_one xs x (has_path path_of xs (path_of x))
+
+-- the first of those that were seen is kept, before the rest
+pub kept_more : {V : Type 0} (path_of : V → Path) (known : List V) (x : V) (rest : List V) {seen after whole : List V} → seen ≡ x ∷ rest → after ≡ with_new path_of known x → with_all path_of known seen ≡ whole → with_all path_of after rest ≡ whole
+kept_more path_of known x rest items kept so_far = ap (λ k. with_all path_of k rest) kept ∙ sym (ap (with_all path_of known) items) ∙ so_far
+
+pub few_more : {V : Type 0} (x : V) (rest : List V) (a b n : ℕ) {seen : List V} → seen ≡ x ∷ rest → a ≤ b + 1 → b + length seen ≤ n → a + length rest ≤ n
+few_more x rest a b n items h k = let l = ap length items in omega (arith, h, k, l)

@@ -1,5 +1,6 @@
--- What a parameter stands for nothing by: an argument that is neither a name nor an element, and an index into no array.
-use Rattle.std.proofs.Common.{◌≡◌, ℕ, Bool, List, refl, ap, sym, subst}
+-- What a parameter stands for nothing by: an argument that is neither a name nor an element, and an index into no array; and
+-- what it stands for by the others.
+use Rattle.std.proofs.Common.{◌≡◌, ℕ, Bool, List, refl, ap, sym, subst, ◌∙◌}
 use Rattle.std.specs.Prelude.{IfOk, Result}
 use Rattle.std.specs.declared.boxed.Box.{Box}
 use Rattle.std.specs.declared.alloc.Global.{Global}
@@ -11,11 +12,11 @@ use Rattle.xc_tree.specs.declared.tree.Ex.{Ex, Name, Index, out-Ex, roll-Ex, rol
 use Rattle.xc_tree.specs.declared.tree.Ex.TheVariants.{rolls-Name, rolls-Index}
 use Rattle.xc_tree.specs.Plain as tree
 use Rattle.xc_tree.specs.Trees.{expression_of, form_of, form_step, expression_step}
-use Rattle.xc_tree.proofs.Forms.{expression-Expr}
+use Rattle.xc_tree.proofs.Forms.{expression-Expr, form-Name, form-Index}
 use Rattle.xc_kernel.specs.Context.{Context}
 use Rattle.xc_kernel.specs.Parameters.{Passed, stands_for, by_element, by_reference, form_by_reference, by_name}
 use Rattle.xc_kernel.specs.Paths.{Path}
-use Rattle.xc_kernel.specs.Scopes.{Scope, nothing_known}
+use Rattle.xc_kernel.specs.Scopes.{Scope, nothing_known, entity_of}
 use Rattle.xc_roots.specs.Handed.{IsPassed}
 use Rattle.xc_roots.specs.Scopes.{entity_meant}
 use Rattle.xc_roots.specs.declared.parameters.Handed.{Handed}
@@ -47,6 +48,13 @@ module _ (c : Context) (own : Path) (pos : Pos) where
 
   pub unreferred : (e : Expr) → ((t : List ℕ) → e.kind ≡ Name t → ⊥) → ((t : List ℕ) (i : Box Expr Global) → e.kind ≡ Index t i → ⊥) → (scope : Scope) → by_reference c scope own pos (expression_of e) ≡ stands_for nothing_known
   unreferred e h k scope = rw (expression-Expr e) (form_reference e.kind h k scope e.pos)
+
+  -- a name, and an element
+  pub refers_name : (e : Expr) (t : List ℕ) → e.kind ≡ Name t → (scope : Scope) → by_reference c scope own pos (expression_of e) ≡ stands_for (entity_of scope t)
+  refers_name e t is scope = ap (by_reference c scope own pos) (expression-Expr e) ∙ ap (form_by_reference c scope own pos e.pos) (ap form_of is ∙ form-Name t)
+
+  pub refers_element : (e : Expr) (t : List ℕ) (i : Box Expr Global) → e.kind ≡ Index t i → (scope : Scope) → by_reference c scope own pos (expression_of e) ≡ by_element c scope own pos (expression_of i.value) e.pos (entity_of scope t)
+  refers_element e t i is scope = ap (by_reference c scope own pos) (expression-Expr e) ∙ ap (form_by_reference c scope own pos e.pos) (ap form_of is ∙ form-Index t i)
 
   -- what is indexed is no array
   pub no_array : (scope : Scope) (i : tree.Expression) (at : Pos) (e : Entity) → ((p : List ℕ) (n : ℕ) (u : Bool) → e ≡ Array p n u → ⊥) → by_element c scope own pos i at (entity_meant e) ≡ stands_for nothing_known

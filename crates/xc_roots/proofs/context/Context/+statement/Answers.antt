@@ -1,4 +1,4 @@
-use Rattle.std.proofs.Common.{◌≡◌, ℕ, ◌+◌, ◌-◌, suc, max, true, false, [], ◌∷◌, ◌++◌, map, nat_eq, arith, refl, sym, ap, ◌∙◌}
+use Rattle.std.proofs.Common.{◌≡◌, ℕ, ◌-◌, max, true, false, [], ◌∷◌, ◌++◌, map, nat_eq, refl, sym, ap, ◌∙◌}
 use Rattle.std.proofs.lemmas.Bool.{ne_eqb}
 use Rattle.std.specs.Option.{option_map}
 use Rattle.xc_tree.proofs.Forms.{action-Empty, action-Assign, action-Step, action-Do, action-Output, action-Input, action-Return, action-Break, action-Continue}
@@ -25,7 +25,7 @@ use Rattle.xc_roots.specs.Scopes.{scope_of}
 use Rattle.xc_roots.proofs.Laws.Actions.{copied_as, copied_in, height_by_action, by_action, call_by_action, action_block, action_declare, action_if, action_while, action_do, action_for, action_par, action_replicated, action_select, action_transaction, begins_at, in_branch_of}
 use Rattle.xc_roots.proofs.Laws.Growth.{calls_keep, further, grown_by, grown_fits, left_as, maybe_grows, statements_grow}
 use Rattle.xc_roots.proofs.Laws.Pieces.{if_done, while_done, do_done, set_done, return_done, function_done, transaction_done, followed_done}
-use Rattle.xc_roots.proofs.Laws.Depths.{down, enters_below}
+use Rattle.xc_roots.proofs.Laws.Depths.{held, level, lower, in_first, in_second, enters_first, of_one_call, no_less, one_above}
 use Rattle.xc_kernel.specs.Scopes as scopes
 use Rattle.xc_roots.specs.Parts.{branched_before, cased_before}
 use Rattle.xc_roots.proofs.Laws.Loops.{statement_below, branch_below, branches_below, case_below, body_below, for_grows, grown_from, grown_where, numbered_grows, case_done}
@@ -111,68 +111,55 @@ statement-returns-in-Tran t c =
 
 pub statement-block-requires : goal.statement-block-requires
 statement-block-requires t c =
-    let whole : ◌≡◌ {A = ℕ} (heights.height (tree.statement_of c.args.s.now)) ((heights.height_of_statements (plain.statements (map tree.statement_of c.as_slice.result.now))) + 1) = height_by_action c.args.s.now c.in-Block.is (action_block c.in-Block.ss c.as_slice.ensures) in
-    (down c.args.calls (deepest c.args.self.now.functions.now.all.items) (deepest c.args.self.now.functions.now.all.items) (heights.height (tree.statement_of c.args.s.now)) 0 (heights.height_of_statements (plain.statements (map tree.statement_of c.as_slice.result.now))) 2 c.decreases refl (omega (arith, whole)), tt)
+    (held c.args.calls (deepest c.args.self.now.functions.now.all.items) (heights.height_of_statements (plain.statements (map tree.statement_of c.as_slice.result.now))) 2 13 c.decreases (height_by_action c.args.s.now c.in-Block.is (action_block c.in-Block.ss c.as_slice.ensures)) refl, tt)
 
 pub statement-declarations-requires : goal.statement-declarations-requires
 statement-declarations-requires t c =
-    let whole : ◌≡◌ {A = ℕ} (heights.height (tree.statement_of c.args.s.now)) (0 + 1) = height_by_action c.args.s.now c.in-Decl.is (action_declare c.in-Decl.ds c.as_slice-in-Decl.ensures) in
-    (down c.args.calls (deepest c.args.self.now.functions.now.all.items) (deepest c.args.self.now.functions.now.all.items) (heights.height (tree.statement_of c.args.s.now)) 0 0 6 c.decreases refl (omega (arith, whole)), tt)
+    (held c.args.calls (deepest c.args.self.now.functions.now.all.items) 0 6 9 c.decreases (height_by_action c.args.s.now c.in-Decl.is (action_declare c.in-Decl.ds c.as_slice-in-Decl.ensures)) refl, tt)
 
 pub statement-assign-requires : goal.statement-assign-requires
 statement-assign-requires t c =
-    let whole : ◌≡◌ {A = ℕ} (heights.height (tree.statement_of c.args.s.now)) (0 + 1) = height_by_action c.args.s.now c.in-Assign.is (action-Assign c.in-Assign.to c.in-Assign.symbol c.in-Assign.pos c.in-Assign.right) in
-    (down c.args.calls (deepest c.args.self.now.functions.now.all.items) (deepest c.args.self.now.functions.now.all.items) (heights.height (tree.statement_of c.args.s.now)) 0 0 4 c.decreases refl (omega (arith, whole)), tt)
+    (held c.args.calls (deepest c.args.self.now.functions.now.all.items) 0 4 11 c.decreases (height_by_action c.args.s.now c.in-Assign.is (action-Assign c.in-Assign.to c.in-Assign.symbol c.in-Assign.pos c.in-Assign.right)) refl, tt)
 
 pub statement-right-requires : goal.statement-right-requires
 statement-right-requires t c =
-    let whole : ◌≡◌ {A = ℕ} (heights.height (tree.statement_of c.args.s.now)) (0 + 1) = height_by_action c.args.s.now c.in-Do.is (action-Do c.in-Do.right) in
-    (down c.args.calls (deepest c.args.self.now.functions.now.all.items) (deepest c.args.self.now.functions.now.all.items) (heights.height (tree.statement_of c.args.s.now)) 0 0 3 c.decreases refl (omega (arith, whole)), tt)
+    (held c.args.calls (deepest c.args.self.now.functions.now.all.items) 0 3 12 c.decreases (height_by_action c.args.s.now c.in-Do.is (action-Do c.in-Do.right)) refl, tt)
 
 pub statement-choice-requires : goal.statement-choice-requires
 statement-choice-requires t c =
-    let whole : ◌≡◌ {A = ℕ} (heights.height (tree.statement_of c.args.s.now)) ((max (heights.height (tree.statement_of c.deref.result.now)) (heights.height_of_maybe (tree.maybe_of c.in-If.second))) + 1) = height_by_action c.args.s.now c.in-If.is (action_if c.in-If.test c.in-If.first c.in-If.second c.deref.ensures) in
-    (down c.args.calls (deepest c.args.self.now.functions.now.all.items) (deepest c.args.self.now.functions.now.all.items) (heights.height (tree.statement_of c.args.s.now)) 0 (max (heights.height (tree.statement_of c.deref.result.now)) (heights.height_of_maybe (tree.maybe_of c.in-If.second))) 2 c.decreases refl (omega (arith, whole)), tt)
+    (held c.args.calls (deepest c.args.self.now.functions.now.all.items) (max (heights.height (tree.statement_of c.deref.result.now)) (heights.height_of_maybe (tree.maybe_of c.in-If.second))) 2 13 c.decreases (height_by_action c.args.s.now c.in-If.is (action_if c.in-If.test c.in-If.first c.in-If.second c.deref.ensures)) refl, tt)
 
 pub statement-while_loop-requires : goal.statement-while_loop-requires
 statement-while_loop-requires t c =
-    let whole : ◌≡◌ {A = ℕ} (heights.height (tree.statement_of c.args.s.now)) ((heights.height (tree.statement_of c.deref-in-While.result.now)) + 1) = height_by_action c.args.s.now c.in-While.is (action_while c.in-While.test c.in-While.body c.deref-in-While.ensures) in
-    (down c.args.calls (deepest c.args.self.now.functions.now.all.items) (deepest c.args.self.now.functions.now.all.items) (heights.height (tree.statement_of c.args.s.now)) 0 (heights.height (tree.statement_of c.deref-in-While.result.now)) 1 c.decreases refl (omega (arith, whole)), tt)
+    (held c.args.calls (deepest c.args.self.now.functions.now.all.items) (heights.height (tree.statement_of c.deref-in-While.result.now)) 1 14 c.decreases (height_by_action c.args.s.now c.in-While.is (action_while c.in-While.test c.in-While.body c.deref-in-While.ensures)) refl, tt)
 
 pub statement-do_while-requires : goal.statement-do_while-requires
 statement-do_while-requires t c =
-    let whole : ◌≡◌ {A = ℕ} (heights.height (tree.statement_of c.args.s.now)) ((heights.height (tree.statement_of c.deref-in-DoWhile.result.now)) + 1) = height_by_action c.args.s.now c.in-DoWhile.is (action_do c.in-DoWhile.body c.in-DoWhile.test c.deref-in-DoWhile.ensures) in
-    (down c.args.calls (deepest c.args.self.now.functions.now.all.items) (deepest c.args.self.now.functions.now.all.items) (heights.height (tree.statement_of c.args.s.now)) 0 (heights.height (tree.statement_of c.deref-in-DoWhile.result.now)) 1 c.decreases refl (omega (arith, whole)), tt)
+    (held c.args.calls (deepest c.args.self.now.functions.now.all.items) (heights.height (tree.statement_of c.deref-in-DoWhile.result.now)) 1 14 c.decreases (height_by_action c.args.s.now c.in-DoWhile.is (action_do c.in-DoWhile.body c.in-DoWhile.test c.deref-in-DoWhile.ensures)) refl, tt)
 
 pub statement-for_loop-requires : goal.statement-for_loop-requires
 statement-for_loop-requires t c =
-    let whole : ◌≡◌ {A = ℕ} (heights.height (tree.statement_of c.args.s.now)) ((max (heights.height_of_maybe (tree.maybe_of c.in-For.first)) (max (heights.height_of_maybe (tree.maybe_of c.in-For.next)) (heights.height (tree.statement_of c.deref-in-For.result.now)))) + 1) = height_by_action c.args.s.now c.in-For.is (action_for c.in-For.first c.in-For.test c.in-For.next c.in-For.body c.deref-in-For.ensures) in
-    (down c.args.calls (deepest c.args.self.now.functions.now.all.items) (deepest c.args.self.now.functions.now.all.items) (heights.height (tree.statement_of c.args.s.now)) 0 (max (heights.height_of_maybe (tree.maybe_of c.in-For.first)) (max (heights.height_of_maybe (tree.maybe_of c.in-For.next)) (heights.height (tree.statement_of c.deref-in-For.result.now)))) 3 c.decreases refl (omega (arith, whole)), tt)
+    (held c.args.calls (deepest c.args.self.now.functions.now.all.items) (max (heights.height_of_maybe (tree.maybe_of c.in-For.first)) (max (heights.height_of_maybe (tree.maybe_of c.in-For.next)) (heights.height (tree.statement_of c.deref-in-For.result.now)))) 3 12 c.decreases (height_by_action c.args.s.now c.in-For.is (action_for c.in-For.first c.in-For.test c.in-For.next c.in-For.body c.deref-in-For.ensures)) refl, tt)
 
 pub statement-return_with-requires : goal.statement-return_with-requires
 statement-return_with-requires t c =
-    let whole : ◌≡◌ {A = ℕ} (heights.height (tree.statement_of c.args.s.now)) (0 + 1) = height_by_action c.args.s.now c.in-Return.is (action-Return c.in-Return.right) in
-    (down c.args.calls (deepest c.args.self.now.functions.now.all.items) (deepest c.args.self.now.functions.now.all.items) (heights.height (tree.statement_of c.args.s.now)) 0 0 4 c.decreases refl (omega (arith, whole)), tt)
+    (held c.args.calls (deepest c.args.self.now.functions.now.all.items) 0 4 11 c.decreases (height_by_action c.args.s.now c.in-Return.is (action-Return c.in-Return.right)) refl, tt)
 
 pub statement-par-requires : goal.statement-par-requires
 statement-par-requires t c =
-    let whole : ◌≡◌ {A = ℕ} (heights.height (tree.statement_of c.args.s.now)) ((heights.height_of_branches (plain.branches (map tree.branch_of c.as_slice-in-Par.result.now))) + 1) = height_by_action c.args.s.now c.in-Par.is (action_par c.in-Par.bs c.as_slice-in-Par.ensures) in
-    (down c.args.calls (deepest c.args.self.now.functions.now.all.items) (deepest c.args.self.now.functions.now.all.items) (heights.height (tree.statement_of c.args.s.now)) 0 (heights.height_of_branches (plain.branches (map tree.branch_of c.as_slice-in-Par.result.now))) 2 c.decreases refl (omega (arith, whole)), tt)
+    (held c.args.calls (deepest c.args.self.now.functions.now.all.items) (heights.height_of_branches (plain.branches (map tree.branch_of c.as_slice-in-Par.result.now))) 2 13 c.decreases (height_by_action c.args.s.now c.in-Par.is (action_par c.in-Par.bs c.as_slice-in-Par.ensures)) refl, tt)
 
 pub statement-replicated-requires : goal.statement-replicated-requires
 statement-replicated-requires t c =
-    let whole : ◌≡◌ {A = ℕ} (heights.height (tree.statement_of c.args.s.now)) ((heights.height_of_branch (tree.branch_of c.deref-in-Repl.result.now)) + 1) = height_by_action c.args.s.now c.in-Repl.is (action_replicated c.in-Repl.first c.in-Repl.second c.in-Repl.third c.in-Repl.from c.in-Repl.to c.in-Repl.body c.deref-in-Repl.ensures) in
-    (down c.args.calls (deepest c.args.self.now.functions.now.all.items) (deepest c.args.self.now.functions.now.all.items) (heights.height (tree.statement_of c.args.s.now)) 0 (heights.height_of_branch (tree.branch_of c.deref-in-Repl.result.now)) 3 c.decreases refl (omega (arith, whole)), tt)
+    (held c.args.calls (deepest c.args.self.now.functions.now.all.items) (heights.height_of_branch (tree.branch_of c.deref-in-Repl.result.now)) 3 12 c.decreases (height_by_action c.args.s.now c.in-Repl.is (action_replicated c.in-Repl.first c.in-Repl.second c.in-Repl.third c.in-Repl.from c.in-Repl.to c.in-Repl.body c.deref-in-Repl.ensures)) refl, tt)
 
 pub statement-select-requires : goal.statement-select-requires
 statement-select-requires t c =
-    let whole : ◌≡◌ {A = ℕ} (heights.height (tree.statement_of c.args.s.now)) ((heights.height_of_cases (plain.cases (map tree.case_of c.as_slice-in-Select.result.now))) + 1) = height_by_action c.args.s.now c.in-Select.is (action_select c.in-Select.cs c.as_slice-in-Select.ensures) in
-    (down c.args.calls (deepest c.args.self.now.functions.now.all.items) (deepest c.args.self.now.functions.now.all.items) (heights.height (tree.statement_of c.args.s.now)) 0 (heights.height_of_cases (plain.cases (map tree.case_of c.as_slice-in-Select.result.now))) 3 c.decreases refl (omega (arith, whole)), tt)
+    (held c.args.calls (deepest c.args.self.now.functions.now.all.items) (heights.height_of_cases (plain.cases (map tree.case_of c.as_slice-in-Select.result.now))) 3 12 c.decreases (height_by_action c.args.s.now c.in-Select.is (action_select c.in-Select.cs c.as_slice-in-Select.ensures)) refl, tt)
 
 pub statement-transaction-requires : goal.statement-transaction-requires
 statement-transaction-requires t c =
-    let whole : ◌≡◌ {A = ℕ} (heights.height (tree.statement_of c.args.s.now)) ((heights.height_of_statements (plain.statements (map tree.statement_of c.as_slice-in-Tran.result.now))) + 1) = height_by_action c.args.s.now c.in-Tran.is (action_transaction c.in-Tran.master c.in-Tran.ss c.as_slice-in-Tran.ensures) in
-    (down c.args.calls (deepest c.args.self.now.functions.now.all.items) (deepest c.args.self.now.functions.now.all.items) (heights.height (tree.statement_of c.args.s.now)) 0 (heights.height_of_statements (plain.statements (map tree.statement_of c.as_slice-in-Tran.result.now))) 2 c.decreases refl (omega (arith, whole)), tt)
+    (held c.args.calls (deepest c.args.self.now.functions.now.all.items) (heights.height_of_statements (plain.statements (map tree.statement_of c.as_slice-in-Tran.result.now))) 2 13 c.decreases (height_by_action c.args.s.now c.in-Tran.is (action_transaction c.in-Tran.master c.in-Tran.ss c.as_slice-in-Tran.ensures)) refl, tt)
 
 pub maybe-returns-in-None : goal.maybe-returns-in-None
 maybe-returns-in-None t c =
@@ -191,7 +178,7 @@ maybe-returns-in-Some t c =
 pub maybe-statement-requires : goal.maybe-statement-requires
 maybe-statement-requires t c =
     let same : ◌≡◌ {A = ℕ} (heights.height (tree.statement_of c.deref.result.now)) (heights.height_of_maybe (tree.maybe_of c.args.s.now)) = ap (λ b. heights.height (tree.statement_of b)) c.deref.ensures ∙ ap (λ m. heights.height_of_maybe (tree.maybe_of m)) (sym c.in-Some.is) in
-    (down c.args.calls (deepest c.args.self.now.functions.now.all.items) (deepest c.args.self.now.functions.now.all.items) (heights.height_of_maybe (tree.maybe_of c.args.s.now)) 1 (heights.height (tree.statement_of c.deref.result.now)) 0 c.decreases refl (omega (arith, same)), tt)
+    (level c.args.calls (deepest c.args.self.now.functions.now.all.items) (deepest c.args.self.now.functions.now.all.items) (heights.height_of_maybe (tree.maybe_of c.args.s.now)) 1 (heights.height (tree.statement_of c.deref.result.now)) 0 0 c.decreases refl same refl, tt)
 
 pub block-leave-requires : goal.block-leave-requires
 block-leave-requires t c =
@@ -209,7 +196,7 @@ block-returns t c =
 
 pub block-statements-requires : goal.block-statements-requires
 block-statements-requires t c =
-    (down c.args.calls (deepest c.args.self.now.functions.now.all.items) (deepest c.args.self.now.functions.now.all.items) (heights.height_of_statements (plain.statements (map tree.statement_of c.args.ss.now))) 2 (heights.height_of_statements (plain.statements (map tree.statement_of c.args.ss.now))) 1 c.decreases refl (omega arith), tt)
+    (level c.args.calls (deepest c.args.self.now.functions.now.all.items) (deepest c.args.self.now.functions.now.all.items) (heights.height_of_statements (plain.statements (map tree.statement_of c.args.ss.now))) 2 (heights.height_of_statements (plain.statements (map tree.statement_of c.args.ss.now))) 1 0 c.decreases refl refl refl, tt)
 
 pub declaration-returns-in_ok-declared-in-Word : goal.declaration-returns-in_ok-declared-in-Word
 declaration-returns-in_ok-declared-in-Word t c = given_on c.with_next.result c.with_next.ensures (λ _ h.
@@ -258,7 +245,7 @@ declaration-returns-in-Timer t c =
 
 pub declaration-initial-initial-requires : goal.declaration-initial-initial-requires
 declaration-initial-initial-requires t c =
-    (down c.args.calls (deepest c.args.self.now.functions.now.all.items) (deepest c.args.self.now.functions.now.all.items) 0 5 0 4 c.decreases refl (omega arith), tt)
+    (level c.args.calls (deepest c.args.self.now.functions.now.all.items) (deepest c.args.self.now.functions.now.all.items) 0 5 0 4 0 c.decreases refl refl refl, tt)
 
 pub initial-returns-in-None : goal.initial-returns-in-None
 initial-returns-in-None t c = given_on c.one_statement.result c.one_statement.ensures (λ _ h.
@@ -282,7 +269,7 @@ initial-returns t c = given_on c.stored_behind.result c.stored_behind.ensures (�
 
 pub initial-right-called-requires : goal.initial-right-called-requires
 initial-right-called-requires t c =
-    (down c.args.calls (deepest c.args.self.now.functions.now.all.items) (deepest c.args.self.now.functions.now.all.items) 0 4 0 3 c.decreases refl (omega arith), tt)
+    (level c.args.calls (deepest c.args.self.now.functions.now.all.items) (deepest c.args.self.now.functions.now.all.items) 0 4 0 3 0 c.decreases refl refl refl, tt)
 
 pub assign-returns-then-symbol-ne-EQUALS : goal.assign-returns-then-symbol-ne-EQUALS
 assign-returns-then-symbol-ne-EQUALS t c =
@@ -309,7 +296,7 @@ assign-returns t c = given_on c.assigned_behind.result c.assigned_behind.ensures
 
 pub assign-right-called-requires : goal.assign-right-called-requires
 assign-right-called-requires t c =
-    (down c.args.calls (deepest c.args.self.now.functions.now.all.items) (deepest c.args.self.now.functions.now.all.items) 0 4 0 3 c.decreases refl (omega arith), tt)
+    (level c.args.calls (deepest c.args.self.now.functions.now.all.items) (deepest c.args.self.now.functions.now.all.items) 0 4 0 3 0 c.decreases refl refl refl, tt)
 
 pub return_with-returns-in-None : goal.return_with-returns-in-None
 return_with-returns-in-None t c = given_on c.leaves.result c.leaves.ensures (λ _ h.
@@ -327,7 +314,7 @@ return_with-returns-in-Some t c = given_on c.returned_behind.result c.returned_b
 
 pub return_with-right-called-requires : goal.return_with-right-called-requires
 return_with-right-called-requires t c =
-    (down c.args.calls (deepest c.args.self.now.functions.now.all.items) (deepest c.args.self.now.functions.now.all.items) 0 4 0 3 c.decreases refl (omega arith), tt)
+    (level c.args.calls (deepest c.args.self.now.functions.now.all.items) (deepest c.args.self.now.functions.now.all.items) 0 4 0 3 0 c.decreases refl refl refl, tt)
 
 pub right-returns-in-Value : goal.right-returns-in-Value
 right-returns-in-Value t c =
@@ -361,7 +348,7 @@ right-returns-in-Some t c =
 
 pub right-call-requires : goal.right-call-requires
 right-call-requires t c =
-    (down c.args.calls (deepest c.args.self.now.functions.now.all.items) (deepest c.args.self.now.functions.now.all.items) 0 3 0 2 c.decreases refl (omega arith), (c.in-Some.ensures.depth, c.in-Some.ensures.parameters))
+    (level c.args.calls (deepest c.args.self.now.functions.now.all.items) (deepest c.args.self.now.functions.now.all.items) 0 3 0 2 0 c.decreases refl refl refl, (c.in-Some.ensures.depth, c.in-Some.ensures.parameters))
 
 pub call-returns-then-calls-eq0 : goal.call-returns-then-calls-eq0
 call-returns-then-calls-eq0 t c =
@@ -377,7 +364,7 @@ call-returns t c =
     let scope = scope_of c.args.scope.now in
     let f = function_of c.args.function.now in
     let args = map tree.argument_of c.args.args.now in
-    let n : ◌≡◌ {A = ℕ} (suc (c.args.calls - 1)) c.args.calls = omega (arith, c.if-calls-eq0.false) in
+    let n = of_one_call c.args.calls c.if-calls-eq0.false in
     copied_as scope c.function.result
     (ap (λ own. calls_spec.function_copy (spec.statement_copy (spec.calls_copy (c.args.calls - 1))) here scope own f args) (c.as_slice.ensures ∙ c.in_ok-own.ensures)
     ∙ ap (λ n. spec.calls_copy n here scope f c.args.pos args) n)
@@ -386,7 +373,7 @@ call-returns t c =
 pub call-function-requires : goal.call-function-requires
 call-function-requires t c =
     let d = deepest c.args.self.now.functions.now.all.items in
-    (enters_below c.args.calls d d 0 2 1 c.decreases refl c.if-calls-eq0.false (omega arith), (c.requires.height, c.requires.parameters))
+    (enters_first c.args.calls d c.decreases c.if-calls-eq0.false, (c.requires.height, c.requires.parameters))
 
 pub function-returns : goal.function-returns
 function-returns t c = given_on c.around_body.result c.around_body.ensures (λ _ h.
@@ -409,7 +396,7 @@ function-returns t c = given_on c.around_body.result c.around_body.ensures (λ _
 
 pub function-statement-body-requires : goal.function-statement-body-requires
 function-statement-body-requires t c =
-    (down c.args.calls (deepest c.args.self.now.functions.now.all.items) (deepest c.in_function.result.functions.now.all.items) (deepest c.args.self.now.functions.now.all.items) 1 (heights.height (tree.statement_of c.args.function.now.body)) 0 c.decreases (ap (λ f. deepest f.now.all.items) c.in_function.ensures.functions) (omega (arith, c.requires.height)), tt)
+    (lower c.args.calls (deepest c.args.self.now.functions.now.all.items) (deepest c.in_function.result.functions.now.all.items) (deepest c.args.self.now.functions.now.all.items) 1 (heights.height (tree.statement_of c.args.function.now.body)) 0 0 c.decreases (ap (λ f. deepest f.now.all.items) c.in_function.ensures.functions) c.requires.height refl, tt)
 
 pub choice-returns : goal.choice-returns
 choice-returns t c = given_on c.if_copy.result c.if_copy.ensures (λ _ h.
@@ -421,11 +408,11 @@ choice-returns t c = given_on c.if_copy.result c.if_copy.ensures (λ _ h.
 
 pub choice-statement-first-requires : goal.choice-statement-first-requires
 choice-statement-first-requires t c =
-    (down c.args.calls (deepest c.args.self.now.functions.now.all.items) (deepest c.args.self.now.functions.now.all.items) (max (heights.height (tree.statement_of c.args.first.now)) (heights.height_of_maybe (tree.maybe_of c.args.second.now))) 2 (heights.height (tree.statement_of c.args.first.now)) 0 c.decreases refl (omega arith), tt)
+    (in_first c.args.calls (deepest c.args.self.now.functions.now.all.items) (deepest c.args.self.now.functions.now.all.items) (heights.height (tree.statement_of c.args.first.now)) (heights.height_of_maybe (tree.maybe_of c.args.second.now)) 2 0 1 c.decreases refl refl, tt)
 
 pub choice-maybe-second-requires : goal.choice-maybe-second-requires
 choice-maybe-second-requires t c =
-    (down c.args.calls (deepest c.args.self.now.functions.now.all.items) (deepest c.args.self.now.functions.now.all.items) (max (heights.height (tree.statement_of c.args.first.now)) (heights.height_of_maybe (tree.maybe_of c.args.second.now))) 2 (heights.height_of_maybe (tree.maybe_of c.args.second.now)) 1 c.decreases refl (omega arith), tt)
+    (in_second c.args.calls (deepest c.args.self.now.functions.now.all.items) (deepest c.args.self.now.functions.now.all.items) (heights.height (tree.statement_of c.args.first.now)) (heights.height_of_maybe (tree.maybe_of c.args.second.now)) 2 1 0 c.decreases refl refl, tt)
 
 pub while_loop-looped-requires : goal.while_loop-looped-requires
 while_loop-looped-requires t c =
@@ -443,11 +430,11 @@ while_loop-returns t c = given_on c.looped.result c.looped.ensures (λ _ h.
     let copy = spec.statement_copy (spec.calls_copy c.args.calls) (tree.statement_of c.args.body.now) in
     let around = c.in_loop.ensures.context ∙ λ i. record here { breaks = (c.as_slice.ensures ∙ whole) i; continues = (c.as_slice-2.ensures ∙ turn) i } in
     while_done here c.args.pos scope (copy (contexts.in_loop here c.args.pos) scope) test whole (c.nothing-next.ensures scope)
-    (h scope inner (copy (contexts.in_loop here c.args.pos) scope) (copied_in scope copy inner c.statement-body.result around c.statement-body.ensures)))
+    (h scope inner (copy (contexts.in_loop here c.args.pos) scope) (copied_in {y = contexts.in_loop here c.args.pos} scope copy inner c.statement-body.result around c.statement-body.ensures)))
 
 pub while_loop-statement-body-requires : goal.while_loop-statement-body-requires
 while_loop-statement-body-requires t c =
-    (down c.args.calls (deepest c.args.self.now.functions.now.all.items) (deepest c.in_loop.result.functions.now.all.items) (heights.height (tree.statement_of c.args.body.now)) 1 (heights.height (tree.statement_of c.args.body.now)) 0 c.decreases (ap (λ f. deepest f.now.all.items) c.in_loop.ensures.functions) (omega arith), tt)
+    (level c.args.calls (deepest c.args.self.now.functions.now.all.items) (deepest c.in_loop.result.functions.now.all.items) (heights.height (tree.statement_of c.args.body.now)) 1 (heights.height (tree.statement_of c.args.body.now)) 0 0 c.decreases (ap (λ f. deepest f.now.all.items) c.in_loop.ensures.functions) refl refl, tt)
 
 pub do_while-looped_until-requires : goal.do_while-looped_until-requires
 do_while-looped_until-requires t c = c.in_ok-paths.ensures.turn ∙ ap paths.path_of_turn (sym c.in_ok-paths.ensures.whole)
@@ -461,14 +448,14 @@ do_while-returns t c =
     let copy = spec.statement_copy (spec.calls_copy c.args.calls) (tree.statement_of c.args.body.now) in
     let around = c.in_loop.ensures.context ∙ λ i. record here { breaks = (c.as_slice.ensures ∙ whole) i; continues = (c.as_slice-2.ensures ∙ c.in_ok-paths.ensures.turn) i } in
     let body = copy (contexts.in_loop here c.args.pos) scope in
-    let known = copied_in scope copy inner c.statement-body.result around c.statement-body.ensures in
+    let known = copied_in {y = contexts.in_loop here c.args.pos} scope copy inner c.statement-body.result around c.statement-body.ensures in
     let test = tree.expression_of c.args.test.now in
     given_on c.looped_until.result {Q = λ x. copy_of x inner ≡ flow.do_while_copy here c.args.pos test body} c.looped_until.ensures
     (λ _ h. do_done here c.args.pos test scope refl whole refl refl (h body known))
 
 pub do_while-statement-body-requires : goal.do_while-statement-body-requires
 do_while-statement-body-requires t c =
-    (down c.args.calls (deepest c.args.self.now.functions.now.all.items) (deepest c.in_loop.result.functions.now.all.items) (heights.height (tree.statement_of c.args.body.now)) 1 (heights.height (tree.statement_of c.args.body.now)) 0 c.decreases (ap (λ f. deepest f.now.all.items) c.in_loop.ensures.functions) (omega arith), tt)
+    (level c.args.calls (deepest c.args.self.now.functions.now.all.items) (deepest c.in_loop.result.functions.now.all.items) (heights.height (tree.statement_of c.args.body.now)) 1 (heights.height (tree.statement_of c.args.body.now)) 0 0 c.decreases (ap (λ f. deepest f.now.all.items) c.in_loop.ensures.functions) refl refl, tt)
 
 pub for_loop-leave-requires : goal.for_loop-leave-requires
 for_loop-leave-requires t c =
@@ -492,12 +479,12 @@ for_loop-returns t c =
 pub for_loop-maybe-requires : goal.for_loop-maybe-requires
 for_loop-maybe-requires t c =
     let next = max (heights.height_of_maybe (tree.maybe_of c.args.next.now)) (heights.height (tree.statement_of c.args.body.now)) in
-    (down c.args.calls (deepest c.args.self.now.functions.now.all.items) (deepest c.args.self.now.functions.now.all.items) (max (heights.height_of_maybe (tree.maybe_of c.args.first.now)) next) 3 (heights.height_of_maybe (tree.maybe_of c.args.first.now)) 1 c.decreases refl (omega arith), tt)
+    (in_first c.args.calls (deepest c.args.self.now.functions.now.all.items) (deepest c.args.self.now.functions.now.all.items) (heights.height_of_maybe (tree.maybe_of c.args.first.now)) next 3 1 1 c.decreases refl refl, tt)
 
 pub for_loop-for_turns-turns-requires : goal.for_loop-for_turns-turns-requires
 for_loop-for_turns-turns-requires t c =
     let next = max (heights.height_of_maybe (tree.maybe_of c.args.next.now)) (heights.height (tree.statement_of c.args.body.now)) in
-    (down c.args.calls (deepest c.args.self.now.functions.now.all.items) (deepest c.args.self.now.functions.now.all.items) (max (heights.height_of_maybe (tree.maybe_of c.args.first.now)) next) 3 next 2 c.decreases refl (omega arith), tt)
+    (in_second c.args.calls (deepest c.args.self.now.functions.now.all.items) (deepest c.args.self.now.functions.now.all.items) (heights.height_of_maybe (tree.maybe_of c.args.first.now)) next 3 2 0 c.decreases refl refl, tt)
 
 pub for_turns-leave-requires : goal.for_turns-leave-requires
 for_turns-leave-requires t c =
@@ -533,11 +520,11 @@ for_turns-returns t c = given_on c.looped.result c.looped.ensures (λ _ h.
 
 pub for_turns-maybe-next-requires : goal.for_turns-maybe-next-requires
 for_turns-maybe-next-requires t c =
-    (down c.args.calls (deepest c.args.self.now.functions.now.all.items) (deepest c.args.self.now.functions.now.all.items) (max (heights.height_of_maybe (tree.maybe_of c.args.next.now)) (heights.height (tree.statement_of c.args.body.now))) 2 (heights.height_of_maybe (tree.maybe_of c.args.next.now)) 1 c.decreases refl (omega arith), tt)
+    (in_first c.args.calls (deepest c.args.self.now.functions.now.all.items) (deepest c.args.self.now.functions.now.all.items) (heights.height_of_maybe (tree.maybe_of c.args.next.now)) (heights.height (tree.statement_of c.args.body.now)) 2 1 0 c.decreases refl refl, tt)
 
 pub for_turns-statement-body-requires : goal.for_turns-statement-body-requires
 for_turns-statement-body-requires t c =
-    (down c.args.calls (deepest c.args.self.now.functions.now.all.items) (deepest c.in_loop.result.functions.now.all.items) (max (heights.height_of_maybe (tree.maybe_of c.args.next.now)) (heights.height (tree.statement_of c.args.body.now))) 2 (heights.height (tree.statement_of c.args.body.now)) 0 c.decreases (ap (λ f. deepest f.now.all.items) c.in_loop.ensures.functions) (omega arith), tt)
+    (in_second c.args.calls (deepest c.args.self.now.functions.now.all.items) (deepest c.in_loop.result.functions.now.all.items) (heights.height_of_maybe (tree.maybe_of c.args.next.now)) (heights.height (tree.statement_of c.args.body.now)) 2 0 1 c.decreases (ap (λ f. deepest f.now.all.items) c.in_loop.ensures.functions) refl, tt)
 
 pub transaction-leave-requires : goal.transaction-leave-requires
 transaction-leave-requires t c =
@@ -561,7 +548,7 @@ transaction-returns t c = given_on c.and_statement.result c.and_statement.ensure
 
 pub transaction-statements-requires : goal.transaction-statements-requires
 transaction-statements-requires t c =
-    (down c.args.calls (deepest c.args.self.now.functions.now.all.items) (deepest c.args.self.now.functions.now.all.items) (heights.height_of_statements (plain.statements (map tree.statement_of c.args.ss.now))) 2 (heights.height_of_statements (plain.statements (map tree.statement_of c.args.ss.now))) 1 c.decreases refl (omega arith), tt)
+    (level c.args.calls (deepest c.args.self.now.functions.now.all.items) (deepest c.args.self.now.functions.now.all.items) (heights.height_of_statements (plain.statements (map tree.statement_of c.args.ss.now))) 2 (heights.height_of_statements (plain.statements (map tree.statement_of c.args.ss.now))) 1 0 c.decreases refl refl refl, tt)
 
 pub statements-loop-s-init : goal.statements-loop-s-init
 statements-loop-s-init t c =
@@ -601,7 +588,7 @@ declarations-returns t c =
 pub declarations-declaration-next-requires : goal.declarations-declaration-next-requires
 declarations-declaration-next-requires t c =
     let d = deepest c.args.self.now.functions.now.all.items in
-    (down c.args.calls d d 0 6 0 5 c.decreases refl (omega arith), tt)
+    (level c.args.calls d d 0 6 0 5 0 c.decreases refl refl refl, tt)
 
 pub par-loop-index-init : goal.par-loop-index-init
 par-loop-index-init t c =
@@ -648,7 +635,7 @@ replicated-loop-number-init t c =
     let copy = flow.numbered_copy (spec.branch_copy (spec.calls_copy c.args.calls) (tree.branch_of c.args.b.now)) (context_of c.args.self.now) scope c.args.name.now.text in
     let pos = spec.pos_of_branch (tree.branch_of c.args.b.now) in
     record {
-      above = omega arith;
+      above = no_less c.args.from;
       scope = refl;
       branches = c.none-branches.ensures (flow.replicated copy pos scope (c.args.until - c.args.from) (c.args.from - c.args.from) c.args.from) ∙ numbered_begun copy pos scope c.args.from c.args.until;
     }
@@ -663,7 +650,7 @@ replicated-loop-number-preserved t c =
     let numbered = flow.numbered_copy (spec.branch_copy copies' (tree.branch_of b)) (context_of c.args.self.now) in
     let copied = (rw c.in_ok-before.ensures.made at c.numbered-copied.ensures) ∙ ap (λ s. numbered s c.args.name.now.text (c.loop-number.number - c.args.from) c.loop-number.number) inv.scope in
     record {
-      above = omega (arith, inv.above);
+      above = one_above _ _ inv.above;
       scope = ap (λ x. x.scope) copied;
       branches = numbered_more copy (spec.pos_of_branch (tree.branch_of b)) scope c.args.from c.args.until c.loop-number.number inv.above c.loop-number-test.true c.loop-number.branches c.in_ok-branches.branches
           copied
@@ -685,7 +672,7 @@ replicated-returns t c = given_on c.as_par.result c.as_par.ensures (λ _ h.
 pub replicated-numbered-copied-requires : goal.replicated-numbered-copied-requires
 replicated-numbered-copied-requires t c =
     let height = heights.height_of_branch (tree.branch_of c.args.b.now) in
-    (down c.args.calls (deepest c.args.self.now.functions.now.all.items) (deepest c.args.self.now.functions.now.all.items) height 3 height 2 c.decreases refl (omega arith), tt)
+    (level c.args.calls (deepest c.args.self.now.functions.now.all.items) (deepest c.args.self.now.functions.now.all.items) height 3 height 2 0 c.decreases refl refl refl, tt)
 
 pub numbered-leave-requires : goal.numbered-leave-requires
 numbered-leave-requires t c =
@@ -703,7 +690,7 @@ numbered-returns t c =
 pub numbered-branch-self-requires : goal.numbered-branch-self-requires
 numbered-branch-self-requires t c =
     let height = heights.height_of_branch (tree.branch_of c.args.b.now) in
-    (down c.args.calls (deepest c.args.self.now.functions.now.all.items) (deepest c.args.self.now.functions.now.all.items) height 2 height 1 c.decreases refl (omega arith), tt)
+    (level c.args.calls (deepest c.args.self.now.functions.now.all.items) (deepest c.args.self.now.functions.now.all.items) height 2 height 1 0 c.decreases refl refl refl, tt)
 
 pub select-loop-case-init : goal.select-loop-case-init
 select-loop-case-init t c =
