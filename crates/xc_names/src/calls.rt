@@ -1,4 +1,4 @@
-ghost use Rattle.std.specs.Prelude.{◌≡◌, ◌+◌, ◌<◌, ◌^◌, length, nat_eq, IfSome, IfOk, OnOk};
+ghost use Rattle.std.specs.Prelude.{◌≡◌, ◌+◌, ◌<◌, ◌^◌, [], length, nat_eq, IfSome, IfOk, OnOk};
 ghost use Rattle.xc_names.specs.Callees.{called_at, declared_function as declared_function_of, FoundCall, function_of};
 ghost use Rattle.indexmap.specs.IndexSet.{insert_key};
 ghost use Rattle.xc_tree.specs.Least.{IsLeastOf};
@@ -97,12 +97,31 @@ pub fn broken_into(
     ensures { IfOk result (λ b. IsLeastOf (IsBackTo marks.now meant.now starts.now goal) b) }
 {
     let mut reached = IndexSet::new(alloc);
-    add(&mut reached, goal)?;
+    let broken = search_calls(&mut reached, marks, meant, starts, goal);
+    drop(reached);
+    broken
+}
+
+/// The same with the functions that are reached from it, of which none is known yet.
+fn search_calls(
+    reached: &mut IndexSet<usize>,
+    marks: &[Mark],
+    meant: &[Option<usize>],
+    starts: &[usize],
+    goal: usize,
+) -> Result<Option<Broken>, Memory>
+    requires empty { reached.old.keys ≡ [] }
+    requires small { goal < 2 ^ 32 }
+    requires meant { AreMeanings marks.now meant.now }
+    requires starts { AreWithin starts.now (length marks.now) }
+    ensures { IfOk result (λ b. IsLeastOf (IsBackTo marks.now meant.now starts.now goal) b) }
+{
+    add(reached, goal)?;
     let mut best = None;
     let mut next = 0;
     'search: while next < reached.len() {
         let f = reached.as_slice()[next];
-        best = earlier(best, pass(&mut reached, marks, meant, starts, f, goal)?);
+        best = earlier(best, pass(reached, marks, meant, starts, f, goal)?);
         next += 1;
     }
     Ok(best)

@@ -36,10 +36,19 @@ pub fn meanings(
         outer: List::new(alloc),
         meant: List::new(alloc),
     };
-    for at in 0..marks.len() {
-        read(&mut walk, marks, ends, at)?;
-    }
+    read_all(&mut walk, marks, ends)?;
     Ok(walk.meant)
+}
+
+/// Reads all marks.
+fn read_all<'a>(walk: &mut Walk<'a>, marks: &'a [Mark], ends: &[usize]) -> Result<(), Memory>
+    requires { HasReadTo marks.now ends.now walk.old 0 }
+    ensures { OnOk result (HasReadTo marks.now ends.now walk.new (length marks.now)) }
+{
+    for at in 0..marks.len() {
+        read(walk, marks, ends, at)?;
+    }
+    Ok(())
 }
 
 /// Of each spelling the first declaration that is known in the whole text.

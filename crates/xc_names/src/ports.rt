@@ -1,4 +1,4 @@
-ghost use Rattle.std.specs.Prelude.{◌≡◌, IfOk, OnOk};
+ghost use Rattle.std.specs.Prelude.{◌≡◌, ℕ, List, false, IfOk, OnOk};
 ghost use Rattle.xc_tree.specs.Names.Ports as spec;
 ghost use Rattle.xw_words.specs.Ports.{identifiers};
 ghost use Rattle.xc_tree.specs.Trees as tree;
@@ -18,9 +18,19 @@ pub fn broken_port(alloc: Global, tree: &Tree) -> Result<Option<Broken>, Memory>
     ensures { IfOk result (λ best. IsLeastOf (HasWrongPort (program_of tree.now)) best) }
 {
     let mut taken = Taken::new(alloc);
+    let broken = look_at_all(&mut taken, tree);
+    drop(taken);
+    broken
+}
+
+/// Looks at all items, where no identifier is taken yet.
+fn look_at_all<'a>(taken: &mut Taken<'a>, tree: &'a Tree) -> Result<Option<Broken>, Memory>
+    requires { (t : List ℕ) (core : ℕ) → is_taken taken.old t core ≡ false }
+    ensures { IfOk result (λ best. IsLeastOf (HasWrongPort (program_of tree.now)) best) }
+{
     let mut best = None;
     for item in tree.items.as_slice() {
-        best = earlier(best, look_at(&mut taken, item)?);
+        best = earlier(best, look_at(taken, item)?);
     }
     Ok(best)
 }

@@ -1,5 +1,5 @@
 ghost use Rattle.std.specs.Prelude.{◌≡◌, ◌<◌, ◌≤◌, ◌^◌, true, length, IfOk};
-ghost use Rattle.xc_names.specs.Graphs.{IsFirstLevel, level_edge, NeverRises, no_later, number_in, rule_at};
+ghost use Rattle.xc_names.specs.Graphs.{HasAllCalls, IsFirstLevel, level_edge, NeverRises, no_later, number_in, rule_at};
 ghost use Rattle.xc_tree.specs.Least.{IsLeastOf};
 ghost use Rattle.xc_names.specs.Meanings.{AreMeanings};
 ghost use Rattle.xc_names.specs.Searches.{AreWithin, IsBackToAny};
@@ -7,7 +7,7 @@ ghost use Rattle.xc_names.specs.Searches.{AreWithin, IsBackToAny};
 use crate::calls::broken_into;
 use crate::graph::graph_of;
 use std::alloc::Global;
-use xc_marks::{Edge, components_of};
+use xc_marks::{Edge, Graph, components_of};
 use xc_tree::{Mark, comes_before, earlier};
 use xw_words::{Broken, Memory, Pos};
 
@@ -28,9 +28,47 @@ pub fn broken_call(
     ensures { IfOk result (λ b. IsLeastOf (IsBackToAny marks.now meant.now starts.now) b) }
 {
     let graph = graph_of(alloc, marks, meant, starts)?;
-    let components = components_of(alloc, &graph)?;
-    let edges = graph.edges.as_slice();
+    let broken = broken_in_graph(alloc, marks, meant, starts, &graph);
+    drop(graph);
+    broken
+}
+
+/// The same by the calls of all functions.
+fn broken_in_graph(
+    alloc: Global,
+    marks: &[Mark],
+    meant: &[Option<usize>],
+    starts: &[usize],
+    graph: &Graph,
+) -> Result<Option<Broken>, Memory>
+    requires few { length starts.now ≤ 2 ^ 32 }
+    requires meant { AreMeanings marks.now meant.now }
+    requires starts { AreWithin starts.now (length marks.now) }
+    requires calls { HasAllCalls marks.now meant.now starts.now graph.now.edges }
+    ensures { IfOk result (λ b. IsLeastOf (IsBackToAny marks.now meant.now starts.now) b) }
+{
+    let components = components_of(alloc, graph)?;
     let numbers = components.numbers.as_slice();
+    let broken = broken_by_numbers(alloc, marks, meant, starts, graph.edges.as_slice(), numbers);
+    drop(components);
+    broken
+}
+
+/// The same by the calls of all functions and by numbers of the functions.
+fn broken_by_numbers(
+    alloc: Global,
+    marks: &[Mark],
+    meant: &[Option<usize>],
+    starts: &[usize],
+    edges: &[Edge],
+    numbers: &[usize],
+) -> Result<Option<Broken>, Memory>
+    requires few { length starts.now ≤ 2 ^ 32 }
+    requires meant { AreMeanings marks.now meant.now }
+    requires starts { AreWithin starts.now (length marks.now) }
+    requires calls { HasAllCalls marks.now meant.now starts.now edges.now }
+    ensures { IfOk result (λ b. IsLeastOf (IsBackToAny marks.now meant.now starts.now) b) }
+{
     if !never_rises(edges, numbers) {
         return broken_by_search(alloc, marks, meant, starts);
     }

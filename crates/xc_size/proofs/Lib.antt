@@ -1,5 +1,6 @@
 pub mod UpTo
 pub mod Gathers
+pub mod Heights
 pub mod Measures
 pub mod CalledParts
 pub mod Called

@@ -1,6 +1,6 @@
 -- A program is too large exactly where its main function is.
 use Rattle.std.proofs.Common.{◌≡◌, ℕ, ◌<◌, List, Bor, Option, Some, None, refl, sym, ap, subst, ◌∙◌, arith, inl, inr}
-use Rattle.std.specs.Prelude.{slice_get, option_map, IfSome, IfNone}
+use Rattle.std.specs.Prelude.{option_map, IfSome, IfNone}
 use Rattle.std.proofs.lemmas.Option.{slice_get-map}
 use Rattle.xc_tree.specs.declared.tree.FuncItem.{FuncItem}
 use Rattle.xw_words.specs.declared.pos.Broken.{Broken}
@@ -14,7 +14,7 @@ use Rattle.xc_size.specs.declared.size.Size.{Size}
 use Rattle.xc_size.specs.declared.sizes.Sizes.{Sizes}
 use Rattle.xc_size.specs.Functions.{function_of, function_at}
 use Rattle.xc_size.specs.Numbers.{number_of}
-use Rattle.xc_size.specs.Known.{IsSizeOfBody, AreOfFunctions, listed}
+use Rattle.xc_size.specs.Known.{IsSizeOfBody, AreOfFunctions, listed, item_at, main_in}
 use Rattle.xc_size.specs.Limits.{IsAbove, rule_509}
 use Rattle.xc_size.specs.Sizes.{up_to}
 
@@ -67,9 +67,10 @@ module _ (program : List tree.Item) (f : Function) (size : Size) (main : main_of
   small_is None h = small h
   small_is (Some b) h = tt
 
--- main by its number
-pub main_is : (sizes : Sizes) (program : List tree.Item) (number : Option ℕ) → AreOfFunctions sizes → listed sizes ≡ functions program → number ≡ number_of sizes.names name_of_main → main_of program ≡ function_at (listed sizes) number
-main_is sizes program number of same e = ap (λ fs. function_named fs name_of_main) (sym same) ∙ of.numbers.named name_of_main ∙ ap (function_at (listed sizes)) (sym e)
-
-pub listed_at : (sizes : Sizes) (number : ℕ) (o : Option (Bor FuncItem)) → o ≡ slice_get sizes.all number → function_at (listed sizes) (Some number) ≡ option_map (λ (f : Bor FuncItem). function_of f.now) o
-listed_at sizes number o e = slice_get-map (λ (f : Bor FuncItem). function_of f.now) sizes.all number ∙ ap (option_map (λ (f : Bor FuncItem). function_of f.now)) (sym e)
+-- main is found by its number
+pub main_is : (sizes : Sizes) (program : List tree.Item) → AreOfFunctions sizes → listed sizes ≡ functions program → main_of program ≡ option_map (λ (f : Bor FuncItem). function_of f.now) (main_in sizes)
+main_is sizes program of same = ap (λ fs. function_named fs name_of_main) (sym same) ∙ of.numbers.named name_of_main ∙ by (number_of sizes.names name_of_main)
+  where
+    by : (o : Option ℕ) → function_at (listed sizes) o ≡ option_map (λ (f : Bor FuncItem). function_of f.now) (item_at sizes.all o)
+    by None = refl
+    by (Some number) = slice_get-map (λ (f : Bor FuncItem). function_of f.now) sizes.all number

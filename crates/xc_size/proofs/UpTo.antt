@@ -42,6 +42,24 @@ up_to_times l (suc m) a = by (cases_lt (l + 1) a)
         rw (e, mul_comm (suc m) (l + 1), mul_comm (suc m) a) (omega arith)
     by (inr h) = let e : min a (l + 1) ≡ a = omega arith in ap (λ (x : ℕ). min (suc m * x) (l + 1)) e
 
+-- two parts that are put together
+
+pub sum_of_two : (l a b x y s : ℕ) → x ≡ up_to l a → y ≡ up_to l b → s ≡ up_to l (x + y) → s ≡ up_to l (a + b)
+unfolding up_to
+sum_of_two l a b x y s e f g = omega arith
+
+pub greatest_of_two : (l a b x y s : ℕ) → x ≡ up_to l a → y ≡ up_to l b → s ≡ up_to l (max x y) → s ≡ up_to l (max a b)
+unfolding up_to
+greatest_of_two l a b x y s e f g = omega arith
+
+pub behind_none : (l b x y s : ℕ) → x ≡ up_to l 0 → y ≡ up_to l b → s ≡ up_to l (x + y) → s ≡ up_to l b
+unfolding up_to
+behind_none l b x y s e f g = omega arith
+
+pub before_none : (l a x y s : ℕ) → x ≡ up_to l a → y ≡ up_to l 0 → s ≡ up_to l (x + y) → s ≡ up_to l a
+unfolding up_to
+before_none l a x y s e f g = omega arith
+
 -- parts that are put together from the last one on
 
 pub sum_of_three : (l a b c x y z r s : ℕ) → x ≡ up_to l a → y ≡ up_to l b → z ≡ up_to l c → r ≡ up_to l (y + z) → s ≡ up_to l (x + r) → s ≡ up_to l (a + b + c)
@@ -66,6 +84,10 @@ greatest_of_four l a b c d x y z w r s e f g h i j t k =
 pub one_more : (l a b r s : ℕ) → r ≡ up_to l a → s ≡ up_to l (r + 1) → a + 1 ≡ b → s ≡ up_to l b
 unfolding up_to
 one_more l a b r s e f g = omega arith
+
+pub two_more : (l a r s : ℕ) → r ≡ up_to l a → s ≡ up_to l (r + 2) → s ≡ up_to l (a + 2)
+unfolding up_to
+two_more l a r s e f = omega arith
 
 pub copies_of : (l m a x r : ℕ) → x ≡ up_to l a → r ≡ up_to l (m * x) → r ≡ up_to l (m * a)
 copies_of l m a x r e f = f ∙ ap (λ (y : ℕ). up_to l (m * y)) e ∙ up_to_times l m a

@@ -1,13 +1,17 @@
 -- When the size of a function is known, and when it is right.
-use Rattle.std.specs.Prelude.{◌≡◌, ℕ, ◌+◌, ◌<◌, ◌≤◌, List, [], ◌∷◌, length, slice_get, Option, Some}
+use Rattle.std.specs.Prelude.{◌≡◌, ℕ, ◌+◌, ◌<◌, ◌≤◌, List, [], ◌∷◌, length, slice_get, Option, Some, None}
+use Rattle.std.specs.Borrow.{Bor}
+use Rattle.xc_tree.specs.declared.tree.FuncItem.{FuncItem}
+use Rattle.xc_tree.specs.declared.tree.Stmt.{Stmt}
 use Rattle.xc_tree.specs.Plain as tree
 use Rattle.xc_kernel.specs.Counts as counts
 use Rattle.xc_kernel.specs.Depths as depths
 use Rattle.xc_kernel.specs.Nodes as nodes
-use Rattle.xc_kernel.specs.Programs.{Function, count_within}
+use Rattle.xc_kernel.specs.Programs.{Function, count_within, name_of_main}
 use Rattle.xc_kernel.specs.Size.{most_statements, most_nodes, greatest_depth}
 use Rattle.xc_size.specs.declared.size.Size.{Size}
 use Rattle.xc_size.specs.declared.sizes.Sizes.{Sizes}
+use Rattle.xc_size.specs.Callees.{callees_of}
 use Rattle.xc_size.specs.Functions.{AreNumbers, functions_at}
 use Rattle.xc_size.specs.Numbers.{number_of}
 use Rattle.xc_size.specs.Sizes.{up_to, statements_called, nodes_called, depth_called}
@@ -21,6 +25,10 @@ abbrev pub AreKnown : List (Option Size) → List (Option ℕ) → Type 0
 AreKnown each [] = Unit {0}
 AreKnown each (callee ∷ callees) = IsKnown each callee × AreKnown each callees
 
+-- the size of each function that a statement calls is known
+abbrev pub AreCalleesKnown : Sizes → Stmt → Type 0
+AreCalleesKnown sizes s = AreKnown sizes.each (callees_of (number_of sizes.names) s)
+
 -- this is what a call adds, where calls in it are followed at most so deep
 pub record IsSizeOfCall (fs : List Function) (deep : ℕ) (call : tree.Call) (size : Size) : Type 0 where
   pub statements : size.statements ≡ up_to most_statements (count_within counts.of_function fs deep call)
@@ -30,6 +38,15 @@ pub record IsSizeOfCall (fs : List Function) (deep : ℕ) (call : tree.Call) (si
 -- the functions that the sizes are of
 abbrev pub listed : Sizes → List Function
 listed sizes = functions_at sizes.all
+
+-- the function with a number, as the tree has it
+abbrev pub item_at : List (Bor FuncItem) → Option ℕ → Option (Bor FuncItem)
+item_at all None = None
+item_at all (Some number) = slice_get all number
+
+-- main, as the tree has it
+abbrev pub main_in : Sizes → Option (Bor FuncItem)
+main_in sizes = item_at sizes.all (number_of sizes.names name_of_main)
 
 -- numbers and places fit
 pub record AreOfFunctions (sizes : Sizes) : Type 0 where

@@ -1,5 +1,5 @@
-ghost use Rattle.std.specs.Prelude.{◌≡◌, length, IfOk, OnOk};
-ghost use Rattle.xc_size.specs.Known.{AreNextSizes, AreOfFunctions, AreRightDeeper, AreSizesAt, AreSizesFrom, IsSizeOfBody, listed};
+ghost use Rattle.std.specs.Prelude.{◌≡◌, length, true, IfOk, OnOk};
+ghost use Rattle.xc_size.specs.Known.{AreCalleesKnown, AreNextSizes, AreOfFunctions, AreRightDeeper, AreSizesAt, AreSizesFrom, IsSizeOfBody, listed};
 ghost use Rattle.xc_tree.specs.Trees as tree;
 
 use crate::callees::callees;
@@ -27,8 +27,7 @@ pub fn whole_size<'a>(
         (λ size. IsSizeOfBody (listed sizes.old) (tree.statement_of body.now) size) }
 {
     add_in_order(alloc, sizes, order)?;
-    let callees = callees(alloc, &sizes.names, body)?;
-    if sizes.knows(callees.as_slice()) {
+    if are_known(alloc, sizes, body)? {
         return Ok(statement(sizes, body));
     }
     add_by_rounds(alloc, sizes)?;
@@ -61,13 +60,20 @@ fn add<'a>(alloc: Global, sizes: &mut Sizes<'a>, order: &[usize], turn: usize) -
     }
     let number = order[turn];
     let f = sizes.all.as_slice()[number];
-    let callees = callees(alloc, &sizes.names, &f.body)?;
-    if !sizes.knows(callees.as_slice()) {
+    if !are_known(alloc, sizes, &f.body)? {
         return Ok(());
     }
     let size = function(sizes, f);
     sizes.each.set(number, Some(size));
     Ok(())
+}
+
+/// Whether the sizes are known of all functions that a statement calls.
+fn are_known<'a>(alloc: Global, sizes: &Sizes<'a>, body: &'a Stmt) -> Result<bool, Memory>
+    ensures { IfOk result (λ known. known ≡ true → AreCalleesKnown sizes.now body.now) }
+{
+    let callees = callees(alloc, &sizes.names, body)?;
+    Ok(sizes.knows(callees.as_slice()))
 }
 
 /// Finds all sizes in as many rounds as there are functions.

@@ -1,5 +1,5 @@
 ghost use Rattle.std.specs.Prelude.{◌≡◌, replicate, true, IfOk};
-ghost use Rattle.xc_size.specs.Known.{AreKnown, AreOfFunctions, AreSizesFrom, IsKnown};
+ghost use Rattle.xc_size.specs.Known.{AreKnown, AreOfFunctions, AreSizesFrom, IsKnown, main_in};
 ghost use Rattle.xc_size.specs.Sizes.{size_called};
 
 use crate::functions::numbers_of;
@@ -27,9 +27,19 @@ impl<'a> Sizes<'a> {
         ensures functions { IfOk result (λ sizes. AreOfFunctions sizes) }
         ensures none { IfOk result (λ sizes. AreSizesFrom sizes 0) }
     {
-        let names = numbers_of(alloc, all.as_slice())?;
         let each = List::from_vec(repeated(alloc, None, all.len())?);
+        let names = numbers_of(alloc, all.as_slice())?;
         Ok(Sizes { all, names, each })
+    }
+
+    /// The function `main`, if there is one.
+    pub fn main_function(&self) -> Option<&'a FuncItem>
+        ensures { result ≡ main_in self.now }
+    {
+        match self.names.number(b"main") {
+            None => None,
+            Some(number) => self.all.get(number).copied(),
+        }
     }
 
     /// The size that a call adds of the function with a name: of nothing where it isn't known.

@@ -1,4 +1,4 @@
-use Rattle.std.proofs.Common.{◌≡◌, ◌<◌, ◌+◌, List, length, Option, get_or, subst, sym, ◌∙◌}
+use Rattle.std.proofs.Common.{◌≡◌, ◌<◌, ◌+◌, List, length, Option, get_or, subst, sym}
 use Rattle.xc_size.specs.declared.size.Size.{Size}
 use Rattle.xc_size.specs.Known.{AreKnown, AreSizesFrom}
 use Rattle.xc_tree.specs.Trees.{statement_of}
@@ -10,16 +10,16 @@ use Rattle.xc_size.proofs.filling.add.Goals as goal
 pub returns-then-turn-order-clause-right : goal.returns-then-turn-order-clause-right
 returns-then-turn-order-clause-right c = λ deep from. from_deeper c.args.sizes.now deep from
 
-pub returns-then-not-knows-clause-right : goal.returns-then-not-knows-clause-right
-returns-then-not-knows-clause-right c = λ deep from. from_deeper c.args.sizes.now deep from
+pub returns-then-not-branch-clause-right : goal.returns-then-not-branch-clause-right
+returns-then-not-branch-clause-right c = λ deep from. from_deeper c.args.sizes.now deep from
 
 pub returns-clause-right : goal.returns-clause-right
 returns-clause-right c = λ deep from.
     let number = get_or c.args.order.now c.args.turn 0 in
     let within : number < length c.args.sizes.now.all = rw c.len.ensures at c.if-order-turn.false in
     let is : c.index-as_slice-number.result ≡ get_or c.args.sizes.now.all number c.index-as_slice-number.result = rw c.as_slice.ensures at c.index-as_slice-number.is in
-    let known = c.knows.ensures c.if-not-knows.false in
+    let known = c.in_ok-are_known.ensures c.if-not-branch.false in
     subst (λ (each : List (Option Size)). AreSizesFrom (record { all = c.args.sizes.now.all; names = c.args.sizes.now.names; each = each }) (deep + 1)) (sym c.set.ensures)
     (from_more c.args.sizes.now number c.index-as_slice-number.result c.function-size.result c.requires.functions is within
-    (subst (AreKnown c.args.sizes.now.each) (c.as_slice-2.ensures ∙ c.in_ok-callees.ensures ∙ statement (number_of c.args.sizes.now.names) (statement_of c.index-as_slice-number.result.now.body)) known)
+    (subst (AreKnown c.args.sizes.now.each) (statement (number_of c.args.sizes.now.names) (statement_of c.index-as_slice-number.result.now.body)) known)
     (record { statements = c.function-size.ensures.statements; nodes = c.function-size.ensures.nodes; depth = c.function-size.ensures.depth }) deep from)

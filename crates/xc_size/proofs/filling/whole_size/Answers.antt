@@ -10,9 +10,9 @@ use Rattle.xc_size.proofs.CalledParts.{statement}
 use Rattle.xc_size.proofs.Right.{all_known, all_at, body_is}
 use Rattle.xc_size.proofs.filling.whole_size.Goals as goal
 
-pub returns-then-knows : goal.returns-then-knows
-returns-then-knows c =
-    let known = subst (AreKnown c.add_in_order.new.sizes.each) (c.as_slice.ensures ∙ c.in_ok-callees.ensures ∙ statement (number_of c.add_in_order.new.sizes.names) (tree.statement_of c.args.body.now)) (c.knows.ensures c.if-knows.true) in
+pub returns-then-branch : goal.returns-then-branch
+returns-then-branch c =
+    let known = subst (AreKnown c.add_in_order.new.sizes.each) (statement (number_of c.add_in_order.new.sizes.names) (tree.statement_of c.args.body.now)) (c.in_ok-are_known.ensures c.if-branch.true) in
     let count : length c.args.sizes.now.all ≡ length (listed c.add_in_order.new.sizes) = sym (ap length c.in_ok-add_in_order.ensures.all) ∙ sym (length-map c.add_in_order.new.sizes.all (λ (f : Bor FuncItem). function_of f.now)) in
     subst (λ (fs : List Function). IsSizeOfBody fs (tree.statement_of c.args.body.now) c.statement.result) (ap (map (λ (f : Bor FuncItem). function_of f.now)) c.in_ok-add_in_order.ensures.all)
     (body_is c.add_in_order.new.sizes (length c.args.sizes.now.all) (tree.statement_of c.args.body.now) c.statement.result count

@@ -1,9 +1,9 @@
 use Rattle.std.proofs.Common.{◌≡◌, ℕ, ◌<◌, ◌≤◌, List, length, get_or, slice_get, Some, ap, arith}
 use Rattle.xc_names.proofs.Searches.{search_begins, search_on, all_searched, next_item, few, one_less}
-use Rattle.xc_names.proofs.calls.broken_into.Goals as goal
+use Rattle.xc_names.proofs.calls.search_calls.Goals as goal
 
 pub search-init : goal.search-init
-search-init c = search_begins c.args.marks.now c.args.meant.now c.args.starts.now c.args.goal c.new-reached.result.keys c.add.new.reached.keys c.requires.small c.new-reached.ensures.empty c.in_ok-add.ensures
+search-init c = search_begins c.args.marks.now c.args.meant.now c.args.starts.now c.args.goal c.args.reached.now.keys c.add.new.reached.keys c.requires.small c.requires.empty c.in_ok-add.ensures
 
 item : (ks keys : List ℕ) (next : ℕ) → ks ≡ keys → next < length keys → slice_get keys next ≡ Some (get_or ks next 0)
 item ks keys next e h = next_item keys next (get_or ks next 0) (ap (λ (xs : List ℕ). get_or xs next 0) e) h

@@ -5,10 +5,10 @@ use Rattle.xc_tree.specs.Trees.{item_of}
 use Rattle.xc_names.specs.Taken.{is_taken}
 use Rattle.xc_names.proofs.Mains.{item_at}
 use Rattle.xc_names.proofs.PortRules.{none_seen, see_item, all_seen}
-use Rattle.xc_names.proofs.ports.broken_port.Goals as goal
+use Rattle.xc_names.proofs.ports.look_at_all.Goals as goal
 
 pub loop-item-init : goal.loop-item-init
-loop-item-init c = none_seen _ (is_taken c.new-taken.result) c.new-taken.ensures
+loop-item-init c = none_seen _ (is_taken c.args.taken.now) c.requires
 
 pub loop-item-preserved : goal.loop-item-preserved
 loop-item-preserved c =
