@@ -1,5 +1,7 @@
+pub mod Added
 pub mod AllRounds
 pub mod Among
+pub mod AtLink
 pub mod Clocks
 pub mod Coming
 pub mod Deliveries

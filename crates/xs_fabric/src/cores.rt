@@ -1,13 +1,13 @@
 // The four cores of a machine: how they start, and single events.
 
-ghost use Rattle.std.specs.Prelude.{◌≡◌, ◌≤◌, ◌<◌, ◌+◌, IfOk, List as Items, map, vec_len, vec_capacity};
+ghost use Rattle.std.specs.Prelude.{◌≡◌, ◌≤◌, ◌<◌, ◌+◌, ◌++◌, [], ◌∷◌, IfOk, OnOk, List as Items, map, vec_len, vec_capacity};
 ghost use Rattle.xs_instr.specs.Machine.{Move, Step, Tick, boot, boot_core, does, home_of, parts_in};
 ghost use Rattle.xs_instr.specs.Valid.{Valid, IsGoodStim};
 ghost use Rattle.xs_instr.specs.declared.image.Image.{Image};
 ghost use Rattle.xs_instr.specs.declared.image.Stim.{Stim};
 ghost use Rattle.xs_instr.specs.declared.trace.Record.{Record as RecordOf};
 ghost use Rattle.xs_fabric.specs.Kept.{AreIdle, IsRunning};
-ghost use Rattle.xs_fabric.specs.Rooms.{FirstHasRoom, IsIdle};
+ghost use Rattle.xs_fabric.specs.Rooms.{FirstHasRoom};
 ghost use Rattle.xs_fabric.specs.Rounds.{Links as LinksOf};
 ghost use Rattle.xs_fabric.specs.Seen.{IsEvent, answer_of, home_in, homes, state_in, together};
 ghost use Rattle.xs_fabric.specs.declared.machine.Event.TheVariants.{NotEnabled};
@@ -33,26 +33,67 @@ pub fn boot_cores(alloc: Global, image: &Image, stim: &Stim) -> Result<Vec<Core>
     ensures idle { IfOk result (λ cores. AreIdle cores.items) }
 {
     let mut cores = List::new(alloc);
-    cores.push(boot_core_at(alloc, image, 0, stim)?)?;
-    cores.push(boot_core_at(alloc, image, 1, stim)?)?;
-    cores.push(boot_core_at(alloc, image, 2, stim)?)?;
-    cores.push(boot_core_at(alloc, image, 3, stim)?)?;
+    add_cores(&mut cores, alloc, image, stim)?;
     Ok(cores.into_vec())
 }
 
-/// One core as it starts, with room for what it sends in a round.
-fn boot_core_at(alloc: Global, image: &Image, number: u8, stim: &Stim) -> Result<Core, Memory>
+/// Puts the four cores as they start into a list with nothing in it, each with room for what it sends in a round.
+fn add_cores(
+    cores: &mut List<Core>,
+    alloc: Global,
+    image: &Image,
+    stim: &Stim,
+) -> Result<(), Memory>
+    requires none { cores.old ≡ [] }
+    requires valid { Valid image.now }
+    requires stim { IsGoodStim stim.now }
+    ensures homes { OnOk result (map home_in cores.new ≡ homes image.now stim.now) }
+    ensures states { OnOk result (map state_in cores.new ≡ (boot image.now).cores) }
+    ensures idle { OnOk result (AreIdle cores.new) }
+{
+    add_core(cores, alloc, image, 0, stim)?;
+    add_core(cores, alloc, image, 1, stim)?;
+    add_core(cores, alloc, image, 2, stim)?;
+    add_core(cores, alloc, image, 3, stim)
+}
+
+/// Puts one core as it starts at the end, with room for what it sends in a round.
+fn add_core(
+    cores: &mut List<Core>,
+    alloc: Global,
+    image: &Image,
+    number: u8,
+    stim: &Stim,
+) -> Result<(), Memory>
     requires number { number < 4 }
     requires valid { Valid image.now }
     requires stim { IsGoodStim stim.now }
-    ensures home { IfOk result (λ core. core.home ≡ home_of image.now stim.now number) }
-    ensures state { IfOk result
-        (λ core. core.state ≡ boot_core (parts_in image.now.cores number)) }
-    ensures idle { IfOk result (λ core. IsIdle core) }
+    ensures home { OnOk result (map home_in cores.new
+        ≡ map home_in cores.old ++ home_of image.now stim.now number ∷ []) }
+    ensures state { OnOk result (map state_in cores.new
+        ≡ map state_in cores.old ++ boot_core (parts_in image.now.cores number) ∷ []) }
+    ensures idle { OnOk result (AreIdle cores.old → AreIdle cores.new) }
 {
-    let mut core = Core::new(alloc, image, number, stim)?;
-    core.reserve_window()?;
-    Ok(core)
+    match Core::new(alloc, image, number, stim) {
+        Ok(core) => add_with_room(cores, core),
+        Err(error) => Err(error),
+    }
+}
+
+/// Puts a core that has sent nothing at the end, with room for what it sends in a round.
+fn add_with_room(cores: &mut List<Core>, mut core: Core) -> Result<(), Memory>
+    requires { core.outbox ≡ [] }
+    ensures home { OnOk result (map home_in cores.new ≡ map home_in cores.old ++ core.home ∷ []) }
+    ensures state { OnOk result (map state_in cores.new ≡ map state_in cores.old ++ core.state ∷ []) }
+    ensures idle { OnOk result (AreIdle cores.old → AreIdle cores.new) }
+{
+    match core.reserve_window() {
+        Ok(()) => cores.push(core),
+        Err(error) => {
+            drop(core);
+            Err(error)
+        }
+    }
 }
 
 /// A step of a thread of one of the cores. What it sends goes onto the core's links.
