@@ -14,5 +14,7 @@ pub mod Placings
 pub mod Defaults
 pub mod Mains
 pub mod Programs
+pub mod Heights
+pub mod Depths
 pub mod Breaking
 pub mod Whole

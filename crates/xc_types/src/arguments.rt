@@ -113,13 +113,9 @@ fn variable_of(named: &Named, k: usize, e: &Expr) -> Option<u32>
     ensures { result ≡ call.variable_of (given named.now k e.now) }
 {
     match &e.kind {
-        Ex::Name(_) => declared_variable(named, k),
-        Ex::Index(_, _) => declared_variable(named, k),
-        Ex::Num(_, _) => None,
-        Ex::Un(_, _) => None,
-        Ex::Bin(_, _, _) => None,
-        Ex::Cond(_, _, _) => None,
-        Ex::Cast(_, _) => None,
+        Ex::Name(_) | Ex::Index(_, _) => declared_variable(named, k),
+        Ex::Num(_, _) | Ex::Un(_, _) | Ex::Bin(_, _, _) | Ex::Cond(_, _, _) | Ex::Cast(_, _) =>
+            None,
     }
 }
 

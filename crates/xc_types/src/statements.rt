@@ -11,7 +11,7 @@ use crate::places::branch_place;
 use crate::shapes::{
     begin_replicated, begin_select, breaks, continues, not_in_transaction, returns,
 };
-use xc_tree::{Branch, Case, Named, St, Stmt};
+use xc_tree::{Branch, Case, Expr, Named, St, Stmt};
 use xw_words::{Memory, Pos};
 
 /// Checks a statement, with what stands around it.
@@ -44,12 +44,7 @@ pub fn statement(
         St::Do(rhs) => right_side(found, named, around, rhs, false),
         St::Output(send) => output(found, named, send),
         St::Input(head) => input(found, named, head),
-        St::If(test, then, otherwise) => {
-            let inner = Around::Inside(Holder::If, &*around);
-            part(found, named, test)?;
-            statement(found, named, then, &inner)?;
-            statement_if_any(found, named, otherwise, &inner)
-        }
+        St::If(test, then, otherwise) => choice(found, named, test, then, otherwise, around),
         St::While(test, body) => {
             part(found, named, test)?;
             statement(found, named, body, &Around::Inside(Holder::Loop, &*around))
@@ -59,10 +54,7 @@ pub fn statement(
             part(found, named, test)
         }
         St::For(first, test, step, body) => {
-            statement_if_any(found, named, first, around)?;
-            part_if_any(found, named, test)?;
-            statement_if_any(found, named, step, around)?;
-            statement(found, named, body, &Around::Inside(Holder::Loop, &*around))
+            for_loop(found, named, first, test, step, body, around)
         }
         St::Return(rhs) => {
             returns(found, around, rhs.is_some(), s.pos);
@@ -97,6 +89,47 @@ pub fn statement(
         }
         St::Tran(_, ss) => transaction(found, named, ss.as_slice(), around, s.pos),
     }
+}
+
+/// Checks an `if`.
+#[cycle(statement)]
+#[tactic(auto, using(crate::proofs::Shaping::statement_steps))]
+fn choice(
+    found: &mut Findings,
+    named: &Named,
+    test: &Expr,
+    then: &Stmt,
+    otherwise: &Option<Box<Stmt>>,
+    around: &Around,
+) -> Result<(), Memory>
+    ensures { OnOk result (found.new ≡ after.choice named.now test.now then.now otherwise.now
+        around.now found.old) }
+{
+    let inner = Around::Inside(Holder::If, &*around);
+    part(found, named, test)?;
+    statement(found, named, then, &inner)?;
+    statement_if_any(found, named, otherwise, &inner)
+}
+
+/// Checks a `for`.
+#[cycle(statement)]
+#[tactic(auto, using(crate::proofs::Shaping::statement_steps))]
+fn for_loop(
+    found: &mut Findings,
+    named: &Named,
+    first: &Option<Box<Stmt>>,
+    test: &Option<Expr>,
+    step: &Option<Box<Stmt>>,
+    body: &Stmt,
+    around: &Around,
+) -> Result<(), Memory>
+    ensures { OnOk result (found.new ≡ after.for_loop named.now first.now test.now step.now
+        body.now around.now found.old) }
+{
+    statement_if_any(found, named, first, around)?;
+    part_if_any(found, named, test)?;
+    statement_if_any(found, named, step, around)?;
+    statement(found, named, body, &Around::Inside(Holder::Loop, &*around))
 }
 
 #[cycle(statement)]

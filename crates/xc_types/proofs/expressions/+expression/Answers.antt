@@ -10,6 +10,7 @@ use Rattle.xc_tree.specs.Types.Words.{gives_unsigned, is_unsigned, form_is_unsig
 use Rattle.xc_tree.proofs.Forms.{expression-Expr, form-Num, form-Name, form-Index, form-Un, form-Bin, form-Cond, form-Cast}
 use Rattle.xc_types.specs.declared.findings.Findings.{Findings}
 use Rattle.xc_types.specs.Findings.{saw, after_indexed, with_type}
+use Rattle.xc_types.proofs.Depths.{depth, only, left_of_two, right_of_two, first_of_three, second_of_three, third_of_three, itself}
 use Rattle.xc_types.proofs.Joins.{saw_names, saw_nothing}
 use Rattle.xc_types.proofs.Loops.{behind}
 use Rattle.xc_types.proofs.Nodes.{both_seen, first_node_seen, indexed_seen, names_inside, node_seen, node_within, typed_seen, word_seen}
@@ -270,3 +271,98 @@ expression-returns-in-Cast-clause-is_unsigned t c =
     subst (λ (x : plain.Expression). IfOk c.cast.result (λ u. u ≡ is_unsigned (named_of c.args.named.now) c.args.found.now.names x))
     (by_form c.args.e.now (plain.cast c.in-Cast.is_unsigned (expression_of c.in-Cast.operand.value)) (ap form_of c.in-Cast.is ∙ form-Cast c.in-Cast.is_unsigned c.in-Cast.operand))
     c.cast.ensures.is_unsigned
+
+pub element-expression-requires : goal.element-expression-requires
+element-expression-requires t c =
+    (itself (depth (expression_of c.args.index.now)) c.decreases, tt)
+
+pub cast-expression-requires : goal.cast-expression-requires
+cast-expression-requires t c =
+    (itself (depth (expression_of c.args.operand.now)) c.decreases, tt)
+
+pub unary-expression-requires : goal.unary-expression-requires
+unary-expression-requires t c =
+    (itself (depth (expression_of c.args.operand.now)) c.decreases, tt)
+
+pub right_operand-expression-requires : goal.right_operand-expression-requires
+right_operand-expression-requires t c =
+    (itself (depth (expression_of c.args.right.now)) c.decreases, tt)
+
+pub condition-expression-requires : goal.condition-expression-requires
+condition-expression-requires t c =
+    (itself (depth (expression_of c.args.test.now)) c.decreases, tt)
+
+pub expression-element-requires : goal.expression-element-requires
+expression-element-requires t c =
+    let index = expression_of c.deref.result.now in
+    let form = by_form c.args.e.now (plain.index c.in-Index.field-0 index)
+    (ap form_of c.in-Index.is ∙ form-Index c.in-Index.field-0 c.in-Index.index ∙ ap (λ (x : Expr). plain.index c.in-Index.field-0 (expression_of x)) (sym c.deref.ensures)) in
+    (only (depth (expression_of c.args.e.now)) (depth index) c.decreases (sym (ap depth form)), tt)
+
+pub expression-unary-requires : goal.expression-unary-requires
+expression-unary-requires t c =
+    let operand = expression_of c.deref-in-Un.result.now in
+    let form = by_form c.args.e.now (plain.unary c.in-Un.symbol operand)
+    (ap form_of c.in-Un.is ∙ form-Un c.in-Un.symbol c.in-Un.operand ∙ ap (λ (x : Expr). plain.unary c.in-Un.symbol (expression_of x)) (sym c.deref-in-Un.ensures)) in
+    (only (depth (expression_of c.args.e.now)) (depth operand) c.decreases (sym (ap depth form)), tt)
+
+pub expression-cast-requires : goal.expression-cast-requires
+expression-cast-requires t c =
+    let u = c.in-Cast.is_unsigned in
+    let operand = expression_of c.deref-in-Cast.result.now in
+    let form = by_form c.args.e.now (plain.cast u operand)
+    (ap form_of c.in-Cast.is ∙ form-Cast u c.in-Cast.operand ∙ ap (λ (x : Expr). plain.cast u (expression_of x)) (sym c.deref-in-Cast.ensures)) in
+    (only (depth (expression_of c.args.e.now)) (depth operand) c.decreases (sym (ap depth form)), tt)
+
+pub expression-expression-requires : goal.expression-expression-requires
+expression-expression-requires t c =
+    let o = c.in-Bin.symbol in
+    let left = expression_of c.deref-in-Bin.result.now in
+    let right = expression_of c.in-Bin.right.value in
+    let form = by_form c.args.e.now (plain.binary o left right)
+    (ap form_of c.in-Bin.is ∙ form-Bin o c.in-Bin.left c.in-Bin.right ∙ ap (λ (x : Expr). plain.binary o (expression_of x) right) (sym c.deref-in-Bin.ensures)) in
+    (left_of_two (depth (expression_of c.args.e.now)) (depth left) (depth right) c.decreases (sym (ap depth form)), tt)
+
+pub expression-right_operand-requires : goal.expression-right_operand-requires
+expression-right_operand-requires t c =
+    let o = c.in-Bin.symbol in
+    let left = expression_of c.in-Bin.left.value in
+    let right = expression_of c.deref-in-Bin-2.result.now in
+    let form = by_form c.args.e.now (plain.binary o left right)
+    (ap form_of c.in-Bin.is ∙ form-Bin o c.in-Bin.left c.in-Bin.right ∙ ap (λ (x : Expr). plain.binary o left (expression_of x)) (sym c.deref-in-Bin-2.ensures)) in
+    (right_of_two (depth (expression_of c.args.e.now)) (depth left) (depth right) c.decreases (sym (ap depth form)), tt)
+
+pub expression-condition-requires : goal.expression-condition-requires
+expression-condition-requires t c =
+    let test = expression_of c.deref-in-Cond.result.now in
+    let first = expression_of c.in-Cond.first.value in
+    let second = expression_of c.in-Cond.second.value in
+    let form = by_form c.args.e.now (plain.choice test first second)
+    (ap form_of c.in-Cond.is ∙ form-Cond c.in-Cond.test c.in-Cond.first c.in-Cond.second ∙ ap (λ (x : Expr). plain.choice (expression_of x) first second) (sym c.deref-in-Cond.ensures)) in
+    (first_of_three (depth (expression_of c.args.e.now)) (depth test) (depth first) (depth second) c.decreases (sym (ap depth form)), tt)
+
+pub expression-expression-requires-in-Cond : goal.expression-expression-requires-in-Cond
+expression-expression-requires-in-Cond t c =
+    let test = expression_of c.in-Cond.test.value in
+    let first = expression_of c.deref-in-Cond-2.result.now in
+    let second = expression_of c.in-Cond.second.value in
+    let form = by_form c.args.e.now (plain.choice test first second)
+    (ap form_of c.in-Cond.is ∙ form-Cond c.in-Cond.test c.in-Cond.first c.in-Cond.second ∙ ap (λ (x : Expr). plain.choice test (expression_of x) second) (sym c.deref-in-Cond-2.ensures)) in
+    (second_of_three (depth (expression_of c.args.e.now)) (depth test) (depth first) (depth second) c.decreases (sym (ap depth form)), tt)
+
+pub expression-expression-requires-in-Cond-2 : goal.expression-expression-requires-in-Cond-2
+expression-expression-requires-in-Cond-2 t c =
+    let test = expression_of c.in-Cond.test.value in
+    let first = expression_of c.in-Cond.first.value in
+    let second = expression_of c.deref-in-Cond-3.result.now in
+    let form = by_form c.args.e.now (plain.choice test first second)
+    (ap form_of c.in-Cond.is ∙ form-Cond c.in-Cond.test c.in-Cond.first c.in-Cond.second ∙ ap (λ (x : Expr). plain.choice test first (expression_of x)) (sym c.deref-in-Cond-3.ensures)) in
+    (third_of_three (depth (expression_of c.args.e.now)) (depth test) (depth first) (depth second) c.decreases (sym (ap depth form)), tt)
+
+pub element-returns-clause-is_unsigned : goal.element-returns-clause-is_unsigned
+element-returns-clause-is_unsigned t c =
+    c.in_ok-is_unsigned.ensures.is_unsigned
+
+pub cast-returns-clause-is_unsigned : goal.cast-returns-clause-is_unsigned
+cast-returns-clause-is_unsigned t c =
+    refl
