@@ -3,6 +3,8 @@ pub mod BitLemmas
 pub mod Changed
 pub mod Delivered
 pub mod EndSteps
+pub mod Found
+pub mod FoundPorts
 pub mod Lists
 pub mod Peers
 pub mod Starting
