@@ -38,9 +38,11 @@ pub fn copy(alloc: Global, tree: &Tree) -> Result<Kernel, Memory>
     let names = port_names(alloc, tree);
     let (functions, names) = both(functions, names)?;
     let walked = walked(alloc, &functions, names.as_slice());
+    drop(names);
+    let main = main_pos(functions.main());
+    drop(functions);
     let ports = port_uses(alloc, tree);
     let ((numbers, rooted), ports) = both(walked, ports)?;
-    let main = main_pos(functions.main());
     Ok(kernel_by(numbers, rooted, ports, main))
 }
 
@@ -63,8 +65,7 @@ fn walked<'a>(
 {
     let numbers = numbered(alloc, functions, ports)?;
     let rooted = roots_by_numbers(alloc, functions, ports, &numbers);
-    let (numbers, rooted) = beside(numbers, rooted)?;
-    Ok((numbers, rooted))
+    beside(numbers, rooted)
 }
 
 /// The numbering of a program's instances, which a walk without one finds. The one error is as for `copy`.
@@ -83,6 +84,7 @@ fn numbered<'a>(
     let walked = roots_by_numbers(alloc, functions, ports, &none);
     drop(none);
     let first = walked?;
+    drop(first.roots);
     let numbers = Numbers::of_copy(alloc, first.made)?;
     Ok(numbers)
 }
@@ -131,7 +133,13 @@ fn port_names<'a>(alloc: Global, tree: &'a Tree) -> Result<Vec<&'a [u8]>, Memory
 {
     let mut names = Vec::new(alloc);
     for item in tree.items.as_slice() {
-        add_port_name(&mut names, item)?;
+        match add_port_name(&mut names, item) {
+            Ok(()) => {}
+            Err(memory) => {
+                drop(names);
+                return Err(memory);
+            }
+        }
     }
     Ok(names)
 }
@@ -158,7 +166,13 @@ fn port_uses(alloc: Global, tree: &Tree) -> Result<List<PortUse>, Memory>
 {
     let mut ports = List::new(alloc);
     for item in tree.items.as_slice() {
-        add_port_use(alloc, &mut ports, item)?;
+        match add_port_use(alloc, &mut ports, item) {
+            Ok(()) => {}
+            Err(memory) => {
+                drop(ports);
+                return Err(memory);
+            }
+        }
     }
     Ok(ports)
 }
