@@ -58,8 +58,8 @@ impl Core {
         ensures outbox { IfOk result (λ core. core.outbox ≡ []) }
         ensures spare { IfOk result (λ core. core.spare ≡ 0) }
     {
-        let state = boot::state_for(alloc, image, number, stim)?;
         let outbox = HeapCircularBuffer::with_capacity(alloc, 0)?;
+        let state = boot::state_for(alloc, image, number, stim)?;
         let in_use = threads::in_use(&state.threads);
         Ok(Core {
             state,
