@@ -2,6 +2,7 @@
 use Rattle.std.proofs.Common.{◌≡◌, ℕ, true, List, [], ◌∷◌, ◌++◌, get_or, refl, sym, ◌∙◌, ap, arith, if◌then◌else◌, bytes_eq}
 use Rattle.std.proofs.lemmas.List.{append_assoc}
 use Rattle.std.specs.Prelude.{codes, decimal}
+use Rattle.xr_text.specs.Names.{name_of}
 use Rattle.xr_text.proofs.InjectiveTokens.{Apart, all_inside, is_inside, at_apart, comma_apart, space_apart, cond_inside, cond_of, cond_of-text, cut, decimal_inside, head_is, kind_inside, kind_of, kind_of-text, number_of, number_of-decimal, reg_inside, reg_of, reg_of-text, tail_is, word_wide}
 use Rattle.xs_instr.specs.Words.{IsWordInstr}
 use Rattle.xs_instr.specs.declared.instr.Instr.{Instr}
@@ -59,79 +60,7 @@ operands_cut (o ∷ os) (o' ∷ ps) z y p q e =
     let o_is : o ≡ o' = first.0 in
     let os_is : os ≡ ps = rest.0 in (cc, tail_is 64 64 z y rest.1)
 
--- an instruction's name
-abbrev name_of : Instr → List ℕ
-name_of (Add a b c) = codes "ADD"
-name_of (Sub a b c) = codes "SUB"
-name_of (Mul a b c) = codes "MUL"
-name_of (And a b c) = codes "AND"
-name_of (Or a b c) = codes "OR"
-name_of (Xor a b c) = codes "XOR"
-name_of (Addi a b c) = codes "ADDI"
-name_of (Neg a b) = codes "NEG"
-name_of (Not a b) = codes "NOT"
-name_of (Eq a b c) = codes "EQ"
-name_of (Lss a b c) = codes "LSS"
-name_of (Lsu a b c) = codes "LSU"
-name_of (Shl a b c) = codes "SHL"
-name_of (Shr a b c) = codes "SHR"
-name_of (Ashr a b c) = codes "ASHR"
-name_of (Divs a b c) = codes "DIVS"
-name_of (Rems a b c) = codes "REMS"
-name_of (Divu a b c) = codes "DIVU"
-name_of (Remu a b c) = codes "REMU"
-name_of (Ecallf a) = codes "ECALLF"
-name_of (Ecallt a) = codes "ECALLT"
-name_of (Ldc a b) = codes "LDC"
-name_of (Ldwdp a b) = codes "LDWDP"
-name_of (Stwdp a b) = codes "STWDP"
-name_of (Ldawdp a b) = codes "LDAWDP"
-name_of (Ldwsp a b) = codes "LDWSP"
-name_of (Stwsp a b) = codes "STWSP"
-name_of (Ldawsp a b) = codes "LDAWSP"
-name_of (Ldw a b c) = codes "LDW"
-name_of (Stw a b c) = codes "STW"
-name_of (Setdp a) = codes "SETDP"
-name_of (Setsp a) = codes "SETSP"
-name_of (Brft a b) = codes "BRFT"
-name_of (Brff a b) = codes "BRFF"
-name_of (Brfu a) = codes "BRFU"
-name_of (Brbt a b) = codes "BRBT"
-name_of (Brbf a b) = codes "BRBF"
-name_of (Brbu a) = codes "BRBU"
-name_of (Blrf a) = codes "BLRF"
-name_of (Blrb a) = codes "BLRB"
-name_of (Entsp a) = codes "ENTSP"
-name_of (Retsp a) = codes "RETSP"
-name_of (Getr a b) = codes "GETR"
-name_of (Freer a) = codes "FREER"
-name_of (Getst a b) = codes "GETST"
-name_of (Tinitpc a b) = codes "TINITPC"
-name_of (Tinitdp a b) = codes "TINITDP"
-name_of (Tinitsp a b) = codes "TINITSP"
-name_of (Msync a) = codes "MSYNC"
-name_of Ssync = codes "SSYNC"
-name_of (Mjoin a) = codes "MJOIN"
-name_of Freet = codes "FREET"
-name_of (Out a b) = codes "OUT"
-name_of (Outt a b) = codes "OUTT"
-name_of (Outct a b) = codes "OUTCT"
-name_of (In a b) = codes "IN"
-name_of (Int a b) = codes "INT"
-name_of (Chkct a b) = codes "CHKCT"
-name_of (Setc a b) = codes "SETC"
-name_of (Setd a b) = codes "SETD"
-name_of (Setpt a b) = codes "SETPT"
-name_of (Getts a b) = codes "GETTS"
-name_of (Setv a b) = codes "SETV"
-name_of (Eeu a) = codes "EEU"
-name_of (Edu a) = codes "EDU"
-name_of Clre = codes "CLRE"
-name_of Waiteu = codes "WAITEU"
-name_of (Setsr a) = codes "SETSR"
-name_of (Clrsr a) = codes "CLRSR"
-
--- its operands' texts
+-- an instruction's operands' texts
 abbrev operands_of : Instr → List (List ℕ)
 operands_of (Add a b c) = reg_text a ∷ reg_text b ∷ reg_text c ∷ []
 operands_of (Sub a b c) = reg_text a ∷ reg_text b ∷ reg_text c ∷ []
