@@ -2,7 +2,7 @@ ghost use Rattle.std.specs.Prelude.{◌≡◌, ◌<◌, ◌≤◌, ◌-◌, [], 
 ghost use Rattle.xc_kernel.specs.Scopes as spec;
 ghost use Rattle.xc_roots.specs.Scopes.{entity_meant, entity_found, scope_of};
 
-use crate::memory::push;
+use crate::memory::{both, push};
 use std::alloc::Global;
 use xw_words::{List, Memory};
 
@@ -37,7 +37,8 @@ impl Entity {
                 Ok(Entity::Array(path.copy(alloc)?, *words, *unsigned))
             }
             Entity::Element(array, index, unsigned) => {
-                Ok(Entity::Element(array.copy(alloc)?, index.copy(alloc)?, *unsigned))
+                let (array, index) = both(array.copy(alloc), index.copy(alloc))?;
+                Ok(Entity::Element(array, index, *unsigned))
             }
             Entity::Channel(path) => Ok(Entity::Channel(path.copy(alloc)?)),
             Entity::Timer(path) => Ok(Entity::Timer(path.copy(alloc)?)),

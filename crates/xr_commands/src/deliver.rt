@@ -1,9 +1,10 @@
 // Writing what was decided. No memory is taken here.
 
-ghost use Rattle.std.specs.Prelude.{◌≡◌, ◌≢◌, ◌≤◌, [], true, false};
+ghost use Rattle.std.specs.Prelude.{◌≡◌, ◌≢◌, ◌≤◌, ◌++◌, [], codes, true, false};
 ghost use Rattle.xs_instr.specs.Texts.{all_texts, record_line};
 ghost use Rattle.xw_io.specs.Gathering.{Drew};
 ghost use Rattle.xr_commands.specs.Answers.{Delivered};
+ghost use Rattle.xr_commands.specs.Lines.{broken_line, usage_line};
 ghost use Rattle.xr_commands.specs.Decision.{outcome_of, printed_text, line_text, IsPrintable};
 ghost use Rattle.xr_commands.specs.Outside.{Gave, span};
 
@@ -11,6 +12,7 @@ use crate::decide::{Decision, Line, Printed};
 use xr_text::{add_image, add_number, add_pos, add_record, add_word};
 use xs_instr::Record;
 use xw_io::{Out, Sink, SinkFault};
+use xw_words::Broken;
 
 const USAGE: &[u8] =
     b"usage: xcsim check FILE | asm FILE | run FILE [STIM] [--ticks N] [--workers W] | debug FILE STIM SCRIPT | make N | bench N\n";
@@ -98,32 +100,43 @@ fn add_line<O: Sink>(out: &mut Out<'_, O>, line: &Line)
 {
     match line {
         Line::Nothing => {}
-        Line::Usage => out.add(USAGE),
-        Line::NoFile(name) => {
-            out.add(b"no file ");
-            out.add(name.as_bytes());
-            out.add(b"\n");
-        }
-        Line::TooLong(name) => {
-            out.add(b"too long ");
-            out.add(name.as_bytes());
-            out.add(b"\n");
-        }
-        Line::ReadFault(name) => {
-            out.add(b"read fault ");
-            out.add(name.as_bytes());
-            out.add(b"\n");
-        }
-        Line::Broken(name, broken) => {
-            out.add(name.as_bytes());
-            out.add(b":");
-            add_pos(out, broken.pos);
-            out.add(b": rule ");
-            add_number(out, broken.rule as u32);
-            out.add(b"\n");
-        }
+        Line::Usage => add_usage(out),
+        Line::NoFile(name) => add_about(out, b"no file ", name),
+        Line::TooLong(name) => add_about(out, b"too long ", name),
+        Line::ReadFault(name) => add_about(out, b"read fault ", name),
+        Line::Broken(name, broken) => add_broken(out, name, *broken),
         Line::NoMemory => out.add(b"out of memory\n"),
     }
+}
+
+fn add_usage<O: Sink>(out: &mut Out<'_, O>)
+    ensures same_sink { out.new.sink.ghost_name ≡ out.old.sink.ghost_name }
+    ensures drew { Drew O.bytes O.faults out.old out.new usage_line }
+{
+    out.add(USAGE);
+}
+
+/// Adds what is wrong with a file.
+fn add_about<O: Sink>(out: &mut Out<'_, O>, what: &[u8], file: &str)
+    ensures same_sink { out.new.sink.ghost_name ≡ out.old.sink.ghost_name }
+    ensures drew { Drew O.bytes O.faults out.old out.new (what.now ++ file.now ++ codes "\n") }
+{
+    out.add(what);
+    out.add(file.as_bytes());
+    out.add(b"\n");
+}
+
+/// Adds a rule that a file breaks, and its place.
+fn add_broken<O: Sink>(out: &mut Out<'_, O>, file: &str, broken: Broken)
+    ensures same_sink { out.new.sink.ghost_name ≡ out.old.sink.ghost_name }
+    ensures drew { Drew O.bytes O.faults out.old out.new (broken_line file.now broken) }
+{
+    out.add(file.as_bytes());
+    out.add(b":");
+    add_pos(out, broken.pos);
+    out.add(b": rule ");
+    add_number(out, broken.rule as u32);
+    out.add(b"\n");
 }
 
 fn is_due(line: &Line) -> bool

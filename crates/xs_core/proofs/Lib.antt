@@ -2,11 +2,15 @@ pub mod Balance
 pub mod BitLemmas
 pub mod Changed
 pub mod Delivered
+pub mod EndRows
 pub mod EndSteps
 pub mod Found
 pub mod FoundPorts
 pub mod Lists
+pub mod OwnRows
 pub mod Peers
+pub mod PoolRows
+pub mod PortRows
 pub mod Starting
 pub mod There
 pub mod Turning

@@ -1,7 +1,8 @@
 -- Turns, from what is decided to what is left.
-use Rattle.std.proofs.Common.{◌≡◌, ◌<◌, ◌+◌, ◌^◌, ℕ, zero, suc, List, [], ◌∷◌, Option, Some, length, sym, subst, arith, append-nil}
+use Rattle.std.proofs.Common.{◌≡◌, ◌<◌, ◌+◌, ◌^◌, ℕ, zero, suc, List, [], ◌∷◌, Option, Some, length, sym, ap, ◌∙◌, subst, arith, append-nil}
 use Rattle.std.specs.Prelude.{slice_get}
 use Rattle.std.proofs.lemmas.Option.{slice_get_within}
+use Rattle.xs_core.specs.declared.did.Did.{Did as DidAnswer}
 use Rattle.xs_core.specs.declared.did.Did.TheVariants.{Made as DidMake}
 use Rattle.xs_core.specs.declared.state.State.{State}
 use Rattle.xs_core.specs.Ends.{IsSent}
@@ -9,14 +10,16 @@ use Rattle.xs_core.specs.Order.{IsGoodCode, IsInOrder}
 use Rattle.xs_core.specs.Slots.{IsTurn}
 use Rattle.xs_core.specs.declared.turn.Turn.{Turn}
 use Rattle.xs_core.specs.declared.turn.Turn.TheVariants.{Own, Pool, End, Port, Event}
-use Rattle.xs_core.specs.Turns.{HasByte, IsMade, Keeps, MayGoOn}
+use Rattle.xs_core.specs.Turns.{HasByte, IsMade, Keeps, MayGoOn, meant}
 use Rattle.xs_instr.specs.declared.image.Home.{Home}
 use Rattle.xs_instr.specs.declared.instr.Instr.{Instr}
 use Rattle.xs_instr.specs.declared.instr.Instr.TheVariants.{Outct, Chkct}
 use Rattle.xs_instr.specs.declared.state.CoreState.{CoreState}
 use Rattle.xs_instr.specs.declared.state.Sent.{Sent}
+use Rattle.xs_instr.specs.declared.state.Thread.{Thread}
 use Rattle.xs_instr.specs.declared.trace.Record.{Record}
 use Rattle.xs_instr.specs.Did.{Did, Made, Paused, Traps, Idle}
+use Rattle.xs_instr.specs.Slot.{slot}
 use Rattle.xs_instr.specs.Valid.{AreGoodInstrs, IsGoodInstr}
 
 byte_of : (size i : ℕ) (x : Instr) → IsGoodInstr size i x → HasByte x
@@ -72,3 +75,8 @@ may_go_on pc (End step) h = h
 may_go_on pc (Port step) h = h
 may_go_on pc (Event step) h = h
 may_go_on pc _ h = tt
+
+-- a turn that is decided is the thread's turn
+pub decided : (home : Home) (core : CoreState) (t : ℕ) (x : Thread) (turn found : Turn) (answer : DidAnswer) (new : CoreState) (box box' : List Sent) → turn ≡ found → meant home core t x turn ≡ slot home core t → IsTurn (meant home core t x found) home core t answer new box box' → IsTurn (slot home core t) home core t answer new box box'
+decided home core t x turn found answer new box box' is means h =
+    subst (λ d. IsTurn d home core t answer new box box') (ap (meant home core t x) (sym is) ∙ means) h

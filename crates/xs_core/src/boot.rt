@@ -7,9 +7,10 @@ ghost use Rattle.xs_core.specs.Seen.{home_of as home_in, state_of};
 ghost use Rattle.xs_core.specs.Start.{started};
 ghost use Rattle.xs_core.specs.Wired.{ArePeers, peer_as};
 ghost use Rattle.xs_instr.specs.Ends.{peer_of};
-ghost use Rattle.xs_instr.specs.Machine.{boot_core, boot_end, boot_events, boot_threads, boot_timer, home_of, no_parts, parts_in, root_thread, unused_thread};
+ghost use Rattle.xs_instr.specs.Machine.{boot_core, boot_end, boot_events, boot_ports, boot_threads, boot_timer, home_of, no_parts, parts_in, root_thread, unused_thread};
 ghost use Rattle.xs_instr.specs.Pool.{lock_free};
 ghost use Rattle.xs_instr.specs.Valid.{Valid, IsGoodStim, AreGoodPorts};
+ghost use Rattle.xs_port.specs.Ports.{boot_seen};
 
 use crate::state::{Fixed, LOCKS, Peer, State, THREADS};
 use std::alloc::Global;
@@ -44,10 +45,40 @@ fn parts_for(alloc: Global, fixed: Fixed, number: u8, stim: &Stim) -> Result<Sta
     ensures stim { IfOk result (λ state. state.ports.stim ≡ stim.now.lines) }
     ensures state { IfOk result (λ state. state_of state ≡ boot_core fixed.parts) }
 {
-    let ports = Ports::new(alloc, &fixed.parts.ports, stim, number)?;
-    let words = Ram::new(alloc, fixed.parts.words)?;
-    let resources = resources_for(alloc, fixed.parts.timers, fixed.parts.ends)?;
+    let Made {
+        ports,
+        words,
+        resources,
+    } = made_for(alloc, &fixed.parts, number, stim)?;
     Ok(state_of_parts(fixed, ports, words, resources))
+}
+
+/// What is made of the parts of a core as it starts.
+struct Made {
+    ports: Ports,
+    words: Ram,
+    resources: Resources,
+}
+
+/// What is made of the parts of core `number`.
+fn made_for(alloc: Global, parts: &CoreImage, number: u8, stim: &Stim) -> Result<Made, Memory>
+    requires ports { AreGoodPorts parts.now.ports }
+    requires stim { IsGoodStim stim.now }
+    ensures ports { IfOk result
+        (λ made. made.ports ≡ boot_seen (boot_ports parts.now.ports) stim.now.lines number) }
+    ensures words { IfOk result (λ made. made.words ≡ replicate parts.now.words 0) }
+    ensures timers { IfOk result (λ made. made.resources.timers ≡ replicate parts.now.timers boot_timer) }
+    ensures ends { IfOk result (λ made. made.resources.ends ≡ replicate parts.now.ends boot_end) }
+    ensures events { IfOk result (λ made. made.resources.events ≡ boot_events) }
+{
+    let ports = Ports::new(alloc, &parts.ports, stim, number)?;
+    let words = Ram::new(alloc, parts.words)?;
+    let resources = resources_for(alloc, parts.timers, parts.ends)?;
+    Ok(Made {
+        ports,
+        words,
+        resources,
+    })
 }
 
 /// A core as it starts, of its parts.
