@@ -62,7 +62,7 @@ pub struct Timer {
 }
 
 /// A declared port.
-#[derive(Clone, Copy, Debug, PartialEq, Eq)]
+#[derive(Clone, Copy, PartialEq, Eq)]
 pub struct PortUse {
     /// The place of its identifier among `1A` to `1P`, `4A` to `4F`, `8A` to `8D`, `16A`, `16B` and `32A`, from 0.
     pub id: u8,
@@ -75,7 +75,7 @@ pub struct PortUse {
 }
 
 /// An instance of a function.
-#[derive(Clone, Copy, Debug, PartialEq, Eq)]
+#[derive(Clone, Copy, PartialEq, Eq)]
 pub struct Inst {
     pub core: u8,
     /// How many parameters it has.

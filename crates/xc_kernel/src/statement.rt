@@ -1,7 +1,7 @@
 use xw_words::{List, Pos};
 
 /// A port, a timer or a channel, by its place in the kernel's list of its kind.
-#[derive(Clone, Copy, Debug, PartialEq, Eq)]
+#[derive(Clone, Copy, PartialEq, Eq)]
 pub enum KRes {
     Port(u32),
     Timer(u32),

@@ -4,7 +4,7 @@ ghost use Rattle.xc_kernel.specs.Size.{greatest_depth, most_nodes, most_statemen
 
 /// How many statements a part of a program counts and how many nodes it has, with all copies, and how deep these stand. No
 /// count goes further than one above its limit.
-#[derive(Clone, Copy, Debug, PartialEq, Eq)]
+#[derive(Clone, Copy, PartialEq, Eq)]
 pub struct Size {
     pub statements: u32,
     pub nodes: u32,

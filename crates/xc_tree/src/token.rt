@@ -4,7 +4,7 @@ use xw_words::{List, Pos};
 pub type Text = List<u8>;
 
 /// What a token is.
-#[derive(Debug, Drop)]
+#[derive(Drop)]
 pub enum Kind {
     Name(Text),
     /// A number's value, and whether it is `unsigned`; else it is `int`.
@@ -16,7 +16,7 @@ pub enum Kind {
 }
 
 /// A token, and the place of its first byte.
-#[derive(Debug, Drop)]
+#[derive(Drop)]
 pub struct Tok {
     pub kind: Kind,
     pub pos: Pos,

@@ -193,7 +193,7 @@ pub struct Case {
 }
 
 /// The direction of a port.
-#[derive(Clone, Copy, Debug, PartialEq, Eq)]
+#[derive(Clone, Copy, PartialEq, Eq)]
 pub enum TreeDir {
     In,
     Out,

@@ -6,7 +6,7 @@ use xw_words::List;
 
 /// Where a variable stands: in the place dp + 4n; at the address that the word at dp + 4n holds; or, for an array of which one
 /// element alone is used, that element stands at the address that the word at dp + 4n holds.
-#[derive(Clone, Copy, Debug, PartialEq, Eq)]
+#[derive(Clone, Copy, PartialEq, Eq)]
 pub enum VarAt {
     Near(u32),
     Far(u32),
@@ -14,21 +14,21 @@ pub enum VarAt {
 }
 
 /// The identifier of a resource: itself, or the word at dp + 4n plus 256 times j.
-#[derive(Clone, Copy, Debug, PartialEq, Eq)]
+#[derive(Clone, Copy, PartialEq, Eq)]
 pub enum ResAt {
     Fixed(u32),
     Held(u32, u32),
 }
 
 /// Where a variable stands, and how many words it has.
-#[derive(Clone, Copy, Debug, PartialEq, Eq)]
+#[derive(Clone, Copy, PartialEq, Eq)]
 pub struct VarPlan {
     pub place: VarAt,
     pub words: u32,
 }
 
 /// Where the ends of a channel's two sides stand among the ends of a core. For a side that is on another core the place means nothing.
-#[derive(Clone, Copy, Debug, PartialEq, Eq)]
+#[derive(Clone, Copy, PartialEq, Eq)]
 pub struct EndPlaces {
     pub first: u32,
     pub second: u32,

@@ -15,7 +15,7 @@ use xl_sides::used_channels;
 use xw_words::{List, Memory};
 
 /// The cores of a channel's two sides, which are the same where all that use it are on one core.
-#[derive(Clone, Copy, Debug, PartialEq, Eq)]
+#[derive(Clone, Copy, PartialEq, Eq)]
 pub struct SideCores {
     pub first: u8,
     pub second: u8,

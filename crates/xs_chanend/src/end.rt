@@ -36,7 +36,7 @@ impl Model for End {
 }
 
 /// Why no data token is at a place.
-#[derive(Clone, Copy, PartialEq, Eq, Debug)]
+#[derive(Clone, Copy, PartialEq, Eq)]
 pub enum Stop {
     Control(u8),
     NotYet,

@@ -4,7 +4,7 @@ use xs_instr::{Record, Trap};
 use xw_words::Pos;
 
 /// What came of a thread's turn.
-#[derive(Clone, Copy, PartialEq, Eq, Debug)]
+#[derive(Clone, Copy, PartialEq, Eq)]
 pub enum Did {
     /// A step, with the record that it writes down.
     Made(Option<Record>),

@@ -20,7 +20,7 @@ use xs_instr::{EndWord, Image, Record, Stim};
 use xw_words::Memory;
 
 /// Whether an event was enabled, and so was done.
-#[derive(Clone, Copy, Debug, PartialEq, Eq)]
+#[derive(Clone, Copy, PartialEq, Eq)]
 pub enum Event {
     Done,
     NotEnabled,

@@ -13,7 +13,7 @@ const SYNCS: usize = 7;
 const LOCKS: usize = 4;
 
 /// What is taken by number: a core has 8 threads, 7 synchronisers and 4 locks.
-#[derive(Clone, Copy, PartialEq, Eq, Debug)]
+#[derive(Clone, Copy, PartialEq, Eq)]
 pub enum PoolKind {
     Thread,
     Sync,
