@@ -17,9 +17,12 @@ use xr_windows::{Run, RunName};
 use xs_instr::{Image, Stim};
 use xw_words::Memory;
 
-/// How often a patient worker looks, a pause apart, whether the batches that it waits for are there, before it lets other threads go on. A
-/// window takes one to three microseconds, and these looks ten or twenty times as long: so a core that is held up for a while doesn't make its
-/// neighbours give way.
+/// How often a worker that has a processor looks, a pause apart, whether the batches that it waits for are there, before it lets other threads go
+/// on. A window takes one to three microseconds, and these looks a thousand times as long: where another program has a neighbour's processor for a
+/// while, to give way as well would only keep all others waiting, at each window anew.
+const LOOKS: u32 = 65_536;
+
+/// How often a patient worker looks where some worker has no processor.
 const MOST_LOOKS: u32 = 512;
 
 /// How often an impatient one looks.
@@ -171,13 +174,16 @@ fn better(best: Option<(u8, u32)>, core: u8, served: bool, ran: u32) -> Option<(
 /// and to let others go on costs more than to look. Where some have none, looking keeps those waiting that it waits for.
 #[derive(Clone, Copy)]
 struct Patience {
+    is_shared: bool,
     looks: u32,
     waits: u32,
 }
 
 impl Patience {
-    fn new() -> Patience {
+    // At the start, where some of the workers share a processor, or each has one.
+    fn new(is_shared: bool) -> Patience {
         Patience {
+            is_shared,
             looks: MOST_LOOKS,
             waits: 0,
         }
@@ -185,8 +191,11 @@ impl Patience {
 
     // How often it looks this time.
     fn looks(self) -> u32
-        ensures { result ≤ 512 }
+        ensures { result ≤ 65536 }
     {
+        if !self.is_shared {
+            return LOOKS;
+        }
         if self.waits % PATIENT == 0 || self.looks > MOST_LOOKS {
             MOST_LOOKS
         } else {
@@ -208,9 +217,18 @@ impl Patience {
             self.looks
         };
         Patience {
+            is_shared: self.is_shared,
             looks,
             waits: self.waits.wrapping_add(1),
         }
+    }
+}
+
+/// Whether some of so many workers share a processor, or it isn't known.
+fn is_shared<R: Threads>(rt: &R, workers: u8) -> bool {
+    match thread::available_parallelism(rt) {
+        Ok(processors) => processors.get() < workers as usize,
+        Err(_) => true,
     }
 }
 
@@ -222,9 +240,10 @@ fn serve<U: RunName, G: Gate, R: Wait>(
     board: &Board<U>,
     served: Served,
     gate: &G,
+    patience: Patience,
 ) -> bool {
     let mut left = served;
-    let mut patience = Patience::new();
+    let mut patience = patience;
     let mut seen = Seen {
         first: 0,
         second: 0,
@@ -295,12 +314,13 @@ fn started<'s, E: 's, U: RunName + Send + Sync, G: Gate + Sync, R: Threads + Wai
     board: &'s Board<U>,
     gate: &'s G,
     served: Served,
+    patience: Patience,
     callers: &mut Served,
 ) -> Option<JoinHandle<bool>> {
     if served.is_empty() {
         return None;
     }
-    match scope.spawn(move || serve::<U, G, R>(rt, alloc, board, served, gate)) {
+    match scope.spawn(move || serve::<U, G, R>(rt, alloc, board, served, gate, patience)) {
         Ok(child) => Some(child),
         Err(_) => {
             *callers = callers.and(served);
@@ -319,6 +339,7 @@ fn serve_all<U: RunName + Send + Sync, G: Gate + Sync, R: Threads + Wait + Sync>
 ) -> bool
     requires { (0 < workers) × (workers ≤ 4) }
 {
+    let patience = Patience::new(is_shared(rt, workers));
     thread::scope(
         thread::scope_env(),
         rt,
@@ -333,6 +354,7 @@ fn serve_all<U: RunName + Send + Sync, G: Gate + Sync, R: Threads + Wait + Sync>
                 board,
                 gate,
                 Served::of(1, workers),
+                patience,
                 &mut mine,
             );
             let two = started(
@@ -342,6 +364,7 @@ fn serve_all<U: RunName + Send + Sync, G: Gate + Sync, R: Threads + Wait + Sync>
                 board,
                 gate,
                 Served::of(2, workers),
+                patience,
                 &mut mine,
             );
             let three = started(
@@ -351,9 +374,10 @@ fn serve_all<U: RunName + Send + Sync, G: Gate + Sync, R: Threads + Wait + Sync>
                 board,
                 gate,
                 Served::of(3, workers),
+                patience,
                 &mut mine,
             );
-            let own = serve::<U, G, R>(rt, alloc, board, mine, gate);
+            let own = serve::<U, G, R>(rt, alloc, board, mine, gate, patience);
             let one = answer(rt, one);
             let two = answer(rt, two);
             let three = answer(rt, three);
