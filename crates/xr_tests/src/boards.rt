@@ -56,13 +56,13 @@ fn workers_named<U: RunName + Send + Sync, R: Threads + Wait + Sync, G: Gate + S
     run_workers::<U, G, R>(rt, alloc, board, workers, gate)
 }
 
-/// How many records the run of 16 ticks by one worker has, on a board on which core 0 is a window ahead, and its end.
+/// How many records the run of 16 ticks by one worker has, on a board on which core 0 is a window ahead, and whether it was stopped by its ticks.
 fn with_a_core_ahead<U: RunName + Send + Sync, R: Threads + Wait + Sync>(
     rt: &R,
     alloc: Global,
     image: &Image,
     stim: &Stim,
-) -> Result<(usize, EndWord), Memory>
+) -> Result<(usize, bool), Memory>
     requires image { image.now ≡ U.listing }
     requires valid { Valid image.now }
     requires stim { stim.now ≡ U.stimulus }
@@ -72,7 +72,7 @@ fn with_a_core_ahead<U: RunName + Send + Sync, R: Threads + Wait + Sync>(
     let board = Board::<U>::new(alloc, image, stim, 16)?;
     board.turn(rt, alloc, 0, &OpenGate);
     let run = run_workers::<U, OpenGate, R>(rt, alloc, board, 1, &OpenGate)?;
-    Ok((run.trace.len(), run.end))
+    Ok((run.trace.len(), run.end == EndWord::Stopped))
 }
 
 /// The same of the run that is asked for.
@@ -81,7 +81,7 @@ fn one_ahead<R: Threads + Wait + Sync>(
     alloc: Global,
     image: &Image,
     stim: &Stim,
-) -> Result<(usize, EndWord), Memory>
+) -> Result<(usize, bool), Memory>
     requires image { Valid image.now }
     requires stim { IsGoodStim stim.now }
 {
@@ -151,11 +151,11 @@ fn table<R: Wait>(rt: &R, alloc: Global, image: &Image, stim: &Stim) -> Result<T
     table_named::<Brand, R>(rt, alloc, image, stim)
 }
 
-/// What the boards of one image tell: call by call; how many records, and which end, where a core was ahead from the start; and
+/// What the boards of one image tell: call by call; how many records, and whether its ticks stopped it, where a core was ahead from the start; and
 /// whether two cores ran at the same time.
 type Told = (
     Result<Table, Memory>,
-    Result<(usize, EndWord), Memory>,
+    Result<(usize, bool), Memory>,
     Result<bool, Memory>,
 );
 
@@ -177,6 +177,6 @@ fn told<R: Threads + Wait + Sync>(rt: &R, alloc: Global) -> Result<Told, Listing
 fn boards_answer(rt: HostRuntime) {
     let short = GatherErr::Short { core: 0, window: 0 };
     let table = (Some(short), true, None);
-    let want = (Ok(table), Ok((2, EndWord::Stopped)), Ok(true));
+    let want = (Ok(table), Ok((2, true)), Ok(true));
     assert_eq!(rt; told(&rt, rt.alloc()), Ok(want));
 }
