@@ -10,4 +10,3 @@ pub mod BranchExamples
 pub mod FlowExamples
 pub mod EvalExamples
 pub mod TypeExamples
-pub mod CountExamples

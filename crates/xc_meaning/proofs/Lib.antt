@@ -1,14 +1,3 @@
-pub mod ExamplePrograms
-pub mod Running
-mod KernelExamples
-mod TextExamples
-mod CountExamples
-mod QuietExamples
-mod MixedExample
-mod FlowExamples
-mod BranchExamples
-mod TransferExamples
-mod LawExamples
 pub mod Simulation
 pub mod Recursion
 pub mod Basics

@@ -10,7 +10,7 @@ use Rattle.xc_tree.specs.Plain as tree
 use Rattle.xc_kernel.specs.Copies.{copy_of}
 use Rattle.xc_kernel.proofs.Written.{at, id, number, name, index, binary, result}
 use Rattle.xc_meaning.specs.States.Worlds.{take}
-use Rattle.xc_meaning.proofs.Running.{no_stimulus, nine, advance, step, plays, both, going, finished}
+use Rattle.xc_examples.proofs.Running.{no_stimulus, nine, advance, step, plays, both, going, finished}
 
 -- loops of each kind, left and gone on with
 -- out port o = XS1_PORT_32A;

@@ -7,8 +7,8 @@ use Rattle.xs_instr.specs.declared.trace.Record.TheVariants.{Com, PortOut, PortI
 use Rattle.xc_kernel.specs.Copies.{copy_of}
 use Rattle.xc_kernel.proofs.Written.{at}
 use Rattle.xc_meaning.specs.States.Worlds.{Action, clock, take, default}
-use Rattle.xc_meaning.proofs.ExamplePrograms.{timed_output, hand_over, conditional_input, timer_case, guard_off, divided, out_of_range, word_too_many, two_cores}
-use Rattle.xc_meaning.proofs.Running.{no_stimulus, pulse, steps, wait, program_seen, going, finished}
+use Rattle.xc_examples.proofs.Programs.{timed_output, hand_over, conditional_input, timer_case, guard_off, divided, out_of_range, word_too_many, two_cores}
+use Rattle.xc_examples.proofs.Running.{no_stimulus, pulse, steps, wait, program_seen, going, finished}
 
 -- the result and the body; then the output, the `return`, the mark and the end
 timed : program_seen timed_output no_stimulus (steps 2 0 ++ wait 100 ++ steps 4 0) ≡ finished (PortOut 0 0 100 1 ∷ [])

@@ -11,8 +11,8 @@ use Rattle.xc_kernel.specs.Copies.{copy_of}
 use Rattle.xc_meaning.specs.States.Branches.{all_ended}
 use Rattle.xc_meaning.specs.States.Worlds.{World, Action, go, default}
 use Rattle.xc_meaning.specs.Runs.{acts, kernel_start, program_start}
-use Rattle.xc_meaning.proofs.ExamplePrograms.{mixed}
-use Rattle.xc_meaning.proofs.Running.{no_stimulus}
+use Rattle.xc_examples.proofs.Programs.{mixed}
+use Rattle.xc_examples.proofs.Running.{no_stimulus}
 
 -- these steps in order, without those that aren't possible
 abbrev possible : kernel.Kernel → List Action → World → World

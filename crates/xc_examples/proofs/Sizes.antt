@@ -1,4 +1,4 @@
--- Programs whose counts were worked out by hand.
+-- Programs whose statements, nodes and depth, which a rule bounds, were worked out by hand.
 use Rattle.std.proofs.Common.{inr, arith}
 use Rattle.std.specs.Prelude.{◌≡◌, ℕ, zero, suc, ◌+◌, false, List, [], ◌∷◌, replicate, Some, None, refl, codes}
 use Rattle.xc_tree.specs.Plain as tree

@@ -6,7 +6,7 @@ use Rattle.xc_meaning.specs.Texts.Called.{CallsEnd}
 use Rattle.xc_meaning.specs.Texts.Returns.{all_stay}
 use Rattle.xc_meaning.specs.States.Worlds.{Action}
 use Rattle.xc_meaning.specs.Follows.{StandAlong}
-use Rattle.xc_meaning.proofs.ExamplePrograms.{three_pars}
+use Rattle.xc_examples.proofs.Programs.{three_pars}
 
 -- a function that calls itself
 -- void f(void) { f(); }

@@ -9,7 +9,7 @@ use Rattle.xc_tree.specs.declared.tree.ParamKind.TheVariants.{Value}
 use Rattle.xc_tree.specs.Plain as tree
 use Rattle.xc_kernel.specs.Copies.{copy_of}
 use Rattle.xc_kernel.proofs.Written.{at, id, number, name, binary, result}
-use Rattle.xc_meaning.proofs.Running.{no_stimulus, nine, in_turn, plays, both, going, finished}
+use Rattle.xc_examples.proofs.Running.{no_stimulus, nine, in_turn, plays, both, going, finished}
 
 -- each branch has its number
 -- int main(void) { par (int i = 2; i < 5; i++) { int x = 10 / (i - 4); } return 0; }

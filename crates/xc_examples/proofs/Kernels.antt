@@ -7,8 +7,8 @@ use Rattle.xs_instr.specs.declared.trace.Record.TheVariants.{Com, PortOut, PortI
 use Rattle.xc_kernel.specs.Copies.{copy_of}
 use Rattle.xc_kernel.proofs.Written.{at}
 use Rattle.xc_meaning.specs.States.Worlds.{Action, clock, take, default}
-use Rattle.xc_meaning.proofs.ExamplePrograms.{timed_output, hand_over, conditional_input, timer_case, guard_off, divided, out_of_range, word_too_many, agreed, two_cores, sampled}
-use Rattle.xc_meaning.proofs.Running.{no_stimulus, pulse, short_pulse, steps, wait, kernel_seen, going, finished}
+use Rattle.xc_examples.proofs.Programs.{timed_output, hand_over, conditional_input, timer_case, guard_off, divided, out_of_range, word_too_many, agreed, two_cores, sampled}
+use Rattle.xc_examples.proofs.Running.{no_stimulus, pulse, short_pulse, steps, wait, kernel_seen, going, finished}
 
 -- a timed output: the result becomes 0, the block begins, and behind the output come the result, the block's end and the end
 timed : kernel_seen timed_output no_stimulus (steps 2 0 ++ wait 100 ++ steps 5 0) ≡ finished (PortOut 0 0 100 1 ∷ [])

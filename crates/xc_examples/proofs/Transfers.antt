@@ -10,7 +10,7 @@ use Rattle.xc_tree.specs.Plain as tree
 use Rattle.xc_kernel.specs.Copies.{copy_of}
 use Rattle.xc_kernel.proofs.Written.{at, id, number, name, index, binary}
 use Rattle.xc_meaning.specs.States.Worlds.{go, take, default}
-use Rattle.xc_meaning.proofs.Running.{no_stimulus, nine, rising, advance, tick, step, impossible, in_turn, plays, both, going, finished}
+use Rattle.xc_examples.proofs.Running.{no_stimulus, nine, rising, advance, tick, step, impossible, in_turn, plays, both, going, finished}
 
 -- a time counts by its low 16 bits, and so does the counter
 -- out port o = XS1_PORT_32A;

@@ -6,8 +6,8 @@ use Rattle.xc_kernel.specs.Copies.{copy_of}
 use Rattle.xc_meaning.specs.States.Worlds.{World, Action, clock, go, take, default}
 use Rattle.xc_meaning.specs.Runs.{acts, kernel_start, program_start, kernel_run, program_run}
 use Rattle.xc_meaning.specs.Quiet.{is_idle, IsQuiet}
-use Rattle.xc_meaning.proofs.ExamplePrograms.{word_too_many, both_input, both_err, partner_errs, slave_errs, master_errs, both_output, child_errs}
-use Rattle.xc_meaning.proofs.Running.{no_stimulus, steps, Part, advance, step, parts_done}
+use Rattle.xc_examples.proofs.Programs.{word_too_many, both_input, both_err, partner_errs, slave_errs, master_errs, both_output, child_errs}
+use Rattle.xc_examples.proofs.Running.{no_stimulus, steps, Part, advance, step, parts_done}
 
 -- where a run of a program's kernel leads, and one of its text
 abbrev led : List tree.Item → List Action → World

@@ -6,8 +6,8 @@ use Rattle.xc_meaning.specs.Runs.{kernel_start, kernel_run}
 use Rattle.xc_meaning.specs.Counts.Families.{steps_of, child_family}
 use Rattle.xc_meaning.specs.Counts.KernelCounts.{greatest_count, kernel_bound}
 use Rattle.xc_meaning.specs.Counts.TextCounts.{twice_greatest, program_bound}
-use Rattle.xc_meaning.proofs.ExamplePrograms.{timed_output, hand_over, out_of_range, timer_case, guard_off, divided, three_pars, four_parameters, three_words, held_array, long_test, inner_elements}
-use Rattle.xc_meaning.proofs.Running.{no_stimulus, steps, wait}
+use Rattle.xc_examples.proofs.Programs.{timed_output, hand_over, out_of_range, timer_case, guard_off, divided, three_pars, four_parameters, three_words, held_array, long_test, inner_elements}
+use Rattle.xc_examples.proofs.Running.{no_stimulus, steps, wait}
 
 -- the output counts 2, a time and a value, as does the assignment of the result
 timed_count : greatest_count (copy_of timed_output) ≡ 2

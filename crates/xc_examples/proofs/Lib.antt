@@ -1,0 +1,12 @@
+pub mod Programs
+pub mod Running
+pub mod Kernels
+pub mod Texts
+pub mod Counts
+pub mod Quiet
+pub mod Mixed
+pub mod Flow
+pub mod Branches
+pub mod Transfers
+pub mod Laws
+pub mod Sizes
