@@ -1,22 +1,57 @@
 // Instructions.
-ghost use Rattle.std.specs.Prelude.{◌≡◌, codes, decimal};
-ghost use Rattle.xs_instr.specs.Texts.{cond_text, get_text, instr_text, one_operand, reg_text, three_operands, two_operands};
+ghost use Rattle.std.specs.Prelude.{◌≡◌, ◌++◌, codes};
+ghost use Rattle.xs_instr.specs.Texts.{cond_text, get_text, instr_text, reg_text};
 ghost use Rattle.xr_text.specs.Names.{name_of};
+ghost use Rattle.xr_text.specs.Operands.{operand_text, with_operands};
 ghost use Rattle.xw_io.specs.Gathering.{Drew};
 
 use crate::numbers::add_number;
 use xs_instr::{Cond, GetKind, Instr, Reg};
 use xw_io::{Out, Sink};
 
-// What stands between two operands.
-const COMMA: &[u8] = b", ";
+/// What an instruction says of a register, a number, a condition or a kind of resource.
+#[derive(Clone, Copy)]
+pub enum Operand {
+    Register(Reg),
+    Number(u32),
+    Condition(Cond),
+    Kind(GetKind),
+}
+
+/// The operands of an instruction, in their order.
+#[derive(Clone, Copy)]
+pub enum Operands {
+    None,
+    One(Operand),
+    Two(Operand, Operand),
+    Three(Operand, Operand, Operand),
+}
 
 /// Adds an instruction's name and operands, as they stand in a listing, unless the sink has failed before.
 pub fn add_instr<O: Sink>(out: &mut Out<'_, O>, instr: Instr)
     ensures same_sink { out.new.sink.ghost_name ≡ out.old.sink.ghost_name }
     ensures drew { Drew O.bytes O.faults out.old out.new (instr_text instr) }
 {
-    let name = name(instr);
+    out.add(name(instr));
+    match operands_of(instr) {
+        Operands::None => {}
+        Operands::One(a) => add_first(out, a),
+        Operands::Two(a, b) => {
+            add_first(out, a);
+            add_next(out, b);
+        }
+        Operands::Three(a, b, c) => {
+            add_first(out, a);
+            add_next(out, b);
+            add_next(out, c);
+        }
+    }
+}
+
+// An instruction's operands.
+fn operands_of(instr: Instr) -> Operands
+    ensures { instr_text instr ≡ with_operands (name_of instr) result }
+{
     match instr {
         Instr::Add(a, b, c)
         | Instr::Sub(a, b, c)
@@ -33,9 +68,22 @@ pub fn add_instr<O: Sink>(out: &mut Out<'_, O>, instr: Instr)
         | Instr::Divs(a, b, c)
         | Instr::Rems(a, b, c)
         | Instr::Divu(a, b, c)
-        | Instr::Remu(a, b, c) => three_registers(out, name, a, b, c),
-        Instr::Ldw(a, b, c) | Instr::Stw(a, b, c) => { three_registers(out, name, a, b, c) }
-        Instr::Addi(a, b, c) => two_registers_and_number(out, name, a, b, c),
+        | Instr::Remu(a, b, c)
+        | Instr::Ldw(a, b, c)
+        | Instr::Stw(a, b, c) => {
+            Operands::Three(
+                Operand::Register(a),
+                Operand::Register(b),
+                Operand::Register(c),
+            )
+        }
+        Instr::Addi(a, b, n) => {
+            Operands::Three(
+                Operand::Register(a),
+                Operand::Register(b),
+                Operand::Number(n),
+            )
+        }
         Instr::Neg(a, b)
         | Instr::Not(a, b)
         | Instr::Getst(a, b)
@@ -47,7 +95,7 @@ pub fn add_instr<O: Sink>(out: &mut Out<'_, O>, instr: Instr)
         | Instr::Int(a, b)
         | Instr::Setd(a, b)
         | Instr::Setpt(a, b)
-        | Instr::Getts(a, b) => two_registers(out, name, a, b),
+        | Instr::Getts(a, b) => Operands::Two(Operand::Register(a), Operand::Register(b)),
         Instr::Ecallf(a)
         | Instr::Ecallt(a)
         | Instr::Setdp(a)
@@ -56,33 +104,33 @@ pub fn add_instr<O: Sink>(out: &mut Out<'_, O>, instr: Instr)
         | Instr::Msync(a)
         | Instr::Mjoin(a)
         | Instr::Eeu(a)
-        | Instr::Edu(a) => one_register(out, name, a),
-        Instr::Ldc(a, b)
-        | Instr::Ldwdp(a, b)
-        | Instr::Stwdp(a, b)
-        | Instr::Ldawdp(a, b)
-        | Instr::Ldwsp(a, b)
-        | Instr::Stwsp(a, b)
-        | Instr::Ldawsp(a, b)
-        | Instr::Brft(a, b)
-        | Instr::Brff(a, b)
-        | Instr::Brbt(a, b)
-        | Instr::Brbf(a, b)
-        | Instr::Tinitpc(a, b)
-        | Instr::Outct(a, b)
-        | Instr::Chkct(a, b)
-        | Instr::Setv(a, b) => register_and_number(out, name, a, b),
-        Instr::Brfu(a)
-        | Instr::Brbu(a)
-        | Instr::Blrf(a)
-        | Instr::Blrb(a)
-        | Instr::Entsp(a)
-        | Instr::Retsp(a)
-        | Instr::Setsr(a)
-        | Instr::Clrsr(a) => one_number(out, name, a),
-        Instr::Getr(a, b) => register_and_kind(out, name, a, b),
-        Instr::Ssync | Instr::Freet | Instr::Clre | Instr::Waiteu => out.add(name),
-        Instr::Setc(a, b) => register_and_condition(out, name, a, b),
+        | Instr::Edu(a) => Operands::One(Operand::Register(a)),
+        Instr::Ldc(a, n)
+        | Instr::Ldwdp(a, n)
+        | Instr::Stwdp(a, n)
+        | Instr::Ldawdp(a, n)
+        | Instr::Ldwsp(a, n)
+        | Instr::Stwsp(a, n)
+        | Instr::Ldawsp(a, n)
+        | Instr::Brft(a, n)
+        | Instr::Brff(a, n)
+        | Instr::Brbt(a, n)
+        | Instr::Brbf(a, n)
+        | Instr::Tinitpc(a, n)
+        | Instr::Outct(a, n)
+        | Instr::Chkct(a, n)
+        | Instr::Setv(a, n) => Operands::Two(Operand::Register(a), Operand::Number(n)),
+        Instr::Brfu(n)
+        | Instr::Brbu(n)
+        | Instr::Blrf(n)
+        | Instr::Blrb(n)
+        | Instr::Entsp(n)
+        | Instr::Retsp(n)
+        | Instr::Setsr(n)
+        | Instr::Clrsr(n) => Operands::One(Operand::Number(n)),
+        Instr::Getr(a, kind) => Operands::Two(Operand::Register(a), Operand::Kind(kind)),
+        Instr::Setc(a, cond) => Operands::Two(Operand::Register(a), Operand::Condition(cond)),
+        Instr::Ssync | Instr::Freet | Instr::Clre | Instr::Waiteu => Operands::None,
     }
 }
 
@@ -163,108 +211,35 @@ fn name(instr: Instr) -> &'static [u8]
     }
 }
 
-// Adds a name and three registers.
-fn three_registers<O: Sink>(out: &mut Out<'_, O>, name: &[u8], a: Reg, b: Reg, c: Reg)
+// Adds an instruction's first operand.
+fn add_first<O: Sink>(out: &mut Out<'_, O>, operand: Operand)
     ensures same_sink { out.new.sink.ghost_name ≡ out.old.sink.ghost_name }
-    ensures drew { Drew O.bytes O.faults out.old out.new (three_operands name.now (reg_text a) (reg_text b) (reg_text c)) }
+    ensures drew { Drew O.bytes O.faults out.old out.new (codes " " ++ operand_text operand) }
 {
-    out.add(name);
     out.add(b" ");
-    add_register(out, a);
-    out.add(COMMA);
-    add_register(out, b);
-    out.add(COMMA);
-    add_register(out, c);
+    add_operand(out, operand);
 }
 
-// Adds a name, two registers and a number.
-fn two_registers_and_number<O: Sink>(out: &mut Out<'_, O>, name: &[u8], a: Reg, b: Reg, n: u32)
+// Adds a further operand.
+fn add_next<O: Sink>(out: &mut Out<'_, O>, operand: Operand)
     ensures same_sink { out.new.sink.ghost_name ≡ out.old.sink.ghost_name }
-    ensures drew { Drew O.bytes O.faults out.old out.new (three_operands name.now (reg_text a) (reg_text b) (decimal n)) }
+    ensures drew { Drew O.bytes O.faults out.old out.new (codes ", " ++ operand_text operand) }
 {
-    out.add(name);
-    out.add(b" ");
-    add_register(out, a);
-    out.add(COMMA);
-    add_register(out, b);
-    out.add(COMMA);
-    add_number(out, n);
+    out.add(b", ");
+    add_operand(out, operand);
 }
 
-// Adds a name and two registers.
-fn two_registers<O: Sink>(out: &mut Out<'_, O>, name: &[u8], a: Reg, b: Reg)
+// Adds an operand.
+fn add_operand<O: Sink>(out: &mut Out<'_, O>, operand: Operand)
     ensures same_sink { out.new.sink.ghost_name ≡ out.old.sink.ghost_name }
-    ensures drew { Drew O.bytes O.faults out.old out.new (two_operands name.now (reg_text a) (reg_text b)) }
+    ensures drew { Drew O.bytes O.faults out.old out.new (operand_text operand) }
 {
-    out.add(name);
-    out.add(b" ");
-    add_register(out, a);
-    out.add(COMMA);
-    add_register(out, b);
-}
-
-// Adds a name, a register and a number.
-fn register_and_number<O: Sink>(out: &mut Out<'_, O>, name: &[u8], a: Reg, n: u32)
-    ensures same_sink { out.new.sink.ghost_name ≡ out.old.sink.ghost_name }
-    ensures drew { Drew O.bytes O.faults out.old out.new (two_operands name.now (reg_text a) (decimal n)) }
-{
-    out.add(name);
-    out.add(b" ");
-    add_register(out, a);
-    out.add(COMMA);
-    add_number(out, n);
-}
-
-// Adds a name, a register and a condition.
-fn register_and_condition<O: Sink>(out: &mut Out<'_, O>, name: &[u8], a: Reg, cond: Cond)
-    ensures same_sink { out.new.sink.ghost_name ≡ out.old.sink.ghost_name }
-    ensures drew { Drew O.bytes O.faults out.old out.new (two_operands name.now (reg_text a) (cond_text cond)) }
-{
-    out.add(name);
-    out.add(b" ");
-    add_register(out, a);
-    out.add(COMMA);
-    add_condition(out, cond);
-}
-
-// Adds a name, a register and what is taken from a pool.
-fn register_and_kind<O: Sink>(out: &mut Out<'_, O>, name: &[u8], a: Reg, kind: GetKind)
-    ensures same_sink { out.new.sink.ghost_name ≡ out.old.sink.ghost_name }
-    ensures drew { Drew O.bytes O.faults out.old out.new (two_operands name.now (reg_text a) (get_text kind)) }
-{
-    out.add(name);
-    out.add(b" ");
-    add_register(out, a);
-    out.add(COMMA);
-    add_kind(out, kind);
-}
-
-// Adds a name and a register.
-fn one_register<O: Sink>(out: &mut Out<'_, O>, name: &[u8], a: Reg)
-    ensures same_sink { out.new.sink.ghost_name ≡ out.old.sink.ghost_name }
-    ensures drew { Drew O.bytes O.faults out.old out.new (one_operand name.now (reg_text a)) }
-{
-    out.add(name);
-    out.add(b" ");
-    add_register(out, a);
-}
-
-// Adds a name and a number.
-fn one_number<O: Sink>(out: &mut Out<'_, O>, name: &[u8], n: u32)
-    ensures same_sink { out.new.sink.ghost_name ≡ out.old.sink.ghost_name }
-    ensures drew { Drew O.bytes O.faults out.old out.new (one_operand name.now (decimal n)) }
-{
-    out.add(name);
-    out.add(b" ");
-    add_number(out, n);
-}
-
-// Adds a register.
-fn add_register<O: Sink>(out: &mut Out<'_, O>, reg: Reg)
-    ensures same_sink { out.new.sink.ghost_name ≡ out.old.sink.ghost_name }
-    ensures drew { Drew O.bytes O.faults out.old out.new (reg_text reg) }
-{
-    out.add(register_name(reg));
+    match operand {
+        Operand::Register(reg) => out.add(register_name(reg)),
+        Operand::Number(n) => add_number(out, n),
+        Operand::Condition(cond) => out.add(condition_name(cond)),
+        Operand::Kind(kind) => out.add(kind_name(kind)),
+    }
 }
 
 // A register's name.
@@ -291,26 +266,24 @@ fn register_name(reg: Reg) -> &'static [u8]
     }
 }
 
-// Adds a condition.
-fn add_condition<O: Sink>(out: &mut Out<'_, O>, cond: Cond)
-    ensures same_sink { out.new.sink.ghost_name ≡ out.old.sink.ghost_name }
-    ensures drew { Drew O.bytes O.faults out.old out.new (cond_text cond) }
+// A condition's name.
+fn condition_name(cond: Cond) -> &'static [u8]
+    ensures { result.now ≡ cond_text cond }
 {
     match cond {
-        Cond::None => out.add(b"NONE"),
-        Cond::Eq => out.add(b"EQ"),
-        Cond::Neq => out.add(b"NEQ"),
-        Cond::After => out.add(b"AFTER"),
+        Cond::None => b"NONE",
+        Cond::Eq => b"EQ",
+        Cond::Neq => b"NEQ",
+        Cond::After => b"AFTER",
     }
 }
 
-// Adds what GETR takes.
-fn add_kind<O: Sink>(out: &mut Out<'_, O>, kind: GetKind)
-    ensures same_sink { out.new.sink.ghost_name ≡ out.old.sink.ghost_name }
-    ensures drew { Drew O.bytes O.faults out.old out.new (get_text kind) }
+// The name of what GETR takes.
+fn kind_name(kind: GetKind) -> &'static [u8]
+    ensures { result.now ≡ get_text kind }
 {
     match kind {
-        GetKind::Sync => out.add(b"SYNC"),
-        GetKind::Lock => out.add(b"LOCK"),
+        GetKind::Sync => b"SYNC",
+        GetKind::Lock => b"LOCK",
     }
 }
