@@ -1,5 +1,5 @@
 -- The steps at channel ends, from what goes to what is left.
-use Rattle.std.proofs.Common.{◌≡◌, ◌<◌, ◌≤◌, ◌+◌, ℕ, List, ◌∷◌, [], Option, Some, None, length, refl, sym, ap, ◌∙◌, subst}
+use Rattle.std.proofs.Common.{◌≡◌, ◌<◌, ◌≤◌, ◌+◌, ◌^◌, ℕ, List, ◌∷◌, [], Option, Some, None, length, refl, sym, ap, ◌∙◌, subst}
 use Rattle.std.specs.Prelude.{slice_get, slice_set}
 use borrow.Author.Tests.{le-leb}
 use Rattle.circular_buffer.specs.Buffer.{Buffer}
@@ -9,7 +9,7 @@ use Rattle.xs_core.specs.declared.end_rows.EndStep.{EndStep}
 use Rattle.xs_core.specs.declared.end_rows.EndStep.TheVariants.{SendWord, SendToken, TakeWord, TakeByte, TakeControl}
 use Rattle.xs_core.specs.declared.state.State.{State}
 use Rattle.xs_core.specs.Ends.{EndFits, IsSent, end_did}
-use Rattle.xs_core.specs.Order.{Moves}
+use Rattle.xs_core.specs.Order.{IsInOrder, KeepsHome, Moves}
 use Rattle.xs_core.specs.Seen.{home_of, state_of, thread_at}
 use Rattle.xs_instr.specs.declared.instr.Reg.{Reg}
 use Rattle.xs_instr.specs.declared.state.ChanEnd.{ChanEnd}
@@ -107,3 +107,21 @@ control_got old p t e k step threads box box' is fits moves set =
     ∙ ap (check_in (taken_from old e 1)) fit.1 in
     subst (λ s. IsSent (end_did (home_of old) (state_of old) t (thread_at old.threads t) s) (state_of (record p { threads = threads })) None box.items box'.items) (sym is)
     (sent_on old p t threads _ _ box box' ins moves set)
+
+-- what no event changes stays where tokens move and a thread goes on
+pub moved_keeps : (old p : State) (gone : Gone) (box box' : Buffer Sent) (threads : List Thread) → Moves old gone p box box' →
+    KeepsHome old (record p { threads = threads })
+moved_keeps old p gone box box' threads moves = record {
+  fixed = ap (λ (s : State). s.fixed) moves.state;
+  core = ap (λ (s : State). s.ports.core) moves.state;
+  stim = ap (λ (s : State). s.ports.stim) moves.state;
+}
+
+-- the ends are in order whatever the threads are
+pub ends_in_order : (s : State) (threads : List Thread) → IsInOrder s → IsInOrder (record s { threads = threads })
+ends_in_order s threads order = record { code = order.code; wired = order.wired; balanced = order.balanced }
+
+-- a thread that goes on may still do so once tokens have moved
+pub room_kept : (old p : State) (gone : Gone) (box box' : Buffer Sent) (t : ℕ) → Moves old gone p box box' →
+    (thread_at old.threads t).pc + 1 < 2 ^ 32 → (thread_at p.threads t).pc + 1 < 2 ^ 32
+room_kept old p gone box box' t moves room = subst (λ (s : State). (thread_at s.threads t).pc + 1 < 2 ^ 32) (sym moves.state) room

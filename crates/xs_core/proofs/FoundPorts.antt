@@ -27,7 +27,9 @@ read_traps home clock ports p port decl is way = ap (λ (d : PortDecl). reads_on
 read_by : (home : Home) (clock : ℕ) (ports : List Port) (p : ℕ) (port : Port) (decl : PortDecl) → decl ≡ port.decl → true ≡ can_receive decl.dir → reads home clock ports p port ≡ reads_latched home clock ports p port port.latch
 read_by home clock ports p port decl is way = ap (λ (d : PortDecl). reads_on home clock ports p port (can_receive d.dir)) (sym is) ∙ ap (reads_on home clock ports p port) (sym way)
 
-latched_step : (home : Home) (clock : ℕ) (ports : List Port) (p : ℕ) (port : Port) (got : Option PortGot) → true ≡ (is_there got || meets home clock port) → is_step (reads_latched home clock ports p port got) ≡ true
+-- what is latched or meets is a step
+pub latched_step : (home : Home) (clock : ℕ) (ports : List Port) (p : ℕ) (port : Port) (got : Option PortGot) →
+    true ≡ (is_there got || meets home clock port) → is_step (reads_latched home clock ports p port got) ≡ true
 latched_step home clock ports p port (Some got) h = refl
 latched_step home clock ports p port None h = ap (λ b. is_step (reads_now home clock ports p port b)) (sym h)
 
