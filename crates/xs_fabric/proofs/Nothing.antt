@@ -1,11 +1,11 @@
 -- Where nothing is on its way to a core.
-use Rattle.std.proofs.Common.{◌≡◌, ◌<◌, ◌≤◌, ◌∙◌, ◌&&◌, ℕ, zero, suc, true, List, [], ◌∷◌, refl, ap, sym, arith}
+use Rattle.std.proofs.Common.{◌≡◌, ◌<◌, ◌≤◌, ◌∙◌, ◌&&◌, ℕ, zero, suc, true, List, [], ◌∷◌, ◌++◌, refl, ap, sym, arith}
 use Rattle.std.proofs.lemmas.Bool.{and_parts}
 use Rattle.xs_instr.specs.declared.state.Item.{Item}
 use Rattle.xs_instr.specs.Machine.{link_of, link_put}
 use Rattle.xs_fabric.proofs.Links.{put_same}
 use Rattle.xs_fabric.specs.EndWord.{no_items}
-use Rattle.xs_fabric.specs.Lockstep.{late_from, late_of}
+use Rattle.xs_fabric.specs.Lockstep.{due_from, due_of, late_from, late_of}
 use Rattle.xs_fabric.specs.OnLinks.{none_to}
 use Rattle.xs_fabric.specs.Rounds.{Links}
 
@@ -44,3 +44,14 @@ late_below links c clock empty (suc n) few =
 -- all links stay
 pub links_stay : (links : Links) (c clock : ℕ) → none_to links c ≡ true → late_from links c clock 4 ≡ links
 links_stay links c clock h = late_below links c clock (each_is_empty links c h) 4 (omega arith)
+
+-- from the cores below n
+due_below : (links : Links) (c clock : ℕ) → ((a : ℕ) → a < 4 → link_of links a c ≡ []) → (n : ℕ) → n ≤ 4 → due_from links c clock n ≡ []
+due_below links c clock empty zero few = refl
+due_below links c clock empty (suc n) few =
+    ap (λ due. due ++ due_of clock (link_of links n c)) (due_below links c clock empty n (omega (arith, few)))
+    ∙ ap (due_of clock) (empty n (omega (arith, few)))
+
+-- nothing is due
+pub nothing_due : (links : Links) (c clock : ℕ) → none_to links c ≡ true → due_from links c clock 4 ≡ []
+nothing_due links c clock h = due_below links c clock (each_is_empty links c h) 4 (omega arith)

@@ -1,9 +1,31 @@
-use Rattle.std.proofs.Common.{◌≡◌, ◌≤◌, ◌<◌, ◌∙◌, length, refl, sym, ap, subst, arith}
+use Rattle.std.proofs.Common.{◌≡◌, ◌≤◌, ◌<◌, ◌∙◌, Bool, true, false, length, refl, sym, ap, subst, arith}
 use Rattle.std.proofs.lemmas.Option.{slice_get_read}
+use Rattle.xs_fabric.specs.Seen.{answer_of}
+use Rattle.xs_fabric.specs.declared.machine.Event.{Event}
+use Rattle.xs_fabric.specs.declared.machine.Event.TheVariants.{NotEnabled}
 use Rattle.xs_fabric.proofs.Among.{same_homes}
-use Rattle.xs_fabric.proofs.Events.{can_send, no_thread_step, number_is, step_is, unchanged}
+use Rattle.xs_fabric.proofs.Events.{can_send, no_core_step, no_thread_step, number_is, step_is, unchanged}
 use Rattle.xs_fabric.proofs.Running.{four_of, idle_set}
 use Rattle.xs_fabric.proofs.cores.step_core.Goals as goal
+
+-- an event that wasn't enabled was no step
+no_step : (stepped : Bool) (answer : Event) → answer ≡ answer_of stepped → answer ≡ NotEnabled → stepped ≡ false
+no_step true answer is none = absurd (let z : ⊥ = cc in z)
+no_step false answer is none = refl
+
+pub returns-then-core-ge-CORES-clause-event : goal.returns-then-core-ge-CORES-clause-event
+returns-then-core-ge-CORES-clause-event c =
+    let cores = c.args.cores.now.items in
+    let r = c.requires.running in
+    let four = four_of cores r.image r.stim r.of in
+    λ L s of. no_core_step L s cores c.args.links.now c.args.trace.now.items c.args.core c.args.thread four c.if-core-ge-CORES.true
+
+pub index_mut-core-requires : goal.index_mut-core-requires
+index_mut-core-requires c =
+    let r = c.requires.running in
+    let four = four_of c.args.cores.now.items r.image r.stim r.of in
+    let near = c.if-core-ge-CORES.false in
+    omega (arith, near, four)
 
 pub returns-then-thread-thread_count-clause-event : goal.returns-then-thread-thread_count-clause-event
 returns-then-thread-thread_count-clause-event c =
@@ -18,6 +40,28 @@ returns-then-thread-thread_count-clause-event c =
     let far : 8 ≤ c.args.thread = (let n = c.thread_count.ensures.eight in let t = c.if-thread-thread_count.true in omega (arith, n, t)) in
     λ L s of.
     unchanged cores c.args.links.now c.args.trace.now.items c.args.core core _ there (no_thread_step L s cores c.args.links.now c.args.trace.now.items c.args.core c.args.thread core there eight far)
+
+pub returns-then-thread-thread_count-clause-homes : goal.returns-then-thread-thread_count-clause-homes
+returns-then-thread-thread_count-clause-homes c =
+    let cores = c.args.cores.now.items in
+    let core = c.index_mut-core.result.now in
+    let r = c.requires.running in
+    let four = four_of cores r.image r.stim r.of in
+    let lt : c.args.core < 4 = (let near = c.if-core-ge-CORES.false in omega (arith, near)) in
+    let within : c.args.core < length cores = omega (arith, lt, four) in
+    let there = slice_get_read cores (length cores) c.args.core core refl within c.index_mut-core.ensures.value in
+    same_homes cores c.args.core core core there refl
+
+pub returns-then-thread-thread_count-clause-idle : goal.returns-then-thread-thread_count-clause-idle
+returns-then-thread-thread_count-clause-idle c =
+    let cores = c.args.cores.now.items in
+    let core = c.index_mut-core.result.now in
+    let r = c.requires.running in
+    let four = four_of cores r.image r.stim r.of in
+    let lt : c.args.core < 4 = (let near = c.if-core-ge-CORES.false in omega (arith, near)) in
+    let within : c.args.core < length cores = omega (arith, lt, four) in
+    let there = slice_get_read cores (length cores) c.args.core core refl within c.index_mut-core.ensures.value in
+    idle_set cores c.args.core core core there r.idle (r.idle c.args.core core there)
 
 pub take_turn-stepped-requires-clause-spare : goal.take_turn-stepped-requires-clause-spare
 take_turn-stepped-requires-clause-spare c =
@@ -94,3 +138,6 @@ returns-clause-idle c =
     let turned = c.take_turn-stepped.ensures.spare in
     let sent = c.send_all.ensures.spare in
     idle_set cores c.args.core core c.send_all.new.core there r.idle (record { outgoing = c.send_all.ensures.outbox; spare = omega (arith, spare, none, turned, sent) })
+
+pub returns-clause-none : goal.returns-clause-none
+returns-clause-none c = λ same. c.take_turn-stepped.ensures.none (no_step c.take_turn-stepped.result c.answer.result c.answer.ensures same)

@@ -1,5 +1,7 @@
-use Rattle.std.proofs.Common.{◌<◌, length, refl, ◌∙◌, arith}
+use Rattle.std.proofs.Common.{◌≡◌, ◌<◌, length, refl, ap, ◌∙◌, arith}
 use Rattle.std.proofs.lemmas.Option.{slice_get_read}
+use Rattle.xs_fabric.specs.Lockstep.{events_in, rounds_at}
+use Rattle.xs_fabric.specs.Seen.{together}
 use Rattle.xs_fabric.proofs.AllRounds.{next_events, next_rounds, next_running, no_events, no_rounds}
 use Rattle.xs_fabric.proofs.Among.{same_homes}
 use Rattle.xs_fabric.proofs.Running.{can_go, four_of}
@@ -57,3 +59,24 @@ loop-i-preserved c =
       len = omega (arith, len_before, len_now);
       capacity = omega (arith, room_before, room_now);
     }
+
+pub returns-clause-rounds : goal.returns-clause-rounds
+returns-clause-rounds c =
+    let all : c.loop-i.i ≡ 4 = omega (arith, c.loop-i-test.false, c.loop-i.auto.i-end) in
+    λ L s of.
+    c.loop-i.invariant.rounds L s of
+    ∙ ap (rounds_at L s (together c.args.cores.now.items c.args.links.now c.args.trace.now.items)) all
+
+pub returns-clause-events : goal.returns-clause-events
+returns-clause-events c =
+    let all : c.loop-i.i ≡ 4 = omega (arith, c.loop-i-test.false, c.loop-i.auto.i-end) in
+    λ L s of.
+    c.loop-i.invariant.events L s of
+    ∙ ap (events_in L s (together c.args.cores.now.items c.args.links.now c.args.trace.now.items)) all
+
+pub returns-clause-len : goal.returns-clause-len
+returns-clause-len c = omega (arith, c.loop-i.invariant.len, c.loop-i.auto.i-end)
+
+pub one_round-events-requires-clause-room : goal.one_round-events-requires-clause-room
+one_round-events-requires-clause-room c =
+    omega (arith, c.loop-i.invariant.len, c.loop-i.invariant.capacity, c.loop-i-test.true, c.requires.room)

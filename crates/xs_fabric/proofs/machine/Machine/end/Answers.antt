@@ -1,8 +1,14 @@
-use Rattle.std.proofs.Common.{ap, ◌∙◌}
+use Rattle.std.proofs.Common.{length, ap, ◌∙◌}
 use Rattle.xs_fabric.specs.EndWord.{end_of, end_word, sights}
 use Rattle.xs_fabric.specs.Seen.{Running, together}
 use Rattle.xs_fabric.proofs.Ends.{sums}
+use Rattle.xs_fabric.proofs.Running.{four_of}
 use Rattle.xs_fabric.proofs.machine.Machine.end.Goals as goal
+
+pub sum_of_sights-requires : goal.sum_of_sights-requires
+sum_of_sights-requires c =
+    let r = c.self.invariant in
+    ap length c.as_slice.ensures.value ∙ four_of c.self.inside.cores.items r.image r.stim r.of
 
 pub returns : goal.returns
 unfolding end_of
