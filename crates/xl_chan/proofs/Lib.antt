@@ -1,3 +1,4 @@
+pub mod Grown
 pub mod Acting
 pub mod Transferring
 pub mod Sending

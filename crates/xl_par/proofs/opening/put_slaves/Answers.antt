@@ -1,6 +1,7 @@
 use Rattle.std.proofs.Common.{◌+◌, ◌*◌, ◌++◌, ◌∷◌, [], ◌∙◌, ap, append_assoc, arith, length, length-append, ◌≡◌}
 use Rattle.xl_par.specs.Opening.{indices_of, slave_lines, slaves_lines, starts_from}
 use Rattle.xl_par.proofs.Listed.{indices_append, next_slave, next_start, slaves_length}
+use Rattle.xl_expr.proofs.Emitted.{behind_extends, on_err}
 use Rattle.xl_par.proofs.opening.put_slaves.Goals as goal
 
 pub put_slave-requires : goal.put_slave-requires
@@ -24,3 +25,20 @@ slaves-preserved c =
           ∙ ap (λ k. indices_of c.args.starts.now.items ++ (starts_from (length old) n ++ k ∷ [])) (c.in_ok-start.ensures.start ∙ here)
           ∙ ap (λ ks. indices_of c.args.starts.now.items ++ ks) (next_start (length old) n),
     )
+
+pub returns-in_err-start-clause-refused : goal.returns-in_err-start-clause-refused
+returns-in_err-start-clause-refused c = on_err _ _ (behind_extends _ _ _ _ c.slaves.invariant.0 c.in_err-start.ensures.refused)
+
+pub returns-in-Err-clause-refused : goal.returns-in-Err-clause-refused
+returns-in-Err-clause-refused c =
+    behind_extends _ _ _ _ c.slaves.invariant.0 (record { more = slave_lines c.args.offset c.args.pos; is = c.in_ok-start.ensures.code })
+
+pub returns-clause-code : goal.returns-clause-code
+returns-clause-code c =
+    let all : c.slaves.counter ≡ c.args.slaves = omega (arith, c.slaves-test.false, c.slaves.auto.counter-end) in
+    c.slaves.invariant.0 ∙ ap (λ n. c.args.e.now ++ slaves_lines c.args.offset c.args.pos n) all
+
+pub returns-clause-starts : goal.returns-clause-starts
+returns-clause-starts c =
+    let all : c.slaves.counter ≡ c.args.slaves = omega (arith, c.slaves-test.false, c.slaves.auto.counter-end) in
+    c.slaves.invariant.1 ∙ ap (λ n. indices_of c.args.starts.now.items ++ starts_from (length c.args.e.now) n) all
