@@ -1,15 +1,21 @@
 use Rattle.std.proofs.Common.{◌≡◌, List, length, Option, sym, ap, subst, ◌∙◌, sum_by, arith}
+use Rattle.std.proofs.Common.{ℕ, Result, Ok, Err, IfOk, OnOk, IsErr}
 use Rattle.xc_kernel.specs.declared.kernel.Kernel.{Kernel}
 use Rattle.xc_kernel.specs.declared.kernel.PortUse.{PortUse}
 use Rattle.xc_kernel.specs.declared.kernel.Timer.{Timer}
 use Rattle.xc_kernel.specs.declared.kernel.Var.{Var}
 use Rattle.xc_kernel.specs.Kernels.{kernel_of}
+use Rattle.xc_kernel.specs.Plain as plain
+use Rattle.xw_words.specs.declared.memory.Memory.{Memory}
 use Rattle.xs_instr.specs.Resources.{name_of}
+use Rattle.xl_expr.specs.declared.plan.Plan.{Plan}
 use Rattle.xl_expr.specs.declared.plan.ResAt.{ResAt}
 use Rattle.xl_expr.specs.declared.plan.VarPlan.{VarPlan}
 use Rattle.xl_plan.specs.declared.channels.SideCores.{SideCores}
 use Rattle.xl_plan.specs.Layout.{words_here, first_temporary, places_from, core_of_port, core_of_timer, identifiers_from, end_places_from, ends_below, ends_there}
+use Rattle.xl_plan.specs.Layout.{temporary_of}
 use Rattle.xl_plan.specs.Planned.{HasVariables, HasNoOther, HasUsedVariables, HasUsedPorts, HasUsedTimers, StandBelow, NoneShare, NoneIsTemporary, HasPorts, HasTimers}
+use Rattle.xl_plan.specs.Planned.{HasEnds, HasChannels, NumbersAreListed, ArePortsApart, ports_on}
 use Rattle.xl_plan.proofs.Ends.{few_ends}
 use Rattle.xl_plan.proofs.Laid.{none_share}
 use Rattle.xl_plan.proofs.Promised.{has_variables, has_no_other, has_used_variables, has_used_ports, has_used_timers, stand_below, none_is_temporary, ports_have_numbers, numbers_listed, timers_have_numbers}
@@ -17,6 +23,48 @@ use Rattle.xl_plan.proofs.PortsDiffer.{ports_apart}
 use Rattle.xl_plan.proofs.Sizes.{few_variable_words}
 use Rattle.xl_plan.proofs.Users.{cores_need, places_are}
 use Rattle.xl_plan.proofs.layout.plan.Goals as goal
+
+-- of an error nothing is asked of what there is where it went well
+not_ok : {T E : Type 0} (r : Result T E) → IsErr r → (P : T → Type 0) → IfOk r P
+not_ok (Ok x) e P = cc
+not_ok (Err x) e P = tt
+
+-- so nothing is asked of a plan
+none_planned : (k : plain.Kernel) (core : ℕ) (r : Result Plan Memory) → IsErr r →
+    record {
+      variables : IfOk r (λ plan. HasVariables k core plan.vars);
+      no_other : IfOk r (λ plan. HasNoOther k core plan.vars);
+      used_variables : IfOk r (λ plan. HasUsedVariables k core plan.vars);
+      below : IfOk r (λ plan. StandBelow (first_temporary k core) plan.vars);
+      apart : IfOk r (λ plan. NoneShare plan.vars);
+      not_temporary : IfOk r (λ plan. NoneIsTemporary k core plan.vars);
+      ports : IfOk r (λ plan. HasPorts k core plan.ports);
+      timers : IfOk r (λ plan. HasTimers k core plan.timers);
+      used_ports : IfOk r (λ plan. HasUsedPorts k core plan.ports);
+      used_timers : IfOk r (λ plan. HasUsedTimers k core plan.timers);
+      listed : OnOk r (NumbersAreListed k core);
+      differ : OnOk r (ArePortsApart (ports_on core k.ports));
+      ends : IfOk r (λ plan. HasEnds k core plan.ends);
+      channels : IfOk r (λ plan. HasChannels k core plan.channels);
+      first_stack : IfOk r (λ plan. plan.first_stack ≡ temporary_of k core 0);
+    }
+none_planned k core r e = record {
+  variables = not_ok r e _;
+  no_other = not_ok r e _;
+  used_variables = not_ok r e _;
+  below = not_ok r e _;
+  apart = not_ok r e _;
+  not_temporary = not_ok r e _;
+  ports = not_ok r e _;
+  timers = not_ok r e _;
+  used_ports = not_ok r e _;
+  used_timers = not_ok r e _;
+  listed = not_ok r e _;
+  differ = not_ok r e _;
+  ends = not_ok r e _;
+  channels = not_ok r e _;
+  first_stack = not_ok r e _;
+}
 
 pub variable_places-requires : goal.variable_places-requires
 variable_places-requires c =
@@ -118,3 +166,27 @@ returns-clause-channels c =
     c.in_ok-channels.ensures
     ∙ ap (λ (cores : List (Option SideCores)). end_places_from c.args.core 0 cores) (c.as_slice-5.ensures ∙ c.in_ok-cores.ensures)
     ∙ places_are k c.args.core (length k.channels)
+
+pub returns-in_err-vars : goal.returns-in_err-vars
+returns-in_err-vars c =
+    none_planned (kernel_of c.args.checked.now) c.args.core c.from_residual.result c.from_residual.ensures.0
+
+pub returns-in_err-ports : goal.returns-in_err-ports
+returns-in_err-ports c =
+    none_planned (kernel_of c.args.checked.now) c.args.core c.from_residual-in_err-ports.result c.from_residual-in_err-ports.ensures.0
+
+pub returns-in_err-timers : goal.returns-in_err-timers
+returns-in_err-timers c =
+    none_planned (kernel_of c.args.checked.now) c.args.core c.from_residual-in_err-timers.result c.from_residual-in_err-timers.ensures.0
+
+pub returns-in_err-cores : goal.returns-in_err-cores
+returns-in_err-cores c =
+    none_planned (kernel_of c.args.checked.now) c.args.core c.from_residual-in_err-cores.result c.from_residual-in_err-cores.ensures.0
+
+pub returns-in_err-ends : goal.returns-in_err-ends
+returns-in_err-ends c =
+    none_planned (kernel_of c.args.checked.now) c.args.core c.from_residual-in_err-ends.result c.from_residual-in_err-ends.ensures.0
+
+pub returns-in_err-channels : goal.returns-in_err-channels
+returns-in_err-channels c =
+    none_planned (kernel_of c.args.checked.now) c.args.core c.from_residual-in_err-channels.result c.from_residual-in_err-channels.ensures.0
