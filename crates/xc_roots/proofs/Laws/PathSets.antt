@@ -1,5 +1,5 @@
 -- Sets of paths, and the places of paths in them.
-use Rattle.std.proofs.Common.{◌≡◌, ℕ, suc, ◌+◌, ◌<◌, ◌≤◌, Bool, true, false, not, ◌||◌, cond, List, [], ◌∷◌, ◌++◌, length, map, Option, Some, None, nat_eq, nat_lt, arith, refl, ap, sym, ◌∙◌, if◌then◌else◌}
+use Rattle.std.proofs.Common.{◌≡◌, ℕ, suc, ◌+◌, ◌<◌, ◌≤◌, Bool, true, false, not, ◌||◌, cond, List, [], ◌∷◌, ◌++◌, length, map, Option, Some, None, nat_eq, nat_lt, arith, drop, refl, ap, sym, subst, ◌∙◌, true≢false, if◌then◌else◌}
 use Rattle.std.specs.Cmp.Lexicographic.{pointwise}
 use Rattle.std.specs.List.{list_any, position_or_len}
 use Rattle.std.proofs.lemmas.Cmp.{nat_list_eq_equiv}
@@ -102,3 +102,38 @@ kept_more path_of known x rest items kept so_far = ap (λ k. with_all path_of k 
 
 pub few_more : {V : Type 0} (x : V) (rest : List V) (a b n : ℕ) {seen : List V} → seen ≡ x ∷ rest → a ≤ b + 1 → b + length seen ≤ n → a + length rest ≤ n
 few_more x rest a b n items h k = let l = ap length items in omega (arith, h, k, l)
+
+-- a list that is its own rest is empty
+pub nothing_left : {V : Type 0} (xs : List V) {rest : List V} → xs ≡ rest → rest ≡ drop 1 xs → xs ≡ []
+nothing_left [] e h = refl
+nothing_left (x ∷ xs) e h = let l = ap length (e ∙ h) in absurd (omega (arith, l))
+
+-- whether a path was known, by whether it was new
+was_known : (known new : Bool) → new ≡ not known → new ≡ false → known ≡ true
+was_known true new e f = refl
+was_known false new e f = absurd (true≢false (sym e ∙ f))
+
+was_unknown : (known new : Bool) → new ≡ not known → new ≡ true → known ≡ false
+was_unknown true new e f = absurd (true≢false (sym f ∙ e))
+was_unknown false new e f = refl
+
+-- an instance, where its path was known and where it was new, before and after the path is added to those known
+module _ {V : Type 0} (path_of : V → Path) (xs : List V) (x : V) (p : Path) {paths made : List Path} (at : p ≡ path_of x)
+    (so : paths ≡ map path_of xs) (added : made ≡ with_new itself paths p) where
+  pub few_kept : length made ≤ length paths + 1
+  few_kept = subst (λ ps. length ps ≤ length paths + 1) (sym added) (one_more itself paths p)
+
+  module _ (new : Bool) (is : new ≡ not (has_path itself paths p)) where
+    pub known_kept : new ≡ false → xs ≡ with_new path_of xs x
+    known_kept f = sym (kept_known path_of xs x paths so (ap (has_path itself paths) (sym at) ∙ was_known _ new is f))
+
+    pub known_paths : new ≡ false → made ≡ map path_of xs
+    known_paths f = added ∙ ap (with_by paths p) (was_known _ new is f) ∙ so
+
+    pub new_kept : {items : List V} → new ≡ true → items ≡ xs ++ x ∷ [] → items ≡ with_new path_of xs x
+    new_kept f e = e ∙ sym (kept_new path_of xs x paths so (ap (has_path itself paths) (sym at) ∙ was_unknown _ new is f))
+
+    pub new_paths : {items : List V} → new ≡ true → items ≡ xs ++ x ∷ [] → made ≡ map path_of items
+    new_paths f e =
+        added ∙ ap (with_by paths p) (was_unknown _ new is f) ∙ ap (λ ps. ps ++ p ∷ []) so ∙ ap (λ q. map path_of xs ++ q ∷ []) at
+        ∙ sym (ap (map path_of) e ∙ map_push path_of xs x)

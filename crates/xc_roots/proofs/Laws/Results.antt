@@ -1,5 +1,7 @@
 -- A call's result that is given on as it is, and what is said of it.
 use Rattle.std.proofs.Common.{Result, Ok, Err, IfOk, OnOk}
+use Rattle.std.specs.Result.{IsErr}
+use Rattle.std.proofs.lemmas.Result.{IfOk-from_err}
 
 module _ {T E : Type 0} where
   pub given_on : (r : Result T E) {P Q : T → Type 0} → IfOk r P → ((x : T) → P x → Q x) → IfOk r Q
@@ -18,3 +20,7 @@ module _ {T E : Type 0} where
   pub if_given : (r : Result T E) {P : Type 0} → P → OnOk r P
   if_given (Ok x) p = p
   if_given (Err why) p = tt
+
+  -- of an error nothing is said
+  pub on_error : (r : Result T E) (P : Type 0) → IsErr r → OnOk r P
+  on_error r P h = IfOk-from_err r (λ x. P) h

@@ -35,6 +35,11 @@ form_name f = subst (λ (g : Ex). ((t : List ℕ) → g ≡ Name t → ⊥) → 
 pub unnamed : (e : Expr) → ((t : List ℕ) → e.kind ≡ Name t → ⊥) → (scope : Scope) → by_name scope (expression_of e) ≡ stands_for nothing_known
 unnamed e h scope = rw (expression-Expr e) (form_name e.kind h scope e.pos)
 
+-- a name
+pub meant_by_name : (e : Expr) (t : List ℕ) → e.kind ≡ Name t → (scope : Scope) → by_name scope (expression_of e) ≡ stands_for (entity_of scope t)
+meant_by_name e t is scope =
+    ap (by_name scope) (expression-Expr e) ∙ ap (λ (f : tree.Form). by_name scope (tree.expression f e.pos)) (ap form_of is ∙ form-Name t)
+
 -- nor an element
 module _ (c : Context) (own : Path) (pos : Pos) where
   rolled_reference : (f : E.Ex-F Ex Expr) → ((t : List ℕ) → roll-Ex f ≡ Name t → ⊥) → ((t : List ℕ) (i : Box Expr Global) → roll-Ex f ≡ Index t i → ⊥) → (scope : Scope) (at : Pos) → form_by_reference c scope own pos at (form_of (roll-Ex f)) ≡ stands_for nothing_known
