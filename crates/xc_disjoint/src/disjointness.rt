@@ -46,12 +46,6 @@ pub fn disjoint(alloc: Global, kernel: Kernel) -> Result<Checked, DisErr>
     }
 }
 
-/// Gives back the memory of a checked kernel. A crate that drops one by this call proves nothing of how its parts are dropped. The stack that it needs
-/// grows with the depth of the kernel.
-pub fn discard(checked: Checked) {
-    drop(checked);
-}
-
 /// Whether a kernel breaks no rule; else the first that it breaks.
 fn unbroken(alloc: Global, kernel: &Kernel) -> Result<(), DisErr>
     ensures unbroken { OnOk result ((b : Wrong) → Breaks (kernel_of kernel.now) b → ⊥) }

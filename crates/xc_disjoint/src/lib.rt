@@ -14,5 +14,5 @@ mod tables;
 mod threads;
 
 pub use checked::Checked;
-pub use disjointness::{DisErr, discard, disjoint};
+pub use disjointness::{DisErr, disjoint};
 pub use needs::thread_count;

@@ -4,7 +4,6 @@ use xw_words::{List, Pos};
 
 /// A program with each call replaced. A number of a variable, channel, timer or port is its place in the list of its kind,
 /// from 0. A core is a number from 0 to 3, or 255 where the place that the text gives is none of these.
-#[derive(Drop)]
 pub struct Kernel {
     pub roots: List<Root>,
     pub vars: List<Var>,
@@ -16,6 +15,27 @@ pub struct Kernel {
     pub insts: List<Inst>,
     /// The place of main's name.
     pub main: Pos,
+}
+
+impl Drop for Kernel {
+    /// Gives back its memory. The stack that it needs grows with the depth of the kernel.
+    fn drop(self) {
+        let Kernel {
+            roots,
+            vars,
+            chans,
+            timers,
+            ports,
+            insts,
+            main: _,
+        } = self;
+        drop(roots);
+        drop(vars);
+        drop(chans);
+        drop(timers);
+        drop(ports);
+        drop(insts);
+    }
 }
 
 /// A branch that runs from the start: main, or each branch of its `par` where one of these is placed.

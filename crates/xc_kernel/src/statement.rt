@@ -10,13 +10,24 @@ pub enum KRes {
 
 /// An expression.
 #[cycle(expression)]
-#[derive(Drop)]
 pub enum Kx {
     Num(u32),
     Read(Place),
     /// An operator as the place of its symbol in `SYMBOLS`, whether it is that of `unsigned` words, its operands, and its
     /// place in the text. `[` gives its first operand, where that is below the second, and is an error of the index else.
     Op(u8, bool, List<Kx>, Pos),
+}
+
+impl Drop for Kx {
+    /// Gives back its memory. The stack that it needs grows with the depth of the expression.
+    #[cycle(drop_of_expression)]
+    fn drop(self) {
+        match self {
+            Kx::Num(_) => {}
+            Kx::Read(place) => drop(place),
+            Kx::Op(_, _, operands, _) => drop(operands),
+        }
+    }
 }
 
 /// Where a word stands.
@@ -84,7 +95,6 @@ pub struct KBranch {
 
 /// A statement.
 #[cycle(statement)]
-#[derive(Drop)]
 pub enum Kst {
     /// All words of a variable become 0.
     Zero(u32),
@@ -108,4 +118,35 @@ pub enum Kst {
         open_at: Pos,
         close_at: Pos,
     },
+}
+
+impl Drop for Kst {
+    /// Gives back its memory. The stack that it needs grows with the depth of the statement.
+    #[cycle(drop_of_statement)]
+    fn drop(self) {
+        match self {
+            Kst::Zero(_) | Kst::Exit(_) => {}
+            Kst::Set(place, value) => {
+                drop(place);
+                drop(value);
+            }
+            Kst::Out(output) => drop(output),
+            Kst::In(input) => drop(input),
+            Kst::If(test, first, second) | Kst::Loop(test, first, second) => {
+                drop(test);
+                drop(first);
+                drop(second);
+            }
+            Kst::Block(_, body) => drop(body),
+            Kst::Select(select) => drop(select),
+            Kst::Par(branches) => drop(branches),
+            Kst::Tran {
+                chan: _,
+                master: _,
+                body,
+                open_at: _,
+                close_at: _,
+            } => drop(body),
+        }
+    }
 }

@@ -16,4 +16,4 @@ mod taken;
 mod uses;
 
 pub use laws::at_most_one_naming;
-pub use resolution::{NameErr, discard, resolve};
+pub use resolution::{NameErr, resolve};

@@ -47,16 +47,10 @@ pub fn resolve(alloc: Global, tree: Tree) -> Result<Named, NameErr>
             Ok(Named { tree, decls, uses })
         }
         Err(e) => {
-            discard(tree);
+            drop(tree);
             Err(e)
         }
     }
-}
-
-/// Gives back the memory of a tree. A crate that drops one by this call proves nothing of how its parts are dropped. The stack that it needs grows
-/// with the depth of the tree.
-pub fn discard(tree: Tree) {
-    drop(tree);
 }
 
 /// The declarations of a program, and for each of its names the number of its declaration.

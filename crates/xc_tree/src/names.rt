@@ -49,9 +49,18 @@ pub enum Mark {
 
 /// A program with its declarations and, for each name in it, its place among these. Both are in the order of the text, and
 /// a name that is declared stands for its own declaration.
-#[derive(Drop)]
 pub struct Named {
     pub tree: Tree,
     pub decls: List<Decl>,
     pub uses: List<u32>,
+}
+
+impl Drop for Named {
+    /// Gives back its memory. The stack that it needs grows with the depth of the tree.
+    fn drop(self) {
+        let Named { tree, decls, uses } = self;
+        drop(tree);
+        drop(decls);
+        drop(uses);
+    }
 }

@@ -11,10 +11,18 @@ pub struct Id {
 /// An expression, and the place of its own token: the number, the name, the operator, the `?`, or the `(` of a cast.
 /// Brackets around an expression leave no node.
 #[cycle(expression)]
-#[derive(Drop)]
 pub struct Expr {
     pub kind: Ex,
     pub pos: Pos,
+}
+
+impl Drop for Expr {
+    /// Gives back its memory. The stack that it needs grows with the depth of the expression.
+    #[cycle(drop_of_expression)]
+    fn drop(self) {
+        let Expr { kind, pos: _ } = self;
+        drop(kind);
+    }
 }
 
 /// What an expression is. A `u8` is the place of a symbol in `SYMBOLS`.
@@ -129,12 +137,25 @@ pub struct At {
 /// A statement: the places of its first and of its last token, and how many tokens it has outside the statements that it
 /// holds.
 #[cycle(statement)]
-#[derive(Drop)]
 pub struct Stmt {
     pub kind: St,
     pub pos: Pos,
     pub close: Pos,
     pub own: u32,
+}
+
+impl Drop for Stmt {
+    /// Gives back its memory. The stack that it needs grows with the depth of the statement.
+    #[cycle(drop_of_statement)]
+    fn drop(self) {
+        let Stmt {
+            kind,
+            pos: _,
+            close: _,
+            own: _,
+        } = self;
+        drop(kind);
+    }
 }
 
 /// What a statement is. A `u8` is the place of a symbol in `SYMBOLS`.
@@ -246,7 +267,14 @@ pub enum Item {
 }
 
 /// A program: its ports and functions, in the order of the text.
-#[derive(Drop)]
 pub struct Tree {
     pub items: List<Item>,
+}
+
+impl Drop for Tree {
+    /// Gives back its memory. The stack that it needs grows with the depth of the tree.
+    fn drop(self) {
+        let Tree { items } = self;
+        drop(items);
+    }
 }

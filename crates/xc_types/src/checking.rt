@@ -30,12 +30,6 @@ pub fn check(alloc: Global, named: Named) -> Result<Typed, TypeErr>
     Ok(Typed { named, unsigned_at })
 }
 
-/// Gives back the memory of a typed program. A crate that drops one by this call proves nothing of how its parts are dropped. The stack that it needs
-/// grows with the depth of the tree.
-pub fn discard(typed: Typed) {
-    drop(typed);
-}
-
 /// The types of the expressions, where no rule is broken, or else the first that is.
 fn unsigned_of(alloc: Global, named: &Named) -> Result<List<bool>, TypeErr>
     ensures types { IfOk result (λ types. types ≡ unsigned_at (named_of named.now)) }

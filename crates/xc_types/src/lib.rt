@@ -20,4 +20,4 @@ mod shapes;
 mod statements;
 mod tally;
 
-pub use checking::{TypeErr, check, discard};
+pub use checking::{TypeErr, check};

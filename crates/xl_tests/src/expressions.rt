@@ -4,7 +4,7 @@ ghost use Rattle.std.specs.Prelude.{◌≤◌, IfOk};
 ghost use Rattle.xc_kernel.specs.Kernels.{expression_of, place_of};
 ghost use Rattle.xl_expr.specs.Measures.{depth, depth_at, nodes, nodes_at};
 
-use crate::sizes::is_small;
+use crate::sizes::{is_small, is_small_place};
 use crate::trouble::Trouble;
 use std::alloc::Global;
 use xc_kernel::{Kx, Place};
@@ -27,28 +27,49 @@ pub fn expression(alloc: Global, text: &str) -> Result<Kx, Trouble>
 }
 
 /// The place that a text is.
-#[tactic(auto, using(xc_kernel::proofs::Forms::forms))]
 pub fn place(alloc: Global, text: &str) -> Result<Place, Trouble>
     ensures nodes { IfOk result (λ place. nodes_at (place_of place) ≤ 1000) }
     ensures depth { IfOk result (λ place. depth_at (place_of place) ≤ 400) }
 {
-    match expression(alloc, text)? {
-        Kx::Read(place) => Ok(place),
-        _ => Err(Trouble::Line),
+    let place = read_place(alloc, text)?;
+    if !is_small_place(&place) {
+        return Err(Trouble::Large);
     }
+    Ok(place)
 }
 
 fn read(alloc: Global, text: &str) -> Result<Kx, Trouble> {
-    let mut stack = Vec::new(alloc);
-    for word in text.split(' ') {
-        let x = made(alloc, &mut stack, word)?;
-        stack.push(x)?;
-    }
+    let mut stack = stack_of(alloc, text)?;
     let x = stack.pop().ok_or(Trouble::Line)?;
     if !stack.is_empty() {
         return Err(Trouble::Line);
     }
     Ok(x)
+}
+
+/// The last word names the place, and what stands before it is the index of an element.
+fn read_place(alloc: Global, text: &str) -> Result<Place, Trouble> {
+    let (index, last) = text.rsplit_once(' ').unwrap_or(("", text));
+    let mut stack = Vec::new(alloc);
+    if !index.is_empty() {
+        stack = stack_of(alloc, index)?;
+    }
+    let (word, pos) = placed(last)?;
+    let place = place_of_word(alloc, &mut stack, word, pos)?.ok_or(Trouble::Line)?;
+    if !stack.is_empty() {
+        return Err(Trouble::Line);
+    }
+    Ok(place)
+}
+
+/// The expressions that words make, of which each takes those before it as its operands.
+fn stack_of(alloc: Global, text: &str) -> Result<Vec<Kx>, Trouble> {
+    let mut stack = Vec::new(alloc);
+    for word in text.split(' ') {
+        let x = made(alloc, &mut stack, word)?;
+        stack.push(x)?;
+    }
+    Ok(stack)
 }
 
 /// What a word makes of the expressions behind which it stands.
@@ -57,15 +78,28 @@ fn made(alloc: Global, stack: &mut Vec<Kx>, word: &str) -> Result<Kx, Trouble> {
         return Ok(Kx::Num(number));
     }
     let (word, pos) = placed(word)?;
+    match place_of_word(alloc, stack, word, pos)? {
+        Some(place) => Ok(Kx::Read(place)),
+        None => operation(stack, word, pos),
+    }
+}
+
+/// The place that a word names, if it names one: a variable, or an element of an array behind its index.
+fn place_of_word(
+    alloc: Global,
+    stack: &mut Vec<Kx>,
+    word: &str,
+    pos: Pos,
+) -> Result<Option<Place>, Trouble> {
     if let Some(v) = word.strip_prefix('v') {
-        return Ok(Kx::Read(Place::Word(number(v)?)));
+        return Ok(Some(Place::Word(number(v)?)));
     }
     if let Some(v) = word.strip_prefix('a') {
         let v = number(v)?;
         let index = stack.pop().ok_or(Trouble::Line)?;
-        return Ok(Kx::Read(Place::Elem(v, Box::new(alloc, index)?, pos)));
+        return Ok(Some(Place::Elem(v, Box::new(alloc, index)?, pos)));
     }
-    operation(stack, word, pos)
+    Ok(None)
 }
 
 /// A word without its place, and that place.

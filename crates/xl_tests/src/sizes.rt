@@ -21,6 +21,14 @@ pub fn is_small(x: &Kx) -> bool
     left_behind(x, MOST_NODES, DEEPEST).is_some()
 }
 
+/// Whether a place is small enough for its code.
+pub fn is_small_place(place: &Place) -> bool
+    ensures nodes { OnTrue result (nodes_at (place_of place.now) ≤ 1000) }
+    ensures depth { OnTrue result (depth_at (place_of place.now) ≤ 400) }
+{
+    left_behind_place(place, MOST_NODES, DEEPEST).is_some()
+}
+
 /// How many nodes are left of so many behind an expression that is no deeper than this.
 #[cycle(sizes)]
 #[tactic(auto, using(xc_kernel::proofs::Forms::forms))]

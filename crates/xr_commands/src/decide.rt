@@ -17,7 +17,7 @@ use crate::front::read_text;
 use crate::run::{Run, run_alone};
 use crate::words::{Command, meaning};
 use std::alloc::Global;
-use xc_disjoint::{Checked, discard};
+use xc_disjoint::Checked;
 use xc_tree::Refusal;
 use xr_threads::compile;
 use xs_instr::{EndWord, Image};
@@ -118,7 +118,7 @@ fn carry_out<'w>(alloc: Global, command: Command<'w>, checked: Checked) -> Decis
 {
     match command {
         Command::Check(_) => {
-            discard(checked);
+            drop(checked);
             printing(0, Printed::Accepted)
         }
         Command::Asm(_) => assemble(alloc, checked),
@@ -160,7 +160,7 @@ fn compile_whole(alloc: Global, checked: Checked) -> Result<Image, Memory>
     ensures valid { IfOk result (λ image. Valid image) }
 {
     let image = compile(alloc, &checked);
-    discard(checked);
+    drop(checked);
     image
 }
 

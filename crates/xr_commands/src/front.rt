@@ -42,7 +42,7 @@ pub fn read_text(alloc: Global, text: &[u8]) -> Result<Checked, Refusal>
     let toks = lex(alloc, text)?;
     let tree = parse(alloc, &toks, end_pos(text))?;
     if !is_built_today(toks.as_slice(), &tree) {
-        xc_names::discard(tree);
+        drop(tree);
         return Err(Refusal::Broken(NOT_BUILT));
     }
     check_tree(alloc, tree)
@@ -74,6 +74,6 @@ fn copy_of(alloc: Global, typed: Typed) -> Result<Kernel, Refusal>
     ensures broken { IfErr result (λ e. IfBroken e (Breaks509 (program_of typed.named.tree))) }
 {
     let kernel = flatten(alloc, &typed);
-    xc_types::discard(typed);
+    drop(typed);
     kernel
 }

@@ -23,11 +23,23 @@ const WINDOW: usize = 256;
 
 /// A core, which contracts see as what no event changes of it, its state, what it has sent to other cores and is not
 /// taken yet, and for how much more of this there is room.
-#[derive(Drop)]
 pub struct Core {
     state: State,
     outbox: HeapCircularBuffer<Sent>,
     in_use: u8,
+}
+
+impl Drop for Core {
+    /// Gives back its memory.
+    fn drop(self) {
+        let Core {
+            state,
+            outbox,
+            in_use: _,
+        } = self;
+        drop(state);
+        drop(outbox);
+    }
 }
 
 impl Model for Core {

@@ -28,11 +28,24 @@ pub enum Event {
 
 /// A machine of four cores, which contracts see as what no event changes of the cores, its state, and for how many more
 /// records there is room.
-#[derive(Drop)]
 pub struct Machine {
     cores: Vec<Core>,
     links: Links,
     trace: Vec<Record>,
+}
+
+impl Drop for Machine {
+    /// Gives back its memory.
+    fn drop(self) {
+        let Machine {
+            cores,
+            links,
+            trace,
+        } = self;
+        drop(cores);
+        drop(links);
+        drop(trace);
+    }
 }
 
 impl Model for Machine {
