@@ -4,7 +4,7 @@ use Rattle.std.specs.Borrow.{Bor}
 use Rattle.xc_tree.specs.Trees.{head_of, statement_of}
 use Rattle.xc_tree.specs.declared.tree.FuncItem.{FuncItem}
 use Rattle.xc_kernel.specs.Programs.{Function}
-use Rattle.xc_roots.specs.Heights.{height}
+use Rattle.xc_tree.specs.Heights.{height}
 
 -- the function that an item stands for
 abbrev pub function_of : FuncItem → Function

@@ -3,7 +3,6 @@ pub mod Scopes
 pub mod Copied
 pub mod PathSets
 pub mod Numbers
-pub mod Heights
 pub mod Instances
 pub mod Functions
 pub mod Truths

@@ -12,7 +12,7 @@ ghost use Rattle.xc_kernel.specs.Statements as spec;
 ghost use Rattle.xc_roots.specs.Contexts.{context_of};
 ghost use Rattle.xc_roots.specs.Copied.{copy_of};
 ghost use Rattle.xc_roots.specs.Functions.{function_of, deepest};
-ghost use Rattle.xc_roots.specs.Heights.{height};
+ghost use Rattle.xc_tree.specs.Heights.{height};
 ghost use Rattle.xc_roots.specs.Scopes.{scope_of};
 ghost use Rattle.xc_kernel.specs.Scopes.{Scope as Names};
 

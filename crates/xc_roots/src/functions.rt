@@ -4,7 +4,7 @@ ghost use Rattle.std.specs.Option.{IfSome};
 ghost use Rattle.xc_tree.specs.Trees.{program_of, item_of, statement_of};
 ghost use Rattle.xc_kernel.specs.Programs as spec;
 ghost use Rattle.xc_roots.specs.Functions.{HasFewParameters, function_of, functions_among, deepest};
-ghost use Rattle.xc_roots.specs.Heights.{height};
+ghost use Rattle.xc_tree.specs.Heights.{height};
 
 use std::alloc::Global;
 use xc_tree::{FuncItem, Item, Tree};

@@ -11,7 +11,7 @@ ghost use Rattle.xc_kernel.specs.Roots as spec;
 ghost use Rattle.xc_kernel.specs.Statements.{calls_copy};
 ghost use Rattle.xc_roots.specs.Contexts.{context_of, functions_of, ports_from};
 ghost use Rattle.xc_roots.specs.Functions.{deepest, function_of};
-ghost use Rattle.xc_roots.specs.Heights.{height};
+ghost use Rattle.xc_tree.specs.Heights.{height};
 ghost use Rattle.xc_roots.specs.Numbers.{numbering_of};
 ghost use Rattle.xc_roots.specs.Roots.{rooted_by, rooted_of};
 ghost use Rattle.xc_roots.specs.Scopes.{scope_of};

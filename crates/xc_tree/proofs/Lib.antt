@@ -1,4 +1,5 @@
 pub mod Forms
+pub mod Heights
 pub mod Leasts
 pub mod Written
 pub mod TypeExamples

@@ -18,6 +18,7 @@ pub mod Grammar
 pub mod Derives
 pub mod Parses
 pub mod Depth
+pub mod Heights
 pub mod Programs
 pub mod Names
 pub mod Types

@@ -20,7 +20,7 @@ use Rattle.xc_kernel.specs.Copy.{Copy}
 use Rattle.xc_kernel.specs.Scopes.{Scope}
 use Rattle.xc_kernel.specs.Statements.{pos_of, pos_of_branch, action_copy, branch_copy, statement_copy}
 use Rattle.xc_roots.specs.Copied.{copy_of}
-use Rattle.xc_roots.specs.Heights.{height, height_of_action, height_of_statements, height_of_branch, height_of_branches, height_of_case, height_of_cases}
+use Rattle.xc_tree.specs.Heights.{height, height_of_action, height_of_statements, height_of_branch, height_of_branches, height_of_case, height_of_cases}
 use Rattle.xc_roots.specs.declared.copied.Copied.{Copied}
 
 -- what is said of a copy, where it is made

@@ -10,7 +10,7 @@ use Rattle.xc_tree.specs.declared.tree.FuncItem.{FuncItem}
 use Rattle.xc_kernel.specs.Programs.{Function, functions, function_named, function_by}
 use Rattle.xc_roots.proofs.Laws.Lists.{drop_item, drop_end}
 use Rattle.xc_tree.specs.Trees.{statement_of}
-use Rattle.xc_roots.specs.Heights.{height}
+use Rattle.xc_tree.specs.Heights.{height}
 use Rattle.xc_roots.specs.Functions.{HasFewParameters, function_of, functions_among, deepest}
 
 functions_cons : (i : tree.Item) (items : List tree.Item) → functions (i ∷ items) ≡ functions (i ∷ []) ++ functions items

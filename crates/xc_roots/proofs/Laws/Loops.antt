@@ -23,7 +23,7 @@ use Rattle.xc_roots.specs.declared.copied.Copied.{Copied}
 use Rattle.xc_roots.specs.declared.parts.Cased.{Cased}
 use Rattle.xc_roots.specs.Cases.{case_by}
 use Rattle.xc_roots.specs.Growth.{Grows}
-use Rattle.xc_roots.specs.Heights.{height, height_of_statements, height_of_branch, height_of_branches, height_of_case, height_of_cases}
+use Rattle.xc_tree.specs.Heights.{height, height_of_statements, height_of_branch, height_of_branches, height_of_case, height_of_cases}
 use Rattle.xc_roots.specs.Parts.{cased_before}
 use Rattle.xc_roots.proofs.Laws.Actions.{in_branch_of, height_in_statements, height_in_branches, height_in_branch, height_in_cases, height_in_case}
 use Rattle.xc_roots.proofs.Laws.Depths.{distance, down}

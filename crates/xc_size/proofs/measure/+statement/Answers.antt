@@ -7,7 +7,9 @@ use Rattle.xc_size.specs.declared.size.Size.{Size}
 use Rattle.xc_size.specs.Sizes.{statements_called, nodes_called, depth_called}
 use Rattle.xc_size.proofs.Gathers.{gathered_none, gathered_more, gathers_all, highest_all}
 use Rattle.xc_size.proofs.UpTo.{up_to_none, sum_of_two, greatest_of_two, behind_none, before_none, two_more, sum_of_three, greatest_of_three, sum_of_four, greatest_of_four, one_more, copies_of}
-use Rattle.xc_size.proofs.Heights.{height, height_of_action, height_of_maybe, height_of_statements, height_of_branch, height_of_branches, height_of_case, height_of_cases, falls, same_height, no_higher, one_higher, in_left, in_right, in_middle, in_last, statement_within, branch_within, case_within}
+use Rattle.xc_tree.specs.Heights.{height, height_of_action, height_of_maybe, height_of_statements, height_of_branch, height_of_branches, height_of_case, height_of_cases}
+use Rattle.xc_tree.proofs.Heights.{falls, same_height, no_higher, statement_within, branch_within, case_within}
+use Rattle.xc_size.proofs.Heights.{one_higher, in_left, in_right, in_middle, in_last}
 use Rattle.xc_size.proofs.Measures.{counts_of_statements, counts_of_statements_done, nodes_of_statements, nodes_of_statements_done, depths_of_statements, depths_of_statements_done, counts_of_branches, counts_of_branches_done, nodes_of_branches, nodes_of_branches_done, depths_of_branches, depths_of_branches_done, counts_of_cases, counts_of_cases_done, nodes_of_cases, nodes_of_cases_done, depths_of_cases, depths_of_cases_done}
 use Rattle.xc_size.proofs.measure.+statement.Goals as goal
 

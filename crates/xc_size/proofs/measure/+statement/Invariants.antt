@@ -6,7 +6,7 @@ use Rattle.xc_tree.specs.Plain as plain
 use Rattle.xc_tree.specs.Trees as tree
 use Rattle.xc_size.specs.Sizes.{statements_called, nodes_called, depth_called}
 use Rattle.xc_size.proofs.Gathers.{Gathered}
-use Rattle.xc_size.proofs.Heights.{height, height_of_action, height_of_maybe, height_of_statements, height_of_branch, height_of_branches, height_of_case, height_of_cases}
+use Rattle.xc_tree.specs.Heights.{height, height_of_action, height_of_maybe, height_of_statements, height_of_branch, height_of_branches, height_of_case, height_of_cases}
 use Rattle.xc_size.proofs.measure.+statement.Given as goal
 
 abbrev pub invariant-statements-loop-s : goal.invariant-statements-loop-s

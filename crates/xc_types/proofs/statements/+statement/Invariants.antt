@@ -6,7 +6,7 @@ use Rattle.xc_tree.specs.Types.Named.{named_of}
 use Rattle.xc_tree.specs.Types.Sites as sites
 use Rattle.xc_types.specs.Around.{around_of}
 use Rattle.xc_types.specs.Findings.{saw}
-use Rattle.xc_types.proofs.Heights.{height, height_of_maybe, height_of_statements, height_of_branch, height_of_branches, height_of_case, height_of_cases}
+use Rattle.xc_tree.specs.Heights.{height, height_of_maybe, height_of_statements, height_of_branch, height_of_branches, height_of_case, height_of_cases}
 use Rattle.xc_types.proofs.statements.+statement.Given as goal
 
 abbrev pub invariant-statements-loop-s : goal.invariant-statements-loop-s

@@ -20,7 +20,7 @@ use Rattle.xc_kernel.specs.Statements as spec
 use Rattle.xc_roots.specs.Contexts.{context_of}
 use Rattle.xc_roots.specs.Copied.{copy_of}
 use Rattle.xc_roots.specs.Functions.{function_of, deepest}
-use Rattle.xc_roots.specs.Heights as heights
+use Rattle.xc_tree.specs.Heights as heights
 use Rattle.xc_roots.specs.Scopes.{scope_of}
 use Rattle.xc_roots.proofs.Laws.Actions.{copied_as, copied_in, height_by_action, by_action, call_by_action, action_block, action_declare, action_if, action_while, action_do, action_for, action_par, action_replicated, action_select, action_transaction, begins_at, in_branch_of}
 use Rattle.xc_roots.proofs.Laws.Growth.{calls_keep, further, grown_by, grown_fits, left_as, maybe_grows, statements_grow}

@@ -8,7 +8,7 @@ use Rattle.xc_kernel.specs.Statements as spec
 use Rattle.xc_roots.specs.Contexts.{context_of}
 use Rattle.xc_roots.specs.Copied.{copy_of}
 use Rattle.xc_roots.specs.Functions.{deepest}
-use Rattle.xc_roots.specs.Heights as heights
+use Rattle.xc_tree.specs.Heights as heights
 use Rattle.xc_roots.specs.Parts.{branched_before, cased_before}
 use Rattle.xc_roots.specs.Scopes.{scope_of}
 use Rattle.xc_roots.proofs.Laws.Depths.{distance}

@@ -1,4 +1,4 @@
--- How deeply statements are nested.
+-- How deeply statements are nested, by which a walk of a statement comes to its end.
 use Rattle.std.specs.Prelude.{ℕ, ◌+◌, max}
 use Rattle.xc_tree.specs.Plain as tree
 
