@@ -1,3 +1,4 @@
+pub mod Depths
 pub mod Steps
 pub mod Bodies
 pub mod Lists

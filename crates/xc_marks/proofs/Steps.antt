@@ -7,12 +7,16 @@ use Rattle.xc_tree.specs.declared.tree.Branch.{Branch}
 use Rattle.xc_tree.specs.declared.tree.Case.{Case}
 use Rattle.xc_tree.specs.declared.names.Mark.{Mark}
 use Rattle.xc_tree.specs.declared.names.Mark.TheVariants.{Opens, Closes}
-use Rattle.xc_tree.specs.Names.Marks.{in_scope, of_statement, of_statements, of_branch, of_branches, of_case, of_cases}
+use Rattle.xc_tree.specs.Names.Marks.{each, in_scope, of_statement, of_statements, of_branch, of_branches, of_case, of_cases}
 use Rattle.xc_tree.specs.Plain.{statements, branches, cases}
 use Rattle.xc_tree.specs.Trees.{statement_of, branch_of, case_of}
 
 pub drop_item : {A : Type 0} (xs : List A) (i : ℕ) (x : A) → x ≡ get_or xs i x → i < length xs → drop i xs ≡ x ∷ drop (i + 1) xs
 drop_item xs i x e h = rw (add-one, drop-cons xs i x) (ap (λ y. y ∷ drop (suc i) xs) (sym e))
+
+pub each_step : {V W : Type 0} (of : W → List Mark) (plain_of : V → W) (xs : List V) (i : ℕ) (x : V) →
+    x ≡ get_or xs i x → i < length xs → each of (map plain_of (drop i xs)) ≡ of (plain_of x) ++ each of (map plain_of (drop (i + 1) xs))
+each_step of plain_of xs i x e h = ap (λ ys. each of (map plain_of ys)) (drop_item xs i x e h)
 
 pub statements_step : (xs : List Stmt) (i : ℕ) (x : Stmt) → x ≡ get_or xs i x → i < length xs → of_statements (statements (map statement_of (drop i xs))) ≡ of_statement (statement_of x) ++ of_statements (statements (map statement_of (drop (i + 1) xs)))
 statements_step xs i x e h = ap (λ ys. of_statements (statements (map statement_of ys))) (drop_item xs i x e h)

@@ -1,8 +1,7 @@
 -- The lines of the code that sets words to 0, one word after another.
-use Rattle.std.proofs.Common.{◌≡◌, ℕ, zero, suc, ◌+◌, ◌*◌, ◌≤◌, Option, Some, None, List, [], ◌++◌, Result, Ok, Err, OnErr, length, refl, sym, ap, ◌∙◌, arith, length-append, append_assoc, append-nil}
+use Rattle.std.proofs.Common.{◌≡◌, ℕ, zero, suc, ◌+◌, ◌*◌, ◌≤◌, Option, Some, None, List, [], ◌++◌, length, refl, sym, ap, ◌∙◌, arith, length-append, append_assoc, append-nil}
 use Rattle.xw_words.specs.declared.pos.Pos.{Pos}
 use Rattle.xs_instr.specs.declared.instr.Instr.{Instr}
-use Rattle.xs_instr.specs.Extends.{Extends}
 use Rattle.xs_instr.specs.Lines.{Line, at_pos}
 use Rattle.xl_expr.specs.declared.plan.VarAt.{VarAt}
 use Rattle.xl_expr.specs.declared.plan.VarAt.TheVariants.{Near, Far, Through}
@@ -41,10 +40,3 @@ one_more write pos i old e1 e2 h g =
 
 pub none_yet : (old : List Line) → old ≡ old ++ []
 none_yet old = sym (append-nil old)
-
-pub further : (old e1 e2 more : List Line) → e1 ≡ old ++ more → Extends e1 e2 → Extends old e2
-further old e1 e2 more h x = record { more = more ++ x.more; is = x.is ∙ ap (λ ls. ls ++ x.more) h ∙ append_assoc old more x.more }
-
-pub on_err : {A E P : Type 0} (r : Result A E) → P → OnErr r P
-on_err (Ok x) p = tt
-on_err (Err e) p = p

@@ -110,6 +110,11 @@ pub setting_longer : (is_timed : Bool) (pos : Pos) (old new : List Line) → new
 setting_longer true pos old new h = omega (arith, ap length h, length-append old (at_pos pos (setting_instrs true)))
 setting_longer false pos old new h = omega (arith, ap length h, length-append old (at_pos pos (setting_instrs false)))
 
+pub transfer_longer : (is_timed : Bool) (pos : Pos) (old new : List Line) →
+    new ≡ old ++ at_pos pos (transfer_instrs is_timed) → length new ≤ length old + 3
+transfer_longer true pos old new h = omega (arith, ap length h, length-append old (at_pos pos (transfer_instrs true)))
+transfer_longer false pos old new h = omega (arith, ap length h, length-append old (at_pos pos (transfer_instrs false)))
+
 pub transfer_joined : (is_timed : Bool) (pos : Pos) (old e1 e2 : List Line) → e1 ≡ old ++ at_pos pos (setting_instrs is_timed) → e2 ≡ e1 ++ at_pos pos (Out R11 R0 ∷ []) → e2 ≡ old ++ at_pos pos (transfer_instrs is_timed)
 transfer_joined true pos old e1 e2 h g = g ∙ ap (λ ls. ls ++ at_pos pos (Out R11 R0 ∷ [])) h ∙ append_assoc old (at_pos pos (setting_instrs true)) (at_pos pos (Out R11 R0 ∷ []))
 transfer_joined false pos old e1 e2 h g = g ∙ ap (λ ls. ls ++ at_pos pos (Out R11 R0 ∷ [])) h ∙ append_assoc old (at_pos pos (setting_instrs false)) (at_pos pos (Out R11 R0 ∷ []))

@@ -6,7 +6,7 @@ use Rattle.std.specs.List.{range_with_len}
 use Rattle.std.specs.Prelude.{slice_set}
 use Rattle.xl_sides.specs.Uses.{marked, marked_from}
 
-or_false : (a b : Bool) → b ≡ false → (a || b) ≡ a
+pub or_false : (a b : Bool) → b ≡ false → (a || b) ≡ a
 or_false true b e = refl
 or_false false b e = e
 

@@ -24,10 +24,6 @@ pub on_ok : {A B : Type 0} (r : Result A B) (P : Type 0) → P → OnOk r P
 on_ok (Ok x) P h = h
 on_ok (Err x) P h = tt
 
-pub on_err : {A B : Type 0} (r : Result A B) (P : Type 0) → P → OnErr r P
-on_err (Ok x) P h = tt
-on_err (Err x) P h = h
-
 -- further lines behind further lines, where it is an error
 pub on_err_on : {A B : Type 0} (r : Result A B) (old held new : List Line) → Extends old held → OnErr r (Extends held new) → OnErr r (Extends old new)
 on_err_on (Ok x) old held new h g = tt

@@ -10,6 +10,7 @@ use Rattle.xc_meaning.specs.Settings.Sides.{sides_in}
 use Rattle.xs_instr.specs.Lines.{landed, line, open_line}
 use Rattle.xs_instr.specs.declared.instr.Instr.TheVariants.{Brfu, Brbu}
 use Rattle.xl_expr.specs.Measures.{nodes}
+use Rattle.xl_expr.proofs.Emitted.{on_err}
 use Rattle.xl_flow.specs.Flow.{Sets}
 use Rattle.xl_flow.specs.Zeros.{Zeroes}
 use Rattle.xl_par.specs.Opening.{indices_of}
@@ -20,7 +21,7 @@ use Rattle.xl_walk.specs.Branches.{SlavesEmitIn}
 use Rattle.xl_walk.specs.Built.{BranchesAreBuilt, BranchesAreShallow, HasFewBranches, IsBuilt, IsShallow, ParsInBranchesAreFew, branches_of, most, most_of_all, most_of_branches, statements_of}
 use Rattle.xl_walk.specs.Emits.{AllEmit, Branching, Emitted, OneSide, ParEmits, SeveralBranches, TwoSides}
 use Rattle.xl_walk.specs.Landing.{Lands, others_leaving}
-use Rattle.xl_walk.proofs.Arms.{no_branch_emits, no_more, ok_as, ok_one_more, ok_summed, ok_within, on_err, on_err_on, piece_emits, slave_ends, statement_emits, statement_within, transfer_emits}
+use Rattle.xl_walk.proofs.Arms.{no_branch_emits, no_more, ok_as, ok_one_more, ok_summed, ok_within, on_err_on, piece_emits, slave_ends, statement_emits, statement_within, transfer_emits}
 use Rattle.xl_walk.proofs.Blocks.{block_emitted, block_extends, block_open, block_size}
 use Rattle.xl_walk.proofs.Seams.{as_long, extends_by, extends_on}
 use Rattle.xl_walk.proofs.Sides.{branch_one, branch_two, extends_4, length_4, one_open, one_side_emitted, over_open, past_open, sides_emitted}

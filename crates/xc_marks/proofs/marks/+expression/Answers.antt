@@ -1,5 +1,8 @@
 use Rattle.std.proofs.Common.{sym, append-nil}
+use Rattle.xc_tree.specs.Depth as depths
+use Rattle.xc_tree.specs.Trees.{expression_of}
 use Rattle.xc_tree.proofs.Forms.{expression-Expr, form-Num, form-Name, form-Index, form-Un, form-Bin, form-Cond, form-Cast}
+use Rattle.xc_marks.proofs.Depths.{under, same, first, second, second_of_three, third}
 use Rattle.xc_marks.proofs.Steps.{behind_one, behind_two, behind_three}
 use Rattle.xc_marks.proofs.marks.+expression.Goals as goal
 
@@ -26,3 +29,67 @@ returns-in_ok-expression-in-Cond-2 t c =
 
 pub returns-in-Cast : goal.returns-in-Cast
 returns-in-Cast t c = rw (expression-Expr, c.in-Cast.is, form-Cast, ← c.deref-in-Cast.ensures) c.expression-in-Cast.ensures
+
+pub expression-requires : goal.expression-requires
+expression-requires t c =
+    let part = depths.of_expression (expression_of c.deref.result.now) in (
+      under (depths.of_expression (expression_of c.args.e.now)) part c.decreases
+          (rw (expression-Expr c.args.e.now, c.in-Index.is, form-Index, ← c.deref.ensures) (same _)),
+      tt,
+    )
+
+pub expression-requires-in-Un : goal.expression-requires-in-Un
+expression-requires-in-Un t c =
+    let part = depths.of_expression (expression_of c.deref-in-Un.result.now) in (
+      under (depths.of_expression (expression_of c.args.e.now)) part c.decreases
+          (rw (expression-Expr c.args.e.now, c.in-Un.is, form-Un, ← c.deref-in-Un.ensures) (same _)),
+      tt,
+    )
+
+pub expression-requires-in-Bin : goal.expression-requires-in-Bin
+expression-requires-in-Bin t c =
+    let part = depths.of_expression (expression_of c.deref-in-Bin.result.now) in (
+      under (depths.of_expression (expression_of c.args.e.now)) part c.decreases
+          (rw (expression-Expr c.args.e.now, c.in-Bin.is, form-Bin, ← c.deref-in-Bin.ensures) (first _ _)),
+      tt,
+    )
+
+pub expression-requires-in-Bin-2 : goal.expression-requires-in-Bin-2
+expression-requires-in-Bin-2 t c =
+    let part = depths.of_expression (expression_of c.deref-in-Bin-2.result.now) in (
+      under (depths.of_expression (expression_of c.args.e.now)) part c.decreases
+          (rw (expression-Expr c.args.e.now, c.in-Bin.is, form-Bin, ← c.deref-in-Bin-2.ensures) (second _ _)),
+      tt,
+    )
+
+pub expression-requires-in-Cond : goal.expression-requires-in-Cond
+expression-requires-in-Cond t c =
+    let part = depths.of_expression (expression_of c.deref-in-Cond.result.now) in (
+      under (depths.of_expression (expression_of c.args.e.now)) part c.decreases
+          (rw (expression-Expr c.args.e.now, c.in-Cond.is, form-Cond, ← c.deref-in-Cond.ensures) (first _ _)),
+      tt,
+    )
+
+pub expression-requires-in-Cond-2 : goal.expression-requires-in-Cond-2
+expression-requires-in-Cond-2 t c =
+    let part = depths.of_expression (expression_of c.deref-in-Cond-2.result.now) in (
+      under (depths.of_expression (expression_of c.args.e.now)) part c.decreases
+          (rw (expression-Expr c.args.e.now, c.in-Cond.is, form-Cond, ← c.deref-in-Cond-2.ensures) (second_of_three _ part _)),
+      tt,
+    )
+
+pub expression-requires-in-Cond-3 : goal.expression-requires-in-Cond-3
+expression-requires-in-Cond-3 t c =
+    let part = depths.of_expression (expression_of c.deref-in-Cond-3.result.now) in (
+      under (depths.of_expression (expression_of c.args.e.now)) part c.decreases
+          (rw (expression-Expr c.args.e.now, c.in-Cond.is, form-Cond, ← c.deref-in-Cond-3.ensures) (third _ _ _)),
+      tt,
+    )
+
+pub expression-requires-in-Cast : goal.expression-requires-in-Cast
+expression-requires-in-Cast t c =
+    let part = depths.of_expression (expression_of c.deref-in-Cast.result.now) in (
+      under (depths.of_expression (expression_of c.args.e.now)) part c.decreases
+          (rw (expression-Expr c.args.e.now, c.in-Cast.is, form-Cast, ← c.deref-in-Cast.ensures) (same _)),
+      tt,
+    )

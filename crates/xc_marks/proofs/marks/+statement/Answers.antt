@@ -1,13 +1,15 @@
-use Rattle.std.proofs.Common.{◌++◌, List, map, sym, ap, ◌∙◌, append-nil}
+use Rattle.std.proofs.Common.{◌++◌, List, map, refl, sym, ap, ◌∙◌, append-nil}
 use Rattle.xc_tree.specs.declared.names.Mark.TheVariants.{Uses}
 use Rattle.xc_tree.specs.declared.names.What.TheVariants.{Index}
 use Rattle.xc_tree.specs.declared.tree.Branch.{Branch}
 use Rattle.xc_tree.specs.declared.tree.Case.{Case}
 use Rattle.xc_tree.specs.declared.tree.Stmt.{Stmt}
 use Rattle.xc_tree.specs.Names.Marks.{declares, of_statements, of_branch, of_branches, of_cases}
+use Rattle.xc_tree.specs.Depth as depths
 use Rattle.xc_tree.specs.Plain as plain
-use Rattle.xc_tree.specs.Trees.{statement_of, branch_of, case_of}
+use Rattle.xc_tree.specs.Trees.{statement_of, maybe_of, branch_of, case_of}
 use Rattle.xc_tree.proofs.Forms.{statement-Stmt, branch-Branch, case-Case, action-Empty, action-Block, action-Decl, action-Assign, action-Step, action-Do, action-Output, action-Input, action-If, action-While, action-DoWhile, action-For, action-Return, action-Break, action-Continue, action-Par, action-Repl, action-Select, action-Tran}
+use Rattle.xc_marks.proofs.Depths.{falls, no_deeper, inside, itself, in_second, in_third, same, first, second, second_of_three, third, third_of_four, fourth, item_within}
 use Rattle.xc_marks.proofs.Steps.{behind_two, behind_three, behind_four, behind_scope, behind_replicated, drop_past, statements_step, branches_step, cases_step}
 use Rattle.xc_marks.proofs.marks.+statement.Goals as goal
 
@@ -124,3 +126,180 @@ pub statement-returns-in_ok-branch-in-Repl : goal.statement-returns-in_ok-branch
 statement-returns-in_ok-branch-in-Repl t c =
     let inner = of_branch (branch_of c.in-Repl.body.value) in
     rw (statement-Stmt, c.in-Repl.is, action-Repl, behind_replicated c.args.out.now (declares c.in-Repl.first Index) (Uses c.in-Repl.second) (Uses c.in-Repl.third) inner, ← c.in_ok-push-in-Repl.ensures.ok, ← c.in_ok-add_declaration-in-Repl.ensures, ← c.in_ok-add_use-in-Repl.ensures, ← c.in_ok-add_use-in-Repl-2.ensures, ← c.deref-in-Repl.ensures, ← c.in_ok-branch-in-Repl.ensures) c.push-in-Repl-2.ensures.ok
+
+pub statement-scope-requires : goal.statement-scope-requires
+statement-scope-requires t c =
+    let part = depths.of_statements (plain.statements (map statement_of c.as_slice.result.now)) in (
+      falls (depths.of_statement (statement_of c.args.s.now)) 0 part 2 c.decreases
+          (inside _ part 2 1 (rw (statement-Stmt c.args.s.now, c.in-Block.is, action-Block c.in-Block.ss, ← c.as_slice.ensures)
+          (same _)) refl),
+      tt,
+    )
+
+pub statement-scope-requires-in-Tran : goal.statement-scope-requires-in-Tran
+statement-scope-requires-in-Tran t c =
+    let part = depths.of_statements (plain.statements (map statement_of c.as_slice-in-Tran.result.now)) in (
+      falls (depths.of_statement (statement_of c.args.s.now)) 0 part 2 c.decreases
+          (inside _ part 2 1 (rw (statement-Stmt c.args.s.now, c.in-Tran.is, action-Tran c.in-Tran.field-0 c.in-Tran.ss, ← c.as_slice-in-Tran.ensures)
+          (same _)) refl),
+      tt,
+    )
+
+pub statement-statement-requires : goal.statement-statement-requires
+statement-statement-requires t c =
+    let part = depths.of_statement (statement_of c.deref.result.now) in (
+      falls (depths.of_statement (statement_of c.args.s.now)) 0 part 0 c.decreases
+          (inside _ part 0 3 (rw (statement-Stmt c.args.s.now, c.in-If.is, action-If c.in-If.test c.in-If.then c.in-If.otherwise, ← c.deref.ensures)
+          (second_of_three _ (depths.of_statement (statement_of c.deref.result.now)) _)) refl),
+      tt,
+    )
+
+pub statement-statement_if_any-requires : goal.statement-statement_if_any-requires
+statement-statement_if_any-requires t c =
+    let part = depths.of_maybe (maybe_of c.in-If.otherwise) in (
+      falls (depths.of_statement (statement_of c.args.s.now)) 0 part 1 c.decreases
+          (inside _ part 1 2 (rw (statement-Stmt c.args.s.now, c.in-If.is, action-If c.in-If.test c.in-If.then c.in-If.otherwise)
+          (third _ _ _)) refl),
+      tt,
+    )
+
+pub statement-statement-requires-in-While : goal.statement-statement-requires-in-While
+statement-statement-requires-in-While t c =
+    let part = depths.of_statement (statement_of c.deref-in-While.result.now) in (
+      falls (depths.of_statement (statement_of c.args.s.now)) 0 part 0 c.decreases
+          (inside _ part 0 3 (rw (statement-Stmt c.args.s.now, c.in-While.is, action-While c.in-While.test c.in-While.body, ← c.deref-in-While.ensures)
+          (second _ _)) refl),
+      tt,
+    )
+
+pub statement-statement-requires-in-DoWhile : goal.statement-statement-requires-in-DoWhile
+statement-statement-requires-in-DoWhile t c =
+    let part = depths.of_statement (statement_of c.deref-in-DoWhile.result.now) in (
+      falls (depths.of_statement (statement_of c.args.s.now)) 0 part 0 c.decreases
+          (inside _ part 0 3 (rw (
+            statement-Stmt c.args.s.now,
+            c.in-DoWhile.is,
+            action-DoWhile c.in-DoWhile.body c.in-DoWhile.test,
+            ← c.deref-in-DoWhile.ensures,
+          )
+          (first _ _)) refl),
+      tt,
+    )
+
+pub statement-statement_if_any-requires-in-For : goal.statement-statement_if_any-requires-in-For
+statement-statement_if_any-requires-in-For t c =
+    let part = depths.of_maybe (maybe_of c.in-For.first) in (
+      falls (depths.of_statement (statement_of c.args.s.now)) 0 part 1 c.decreases
+          (inside _ part 1 2 (rw (statement-Stmt c.args.s.now, c.in-For.is, action-For c.in-For.first c.in-For.test c.in-For.step c.in-For.body)
+          (first _ _)) refl),
+      tt,
+    )
+
+pub statement-statement_if_any-requires-in-For-2 : goal.statement-statement_if_any-requires-in-For-2
+statement-statement_if_any-requires-in-For-2 t c =
+    let part = depths.of_maybe (maybe_of c.in-For.step) in (
+      falls (depths.of_statement (statement_of c.args.s.now)) 0 part 1 c.decreases
+          (inside _ part 1 2 (rw (statement-Stmt c.args.s.now, c.in-For.is, action-For c.in-For.first c.in-For.test c.in-For.step c.in-For.body)
+          (third_of_four _ _ _ _)) refl),
+      tt,
+    )
+
+pub statement-statement-requires-in-For : goal.statement-statement-requires-in-For
+statement-statement-requires-in-For t c =
+    let part = depths.of_statement (statement_of c.deref-in-For.result.now) in (
+      falls (depths.of_statement (statement_of c.args.s.now)) 0 part 0 c.decreases
+          (inside _ part 0 3 (rw (
+            statement-Stmt c.args.s.now,
+            c.in-For.is,
+            action-For c.in-For.first c.in-For.test c.in-For.step c.in-For.body,
+            ← c.deref-in-For.ensures,
+          )
+          (fourth _ _ _ _)) refl),
+      tt,
+    )
+
+pub statement-branches-requires : goal.statement-branches-requires
+statement-branches-requires t c =
+    let part = depths.of_branches (plain.branches (map branch_of c.as_slice-in-Par.result.now)) in (
+      falls (depths.of_statement (statement_of c.args.s.now)) 0 part 2 c.decreases
+          (inside _ part 2 1 (rw (statement-Stmt c.args.s.now, c.in-Par.is, action-Par c.in-Par.bs, ← c.as_slice-in-Par.ensures)
+          (same _)) refl),
+      tt,
+    )
+
+pub statement-branch-alloc-requires : goal.statement-branch-alloc-requires
+statement-branch-alloc-requires t c =
+    let part = depths.of_branch (branch_of c.deref-in-Repl.result.now) in (
+      falls (depths.of_statement (statement_of c.args.s.now)) 0 part 1 c.decreases
+          (inside _ part 1 2 (rw (
+            statement-Stmt c.args.s.now,
+            c.in-Repl.is,
+            action-Repl c.in-Repl.first c.in-Repl.second c.in-Repl.third c.in-Repl.from c.in-Repl.to c.in-Repl.body,
+            ← c.deref-in-Repl.ensures,
+          )
+          (same _)) refl),
+      tt,
+    )
+
+pub statement-cases-requires : goal.statement-cases-requires
+statement-cases-requires t c =
+    let part = depths.of_cases (plain.cases (map case_of c.as_slice-in-Select.result.now)) in (
+      falls (depths.of_statement (statement_of c.args.s.now)) 0 part 3 c.decreases
+          (inside _ part 3 0 (rw (statement-Stmt c.args.s.now, c.in-Select.is, action-Select c.in-Select.cs, ← c.as_slice-in-Select.ensures)
+          (same _)) refl),
+      tt,
+    )
+
+pub scope-statements-requires : goal.scope-statements-requires
+scope-statements-requires t c =
+    let whole = depths.of_statements (plain.statements (map statement_of c.args.ss.now)) in
+    let part = depths.of_statements (plain.statements (map statement_of c.args.ss.now)) in
+    (falls whole 2 part 1 c.decreases (no_deeper _ _ 2 1 0 (itself _) refl), tt)
+
+pub branch-statement-requires : goal.branch-statement-requires
+branch-statement-requires t c =
+    let whole = depths.of_branch (branch_of c.args.b.now) in
+    let part = depths.of_statement (statement_of c.args.b.now.body) in
+    (falls whole 1 part 0 c.decreases (no_deeper _ _ 1 0 0 (rw (branch-Branch c.args.b.now) (in_second _ _)) refl), tt)
+
+pub case-statements-requires : goal.case-statements-requires
+case-statements-requires t c =
+    let whole = depths.of_case (case_of c.args.c.now) in
+    let part = depths.of_statements (plain.statements (map statement_of c.as_slice.result.now)) in
+    (falls whole 2 part 1 c.decreases (no_deeper _ _ 2 1 0 (rw (case-Case c.args.c.now, ← c.as_slice.ensures) (in_third _ _ _)) refl), tt)
+
+pub statement_if_any-statement-requires : goal.statement_if_any-statement-requires
+statement_if_any-statement-requires t c =
+    let whole = depths.of_maybe (maybe_of c.args.s.now) in
+    let part = depths.of_statement (statement_of c.deref.result.now) in
+    (falls whole 1 part 0 c.decreases (no_deeper _ _ 1 0 0 (rw (c.in-Some.is, ← c.deref.ensures) (itself _)) refl), tt)
+
+pub statements-statement-requires : goal.statements-statement-requires
+statements-statement-requires t c =
+    let whole = depths.of_statements (plain.statements (map statement_of c.args.ss.now)) in
+    let part = depths.of_statement (statement_of c.s-item.result) in (
+      falls whole 1 part 0 c.decreases (no_deeper _ _ 1 0 0
+          (item_within (λ x. depths.of_statement (statement_of x)) (λ xs. depths.of_statements (plain.statements (map statement_of xs)))
+          (λ y ys. refl) c.args.ss.now c.loop-s.s-index c.s-item.result c.s-item.is c.loop-s-test.true) refl),
+      tt,
+    )
+
+pub branches-branch-alloc-requires : goal.branches-branch-alloc-requires
+branches-branch-alloc-requires t c =
+    let whole = depths.of_branches (plain.branches (map branch_of c.args.bs.now)) in
+    let part = depths.of_branch (branch_of c.b-item.result) in (
+      falls whole 2 part 1 c.decreases (no_deeper _ _ 2 1 0
+          (item_within (λ x. depths.of_branch (branch_of x)) (λ xs. depths.of_branches (plain.branches (map branch_of xs)))
+          (λ y ys. refl) c.args.bs.now c.loop-b.b-index c.b-item.result c.b-item.is c.loop-b-test.true) refl),
+      tt,
+    )
+
+pub cases-case-requires : goal.cases-case-requires
+cases-case-requires t c =
+    let whole = depths.of_cases (plain.cases (map case_of c.args.cs.now)) in
+    let part = depths.of_case (case_of c.c-item.result) in (
+      falls whole 3 part 2 c.decreases (no_deeper _ _ 3 2 0
+          (item_within (λ x. depths.of_case (case_of x)) (λ xs. depths.of_cases (plain.cases (map case_of xs)))
+          (λ y ys. refl) c.args.cs.now c.loop-c.c-index c.c-item.result c.c-item.is c.loop-c-test.true) refl),
+      tt,
+    )

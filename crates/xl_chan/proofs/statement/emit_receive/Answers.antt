@@ -1,7 +1,8 @@
-use Rattle.std.proofs.Common.{◌++◌, ◌∙◌, ap, append_assoc, length, length-append, refl, subst}
+use Rattle.std.proofs.Common.{◌++◌, ◌∙◌, ap, append_assoc, arith, length, length-append, refl, subst}
 use Rattle.std.specs.Prelude.{option_map}
 use Rattle.xc_kernel.specs.Kernels.{place_of}
 use Rattle.xl_expr.specs.Targets.{AreAimed}
+use Rattle.xl_expr.proofs.Emitted.{behind_extends, on_err}
 use Rattle.xl_expr.proofs.GoodCode.{aimed_append}
 use Rattle.xl_chan.specs.Transfers.{WritesTo}
 use Rattle.xl_chan.proofs.Receiving.{joined_takes}
@@ -51,3 +52,24 @@ returns-clause-aimed c =
       is = write.is ∙ ap (λ ls. ls ++ write.lines) transfer.is ∙ append_assoc old transfer.lines write.lines;
       so = aimed_append (length old) transfer.lines write.lines transfer.so (subst (λ n. AreAimed n write.lines) behind write.so);
     }
+
+pub emit_in-requires : goal.emit_in-requires
+emit_in-requires c =
+    let room = c.requires.room in
+    omega arith
+
+pub emit_dest-requires-clause-room : goal.emit_dest-requires-clause-room
+emit_dest-requires-clause-room c =
+    let room = c.requires.room in
+    let transfer = c.in_ok-emit_in.ensures.size in
+    omega arith
+
+pub returns-clause-size : goal.returns-clause-size
+returns-clause-size c =
+    let transfer = c.in_ok-emit_in.ensures.size in
+    let write = c.in_ok-emit_dest.ensures.size in
+    omega arith
+
+pub returns-in_err-emit_dest-clause-refused : goal.returns-in_err-emit_dest-clause-refused
+returns-in_err-emit_dest-clause-refused c =
+    on_err _ _ (behind_extends _ _ _ _ c.in_ok-emit_in.ensures.takes.is c.in_err-emit_dest.ensures.refused)

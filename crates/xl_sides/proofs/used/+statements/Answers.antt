@@ -1,4 +1,4 @@
-use Rattle.std.proofs.Common.{◌||◌, List, Option, map, refl, sym, ap, ap₂, ◌∙◌}
+use Rattle.std.proofs.Common.{false, ◌||◌, List, Option, map, refl, sym, ap, ap₂, ◌∙◌}
 use Rattle.std.proofs.lemmas.List.{at_drop_all}
 use Rattle.xc_kernel.specs.declared.statement.Kst.{Kst}
 use Rattle.xc_kernel.specs.declared.statement.KBranch.{KBranch}
@@ -7,10 +7,10 @@ use Rattle.xc_kernel.specs.declared.statement.KSelect.{out-KSelect}
 use Rattle.xc_kernel.specs.Kernels.{branch_of, case_of, default_of, expression_of, input_of, output_of, place_of, statement_of}
 use Rattle.xc_kernel.specs.Plain as kernel
 use Rattle.xc_kernel.specs.Things.{channel, by_branches, by_cases, by_channel, by_resource, by_statements}
-use Rattle.xc_kernel.proofs.Forms.{select-KSelect, statement-Exit, statement-If, statement-In, statement-Loop, statement-Out, statement-Select, statement-Set, statement-Tran, statement-Zero}
+use Rattle.xc_kernel.proofs.Forms.{select-KSelect, statement-Block, statement-Exit, statement-If, statement-In, statement-Loop, statement-Out, statement-Par, statement-Select, statement-Set, statement-Tran, statement-Zero}
 use Rattle.xc_kernel.proofs.Used.{by_its_resource, by_resource_of, no_expression, no_target}
 use Rattle.xl_sides.specs.Uses.{marked}
-use Rattle.xl_sides.proofs.Marks.{marks_both, marks_none}
+use Rattle.xl_sides.proofs.Marks.{marks_both, marks_none, or_false}
 use Rattle.xl_sides.proofs.Parts.{code_of, next_branch, next_case, next_statement, none_used, past_expression, use_of}
 use Rattle.xl_sides.proofs.used.+statements.Goals as goal
 
@@ -112,3 +112,30 @@ mark_statement-returns-in-Some t c =
     ∙ ap (λ (p : List Kst). kernel.select cs (kernel.default (code_of p)) pos) (sym c.as_slice-in-Some.ensures))
     (marks_both (λ d. by_cases (channel d) cs) (λ d. by_statements (channel d) a) c.args.used.now c.mark_cases.new.used c.mark_statements-in-Some.new.used c.mark_cases.ensures c.mark_statements-in-Some.ensures)
     (λ d. refl)
+
+pub mark_statement-returns-in-None : goal.mark_statement-returns-in-None
+mark_statement-returns-in-None t c =
+    let select = c.in-Select.select in
+    let cs = kernel.cases (map case_of c.as_slice-in-Select.result.now) in
+    let pos = (out-KSelect select).pos in
+    use_of (λ d. by_cases (channel d) cs) c.args.used.now c.mark_cases.new.used _ (kernel.select cs kernel.no_default pos)
+    (ap statement_of c.in-Select.is ∙ statement-Select select ∙ select-KSelect select
+    ∙ ap₂ (λ (p : List KCase) (o : Option (List Kst)). kernel.select (kernel.cases (map case_of p)) (default_of o) pos) (sym c.as_slice-in-Select.ensures) c.in-None.is)
+    c.mark_cases.ensures (λ d. sym (or_false (by_cases (channel d) cs) false refl))
+
+pub mark_statement-returns-in-Block : goal.mark_statement-returns-in-Block
+mark_statement-returns-in-Block t c =
+    let n = c.in-Block.field-0 in
+    let a = code_of c.as_slice-in-Block.result.now in
+    use_of (λ d. by_statements (channel d) a) c.args.used.now c.mark_statements-in-Block.new.used _ (kernel.block n a)
+    (ap statement_of c.in-Block.is ∙ statement-Block n c.in-Block.body
+    ∙ ap (λ (p : List Kst). kernel.block n (code_of p)) (sym c.as_slice-in-Block.ensures))
+    c.mark_statements-in-Block.ensures (λ d. refl)
+
+pub mark_statement-returns-in-Par : goal.mark_statement-returns-in-Par
+mark_statement-returns-in-Par t c =
+    let bs = kernel.branches (map branch_of c.as_slice-in-Par.result.now) in
+    use_of (λ d. by_branches (channel d) bs) c.args.used.now c.mark_branches.new.used _ (kernel.par bs)
+    (ap statement_of c.in-Par.is ∙ statement-Par c.in-Par.branches
+    ∙ ap (λ (p : List KBranch). kernel.par (kernel.branches (map branch_of p))) (sym c.as_slice-in-Par.ensures))
+    c.mark_branches.ensures (λ d. refl)

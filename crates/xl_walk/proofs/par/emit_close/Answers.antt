@@ -3,7 +3,8 @@ use Rattle.xs_instr.specs.Lines.{Line, at_pos, last_pos, open_line}
 use Rattle.xs_instr.specs.declared.instr.Instr.TheVariants.{Brfu}
 use Rattle.xl_expr.specs.Targets.{AreAimed}
 use Rattle.xl_par.specs.Closing.{Closes, closing_instrs}
-use Rattle.xl_walk.proofs.Arms.{on_err, on_err_on, on_ok}
+use Rattle.xl_expr.proofs.Emitted.{on_err}
+use Rattle.xl_walk.proofs.Arms.{on_err_on, on_ok}
 use Rattle.xl_walk.proofs.Seams.{extends_by}
 use Rattle.xl_walk.proofs.Several.{added}
 use Rattle.xl_walk.proofs.par.emit_close.Goals as goal

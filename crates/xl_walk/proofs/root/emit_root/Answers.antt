@@ -3,7 +3,7 @@ use Rattle.xs_instr.specs.Lines.{line}
 use Rattle.xs_instr.specs.declared.instr.Instr.TheVariants.{Freet}
 use Rattle.xl_sides.specs.Sides.{sides_of}
 use Rattle.xl_walk.specs.Built.{statements_of}
-use Rattle.xl_walk.proofs.Arms.{on_err}
+use Rattle.xl_expr.proofs.Emitted.{on_err}
 use Rattle.xl_walk.proofs.Seams.{extends_by, extends_on}
 use Rattle.xl_walk.proofs.Ending.{root_alone, root_emitted}
 use Rattle.xl_walk.proofs.root.emit_root.Goals as goal

@@ -1,0 +1,5 @@
+use Rattle.xl_expr.proofs.Emitted.{on_err, same_extends}
+use Rattle.xl_flow.proofs.flow.emit_jump.Goals as goal
+
+pub returns-in_err-hole-clause-refused : goal.returns-in_err-hole-clause-refused
+returns-in_err-hole-clause-refused c = on_err _ _ (same_extends _ _ c.in_err-hole.ensures.refused)
