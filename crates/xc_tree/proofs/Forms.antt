@@ -54,7 +54,7 @@ pub form-Cast : (u : Bool) → (a : Box Expr Global) → form_of (Cast u a) ≡ 
 unfolding form_of expression_of
 form-Cast u a = ap form_of (sym (rolls-Cast u a)) ∙ fold-roll-Ex plain.Form plain.Expression form_step expression_step (E.Cast u a)
 
-pub statement-Stmt : (s : Stmt) → statement_of s ≡ plain.statement (action_of s.kind) s.pos s.close s.own
+pub statement-Stmt : (s : Stmt) → statement_of s ≡ plain.statement (action_of s.kind.value) s.pos s.close s.own
 unfolding statement_of action_of
 statement-Stmt = fold_out-Stmt plain.Action plain.Branch plain.Case plain.Statement action_step branch_step case_step statement_step
 
@@ -90,20 +90,20 @@ pub action-Input : (i : Head) → action_of (Input i) ≡ plain.input (input_of 
 unfolding statement_of action_of branch_of case_of
 action-Input i = ap action_of (sym (rolls-Input i)) ∙ fold-roll-St plain.Action plain.Branch plain.Case plain.Statement action_step branch_step case_step statement_step (S.Input i)
 
-pub action-If : (c : Expr) → (s : Box Stmt Global) → (o : Option (Box Stmt Global)) → action_of (If c s o) ≡ plain.if_then (expression_of c) (statement_of s.value) (maybe_of o)
+pub action-If : (c : Expr) → (s : Stmt) → (o : Option Stmt) → action_of (If c s o) ≡ plain.if_then (expression_of c) (statement_of s) (maybe_of o)
 unfolding statement_of action_of branch_of case_of
 action-If c s None = ap action_of (sym (rolls-If c s None)) ∙ fold-roll-St plain.Action plain.Branch plain.Case plain.Statement action_step branch_step case_step statement_step (S.If c s None)
 action-If c s (Some o) = ap action_of (sym (rolls-If c s (Some o))) ∙ fold-roll-St plain.Action plain.Branch plain.Case plain.Statement action_step branch_step case_step statement_step (S.If c s (Some o))
 
-pub action-While : (c : Expr) → (s : Box Stmt Global) → action_of (While c s) ≡ plain.while_loop (expression_of c) (statement_of s.value)
+pub action-While : (c : Expr) → (s : Stmt) → action_of (While c s) ≡ plain.while_loop (expression_of c) (statement_of s)
 unfolding statement_of action_of branch_of case_of
 action-While c s = ap action_of (sym (rolls-While c s)) ∙ fold-roll-St plain.Action plain.Branch plain.Case plain.Statement action_step branch_step case_step statement_step (S.While c s)
 
-pub action-DoWhile : (s : Box Stmt Global) → (c : Expr) → action_of (DoWhile s c) ≡ plain.do_while (statement_of s.value) (expression_of c)
+pub action-DoWhile : (s : Stmt) → (c : Expr) → action_of (DoWhile s c) ≡ plain.do_while (statement_of s) (expression_of c)
 unfolding statement_of action_of branch_of case_of
 action-DoWhile s c = ap action_of (sym (rolls-DoWhile s c)) ∙ fold-roll-St plain.Action plain.Branch plain.Case plain.Statement action_step branch_step case_step statement_step (S.DoWhile s c)
 
-pub action-For : (a : Option (Box Stmt Global)) → (c : Option Expr) → (b : Option (Box Stmt Global)) → (s : Box Stmt Global) → action_of (For a c b s) ≡ plain.for_loop (maybe_of a) (option_map expression_of c) (maybe_of b) (statement_of s.value)
+pub action-For : (a : Option Stmt) → (c : Option Expr) → (b : Option Stmt) → (s : Stmt) → action_of (For a c b s) ≡ plain.for_loop (maybe_of a) (option_map expression_of c) (maybe_of b) (statement_of s)
 unfolding statement_of action_of branch_of case_of
 action-For None c None s = ap action_of (sym (rolls-For None c None s)) ∙ fold-roll-St plain.Action plain.Branch plain.Case plain.Statement action_step branch_step case_step statement_step (S.For None c None s)
 action-For None c (Some b) s = ap action_of (sym (rolls-For None c (Some b) s)) ∙ fold-roll-St plain.Action plain.Branch plain.Case plain.Statement action_step branch_step case_step statement_step (S.For None c (Some b) s)
@@ -150,7 +150,7 @@ pub expression-made : (e : E.Expr-F Ex Expr) → expression_of (roll-Expr e) ≡
 unfolding expression_of form_of
 expression-made = fold-roll-Expr plain.Form plain.Expression form_step expression_step
 
-pub statement-made : (s : S.Stmt-F St Branch Case Stmt) → statement_of (roll-Stmt s) ≡ plain.statement (action_of s.kind) s.pos s.close s.own
+pub statement-made : (s : S.Stmt-F St Branch Case Stmt) → statement_of (roll-Stmt s) ≡ plain.statement (action_of s.kind.value) s.pos s.close s.own
 unfolding statement_of action_of
 statement-made = fold-roll-Stmt plain.Action plain.Branch plain.Case plain.Statement action_step branch_step case_step statement_step
 

@@ -96,9 +96,9 @@ declaration_of d = record { kind = kind_of d.kind; name = d.name }
 abbrev pub place_of : At → plain.Place
 place_of a = record { on = a.on; first = a.first; value = expression_of a.value }
 
-abbrev pub boxed : Option (Box plain.Statement Global) → plain.Maybe
-boxed None = plain.absent
-boxed (Some s) = plain.present s.value
+abbrev pub maybe_step : Option plain.Statement → plain.Maybe
+maybe_step None = plain.absent
+maybe_step (Some s) = plain.present s
 
 abbrev pub action_step : S.St-F plain.Action plain.Branch plain.Case plain.Statement → plain.Action
 action_step S.Empty = plain.empty
@@ -109,10 +109,10 @@ action_step (S.Step l o) = plain.step (expression_of l) o
 action_step (S.Do r) = plain.perform (right_of r)
 action_step (S.Output o) = plain.output (output_of o)
 action_step (S.Input i) = plain.input (input_of i)
-action_step (S.If c s o) = plain.if_then (expression_of c) s.value (boxed o)
-action_step (S.While c s) = plain.while_loop (expression_of c) s.value
-action_step (S.DoWhile s c) = plain.do_while s.value (expression_of c)
-action_step (S.For a c b s) = plain.for_loop (boxed a) (option_map expression_of c) (boxed b) s.value
+action_step (S.If c s o) = plain.if_then (expression_of c) s (maybe_step o)
+action_step (S.While c s) = plain.while_loop (expression_of c) s
+action_step (S.DoWhile s c) = plain.do_while s (expression_of c)
+action_step (S.For a c b s) = plain.for_loop (maybe_step a) (option_map expression_of c) (maybe_step b) s
 action_step (S.Return r) = plain.return_with (option_map right_of r)
 action_step S.Break = plain.break_out
 action_step S.Continue = plain.continue_on
@@ -128,7 +128,7 @@ abbrev pub case_step : S.Case-F plain.Action plain.Branch plain.Case plain.State
 case_step c = plain.case c.pos (option_map expression_of c.guard) (option_map input_of c.head) (plain.statements c.body)
 
 abbrev pub statement_step : S.Stmt-F plain.Action plain.Branch plain.Case plain.Statement → plain.Statement
-statement_step s = plain.statement s.kind s.pos s.close s.own
+statement_step s = plain.statement s.kind.value s.pos s.close s.own
 
 -- the statement that a `Stmt` stands for
 unfoldable pub statement_of : Stmt → plain.Statement
@@ -143,9 +143,9 @@ branch_of = fold-Branch plain.Action plain.Branch plain.Case plain.Statement act
 unfoldable pub case_of : Case → plain.Case
 case_of = fold-Case plain.Action plain.Branch plain.Case plain.Statement action_step branch_step case_step statement_step
 
-abbrev pub maybe_of : Option (Box Stmt Global) → plain.Maybe
+abbrev pub maybe_of : Option Stmt → plain.Maybe
 maybe_of None = plain.absent
-maybe_of (Some s) = plain.present (statement_of s.value)
+maybe_of (Some s) = plain.present (statement_of s)
 
 abbrev pub port_of : PortItem → plain.Port
 port_of p = record { place = option_map place_of p.place; dir = p.dir; name = p.name; ident = p.ident }

@@ -138,7 +138,7 @@ pub struct At {
 /// holds.
 #[cycle(statement)]
 pub struct Stmt {
-    pub kind: St,
+    pub kind: Box<St>,
     pub pos: Pos,
     pub close: Pos,
     pub own: u32,
@@ -172,10 +172,10 @@ pub enum St {
     Do(Rhs),
     Output(Send),
     Input(Head),
-    If(Expr, Box<Stmt>, Option<Box<Stmt>>),
-    While(Expr, Box<Stmt>),
-    DoWhile(Box<Stmt>, Expr),
-    For(Option<Box<Stmt>>, Option<Expr>, Option<Box<Stmt>>, Box<Stmt>),
+    If(Expr, Stmt, Option<Stmt>),
+    While(Expr, Stmt),
+    DoWhile(Stmt, Expr),
+    For(Option<Stmt>, Option<Expr>, Option<Stmt>, Stmt),
     Return(Option<Rhs>),
     Break,
     Continue,
