@@ -43,5 +43,5 @@ by_variant (S.Tran m ss) h = by_action (roll-St (S.Tran m ss)) _ (fold-roll-St p
 pub other_body : (k : St) → ((ss : List Stmt) → k ≡ Block ss → ⊥) → (p q : Pos) (n : ℕ) → of_body (plain.statement (action_of k) p q n) ≡ of_action (action_of k)
 other_body k h = subst (λ (x : St). ((ss : List Stmt) → x ≡ Block ss → ⊥) → IsAsItsAction x) (roll-out-St k) (by_variant (out-St k)) h
 
-pub body_of_other : (s : Stmt) → ((ss : List Stmt) → s.kind ≡ Block ss → ⊥) → of_statement (statement_of s) ≡ of_body (statement_of s)
-body_of_other s h = rw (statement-Stmt s) (sym (other_body s.kind h s.pos s.close s.own))
+pub body_of_other : (s : Stmt) → ((ss : List Stmt) → s.kind.value ≡ Block ss → ⊥) → of_statement (statement_of s) ≡ of_body (statement_of s)
+body_of_other s h = rw (statement-Stmt s) (sym (other_body s.kind.value h s.pos s.close s.own))

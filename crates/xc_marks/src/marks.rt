@@ -118,7 +118,7 @@ fn what_of_param(kind: &ParamKind) -> What
 fn body(alloc: Global, out: &mut List<Mark>, s: &Stmt) -> Result<(), Memory>
     ensures { OnOk result (out.new ≡ out.old ++ names.of_body (tree.statement_of s.now)) }
 {
-    match &s.kind {
+    match &*s.kind {
         St::Block(ss) => statements(alloc, out, ss.as_slice()),
         _ => statement(alloc, out, s),
     }
@@ -345,7 +345,7 @@ fn place(alloc: Global, out: &mut List<Mark>, place: &Option<At>) -> Result<(), 
 fn statement(alloc: Global, out: &mut List<Mark>, s: &Stmt) -> Result<(), Memory>
     ensures { OnOk result (out.new ≡ out.old ++ names.of_statement (tree.statement_of s.now)) }
 {
-    match &s.kind {
+    match &*s.kind {
         St::Empty => Ok(()),
         St::Block(ss) => scope(alloc, out, ss.as_slice()),
         St::Decl(ds) => declarations(alloc, out, ds.as_slice()),
@@ -403,11 +403,7 @@ fn statement(alloc: Global, out: &mut List<Mark>, s: &Stmt) -> Result<(), Memory
 }
 
 #[cycle(statement)]
-fn statement_if_any(
-    alloc: Global,
-    out: &mut List<Mark>,
-    s: &Option<Box<Stmt>>,
-) -> Result<(), Memory>
+fn statement_if_any(alloc: Global, out: &mut List<Mark>, s: &Option<Stmt>) -> Result<(), Memory>
     ensures { OnOk result (out.new ≡ out.old ++ names.of_maybe (tree.maybe_of s.now)) }
 {
     match s {

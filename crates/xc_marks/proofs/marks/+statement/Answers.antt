@@ -61,77 +61,77 @@ pub statement_if_any-returns-in-None : goal.statement_if_any-returns-in-None
 statement_if_any-returns-in-None t c = rw c.in-None.is (sym (append-nil c.args.out.now))
 
 pub statement_if_any-returns-in-Some : goal.statement_if_any-returns-in-Some
-statement_if_any-returns-in-Some t c = rw (c.in-Some.is, ← c.deref.ensures) c.statement.ensures
+statement_if_any-returns-in-Some t c = rw c.in-Some.is c.statement.ensures
 
 pub statement-returns-in-Empty : goal.statement-returns-in-Empty
-statement-returns-in-Empty t c = rw (statement-Stmt, c.in-Empty.is, action-Empty) (sym (append-nil c.args.out.now))
+statement-returns-in-Empty t c = rw (statement-Stmt, ← c.deref.ensures, c.in-Empty.is, action-Empty) (sym (append-nil c.args.out.now))
 
 pub statement-returns-in-Block : goal.statement-returns-in-Block
-statement-returns-in-Block t c = rw (statement-Stmt, c.in-Block.is, action-Block, ← c.as_slice.ensures) c.scope.ensures
+statement-returns-in-Block t c = rw (statement-Stmt, ← c.deref.ensures, c.in-Block.is, action-Block, ← c.as_slice.ensures) c.scope.ensures
 
 pub statement-returns-in-Decl : goal.statement-returns-in-Decl
-statement-returns-in-Decl t c = rw (statement-Stmt, c.in-Decl.is, action-Decl, ← c.as_slice-in-Decl.ensures) c.declarations.ensures
+statement-returns-in-Decl t c = rw (statement-Stmt, ← c.deref.ensures, c.in-Decl.is, action-Decl, ← c.as_slice-in-Decl.ensures) c.declarations.ensures
 
 pub statement-returns-in_ok-expression-in-Assign : goal.statement-returns-in_ok-expression-in-Assign
 statement-returns-in_ok-expression-in-Assign t c =
-    rw (statement-Stmt, c.in-Assign.is, action-Assign, behind_two, ← c.in_ok-expression-in-Assign.ensures) c.right_side.ensures
+    rw (statement-Stmt, ← c.deref.ensures, c.in-Assign.is, action-Assign, behind_two, ← c.in_ok-expression-in-Assign.ensures) c.right_side.ensures
 
 pub statement-returns-in-Step : goal.statement-returns-in-Step
-statement-returns-in-Step t c = rw (statement-Stmt, c.in-Step.is, action-Step) c.expression-in-Step.ensures
+statement-returns-in-Step t c = rw (statement-Stmt, ← c.deref.ensures, c.in-Step.is, action-Step) c.expression-in-Step.ensures
 
 pub statement-returns-in-Do : goal.statement-returns-in-Do
-statement-returns-in-Do t c = rw (statement-Stmt, c.in-Do.is, action-Do) c.right_side-in-Do.ensures
+statement-returns-in-Do t c = rw (statement-Stmt, ← c.deref.ensures, c.in-Do.is, action-Do) c.right_side-in-Do.ensures
 
 pub statement-returns-in-Output : goal.statement-returns-in-Output
-statement-returns-in-Output t c = rw (statement-Stmt, c.in-Output.is, action-Output) c.output.ensures
+statement-returns-in-Output t c = rw (statement-Stmt, ← c.deref.ensures, c.in-Output.is, action-Output) c.output.ensures
 
 pub statement-returns-in-Input : goal.statement-returns-in-Input
-statement-returns-in-Input t c = rw (statement-Stmt, c.in-Input.is, action-Input) c.input.ensures
+statement-returns-in-Input t c = rw (statement-Stmt, ← c.deref.ensures, c.in-Input.is, action-Input) c.input.ensures
 
 pub statement-returns-in_ok-statement-in-If : goal.statement-returns-in_ok-statement-in-If
 statement-returns-in_ok-statement-in-If t c =
-    rw (statement-Stmt, c.in-If.is, action-If, behind_three, ← c.in_ok-expression-in-If.ensures, ← c.deref.ensures, ← c.in_ok-statement-in-If.ensures) c.statement_if_any.ensures
+    rw (statement-Stmt, ← c.deref.ensures, c.in-If.is, action-If, behind_three, ← c.in_ok-expression-in-If.ensures, ← c.in_ok-statement-in-If.ensures) c.statement_if_any.ensures
 
 pub statement-returns-in_ok-expression-in-While : goal.statement-returns-in_ok-expression-in-While
 statement-returns-in_ok-expression-in-While t c =
-    rw (statement-Stmt, c.in-While.is, action-While, behind_two, ← c.in_ok-expression-in-While.ensures, ← c.deref-in-While.ensures) c.statement-in-While.ensures
+    rw (statement-Stmt, ← c.deref.ensures, c.in-While.is, action-While, behind_two, ← c.in_ok-expression-in-While.ensures) c.statement-in-While.ensures
 
 pub statement-returns-in_ok-statement-in-DoWhile : goal.statement-returns-in_ok-statement-in-DoWhile
 statement-returns-in_ok-statement-in-DoWhile t c =
-    rw (statement-Stmt, c.in-DoWhile.is, action-DoWhile, behind_two, ← c.deref-in-DoWhile.ensures, ← c.in_ok-statement-in-DoWhile.ensures) c.expression-in-DoWhile.ensures
+    rw (statement-Stmt, ← c.deref.ensures, c.in-DoWhile.is, action-DoWhile, behind_two, ← c.in_ok-statement-in-DoWhile.ensures) c.expression-in-DoWhile.ensures
 
 pub statement-returns-in-Return : goal.statement-returns-in-Return
-statement-returns-in-Return t c = rw (statement-Stmt, c.in-Return.is, action-Return) c.right_side_if_any.ensures
+statement-returns-in-Return t c = rw (statement-Stmt, ← c.deref.ensures, c.in-Return.is, action-Return) c.right_side_if_any.ensures
 
 pub statement-returns-in-Break : goal.statement-returns-in-Break
-statement-returns-in-Break t c = rw (statement-Stmt, c.in-Break.is, action-Break) (sym (append-nil c.args.out.now))
+statement-returns-in-Break t c = rw (statement-Stmt, ← c.deref.ensures, c.in-Break.is, action-Break) (sym (append-nil c.args.out.now))
 
 pub statement-returns-in-Continue : goal.statement-returns-in-Continue
-statement-returns-in-Continue t c = rw (statement-Stmt, c.in-Continue.is, action-Continue) (sym (append-nil c.args.out.now))
+statement-returns-in-Continue t c = rw (statement-Stmt, ← c.deref.ensures, c.in-Continue.is, action-Continue) (sym (append-nil c.args.out.now))
 
 pub statement-returns-in-Par : goal.statement-returns-in-Par
-statement-returns-in-Par t c = rw (statement-Stmt, c.in-Par.is, action-Par, ← c.as_slice-in-Par.ensures) c.branches.ensures
+statement-returns-in-Par t c = rw (statement-Stmt, ← c.deref.ensures, c.in-Par.is, action-Par, ← c.as_slice-in-Par.ensures) c.branches.ensures
 
 pub statement-returns-in-Select : goal.statement-returns-in-Select
-statement-returns-in-Select t c = rw (statement-Stmt, c.in-Select.is, action-Select, ← c.as_slice-in-Select.ensures) c.cases.ensures
+statement-returns-in-Select t c = rw (statement-Stmt, ← c.deref.ensures, c.in-Select.is, action-Select, ← c.as_slice-in-Select.ensures) c.cases.ensures
 
 pub statement-returns-in-Tran : goal.statement-returns-in-Tran
-statement-returns-in-Tran t c = rw (statement-Stmt, c.in-Tran.is, action-Tran, ← c.as_slice-in-Tran.ensures) c.scope-in-Tran.ensures
+statement-returns-in-Tran t c = rw (statement-Stmt, ← c.deref.ensures, c.in-Tran.is, action-Tran, ← c.as_slice-in-Tran.ensures) c.scope-in-Tran.ensures
 
 pub statement-returns-in_ok-statement-in-For : goal.statement-returns-in_ok-statement-in-For
 statement-returns-in_ok-statement-in-For t c =
-    rw (statement-Stmt, c.in-For.is, action-For, behind_scope, ← c.in_ok-push-in-For.ensures.ok, behind_four, ← c.in_ok-statement_if_any-in-For.ensures, ← c.in_ok-expression_if_any-in-For.ensures, ← c.in_ok-statement_if_any-in-For-2.ensures, ← c.deref-in-For.ensures, ← c.in_ok-statement-in-For.ensures) c.push-in-For.ensures.ok
+    rw (statement-Stmt, ← c.deref.ensures, c.in-For.is, action-For, behind_scope, ← c.in_ok-push-in-For.ensures.ok, behind_four, ← c.in_ok-statement_if_any-in-For.ensures, ← c.in_ok-expression_if_any-in-For.ensures, ← c.in_ok-statement_if_any-in-For-2.ensures, ← c.in_ok-statement-in-For.ensures) c.push-in-For.ensures.ok
 
 pub statement-returns-in_ok-branch-in-Repl : goal.statement-returns-in_ok-branch-in-Repl
 statement-returns-in_ok-branch-in-Repl t c =
     let inner = of_branch (branch_of c.in-Repl.body.value) in
-    rw (statement-Stmt, c.in-Repl.is, action-Repl, behind_replicated c.args.out.now (declares c.in-Repl.first Index) (Uses c.in-Repl.second) (Uses c.in-Repl.third) inner, ← c.in_ok-push-in-Repl.ensures.ok, ← c.in_ok-add_declaration-in-Repl.ensures, ← c.in_ok-add_use-in-Repl.ensures, ← c.in_ok-add_use-in-Repl-2.ensures, ← c.deref-in-Repl.ensures, ← c.in_ok-branch-in-Repl.ensures) c.push-in-Repl-2.ensures.ok
+    rw (statement-Stmt, ← c.deref.ensures, c.in-Repl.is, action-Repl, behind_replicated c.args.out.now (declares c.in-Repl.first Index) (Uses c.in-Repl.second) (Uses c.in-Repl.third) inner, ← c.in_ok-push-in-Repl.ensures.ok, ← c.in_ok-add_declaration-in-Repl.ensures, ← c.in_ok-add_use-in-Repl.ensures, ← c.in_ok-add_use-in-Repl-2.ensures, ← c.deref-in-Repl.ensures, ← c.in_ok-branch-in-Repl.ensures) c.push-in-Repl-2.ensures.ok
 
 pub statement-scope-requires : goal.statement-scope-requires
 statement-scope-requires t c =
     let part = depths.of_statements (plain.statements (map statement_of c.as_slice.result.now)) in (
       falls (depths.of_statement (statement_of c.args.s.now)) 0 part 2 c.decreases
-          (inside _ part 2 1 (rw (statement-Stmt c.args.s.now, c.in-Block.is, action-Block c.in-Block.ss, ← c.as_slice.ensures)
+          (inside _ part 2 1 (rw (statement-Stmt c.args.s.now, ← c.deref.ensures, c.in-Block.is, action-Block c.in-Block.ss, ← c.as_slice.ensures)
           (same _)) refl),
       tt,
     )
@@ -140,17 +140,17 @@ pub statement-scope-requires-in-Tran : goal.statement-scope-requires-in-Tran
 statement-scope-requires-in-Tran t c =
     let part = depths.of_statements (plain.statements (map statement_of c.as_slice-in-Tran.result.now)) in (
       falls (depths.of_statement (statement_of c.args.s.now)) 0 part 2 c.decreases
-          (inside _ part 2 1 (rw (statement-Stmt c.args.s.now, c.in-Tran.is, action-Tran c.in-Tran.field-0 c.in-Tran.ss, ← c.as_slice-in-Tran.ensures)
+          (inside _ part 2 1 (rw (statement-Stmt c.args.s.now, ← c.deref.ensures, c.in-Tran.is, action-Tran c.in-Tran.field-0 c.in-Tran.ss, ← c.as_slice-in-Tran.ensures)
           (same _)) refl),
       tt,
     )
 
 pub statement-statement-requires : goal.statement-statement-requires
 statement-statement-requires t c =
-    let part = depths.of_statement (statement_of c.deref.result.now) in (
+    let part = depths.of_statement (statement_of c.in-If.then) in (
       falls (depths.of_statement (statement_of c.args.s.now)) 0 part 0 c.decreases
-          (inside _ part 0 3 (rw (statement-Stmt c.args.s.now, c.in-If.is, action-If c.in-If.test c.in-If.then c.in-If.otherwise, ← c.deref.ensures)
-          (second_of_three _ (depths.of_statement (statement_of c.deref.result.now)) _)) refl),
+          (inside _ part 0 3 (rw (statement-Stmt c.args.s.now, ← c.deref.ensures, c.in-If.is, action-If c.in-If.test c.in-If.then c.in-If.otherwise)
+          (second_of_three _ (depths.of_statement (statement_of c.in-If.then)) _)) refl),
       tt,
     )
 
@@ -158,29 +158,29 @@ pub statement-statement_if_any-requires : goal.statement-statement_if_any-requir
 statement-statement_if_any-requires t c =
     let part = depths.of_maybe (maybe_of c.in-If.otherwise) in (
       falls (depths.of_statement (statement_of c.args.s.now)) 0 part 1 c.decreases
-          (inside _ part 1 2 (rw (statement-Stmt c.args.s.now, c.in-If.is, action-If c.in-If.test c.in-If.then c.in-If.otherwise)
+          (inside _ part 1 2 (rw (statement-Stmt c.args.s.now, ← c.deref.ensures, c.in-If.is, action-If c.in-If.test c.in-If.then c.in-If.otherwise)
           (third _ _ _)) refl),
       tt,
     )
 
 pub statement-statement-requires-in-While : goal.statement-statement-requires-in-While
 statement-statement-requires-in-While t c =
-    let part = depths.of_statement (statement_of c.deref-in-While.result.now) in (
+    let part = depths.of_statement (statement_of c.in-While.body) in (
       falls (depths.of_statement (statement_of c.args.s.now)) 0 part 0 c.decreases
-          (inside _ part 0 3 (rw (statement-Stmt c.args.s.now, c.in-While.is, action-While c.in-While.test c.in-While.body, ← c.deref-in-While.ensures)
+          (inside _ part 0 3 (rw (statement-Stmt c.args.s.now, ← c.deref.ensures, c.in-While.is, action-While c.in-While.test c.in-While.body)
           (second _ _)) refl),
       tt,
     )
 
 pub statement-statement-requires-in-DoWhile : goal.statement-statement-requires-in-DoWhile
 statement-statement-requires-in-DoWhile t c =
-    let part = depths.of_statement (statement_of c.deref-in-DoWhile.result.now) in (
+    let part = depths.of_statement (statement_of c.in-DoWhile.body) in (
       falls (depths.of_statement (statement_of c.args.s.now)) 0 part 0 c.decreases
           (inside _ part 0 3 (rw (
             statement-Stmt c.args.s.now,
+            ← c.deref.ensures,
             c.in-DoWhile.is,
             action-DoWhile c.in-DoWhile.body c.in-DoWhile.test,
-            ← c.deref-in-DoWhile.ensures,
           )
           (first _ _)) refl),
       tt,
@@ -190,7 +190,7 @@ pub statement-statement_if_any-requires-in-For : goal.statement-statement_if_any
 statement-statement_if_any-requires-in-For t c =
     let part = depths.of_maybe (maybe_of c.in-For.first) in (
       falls (depths.of_statement (statement_of c.args.s.now)) 0 part 1 c.decreases
-          (inside _ part 1 2 (rw (statement-Stmt c.args.s.now, c.in-For.is, action-For c.in-For.first c.in-For.test c.in-For.step c.in-For.body)
+          (inside _ part 1 2 (rw (statement-Stmt c.args.s.now, ← c.deref.ensures, c.in-For.is, action-For c.in-For.first c.in-For.test c.in-For.step c.in-For.body)
           (first _ _)) refl),
       tt,
     )
@@ -199,20 +199,20 @@ pub statement-statement_if_any-requires-in-For-2 : goal.statement-statement_if_a
 statement-statement_if_any-requires-in-For-2 t c =
     let part = depths.of_maybe (maybe_of c.in-For.step) in (
       falls (depths.of_statement (statement_of c.args.s.now)) 0 part 1 c.decreases
-          (inside _ part 1 2 (rw (statement-Stmt c.args.s.now, c.in-For.is, action-For c.in-For.first c.in-For.test c.in-For.step c.in-For.body)
+          (inside _ part 1 2 (rw (statement-Stmt c.args.s.now, ← c.deref.ensures, c.in-For.is, action-For c.in-For.first c.in-For.test c.in-For.step c.in-For.body)
           (third_of_four _ _ _ _)) refl),
       tt,
     )
 
 pub statement-statement-requires-in-For : goal.statement-statement-requires-in-For
 statement-statement-requires-in-For t c =
-    let part = depths.of_statement (statement_of c.deref-in-For.result.now) in (
+    let part = depths.of_statement (statement_of c.in-For.body) in (
       falls (depths.of_statement (statement_of c.args.s.now)) 0 part 0 c.decreases
           (inside _ part 0 3 (rw (
             statement-Stmt c.args.s.now,
+            ← c.deref.ensures,
             c.in-For.is,
             action-For c.in-For.first c.in-For.test c.in-For.step c.in-For.body,
-            ← c.deref-in-For.ensures,
           )
           (fourth _ _ _ _)) refl),
       tt,
@@ -222,7 +222,7 @@ pub statement-branches-requires : goal.statement-branches-requires
 statement-branches-requires t c =
     let part = depths.of_branches (plain.branches (map branch_of c.as_slice-in-Par.result.now)) in (
       falls (depths.of_statement (statement_of c.args.s.now)) 0 part 2 c.decreases
-          (inside _ part 2 1 (rw (statement-Stmt c.args.s.now, c.in-Par.is, action-Par c.in-Par.bs, ← c.as_slice-in-Par.ensures)
+          (inside _ part 2 1 (rw (statement-Stmt c.args.s.now, ← c.deref.ensures, c.in-Par.is, action-Par c.in-Par.bs, ← c.as_slice-in-Par.ensures)
           (same _)) refl),
       tt,
     )
@@ -233,6 +233,7 @@ statement-branch-alloc-requires t c =
       falls (depths.of_statement (statement_of c.args.s.now)) 0 part 1 c.decreases
           (inside _ part 1 2 (rw (
             statement-Stmt c.args.s.now,
+            ← c.deref.ensures,
             c.in-Repl.is,
             action-Repl c.in-Repl.first c.in-Repl.second c.in-Repl.third c.in-Repl.from c.in-Repl.to c.in-Repl.body,
             ← c.deref-in-Repl.ensures,
@@ -245,7 +246,7 @@ pub statement-cases-requires : goal.statement-cases-requires
 statement-cases-requires t c =
     let part = depths.of_cases (plain.cases (map case_of c.as_slice-in-Select.result.now)) in (
       falls (depths.of_statement (statement_of c.args.s.now)) 0 part 3 c.decreases
-          (inside _ part 3 0 (rw (statement-Stmt c.args.s.now, c.in-Select.is, action-Select c.in-Select.cs, ← c.as_slice-in-Select.ensures)
+          (inside _ part 3 0 (rw (statement-Stmt c.args.s.now, ← c.deref.ensures, c.in-Select.is, action-Select c.in-Select.cs, ← c.as_slice-in-Select.ensures)
           (same _)) refl),
       tt,
     )
@@ -271,8 +272,8 @@ case-statements-requires t c =
 pub statement_if_any-statement-requires : goal.statement_if_any-statement-requires
 statement_if_any-statement-requires t c =
     let whole = depths.of_maybe (maybe_of c.args.s.now) in
-    let part = depths.of_statement (statement_of c.deref.result.now) in
-    (falls whole 1 part 0 c.decreases (no_deeper _ _ 1 0 0 (rw (c.in-Some.is, ← c.deref.ensures) (itself _)) refl), tt)
+    let part = depths.of_statement (statement_of c.in-Some.s) in
+    (falls whole 1 part 0 c.decreases (no_deeper _ _ 1 0 0 (rw c.in-Some.is (itself _)) refl), tt)
 
 pub statements-statement-requires : goal.statements-statement-requires
 statements-statement-requires t c =
