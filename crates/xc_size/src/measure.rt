@@ -282,7 +282,7 @@ fn action<'a>(sizes: &Sizes<'a>, kind: &'a St) -> Size
 
 #[cycle(statement)]
 #[tactic(auto, using(crate::proofs::Measures::measures))]
-fn statement_if_any<'a>(sizes: &Sizes<'a>, s: &'a Option<Box<Stmt>>) -> Size
+fn statement_if_any<'a>(sizes: &Sizes<'a>, s: &'a Option<Stmt>) -> Size
     ensures statements { result.statements ≡ statements.of_statement_if_any sizes.now s.now }
     ensures nodes { result.nodes ≡ nodes.of_statement_if_any sizes.now s.now }
     ensures depth { result.depth ≡ depths.of_statement_if_any sizes.now s.now }

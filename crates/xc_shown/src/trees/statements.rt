@@ -115,7 +115,7 @@ fn put_all(page: &mut Page, name: &str, statements: &[Stmt]) {
 
 /// A part that may be lacking.
 #[cycle(put_statement)]
-fn put_maybe(page: &mut Page, statement: &Option<Box<Stmt>>) {
+fn put_maybe(page: &mut Page, statement: &Option<Stmt>) {
     match statement {
         None => page.put(" _"),
         Some(s) => put_statement(page, " ", s),

@@ -1,7 +1,5 @@
 -- How deep parts of a program are, with all that their calls add, no further than one above the limit.
 use Rattle.std.specs.Prelude.{ℕ, List, Option, Some, map, max, option_map}
-use Rattle.std.specs.declared.boxed.Box.{Box}
-use Rattle.std.specs.declared.alloc.Global.{Global}
 use Rattle.xc_tree.specs.declared.tree.Arg.{Arg}
 use Rattle.xc_tree.specs.declared.tree.At.{At}
 use Rattle.xc_tree.specs.declared.tree.Branch.{Branch}
@@ -84,7 +82,7 @@ of_statement sizes s = up_to greatest_depth (depths.of_statement (depth_called s
 abbrev pub of_action : Sizes → St → ℕ
 of_action sizes kind = up_to greatest_depth (depths.of_action (depth_called sizes) (tree.action_of kind))
 
-abbrev pub of_statement_if_any : Sizes → Option (Box Stmt Global) → ℕ
+abbrev pub of_statement_if_any : Sizes → Option Stmt → ℕ
 of_statement_if_any sizes s = up_to greatest_depth (depths.of_maybe (depth_called sizes) (tree.maybe_of s))
 
 abbrev pub of_statements : Sizes → List Stmt → ℕ

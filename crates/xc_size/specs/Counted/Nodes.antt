@@ -1,7 +1,5 @@
 -- How many nodes of expressions parts of a program have, with all that their calls add, no further than one above the limit.
 use Rattle.std.specs.Prelude.{ℕ, ◌+◌, List, Option, Some, map, option_map, sum_by}
-use Rattle.std.specs.declared.boxed.Box.{Box}
-use Rattle.std.specs.declared.alloc.Global.{Global}
 use Rattle.xc_tree.specs.declared.tree.Arg.{Arg}
 use Rattle.xc_tree.specs.declared.tree.At.{At}
 use Rattle.xc_tree.specs.declared.tree.Branch.{Branch}
@@ -84,7 +82,7 @@ of_statement sizes s = up_to most_nodes (nodes.of_statement (nodes_called sizes)
 abbrev pub of_action : Sizes → St → ℕ
 of_action sizes kind = up_to most_nodes (nodes.of_action (nodes_called sizes) (tree.action_of kind))
 
-abbrev pub of_statement_if_any : Sizes → Option (Box Stmt Global) → ℕ
+abbrev pub of_statement_if_any : Sizes → Option Stmt → ℕ
 of_statement_if_any sizes s = up_to most_nodes (nodes.of_maybe (nodes_called sizes) (tree.maybe_of s))
 
 abbrev pub of_statements : Sizes → List Stmt → ℕ

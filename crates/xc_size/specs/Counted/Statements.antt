@@ -1,7 +1,5 @@
 -- How many statements parts of a program have, with all that their calls add, no further than one above the limit.
 use Rattle.std.specs.Prelude.{ℕ, List, Option, Some, map, option_map, sum_by}
-use Rattle.std.specs.declared.boxed.Box.{Box}
-use Rattle.std.specs.declared.alloc.Global.{Global}
 use Rattle.xc_tree.specs.declared.tree.Branch.{Branch}
 use Rattle.xc_tree.specs.declared.tree.Case.{Case}
 use Rattle.xc_tree.specs.declared.tree.DeclKind.{DeclKind}
@@ -43,7 +41,7 @@ of_statement sizes s = up_to most_statements (counts.of_statement (statements_ca
 abbrev pub of_action : Sizes → St → ℕ
 of_action sizes kind = up_to most_statements (counts.of_action (statements_called sizes) (tree.action_of kind))
 
-abbrev pub of_statement_if_any : Sizes → Option (Box Stmt Global) → ℕ
+abbrev pub of_statement_if_any : Sizes → Option Stmt → ℕ
 of_statement_if_any sizes s = up_to most_statements (counts.of_maybe (statements_called sizes) (tree.maybe_of s))
 
 abbrev pub of_statements : Sizes → List Stmt → ℕ

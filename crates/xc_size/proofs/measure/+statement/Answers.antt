@@ -71,28 +71,28 @@ pub cases-returns-clause-depth : goal.cases-returns-clause-depth
 cases-returns-clause-depth t c = highest_all _ _ _ _ (depths_of_cases_done (depth_called c.args.sizes.now) c.args.cs.now c.loop-c.c-index c.loop-c-test.false) c.loop-c.invariant.depth
 
 pub action-returns-in-If-clause-statements : goal.action-returns-in-If-clause-statements
-action-returns-in-If-clause-statements t c = rw (c.in-If.is, action-If c.in-If.test c.in-If.then c.in-If.otherwise, ← c.deref.ensures) (one_more _ _ _ _ _ (sum_of_three _ 0 _ _ _ _ _ _ _ c.expression-in-If.ensures.statements c.statement.ensures.statements c.statement_if_any.ensures.statements c.beside-bodies.ensures.statements c.beside-in-If.ensures.statements) c.counted-in-If.ensures.statements (omega arith))
+action-returns-in-If-clause-statements t c = rw (c.in-If.is, action-If c.in-If.test c.in-If.then c.in-If.otherwise) (one_more _ _ _ _ _ (sum_of_three _ 0 _ _ _ _ _ _ _ c.expression-in-If.ensures.statements c.statement.ensures.statements c.statement_if_any.ensures.statements c.beside-bodies.ensures.statements c.beside-in-If.ensures.statements) c.counted-in-If.ensures.statements (omega arith))
 
 pub action-returns-in-If-clause-nodes : goal.action-returns-in-If-clause-nodes
-action-returns-in-If-clause-nodes t c = rw (c.in-If.is, action-If c.in-If.test c.in-If.then c.in-If.otherwise, ← c.deref.ensures) (c.counted-in-If.ensures.nodes ∙ sum_of_three _ _ _ _ _ _ _ _ _ c.expression-in-If.ensures.nodes c.statement.ensures.nodes c.statement_if_any.ensures.nodes c.beside-bodies.ensures.nodes c.beside-in-If.ensures.nodes)
+action-returns-in-If-clause-nodes t c = rw (c.in-If.is, action-If c.in-If.test c.in-If.then c.in-If.otherwise) (c.counted-in-If.ensures.nodes ∙ sum_of_three _ _ _ _ _ _ _ _ _ c.expression-in-If.ensures.nodes c.statement.ensures.nodes c.statement_if_any.ensures.nodes c.beside-bodies.ensures.nodes c.beside-in-If.ensures.nodes)
 
 pub action-returns-in-If-clause-depth : goal.action-returns-in-If-clause-depth
-action-returns-in-If-clause-depth t c = rw (c.in-If.is, action-If c.in-If.test c.in-If.then c.in-If.otherwise, ← c.deref.ensures) (c.counted-in-If.ensures.depth ∙ greatest_of_three _ _ _ _ _ _ _ _ _ c.expression-in-If.ensures.depth c.statement.ensures.depth c.statement_if_any.ensures.depth c.beside-bodies.ensures.depth c.beside-in-If.ensures.depth)
+action-returns-in-If-clause-depth t c = rw (c.in-If.is, action-If c.in-If.test c.in-If.then c.in-If.otherwise) (c.counted-in-If.ensures.depth ∙ greatest_of_three _ _ _ _ _ _ _ _ _ c.expression-in-If.ensures.depth c.statement.ensures.depth c.statement_if_any.ensures.depth c.beside-bodies.ensures.depth c.beside-in-If.ensures.depth)
 
 pub action-returns-in-For-clause-statements : goal.action-returns-in-For-clause-statements
-action-returns-in-For-clause-statements t c = rw (c.in-For.is, action-For c.in-For.first c.in-For.test c.in-For.step c.in-For.body, ← c.deref-in-For.ensures) (one_more _ _ _ _ _ (sum_of_four _ _ 0 _ _ _ _ _ _ _ _ c.statement_if_any-in-For-2.ensures.statements c.expression_if_any.ensures.statements c.statement_if_any-in-For.ensures.statements c.statement-in-For.ensures.statements c.beside-turn.ensures.statements c.beside-turns.ensures.statements _ c.beside-in-For.ensures.statements) c.counted-in-For.ensures.statements (omega arith))
+action-returns-in-For-clause-statements t c = rw (c.in-For.is, action-For c.in-For.first c.in-For.test c.in-For.step c.in-For.body) (one_more _ _ _ _ _ (sum_of_four _ _ 0 _ _ _ _ _ _ _ _ c.statement_if_any-in-For-2.ensures.statements c.expression_if_any.ensures.statements c.statement_if_any-in-For.ensures.statements c.statement-in-For.ensures.statements c.beside-turn.ensures.statements c.beside-turns.ensures.statements _ c.beside-in-For.ensures.statements) c.counted-in-For.ensures.statements (omega arith))
 
 pub action-returns-in-For-clause-nodes : goal.action-returns-in-For-clause-nodes
-action-returns-in-For-clause-nodes t c = rw (c.in-For.is, action-For c.in-For.first c.in-For.test c.in-For.step c.in-For.body, ← c.deref-in-For.ensures) (c.counted-in-For.ensures.nodes ∙ sum_of_four _ _ _ _ _ _ _ _ _ _ _ c.statement_if_any-in-For-2.ensures.nodes c.expression_if_any.ensures.nodes c.statement_if_any-in-For.ensures.nodes c.statement-in-For.ensures.nodes c.beside-turn.ensures.nodes c.beside-turns.ensures.nodes _ c.beside-in-For.ensures.nodes)
+action-returns-in-For-clause-nodes t c = rw (c.in-For.is, action-For c.in-For.first c.in-For.test c.in-For.step c.in-For.body) (c.counted-in-For.ensures.nodes ∙ sum_of_four _ _ _ _ _ _ _ _ _ _ _ c.statement_if_any-in-For-2.ensures.nodes c.expression_if_any.ensures.nodes c.statement_if_any-in-For.ensures.nodes c.statement-in-For.ensures.nodes c.beside-turn.ensures.nodes c.beside-turns.ensures.nodes _ c.beside-in-For.ensures.nodes)
 
 pub action-returns-in-For-clause-depth : goal.action-returns-in-For-clause-depth
-action-returns-in-For-clause-depth t c = rw (c.in-For.is, action-For c.in-For.first c.in-For.test c.in-For.step c.in-For.body, ← c.deref-in-For.ensures) (c.counted-in-For.ensures.depth ∙ greatest_of_four _ _ _ _ _ _ _ _ _ _ _ c.statement_if_any-in-For-2.ensures.depth c.expression_if_any.ensures.depth c.statement_if_any-in-For.ensures.depth c.statement-in-For.ensures.depth c.beside-turn.ensures.depth c.beside-turns.ensures.depth _ c.beside-in-For.ensures.depth)
+action-returns-in-For-clause-depth t c = rw (c.in-For.is, action-For c.in-For.first c.in-For.test c.in-For.step c.in-For.body) (c.counted-in-For.ensures.depth ∙ greatest_of_four _ _ _ _ _ _ _ _ _ _ _ c.statement_if_any-in-For-2.ensures.depth c.expression_if_any.ensures.depth c.statement_if_any-in-For.ensures.depth c.statement-in-For.ensures.depth c.beside-turn.ensures.depth c.beside-turns.ensures.depth _ c.beside-in-For.ensures.depth)
 
 pub action-returns-in-Repl-clause-statements : goal.action-returns-in-Repl-clause-statements
-action-returns-in-Repl-clause-statements t c = rw (c.in-Repl.is, action-Repl c.in-Repl.first c.in-Repl.second c.in-Repl.third c.in-Repl.from c.in-Repl.to c.in-Repl.body, ← c.deref-in-Repl.ensures, ← c.saturating_sub-copies.ensures) (one_more _ _ _ _ _ (copies_of _ c.saturating_sub-copies.result _ _ _ c.branch-sizes.ensures.statements c.times.ensures.statements) c.counted-in-Repl.ensures.statements refl)
+action-returns-in-Repl-clause-statements t c = rw (c.in-Repl.is, action-Repl c.in-Repl.first c.in-Repl.second c.in-Repl.third c.in-Repl.from c.in-Repl.to c.in-Repl.body, ← c.deref.ensures, ← c.saturating_sub-copies.ensures) (one_more _ _ _ _ _ (copies_of _ c.saturating_sub-copies.result _ _ _ c.branch-sizes.ensures.statements c.times.ensures.statements) c.counted-in-Repl.ensures.statements refl)
 
 pub action-returns-in-Repl-clause-nodes : goal.action-returns-in-Repl-clause-nodes
-action-returns-in-Repl-clause-nodes t c = rw (c.in-Repl.is, action-Repl c.in-Repl.first c.in-Repl.second c.in-Repl.third c.in-Repl.from c.in-Repl.to c.in-Repl.body, ← c.deref-in-Repl.ensures, ← c.saturating_sub-copies.ensures) (c.counted-in-Repl.ensures.nodes ∙ copies_of _ c.saturating_sub-copies.result _ _ _ c.branch-sizes.ensures.nodes c.times.ensures.nodes)
+action-returns-in-Repl-clause-nodes t c = rw (c.in-Repl.is, action-Repl c.in-Repl.first c.in-Repl.second c.in-Repl.third c.in-Repl.from c.in-Repl.to c.in-Repl.body, ← c.deref.ensures, ← c.saturating_sub-copies.ensures) (c.counted-in-Repl.ensures.nodes ∙ copies_of _ c.saturating_sub-copies.result _ _ _ c.branch-sizes.ensures.nodes c.times.ensures.nodes)
 
 pub action-returns-in-Empty-clause-statements : goal.action-returns-in-Empty-clause-statements
 action-returns-in-Empty-clause-statements t c = rw (c.in-Empty.is, action-Empty) (ap (λ (s : Size). s.statements) c.none.ensures ∙ sym (up_to_none most_statements))
@@ -167,22 +167,22 @@ pub action-returns-in-Input-clause-depth : goal.action-returns-in-Input-clause-d
 action-returns-in-Input-clause-depth t c = rw (c.in-Input.is, action-Input c.in-Input.head) (c.counted-in-Input.ensures.depth ∙ c.input.ensures.depth)
 
 pub action-returns-in-While-clause-statements : goal.action-returns-in-While-clause-statements
-action-returns-in-While-clause-statements t c = rw (c.in-While.is, action-While c.in-While.test c.in-While.body, ← c.deref-in-While.ensures) (one_more _ _ _ _ _ (behind_none _ _ _ _ _ c.expression-in-While.ensures.statements c.statement-in-While.ensures.statements c.beside-in-While.ensures.statements) c.counted-in-While.ensures.statements refl)
+action-returns-in-While-clause-statements t c = rw (c.in-While.is, action-While c.in-While.test c.in-While.body) (one_more _ _ _ _ _ (behind_none _ _ _ _ _ c.expression-in-While.ensures.statements c.statement-in-While.ensures.statements c.beside-in-While.ensures.statements) c.counted-in-While.ensures.statements refl)
 
 pub action-returns-in-While-clause-nodes : goal.action-returns-in-While-clause-nodes
-action-returns-in-While-clause-nodes t c = rw (c.in-While.is, action-While c.in-While.test c.in-While.body, ← c.deref-in-While.ensures) (c.counted-in-While.ensures.nodes ∙ sum_of_two _ _ _ _ _ _ c.expression-in-While.ensures.nodes c.statement-in-While.ensures.nodes c.beside-in-While.ensures.nodes)
+action-returns-in-While-clause-nodes t c = rw (c.in-While.is, action-While c.in-While.test c.in-While.body) (c.counted-in-While.ensures.nodes ∙ sum_of_two _ _ _ _ _ _ c.expression-in-While.ensures.nodes c.statement-in-While.ensures.nodes c.beside-in-While.ensures.nodes)
 
 pub action-returns-in-While-clause-depth : goal.action-returns-in-While-clause-depth
-action-returns-in-While-clause-depth t c = rw (c.in-While.is, action-While c.in-While.test c.in-While.body, ← c.deref-in-While.ensures) (c.counted-in-While.ensures.depth ∙ greatest_of_two _ _ _ _ _ _ c.expression-in-While.ensures.depth c.statement-in-While.ensures.depth c.beside-in-While.ensures.depth)
+action-returns-in-While-clause-depth t c = rw (c.in-While.is, action-While c.in-While.test c.in-While.body) (c.counted-in-While.ensures.depth ∙ greatest_of_two _ _ _ _ _ _ c.expression-in-While.ensures.depth c.statement-in-While.ensures.depth c.beside-in-While.ensures.depth)
 
 pub action-returns-in-DoWhile-clause-statements : goal.action-returns-in-DoWhile-clause-statements
-action-returns-in-DoWhile-clause-statements t c = rw (c.in-DoWhile.is, action-DoWhile c.in-DoWhile.body c.in-DoWhile.test, ← c.deref-in-DoWhile.ensures) (one_more _ _ _ _ _ (before_none _ _ _ _ _ c.statement-in-DoWhile.ensures.statements c.expression-in-DoWhile.ensures.statements c.beside-in-DoWhile.ensures.statements) c.counted-in-DoWhile.ensures.statements refl)
+action-returns-in-DoWhile-clause-statements t c = rw (c.in-DoWhile.is, action-DoWhile c.in-DoWhile.body c.in-DoWhile.test) (one_more _ _ _ _ _ (before_none _ _ _ _ _ c.statement-in-DoWhile.ensures.statements c.expression-in-DoWhile.ensures.statements c.beside-in-DoWhile.ensures.statements) c.counted-in-DoWhile.ensures.statements refl)
 
 pub action-returns-in-DoWhile-clause-nodes : goal.action-returns-in-DoWhile-clause-nodes
-action-returns-in-DoWhile-clause-nodes t c = rw (c.in-DoWhile.is, action-DoWhile c.in-DoWhile.body c.in-DoWhile.test, ← c.deref-in-DoWhile.ensures) (c.counted-in-DoWhile.ensures.nodes ∙ sum_of_two _ _ _ _ _ _ c.statement-in-DoWhile.ensures.nodes c.expression-in-DoWhile.ensures.nodes c.beside-in-DoWhile.ensures.nodes)
+action-returns-in-DoWhile-clause-nodes t c = rw (c.in-DoWhile.is, action-DoWhile c.in-DoWhile.body c.in-DoWhile.test) (c.counted-in-DoWhile.ensures.nodes ∙ sum_of_two _ _ _ _ _ _ c.statement-in-DoWhile.ensures.nodes c.expression-in-DoWhile.ensures.nodes c.beside-in-DoWhile.ensures.nodes)
 
 pub action-returns-in-DoWhile-clause-depth : goal.action-returns-in-DoWhile-clause-depth
-action-returns-in-DoWhile-clause-depth t c = rw (c.in-DoWhile.is, action-DoWhile c.in-DoWhile.body c.in-DoWhile.test, ← c.deref-in-DoWhile.ensures) (c.counted-in-DoWhile.ensures.depth ∙ greatest_of_two _ _ _ _ _ _ c.statement-in-DoWhile.ensures.depth c.expression-in-DoWhile.ensures.depth c.beside-in-DoWhile.ensures.depth)
+action-returns-in-DoWhile-clause-depth t c = rw (c.in-DoWhile.is, action-DoWhile c.in-DoWhile.body c.in-DoWhile.test) (c.counted-in-DoWhile.ensures.depth ∙ greatest_of_two _ _ _ _ _ _ c.statement-in-DoWhile.ensures.depth c.expression-in-DoWhile.ensures.depth c.beside-in-DoWhile.ensures.depth)
 
 pub action-returns-in-Return-clause-statements : goal.action-returns-in-Return-clause-statements
 action-returns-in-Return-clause-statements t c = rw (c.in-Return.is, action-Return c.in-Return.rhs) (one_more _ _ _ _ _ c.right_side_if_any.ensures.statements c.counted-in-Return.ensures.statements refl)
@@ -239,16 +239,16 @@ pub action-returns-in-Tran-clause-depth : goal.action-returns-in-Tran-clause-dep
 action-returns-in-Tran-clause-depth t c = rw (c.in-Tran.is, action-Tran c.in-Tran.field-0 c.in-Tran.ss, ← c.as_slice-in-Tran.ensures) (c.counted-in-Tran.ensures.depth ∙ c.statements-in-Tran.ensures.depth)
 
 pub action-returns-in-Repl-clause-depth : goal.action-returns-in-Repl-clause-depth
-action-returns-in-Repl-clause-depth t c = rw (c.in-Repl.is, action-Repl c.in-Repl.first c.in-Repl.second c.in-Repl.third c.in-Repl.from c.in-Repl.to c.in-Repl.body, ← c.deref-in-Repl.ensures) (c.counted-in-Repl.ensures.depth ∙ c.times.ensures.depth ∙ c.branch-sizes.ensures.depth)
+action-returns-in-Repl-clause-depth t c = rw (c.in-Repl.is, action-Repl c.in-Repl.first c.in-Repl.second c.in-Repl.third c.in-Repl.from c.in-Repl.to c.in-Repl.body, ← c.deref.ensures) (c.counted-in-Repl.ensures.depth ∙ c.times.ensures.depth ∙ c.branch-sizes.ensures.depth)
 
 pub statement-returns-clause-statements : goal.statement-returns-clause-statements
-statement-returns-clause-statements t c = rw (statement-Stmt c.args.s.now) (c.deeper.ensures.statements ∙ c.action.ensures.statements)
+statement-returns-clause-statements t c = rw (statement-Stmt c.args.s.now, ← c.deref.ensures) (c.deeper.ensures.statements ∙ c.action.ensures.statements)
 
 pub statement-returns-clause-nodes : goal.statement-returns-clause-nodes
-statement-returns-clause-nodes t c = rw (statement-Stmt c.args.s.now) (c.deeper.ensures.nodes ∙ c.action.ensures.nodes)
+statement-returns-clause-nodes t c = rw (statement-Stmt c.args.s.now, ← c.deref.ensures) (c.deeper.ensures.nodes ∙ c.action.ensures.nodes)
 
 pub statement-returns-clause-depth : goal.statement-returns-clause-depth
-statement-returns-clause-depth t c = rw (statement-Stmt c.args.s.now) (one_more _ _ _ _ _ c.action.ensures.depth c.deeper.ensures.depth refl)
+statement-returns-clause-depth t c = rw (statement-Stmt c.args.s.now, ← c.deref.ensures) (one_more _ _ _ _ _ c.action.ensures.depth c.deeper.ensures.depth refl)
 
 pub branch-returns-clause-statements : goal.branch-returns-clause-statements
 branch-returns-clause-statements t c = rw (branch-Branch c.args.b.now) (one_more _ _ _ _ _ (behind_none _ _ _ _ _ c.place.ensures.statements c.statement.ensures.statements c.beside.ensures.statements) c.counted.ensures.statements refl)
@@ -269,13 +269,13 @@ pub statement_if_any-returns-in-None-clause-depth : goal.statement_if_any-return
 statement_if_any-returns-in-None-clause-depth t c = rw c.in-None.is (ap (λ (s : Size). s.depth) c.none.ensures ∙ sym (up_to_none greatest_depth))
 
 pub statement_if_any-returns-in-Some-clause-statements : goal.statement_if_any-returns-in-Some-clause-statements
-statement_if_any-returns-in-Some-clause-statements t c = rw (c.in-Some.is, ← c.deref.ensures) c.statement.ensures.statements
+statement_if_any-returns-in-Some-clause-statements t c = rw c.in-Some.is c.statement.ensures.statements
 
 pub statement_if_any-returns-in-Some-clause-nodes : goal.statement_if_any-returns-in-Some-clause-nodes
-statement_if_any-returns-in-Some-clause-nodes t c = rw (c.in-Some.is, ← c.deref.ensures) c.statement.ensures.nodes
+statement_if_any-returns-in-Some-clause-nodes t c = rw c.in-Some.is c.statement.ensures.nodes
 
 pub statement_if_any-returns-in-Some-clause-depth : goal.statement_if_any-returns-in-Some-clause-depth
-statement_if_any-returns-in-Some-clause-depth t c = rw (c.in-Some.is, ← c.deref.ensures) c.statement.ensures.depth
+statement_if_any-returns-in-Some-clause-depth t c = rw c.in-Some.is c.statement.ensures.depth
 
 pub case-returns-clause-statements : goal.case-returns-clause-statements
 case-returns-clause-statements t c = rw (case-Case c.args.c.now, ← c.as_slice.ensures) (one_more _ _ _ _ _ (behind_none _ _ _ _ _ c.expression_if_any.ensures.statements (behind_none _ _ _ _ _ c.input_if_any.ensures.statements c.statements.ensures.statements c.beside-body.ensures.statements) c.beside.ensures.statements) c.counted.ensures.statements refl)
@@ -299,31 +299,31 @@ pub action-statements-requires : goal.action-statements-requires
 action-statements-requires t c = (falls (height_of_action (tree.action_of c.args.kind.now)) 4 (height_of_statements (plain.statements (map tree.statement_of c.as_slice.result.now))) 1 c.decreases (same_height _ _ 4 1 2 (rw (c.in-Block.is, action-Block c.in-Block.ss, ← c.as_slice.ensures) refl) refl), tt)
 
 pub action-statement-requires : goal.action-statement-requires
-action-statement-requires t c = (falls (height_of_action (tree.action_of c.args.kind.now)) 4 (height (tree.statement_of c.deref.result.now)) 0 c.decreases (no_higher _ _ 4 0 3 (in_left _ (height (tree.statement_of c.deref.result.now)) (height_of_maybe (tree.maybe_of c.in-If.otherwise)) (rw (c.in-If.is, action-If c.in-If.test c.in-If.then c.in-If.otherwise, ← c.deref.ensures) refl)) refl), tt)
+action-statement-requires t c = (falls (height_of_action (tree.action_of c.args.kind.now)) 4 (height (tree.statement_of c.in-If.then)) 0 c.decreases (no_higher _ _ 4 0 3 (in_left _ (height (tree.statement_of c.in-If.then)) (height_of_maybe (tree.maybe_of c.in-If.otherwise)) (rw (c.in-If.is, action-If c.in-If.test c.in-If.then c.in-If.otherwise) refl)) refl), tt)
 
 pub action-statement_if_any-requires : goal.action-statement_if_any-requires
-action-statement_if_any-requires t c = (falls (height_of_action (tree.action_of c.args.kind.now)) 4 (height_of_maybe (tree.maybe_of c.in-If.otherwise)) 1 c.decreases (no_higher _ _ 4 1 2 (in_right _ (height (tree.statement_of c.deref.result.now)) (height_of_maybe (tree.maybe_of c.in-If.otherwise)) (rw (c.in-If.is, action-If c.in-If.test c.in-If.then c.in-If.otherwise, ← c.deref.ensures) refl)) refl), tt)
+action-statement_if_any-requires t c = (falls (height_of_action (tree.action_of c.args.kind.now)) 4 (height_of_maybe (tree.maybe_of c.in-If.otherwise)) 1 c.decreases (no_higher _ _ 4 1 2 (in_right _ (height (tree.statement_of c.in-If.then)) (height_of_maybe (tree.maybe_of c.in-If.otherwise)) (rw (c.in-If.is, action-If c.in-If.test c.in-If.then c.in-If.otherwise) refl)) refl), tt)
 
 pub action-statement-requires-in-While : goal.action-statement-requires-in-While
-action-statement-requires-in-While t c = (falls (height_of_action (tree.action_of c.args.kind.now)) 4 (height (tree.statement_of c.deref-in-While.result.now)) 0 c.decreases (same_height _ _ 4 0 3 (rw (c.in-While.is, action-While c.in-While.test c.in-While.body, ← c.deref-in-While.ensures) refl) refl), tt)
+action-statement-requires-in-While t c = (falls (height_of_action (tree.action_of c.args.kind.now)) 4 (height (tree.statement_of c.in-While.body)) 0 c.decreases (same_height _ _ 4 0 3 (rw (c.in-While.is, action-While c.in-While.test c.in-While.body) refl) refl), tt)
 
 pub action-statement-requires-in-DoWhile : goal.action-statement-requires-in-DoWhile
-action-statement-requires-in-DoWhile t c = (falls (height_of_action (tree.action_of c.args.kind.now)) 4 (height (tree.statement_of c.deref-in-DoWhile.result.now)) 0 c.decreases (same_height _ _ 4 0 3 (rw (c.in-DoWhile.is, action-DoWhile c.in-DoWhile.body c.in-DoWhile.test, ← c.deref-in-DoWhile.ensures) refl) refl), tt)
+action-statement-requires-in-DoWhile t c = (falls (height_of_action (tree.action_of c.args.kind.now)) 4 (height (tree.statement_of c.in-DoWhile.body)) 0 c.decreases (same_height _ _ 4 0 3 (rw (c.in-DoWhile.is, action-DoWhile c.in-DoWhile.body c.in-DoWhile.test) refl) refl), tt)
 
 pub action-statement_if_any-requires-in-For : goal.action-statement_if_any-requires-in-For
-action-statement_if_any-requires-in-For t c = (falls (height_of_action (tree.action_of c.args.kind.now)) 4 (height_of_maybe (tree.maybe_of c.in-For.step)) 1 c.decreases (no_higher _ _ 4 1 2 (in_middle _ (height_of_maybe (tree.maybe_of c.in-For.first)) (height_of_maybe (tree.maybe_of c.in-For.step)) (height (tree.statement_of c.in-For.body.value)) (rw (c.in-For.is, action-For c.in-For.first c.in-For.test c.in-For.step c.in-For.body) refl)) refl), tt)
+action-statement_if_any-requires-in-For t c = (falls (height_of_action (tree.action_of c.args.kind.now)) 4 (height_of_maybe (tree.maybe_of c.in-For.step)) 1 c.decreases (no_higher _ _ 4 1 2 (in_middle _ (height_of_maybe (tree.maybe_of c.in-For.first)) (height_of_maybe (tree.maybe_of c.in-For.step)) (height (tree.statement_of c.in-For.body)) (rw (c.in-For.is, action-For c.in-For.first c.in-For.test c.in-For.step c.in-For.body) refl)) refl), tt)
 
 pub action-statement-requires-in-For : goal.action-statement-requires-in-For
-action-statement-requires-in-For t c = (falls (height_of_action (tree.action_of c.args.kind.now)) 4 (height (tree.statement_of c.deref-in-For.result.now)) 0 c.decreases (no_higher _ _ 4 0 3 (in_last _ (height_of_maybe (tree.maybe_of c.in-For.first)) (height_of_maybe (tree.maybe_of c.in-For.step)) (height (tree.statement_of c.deref-in-For.result.now)) (rw (c.in-For.is, action-For c.in-For.first c.in-For.test c.in-For.step c.in-For.body, ← c.deref-in-For.ensures) refl)) refl), tt)
+action-statement-requires-in-For t c = (falls (height_of_action (tree.action_of c.args.kind.now)) 4 (height (tree.statement_of c.in-For.body)) 0 c.decreases (no_higher _ _ 4 0 3 (in_last _ (height_of_maybe (tree.maybe_of c.in-For.first)) (height_of_maybe (tree.maybe_of c.in-For.step)) (height (tree.statement_of c.in-For.body)) (rw (c.in-For.is, action-For c.in-For.first c.in-For.test c.in-For.step c.in-For.body) refl)) refl), tt)
 
 pub action-statement_if_any-requires-in-For-2 : goal.action-statement_if_any-requires-in-For-2
-action-statement_if_any-requires-in-For-2 t c = (falls (height_of_action (tree.action_of c.args.kind.now)) 4 (height_of_maybe (tree.maybe_of c.in-For.first)) 1 c.decreases (no_higher _ _ 4 1 2 (in_left _ (height_of_maybe (tree.maybe_of c.in-For.first)) (max (height_of_maybe (tree.maybe_of c.in-For.step)) (height (tree.statement_of c.in-For.body.value))) (rw (c.in-For.is, action-For c.in-For.first c.in-For.test c.in-For.step c.in-For.body) refl)) refl), tt)
+action-statement_if_any-requires-in-For-2 t c = (falls (height_of_action (tree.action_of c.args.kind.now)) 4 (height_of_maybe (tree.maybe_of c.in-For.first)) 1 c.decreases (no_higher _ _ 4 1 2 (in_left _ (height_of_maybe (tree.maybe_of c.in-For.first)) (max (height_of_maybe (tree.maybe_of c.in-For.step)) (height (tree.statement_of c.in-For.body))) (rw (c.in-For.is, action-For c.in-For.first c.in-For.test c.in-For.step c.in-For.body) refl)) refl), tt)
 
 pub action-branches-requires : goal.action-branches-requires
 action-branches-requires t c = (falls (height_of_action (tree.action_of c.args.kind.now)) 4 (height_of_branches (plain.branches (map tree.branch_of c.as_slice-in-Par.result.now))) 2 c.decreases (same_height _ _ 4 2 1 (rw (c.in-Par.is, action-Par c.in-Par.bs, ← c.as_slice-in-Par.ensures) refl) refl), tt)
 
 pub action-branch-sizes-requires : goal.action-branch-sizes-requires
-action-branch-sizes-requires t c = (falls (height_of_action (tree.action_of c.args.kind.now)) 4 (height_of_branch (tree.branch_of c.deref-in-Repl.result.now)) 1 c.decreases (same_height _ _ 4 1 2 (rw (c.in-Repl.is, action-Repl c.in-Repl.first c.in-Repl.second c.in-Repl.third c.in-Repl.from c.in-Repl.to c.in-Repl.body, ← c.deref-in-Repl.ensures) refl) refl), tt)
+action-branch-sizes-requires t c = (falls (height_of_action (tree.action_of c.args.kind.now)) 4 (height_of_branch (tree.branch_of c.deref.result.now)) 1 c.decreases (same_height _ _ 4 1 2 (rw (c.in-Repl.is, action-Repl c.in-Repl.first c.in-Repl.second c.in-Repl.third c.in-Repl.from c.in-Repl.to c.in-Repl.body, ← c.deref.ensures) refl) refl), tt)
 
 pub action-cases-requires : goal.action-cases-requires
 action-cases-requires t c = (falls (height_of_action (tree.action_of c.args.kind.now)) 4 (height_of_cases (plain.cases (map tree.case_of c.as_slice-in-Select.result.now))) 3 c.decreases (same_height _ _ 4 3 0 (rw (c.in-Select.is, action-Select c.in-Select.cs, ← c.as_slice-in-Select.ensures) refl) refl), tt)
@@ -344,10 +344,10 @@ pub cases-case-requires : goal.cases-case-requires
 cases-case-requires t c = (falls (height_of_cases (plain.cases (map tree.case_of c.args.cs.now))) 3 (height_of_case (tree.case_of c.c-item.result)) 2 c.decreases (no_higher _ _ 3 2 0 (case_within c.args.cs.now c.loop-c.c-index c.c-item.result c.c-item.is c.loop-c-test.true) refl), tt)
 
 pub statement-action-requires : goal.statement-action-requires
-statement-action-requires t c = (falls (height (tree.statement_of c.args.s.now)) 0 (height_of_action (tree.action_of c.args.s.now.kind)) 4 c.decreases (one_higher _ _ (rw (statement-Stmt c.args.s.now) refl)), tt)
+statement-action-requires t c = (falls (height (tree.statement_of c.args.s.now)) 0 (height_of_action (tree.action_of c.deref.result.now)) 4 c.decreases (one_higher _ _ (rw (statement-Stmt c.args.s.now, ← c.deref.ensures) refl)), tt)
 
 pub statement_if_any-statement-requires : goal.statement_if_any-statement-requires
-statement_if_any-statement-requires t c = (falls (height_of_maybe (tree.maybe_of c.args.s.now)) 1 (height (tree.statement_of c.deref.result.now)) 0 c.decreases (same_height _ _ 1 0 0 (rw (c.in-Some.is, ← c.deref.ensures) refl) refl), tt)
+statement_if_any-statement-requires t c = (falls (height_of_maybe (tree.maybe_of c.args.s.now)) 1 (height (tree.statement_of c.in-Some.s)) 0 c.decreases (same_height _ _ 1 0 0 (rw c.in-Some.is refl) refl), tt)
 
 pub statements-statement-requires : goal.statements-statement-requires
 statements-statement-requires t c = (falls (height_of_statements (plain.statements (map tree.statement_of c.args.ss.now))) 1 (height (tree.statement_of c.s-item.result)) 0 c.decreases (no_higher _ _ 1 0 0 (statement_within c.args.ss.now c.loop-s.s-index c.s-item.result c.s-item.is c.loop-s-test.true) refl), tt)
