@@ -1,5 +1,5 @@
 -- How deep the parts of a statement stand, by which a walk over it comes to its end.
-use Rattle.std.proofs.Common.{◌≡◌, ℕ, zero, suc, ◌+◌, ◌*◌, ◌<◌, ◌≤◌, max, List, [], ◌∷◌, length, get_or, sym, subst, arith}
+use Rattle.std.proofs.Common.{◌≡◌, ℕ, suc, ◌+◌, ◌*◌, ◌<◌, ◌≤◌, max, subst, arith}
 
 -- a part of this depth is measured below what is left, where it is no deeper
 pub falls : (d r i q : ℕ) {t : ℕ} → 4 * d + r ≡ t → 4 * i + q < 4 * d + r → 4 * i + q < t
@@ -39,30 +39,3 @@ fourth a b c d = omega arith
 
 pub itself : (a : ℕ) → a ≤ a
 itself a = omega arith
-
-pub in_second : (a b : ℕ) → b ≤ max a b
-in_second a b = omega arith
-
-pub in_third : (a b c : ℕ) → c ≤ max a (max b c)
-in_third a b c = omega arith
-
--- an item of a list is no deeper than the list
-none : {A : Type 0} (i : ℕ) → i < 0 → A
-none i h = absurd (omega arith)
-
-before : (n i : ℕ) → suc i < suc n → i < n
-before n i h = omega arith
-
-at_front : (a b : ℕ) → a ≤ max a b
-at_front a b = omega arith
-
-behind : (a b c : ℕ) → a ≤ c → a ≤ max b c
-behind a b c h = omega arith
-
-pub item_within : {V : Type 0} (of : V → ℕ) (all : List V → ℕ) → ((y : V) (ys : List V) → max (of y) (all ys) ≡ all (y ∷ ys)) →
-    (xs : List V) (i : ℕ) (x : V) → x ≡ get_or xs i x → i < length xs → of x ≤ all xs
-item_within of all more [] i x e h = none i h
-item_within of all more (y ∷ ys) zero x e h =
-    subst (λ (z : _). of z ≤ all (y ∷ ys)) (sym e) (subst (λ (n : ℕ). of y ≤ n) (more y ys) (at_front (of y) (all ys)))
-item_within of all more (y ∷ ys) (suc i) x e h =
-    subst (λ (n : ℕ). of x ≤ n) (more y ys) (behind (of x) (of y) (all ys) (item_within of all more ys i x e (before (length ys) i h)))

@@ -8,8 +8,9 @@ use Rattle.xc_tree.specs.Names.Marks.{declares, of_statements, of_branch, of_bra
 use Rattle.xc_tree.specs.Depth as depths
 use Rattle.xc_tree.specs.Plain as plain
 use Rattle.xc_tree.specs.Trees.{statement_of, maybe_of, branch_of, case_of}
+use Rattle.xc_tree.proofs.Heights.{in_right, in_last, item_within}
 use Rattle.xc_tree.proofs.Forms.{statement-Stmt, branch-Branch, case-Case, action-Empty, action-Block, action-Decl, action-Assign, action-Step, action-Do, action-Output, action-Input, action-If, action-While, action-DoWhile, action-For, action-Return, action-Break, action-Continue, action-Par, action-Repl, action-Select, action-Tran}
-use Rattle.xc_marks.proofs.Depths.{falls, no_deeper, inside, itself, in_second, in_third, same, first, second, second_of_three, third, third_of_four, fourth, item_within}
+use Rattle.xc_marks.proofs.Depths.{falls, no_deeper, inside, itself, same, first, second, second_of_three, third, third_of_four, fourth}
 use Rattle.xc_marks.proofs.Steps.{behind_two, behind_three, behind_four, behind_scope, behind_replicated, drop_past, statements_step, branches_step, cases_step}
 use Rattle.xc_marks.proofs.marks.+statement.Goals as goal
 
@@ -261,13 +262,13 @@ pub branch-statement-requires : goal.branch-statement-requires
 branch-statement-requires t c =
     let whole = depths.of_branch (branch_of c.args.b.now) in
     let part = depths.of_statement (statement_of c.args.b.now.body) in
-    (falls whole 1 part 0 c.decreases (no_deeper _ _ 1 0 0 (rw (branch-Branch c.args.b.now) (in_second _ _)) refl), tt)
+    (falls whole 1 part 0 c.decreases (no_deeper _ _ 1 0 0 (rw (branch-Branch c.args.b.now) (in_right _ _)) refl), tt)
 
 pub case-statements-requires : goal.case-statements-requires
 case-statements-requires t c =
     let whole = depths.of_case (case_of c.args.c.now) in
     let part = depths.of_statements (plain.statements (map statement_of c.as_slice.result.now)) in
-    (falls whole 2 part 1 c.decreases (no_deeper _ _ 2 1 0 (rw (case-Case c.args.c.now, ← c.as_slice.ensures) (in_third _ _ _)) refl), tt)
+    (falls whole 2 part 1 c.decreases (no_deeper _ _ 2 1 0 (rw (case-Case c.args.c.now, ← c.as_slice.ensures) (in_last _ _ _)) refl), tt)
 
 pub statement_if_any-statement-requires : goal.statement_if_any-statement-requires
 statement_if_any-statement-requires t c =
