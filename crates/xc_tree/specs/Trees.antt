@@ -1,7 +1,5 @@
 -- What the declared types of a tree stand for as plain data.
 use Rattle.std.specs.Prelude.{List, map, Option, Some, None, option_map}
-use Rattle.std.specs.declared.boxed.Box.{Box}
-use Rattle.std.specs.declared.alloc.Global.{Global}
 use Rattle.xc_tree.specs.declared.tree.Expr.{Expr, fold-Expr}
 use Rattle.xc_tree.specs.declared.tree.Ex.TheOpen as E
 use Rattle.xc_tree.specs.declared.tree.Ex.{Ex, fold-Ex}
