@@ -4,7 +4,6 @@ use Rattle.xw_words.specs.declared.pos.Pos.{Pos}
 use Rattle.xc_tree.specs.declared.token.Tok.{Tok}
 use Rattle.xc_tree.specs.declared.token.Kind.TheVariants.{Sym}
 use Rattle.xc_tree.specs.declared.tree.Stmt.{Stmt}
-use Rattle.xc_tree.specs.Plain as plain
 use Rattle.xc_tree.specs.Symbol.{Symbol, sym, maybe, expr, for_start, for_step}
 use Rattle.xc_tree.specs.Terminals.{int_word, unsigned_word}
 use Rattle.xc_tree.specs.Derives.{On}
@@ -61,15 +60,11 @@ pub record ReadsParts (toks : List Tok) (room i j : ℕ) (a : Parts) : Type 0 wh
   pub first : Pos
   pub second : Pos
   pub close : Pos
-  pub step : Option plain.Statement
-  pub start : Option plain.Statement
   pub opens : ReadsSymbol toks 0 (i + 1) start_at paren
-  pub starts : Reads toks room (maybe for_start) start_at start_end start
+  pub starts : Reads toks room (maybe for_start) start_at start_end (option_map statement_of a.start)
   pub ends_start : ReadsSymbol toks 6 start_end test_at first
   pub tests : Reads toks room (maybe expr) test_at test_end (option_map expression_of a.test)
   pub ends_test : ReadsSymbol toks 6 test_end step_at second
-  pub steps : Reads toks room (maybe for_step) step_at step_end step
+  pub steps : Reads toks room (maybe for_step) step_at step_end (option_map statement_of a.step)
   pub closes : ReadsSymbol toks 1 step_end j close
-  pub has_start : option_map (λ b. statement_of b.value) a.start ≡ start
-  pub has_step : option_map (λ b. statement_of b.value) a.step ≡ step
   pub held : a.held ≡ start_end - start_at + (step_end - step_at)

@@ -70,7 +70,7 @@ impl<'a> Parser<'a> {
             end = self.next_resource(&mut declared, end + 1, is_chan)?;
         }
         let semicolon = self.symbol(end, SEMICOLON)?;
-        Ok(self.whole(at, semicolon.end, 0, St::Decl(declared)))
+        self.whole(at, semicolon.end, 0, St::Decl(declared))
     }
 
     /// Reads the name of a channel, or else of a timer, to the end of a list, and gives the place behind it.
@@ -108,7 +108,7 @@ impl<'a> Parser<'a> {
             end = self.next_declared(&mut declared, end + 1, word.value, room - 1)?;
         }
         let semicolon = self.symbol(end, SEMICOLON)?;
-        Ok(self.whole(at, semicolon.end, 0, St::Decl(declared)))
+        self.whole(at, semicolon.end, 0, St::Decl(declared))
     }
 
     /// Reads a variable or an array to the end of a list, and gives the place behind it. An initial value that there is

@@ -5,7 +5,6 @@ ghost use Rattle.xw_words.specs.declared.pos.Pos.{Pos};
 ghost use Rattle.xc_tree.specs.Symbol as symbol;
 ghost use Rattle.xc_tree.specs.Symbol.{maybe};
 ghost use Rattle.xc_tree.specs.Trees as trees;
-ghost use Rattle.xc_phrases.specs.declared.stop.Stop.TheVariants as stop;
 ghost use Rattle.xc_phrases.specs.Follows.{StandsAt};
 ghost use Rattle.xc_phrases.specs.Reading.{Reads};
 ghost use Rattle.xc_phrases.specs.RowReading.{ReadsRow, StoppedRow};
@@ -14,7 +13,7 @@ ghost use Rattle.xc_phrases.specs.Stops.{Stopped};
 ghost use Rattle.xc_phrases.specs.Tails.{do_row};
 
 use crate::declarations::variable;
-use crate::memory::{beside, boxed};
+use crate::memory::beside;
 use crate::parser::{Parser, Read};
 use crate::stop::Stop;
 use crate::tokens::{begins_type, is_name, is_symbol};
@@ -26,9 +25,9 @@ use xw_words::List;
 /// The three parts between the brackets of a `for`.
 #[derive(Drop)]
 struct Parts {
-    start: Option<Box<Stmt>>,
+    start: Option<Stmt>,
     test: Option<Expr>,
-    step: Option<Box<Stmt>>,
+    step: Option<Stmt>,
     /// How many tokens the start and the step have.
     held: usize,
 }
@@ -48,9 +47,9 @@ impl<'a> Parser<'a> {
         let open = self.symbol(at + 1, PAREN)?;
         let test = self.expr(open.end, room)?;
         let close = self.closed(test, END_PAREN)?;
-        let (test, body) = beside(close.value, self.boxed_statement(close.end, room))?;
+        let (test, body) = beside(close.value, self.statement(close.end, room))?;
         let held = body.end - close.end;
-        Ok(self.whole(at, body.end, held, St::While(test, body.value)))
+        self.whole(at, body.end, held, St::While(test, body.value))
     }
 
     /// A `do`, with room for so many nodes inside it.
@@ -64,10 +63,10 @@ impl<'a> Parser<'a> {
         ensures stopped { IfErr result
             (λ e. Stopped self.now.toks.now (room + 1) symbol.statement at e) }
     {
-        let body = self.boxed_statement(at + 1, room)?;
+        let body = self.statement(at + 1, room)?;
         let held = body.end - at - 1;
         let test = self.do_tail(body.end, room)?;
-        Ok(self.whole(at, test.end, held, St::DoWhile(body.value, test.value)))
+        self.whole(at, test.end, held, St::DoWhile(body.value, test.value))
     }
 
     /// What ends a `do`: its `while`, the test between brackets, and the `;`.
@@ -102,10 +101,10 @@ impl<'a> Parser<'a> {
     {
         let read = self.for_parts(at, room)?;
         let held = read.value.held;
-        let (parts, body) = beside(read.value, self.boxed_statement(read.end, room))?;
+        let (parts, body) = beside(read.value, self.statement(read.end, room))?;
         let all = held + (body.end - read.end);
         let kind = St::For(parts.start, parts.test, parts.step, body.value);
-        Ok(self.whole(at, body.end, all, kind))
+        self.whole(at, body.end, all, kind)
     }
 
     /// What stands between the word of a `for` and its body, from the word on.
@@ -126,13 +125,11 @@ impl<'a> Parser<'a> {
         let step = self.maybe_step(second.end, room)?;
         let close = self.closed(step, END_PAREN)?;
         let held = (first.end - open.end - 1) + (close.end - second.end - 1);
-        let begun = self.maybe_boxed(first.value)?;
-        let stepped = self.maybe_boxed(close.value)?;
         Ok(Read {
             value: Parts {
-                start: begun,
+                start: first.value,
                 test: second.value,
-                step: stepped,
+                step: close.value,
                 held,
             },
             end: close.end,
@@ -194,7 +191,7 @@ impl<'a> Parser<'a> {
         };
         let mut declared = List::new(self.alloc);
         declared.push(variable(word.value, name.value, Some(right)))?;
-        let whole = self.whole(at, end, 0, St::Decl(declared));
+        let whole = self.whole(at, end, 0, St::Decl(declared))?;
         Ok(Read {
             value: Some(whole.value),
             end: whole.end,
@@ -221,7 +218,7 @@ impl<'a> Parser<'a> {
             return Err(Stop::Wrong(at));
         }
         let assign = self.assign(at, room - 1)?;
-        Ok(self.whole(at, assign.end, 0, assign.value))
+        self.whole(at, assign.end, 0, assign.value)
     }
 
     /// The step of a `for`, or none.
@@ -266,16 +263,5 @@ impl<'a> Parser<'a> {
             value: Some(test.value),
             end: test.end,
         })
-    }
-
-    /// A statement in memory of its own, if there is one.
-    fn maybe_boxed(&self, statement: Option<Stmt>) -> Result<Option<Box<Stmt>>, Stop>
-        ensures value { IfOk result (λ b. option_map (λ s. s.value) b ≡ statement) }
-        ensures memory { IfErr result (λ e. e ≡ stop.Memory) }
-    {
-        match statement {
-            None => Ok(None),
-            Some(statement) => Ok(Some(boxed(self.alloc, statement)?)),
-        }
     }
 }

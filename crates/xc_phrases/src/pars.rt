@@ -71,7 +71,7 @@ impl<'a> Parser<'a> {
             held += branch.held;
             end = branch.end;
         }
-        Ok(self.whole(at, end + 1, held, St::Par(branches)))
+        self.whole(at, end + 1, held, St::Par(branches))
     }
 
     /// A branch.
@@ -127,7 +127,7 @@ impl<'a> Parser<'a> {
             to: second.number.value,
             body,
         };
-        Ok(self.whole(at, branch.end, branch.held, kind))
+        self.whole(at, branch.end, branch.held, kind)
     }
 
     /// What stands between the word of a replicated `par` and its branch, from the word on.

@@ -53,7 +53,7 @@ impl<'a> Parser<'a> {
             held += next.held;
             end = next.end;
         }
-        Ok(self.whole(at, end + 1, held, St::Select(cases)))
+        self.whole(at, end + 1, held, St::Select(cases))
     }
 
     /// A case.

@@ -12,7 +12,7 @@ ghost use Rattle.xc_phrases.specs.Follows.{OneOf, StandsAt, has, begins_statemen
 ghost use Rattle.xc_phrases.specs.Reading.{Reads};
 ghost use Rattle.xc_phrases.specs.Stops.{Stopped};
 
-use crate::memory::{beside, boxed};
+use crate::memory::beside;
 use crate::parser::{Parser, Read};
 use crate::stop::Stop;
 use crate::tokens::{is_symbol, is_word};
@@ -67,24 +67,6 @@ impl<'a> Parser<'a> {
         self.begun(at, first, room - 1)
     }
 
-    /// A statement in memory of its own.
-    #[cycle(statement)]
-    pub fn boxed_statement(&self, at: usize, room: u32) -> Result<Read<Box<Stmt>>, Stop>
-        requires short { length self.now.toks.now < 2 ^ 32 }
-        requires at { at ≤ length self.now.toks.now }
-        ensures bounds { IfOk result (λ r. (at < r.end) × (r.end ≤ length self.now.toks.now)) }
-        ensures read { IfOk result (λ r. Reads self.now.toks.now room symbol.statement at r.end
-            (trees.statement_of r.value.value)) }
-        ensures stopped { IfErr result (λ e. Stopped self.now.toks.now room symbol.statement at e) }
-    {
-        let read = self.statement(at, room)?;
-        let boxed = boxed(self.alloc, read.value)?;
-        Ok(Read {
-            value: boxed,
-            end: read.end,
-        })
-    }
-
     /// The statement that begins so at a place, with room for so many nodes inside it.
     #[cycle(statement)]
     fn begun(&self, at: usize, first: First, room: u32) -> Result<Read<Stmt>, Stop>
@@ -98,7 +80,7 @@ impl<'a> Parser<'a> {
             (λ e. Stopped self.now.toks.now (room + 1) symbol.statement at e) }
     {
         match first {
-            First::Semicolon => Ok(self.whole(at, at + 1, 0, St::Empty)),
+            First::Semicolon => self.whole(at, at + 1, 0, St::Empty),
             First::Brace => self.braced(at, room),
             First::Name => self.simple(at, room),
             First::If => self.conditional(at, room),
@@ -167,7 +149,7 @@ impl<'a> Parser<'a> {
     {
         let block = self.block(at, room)?;
         let held = block.end - at - 2;
-        Ok(self.whole(at, block.end, held, St::Block(block.value)))
+        self.whole(at, block.end, held, St::Block(block.value))
     }
 
     /// What stands between `{` and `}`.
@@ -224,7 +206,7 @@ impl<'a> Parser<'a> {
     {
         let block = self.block(at + 1, room)?;
         let held = block.end - at - 3;
-        Ok(self.whole(at, block.end, held, St::Tran(is_master, block.value)))
+        self.whole(at, block.end, held, St::Tran(is_master, block.value))
     }
 
     /// A statement that begins with a name, which the token behind it decides, with room for so many nodes inside it.
@@ -255,7 +237,7 @@ impl<'a> Parser<'a> {
         }
         let assign = self.assign(at, room)?;
         let closed = self.closed(assign, SEMICOLON)?;
-        Ok(self.whole(at, closed.end, 0, closed.value))
+        self.whole(at, closed.end, 0, closed.value)
     }
 
     /// A call as a statement, with room for so many nodes inside it.
@@ -271,7 +253,7 @@ impl<'a> Parser<'a> {
     {
         let call = self.call(at, room)?;
         let closed = self.closed(call, SEMICOLON)?;
-        Ok(self.whole(at, closed.end, 0, St::Do(right_side(closed.value))))
+        self.whole(at, closed.end, 0, St::Do(right_side(closed.value)))
     }
 
     /// `break ;`, or else `continue ;`, from the word on.
@@ -286,9 +268,9 @@ impl<'a> Parser<'a> {
     {
         let semicolon = self.symbol(at + 1, SEMICOLON)?;
         if is_break {
-            return Ok(self.whole(at, semicolon.end, 0, St::Break));
+            return self.whole(at, semicolon.end, 0, St::Break);
         }
-        Ok(self.whole(at, semicolon.end, 0, St::Continue))
+        self.whole(at, semicolon.end, 0, St::Continue)
     }
 
     /// A `return`, with room for so many nodes inside it. A value that there is no room for is too deep where a `;` stands
@@ -304,7 +286,7 @@ impl<'a> Parser<'a> {
     {
         let behind = at + 1;
         if is_symbol(self.toks, behind, SEMICOLON) {
-            return Ok(self.whole(at, behind + 1, 0, St::Return(None)));
+            return self.whole(at, behind + 1, 0, St::Return(None));
         }
         let Read { value, end } = self.rhs(behind, room)?;
         let Some(right) = value else {
@@ -314,7 +296,7 @@ impl<'a> Parser<'a> {
             return Err(Stop::Wrong(end));
         };
         let closed = self.closed(Read { value: right, end }, SEMICOLON)?;
-        Ok(self.whole(at, closed.end, 0, St::Return(Some(closed.value))))
+        self.whole(at, closed.end, 0, St::Return(Some(closed.value)))
     }
 
     /// An `if`, with room for so many nodes inside it. An `else` belongs to the nearest `if`.
@@ -331,17 +313,17 @@ impl<'a> Parser<'a> {
         let open = self.symbol(at + 1, PAREN)?;
         let test = self.expr(open.end, room)?;
         let close = self.closed(test, END_PAREN)?;
-        let (test, first) = beside(close.value, self.boxed_statement(close.end, room))?;
+        let (test, first) = beside(close.value, self.statement(close.end, room))?;
         let held = first.end - close.end;
         if !is_word(self.toks, first.end, ELSE_WORD) {
             let kind = St::If(test, first.value, None);
-            return Ok(self.whole(at, first.end, held, kind));
+            return self.whole(at, first.end, held, kind);
         }
         let kept = (test, first.value);
-        let (kept, second) = beside(kept, self.boxed_statement(first.end + 1, room))?;
+        let (kept, second) = beside(kept, self.statement(first.end + 1, room))?;
         let both = held + (second.end - first.end - 1);
         let kind = St::If(kept.0, kept.1, Some(second.value));
-        Ok(self.whole(at, second.end, both, kind))
+        self.whole(at, second.end, both, kind)
     }
 }
 

@@ -79,7 +79,7 @@ impl<'a> Parser<'a> {
     {
         let input = self.input(at, room)?;
         let closed = self.closed(input, SEMICOLON)?;
-        Ok(self.whole(at, closed.end, 0, St::Input(closed.value)))
+        self.whole(at, closed.end, 0, St::Input(closed.value))
     }
 
     /// A statement that is an output, or an input with a time: `<:` or `@` stands behind its name. There is room for so
@@ -101,7 +101,7 @@ impl<'a> Parser<'a> {
         let tail = self.output_tail(name.end, room)?;
         let OutputTail { value, stamp } = tail.value;
         let output = output_of(name.value, None, value, stamp);
-        Ok(self.whole(at, tail.end, 0, St::Output(output)))
+        self.whole(at, tail.end, 0, St::Output(output))
     }
 
     /// A statement that is an output or an input with a time, and has room for so many nodes inside it.
@@ -123,12 +123,12 @@ impl<'a> Parser<'a> {
             let (before, sends) = beside(before, self.output_tail(end, room))?;
             let OutputTail { value, stamp } = sends.value;
             let output = output_of(before.0, Some(before.1), value, stamp);
-            return Ok(self.whole(at, sends.end, 0, St::Output(output)));
+            return self.whole(at, sends.end, 0, St::Output(output));
         }
         let (before, receives) = beside(before, self.input_tail(end, room))?;
         let Goal { dest, stamp } = receives.value;
         let input = input_of(before.0, Waits::Time(before.1), dest, stamp);
-        Ok(self.whole(at, receives.end, 0, St::Input(input)))
+        self.whole(at, receives.end, 0, St::Input(input))
     }
 
     /// An output from its `<:` on, with the `;` behind it.

@@ -1,7 +1,5 @@
 -- The paths through loops.
 use Rattle.std.proofs.Common.{◌≡◌, ℕ, ◌+◌, ◌<◌, ◌≤◌, inl, inr, Bool, true, List, [], ◌∷◌, Option, Some, None, option_map, refl, sym as sym', ap, subst, ◌∙◌, lit<, arith}
-use Rattle.std.specs.declared.boxed.Box.{Box}
-use Rattle.std.specs.declared.alloc.Global.{Global}
 use Rattle.xw_words.specs.declared.pos.Pos.{Pos}
 use Rattle.xc_tree.specs.declared.token.Tok.{Tok}
 use Rattle.xc_tree.specs.declared.token.Kind.TheVariants.{Key, Sym}
@@ -292,19 +290,11 @@ module _ {toks : List Tok} (room : ℕ) {at : ℕ} {p : Pos} (w : On toks at (Ke
                 pub for_reads : {g : ℕ} {v : plain.Statement} → Reads toks room statement i g v → Reads toks (room + 1) statement at g (statement_of (extent toks at g) (plain.for_loop (plain.maybe a) c (plain.maybe b) v))
                 for_reads x = read_last at_close (inner_reads room x) refl refl (λ e x h. h)
 
--- what is in memory of its own, or absent
-maybe_made : {x : Option plain.Statement} (o : Option (Box Stmt Global)) → option_map (λ b. trees.statement_of b.value) o ≡ x → trees.maybe_of o ≡ plain.maybe x
-maybe_made None e = ap plain.maybe e
-maybe_made (Some s) e = ap plain.maybe e
+-- a statement that may be absent
+maybe_made : (o : Option Stmt) → trees.maybe_of o ≡ plain.maybe (option_map trees.statement_of o)
+maybe_made None = refl
+maybe_made (Some s) = refl
 
--- a `for` of parts that stand for these
-pub for_made : {x y : Option plain.Statement} (a b : Option (Box Stmt Global)) → option_map (λ b. trees.statement_of b.value) a ≡ x → option_map (λ b. trees.statement_of b.value) b ≡ y → (c : Option Expr) (s : Box Stmt Global) → trees.action_of (For a c b s) ≡ plain.for_loop (plain.maybe x) (option_map trees.expression_of c) (plain.maybe y) (trees.statement_of s.value)
-for_made {x} {y} a b d e c s = action-For a c b s ∙ (ap (λ n. plain.for_loop n (option_map trees.expression_of c) (trees.maybe_of b) (trees.statement_of s.value)) (maybe_made a d) ∙ ap (λ n. plain.for_loop (plain.maybe x) (option_map trees.expression_of c) n (trees.statement_of s.value)) (maybe_made b e))
-
-boxed_values : (o : Option (Box Stmt Global)) → option_map (λ b. trees.statement_of b.value) o ≡ option_map trees.statement_of (option_map (λ b. b.value) o)
-boxed_values None = refl
-boxed_values (Some s) = refl
-
--- a start or a step that was read, in memory of its own
-pub boxed_is : {s : Option Stmt} (o : Option (Box Stmt Global)) → option_map (λ b. b.value) o ≡ s → option_map (λ b. trees.statement_of b.value) o ≡ option_map trees.statement_of s
-boxed_is o e = boxed_values o ∙ ap (λ x. option_map trees.statement_of x) e
+-- a `for` of these parts
+pub for_made : (a : Option Stmt) → (c : Option Expr) → (b : Option Stmt) → (s : Stmt) → trees.action_of (For a c b s) ≡ plain.for_loop (plain.maybe (option_map trees.statement_of a)) (option_map trees.expression_of c) (plain.maybe (option_map trees.statement_of b)) (trees.statement_of s)
+for_made a c b s = action-For a c b s ∙ (ap (λ n. plain.for_loop n (option_map trees.expression_of c) (trees.maybe_of b) (trees.statement_of s)) (maybe_made a) ∙ ap (λ n. plain.for_loop (plain.maybe (option_map trees.statement_of a)) (option_map trees.expression_of c) n (trees.statement_of s)) (maybe_made b))

@@ -7,7 +7,7 @@ use Rattle.xc_phrases.proofs.Stating.CaseSteps.{case_body_stops, case_body_token
 use Rattle.xc_phrases.proofs.Stating.Conditionals.{close_stops, else_reads, else_stops, open_stops, test_stops, then_reads, then_stops}
 use Rattle.xc_phrases.proofs.Stating.Counting.{counted_reads, counted_stops}
 use Rattle.xc_phrases.proofs.Derivations.Counts.{branches_tokens_push, cases_tokens_push, held_branch, held_while, held_do, held_for, held_block, held_if, held_if_else, held_transaction}
-use Rattle.xc_phrases.proofs.Reading.Exits.{handed_on}
+use Rattle.xc_phrases.proofs.Reading.Exits.{handed_on, memory_missing}
 use Rattle.xc_phrases.proofs.Reading.Insides.{memory_stops}
 use Rattle.xc_phrases.proofs.Reading.Rounds.{while_open_stops, while_test_stops, while_close_stops, while_body_stops, while_reads, do_body_stops, do_tail_stops, do_reads, for_body_stops, for_reads, for_made}
 use Rattle.xc_phrases.proofs.Stating.Simples.{deep_begins, none_begins, semicolon_reads}
@@ -70,8 +70,11 @@ replicated-returns-clause-read t c =
     let r = c.in_ok-counts.ensures.read in
     let branch = rw c.in_ok-counts-2.ensures.next at c.branch-self.ensures.read in
     let body = rw c.in_ok-counts-3.ensures.next at c.boxed.ensures.value in
-    rw (c.whole.ensures.end, c.whole.ensures.value, action-Repl, body, c.in_ok-counts-3.ensures.value, c.in_ok-counts-2.ensures.value)
-    (counted_reads c.args.room c.requires.word.1 c.requires.bracket.1 (r.opens _) (r.types _) (r.firsts.2 _) (r.seconds.2 _) (r.thirds.2 _) branch)
+    ok_with _ _ c.whole.result (λ x h. rw (h.0, h.1, action-Repl, body, c.in_ok-counts-3.ensures.value, c.in_ok-counts-2.ensures.value)
+    (counted_reads c.args.room c.requires.word.1 c.requires.bracket.1 (r.opens _) (r.types _) (r.firsts.2 _) (r.seconds.2 _) (r.thirds.2 _) branch)) c.whole.ensures.made
+
+pub replicated-returns-clause-stopped : goal.replicated-returns-clause-stopped
+replicated-returns-clause-stopped t c = memory_missing _ c.whole.result c.whole.ensures.memory tt
 
 pub par-returns-in_err-open-clause-stopped : goal.par-returns-in_err-open-clause-stopped
 par-returns-in_err-open-clause-stopped t c =
@@ -122,7 +125,11 @@ par-whole-requires-clause-held t c = rw action-Par c.branches.invariant.held
 pub par-returns-clause-read : goal.par-returns-clause-read
 par-returns-clause-read t c =
     let on = (c.is_symbol-in-branches.ensures.yes c.branches-test.false).1.1 in
-    rw (c.whole.ensures.end, c.whole.ensures.value, action-Par) (par_closed c.branches.invariant.runs on)
+    ok_with _ _ c.whole.result (λ x h. rw (h.0, h.1, action-Par)
+    (par_closed c.branches.invariant.runs on)) c.whole.ensures.made
+
+pub par-returns-clause-stopped : goal.par-returns-clause-stopped
+par-returns-clause-stopped t c = memory_missing _ c.whole.result c.whole.ensures.memory tt
 
 pub select-returns-in_err-open-clause-stopped : goal.select-returns-in_err-open-clause-stopped
 select-returns-in_err-open-clause-stopped t c =
@@ -182,7 +189,11 @@ select-whole-requires-clause-held t c = rw action-Select c.cases.invariant.held
 pub select-returns-clause-read : goal.select-returns-clause-read
 select-returns-clause-read t c =
     let on = (c.is_symbol.ensures.yes c.cases-test.false).1.1 in
-    rw (c.whole.ensures.end, c.whole.ensures.value, action-Select) (select_closed c.cases.invariant.all on)
+    ok_with _ _ c.whole.result (λ x h. rw (h.0, h.1, action-Select)
+    (select_closed c.cases.invariant.all on)) c.whole.ensures.made
+
+pub select-returns-clause-stopped : goal.select-returns-clause-stopped
+select-returns-clause-stopped t c = memory_missing _ c.whole.result c.whole.ensures.memory tt
 
 pub case_body-items-init : goal.case_body-items-init
 case_body-items-init t c = record {
@@ -297,20 +308,23 @@ while_loop-returns-in_err-close-clause-stopped t c =
 
 pub while_loop-returns-in_err-test-2-clause-stopped : goal.while_loop-returns-in_err-test-2-clause-stopped
 while_loop-returns-in_err-test-2-clause-stopped t c =
-    let body = rw c.in_err-test-2.ensures.stopped at c.boxed_statement.ensures.stopped in
+    let body = rw c.in_err-test-2.ensures.stopped at c.statement.ensures.stopped in
     handed_on _ c.from_residual-in_err-test-2.result c.from_residual-in_err-test-2.ensures.1
     (while_body_stops c.args.room c.requires.word.1 (c.in_ok-open.ensures.read _) c.in_ok-test.ensures.read (c.in_ok-close.ensures.read.1 _) _ body)
 
 pub while_loop-whole-requires-clause-held : goal.while_loop-whole-requires-clause-held
 while_loop-whole-requires-clause-held t c =
-    let body = rw c.in_ok-test-2.ensures.next at c.boxed_statement.ensures.read in
+    let body = rw c.in_ok-test-2.ensures.next at c.statement.ensures.read in
     rw action-While (held_while (expression_of c.in_ok-close.close.value) body.derives)
 
 pub while_loop-returns-clause-read : goal.while_loop-returns-clause-read
 while_loop-returns-clause-read t c =
-    let body = rw c.in_ok-test-2.ensures.next at c.boxed_statement.ensures.read in
-    rw (c.whole.ensures.end, c.whole.ensures.value, action-While, c.in_ok-test-2.ensures.value, c.in_ok-close.ensures.value)
-    (while_reads c.args.room c.requires.word.1 (c.in_ok-open.ensures.read _) c.in_ok-test.ensures.read (c.in_ok-close.ensures.read.1 _) body)
+    let body = rw c.in_ok-test-2.ensures.next at c.statement.ensures.read in
+    ok_with _ _ c.whole.result (λ x h. rw (h.0, h.1, action-While, c.in_ok-test-2.ensures.value, c.in_ok-close.ensures.value)
+    (while_reads c.args.room c.requires.word.1 (c.in_ok-open.ensures.read _) c.in_ok-test.ensures.read (c.in_ok-close.ensures.read.1 _) body)) c.whole.ensures.made
+
+pub while_loop-returns-clause-stopped : goal.while_loop-returns-clause-stopped
+while_loop-returns-clause-stopped t c = memory_missing _ c.whole.result c.whole.ensures.memory tt
 
 pub do_loop-returns-in_err-body-clause-stopped : goal.do_loop-returns-in_err-body-clause-stopped
 do_loop-returns-in_err-body-clause-stopped t c =
@@ -327,8 +341,11 @@ do_loop-whole-requires-clause-held t c = rw action-DoWhile (held_do c.args.at (e
 
 pub do_loop-returns-clause-read : goal.do_loop-returns-clause-read
 do_loop-returns-clause-read t c =
-    rw (c.whole.ensures.end, c.whole.ensures.value, action-DoWhile)
-    (do_reads c.args.room c.requires.word.1 c.in_ok-body.ensures.read c.in_ok-test.ensures.read.4)
+    ok_with _ _ c.whole.result (λ x h. rw (h.0, h.1, action-DoWhile)
+    (do_reads c.args.room c.requires.word.1 c.in_ok-body.ensures.read c.in_ok-test.ensures.read.4)) c.whole.ensures.made
+
+pub do_loop-returns-clause-stopped : goal.do_loop-returns-clause-stopped
+do_loop-returns-clause-stopped t c = memory_missing _ c.whole.result c.whole.ensures.memory tt
 
 pub for_loop-returns-in_err-read-clause-stopped : goal.for_loop-returns-in_err-read-clause-stopped
 for_loop-returns-in_err-read-clause-stopped t c =
@@ -337,23 +354,26 @@ for_loop-returns-in_err-read-clause-stopped t c =
 pub for_loop-returns-in_err-parts-clause-stopped : goal.for_loop-returns-in_err-parts-clause-stopped
 for_loop-returns-in_err-parts-clause-stopped t c =
     let r = c.in_ok-read.ensures.read in
-    let body = rw c.in_err-parts.ensures.stopped at c.boxed_statement.ensures.stopped in
+    let body = rw c.in_err-parts.ensures.stopped at c.statement.ensures.stopped in
     handed_on _ c.from_residual-in_err-parts.result c.from_residual-in_err-parts.ensures.1
     (for_body_stops c.args.room c.requires.word.1 (r.opens _) r.starts (r.ends_start _) r.tests (r.ends_test _) r.steps (r.closes _) _ body)
 
 pub for_loop-whole-requires-clause-held : goal.for_loop-whole-requires-clause-held
 for_loop-whole-requires-clause-held t c =
     let r = c.in_ok-read.ensures.read in
-    let body = rw c.in_ok-parts.ensures.next at c.boxed_statement.ensures.read in
-    rw (c.in_ok-parts.ensures.value, for_made _ _ r.has_start r.has_step, r.held)
+    let body = rw c.in_ok-parts.ensures.next at c.statement.ensures.read in
+    rw (c.in_ok-parts.ensures.value, for_made, r.held)
     (held_for (option_map expression_of c.in_ok-read.read.value.test) r.starts.derives r.steps.derives body.derives)
 
 pub for_loop-returns-clause-read : goal.for_loop-returns-clause-read
 for_loop-returns-clause-read t c =
     let r = c.in_ok-read.ensures.read in
-    let body = rw c.in_ok-parts.ensures.next at c.boxed_statement.ensures.read in
-    rw (c.whole.ensures.end, c.whole.ensures.value, c.in_ok-parts.ensures.value, for_made _ _ r.has_start r.has_step)
-    (for_reads c.args.room c.requires.word.1 (r.opens _) r.starts (r.ends_start _) r.tests (r.ends_test _) r.steps (r.closes _) body)
+    let body = rw c.in_ok-parts.ensures.next at c.statement.ensures.read in
+    ok_with _ _ c.whole.result (λ x h. rw (h.0, h.1, c.in_ok-parts.ensures.value, for_made)
+    (for_reads c.args.room c.requires.word.1 (r.opens _) r.starts (r.ends_start _) r.tests (r.ends_test _) r.steps (r.closes _) body)) c.whole.ensures.made
+
+pub for_loop-returns-clause-stopped : goal.for_loop-returns-clause-stopped
+for_loop-returns-clause-stopped t c = memory_missing _ c.whole.result c.whole.ensures.memory tt
 
 pub begun-whole-requires-clause-held : goal.begun-whole-requires-clause-held
 begun-whole-requires-clause-held t c = rw action-Empty refl
@@ -361,8 +381,11 @@ begun-whole-requires-clause-held t c = rw action-Empty refl
 pub begun-returns-in-Semicolon-clause-read : goal.begun-returns-in-Semicolon-clause-read
 begun-returns-in-Semicolon-clause-read t c =
     let s = rw c.in-Semicolon.is at c.requires.begins in
-    rw (c.whole.ensures.end, c.whole.ensures.value, action-Empty)
-    (semicolon_reads c.args.self.now.toks.now (c.args.room + 1) c.args.at (omega arith) s.1)
+    ok_with _ _ c.whole.result (λ x h. rw (h.0, h.1, action-Empty)
+    (semicolon_reads c.args.self.now.toks.now (c.args.room + 1) c.args.at (omega arith) s.1)) c.whole.ensures.made
+
+pub begun-returns-in-Semicolon-clause-stopped : goal.begun-returns-in-Semicolon-clause-stopped
+begun-returns-in-Semicolon-clause-stopped t c = memory_missing _ c.whole.result c.whole.ensures.memory tt
 
 pub begun-returns-in-Brace-clause-read : goal.begun-returns-in-Brace-clause-read
 begun-returns-in-Brace-clause-read t c =
@@ -439,18 +462,6 @@ statement-returns-clause-stopped t c =
     let e : c.args.room - 1 + 1 ≡ c.args.room = omega arith in
     err_room c.args.self.now.toks.now symbol.statement c.args.at e c.begun.result c.begun.ensures.stopped
 
-pub boxed_statement-returns-in_err-read-clause-stopped : goal.boxed_statement-returns-in_err-read-clause-stopped
-boxed_statement-returns-in_err-read-clause-stopped t c =
-    handed_on _ c.from_residual.result c.from_residual.ensures.1 c.in_err-read.ensures.stopped
-
-pub boxed_statement-returns-in_err-boxed-clause-stopped : goal.boxed_statement-returns-in_err-boxed-clause-stopped
-boxed_statement-returns-in_err-boxed-clause-stopped t c =
-    handed_on _ c.from_residual-in_err-boxed.result c.from_residual-in_err-boxed.ensures.1
-    (memory_stops c.args.self.now.toks.now c.args.room symbol.statement c.args.at c.in_err-boxed.ensures.memory)
-
-pub boxed_statement-returns-clause-read : goal.boxed_statement-returns-clause-read
-boxed_statement-returns-clause-read t c = rw c.in_ok-boxed.ensures.value c.in_ok-read.ensures.read
-
 pub braced-returns-in_err-block-clause-stopped : goal.braced-returns-in_err-block-clause-stopped
 braced-returns-in_err-block-clause-stopped t c =
     handed_on _ c.from_residual.result c.from_residual.ensures.1
@@ -465,14 +476,20 @@ pub braced-whole-requires-clause-held : goal.braced-whole-requires-clause-held
 braced-whole-requires-clause-held t c = rw action-Block (held_block c.in_ok-block.ensures.read.derives)
 
 pub braced-returns-clause-read : goal.braced-returns-clause-read
-braced-returns-clause-read t c = λ s.
-    rw (c.whole.ensures.end, c.whole.ensures.value, action-Block)
-    (simples.block_reads c.args.self.now.toks.now c.args.room c.args.at s.1 c.in_ok-block.ensures.read)
+braced-returns-clause-read t c =
+    ok_with _ _ c.whole.result (λ x h s. rw (h.0, h.1, action-Block)
+    (simples.block_reads c.args.self.now.toks.now c.args.room c.args.at s.1 c.in_ok-block.ensures.read)) c.whole.ensures.made
+
+pub braced-returns-clause-stopped : goal.braced-returns-clause-stopped
+braced-returns-clause-stopped t c = memory_missing _ c.whole.result c.whole.ensures.memory (λ s. tt)
 
 pub braced-returns-clause-body : goal.braced-returns-clause-body
 braced-returns-clause-body t c =
-    rw (c.whole.ensures.end, c.whole.ensures.value, action-Block)
-    (simples.body_reads c.args.self.now.toks.now c.args.room c.args.at c.in_ok-block.ensures.read)
+    ok_with _ _ c.whole.result (λ x h. rw (h.0, h.1, action-Block)
+    (simples.body_reads c.args.self.now.toks.now c.args.room c.args.at c.in_ok-block.ensures.read)) c.whole.ensures.made
+
+pub braced-returns-clause-no_body : goal.braced-returns-clause-no_body
+braced-returns-clause-no_body t c = memory_missing _ c.whole.result c.whole.ensures.memory tt
 
 pub block-returns-in_err-open-clause-stopped : goal.block-returns-in_err-open-clause-stopped
 block-returns-in_err-open-clause-stopped t c =
@@ -537,8 +554,11 @@ transaction-whole-requires-clause-held t c = rw action-Tran (held_transaction c.
 
 pub transaction-returns-clause-read : goal.transaction-returns-clause-read
 transaction-returns-clause-read t c =
-    rw (c.whole.ensures.end, c.whole.ensures.value, action-Tran)
-    (transaction_reads c.args.self.now.toks.now c.args.room c.args.at c.args.is_master c.requires.word.1 c.in_ok-block.ensures.read)
+    ok_with _ _ c.whole.result (λ x h. rw (h.0, h.1, action-Tran)
+    (transaction_reads c.args.self.now.toks.now c.args.room c.args.at c.args.is_master c.requires.word.1 c.in_ok-block.ensures.read)) c.whole.ensures.made
+
+pub transaction-returns-clause-stopped : goal.transaction-returns-clause-stopped
+transaction-returns-clause-stopped t c = memory_missing _ c.whole.result c.whole.ensures.memory tt
 
 pub conditional-returns-in_err-open-clause-stopped : goal.conditional-returns-in_err-open-clause-stopped
 conditional-returns-in_err-open-clause-stopped t c =
@@ -567,13 +587,13 @@ conditional-returns-in_err-test-2-clause-stopped t c =
     let o = symbol_there (c.in_ok-open.ensures.read 0) in
     let q = from_place c.in_ok-open.ensures.bounds.0 c.in_ok-test.ensures.read in
     let l = symbol_there (c.in_ok-close.ensures.read.1 0) in
-    let first = rw c.in_err-test-2.ensures.stopped at c.boxed_statement.ensures.stopped in
+    let first = rw c.in_err-test-2.ensures.stopped at c.statement.ensures.stopped in
     handed_on _ c.from_residual-in_err-test-2.result c.from_residual-in_err-test-2.ensures.1
     (then_stops c.args.room w o q l _ (stopped_from c.args.self.now.toks.now c.args.room symbol.statement _ c.in_ok-close.ensures.bounds.0 first))
 
 pub conditional-whole-requires-clause-held : goal.conditional-whole-requires-clause-held
 conditional-whole-requires-clause-held t c =
-    let first = rw c.in_ok-test-2.ensures.next at c.boxed_statement.ensures.read in
+    let first = rw c.in_ok-test-2.ensures.next at c.statement.ensures.read in
     rw action-If (held_if (expression_of c.in_ok-close.close.value) first.derives)
 
 pub conditional-returns-then-not-is_word-clause-read : goal.conditional-returns-then-not-is_word-clause-read
@@ -582,10 +602,13 @@ conditional-returns-then-not-is_word-clause-read t c =
     let o = symbol_there (c.in_ok-open.ensures.read 0) in
     let q = from_place c.in_ok-open.ensures.bounds.0 c.in_ok-test.ensures.read in
     let l = symbol_there (c.in_ok-close.ensures.read.1 0) in
-    let first = rw c.in_ok-test-2.ensures.next at c.boxed_statement.ensures.read in
+    let first = rw c.in_ok-test-2.ensures.next at c.statement.ensures.read in
     let s = from_place c.in_ok-close.ensures.bounds.0 first in
-    rw (c.whole.ensures.end, c.whole.ensures.value, action-If, c.in_ok-test-2.ensures.value, c.in_ok-close.ensures.value)
-    (then_reads c.args.room w o q l s (c.is_word.ensures.no c.if-not-is_word.true))
+    ok_with _ _ c.whole.result (λ x h. rw (h.0, h.1, action-If, c.in_ok-test-2.ensures.value, c.in_ok-close.ensures.value)
+    (then_reads c.args.room w o q l s (c.is_word.ensures.no c.if-not-is_word.true))) c.whole.ensures.made
+
+pub conditional-returns-then-not-is_word-clause-stopped : goal.conditional-returns-then-not-is_word-clause-stopped
+conditional-returns-then-not-is_word-clause-stopped t c = memory_missing _ c.whole.result c.whole.ensures.memory tt
 
 pub conditional-returns-in_err-kept-clause-stopped : goal.conditional-returns-in_err-kept-clause-stopped
 conditional-returns-in_err-kept-clause-stopped t c =
@@ -593,17 +616,17 @@ conditional-returns-in_err-kept-clause-stopped t c =
     let o = symbol_there (c.in_ok-open.ensures.read 0) in
     let q = from_place c.in_ok-open.ensures.bounds.0 c.in_ok-test.ensures.read in
     let l = symbol_there (c.in_ok-close.ensures.read.1 0) in
-    let first = rw c.in_ok-test-2.ensures.next at c.boxed_statement.ensures.read in
+    let first = rw c.in_ok-test-2.ensures.next at c.statement.ensures.read in
     let s = from_place c.in_ok-close.ensures.bounds.0 first in
     let els = (c.is_word.ensures.yes c.if-not-is_word.false).1.1 in
-    let second = rw c.in_err-kept.ensures.stopped at c.boxed_statement-2.ensures.stopped in
+    let second = rw c.in_err-kept.ensures.stopped at c.statement-2.ensures.stopped in
     handed_on _ c.from_residual-in_err-kept.result c.from_residual-in_err-kept.ensures.1
     (else_stops c.args.room w o q l s els _ second)
 
 pub conditional-whole-requires-2-clause-held : goal.conditional-whole-requires-2-clause-held
 conditional-whole-requires-2-clause-held t c =
-    let first = rw c.in_ok-test-2.ensures.next at c.boxed_statement.ensures.read in
-    let second = rw c.in_ok-kept.ensures.next at c.boxed_statement-2.ensures.read in
+    let first = rw c.in_ok-test-2.ensures.next at c.statement.ensures.read in
+    let second = rw c.in_ok-kept.ensures.next at c.statement-2.ensures.read in
     rw (action-If, c.in_ok-kept.ensures.value) (held_if_else (expression_of c.in_ok-close.close.value) first.derives second.derives)
 
 pub conditional-returns-clause-read : goal.conditional-returns-clause-read
@@ -612,9 +635,12 @@ conditional-returns-clause-read t c =
     let o = symbol_there (c.in_ok-open.ensures.read 0) in
     let q = from_place c.in_ok-open.ensures.bounds.0 c.in_ok-test.ensures.read in
     let l = symbol_there (c.in_ok-close.ensures.read.1 0) in
-    let first = rw c.in_ok-test-2.ensures.next at c.boxed_statement.ensures.read in
+    let first = rw c.in_ok-test-2.ensures.next at c.statement.ensures.read in
     let s = from_place c.in_ok-close.ensures.bounds.0 first in
     let els = (c.is_word.ensures.yes c.if-not-is_word.false).1.1 in
-    let second = rw c.in_ok-kept.ensures.next at c.boxed_statement-2.ensures.read in
-    rw (c.whole-2.ensures.end, c.whole-2.ensures.value, action-If, c.in_ok-kept.ensures.value, c.in_ok-test-2.ensures.value, c.in_ok-close.ensures.value)
-    (else_reads c.args.room w o q l s els second)
+    let second = rw c.in_ok-kept.ensures.next at c.statement-2.ensures.read in
+    ok_with _ _ c.whole-2.result (λ x h. rw (h.0, h.1, action-If, c.in_ok-kept.ensures.value, c.in_ok-test-2.ensures.value, c.in_ok-close.ensures.value)
+    (else_reads c.args.room w o q l s els second)) c.whole-2.ensures.made
+
+pub conditional-returns-clause-stopped : goal.conditional-returns-clause-stopped
+conditional-returns-clause-stopped t c = memory_missing _ c.whole-2.result c.whole-2.ensures.memory tt

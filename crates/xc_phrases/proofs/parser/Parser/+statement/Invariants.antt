@@ -84,9 +84,6 @@ decreases-block-items l = length l.self.toks.now - l.end
 abbrev pub decreases-statement : goal.decreases-statement
 decreases-statement l = 8 * l.room + 6
 
-abbrev pub decreases-boxed_statement : goal.decreases-boxed_statement
-decreases-boxed_statement l = 8 * l.room + 7
-
 abbrev pub decreases-block_item : goal.decreases-block_item
 decreases-block_item l = 8 * l.room + 7
 

@@ -1,8 +1,8 @@
 use Rattle.std.proofs.Common.{◌+◌, ◌≤◌, refl, arith}
 use Rattle.xc_tree.proofs.Forms.{action-Do}
-use Rattle.xc_phrases.proofs.Reading.Exits.{handed_on}
+use Rattle.xc_phrases.proofs.Reading.Exits.{handed_on, memory_missing}
 use Rattle.xc_phrases.proofs.Stating.Simples.{call_reads, call_stops, call_ends}
-use Rattle.xc_phrases.proofs.Reading.Stated.{symbol_there}
+use Rattle.xc_phrases.proofs.Reading.Stated.{ok_with, symbol_there}
 use Rattle.xc_phrases.proofs.parser.Parser.call_statement.Goals as goal
 
 pub returns-in_err-call-clause-stopped : goal.returns-in_err-call-clause-stopped
@@ -24,5 +24,8 @@ pub returns-clause-read : goal.returns-clause-read
 returns-clause-read c =
     let l = c.in_ok-call.ensures.bounds.0 in
     let m : c.args.at + 1 ≤ c.in_ok-call.call.end = omega (arith, l) in
-    rw (c.whole.ensures.end, c.whole.ensures.value, action-Do, c.right_side.ensures, c.in_ok-closed.ensures.value, c.in_ok-closed.ensures.bounds.0)
-    (call_reads c.args.self.now.toks.now c.args.room c.args.at c.requires.name.2 c.requires.open.1 c.in_ok-call.ensures.read m (symbol_there (c.in_ok-closed.ensures.read.1 0)))
+    ok_with _ _ c.whole.result (λ x h. rw (h.0, h.1, action-Do, c.right_side.ensures, c.in_ok-closed.ensures.value, c.in_ok-closed.ensures.bounds.0)
+    (call_reads c.args.self.now.toks.now c.args.room c.args.at c.requires.name.2 c.requires.open.1 c.in_ok-call.ensures.read m (symbol_there (c.in_ok-closed.ensures.read.1 0)))) c.whole.ensures.made
+
+pub returns-clause-stopped : goal.returns-clause-stopped
+returns-clause-stopped c = memory_missing _ c.whole.result c.whole.ensures.memory tt

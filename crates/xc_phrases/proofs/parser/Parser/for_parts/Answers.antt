@@ -1,8 +1,6 @@
-use Rattle.std.proofs.Common.{◌∙◌, ◌+◌, arith}
-use Rattle.xc_tree.specs.Symbol.{statement}
+use Rattle.std.proofs.Common.{arith}
 use Rattle.xc_phrases.proofs.Reading.Exits.{handed_on}
-use Rattle.xc_phrases.proofs.Reading.Insides.{memory_stops}
-use Rattle.xc_phrases.proofs.Reading.Rounds.{for_open_stops, for_start_stops, for_first_stops, for_test_stops, for_second_stops, for_step_stops, for_close_stops, boxed_is}
+use Rattle.xc_phrases.proofs.Reading.Rounds.{for_open_stops, for_start_stops, for_first_stops, for_test_stops, for_second_stops, for_step_stops, for_close_stops}
 use Rattle.xc_phrases.proofs.parser.Parser.for_parts.Goals as goal
 
 pub returns-in_err-open-clause-stopped : goal.returns-in_err-open-clause-stopped
@@ -40,16 +38,6 @@ returns-in_err-close-clause-stopped c =
     handed_on _ c.from_residual-in_err-close.result c.from_residual-in_err-close.ensures.1
     (for_close_stops c.args.room c.requires.word.1 (c.in_ok-open.ensures.read _) c.in_ok-start.ensures.read (c.in_ok-first.ensures.read.1 _) c.in_ok-test.ensures.read (c.in_ok-second.ensures.read.1 _) c.in_ok-step.ensures.read _ (c.in_err-close.ensures.stopped _))
 
-pub returns-in_err-begun-clause-stopped : goal.returns-in_err-begun-clause-stopped
-returns-in_err-begun-clause-stopped c =
-    handed_on _ c.from_residual-in_err-begun.result c.from_residual-in_err-begun.ensures.1
-    (memory_stops c.args.self.now.toks.now (c.args.room + 1) statement c.args.at c.in_err-begun.ensures.memory)
-
-pub returns-in_err-stepped-clause-stopped : goal.returns-in_err-stepped-clause-stopped
-returns-in_err-stepped-clause-stopped c =
-    handed_on _ c.from_residual-in_err-stepped.result c.from_residual-in_err-stepped.ensures.1
-    (memory_stops c.args.self.now.toks.now (c.args.room + 1) statement c.args.at c.in_err-stepped.ensures.memory)
-
 pub returns-clause-read : goal.returns-clause-read
 returns-clause-read c =
     let first = c.in_ok-first.ensures.bounds.0 in
@@ -65,16 +53,12 @@ returns-clause-read c =
       first = _;
       second = _;
       close = _;
-      step = _;
-      start = _;
       opens = c.in_ok-open.ensures.read;
-      starts = c.in_ok-start.ensures.read;
+      starts = rw c.in_ok-first.ensures.value c.in_ok-start.ensures.read;
       ends_start = c.in_ok-first.ensures.read.1;
       tests = rw c.in_ok-second.ensures.value c.in_ok-test.ensures.read;
       ends_test = c.in_ok-second.ensures.read.1;
-      steps = c.in_ok-step.ensures.read;
+      steps = rw c.in_ok-close.ensures.value c.in_ok-step.ensures.read;
       closes = c.in_ok-close.ensures.read.1;
-      has_start = boxed_is _ (c.in_ok-begun.ensures.value ∙ c.in_ok-first.ensures.value);
-      has_step = boxed_is _ (c.in_ok-stepped.ensures.value ∙ c.in_ok-close.ensures.value);
       held = omega (arith, first, close);
     }

@@ -1,6 +1,8 @@
 use Rattle.std.proofs.Common.{refl, arith}
+use Rattle.xc_tree.specs.Symbol.{for_start}
 use Rattle.xc_tree.proofs.Forms.{action-Decl}
 use Rattle.xc_phrases.proofs.Reading.Exits.{handed_on}
+use Rattle.xc_phrases.proofs.Reading.Insides.{memory_stops}
 use Rattle.xc_phrases.proofs.Reading.Rounds.{declared_deep, type_stops, name_stops, equals_stops, value_stops, value_unfit, value_reads}
 use Rattle.xc_phrases.proofs.parser.Parser.for_start.Goals as goal
 
@@ -46,8 +48,13 @@ returns-in_default-clause-read c =
     let begins = c.begins_type.ensures.yes c.if-not-begins_type.false in
     value_unfit c.args.self.now.toks.now c.args.room c.args.at (omega arith) begins (c.in_ok-word.ensures.read _) (c.in_ok-name.ensures.read _) (c.in_ok-equals.ensures.read _) (rw c.in_default.is at c.in_ok-value.ensures.read)
 
-pub whole-whole-requires-clause-held : goal.whole-whole-requires-clause-held
-whole-whole-requires-clause-held c = rw action-Decl refl
+pub whole-requires-clause-held : goal.whole-requires-clause-held
+whole-requires-clause-held c = rw action-Decl refl
+
+pub returns-in_err-whole-clause-stopped : goal.returns-in_err-whole-clause-stopped
+returns-in_err-whole-clause-stopped c =
+    handed_on _ c.from_residual-in_err-whole.result c.from_residual-in_err-whole.ensures.1
+    (memory_stops c.args.self.now.toks.now c.args.room for_start c.args.at c.in_err-whole.ensures.memory)
 
 pub returns-in_err-push-clause-stopped : goal.returns-in_err-push-clause-stopped
 returns-in_err-push-clause-stopped c =
@@ -57,5 +64,5 @@ pub returns-clause-read : goal.returns-clause-read
 returns-clause-read c =
     let begins = c.begins_type.ensures.yes c.if-not-begins_type.false in
     let right = rw c.in-Some.is at c.in_ok-value.ensures.read in
-    rw (c.whole-whole.ensures.value, c.whole-whole.ensures.end, action-Decl, c.in_ok-push.ensures.ok, c.new-declared.ensures, c.variable.ensures)
+    rw (c.in_ok-whole.ensures.made.1, c.in_ok-whole.ensures.made.0, action-Decl, c.in_ok-push.ensures.ok, c.new-declared.ensures, c.variable.ensures)
     (value_reads c.args.self.now.toks.now c.args.room c.args.at (omega arith) begins (c.in_ok-word.ensures.read _) (c.in_ok-name.ensures.read _) (c.in_ok-equals.ensures.read _) right)

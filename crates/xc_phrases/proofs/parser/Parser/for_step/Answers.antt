@@ -1,5 +1,6 @@
 use Rattle.std.proofs.Common.{arith}
-use Rattle.xc_phrases.proofs.Reading.Exits.{handed_on}
+use Rattle.xc_phrases.proofs.Reading.Exits.{handed_on, memory_missing}
+use Rattle.xc_phrases.proofs.Reading.Stated.{ok_with}
 use Rattle.xc_phrases.proofs.Reading.Rounds.{assign_holds, step_stops, step_reads, step_deep, step_wrong, start_stops, start_reads, start_deep, start_wrong}
 use Rattle.xc_phrases.proofs.parser.Parser.for_step.Goals as goal
 
@@ -18,13 +19,19 @@ whole-requires-clause-held c = assign_holds c.in_ok-assign.ensures.read.derives
 
 pub returns-clause-read : goal.returns-clause-read
 returns-clause-read c =
-    rw (c.whole.ensures.end, c.whole.ensures.value)
-    (step_reads c.args.self.now.toks.now c.args.room c.args.at (omega arith) c.in_ok-assign.ensures.read)
+    ok_with _ _ c.whole.result (λ x h. rw (h.0, h.1)
+    (step_reads c.args.self.now.toks.now c.args.room c.args.at (omega arith) c.in_ok-assign.ensures.read)) c.whole.ensures.made
+
+pub returns-clause-stopped : goal.returns-clause-stopped
+returns-clause-stopped c = memory_missing _ c.whole.result c.whole.ensures.memory tt
 
 pub returns-clause-start : goal.returns-clause-start
 returns-clause-start c =
-    rw (c.whole.ensures.end, c.whole.ensures.value)
-    (λ none. start_reads c.args.self.now.toks.now c.args.room c.args.at (omega arith) none c.in_ok-assign.ensures.read)
+    ok_with _ _ c.whole.result (λ x h. rw (h.0, h.1)
+    (λ none. start_reads c.args.self.now.toks.now c.args.room c.args.at (omega arith) none c.in_ok-assign.ensures.read)) c.whole.ensures.made
+
+pub returns-clause-no_start : goal.returns-clause-no_start
+returns-clause-no_start c = memory_missing _ c.whole.result c.whole.ensures.memory (λ none. tt)
 
 pub returns-then-is_name-clause-stopped : goal.returns-then-is_name-clause-stopped
 returns-then-is_name-clause-stopped c =

@@ -1,6 +1,7 @@
 use Rattle.std.proofs.Common.{refl, ◌+◌, ◌≤◌, arith}
 use Rattle.xc_tree.proofs.Forms.{action-Input}
-use Rattle.xc_phrases.proofs.Reading.Exits.{handed_on}
+use Rattle.xc_phrases.proofs.Reading.Exits.{handed_on, memory_missing}
+use Rattle.xc_phrases.proofs.Reading.Stated.{ok_with}
 use Rattle.xc_phrases.proofs.Stating.Transferring.{input_stops, input_ends, input_reads}
 use Rattle.xc_phrases.proofs.parser.Parser.input_statement.Goals as goal
 
@@ -23,5 +24,8 @@ pub returns-clause-read : goal.returns-clause-read
 returns-clause-read c =
     let l = c.in_ok-input.ensures.bounds.0 in
     let m : c.args.at + 1 ≤ c.in_ok-input.input.end = omega (arith, l) in
-    rw (c.whole.ensures.value, c.whole.ensures.end, action-Input, c.in_ok-closed.ensures.value)
-    (input_reads c.args.self.now.toks.now c.args.room c.args.at c.requires.name.2 c.requires.begins c.in_ok-input.ensures.read m (c.in_ok-closed.ensures.read.1 _))
+    ok_with _ _ c.whole.result (λ x h. rw (h.1, h.0, action-Input, c.in_ok-closed.ensures.value)
+    (input_reads c.args.self.now.toks.now c.args.room c.args.at c.requires.name.2 c.requires.begins c.in_ok-input.ensures.read m (c.in_ok-closed.ensures.read.1 _))) c.whole.ensures.made
+
+pub returns-clause-stopped : goal.returns-clause-stopped
+returns-clause-stopped c = memory_missing _ c.whole.result c.whole.ensures.memory tt

@@ -1,6 +1,7 @@
 use Rattle.std.proofs.Common.{refl, arith}
 use Rattle.xc_tree.proofs.Forms.{action-Decl}
-use Rattle.xc_phrases.proofs.Reading.Exits.{handed_on}
+use Rattle.xc_phrases.proofs.Reading.Exits.{handed_on, memory_missing}
+use Rattle.xc_phrases.proofs.Reading.Stated.{ok_with}
 use Rattle.xc_phrases.proofs.Declaring.DeclaredRows.{word_of_resource, resource_begins, resources_first_stops, resources_first, resources_next, resources_next_stops, resources_close_stops, resources_read}
 use Rattle.xc_phrases.proofs.parser.Parser.resource_declaration.Goals as goal
 
@@ -47,8 +48,11 @@ returns-in_err-semicolon-clause-stopped c =
 pub returns-clause-read : goal.returns-clause-read
 returns-clause-read c =
     let none = c.is_symbol.ensures.no c.names-test.false in
-    rw (c.whole.ensures.value, c.whole.ensures.end, action-Decl)
-    (λ room h. resources_read c.args.self.now.toks.now room c.args.at c.is_word-is_chan.result (c.names.invariant.resources room h) none (c.in_ok-semicolon.ensures.read _))
+    ok_with _ _ c.whole.result (λ x h. rw (h.1, h.0, action-Decl)
+    (λ room h. resources_read c.args.self.now.toks.now room c.args.at c.is_word-is_chan.result (c.names.invariant.resources room h) none (c.in_ok-semicolon.ensures.read _))) c.whole.ensures.made
+
+pub returns-clause-stopped : goal.returns-clause-stopped
+returns-clause-stopped c = memory_missing _ c.whole.result c.whole.ensures.memory (λ room h. tt)
 
 pub whole-requires-clause-held : goal.whole-requires-clause-held
 whole-requires-clause-held c = rw action-Decl refl

@@ -1,7 +1,7 @@
 use Rattle.std.proofs.Common.{◌+◌, ◌≤◌, arith}
-use Rattle.xc_phrases.proofs.Reading.Exits.{handed_on}
+use Rattle.xc_phrases.proofs.Reading.Exits.{handed_on, memory_missing}
 use Rattle.xc_phrases.proofs.Stating.Simples.{assign_stops, assign_ends, assign_reads, name_wrong, name_deep}
-use Rattle.xc_phrases.proofs.Reading.Stated.{symbol_there, no_others, assign_holds_none}
+use Rattle.xc_phrases.proofs.Reading.Stated.{ok_with, symbol_there, no_others, assign_holds_none}
 use Rattle.xc_phrases.proofs.Reading.Tests.{name_within}
 use Rattle.xc_phrases.proofs.parser.Parser.simple.Goals as goal
 
@@ -39,5 +39,8 @@ returns-clause-read c =
     let none = no_others (c.is_symbol.ensures.no c.if-is_symbol.false) (c.sends.ensures.no c.if-sends.false) (c.receives.ensures.no c.if-receives.false) in
     let l = c.in_ok-assign.ensures.bounds.0 in
     let m : c.args.at + 1 ≤ c.in_ok-assign.assign.end = omega (arith, l) in
-    rw (c.whole.ensures.end, c.whole.ensures.value, c.in_ok-closed.ensures.value, c.in_ok-closed.ensures.bounds.0)
-    (assign_reads c.args.self.now.toks.now c.args.room c.args.at c.requires.name.2 none c.in_ok-assign.ensures.read m (symbol_there (c.in_ok-closed.ensures.read.1 0)))
+    ok_with _ _ c.whole.result (λ x h. rw (h.0, h.1, c.in_ok-closed.ensures.value, c.in_ok-closed.ensures.bounds.0)
+    (assign_reads c.args.self.now.toks.now c.args.room c.args.at c.requires.name.2 none c.in_ok-assign.ensures.read m (symbol_there (c.in_ok-closed.ensures.read.1 0)))) c.whole.ensures.made
+
+pub returns-clause-stopped : goal.returns-clause-stopped
+returns-clause-stopped c = memory_missing _ c.whole.result c.whole.ensures.memory tt

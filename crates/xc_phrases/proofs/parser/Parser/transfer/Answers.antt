@@ -1,7 +1,8 @@
 use Rattle.std.proofs.Common.{refl, ◌+◌}
 use Rattle.xc_tree.specs.Symbol.{statement}
 use Rattle.xc_tree.proofs.Forms.{action-Output}
-use Rattle.xc_phrases.proofs.Reading.Exits.{handed_on}
+use Rattle.xc_phrases.proofs.Reading.Exits.{handed_on, memory_missing}
+use Rattle.xc_phrases.proofs.Reading.Stated.{ok_with}
 use Rattle.xc_phrases.proofs.Stating.Marks.{name_stops}
 use Rattle.xc_phrases.proofs.Stating.Transferring.{sent_stops, output_read}
 use Rattle.xc_phrases.proofs.parser.Parser.transfer.Goals as goal
@@ -20,8 +21,11 @@ returns-in_err-tail-clause-stopped c =
 pub returns-clause-read : goal.returns-clause-read
 returns-clause-read c =
     let on = (c.is_symbol.ensures.yes c.if-not-is_symbol.false).1.1 in
-    rw (c.whole.ensures.value, c.whole.ensures.end, action-Output, c.output_of-output.ensures)
-    (output_read c.args.self.now.toks.now c.args.room c.args.at (c.in_ok-name.ensures.read _) on c.in_ok-tail.ensures.read.2)
+    ok_with _ _ c.whole.result (λ x h. rw (h.1, h.0, action-Output, c.output_of-output.ensures)
+    (output_read c.args.self.now.toks.now c.args.room c.args.at (c.in_ok-name.ensures.read _) on c.in_ok-tail.ensures.read.2)) c.whole.ensures.made
+
+pub returns-clause-stopped : goal.returns-clause-stopped
+returns-clause-stopped c = memory_missing _ c.whole.result c.whole.ensures.memory tt
 
 pub whole-requires-clause-held : goal.whole-requires-clause-held
 whole-requires-clause-held c = rw action-Output refl

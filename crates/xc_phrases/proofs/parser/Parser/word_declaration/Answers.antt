@@ -1,6 +1,7 @@
 use Rattle.std.proofs.Common.{refl, [], arith}
 use Rattle.xc_tree.proofs.Forms.{action-Decl}
-use Rattle.xc_phrases.proofs.Reading.Exits.{handed_on}
+use Rattle.xc_phrases.proofs.Reading.Exits.{handed_on, memory_missing}
+use Rattle.xc_phrases.proofs.Reading.Stated.{ok_with}
 use Rattle.xc_phrases.proofs.Declaring.DeclaredRows.{word_stops, word_begins, declared_stops, words_first, words_next, words_next_stops, words_close_stops, words_read}
 use Rattle.xc_phrases.proofs.parser.Parser.word_declaration.Goals as goal
 
@@ -53,8 +54,11 @@ returns-in_err-semicolon-clause-stopped c =
 pub returns-clause-read : goal.returns-clause-read
 returns-clause-read c =
     let none = c.is_symbol.ensures.no c.declared-test.false in
-    rw (c.whole.ensures.value, c.whole.ensures.end, action-Decl)
-    (words_read c.args.self.now.toks.now c.args.room c.args.at c.in_ok-word.word.value c.declared.invariant.words none (c.in_ok-semicolon.ensures.read _))
+    ok_with _ _ c.whole.result (λ x h. rw (h.1, h.0, action-Decl)
+    (words_read c.args.self.now.toks.now c.args.room c.args.at c.in_ok-word.word.value c.declared.invariant.words none (c.in_ok-semicolon.ensures.read _))) c.whole.ensures.made
+
+pub returns-clause-stopped : goal.returns-clause-stopped
+returns-clause-stopped c = memory_missing _ c.whole.result c.whole.ensures.memory tt
 
 pub whole-requires-clause-held : goal.whole-requires-clause-held
 whole-requires-clause-held c = rw action-Decl refl
