@@ -92,9 +92,9 @@ impl<'p, 'a> Context<'p, 'a> {
         alloc: Global,
         calls: usize,
         pos: Pos,
-        first: &'a Option<Box<Stmt>>,
+        first: &'a Option<Stmt>,
         test: &Option<Expr>,
-        next: &'a Option<Box<Stmt>>,
+        next: &'a Option<Stmt>,
         body: &'a Stmt,
         scope: &mut Scope<'a>,
     ) -> Result<Copied, Memory>
@@ -123,7 +123,7 @@ impl<'p, 'a> Context<'p, 'a> {
         calls: usize,
         pos: Pos,
         test: &Option<Expr>,
-        next: &'a Option<Box<Stmt>>,
+        next: &'a Option<Stmt>,
         body: &'a Stmt,
         scope: &mut Scope<'a>,
     ) -> Result<Copied, Memory>

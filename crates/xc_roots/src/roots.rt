@@ -234,9 +234,9 @@ impl<'p, 'a> Context<'p, 'a> {
     ) -> Result<(), Memory>
         ensures { OnOk result (rooted_of rooted.new (scope_of scope.new) ≡ spec.roots_then
             (rooted_of rooted.old (scope_of scope.old)) (spec.action_roots (calls_copy calls)
-            main (tree.action_of (out-Stmt s.now).kind) (context_of self.now))) }
+            main (tree.action_of (out-Stmt s.now).kind.value) (context_of self.now))) }
     {
-        match &s.kind {
+        match &*s.kind {
             St::Decl(ds) => {
                 let copied = self.declarations(alloc, calls, ds.as_slice(), scope)?;
                 rooted.add_copy(alloc, copied)
@@ -388,7 +388,7 @@ fn in_block(s: &Stmt) -> &[Stmt]
     ensures { plain.statements (map tree.statement_of result.now)
         ≡ spec.in_block (tree.statement_of s.now) }
 {
-    match &s.kind {
+    match &*s.kind {
         St::Block(ss) => ss.as_slice(),
         _ => &[],
     }
@@ -411,9 +411,9 @@ fn block_has_placed(ss: &[Stmt]) -> bool
 /// second.
 #[tactic(auto, using(crate::proofs::Laws::Kinds::pars))]
 fn has_placed(s: &Stmt) -> bool
-    ensures { result ≡ spec.action_has_placed (tree.action_of (out-Stmt s.now).kind) }
+    ensures { result ≡ spec.action_has_placed (tree.action_of (out-Stmt s.now).kind.value) }
 {
-    match &s.kind {
+    match &*s.kind {
         St::Par(bs) => some_placed(bs.as_slice()),
         St::Repl { from, to, body, .. } => body.place.is_some() && *from < *to,
         _ => false,

@@ -37,7 +37,7 @@ impl<'p, 'a> Context<'p, 'a> {
             ≡ spec.statement_copy (spec.calls_copy calls) (tree.statement_of s.now)
             (context_of self.now) (scope_of scope.old)) }
     {
-        match &s.kind {
+        match &*s.kind {
             St::Empty => Ok(Copied::nothing(alloc)),
             St::Block(ss) => self.block(alloc, calls, ss.as_slice(), scope),
             St::Decl(ds) => self.declarations(alloc, calls, ds.as_slice(), scope),
@@ -79,7 +79,7 @@ impl<'p, 'a> Context<'p, 'a> {
         &self,
         alloc: Global,
         calls: usize,
-        s: &'a Option<Box<Stmt>>,
+        s: &'a Option<Stmt>,
         scope: &mut Scope<'a>,
     ) -> Result<Copied, Memory>
         ensures { IfOk result (λ copied. copy_of copied (scope_of scope.new)
@@ -142,7 +142,7 @@ impl<'p, 'a> Context<'p, 'a> {
         calls: usize,
         test: &Expr,
         first: &'a Stmt,
-        second: &'a Option<Box<Stmt>>,
+        second: &'a Option<Stmt>,
         scope: &mut Scope<'a>,
     ) -> Result<Copied, Memory>
         ensures { IfOk result (λ copied. copy_of copied (scope_of scope.new) ≡ flow.if_parts

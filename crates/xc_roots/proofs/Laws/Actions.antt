@@ -1,19 +1,17 @@
 -- A statement, a branch and a case, by what they hold.
-use Rattle.std.proofs.Common.{◌≡◌, ℕ, zero, suc, ◌+◌, ◌<◌, ◌≤◌, Bool, List, [], ◌∷◌, Option, Result, Ok, Err, IfOk, length, get_or, map, arith, ap, sym, ◌∙◌}
-use Rattle.std.specs.Option.{option_map}
+use Rattle.std.proofs.Common.{◌≡◌, ℕ, zero, suc, ◌+◌, ◌<◌, ◌≤◌, Bool, List, [], ◌∷◌, Result, Ok, Err, IfOk, length, get_or, map, arith, ap, sym, ◌∙◌}
 use Rattle.std.specs.declared.boxed.Box.{Box}
 use Rattle.std.specs.declared.alloc.Global.{Global}
 use Rattle.xw_words.specs.declared.memory.Memory.{Memory}
-use Rattle.xc_tree.proofs.Forms.{statement-Stmt, branch-Branch, case-Case, action-Block, action-Decl, action-If, action-While, action-DoWhile, action-For, action-Par, action-Repl, action-Select, action-Tran}
+use Rattle.xc_tree.proofs.Forms.{statement-Stmt, branch-Branch, case-Case, action-Block, action-Decl, action-Par, action-Repl, action-Select, action-Tran}
 use Rattle.xc_tree.specs.declared.tree.Branch.{Branch}
 use Rattle.xc_tree.specs.declared.tree.Case.{Case, out-Case}
 use Rattle.xc_tree.specs.declared.tree.Declared.{Declared}
-use Rattle.xc_tree.specs.declared.tree.Expr.{Expr}
 use Rattle.xc_tree.specs.declared.tree.Id.{Id}
-use Rattle.xc_tree.specs.declared.tree.St.{St, Block, Decl, If, While, DoWhile, For, Par, Repl, Select, Tran}
+use Rattle.xc_tree.specs.declared.tree.St.{St, Block, Decl, Par, Repl, Select, Tran}
 use Rattle.xc_tree.specs.declared.tree.Stmt.{Stmt}
 use Rattle.xc_tree.specs.Plain as tree
-use Rattle.xc_tree.specs.Trees.{action_of, branch_of, case_of, declaration_of, expression_of, maybe_of, statement_of}
+use Rattle.xc_tree.specs.Trees.{action_of, branch_of, case_of, declaration_of, statement_of}
 use Rattle.xc_kernel.specs.Calls.{CopiesCall}
 use Rattle.xc_kernel.specs.Context.{Context}
 use Rattle.xc_kernel.specs.Copy.{Copy}
@@ -32,21 +30,21 @@ pub copied_in : {x y : Context} (scope : Scope) (copy : Context → Scope → Co
 copied_in scope copy after r e h = copied_as after r (ap (λ x. copy x scope) e) h
 
 module _ (copies : CopiesCall) (s : Stmt) (c : Context) (before : Scope) where
-  action_copied : {k : St} {a : tree.Action} → s.kind ≡ k → action_of k ≡ a → action_copy copies a s.pos s.close c before ≡ statement_copy copies (statement_of s) c before
-  action_copied e f =
-      sym (ap (λ x. statement_copy copies x c before) (statement-Stmt s) ∙ ap (λ a. action_copy copies a s.pos s.close c before) (ap action_of e ∙ f))
+  action_copied : {read k : St} {a : tree.Action} → read ≡ s.kind.value → read ≡ k → action_of k ≡ a → action_copy copies a s.pos s.close c before ≡ statement_copy copies (statement_of s) c before
+  action_copied boxed e f =
+      sym (ap (λ x. statement_copy copies x c before) (statement-Stmt s) ∙ ap (λ a. action_copy copies a s.pos s.close c before) (ap action_of (sym boxed ∙ e) ∙ f))
 
-  pub by_action : {k : St} {a : tree.Action} → s.kind ≡ k → action_of k ≡ a → {made : Copy} → made ≡ action_copy copies a s.pos s.close c before → made ≡ statement_copy copies (statement_of s) c before
-  by_action e f h = h ∙ action_copied e f
+  pub by_action : {read k : St} {a : tree.Action} → read ≡ s.kind.value → read ≡ k → action_of k ≡ a → {made : Copy} → made ≡ action_copy copies a s.pos s.close c before → made ≡ statement_copy copies (statement_of s) c before
+  by_action boxed e f h = h ∙ action_copied boxed e f
 
-  pub call_by_action : {k : St} {a : tree.Action} → s.kind ≡ k → action_of k ≡ a → (after : Scope) (r : Result Copied Memory) →
+  pub call_by_action : {read k : St} {a : tree.Action} → read ≡ s.kind.value → read ≡ k → action_of k ≡ a → (after : Scope) (r : Result Copied Memory) →
       IfOk r (λ copied. copy_of copied after ≡ action_copy copies a s.pos s.close c before) → IfOk r (λ copied. copy_of copied after ≡ statement_copy copies (statement_of s) c before)
-  call_by_action e f after r h = copied_as after r (action_copied e f) h
+  call_by_action boxed e f after r h = copied_as after r (action_copied boxed e f) h
 
 -- heights
 
-pub height_by_action : (s : Stmt) {k : St} {a : tree.Action} → s.kind ≡ k → action_of k ≡ a → height (statement_of s) ≡ height_of_action a + 1
-height_by_action s e f = ap height (statement-Stmt s) ∙ ap (λ a. height_of_action a + 1) (ap action_of e ∙ f)
+pub height_by_action : (s : Stmt) {read k : St} {a : tree.Action} → read ≡ s.kind.value → read ≡ k → action_of k ≡ a → height (statement_of s) ≡ height_of_action a + 1
+height_by_action s boxed e f = ap height (statement-Stmt s) ∙ ap (λ a. height_of_action a + 1) (ap action_of (sym boxed ∙ e) ∙ f)
 
 pub height_in_branch : (b : Branch) → height_of_branch (branch_of b) ≡ height (statement_of b.body)
 height_in_branch b = ap height_of_branch (branch-Branch b)
@@ -84,19 +82,6 @@ action_block ss e = action-Block ss ∙ ap (λ ys. tree.block (tree.statements (
 
 pub action_declare : (ds : List Declared) {xs : List Declared} → xs ≡ ds → action_of (Decl ds) ≡ tree.declare (map declaration_of xs)
 action_declare ds e = action-Decl ds ∙ ap (λ ys. tree.declare (map declaration_of ys)) (sym e)
-
-pub action_if : (test : Expr) (first : Box Stmt Global) (second : Option (Box Stmt Global)) {s : Stmt} → s ≡ first.value → action_of (If test first second) ≡ tree.if_then (expression_of test) (statement_of s) (maybe_of second)
-action_if test first second e = action-If test first second ∙ ap (λ x. tree.if_then (expression_of test) (statement_of x) (maybe_of second)) (sym e)
-
-pub action_while : (test : Expr) (body : Box Stmt Global) {s : Stmt} → s ≡ body.value → action_of (While test body) ≡ tree.while_loop (expression_of test) (statement_of s)
-action_while test body e = action-While test body ∙ ap (λ x. tree.while_loop (expression_of test) (statement_of x)) (sym e)
-
-pub action_do : (body : Box Stmt Global) (test : Expr) {s : Stmt} → s ≡ body.value → action_of (DoWhile body test) ≡ tree.do_while (statement_of s) (expression_of test)
-action_do body test e = action-DoWhile body test ∙ ap (λ x. tree.do_while (statement_of x) (expression_of test)) (sym e)
-
-pub action_for : (first : Option (Box Stmt Global)) (test : Option Expr) (next : Option (Box Stmt Global)) (body : Box Stmt Global) {s : Stmt} → s ≡ body.value →
-    action_of (For first test next body) ≡ tree.for_loop (maybe_of first) (option_map expression_of test) (maybe_of next) (statement_of s)
-action_for first test next body e = action-For first test next body ∙ ap (λ x. tree.for_loop (maybe_of first) (option_map expression_of test) (maybe_of next) (statement_of x)) (sym e)
 
 pub action_par : (bs : List Branch) {xs : List Branch} → xs ≡ bs → action_of (Par bs) ≡ tree.par (tree.branches (map branch_of xs))
 action_par bs e = action-Par bs ∙ ap (λ ys. tree.par (tree.branches (map branch_of ys))) (sym e)

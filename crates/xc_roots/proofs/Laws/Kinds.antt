@@ -65,8 +65,8 @@ rolled_closed (S.Block ss) b = absurd (b ss (rolls-Block ss))
 rolled_closed k b = subst IsClosed (sym (fold-roll-St plain.Action plain.Branch plain.Case plain.Statement action_step branch_step case_step statement_step k)) (λ p q n. refl)
 
 -- nothing stands directly in what is no block
-pub closed : (s : Stmt) → NoBlock s.kind → plain.no_more ≡ in_block (statement_of s)
-closed s b = rw (statement-Stmt s) (subst (λ (k : St). NoBlock k → IsClosed (action_of k)) (roll-out-St s.kind) (rolled_closed (out-St s.kind)) b s.pos s.close s.own)
+pub closed : (s : Stmt) → NoBlock s.kind.value → plain.no_more ≡ in_block (statement_of s)
+closed s b = rw (statement-Stmt s) (subst (λ (k : St). NoBlock k → IsClosed (action_of k)) (roll-out-St s.kind.value) (rolled_closed (out-St s.kind.value)) b s.pos s.close s.own)
 
 -- in a block
 pub ruleset blocks = (statement-Stmt, action-Block)

@@ -35,7 +35,7 @@ pub own_scope : (of : Scope → Rooted) {scope : Scope} {whole : Rooted} → of 
 own_scope of {scope} e own = sym (ap of (sym (own scope) ∙ ap (λ r. r.made.scope) e)) ∙ e
 
 -- whether the statement at a place, or one behind it, has a placed branch
-pub block_placed_step : (ss : List Stmt) (i : ℕ) (s : Stmt) → s ≡ get_or ss i s → i < length ss → block_has_placed (tree.statements (map statement_of (drop i ss))) ≡ (action_has_placed (action_of s.kind) || block_has_placed (tree.statements (map statement_of (drop (i + 1) ss))))
+pub block_placed_step : (ss : List Stmt) (i : ℕ) (s : Stmt) → s ≡ get_or ss i s → i < length ss → block_has_placed (tree.statements (map statement_of (drop i ss))) ≡ (action_has_placed (action_of s.kind.value) || block_has_placed (tree.statements (map statement_of (drop (i + 1) ss))))
 block_placed_step ss i s e h =
     let rest = tree.statements (map statement_of (drop (i + 1) ss)) in
     ap (λ xs. block_has_placed (tree.statements (map statement_of xs))) (drop_item ss i s e h) ∙ ap (λ x. block_has_placed (tree.more x rest)) (statement-Stmt s)
@@ -63,14 +63,14 @@ makes_roots other = false
 module _ (copies : CopiesCall) (main : Pos) where
   -- the statement at a place of main's block, before those behind it
   pub block_step : (c : Context) (ss : List Stmt) (i : ℕ) (s : Stmt) (before : Rooted) {after whole : Rooted} → s ≡ get_or ss i s → i < length ss →
-      after ≡ roots_then before (action_roots copies main (action_of s.kind) c) →
+      after ≡ roots_then before (action_roots copies main (action_of s.kind.value) c) →
       roots_then before (block_roots copies main (tree.statements (map statement_of (drop i ss))) c) ≡ whole →
       roots_then after (block_roots copies main (tree.statements (map statement_of (drop (i + 1) ss))) c) ≡ whole
   block_step c ss i s before e h after whole =
       let rest = tree.statements (map statement_of (drop (i + 1) ss)) in
-      let here : tree.statements (map statement_of (drop i ss)) ≡ tree.more (tree.statement (action_of s.kind) s.pos s.close s.own) rest =
+      let here : tree.statements (map statement_of (drop i ss)) ≡ tree.more (tree.statement (action_of s.kind.value) s.pos s.close s.own) rest =
       ap (λ xs. tree.statements (map statement_of xs)) (drop_item ss i s e h) ∙ ap (λ x. tree.more x rest) (statement-Stmt s) in
-      then_next before (action_roots copies main (action_of s.kind) c) (block_roots copies main rest c) after
+      then_next before (action_roots copies main (action_of s.kind.value) c) (block_roots copies main rest c) after
       ∙ sym (ap (λ xs. roots_then before (block_roots copies main xs c)) here) ∙ whole
 
   pub block_done : (c : Context) (ss : List Stmt) (i : ℕ) (a : Rooted) → length ss ≤ i → roots_then a (block_roots copies main (tree.statements (map statement_of (drop i ss))) c) ≡ a

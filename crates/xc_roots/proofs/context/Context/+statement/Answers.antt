@@ -1,7 +1,7 @@
 use Rattle.std.proofs.Common.{◌≡◌, ℕ, ◌-◌, max, true, false, [], ◌∷◌, ◌++◌, map, nat_eq, refl, sym, ap, ◌∙◌}
 use Rattle.std.proofs.lemmas.Bool.{ne_eqb}
 use Rattle.std.specs.Option.{option_map}
-use Rattle.xc_tree.proofs.Forms.{action-Empty, action-Assign, action-Step, action-Do, action-Output, action-Input, action-Return, action-Break, action-Continue}
+use Rattle.xc_tree.proofs.Forms.{action-Empty, action-Assign, action-Step, action-Do, action-Output, action-Input, action-If, action-While, action-DoWhile, action-For, action-Return, action-Break, action-Continue}
 use Rattle.xc_tree.specs.Plain as plain
 use Rattle.xc_tree.specs.Trees as tree
 use Rattle.xc_kernel.proofs.Forms.{statement-Tran}
@@ -22,7 +22,7 @@ use Rattle.xc_roots.specs.Copied.{copy_of}
 use Rattle.xc_roots.specs.Functions.{function_of, deepest}
 use Rattle.xc_tree.specs.Heights as heights
 use Rattle.xc_roots.specs.Scopes.{scope_of}
-use Rattle.xc_roots.proofs.Laws.Actions.{copied_as, copied_in, height_by_action, by_action, call_by_action, action_block, action_declare, action_if, action_while, action_do, action_for, action_par, action_replicated, action_select, action_transaction, begins_at, in_branch_of}
+use Rattle.xc_roots.proofs.Laws.Actions.{copied_as, copied_in, height_by_action, by_action, call_by_action, action_block, action_declare, action_par, action_replicated, action_select, action_transaction, begins_at, in_branch_of}
 use Rattle.xc_roots.proofs.Laws.Growth.{calls_keep, further, grown_by, grown_fits, left_as, maybe_grows, statements_grow}
 use Rattle.xc_roots.proofs.Laws.Pieces.{if_done, while_done, do_done, set_done, return_done, function_done, transaction_done, followed_done}
 use Rattle.xc_roots.proofs.Laws.Depths.{held, level, lower, in_first, in_second, enters_first, of_one_call, no_less, one_above}
@@ -35,131 +35,131 @@ use Rattle.xc_roots.proofs.context.Context.+statement.Goals as goal
 
 pub statement-returns-in-Empty : goal.statement-returns-in-Empty
 statement-returns-in-Empty t c =
-    by_action (spec.calls_copy c.args.calls) c.args.s.now (context_of c.args.self.now) (scope_of c.args.scope.now) c.in-Empty.is action-Empty (c.nothing.ensures (scope_of c.args.scope.now))
+    by_action (spec.calls_copy c.args.calls) c.args.s.now (context_of c.args.self.now) (scope_of c.args.scope.now) c.deref.ensures c.in-Empty.is action-Empty (c.nothing.ensures (scope_of c.args.scope.now))
 
 pub statement-returns-in-Block : goal.statement-returns-in-Block
 statement-returns-in-Block t c =
-    call_by_action (spec.calls_copy c.args.calls) c.args.s.now (context_of c.args.self.now) (scope_of c.args.scope.now) c.in-Block.is (action_block c.in-Block.ss c.as_slice.ensures) (scope_of c.block.new.scope) c.block.result c.block.ensures
+    call_by_action (spec.calls_copy c.args.calls) c.args.s.now (context_of c.args.self.now) (scope_of c.args.scope.now) c.deref.ensures c.in-Block.is (action_block c.in-Block.ss c.as_slice.ensures) (scope_of c.block.new.scope) c.block.result c.block.ensures
 
 pub statement-returns-in-Decl : goal.statement-returns-in-Decl
 statement-returns-in-Decl t c =
-    call_by_action (spec.calls_copy c.args.calls) c.args.s.now (context_of c.args.self.now) (scope_of c.args.scope.now) c.in-Decl.is (action_declare c.in-Decl.ds c.as_slice-in-Decl.ensures) (scope_of c.declarations.new.scope) c.declarations.result c.declarations.ensures
+    call_by_action (spec.calls_copy c.args.calls) c.args.s.now (context_of c.args.self.now) (scope_of c.args.scope.now) c.deref.ensures c.in-Decl.is (action_declare c.in-Decl.ds c.as_slice-in-Decl.ensures) (scope_of c.declarations.new.scope) c.declarations.result c.declarations.ensures
 
 pub statement-returns-in-Assign : goal.statement-returns-in-Assign
 statement-returns-in-Assign t c =
-    call_by_action (spec.calls_copy c.args.calls) c.args.s.now (context_of c.args.self.now) (scope_of c.args.scope.now) c.in-Assign.is (action-Assign c.in-Assign.to c.in-Assign.symbol c.in-Assign.pos c.in-Assign.right) (scope_of c.args.scope.now) c.assign.result c.assign.ensures
+    call_by_action (spec.calls_copy c.args.calls) c.args.s.now (context_of c.args.self.now) (scope_of c.args.scope.now) c.deref.ensures c.in-Assign.is (action-Assign c.in-Assign.to c.in-Assign.symbol c.in-Assign.pos c.in-Assign.right) (scope_of c.args.scope.now) c.assign.result c.assign.ensures
 
 pub statement-returns-in-Step : goal.statement-returns-in-Step
 statement-returns-in-Step t c =
-    call_by_action (spec.calls_copy c.args.calls) c.args.s.now (context_of c.args.self.now) (scope_of c.args.scope.now) c.in-Step.is (action-Step c.in-Step.to c.in-Step.symbol) (scope_of c.args.scope.now) c.step.result c.step.ensures
+    call_by_action (spec.calls_copy c.args.calls) c.args.s.now (context_of c.args.self.now) (scope_of c.args.scope.now) c.deref.ensures c.in-Step.is (action-Step c.in-Step.to c.in-Step.symbol) (scope_of c.args.scope.now) c.step.result c.step.ensures
 
 pub statement-returns-in-Do : goal.statement-returns-in-Do
 statement-returns-in-Do t c =
-    call_by_action (spec.calls_copy c.args.calls) c.args.s.now (context_of c.args.self.now) (scope_of c.args.scope.now) c.in-Do.is (action-Do c.in-Do.right) (scope_of c.args.scope.now) c.right.result c.right.ensures
+    call_by_action (spec.calls_copy c.args.calls) c.args.s.now (context_of c.args.self.now) (scope_of c.args.scope.now) c.deref.ensures c.in-Do.is (action-Do c.in-Do.right) (scope_of c.args.scope.now) c.right.result c.right.ensures
 
 pub statement-returns-in-Output : goal.statement-returns-in-Output
 statement-returns-in-Output t c =
-    call_by_action (spec.calls_copy c.args.calls) c.args.s.now (context_of c.args.self.now) (scope_of c.args.scope.now) c.in-Output.is (action-Output c.in-Output.o) (scope_of c.args.scope.now) c.output.result c.output.ensures
+    call_by_action (spec.calls_copy c.args.calls) c.args.s.now (context_of c.args.self.now) (scope_of c.args.scope.now) c.deref.ensures c.in-Output.is (action-Output c.in-Output.o) (scope_of c.args.scope.now) c.output.result c.output.ensures
 
 pub statement-returns-in-Input : goal.statement-returns-in-Input
 statement-returns-in-Input t c =
-    call_by_action (spec.calls_copy c.args.calls) c.args.s.now (context_of c.args.self.now) (scope_of c.args.scope.now) c.in-Input.is (action-Input c.in-Input.i) (scope_of c.input.new.scope) c.input.result c.input.ensures
+    call_by_action (spec.calls_copy c.args.calls) c.args.s.now (context_of c.args.self.now) (scope_of c.args.scope.now) c.deref.ensures c.in-Input.is (action-Input c.in-Input.i) (scope_of c.input.new.scope) c.input.result c.input.ensures
 
 pub statement-returns-in-If : goal.statement-returns-in-If
 statement-returns-in-If t c =
-    call_by_action (spec.calls_copy c.args.calls) c.args.s.now (context_of c.args.self.now) (scope_of c.args.scope.now) c.in-If.is (action_if c.in-If.test c.in-If.first c.in-If.second c.deref.ensures) (scope_of c.choice.new.scope) c.choice.result c.choice.ensures
+    call_by_action (spec.calls_copy c.args.calls) c.args.s.now (context_of c.args.self.now) (scope_of c.args.scope.now) c.deref.ensures c.in-If.is (action-If c.in-If.test c.in-If.first c.in-If.second) (scope_of c.choice.new.scope) c.choice.result c.choice.ensures
 
 pub statement-returns-in-While : goal.statement-returns-in-While
 statement-returns-in-While t c =
-    call_by_action (spec.calls_copy c.args.calls) c.args.s.now (context_of c.args.self.now) (scope_of c.args.scope.now) c.in-While.is (action_while c.in-While.test c.in-While.body c.deref-in-While.ensures) (scope_of c.while_loop.new.scope) c.while_loop.result c.while_loop.ensures
+    call_by_action (spec.calls_copy c.args.calls) c.args.s.now (context_of c.args.self.now) (scope_of c.args.scope.now) c.deref.ensures c.in-While.is (action-While c.in-While.test c.in-While.body) (scope_of c.while_loop.new.scope) c.while_loop.result c.while_loop.ensures
 
 pub statement-returns-in-DoWhile : goal.statement-returns-in-DoWhile
 statement-returns-in-DoWhile t c =
-    call_by_action (spec.calls_copy c.args.calls) c.args.s.now (context_of c.args.self.now) (scope_of c.args.scope.now) c.in-DoWhile.is (action_do c.in-DoWhile.body c.in-DoWhile.test c.deref-in-DoWhile.ensures) (scope_of c.do_while.new.scope) c.do_while.result c.do_while.ensures
+    call_by_action (spec.calls_copy c.args.calls) c.args.s.now (context_of c.args.self.now) (scope_of c.args.scope.now) c.deref.ensures c.in-DoWhile.is (action-DoWhile c.in-DoWhile.body c.in-DoWhile.test) (scope_of c.do_while.new.scope) c.do_while.result c.do_while.ensures
 
 pub statement-returns-in-For : goal.statement-returns-in-For
 statement-returns-in-For t c =
-    call_by_action (spec.calls_copy c.args.calls) c.args.s.now (context_of c.args.self.now) (scope_of c.args.scope.now) c.in-For.is (action_for c.in-For.first c.in-For.test c.in-For.next c.in-For.body c.deref-in-For.ensures) (scope_of c.for_loop.new.scope) c.for_loop.result c.for_loop.ensures
+    call_by_action (spec.calls_copy c.args.calls) c.args.s.now (context_of c.args.self.now) (scope_of c.args.scope.now) c.deref.ensures c.in-For.is (action-For c.in-For.first c.in-For.test c.in-For.next c.in-For.body) (scope_of c.for_loop.new.scope) c.for_loop.result c.for_loop.ensures
 
 pub statement-returns-in-Return : goal.statement-returns-in-Return
 statement-returns-in-Return t c =
-    call_by_action (spec.calls_copy c.args.calls) c.args.s.now (context_of c.args.self.now) (scope_of c.args.scope.now) c.in-Return.is (action-Return c.in-Return.right) (scope_of c.args.scope.now) c.return_with.result c.return_with.ensures
+    call_by_action (spec.calls_copy c.args.calls) c.args.s.now (context_of c.args.self.now) (scope_of c.args.scope.now) c.deref.ensures c.in-Return.is (action-Return c.in-Return.right) (scope_of c.args.scope.now) c.return_with.result c.return_with.ensures
 
 pub statement-returns-in-Break : goal.statement-returns-in-Break
 statement-returns-in-Break t c =
-    call_by_action (spec.calls_copy c.args.calls) c.args.s.now (context_of c.args.self.now) (scope_of c.args.scope.now) c.in-Break.is action-Break (scope_of c.args.scope.now) c.leaves.result c.leaves.ensures
+    call_by_action (spec.calls_copy c.args.calls) c.args.s.now (context_of c.args.self.now) (scope_of c.args.scope.now) c.deref.ensures c.in-Break.is action-Break (scope_of c.args.scope.now) c.leaves.result c.leaves.ensures
 
 pub statement-returns-in-Continue : goal.statement-returns-in-Continue
 statement-returns-in-Continue t c =
-    call_by_action (spec.calls_copy c.args.calls) c.args.s.now (context_of c.args.self.now) (scope_of c.args.scope.now) c.in-Continue.is action-Continue (scope_of c.args.scope.now) c.leaves-in-Continue.result c.leaves-in-Continue.ensures
+    call_by_action (spec.calls_copy c.args.calls) c.args.s.now (context_of c.args.self.now) (scope_of c.args.scope.now) c.deref.ensures c.in-Continue.is action-Continue (scope_of c.args.scope.now) c.leaves-in-Continue.result c.leaves-in-Continue.ensures
 
 pub statement-returns-in-Par : goal.statement-returns-in-Par
 statement-returns-in-Par t c =
-    call_by_action (spec.calls_copy c.args.calls) c.args.s.now (context_of c.args.self.now) (scope_of c.args.scope.now) c.in-Par.is (action_par c.in-Par.bs c.as_slice-in-Par.ensures) (scope_of c.par.new.scope) c.par.result c.par.ensures
+    call_by_action (spec.calls_copy c.args.calls) c.args.s.now (context_of c.args.self.now) (scope_of c.args.scope.now) c.deref.ensures c.in-Par.is (action_par c.in-Par.bs c.as_slice-in-Par.ensures) (scope_of c.par.new.scope) c.par.result c.par.ensures
 
 pub statement-returns-in-Repl : goal.statement-returns-in-Repl
 statement-returns-in-Repl t c =
-    call_by_action (spec.calls_copy c.args.calls) c.args.s.now (context_of c.args.self.now) (scope_of c.args.scope.now) c.in-Repl.is (action_replicated c.in-Repl.first c.in-Repl.second c.in-Repl.third c.in-Repl.from c.in-Repl.to c.in-Repl.body c.deref-in-Repl.ensures) (scope_of c.replicated.new.scope) c.replicated.result c.replicated.ensures
+    call_by_action (spec.calls_copy c.args.calls) c.args.s.now (context_of c.args.self.now) (scope_of c.args.scope.now) c.deref.ensures c.in-Repl.is (action_replicated c.in-Repl.first c.in-Repl.second c.in-Repl.third c.in-Repl.from c.in-Repl.to c.in-Repl.body c.deref-in-Repl.ensures) (scope_of c.replicated.new.scope) c.replicated.result c.replicated.ensures
 
 pub statement-returns-in-Select : goal.statement-returns-in-Select
 statement-returns-in-Select t c =
-    call_by_action (spec.calls_copy c.args.calls) c.args.s.now (context_of c.args.self.now) (scope_of c.args.scope.now) c.in-Select.is (action_select c.in-Select.cs c.as_slice-in-Select.ensures) (scope_of c.select.new.scope) c.select.result c.select.ensures
+    call_by_action (spec.calls_copy c.args.calls) c.args.s.now (context_of c.args.self.now) (scope_of c.args.scope.now) c.deref.ensures c.in-Select.is (action_select c.in-Select.cs c.as_slice-in-Select.ensures) (scope_of c.select.new.scope) c.select.result c.select.ensures
 
 pub statement-returns-in-Tran : goal.statement-returns-in-Tran
 statement-returns-in-Tran t c =
-    call_by_action (spec.calls_copy c.args.calls) c.args.s.now (context_of c.args.self.now) (scope_of c.args.scope.now) c.in-Tran.is (action_transaction c.in-Tran.master c.in-Tran.ss c.as_slice-in-Tran.ensures) (scope_of c.transaction.new.scope) c.transaction.result c.transaction.ensures
+    call_by_action (spec.calls_copy c.args.calls) c.args.s.now (context_of c.args.self.now) (scope_of c.args.scope.now) c.deref.ensures c.in-Tran.is (action_transaction c.in-Tran.master c.in-Tran.ss c.as_slice-in-Tran.ensures) (scope_of c.transaction.new.scope) c.transaction.result c.transaction.ensures
 
 pub statement-block-requires : goal.statement-block-requires
 statement-block-requires t c =
-    (held c.args.calls (deepest c.args.self.now.functions.now.all.items) (heights.height_of_statements (plain.statements (map tree.statement_of c.as_slice.result.now))) 2 13 c.decreases (height_by_action c.args.s.now c.in-Block.is (action_block c.in-Block.ss c.as_slice.ensures)) refl, tt)
+    (held c.args.calls (deepest c.args.self.now.functions.now.all.items) (heights.height_of_statements (plain.statements (map tree.statement_of c.as_slice.result.now))) 2 13 c.decreases (height_by_action c.args.s.now c.deref.ensures c.in-Block.is (action_block c.in-Block.ss c.as_slice.ensures)) refl, tt)
 
 pub statement-declarations-requires : goal.statement-declarations-requires
 statement-declarations-requires t c =
-    (held c.args.calls (deepest c.args.self.now.functions.now.all.items) 0 6 9 c.decreases (height_by_action c.args.s.now c.in-Decl.is (action_declare c.in-Decl.ds c.as_slice-in-Decl.ensures)) refl, tt)
+    (held c.args.calls (deepest c.args.self.now.functions.now.all.items) 0 6 9 c.decreases (height_by_action c.args.s.now c.deref.ensures c.in-Decl.is (action_declare c.in-Decl.ds c.as_slice-in-Decl.ensures)) refl, tt)
 
 pub statement-assign-requires : goal.statement-assign-requires
 statement-assign-requires t c =
-    (held c.args.calls (deepest c.args.self.now.functions.now.all.items) 0 4 11 c.decreases (height_by_action c.args.s.now c.in-Assign.is (action-Assign c.in-Assign.to c.in-Assign.symbol c.in-Assign.pos c.in-Assign.right)) refl, tt)
+    (held c.args.calls (deepest c.args.self.now.functions.now.all.items) 0 4 11 c.decreases (height_by_action c.args.s.now c.deref.ensures c.in-Assign.is (action-Assign c.in-Assign.to c.in-Assign.symbol c.in-Assign.pos c.in-Assign.right)) refl, tt)
 
 pub statement-right-requires : goal.statement-right-requires
 statement-right-requires t c =
-    (held c.args.calls (deepest c.args.self.now.functions.now.all.items) 0 3 12 c.decreases (height_by_action c.args.s.now c.in-Do.is (action-Do c.in-Do.right)) refl, tt)
+    (held c.args.calls (deepest c.args.self.now.functions.now.all.items) 0 3 12 c.decreases (height_by_action c.args.s.now c.deref.ensures c.in-Do.is (action-Do c.in-Do.right)) refl, tt)
 
 pub statement-choice-requires : goal.statement-choice-requires
 statement-choice-requires t c =
-    (held c.args.calls (deepest c.args.self.now.functions.now.all.items) (max (heights.height (tree.statement_of c.deref.result.now)) (heights.height_of_maybe (tree.maybe_of c.in-If.second))) 2 13 c.decreases (height_by_action c.args.s.now c.in-If.is (action_if c.in-If.test c.in-If.first c.in-If.second c.deref.ensures)) refl, tt)
+    (held c.args.calls (deepest c.args.self.now.functions.now.all.items) (max (heights.height (tree.statement_of c.in-If.first)) (heights.height_of_maybe (tree.maybe_of c.in-If.second))) 2 13 c.decreases (height_by_action c.args.s.now c.deref.ensures c.in-If.is (action-If c.in-If.test c.in-If.first c.in-If.second)) refl, tt)
 
 pub statement-while_loop-requires : goal.statement-while_loop-requires
 statement-while_loop-requires t c =
-    (held c.args.calls (deepest c.args.self.now.functions.now.all.items) (heights.height (tree.statement_of c.deref-in-While.result.now)) 1 14 c.decreases (height_by_action c.args.s.now c.in-While.is (action_while c.in-While.test c.in-While.body c.deref-in-While.ensures)) refl, tt)
+    (held c.args.calls (deepest c.args.self.now.functions.now.all.items) (heights.height (tree.statement_of c.in-While.body)) 1 14 c.decreases (height_by_action c.args.s.now c.deref.ensures c.in-While.is (action-While c.in-While.test c.in-While.body)) refl, tt)
 
 pub statement-do_while-requires : goal.statement-do_while-requires
 statement-do_while-requires t c =
-    (held c.args.calls (deepest c.args.self.now.functions.now.all.items) (heights.height (tree.statement_of c.deref-in-DoWhile.result.now)) 1 14 c.decreases (height_by_action c.args.s.now c.in-DoWhile.is (action_do c.in-DoWhile.body c.in-DoWhile.test c.deref-in-DoWhile.ensures)) refl, tt)
+    (held c.args.calls (deepest c.args.self.now.functions.now.all.items) (heights.height (tree.statement_of c.in-DoWhile.body)) 1 14 c.decreases (height_by_action c.args.s.now c.deref.ensures c.in-DoWhile.is (action-DoWhile c.in-DoWhile.body c.in-DoWhile.test)) refl, tt)
 
 pub statement-for_loop-requires : goal.statement-for_loop-requires
 statement-for_loop-requires t c =
-    (held c.args.calls (deepest c.args.self.now.functions.now.all.items) (max (heights.height_of_maybe (tree.maybe_of c.in-For.first)) (max (heights.height_of_maybe (tree.maybe_of c.in-For.next)) (heights.height (tree.statement_of c.deref-in-For.result.now)))) 3 12 c.decreases (height_by_action c.args.s.now c.in-For.is (action_for c.in-For.first c.in-For.test c.in-For.next c.in-For.body c.deref-in-For.ensures)) refl, tt)
+    (held c.args.calls (deepest c.args.self.now.functions.now.all.items) (max (heights.height_of_maybe (tree.maybe_of c.in-For.first)) (max (heights.height_of_maybe (tree.maybe_of c.in-For.next)) (heights.height (tree.statement_of c.in-For.body)))) 3 12 c.decreases (height_by_action c.args.s.now c.deref.ensures c.in-For.is (action-For c.in-For.first c.in-For.test c.in-For.next c.in-For.body)) refl, tt)
 
 pub statement-return_with-requires : goal.statement-return_with-requires
 statement-return_with-requires t c =
-    (held c.args.calls (deepest c.args.self.now.functions.now.all.items) 0 4 11 c.decreases (height_by_action c.args.s.now c.in-Return.is (action-Return c.in-Return.right)) refl, tt)
+    (held c.args.calls (deepest c.args.self.now.functions.now.all.items) 0 4 11 c.decreases (height_by_action c.args.s.now c.deref.ensures c.in-Return.is (action-Return c.in-Return.right)) refl, tt)
 
 pub statement-par-requires : goal.statement-par-requires
 statement-par-requires t c =
-    (held c.args.calls (deepest c.args.self.now.functions.now.all.items) (heights.height_of_branches (plain.branches (map tree.branch_of c.as_slice-in-Par.result.now))) 2 13 c.decreases (height_by_action c.args.s.now c.in-Par.is (action_par c.in-Par.bs c.as_slice-in-Par.ensures)) refl, tt)
+    (held c.args.calls (deepest c.args.self.now.functions.now.all.items) (heights.height_of_branches (plain.branches (map tree.branch_of c.as_slice-in-Par.result.now))) 2 13 c.decreases (height_by_action c.args.s.now c.deref.ensures c.in-Par.is (action_par c.in-Par.bs c.as_slice-in-Par.ensures)) refl, tt)
 
 pub statement-replicated-requires : goal.statement-replicated-requires
 statement-replicated-requires t c =
-    (held c.args.calls (deepest c.args.self.now.functions.now.all.items) (heights.height_of_branch (tree.branch_of c.deref-in-Repl.result.now)) 3 12 c.decreases (height_by_action c.args.s.now c.in-Repl.is (action_replicated c.in-Repl.first c.in-Repl.second c.in-Repl.third c.in-Repl.from c.in-Repl.to c.in-Repl.body c.deref-in-Repl.ensures)) refl, tt)
+    (held c.args.calls (deepest c.args.self.now.functions.now.all.items) (heights.height_of_branch (tree.branch_of c.deref-in-Repl.result.now)) 3 12 c.decreases (height_by_action c.args.s.now c.deref.ensures c.in-Repl.is (action_replicated c.in-Repl.first c.in-Repl.second c.in-Repl.third c.in-Repl.from c.in-Repl.to c.in-Repl.body c.deref-in-Repl.ensures)) refl, tt)
 
 pub statement-select-requires : goal.statement-select-requires
 statement-select-requires t c =
-    (held c.args.calls (deepest c.args.self.now.functions.now.all.items) (heights.height_of_cases (plain.cases (map tree.case_of c.as_slice-in-Select.result.now))) 3 12 c.decreases (height_by_action c.args.s.now c.in-Select.is (action_select c.in-Select.cs c.as_slice-in-Select.ensures)) refl, tt)
+    (held c.args.calls (deepest c.args.self.now.functions.now.all.items) (heights.height_of_cases (plain.cases (map tree.case_of c.as_slice-in-Select.result.now))) 3 12 c.decreases (height_by_action c.args.s.now c.deref.ensures c.in-Select.is (action_select c.in-Select.cs c.as_slice-in-Select.ensures)) refl, tt)
 
 pub statement-transaction-requires : goal.statement-transaction-requires
 statement-transaction-requires t c =
-    (held c.args.calls (deepest c.args.self.now.functions.now.all.items) (heights.height_of_statements (plain.statements (map tree.statement_of c.as_slice-in-Tran.result.now))) 2 13 c.decreases (height_by_action c.args.s.now c.in-Tran.is (action_transaction c.in-Tran.master c.in-Tran.ss c.as_slice-in-Tran.ensures)) refl, tt)
+    (held c.args.calls (deepest c.args.self.now.functions.now.all.items) (heights.height_of_statements (plain.statements (map tree.statement_of c.as_slice-in-Tran.result.now))) 2 13 c.decreases (height_by_action c.args.s.now c.deref.ensures c.in-Tran.is (action_transaction c.in-Tran.master c.in-Tran.ss c.as_slice-in-Tran.ensures)) refl, tt)
 
 pub maybe-returns-in-None : goal.maybe-returns-in-None
 maybe-returns-in-None t c =
@@ -172,13 +172,13 @@ maybe-returns-in-Some t c =
     let before = scope_of c.args.scope.now in
     let copies' = spec.calls_copy c.args.calls in
     copied_as (scope_of c.statement.new.scope) c.statement.result
-    (ap (λ b. spec.statement_copy copies' (tree.statement_of b) here before) c.deref.ensures ∙ ap (λ m. spec.maybe_copy copies' (tree.maybe_of m) here before) (sym c.in-Some.is))
+    (ap (λ m. spec.maybe_copy copies' (tree.maybe_of m) here before) (sym c.in-Some.is))
     c.statement.ensures
 
 pub maybe-statement-requires : goal.maybe-statement-requires
 maybe-statement-requires t c =
-    let same : ◌≡◌ {A = ℕ} (heights.height (tree.statement_of c.deref.result.now)) (heights.height_of_maybe (tree.maybe_of c.args.s.now)) = ap (λ b. heights.height (tree.statement_of b)) c.deref.ensures ∙ ap (λ m. heights.height_of_maybe (tree.maybe_of m)) (sym c.in-Some.is) in
-    (level c.args.calls (deepest c.args.self.now.functions.now.all.items) (deepest c.args.self.now.functions.now.all.items) (heights.height_of_maybe (tree.maybe_of c.args.s.now)) 1 (heights.height (tree.statement_of c.deref.result.now)) 0 0 c.decreases refl same refl, tt)
+    let same : ◌≡◌ {A = ℕ} (heights.height (tree.statement_of c.in-Some.s)) (heights.height_of_maybe (tree.maybe_of c.args.s.now)) = ap (λ m. heights.height_of_maybe (tree.maybe_of m)) (sym c.in-Some.is) in
+    (level c.args.calls (deepest c.args.self.now.functions.now.all.items) (deepest c.args.self.now.functions.now.all.items) (heights.height_of_maybe (tree.maybe_of c.args.s.now)) 1 (heights.height (tree.statement_of c.in-Some.s)) 0 0 c.decreases refl same refl, tt)
 
 pub block-leave-requires : goal.block-leave-requires
 block-leave-requires t c =
