@@ -1,6 +1,5 @@
 use Rattle.std.proofs.Common.{◌≡◌, ℕ, ◌<◌, ◌≤◌, Bool, true, List, [], ◌∷◌, length, get_or, drop, Option, Some, None, refl, ap, sym, ◌∙◌, arith, rules}
 use Rattle.xw_words.specs.declared.pos.Pos.{Pos}
-use Rattle.xc_kernel.specs.declared.operators.Operator.{Operator}
 use Rattle.xc_kernel.specs.Operators as meant
 use Rattle.xc_kernel.specs.Kernels as kernel
 use Rattle.xc_kernel.specs.Eval as spec
