@@ -134,8 +134,8 @@ pub struct At {
     pub value: Expr,
 }
 
-/// A statement: the places of its first and of its last token, and how many tokens it has outside the statements that it
-/// holds.
+/// A statement: what it is, in memory of its own, so that a statement is small wherever it stands; the places of its first and of
+/// its last token; and how many tokens it has outside the statements that it holds.
 #[cycle(statement)]
 pub struct Stmt {
     pub kind: Box<St>,
