@@ -51,7 +51,7 @@ fn are_unstamped(statements: &[Stmt]) -> bool
 fn is_unstamped(statement: &Stmt) -> bool
     ensures { IsTrue result ↔ today.IsUnstamped (statement_of statement.now) }
 {
-    match &statement.kind {
+    match &*statement.kind {
         St::Output(sent) => sent.stamp.is_none(),
         St::Block(inside) => are_unstamped(inside.as_slice()),
         St::If(_, first, second) => is_unstamped(first) && is_unstamped_if_any(second),
@@ -86,7 +86,7 @@ fn is_unstamped(statement: &Stmt) -> bool
 /// Whether no output of a statement has a stamp, if there is one.
 #[cycle(statement)]
 #[tactic(auto, using(xc_tree::proofs::Forms::forms))]
-fn is_unstamped_if_any(statement: &Option<Box<Stmt>>) -> bool
+fn is_unstamped_if_any(statement: &Option<Stmt>) -> bool
     ensures { IsTrue result ↔ today.IsMaybeUnstamped (maybe_of statement.now) }
 {
     match statement {

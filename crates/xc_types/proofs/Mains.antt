@@ -119,8 +119,8 @@ rolled_alone (S.Block ss) h = absurd (h ss (rolls-Block ss))
 rolled_alone k h = subst IsAlone (sym (fold-roll-St plain.Action plain.Branch plain.Case plain.Statement action_step branch_step case_step statement_step k)) (λ p q n. refl)
 
 -- what isn't a block stands alone
-pub stands_alone : (s : Stmt) → ((ss : List Stmt) → s.kind ≡ Block ss → ⊥) → plain.more (statement_of s) plain.no_more ≡ statements_in (statement_of s)
-stands_alone s h = rw (statement-Stmt s) (subst (λ (k : St). ((ss : List Stmt) → k ≡ Block ss → ⊥) → IsAlone (action_of k)) (roll-out-St s.kind) (rolled_alone (out-St s.kind)) h s.pos s.close s.own)
+pub stands_alone : (s : Stmt) (k : St) → k ≡ s.kind.value → ((ss : List Stmt) → k ≡ Block ss → ⊥) → plain.more (statement_of s) plain.no_more ≡ statements_in (statement_of s)
+stands_alone s k e h = rw (statement-Stmt s, ← e) (subst (λ (f : St). ((ss : List Stmt) → f ≡ Block ss → ⊥) → IsAlone (action_of f)) (roll-out-St k) (rolled_alone (out-St k)) h s.pos s.close s.own)
 
 -- a statement of this kind is other than the parts of the form
 abbrev IsOther : St → Type 0
@@ -139,10 +139,10 @@ rolled_other (S.Repl a b c from until body) d p r v = absurd (r a b c from until
 rolled_other (S.Return x) d p r v = absurd (v x (rolls-Return x))
 rolled_other k d p r v = subst (λ (a : plain.Action). Other ≡ action_part a) (sym (fold-roll-St plain.Action plain.Branch plain.Case plain.Statement action_step branch_step case_step statement_step k)) refl
 
-pub other_part : (s : Stmt) → ((ds : List Declared) → s.kind ≡ st.Decl ds → ⊥) → ((bs : List Branch) → s.kind ≡ st.Par bs → ⊥)
-    → ((a b c : Id) (from until : ℕ) (body : Box Branch Global) → s.kind ≡ st.Repl a b c from until body → ⊥) → ((r : Option Rhs) → s.kind ≡ st.Return r → ⊥)
+pub other_part : (s : Stmt) (k : St) → k ≡ s.kind.value → ((ds : List Declared) → k ≡ st.Decl ds → ⊥) → ((bs : List Branch) → k ≡ st.Par bs → ⊥)
+    → ((a b c : Id) (from until : ℕ) (body : Box Branch Global) → k ≡ st.Repl a b c from until body → ⊥) → ((r : Option Rhs) → k ≡ st.Return r → ⊥)
     → Other ≡ part_of (statement_of s)
-other_part s d p r v = rw (statement-Stmt s) (subst IsOther (roll-out-St s.kind) (rolled_other (out-St s.kind)) d p r v)
+other_part s k e d p r v = rw (statement-Stmt s, ← e) (subst IsOther (roll-out-St k) (rolled_other (out-St k)) d p r v)
 
 pub ruleset mains = (forms, next_places, no_place, next_placed, none_placed, next_channels, none_declared)
 

@@ -1,7 +1,5 @@
 -- What a walk has found behind a part of a program, as the code has the part: all that its marks and its sites say.
 use Rattle.std.specs.Prelude.{ℕ, Bool, true, List, ◌∷◌, Option, map, option_map}
-use Rattle.std.specs.declared.boxed.Box.{Box}
-use Rattle.std.specs.declared.alloc.Global.{Global}
 use Rattle.xw_words.specs.declared.pos.Pos.{Pos}
 use Rattle.xc_tree.specs.declared.names.Named.{Named}
 use Rattle.xc_tree.specs.declared.tree.Arg.{Arg}
@@ -142,18 +140,18 @@ statement named s around f =
     (sites.of_statement (named_of named) (around_of around) f.names (tree.statement_of s))
 
 -- an `if`, whose own place no site tells
-abbrev pub choice : Named → Expr → Stmt → Option (Box Stmt Global) → Around → Findings → Findings
+abbrev pub choice : Named → Expr → Stmt → Option Stmt → Around → Findings → Findings
 choice named test chosen otherwise around f =
     saw f (marks.of_action (plain.if_then (tree.expression_of test) (tree.statement_of chosen) (tree.maybe_of otherwise)))
     (sites.of_action (named_of named) (around_of around) f.names chosen.pos (plain.if_then (tree.expression_of test) (tree.statement_of chosen) (tree.maybe_of otherwise)))
 
 -- a `for`, whose own place no site tells
-abbrev pub for_loop : Named → Option (Box Stmt Global) → Option Expr → Option (Box Stmt Global) → Stmt → Around → Findings → Findings
+abbrev pub for_loop : Named → Option Stmt → Option Expr → Option Stmt → Stmt → Around → Findings → Findings
 for_loop named first test step body around f =
     saw f (marks.of_action (plain.for_loop (tree.maybe_of first) (option_map tree.expression_of test) (tree.maybe_of step) (tree.statement_of body)))
     (sites.of_action (named_of named) (around_of around) f.names body.pos (plain.for_loop (tree.maybe_of first) (option_map tree.expression_of test) (tree.maybe_of step) (tree.statement_of body)))
 
-abbrev pub statement_if_any : Named → Option (Box Stmt Global) → Around → Findings → Findings
+abbrev pub statement_if_any : Named → Option Stmt → Around → Findings → Findings
 statement_if_any named s around f =
     saw f (marks.of_maybe (tree.maybe_of s))
     (sites.of_maybe (named_of named) (around_of around) f.names (tree.maybe_of s))

@@ -23,7 +23,7 @@ pub fn breaks_form(function: &FuncItem) -> bool
 fn statements_in(body: &Stmt) -> &[Stmt]
     ensures { statements_of result.now ≡ main.statements_in (tree.statement_of body.now) }
 {
-    match &body.kind {
+    match &*body.kind {
         St::Block(ss) => ss.as_slice(),
         _ => slice::from_ref(body),
     }
@@ -103,7 +103,7 @@ enum Part {
 fn part_of(s: &Stmt) -> Part
     ensures { result ≡ part_of (tree.statement_of s.now) }
 {
-    match &s.kind {
+    match &*s.kind {
         St::Decl(ds) => {
             if are_channels(ds.as_slice()) {
                 Part::Channels

@@ -88,7 +88,7 @@ fn parameter_length(found: &mut Findings, kind: &ParamKind)
 fn body(found: &mut Findings, named: &Named, s: &Stmt, around: &Around) -> Result<(), Memory>
     ensures { OnOk result (found.new ≡ after.body named.now s.now around.now found.old) }
 {
-    match &s.kind {
+    match &*s.kind {
         St::Block(ss) => statements(found, named, ss.as_slice(), around),
         St::Empty
         | St::Decl(_)

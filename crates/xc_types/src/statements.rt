@@ -25,7 +25,7 @@ pub fn statement(
 ) -> Result<(), Memory>
     ensures { OnOk result (found.new ≡ after.statement named.now s.now around.now found.old) }
 {
-    match &s.kind {
+    match &*s.kind {
         St::Empty => Ok(()),
         St::Block(ss) => {
             statements(
@@ -99,7 +99,7 @@ fn choice(
     named: &Named,
     test: &Expr,
     then: &Stmt,
-    otherwise: &Option<Box<Stmt>>,
+    otherwise: &Option<Stmt>,
     around: &Around,
 ) -> Result<(), Memory>
     ensures { OnOk result (found.new ≡ after.choice named.now test.now then.now otherwise.now
@@ -117,9 +117,9 @@ fn choice(
 fn for_loop(
     found: &mut Findings,
     named: &Named,
-    first: &Option<Box<Stmt>>,
+    first: &Option<Stmt>,
     test: &Option<Expr>,
-    step: &Option<Box<Stmt>>,
+    step: &Option<Stmt>,
     body: &Stmt,
     around: &Around,
 ) -> Result<(), Memory>
@@ -137,7 +137,7 @@ fn for_loop(
 fn statement_if_any(
     found: &mut Findings,
     named: &Named,
-    s: &Option<Box<Stmt>>,
+    s: &Option<Stmt>,
     around: &Around,
 ) -> Result<(), Memory>
     ensures { OnOk result

@@ -6,4 +6,4 @@ use Rattle.xc_types.proofs.Mains.{stands_alone}
 use Rattle.xc_types.proofs.main_function.statements_in.Goals as goal
 
 pub returns-in_default : goal.returns-in_default
-returns-in_default c = ap (λ (ss : List Stmt). plain.statements (map statement_of ss)) c.from_ref.ensures.value ∙ stands_alone c.args.body.now c.in_default.not-Block
+returns-in_default c = ap (λ (ss : List Stmt). plain.statements (map statement_of ss)) c.from_ref.ensures.value ∙ stands_alone c.args.body.now c.deref.result.now c.deref.ensures c.in_default.not-Block

@@ -123,25 +123,25 @@ pub cases-returns : goal.cases-returns
 cases-returns t c = sym (c.loop-c.invariant ∙ no_case (named_of c.args.named.now) (around_of c.args.around.now) c.args.cs.now c.loop-c.c-index c.loop-c.found c.loop-c-test.false)
 
 pub statement-statements-requires : goal.statement-statements-requires
-statement-statements-requires t c = (falls (height (tree.statement_of c.args.s.now)) 0 (height_of_statements (plain.statements (map tree.statement_of c.as_slice.result.now))) 1 c.decreases (higher _ _ 1 3 (rw (statement-Stmt c.args.s.now, c.in-Block.is, action-Block c.in-Block.ss, ← c.as_slice.ensures) refl) refl), tt)
+statement-statements-requires t c = (falls (height (tree.statement_of c.args.s.now)) 0 (height_of_statements (plain.statements (map tree.statement_of c.as_slice.result.now))) 1 c.decreases (higher _ _ 1 3 (rw (statement-Stmt c.args.s.now, ← c.deref.ensures, c.in-Block.is, action-Block c.in-Block.ss, ← c.as_slice.ensures) refl) refl), tt)
 
 pub statement-statement-requires : goal.statement-statement-requires
-statement-statement-requires t c = (falls (height (tree.statement_of c.args.s.now)) 0 (height (tree.statement_of c.deref-in-While.result.now)) 0 c.decreases (higher _ _ 0 4 (rw (statement-Stmt c.args.s.now, c.in-While.is, action-While c.in-While.test c.in-While.body, ← c.deref-in-While.ensures) refl) refl), tt)
+statement-statement-requires t c = (falls (height (tree.statement_of c.args.s.now)) 0 (height (tree.statement_of c.in-While.body)) 0 c.decreases (higher _ _ 0 4 (rw (statement-Stmt c.args.s.now, ← c.deref.ensures, c.in-While.is, action-While c.in-While.test c.in-While.body) refl) refl), tt)
 
 pub statement-statement-requires-in-DoWhile : goal.statement-statement-requires-in-DoWhile
-statement-statement-requires-in-DoWhile t c = (falls (height (tree.statement_of c.args.s.now)) 0 (height (tree.statement_of c.deref-in-DoWhile.result.now)) 0 c.decreases (higher _ _ 0 4 (rw (statement-Stmt c.args.s.now, c.in-DoWhile.is, action-DoWhile c.in-DoWhile.body c.in-DoWhile.test, ← c.deref-in-DoWhile.ensures) refl) refl), tt)
+statement-statement-requires-in-DoWhile t c = (falls (height (tree.statement_of c.args.s.now)) 0 (height (tree.statement_of c.in-DoWhile.body)) 0 c.decreases (higher _ _ 0 4 (rw (statement-Stmt c.args.s.now, ← c.deref.ensures, c.in-DoWhile.is, action-DoWhile c.in-DoWhile.body c.in-DoWhile.test) refl) refl), tt)
 
 pub statement-branches-requires : goal.statement-branches-requires
-statement-branches-requires t c = (falls (height (tree.statement_of c.args.s.now)) 0 (height_of_branches (plain.branches (map tree.branch_of c.as_slice-in-Par.result.now))) 2 c.decreases (higher _ _ 2 2 (rw (statement-Stmt c.args.s.now, c.in-Par.is, action-Par c.in-Par.bs, ← c.as_slice-in-Par.ensures) refl) refl), tt)
+statement-branches-requires t c = (falls (height (tree.statement_of c.args.s.now)) 0 (height_of_branches (plain.branches (map tree.branch_of c.as_slice-in-Par.result.now))) 2 c.decreases (higher _ _ 2 2 (rw (statement-Stmt c.args.s.now, ← c.deref.ensures, c.in-Par.is, action-Par c.in-Par.bs, ← c.as_slice-in-Par.ensures) refl) refl), tt)
 
 pub statement-branch-found-requires : goal.statement-branch-found-requires
-statement-branch-found-requires t c = (falls (height (tree.statement_of c.args.s.now)) 0 (height_of_branch (tree.branch_of c.deref-in-Repl.result.now)) 1 c.decreases (higher _ _ 1 3 (rw (statement-Stmt c.args.s.now, c.in-Repl.is, action-Repl c.in-Repl.first c.in-Repl.second c.in-Repl.third c.in-Repl.from c.in-Repl.to c.in-Repl.body, ← c.deref-in-Repl.ensures) refl) refl), tt)
+statement-branch-found-requires t c = (falls (height (tree.statement_of c.args.s.now)) 0 (height_of_branch (tree.branch_of c.deref-in-Repl.result.now)) 1 c.decreases (higher _ _ 1 3 (rw (statement-Stmt c.args.s.now, ← c.deref.ensures, c.in-Repl.is, action-Repl c.in-Repl.first c.in-Repl.second c.in-Repl.third c.in-Repl.from c.in-Repl.to c.in-Repl.body, ← c.deref-in-Repl.ensures) refl) refl), tt)
 
 pub statement-cases-requires : goal.statement-cases-requires
-statement-cases-requires t c = (falls (height (tree.statement_of c.args.s.now)) 0 (height_of_cases (plain.cases (map tree.case_of c.as_slice-in-Select-2.result.now))) 3 c.decreases (higher _ _ 3 1 (rw (statement-Stmt c.args.s.now, c.in-Select.is, action-Select c.in-Select.cs, ← c.as_slice-in-Select-2.ensures) refl) refl), tt)
+statement-cases-requires t c = (falls (height (tree.statement_of c.args.s.now)) 0 (height_of_cases (plain.cases (map tree.case_of c.as_slice-in-Select-2.result.now))) 3 c.decreases (higher _ _ 3 1 (rw (statement-Stmt c.args.s.now, ← c.deref.ensures, c.in-Select.is, action-Select c.in-Select.cs, ← c.as_slice-in-Select-2.ensures) refl) refl), tt)
 
 pub statement-transaction-requires : goal.statement-transaction-requires
-statement-transaction-requires t c = (falls (height (tree.statement_of c.args.s.now)) 0 (height_of_statements (plain.statements (map tree.statement_of c.as_slice-in-Tran.result.now))) 2 c.decreases (higher _ _ 2 2 (rw (statement-Stmt c.args.s.now, c.in-Tran.is, action-Tran c.in-Tran.field-0 c.in-Tran.ss, ← c.as_slice-in-Tran.ensures) refl) refl), tt)
+statement-transaction-requires t c = (falls (height (tree.statement_of c.args.s.now)) 0 (height_of_statements (plain.statements (map tree.statement_of c.as_slice-in-Tran.result.now))) 2 c.decreases (higher _ _ 2 2 (rw (statement-Stmt c.args.s.now, ← c.deref.ensures, c.in-Tran.is, action-Tran c.in-Tran.field-0 c.in-Tran.ss, ← c.as_slice-in-Tran.ensures) refl) refl), tt)
 
 pub transaction-statements-requires : goal.transaction-statements-requires
 transaction-statements-requires t c = (falls (height_of_statements (plain.statements (map tree.statement_of c.args.ss.now))) 2 (height_of_statements (plain.statements (map tree.statement_of c.args.ss.now))) 1 c.decreases (same_height _ _ 2 1 0 refl refl), tt)
@@ -159,16 +159,16 @@ pub cases-case-requires : goal.cases-case-requires
 cases-case-requires t c = (falls (height_of_cases (plain.cases (map tree.case_of c.args.cs.now))) 3 (height_of_case (tree.case_of c.c-item.result)) 2 c.decreases (no_higher _ _ 3 2 0 (case_within c.args.cs.now c.loop-c.c-index c.c-item.result c.c-item.is c.loop-c-test.true) refl), tt)
 
 pub statement_if_any-statement-requires : goal.statement_if_any-statement-requires
-statement_if_any-statement-requires t c = (falls (height_of_maybe (tree.maybe_of c.args.s.now)) 1 (height (tree.statement_of c.deref.result.now)) 0 c.decreases (same_height _ _ 1 0 0 (rw (c.in-Some.is, ← c.deref.ensures) refl) refl), tt)
+statement_if_any-statement-requires t c = (falls (height_of_maybe (tree.maybe_of c.args.s.now)) 1 (height (tree.statement_of c.in-Some.s)) 0 c.decreases (same_height _ _ 1 0 0 (rw c.in-Some.is refl) refl), tt)
 
 pub statements-statement-requires : goal.statements-statement-requires
 statements-statement-requires t c = (falls (height_of_statements (plain.statements (map tree.statement_of c.args.ss.now))) 1 (height (tree.statement_of c.s-item.result)) 0 c.decreases (no_higher _ _ 1 0 0 (statement_within c.args.ss.now c.loop-s.s-index c.s-item.result c.s-item.is c.loop-s-test.true) refl), tt)
 
 pub statement-returns-in-If : goal.statement-returns-in-If
-statement-returns-in-If t c = rw (statement-Stmt c.args.s.now, c.in-If.is, action-If c.in-If.test c.in-If.then c.in-If.otherwise, ← c.deref.ensures) c.choice.ensures
+statement-returns-in-If t c = rw (statement-Stmt c.args.s.now, ← c.deref.ensures, c.in-If.is, action-If c.in-If.test c.in-If.then c.in-If.otherwise) c.choice.ensures
 
 pub statement-returns-in-For : goal.statement-returns-in-For
-statement-returns-in-For t c = rw (statement-Stmt c.args.s.now, c.in-For.is, action-For c.in-For.first c.in-For.test c.in-For.step c.in-For.body, ← c.deref-in-For.ensures) c.for_loop.ensures
+statement-returns-in-For t c = rw (statement-Stmt c.args.s.now, ← c.deref.ensures, c.in-For.is, action-For c.in-For.first c.in-For.test c.in-For.step c.in-For.body) c.for_loop.ensures
 
 pub choice-returns : goal.choice-returns
 choice-returns t c = grind (arith, statement_steps)
@@ -177,10 +177,10 @@ pub for_loop-returns : goal.for_loop-returns
 for_loop-returns t c = grind (arith, statement_steps)
 
 pub statement-choice-requires : goal.statement-choice-requires
-statement-choice-requires t c = (falls (height (tree.statement_of c.args.s.now)) 0 (max (height (tree.statement_of c.deref.result.now)) (height_of_maybe (tree.maybe_of c.in-If.otherwise))) 2 c.decreases (higher _ _ 2 2 (rw (statement-Stmt c.args.s.now, c.in-If.is, action-If c.in-If.test c.in-If.then c.in-If.otherwise, ← c.deref.ensures) refl) refl), tt)
+statement-choice-requires t c = (falls (height (tree.statement_of c.args.s.now)) 0 (max (height (tree.statement_of c.in-If.then)) (height_of_maybe (tree.maybe_of c.in-If.otherwise))) 2 c.decreases (higher _ _ 2 2 (rw (statement-Stmt c.args.s.now, ← c.deref.ensures, c.in-If.is, action-If c.in-If.test c.in-If.then c.in-If.otherwise) refl) refl), tt)
 
 pub statement-for_loop-requires : goal.statement-for_loop-requires
-statement-for_loop-requires t c = (falls (height (tree.statement_of c.args.s.now)) 0 (max (height_of_maybe (tree.maybe_of c.in-For.first)) (max (height_of_maybe (tree.maybe_of c.in-For.step)) (height (tree.statement_of c.deref-in-For.result.now)))) 2 c.decreases (higher _ _ 2 2 (rw (statement-Stmt c.args.s.now, c.in-For.is, action-For c.in-For.first c.in-For.test c.in-For.step c.in-For.body, ← c.deref-in-For.ensures) refl) refl), tt)
+statement-for_loop-requires t c = (falls (height (tree.statement_of c.args.s.now)) 0 (max (height_of_maybe (tree.maybe_of c.in-For.first)) (max (height_of_maybe (tree.maybe_of c.in-For.step)) (height (tree.statement_of c.in-For.body)))) 2 c.decreases (higher _ _ 2 2 (rw (statement-Stmt c.args.s.now, ← c.deref.ensures, c.in-For.is, action-For c.in-For.first c.in-For.test c.in-For.step c.in-For.body) refl) refl), tt)
 
 pub choice-statement-requires : goal.choice-statement-requires
 choice-statement-requires t c = (falls (max (height (tree.statement_of c.args.then.now)) (height_of_maybe (tree.maybe_of c.args.otherwise.now))) 2 (height (tree.statement_of c.args.then.now)) 0 c.decreases (no_higher _ _ 2 0 1 (in_left _ _) refl), tt)
