@@ -1,15 +1,19 @@
 // Four cores side by side on a board.
 
 ghost use Rattle.std.specs.Prelude.{◌≡◌, ◌≤◌};
+ghost use Rattle.xr_board.specs.CellState.{IsCell};
 ghost use Rattle.xs_instr.specs.Valid.{IsGoodStim, Valid};
 
-use crate::listings::ENDLESS;
-use crate::meetings::meet_at_once;
+use crate::counting::{Counting, EACH_ONCE, FIRST_WINDOWS};
+use crate::listings::{ENDLESS, HUNDRED};
+use crate::meetings::{is_alike, meet_at_once};
 use std::alloc::Global;
 use std::marker::Brand;
 use std::sync::Wait;
 use std::thread::Threads;
-use xr_board::{Board, BoardTurn, Gate, GatherErr, OpenGate, run_workers};
+use xr_board::{
+    Board, BoardTurn, Cells, Gate, GatherErr, OpenGate, Turned, run_alone, run_workers,
+};
 use xr_listed::{ListingErr, read_image};
 use xr_windows::{Run, RunName};
 use xs_instr::{EndWord, Image, Stim};
@@ -88,10 +92,23 @@ fn one_ahead<R: Threads + Wait + Sync>(
     with_a_core_ahead::<Brand, R>(rt, alloc, image, stim)
 }
 
-/// The turns of a board of a run of 16 ticks, in order, each with its core and what it answers.
-const TURNS: [(u8, BoardTurn); 10] = [
+/// A turn's core, and what it answers.
+type Turn = (u8, BoardTurn);
+
+const TWICE: [Turn; 2] = [
     (0, BoardTurn::Ran(0)),
     (0, BoardTurn::Lacks { from: 1, window: 0 }),
+];
+
+const ROUND: [Turn; 4] = [
+    (0, BoardTurn::Ran(0)),
+    (1, BoardTurn::Ran(0)),
+    (2, BoardTurn::Ran(0)),
+    (3, BoardTurn::Ran(0)),
+];
+
+const TO_THE_END: [Turn; 9] = [
+    (0, BoardTurn::Ran(0)),
     (1, BoardTurn::Ran(0)),
     (2, BoardTurn::Ran(0)),
     (3, BoardTurn::Ran(0)),
@@ -102,27 +119,91 @@ const TURNS: [(u8, BoardTurn); 10] = [
     (0, BoardTurn::AtEnd),
 ];
 
-/// Whether the turns answer so, and another one that the board is stopped.
-fn take_turns<U: RunName, R: Wait>(rt: &R, alloc: Global, board: &Board<U>) -> bool {
-    for (core, want) in &TURNS {
-        if *core >= 4 || board.turn(rt, alloc, *core, &OpenGate) != *want {
+const STOPPED: [Turn; 4] = [
+    (2, BoardTurn::Stopped),
+    (0, BoardTurn::Stopped),
+    (1, BoardTurn::Stopped),
+    (3, BoardTurn::Stopped),
+];
+
+/// Whether the turns answer so, and the gate was called so: before each window that was run, and no more.
+fn answers<U: RunName, R: Wait>(
+    rt: &R,
+    alloc: Global,
+    board: &Board<U>,
+    turns: &[Turn],
+    calls: u64,
+) -> bool {
+    let counting = Counting::new();
+    for (core, want) in turns {
+        if *core >= 4 || board.turn(rt, alloc, *core, &counting) != *want {
             return false;
         }
     }
-    board.stop(rt);
-    board.turn(rt, alloc, 2, &OpenGate) == BoardTurn::Stopped
+    counting.are(calls)
 }
 
 /// Why a board's run isn't gathered, if it isn't.
-fn short_of<U: RunName>(alloc: Global, board: Board<U>) -> Option<GatherErr> {
-    match board.cells().gather(alloc) {
+fn short_of<U: RunName>(alloc: Global, cells: Cells<U>) -> Option<GatherErr>
+    requires first { IsCell U.listing U.stimulus U.ticks 0 cells.first }
+{
+    match cells.gather(alloc) {
         Ok(_) => None,
         Err(err) => Some(err),
     }
 }
 
-/// Why a board's run isn't gathered before any turn, whether its turns answer as they should, and why it isn't gathered behind them.
-type Table = (Option<GatherErr>, bool, Option<GatherErr>);
+/// Whether the turns of a board, that is stopped before or isn't, answer as they should, and why its run isn't gathered then.
+type Row = (bool, Option<GatherErr>);
+
+fn row<U: RunName, R: Wait>(
+    rt: &R,
+    alloc: Global,
+    image: &Image,
+    stim: &Stim,
+    is_stopped: bool,
+    turns: &[Turn],
+    calls: u64,
+) -> Result<Row, Memory>
+    requires image { image.now ≡ U.listing }
+    requires valid { Valid image.now }
+    requires stim { stim.now ≡ U.stimulus }
+    requires good { IsGoodStim stim.now }
+    requires ticks { 16 ≡ U.ticks }
+{
+    let board = Board::<U>::new(alloc, image, stim, 16)?;
+    if is_stopped {
+        board.stop(rt);
+    }
+    let are_so = answers(rt, alloc, &board, turns, calls);
+    Ok((are_so, short_of(alloc, board.cells())))
+}
+
+/// The same of a board each of whose cores has run its window 0, and of core 0's window 1 in the cells that come out of it.
+fn row_of_cells<U: RunName, R: Wait>(
+    rt: &R,
+    alloc: Global,
+    image: &Image,
+    stim: &Stim,
+) -> Result<Row, Memory>
+    requires image { image.now ≡ U.listing }
+    requires valid { Valid image.now }
+    requires stim { stim.now ≡ U.stimulus }
+    requires good { IsGoodStim stim.now }
+    requires ticks { 16 ≡ U.ticks }
+{
+    let board = Board::<U>::new(alloc, image, stim, 16)?;
+    let are_so = answers(rt, alloc, &board, &ROUND, FIRST_WINDOWS);
+    let mut cells = board.cells();
+    let turned = cells.first.turn(alloc, &OpenGate);
+    let goes_on = matches!(&turned, Turned::Ran(_));
+    drop(turned);
+    cells.first.is_cell();
+    Ok((are_so && goes_on, short_of(alloc, cells)))
+}
+
+/// What comes of a board at once, of two turns of core 0, of turns to the end, of a board that is stopped, and of cells that go on.
+type Table = (Row, Row, Row, Row, Row);
 
 fn table_named<U: RunName, R: Wait>(
     rt: &R,
@@ -136,11 +217,12 @@ fn table_named<U: RunName, R: Wait>(
     requires good { IsGoodStim stim.now }
     requires ticks { 16 ≡ U.ticks }
 {
-    let board = Board::<U>::new(alloc, image, stim, 16)?;
-    let before = short_of(alloc, board);
-    let board = Board::<U>::new(alloc, image, stim, 16)?;
-    let are_so = take_turns(rt, alloc, &board);
-    Ok((before, are_so, short_of(alloc, board)))
+    let at_once = row::<U, R>(rt, alloc, image, stim, false, &[], 0)?;
+    let twice = row::<U, R>(rt, alloc, image, stim, false, &TWICE, 1)?;
+    let to_the_end = row::<U, R>(rt, alloc, image, stim, false, &TO_THE_END, EACH_ONCE)?;
+    let stopped = row::<U, R>(rt, alloc, image, stim, true, &STOPPED, 0)?;
+    let in_cells = row_of_cells::<U, R>(rt, alloc, image, stim)?;
+    Ok((at_once, twice, to_the_end, stopped, in_cells))
 }
 
 /// The same of the run that is asked for.
@@ -151,11 +233,66 @@ fn table<R: Wait>(rt: &R, alloc: Global, image: &Image, stim: &Stim) -> Result<T
     table_named::<Brand, R>(rt, alloc, image, stim)
 }
 
-/// What the boards of one image tell: call by call; how many records, and whether its ticks stopped it, where a core was ahead from the start; and
-/// whether two cores ran at the same time.
+/// What the table tells of a board of 16 ticks on which core 0 sends a hundred words to core 3.
+fn table_told<R: Wait>(rt: &R, alloc: Global) -> Result<Table, ListingErr> {
+    let image = read_image(alloc, HUNDRED)?;
+    let stim = Stim {
+        lines: List::new(alloc),
+    };
+    match table(rt, alloc, &image, &stim) {
+        Ok(table) => Ok(table),
+        Err(Memory) => Err(ListingErr::Memory),
+    }
+}
+
+/// Whether workers of a board that was stopped before, and so run no window, tell what a run without locks tells, by equal copies too.
+fn with_all_stopped<U: RunName + Send + Sync, R: Threads + Wait + Sync>(
+    rt: &R,
+    alloc: Global,
+    image: &Image,
+    stim: &Stim,
+) -> Result<bool, Memory>
+    requires image { image.now ≡ U.listing }
+    requires valid { Valid image.now }
+    requires stim { stim.now ≡ U.stimulus }
+    requires good { IsGoodStim stim.now }
+    requires ticks { 16 ≡ U.ticks }
+{
+    let board = Board::<U>::new(alloc, image, stim, 16)?;
+    board.stop(rt);
+    let run = run_workers::<U, OpenGate, R>(rt, alloc, board, 2, &OpenGate)?;
+    is_run_of_copies(alloc, image, stim, &run)
+}
+
+/// Whether the run without locks of copies of an image and a stimulus tells the same.
+fn is_run_of_copies(alloc: Global, image: &Image, stim: &Stim, told: &Run) -> Result<bool, Memory>
+    requires image { Valid image.now }
+    requires stim { IsGoodStim stim.now }
+{
+    let image = image.copy(alloc)?;
+    let stim = stim.copy(alloc)?;
+    let run = run_alone(alloc, &image, &stim, 16)?;
+    Ok(is_alike(&run, told))
+}
+
+/// The same of the run that is asked for.
+fn all_stopped<R: Threads + Wait + Sync>(
+    rt: &R,
+    alloc: Global,
+    image: &Image,
+    stim: &Stim,
+) -> Result<bool, Memory>
+    requires image { Valid image.now }
+    requires stim { IsGoodStim stim.now }
+{
+    with_all_stopped::<Brand, R>(rt, alloc, image, stim)
+}
+
+/// What the boards of one image tell: how many records, and whether its ticks stopped it, where a core was ahead from the start; whether workers of a
+/// stopped board tell the run; and whether two cores ran at the same time.
 type Told = (
-    Result<Table, Memory>,
     Result<(usize, bool), Memory>,
+    Result<bool, Memory>,
     Result<bool, Memory>,
 );
 
@@ -164,19 +301,27 @@ fn told<R: Threads + Wait + Sync>(rt: &R, alloc: Global) -> Result<Told, Listing
     let stim = Stim {
         lines: List::new(alloc),
     };
-    let table = table(rt, alloc, &image, &stim);
     let ahead = one_ahead(rt, alloc, &image, &stim);
+    let are_stopped = all_stopped(rt, alloc, &image, &stim);
     let have_met = meet_at_once(rt, alloc, &image, &stim);
-    Ok((table, ahead, have_met))
+    Ok((ahead, are_stopped, have_met))
 }
 
-/// A board with traffic over a link answers what it should, call by call. A worker takes the core that is behind, also where another one
-/// was ahead from the start. Two workers run two cores at the same time, and each window once; one worker and sixteen run each window once too,
-/// and tell the same.
+/// A board answers what it should, call by call, and calls its gate before the windows that it runs alone; what was handed over is in the cells
+/// that come out of it. A worker takes the core that is behind, also where another one was ahead from the start; where no core goes on the run is
+/// made without locks. Two workers run two cores at the same time, and each window once; one worker and sixteen run each window once too, and tell
+/// the same.
 #[test]
 fn boards_answer(rt: HostRuntime) {
-    let short = GatherErr::Short { core: 0, window: 0 };
-    let table = (Some(short), true, None);
-    let want = (Ok(table), Ok((2, true)), Ok(true));
+    let short = |core, window| Some(GatherErr::Short { core, window });
+    let table = (
+        (true, short(0, 0)),
+        (true, short(0, 1)),
+        (true, None),
+        (true, short(0, 0)),
+        (true, short(1, 1)),
+    );
+    assert_eq!(rt; table_told(&rt, rt.alloc()), Ok(table));
+    let want = (Ok((2, true)), Ok(true), Ok(true));
     assert_eq!(rt; told(&rt, rt.alloc()), Ok(want));
 }

@@ -7,6 +7,8 @@
 #[cfg(test)]
 mod boards;
 #[cfg(test)]
+mod counting;
+#[cfg(test)]
 mod ends;
 #[cfg(test)]
 mod events;
@@ -30,3 +32,5 @@ mod registers;
 mod stimuli;
 #[cfg(test)]
 mod texts;
+#[cfg(test)]
+mod windows;

@@ -23,6 +23,37 @@ pub const ENDLESS: &str = "\
 .chan 1 0 3 0
 ";
 
+/// Core 0 sends the words 1 to 100, each with its answer, and ends; core 3 takes and answers them, and ends.
+pub const HUNDRED: &str = "\
+.core 0
+.ends 1
+.root 0
+0: LDC r0, 2
+1: LDC r1, 1
+2: LDC r2, 101
+3: OUT r0, r1
+4: OUTCT r0, 1
+5: CHKCT r0, 3
+6: ADDI r1, r1, 1
+7: EQ r3, r1, r2
+8: BRBF r3, 3
+9: FREET
+.core 3
+.ends 1
+.root 0
+0: LDC r0, 50331650
+1: LDC r1, 0
+2: LDC r2, 100
+3: IN r3, r0
+4: CHKCT r0, 1
+5: OUTCT r0, 3
+6: ADDI r1, r1, 1
+7: EQ r4, r1, r2
+8: BRBF r4, 3
+9: FREET
+.chan 0 0 3 0
+";
+
 /// Core 1 sends three words, and ends: for the third it waits until the first one's credits are back. Core 3 takes three words, and ends.
 pub const THREE_WORDS: &str = "\
 .core 1

@@ -4,6 +4,7 @@ ghost use Rattle.std.specs.Prelude.{◌≤◌};
 ghost use Rattle.xs_instr.specs.Valid.{IsGoodStim, Valid};
 
 use crate::boards::by_workers;
+use crate::counting::{Counting, EACH_ONCE};
 use std::alloc::Global;
 use std::sync::Wait;
 use std::sync::atomic::{AtomicU64, Ordering};
@@ -19,7 +20,7 @@ struct Meeting {
     first: AtomicU64,
     second: AtomicU64,
     met: AtomicU64,
-    calls: AtomicU64,
+    counting: Counting,
 }
 
 /// Sets a flag, and looks for another one, for half a minute or longer. Counts where that is seen.
@@ -34,19 +35,9 @@ fn meet(own: &AtomicU64, other: &AtomicU64, met: &AtomicU64) {
     }
 }
 
-/// Counts a call, in a byte of its own for each core and window.
-fn count(calls: &AtomicU64, core: u32, window: u32) {
-    if core < 4 && window < 2 {
-        calls.fetch_add(1 << (8 * (2 * core + window)), Ordering::SeqCst);
-    }
-}
-
-/// Each core ran each of the two windows once.
-const EACH_ONCE: u64 = 0x0101_0101_0101_0101;
-
 impl Gate for Meeting {
     fn before(&self, core: u32, window: u32) {
-        count(&self.calls, core, window);
+        self.counting.before(core, window);
         if core == 0 && window == 1 {
             meet(&self.first, &self.second, &self.met);
         }
@@ -56,16 +47,9 @@ impl Gate for Meeting {
     }
 }
 
-/// Counts all calls, and holds nobody up.
-#[derive(Drop)]
-struct Counting {
-    calls: AtomicU64,
-}
-
-impl Gate for Counting {
-    fn before(&self, core: u32, window: u32) {
-        count(&self.calls, core, window);
-    }
+/// Whether two runs have the same trace, end word and traps.
+pub fn is_alike(one: &Run, other: &Run) -> bool {
+    one.trace == other.trace && one.end == other.end && one.trapped == other.trapped
 }
 
 /// Whether so many workers run each window once, and tell what others told.
@@ -81,12 +65,9 @@ fn is_same<R: Threads + Wait + Sync>(
     requires stim { IsGoodStim stim.now }
     requires workers { (1 ≤ workers) × (workers ≤ 16) }
 {
-    let counting = Counting {
-        calls: AtomicU64::new(0),
-    };
+    let counting = Counting::new();
     let run = by_workers(rt, alloc, image, stim, 16, workers, &counting)?;
-    let is_each_once = counting.calls.load(Ordering::SeqCst) == EACH_ONCE;
-    Ok(is_each_once && run.trace == told.trace && run.end == told.end)
+    Ok(counting.are(EACH_ONCE) && is_alike(&run, told))
 }
 
 /// Whether two workers run two cores at the same time, and each window once, and one worker and sixteen run each window once too, and
@@ -104,11 +85,11 @@ pub fn meet_at_once<R: Threads + Wait + Sync>(
         first: AtomicU64::new(0),
         second: AtomicU64::new(0),
         met: AtomicU64::new(0),
-        calls: AtomicU64::new(0),
+        counting: Counting::new(),
     };
     let two = by_workers(rt, alloc, image, stim, 16, 2, &meeting)?;
     let have_met = meeting.met.load(Ordering::SeqCst) == 2;
-    let are_each_once = meeting.calls.load(Ordering::SeqCst) == EACH_ONCE;
+    let are_each_once = meeting.counting.are(EACH_ONCE);
     let by_one = is_same(rt, alloc, image, stim, 1, &two) == Ok(true);
     let by_sixteen = is_same(rt, alloc, image, stim, 16, &two) == Ok(true);
     Ok(have_met && are_each_once && by_one && by_sixteen)
