@@ -8,7 +8,6 @@ ghost use Rattle.xs_instr.specs.Valid.{IsGoodStim, Valid};
 
 use crate::cells::Cells;
 use crate::core_name::{Core0, Core1, Core2, Core3};
-use crate::gate::Gate;
 use crate::parts::Parts;
 use crate::rings::AllEnds;
 use crate::seat::Seat;
@@ -18,6 +17,7 @@ use std::alloc::Global;
 use std::sync::Wait;
 use xr_windows::RunName;
 use xs_instr::{Image, Stim};
+use xw_io::Gate;
 use xw_words::Memory;
 
 /// What came of a turn on the board.
@@ -102,7 +102,8 @@ impl<U: RunName> Board<U> {
     }
 
     /// A core's turn under its lock, after what was handed to the core has come into its cell, and then each batch handed to its core. A
-    /// batch that a cell gives back is dropped. What the cell was when the lock was taken no clause can say, so of an answer it is known what it can be.
+    /// batch that a cell gives back is dropped. The gate is asked under that lock and no other. What the cell was when the lock was taken
+    /// no clause can say, so of an answer it is known what it can be.
     pub fn turn<G: Gate, R: Wait>(&self, rt: &R, alloc: Global, core: u8, gate: &G) -> BoardTurn
         requires { core < 4 }
         ensures answer { CanAnswer U.ticks core result }

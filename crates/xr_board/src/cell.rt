@@ -3,12 +3,12 @@
 ghost use Rattle.std.specs.Prelude.{◌≡◌, ◌<◌, ◌≤◌, None, true};
 
 use crate::core_name::CoreName;
-use crate::gate::Gate;
 use crate::places::{first_lacking, move_up, place};
 use crate::turned::Turned;
 use std::alloc::Global;
 use std::marker::{Model, PhantomData};
 use xr_windows::{Batch, Needs, Part, RunName};
+use xw_io::Gate;
 
 /// The part of the core that C names in the run that U names, and the batches of that run that have come for it.
 #[derive(Drop)]

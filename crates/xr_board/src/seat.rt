@@ -6,7 +6,6 @@ ghost use Rattle.xr_board.specs.BoardTurns.{IsAnswer, IsInRange};
 use crate::board::BoardTurn;
 use crate::cell::Cell;
 use crate::core_name::CoreName;
-use crate::gate::Gate;
 use crate::kept::Kept;
 use crate::rings::Ends;
 use crate::told::{AllTold, LINE, Told};
@@ -14,6 +13,7 @@ use crate::turned::Turned;
 use std::alloc::Global;
 use std::sync::{Mutex, Wait};
 use xr_windows::{Batch, Part, RunName};
+use xw_io::Gate;
 use xw_words::List;
 
 /// What a core keeps, under a lock that is held for a whole turn. Nobody but who serves the core takes it, so nobody waits for a core that runs a

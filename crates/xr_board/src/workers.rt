@@ -6,7 +6,6 @@ ghost use Rattle.xr_windows.specs.Telling.{IsLockstep};
 use crate::alone::run_alone;
 use crate::board::{Board, BoardTurn};
 use crate::cells::{Cells, GatherErr};
-use crate::gate::Gate;
 use crate::told::CORES;
 use std::alloc::Global;
 use std::hint::spin_loop;
@@ -15,6 +14,7 @@ use std::thread;
 use std::thread::{JoinHandle, Scope, Threads};
 use xr_windows::{Run, RunName};
 use xs_instr::{Image, Stim};
+use xw_io::Gate;
 use xw_words::Memory;
 
 /// How often a worker that has a processor looks, a pause apart, whether the batches that it waits for are there, before it lets other threads go

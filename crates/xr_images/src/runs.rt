@@ -8,9 +8,10 @@ use std::alloc::Global;
 use std::marker::Brand;
 use std::sync::Wait;
 use std::thread::Threads;
-use xr_board::{Board, OpenGate, run_alone, run_workers};
+use xr_board::{Board, run_alone, run_workers};
 use xr_windows::{Run, RunName};
 use xs_instr::{EndWord, Image, Stim};
+use xw_io::OpenGate;
 use xw_words::Memory;
 
 /// What is wanted of a run of so many ticks: how it ends, and how many records it has. It is made alone, and by 1 to so many workers.

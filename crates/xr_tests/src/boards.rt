@@ -11,12 +11,11 @@ use std::alloc::Global;
 use std::marker::Brand;
 use std::sync::Wait;
 use std::thread::Threads;
-use xr_board::{
-    Board, BoardTurn, Cells, Gate, GatherErr, OpenGate, Turned, run_alone, run_workers,
-};
+use xr_board::{Board, BoardTurn, Cells, GatherErr, Turned, run_alone, run_workers};
 use xr_listed::{ListingErr, read_image};
 use xr_windows::{Run, RunName};
 use xs_instr::{EndWord, Image, Stim};
+use xw_io::{Gate, OpenGate};
 use xw_words::{List, Memory};
 
 /// The run of an image by workers.

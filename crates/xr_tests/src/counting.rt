@@ -1,7 +1,7 @@
 // A gate that counts.
 
 use std::sync::atomic::{AtomicU64, Ordering};
-use xr_board::Gate;
+use xw_io::Gate;
 
 /// Counts the calls for windows 0 and 1, in a byte of its own for each core and window, and those for other windows together. It holds nobody up.
 #[derive(Drop)]

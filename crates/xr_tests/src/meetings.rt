@@ -9,9 +9,9 @@ use std::alloc::Global;
 use std::sync::Wait;
 use std::sync::atomic::{AtomicU64, Ordering};
 use std::thread::{self, Threads};
-use xr_board::Gate;
 use xr_windows::Run;
 use xs_instr::{Image, Stim};
+use xw_io::Gate;
 use xw_words::{List, Memory};
 
 /// Holds up cores 0 and 1 before their window 1 until both stand there, and counts all calls.
