@@ -4,5 +4,4 @@ pub mod ForCores
 pub mod Gathers
 pub mod Inbox
 pub mod Short
-pub mod Telling
 pub mod Turns

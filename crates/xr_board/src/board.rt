@@ -1,6 +1,6 @@
 // Four cells under locks.
 
-ghost use Rattle.std.specs.Prelude.{◌≡◌, ◌<◌, ◌≤◌, IfOk};
+ghost use Rattle.std.specs.Prelude.{◌≡◌, ◌<◌, ◌≤◌, vec_len};
 ghost use Rattle.xr_board.specs.BoardTurns.{CanAnswer, IsInRange};
 ghost use Rattle.xr_board.specs.CellState.{IsCell};
 ghost use Rattle.xr_board.specs.ForCores.{AllStart};
@@ -9,16 +9,15 @@ ghost use Rattle.xs_instr.specs.Valid.{IsGoodStim, Valid};
 use crate::cells::Cells;
 use crate::core_name::{Core0, Core1, Core2, Core3};
 use crate::parts::Parts;
-use crate::rings::AllEnds;
 use crate::seat::Seat;
 use crate::task::Task;
-use crate::told::{AllTold, CORES};
+use crate::waiting::{PATIENCE, wait};
 use std::alloc::Global;
 use std::sync::Wait;
-use xr_windows::RunName;
+use xr_windows::{Batch, RunName};
 use xs_instr::{Image, Stim};
 use xw_io::Gate;
-use xw_words::Memory;
+use xw_words::{List, Memory};
 
 /// What came of a turn on the board.
 #[derive(Clone, Copy, PartialEq, Eq, Debug)]
@@ -35,14 +34,13 @@ pub enum BoardTurn {
     Memory,
 }
 
-/// The four cores of the run that U names, each on a seat of its own, with copies of the image and the stimulus. It is not let go
+/// The four cores of the run that U names, each cell under a lock of its own, with copies of the image and the stimulus. It is not let go
 /// but by `cells` or `run_workers`.
 pub struct Board<U: RunName> {
     first: Seat<U, Core0>,
     second: Seat<U, Core1>,
     third: Seat<U, Core2>,
     fourth: Seat<U, Core3>,
-    told: AllTold<U>,
     task: Task<U>,
 }
 
@@ -59,7 +57,7 @@ impl<U: RunName> Board<U> {
     {
         let task = Task::new(alloc, image, stim, ticks)?;
         match Parts::new::<U>(alloc, image, stim, ticks) {
-            Ok(parts) => Board::of(alloc, task, parts),
+            Ok(parts) => Ok(Board::of(task, parts)),
             Err(Memory) => {
                 drop(task);
                 Err(Memory)
@@ -68,21 +66,7 @@ impl<U: RunName> Board<U> {
     }
 
     // The board of four cores, of which none has run a window.
-    fn of(alloc: Global, task: Task<U>, parts: Parts) -> Result<Board<U>, Memory>
-        requires { AllStart U.listing U.stimulus U.ticks parts }
-    {
-        match AllEnds::new(alloc) {
-            Ok(ends) => Ok(Board::with(alloc, task, parts, ends)),
-            Err(Memory) => {
-                drop(task);
-                drop(parts);
-                Err(Memory)
-            }
-        }
-    }
-
-    // The same, where the rings are there.
-    fn with(alloc: Global, task: Task<U>, parts: Parts, ends: AllEnds<U>) -> Board<U>
+    fn of(task: Task<U>, parts: Parts) -> Board<U>
         requires { AllStart U.listing U.stimulus U.ticks parts }
     {
         let Parts {
@@ -92,54 +76,60 @@ impl<U: RunName> Board<U> {
             fourth,
         } = parts;
         Board {
-            first: Seat::new(alloc, first, ends.first),
-            second: Seat::new(alloc, second, ends.second),
-            third: Seat::new(alloc, third, ends.third),
-            fourth: Seat::new(alloc, fourth, ends.fourth),
-            told: AllTold::new(),
+            first: Seat::new(first),
+            second: Seat::new(second),
+            third: Seat::new(third),
+            fourth: Seat::new(fourth),
             task,
         }
     }
 
-    /// A core's turn under its lock, after what was handed to the core has come into its cell, and then each batch handed to its core. A
-    /// batch that a cell gives back is dropped. The gate is asked under that lock and no other. What the cell was when the lock was taken
-    /// no clause can say, so of an answer it is known what it can be.
+    /// A core's turn under its lock, and then each batch handed over to its cell under that cell's lock, those first whose lock nobody holds. A batch that
+    /// a cell gives back is dropped. The gate is asked under the core's lock and no other. What the cell was when the lock was taken no clause
+    /// can say, so of an answer it is known what it can be.
     pub fn turn<G: Gate, R: Wait>(&self, rt: &R, alloc: Global, core: u8, gate: &G) -> BoardTurn
         requires { core < 4 }
         ensures answer { CanAnswer U.ticks core result }
         ensures range { IsInRange result }
     {
-        match core {
-            0 => self
-                .first
-                .turn(rt, alloc, gate, &self.told, &self.told.first),
-            1 => self
-                .second
-                .turn(rt, alloc, gate, &self.told, &self.told.second),
-            2 => self
-                .third
-                .turn(rt, alloc, gate, &self.told, &self.told.third),
-            _ => self
-                .fourth
-                .turn(rt, alloc, gate, &self.told, &self.told.fourth),
+        let (answer, out) = match core {
+            0 => self.first.turn(rt, alloc, gate),
+            1 => self.second.turn(rt, alloc, gate),
+            2 => self.third.turn(rt, alloc, gate),
+            _ => self.fourth.turn(rt, alloc, gate),
+        };
+        self.hand_over(rt, core, out);
+        answer
+    }
+
+    // Hands over what a core has sent, each batch where nobody holds its cell's lock. It begins behind the core, so that not all cores begin at the
+    // same one.
+    fn hand_over<R: Wait>(&self, rt: &R, core: u8, out: List<Batch<U>>) {
+        let mut left = out.into_vec();
+        let mut at = core as usize;
+        let mut waited = 0;
+        for _ in rt.forever() {
+            if left.is_empty() {
+                return;
+            }
+            at %= left.len();
+            if !self.try_hand(&mut left, at) {
+                at += 1;
+                waited = wait(waited, PATIENCE);
+            }
         }
     }
 
-    /// How many cores seem to have handed over so many windows: a hint, of which no clause knows what it says. It takes no lock.
-    pub(crate) fn handed(&self, windows: u32) -> u32 {
-        if windows == 0 {
-            return CORES;
-        }
-        self.told.count(windows - 1)
-    }
-
-    /// What was handed over to a core so far comes into its cell, under its lock, as far as its next window needs it.
-    pub(crate) fn fetch<R: Wait>(&self, rt: &R, core: u8) {
-        match core {
-            0 => self.first.fetch(rt, &self.told),
-            1 => self.second.fetch(rt, &self.told),
-            2 => self.third.fetch(rt, &self.told),
-            _ => self.fourth.fetch(rt, &self.told),
+    // Hands over one of the batches, where nobody holds its cell's lock. Whether it did.
+    fn try_hand(&self, batches: &mut Vec<Batch<U>>, at: usize) -> bool
+        requires { at < vec_len batches.old }
+    {
+        batches[at].is_sent();
+        match batches[at].to {
+            0 => self.first.try_take(batches, at),
+            1 => self.second.try_take(batches, at),
+            2 => self.third.try_take(batches, at),
+            _ => self.fourth.try_take(batches, at),
         }
     }
 
@@ -182,14 +172,13 @@ impl<U: RunName> Board<U> {
             second,
             third,
             fourth,
-            told,
             task,
         } = self;
         let cells = Cells {
-            first: first.into_cell(&told),
-            second: second.into_cell(&told),
-            third: third.into_cell(&told),
-            fourth: fourth.into_cell(&told),
+            first: first.into_cell(),
+            second: second.into_cell(),
+            third: third.into_cell(),
+            fourth: fourth.into_cell(),
         };
         let (image, stim) = task.into_copies();
         (cells, image, stim)

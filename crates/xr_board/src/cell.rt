@@ -146,25 +146,6 @@ impl<U: RunName, C: CoreName> Cell<U, C> {
         self.run(alloc)
     }
 
-    /// The window before the one that it runs next, where that core's batch of it isn't there.
-    pub(crate) fn lacks_from(&self, from: u8) -> Option<u32> {
-        let ran = self.part.ran();
-        if ran == 0 || self.has_from(from) {
-            return None;
-        }
-        Some(ran - 1)
-    }
-
-    // Whether that core's batch of the window before is there.
-    fn has_from(&self, from: u8) -> bool {
-        match from {
-            0 => self.earlier.from0.is_some(),
-            1 => self.earlier.from1.is_some(),
-            2 => self.earlier.from2.is_some(),
-            _ => self.earlier.from3.is_some(),
-        }
-    }
-
     // The least other core whose batch of the window before isn't there.
     fn lacking(&self) -> Option<u8>
         ensures { result ≡ lacking_in C.number self.now }

@@ -7,16 +7,12 @@ mod board;
 mod cell;
 mod cells;
 mod core_name;
-mod kept;
 mod parts;
 mod places;
-mod quiet;
-mod rings;
 mod seat;
-mod spare;
 mod task;
-mod told;
 mod turned;
+mod waiting;
 mod workers;
 
 pub use alone::run_alone;

@@ -6,81 +6,104 @@ ghost use Rattle.xr_board.specs.BoardTurns.{IsAnswer, IsInRange};
 use crate::board::BoardTurn;
 use crate::cell::Cell;
 use crate::core_name::CoreName;
-use crate::kept::Kept;
-use crate::rings::Ends;
-use crate::told::{AllTold, LINE, Told};
 use crate::turned::Turned;
+use crate::waiting::{PATIENCE, wait};
 use std::alloc::Global;
-use std::sync::{Mutex, Wait};
+use std::sync::{Mutex, MutexGuard, Wait};
 use xr_windows::{Batch, Part, RunName};
 use xw_io::Gate;
 use xw_words::List;
 
-/// What a core keeps, under a lock that is held for a whole turn. Nobody but who serves the core takes it, so nobody waits for a core that runs a
-/// window. Unused bytes stand beside it, so that who works here takes no line of the cache from another core.
-#[repr(C)]
+/// How many words two lines of the cache have, which a processor takes together.
+const LINES: usize = 16;
+
+/// A core's cell under its lock.
 pub struct Seat<U: RunName, C: CoreName> {
-    before: [u64; LINE],
-    kept: Mutex<Kept<U, C>>,
-    after: [u64; LINE],
+    kept: Mutex<Apart<U, C>>,
+}
+
+/// A cell with unused bytes beside it, so that who tries its lock takes no line of the cache from who runs it.
+#[repr(C)]
+struct Apart<U: RunName, C: CoreName> {
+    before: [u64; LINES],
+    cell: Cell<U, C>,
+    after: [u64; LINES],
 }
 
 impl<U: RunName, C: CoreName> Seat<U, C> {
-    ghost use Rattle.std.specs.Prelude.{◌≡◌};
+    ghost use Rattle.std.specs.Prelude.{◌≡◌, ◌<◌, slice_index_or, vec_len};
     ghost use Rattle.xr_board.specs.BoardTurns.{CanAnswer, IsInRange};
     ghost use Rattle.xr_windows.specs.Parts.{IsPartOf};
+    ghost use Rattle.xr_windows.specs.Sending.{Sending};
 
-    /// The seat of a core before its first window, with its ends of the rings. It takes no memory.
-    pub fn new(alloc: Global, part: Part, ends: Ends<U, C>) -> Seat<U, C>
+    /// The seat of a core before its first window. It takes no memory.
+    pub fn new(part: Part) -> Seat<U, C>
         requires part { IsPartOf U.listing U.stimulus U.ticks part }
         requires number { part.home.number ≡ C.number }
         requires start { part.ran ≡ 0 }
     {
         Seat {
-            before: [0; LINE],
-            kept: Mutex::new(Kept::new(alloc, part, ends)),
-            after: [0; LINE],
+            kept: Mutex::new(Apart {
+                before: [0; LINES],
+                cell: Cell::new(part),
+                after: [0; LINES],
+            }),
         }
     }
 
-    /// A turn under the lock, after what was handed over to the core has come into its cell, and then all batches handed over.
+    /// The cell's turn under its lock, and the batches that are to be handed over then.
     pub fn turn<G: Gate, R: Wait>(
         &self,
         rt: &R,
         alloc: Global,
         gate: &G,
-        all: &AllTold<U>,
-        told: &Told<U, C>,
-    ) -> BoardTurn
-        ensures answer { CanAnswer U.ticks C.number result }
-        ensures range { IsInRange result }
+    ) -> (BoardTurn, List<Batch<U>>)
+        ensures answer { CanAnswer U.ticks C.number result.0 }
+        ensures range { IsInRange result.0 }
     {
-        let mut kept = self.kept.lock(rt);
-        let kept = &mut *kept;
-        kept.take_all(all);
-        let (answer, out) = turn_of::<U, C, G>(&mut kept.cell, alloc, gate);
-        kept.hand_over(told, answer, out);
-        answer
+        turn_of::<U, C, G>(&mut self.lock(rt).cell, alloc, gate)
     }
 
-    /// What the others have handed over so far that the next window needs comes into the cell.
-    pub fn fetch<R: Wait>(&self, rt: &R, told: &AllTold<U>) {
-        self.kept.lock(rt).take_all(told);
+    /// One of these batches goes into the cell, where nobody holds its lock. Whether it did.
+    pub fn try_take(&self, batches: &mut Vec<Batch<U>>, at: usize) -> bool
+        requires at { at < vec_len batches.old }
+        requires to { (b : Sending) → (slice_index_or batches.old.items at b).to ≡ C.number }
+    {
+        match self.kept.try_lock() {
+            Some(mut kept) => {
+                drop(kept.cell.accept(batches.remove(at)));
+                true
+            }
+            None => false,
+        }
     }
 
     /// Sets the stop mark of the cell.
     pub fn stop<R: Wait>(&self, rt: &R) {
-        self.kept.lock(rt).cell.stop();
+        self.lock(rt).cell.stop();
     }
 
-    /// The cell out of its lock, after all that was handed over to the core has come.
-    pub fn into_cell(self, told: &AllTold<U>) -> Cell<U, C> {
-        let Seat {
+    /// The cell out of its lock.
+    pub fn into_cell(self) -> Cell<U, C> {
+        let Seat { kept } = self;
+        let Apart {
             before: _,
-            kept,
+            cell,
             after: _,
-        } = self;
-        kept.into_inner().into_cell(told)
+        } = kept.into_inner();
+        cell
+    }
+
+    // The lock, which is tried until nobody holds it.
+    fn lock<R: Wait>(&self, rt: &R) -> MutexGuard<'_, Apart<U, C>> {
+        let mut waited = 0;
+        for _ in rt.forever() {
+            if let Some(kept) = self.kept.try_lock() {
+                return kept;
+            }
+            waited = wait(waited, PATIENCE);
+        }
+        unreachable!()
     }
 }
 

@@ -6,9 +6,8 @@ ghost use Rattle.xr_windows.specs.Telling.{IsLockstep};
 use crate::alone::run_alone;
 use crate::board::{Board, BoardTurn};
 use crate::cells::{Cells, GatherErr};
-use crate::told::CORES;
+use crate::waiting::{PATIENCE, wait};
 use std::alloc::Global;
-use std::hint::spin_loop;
 use std::sync::Wait;
 use std::thread;
 use std::thread::{JoinHandle, Scope, Threads};
@@ -17,22 +16,9 @@ use xs_instr::{Image, Stim};
 use xw_io::Gate;
 use xw_words::Memory;
 
-/// How often a worker that has a processor looks, a pause apart, whether the batches that it waits for are there, before it lets other threads go
-/// on. A window takes one to three microseconds, and these looks a thousand times as long: where another program has a neighbour's processor for a
-/// while, to give way as well would only keep all others waiting, at each window anew.
-const LOOKS: u32 = 65_536;
-
-/// How often a patient worker looks where some worker has no processor.
-const MOST_LOOKS: u32 = 512;
-
-/// How often an impatient one looks.
-const FEWEST_LOOKS: u32 = 2;
-
-/// Each wait of so many is a patient one.
-const PATIENT: u32 = 32;
-
-/// How often it lets other threads go on, with a look each, before it takes a turn all the same.
-const YIELDS: u32 = 1_000;
+/// How often a worker waits for a batch, a pause apart, before it lets other threads go on, where some workers share a processor: there to wait keeps
+/// those waiting that it waits for.
+const LITTLE_PATIENCE: u32 = 16;
 
 /// The run of the board, by 1 to 16 workers: what the run in lockstep tells. With W the lesser of their number and 4, worker w serves
 /// the cores whose number modulo W is w. The caller is worker 0, and serves the cores of a worker that can't be started too. Where
@@ -170,65 +156,11 @@ fn better(best: Option<(u8, u32)>, core: u8, served: bool, ran: u32) -> Option<(
     }
 }
 
-/// How long a worker looks for batches before it lets other threads go on. Where each worker has a processor, what it waits for comes soon,
-/// and to let others go on costs more than to look. Where some have none, looking keeps those waiting that it waits for.
-#[derive(Clone, Copy)]
-struct Patience {
-    is_shared: bool,
-    looks: u32,
-    waits: u32,
-}
-
-impl Patience {
-    // At the start, where some of the workers share a processor, or each has one.
-    fn new(is_shared: bool) -> Patience {
-        Patience {
-            is_shared,
-            looks: MOST_LOOKS,
-            waits: 0,
-        }
-    }
-
-    // How often it looks this time.
-    fn looks(self) -> u32
-        ensures { result ≤ 65536 }
-    {
-        if !self.is_shared {
-            return LOOKS;
-        }
-        if self.waits % PATIENT == 0 || self.looks > MOST_LOOKS {
-            MOST_LOOKS
-        } else {
-            self.looks
-        }
-    }
-
-    // After a wait in which the batches were there at that look.
-    fn after(self, look: u32) -> Patience {
-        let looks = if look >= self.looks() {
-            if self.looks / 2 > FEWEST_LOOKS {
-                self.looks / 2
-            } else {
-                FEWEST_LOOKS
-            }
-        } else if look > self.looks {
-            MOST_LOOKS
-        } else {
-            self.looks
-        };
-        Patience {
-            is_shared: self.is_shared,
-            looks,
-            waits: self.waits.wrapping_add(1),
-        }
-    }
-}
-
-/// Whether some of so many workers share a processor, or it isn't known.
-fn is_shared<R: Threads>(rt: &R, workers: u8) -> bool {
+/// How often each of so many workers waits for a batch before it lets other threads go on.
+fn patience_of<R: Threads>(rt: &R, workers: u8) -> u32 {
     match thread::available_parallelism(rt) {
-        Ok(processors) => processors.get() < workers as usize,
-        Err(_) => true,
+        Ok(processors) if processors.get() >= workers as usize => PATIENCE,
+        _ => LITTLE_PATIENCE,
     }
 }
 
@@ -240,10 +172,10 @@ fn serve<U: RunName, G: Gate, R: Wait>(
     board: &Board<U>,
     served: Served,
     gate: &G,
-    patience: Patience,
+    patience: u32,
 ) -> bool {
     let mut left = served;
-    let mut patience = patience;
+    let mut waited = 0;
     let mut seen = Seen {
         first: 0,
         second: 0,
@@ -254,10 +186,15 @@ fn serve<U: RunName, G: Gate, R: Wait>(
         let Some(core) = seen.next(left) else {
             return true;
         };
-        patience = wait_a_while(rt, board, core, seen.of(core), patience);
         match board.turn(rt, alloc, core, gate) {
-            BoardTurn::Ran(window) => seen = seen.with(core, window + 1),
-            BoardTurn::Lacks { window, .. } => seen = seen.with(core, window + 1),
+            BoardTurn::Ran(window) => {
+                seen = seen.with(core, window + 1);
+                waited = 0;
+            }
+            BoardTurn::Lacks { window, .. } => {
+                seen = seen.with(core, window + 1);
+                waited = wait(waited, patience);
+            }
             BoardTurn::AtEnd => left = left.without(core),
             BoardTurn::Stopped => return true,
             BoardTurn::Memory => {
@@ -267,35 +204,6 @@ fn serve<U: RunName, G: Gate, R: Wait>(
         }
     }
     unreachable!()
-}
-
-/// Waits until each core seems to have handed over the windows before a core's next one, but no longer than a while, and answers how patient the
-/// worker is then. What comes meanwhile is fetched at once, so that the batch of the slowest core alone is left to fetch. Who looks takes no lock.
-fn wait_a_while<U: RunName, R: Wait>(
-    rt: &R,
-    board: &Board<U>,
-    core: u8,
-    ran: u32,
-    patience: Patience,
-) -> Patience {
-    let looks = patience.looks();
-    let mut fetched = 1;
-    for look in 0..looks + YIELDS {
-        let handed = board.handed(ran);
-        if handed == CORES {
-            return patience.after(look);
-        }
-        if handed > fetched {
-            board.fetch(rt, core);
-            fetched = handed;
-        }
-        if look < looks {
-            spin_loop();
-        } else {
-            thread::yield_now();
-        }
-    }
-    patience.after(looks)
 }
 
 /// What a worker in a thread of its own answered. One that wasn't started lacked nothing.
@@ -314,7 +222,7 @@ fn started<'s, E: 's, U: RunName + Send + Sync, G: Gate + Sync, R: Threads + Wai
     board: &'s Board<U>,
     gate: &'s G,
     served: Served,
-    patience: Patience,
+    patience: u32,
     callers: &mut Served,
 ) -> Option<JoinHandle<bool>> {
     if served.is_empty() {
@@ -339,7 +247,7 @@ fn serve_all<U: RunName + Send + Sync, G: Gate + Sync, R: Threads + Wait + Sync>
 ) -> bool
     requires { (0 < workers) × (workers ≤ 4) }
 {
-    let patience = Patience::new(is_shared(rt, workers));
+    let patience = patience_of(rt, workers);
     thread::scope(
         thread::scope_env(),
         rt,
