@@ -45,7 +45,3 @@ can_answer L s n i old Memory out new h = tt
 -- no run has a window of a greater number
 pub window_in_range : (n ran window : ℕ) → n ≤ 200000 → window ≡ ran → ran < windows_of n → window < 25000
 window_in_range n ran window few is left = omega (arith, few, is, left)
-
--- the same of the window before
-pub earlier_in_range : (n ran window : ℕ) → n ≤ 200000 → window + 1 ≡ ran → ran < windows_of n → window < 25000
-earlier_in_range n ran window few is left = omega (arith, few, is, left)

@@ -156,14 +156,14 @@ impl<U: RunName> Board<U> {
     }
 
     /// For how many ticks the run goes.
-    pub fn ticks(&self) -> u32
+    pub(crate) fn ticks(&self) -> u32
         ensures { result ≡ U.ticks }
     {
         self.task.ticks()
     }
 
     /// The four cells out of their locks, and the copies of the image and the stimulus.
-    pub fn into_parts(self) -> (Cells<U>, Image, Stim)
+    pub(crate) fn into_parts(self) -> (Cells<U>, Image, Stim)
         ensures image { result.1 ≡ U.listing }
         ensures stim { result.2 ≡ U.stimulus }
     {

@@ -1,4 +1,4 @@
-//! Cells: a core's part of a run with the batches that came for it, and what four of them tell.
+//! Four cores side by side: cells under four locks, workers that take their turns, and what four cells tell.
 #![tactic(auto)]
 
 mod alone;

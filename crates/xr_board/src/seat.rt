@@ -15,7 +15,7 @@ use xw_io::Gate;
 use xw_words::List;
 
 /// How many words two lines of the cache have, which a processor takes together.
-const LINES: usize = 16;
+const WORDS: usize = 16;
 
 /// A core's cell under its lock.
 pub struct Seat<U: RunName, C: CoreName> {
@@ -25,13 +25,13 @@ pub struct Seat<U: RunName, C: CoreName> {
 /// A cell with unused bytes beside it, so that who tries its lock takes no line of the cache from who runs it.
 #[repr(C)]
 struct Apart<U: RunName, C: CoreName> {
-    before: [u64; LINES],
+    before: [u64; WORDS],
     cell: Cell<U, C>,
-    after: [u64; LINES],
+    after: [u64; WORDS],
 }
 
 impl<U: RunName, C: CoreName> Seat<U, C> {
-    ghost use Rattle.std.specs.Prelude.{◌≡◌, ◌<◌, slice_index_or, vec_len};
+    ghost use Rattle.std.specs.Prelude.{◌≡◌, ◌<◌, false, remove, slice_index_or, true, vec_len};
     ghost use Rattle.xr_board.specs.BoardTurns.{CanAnswer, IsInRange};
     ghost use Rattle.xr_windows.specs.Parts.{IsPartOf};
     ghost use Rattle.xr_windows.specs.Sending.{Sending};
@@ -44,9 +44,9 @@ impl<U: RunName, C: CoreName> Seat<U, C> {
     {
         Seat {
             kept: Mutex::new(Apart {
-                before: [0; LINES],
+                before: [0; WORDS],
                 cell: Cell::new(part),
-                after: [0; LINES],
+                after: [0; WORDS],
             }),
         }
     }
@@ -61,13 +61,16 @@ impl<U: RunName, C: CoreName> Seat<U, C> {
         ensures answer { CanAnswer U.ticks C.number result.0 }
         ensures range { IsInRange result.0 }
     {
-        turn_of::<U, C, G>(&mut self.lock(rt).cell, alloc, gate)
+        let mut kept = self.lock(rt);
+        turn_of::<U, C, G>(&mut kept.cell, alloc, gate)
     }
 
-    /// One of these batches goes into the cell, where nobody holds its lock. Whether it did.
+    /// One of these batches goes into the cell, where nobody holds its lock. Whether it did; else the batches are as they were.
     pub fn try_take(&self, batches: &mut Vec<Batch<U>>, at: usize) -> bool
         requires at { at < vec_len batches.old }
         requires to { (b : Sending) → (slice_index_or batches.old.items at b).to ≡ C.number }
+        ensures taken { result ≡ true → batches.new.items ≡ remove batches.old.items at }
+        ensures held { result ≡ false → batches.new ≡ batches.old }
     {
         match self.kept.try_lock() {
             Some(mut kept) => {

@@ -1,6 +1,6 @@
 // Workers that take the turns of a board's cells.
 
-ghost use Rattle.std.specs.Prelude.{◌≡◌, ◌<◌, ◌≤◌, ℕ, IfOk, IfSome};
+ghost use Rattle.std.specs.Prelude.{◌≡◌, ◌<◌, ◌≤◌, IfOk, IfSome};
 ghost use Rattle.xr_windows.specs.Telling.{IsLockstep};
 
 use crate::alone::run_alone;
@@ -107,16 +107,6 @@ impl Seen {
             second: if core == 1 { ran } else { self.second },
             third: if core == 2 { ran } else { self.third },
             fourth: if core == 3 { ran } else { self.fourth },
-        }
-    }
-
-    // How many windows of a core.
-    fn of(self, core: u8) -> u32 {
-        match core {
-            0 => self.first,
-            1 => self.second,
-            2 => self.third,
-            _ => self.fourth,
         }
     }
 

@@ -5,6 +5,7 @@
 mod cases;
 mod runs;
 mod trouble;
+mod windows;
 
 use cases::difference_of_case;
 use std::alloc::Global;

@@ -4,6 +4,7 @@ ghost use Rattle.std.specs.Prelude.{◌≡◌, ◌≤◌};
 ghost use Rattle.xs_instr.specs.Valid.{IsGoodStim, Valid};
 
 use crate::trouble::Trouble;
+use crate::windows::Windows;
 use std::alloc::Global;
 use std::marker::Brand;
 use std::sync::Wait;
@@ -11,7 +12,7 @@ use std::thread::Threads;
 use xr_board::{Board, run_alone, run_workers};
 use xr_windows::{Run, RunName};
 use xs_instr::{EndWord, Image, Stim};
-use xw_io::OpenGate;
+use xw_io::Gate;
 use xw_words::Memory;
 
 /// What is wanted of a run of so many ticks: how it ends, and how many records it has. It is made alone, and by 1 to so many workers.
@@ -23,7 +24,7 @@ pub struct Wanted {
     pub records: u32,
 }
 
-/// What comes of a run, where it isn't what is wanted, or where workers make another one than one alone makes.
+/// What comes of a run, where it isn't what is wanted, or where workers make another one than one alone makes, or don't make all windows by turns.
 pub fn difference_of_run<R: Threads + Wait + Sync>(
     rt: &R,
     alloc: Global,
@@ -44,8 +45,9 @@ pub fn difference_of_run<R: Threads + Wait + Sync>(
         return Ok(Some(told));
     }
     for workers in 1..wanted.workers + 1 {
-        let run = by_workers(rt, alloc, image, stim, wanted.ticks, workers)?;
-        if !is_same(&run, &alone) {
+        let windows = Windows::new();
+        let run = by_workers(rt, alloc, image, stim, wanted.ticks, workers, &windows)?;
+        if !is_same(&run, &alone) || !windows.are_all(wanted.ticks, workers) {
             let told = format!(in alloc; "{} ticks: {workers} workers differ", wanted.ticks)?;
             return Ok(Some(told));
         }
@@ -68,30 +70,32 @@ fn end_word(end: EndWord) -> &'static str {
 }
 
 /// The run of an image by workers.
-fn by_workers<R: Threads + Wait + Sync>(
+fn by_workers<R: Threads + Wait + Sync, G: Gate + Sync>(
     rt: &R,
     alloc: Global,
     image: &Image,
     stim: &Stim,
     ticks: u32,
     workers: u32,
+    gate: &G,
 ) -> Result<Run, Memory>
     requires image { Valid image.now }
     requires stim { IsGoodStim stim.now }
     requires ticks { (1 ≤ ticks) × (ticks ≤ 200000) }
     requires workers { (1 ≤ workers) × (workers ≤ 16) }
 {
-    workers_named::<Brand, R>(rt, alloc, image, stim, ticks, workers)
+    workers_named::<Brand, R, G>(rt, alloc, image, stim, ticks, workers, gate)
 }
 
 /// The run that U names.
-fn workers_named<U: RunName + Send + Sync, R: Threads + Wait + Sync>(
+fn workers_named<U: RunName + Send + Sync, R: Threads + Wait + Sync, G: Gate + Sync>(
     rt: &R,
     alloc: Global,
     image: &Image,
     stim: &Stim,
     ticks: u32,
     workers: u32,
+    gate: &G,
 ) -> Result<Run, Memory>
     requires image { image.now ≡ U.listing }
     requires valid { Valid image.now }
@@ -103,5 +107,5 @@ fn workers_named<U: RunName + Send + Sync, R: Threads + Wait + Sync>(
     requires workers { (1 ≤ workers) × (workers ≤ 16) }
 {
     let board = Board::<U>::new(alloc, image, stim, ticks)?;
-    run_workers::<U, OpenGate, R>(rt, alloc, board, workers, &OpenGate)
+    run_workers::<U, G, R>(rt, alloc, board, workers, gate)
 }

@@ -59,7 +59,8 @@ fn workers_named<U: RunName + Send + Sync, R: Threads + Wait + Sync, G: Gate + S
     run_workers::<U, G, R>(rt, alloc, board, workers, gate)
 }
 
-/// How many records the run of 16 ticks by one worker has, on a board on which core 0 is a window ahead, and whether it was stopped by its ticks.
+/// How many records the run of 16 ticks by one worker has, on a board on which core 0 is a window ahead, and whether it was stopped by its ticks,
+/// each window having been run once.
 fn with_a_core_ahead<U: RunName + Send + Sync, R: Threads + Wait + Sync>(
     rt: &R,
     alloc: Global,
@@ -72,10 +73,12 @@ fn with_a_core_ahead<U: RunName + Send + Sync, R: Threads + Wait + Sync>(
     requires good { IsGoodStim stim.now }
     requires ticks { 16 ≡ U.ticks }
 {
+    let counting = Counting::new();
     let board = Board::<U>::new(alloc, image, stim, 16)?;
-    board.turn(rt, alloc, 0, &OpenGate);
-    let run = run_workers::<U, OpenGate, R>(rt, alloc, board, 1, &OpenGate)?;
-    Ok((run.trace.len(), run.end == EndWord::Stopped))
+    board.turn(rt, alloc, 0, &counting);
+    let run = run_workers::<U, Counting, R>(rt, alloc, board, 1, &counting)?;
+    let is_stopped = run.end == EndWord::Stopped && counting.are(EACH_ONCE);
+    Ok((run.trace.len(), is_stopped))
 }
 
 /// The same of the run that is asked for.
@@ -257,9 +260,13 @@ fn with_all_stopped<U: RunName + Send + Sync, R: Threads + Wait + Sync>(
     requires good { IsGoodStim stim.now }
     requires ticks { 16 ≡ U.ticks }
 {
+    let counting = Counting::new();
     let board = Board::<U>::new(alloc, image, stim, 16)?;
     board.stop(rt);
-    let run = run_workers::<U, OpenGate, R>(rt, alloc, board, 2, &OpenGate)?;
+    let run = run_workers::<U, Counting, R>(rt, alloc, board, 2, &counting)?;
+    if !counting.are(0) {
+        return Ok(false);
+    }
     is_run_of_copies(alloc, image, stim, &run)
 }
 

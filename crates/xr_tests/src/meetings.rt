@@ -12,7 +12,7 @@ use std::thread::{self, Threads};
 use xr_windows::Run;
 use xs_instr::{Image, Stim};
 use xw_io::Gate;
-use xw_words::{List, Memory};
+use xw_words::Memory;
 
 /// Holds up cores 0 and 1 before their window 1 until both stand there, and counts all calls.
 #[derive(Drop)]
