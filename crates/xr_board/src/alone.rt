@@ -13,7 +13,7 @@ use crate::parts::Parts;
 use std::alloc::Global;
 use std::marker::Brand;
 use std::mem;
-use xr_windows::{Batch, Part, Run, RunName, told};
+use xr_windows::{Batch, Needs, Part, Run, RunName, told};
 use xs_instr::{Image, Stim};
 use xw_words::{List, Memory};
 
@@ -134,7 +134,8 @@ fn run_core<U: RunName>(
         next.old.to0 next.old.to1 next.old.to2 next.old.to3 next.new.to0 next.new.to1
         next.new.to2 next.new.to3) }
 {
-    let out = part.run_window::<U>(alloc, &got);
+    let mut got = Needs::of(got);
+    let out = part.run_with::<U>(alloc, &mut got);
     drop(got);
     next.add_all(out?)
 }
