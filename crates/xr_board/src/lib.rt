@@ -21,4 +21,4 @@ pub use cell::Cell;
 pub use cells::{Cells, GatherErr};
 pub use core_name::{Core0, Core1, Core2, Core3, CoreName};
 pub use turned::Turned;
-pub use workers::run_workers;
+pub use workers::{run_by_workers, run_workers};

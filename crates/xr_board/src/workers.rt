@@ -1,13 +1,16 @@
 // Workers that take the turns of a board's cells.
 
 ghost use Rattle.std.specs.Prelude.{◌≡◌, ◌<◌, ◌≤◌, IfOk, IfSome};
+ghost use Rattle.xr_board.specs.ForCores.{IsTask};
 ghost use Rattle.xr_windows.specs.Telling.{IsLockstep};
+ghost use Rattle.xs_instr.specs.Valid.{IsGoodStim, Valid};
 
 use crate::alone::run_alone;
 use crate::board::{Board, BoardTurn};
 use crate::cells::{Cells, GatherErr};
 use crate::waiting::{PATIENCE, wait};
 use std::alloc::Global;
+use std::marker::Brand;
 use std::sync::Wait;
 use std::thread;
 use std::thread::{JoinHandle, Scope, Threads};
@@ -40,6 +43,44 @@ pub fn run_workers<U: RunName + Send + Sync, G: Gate + Sync, R: Threads + Wait +
         return Err(Memory);
     }
     finish(alloc, board)
+}
+
+/// The run in lockstep of an image under a stimulus, for 1 to 200,000 ticks, by 1 to 16 workers on a board of its own, as `run_workers` makes
+/// it. The one error is want of memory.
+pub fn run_by_workers<G: Gate + Sync, R: Threads + Wait + Sync>(
+    rt: &R,
+    alloc: Global,
+    image: &Image,
+    stim: &Stim,
+    ticks: u32,
+    workers: u32,
+    gate: &G,
+) -> Result<Run, Memory>
+    requires image { Valid image.now }
+    requires stim { IsGoodStim stim.now }
+    requires ticks { (1 ≤ ticks) × (ticks ≤ 200000) }
+    requires workers { (1 ≤ workers) × (workers ≤ 16) }
+    ensures { IfOk result (λ run. IsLockstep image.now stim.now ticks run) }
+{
+    run_named::<Brand, G, R>(rt, alloc, image, stim, ticks, workers, gate)
+}
+
+/// The run that U names.
+fn run_named<U: RunName + Send + Sync, G: Gate + Sync, R: Threads + Wait + Sync>(
+    rt: &R,
+    alloc: Global,
+    image: &Image,
+    stim: &Stim,
+    ticks: u32,
+    workers: u32,
+    gate: &G,
+) -> Result<Run, Memory>
+    requires task { IsTask U.listing U.stimulus U.ticks image.now stim.now ticks }
+    requires workers { (1 ≤ workers) × (workers ≤ 16) }
+    ensures { IfOk result (λ run. IsLockstep U.listing U.stimulus U.ticks run) }
+{
+    let board = Board::<U>::new(alloc, image, stim, ticks)?;
+    run_workers::<U, G, R>(rt, alloc, board, workers, gate)
 }
 
 /// Which cores a worker serves.

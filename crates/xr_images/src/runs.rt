@@ -1,19 +1,16 @@
 // Runs by one alone, and by workers.
 
-ghost use Rattle.std.specs.Prelude.{◌≡◌, ◌≤◌};
+ghost use Rattle.std.specs.Prelude.{◌≤◌};
 ghost use Rattle.xs_instr.specs.Valid.{IsGoodStim, Valid};
 
 use crate::trouble::Trouble;
 use crate::windows::Windows;
 use std::alloc::Global;
-use std::marker::Brand;
 use std::sync::Wait;
 use std::thread::Threads;
-use xr_board::{Board, run_alone, run_workers};
-use xr_windows::{Run, RunName};
+use xr_board::{run_alone, run_by_workers};
+use xr_windows::Run;
 use xs_instr::{EndWord, Image, Stim};
-use xw_io::Gate;
-use xw_words::Memory;
 
 /// What is wanted of a run of so many ticks: how it ends, and how many records it has. It is made alone, and by 1 to so many workers.
 #[derive(Clone, Copy)]
@@ -46,7 +43,7 @@ pub fn difference_of_run<R: Threads + Wait + Sync>(
     }
     for workers in 1..wanted.workers + 1 {
         let windows = Windows::new();
-        let run = by_workers(rt, alloc, image, stim, wanted.ticks, workers, &windows)?;
+        let run = run_by_workers(rt, alloc, image, stim, wanted.ticks, workers, &windows)?;
         if !is_same(&run, &alone) || !windows.are_all(wanted.ticks, workers) {
             let told = format!(in alloc; "{} ticks: {workers} workers differ", wanted.ticks)?;
             return Ok(Some(told));
@@ -67,45 +64,4 @@ fn end_word(end: EndWord) -> &'static str {
         EndWord::Stuck => "stuck",
         EndWord::Stopped => "stopped",
     }
-}
-
-/// The run of an image by workers.
-fn by_workers<R: Threads + Wait + Sync, G: Gate + Sync>(
-    rt: &R,
-    alloc: Global,
-    image: &Image,
-    stim: &Stim,
-    ticks: u32,
-    workers: u32,
-    gate: &G,
-) -> Result<Run, Memory>
-    requires image { Valid image.now }
-    requires stim { IsGoodStim stim.now }
-    requires ticks { (1 ≤ ticks) × (ticks ≤ 200000) }
-    requires workers { (1 ≤ workers) × (workers ≤ 16) }
-{
-    workers_named::<Brand, R, G>(rt, alloc, image, stim, ticks, workers, gate)
-}
-
-/// The run that U names.
-fn workers_named<U: RunName + Send + Sync, R: Threads + Wait + Sync, G: Gate + Sync>(
-    rt: &R,
-    alloc: Global,
-    image: &Image,
-    stim: &Stim,
-    ticks: u32,
-    workers: u32,
-    gate: &G,
-) -> Result<Run, Memory>
-    requires image { image.now ≡ U.listing }
-    requires valid { Valid image.now }
-    requires stim { stim.now ≡ U.stimulus }
-    requires good { IsGoodStim stim.now }
-    requires ticks { ticks ≡ U.ticks }
-    requires some { 1 ≤ ticks }
-    requires few { ticks ≤ 200000 }
-    requires workers { (1 ≤ workers) × (workers ≤ 16) }
-{
-    let board = Board::<U>::new(alloc, image, stim, ticks)?;
-    run_workers::<U, G, R>(rt, alloc, board, workers, gate)
 }

@@ -1,7 +1,7 @@
 // Four cores side by side on a board.
 
-ghost use Rattle.std.specs.Prelude.{◌≡◌, ◌≤◌};
 ghost use Rattle.xr_board.specs.CellState.{IsCell};
+ghost use Rattle.xr_board.specs.ForCores.{IsTask};
 ghost use Rattle.xs_instr.specs.Valid.{IsGoodStim, Valid};
 
 use crate::counting::{Counting, EACH_ONCE, FIRST_WINDOWS};
@@ -15,49 +15,8 @@ use xr_board::{Board, BoardTurn, Cells, GatherErr, Turned, run_alone, run_worker
 use xr_listed::{ListingErr, read_image};
 use xr_windows::{Run, RunName};
 use xs_instr::{EndWord, Image, Stim};
-use xw_io::{Gate, OpenGate};
+use xw_io::OpenGate;
 use xw_words::{List, Memory};
-
-/// The run of an image by workers.
-pub fn by_workers<R: Threads + Wait + Sync, G: Gate + Sync>(
-    rt: &R,
-    alloc: Global,
-    image: &Image,
-    stim: &Stim,
-    ticks: u32,
-    workers: u32,
-    gate: &G,
-) -> Result<Run, Memory>
-    requires image { Valid image.now }
-    requires stim { IsGoodStim stim.now }
-    requires ticks { (1 ≤ ticks) × (ticks ≤ 200000) }
-    requires workers { (1 ≤ workers) × (workers ≤ 16) }
-{
-    workers_named::<Brand, R, G>(rt, alloc, image, stim, ticks, workers, gate)
-}
-
-/// The run that U names.
-fn workers_named<U: RunName + Send + Sync, R: Threads + Wait + Sync, G: Gate + Sync>(
-    rt: &R,
-    alloc: Global,
-    image: &Image,
-    stim: &Stim,
-    ticks: u32,
-    workers: u32,
-    gate: &G,
-) -> Result<Run, Memory>
-    requires image { image.now ≡ U.listing }
-    requires valid { Valid image.now }
-    requires stim { stim.now ≡ U.stimulus }
-    requires good { IsGoodStim stim.now }
-    requires ticks { ticks ≡ U.ticks }
-    requires some { 1 ≤ ticks }
-    requires few { ticks ≤ 200000 }
-    requires workers { (1 ≤ workers) × (workers ≤ 16) }
-{
-    let board = Board::<U>::new(alloc, image, stim, ticks)?;
-    run_workers::<U, G, R>(rt, alloc, board, workers, gate)
-}
 
 /// How many records the run of 16 ticks by one worker has, on a board on which core 0 is a window ahead, and whether it was stopped by its ticks,
 /// each window having been run once.
@@ -67,11 +26,7 @@ fn with_a_core_ahead<U: RunName + Send + Sync, R: Threads + Wait + Sync>(
     image: &Image,
     stim: &Stim,
 ) -> Result<(usize, bool), Memory>
-    requires image { image.now ≡ U.listing }
-    requires valid { Valid image.now }
-    requires stim { stim.now ≡ U.stimulus }
-    requires good { IsGoodStim stim.now }
-    requires ticks { 16 ≡ U.ticks }
+    requires task { IsTask U.listing U.stimulus U.ticks image.now stim.now 16 }
 {
     let counting = Counting::new();
     let board = Board::<U>::new(alloc, image, stim, 16)?;
@@ -167,11 +122,7 @@ fn row<U: RunName, R: Wait>(
     turns: &[Turn],
     calls: u64,
 ) -> Result<Row, Memory>
-    requires image { image.now ≡ U.listing }
-    requires valid { Valid image.now }
-    requires stim { stim.now ≡ U.stimulus }
-    requires good { IsGoodStim stim.now }
-    requires ticks { 16 ≡ U.ticks }
+    requires task { IsTask U.listing U.stimulus U.ticks image.now stim.now 16 }
 {
     let board = Board::<U>::new(alloc, image, stim, 16)?;
     if is_stopped {
@@ -188,11 +139,7 @@ fn row_of_cells<U: RunName, R: Wait>(
     image: &Image,
     stim: &Stim,
 ) -> Result<Row, Memory>
-    requires image { image.now ≡ U.listing }
-    requires valid { Valid image.now }
-    requires stim { stim.now ≡ U.stimulus }
-    requires good { IsGoodStim stim.now }
-    requires ticks { 16 ≡ U.ticks }
+    requires task { IsTask U.listing U.stimulus U.ticks image.now stim.now 16 }
 {
     let board = Board::<U>::new(alloc, image, stim, 16)?;
     let are_so = answers(rt, alloc, &board, &ROUND, FIRST_WINDOWS);
@@ -213,11 +160,7 @@ fn table_named<U: RunName, R: Wait>(
     image: &Image,
     stim: &Stim,
 ) -> Result<Table, Memory>
-    requires image { image.now ≡ U.listing }
-    requires valid { Valid image.now }
-    requires stim { stim.now ≡ U.stimulus }
-    requires good { IsGoodStim stim.now }
-    requires ticks { 16 ≡ U.ticks }
+    requires task { IsTask U.listing U.stimulus U.ticks image.now stim.now 16 }
 {
     let at_once = row::<U, R>(rt, alloc, image, stim, false, &[], 0)?;
     let twice = row::<U, R>(rt, alloc, image, stim, false, &TWICE, 1)?;
@@ -254,11 +197,7 @@ fn with_all_stopped<U: RunName + Send + Sync, R: Threads + Wait + Sync>(
     image: &Image,
     stim: &Stim,
 ) -> Result<bool, Memory>
-    requires image { image.now ≡ U.listing }
-    requires valid { Valid image.now }
-    requires stim { stim.now ≡ U.stimulus }
-    requires good { IsGoodStim stim.now }
-    requires ticks { 16 ≡ U.ticks }
+    requires task { IsTask U.listing U.stimulus U.ticks image.now stim.now 16 }
 {
     let counting = Counting::new();
     let board = Board::<U>::new(alloc, image, stim, 16)?;

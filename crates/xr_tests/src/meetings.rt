@@ -3,12 +3,12 @@
 ghost use Rattle.std.specs.Prelude.{◌≤◌};
 ghost use Rattle.xs_instr.specs.Valid.{IsGoodStim, Valid};
 
-use crate::boards::by_workers;
 use crate::counting::{Counting, EACH_ONCE};
 use std::alloc::Global;
 use std::sync::Wait;
 use std::sync::atomic::{AtomicU64, Ordering};
 use std::thread::{self, Threads};
+use xr_board::run_by_workers;
 use xr_windows::Run;
 use xs_instr::{Image, Stim};
 use xw_io::Gate;
@@ -66,7 +66,7 @@ fn is_same<R: Threads + Wait + Sync>(
     requires workers { (1 ≤ workers) × (workers ≤ 16) }
 {
     let counting = Counting::new();
-    let run = by_workers(rt, alloc, image, stim, 16, workers, &counting)?;
+    let run = run_by_workers(rt, alloc, image, stim, 16, workers, &counting)?;
     Ok(counting.are(EACH_ONCE) && is_alike(&run, told))
 }
 
@@ -87,7 +87,7 @@ pub fn meet_at_once<R: Threads + Wait + Sync>(
         met: AtomicU64::new(0),
         counting: Counting::new(),
     };
-    let two = by_workers(rt, alloc, image, stim, 16, 2, &meeting)?;
+    let two = run_by_workers(rt, alloc, image, stim, 16, 2, &meeting)?;
     let have_met = meeting.met.load(Ordering::SeqCst) == 2;
     let are_each_once = meeting.counting.are(EACH_ONCE);
     let by_one = is_same(rt, alloc, image, stim, 1, &two) == Ok(true);
