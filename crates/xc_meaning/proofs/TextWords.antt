@@ -1,5 +1,5 @@
 -- The steps of the kernel's expressions and places are those of the text's.
-use Rattle.std.proofs.Common.{◌≡◌, ℕ, Bool, length, Option, Some, None, option_map, refl, sym, ap, ap₂, ◌∙◌}
+use Rattle.std.proofs.Common.{◌≡◌, ℕ, Bool, length, Option, Some, None, option_map, refl, ap, ◌∙◌}
 use Rattle.xw_words.specs.declared.pos.Pos.{Pos}
 use Rattle.xc_tree.specs.Plain as tree
 use Rattle.xc_kernel.specs.declared.statement.KRes.{KRes}
@@ -18,10 +18,10 @@ use Rattle.xc_meaning.specs.States.Worlds.{World, only_if}
 use Rattle.xc_meaning.specs.Settings.Setting.{Setting, with_value}
 use Rattle.xc_meaning.specs.Settings.Stores.{Spot, stored_in, stored, stored_at, assigned, assigned_at}
 use Rattle.xc_meaning.specs.Settings.Channels.{outputs_word}
-use Rattle.xc_meaning.specs.Settings.Time.{Timing, timing_by, when_tested, timing, with_timing, clock_of, counter_of, pins_of, port_may_pass, timer_may_pass}
+use Rattle.xc_meaning.specs.Settings.Time.{timing_by, when_tested, timing, with_timing, clock_of, counter_of, pins_of, port_may_pass, timer_may_pass}
 use Rattle.xc_meaning.specs.Settings.Transfers.{drives, samples, reads_clock, outputs_to, inputs_from}
 use Rattle.xc_meaning.specs.Settings.Select.{guard_value}
-use Rattle.xc_meaning.specs.Texts.Words.{index_below, spot_of_place, types_in, value_in, updated_in, spot_in}
+use Rattle.xc_meaning.specs.Texts.Words.{index_below, spot_of_place, value_in, updated_in, spot_in}
 use Rattle.xc_meaning.specs.Texts.Transfers.{timing_in, outputs_text, inputs_text}
 use Rattle.xc_meaning.specs.Texts.Select.{guard_in}
 use Rattle.xc_meaning.specs.Texts.Loops.{test_value}

@@ -1,5 +1,5 @@
 -- The word of an expression of a text is that of the kernel's expression for it.
-use Rattle.std.proofs.Common.{◌≡◌, ℕ, ◌+◌, Bool, ◌||◌, List, [], ◌∷◌, length, Option, Some, refl, sym, ap, ◌∙◌}
+use Rattle.std.proofs.Common.{◌≡◌, ℕ, ◌+◌, Bool, ◌||◌, [], ◌∷◌, refl}
 use Rattle.xw_words.specs.declared.pos.Pos.{Pos}
 use Rattle.xc_tree.specs.Names.Marks as marks
 use Rattle.xc_tree.specs.Plain as tree
@@ -7,12 +7,12 @@ use Rattle.xc_tree.specs.Types.Named.{past}
 use Rattle.xc_kernel.specs.Plain as kernel
 use Rattle.xc_kernel.specs.Operators.{choose, operator_at, operator_of}
 use Rattle.xc_kernel.specs.Types.{operation_is_unsigned}
-use Rattle.xc_kernel.specs.Values.{Value, word, error, tested, applied}
+use Rattle.xc_kernel.specs.Values.{Value, applied}
 use Rattle.xc_kernel.specs.Eval.{Store, words_of, element_at, eval}
 use Rattle.xc_kernel.specs.Numbering.{Numbering}
 use Rattle.xc_kernel.specs.Scopes.{Scope, Entity, a_word, an_array, an_element, a_channel, a_timer, a_port, a_constant, nothing_known, entity_of, is_unsigned}
 use Rattle.xc_kernel.specs.Expressions.{expression_in, form_in, kernel_place, place_of_entity, word_of_entity, array_number, updated}
-use Rattle.xc_meaning.specs.Texts.Words.{array_variable, element_spot, spot_of_place, value_of_entity, spot_of_entity, array_words, value, value_of_form, updated_value, spot}
+use Rattle.xc_meaning.specs.Texts.Words.{array_variable, element_spot, spot_of_place, value_of_entity, spot_of_entity, value, value_of_form, updated_value, spot}
 
 pub array_is : (num : Numbering) (x : Entity) → array_number num x ≡ array_variable num x
 array_is num (a_word path u) = refl

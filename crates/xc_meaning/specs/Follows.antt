@@ -6,7 +6,7 @@ use Rattle.xc_tree.specs.Types.Named.{NamedProgram}
 use Rattle.xc_kernel.specs.Plain as kernel
 use Rattle.xc_kernel.specs.Sound.{IsTyped}
 use Rattle.xc_kernel.specs.Copies.{copy_of, Copies}
-use Rattle.xc_meaning.specs.States.Branches.{all_ended}
+use Rattle.xc_meaning.specs.States.Branches.{all_ended, births}
 use Rattle.xc_meaning.specs.States.Worlds.{World, Action}
 use Rattle.xc_meaning.specs.Texts.Called.{CallsEnd}
 use Rattle.xc_meaning.specs.Texts.Returns.{ReturnsStay}
@@ -14,12 +14,13 @@ use Rattle.xc_meaning.specs.Runs.{kernel_start, program_start, kernel_run, progr
 use Rattle.xc_meaning.specs.Quiet.{IsQuiet}
 use Rattle.xc_meaning.specs.Counts.Families.{steps_of}
 
--- what can be seen of a kernel's state and of a text's is the same
+-- what can be seen of a kernel's state and of a text's is the same, and so are the branches' numbers
 pub record AreAlike (x y : World) : Type 0 where
   pub clocks : x.clocks ≡ y.clocks
   pub trace : x.trace ≡ y.trace
   pub inboxes : x.inboxes ≡ y.inboxes
   pub ended : all_ended x.branches ≡ all_ended y.branches
+  pub births : births x.branches ≡ births y.branches
 
 -- these steps of a program's kernel and those of its text lead to states that are alike
 pub record StandAlike (P : List tree.Item) (K : kernel.Kernel) (s : Stim) (ms ns : List Action) : Type 0 where
@@ -57,8 +58,8 @@ pub record HasBeside (Stand : List Action → List Action → Type 0) (ms : List
   pub pieces : List (List Action)
   pub along : StandAlong Stand [] first ms pieces
 
--- Where calls end, each run of a kernel has a run of the program's text beside it: with the same clocks, trace and inboxes, and
--- ended together.
+-- Where calls end, each run of a kernel has a run of the program's text beside it: with the same clocks, trace and inboxes, ended
+-- together, and with each branch born as the one of its number.
 abbrev pub TextFollows : Type 0
 TextFollows =
     (P : List tree.Item) (K : kernel.Kernel) → CallsEnd P → Copies P K →

@@ -4,9 +4,9 @@ ghost use Rattle.xc_meaning.specs.Follows.{TextFollows, TypedTextFollows};
 
 /// Each run of a program's kernel has a run of the program's text beside it, cut into a first piece and one piece for each
 /// step of the kernel's, some perhaps empty: after the first piece, and again after each step and its piece, the two stand
-/// with the same clocks, trace and inboxes and have ended together. So what a kernel's run records is something that the
-/// program may record, and what holds of the clocks, trace and inboxes in every run of the text holds in every run of its
-/// kernel.
+/// with the same clocks, trace and inboxes, have ended together, and have the same branches by number: each was made by the `par` of
+/// the same family, at the same place in it. So what a kernel's run records is something that the program may record, and what holds
+/// of the clocks, trace and inboxes in every run of the text holds in every run of its kernel.
 ///
 /// That is so of each program that breaks no rule of names, types and shapes. Of these rules it needs that each called name
 /// means a function, that no name is declared twice in a scope, and that no call stands on a cycle of calls: so no chain of

@@ -1,7 +1,7 @@
 // The calls of a case.
 
 use crate::outputs::{Stream, is_as_wanted};
-use crate::outside::outside_of;
+use crate::outside::{Call, outside_of};
 use crate::texts::number;
 use crate::trouble::Trouble;
 use std::alloc::Global;
@@ -9,7 +9,8 @@ use std::sync::Wait;
 use std::thread::Threads;
 use xw_io::{Out, Sink};
 
-/// Whether of each call of a case comes what is wanted. What comes else is told. Each call finds the files and sinks as they are at first.
+/// Whether of each call of a case comes what is wanted, by `xcsim` and by `still`. What comes else is told. Each call finds the files and sinks as
+/// they are at first.
 pub fn is_right<R: Threads + Wait + Sync, O: Sink>(
     rt: &R,
     alloc: Global,
@@ -21,7 +22,9 @@ pub fn is_right<R: Threads + Wait + Sync, O: Sink>(
     for line in case.split('\n') {
         if let Some(words) = line.strip_prefix("call") {
             is_called = true;
-            if !is_call_right(rt, alloc, told, case, words, status)? {
+            if !is_call_right(rt, alloc, told, case, Call::Xcsim, words, status)?
+                || !is_call_right(rt, alloc, told, case, Call::Still, words, status)?
+            {
                 return Ok(false);
             }
         }
@@ -49,11 +52,12 @@ fn is_call_right<R: Threads + Wait + Sync, O: Sink>(
     alloc: Global,
     told: &mut Out<'_, O>,
     case: &str,
+    call: Call,
     words: &str,
     wanted: u32,
 ) -> Result<bool, Trouble> {
     let mut outside = outside_of(alloc, case)?;
-    let status = outside.call(rt, alloc, words)?;
+    let status = outside.call(rt, alloc, call, words)?;
     let has_status = status as u32 == wanted;
     if !has_status {
         told.add(b"another status\n");

@@ -5,7 +5,7 @@ use crate::trouble::Trouble;
 use std::alloc::{AllocError, Global};
 use std::sync::Wait;
 use std::thread::Threads;
-use xr_commands::xcsim;
+use xr_commands::{still, xcsim};
 use xw_io::{File, MemShelf, MemSink, OpenGate, Shelf};
 use xw_words::{List, Memory};
 
@@ -14,6 +14,13 @@ const FILE: &str = "a.xc";
 
 /// The most bytes that a sink takes.
 const MOST_BYTES: usize = 65_536;
+
+/// Which call is made: the program's, or the one that waits for nobody.
+#[derive(Clone, Copy)]
+pub enum Call {
+    Xcsim,
+    Still,
+}
 
 /// The files and sinks of a call.
 #[derive(Drop)]
@@ -65,18 +72,15 @@ impl Outside {
         &mut self,
         rt: &R,
         alloc: Global,
+        call: Call,
         words: &str,
     ) -> Result<u8, AllocError> {
         let words = word_list(alloc, words)?;
-        Ok(xcsim(
-            rt,
-            alloc,
-            words.as_slice(),
-            &mut self.shelf,
-            &mut self.out,
-            &mut self.err,
-            &OpenGate,
-        ))
+        let Outside { shelf, out, err } = self;
+        Ok(match call {
+            Call::Xcsim => xcsim(rt, alloc, words.as_slice(), shelf, out, err, &OpenGate),
+            Call::Still => still(alloc, words.as_slice(), shelf, out, err),
+        })
     }
 
     /// Whether no file was loaded, where a case wants that: the first load fails then, and so this is the first.

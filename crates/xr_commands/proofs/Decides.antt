@@ -14,7 +14,7 @@ use Rattle.xr_commands.specs.Lines.{accepted_line, broken_line, code_section, no
 use Rattle.xr_commands.specs.Outside.{Loads}
 use Rattle.xr_commands.specs.Parts.{IsAnswer, IsAnswerOnText}
 use Rattle.xr_commands.specs.Rules.{First, IsAccepted}
-use Rattle.xr_commands.specs.Runs.{IsCompiled, IsLockstep, no_stim, unnamed}
+use Rattle.xr_commands.specs.Runs.{IsCompiled, IsRunFor, no_stim, unnamed}
 
 module _ (shelf : Loads) (c : Command) (name : List ℕ) (is : name ≡ file_of c) where
   due : IsDue shelf.files c name
@@ -47,6 +47,6 @@ checked_at file text P accepted shelf h words meant = checked file text P meant 
 pub assembled_at : (file text : List ℕ) (L : Image) → IsCompiled text L → IsAnswerOnText (Asm file) text (prints 0 (code_section L))
 assembled_at file text L compiled shelf h words meant = assembled file text L meant h compiled
 
-pub ran_at : (file : List ℕ) (ticks : ℕ) (text : List ℕ) (L : Image) (lines : List Record) (word : EndWord) (trapped : Bool) → IsCompiled text L → IsLockstep L no_stim ticks lines word trapped → IsAnswerOnText (Run file ticks None) text (prints (status_of_run trapped word) (run_output L lines word))
+pub ran_at : (file : List ℕ) (ticks : ℕ) (text : List ℕ) (L : Image) (lines : List Record) (word : EndWord) (trapped : Bool) → IsCompiled text L → IsRunFor L no_stim ticks lines word trapped → IsAnswerOnText (Run file ticks None) text (prints (status_of_run trapped word) (run_output L lines word))
 ran_at file ticks text L lines word trapped compiled lockstep shelf h words meant =
     ran file ticks None text no_stim L lines word trapped meant h compiled unnamed lockstep

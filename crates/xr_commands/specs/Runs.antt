@@ -1,15 +1,16 @@
 -- What a text compiles to, and the run that is written.
-use Rattle.std.specs.Prelude.{◌≡◌, ℕ, Bool, List, [], Option, None}
+use Rattle.std.specs.Prelude.{◌≡◌, ◌↔◌, ℕ, Bool, true, List, [], Option, None}
 use Rattle.xw_io.specs.declared.file.File.{File}
 use Rattle.xs_instr.specs.declared.image.Image.{Image}
 use Rattle.xs_instr.specs.declared.image.Stim.{Stim}
 use Rattle.xs_instr.specs.declared.trace.EndWord.{EndWord}
+use Rattle.xs_instr.specs.declared.trace.EndWord.TheVariants.{Finished, Trapped}
 use Rattle.xs_instr.specs.declared.trace.Record.{Record}
 use Rattle.xs_instr.specs.Valid.{Valid}
 use Rattle.xs_fabric.specs.EndWord.{end_of, has_trap}
 use Rattle.xs_fabric.specs.Lockstep.{lockstep}
 use Rattle.xc_tree.specs.Plain.{Item}
-use Rattle.xr_match.specs.Implements.{Implements}
+use Rattle.xr_match.specs.Implements.{AllRootsEnded, Implements}
 use Rattle.xr_match.specs.Meanings.{of_text}
 use Rattle.xs_instr.specs.Words.{HasWords}
 use Rattle.xr_commands.specs.Rules.{IsAccepted}
@@ -31,8 +32,11 @@ no_stim = record { lines = [] }
 pub data IsStimOf (files : Option (List File)) : Option (List ℕ) → Stim → Type 0 where
   unnamed : IsStimOf files None no_stim
 
--- what the run in lockstep recorded in so many rounds from the start, how it ended, and whether a thread trapped
-pub record IsLockstep (L : Image) (s : Stim) (rounds : ℕ) (lines : List Record) (word : EndWord) (trapped : Bool) : Type 0 where
+-- What the run in lockstep recorded in so many rounds from the start, how it ended, and whether a thread trapped. It is told to have finished
+-- exactly where all roots have ended, which is where the program has, and to be trapped only where a thread is.
+pub record IsRunFor (L : Image) (s : Stim) (rounds : ℕ) (lines : List Record) (word : EndWord) (trapped : Bool) : Type 0 where
   pub lines_are : lines ≡ (lockstep L s rounds).trace
   pub word_is : word ≡ end_of L s (lockstep L s rounds)
   pub trapped_is : trapped ≡ has_trap L s (lockstep L s rounds)
+  pub finished : (word ≡ Finished) ↔ AllRootsEnded (lockstep L s rounds).cores
+  pub by_traps : word ≡ Trapped → trapped ≡ true

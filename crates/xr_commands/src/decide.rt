@@ -14,7 +14,7 @@ ghost use Rattle.xr_commands.specs.Rules.{First, IsKernelOf};
 ghost use Rattle.xr_commands.specs.Runs.{IsCompiled};
 
 use crate::front::read_text;
-use crate::run::{Run, run_alone};
+use crate::run::{Run, run_for};
 use crate::words::{Command, meaning};
 use std::alloc::Global;
 use xc_disjoint::Checked;
@@ -171,7 +171,7 @@ fn run_image<'w>(alloc: Global, image: Image, ticks: u32) -> Decision<'w>
         IsAnswerOnText (MeansRun file ticks None) text (outcome_of result) }
     ensures printable { IsPrintable result.printed }
 {
-    match run_alone(alloc, &image, ticks) {
+    match run_for(alloc, &image, ticks) {
         Ok(run) => {
             let status = status(run.trapped, run.end);
             printing(status, Printed::Whole(image, run))

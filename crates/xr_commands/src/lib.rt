@@ -7,9 +7,10 @@ mod deliver;
 mod front;
 mod law;
 mod run;
-mod still;
 mod top;
+mod unthreaded;
 mod words;
 
 pub use law::at_most_one_answer;
 pub use top::xcsim;
+pub use unthreaded::still;

@@ -1,6 +1,6 @@
 ghost use Rattle.std.specs.Prelude.{◌≡◌, IfOk};
 ghost use Rattle.xs_instr.specs.Valid.{IsGoodStim, Valid};
-ghost use Rattle.xr_commands.specs.Runs.{IsLockstep, no_stim};
+ghost use Rattle.xr_commands.specs.Runs.{IsRunFor, no_stim};
 
 use std::alloc::Global;
 use xs_fabric::Machine;
@@ -19,10 +19,10 @@ pub struct Run {
 }
 
 /// The run of an image for so many ticks without a stimulus.
-pub fn run_alone(alloc: Global, image: &Image, ticks: u32) -> Result<Run, Memory>
+pub fn run_for(alloc: Global, image: &Image, ticks: u32) -> Result<Run, Memory>
     requires valid { Valid image.now }
     ensures { IfOk result (λ run.
-        IsLockstep image.now no_stim ticks run.machine.state.trace run.end run.trapped) }
+        IsRunFor image.now no_stim ticks run.machine.state.trace run.end run.trapped) }
 {
     let stim = Stim {
         lines: List::new(alloc),
@@ -35,7 +35,7 @@ pub fn run_lockstep(alloc: Global, image: &Image, stim: &Stim, rounds: u32) -> R
     requires valid { Valid image.now }
     requires stim { IsGoodStim stim.now }
     ensures { IfOk result (λ run.
-        IsLockstep image.now stim.now rounds run.machine.state.trace run.end run.trapped) }
+        IsRunFor image.now stim.now rounds run.machine.state.trace run.end run.trapped) }
 {
     let mut machine = Machine::boot(alloc, image, stim)?;
     for _round in 0..rounds {

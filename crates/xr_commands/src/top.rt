@@ -3,7 +3,7 @@ ghost use Rattle.xr_commands.specs.Answers.{Answers};
 ghost use Rattle.xr_commands.specs.Causes.{Completes, OnlyCauses};
 ghost use Rattle.xr_commands.specs.Outside.{loads, span};
 
-use crate::still::still;
+use crate::unthreaded::still;
 use std::alloc::Global;
 use std::sync::Wait;
 use std::thread::Threads;

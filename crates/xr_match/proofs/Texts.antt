@@ -9,7 +9,7 @@ use Rattle.xc_tree.specs.Plain as tree
 use Rattle.xc_kernel.specs.Copies.{Copies, copy_of}
 use Rattle.xc_kernel.specs.Plain as kernel
 use Rattle.xc_meaning.specs.Follows.{AreAlike, StandAlike, StandAlong, HasBeside}
-use Rattle.xc_meaning.specs.Runs.{acts, acts_all, kernel_run, kernel_start, program_run, program_start}
+use Rattle.xc_meaning.specs.Runs.{Allowed, AllowedKernel, acts, acts_all, kernel_run, kernel_start, program_run, program_start}
 use Rattle.xc_meaning.specs.States.Channels.{Side, no_parcels, parcels_at}
 use Rattle.xc_meaning.specs.States.Worlds.{World, Action}
 use Rattle.xc_meaning.proofs.Recursion.Typed.{typed_text_follows}
@@ -46,6 +46,19 @@ acts_one K s (Some x) = refl
 
 is_some : (o : Option World) (x : World) → o ≡ Some x → IsSome o
 is_some o x e = subst IsSome (sym e) refl
+
+-- a run of a meaning with its families' actions is one without them
+led_by : (K : kernel.Kernel) (s : Stim) (start : World) (bound : ℕ) (ms : List Action) → IsRun (told_of (of_worlds K start bound) s) ms → IsSome (acts_all K s (Some start) ms)
+led_by K s start bound ms run =
+    let source = of_worlds K start bound in
+    let there = there_get (λ z. Unit {0}) (leads (told_of source s) (told_start source) ms) run in
+    is_some (acts_all K s (Some start) ms) there.0.state (same_run K s start bound ms start ∙ uncounted source s ms (told_start source) there.0 there.1)
+
+pub kernel_allowed : (K : kernel.Kernel) (s : Stim) (ms : List Action) → IsRun (told_of (of_kernel K) s) ms → AllowedKernel K s ms
+kernel_allowed K s ms run = record { leads = led_by K s (kernel_start K) (of_kernel K).bound ms run }
+
+pub text_allowed : (P : List tree.Item) (s : Stim) (ms : List Action) → IsRun (told_of (of_text P) s) ms → Allowed P s ms
+text_allowed P s ms run = record { leads = led_by (copy_of P) s (program_start P) (of_text P).bound ms run }
 
 module _ (P : List tree.Item) (K : kernel.Kernel) (s : Stim) where
   abbrev Alike : Told (of_kernel K) → Told (of_text P) → Type 0
@@ -99,9 +112,7 @@ module _ (P : List tree.Item) (K : kernel.Kernel) (s : Stim) where
       }
 
   is_run : (ms : List Action) → IsRun (told_of (of_kernel K) s) ms → IsSome (kernel_run K s ms)
-  is_run ms run =
-      let there = there_get (λ z. Unit {0}) (leads (told_of (of_kernel K) s) (told_start (of_kernel K)) ms) run in
-      is_some (kernel_run K s ms) there.0.state (same_run K s (kernel_start K) (of_kernel K).bound ms (kernel_start K) ∙ uncounted (of_kernel K) s ms (told_start (of_kernel K)) there.0 there.1)
+  is_run ms run = (kernel_allowed K s ms run).leads
 
   -- what stands in the kernel's inbox stands in the text's
   has_parcel : (copies : Copies P K) (x y : World) → AreAlike x y → (place : ℕ) (side : Side) → HasParcel K x place side → HasParcel (copy_of P) y place side

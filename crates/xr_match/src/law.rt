@@ -1,7 +1,23 @@
-ghost use Rattle.xr_match.specs.Meanings.{KernelsCarry};
+ghost use Rattle.std.specs.Prelude.{List as Items};
+ghost use Rattle.xs_instr.specs.declared.image.Stim.{Stim};
+ghost use Rattle.xc_tree.specs.Plain.{Item};
+ghost use Rattle.xc_kernel.specs.Plain.{Kernel};
+ghost use Rattle.xc_meaning.specs.Runs.{Allowed, AllowedKernel};
+ghost use Rattle.xc_meaning.specs.States.Worlds.{Action};
+ghost use Rattle.xr_match.specs.Meanings.{KernelsCarry, of_kernel, of_text};
+ghost use Rattle.xr_match.specs.Sources.{told_of};
+ghost use Rattle.xr_match.specs.Systems.{IsRun};
 
 /// An image that implements a program's kernel implements the program's text: what a machine with it does under a stimulus, whatever
 /// the order of its events, is what the text may do. That is so of each program that breaks no rule of names, types and shapes.
 pub fn kernel_carries_to_text()
     ensures carries { KernelsCarry }
+{}
+
+/// What stands beside a machine's run is a run that the program's text may take, or its kernel.
+pub fn runs_are_allowed()
+    ensures text { (P : Items Item) (s : Stim) (actions : Items Action) →
+        IsRun (told_of (of_text P) s) actions → Allowed P s actions }
+    ensures kernel { (K : Kernel) (s : Stim) (actions : Items Action) →
+        IsRun (told_of (of_kernel K) s) actions → AllowedKernel K s actions }
 {}

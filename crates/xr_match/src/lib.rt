@@ -3,4 +3,4 @@
 
 mod law;
 
-pub use law::kernel_carries_to_text;
+pub use law::{kernel_carries_to_text, runs_are_allowed};

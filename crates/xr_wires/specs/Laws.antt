@@ -14,6 +14,6 @@ use Rattle.xr_wires.specs.Balance.{Local}
 abbrev pub ChannelsBegin : Type 0
 ChannelsBegin = (L : Image) (streaming : ℕ → Bool) (inboxes : List Inboxes) → Valid L → ((k : ℕ) (side : Side) → parcels_at (slice_index_or inboxes k no_parcels) side ≡ []) → ((k : ℕ) (p : Pair) → slice_get L.chans k ≡ Some p → k < length inboxes) → Local L.chans (boot L).cores inboxes (start_ghosts streaming)
 
--- A side that is outside and in no piece has an empty inbox where no token is at its end: no case of a select on it is enabled.
+-- A side that is outside and in no piece has an empty inbox where no token is at its end: no case of a select on it is ready.
 abbrev pub NoneReady : Type 0
 NoneReady = (pairs : List Pair) → IsWired pairs → (cores : List CoreState) (links : Links) (inboxes : List Inboxes) (g : Ghosts) → Wires pairs cores links inboxes g → (k : ℕ) (p : Pair) (side : Side) → slice_get pairs k ≡ Some p → g.spots k side ≡ spot between false → tokens_at cores (place p side).core (place p side).end ≡ [] → parcels_at (slice_index_or inboxes k no_parcels) side ≡ []

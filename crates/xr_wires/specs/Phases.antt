@@ -4,7 +4,7 @@
 --   phase          where it stands                    still sends   still takes   has taken   has asked   may still put
 --   between        in no piece
 --   sends_end v    behind OUT of an output            END                                     offers v    its offer
---   awaits_ack q   before CHKCT ACK                                                           q           its question
+--   awaits_ack q   before CHKCT ACK                                                           q           its offer or opening
 --   checks_end     behind IN of an input              ACK           END
 --   sends_ack      behind CHKCT END or CHKCT OPEN     ACK
 --   was_closed     behind CHKCT END of a slave's end                              END

@@ -76,7 +76,7 @@ line cores links inboxes g p k side =
       late = g.late k side;
     }
 
--- A channel of the image as its side sees it. Its number is that among the program's channels.
+-- A channel of the image as its side sees it. Its number is that of its line, which is its place among the program's channels with two sides.
 abbrev pub TalkAt : List CoreState → Links → List Inboxes → Ghosts → Pair → (channel : ℕ) → Side → Type 0
 TalkAt cores links inboxes g p k side =
     Stands (g.spots k side) (g.spots k (other_side side)) (line cores links inboxes g p k (other_side side)) (line cores links inboxes g p k side)

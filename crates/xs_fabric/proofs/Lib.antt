@@ -12,6 +12,7 @@ pub mod FourPeers
 pub mod Idles
 pub mod Links
 pub mod LockstepLeads
+pub mod Loose
 pub mod Nothing
 pub mod OneRound
 pub mod Others

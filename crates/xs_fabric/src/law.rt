@@ -1,4 +1,5 @@
-ghost use Rattle.std.specs.Prelude.{◌≡◌, ◌≢◌, ◌<◌, ◌^◌, ◌≤◌, ◌+◌, ◌++◌, ℕ, List as Items, length, ◌∷◌, Some, slice_get};
+ghost use Rattle.std.specs.Prelude.{◌≡◌, ◌≢◌, ◌↔◌, ◌<◌, ◌^◌, ◌≤◌, ◌+◌, ◌++◌, ℕ, true, List as Items, length, ◌∷◌, Some, slice_get};
+ghost use Rattle.xs_fabric.specs.EndWord.{end_of, has_trap};
 ghost use Rattle.xs_fabric.specs.Lockstep.{due_from, events_in, lockstep, rounds_at};
 ghost use Rattle.xs_fabric.specs.Rooms.{AllHaveRoom};
 ghost use Rattle.xs_core.specs.Room.{Tokens, Credits, total, ends_of, HasRoom};
@@ -11,6 +12,7 @@ ghost use Rattle.xs_instr.specs.declared.image.Image.{Image};
 ghost use Rattle.xs_instr.specs.declared.image.Stim.{Stim};
 ghost use Rattle.xs_instr.specs.declared.state.CoreState.{CoreState};
 ghost use Rattle.xs_instr.specs.declared.state.Item.{Item};
+ghost use Rattle.xs_instr.specs.declared.trace.EndWord.TheVariants.{Finished, Trapped};
 ghost use Rattle.xs_instr.specs.declared.trace.Record.{Record};
 
 /// The run in lockstep is a run of events, each enabled where it stands. So what is proved of every run of an image
@@ -76,4 +78,18 @@ pub fn due_items_have_room()
     ensures { (L : Image) (s : Stim) (events : Items Event) (m : Machine) (c clock : ℕ)
         (core : CoreState) → Valid L → runs L s (boot L) events ≡ Some m → slice_get m.cores c
         ≡ Some core → AllHaveRoom (home_of L s c) core (due_from m.links c clock 4) }
+{}
+
+/// In each run of a valid image the end word is `finished` exactly where no core has a root that has not ended.
+pub fn finished_once_all_roots_have_ended()
+    ensures { (L : Image) (s : Stim) (events : Items Event) (m : Machine) → Valid L →
+        runs L s (boot L) events ≡ Some m → (end_of L s m ≡ Finished)
+        ↔ ((c : ℕ) (core : CoreState) → slice_get m.cores c ≡ Some core → core.roots ≡ 0) }
+{}
+
+/// In each run of a valid image the end word is `trapped` only where a thread is trapped: a core never has more roots that have not ended
+/// than threads in use.
+pub fn trapped_only_with_a_trap()
+    ensures { (L : Image) (s : Stim) (events : Items Event) (m : Machine) → Valid L →
+        runs L s (boot L) events ≡ Some m → end_of L s m ≡ Trapped → has_trap L s m ≡ true }
 {}

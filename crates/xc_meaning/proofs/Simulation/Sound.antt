@@ -14,11 +14,10 @@ use Rattle.xc_tree.specs.Symbols.{equals}
 use Rattle.xc_kernel.specs.Paths.{Path, path_at}
 use Rattle.xc_kernel.specs.Scopes.{Scope, a_constant, with_name}
 use Rattle.xc_kernel.specs.Programs.{Function}
-use Rattle.xc_kernel.specs.Context.{Context, in_branch, expression, maybe_expression, place, declares_word, word_at}
+use Rattle.xc_kernel.specs.Context.{Context, in_branch, place, declares_word, word_at}
 use Rattle.xc_kernel.specs.Parameters.{passed}
-use Rattle.xc_kernel.specs.Calls.{called, value_of, right_is_unsigned}
+use Rattle.xc_kernel.specs.Calls.{called, value_of}
 use Rattle.xc_kernel.specs.Transfers.{output_of, input_of}
-use Rattle.xc_kernel.specs.Expressions.{updated}
 use Rattle.xc_kernel.specs.Values.{Value, word, error, is_true, tested}
 use Rattle.xc_kernel.specs.Eval.{Store, eval, words_of}
 use Rattle.xc_meaning.specs.States.Channels.{Parcel, offer, opening, closing, taken, Side}

@@ -5,7 +5,7 @@ use Rattle.xc_tree.specs.Plain as tree
 use Rattle.xc_kernel.specs.Plain as kernel
 use Rattle.xc_kernel.specs.Programs.{functions}
 use Rattle.xc_kernel.specs.Copies.{copy_of}
-use Rattle.xc_meaning.specs.States.Branches.{Branch, has_ended, all_ended}
+use Rattle.xc_meaning.specs.States.Branches.{Branch, has_ended, all_ended, births}
 use Rattle.xc_meaning.specs.States.Worlds.{World, Action}
 use Rattle.xc_meaning.specs.Runs.{acts, acts_all, kernel_start, program_start, kernel_run, program_run}
 use Rattle.xc_meaning.specs.Follows.{AreAlike, StandAlike, StandAlong, HasBeside, TextFollows}
@@ -21,12 +21,18 @@ ended_alike os [] = refl
 ended_alike [] (b ∷ bs) = λ i. has_ended b.mode && ended_alike [] bs i
 ended_alike (o ∷ os) (b ∷ bs) = λ i. has_ended b.mode && ended_alike os bs i
 
+births_alike : (os : Ahead) (bs : List Branch) → births (mixed_branches os bs) ≡ births bs
+births_alike os [] = refl
+births_alike [] (b ∷ bs) = λ i. b.birth ∷ births_alike [] bs i
+births_alike (o ∷ os) (b ∷ bs) = λ i. b.birth ∷ births_alike os bs i
+
 alike : (P : List tree.Item) {x y : World} → Beside (functions P) x y → AreAlike x y
 alike P {x} {y} h = record {
   clocks = ap (λ w. w.clocks) h.is_mixed;
   trace = ap (λ w. w.trace) h.is_mixed;
   inboxes = ap (λ w. w.inboxes) h.is_mixed;
   ended = ap (λ w. all_ended w.branches) h.is_mixed ∙ ended_alike h.ahead y.branches;
+  births = ap (λ w. births w.branches) h.is_mixed ∙ births_alike h.ahead y.branches;
 }
 
 -- steps behind steps

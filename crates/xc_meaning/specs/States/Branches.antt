@@ -41,6 +41,11 @@ abbrev pub all_ended : List Branch → Bool
 all_ended [] = true
 all_ended (b ∷ bs) = has_ended b.mode && all_ended bs
 
+-- by which family's `par` each branch was made: with these and the roots, each family has its number
+abbrev pub births : List Branch → List (Option Birth)
+births [] = []
+births (b ∷ bs) = b.birth ∷ births bs
+
 -- the side that a branch is of a channel or stands in, if it is on one
 abbrev pub side_of : Branch → ℕ → Option Side
 side_of branch channel = slice_index_or branch.sides channel None

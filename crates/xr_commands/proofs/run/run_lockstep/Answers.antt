@@ -25,4 +25,4 @@ returns c =
     let inv = c.loop-round.invariant in
     let most = c.loop-round.auto._round-end in
     let least = c.loop-round-test.false in
-    over c.args.image.now c.args.stim.now _ _ _ _ _ inv.state (omega (arith, most, least)) (c.end-end.ensures _ _ inv.of) (c.trapped-trapped.ensures _ _ inv.of)
+    over c.args.image.now c.args.stim.now c.requires.valid _ _ _ _ _ inv.state (omega (arith, most, least)) (c.end-end.ensures _ _ inv.of) (c.trapped-trapped.ensures _ _ inv.of)

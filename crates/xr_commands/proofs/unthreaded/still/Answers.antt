@@ -1,6 +1,6 @@
 use Rattle.xr_commands.proofs.Completes.{completes}
 use Rattle.xr_commands.proofs.OnlyCauses.{only_causes}
-use Rattle.xr_commands.proofs.still.still.Goals as goal
+use Rattle.xr_commands.proofs.unthreaded.still.Goals as goal
 
 pub returns-clause-answers : goal.returns-clause-answers
 returns-clause-answers g c = record { outcome = _; decided = c.decide-decision.ensures.decided; delivered = c.deliver.ensures.delivered }
