@@ -14,7 +14,7 @@ use Rattle.xc_meaning.specs.Runs.{kernel_start, program_start, kernel_run, progr
 use Rattle.xc_meaning.specs.Quiet.{IsQuiet}
 use Rattle.xc_meaning.specs.Counts.Families.{steps_of}
 
--- what can be seen of a kernel's state and of a text's is the same, and so are the branches' numbers
+-- what can be seen of a kernel's state and of a text's is the same, and so is how each branch was made
 pub record AreAlike (x y : World) : Type 0 where
   pub clocks : x.clocks ≡ y.clocks
   pub trace : x.trace ≡ y.trace
@@ -59,7 +59,7 @@ pub record HasBeside (Stand : List Action → List Action → Type 0) (ms : List
   pub along : StandAlong Stand [] first ms pieces
 
 -- Where calls end, each run of a kernel has a run of the program's text beside it: with the same clocks, trace and inboxes, ended
--- together, and with each branch born as the one of its number.
+-- together, and with the branches of each number made alike.
 abbrev pub TextFollows : Type 0
 TextFollows =
     (P : List tree.Item) (K : kernel.Kernel) → CallsEnd P → Copies P K →

@@ -68,5 +68,10 @@ fn is_call_right<R: Threads + Wait + Sync, O: Sink>(
     }
     let out = is_as_wanted(alloc, told, case, Stream::Out, outside.out.bytes())?;
     let err = is_as_wanted(alloc, told, case, Stream::Err, outside.err.bytes())?;
-    Ok(has_status && is_unread && out && err)
+    let holds = has_status && is_unread && out && err;
+    if !holds {
+        told.add(call.name().as_bytes());
+        told.add(b": ");
+    }
+    Ok(holds)
 }

@@ -22,6 +22,16 @@ pub enum Call {
     Still,
 }
 
+impl Call {
+    /// Its name, as it is told where something else comes than is wanted.
+    pub fn name(self) -> &'static str {
+        match self {
+            Call::Xcsim => "xcsim",
+            Call::Still => "still",
+        }
+    }
+}
+
 /// The files and sinks of a call.
 #[derive(Drop)]
 pub struct Outside {

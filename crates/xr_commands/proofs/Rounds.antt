@@ -10,7 +10,7 @@ use Rattle.xs_instr.specs.declared.trace.EndWord.{EndWord}
 use Rattle.xs_fabric.specs.EndWord.{end_of, has_trap}
 use Rattle.xs_fabric.specs.Lockstep.{lockstep, rounds_at}
 use Rattle.xs_fabric.proofs.LockstepLeads.{lockstep_leads}
-use Rattle.xs_fabric.proofs.Loose.{run_finished, run_trapped}
+use Rattle.xs_fabric.proofs.Unsynchronised.{run_finished, run_trapped}
 use Rattle.xr_match.specs.Implements.{AllRootsEnded}
 use Rattle.xr_commands.specs.Runs.{IsRunFor}
 
@@ -22,15 +22,15 @@ pub next_round : (L : Image) (s : Stim) (m m' : Machine) (n : ℕ) → m ≡ loc
 unfolding lockstep
 next_round L s m m' n e f = rw add-one (f ∙ ap (λ x. rounds_at L s x 4) e)
 
--- each core's count of roots that have not ended is 0
-all_ended : (cores : List CoreState) → ((c : ℕ) (core : CoreState) → slice_get cores c ≡ Some core → core.roots ≡ 0) → AllRootsEnded cores
-all_ended [] h = tt
-all_ended (core ∷ cores) h = (h 0 core refl, all_ended cores (λ c k there. h (suc c) k there))
+-- that each core has no root left, along the list and place by place
+roots_ended : (cores : List CoreState) → ((c : ℕ) (core : CoreState) → slice_get cores c ≡ Some core → core.roots ≡ 0) → AllRootsEnded cores
+roots_ended [] h = tt
+roots_ended (core ∷ cores) h = (h 0 core refl, roots_ended cores (λ c k there. h (suc c) k there))
 
-each_ended : (cores : List CoreState) → AllRootsEnded cores → (c : ℕ) (core : CoreState) → slice_get cores c ≡ Some core → core.roots ≡ 0
-each_ended [] h c core there = cc
-each_ended (k ∷ cores) h zero core there = let is : k ≡ core = cc in ap (λ (x : CoreState). x.roots) (sym is) ∙ h.0
-each_ended (k ∷ cores) h (suc c) core there = each_ended cores h.1 c core there
+each_root_ended : (cores : List CoreState) → AllRootsEnded cores → (c : ℕ) (core : CoreState) → slice_get cores c ≡ Some core → core.roots ≡ 0
+each_root_ended [] h c core there = cc
+each_root_ended (k ∷ cores) h zero core there = let is : k ≡ core = cc in ap (λ (x : CoreState). x.roots) (sym is) ∙ h.0
+each_root_ended (k ∷ cores) h (suc c) core there = each_root_ended cores h.1 c core there
 
 -- after all rounds
 pub over : (L : Image) (s : Stim) → Valid L → (m : Machine) (n rounds : ℕ) (word : EndWord) (trapped : Bool) → m ≡ lockstep L s n → n ≡ rounds →
@@ -46,9 +46,9 @@ over L s valid m n rounds word trapped e f w t =
       lines_are = ap (λ (x : Machine). x.trace) is;
       word_is = word_is;
       trapped_is = trapped_is;
-      finished = (
-        λ h. all_ended (lockstep L s rounds).cores (ends.0 (sym word_is ∙ h)),
-        λ h. word_is ∙ ends.1 (each_ended (lockstep L s rounds).cores h),
+      finished_exactly_where_ended = (
+        λ h. roots_ended (lockstep L s rounds).cores (ends.0 (sym word_is ∙ h)),
+        λ h. word_is ∙ ends.1 (each_root_ended (lockstep L s rounds).cores h),
       );
-      by_traps = λ h. trapped_is ∙ traps (sym word_is ∙ h);
+      trapped_only_with_a_trap = λ h. trapped_is ∙ traps (sym word_is ∙ h);
     }

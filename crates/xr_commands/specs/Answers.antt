@@ -36,7 +36,7 @@ status_of_word Trapped = 3
 status_of_word Stuck = 5
 status_of_word Stopped = 4
 
--- the status of a run: 3 where a thread trapped
+-- the status of a run: 3 where a thread is trapped in the end
 abbrev pub status_of_run : Bool → EndWord → ℕ
 status_of_run true word = 3
 status_of_run false word = status_of_word word

@@ -32,11 +32,11 @@ no_stim = record { lines = [] }
 pub data IsStimOf (files : Option (List File)) : Option (List ℕ) → Stim → Type 0 where
   unnamed : IsStimOf files None no_stim
 
--- What the run in lockstep recorded in so many rounds from the start, how it ended, and whether a thread trapped. It is told to have finished
--- exactly where all roots have ended, which is where the program has, and to be trapped only where a thread is.
+-- what the run in lockstep recorded in so many rounds from the start, how it ended, and whether a thread is trapped then. It is
+-- told to have finished exactly where all roots have ended, and so the program, and to be trapped only where a thread is
 pub record IsRunFor (L : Image) (s : Stim) (rounds : ℕ) (lines : List Record) (word : EndWord) (trapped : Bool) : Type 0 where
   pub lines_are : lines ≡ (lockstep L s rounds).trace
   pub word_is : word ≡ end_of L s (lockstep L s rounds)
   pub trapped_is : trapped ≡ has_trap L s (lockstep L s rounds)
-  pub finished : (word ≡ Finished) ↔ AllRootsEnded (lockstep L s rounds).cores
-  pub by_traps : word ≡ Trapped → trapped ≡ true
+  pub finished_exactly_where_ended : (word ≡ Finished) ↔ AllRootsEnded (lockstep L s rounds).cores
+  pub trapped_only_with_a_trap : word ≡ Trapped → trapped ≡ true

@@ -14,7 +14,8 @@ pub fn kernel_carries_to_text()
     ensures carries { KernelsCarry }
 {}
 
-/// What stands beside a machine's run is a run that the program's text may take, or its kernel.
+/// Actions that are a run of a text's meaning, as it stands beside a machine's runs, are a run that the text may take, and likewise of a
+/// kernel.
 pub fn runs_are_allowed()
     ensures text { (P : Items Item) (s : Stim) (actions : Items Action) →
         IsRun (told_of (of_text P) s) actions → Allowed P s actions }

@@ -28,6 +28,7 @@ use Rattle.xs_instr.specs.Machine.{Machine, boot, came, home_of}
 use Rattle.xs_fabric.specs.Lockstep.{Part, after, turn, turns, tick_if, tick_once, all_came, core_round, due_from, part_at, round_there, round_at, rounds_at, lockstep}
 use Rattle.xs_core.proofs.Lists.{get_set, get_set_other}
 use Rattle.xs_core.proofs.Weights.{same_num, get_below, length_set}
+use Rattle.xs_fabric.proofs.Ways.{some_is}
 
 -- the clock after a turn
 abbrev pub clock_after : CoreState → Did CoreState → ℕ
@@ -183,9 +184,6 @@ AllAt cores n = (c : ℕ) (core : CoreState) → slice_get cores c ≡ Some core
 -- the clocks of the cores below b are n + 1, and the others' n
 abbrev Between : List CoreState → ℕ → ℕ → Type 0
 Between cores b n = (c : ℕ) (core : CoreState) → slice_get cores c ≡ Some core → (c < b → core.clock ≡ n + 1) × (b ≤ c → core.clock ≡ n)
-
-some_is : (a b : CoreState) → Some a ≡ Some b → a ≡ b
-some_is a b e = cc
 
 round_clock : (L : Image) (s : Stim) (m : Machine) (b n : ℕ) → n + 1 < 2 ^ 32 → Between m.cores b n → Between (round_at L s m b).cores (suc b) n
 unfolding round_at

@@ -12,7 +12,6 @@ pub mod FourPeers
 pub mod Idles
 pub mod Links
 pub mod LockstepLeads
-pub mod Loose
 pub mod Nothing
 pub mod OneRound
 pub mod Others
@@ -26,4 +25,5 @@ pub mod Steps
 pub mod Taken
 pub mod Turned
 pub mod Turns
+pub mod Unsynchronised
 pub mod Ways

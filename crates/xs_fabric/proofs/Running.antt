@@ -27,12 +27,10 @@ use Rattle.xs_fabric.proofs.LockstepLeads.{leads_at, machine, one_event, round_l
 use Rattle.xs_fabric.proofs.Places.{link_has_places}
 use Rattle.xs_fabric.proofs.Sendings.{round_goes_to_cores}
 use Rattle.xs_fabric.proofs.Sound.{Sound}
+use Rattle.xs_fabric.proofs.Ways.{some_is}
 
 pub four_of : (cores : List Core) (L : Image) (s : Stim) → map home_in cores ≡ homes L s → length cores ≡ 4
 four_of cores L s of = sym (length-map cores home_in) ∙ ap length of
-
-some_is : (a b : Core) → Some a ≡ Some b → a ≡ b
-some_is a b e = cc
 
 -- cores of which one is changed to an idle one
 pub idle_set : (cores : List Core) (i : ℕ) (core new : Core) → slice_get cores i ≡ Some core → AreIdle cores → IsIdle new → AreIdle (slice_set cores i new)

@@ -15,7 +15,7 @@ pub record Square (links : Links) : Type 0 where
   pub rows : length links ≡ 4
   pub columns : (a : ℕ) (out : List (List Item)) → slice_get links a ≡ Some out → length out ≡ 4
 
-some_is : {X : Type 0} (x y : X) → Some x ≡ Some y → x ≡ y
+pub some_is : {X : Type 0} (x y : X) → Some x ≡ Some y → x ≡ y
 some_is x y h = cc
 
 pub square_put : (links : Links) (a b : ℕ) (x : List Item) → Square links → Square (link_put links a b x)

@@ -81,14 +81,14 @@ pub fn due_items_have_room()
 {}
 
 /// In each run of a valid image the end word is `finished` exactly where no core has a root that has not ended.
-pub fn finished_once_all_roots_have_ended()
+pub fn finished_exactly_where_all_roots_have_ended()
     ensures { (L : Image) (s : Stim) (events : Items Event) (m : Machine) → Valid L →
         runs L s (boot L) events ≡ Some m → (end_of L s m ≡ Finished)
         ↔ ((c : ℕ) (core : CoreState) → slice_get m.cores c ≡ Some core → core.roots ≡ 0) }
 {}
 
-/// In each run of a valid image the end word is `trapped` only where a thread is trapped: a core never has more roots that have not ended
-/// than threads in use.
+/// In each run of a valid image the end word is `trapped` only where a thread is trapped: a core never has more roots that have
+/// not ended than threads in use.
 pub fn trapped_only_with_a_trap()
     ensures { (L : Image) (s : Stim) (events : Items Event) (m : Machine) → Valid L →
         runs L s (boot L) events ≡ Some m → end_of L s m ≡ Trapped → has_trap L s m ≡ true }

@@ -41,7 +41,7 @@ abbrev pub all_ended : List Branch → Bool
 all_ended [] = true
 all_ended (b ∷ bs) = has_ended b.mode && all_ended bs
 
--- by which family's `par` each branch was made: with these and the roots, each family has its number
+-- how each branch was made, by its number, and a root wasn't: this tells each family's number
 abbrev pub births : List Branch → List (Option Birth)
 births [] = []
 births (b ∷ bs) = b.birth ∷ births bs

@@ -1,4 +1,4 @@
-use Rattle.xs_fabric.proofs.Loose.{run_trapped}
+use Rattle.xs_fabric.proofs.Unsynchronised.{run_trapped}
 use Rattle.xs_fabric.proofs.law.trapped_only_with_a_trap.Goals as goal
 
 pub returns : goal.returns

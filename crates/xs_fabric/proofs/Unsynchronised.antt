@@ -1,4 +1,4 @@
--- How a run ends: no core has more roots that have not ended than threads that are in use and tied to no synchroniser.
+-- How a run ends: no core has more roots that have not ended than unsynchronised threads, which are in use and tied to no synchroniser.
 use Rattle.std.proofs.Common.{◌≡◌, ◌≤◌, ◌<◌, ◌+◌, ◌-◌, ℕ, zero, suc, Bool, true, false, List, [], ◌∷◌, Option, Some, None, length, refl, sym, ap, ◌∙◌, inl, inr, subst, arith}
 use Rattle.std.proofs.lemmas.Bool.{eqb-true, eqb-false}
 use Rattle.std.specs.Prelude.{slice_get, slice_set, nat_eq, nat_lt, not, ◌&&◌, ◌≢◌, ◌⊎◌, ◌↔◌}
@@ -36,23 +36,24 @@ use Rattle.xs_core.proofs.Starting.{good_part}
 use Rattle.xs_core.proofs.Weights.{same_num, get_below}
 use Rattle.xs_fabric.specs.EndWord.{sights, sight_at, end_word, finished_by, trapped_by, stuck_by, links_empty, end_of, has_trap}
 use Rattle.xs_fabric.proofs.Stepped.{boot_sound, runs_sound}
+use Rattle.xs_fabric.proofs.Ways.{some_is}
 
 -- tied to no synchroniser
-abbrev is_free : Option ℕ → Bool
-is_free None = true
-is_free (Some n) = false
+abbrev is_untied : Option ℕ → Bool
+is_untied None = true
+is_untied (Some n) = false
 
 -- in use, and tied to no synchroniser
-abbrev loose : Thread → Bool
-loose x = is_free x.tie && not (is_unused x.mode)
+abbrev is_unsynchronised : Thread → Bool
+is_unsynchronised x = is_untied x.tie && not (is_unused x.mode)
 
-abbrev looses : List Thread → List Bool
-looses [] = []
-looses (x ∷ threads) = loose x ∷ looses threads
+abbrev unsynchronised : List Thread → List Bool
+unsynchronised [] = []
+unsynchronised (x ∷ threads) = is_unsynchronised x ∷ unsynchronised threads
 
--- no more roots have not ended than there are loose threads
-abbrev IsBound : CoreState → Type 0
-IsBound core = core.roots ≤ count_true (looses core.threads)
+-- no more roots have not ended than there are unsynchronised threads
+abbrev RootsAreFew : CoreState → Type 0
+RootsAreFew core = core.roots ≤ count_true (unsynchronised core.threads)
 
 -- counts of truth values
 
@@ -62,12 +63,9 @@ count_more false true bs bs' h le = omega (arith, le)
 count_more false false bs bs' h le = le
 count_more true false bs bs' h le = let no : false ≡ true = h refl in cc
 
-count_itself : (bs : List Bool) → count_true bs ≤ count_true bs
-count_itself bs = omega arith
-
 count_set_more : (bs : List Bool) (i : ℕ) (b b' : Bool) → slice_get bs i ≡ Some b → (b ≡ true → b' ≡ true) → count_true bs ≤ count_true (slice_set bs i b')
 count_set_more [] i b b' h up = cc
-count_set_more (x ∷ bs) zero b b' h up = let is : x ≡ b = cc in count_more x b' bs bs (λ e. up (sym is ∙ e)) (count_itself bs)
+count_set_more (x ∷ bs) zero b b' h up = let is : x ≡ b = cc in count_more x b' bs bs (λ e. up (sym is ∙ e)) (omega arith)
 count_set_more (x ∷ bs) (suc i) b b' h up = count_more x x bs (slice_set bs i b') (λ e. e) (count_set_more bs i b b' h up)
 
 count_set_less : (bs : List Bool) (i : ℕ) → slice_get bs i ≡ Some true → count_true bs ≡ count_true (slice_set bs i false) + 1
@@ -81,54 +79,54 @@ minus_one : (a b : ℕ) → a ≤ b + 1 → a - 1 ≤ b
 minus_one zero b h = omega arith
 minus_one (suc a) b h = omega (arith, h)
 
--- loose threads by their places
+-- unsynchronised threads by their places
 
-looses_get : (xs : List Thread) (i : ℕ) (x : Thread) → slice_get xs i ≡ Some x → slice_get (looses xs) i ≡ Some (loose x)
-looses_get [] i x h = cc
-looses_get (y ∷ xs) zero x h = let is : y ≡ x = cc in ap (λ (z : Thread). Some (loose z)) is
-looses_get (y ∷ xs) (suc i) x h = looses_get xs i x h
+unsynchronised_get : (xs : List Thread) (i : ℕ) (x : Thread) → slice_get xs i ≡ Some x → slice_get (unsynchronised xs) i ≡ Some (is_unsynchronised x)
+unsynchronised_get [] i x h = cc
+unsynchronised_get (y ∷ xs) zero x h = let is : y ≡ x = cc in ap (λ (z : Thread). Some (is_unsynchronised z)) is
+unsynchronised_get (y ∷ xs) (suc i) x h = unsynchronised_get xs i x h
 
-looses_set : (xs : List Thread) (i : ℕ) (x : Thread) → looses (slice_set xs i x) ≡ slice_set (looses xs) i (loose x)
-looses_set [] i x = refl
-looses_set (y ∷ xs) zero x = refl
-looses_set (y ∷ xs) (suc i) x = ap (λ bs. loose y ∷ bs) (looses_set xs i x)
+unsynchronised_set : (xs : List Thread) (i : ℕ) (x : Thread) → unsynchronised (slice_set xs i x) ≡ slice_set (unsynchronised xs) i (is_unsynchronised x)
+unsynchronised_set [] i x = refl
+unsynchronised_set (y ∷ xs) zero x = refl
+unsynchronised_set (y ∷ xs) (suc i) x = ap (λ bs. is_unsynchronised y ∷ bs) (unsynchronised_set xs i x)
 
--- a thread is changed in threads of which the same are loose, and stays loose or not
-looses_same : (xs ys : List Thread) (i : ℕ) (x x' : Thread) → slice_get xs i ≡ Some x → looses ys ≡ looses xs → loose x' ≡ loose x → looses (slice_set ys i x') ≡ looses xs
-looses_same xs ys i x x' there same kept =
-    looses_set ys i x' ∙ ap (λ bs. slice_set bs i (loose x')) same ∙ ap (λ b. slice_set (looses xs) i b) kept ∙ set_same (looses xs) i (loose x) (looses_get xs i x there)
+-- a thread is changed in threads of which the same are unsynchronised, and stays unsynchronised or not
+unsynchronised_same : (xs ys : List Thread) (i : ℕ) (x x' : Thread) → slice_get xs i ≡ Some x → unsynchronised ys ≡ unsynchronised xs → is_unsynchronised x' ≡ is_unsynchronised x → unsynchronised (slice_set ys i x') ≡ unsynchronised xs
+unsynchronised_same xs ys i x x' there same kept =
+    unsynchronised_set ys i x' ∙ ap (λ bs. slice_set bs i (is_unsynchronised x')) same ∙ ap (λ b. slice_set (unsynchronised xs) i b) kept ∙ set_same (unsynchronised xs) i (is_unsynchronised x) (unsynchronised_get xs i x there)
 
-not_loose : (x : Thread) → is_free x.tie ≡ false → loose x ≡ false
-not_loose x h = ap (λ b. b && not (is_unused x.mode)) h
+not_unsynchronised : (x : Thread) → is_untied x.tie ≡ false → is_unsynchronised x ≡ false
+not_unsynchronised x h = ap (λ b. b && not (is_unused x.mode)) h
 
-tied_not_free : (o : Option ℕ) (n : ℕ) → is_num o n ≡ true → is_free o ≡ false
-tied_not_free None n h = cc
-tied_not_free (Some m) n h = refl
+tied_not_untied : (o : Option ℕ) (n : ℕ) → is_num o n ≡ true → is_untied o ≡ false
+tied_not_untied None n h = cc
+tied_not_untied (Some m) n h = refl
 
-started_loose : (x : Thread) (n : ℕ) (b : Bool) → is_tied x n ≡ b → loose (started_by x b) ≡ loose x
-started_loose x n false h = refl
-started_loose x n true h = let f = tied_not_free x.tie n h in not_loose (record x { mode = Running }) f ∙ sym (not_loose x f)
+started_kept : (x : Thread) (n : ℕ) (b : Bool) → is_tied x n ≡ b → is_unsynchronised (started_by x b) ≡ is_unsynchronised x
+started_kept x n false h = refl
+started_kept x n true h = let f = tied_not_untied x.tie n h in not_unsynchronised (record x { mode = Running }) f ∙ sym (not_unsynchronised x f)
 
-all_started_loose : (xs : List Thread) (n : ℕ) → looses (all_started xs n) ≡ looses xs
-all_started_loose [] n = refl
-all_started_loose (x ∷ xs) n =
-    ap (λ b. b ∷ looses (all_started xs n)) (started_loose x n (is_tied x n) refl) ∙ ap (λ bs. loose x ∷ bs) (all_started_loose xs n)
+all_started_kept : (xs : List Thread) (n : ℕ) → unsynchronised (all_started xs n) ≡ unsynchronised xs
+all_started_kept [] n = refl
+all_started_kept (x ∷ xs) n =
+    ap (λ b. b ∷ unsynchronised (all_started xs n)) (started_kept x n (is_tied x n) refl) ∙ ap (λ bs. is_unsynchronised x ∷ bs) (all_started_kept xs n)
 
-joined_loose : (x : Thread) (n : ℕ) (b : Bool) → is_tied x n ≡ b → loose (joined_by x b) ≡ loose x
-joined_loose x n false h = refl
-joined_loose x n true h = sym (not_loose x (tied_not_free x.tie n h))
+joined_kept : (x : Thread) (n : ℕ) (b : Bool) → is_tied x n ≡ b → is_unsynchronised (joined_by x b) ≡ is_unsynchronised x
+joined_kept x n false h = refl
+joined_kept x n true h = sym (not_unsynchronised x (tied_not_untied x.tie n h))
 
-all_joined_loose : (xs : List Thread) (n : ℕ) → looses (all_joined xs n) ≡ looses xs
-all_joined_loose [] n = refl
-all_joined_loose (x ∷ xs) n =
-    ap (λ b. b ∷ looses (all_joined xs n)) (joined_loose x n (is_tied x n) refl) ∙ ap (λ bs. loose x ∷ bs) (all_joined_loose xs n)
+all_joined_kept : (xs : List Thread) (n : ℕ) → unsynchronised (all_joined xs n) ≡ unsynchronised xs
+all_joined_kept [] n = refl
+all_joined_kept (x ∷ xs) n =
+    ap (λ b. b ∷ unsynchronised (all_joined xs n)) (joined_kept x n (is_tied x n) refl) ∙ ap (λ bs. is_unsynchronised x ∷ bs) (all_joined_kept xs n)
 
 and_false : (a : Bool) → a && false ≡ false
 and_false true = refl
 and_false false = refl
 
-unused_not_loose : (x : Thread) → is_unused x.mode ≡ true → loose x ≡ false
-unused_not_loose x h = ap (λ b. is_free x.tie && not b) h ∙ and_false (is_free x.tie)
+unused_not_unsynchronised : (x : Thread) → is_unused x.mode ≡ true → is_unsynchronised x ≡ false
+unused_not_unsynchronised x h = ap (λ b. is_untied x.tie && not b) h ∙ and_false (is_untied x.tie)
 
 -- the first thread that is free is unused
 record FreeAt (xs : List Thread) (k place : ℕ) : Type 0 where
@@ -149,18 +147,18 @@ free_at (y ∷ xs) k place h = go (λ g. free_at xs (suc k) place g) (is_unused 
         let shifted = r.is in
         record { i = suc r.i; is = omega (arith, shifted); unused = λ x there. r.unused x there }
 
--- what a row makes of the loose threads
+-- what a row makes of the unsynchronised threads
 
--- what a turn leaves is bound where the core was
+-- where a core's roots are few, so are those of what a turn leaves
 abbrev Keeps : CoreState → Did CoreState → Type 0
-Keeps core (Made left made sent) = IsBound core → IsBound left
+Keeps core (Made left made sent) = RootsAreFew core → RootsAreFew left
 Keeps core Paused = Unit {0}
 Keeps core (Traps kind) = Unit {0}
 Keeps core Idle = Unit {0}
 
--- as many roots, and the same threads are loose
-same_bound : (core left : CoreState) → left.roots ≡ core.roots → looses left.threads ≡ looses core.threads → IsBound core → IsBound left
-same_bound core left roots same bound = let n = ap count_true same in omega (arith, roots, n, bound)
+-- as many roots, and the same threads are unsynchronised
+same_few : (core left : CoreState) → left.roots ≡ core.roots → unsynchronised left.threads ≡ unsynchronised core.threads → RootsAreFew core → RootsAreFew left
+same_few core left roots same few = let n = ap count_true same in omega (arith, roots, n, few)
 
 -- what a part of the state becomes where the turn is a step
 abbrev AllMade : {A : Type 0} → (A → Type 0) → Did A → Type 0
@@ -169,13 +167,13 @@ AllMade P Paused = Unit {0}
 AllMade P (Traps kind) = Unit {0}
 AllMade P Idle = Unit {0}
 
-told_keeps_where : {A : Type 0} (P : A → Type 0) (core : CoreState) (put : A → CoreState) (did : Did A) → AllMade P did → ((a : A) → P a → IsBound core → IsBound (put a)) → Keeps core (told put did)
+told_keeps_where : {A : Type 0} (P : A → Type 0) (core : CoreState) (put : A → CoreState) (did : Did A) → AllMade P did → ((a : A) → P a → RootsAreFew core → RootsAreFew (put a)) → Keeps core (told put did)
 told_keeps_where P core put (Made left made sent) is h = h left is
 told_keeps_where P core put Paused is h = tt
 told_keeps_where P core put (Traps kind) is h = tt
 told_keeps_where P core put Idle is h = tt
 
-told_keeps : {A : Type 0} (core : CoreState) (put : A → CoreState) (did : Did A) → ((a : A) → IsBound core → IsBound (put a)) → Keeps core (told put did)
+told_keeps : {A : Type 0} (core : CoreState) (put : A → CoreState) (did : Did A) → ((a : A) → RootsAreFew core → RootsAreFew (put a)) → Keeps core (told put did)
 told_keeps core put (Made left made sent) h = h left
 told_keeps core put Paused h = tt
 told_keeps core put (Traps kind) h = tt
@@ -199,27 +197,27 @@ made_thread P core go (AThread n) h = made_usable P (go n) (slice_get core.threa
 made_thread P core go _ h = tt
 
 module _ (threads : List Thread) where
-  -- the same threads are loose
+  -- the same threads are unsynchronised
   abbrev IsSame : List Thread → Type 0
-  IsSame left = looses left ≡ looses threads
+  IsSame left = unsynchronised left ≡ unsynchronised threads
 
   synced_same : (n : ℕ) (b : Bool) → AllMade IsSame (synced_by threads n b)
-  synced_same n true = all_started_loose threads n
+  synced_same n true = all_started_kept threads n
   synced_same n false = tt
 
   joined_same : (n : ℕ) (b : Bool) → AllMade IsSame (joined_when threads n b)
-  joined_same n true = all_joined_loose threads n
+  joined_same n true = all_joined_kept threads n
   joined_same n false = tt
 
-  prepared_same : (change : Thread → Thread) → ((y : Thread) → loose (change y) ≡ loose y) → (n : ℕ) (x : Thread) (b : Bool) → slice_get threads n ≡ Some x → AllMade IsSame (prepared_by change threads n x b)
-  prepared_same change kept n x true there = looses_same threads threads n x (change x) there refl (kept x)
+  prepared_same : (change : Thread → Thread) → ((y : Thread) → is_unsynchronised (change y) ≡ is_unsynchronised y) → (n : ℕ) (x : Thread) (b : Bool) → slice_get threads n ≡ Some x → AllMade IsSame (prepared_by change threads n x b)
+  prepared_same change kept n x true there = unsynchronised_same threads threads n x (change x) there refl (kept x)
   prepared_same change kept n x false there = tt
 
-  tied_same : (n place : ℕ) (o : Option Thread) → slice_get threads place ≡ o → ((x : Thread) → slice_get threads place ≡ Some x → is_unused x.mode ≡ true) → looses (tied_at threads n place o) ≡ looses threads
+  tied_same : (n place : ℕ) (o : Option Thread) → slice_get threads place ≡ o → ((x : Thread) → slice_get threads place ≡ Some x → is_unused x.mode ≡ true) → unsynchronised (tied_at threads n place o) ≡ unsynchronised threads
   tied_same n place None there free = refl
-  tied_same n place (Some x) there free = looses_same threads threads place x (tied_to n x) there refl (sym (unused_not_loose x (free x there)))
+  tied_same n place (Some x) there free = unsynchronised_same threads threads place x (tied_to n x) there refl (sym (unused_not_unsynchronised x (free x there)))
 
-  got_same : (core n : ℕ) (o : Option ℕ) → first_free (threads_taken threads) 0 ≡ o → looses (thread_got_by core threads n o).left ≡ looses threads
+  got_same : (core n : ℕ) (o : Option ℕ) → first_free (threads_taken threads) 0 ≡ o → unsynchronised (thread_got_by core threads n o).left ≡ unsynchronised threads
   got_same core n None e = refl
   got_same core n (Some place) e =
       let f = free_at threads 0 place e in
@@ -229,73 +227,73 @@ module _ (threads : List Thread) where
 
 -- the rows of a thread that runs
 module _ (home : Home) (core : CoreState) (t : ℕ) (thread : Thread) (there : slice_get core.threads t ≡ Some thread) (runs_now : thread.mode ≡ Running) where
-  -- the thread goes on in threads of which the same are loose
-  on_bound : (left : CoreState) (x : Thread) → left.roots ≡ core.roots → looses left.threads ≡ looses core.threads → loose x ≡ loose thread → IsBound core → IsBound (with_thread left t x)
-  on_bound left x roots same kept = same_bound core (with_thread left t x) roots (looses_same core.threads left.threads t thread x there same kept)
+  -- the thread goes on in threads of which the same are unsynchronised
+  with_few : (left : CoreState) (x : Thread) → left.roots ≡ core.roots → unsynchronised left.threads ≡ unsynchronised core.threads → is_unsynchronised x ≡ is_unsynchronised thread → RootsAreFew core → RootsAreFew (with_thread left t x)
+  with_few left x roots same kept = same_few core (with_thread left t x) roots (unsynchronised_same core.threads left.threads t thread x there same kept)
 
-  goes_bound : {A : Type 0} (put : CoreState → A → CoreState) (a : A) → (put core a).roots ≡ core.roots → looses (put core a).threads ≡ looses core.threads → IsBound core → IsBound (goes_with put core t thread a)
-  goes_bound put a roots same = on_bound (put core a) (record thread { pc = thread.pc + 1 }) roots same refl
+  goes_few : {A : Type 0} (put : CoreState → A → CoreState) (a : A) → (put core a).roots ≡ core.roots → unsynchronised (put core a).threads ≡ unsynchronised core.threads → RootsAreFew core → RootsAreFew (goes_with put core t thread a)
+  goes_few put a roots same = with_few (put core a) (record thread { pc = thread.pc + 1 }) roots same refl
 
-  gets_bound : {A : Type 0} (put : CoreState → A → CoreState) (d : Reg) (a : Given A) → (put core a.left).roots ≡ core.roots → looses (put core a.left).threads ≡ looses core.threads → IsBound core → IsBound (gets_with put core t thread d a)
-  gets_bound put d a roots same = on_bound (put core a.left) (record thread { pc = thread.pc + 1; regs = reg_set thread.regs d a.value }) roots same refl
+  gets_few : {A : Type 0} (put : CoreState → A → CoreState) (d : Reg) (a : Given A) → (put core a.left).roots ≡ core.roots → unsynchronised (put core a.left).threads ≡ unsynchronised core.threads → RootsAreFew core → RootsAreFew (gets_with put core t thread d a)
+  gets_few put d a roots same = with_few (put core a.left) (record thread { pc = thread.pc + 1; regs = reg_set thread.regs d a.value }) roots same refl
 
   out_keeps : (v : ℕ) (x : Named) → Keeps core (out_row home core t thread v x)
-  out_keeps v (APort p) = told_keeps core _ _ (λ a. goes_bound put_ports a refl refl)
-  out_keeps v (AnEnd e) = told_keeps core _ _ (λ a. goes_bound put_ends a refl refl)
-  out_keeps v (ALock l) = told_keeps core _ _ (λ a. goes_bound put_locks a refl refl)
+  out_keeps v (APort p) = told_keeps core _ _ (λ a. goes_few put_ports a refl refl)
+  out_keeps v (AnEnd e) = told_keeps core _ _ (λ a. goes_few put_ends a refl refl)
+  out_keeps v (ALock l) = told_keeps core _ _ (λ a. goes_few put_locks a refl refl)
   out_keeps v _ = tt
 
   in_keeps : (d : Reg) (v : ℕ) (x : Named) → Keeps core (in_row home core t thread d v x)
-  in_keeps d v (APort p) = told_keeps core _ _ (λ a. gets_bound put_ports d a refl refl)
-  in_keeps d v (ATimer n) = told_keeps core _ _ (λ a. gets_bound put_timers d a refl refl)
-  in_keeps d v (AnEnd e) = told_keeps core _ _ (λ a. gets_bound put_ends d a refl refl)
-  in_keeps d v (ALock l) = told_keeps core _ _ (λ a. gets_bound put_locks d a refl refl)
+  in_keeps d v (APort p) = told_keeps core _ _ (λ a. gets_few put_ports d a refl refl)
+  in_keeps d v (ATimer n) = told_keeps core _ _ (λ a. gets_few put_timers d a refl refl)
+  in_keeps d v (AnEnd e) = told_keeps core _ _ (λ a. gets_few put_ends d a refl refl)
+  in_keeps d v (ALock l) = told_keeps core _ _ (λ a. gets_few put_locks d a refl refl)
   in_keeps d v _ = tt
 
   cond_keeps : (cond : Cond) (x : Named) → Keeps core (cond_row core t thread cond x)
-  cond_keeps cond (APort p) = told_keeps core _ _ (λ a. goes_bound put_ports a refl refl)
-  cond_keeps cond (ATimer n) = told_keeps core _ _ (λ a. goes_bound put_timers a refl refl)
+  cond_keeps cond (APort p) = told_keeps core _ _ (λ a. goes_few put_ports a refl refl)
+  cond_keeps cond (ATimer n) = told_keeps core _ _ (λ a. goes_few put_timers a refl refl)
   cond_keeps cond _ = tt
 
   data_keeps : (v : ℕ) (x : Named) → Keeps core (data_row core t thread v x)
-  data_keeps v (APort p) = told_keeps core _ _ (λ a. goes_bound put_ports a refl refl)
-  data_keeps v (ATimer n) = told_keeps core _ _ (λ a. goes_bound put_timers a refl refl)
+  data_keeps v (APort p) = told_keeps core _ _ (λ a. goes_few put_ports a refl refl)
+  data_keeps v (ATimer n) = told_keeps core _ _ (λ a. goes_few put_timers a refl refl)
   data_keeps v _ = tt
 
   free_keeps : (x : Named) → Keeps core (free_row core t thread x)
-  free_keeps (ASync n) = told_keeps core _ _ (λ a. goes_bound put_syncs a refl refl)
-  free_keeps (ALock l) = told_keeps core _ _ (λ a. goes_bound put_locks a refl refl)
+  free_keeps (ASync n) = told_keeps core _ _ (λ a. goes_few put_syncs a refl refl)
+  free_keeps (ALock l) = told_keeps core _ _ (λ a. goes_few put_locks a refl refl)
   free_keeps _ = tt
 
   get_keeps : (d : Reg) (kind : GetKind) → Keeps core (get_row home core t thread d kind)
-  get_keeps d GetSync = gets_bound put_syncs d (sync_got home.number core.syncs (first_free core.syncs 0)) refl refl
-  get_keeps d GetLock = gets_bound put_locks d (lock_got home.number core.locks (first_free (locks_taken core.locks) 0)) refl refl
+  get_keeps d GetSync = gets_few put_syncs d (sync_got home.number core.syncs (first_free core.syncs 0)) refl refl
+  get_keeps d GetLock = gets_few put_locks d (lock_got home.number core.locks (first_free (locks_taken core.locks) 0)) refl refl
 
   wait_keeps : (o : Option ℕ) → thread.tie ≡ o → Keeps core (wait_row core t thread o)
   wait_keeps None e = tt
   wait_keeps (Some n) e =
-      let f = ap is_free e in
-      on_bound core (record thread { mode = Waiting; pc = thread.pc + 1 }) refl refl (not_loose (record thread { mode = Waiting }) f ∙ sym (not_loose thread f))
+      let f = ap is_untied e in
+      with_few core (record thread { mode = Waiting; pc = thread.pc + 1 }) refl refl (not_unsynchronised (record thread { mode = Waiting }) f ∙ sym (not_unsynchronised thread f))
 
   end_keeps : (o : Option ℕ) → thread.tie ≡ o → Keeps core (end_row core t thread o)
   end_keeps (Some n) e = tt
-  end_keeps None e = λ bound.
+  end_keeps None e = λ few.
       let ended = record thread { mode = Unused; pc = thread.pc + 1 } in
-      let was : loose thread ≡ true = ap (λ o. is_free o && not (is_unused thread.mode)) e ∙ ap (λ m. not (is_unused m)) runs_now in
-      let now : loose ended ≡ false = unused_not_loose ended refl in
-      let here : slice_get (looses core.threads) t ≡ Some true = looses_get core.threads t thread there ∙ ap (λ b. Some b) was in
-      let less = count_set_less (looses core.threads) t here in
-      let left = ap count_true (looses_set core.threads t ended ∙ ap (λ b. slice_set (looses core.threads) t b) now) in
-      minus_one core.roots _ (omega (arith, less, left, bound))
+      let was : is_unsynchronised thread ≡ true = ap (λ o. is_untied o && not (is_unused thread.mode)) e ∙ ap (λ m. not (is_unused m)) runs_now in
+      let now : is_unsynchronised ended ≡ false = unused_not_unsynchronised ended refl in
+      let here : slice_get (unsynchronised core.threads) t ≡ Some true = unsynchronised_get core.threads t thread there ∙ ap (λ b. Some b) was in
+      let less = count_set_less (unsynchronised core.threads) t here in
+      let left = ap count_true (unsynchronised_set core.threads t ended ∙ ap (λ b. slice_set (unsynchronised core.threads) t b) now) in
+      minus_one core.roots _ (omega (arith, less, left, few))
 
   bit_keeps : (bit : Bool) → Keeps core (bit_row core t thread bit)
-  bit_keeps bit = on_bound core (record thread { pc = thread.pc + 1; event_bit = bit }) refl refl refl
+  bit_keeps bit = with_few core (record thread { pc = thread.pc + 1; event_bit = bit }) refl refl refl
 
-  prepared_keeps : (change : Thread → Thread) (x : Named) → ((y : Thread) → loose (change y) ≡ loose y) → Keeps core (told (goes_with put_threads core t thread) (on_thread core (prepared change core.threads) x))
+  prepared_keeps : (change : Thread → Thread) (x : Named) → ((y : Thread) → is_unsynchronised (change y) ≡ is_unsynchronised y) → Keeps core (told (goes_with put_threads core t thread) (on_thread core (prepared change core.threads) x))
   prepared_keeps change x kept =
       told_keeps_where (IsSame core.threads) core _ _
       (made_thread (IsSame core.threads) core (prepared change core.threads) x (λ n y found. prepared_same core.threads change kept n y (is_waiting y.mode) found))
-      (λ a same. goes_bound put_threads a refl same)
+      (λ a same. goes_few put_threads a refl same)
 
   row_keeps : (i : Instr) → Keeps core (row home core t thread i)
   row_keeps (Getr d kind) = get_keeps d kind
@@ -306,47 +304,47 @@ module _ (home : Home) (core : CoreState) (t : ℕ) (thread : Thread) (there : s
   row_keeps (In d r) = in_keeps d (reg_get thread.regs r) (names home thread r)
   row_keeps (Setc r cond) = cond_keeps cond (names home thread r)
   row_keeps (Setd r s) = data_keeps (reg_get thread.regs s) (names home thread r)
-  row_keeps Clre = goes_bound put_events (cleared core.events t) refl refl
+  row_keeps Clre = goes_few put_events (cleared core.events t) refl refl
   row_keeps Waiteu = tt
   row_keeps (Setsr n) = bit_keeps (bit_by thread.event_bit true (nat_eq n 1))
   row_keeps (Clrsr n) = bit_keeps (bit_by thread.event_bit false (nat_eq n 1))
   row_keeps (Getst d r) =
       told_keeps_where (λ (given : Given (List Thread)). IsSame core.threads given.left) core _ _
       (made_sync _ core (thread_got home.number core.threads) (names home thread r) (λ n. got_same core.threads home.number n (first_free (threads_taken core.threads) 0) refl))
-      (λ a same. gets_bound put_threads d a refl same)
+      (λ a same. gets_few put_threads d a refl same)
   row_keeps (Tinitpc x k) = prepared_keeps (with_pc k) (names home thread x) (λ y. refl)
   row_keeps (Tinitdp x s) = prepared_keeps (with_reg Dp (reg_get thread.regs s)) (names home thread x) (λ y. refl)
   row_keeps (Tinitsp x s) = prepared_keeps (with_reg Sp (reg_get thread.regs s)) (names home thread x) (λ y. refl)
   row_keeps (Msync r) =
       told_keeps_where (IsSame core.threads) core _ _
       (made_sync _ core (synced core.threads) (names home thread r) (λ n. synced_same core.threads n (all_wait core.threads n)))
-      (λ a same. goes_bound put_threads a refl same)
+      (λ a same. goes_few put_threads a refl same)
   row_keeps (Mjoin r) =
       told_keeps_where (IsSame core.threads) core _ _
       (made_sync _ core (joined core.threads) (names home thread r) (λ n. joined_same core.threads n (all_wait core.threads n)))
-      (λ a same. goes_bound put_threads a refl same)
-  row_keeps (Outt r s) = told_keeps core _ _ (λ a. goes_bound put_ends a refl refl)
-  row_keeps (Outct r n) = told_keeps core _ _ (λ a. goes_bound put_ends a refl refl)
-  row_keeps (Int d r) = told_keeps core _ _ (λ a. gets_bound put_ends d a refl refl)
-  row_keeps (Chkct r n) = told_keeps core _ _ (λ a. goes_bound put_ends a refl refl)
-  row_keeps (Setpt r s) = told_keeps core _ _ (λ a. goes_bound put_ports a refl refl)
-  row_keeps (Getts d r) = told_keeps core _ _ (λ a. gets_bound put_ports d a refl refl)
-  row_keeps (Setv r k) = told_keeps core _ _ (λ a. goes_bound put_events a refl refl)
-  row_keeps (Eeu r) = told_keeps core _ _ (λ a. goes_bound put_events a refl refl)
-  row_keeps (Edu r) = told_keeps core _ _ (λ a. goes_bound put_events a refl refl)
-  row_keeps i = told_keeps core (put_own core t thread) (own_row (own_of core thread) i) (λ own. on_bound core (record thread { pc = own.pc; regs = own.regs }) refl refl refl)
+      (λ a same. goes_few put_threads a refl same)
+  row_keeps (Outt r s) = told_keeps core _ _ (λ a. goes_few put_ends a refl refl)
+  row_keeps (Outct r n) = told_keeps core _ _ (λ a. goes_few put_ends a refl refl)
+  row_keeps (Int d r) = told_keeps core _ _ (λ a. gets_few put_ends d a refl refl)
+  row_keeps (Chkct r n) = told_keeps core _ _ (λ a. goes_few put_ends a refl refl)
+  row_keeps (Setpt r s) = told_keeps core _ _ (λ a. goes_few put_ports a refl refl)
+  row_keeps (Getts d r) = told_keeps core _ _ (λ a. gets_few put_ports d a refl refl)
+  row_keeps (Setv r k) = told_keeps core _ _ (λ a. goes_few put_events a refl refl)
+  row_keeps (Eeu r) = told_keeps core _ _ (λ a. goes_few put_events a refl refl)
+  row_keeps (Edu r) = told_keeps core _ _ (λ a. goes_few put_events a refl refl)
+  row_keeps i = told_keeps core (put_own core t thread) (own_row (own_of core thread) i) (λ own. with_few core (record thread { pc = own.pc; regs = own.regs }) refl refl refl)
 
-  latched_bound : (r : Res) (x : Thread) → loose x ≡ loose thread → IsBound core → IsBound (with_thread (latched home core r) t x)
-  latched_bound (ResPort n) x kept = on_bound (latched home core (ResPort n)) x refl refl kept
-  latched_bound (ResTimer n) x kept = on_bound (latched home core (ResTimer n)) x refl refl kept
-  latched_bound (ResEnd n) x kept = on_bound (latched home core (ResEnd n)) x refl refl kept
+  latched_few : (r : Res) (x : Thread) → is_unsynchronised x ≡ is_unsynchronised thread → RootsAreFew core → RootsAreFew (with_thread (latched home core r) t x)
+  latched_few (ResPort n) x kept = with_few (latched home core (ResPort n)) x refl refl kept
+  latched_few (ResTimer n) x kept = with_few (latched home core (ResTimer n)) x refl refl kept
+  latched_few (ResEnd n) x kept = with_few (latched home core (ResEnd n)) x refl refl kept
 
   fetched_keeps : (i : Option Instr) → Keeps core (fetched home core t thread i)
   fetched_keeps None = tt
   fetched_keeps (Some i) = row_keeps i
 
   turn_keeps : (i : Option Instr) (o : Option Res) → Keeps core (event_or_row home core t thread i o)
-  turn_keeps i (Some r) = latched_bound r (record thread { pc = vector_of core.events r; event_bit = false }) refl
+  turn_keeps i (Some r) = latched_few r (record thread { pc = vector_of core.events r; event_bit = false }) refl
   turn_keeps i None = fetched_keeps i
 
 turn_of_keeps : (home : Home) (core : CoreState) (t : ℕ) (thread : Thread) (m : Mode) → slice_get core.threads t ≡ Some thread → thread.mode ≡ m → Keeps core (turn_of home core t thread m)
@@ -367,92 +365,89 @@ and_true : (a b : Bool) → a && b ≡ true → a && true ≡ true
 and_true true b h = refl
 and_true false b h = cc
 
-trapped_bound : (core : CoreState) (t : ℕ) → IsBound core → IsBound (trapped core t)
-trapped_bound core t bound = go (slice_get core.threads t) refl
+trapped_few : (core : CoreState) (t : ℕ) → RootsAreFew core → RootsAreFew (trapped core t)
+trapped_few core t few = go (slice_get core.threads t) refl
   where
-    go : (o : Option Thread) → slice_get core.threads t ≡ o → IsBound (trapped_at core t o)
-    go None there = bound
+    go : (o : Option Thread) → slice_get core.threads t ≡ o → RootsAreFew (trapped_at core t o)
+    go None there = few
     go (Some x) there =
         let halted = record x { mode = Trapped } in
-        let more = count_set_more (looses core.threads) t (loose x) (loose halted) (looses_get core.threads t x there) (and_true (is_free x.tie) (not (is_unused x.mode))) in
-        let set = ap count_true (looses_set core.threads t halted) in
-        omega (arith, more, set, bound)
+        let more = count_set_more (unsynchronised core.threads) t (is_unsynchronised x) (is_unsynchronised halted) (unsynchronised_get core.threads t x there) (and_true (is_untied x.tie) (not (is_unused x.mode))) in
+        let set = ap count_true (unsynchronised_set core.threads t halted) in
+        omega (arith, more, set, few)
 
 -- all cores of a machine
 
-abbrev AllBound : List CoreState → Type 0
-AllBound cores = (c : ℕ) (core : CoreState) → slice_get cores c ≡ Some core → IsBound core
+abbrev AllRootsAreFew : List CoreState → Type 0
+AllRootsAreFew cores = (c : ℕ) (core : CoreState) → slice_get cores c ≡ Some core → RootsAreFew core
 
-some_is : {A : Type 0} (a b : A) → Some a ≡ Some b → a ≡ b
-some_is a b e = cc
-
-all_set : (cores : List CoreState) (c : ℕ) (core new : CoreState) → AllBound cores → slice_get cores c ≡ Some core → IsBound new → AllBound (slice_set cores c new)
-all_set cores c core new all there bound d k h = go (same_num c d)
+all_set : (cores : List CoreState) (c : ℕ) (core new : CoreState) → AllRootsAreFew cores → slice_get cores c ≡ Some core → RootsAreFew new → AllRootsAreFew (slice_set cores c new)
+all_set cores c core new all there few d k h = go (same_num c d)
   where
-    go : (c ≡ d) ⊎ (c ≢ d) → IsBound k
+    go : (c ≡ d) ⊎ (c ≢ d) → RootsAreFew k
     go (inr ne) = all d k (sym (get_set_other cores c d new ne) ∙ h)
     go (inl e) =
         let h' = subst (λ v. slice_get (slice_set cores c new) v ≡ Some k) (sym e) h in
-        subst (λ (x : CoreState). IsBound x) (some_is new k (sym (get_set cores c core new there) ∙ h')) bound
+        subst (λ (x : CoreState). RootsAreFew x) (some_is new k (sym (get_set cores c core new there) ∙ h')) few
 
-module _ (L : Image) (s : Stim) (m : Machine) (all : AllBound m.cores) (m' : Machine) where
-  is_left : (n : Machine) → Some n ≡ Some m' → AllBound n.cores → AllBound m'.cores
-  is_left n h bound = subst (λ (x : Machine). AllBound x.cores) (some_is n m' h) bound
+module _ (L : Image) (s : Stim) (m : Machine) (all : AllRootsAreFew m.cores) (m' : Machine) where
+  is_left : (n : Machine) → Some n ≡ Some m' → AllRootsAreFew n.cores → AllRootsAreFew m'.cores
+  is_left n h few = subst (λ (x : Machine). AllRootsAreFew x.cores) (some_is n m' h) few
 
-  did_bound : (c t : ℕ) (core : CoreState) (d : Did CoreState) → slice_get m.cores c ≡ Some core → Keeps core d → stepped (home_of L s c) m c t core d ≡ Some m' → AllBound m'.cores
-  did_bound c t core (Made new made sent) there keeps h = is_left _ h (all_set m.cores c core new all there (keeps (all c core there)))
-  did_bound c t core (Traps kind) there keeps h = is_left _ h (all_set m.cores c core (trapped core t) all there (trapped_bound core t (all c core there)))
-  did_bound c t core Paused there keeps h = cc
-  did_bound c t core Idle there keeps h = cc
+  did_few : (c t : ℕ) (core : CoreState) (d : Did CoreState) → slice_get m.cores c ≡ Some core → Keeps core d → stepped (home_of L s c) m c t core d ≡ Some m' → AllRootsAreFew m'.cores
+  did_few c t core (Made new made sent) there keeps h = is_left _ h (all_set m.cores c core new all there (keeps (all c core there)))
+  did_few c t core (Traps kind) there keeps h = is_left _ h (all_set m.cores c core (trapped core t) all there (trapped_few core t (all c core there)))
+  did_few c t core Paused there keeps h = cc
+  did_few c t core Idle there keeps h = cc
 
-  step_bound : (c t : ℕ) (o : Option CoreState) → slice_get m.cores c ≡ o → step_at (home_of L s c) m c t o ≡ Some m' → AllBound m'.cores
-  step_bound c t None there h = cc
-  step_bound c t (Some core) there h = did_bound c t core (slot (home_of L s c) core t) there (slot_keeps (home_of L s c) core t) h
+  step_few : (c t : ℕ) (o : Option CoreState) → slice_get m.cores c ≡ o → step_at (home_of L s c) m c t o ≡ Some m' → AllRootsAreFew m'.cores
+  step_few c t None there h = cc
+  step_few c t (Some core) there h = did_few c t core (slot (home_of L s c) core t) there (slot_keeps (home_of L s c) core t) h
 
-  tick_by_bound : (c : ℕ) (core : CoreState) (b : Bool) → slice_get m.cores c ≡ Some core → tick_by m c core b ≡ Some m' → AllBound m'.cores
-  tick_by_bound c core true there h = is_left _ h (all_set m.cores c core (ticked core) all there (all c core there))
-  tick_by_bound c core false there h = cc
+  tick_by_few : (c : ℕ) (core : CoreState) (b : Bool) → slice_get m.cores c ≡ Some core → tick_by m c core b ≡ Some m' → AllRootsAreFew m'.cores
+  tick_by_few c core true there h = is_left _ h (all_set m.cores c core (ticked core) all there (all c core there))
+  tick_by_few c core false there h = cc
 
-  tick_bound : (c : ℕ) (o : Option CoreState) → slice_get m.cores c ≡ o → tick_at m c o ≡ Some m' → AllBound m'.cores
-  tick_bound c None there h = cc
-  tick_bound c (Some core) there h = tick_by_bound c core (nat_lt core.clock last_clock) there h
+  tick_few : (c : ℕ) (o : Option CoreState) → slice_get m.cores c ≡ o → tick_at m c o ≡ Some m' → AllRootsAreFew m'.cores
+  tick_few c None there h = cc
+  tick_few c (Some core) there h = tick_by_few c core (nat_lt core.clock last_clock) there h
 
-  move_to_bound : (a b : ℕ) (i : Item) (rest : List Item) (o : Option CoreState) → slice_get m.cores b ≡ o → move_to m a b i rest o ≡ Some m' → AllBound m'.cores
-  move_to_bound a b i rest None there h = cc
-  move_to_bound a b i rest (Some core) there h = is_left _ h (all_set m.cores b core (came core i.moved) all there (all b core there))
+  move_to_few : (a b : ℕ) (i : Item) (rest : List Item) (o : Option CoreState) → slice_get m.cores b ≡ o → move_to m a b i rest o ≡ Some m' → AllRootsAreFew m'.cores
+  move_to_few a b i rest None there h = cc
+  move_to_few a b i rest (Some core) there h = is_left _ h (all_set m.cores b core (came core i.moved) all there (all b core there))
 
-  move_bound : (a b : ℕ) (items : List Item) → move_at m a b items ≡ Some m' → AllBound m'.cores
-  move_bound a b [] h = cc
-  move_bound a b (i ∷ rest) h = move_to_bound a b i rest (slice_get m.cores b) refl h
+  move_few : (a b : ℕ) (items : List Item) → move_at m a b items ≡ Some m' → AllRootsAreFew m'.cores
+  move_few a b [] h = cc
+  move_few a b (i ∷ rest) h = move_to_few a b i rest (slice_get m.cores b) refl h
 
-  does_bound : (e : Event) → does L s m e ≡ Some m' → AllBound m'.cores
-  does_bound (Step c t) h = step_bound c t (slice_get m.cores c) refl h
-  does_bound (Tick c) h = tick_bound c (slice_get m.cores c) refl h
-  does_bound (Move a b) h = move_bound a b (link_of m.links a b) h
+  does_few : (e : Event) → does L s m e ≡ Some m' → AllRootsAreFew m'.cores
+  does_few (Step c t) h = step_few c t (slice_get m.cores c) refl h
+  does_few (Tick c) h = tick_few c (slice_get m.cores c) refl h
+  does_few (Move a b) h = move_few a b (link_of m.links a b) h
 
-runs_bound : (L : Image) (s : Stim) (es : List Event) (m m' : Machine) → AllBound m.cores → runs L s m es ≡ Some m' → AllBound m'.cores
-runs_bound L s [] m m' all h = let e : m ≡ m' = cc in subst (λ (x : Machine). AllBound x.cores) e all
-runs_bound L s (e ∷ es) m m' all h = go (does L s m e) refl (λ n bound k. runs_bound L s es n m' bound k) h
+runs_few : (L : Image) (s : Stim) (es : List Event) (m m' : Machine) → AllRootsAreFew m.cores → runs L s m es ≡ Some m' → AllRootsAreFew m'.cores
+runs_few L s [] m m' all h = let e : m ≡ m' = cc in subst (λ (x : Machine). AllRootsAreFew x.cores) e all
+runs_few L s (e ∷ es) m m' all h = go (does L s m e) refl (λ n few k. runs_few L s es n m' few k) h
   where
-    go : (o : Option Machine) → does L s m e ≡ o → ((n : Machine) → AllBound n.cores → runs L s n es ≡ Some m' → AllBound m'.cores) → and_then o (λ n. runs L s n es) ≡ Some m' → AllBound m'.cores
+    go : (o : Option Machine) → does L s m e ≡ o → ((n : Machine) → AllRootsAreFew n.cores → runs L s n es ≡ Some m' → AllRootsAreFew m'.cores) → and_then o (λ n. runs L s n es) ≡ Some m' → AllRootsAreFew m'.cores
     go None g rest k = cc
-    go (Some n) g rest k = rest n (does_bound L s m all n e g) k
+    go (Some n) g rest k = rest n (does_few L s m all n e g) k
 
-boot_count : (roots : List ℕ) (n : ℕ) → length roots ≤ n → length roots ≤ count_true (looses (boot_threads roots n))
+boot_count : (roots : List ℕ) (n : ℕ) → length roots ≤ n → length roots ≤ count_true (unsynchronised (boot_threads roots n))
 boot_count [] n h = omega arith
 boot_count (k ∷ roots) zero h = let no : ⊥ = omega (arith, h) in absurd no
 boot_count (k ∷ roots) (suc n) h = let r = boot_count roots n (omega (arith, h)) in omega (arith, r)
 
-boot_bound : (L : Image) → Valid L → AllBound (boot L).cores
-boot_bound L valid c core h = go c h
+boot_few : (L : Image) → Valid L → AllRootsAreFew (boot L).cores
+boot_few L valid c core h = go c h
   where
-    started : (d : ℕ) → IsBound (boot_core (parts_in L.cores d))
+    started : (d : ℕ) → RootsAreFew (boot_core (parts_in L.cores d))
     started d = boot_count (parts_in L.cores d).roots 8 (good_part L.cores 0 d valid.cores).roots
 
-    at_core : (d : ℕ) → Some (boot_core (parts_in L.cores d)) ≡ Some core → IsBound core
-    at_core d e = subst (λ (x : CoreState). IsBound x) (some_is _ core e) (started d)
+    at_core : (d : ℕ) → Some (boot_core (parts_in L.cores d)) ≡ Some core → RootsAreFew core
+    at_core d e = subst (λ (x : CoreState). RootsAreFew x) (some_is _ core e) (started d)
 
-    go : (d : ℕ) → slice_get (boot L).cores d ≡ Some core → IsBound core
+    go : (d : ℕ) → slice_get (boot L).cores d ≡ Some core → RootsAreFew core
     go zero e = at_core 0 e
     go (suc zero) e = at_core 1 e
     go (suc (suc zero)) e = at_core 2 e
@@ -461,9 +456,9 @@ boot_bound L valid c core h = go c h
 
 -- the end word
 
-loose_taken : (xs : List Thread) → count_true (looses xs) ≤ count_true (threads_taken xs)
-loose_taken [] = omega arith
-loose_taken (x ∷ xs) = count_more (loose x) (not (is_unused x.mode)) (looses xs) (threads_taken xs) (second (is_free x.tie) (not (is_unused x.mode))) (loose_taken xs)
+unsynchronised_taken : (xs : List Thread) → count_true (unsynchronised xs) ≤ count_true (threads_taken xs)
+unsynchronised_taken [] = omega arith
+unsynchronised_taken (x ∷ xs) = count_more (is_unsynchronised x) (not (is_unused x.mode)) (unsynchronised xs) (threads_taken xs) (second (is_untied x.tie) (not (is_unused x.mode))) (unsynchronised_taken xs)
   where
     second : (a b : Bool) → a && b ≡ true → b ≡ true
     second true b h = h
@@ -475,17 +470,17 @@ unfinished L s m =
     trapped_by (stuck_by (links_empty m.links && nat_eq (sights L s m 4).ready 0 && nat_eq (sights L s m 4).timed 0)) (nat_eq (sights L s m 4).used (sights L s m 4).trapped)
 
 module _ (L : Image) (s : Stim) (m : Machine) where
-  roots_used : (n : ℕ) → AllBound m.cores → (sights L s m n).roots ≤ (sights L s m n).used
+  roots_used : (n : ℕ) → AllRootsAreFew m.cores → (sights L s m n).roots ≤ (sights L s m n).used
   unfolding sight
   roots_used zero all = omega arith
   roots_used (suc n) all = let r = roots_used n all in let here = go (slice_get m.cores n) refl in omega (arith, r, here)
     where
       go : (o : Option CoreState) → slice_get m.cores n ≡ o → (sight_at L s n o).roots ≤ (sight_at L s n o).used
       go None there = omega arith
-      go (Some core) there = let bound = all n core there in let taken = loose_taken core.threads in omega (arith, bound, taken)
+      go (Some core) there = let few = all n core there in let taken = unsynchronised_taken core.threads in omega (arith, few, taken)
 
   -- trapped only with a trap
-  trapped_is : AllBound m.cores → end_of L s m ≡ AllTrapped → has_trap L s m ≡ true
+  trapped_is : AllRootsAreFew m.cores → end_of L s m ≡ AllTrapped → has_trap L s m ≡ true
   unfolding end_of has_trap
   trapped_is all h = by_roots (nat_eq (sights L s m 4).roots 0) refl h
     where
@@ -557,4 +552,4 @@ pub run_finished : (L : Image) (s : Stim) (es : List Event) (m : Machine) → Va
 run_finished L s es m valid run = finished_is L s m (runs_sound L valid s es (boot L) m (boot_sound L valid) run).four
 
 pub run_trapped : (L : Image) (s : Stim) (es : List Event) (m : Machine) → Valid L → runs L s (boot L) es ≡ Some m → end_of L s m ≡ AllTrapped → has_trap L s m ≡ true
-run_trapped L s es m valid run = trapped_is L s m (runs_bound L s es (boot L) m (boot_bound L valid) run)
+run_trapped L s es m valid run = trapped_is L s m (runs_few L s es (boot L) m (boot_few L valid) run)
