@@ -1,7 +1,8 @@
 -- The laws.
-use Rattle.std.specs.Prelude.{◌≡◌, ℕ, ◌≤◌, List, [], ◌∷◌, Bool}
+use Rattle.std.specs.Prelude.{◌≡◌, ℕ, ◌*◌, ◌≤◌, List, [], ◌∷◌, Bool}
 use Rattle.xc_tree.specs.declared.token.Tok.{Tok}
 use Rattle.xc_tree.specs.Depth as depth
+use Rattle.xc_tree.specs.Depth.{highest}
 use Rattle.xc_tree.specs.Derives.{deepest}
 use Rattle.xc_tree.specs.Lexes.{Lexes}
 use Rattle.xc_tree.specs.Plain as tree
@@ -12,6 +13,9 @@ use Rattle.xc_kernel.specs.Numbering.{Numbering}
 use Rattle.xc_kernel.specs.Copies.{Copies, rooted, numbering}
 use Rattle.xc_kernel.specs.Sound.{IsOfText, IsTyped, IsOfProgram}
 use Rattle.xc_disjoint.specs.Checked.{IsChecked}
+use Rattle.xc_meaning.specs.Counts.KernelCounts.{greatest_count}
+use Rattle.xc_meaning.specs.Counts.TextCounts.{twice_greatest}
+use Rattle.xc_meaning.specs.Counts.Fit.{widest_in_root}
 use Rattle.xc_formed.specs.Numbers.{VariablesAreRight}
 use Rattle.xc_formed.specs.Operands.{OperandsAreRight}
 use Rattle.xc_formed.specs.Levels.{LevelsAreFew}
@@ -99,6 +103,16 @@ CoresOwn = (K : kernel.Kernel) → IsWellFormed K → RootsKeepApart K → Cores
 -- A kernel that breaks no rule has at most 4,000,000 parts.
 abbrev pub PartsFew : Type 0
 PartsFew = (K : kernel.Kernel) → IsChecked K → PartsAreFew K
+
+-- It has no `par` of more than eight branches, so its greatest count is at most four times that of
+-- its program's statements and function heads.
+abbrev pub ParsNarrow : Type 0
+ParsNarrow = (K : kernel.Kernel) → IsChecked K → highest widest_in_root K.roots ≤ 8
+
+abbrev pub CheckedCountsFit : Type 0
+CheckedCountsFit =
+    (K : kernel.Kernel) (checked : IsChecked K) →
+    greatest_count K ≤ 2 * twice_greatest checked.of_program.program
 
 -- Each expression and place of such a kernel comes from the text, where each name means what `uses`
 -- has for it and each operation has the type that `unsigned_at` tells, and each output and input

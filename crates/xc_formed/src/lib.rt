@@ -7,7 +7,7 @@
 mod promised;
 
 pub use promised::{
-    blocks_are_left, code_comes_from_text, expressions_keep_their_word, kernels_are_formed,
-    names_resolve, no_instance_twice, parameters_stand_for_arguments, tokens_rise,
-    transfers_store_where_told,
+    blocks_are_left, code_comes_from_text, counts_are_few, expressions_keep_their_word,
+    kernels_are_formed, names_resolve, no_instance_twice, parameters_stand_for_arguments,
+    tokens_rise, transfers_store_where_told,
 };

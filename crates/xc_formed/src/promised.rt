@@ -1,6 +1,6 @@
 //! The laws, as contracts of functions that do nothing.
 
-ghost use Rattle.xc_formed.specs.Laws.{CodeHasSource, CoresOwn, CoresRight, ExitsInside, KernelsOfProgramsWellFormed, KernelsWellFormed, LevelsFew, NamesResolve, NoInstanceMerged, NoInstanceTwice, OperandsRight, PartsFew, TextsRise, TransactionsListed, TransfersRight, VariablesRight};
+ghost use Rattle.xc_formed.specs.Laws.{CheckedCountsFit, CodeHasSource, CoresOwn, CoresRight, ExitsInside, KernelsOfProgramsWellFormed, KernelsWellFormed, LevelsFew, NamesResolve, NoInstanceMerged, NoInstanceTwice, OperandsRight, ParsNarrow, PartsFew, TextsRise, TransactionsListed, TransfersRight, VariablesRight};
 ghost use Rattle.xc_formed.specs.Given.{EachByItsOwn, ElementsGiven, NamesGiven, ResultIsReturned, ValuesGiven};
 ghost use Rattle.xc_formed.specs.Left.{CaseIsLeft, DoIsLeft, ForIsLeft, FunctionIsLeft, WhileIsLeft};
 ghost use Rattle.xc_formed.specs.Stored.{FreshTargetsKept, InputStampsKept, NoneStored, OutputStampsKept, TargetsKept};
@@ -40,6 +40,14 @@ pub fn kernels_are_formed()
     ensures of_programs { KernelsOfProgramsWellFormed }
     ensures own { CoresOwn }
     ensures few { PartsFew }
+{}
+
+/// No `par` of a kernel that breaks no rule has more than eight branches, and its greatest count is at
+/// most four times that of its program's statements and function heads.
+#[tactic(auto, using(crate::proofs::Narrow::pars_are_narrow, crate::proofs::Narrow::checked_counts_fit))]
+pub fn counts_are_few()
+    ensures narrow { ParsNarrow }
+    ensures counts { CheckedCountsFit }
 {}
 
 /// The code of such a kernel comes from the text: its names stand for instances of what they mean

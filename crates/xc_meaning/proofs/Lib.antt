@@ -1,3 +1,4 @@
+pub mod Counting
 pub mod Simulation
 pub mod Recursion
 pub mod Basics

@@ -4,4 +4,4 @@
 
 mod law;
 
-pub use law::text_follows;
+pub use law::{counts_fit, text_follows};
