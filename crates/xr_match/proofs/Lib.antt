@@ -1,4 +1,6 @@
 pub mod Frame
 pub mod Through
 pub mod Counted
+pub mod Births
+pub mod Walked
 pub mod Texts

@@ -1,21 +1,25 @@
 -- The meanings of a kernel and of a text.
-use Rattle.std.specs.Prelude.{◌≡◌, ◌+◌, ℕ, Bool, true, List, [], ◌∷◌, Option, Some, None, nat_eq, slice_get}
+use Rattle.std.specs.Prelude.{◌≡◌, ◌≤◌, ◌+◌, ℕ, Bool, true, List, [], ◌∷◌, Option, Some, None, nat_eq, slice_get}
 use Rattle.xs_instr.specs.declared.image.Image.{Image}
+use Rattle.xs_instr.specs.declared.image.Stim.{Stim}
 use Rattle.xs_instr.specs.Machine.{and_then}
+use Rattle.xc_tree.specs.Depth.{highest}
 use Rattle.xc_tree.specs.Plain as tree
 use Rattle.xc_tree.specs.Types.Named.{NamedProgram}
 use Rattle.xc_kernel.specs.Copies.{copy_of, Copies}
 use Rattle.xc_kernel.specs.Plain as kernel
 use Rattle.xc_kernel.specs.Sound.{IsTyped}
 use Rattle.xc_meaning.specs.Counts.Families.{child_by, child_family, mover}
+use Rattle.xc_meaning.specs.Counts.Fit.{widest_in_root}
 use Rattle.xc_meaning.specs.Counts.KernelCounts.{kernel_bound}
 use Rattle.xc_meaning.specs.Counts.TextCounts.{program_bound}
+use Rattle.xc_meaning.specs.Follows.{ExitsMeet}
 use Rattle.xc_meaning.specs.Quiet.{IsQuiet}
 use Rattle.xc_meaning.specs.Runs.{acts, kernel_start, program_start}
 use Rattle.xc_meaning.specs.States.Branches.{all_ended}
 use Rattle.xc_meaning.specs.States.Channels.{Parcel, Side}
 use Rattle.xc_meaning.specs.States.Worlds.{World, Action, inbox}
-use Rattle.xr_match.specs.Implements.{Implements}
+use Rattle.xr_match.specs.Implements.{Implements, ImplementsWholly}
 use Rattle.xr_match.specs.Lives.{Family, of_root, of_child}
 use Rattle.xr_match.specs.Sides.{two_sided}
 use Rattle.xr_match.specs.Sources.{Source}
@@ -69,3 +73,11 @@ abbrev pub KernelsCarry : Type 0
 KernelsCarry =
     (L : Image) (P : List tree.Item) (K : kernel.Kernel) (named : NamedProgram) (types : List Bool) →
     IsTyped P named types → Copies P K → Implements L (of_kernel K) → Implements L (of_text P)
+
+-- Where besides each exit of the kernel meets its mark, and no `par` of it has more than eight branches, what keeps all that an image promises
+-- of the kernel keeps it of the text.
+abbrev pub KernelsCarryWholly : Type 0
+KernelsCarryWholly =
+    (L : Image) (P : List tree.Item) (K : kernel.Kernel) (named : NamedProgram) (types : List Bool) →
+    IsTyped P named types → Copies P K → ((s : Stim) → ExitsMeet K s) → highest widest_in_root K.roots ≤ 8 →
+    ImplementsWholly L (of_kernel K) → ImplementsWholly L (of_text P)

@@ -4,14 +4,18 @@ ghost use Rattle.xc_tree.specs.Plain.{Item};
 ghost use Rattle.xc_kernel.specs.Plain.{Kernel};
 ghost use Rattle.xc_meaning.specs.Runs.{Allowed, AllowedKernel};
 ghost use Rattle.xc_meaning.specs.States.Worlds.{Action};
-ghost use Rattle.xr_match.specs.Meanings.{KernelsCarry, of_kernel, of_text};
+ghost use Rattle.xr_match.specs.Meanings.{KernelsCarry, KernelsCarryWholly, of_kernel, of_text};
 ghost use Rattle.xr_match.specs.Sources.{told_of};
 ghost use Rattle.xr_match.specs.Systems.{IsRun};
 
 /// An image that implements a program's kernel implements the program's text: what a machine with it does under a stimulus, whatever
 /// the order of its events, is what the text may do. That is so of each program that breaks no rule of names, types and shapes.
+///
+/// One that keeps all its promises of the kernel keeps them of the text: it waits only where the text does, and doesn't go on and on
+/// without it. That is so where each exit of the kernel meets its mark and no `par` of it has more than eight branches.
 pub fn kernel_carries_to_text()
     ensures carries { KernelsCarry }
+    ensures wholly { KernelsCarryWholly }
 {}
 
 /// Actions that are a run of a text's meaning, as it stands beside a machine's runs, are a run that the text may take, and likewise of a

@@ -1,21 +1,19 @@
 -- An image that has the code of a kernel's roots implements the kernel.
-use Rattle.std.proofs.Common.{◌≡◌, ℕ, ◌+◌, ◌*◌, ◌≤◌, List, [], ◌∷◌, Option, Some, None, refl, sym, ap, ◌∙◌, subst, arith}
+use Rattle.std.proofs.Common.{◌≡◌, ℕ, ◌+◌, ◌*◌, ◌≤◌, Option, Some, None, refl, sym, subst, arith}
 use Rattle.std.proofs.lemmas.Option.{same_Some}
 use Rattle.std.proofs.Math.Nat.{mul-le-mul_left}
 use Rattle.xs_instr.specs.declared.image.Image.{Image}
 use Rattle.xs_instr.specs.declared.image.Stim.{Stim}
 use Rattle.xs_instr.specs.Machine.{Event, Machine, and_then, does}
 use Rattle.xc_kernel.specs.Plain as kernel
-use Rattle.xc_meaning.specs.Counts.Families.{counted_for, mover, steps_of}
 use Rattle.xc_meaning.specs.Counts.KernelCounts.{greatest_count, kernel_bound}
-use Rattle.xc_meaning.specs.Runs.{acts, acts_all}
-use Rattle.xc_meaning.specs.States.Worlds.{Action, World}
+use Rattle.xc_meaning.specs.Runs.{kernel_start}
 use Rattle.xl_expr.specs.declared.plan.Plan.{Plan}
 use Rattle.xr_match.specs.Implements.{AgreeNow, AgreeWholly, Implements, ImplementsWholly}
 use Rattle.xr_match.specs.Lives.{Watched, machine_of, watched_after, watched_start}
 use Rattle.xr_match.specs.Meanings.{of_kernel}
-use Rattle.xr_match.specs.Sources.{Told, actions_of, told_after, told_of, told_start}
-use Rattle.xr_match.specs.Systems.{leads}
+use Rattle.xr_match.specs.Sources.{Told, actions_of, told_of, told_start}
+use Rattle.xr_match.proofs.Counted.{counted_steps}
 use Rattle.xr_match.proofs.Frame as frame
 use Rattle.xr_threads.specs.Images.{IsImageOf}
 use Rattle.xr_threads.specs.Living.{AreNamed}
@@ -37,29 +35,6 @@ use Rattle.xr_threads.proofs.StartWires.{none_inside}
 use Rattle.xr_threads.proofs.Starts.{none_got}
 use Rattle.xr_threads.proofs.Together.{Comes, Together, named_like}
 
--- The program with its families' actions goes on as the program does, and each family has done what is its own of them.
-counted : (K : kernel.Kernel) (s : Stim) (actions : List Action) (x : Told (of_kernel K)) (y : World) → acts_all K s (Some x.state) actions ≡ Some y →
-    (z : Told (of_kernel K)) × (leads (told_of (of_kernel K) s) x actions ≡ Some z) × (z.state ≡ y)
-    × ((f : ℕ) → z.actions f ≡ x.actions f + steps_of K s f (Some x.state) actions)
-counted K s [] x y e = (x, refl, same_Some _ _ e, λ f. omega arith)
-counted K s (a ∷ actions) x y e = go (counted K s actions) (acts K s x.state a) refl e
-  where
-    go : ((x' : Told (of_kernel K)) (y' : World) → acts_all K s (Some x'.state) actions ≡ Some y' →
-        (z : Told (of_kernel K)) × (leads (told_of (of_kernel K) s) x' actions ≡ Some z) × (z.state ≡ y')
-        × ((f : ℕ) → z.actions f ≡ x'.actions f + steps_of K s f (Some x'.state) actions)) →
-        (o : Option World) → acts K s x.state a ≡ o → acts_all K s o actions ≡ Some y →
-        (z : Told (of_kernel K)) × (leads (told_of (of_kernel K) s) x (a ∷ actions) ≡ Some z) × (z.state ≡ y)
-        × ((f : ℕ) → z.actions f ≡ x.actions f + (counted_for f (mover x.state a) + steps_of K s f (acts K s x.state a) actions))
-    go next None acted h = absurd (none actions h)
-      where
-        none : (ms : List Action) → acts_all K s None ms ≡ Some y → ⊥
-        none [] f = cc
-        none (m ∷ ms) f = cc
-    go next (Some x') acted h =
-        let rest = next (told_after (of_kernel K) x a x') y h in
-        let first = ap (λ (o : Option World). and_then (and_then o (λ z. Some (told_after (of_kernel K) x a z))) (λ z. leads (told_of (of_kernel K) s) z actions)) acted in
-        (rest.0, first ∙ rest.1, rest.2, λ f. let one = rest.3 f in let two = ap (λ o. steps_of K s f o actions) acted in omega arith)
-
 -- what an event leaves
 left_by : (L : Image) (s : Stim) (w w' : Watched) (e : Event) → (machine_of L s).next w e ≡ Some w' → (m : Machine) × (does L s w.machine e ≡ Some m) × (w' ≡ watched_after w e m)
 left_by L s w w' e h = go (does L s w.machine e) refl h
@@ -79,7 +54,7 @@ module _ (g : Setting) (who : Roles) (is : IsImageOf g who) where
   -- the same as the program with its families' actions has it
   follows : (x : Told (of_kernel g.program)) (w : Watched) → Comes g x w → frame.Follows (machine_of g.image g.stimulus) (told_of (of_kernel g.program) g.stimulus) (Together g) x w
   follows x w f =
-      let z = counted g.program g.stimulus f.piece x f.world f.acted in
+      let z = counted_steps g.program g.stimulus (kernel_start g.program) (kernel_bound g.program) f.piece x f.world f.acted in
       let told = told_by g.program g.stimulus x f.piece f.world in
       let less : (h : ℕ) → told.actions h ≤ z.0.actions h = λ h. let e = z.3 h in omega arith in
       let t = f.together in
