@@ -1,6 +1,6 @@
 -- An image that implements a program's kernel implements the program's text, and so it is of all that an image promises.
-use Rattle.std.proofs.Common.{◌≡◌, ℕ, ◌+◌, ◌*◌, ◌≤◌, List, [], Option, Some, None, refl, sym, subst, ap, ◌∙◌, arith}
-use Rattle.std.specs.Prelude.{◌↔◌, slice_index_or}
+use Rattle.std.proofs.Common.{◌≡◌, ℕ, ◌+◌, ◌*◌, ◌≤◌, List, Option, Some, None, sym, subst, ap, ◌∙◌, arith}
+use Rattle.std.specs.Prelude.{◌↔◌, map, slice_index_or}
 use Rattle.std.proofs.lemmas.Option.{same_Some}
 use Rattle.xs_instr.specs.declared.image.Image.{Image}
 use Rattle.xs_instr.specs.declared.image.Stim.{Stim}
@@ -10,9 +10,10 @@ use Rattle.xc_kernel.specs.Plain as kernel
 use Rattle.xc_meaning.specs.Counts.KernelCounts.{kernel_bound}
 use Rattle.xc_meaning.specs.Counts.TextCounts.{program_bound}
 use Rattle.xc_meaning.specs.Follows.{AreAlike, StandAlike, StandClose}
-use Rattle.xc_meaning.specs.Quiet.{IsQuiet, QuietBehind}
+use Rattle.xc_meaning.specs.Quiet.{QuietBehind}
+use Rattle.xc_meaning.specs.Runs.{kernel_start, program_start}
 use Rattle.xc_meaning.specs.States.Channels.{Side, no_parcels, parcels_at}
-use Rattle.xc_meaning.specs.States.Worlds.{World, Action}
+use Rattle.xc_meaning.specs.States.Worlds.{World, Action, clock}
 use Rattle.xc_meaning.proofs.Counting.Bounds.{bound_carries, bounds_fit}
 use Rattle.xc_meaning.proofs.Counting.Fit.{counts_fit}
 use Rattle.xc_meaning.proofs.Recursion.End.{calls_end}
@@ -24,7 +25,7 @@ use Rattle.xr_match.specs.Meanings.{HasParcel, family_in, of_kernel, of_text, Ke
 use Rattle.xr_match.specs.Sources.{Told, actions_by, actions_of, told_of}
 use Rattle.xr_match.proofs.Births.{family_alike}
 use Rattle.xr_match.proofs.Through.{refines_through}
-use Rattle.xr_match.proofs.Walked.{IsOfKernel, IsOfText, Leads, refines_so}
+use Rattle.xr_match.proofs.Walked.{IsOfKernel, IsOfText, Leads, refines_so, same_run}
 
 module _ (P : List tree.Item) (K : kernel.Kernel) (s : Stim) where
   abbrev Alike : Told (of_kernel K) → Told (of_text P) → Type 0
@@ -78,11 +79,11 @@ module _ (P : List tree.Item) (K : kernel.Kernel) (s : Stim) where
     ended = ((λ h. sym k.ended ∙ a.ended.0 h), (λ h. a.ended.1 (k.ended ∙ h)));
   }
 
-  -- where the machine is quiet so is the kernel, and so is the text
+  -- where the machine is quiet behind some ticks so is the kernel, and so is the text
   agree_quiet : (L : Image) (w : Watched) (x : Told (of_kernel K)) (y : Told (of_text P)) → QuietAgree L (of_kernel K) s w.machine x.state → Close x y → QuietAgree L (of_text P) s w.machine y.state
-  agree_quiet L w x y a k still =
-      let behind = (k.quiet []).0 (record { quiet = λ z e. subst (IsQuiet K s) (same_Some _ _ e) (a still) }) in
-      behind.quiet y.state refl
+  agree_quiet L w x y a k cores still later e =
+      let behind = (k.quiet cores).0 (record { quiet = λ z f. a cores still z (sym (same_run K s (kernel_start K) (of_kernel K).bound (map clock cores) x.state) ∙ f) }) in
+      behind.quiet later (same_run (copy_of P) s (program_start P) (of_text P).bound (map clock cores) y.state ∙ e)
 
   -- a family has the same number on both sides
   same_number : (copies : Copies P K) (x y : World) → AreAlike x y → (name : Family) → family_in K x name ≡ family_in (copy_of P) y name

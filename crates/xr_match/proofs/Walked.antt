@@ -18,7 +18,7 @@ use Rattle.xr_match.proofs.Counted.{counted_steps, uncounted}
 use Rattle.xr_match.proofs.Through.{there_get, there_put}
 
 -- the runs of the meaning are those of the system
-same_run : (K : kernel.Kernel) (s : Stim) (start : World) (bound : ℕ) (actions : List Action) (x : World) → acts_all K s (Some x) actions ≡ allowed (of_worlds K start bound) s x actions
+pub same_run : (K : kernel.Kernel) (s : Stim) (start : World) (bound : ℕ) (actions : List Action) (x : World) → acts_all K s (Some x) actions ≡ allowed (of_worlds K start bound) s x actions
 same_run K s start bound [] x = refl
 same_run K s start bound (a ∷ actions) x = go (same_run K s start bound actions) (acts K s x a)
   where

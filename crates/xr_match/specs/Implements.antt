@@ -6,11 +6,11 @@ use Rattle.xs_instr.specs.declared.image.Stim.{Stim}
 use Rattle.xs_instr.specs.declared.state.ChanEnd.{ChanEnd}
 use Rattle.xs_instr.specs.declared.state.CoreState.{CoreState}
 use Rattle.xs_instr.specs.declared.state.Token.{Token}
-use Rattle.xs_instr.specs.Machine.{Machine, Step, Move, does}
+use Rattle.xs_instr.specs.Machine.{Machine, Step, Tick, Move, does, runs}
 use Rattle.xs_instr.specs.Valid.{IsGoodStim}
 use Rattle.xc_meaning.specs.States.Channels.{Side, first, second}
 use Rattle.xr_match.specs.Lives.{Watched, machine_of}
-use Rattle.xr_match.specs.Sources.{Source, Told, actions_of, told_of}
+use Rattle.xr_match.specs.Sources.{Source, Told, actions_of, allowed, told_of}
 use Rattle.xr_match.specs.Systems.{Refines}
 
 -- every root has ended
@@ -71,8 +71,14 @@ pub record IsQuietMachine (L : Image) (s : Stim) (m : Machine) : Type 0 where
   pub steps : (core thread : ℕ) → does L s m (Step core thread) ≡ None
   pub moves : (from to : ℕ) → does L s m (Move from to) ≡ None
 
+-- so it is behind some ticks, by the cores whose clocks they are, where each of them is enabled
+pub record IsQuietBehind (L : Image) (s : Stim) (m : Machine) (cores : List ℕ) : Type 0 where
+  pub quiet : (later : Machine) → runs L s m (map Tick cores) ≡ Some later → IsQuietMachine L s later
+
+-- where the machine is quiet behind some ticks, so is the program behind the same, if it can do them
 abbrev pub QuietAgree : Image → (P : Source) → Stim → Machine → P.State → Type 0
-QuietAgree L P s m x = IsQuietMachine L s m → P.IsQuiet s x
+QuietAgree L P s m x =
+    (cores : List ℕ) → IsQuietBehind L s m cores → (y : P.State) → allowed P s x (map P.clock cores) ≡ Some y → P.IsQuiet s y
 
 -- no life has done too many steps for its family
 abbrev pub StepsAreBounded : (P : Source) → Watched → Told P → Type 0

@@ -18,7 +18,7 @@ use Rattle.xc_meaning.specs.Quiet.{IsQuiet}
 use Rattle.xc_meaning.specs.Runs.{acts, kernel_start, program_start}
 use Rattle.xc_meaning.specs.States.Branches.{all_ended}
 use Rattle.xc_meaning.specs.States.Channels.{Parcel, Side}
-use Rattle.xc_meaning.specs.States.Worlds.{World, Action, inbox}
+use Rattle.xc_meaning.specs.States.Worlds.{World, Action, clock, inbox}
 use Rattle.xr_match.specs.Implements.{Implements, ImplementsWholly}
 use Rattle.xr_match.specs.Lives.{Family, of_root, of_child}
 use Rattle.xr_match.specs.Sides.{two_sided}
@@ -51,6 +51,7 @@ of_worlds K start bound = record {
   Action = Action;
   start = start;
   acts = acts K;
+  clock = clock;
   clocks = λ x. x.clocks;
   trace = λ x. x.trace;
   HasEnded = λ x. all_ended x.branches ≡ true;

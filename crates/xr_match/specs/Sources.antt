@@ -14,6 +14,8 @@ pub record Source : Type 1 where
   pub start : State
   -- what an action leaves, where it is possible under a stimulus
   pub acts : Stim → State → Action → Option State
+  -- the step of a core's clock
+  pub clock : (core : ℕ) → Action
   pub clocks : State → List ℕ
   pub trace : State → List Record
   -- each branch has ended

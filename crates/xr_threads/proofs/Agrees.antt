@@ -1,18 +1,23 @@
 -- Where the two sides stand so, they have the same clocks and trace, and have ended together; and they are quiet together.
-use Rattle.std.proofs.Common.{◌≡◌, ℕ, zero, suc, ◌+◌, ◌<◌, inl, inr, List, [], ◌∷◌, length, Some, refl, sym, ap, ◌∙◌, subst, arith}
-use Rattle.std.specs.Prelude.{Bool, true, false, ◌&&◌, slice_get}
-use Rattle.std.proofs.lemmas.Option.{same_Some}
+use Rattle.std.proofs.Common.{◌≡◌, ℕ, zero, suc, ◌+◌, ◌<◌, inl, inr, List, [], ◌∷◌, length, Option, Some, None, refl, sym, ap, ◌∙◌, subst, arith}
+use Rattle.std.specs.Prelude.{Bool, true, false, ◌&&◌, map, nat_lt, slice_get, slice_set}
+use Rattle.std.proofs.lemmas.Option.{same_Some, slice_get-map}
 use Rattle.xs_instr.specs.declared.image.Pair.{Pair}
 use Rattle.xs_instr.specs.declared.state.CoreState.{CoreState}
 use Rattle.xs_instr.specs.declared.state.Token.{Token}
-use Rattle.xs_instr.specs.Machine.{Machine, no_links}
+use Rattle.xs_instr.specs.Machine.{Machine, Tick, and_then, does, no_links, runs, tick_at, tick_by}
+use Rattle.xs_instr.specs.Slot.{last_clock, ticked}
 use Rattle.xc_laws.specs.Tree.{IsChild}
+use Rattle.xc_meaning.specs.Quiet.{IsQuiet}
+use Rattle.xc_meaning.specs.Runs.{acts}
+use Rattle.xc_meaning.specs.Settings.Time.{ticks}
 use Rattle.xc_meaning.specs.States.Branches.{Branch, all_ended, has_ended}
 use Rattle.xc_meaning.specs.States.Channels.{Parcel, Side, first, second}
-use Rattle.xr_match.specs.Implements.{AgreeNow, AllRootsEnded, ArrivalsAgree, Arrives, ArrivesAt, Begins, QuietAgree, of_data, of_open}
+use Rattle.xc_meaning.specs.States.Worlds.{World, clock, only_if}
+use Rattle.xr_match.specs.Implements.{AgreeNow, AllRootsEnded, ArrivalsAgree, Arrives, ArrivesAt, Begins, IsQuietBehind, QuietAgree, of_data, of_open}
 use Rattle.xr_match.specs.Lives.{Watched}
 use Rattle.xr_match.specs.Meanings.{HasParcel, of_kernel}
-use Rattle.xr_match.specs.Sources.{Told}
+use Rattle.xr_match.specs.Sources.{Told, allowed}
 use Rattle.xr_threads.specs.Images.{IsImageOf}
 use Rattle.xr_threads.specs.Roles.{Roles}
 use Rattle.xr_threads.specs.Runners.{Setting}
@@ -21,7 +26,8 @@ use Rattle.xr_threads.specs.Wired.{IsLine, boxes_in}
 use Rattle.xr_threads.proofs.ChannelBoxes.{line_parcels}
 use Rattle.xr_threads.proofs.Counts.{living_some, none_living, root_counts}
 use Rattle.xr_threads.proofs.Quiet.{quiet_together}
-use Rattle.xr_threads.proofs.Standing.{core_at}
+use Rattle.xr_threads.proofs.Standing.{clock_at, core_at}
+use Rattle.xr_threads.proofs.Ticks.{has_acted, stands_after_tick, told_ticked, watched_ticked}
 use Rattle.xr_wires.specs.Wires.{ends_in, place, tokens_at, tokens_in}
 use Rattle.xr_wires.proofs.Frames.{parcels}
 use Rattle.xr_wires.proofs.Ready.{token_has_parcel}
@@ -128,6 +134,42 @@ module _ (g : Setting) (who : Roles) (w : Watched) (x : Told (of_kernel g.progra
     ended = (branches_over, λ h. roots_all w.machine.cores (λ c a e. st.roots c a e ∙ none_living c x.state.branches h));
   }
 
-  -- where the machine is quiet, so is the program
-  pub quiet_agree : (first : Roles) → IsImageOf g first → QuietAgree g.image (of_kernel g.program) g.stimulus w.machine x.state
-  quiet_agree first_roles is = λ quiet. quiet_together g first_roles is who w x st quiet
+module _ (g : Setting) (who : Roles) (first_roles : Roles) (is : IsImageOf g first_roles) where
+  -- A tick of the program is one of the machine, behind which the two stand as before.
+  ticked_by : (w : Watched) (x : Told (of_kernel g.program)) (st : Standing g none_rests who w x) (c : ℕ) (a : CoreState) (at_c : slice_get w.machine.cores c ≡ Some a) (cores : List ℕ) (y : World) →
+      ((w' : Watched) (x' : Told (of_kernel g.program)) → Standing g none_rests who w' x' → IsQuietBehind g.image g.stimulus w'.machine cores → allowed (of_kernel g.program) g.stimulus x'.state (map clock cores) ≡ Some y → IsQuiet g.program g.stimulus y) →
+      IsQuietBehind g.image g.stimulus w.machine (c ∷ cores) → allowed (of_kernel g.program) g.stimulus x.state (clock c ∷ map clock cores) ≡ Some y →
+      (below : Bool) → nat_lt a.clock last_clock ≡ below → IsQuiet g.program g.stimulus y
+  ticked_by w x st c a at_c cores y next still e true lt =
+      let program = has_acted g first_roles is who w x st c a at_c lt in
+      let machine : does g.image g.stimulus w.machine (Tick c) ≡ Some (record w.machine { cores = slice_set w.machine.cores c (ticked a) }) = ap (tick_at w.machine c) at_c ∙ ap (tick_by w.machine c a) lt in
+      next (watched_ticked g first_roles is who w x st c a at_c) (told_ticked g first_roles is who w x st c a at_c) (stands_after_tick g first_roles is who w x st c a at_c lt)
+      (record { quiet = λ m runs_to. still.quiet m (ap (λ (o : Option Machine). and_then o (λ n. runs g.image g.stimulus n (map Tick cores))) machine ∙ runs_to) })
+      (sym (ap (λ (o : Option World). and_then o (λ z. allowed (of_kernel g.program) g.stimulus z (map clock cores))) program) ∙ e)
+  ticked_by w x st c a at_c cores y next still e false ge =
+      let none : acts g.program g.stimulus x.state (clock c) ≡ None =
+      ap (λ o. and_then o (ticks x.state c)) (clock_at g none_rests who w x c a st at_c) ∙ ap (λ b. only_if b (record x.state { clocks = slice_set x.state.clocks c (a.clock + 1) })) ge in
+      absurd (nothing (sym (ap (λ (o : Option World). and_then o (λ z. allowed (of_kernel g.program) g.stimulus z (map clock cores))) none) ∙ e))
+    where
+      nothing : ◌≡◌ {A = Option World} None (Some y) → ⊥
+      nothing f = cc
+
+  ticks_by : (w : Watched) (x : Told (of_kernel g.program)) (st : Standing g none_rests who w x) (c : ℕ) (cores : List ℕ) (y : World) →
+      ((w' : Watched) (x' : Told (of_kernel g.program)) → Standing g none_rests who w' x' → IsQuietBehind g.image g.stimulus w'.machine cores → allowed (of_kernel g.program) g.stimulus x'.state (map clock cores) ≡ Some y → IsQuiet g.program g.stimulus y) →
+      IsQuietBehind g.image g.stimulus w.machine (c ∷ cores) → allowed (of_kernel g.program) g.stimulus x.state (clock c ∷ map clock cores) ≡ Some y →
+      (o : Option CoreState) → slice_get w.machine.cores c ≡ o → IsQuiet g.program g.stimulus y
+  ticks_by w x st c cores y next still e (Some a) at_c = ticked_by w x st c a at_c cores y next still e (nat_lt a.clock last_clock) refl
+  ticks_by w x st c cores y next still e None at_c =
+      let no_clock : slice_get x.state.clocks c ≡ None = rw (← st.clocks, slice_get-map, at_c) in
+      absurd (nothing (sym (ap (λ o. and_then (and_then o (ticks x.state c)) (λ z. allowed (of_kernel g.program) g.stimulus z (map clock cores))) no_clock) ∙ e))
+    where
+      nothing : ◌≡◌ {A = Option World} None (Some y) → ⊥
+      nothing f = cc
+
+  quiet_behind : (cores : List ℕ) (y : World) (w : Watched) (x : Told (of_kernel g.program)) → Standing g none_rests who w x → IsQuietBehind g.image g.stimulus w.machine cores → allowed (of_kernel g.program) g.stimulus x.state (map clock cores) ≡ Some y → IsQuiet g.program g.stimulus y
+  quiet_behind [] y w x st still e = subst (IsQuiet g.program g.stimulus) (same_Some _ _ e) (quiet_together g first_roles is who w x st (still.quiet w.machine refl))
+  quiet_behind (c ∷ cores) y w x st still e = ticks_by w x st c cores y (quiet_behind cores y) still e (slice_get w.machine.cores c) refl
+
+-- where the machine is quiet behind some ticks, so is the program
+pub quiet_agree : (g : Setting) (who : Roles) (w : Watched) (x : Told (of_kernel g.program)) → Standing g none_rests who w x → (first_roles : Roles) → IsImageOf g first_roles → QuietAgree g.image (of_kernel g.program) g.stimulus w.machine x.state
+quiet_agree g who w x st first_roles is cores still y e = quiet_behind g who first_roles is cores y w x st still e

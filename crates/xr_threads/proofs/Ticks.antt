@@ -40,7 +40,7 @@ used_ticked who c a h = record { threads = h.threads; syncs = h.syncs; unused = 
 
 module _ (g : Setting) (first : Roles) (is : IsImageOf g first) (who : Roles) (w : Watched) (x : Told (of_kernel g.program)) (st : Standing g none_rests who w x) (c : ℕ) (a : CoreState) (at_c : slice_get w.machine.cores c ≡ Some a) where
   -- the program's state after the tick
-  abbrev later : World
+  abbrev pub later : World
   later = record x.state { clocks = slice_set x.state.clocks c (a.clock + 1) }
 
   loose_later : (d : ℕ) (e b : CoreState) → b.words ≡ e.words → b.ports ≡ e.ports → AreLoose g who d e x.state → AreLoose g who d b later
@@ -51,7 +51,7 @@ module _ (g : Setting) (first : Roles) (is : IsImageOf g first) (who : Roles) (w
     ports = λ p listed its nobody. let k = h.ports p listed its nobody in record { port = k.port; there = ap (λ l. slice_get l (port_place g (anyone d) p)) ports ∙ k.there; declared = k.declared };
   }
 
-  abbrev watched_ticked : Watched
+  abbrev pub watched_ticked : Watched
   watched_ticked = watched_after w (Tick c) (record w.machine { cores = slice_set w.machine.cores c (ticked a) })
 
   kept_here : (u : ℕ) (s : Runner) (hand : Option Hand) → who c u ≡ used_by s hand → Kept g s (record { core = a; world = x.state; hand = hand }) (record { core = ticked a; world = later; hand = hand })
@@ -106,47 +106,58 @@ module _ (g : Setting) (first : Roles) (is : IsImageOf g first) (who : Roles) (w
   same_transfers = record { before = λ d u i other transfer at its. (i, other, at, its); still = λ d u i other transfer at its. (i, other, at, its) }
 
   -- where the clock is not at its last value the program can tick too
-  after_tick : nat_lt a.clock last_clock ≡ true → Follows g none_rests who w x watched_ticked
-  after_tick e =
-      let acted : acts g.program g.stimulus x.state (clock c) ≡ Some later = ap (λ o. and_then o (ticks x.state c)) (clock_at g none_rests who w x c a st at_c) ∙ ap (λ b. only_if b later) e in
-      let all_acted : acts_all g.program g.stimulus (Some x.state) (clock c ∷ []) ≡ Some later = ap (λ o. acts_all g.program g.stimulus o []) acted in
-      record {
-        who = who;
-        piece = clock c ∷ [];
-        world = later;
-        acted = all_acted;
-        standing = moves g none_rests none_rests who who w watched_ticked x c a (ticked a) (λ u. false) (clock c ∷ []) later st has_ticked
-            (record {
-              acted = all_acted;
-              clocks = map-set clock_of w.machine.cores c (ticked a) ∙ ap (λ l. slice_set l c (a.clock + 1)) st.clocks;
-              trace = st.trace;
-              roles = st.roles;
-              reserves = reserves_behind g who x.state st.lawful st.reserves (clock c ∷ []) later all_acted;
-              used = used_ticked who c a (st.used c a at_c);
-              same_role = λ u m. refl;
-              far_role = λ d u ne. refl;
-              rests = λ u m none. none;
-              far_rests = λ d u ne none. none;
-              steps = λ u m. refl;
-              far_steps = λ d u ne. refl;
-              stand = λ u m. absurd (false_true m);
-              wired = wired_still g who who w watched_ticked c a (ticked a) x.state.inboxes x.state.inboxes same_transfers has_ticked refl refl st.wired;
-              alone = λ u s hand transfer m at its. absurd (false_true m);
-              kept = λ u s hand m runs. kept_here u s hand runs;
-              far_kept = λ d u e s hand ne at runs. kept_far d u e s hand ne at runs;
-              loose = λ some. loose_later c a (ticked a) refl refl (st.loose c a at_c some);
-              far_loose = λ d e ne at loose. loose_later d e e refl refl loose;
-              roots = st.roots c a at_c;
-              far_roots = λ d ne. refl;
-              placed = st.placed;
-              run = st.run;
-              made = λ n branch there goes_on. st.made n branch there goes_on;
-            });
-        named = λ names. alike_linked g none_rests who w x st names watched_ticked (told_by g.program g.stimulus x (clock c ∷ []) later) (told_same g x (clock c ∷ []) later refl) (λ d u. refl);
-      }
+  pub has_acted : nat_lt a.clock last_clock ≡ true → acts g.program g.stimulus x.state (clock c) ≡ Some later
+  has_acted e = ap (λ o. and_then o (ticks x.state c)) (clock_at g none_rests who w x c a st at_c) ∙ ap (λ b. only_if b later) e
+
+  all_ticked : nat_lt a.clock last_clock ≡ true → acts_all g.program g.stimulus (Some x.state) (clock c ∷ []) ≡ Some later
+  all_ticked e = ap (λ o. acts_all g.program g.stimulus o []) (has_acted e)
+
+  -- and behind that the two stand as before
+  abbrev pub told_ticked : Told (of_kernel g.program)
+  told_ticked = told_by g.program g.stimulus x (clock c ∷ []) later
+
+  pub stands_after_tick : nat_lt a.clock last_clock ≡ true → Standing g none_rests who watched_ticked told_ticked
+  stands_after_tick e =
+      moves g none_rests none_rests who who w watched_ticked x c a (ticked a) (λ u. false) (clock c ∷ []) later st has_ticked
+      (record {
+        acted = all_ticked e;
+        clocks = map-set clock_of w.machine.cores c (ticked a) ∙ ap (λ l. slice_set l c (a.clock + 1)) st.clocks;
+        trace = st.trace;
+        roles = st.roles;
+        reserves = reserves_behind g who x.state st.lawful st.reserves (clock c ∷ []) later (all_ticked e);
+        used = used_ticked who c a (st.used c a at_c);
+        same_role = λ u m. refl;
+        far_role = λ d u ne. refl;
+        rests = λ u m none. none;
+        far_rests = λ d u ne none. none;
+        steps = λ u m. refl;
+        far_steps = λ d u ne. refl;
+        stand = λ u m. absurd (false_true m);
+        wired = wired_still g who who w watched_ticked c a (ticked a) x.state.inboxes x.state.inboxes same_transfers has_ticked refl refl st.wired;
+        alone = λ u s hand transfer m at its. absurd (false_true m);
+        kept = λ u s hand m runs. kept_here u s hand runs;
+        far_kept = λ d u e s hand ne at runs. kept_far d u e s hand ne at runs;
+        loose = λ some. loose_later c a (ticked a) refl refl (st.loose c a at_c some);
+        far_loose = λ d e ne at loose. loose_later d e e refl refl loose;
+        roots = st.roots c a at_c;
+        far_roots = λ d ne. refl;
+        placed = st.placed;
+        run = st.run;
+        made = λ n branch there goes_on. st.made n branch there goes_on;
+      })
     where
       false_true : false ≡ true → ⊥
       false_true f = cc
+
+  after_tick : nat_lt a.clock last_clock ≡ true → Follows g none_rests who w x watched_ticked
+  after_tick e = record {
+    who = who;
+    piece = clock c ∷ [];
+    world = later;
+    acted = all_ticked e;
+    standing = stands_after_tick e;
+    named = λ names. alike_linked g none_rests who w x st names watched_ticked told_ticked (told_same g x (clock c ∷ []) later refl) (λ d u. refl);
+  }
 
   -- the same, by whether it is
   tick_by_followed : (below : Bool) → nat_lt a.clock last_clock ≡ below → (m : Machine) → tick_by w.machine c a below ≡ Some m → Follows g none_rests who w x (watched_after w (Tick c) m)
