@@ -10,7 +10,7 @@ use Rattle.xs_instr.specs.Valid.{Valid}
 use Rattle.xs_fabric.specs.EndWord.{end_of, has_trap}
 use Rattle.xs_fabric.specs.Lockstep.{lockstep}
 use Rattle.xc_tree.specs.Plain.{Item}
-use Rattle.xr_match.specs.Implements.{AllRootsEnded, Implements}
+use Rattle.xr_match.specs.Implements.{AllRootsEnded, Implements, ImplementsWholly}
 use Rattle.xr_match.specs.Meanings.{of_text}
 use Rattle.xs_instr.specs.Words.{HasWords}
 use Rattle.xr_commands.specs.Rules.{IsAccepted}
@@ -23,6 +23,8 @@ pub record IsCompiled (text : List ℕ) (L : Image) : Type 0 where
   pub valid : Valid L
   pub words : HasWords L
   pub implements : Implements L (of_text program)
+  -- it waits only where the program does, and doesn't go on and on without it
+  pub wholly : ImplementsWholly L (of_text program)
 
 -- pins that are never driven
 abbrev pub no_stim : Stim

@@ -1,10 +1,14 @@
 //! The compiler.
 
-ghost use Rattle.std.specs.Prelude.{IfOk};
+ghost use Rattle.std.specs.Prelude.{Bool, List as Items, IfOk};
+ghost use Rattle.xc_kernel.specs.Copies.{Copies};
 ghost use Rattle.xc_kernel.specs.Kernels.{kernel_of};
+ghost use Rattle.xc_kernel.specs.Sound.{IsTyped};
+ghost use Rattle.xc_tree.specs.Plain.{Item};
+ghost use Rattle.xc_tree.specs.Types.Named.{NamedProgram};
 ghost use Rattle.xl_image.specs.Roots.{KernelIsBuilt};
 ghost use Rattle.xr_match.specs.Implements.{Implements, ImplementsWholly};
-ghost use Rattle.xr_match.specs.Meanings.{of_kernel};
+ghost use Rattle.xr_match.specs.Meanings.{of_kernel, of_text};
 ghost use Rattle.xs_instr.specs.Valid.{Valid};
 ghost use Rattle.xs_instr.specs.Words.{HasWords};
 
@@ -17,6 +21,7 @@ use xw_words::Memory;
 
 /// The image of a checked kernel that is built so far: the code of its roots is, and both sides of each channel are on one core. It can be
 /// loaded, and it implements the kernel: what a machine with it does under a stimulus, whatever the order of its events, is what the kernel may do.
+/// It waits only where the kernel does, and doesn't go on and on without it; and all that is so of the text of which this is the kernel.
 ///
 /// It takes time and memory for each of the kernel's statements, nodes of expressions, words that are set to 0, and resources, and its
 /// stack grows with the depth of the kernel. The one error is want of memory.
@@ -26,6 +31,9 @@ pub fn compile(alloc: Global, checked: &Checked) -> Result<Image, Memory>
         (λ image. Implements image (of_kernel (kernel_of checked.now))) }
     ensures wholly { IfOk result
         (λ image. ImplementsWholly image (of_kernel (kernel_of checked.now))) }
+    ensures of_text { IfOk result (λ image.
+        (program : Items Item) (named : NamedProgram) (types : Items Bool) → IsTyped program named types →
+        Copies program (kernel_of checked.now) → ImplementsWholly image (of_text program)) }
     ensures valid { IfOk result (λ image. Valid image) }
     ensures words { IfOk result (λ image. HasWords image) }
 {
