@@ -18,7 +18,7 @@ use Rattle.xc_kernel.specs.Programs.{Function, functions, ports, function_by, fu
 use Rattle.xc_kernel.specs.Ports.{scope_of_ports}
 use Rattle.xc_formed.specs.Stacks.{Frame, Stack, decl_by, found_in, after, Resolves, outer}
 use Rattle.xc_formed.specs.Standing.{IsInstance, HasPort, head_of, Stands, the_port, the_function, none_there}
-use Rattle.xc_formed.proofs.Text.Scopes as scopes
+use Rattle.xc_meaning.proofs.Recursion.Scopes as scopes
 use Rattle.xc_formed.proofs.Stacks.{resolves_both, scope_ends, quiet_skip, quiet_optional, quiet_place}
 use Rattle.xc_formed.proofs.Resolved.{NotNamed, AllNew}
 use Rattle.xc_formed.proofs.Outside.{Alike, further, alike_resolves, Among, declared_again, decl_of_item, outer_item}

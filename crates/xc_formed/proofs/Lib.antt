@@ -1,4 +1,3 @@
-pub mod Text
 pub mod Stacks
 pub mod Resolved
 pub mod Outside

@@ -8,8 +8,8 @@ use Rattle.std.proofs.lemmas.Slice.Eq.{bytes_eq-Decides}
 use Rattle.xc_tree.specs.declared.names.What.TheVariants as what
 use Rattle.xc_tree.specs.Plain as plain
 use Rattle.xc_tree.specs.Names.Marks as marks
-use Rattle.xc_formed.proofs.Text.Scopes as scopes
-use Rattle.xc_formed.proofs.Text.Scopes.{Inner}
+use Rattle.xc_meaning.proofs.Recursion.Scopes as scopes
+use Rattle.xc_meaning.proofs.Recursion.Scopes.{Inner}
 use Rattle.xc_formed.proofs.Stacks.{Quiet, silent, quiet_use, quiet_called, quiet_optional, quiet_place}
 use Rattle.xc_formed.proofs.Resolved.{NotNamed, AllNew}
 use Rattle.xc_formed.specs.Stacks.{Frame, Stack, decl_by, found_in, found, with_decl, popped, IsNew, Resolves, outer}

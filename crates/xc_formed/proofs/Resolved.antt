@@ -16,9 +16,9 @@ use Rattle.xc_tree.specs.Names.Uses.{Entries, AreUses, IsUse, none, past_begin, 
 use Rattle.xc_tree.specs.Types.Named.{NamedProgram, past}
 use Rattle.xc_kernel.specs.Sound.{IsTyped}
 use Rattle.xc_formed.specs.Stacks.{declared_at, Frame, Stack, decl_by, found_in, found, IsFresh, IsNew, Resolves, outer}
-use Rattle.xc_formed.proofs.Text.Scopes as scopes
-use Rattle.xc_formed.proofs.Text.Scopes.{Inner, to_end_past}
-use Rattle.xc_formed.proofs.Text.Uses.{past_both, one_further, numbered, Entry, below_or_at, at_end, longer, next}
+use Rattle.xc_meaning.proofs.Recursion.Scopes as scopes
+use Rattle.xc_meaning.proofs.Recursion.Scopes.{Inner, to_end_past}
+use Rattle.xc_meaning.proofs.Recursion.Uses.{past_both, one_further, numbered, Entry, below_or_at, at_end, longer, next}
 
 clash : {A : Type 0} (x : A) → None ≡ Some x → ⊥
 clash x e = cc

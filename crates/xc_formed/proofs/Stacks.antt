@@ -7,8 +7,8 @@ use Rattle.xc_tree.specs.Plain as plain
 use Rattle.xc_tree.specs.Names.Marks as marks
 use Rattle.xc_tree.specs.Types.Named.{NamedProgram, past}
 use Rattle.xc_formed.specs.Stacks.{Frame, Stack, with_decl, popped, after, Resolves}
-use Rattle.xc_formed.proofs.Text.Scopes as scopes
-use Rattle.xc_formed.proofs.Text.Scopes.{Inner}
+use Rattle.xc_meaning.proofs.Recursion.Scopes as scopes
+use Rattle.xc_meaning.proofs.Recursion.Scopes.{Inner}
 
 pub after_both : (st : Stack) (ms ns : List Mark) → after st (ms ++ ns) ≡ after (after st ms) ns
 after_both st [] ns = refl

@@ -34,7 +34,7 @@ use Rattle.xc_formed.specs.Stacks.{Frame, Stack, decl_by, declared_at, found, fo
 use Rattle.xc_formed.proofs.Outside.{Alike, alike_resolves, Among, declared_again, decl_of_item, outer_item}
 use Rattle.xc_formed.proofs.Resolved.{AllNew}
 use Rattle.xc_formed.proofs.Stacks.{resolves_both, scope_ends, quiet_split, quiet_skip, quiet_optional, quiet_expression, quiet_place}
-use Rattle.xc_formed.proofs.Text.Scopes as scopes
+use Rattle.xc_meaning.proofs.Recursion.Scopes as scopes
 use Rattle.xc_formed.proofs.Walk.Arguments.{AllIn, split}
 
 and_both : (a b : Bool) → (a && b) ≡ true → (a ≡ true) × (b ≡ true)

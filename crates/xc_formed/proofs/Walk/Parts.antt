@@ -31,7 +31,7 @@ use Rattle.xc_formed.specs.Standing.{HasVariable, HasChannel, head_of, a_variabl
 use Rattle.xc_formed.specs.Each.{EachMaybe, EachPlace, EachCondition, EachOutput, EachInput, EachBranch}
 use Rattle.xc_formed.proofs.Shaped.{ShapedArguments, ShapedRight, ShapedMaybeRight, ShapedMaybeExpression, ShapedTime, ShapedStamp, ShapedCondition, ShapedTarget, ShapedOutput, ShapedInput, ShapedKind, ShapedDeclarations, OnlyValue, IsStepAtMost}
 use Rattle.xc_formed.proofs.Talks.{talks, talks_both, CallsSilent}
-use Rattle.xc_formed.proofs.Text.Scopes as scopes
+use Rattle.xc_meaning.proofs.Recursion.Scopes as scopes
 use Rattle.xc_formed.proofs.Stacks.{Quiet, silent, after_both, resolves_both, scope_ends, quiet_split, quiet_skip, quiet_after, quiet_both, quiet_optional, quiet_expression, quiet_right, quiet_timing, quiet_condition}
 use Rattle.xc_formed.proofs.Walk.Arguments.{AllIn, split, both, AllFit, IsFine}
 use Rattle.xc_formed.proofs.Walk.Arguments as walk

@@ -30,7 +30,7 @@ use Rattle.xc_formed.specs.Standing.{HasVariable}
 use Rattle.xc_formed.specs.Each.{EachCase, EachDefault}
 use Rattle.xc_formed.proofs.Shaped.{ShapedArguments, ShapedStatement, ShapedAction, ShapedMaybe, ShapedStatements, ShapedBranch, ShapedBranches, ShapedCases, Deep}
 use Rattle.xc_formed.proofs.Talks.{one_talks, silent_both, silent_expression, silent_lval, silent_right, silent_maybe_right, silent_maybe_expression, silent_declarations, output_talks, input_talks, CallsSilent, calls_silent, right_names_none, assign_names_none, return_names_none, declarations_name_none}
-use Rattle.xc_formed.proofs.Text.Scopes as scopes
+use Rattle.xc_meaning.proofs.Recursion.Scopes as scopes
 use Rattle.xc_formed.proofs.Stacks.{after_both, resolves_both, scope_ends, quiet_split, quiet_skip, quiet_after, quiet_both, quiet_optional, quiet_expression, quiet_right, quiet_timing, quiet_place}
 use Rattle.xc_formed.proofs.Walk.Arguments.{AllIn, split, both, AllFit, IsFine}
 use Rattle.xc_formed.proofs.Walk.Arguments as walk
