@@ -1,48 +1,24 @@
 -- A checked kernel has a root on some core.
-use Rattle.std.proofs.Common.{◌≡◌, ◌∙◌, ◌⊎◌, inl, inr, ⊎_elim, ℕ, zero, suc, ◌+◌, ◌-◌, ◌≤◌, Bool, true, false, List, [], ◌∷◌, ◌++◌, length, Option, Some, None, slice_get, refl, sym, ap, subst, arith, eq-eqb}
-use Rattle.std.specs.Prelude.{◌&&◌, ◌||◌, Contains, bytes_eq, cond, filter, nat_eq, nat_le, nat_lt}
-use Rattle.std.proofs.lemmas.Bool.{eqb-true, leb-true, ltb-true}
+use Rattle.std.proofs.Common.{◌≡◌, ◌∙◌, ◌⊎◌, inl, inr, ⊎_elim, ℕ, zero, suc, ◌-◌, ◌≤◌, Bool, true, false, List, [], ◌∷◌, ◌++◌, length, Option, Some, None, slice_get, refl, sym, ap, subst, arith, eq-eqb}
+use Rattle.std.specs.Prelude.{◌&&◌, ◌||◌, bytes_eq, cond, filter, nat_eq, nat_lt}
+use Rattle.std.proofs.lemmas.Bool.{eqb-true, ltb-true}
 use Rattle.std.proofs.lemmas.Slice.Eq.{bytes_eq-Decides}
 use Rattle.xw_words.specs.declared.pos.Pos.{Pos}
 use Rattle.xc_tree.specs.Plain as tree
 use Rattle.xc_tree.specs.Names.Rules as names
 use Rattle.xc_kernel.specs.Plain as kernel
-use Rattle.xc_kernel.specs.Numbering.{no_numbering}
-use Rattle.xc_kernel.specs.Scopes.{Scope, a_constant, with_name}
-use Rattle.xc_kernel.specs.Values.{Value, word, error}
+use Rattle.xc_kernel.specs.Scopes.{Scope}
 use Rattle.xc_kernel.specs.Programs.{Function, functions, function_by, function_named, main_of, name_of_main}
-use Rattle.xc_kernel.specs.Context.{Context, in_branch}
+use Rattle.xc_kernel.specs.Context.{Context}
 use Rattle.xc_kernel.specs.Calls.{CopiesCall}
-use Rattle.xc_kernel.specs.Ports.{core_by, core_of_value, core_of}
-use Rattle.xc_kernel.specs.Expressions.{eval_in}
-use Rattle.xc_kernel.specs.Roots.{Rooted, is_placed, has_placed, action_has_placed, block_has_placed, in_block, branch_root, branch_roots, numbered_roots, action_roots, block_roots, roots_by, roots_of, context_of}
+use Rattle.xc_kernel.specs.Roots.{is_placed, has_placed, action_has_placed, block_has_placed, in_block, branch_roots, numbered_roots, action_roots, block_roots, roots_by, roots_of, context_of}
 use Rattle.xc_kernel.specs.Copies.{calls_of, numbering, copy_of}
 use Rattle.xc_disjoint.specs.Checked.{IsChecked}
-use Rattle.xc_disjoint.specs.Cores.{no_core}
-use Rattle.xc_disjoint.specs.Rules as rules
-use Rattle.xc_formed.proofs.Walk.Arguments.{AllIn, both}
+use Rattle.xc_formed.proofs.Lows.{IsLow, roots_are_low}
+use Rattle.xc_formed.proofs.Walk.Arguments.{AllIn}
 use Rattle.xl_plan.proofs.Lists.{some_given, none_given}
 use Rattle.xl_image.specs.Images.{roots_on}
 use Rattle.xl_image.specs.Parts.{below, cores_of, has_root, is_some_root}
-
--- a root has a core, or none
-abbrev Known : kernel.Root → Type 0
-Known r = (r.core ≡ no_core) ⊎ (r.core ≤ 3)
-
-core_known : (scope : Scope) (place : Option tree.Place) → (core_of scope place ≡ no_core) ⊎ (core_of scope place ≤ 3)
-core_known scope None = inr (omega arith)
-core_known scope (Some p) = by (eval_in no_numbering scope [] p.value)
-  where
-    near : (v : ℕ) (b : Bool) → (b ≡ true → v ≤ 3) → (core_by v b ≡ no_core) ⊎ (core_by v b ≤ 3)
-    near v true l = inr (l refl)
-    near v false l = inl refl
-
-    by : (v : Value) → (core_of_value v ≡ no_core) ⊎ (core_of_value v ≤ 3)
-    by (word v) = near v (nat_le v 3) (leb-true v 3)
-    by (error kind pos) = inl refl
-
-abbrev Low : kernel.Root → Type 0
-Low r = r.core ≤ 3
 
 false_true : {A : Type 0} → false ≡ true → A
 false_true e = absurd cc
@@ -60,59 +36,6 @@ further [] ys h = ⊎_elim (λ l. absurd (let z : ⊥ = omega (arith, l) in z)) 
 further (x ∷ xs) ys h = omega arith
 
 module _ (copies : CopiesCall) where
-  abbrev AllKnown : Rooted → Type 0
-  AllKnown r = AllIn Known r.roots
-
-  branch_known : (main : Pos) (b : tree.Branch) (c : Context) (scope : Scope) → AllKnown (branch_root copies main b c scope)
-  branch_known main (tree.branch place s) c scope = (core_known scope place, tt)
-
-  branches_known : (main : Pos) (bs : tree.Branches) (index : ℕ) (c : Context) (scope : Scope) → AllKnown (branch_roots copies main bs index c scope)
-  branches_known main tree.no_branch index c scope = tt
-  branches_known main (tree.more_branches b bs) index c scope =
-      let first = branch_root copies main b (in_branch c index) scope in
-      both Known first.roots (branch_roots copies main bs (index + 1) c first.made.scope).roots (branch_known main b (in_branch c index) scope) (branches_known main bs (index + 1) c first.made.scope)
-
-  numbered_known : (main : Pos) (b : tree.Branch) (name : List ℕ) (c : Context) (scope : Scope) (count index number : ℕ) → AllKnown (numbered_roots copies main b name c scope count index number)
-  numbered_known main b name c scope zero index number = tt
-  numbered_known main b name c scope (suc count) index number =
-      both Known (branch_root copies main b (in_branch c index) (with_name scope name (a_constant number))).roots (numbered_roots copies main b name c scope count (index + 1) (number + 1)).roots
-      (branch_known main b (in_branch c index) (with_name scope name (a_constant number))) (numbered_known main b name c scope count (index + 1) (number + 1))
-
-  action_known : (main : Pos) (a : tree.Action) (c : Context) (scope : Scope) → AllKnown (action_roots copies main a c scope)
-  action_known main (tree.par bs) c scope = branches_known main bs 0 c scope
-  action_known main (tree.replicated first second third from until b) c scope = numbered_known main b first.text c scope (until - from) 0 from
-  action_known main tree.empty c scope = tt
-  action_known main (tree.block ss) c scope = tt
-  action_known main (tree.declare ds) c scope = tt
-  action_known main (tree.assign to symbol at r) c scope = tt
-  action_known main (tree.step to symbol) c scope = tt
-  action_known main (tree.perform r) c scope = tt
-  action_known main (tree.output o) c scope = tt
-  action_known main (tree.input i) c scope = tt
-  action_known main (tree.if_then test a b) c scope = tt
-  action_known main (tree.while_loop test body) c scope = tt
-  action_known main (tree.do_while body test) c scope = tt
-  action_known main (tree.for_loop first test next body) c scope = tt
-  action_known main (tree.return_with r) c scope = tt
-  action_known main tree.break_out c scope = tt
-  action_known main tree.continue_on c scope = tt
-  action_known main (tree.select cs) c scope = tt
-  action_known main (tree.transaction is_master ss) c scope = tt
-
-  block_known : (main : Pos) (ss : tree.Statements) (c : Context) (scope : Scope) → AllKnown (block_roots copies main ss c scope)
-  block_known main tree.no_more c scope = tt
-  block_known main (tree.more (tree.statement action pos close own) ss) c scope =
-      let first = action_roots copies main action c scope in
-      both Known first.roots (block_roots copies main ss c first.made.scope).roots (action_known main action c scope) (block_known main ss c first.made.scope)
-
-  by_known : (placed : Bool) (f : Function) (c : Context) → c.core ≤ 3 → AllKnown (roots_by copies placed f c)
-  by_known true f c low = block_known f.head.name.pos (in_block f.body) c c.ports
-  by_known false f c low = (inr (omega arith), tt)
-
-  known : (f : Option Function) (c : Context) → c.core ≤ 3 → AllKnown (roots_of copies f c)
-  known None c low = tt
-  known (Some f) c low = by_known (block_has_placed (in_block f.body)) f c low
-
   -- There is some root.
 
   branches_some : (main : Pos) (bs : tree.Branches) (index : ℕ) (c : Context) (scope : Scope) → has_placed bs ≡ true → 1 ≤ length (branch_roots copies main bs index c scope).roots
@@ -187,10 +110,6 @@ some_of copies None c never = absurd (never refl)
 some_of copies (Some f) c never = by_some copies (block_has_placed (in_block f.body)) f c refl
 
 module _ (k : kernel.Kernel) (checked : IsChecked k) where
-  roots_known : AllIn Known (copy_of checked.of_program.program).roots
-  unfolding copy_of
-  roots_known = known (calls_of checked.of_program.program) (main_of checked.of_program.program) (context_of checked.of_program.program (numbering checked.of_program.program)) (omega arith)
-
   some_root : 1 ≤ length (copy_of checked.of_program.program).roots
   unfolding copy_of
   some_root =
@@ -198,37 +117,24 @@ module _ (k : kernel.Kernel) (checked : IsChecked k) where
       some_of (calls_of checked.of_program.program) (main_of checked.of_program.program) (context_of checked.of_program.program (numbering checked.of_program.program))
       (λ e. typed.names _ (names.without_main (record { no_main = λ i m. not_there checked.of_program.program i e m; place = refl })))
 
-  -- each root has a core
-  all_low : (rs : List kernel.Root) → AllIn Known rs → ((r : kernel.Root) → Contains rs r → r.core ≡ no_core → ⊥) → AllIn Low rs
-  all_low [] known_ones never = tt
-  all_low (r ∷ rs) known_ones never = (
-    ⊎_elim (λ e. absurd (never r (0, omega arith, refl) e)) (λ le. le) known_ones.0,
-    all_low rs known_ones.1 (λ x c. never x (let l = c.1 in (suc c.0, omega arith, c.2))),
-  )
-
-  lows : AllIn Low k.roots
-  lows =
-      let e = ap (λ (q : kernel.Kernel). q.roots) checked.of_program.copies.is_copy in
-      all_low k.roots (subst (AllIn Known) (sym e) roots_known) (λ r c none. checked.unbroken _ (rules.without_core (rules.of_root r c none)))
-
-  low_at : (rs : List kernel.Root) → AllIn Low rs → (place : ℕ) (r : kernel.Root) → slice_get rs place ≡ Some r → r.core ≤ 3
+  low_at : (rs : List kernel.Root) → AllIn IsLow rs → (place : ℕ) (r : kernel.Root) → slice_get rs place ≡ Some r → r.core ≤ 3
   low_at [] low place r e = absurd (none_given e)
-  low_at (q ∷ rs) low zero r e = subst Low (some_given e) low.0
+  low_at (q ∷ rs) low zero r e = subst IsLow (some_given e) low.0
   low_at (q ∷ rs) low (suc place) r e = low_at rs low.1 place r e
 
   pub root_is_low : (place : ℕ) (r : kernel.Root) → slice_get k.roots place ≡ Some r → r.core ≤ 3
-  root_is_low place r e = low_at k.roots lows place r e
+  root_is_low place r e = low_at k.roots (roots_are_low k checked) place r e
 
   -- what a root is on
-  first_core : (rs : List kernel.Root) → AllIn Low rs → 1 ≤ length rs → (core : ℕ) × (core ≤ 3) × (is_some_root (roots_on core rs) ≡ true)
+  first_core : (rs : List kernel.Root) → AllIn IsLow rs → 1 ≤ length rs → (core : ℕ) × (core ≤ 3) × (is_some_root (roots_on core rs) ≡ true)
   first_core [] low l = absurd (let z : ⊥ = omega (arith, l) in z)
   first_core (r ∷ rs) low l = (r.core, low.0, ap (λ b. is_some_root (cond b (r ∷ roots_on r.core rs) (roots_on r.core rs))) (eq-eqb r.core r.core refl))
 
-  low_by : (core : ℕ) (r : kernel.Root) (rs : List kernel.Root) → Low r → (is_some_root (roots_on core rs) ≡ true → core ≤ 3) → (b : Bool) → nat_eq r.core core ≡ b → is_some_root (cond b (r ∷ roots_on core rs) (roots_on core rs)) ≡ true → core ≤ 3
+  low_by : (core : ℕ) (r : kernel.Root) (rs : List kernel.Root) → IsLow r → (is_some_root (roots_on core rs) ≡ true → core ≤ 3) → (b : Bool) → nat_eq r.core core ≡ b → is_some_root (cond b (r ∷ roots_on core rs) (roots_on core rs)) ≡ true → core ≤ 3
   low_by core r rs low others true same e = let q = eqb-true r.core core same in omega (arith, low, q)
   low_by core r rs low others false same e = others e
 
-  low_core : (core : ℕ) (rs : List kernel.Root) → AllIn Low rs → is_some_root (roots_on core rs) ≡ true → core ≤ 3
+  low_core : (core : ℕ) (rs : List kernel.Root) → AllIn IsLow rs → is_some_root (roots_on core rs) ≡ true → core ≤ 3
   low_core core [] low e = false_true e
   low_core core (r ∷ rs) low e = low_by core r rs low.0 (low_core core rs low.1) (nat_eq r.core core) refl e
 
@@ -251,10 +157,10 @@ module _ (k : kernel.Kernel) (checked : IsChecked k) where
 
   -- a core with a root is among the cores
   pub core_listed : (core : ℕ) → has_root k core ≡ true → (j : ℕ) × (slice_get (cores_of k) j ≡ Some core)
-  core_listed core e = kept (has_root k) (below 4) core core (is_below core (low_core core k.roots lows e)) e
+  core_listed core e = kept (has_root k) (below 4) core core (is_below core (low_core core k.roots (roots_are_low k checked) e)) e
 
   pub core_is_low : (core : ℕ) → has_root k core ≡ true → core ≤ 3
-  core_is_low core e = low_core core k.roots lows e
+  core_is_low core e = low_core core k.roots (roots_are_low k checked) e
 
   some_item : (ns : List ℕ) (j c : ℕ) → slice_get ns j ≡ Some c → 1 ≤ length ns
   some_item [] j c e = absurd (none_given e)
@@ -263,6 +169,6 @@ module _ (k : kernel.Kernel) (checked : IsChecked k) where
   pub some_core : 1 ≤ length (cores_of k)
   some_core =
       let e = ap (λ (q : kernel.Kernel). q.roots) checked.of_program.copies.is_copy in
-      let r = first_core k.roots lows (subst (λ (rs : List kernel.Root). 1 ≤ length rs) (sym e) some_root) in
+      let r = first_core k.roots (roots_are_low k checked) (subst (λ (rs : List kernel.Root). 1 ≤ length rs) (sym e) some_root) in
       let l = core_listed r.0 r.2 in
       some_item (cores_of k) l.0 r.0 l.1
