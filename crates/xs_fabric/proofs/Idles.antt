@@ -38,7 +38,7 @@ use Rattle.xs_instr.specs.Memory.{word_at, address_at}
 use Rattle.xs_instr.specs.Rows.{Own, held, sets_where, passes_by, loads, stores, jumps_by, enters_where, enters_by, returns_where, returns_by, own_row, own_of, put_own, put_threads, put_ends, goes_with, out_row, in_row, cond_row, data_row, free_row, get_row, wait_row, end_row, names, row}
 use Rattle.xs_instr.specs.Slot.{takes_events, pick_where, fetched, event_or_row, instr_at, turn_of, turn_at, is_ready, is_pause, is_there, could_step, could_step_at, is_ready_by_words}
 
-abbrev is_idle : {A : Type 0} → Did A → Bool
+abbrev pub is_idle : {A : Type 0} → Did A → Bool
 is_idle Idle = true
 is_idle Paused = false
 is_idle (Made left made sent) = false
@@ -226,13 +226,13 @@ module _ (home : Home) (core : CoreState) (t : ℕ) (thread : Thread) where
   outs_idle ks x =
       told_idle _ _ (q_end core (outs home core.clock ks core.ends) x (λ e end. q_outs (tokens_go home core.clock core.ends e end ks (peer_of home.pairs home.number e)) (nat_le (length ks) end.credits)))
 
-  out_idle : (v : ℕ) (x : Named) → is_idle (out_row home core t thread v x) ≡ false
+  pub out_idle : (v : ℕ) (x : Named) → is_idle (out_row home core t thread v x) ≡ false
   out_idle v (APort p) = told_idle _ _ (q_port core (drives home core.clock v core.ports) (APort p) (λ n port. q_drives_on home (counter core.clock) v core.ports n port (can_send port.decl.dir)))
   out_idle v (AnEnd e) = outs_idle (word_tokens v) (AnEnd e)
   out_idle v (ALock l) = told_idle _ _ (q_lock core (lock_given core.locks t) (ALock l) (λ n lock. q_lock_given core.locks n (is_num lock.holder t)))
   out_idle v _ = refl
 
-  in_idle : (d : Reg) (name : ℕ) (x : Named) → is_idle (in_row home core t thread d name x) ≡ false
+  pub in_idle : (d : Reg) (name : ℕ) (x : Named) → is_idle (in_row home core t thread d name x) ≡ false
   in_idle d name (APort p) = told_idle _ _ (q_port core (reads home core.clock core.ports) (APort p) (λ n port. q_reads_on home core.clock core.ports n port (can_receive port.decl.dir)))
   in_idle d name (ATimer m) = told_idle _ _ (q_timer core (clock_read core.clock core.timers) (ATimer m) (λ n x. q_clock_latched core.clock core.timers n x x.latch))
   in_idle d name (AnEnd e) = told_idle _ _ (q_end core (ins_word home core.clock core.ends) (AnEnd e) (λ e end. q_word home (tokens_taken home core.clock core.ends e end 4 (peer_of home.pairs home.number e)) (take_word end.tokens)))
@@ -269,7 +269,7 @@ module _ (home : Home) (core : CoreState) (t : ℕ) (thread : Thread) where
   prepared_idle : (change : Thread → Thread) (x : Named) → is_idle (told (goes_with put_threads core t thread) (on_thread core (prepared change core.threads) x)) ≡ false
   prepared_idle change x = told_idle _ _ (q_thread core (prepared change core.threads) x (λ n y. q_prepared change core.threads n y (is_waiting y.mode)))
 
-  row_idle : (i : Instr) → is_idle (row home core t thread i) ≡ false
+  pub row_idle : (i : Instr) → is_idle (row home core t thread i) ≡ false
   row_idle (Divs d a b) = told_idle (put_own core t thread) (own_row (own_of core thread) (Divs d a b)) (q_sets (own_of core thread) d (div_s (held (own_of core thread) a) (held (own_of core thread) b)))
   row_idle (Rems d a b) = told_idle (put_own core t thread) (own_row (own_of core thread) (Rems d a b)) (q_sets (own_of core thread) d (rem_s (held (own_of core thread) a) (held (own_of core thread) b)))
   row_idle (Divu d a b) = told_idle (put_own core t thread) (own_row (own_of core thread) (Divu d a b)) (q_sets (own_of core thread) d (div_u (held (own_of core thread) a) (held (own_of core thread) b)))

@@ -1,7 +1,7 @@
 -- How a run ends: no core has more roots that have not ended than unsynchronised threads, which are in use and tied to no synchroniser.
 use Rattle.std.proofs.Common.{◌≡◌, ◌≤◌, ◌<◌, ◌+◌, ◌-◌, ℕ, zero, suc, Bool, true, false, List, [], ◌∷◌, Option, Some, None, length, refl, sym, ap, ◌∙◌, inl, inr, subst, arith}
 use Rattle.std.proofs.lemmas.Bool.{eqb-true, eqb-false}
-use Rattle.std.specs.Prelude.{slice_get, slice_set, nat_eq, nat_lt, not, ◌&&◌, ◌≢◌, ◌⊎◌, ◌↔◌}
+use Rattle.std.specs.Prelude.{slice_get, slice_set, nat_eq, not, ◌&&◌, ◌≢◌, ◌⊎◌, ◌↔◌}
 use Rattle.xs_instr.specs.declared.image.Home.{Home}
 use Rattle.xs_instr.specs.declared.image.Image.{Image}
 use Rattle.xs_instr.specs.declared.image.Stim.{Stim}
@@ -13,7 +13,6 @@ use Rattle.xs_instr.specs.declared.instr.Instr.TheVariants.{Getr, Freer, Getst, 
 use Rattle.xs_instr.specs.declared.instr.Reg.{Reg}
 use Rattle.xs_instr.specs.declared.instr.Reg.TheVariants.{Dp, Sp}
 use Rattle.xs_instr.specs.declared.state.CoreState.{CoreState}
-use Rattle.xs_instr.specs.declared.state.Item.{Item}
 use Rattle.xs_instr.specs.declared.state.Mode.{Mode}
 use Rattle.xs_instr.specs.declared.state.Mode.TheVariants.{Unused, Waiting, Running, Trapped}
 use Rattle.xs_instr.specs.declared.state.Res.{Res}
@@ -21,20 +20,23 @@ use Rattle.xs_instr.specs.declared.state.Res.TheVariants.{Port as ResPort, Timer
 use Rattle.xs_instr.specs.declared.state.Thread.{Thread}
 use Rattle.xs_instr.specs.declared.trace.EndWord.{EndWord}
 use Rattle.xs_instr.specs.declared.trace.EndWord.TheVariants.{Finished, Trapped as AllTrapped}
-use Rattle.xs_instr.specs.Did.{Did, Given, Made, Paused, Traps, Idle, told}
+use Rattle.xs_instr.specs.Did.{Did, Given, told}
 use Rattle.xs_instr.specs.Events.{cleared, latched, vector_of}
-use Rattle.xs_instr.specs.Machine.{Machine, Event, Step, Tick, Move, boot, boot_core, boot_threads, does, runs, home_of, parts_in, link_of, came, and_then, stepped, step_at, tick_by, tick_at, move_to, move_at}
+use Rattle.xs_instr.specs.Machine.{Machine, Event, boot, boot_core, boot_threads, runs, home_of, parts_in}
 use Rattle.xs_instr.specs.Pool.{first_free, is_unused, is_waiting, is_tied, threads_taken, started_by, all_started, joined_by, all_joined, all_wait, tied_to, tied_at, thread_got, thread_got_by, synced, synced_by, joined, joined_when, prepared, prepared_by, with_pc, with_reg, locks_taken, sync_got, lock_got}
 use Rattle.xs_instr.specs.Registers.{reg_get, reg_set}
-use Rattle.xs_instr.specs.Resources.{Named, APort, ATimer, AnEnd, ASync, AThread, ALock, is_num, on_sync, on_thread, usable, where_taken}
+use Rattle.xs_instr.specs.Resources.{Named, APort, ATimer, AnEnd, ASync, ALock, is_num, on_thread}
 use Rattle.xs_instr.specs.Rows.{out_row, in_row, cond_row, data_row, free_row, get_row, wait_row, end_row, names, row, own_row, own_of, put_own, with_thread, put_threads, put_syncs, put_locks, put_ports, put_timers, put_ends, put_events, goes_with, gets_with, bit_by, bit_row}
 use Rattle.xs_instr.specs.Sight.{count_true, sight}
-use Rattle.xs_instr.specs.Slot.{fetched, event_or_row, instr_at, pick_where, takes_events, turn_of, turn_at, slot, trapped, trapped_at, ticked, last_clock}
+use Rattle.xs_instr.specs.Slot.{fetched, event_or_row, instr_at, pick_where, takes_events, turn_of, turn_at, slot, trapped, trapped_at}
 use Rattle.xs_instr.specs.Valid.{Valid}
-use Rattle.xs_core.proofs.Lists.{get_set, get_set_other, set_same}
+use Rattle.xs_core.proofs.Lists.{set_same}
 use Rattle.xs_core.proofs.Starting.{good_part}
 use Rattle.xs_core.proofs.Weights.{same_num, get_below}
 use Rattle.xs_fabric.specs.EndWord.{sights, sight_at, end_word, finished_by, trapped_by, stuck_by, links_empty, end_of, has_trap}
+use Rattle.xs_fabric.proofs.EachCore.{IsKept, OfEach, runs_each}
+use Rattle.xs_fabric.proofs.FirstFree.{free_at}
+use Rattle.xs_fabric.proofs.MadeParts.{AllMade, all_made, made_sync, made_thread, told_all, told_where}
 use Rattle.xs_fabric.proofs.Stepped.{boot_sound, runs_sound}
 use Rattle.xs_fabric.proofs.Ways.{some_is}
 
@@ -128,73 +130,21 @@ and_false false = refl
 unused_not_unsynchronised : (x : Thread) → is_unused x.mode ≡ true → is_unsynchronised x ≡ false
 unused_not_unsynchronised x h = ap (λ b. is_untied x.tie && not b) h ∙ and_false (is_untied x.tie)
 
--- the first thread that is free is unused
-record FreeAt (xs : List Thread) (k place : ℕ) : Type 0 where
-  pub i : ℕ
-  pub is : place ≡ k + i
-  pub unused : (x : Thread) → slice_get xs i ≡ Some x → is_unused x.mode ≡ true
-
-free_at : (xs : List Thread) (k place : ℕ) → first_free (threads_taken xs) k ≡ Some place → FreeAt xs k place
-free_at [] k place h = cc
-free_at (y ∷ xs) k place h = go (λ g. free_at xs (suc k) place g) (is_unused y.mode) refl h
-  where
-    go : (first_free (threads_taken xs) (suc k) ≡ Some place → FreeAt xs (suc k) place) → (b : Bool) → is_unused y.mode ≡ b → first_free (not b ∷ threads_taken xs) k ≡ Some place → FreeAt (y ∷ xs) k place
-    go behind true e g =
-        let same : k ≡ place = cc in
-        record { i = 0; is = omega (arith, same); unused = λ x there. let is : y ≡ x = cc in ap (λ (z : Thread). is_unused z.mode) (sym is) ∙ e }
-    go behind false e g =
-        let r = behind g in
-        let shifted = r.is in
-        record { i = suc r.i; is = omega (arith, shifted); unused = λ x there. r.unused x there }
-
 -- what a row makes of the unsynchronised threads
 
 -- where a core's roots are few, so are those of what a turn leaves
 abbrev Keeps : CoreState → Did CoreState → Type 0
-Keeps core (Made left made sent) = RootsAreFew core → RootsAreFew left
-Keeps core Paused = Unit {0}
-Keeps core (Traps kind) = Unit {0}
-Keeps core Idle = Unit {0}
+Keeps core did = AllMade (λ left. RootsAreFew core → RootsAreFew left) did
 
 -- as many roots, and the same threads are unsynchronised
 same_few : (core left : CoreState) → left.roots ≡ core.roots → unsynchronised left.threads ≡ unsynchronised core.threads → RootsAreFew core → RootsAreFew left
 same_few core left roots same few = let n = ap count_true same in omega (arith, roots, n, few)
 
--- what a part of the state becomes where the turn is a step
-abbrev AllMade : {A : Type 0} → (A → Type 0) → Did A → Type 0
-AllMade P (Made left made sent) = P left
-AllMade P Paused = Unit {0}
-AllMade P (Traps kind) = Unit {0}
-AllMade P Idle = Unit {0}
-
 told_keeps_where : {A : Type 0} (P : A → Type 0) (core : CoreState) (put : A → CoreState) (did : Did A) → AllMade P did → ((a : A) → P a → RootsAreFew core → RootsAreFew (put a)) → Keeps core (told put did)
-told_keeps_where P core put (Made left made sent) is h = h left is
-told_keeps_where P core put Paused is h = tt
-told_keeps_where P core put (Traps kind) is h = tt
-told_keeps_where P core put Idle is h = tt
+told_keeps_where P core put did is h = told_where P (λ left. RootsAreFew core → RootsAreFew left) put did is h
 
 told_keeps : {A : Type 0} (core : CoreState) (put : A → CoreState) (did : Did A) → ((a : A) → RootsAreFew core → RootsAreFew (put a)) → Keeps core (told put did)
-told_keeps core put (Made left made sent) h = h left
-told_keeps core put Paused h = tt
-told_keeps core put (Traps kind) h = tt
-told_keeps core put Idle h = tt
-
-made_taken : {B : Type 0} (P : B → Type 0) (did : Did B) (o : Option Bool) → AllMade P did → AllMade P (where_taken did o)
-made_taken P did None h = tt
-made_taken P did (Some true) h = h
-made_taken P did (Some false) h = tt
-
-made_sync : {B : Type 0} (P : B → Type 0) (core : CoreState) (go : ℕ → Did B) (x : Named) → ((n : ℕ) → AllMade P (go n)) → AllMade P (on_sync core go x)
-made_sync P core go (ASync n) h = made_taken P (go n) (slice_get core.syncs n) (h n)
-made_sync P core go _ h = tt
-
-made_usable : {A B : Type 0} (P : B → Type 0) (go : A → Did B) (o : Option A) → ((a : A) → o ≡ Some a → AllMade P (go a)) → AllMade P (usable go o)
-made_usable P go None h = tt
-made_usable P go (Some a) h = h a refl
-
-made_thread : {B : Type 0} (P : B → Type 0) (core : CoreState) (go : ℕ → Thread → Did B) (x : Named) → ((n : ℕ) (y : Thread) → slice_get core.threads n ≡ Some y → AllMade P (go n y)) → AllMade P (on_thread core go x)
-made_thread P core go (AThread n) h = made_usable P (go n) (slice_get core.threads n) (h n)
-made_thread P core go _ h = tt
+told_keeps core put did h = told_all (λ left. RootsAreFew core → RootsAreFew left) put did h
 
 module _ (threads : List Thread) where
   -- the same threads are unsynchronised
@@ -379,59 +329,15 @@ trapped_few core t few = go (slice_get core.threads t) refl
 -- all cores of a machine
 
 abbrev AllRootsAreFew : List CoreState → Type 0
-AllRootsAreFew cores = (c : ℕ) (core : CoreState) → slice_get cores c ≡ Some core → RootsAreFew core
+AllRootsAreFew cores = OfEach RootsAreFew cores
 
-all_set : (cores : List CoreState) (c : ℕ) (core new : CoreState) → AllRootsAreFew cores → slice_get cores c ≡ Some core → RootsAreFew new → AllRootsAreFew (slice_set cores c new)
-all_set cores c core new all there few d k h = go (same_num c d)
-  where
-    go : (c ≡ d) ⊎ (c ≢ d) → RootsAreFew k
-    go (inr ne) = all d k (sym (get_set_other cores c d new ne) ∙ h)
-    go (inl e) =
-        let h' = subst (λ v. slice_get (slice_set cores c new) v ≡ Some k) (sym e) h in
-        subst (λ (x : CoreState). RootsAreFew x) (some_is new k (sym (get_set cores c core new there) ∙ h')) few
-
-module _ (L : Image) (s : Stim) (m : Machine) (all : AllRootsAreFew m.cores) (m' : Machine) where
-  is_left : (n : Machine) → Some n ≡ Some m' → AllRootsAreFew n.cores → AllRootsAreFew m'.cores
-  is_left n h few = subst (λ (x : Machine). AllRootsAreFew x.cores) (some_is n m' h) few
-
-  did_few : (c t : ℕ) (core : CoreState) (d : Did CoreState) → slice_get m.cores c ≡ Some core → Keeps core d → stepped (home_of L s c) m c t core d ≡ Some m' → AllRootsAreFew m'.cores
-  did_few c t core (Made new made sent) there keeps h = is_left _ h (all_set m.cores c core new all there (keeps (all c core there)))
-  did_few c t core (Traps kind) there keeps h = is_left _ h (all_set m.cores c core (trapped core t) all there (trapped_few core t (all c core there)))
-  did_few c t core Paused there keeps h = cc
-  did_few c t core Idle there keeps h = cc
-
-  step_few : (c t : ℕ) (o : Option CoreState) → slice_get m.cores c ≡ o → step_at (home_of L s c) m c t o ≡ Some m' → AllRootsAreFew m'.cores
-  step_few c t None there h = cc
-  step_few c t (Some core) there h = did_few c t core (slot (home_of L s c) core t) there (slot_keeps (home_of L s c) core t) h
-
-  tick_by_few : (c : ℕ) (core : CoreState) (b : Bool) → slice_get m.cores c ≡ Some core → tick_by m c core b ≡ Some m' → AllRootsAreFew m'.cores
-  tick_by_few c core true there h = is_left _ h (all_set m.cores c core (ticked core) all there (all c core there))
-  tick_by_few c core false there h = cc
-
-  tick_few : (c : ℕ) (o : Option CoreState) → slice_get m.cores c ≡ o → tick_at m c o ≡ Some m' → AllRootsAreFew m'.cores
-  tick_few c None there h = cc
-  tick_few c (Some core) there h = tick_by_few c core (nat_lt core.clock last_clock) there h
-
-  move_to_few : (a b : ℕ) (i : Item) (rest : List Item) (o : Option CoreState) → slice_get m.cores b ≡ o → move_to m a b i rest o ≡ Some m' → AllRootsAreFew m'.cores
-  move_to_few a b i rest None there h = cc
-  move_to_few a b i rest (Some core) there h = is_left _ h (all_set m.cores b core (came core i.moved) all there (all b core there))
-
-  move_few : (a b : ℕ) (items : List Item) → move_at m a b items ≡ Some m' → AllRootsAreFew m'.cores
-  move_few a b [] h = cc
-  move_few a b (i ∷ rest) h = move_to_few a b i rest (slice_get m.cores b) refl h
-
-  does_few : (e : Event) → does L s m e ≡ Some m' → AllRootsAreFew m'.cores
-  does_few (Step c t) h = step_few c t (slice_get m.cores c) refl h
-  does_few (Tick c) h = tick_few c (slice_get m.cores c) refl h
-  does_few (Move a b) h = move_few a b (link_of m.links a b) h
-
-runs_few : (L : Image) (s : Stim) (es : List Event) (m m' : Machine) → AllRootsAreFew m.cores → runs L s m es ≡ Some m' → AllRootsAreFew m'.cores
-runs_few L s [] m m' all h = let e : m ≡ m' = cc in subst (λ (x : Machine). AllRootsAreFew x.cores) e all
-runs_few L s (e ∷ es) m m' all h = go (does L s m e) refl (λ n few k. runs_few L s es n m' few k) h
-  where
-    go : (o : Option Machine) → does L s m e ≡ o → ((n : Machine) → AllRootsAreFew n.cores → runs L s n es ≡ Some m' → AllRootsAreFew m'.cores) → and_then o (λ n. runs L s n es) ≡ Some m' → AllRootsAreFew m'.cores
-    go None g rest k = cc
-    go (Some n) g rest k = rest n (does_few L s m all n e g) k
+few_kept : (L : Image) (s : Stim) → IsKept L s RootsAreFew
+few_kept L s = record {
+  steps = λ c t core few. all_made _ RootsAreFew (slot (home_of L s c) core t) (slot_keeps (home_of L s c) core t) (λ left keeps. keeps few);
+  traps = λ core t few. trapped_few core t few;
+  ticks = λ core few. few;
+  comes = λ core moved few. few;
+}
 
 boot_count : (roots : List ℕ) (n : ℕ) → length roots ≤ n → length roots ≤ count_true (unsynchronised (boot_threads roots n))
 boot_count [] n h = omega arith
@@ -552,4 +458,4 @@ pub run_finished : (L : Image) (s : Stim) (es : List Event) (m : Machine) → Va
 run_finished L s es m valid run = finished_is L s m (runs_sound L valid s es (boot L) m (boot_sound L valid) run).four
 
 pub run_trapped : (L : Image) (s : Stim) (es : List Event) (m : Machine) → Valid L → runs L s (boot L) es ≡ Some m → end_of L s m ≡ AllTrapped → has_trap L s m ≡ true
-run_trapped L s es m valid run = trapped_is L s m (runs_few L s es (boot L) m (boot_few L valid) run)
+run_trapped L s es m valid run = trapped_is L s m (runs_each L s RootsAreFew (few_kept L s) es (boot L) m (boot_few L valid) run)

@@ -1,11 +1,15 @@
+pub mod AtTurns
 pub mod Changes
 pub mod EndWord
 pub mod Inside
 pub mod Kept
 pub mod Lockstep
 pub mod OnLinks
+pub mod OtherTurns
+pub mod OwnTurns
 pub mod Rooms
 pub mod Rounds
 pub mod Runs
 pub mod Seen
+pub mod Stuck
 pub mod Totals

@@ -1,7 +1,11 @@
 ghost use Rattle.std.specs.Prelude.{◌≡◌, ◌≢◌, ◌↔◌, ◌<◌, ◌^◌, ◌≤◌, ◌+◌, ◌++◌, ℕ, true, List as Items, length, ◌∷◌, Some, slice_get};
+ghost use Rattle.xs_fabric.specs.AtTurns.{RunsOnToNextTurn, StepsInEachRound};
 ghost use Rattle.xs_fabric.specs.EndWord.{end_of, has_trap};
 ghost use Rattle.xs_fabric.specs.Lockstep.{due_from, events_in, lockstep, rounds_at};
+ghost use Rattle.xs_fabric.specs.OtherTurns.{EventsLeaveOthers, TurnsLeaveOthers};
+ghost use Rattle.xs_fabric.specs.OwnTurns.{OwnTurnsLeadOn, TrapsBehindCode};
 ghost use Rattle.xs_fabric.specs.Rooms.{AllHaveRoom};
+ghost use Rattle.xs_fabric.specs.Stuck.{StuckStays};
 ghost use Rattle.xs_core.specs.Room.{Tokens, Credits, total, ends_of, HasRoom};
 ghost use Rattle.xs_instr.specs.Ends.{peer_of};
 ghost use Rattle.xs_instr.specs.Machine.{Event, Machine, Step, boot, does, home_of, link_of, runs};
@@ -92,4 +96,31 @@ pub fn finished_exactly_where_all_roots_have_ended()
 pub fn trapped_only_with_a_trap()
     ensures { (L : Image) (s : Stim) (events : Items Event) (m : Machine) → Valid L →
         runs L s (boot L) events ≡ Some m → end_of L s m ≡ Trapped → has_trap L s m ≡ true }
+{}
+
+/// In each run of a valid image whose end word is `stuck`, it stays so behind any ticks, however far the clocks go: no thread's step
+/// and no move is enabled there.
+pub fn stuck_stays()
+    ensures { StuckStays }
+{}
+
+/// A thread that runs is left as it is by each other thread's turn, a trap or an event that it takes among them, and by each event of
+/// the machine but its own step; and no turn changes how many threads there are.
+pub fn running_threads_are_left_by_others()
+    ensures turns { TurnsLeaveOthers }
+    ensures events { EventsLeaveOthers }
+{}
+
+/// The turn of a thread that runs with its event bit clear leads where its instruction says, or traps, and only one that waits or holds
+/// up pauses. Behind the code it traps.
+pub fn own_turns_lead_on()
+    ensures instructions { OwnTurnsLeadOn }
+    ensures behind_code { TrapsBehindCode }
+{}
+
+/// A thread that runs is at its turn in the next round as its turn in this one left it. So where its event bit is clear and its
+/// instruction doesn't pause, it makes a step in each round.
+pub fn threads_step_in_each_round()
+    ensures next { RunsOnToNextTurn }
+    ensures steps { StepsInEachRound }
 {}
