@@ -1,5 +1,6 @@
 pub mod Grown
 pub mod Acting
 pub mod Transferring
+pub mod Asking
 pub mod Sending
 pub mod Receiving

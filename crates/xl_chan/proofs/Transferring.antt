@@ -81,7 +81,7 @@ other_r10 : (regs : Regs) (v : ℕ) (q : Reg) → is_working q ≡ false → reg
 other_r10 regs v R10 h = cc
 other_r10 regs v other h = refl
 
-other_r11 : (regs : Regs) (v : ℕ) (q : Reg) → is_working q ≡ false → reg_get (reg_set regs R11 v) q ≡ reg_get regs q
+pub other_r11 : (regs : Regs) (v : ℕ) (q : Reg) → is_working q ≡ false → reg_get (reg_set regs R11 v) q ≡ reg_get regs q
 other_r11 regs v R11 h = cc
 other_r11 regs v other h = refl
 
@@ -142,7 +142,7 @@ module _ (home : Home) (relied : ℕ → Bool) (s t e : ℕ) (thread : Thread) (
       (λ c n. record { here = n.here; words = λ w r. n.words w r ∙ h.words w r }) 2 b
       (identifies.by home relied s t name (at_index thread index regs) b st (record { here = h.here; pc_is = refl; runs = runs; no_events = quiet }) is)
 
-some_is : (x y : ResAt) → Some x ≡ Some y → x ≡ y
+pub some_is : (x y : ResAt) → Some x ≡ Some y → x ≡ y
 some_is x y h = cc
 
 module _ (plan : Plan) (end : ℕ) (plain : Bool) (pos : Pos) (place : ResAt) (planned : end_in plan.ends end ≡ Some place) (pc : ℕ) where

@@ -1,2 +1,3 @@
 pub mod Protocols
 pub mod Transfers
+pub mod Transactions

@@ -1,4 +1,4 @@
--- The protocols of a channel's transfers, step by step, and the code of each.
+-- The protocols of a channel's transfers and transactions, step by step, and the code of each.
 use Rattle.std.specs.Prelude.{◌≡◌, ℕ, ◌+◌, Bool, true, false, List, [], ◌∷◌, Some, slice_get}
 use Rattle.xw_words.specs.declared.pos.Pos.{Pos}
 use Rattle.xs_instr.specs.declared.image.Home.{Home}
@@ -27,6 +27,10 @@ END = 1
 abbrev pub ACK : ℕ
 ACK = 3
 
+-- the control token that opens a transaction
+abbrev pub OPEN : ℕ
+OPEN = 16
+
 -- a step of a protocol
 pub data Act : Type 0 where
   -- these tokens go to the peer
@@ -53,6 +57,19 @@ output_acts v plain = sends (word_tokens v) ∷ output_ends plain
 -- the input of a word to a register
 abbrev pub input_acts : (to : Reg) → (plain : Bool) → List Act
 input_acts to plain = takes_word to ∷ input_ends plain
+
+-- a question by a control token: who asks sends it and awaits the answer, and the other one takes it and answers
+abbrev pub question_acts : (control : ℕ) → (asks : Bool) → List Act
+question_acts control true = sends (control_token control ∷ []) ∷ takes ACK ∷ []
+question_acts control false = takes control ∷ sends (control_token ACK ∷ []) ∷ []
+
+-- the start of a transaction and its end: its master asks, and its slave answers
+
+abbrev pub start_acts : (master : Bool) → List Act
+start_acts master = question_acts OPEN master
+
+abbrev pub finish_acts : (master : Bool) → List Act
+finish_acts master = question_acts END master
 
 -- a thread that stands at an index with these registers
 abbrev pub at_index : Thread → (index : ℕ) → Regs → Thread
@@ -108,6 +125,11 @@ input_end_instrs name false = []
 
 abbrev pub input_instrs : (name to : Reg) → (plain : Bool) → List Instr
 input_instrs name to plain = In to name ∷ input_end_instrs name plain
+
+-- a question's, where r11 names the end
+abbrev pub question_instrs : (control : ℕ) → (asks : Bool) → List Instr
+question_instrs control true = Outct R11 control ∷ Chkct R11 ACK ∷ []
+question_instrs control false = Chkct R11 control ∷ Outct R11 ACK ∷ []
 
 -- Where the word's register is r11, which names the end, r10 serves for it: for an output's word, and for an input's name.
 

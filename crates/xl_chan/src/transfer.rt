@@ -12,10 +12,10 @@ use xs_instr::{Emitter, Instr, Reg};
 use xw_words::{Memory, Pos};
 
 /// The control token that ends a message.
-const END: u32 = 1;
+pub const END: u32 = 1;
 
 /// The control token that answers a message.
-const ACK: u32 = 3;
+pub const ACK: u32 = 3;
 
 /// The code that sends a register's word over the channel of an end, with the channel's name as its place; `plain` is false inside
 /// a transaction on that channel and where the channel is streaming, where no end is told and no answer awaited.
