@@ -8,7 +8,7 @@ use Rattle.xc_meaning.specs.States.Items.{Choice, Item, does, says, stores, mark
 use Rattle.xc_meaning.specs.States.Branches.{Mode, runs, Branch, side_of}
 use Rattle.xc_meaning.specs.States.Worlds.{World, Action}
 use Rattle.xc_meaning.specs.Settings.Channels.{is_among}
-use Rattle.xc_meaning.specs.Runs.{acts, acts_all, kernel_start}
+use Rattle.xc_meaning.specs.Runs.{kernel_run, acts, acts_all, kernel_start}
 use Rattle.xc_kernel.specs.Things.{Thing, variable, change, port, timer, channel, by_branches}
 use Rattle.xc_meaning.specs.Uses.{by_items}
 use Rattle.xc_laws.specs.Every.{AllItems, EveryItem}
@@ -20,7 +20,7 @@ use Rattle.xc_laws.specs.Channels.{IsListed}
 use Rattle.xc_laws.proofs.Unbroken.{unbroken_apart, unbroken_sided, used_listed}
 use Rattle.xc_laws.proofs.Here.{uses_here}
 use Rattle.xc_laws.proofs.Copied.{copies_are_placed}
-use Rattle.xc_laws.specs.Lawful.{BranchesFit, BudgetsFit, BudgetsStay, BudgetsSuffice, Listed, ListedAt, ListedHolds, PortsAreHere, AcceptedObey, Lawful, LawsBegin, LawsAreKept, LawsHold, NoneClash, OneOnEachSide, some_choice_on, is_on, Tidy, TidyLawsHold, MarksStandOnce, EachHasSide, InsideIsOwn, AloneInside, EachGoesOn, ThreadsSuffice, BranchesStay}
+use Rattle.xc_laws.specs.Lawful.{Obeys, IsTidy, BranchesFit, BudgetsFit, BudgetsStay, BudgetsSuffice, Listed, ListedAt, ListedHolds, PortsAreHere, AcceptedObey, Lawful, LawsBegin, LawsAreKept, LawsHold, NoneClash, OneOnEachSide, some_choice_on, is_on, Tidy, MarksStandOnce, EachHasSide, InsideIsOwn, AloneInside, EachGoesOn, ThreadsSuffice, BranchesStay}
 use Rattle.xc_laws.specs.Placed.{IsPlaced, AnyBlock, AnyInside, IsFresh, AreUnused, marks_of, ends_of, PlacedItems, IfLively}
 use Rattle.xc_meaning.specs.Outline.{Moved}
 use Rattle.xc_laws.specs.Each.{EachItem}
@@ -179,8 +179,8 @@ along T K s kept (m ∷ ms) (Some x) y h e =
     let g = h x refl in
     along T K s kept ms (acts K s x m) y (λ z f. (laws_kept K s x z m f g.0, kept x z (moved K s x (no_text K s x g.0.kernels) m f) g.0 g.1)) e
 
-pub tidy_laws_hold : TidyLawsHold
-tidy_laws_hold K s ms x k t e =
+pub tidy_along : (K : kernel.Kernel) (s : Stim) (ms : List Action) (x : World) → Obeys K → IsTidy K → kernel_run K s ms ≡ Some x → Tidy x
+tidy_along K s ms x k t e =
     along Tidy K s (tidy_step K s) ms (Some (kernel_start K)) x
     (λ z f. (subst (Lawful K) (some_given f) (laws_begin K k), subst Tidy (some_given f) (record { placed = placed_begins IsFresh AreUnused K t.placed; alone = alone_begins IsFresh K t.placed }))) e
 

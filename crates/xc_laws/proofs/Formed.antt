@@ -98,7 +98,7 @@ module _ (T : ℕ → kernel.Statements → Type 0) where
   resource (Chan c) = tt
 
   mutual
-    expression : (e : kernel.Expression) → EveryExpression AnyThing AnyPar T e
+    pub expression : (e : kernel.Expression) → EveryExpression AnyThing AnyPar T e
     expression (kernel.number v) = tt
     expression (kernel.read p) = place p
     expression (kernel.operation symbol is_unsigned es pos) = operands es
@@ -111,7 +111,7 @@ module _ (T : ℕ → kernel.Statements → Type 0) where
     place (kernel.word v) = tt
     place (kernel.element v i pos) = (tt, expression i)
 
-  target : (p : kernel.Place) → EveryTarget AnyThing AnyPar T p
+  pub target : (p : kernel.Place) → EveryTarget AnyThing AnyPar T p
   target (kernel.word v) = (tt, tt)
   target (kernel.element v i pos) = (tt, tt, expression i)
 
@@ -119,7 +119,7 @@ module _ (T : ℕ → kernel.Statements → Type 0) where
   some_target None = tt
   some_target (Some p) = target p
 
-  some_expression : (o : Option kernel.Expression) → EverySomeExpression AnyThing AnyPar T o
+  pub some_expression : (o : Option kernel.Expression) → EverySomeExpression AnyThing AnyPar T o
   some_expression None = tt
   some_expression (Some e) = expression e
 
@@ -127,10 +127,10 @@ module _ (T : ℕ → kernel.Statements → Type 0) where
   condition None = tt
   condition (Some w) = expression w.value
 
-  output : (o : kernel.Output) → EveryOutput AnyThing AnyPar T o
+  pub output : (o : kernel.Output) → EveryOutput AnyThing AnyPar T o
   output o = record { resource = resource o.resource; time = some_expression o.time; value = expression o.value; stamp = some_target o.stamp }
 
-  input : (i : kernel.Input) → EveryInput AnyThing AnyPar T i
+  pub input : (i : kernel.Input) → EveryInput AnyThing AnyPar T i
   input i = record { resource = resource i.resource; time = some_expression i.time; condition = condition i.condition; target = some_target i.target; stamp = some_target i.stamp }
 
 module _ (U : ℕ → Type 0) where

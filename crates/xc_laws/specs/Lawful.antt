@@ -15,6 +15,7 @@ use Rattle.xc_meaning.specs.States.Items.{Choice, Item, does, mark, awaits, tran
 use Rattle.xc_meaning.specs.States.Branches.{runs, Branch, side_of}
 use Rattle.xc_meaning.specs.States.Worlds.{World, Action}
 use Rattle.xc_meaning.specs.Settings.Channels.{is_among}
+use Rattle.xc_meaning.specs.Settings.Transactions.{without_innermost}
 use Rattle.xc_meaning.specs.Runs.{step_of, acts, kernel_start, kernel_run}
 use Rattle.xc_kernel.specs.Things.{Thing, channel, by_resource}
 use Rattle.xc_meaning.specs.Uses.{by_item, by_items}
@@ -33,6 +34,8 @@ use Rattle.xc_laws.specs.Sided.{SidedAt, Differ, OtherSides, IsSided}
 use Rattle.xc_laws.specs.Needs.{Budgeted, HasBudget, KeepsBudget, takes, taken_on, needed_on, AreOnce, IsIn, TakesOn, total_of, takes_at, RootCores}
 use Rattle.xc_laws.specs.Placed.{AnyBlock, AnyInside, IsFresh, AreUnused, marks_of, ends_of, open_of, EndsWell, EachPlaced, EachAlone, IsPlaced}
 use Rattle.xc_laws.specs.Nested.{EachInside, EndIsBehind}
+use Rattle.xc_laws.specs.Tidy.{holds_use, AreTidy}
+use Rattle.xc_laws.specs.Within.{inside_on, EachErredAlone, BeginsOrEnds}
 use Rattle.xc_laws.specs.Cores.{UsesHere, IsHere, Grows}
 
 -- what the rules promise of a kernel
@@ -89,7 +92,14 @@ pub record Tidy (x : World) : Type 0 where
   pub alone : EachAlone x.branches
 
 abbrev pub TidyLawsHold : Type 0
-TidyLawsHold = (K : kernel.Kernel) (s : Stim) (ms : List Action) (x : World) → Obeys K → IsTidy K → kernel_run K s ms ≡ Some x → Tidy x
+TidyLawsHold = (K : kernel.Kernel) (s : Stim) (ms : List Action) (x : World) → IsChecked K → kernel_run K s ms ≡ Some x → Tidy x
+
+-- A kernel that is checked is so: in a transaction neither a `par` nor a `select` nor a transaction uses its channel.
+abbrev pub CheckedSpeakAlone : Type 0
+CheckedSpeakAlone = (K : kernel.Kernel) → IsChecked K → AreTidy K
+
+abbrev pub CheckedTidy : Type 0
+CheckedTidy = (K : kernel.Kernel) → IsChecked K → IsTidy K
 
 -- A branch that runs stands in a transaction whose end is among its items, or uses nothing of the transaction's channel: a `par` that stood in it made the branch.
 abbrev pub InsideIsOwn : Type 0
@@ -148,6 +158,49 @@ UsersAreInside =
     IsTrue (by_items (channel c) d.items) →
     ((n ≡ m) ⊎ Above x.branches m n) × IsTrue (is_among c d.inside)
 
+-- A branch that has erred in a transaction keeps its side of the channel to itself, or a branch above it has the transaction's end
+-- among its items.
+abbrev pub ErredAloneHolds : Type 0
+ErredAloneHolds =
+    (K : kernel.Kernel) (s : Stim) (ms : List Action) (x : World) → IsChecked K →
+    kernel_run K s ms ≡ Some x → (c : ℕ) → c < length K.channels → EachErredAlone c x.branches
+
+-- A running branch that uses a channel on a side stands in a transaction on it where some branch on that side does.
+abbrev pub InsideAgrees : Type 0
+InsideAgrees =
+    (K : kernel.Kernel) (s : Stim) (ms : List Action) (x : World) → IsChecked K →
+    kernel_run K s ms ≡ Some x →
+    (n : ℕ) (b : Branch) → slice_get x.branches n ≡ Some b → b.mode ≡ runs →
+    (c : ℕ) (side : Side) → side_of b c ≡ Some side → IsTrue (by_items (channel c) b.items) →
+    is_among c b.inside ≡ inside_on x.branches c side
+
+-- A step that neither begins nor ends a transaction on the channel on this side leaves whether some branch stands in one there.
+abbrev pub InsideStays : Type 0
+InsideStays =
+    (K : kernel.Kernel) (s : Stim) (ms : List Action) (x y : World) (m : Action) → IsChecked K →
+    kernel_run K s ms ≡ Some x → acts K s x m ≡ Some y →
+    (c : ℕ) → c < length K.channels → (side : Side) →
+    (inside_on y.branches c side ≡ inside_on x.branches c side) ⊎ BeginsOrEnds x.branches y.branches c side
+
+-- A transaction that a running branch ends is the innermost in which it stands, and it stands in no other on that channel.
+abbrev pub EndsOnce : Type 0
+EndsOnce =
+    (K : kernel.Kernel) (s : Stim) (ms : List Action) (x : World) → IsChecked K →
+    kernel_run K s ms ≡ Some x →
+    (n : ℕ) (b : Branch) → slice_get x.branches n ≡ Some b → b.mode ≡ runs →
+    (c : ℕ) (is_master : Bool) (pos : Pos) (rest : List Item) →
+    b.items ≡ transaction_end c is_master pos ∷ rest → (outer : List ℕ) × ((b.inside ≡ c ∷ outer) × (is_among c outer ≡ false))
+
+-- So once it has ended no branch on that side stands in a transaction on the channel.
+abbrev pub EndLeavesNone : Type 0
+EndLeavesNone =
+    (K : kernel.Kernel) (s : Stim) (ms : List Action) (x y : World) (m : Action) → IsChecked K →
+    kernel_run K s ms ≡ Some x → acts K s x m ≡ Some y →
+    (n : ℕ) (b now : Branch) → slice_get x.branches n ≡ Some b → b.mode ≡ runs → slice_get y.branches n ≡ Some now →
+    (c : ℕ) (is_master : Bool) (pos : Pos) (rest : List Item) →
+    b.items ≡ transaction_end c is_master pos ∷ rest → now.inside ≡ without_innermost b.inside →
+    (side : Side) → side_of b c ≡ Some side → inside_on y.branches c side ≡ false
+
 -- a channel is one of the kernel's
 abbrev pub Listed : kernel.Kernel → Thing → Type 0
 Listed K (channel c) = c < length K.channels
@@ -189,6 +242,21 @@ is_on c (awaits d pos) = nat_eq c d
 is_on c (transaction_end d is_master pos) = nat_eq c d
 is_on c (chooses choices otherwise) = some_choice_on c choices
 is_on c item = false
+
+-- whether a `par`, a select or a transaction that is the item, or that it holds, uses a channel; of a select that has begun, its cases
+abbrev pub is_held : ℕ → Item → Bool
+is_held c (does s) = holds_use c s
+is_held c (chooses choices otherwise) = some_choice_on c choices
+is_held c item = false
+
+-- A running branch whose first item is so stands in no transaction on the channel: so it is where it begins one.
+abbrev pub HeldOutside : Type 0
+HeldOutside =
+    (K : kernel.Kernel) (s : Stim) (ms : List Action) (x : World) → IsChecked K →
+    kernel_run K s ms ≡ Some x →
+    (n : ℕ) (b : Branch) → slice_get x.branches n ≡ Some b → b.mode ≡ runs →
+    (item : Item) (rest : List Item) → b.items ≡ item ∷ rest → (c : ℕ) → IsTrue (is_held c item) →
+    is_among c b.inside ≡ false
 
 -- A branch has a side of each channel of the kernel's on which its first item is.
 abbrev pub EachHasSide : Type 0
