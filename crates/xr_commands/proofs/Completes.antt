@@ -116,10 +116,13 @@ module _ (words : List (List ℕ)) (shelf : Loads) (out err : Span) (files : Lis
       inr (all_done (Check file) text 0 P m h accepted (λ s of. record { status_is = refl; output = g }))
   by_decided o (assembled file text L m h compiled) g =
       inr (all_done (Asm file) text 0 compiled.program m h compiled.means_so (λ s of. record { L = L; compiled = compiled; status_is = refl; output = g }))
-  by_decided o (ran file ticks stim text s L lines word trapped m h compiled named lockstep) g =
+  by_decided o (ran file ticks stim text s L lines word trapped m h compiled named lockstep of_program) g =
       inr (all_done (Run file ticks stim) text (status_of_run trapped word) compiled.program m h compiled.means_so
       (λ t of. subst (λ x. DoneWith (Run file ticks stim) text x out (status_of_run trapped word)) (one_stim shelf.files (Some files) stim s t named of)
-      (record { L = L; lines = lines; word = word; trapped = trapped; compiled = compiled; lockstep = lockstep; status_is = refl; output = g })))
+      (record {
+        L = L; lines = lines; word = word; trapped = trapped; compiled = compiled; lockstep = lockstep; of_program = of_program;
+        status_is = refl; output = g;
+      })))
   by_decided o no_memory g = inl (refl, g)
 
   by_delivered : (o : Outcome) (status : ℕ) → Decided words shelf o → Delivered o out err status → ((status ≡ 12) × Gained out []) ⊎ AllCauses words files out status

@@ -15,6 +15,7 @@ use Rattle.xr_commands.specs.Outside.{Loads}
 use Rattle.xr_commands.specs.Parts.{IsAnswer, IsAnswerOnText}
 use Rattle.xr_commands.specs.Rules.{First, IsAccepted}
 use Rattle.xr_commands.specs.Runs.{IsCompiled, IsRunFor, no_stim, unnamed}
+use Rattle.xr_commands.proofs.ProgramRuns.{run_beside}
 
 module _ (shelf : Loads) (c : Command) (name : List ℕ) (is : name ≡ file_of c) where
   due : IsDue shelf.files c name
@@ -50,3 +51,4 @@ assembled_at file text L compiled shelf h words meant = assembled file text L me
 pub ran_at : (file : List ℕ) (ticks : ℕ) (text : List ℕ) (L : Image) (lines : List Record) (word : EndWord) (trapped : Bool) → IsCompiled text L → IsRunFor L no_stim ticks lines word trapped → IsAnswerOnText (Run file ticks None) text (prints (status_of_run trapped word) (run_output L lines word))
 ran_at file ticks text L lines word trapped compiled lockstep shelf h words meant =
     ran file ticks None text no_stim L lines word trapped meant h compiled unnamed lockstep
+    (run_beside text L no_stim compiled tt ticks lines word trapped lockstep)

@@ -9,5 +9,6 @@ mod NoMeaning
 mod OneAnswer
 mod OnlyCauses
 mod Order
+mod ProgramRuns
 mod Reading
 mod Rounds

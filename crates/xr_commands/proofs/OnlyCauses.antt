@@ -90,7 +90,7 @@ module _ (words : List (List ℕ)) (shelf : Loads) (out err : Span) where
   }
   by_decided o (checked file text P m told accepted) g = printed 0 (omega arith, inl refl)
   by_decided o (assembled file text L m told compiled) g = printed 0 (omega arith, inl refl)
-  by_decided o (ran file ticks stim text s L lines word trapped m told compiled named lockstep) g = printed (status_of_run trapped word) (run_status trapped word)
+  by_decided o (ran file ticks stim text s L lines word trapped m told compiled named lockstep beside) g = printed (status_of_run trapped word) (run_status trapped word)
   by_decided o no_memory g = record {
     refused = λ e. absurd (omega (arith, e));
     usage = λ e. absurd (omega (arith, e));

@@ -13,7 +13,7 @@ use Rattle.xr_commands.specs.Due.{IsDue}
 use Rattle.xr_commands.specs.Lines.{accepted_line, code_section, run_output, usage_line, no_file_line, too_long_line, read_fault_line, broken_line, no_memory_line}
 use Rattle.xr_commands.specs.Outside.{Loads, Span, Gained, GainedFront}
 use Rattle.xr_commands.specs.Rules.{First, IsAccepted}
-use Rattle.xr_commands.specs.Runs.{IsCompiled, IsRunFor, IsStimOf}
+use Rattle.xr_commands.specs.Runs.{IsCompiled, IsRunFor, IsRunOf, IsStimOf}
 
 -- what is decided: the status, what is due on `out`, and the line that is due on `err`
 pub record Outcome : Type 0 where
@@ -64,8 +64,8 @@ pub data Decided (words : List (List ℕ)) (shelf : Loads) : Outcome → Type 0 
       Decided words shelf (prints 0 (code_section L))
   ran : (file : List ℕ) (ticks : ℕ) (stim : Option (List ℕ)) (text : List ℕ) (s : Stim) (L : Image) (lines : List Record)
       (word : EndWord) (trapped : Bool) → means words ≡ Some (Run file ticks stim) →
-      IsFileOf shelf.files file text → IsCompiled text L → IsStimOf shelf.files stim s →
-      IsRunFor L s ticks lines word trapped →
+      IsFileOf shelf.files file text → (compiled : IsCompiled text L) → IsStimOf shelf.files stim s →
+      IsRunFor L s ticks lines word trapped → IsRunOf compiled.program L s ticks lines word →
       Decided words shelf (prints (status_of_run trapped word) (run_output L lines word))
   no_memory : Decided words shelf (says 12 no_memory_line)
 

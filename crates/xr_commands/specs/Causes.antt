@@ -14,7 +14,7 @@ use Rattle.xr_commands.specs.Due.{IsDue}
 use Rattle.xr_commands.specs.Lines.{accepted_line, code_section, run_output}
 use Rattle.xr_commands.specs.Outside.{Loads, Span, Gained}
 use Rattle.xr_commands.specs.Rules.{First, IsAccepted, IsRefusedOrAccepted}
-use Rattle.xr_commands.specs.Runs.{IsCompiled, IsRunFor, IsStimOf}
+use Rattle.xr_commands.specs.Runs.{IsCompiled, IsRunFor, IsRunOf, IsStimOf}
 
 -- the words mean a command, of whose text's file this is so
 abbrev pub OfFile : List (List ℕ) → (List ℕ → Type 0) → Type 0
@@ -48,6 +48,7 @@ pub record Ran (text : List ℕ) (s : Stim) (ticks : ℕ) (out : Span) (status :
   pub trapped : Bool
   pub compiled : IsCompiled text L
   pub lockstep : IsRunFor L s ticks lines word trapped
+  pub of_program : IsRunOf compiled.program L s ticks lines word
   pub status_is : status ≡ status_of_run trapped word
   pub output : Gained out (run_output L lines word)
 

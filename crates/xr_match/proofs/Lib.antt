@@ -4,3 +4,4 @@ pub mod Counted
 pub mod Births
 pub mod Walked
 pub mod Texts
+pub mod Matching

@@ -2,7 +2,7 @@
 use Rattle.std.proofs.Common.{◌≡◌, List, [], ◌∷◌, ◌++◌, Option, Some, None, refl, sym, subst, ap, ◌∙◌}
 use Rattle.std.proofs.lemmas.Option.{same_Some}
 use Rattle.xs_instr.specs.Machine.{and_then}
-use Rattle.xr_match.specs.Systems.{System, SomeIs, leads, Along, Beside, Refines}
+use Rattle.xr_match.specs.Systems.{System, SomeIs, concat, leads, Along, Beside, Refines}
 
 pub there_get : {A : Type 0} (F : A → Type 0) (o : Option A) → SomeIs o F → (x : A) × (o ≡ Some x) × F x
 there_get F None h = absurd h
@@ -15,11 +15,6 @@ behind_one : {A B C : Type 0} (f : A → Option C) (g : A → Option B) (k : B �
 behind_one f g k h None = refl
 behind_one f g k h (Some y) = h y
 
--- all steps of some pieces
-abbrev pub all_of : {A : Type 0} → List (List A) → List A
-all_of [] = []
-all_of (piece ∷ pieces) = piece ++ all_of pieces
-
 module _ (A : System) where
   -- steps behind others
   leads_behind : (before behind : List A.Step) (x : A.State) → leads A x (before ++ behind) ≡ and_then (leads A x before) (λ y. leads A y behind)
@@ -31,14 +26,14 @@ module _ (A : System) where
 
 module _ (A B : System) (R : A.State → B.State → Type 0) where
   -- the pieces beside a run are a run
-  pieces_run : (steps : List A.Step) (pieces : List (List B.Step)) (x : A.State) (y : B.State) → Along A B R x y steps pieces → SomeIs (leads B y (all_of pieces)) (λ z. Unit {0})
+  pieces_run : (steps : List A.Step) (pieces : List (List B.Step)) (x : A.State) (y : B.State) → Along A B R x y steps pieces → SomeIs (leads B y (concat pieces)) (λ z. Unit {0})
   pieces_run [] [] x y h = tt
   pieces_run [] (p ∷ ps) x y h = absurd h
   pieces_run (a ∷ steps) [] x y h = absurd h
   pieces_run (a ∷ steps) (p ∷ ps) x y h =
       let one = there_get (λ x'. SomeIs (leads B y p) (λ y'. Along A B R x' y' steps ps)) (A.next x a) h.1 in
       let two = there_get (λ y'. Along A B R one.0 y' steps ps) (leads B y p) one.2 in
-      subst (λ o. SomeIs o (λ z. Unit {0})) (sym (leads_both B p (all_of ps) y two.0 two.1)) (pieces_run steps ps one.0 two.0 two.2)
+      subst (λ o. SomeIs o (λ z. Unit {0})) (sym (leads_both B p (concat ps) y two.0 two.1)) (pieces_run steps ps one.0 two.0 two.2)
 
   -- they stand so at first
   now : (steps : List A.Step) (pieces : List (List B.Step)) (x : A.State) (y : B.State) → Along A B R x y steps pieces → R x y
@@ -61,18 +56,18 @@ module _ (A B : System) (R : A.State → B.State → Type 0) where
 
 module _ (A B C : System) (R : A.State → B.State → Type 0) (S : B.State → C.State → Type 0) (T : A.State → C.State → Type 0) (both : (x : A.State) (y : B.State) (z : C.State) → R x y → S y z → T x z) where
   through : (steps : List A.Step) (pieces : List (List B.Step)) (others : List (List C.Step)) (x : A.State) (y : B.State) (z : C.State) →
-      Along A B R x y steps pieces → Along B C S y z (all_of pieces) others → (outs : List (List C.Step)) × Along A C T x z steps outs
+      Along A B R x y steps pieces → Along B C S y z (concat pieces) others → (outs : List (List C.Step)) × Along A C T x z steps outs
   through [] [] others x y z h k = ([], both x y z h (now B C S [] others y z k))
   through [] (p ∷ ps) others x y z h k = absurd h
   through (a ∷ steps) [] others x y z h k = absurd h
   through (a ∷ steps) (p ∷ ps) others x y z h k =
       let one = there_get (λ x'. SomeIs (leads B y p) (λ y'. Along A B R x' y' steps ps)) (A.next x a) h.1 in
       let two = there_get (λ y'. Along A B R one.0 y' steps ps) (leads B y p) one.2 in
-      let cut = split B C S p (all_of ps) others y two.0 z two.1 k in
+      let cut = split B C S p (concat ps) others y two.0 z two.1 k in
       let rest = through steps ps cut.1 one.0 two.0 cut.2 two.2 cut.4 in (
         cut.0 ∷ rest.0,
         (
-          both x y z h.0 (now B C S (p ++ all_of ps) others y z k),
+          both x y z h.0 (now B C S (p ++ concat ps) others y z k),
           there_put (λ x'. SomeIs (leads C z cut.0) (λ z'. Along A C T x' z' steps rest.0)) (A.next x a) one.0 one.1
               (there_put (λ z'. Along A C T one.0 z' steps rest.0) (leads C z cut.0) cut.2 cut.3 rest.1),
         ),
@@ -81,10 +76,10 @@ module _ (A B C : System) (R : A.State → B.State → Type 0) (S : B.State → 
   beside_both : Refines B C S → (steps : List A.Step) → Beside A B R steps → Beside A C T steps
   beside_both second steps first =
       let at_first = there_get (λ y. Along A B R A.start y steps first.pieces) (leads B B.start first.first) first.along in
-      let run = subst (λ o. SomeIs o (λ y. Unit {0})) (sym (leads_both B first.first (all_of first.pieces) B.start at_first.0 at_first.1)) (pieces_run A B R steps first.pieces A.start at_first.0 at_first.2) in
-      let other = second.by (first.first ++ all_of first.pieces) run in
-      let at_other = there_get (λ z. Along B C S B.start z (first.first ++ all_of first.pieces) other.pieces) (leads C C.start other.first) other.along in
-      let cut = split B C S first.first (all_of first.pieces) other.pieces B.start at_first.0 at_other.0 at_first.1 at_other.2 in
+      let run = subst (λ o. SomeIs o (λ y. Unit {0})) (sym (leads_both B first.first (concat first.pieces) B.start at_first.0 at_first.1)) (pieces_run A B R steps first.pieces A.start at_first.0 at_first.2) in
+      let other = second.by (first.first ++ concat first.pieces) run in
+      let at_other = there_get (λ z. Along B C S B.start z (first.first ++ concat first.pieces) other.pieces) (leads C C.start other.first) other.along in
+      let cut = split B C S first.first (concat first.pieces) other.pieces B.start at_first.0 at_other.0 at_first.1 at_other.2 in
       let rest = through steps first.pieces cut.1 A.start at_first.0 cut.2 at_first.2 cut.4 in
       record {
         first = other.first ++ cut.0;

@@ -4,3 +4,4 @@ pub mod Meanings
 pub mod Sides
 pub mod Sources
 pub mod Systems
+pub mod Matching

@@ -1,11 +1,16 @@
 -- Systems that go from state to state, and the runs of one beside those of another: a machine under a stimulus, a program under one.
-use Rattle.std.specs.Prelude.{List, [], ◌∷◌, Option, Some, None}
+use Rattle.std.specs.Prelude.{List, [], ◌∷◌, ◌++◌, Option, Some, None}
 use Rattle.xs_instr.specs.Machine.{and_then}
 
 -- there is something, and it is so
 abbrev pub SomeIs : {A : Type 0} → Option A → (A → Type 0) → Type 0
 SomeIs None P = ⊥
 SomeIs (Some x) P = P x
+
+-- all items of some lists, one list behind the other
+abbrev pub concat : {A : Type 0} → List (List A) → List A
+concat [] = []
+concat (piece ∷ pieces) = piece ++ concat pieces
 
 -- states, and what a step leaves where it is possible
 pub record System : Type 1 where

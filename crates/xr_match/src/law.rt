@@ -4,6 +4,7 @@ ghost use Rattle.xc_tree.specs.Plain.{Item};
 ghost use Rattle.xc_kernel.specs.Plain.{Kernel};
 ghost use Rattle.xc_meaning.specs.Runs.{Allowed, AllowedKernel};
 ghost use Rattle.xc_meaning.specs.States.Worlds.{Action};
+ghost use Rattle.xr_match.specs.Matching.{CountsAreSteps, RunsMatch, RunsMatchWholly};
 ghost use Rattle.xr_match.specs.Meanings.{KernelsCarry, KernelsCarryWholly, of_kernel, of_text};
 ghost use Rattle.xr_match.specs.Sources.{told_of};
 ghost use Rattle.xr_match.specs.Systems.{IsRun};
@@ -25,4 +26,15 @@ pub fn runs_are_allowed()
         IsRun (told_of (of_text P) s) actions → Allowed P s actions }
     ensures kernel { (K : Kernel) (s : Stim) (actions : Items Action) →
         IsRun (told_of (of_kernel K) s) actions → AllowedKernel K s actions }
+{}
+
+/// What implementing says in the words of runs. Each list of events that a machine can do from its start, one after the other, has one
+/// run of the program beside it, cut into a first piece and one for each event: the machine and the program agree after each. Where the
+/// image keeps all its promises, the program waits wherever the machine does, and no life of a thread does too many steps for its family.
+///
+/// How many steps a family does is what is counted beside the run.
+pub fn machine_runs_match()
+    ensures agree { RunsMatch }
+    ensures wholly { RunsMatchWholly }
+    ensures counts { CountsAreSteps }
 {}

@@ -3,4 +3,4 @@
 
 mod law;
 
-pub use law::{kernel_carries_to_text, runs_are_allowed};
+pub use law::{kernel_carries_to_text, machine_runs_match, runs_are_allowed};
