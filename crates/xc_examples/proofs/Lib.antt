@@ -3,7 +3,7 @@ pub mod Running
 pub mod Kernels
 pub mod Texts
 pub mod Counts
-pub mod Fitting
+pub mod CountsFit
 pub mod Quiet
 pub mod Mixed
 pub mod Flow
@@ -11,4 +11,4 @@ pub mod Branches
 pub mod Transfers
 pub mod Laws
 pub mod Sizes
-pub mod Closely
+pub mod TextFollows

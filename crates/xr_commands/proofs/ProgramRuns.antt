@@ -17,7 +17,7 @@ use Rattle.xr_match.specs.Implements.{Agree, IsQuietBehind, QuietAgree}
 use Rattle.xr_match.specs.Matching.{WholeMatchingRun}
 use Rattle.xr_match.specs.Meanings.{of_text}
 use Rattle.xr_match.proofs.Matching.{runs_match_wholly}
-use Rattle.xr_match.proofs.Walked.{same_run}
+use Rattle.xr_match.proofs.RunsBeside.{same_run}
 use Rattle.xr_commands.specs.Runs.{IsCompiled, IsRunFor, IsRunOf}
 
 -- a machine that is stuck is quiet behind any ticks

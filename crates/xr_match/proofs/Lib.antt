@@ -2,6 +2,6 @@ pub mod Frame
 pub mod Through
 pub mod Counted
 pub mod Births
-pub mod Walked
+pub mod RunsBeside
 pub mod Texts
 pub mod Matching

@@ -17,7 +17,7 @@ use Rattle.xr_match.specs.Sources.{Told, actions_by, told_of, told_start}
 use Rattle.xr_match.specs.Systems.{System, SomeIs, IsRun, concat, leads, Along, Refines}
 use Rattle.xr_match.proofs.Counted.{counted_steps, uncounted}
 use Rattle.xr_match.proofs.Through.{leads_both, there_get, there_put}
-use Rattle.xr_match.proofs.Walked.{same_run}
+use Rattle.xr_match.proofs.RunsBeside.{same_run}
 
 -- what is counted beside a run from its start on
 pub counts_are_steps : CountsAreSteps

@@ -25,7 +25,7 @@ use Rattle.xr_match.specs.Meanings.{HasParcel, family_in, of_kernel, of_text, Ke
 use Rattle.xr_match.specs.Sources.{Told, actions_by, actions_of, told_of}
 use Rattle.xr_match.proofs.Births.{family_alike}
 use Rattle.xr_match.proofs.Through.{refines_through}
-use Rattle.xr_match.proofs.Walked.{IsOfKernel, IsOfText, Leads, refines_so, same_run}
+use Rattle.xr_match.proofs.RunsBeside.{IsOfKernel, IsOfText, Leads, refines_so, same_run}
 
 module _ (P : List tree.Item) (K : kernel.Kernel) (s : Stim) where
   abbrev Alike : Told (of_kernel K) → Told (of_text P) → Type 0

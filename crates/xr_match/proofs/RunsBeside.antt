@@ -10,7 +10,7 @@ use Rattle.xc_meaning.specs.Counts.Families.{steps_of}
 use Rattle.xc_meaning.specs.Follows.{StandAlong, HasBeside}
 use Rattle.xc_meaning.specs.Runs.{Allowed, AllowedKernel, acts, acts_all, kernel_run, kernel_start, program_run, program_start}
 use Rattle.xc_meaning.specs.States.Worlds.{World, Action}
-use Rattle.xc_meaning.proofs.Simulation.Led.{counted_on}
+use Rattle.xc_meaning.proofs.Simulation.TextSteps.{counted_on}
 use Rattle.xr_match.specs.Meanings.{of_kernel, of_text, of_worlds}
 use Rattle.xr_match.specs.Sources.{Told, allowed, told_of, told_start}
 use Rattle.xr_match.specs.Systems.{SomeIs, IsRun, leads, Along, Beside, Refines}
