@@ -23,7 +23,7 @@ use Rattle.xr_match.proofs.RunsBeside.{same_run}
 pub counts_are_steps : CountsAreSteps
 counts_are_steps K s start bound actions z e f =
     let led : acts_all K s (Some start) actions ≡ Some z.state =
-        same_run K s start bound actions start ∙ uncounted (of_worlds K start bound) s actions (told_start (of_worlds K start bound)) z e in
+    same_run K s start bound actions start ∙ uncounted (of_worlds K start bound) s actions (told_start (of_worlds K start bound)) z e in
     let counted = counted_steps K s start bound actions (told_start (of_worlds K start bound)) z.state led in
     ap (λ (x : Told (of_worlds K start bound)). x.actions f) (same_Some _ _ (sym e ∙ counted.1)) ∙ (counted.3 f ∙ zero-add _)
 
@@ -81,13 +81,13 @@ module _ (L : Image) (P : List tree.Item) (s : Stim) where
     along (a ∷ events) [] w x h = absurd h
     along (a ∷ events) (p ∷ ps) w x h =
         let one = there_get (λ v. SomeIs (leads Text x p) (λ y. Along (machine_of L s) Text R v y events ps))
-            (and_then (does L s w.machine a) (λ m. Some (watched_after w a m))) h.1 in
+        (and_then (does L s w.machine a) (λ m. Some (watched_after w a m))) h.1 in
         let two = there_get (λ y. Along (machine_of L s) Text R one.0 y events ps) (leads Text x p) one.2 in (
           seen w x h.0,
           there_put (λ n. SomeIs (acts_all (copy_of P) s (Some x.state) p) (λ y. MatchAlong S L P s n y events ps)) (does L s w.machine a)
-          one.0.machine (done_by L s w one.0 a (does L s w.machine a) one.1)
-          (there_put (λ y. MatchAlong S L P s one.0.machine y events ps) (acts_all (copy_of P) s (Some x.state) p) two.0.state
-          (acted p x two.0 two.1) (along events ps one.0 two.0 two.2)),
+              one.0.machine (done_by L s w one.0 a (does L s w.machine a) one.1)
+              (there_put (λ y. MatchAlong S L P s one.0.machine y events ps) (acts_all (copy_of P) s (Some x.state) p) two.0.state
+              (acted p x two.0 two.1) (along events ps one.0 two.0 two.2)),
         )
 
     -- the whole run, with where the program stands in the end
@@ -155,7 +155,7 @@ runs_match L P s implements good events m e =
 pub runs_match_wholly : RunsMatchWholly
 runs_match_wholly L P s implements good events m e =
     let r : Matched L P s (AgreeWholly L (of_text P) s) (AgreeQuietly L P s) seen_wholly events m =
-        matched L P s (AgreeWholly L (of_text P) s) (AgreeQuietly L P s) seen_wholly events m e (implements.by s good) in
+    matched L P s (AgreeWholly L (of_text P) s) (AgreeQuietly L P s) seen_wholly events m e (implements.by s good) in
     record {
       run = r.run;
       bounded = subst (λ x. LivesAreBounded L P s events (r.run.first ++ concat r.run.pieces) x) (sym r.at)

@@ -7,10 +7,10 @@ use Rattle.xc_tree.specs.Plain as tree
 use Rattle.xc_kernel.specs.Copies.{copy_of}
 use Rattle.xc_kernel.specs.Plain as kernel
 use Rattle.xc_meaning.specs.Counts.Families.{steps_of}
-use Rattle.xc_meaning.specs.Follows.{StandAlong, HasBeside}
-use Rattle.xc_meaning.specs.Runs.{Allowed, AllowedKernel, acts, acts_all, kernel_run, kernel_start, program_run, program_start}
+use Rattle.xc_meaning.specs.Follows.{StandAlike, StandAlong, HasBeside}
+use Rattle.xc_meaning.specs.Runs.{Allowed, AllowedKernel, acts, acts_all, kernel_run, kernel_start, program_start}
 use Rattle.xc_meaning.specs.States.Worlds.{World, Action}
-use Rattle.xc_meaning.proofs.Simulation.TextSteps.{counted_on}
+use Rattle.xc_meaning.proofs.Simulation.TextSteps.{counted_on, moves_append}
 use Rattle.xr_match.specs.Meanings.{of_kernel, of_text, of_worlds}
 use Rattle.xr_match.specs.Sources.{Told, allowed, told_of, told_start}
 use Rattle.xr_match.specs.Systems.{SomeIs, IsRun, leads, Along, Beside, Refines}
@@ -26,19 +26,10 @@ same_run K s start bound (a ∷ actions) x = go (same_run K s start bound action
     go next None = refl
     go next (Some y) = next y
 
-acts_behind : (K : kernel.Kernel) (s : Stim) (before behind : List Action) (o : Option World) → acts_all K s o (before ++ behind) ≡ acts_all K s (acts_all K s o before) behind
-acts_behind K s before behind None = refl
-acts_behind K s [] behind (Some x) = refl
-acts_behind K s (a ∷ before) behind (Some x) = acts_behind K s before behind (acts K s x a)
-
 -- from a state that a run leads to
-acts_on : (K : kernel.Kernel) (s : Stim) (before behind : List Action) (o : Option World) (x : World) → acts_all K s o before ≡ Some x → acts_all K s o (before ++ behind) ≡ acts_all K s (Some x) behind
-acts_on K s before behind o x e = acts_behind K s before behind o ∙ ap (λ p. acts_all K s p behind) e
-
--- one action
-acts_one : (K : kernel.Kernel) (s : Stim) (o : Option World) → acts_all K s o [] ≡ o
-acts_one K s None = refl
-acts_one K s (Some x) = refl
+acts_on : (K : kernel.Kernel) (s : Stim) (before behind : List Action) (o : Option World) (x : World) → acts_all K s o before ≡ Some x →
+    acts_all K s o (before ++ behind) ≡ acts_all K s (Some x) behind
+acts_on K s before behind o x e = moves_append K s o before behind ∙ ap (λ p. acts_all K s p behind) e
 
 is_some : (o : Option World) (x : World) → o ≡ Some x → IsSome o
 is_some o x e = subst IsSome (sym e) refl
@@ -95,16 +86,10 @@ module _ (P : List tree.Item) (K : kernel.Kernel) (s : Stim) where
   abbrev pub IsOfText : List Action → Told (of_text P) → Type 0
   IsOfText ns y = IsBehind (copy_of P) s (program_start P) (of_text P).bound ns y
 
-  -- two runs that stand so lead somewhere
-  pub record Leads (ms ns : List Action) : Type 0 where
-    pub of_kernel : World
-    pub of_text : World
-    pub kernel_leads : kernel_run K s ms ≡ Some of_kernel
-    pub text_leads : program_run P s ns ≡ Some of_text
-
+  -- of two runs that lead to alike states, and stand in a further relation
   module _
       (Stand : List Action → List Action → Type 0) (R : Told (of_kernel K) → Told (of_text P) → Type 0)
-      (where_led : (ms ns : List Action) → Stand ms ns → Leads ms ns)
+      (alike : (ms ns : List Action) → Stand ms ns → StandAlike P K s ms ns)
       (related : (ms ns : List Action) (x : Told (of_kernel K)) (y : Told (of_text P)) → IsOfKernel ms x → IsOfText ns y → Stand ms ns → R x y) where
     now : (further : List Action) (pieces : List (List Action)) (ms ns : List Action) → StandAlong Stand ms ns further pieces → Stand ms ns
     now [] [] ms ns h = h
@@ -117,7 +102,7 @@ module _ (P : List tree.Item) (K : kernel.Kernel) (s : Stim) where
     along [] (piece ∷ pieces) ms ns x y e f h = absurd h
     along (m ∷ further) [] ms ns x y e f h = absurd h
     along (m ∷ further) (piece ∷ pieces) ms ns x y e f h =
-        let next = where_led (ms ++ m ∷ []) (ns ++ piece) (now further pieces (ms ++ m ∷ []) (ns ++ piece) h.1) in
+        let next = alike (ms ++ m ∷ []) (ns ++ piece) (now further pieces (ms ++ m ∷ []) (ns ++ piece) h.1) in
         let x' = more_behind K s (kernel_start K) (of_kernel K).bound ms (m ∷ []) x next.of_kernel e next.kernel_leads in
         let y' = more_behind (copy_of P) s (program_start P) (of_text P).bound ns piece y next.of_text f next.text_leads in
         let rest = along further pieces (ms ++ m ∷ []) (ns ++ piece) x'.0 y'.0 x'.2 y'.2 h.1 in
@@ -133,7 +118,7 @@ module _ (P : List tree.Item) (K : kernel.Kernel) (s : Stim) where
 
     beside : (ms : List Action) → HasBeside Stand ms → Beside (told_of (of_kernel K) s) (told_of (of_text P) s) R ms
     beside ms h =
-        let start = where_led [] h.first (now ms h.pieces [] h.first h.along) in
+        let start = alike [] h.first (now ms h.pieces [] h.first h.along) in
         let y = more_behind (copy_of P) s (program_start P) (of_text P).bound [] h.first (told_start (of_text P)) start.of_text (none_behind (copy_of P) s (program_start P) (of_text P).bound) start.text_leads in
         record {
           first = h.first;

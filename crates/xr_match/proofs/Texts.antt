@@ -25,7 +25,7 @@ use Rattle.xr_match.specs.Meanings.{HasParcel, family_in, of_kernel, of_text, Ke
 use Rattle.xr_match.specs.Sources.{Told, actions_by, actions_of, told_of}
 use Rattle.xr_match.proofs.Births.{family_alike}
 use Rattle.xr_match.proofs.Through.{refines_through}
-use Rattle.xr_match.proofs.RunsBeside.{IsOfKernel, IsOfText, Leads, refines_so, same_run}
+use Rattle.xr_match.proofs.RunsBeside.{IsOfKernel, IsOfText, refines_so, same_run}
 
 module _ (P : List tree.Item) (K : kernel.Kernel) (s : Stim) where
   abbrev Alike : Told (of_kernel K) → Told (of_text P) → Type 0
@@ -37,25 +37,19 @@ module _ (P : List tree.Item) (K : kernel.Kernel) (s : Stim) where
     pub quiet : (cores : List ℕ) → QuietBehind K s x.state cores ↔ QuietBehind (copy_of P) s y.state cores
     pub bounded : (f : ℕ) → x.actions f + 1 ≤ 4 * (y.actions f + 1)
 
-  abbrev alike_led : (ms ns : List Action) → StandAlike P K s ms ns → Leads P K s ms ns
-  alike_led ms ns h = record { of_kernel = h.of_kernel; of_text = h.of_text; kernel_leads = h.kernel_leads; text_leads = h.text_leads }
-
-  abbrev close_led : (ms ns : List Action) → StandClose P K s ms ns → Leads P K s ms ns
-  close_led ms ns h = record { of_kernel = h.of_kernel; of_text = h.of_text; kernel_leads = h.kernel_leads; text_leads = h.text_leads }
-
   module _ (ms ns : List Action) (x : Told (of_kernel K)) (y : Told (of_text P)) (e : IsOfKernel P K s ms x) (f : IsOfText P K s ns y) where
     -- of the states that such runs lead to
-    same : (F : World → World → Type 0) (h : Leads P K s ms ns) → F h.of_kernel h.of_text → F x.state y.state
+    same : (F : World → World → Type 0) (h : StandAlike P K s ms ns) → F h.of_kernel h.of_text → F x.state y.state
     same F h is =
         subst (λ z. F x.state z) (same_Some _ _ (sym h.text_leads ∙ f.led)) (subst (λ z. F z h.of_text) (same_Some _ _ (sym h.kernel_leads ∙ e.led)) is)
 
     alike : StandAlike P K s ms ns → Alike x y
-    alike h = same AreAlike (alike_led ms ns h) h.alike
+    alike h = same AreAlike h h.alike
 
     close : StandClose P K s ms ns → Close x y
     close h = record {
-      alike = same AreAlike (close_led ms ns h) h.alike;
-      quiet = same (λ z w. (cores : List ℕ) → QuietBehind K s z cores ↔ QuietBehind (copy_of P) s w cores) (close_led ms ns h) h.quiet;
+      alike = same AreAlike h.alike h.alike.alike;
+      quiet = same (λ z w. (cores : List ℕ) → QuietBehind K s z cores ↔ QuietBehind (copy_of P) s w cores) h.alike h.quiet;
       bounded = λ family. let p = e.told family in let q = f.told family in let b = h.bounded family in omega (arith, p, q, b);
     }
 
@@ -125,7 +119,7 @@ kernels_carry L P K named types typed copies of_K = record {
       (AgreeNow L (of_text P))
       (agree P K s L copies)
       (of_K.by s good)
-      (refines_so P K s (StandAlike P K s) (Alike P K s) (alike_led P K s) (alike P K s) (typed_text_follows P K named types typed copies s));
+      (refines_so P K s (StandAlike P K s) (Alike P K s) (λ ms ns h. h) (alike P K s) (typed_text_follows P K named types typed copies s));
 }
 
 -- and what keeps all promises of the kernel keeps those of the text
@@ -141,5 +135,5 @@ kernels_carry_wholly L P K named types typed copies meet narrow of_K = record {
       (AgreeWholly L (of_text P) s)
       (agree_wholly P K s L copies (bounds_fit P K (counts_fit typed.text.read.toks P K typed.text.read.derived copies narrow)))
       (of_K.by s good)
-      (refines_so P K s (StandClose P K s) (Close P K s) (close_led P K s) (close P K s) (text_follows_closely P K (calls_end P named types typed) copies s (meet s)));
+      (refines_so P K s (StandClose P K s) (Close P K s) (λ ms ns h. h.alike) (close P K s) (text_follows_closely P K (calls_end P named types typed) copies s (meet s)));
 }

@@ -47,8 +47,8 @@ abbrev pub ArrivalsAgree : Image → (P : Source) → Machine → P.State → Ty
 ArrivalsAgree L P m x =
     (line : ℕ) (pair : Pair) (side : Side) → slice_get L.chans line ≡ Some pair → ArrivesAt m pair side → P.HasArrived x line side
 
--- What is so on both sides at each moment: each core's clock and the trace are the same, whatever stands at an end of a channel has arrived in the
--- program, and both have ended or neither has.
+-- What is so on both sides at each moment: each core's clock and the trace are the same, whatever stands at an end of a channel has
+-- arrived in the program, and both have ended or neither has.
 pub record Agree (L : Image) (P : Source) (m : Machine) (x : P.State) : Type 0 where
   pub clocks : map clock_of m.cores ≡ P.clocks x
   pub trace : m.trace ≡ P.trace x
@@ -71,7 +71,7 @@ pub record IsQuietMachine (L : Image) (s : Stim) (m : Machine) : Type 0 where
   pub steps : (core thread : ℕ) → does L s m (Step core thread) ≡ None
   pub moves : (from to : ℕ) → does L s m (Move from to) ≡ None
 
--- so it is behind some ticks, by the cores whose clocks they are, where each of them is enabled
+-- quiet behind the ticks of these cores, one after the other, where each is enabled
 pub record IsQuietBehind (L : Image) (s : Stim) (m : Machine) (cores : List ℕ) : Type 0 where
   pub quiet : (later : Machine) → runs L s m (map Tick cores) ≡ Some later → IsQuietMachine L s later
 

@@ -18,7 +18,8 @@ use Rattle.xr_match.specs.Sources.{Told, told_of, told_start}
 use Rattle.xr_match.specs.Systems.{SomeIs, concat, leads}
 
 -- The machine and the program stand in a relation now, and again behind each event and its piece of the program's run.
-abbrev pub MatchAlong : (Machine → World → Type 0) → Image → List tree.Item → Stim → Machine → World → List Event → List (List Action) → Type 0
+abbrev pub MatchAlong :
+    (Machine → World → Type 0) → Image → List tree.Item → Stim → Machine → World → List Event → List (List Action) → Type 0
 MatchAlong R L P s m x [] [] = R m x
 MatchAlong R L P s m x (event ∷ events) (piece ∷ pieces) =
     R m x × SomeIs (does L s m event) (λ n. SomeIs (acts_all (copy_of P) s (Some x) piece) (λ y. MatchAlong R L P s n y events pieces))
@@ -27,7 +28,8 @@ MatchAlong R L P s m x (event ∷ events) [] = ⊥
 
 -- A run of the program beside the events that led the machine from its start to m. It is cut into a first piece and one for each event,
 -- the two stand in the relation after the first piece and after each event and its piece, and so they do in the end.
-pub record MatchingRun (R : Machine → World → Type 0) (L : Image) (P : List tree.Item) (s : Stim) (events : List Event) (m : Machine) : Type 0 where
+pub record MatchingRun (R : Machine → World → Type 0) (L : Image) (P : List tree.Item) (s : Stim) (events : List Event) (m : Machine) :
+    Type 0 where
   pub first : List Action
   pub pieces : List (List Action)
   pub along : SomeIs (program_run P s first) (λ x. MatchAlong R L P s (boot L) x events pieces)

@@ -69,14 +69,20 @@ of_kernel K = of_worlds K (kernel_start K) (kernel_bound K)
 abbrev pub of_text : List tree.Item → Source
 of_text P = of_worlds (copy_of P) (program_start P) (program_bound P)
 
+-- An image implements wholly each typed program of which this is the kernel.
+abbrev pub ImplementsTextsOf : Image → kernel.Kernel → Type 0
+ImplementsTextsOf L K =
+    (P : List tree.Item) (named : NamedProgram) (types : List Bool) →
+    IsTyped P named types → Copies P K → ImplementsWholly L (of_text P)
+
 -- What implements the kernel of a program that breaks no rule of names, types and shapes implements its text.
 abbrev pub KernelsCarry : Type 0
 KernelsCarry =
     (L : Image) (P : List tree.Item) (K : kernel.Kernel) (named : NamedProgram) (types : List Bool) →
     IsTyped P named types → Copies P K → Implements L (of_kernel K) → Implements L (of_text P)
 
--- Where besides each exit of the kernel meets its mark, and no `par` of it has more than eight branches, what keeps all that an image promises
--- of the kernel keeps it of the text.
+-- Where besides each exit of the kernel meets its mark, and no `par` of it has more than eight branches, what keeps all that an image
+-- promises of the kernel keeps it of the text.
 abbrev pub KernelsCarryWholly : Type 0
 KernelsCarryWholly =
     (L : Image) (P : List tree.Item) (K : kernel.Kernel) (named : NamedProgram) (types : List Bool) →
