@@ -1,6 +1,6 @@
 -- How many parts the code of a copy has, by what the program counts: three times as many are at most ten for each node of an
 -- expression and ten for each statement, and three for each word that is counted.
-use Rattle.std.proofs.Common.{◌≡◌, ◌∙◌, ℕ, zero, suc, ◌+◌, ◌-◌, ◌*◌, ◌≤◌, Bool, true, false, List, [], ◌∷◌, ◌++◌, length, sum_by, slice_get, Option, Some, None, nat_eq, option_map, refl, sym, ap, subst, arith}
+use Rattle.std.proofs.Common.{◌≡◌, ℕ, zero, suc, ◌+◌, ◌-◌, ◌*◌, ◌≤◌, Bool, true, false, List, [], ◌∷◌, ◌++◌, length, sum_by, slice_get, Option, Some, None, nat_eq, option_map, refl, ap, subst, arith}
 use Rattle.std.proofs.Math.Nat.{suc-mul}
 use Rattle.std.proofs.lemmas.Bool.{eq-eqb}
 use Rattle.std.proofs.lemmas.List.Sums.{sum_by-cons, sum_by-append}
@@ -17,17 +17,17 @@ use Rattle.xc_kernel.specs.Paths.{Path, path_at}
 use Rattle.xc_kernel.specs.Numbering.{Numbering, variable_number}
 use Rattle.xc_kernel.specs.Scopes.{Scope, Entity, a_word, an_array, an_element, a_channel, a_timer, a_port, a_constant, nothing_known, entity_of, with_name}
 use Rattle.xc_kernel.specs.Programs.{Function, function_named, count_within}
-use Rattle.xc_kernel.specs.Expressions.{expression_in, kernel_place, place_of_entity, word_of_entity, updated}
+use Rattle.xc_kernel.specs.Expressions.{expression_in, kernel_place, place_of_entity, word_of_entity}
 use Rattle.xc_kernel.specs.Counts as counts
 use Rattle.xc_kernel.specs.Nodes as nodes
-use Rattle.xc_kernel.specs.Copy.{Copy, no_copy, one_statement, joined, with_code}
+use Rattle.xc_kernel.specs.Copy.{Copy, one_statement, joined}
 use Rattle.xc_kernel.specs.Context.{Context, in_branch, in_loop, in_case, in_function, expression, place, set_word, set_zero, leave}
 use Rattle.xc_kernel.specs.Parameters.{passed, by_element, form_by_reference, by_name, all_passed}
-use Rattle.xc_kernel.specs.Calls.{CopiesCall, instance_of, result_copy, body_copy, function_copy, path_of_call, called, call_by, call_copy, value_of, right_copy, right_is_unsigned}
+use Rattle.xc_kernel.specs.Calls.{CopiesCall, result_copy, body_copy, function_copy, path_of_call, called, call_by, call_copy, value_of, right_copy}
 use Rattle.xc_kernel.specs.Declarations.{kind_copy, declarations_copy}
-use Rattle.xc_kernel.specs.Transfers.{time_of, stamp_of, condition_of, output_of, target_copy, target_of, behind_target, input_of, input_names}
-use Rattle.xc_kernel.specs.Flow.{Cased, and_case, case_made, case_scope, for_parts, replicated, numbered_copy, test_or_true}
-use Rattle.xc_kernel.specs.Statements.{assign_by, update_copy, return_copy, statement_copy, action_copy, maybe_copy, statements_copy, branch_copy, branches_copy, cases_copy, calls_copy, pos_of_branch}
+use Rattle.xc_kernel.specs.Transfers.{time_of, stamp_of, condition_of, output_of, target_of, behind_target, input_of, input_names}
+use Rattle.xc_kernel.specs.Flow.{Cased, and_case, case_scope, for_parts, replicated, numbered_copy, test_or_true}
+use Rattle.xc_kernel.specs.Statements.{assign_by, return_copy, statement_copy, action_copy, maybe_copy, statements_copy, branch_copy, branches_copy, cases_copy, calls_copy, pos_of_branch}
 use Rattle.xc_formed.specs.Parts as parts
 use Rattle.xc_formed.specs.Parts.{words_of}
 use Rattle.xc_disjoint.specs.Cores.{if_so, on_core}

@@ -1,12 +1,11 @@
 -- How many parts the roots of a kernel have, where each has a core, and no core has more words than it may.
-use Rattle.std.proofs.Common.{◌≡◌, ◌∙◌, ℕ, zero, suc, ◌+◌, ◌-◌, ◌*◌, ◌<◌, ◌≤◌, ◌⊎◌, inl, inr, Bool, true, false, List, [], ◌∷◌, ◌++◌, length, Option, Some, None, nat_le, Contains, slice_get, refl, sym, ap, subst, arith}
+use Rattle.std.proofs.Common.{◌≡◌, ◌∙◌, ℕ, zero, suc, ◌+◌, ◌-◌, ◌*◌, ◌≤◌, inl, inr, Bool, true, false, List, [], ◌∷◌, ◌++◌, length, Option, Some, None, nat_le, Contains, slice_get, refl, sym, ap, subst, arith}
 use Rattle.std.proofs.Math.Nat.{suc-mul}
 use Rattle.std.proofs.lemmas.Bool.{cases_lt, leb-true}
 use Rattle.xw_words.specs.declared.pos.Pos.{Pos}
 use Rattle.xc_tree.specs.Plain as tree
 use Rattle.xc_kernel.specs.declared.kernel.Var.{Var}
 use Rattle.xc_kernel.specs.Plain as kernel
-use Rattle.xc_kernel.specs.Paths.{path_at}
 use Rattle.xc_kernel.specs.Numbering.{Numbering, no_numbering, path_of_variable, variable_number}
 use Rattle.xc_kernel.specs.Values.{Value, word, error}
 use Rattle.xc_kernel.specs.Scopes.{Scope, a_constant, with_name}
@@ -21,9 +20,8 @@ use Rattle.xc_kernel.specs.Ports.{core_by, core_of_value, core_of}
 use Rattle.xc_kernel.specs.Expressions.{eval_in}
 use Rattle.xc_kernel.specs.Roots.{Rooted, and_roots, branch_root, branch_roots, root_in_scope_of, numbered_roots, action_roots, block_roots, in_block, roots_by, roots_of, block_has_placed, context_of}
 use Rattle.xc_kernel.specs.Copies.{calls_of, rooted, numbering, copy_of}
-use Rattle.xc_kernel.specs.Sound.{IsOfText, IsOfProgram}
+use Rattle.xc_kernel.specs.Sound.{IsOfText}
 use Rattle.xc_disjoint.specs.Cores.{last_core, no_core}
-use Rattle.xc_disjoint.specs.Checked.{IsChecked}
 use Rattle.xc_disjoint.specs.Needs as needs
 use Rattle.xc_disjoint.specs.Rules as rules
 use Rattle.xc_disjoint.specs.Rules.{most_words}

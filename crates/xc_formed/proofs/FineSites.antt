@@ -30,7 +30,7 @@ unless : (b : Bool) (p : Pos) → (Contains (broken_unless b p) p → ⊥) → b
 unless true p h = refl
 unless false p h = absurd (h (0, omega arith, refl))
 
-where_not : (b : Bool) (p : Pos) → (Contains (broken_where b p) p → ⊥) → b ≡ false
+pub where_not : (b : Bool) (p : Pos) → (Contains (broken_where b p) p → ⊥) → b ≡ false
 where_not false p h = refl
 where_not true p h = absurd (h (0, omega arith, refl))
 

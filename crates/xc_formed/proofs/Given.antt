@@ -1,29 +1,19 @@
 -- What parameters stand for.
-use Rattle.std.proofs.Common.{◌≡◌, ℕ, zero, suc, ◌<◌, Bool, true, false, List, [], ◌∷◌, Option, Some, None, slice_get, bytes_eq, refl, sym, ap, subst, ◌∙◌, arith}
+use Rattle.std.proofs.Common.{◌≡◌, zero, suc, Bool, [], ◌∷◌, Option, Some, None, refl, ap, ◌∙◌, arith}
 use Rattle.std.proofs.lemmas.Slice.Eq.{bytes_eq-Decides}
-use Rattle.xw_words.specs.declared.pos.Pos.{Pos}
 use Rattle.xc_tree.specs.declared.tree.Param.{Param}
-use Rattle.xc_tree.specs.declared.tree.ParamKind.{ParamKind}
 use Rattle.xc_tree.specs.declared.tree.ParamKind.TheVariants.{Value, Ref, Array, End, Port}
 use Rattle.xc_tree.specs.Plain as tree
-use Rattle.xc_tree.specs.Types.Named.{NamedProgram}
-use Rattle.xc_tree.specs.Types.Words as words
 use Rattle.xc_kernel.specs.Plain as kernel
-use Rattle.xc_kernel.specs.Values as values
-use Rattle.xc_kernel.specs.Eval.{Store, eval}
-use Rattle.xc_kernel.specs.Paths.{Path, path_at}
+use Rattle.xc_kernel.specs.Eval.{eval}
 use Rattle.xc_kernel.specs.Numbering.{Numbering}
-use Rattle.xc_kernel.specs.Scopes.{Scope, Entity, a_word, an_array, an_element, entity_by, entity_of}
+use Rattle.xc_kernel.specs.Scopes.{entity_by, entity_of}
 use Rattle.xc_kernel.specs.Expressions.{expression_in}
-use Rattle.xc_kernel.specs.Context.{Context, word_at, set_word}
-use Rattle.xc_kernel.specs.Parameters.{Passed, stands_for, index_test, by_element, passed, all_passed}
+use Rattle.xc_kernel.specs.Context.{word_at}
+use Rattle.xc_kernel.specs.Parameters.{Passed, index_test, by_element, passed, all_passed}
 use Rattle.xc_kernel.specs.Programs.{Function}
 use Rattle.xc_kernel.specs.Calls.{path_of_result}
-use Rattle.xc_kernel.specs.Copies.{numbering}
-use Rattle.xc_meaning.specs.Texts.Words.{index_value}
-use Rattle.xc_formed.specs.Sources.{Where}
-use Rattle.xc_formed.specs.Words.{ValueOf}
-use Rattle.xc_formed.specs.Given.{IsStored, ValuesGiven, ElementsGiven, NamesGiven, EachByItsOwn, ResultIsReturned}
+use Rattle.xc_formed.specs.Given.{ValuesGiven, ElementsGiven, NamesGiven, EachByItsOwn, ResultIsReturned}
 use Rattle.xc_formed.proofs.Worded.{words_kept, keeps_index}
 
 pub values_given : ValuesGiven

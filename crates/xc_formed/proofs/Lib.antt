@@ -35,6 +35,6 @@ pub mod Stored
 pub mod Left
 pub mod Few
 pub mod FewRoots
-pub mod Lows
-pub mod Narrow
+pub mod RootCores
+pub mod ParWidth
 pub mod KernelExamples

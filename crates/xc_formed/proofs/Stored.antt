@@ -1,12 +1,10 @@
 -- Where the words and the stamps of transfers go.
-use Rattle.std.proofs.Common.{◌≡◌, ℕ, Option, Some, None, option_map, ap, ◌∙◌}
+use Rattle.std.proofs.Common.{◌≡◌, Option, Some, option_map, ap, ◌∙◌}
 use Rattle.xc_tree.specs.Plain as tree
-use Rattle.xc_kernel.specs.Plain as kernel
 use Rattle.xc_kernel.specs.Eval.{Store}
 use Rattle.xc_kernel.specs.Numbering.{Numbering}
 use Rattle.xc_kernel.specs.Scopes.{Scope}
 use Rattle.xc_kernel.specs.Expressions.{kernel_place}
-use Rattle.xc_kernel.specs.Context.{Context}
 use Rattle.xc_kernel.specs.Transfers.{stamp_of, target_of}
 use Rattle.xc_meaning.specs.Settings.Stores.{Spot}
 use Rattle.xc_meaning.specs.Texts.Words.{spot_of_place}

@@ -1,5 +1,5 @@
 -- The words of the kernel's expressions are those of the text's, by the types that `unsigned_at` tells.
-use Rattle.std.proofs.Common.{◌≡◌, ℕ, ◌+◌, Bool, true, false, ◌||◌, List, [], ◌∷◌, length, map, Option, Some, slice_get, refl, sym, ap, subst, ◌∙◌}
+use Rattle.std.proofs.Common.{◌≡◌, ℕ, ◌+◌, Bool, true, ◌||◌, List, [], ◌∷◌, length, map, Option, refl, sym, ap, subst, ◌∙◌}
 use Rattle.xw_words.specs.declared.pos.Pos.{Pos}
 use Rattle.xc_tree.specs.declared.names.What.{What}
 use Rattle.xc_tree.specs.Names.Marks as marks
@@ -8,7 +8,6 @@ use Rattle.xc_tree.specs.Types.Named.{NamedProgram, past, what_of}
 use Rattle.xc_tree.specs.Symbols.{bracket}
 use Rattle.xc_tree.specs.Types.Words as words
 use Rattle.xc_kernel.specs.declared.kernel.PortUse.{PortUse}
-use Rattle.xc_kernel.specs.declared.kernel.Var.{Var}
 use Rattle.xc_kernel.specs.Plain as kernel
 use Rattle.xc_kernel.specs.Operators.{choose, operator_at, operator_of}
 use Rattle.xc_kernel.specs.Types.{operation_is_unsigned}
@@ -16,19 +15,18 @@ use Rattle.xc_kernel.specs.Values.{Value, word, error, applied}
 use Rattle.xc_kernel.specs.Eval.{Store, words_of, eval}
 use Rattle.xc_kernel.specs.Paths.{Path}
 use Rattle.xc_kernel.specs.Numbering.{Numbering, variable_number}
-use Rattle.xc_kernel.specs.Scopes.{Scope, Entity, a_word, an_array, an_element, a_channel, a_timer, a_port, a_constant, nothing_known, entity_of, is_unsigned}
+use Rattle.xc_kernel.specs.Scopes.{Scope, Entity, an_array, entity_of, is_unsigned}
 use Rattle.xc_kernel.specs.Expressions.{expression_in, kernel_place, updated, two_operands}
-use Rattle.xc_kernel.specs.Context.{Context, expression}
+use Rattle.xc_kernel.specs.Context.{Context}
 use Rattle.xc_kernel.specs.Parameters.{index_test}
 use Rattle.xc_kernel.specs.Programs.{Function, functions, ports}
 use Rattle.xc_kernel.specs.Ports.{port_use}
 use Rattle.xc_kernel.specs.Copies.{numbering}
 use Rattle.xc_meaning.specs.Texts.Words.{array_variable, index_below, spot_of_place, value, value_of_form, updated_value, index_value, spot}
 use Rattle.xc_meaning.proofs.Words.{entity_value, entity_spot, element_is, array_spot}
-use Rattle.xc_formed.specs.Operands.{IsProper}
-use Rattle.xc_formed.specs.Stacks.{Resolves, found}
+use Rattle.xc_formed.specs.Stacks.{found}
 use Rattle.xc_formed.specs.Standing.{AnyPath, HasVariable, Stands, a_variable, whole_array, word_referred, element_referred, array_referred, the_channel, the_end, the_timer, the_port, port_given, the_index, the_function, none_there}
-use Rattle.xc_formed.specs.Sources.{typed, typed_form, typed_place, Where}
+use Rattle.xc_formed.specs.Sources.{typed, typed_form, Where}
 use Rattle.xc_formed.specs.Words.{HasWords, StandsHere, WordsKept, UpdatesKept, StepsKept, SpotsKept}
 use Rattle.xc_formed.proofs.Sourced as sourced
 

@@ -44,7 +44,7 @@ pub fn kernels_are_formed()
 
 /// No `par` of a kernel that breaks no rule has more than eight branches, and its greatest count is at
 /// most four times that of its program's statements and function heads.
-#[tactic(auto, using(crate::proofs::Narrow::pars_are_narrow, crate::proofs::Narrow::checked_counts_fit))]
+#[tactic(auto, using(crate::proofs::ParWidth::pars_are_narrow, crate::proofs::ParWidth::checked_counts_fit))]
 pub fn counts_are_few()
     ensures narrow { ParsNarrow }
     ensures counts { CheckedCountsFit }

@@ -40,23 +40,16 @@ use Rattle.xc_kernel.specs.Parameters.{Passed, passed, all_passed, by_element, f
 use Rattle.xc_kernel.specs.Calls.{CopiesCall}
 use Rattle.xc_kernel.specs.Transfers.{output_of, input_of}
 use Rattle.xc_tree.specs.Shapes.Main.{is_channels_par_return, place_branches, statements_in}
+pub use Rattle.xc_meaning.proofs.Counting.GreatestCount.{AllIn, both}
 use Rattle.xc_formed.specs.Stacks.{declared_at, Frame, Stack, decl_by, found, with_decl, after, IsFresh, Resolves}
 use Rattle.xc_formed.specs.Standing.{InstanceOf, IsInstance, IsTold, HasVariable, HasChannel, HasTimer, head_of, Stands, a_variable, whole_array, word_referred, element_referred, array_referred, the_channel, the_end, the_timer, the_port, port_given, the_index, the_function, none_there, Agrees}
 use Rattle.xc_formed.specs.Each.{EachStatement, EachOf}
 use Rattle.xc_formed.proofs.Shaped.{WaitsRight, ShapedArguments}
 use Rattle.xc_formed.proofs.Stacks.{quiet_split, quiet_argument}
 
-abbrev pub AllIn : {A : Type 0} → (A → Type 0) → List A → Type 0
-AllIn P [] = Unit {0}
-AllIn P (x ∷ xs) = P x × AllIn P xs
-
 pub split : {A : Type 0} (P : A → Type 0) (xs ys : List A) → AllIn P (xs ++ ys) → AllIn P xs × AllIn P ys
 split P [] ys h = (tt, h)
 split P (x ∷ xs) ys h = let g = split P xs ys h.1 in ((h.0, g.0), g.1)
-
-pub both : {A : Type 0} (P : A → Type 0) (xs ys : List A) → AllIn P xs → AllIn P ys → AllIn P (xs ++ ys)
-both P [] ys h g = g
-both P (x ∷ xs) ys h g = (h.0, both P xs ys h.1 g)
 
 abbrev pub AllFit : List Argument → Type 0
 AllFit [] = Unit {0}
