@@ -18,7 +18,7 @@ use Rattle.xc_tree.specs.Shapes.Rules.{channels, are_one, rule_501, rule_502, ru
 use Rattle.xc_tree.specs.Checks.{rules, rule, Breaks}
 use Rattle.xc_formed.proofs.Walk.Arguments.{AllIn, AllFit, IsFine}
 
-all_by_place : {A : Type 0} (P : A → Type 0) (xs : List A) → ((i : ℕ) (x : A) → slice_get xs i ≡ Some x → P x) → AllIn P xs
+pub all_by_place : {A : Type 0} (P : A → Type 0) (xs : List A) → ((i : ℕ) (x : A) → slice_get xs i ≡ Some x → P x) → AllIn P xs
 all_by_place P [] k = tt
 all_by_place P (x ∷ xs) k = (k 0 x refl, all_by_place P xs (λ i y e. k (suc i) y e))
 

@@ -38,18 +38,7 @@ use Rattle.xc_kernel.specs.Roots as roots
 use Rattle.xc_kernel.specs.Ports.{core_of, scope_of_ports}
 use Rattle.xc_kernel.specs.Copies.{rooted, numbering, copy_of, Copies}
 use Rattle.xc_meaning.proofs.Basics.{true_or_false}
-
-abbrev AllIn : {A : Type 0} → (A → Type 0) → List A → Type 0
-AllIn P [] = Unit {0}
-AllIn P (x ∷ xs) = P x × AllIn P xs
-
-split : {A : Type 0} (P : A → Type 0) (xs ys : List A) → AllIn P (xs ++ ys) → AllIn P xs × AllIn P ys
-split P [] ys h = (tt, h)
-split P (x ∷ xs) ys h = let g = split P xs ys h.1 in ((h.0, g.0), g.1)
-
-both : {A : Type 0} (P : A → Type 0) (xs ys : List A) → AllIn P xs → AllIn P ys → AllIn P (xs ++ ys)
-both P [] ys h g = g
-both P (x ∷ xs) ys h g = (h.0, both P xs ys h.1 g)
+use Rattle.xc_formed.proofs.Walk.Arguments.{AllIn, split, both}
 
 -- a path that is there has a place below the length
 below_by : (b : Bool) (n m : ℕ) (h : Bool) → (h ≡ true → n < m) → (b || h) ≡ true → place_by b n < suc m

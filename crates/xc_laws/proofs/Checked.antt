@@ -16,12 +16,12 @@ use Rattle.xc_formed.proofs.Formed.{of_programs}
 use Rattle.xc_laws.specs.Placed.{IsFresh, AnyInside, ends_of, IfLively}
 use Rattle.xc_laws.specs.Nested.{StandsInside, EachInside}
 use Rattle.xc_laws.specs.Rules.{AnyPar, AnyTransaction}
-use Rattle.xc_laws.specs.Lawful.{UsesOwnPorts, CheckedObey, Fresh, FreshHolds, InsideHolds, EndsAreBehind, InnermostEnds, UsersAreInside, Listed, KernelsAreListed, CheckedListed, Lawful}
+use Rattle.xc_laws.specs.Lawful.{UsesOwnPorts, CheckedObey, Fresh, FreshHolds, InsideHolds, EndsAreBehind, UsersAreInside, Listed, KernelsAreListed, CheckedListed, Lawful}
 use Rattle.xc_laws.proofs.Always.{accepted_obey, ends_use, differ_not, along, laws_begin, laws_hold, listed_holds}
 use Rattle.xc_laws.proofs.Channels.{copies_are_listed}
 use Rattle.xc_laws.proofs.Formed.{fresh_blocks, transactions_listed}
 use Rattle.xc_laws.proofs.Placed.{placed_kept, placed_begins}
-use Rattle.xc_laws.proofs.Nested.{inside_kept, inside_begins, end_is_behind, innermost_of, ends_inside, above_stands, all_below}
+use Rattle.xc_laws.proofs.Nested.{inside_kept, inside_begins, end_is_behind, ends_inside, above_stands, all_below}
 use Rattle.xc_laws.proofs.Trees.{running_waits_not, above_waits}
 use Rattle.xc_laws.proofs.Links.{items_have}
 use Rattle.xc_meaning.proofs.Basics.{some_given, none_given, same_or_not}
@@ -70,10 +70,6 @@ pub ends_are_behind : EndsAreBehind
 ends_are_behind K s ms x k e n b is em c u =
     let h = inside_holds K s ms x k e in
     end_is_behind (length K.roots) x.branches (laws_hold K s ms x (checked_obey K k) e).forest h n b (stands_running K x h n b is em) c u
-
-pub innermost_ends : InnermostEnds
-innermost_ends K s ms x k e n b is em c is_master pos rest ei =
-    innermost_of (length K.roots) x.branches n b rest c (stands_running K x (inside_holds K s ms x k e) n b is em) (ap ends_of ei)
 
 -- and its channels are listed
 pub kernels_are_listed : KernelsAreListed

@@ -34,16 +34,10 @@ use Rattle.xc_tree.specs.Shapes.Rules.{rule_501, rule_502}
 use Rattle.xc_kernel.specs.Sound.{IsTyped}
 use Rattle.xc_kernel.specs.Branches.{branches_of}
 use Rattle.xc_laws.specs.Placed.{AnyBlock, AnyInside, PlacedStatement, PlacedStatements, PlacedCases, PlacedDefault, PlacedBranches, IsPlaced}
+use Rattle.xc_formed.proofs.FineSites.{all_by_place}
+use Rattle.xc_formed.proofs.Walk.Arguments.{AllIn, split}
 use Rattle.xc_laws.proofs.Lookups.{within}
 use Rattle.xc_meaning.proofs.Basics.{true_or_false, some_given, none_given, same_number, or_left, or_right}
-
-abbrev AllIn : {A : Type 0} → (A → Type 0) → List A → Type 0
-AllIn P [] = Unit {0}
-AllIn P (x ∷ xs) = P x × AllIn P xs
-
-split : {A : Type 0} (P : A → Type 0) (xs ys : List A) → AllIn P (xs ++ ys) → AllIn P xs × AllIn P ys
-split P [] ys h = (tt, h)
-split P (x ∷ xs) ys h = let g = split P xs ys h.1 in ((h.0, g.0), g.1)
 
 -- what the rules on `break`, `continue` and `return` ask
 abbrev pub IsFine : Site → Type 0
@@ -401,10 +395,6 @@ copy_placed P n h =
     }
 
 -- What the rules on `break`, `continue` and `return` promise.
-
-all_by_place : {A : Type 0} (P : A → Type 0) (xs : List A) → ((i : ℕ) (x : A) → slice_get xs i ≡ Some x → P x) → AllIn P xs
-all_by_place P [] k = tt
-all_by_place P (x ∷ xs) k = (k 0 x refl, all_by_place P xs (λ i y e. k (suc i) y e))
 
 there : {A : Type 0} (xs : List A) (i : ℕ) (x : A) → slice_get xs i ≡ Some x → Contains xs x
 there xs i x e = (i, within xs i e, get_or_from_slice_get xs i x x e)

@@ -22,21 +22,10 @@ use Rattle.xc_apart.specs.Clashes.{Clash, changed, used, of_port, of_timer, rule
 use Rattle.xc_disjoint.specs.Disjoint.{NotApart, clash, without_sides}
 use Rattle.xc_sides.specs.Rules.{IsUser, IsInnermost, third, one_sided, second_inside}
 use Rattle.xc_meaning.proofs.Basics.{some_given, none_given, true_or_false, same_or_not}
+use Rattle.xc_formed.proofs.FineSites.{all_by_place}
+use Rattle.xc_formed.proofs.Walk.Arguments.{AllIn, split}
 use Rattle.xc_laws.proofs.Unsided.{unused_statement, unused_statements, unused_branches, no_users}
 use Rattle.xc_laws.specs.Channels.{IsListed}
-
--- of each of a list
-abbrev AllIn : {A : Type 0} → (A → Type 0) → List A → Type 0
-AllIn P [] = Unit {0}
-AllIn P (x ∷ xs) = P x × AllIn P xs
-
-all_in : {A : Type 0} (P : A → Type 0) (xs : List A) → ((i : ℕ) (x : A) → slice_get xs i ≡ Some x → P x) → AllIn P xs
-all_in P [] h = tt
-all_in P (x ∷ xs) h = (h 0 x refl, all_in P xs (λ i y e. h (suc i) y e))
-
-all_split : {A : Type 0} (P : A → Type 0) (xs ys : List A) → AllIn P (xs ++ ys) → AllIn P xs × AllIn P ys
-all_split P [] ys h = (tt, h)
-all_split P (x ∷ xs) ys h = let g = all_split P xs ys h.1 in ((h.0, g.0), g.1)
 
 -- What holds of each `par` by the list of them.
 module _ (Q : kernel.Branches → Type 0) where
@@ -88,24 +77,24 @@ module _ (Q : kernel.Branches → Type 0) where
     every_statement (kernel.set p e) h = (any_target p, any_expression e)
     every_statement (kernel.output o) h = any_output o
     every_statement (kernel.input input) h = any_input input
-    every_statement (kernel.if_then e a b) h = let g = all_split Q (pars.of_statements a) (pars.of_statements b) h in (any_expression e, every_statements a g.0, every_statements b g.1)
-    every_statement (kernel.loop e a b) h = let g = all_split Q (pars.of_statements a) (pars.of_statements b) h in (any_expression e, every_statements a g.0, every_statements b g.1)
+    every_statement (kernel.if_then e a b) h = let g = split Q (pars.of_statements a) (pars.of_statements b) h in (any_expression e, every_statements a g.0, every_statements b g.1)
+    every_statement (kernel.loop e a b) h = let g = split Q (pars.of_statements a) (pars.of_statements b) h in (any_expression e, every_statements a g.0, every_statements b g.1)
     every_statement (kernel.block n a) h = every_statements a h
     every_statement (kernel.exit n) h = tt
-    every_statement (kernel.select cs d pos) h = let g = all_split Q (pars.of_cases cs) (pars.of_default d) h in (every_cases cs g.0, every_default d g.1)
+    every_statement (kernel.select cs d pos) h = let g = split Q (pars.of_cases cs) (pars.of_default d) h in (every_cases cs g.0, every_default d g.1)
     every_statement (kernel.par bs) h = (h.0, every_branches bs h.1)
     every_statement (kernel.transaction c is_master a start close) h = (tt, tt, every_statements a h)
 
     every_statements : (ss : kernel.Statements) → AllIn Q (pars.of_statements ss) → EveryStatements AnyThing Q AnyTransaction ss
     every_statements kernel.no_more h = tt
-    every_statements (kernel.more s ss) h = let g = all_split Q (pars.of_statement s) (pars.of_statements ss) h in (every_statement s g.0, every_statements ss g.1)
+    every_statements (kernel.more s ss) h = let g = split Q (pars.of_statement s) (pars.of_statements ss) h in (every_statement s g.0, every_statements ss g.1)
 
     every_case : (c : kernel.Case) → AllIn Q (pars.of_case c) → EveryCase AnyThing Q AnyTransaction c
     every_case (kernel.case guard input a) h = (any_some_expression guard, any_input input, every_statements a h)
 
     every_cases : (cs : kernel.Cases) → AllIn Q (pars.of_cases cs) → EveryCases AnyThing Q AnyTransaction cs
     every_cases kernel.no_case h = tt
-    every_cases (kernel.more_cases c cs) h = let g = all_split Q (pars.of_case c) (pars.of_cases cs) h in (every_case c g.0, every_cases cs g.1)
+    every_cases (kernel.more_cases c cs) h = let g = split Q (pars.of_case c) (pars.of_cases cs) h in (every_case c g.0, every_cases cs g.1)
 
     every_default : (d : kernel.Default) → AllIn Q (pars.of_default d) → EveryDefault AnyThing Q AnyTransaction d
     every_default kernel.no_default h = tt
@@ -116,7 +105,7 @@ module _ (Q : kernel.Branches → Type 0) where
 
     pub every_branches : (bs : kernel.Branches) → AllIn Q (pars.of_branches bs) → EveryBranches AnyThing Q AnyTransaction bs
     every_branches kernel.no_branch h = tt
-    every_branches (kernel.more_branches b bs) h = let g = all_split Q (pars.of_branch b) (pars.of_branches bs) h in (every_branch b g.0, every_branches bs g.1)
+    every_branches (kernel.more_branches b bs) h = let g = split Q (pars.of_branch b) (pars.of_branches bs) h in (every_branch b g.0, every_branches bs g.1)
 
 -- A channel is used where it is used at least once.
 module _ (c : ℕ) where
@@ -268,7 +257,7 @@ module _ (c : ℕ) where
         AllIn IsGood (pars.of_statements a ++ pars.of_statements b) → SomeHolds (pars.of_statements a ++ pars.of_statements b) → count_of c (uses.of_statements a ++ uses.of_statements b) ≤ all →
         UnsidedStatements c a × UnsidedStatements c b
     two_unsided a b ra rb g h le =
-        let k = all_split IsGood (pars.of_statements a) (pars.of_statements b) g in
+        let k = split IsGood (pars.of_statements a) (pars.of_statements b) g in
         let e = count_append c (uses.of_statements a) (uses.of_statements b) in
         ⊎_elim
         (λ i. (ra k.0 i (omega arith), unused_code b (parts (uses.of_statements a) (uses.of_statements b) le (some_most (count_of c (uses.of_statements a)) (pars.of_statements a) (most_statements a) i))))
@@ -292,7 +281,7 @@ module _ (c : ℕ) where
       unsided_statement (kernel.block n a) g h le = unsided_statements a g h le
       unsided_statement (kernel.exit n) g h le = tt
       unsided_statement (kernel.select cs d pos) g h le =
-          let k = all_split IsGood (pars.of_cases cs) (pars.of_default d) g in
+          let k = split IsGood (pars.of_cases cs) (pars.of_default d) g in
           let e = count_append c (uses.of_cases cs) (uses.of_default d) in
           ⊎_elim
           (λ i. (unsided_cases cs k.0 i (omega arith), no_default d (parts (uses.of_cases cs) (uses.of_default d) le (some_most (count_of c (uses.of_cases cs)) (pars.of_cases cs) (most_cases cs) i))))
@@ -308,7 +297,7 @@ module _ (c : ℕ) where
       unsided_statements : (ss : kernel.Statements) → AllIn IsGood (pars.of_statements ss) → SomeHolds (pars.of_statements ss) → count_of c (uses.of_statements ss) ≤ all → UnsidedStatements c ss
       unsided_statements kernel.no_more g h le = tt
       unsided_statements (kernel.more s ss) g h le =
-          let k = all_split IsGood (pars.of_statement s) (pars.of_statements ss) g in
+          let k = split IsGood (pars.of_statement s) (pars.of_statements ss) g in
           let e = count_append c (uses.of_statement s) (uses.of_statements ss) in
           ⊎_elim
           (λ i. (unsided_statement s k.0 i (omega arith), unused_code ss (parts (uses.of_statement s) (uses.of_statements ss) le (some_most (count_of c (uses.of_statement s)) (pars.of_statement s) (most_statement s) i))))
@@ -318,7 +307,7 @@ module _ (c : ℕ) where
       unsided_cases : (cs : kernel.Cases) → AllIn IsGood (pars.of_cases cs) → SomeHolds (pars.of_cases cs) → count_of c (uses.of_cases cs) ≤ all → UnsidedCases c cs
       unsided_cases kernel.no_case g h le = tt
       unsided_cases (kernel.more_cases (kernel.case guard input a) cs) g h le =
-          let k = all_split IsGood (pars.of_statements a) (pars.of_cases cs) g in
+          let k = split IsGood (pars.of_statements a) (pars.of_cases cs) g in
           let e = count_append c (uses.of_input input ∷ uses.of_statements a) (uses.of_cases cs) in
           let f = count_append c (uses.of_input input ∷ []) (uses.of_statements a) in
           ⊎_elim
@@ -335,7 +324,7 @@ module _ (c : ℕ) where
       unsided_branches : (bs : kernel.Branches) → AllIn IsGood (pars.of_branches bs) → SomeHolds (pars.of_branches bs) → uses_in c bs ≤ all → UnsidedBranches c bs
       unsided_branches kernel.no_branch g h le = tt
       unsided_branches (kernel.more_branches (kernel.branch a pos) bs) g h le =
-          let k = all_split IsGood (pars.of_statements a) (pars.of_branches bs) g in
+          let k = split IsGood (pars.of_statements a) (pars.of_branches bs) g in
           let e = count_append c (uses.of_statements a) (uses.of_branches bs) in
           ⊎_elim
           (λ i. (unsided_statements a k.0 i (omega arith), unused_branches c bs (unused_of c (by_branches (channel c) bs) (uses_in c bs) (branches_use c bs) (parts (uses.of_statements a) (uses.of_branches bs) le (some_most (count_of c (uses.of_statements a)) (pars.of_statements a) (most_statements a) i)))))
@@ -393,7 +382,7 @@ module _ (K : kernel.Kernel) (unbroken : (b : Broken) → NotApart K b → ⊥) 
   pub unbroken_apart : IsApart K
   unbroken_apart = record {
     roots = apart_par 0 roots refl;
-    inside = every_branches AllApart roots (all_in AllApart (pars.of_branches roots) (λ i bs e. apart_par (suc i) bs e));
+    inside = every_branches AllApart roots (all_by_place AllApart (pars.of_branches roots) (λ i bs e. apart_par (suc i) bs e));
   }
 
   module _ (c : ℕ) (lt : c < length K.channels) (positive : 0 < uses_in c roots) where
@@ -417,10 +406,10 @@ module _ (K : kernel.Kernel) (unbroken : (b : Broken) → NotApart K b → ⊥) 
     good place bs e holds none =
         let h : IsInnermost K c bs = record { place = place; is_par = e; used = omega arith; holds = holds; innermost = none } in
         let two = two_of bs h (users c bs) refl in
-        (two, all_in (AtMostOne c) (pars.of_branches bs) (λ i inner f. not_more bs h two i inner f (users c inner) refl))
+        (two, all_by_place (AtMostOne c) (pars.of_branches bs) (λ i inner f. not_more bs h two i inner f (users c inner) refl))
 
     used_sided : UnsidedStatement c (kernel.par roots)
-    used_sided = unsided_statement c (uses_in c roots) positive (kernel.par roots) (all_in (IsGood c (uses_in c roots) positive) (all_pars K) good) (inl refl) (omega arith)
+    used_sided = unsided_statement c (uses_in c roots) positive (kernel.par roots) (all_by_place (IsGood c (uses_in c roots) positive) (all_pars K) good) (inl refl) (omega arith)
 
   pub unbroken_sided : IsSided K
   unbroken_sided = record {

@@ -34,7 +34,7 @@ use Rattle.xc_laws.specs.Sided.{SidedAt, Differ, OtherSides, IsSided}
 use Rattle.xc_laws.specs.Needs.{Budgeted, HasBudget, KeepsBudget, takes, taken_on, needed_on, AreOnce, IsIn, TakesOn, total_of, takes_at, RootCores}
 use Rattle.xc_laws.specs.Placed.{AnyBlock, AnyInside, IsFresh, AreUnused, marks_of, ends_of, open_of, EndsWell, EachPlaced, EachAlone, IsPlaced}
 use Rattle.xc_laws.specs.Nested.{EachInside, EndIsBehind}
-use Rattle.xc_laws.specs.Tidy.{holds_use, AreTidy}
+use Rattle.xc_laws.specs.Tidy.{nested_use, TransactionsAreTidy}
 use Rattle.xc_laws.specs.Within.{inside_on, EachErredAlone, BeginsOrEnds}
 use Rattle.xc_laws.specs.Cores.{UsesHere, IsHere, Grows}
 
@@ -92,16 +92,21 @@ pub record Tidy (x : World) : Type 0 where
   pub alone : EachAlone x.branches
 
 abbrev pub TidyLawsHold : Type 0
-TidyLawsHold = (K : kernel.Kernel) (s : Stim) (ms : List Action) (x : World) → IsChecked K → kernel_run K s ms ≡ Some x → Tidy x
+TidyLawsHold = (K : kernel.Kernel) (s : Stim) (ms : List Action) (x : World) → Obeys K → IsTidy K → kernel_run K s ms ≡ Some x → Tidy x
 
 -- A kernel that is checked is so: in a transaction neither a `par` nor a `select` nor a transaction uses its channel.
 abbrev pub CheckedSpeakAlone : Type 0
-CheckedSpeakAlone = (K : kernel.Kernel) → IsChecked K → AreTidy K
+CheckedSpeakAlone = (K : kernel.Kernel) → IsChecked K → TransactionsAreTidy K
 
 abbrev pub CheckedTidy : Type 0
 CheckedTidy = (K : kernel.Kernel) → IsChecked K → IsTidy K
 
--- A branch that runs stands in a transaction whose end is among its items, or uses nothing of the transaction's channel: a `par` that stood in it made the branch.
+-- So each state of a checked kernel's runs is tidy.
+abbrev pub CheckedTidyHolds : Type 0
+CheckedTidyHolds = (K : kernel.Kernel) (s : Stim) (ms : List Action) (x : World) → IsChecked K → kernel_run K s ms ≡ Some x → Tidy x
+
+-- A branch that runs stands in a transaction whose end is among its items, or uses nothing of the transaction's channel: a `par` that
+-- stood in it made the branch.
 abbrev pub InsideIsOwn : Type 0
 InsideIsOwn =
     (x : World) → Tidy x → (n : ℕ) (b : Branch) → slice_get x.branches n ≡ Some b → b.mode ≡ runs → (c : ℕ) → IsTrue (is_among c b.inside) →
@@ -137,15 +142,6 @@ EndsAreBehind =
     (n : ℕ) (b : Branch) → slice_get x.branches n ≡ Some b → b.mode ≡ runs →
     (c : ℕ) → IsTrue (is_among c b.inside) → EndIsBehind x.branches c n b
 
--- And what a running branch ends next is the innermost transaction in which it stands.
-abbrev pub InnermostEnds : Type 0
-InnermostEnds =
-    (K : kernel.Kernel) (s : Stim) (ms : List Action) (x : World) → IsChecked K →
-    kernel_run K s ms ≡ Some x →
-    (n : ℕ) (b : Branch) → slice_get x.branches n ≡ Some b → b.mode ≡ runs →
-    (c : ℕ) (is_master : Bool) (pos : Pos) (rest : List Item) →
-    b.items ≡ transaction_end c is_master pos ∷ rest → (outer : List ℕ) × (b.inside ≡ c ∷ outer)
-
 -- While a transaction's end is among the items of a branch, each running branch that uses the channel
 -- on the same side stands in the transaction: it is the branch itself, or one below it.
 abbrev pub UsersAreInside : Type 0
@@ -165,7 +161,7 @@ ErredAloneHolds =
     (K : kernel.Kernel) (s : Stim) (ms : List Action) (x : World) → IsChecked K →
     kernel_run K s ms ≡ Some x → (c : ℕ) → c < length K.channels → EachErredAlone c x.branches
 
--- A running branch that uses a channel on a side stands in a transaction on it where some branch on that side does.
+-- A running branch that uses a channel on a side stands in a transaction on it exactly where some branch on that side does.
 abbrev pub InsideAgrees : Type 0
 InsideAgrees =
     (K : kernel.Kernel) (s : Stim) (ms : List Action) (x : World) → IsChecked K →
@@ -189,7 +185,8 @@ EndsOnce =
     kernel_run K s ms ≡ Some x →
     (n : ℕ) (b : Branch) → slice_get x.branches n ≡ Some b → b.mode ≡ runs →
     (c : ℕ) (is_master : Bool) (pos : Pos) (rest : List Item) →
-    b.items ≡ transaction_end c is_master pos ∷ rest → (outer : List ℕ) × ((b.inside ≡ c ∷ outer) × (is_among c outer ≡ false))
+    b.items ≡ transaction_end c is_master pos ∷ rest →
+    (outer : List ℕ) × ((b.inside ≡ c ∷ outer) × (is_among c outer ≡ false))
 
 -- So once it has ended no branch on that side stands in a transaction on the channel.
 abbrev pub EndLeavesNone : Type 0
@@ -243,19 +240,19 @@ is_on c (transaction_end d is_master pos) = nat_eq c d
 is_on c (chooses choices otherwise) = some_choice_on c choices
 is_on c item = false
 
--- whether a `par`, a select or a transaction that is the item, or that it holds, uses a channel; of a select that has begun, its cases
-abbrev pub is_held : ℕ → Item → Bool
-is_held c (does s) = holds_use c s
-is_held c (chooses choices otherwise) = some_choice_on c choices
-is_held c item = false
+-- whether a `par`, a select or a transaction that is the item, or stands in it, uses a channel; of a select that has begun, its cases
+abbrev pub is_nested : ℕ → Item → Bool
+is_nested c (does s) = nested_use c s
+is_nested c (chooses choices otherwise) = some_choice_on c choices
+is_nested c item = false
 
 -- A running branch whose first item is so stands in no transaction on the channel: so it is where it begins one.
-abbrev pub HeldOutside : Type 0
-HeldOutside =
+abbrev pub NestedOutside : Type 0
+NestedOutside =
     (K : kernel.Kernel) (s : Stim) (ms : List Action) (x : World) → IsChecked K →
     kernel_run K s ms ≡ Some x →
     (n : ℕ) (b : Branch) → slice_get x.branches n ≡ Some b → b.mode ≡ runs →
-    (item : Item) (rest : List Item) → b.items ≡ item ∷ rest → (c : ℕ) → IsTrue (is_held c item) →
+    (item : Item) (rest : List Item) → b.items ≡ item ∷ rest → (c : ℕ) → IsTrue (is_nested c item) →
     is_among c b.inside ≡ false
 
 -- A branch has a side of each channel of the kernel's on which its first item is.
