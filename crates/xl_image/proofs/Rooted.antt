@@ -14,7 +14,7 @@ use Rattle.xc_kernel.specs.Calls.{CopiesCall}
 use Rattle.xc_kernel.specs.Roots.{is_placed, has_placed, action_has_placed, block_has_placed, in_block, branch_roots, numbered_roots, action_roots, block_roots, roots_by, roots_of, context_of}
 use Rattle.xc_kernel.specs.Copies.{calls_of, numbering, copy_of}
 use Rattle.xc_disjoint.specs.Checked.{IsChecked}
-use Rattle.xc_formed.proofs.Lows.{IsLow, roots_are_low}
+use Rattle.xc_formed.proofs.RootCores.{IsOnACore, roots_are_on_cores}
 use Rattle.xc_formed.proofs.Walk.Arguments.{AllIn}
 use Rattle.xl_plan.proofs.Lists.{some_given, none_given}
 use Rattle.xl_image.specs.Images.{roots_on}
@@ -117,24 +117,24 @@ module _ (k : kernel.Kernel) (checked : IsChecked k) where
       some_of (calls_of checked.of_program.program) (main_of checked.of_program.program) (context_of checked.of_program.program (numbering checked.of_program.program))
       (λ e. typed.names _ (names.without_main (record { no_main = λ i m. not_there checked.of_program.program i e m; place = refl })))
 
-  low_at : (rs : List kernel.Root) → AllIn IsLow rs → (place : ℕ) (r : kernel.Root) → slice_get rs place ≡ Some r → r.core ≤ 3
+  low_at : (rs : List kernel.Root) → AllIn IsOnACore rs → (place : ℕ) (r : kernel.Root) → slice_get rs place ≡ Some r → r.core ≤ 3
   low_at [] low place r e = absurd (none_given e)
-  low_at (q ∷ rs) low zero r e = subst IsLow (some_given e) low.0
+  low_at (q ∷ rs) low zero r e = subst IsOnACore (some_given e) low.0
   low_at (q ∷ rs) low (suc place) r e = low_at rs low.1 place r e
 
   pub root_is_low : (place : ℕ) (r : kernel.Root) → slice_get k.roots place ≡ Some r → r.core ≤ 3
-  root_is_low place r e = low_at k.roots (roots_are_low k checked) place r e
+  root_is_low place r e = low_at k.roots (roots_are_on_cores k checked) place r e
 
   -- what a root is on
-  first_core : (rs : List kernel.Root) → AllIn IsLow rs → 1 ≤ length rs → (core : ℕ) × (core ≤ 3) × (is_some_root (roots_on core rs) ≡ true)
+  first_core : (rs : List kernel.Root) → AllIn IsOnACore rs → 1 ≤ length rs → (core : ℕ) × (core ≤ 3) × (is_some_root (roots_on core rs) ≡ true)
   first_core [] low l = absurd (let z : ⊥ = omega (arith, l) in z)
   first_core (r ∷ rs) low l = (r.core, low.0, ap (λ b. is_some_root (cond b (r ∷ roots_on r.core rs) (roots_on r.core rs))) (eq-eqb r.core r.core refl))
 
-  low_by : (core : ℕ) (r : kernel.Root) (rs : List kernel.Root) → IsLow r → (is_some_root (roots_on core rs) ≡ true → core ≤ 3) → (b : Bool) → nat_eq r.core core ≡ b → is_some_root (cond b (r ∷ roots_on core rs) (roots_on core rs)) ≡ true → core ≤ 3
+  low_by : (core : ℕ) (r : kernel.Root) (rs : List kernel.Root) → IsOnACore r → (is_some_root (roots_on core rs) ≡ true → core ≤ 3) → (b : Bool) → nat_eq r.core core ≡ b → is_some_root (cond b (r ∷ roots_on core rs) (roots_on core rs)) ≡ true → core ≤ 3
   low_by core r rs low others true same e = let q = eqb-true r.core core same in omega (arith, low, q)
   low_by core r rs low others false same e = others e
 
-  low_core : (core : ℕ) (rs : List kernel.Root) → AllIn IsLow rs → is_some_root (roots_on core rs) ≡ true → core ≤ 3
+  low_core : (core : ℕ) (rs : List kernel.Root) → AllIn IsOnACore rs → is_some_root (roots_on core rs) ≡ true → core ≤ 3
   low_core core [] low e = false_true e
   low_core core (r ∷ rs) low e = low_by core r rs low.0 (low_core core rs low.1) (nat_eq r.core core) refl e
 
@@ -157,10 +157,10 @@ module _ (k : kernel.Kernel) (checked : IsChecked k) where
 
   -- a core with a root is among the cores
   pub core_listed : (core : ℕ) → has_root k core ≡ true → (j : ℕ) × (slice_get (cores_of k) j ≡ Some core)
-  core_listed core e = kept (has_root k) (below 4) core core (is_below core (low_core core k.roots (roots_are_low k checked) e)) e
+  core_listed core e = kept (has_root k) (below 4) core core (is_below core (low_core core k.roots (roots_are_on_cores k checked) e)) e
 
   pub core_is_low : (core : ℕ) → has_root k core ≡ true → core ≤ 3
-  core_is_low core e = low_core core k.roots (roots_are_low k checked) e
+  core_is_low core e = low_core core k.roots (roots_are_on_cores k checked) e
 
   some_item : (ns : List ℕ) (j c : ℕ) → slice_get ns j ≡ Some c → 1 ≤ length ns
   some_item [] j c e = absurd (none_given e)
@@ -169,6 +169,6 @@ module _ (k : kernel.Kernel) (checked : IsChecked k) where
   pub some_core : 1 ≤ length (cores_of k)
   some_core =
       let e = ap (λ (q : kernel.Kernel). q.roots) checked.of_program.copies.is_copy in
-      let r = first_core k.roots (roots_are_low k checked) (subst (λ (rs : List kernel.Root). 1 ≤ length rs) (sym e) some_root) in
+      let r = first_core k.roots (roots_are_on_cores k checked) (subst (λ (rs : List kernel.Root). 1 ≤ length rs) (sym e) some_root) in
       let l = core_listed r.0 r.2 in
       some_item (cores_of k) l.0 r.0 l.1
