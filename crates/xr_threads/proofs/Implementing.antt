@@ -1,20 +1,14 @@
 -- The image of a checked kernel that is built so far implements the kernel, and its text.
-use Rattle.std.proofs.Common.{List}
-use Rattle.std.specs.Prelude.{Bool}
 use Rattle.xs_instr.specs.declared.image.Image.{Image}
 use Rattle.xs_instr.specs.Valid.{Valid}
-use Rattle.xc_tree.specs.Plain as tree
-use Rattle.xc_tree.specs.Types.Named.{NamedProgram}
-use Rattle.xc_kernel.specs.Copies.{Copies}
 use Rattle.xc_kernel.specs.Plain as kernel
-use Rattle.xc_kernel.specs.Sound.{IsTyped}
 use Rattle.xc_disjoint.specs.Checked.{IsChecked}
-use Rattle.xc_formed.proofs.Narrow.{pars_are_narrow}
-use Rattle.xc_laws.proofs.Closely.{exits_are_met}
+use Rattle.xc_formed.proofs.ParWidth.{pars_are_narrow}
+use Rattle.xc_laws.proofs.TextFollows.{exits_are_met}
 use Rattle.xl_image.specs.Images.{IsImage}
 use Rattle.xl_image.specs.Roots.{KernelIsBuilt}
 use Rattle.xr_match.specs.Implements.{Implements, ImplementsWholly}
-use Rattle.xr_match.specs.Meanings.{of_kernel, of_text}
+use Rattle.xr_match.specs.Meanings.{ImplementsTextsOf, of_kernel}
 use Rattle.xr_match.proofs.Texts.{kernels_carry_wholly}
 use Rattle.xr_threads.proofs.Compiled as compiled
 use Rattle.xr_threads.proofs.Imaged.{image_is}
@@ -32,6 +26,6 @@ module _ (K : kernel.Kernel) (L : Image) (checked : IsChecked K) (is : IsImage K
       compiled.implements K L (roles K) i.0 i.1
 
   -- and so it is of the text of which this is the kernel
-  pub text_wholly : (program : List tree.Item) (named : NamedProgram) (types : List Bool) → IsTyped program named types → Copies program K → ImplementsWholly L (of_text program)
+  pub text_wholly : ImplementsTextsOf L K
   text_wholly program named types typed copies =
       kernels_carry_wholly L program K named types typed copies (exits_are_met program K named types typed copies) (pars_are_narrow K checked) wholly_implements

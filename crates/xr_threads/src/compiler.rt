@@ -1,14 +1,10 @@
 //! The compiler.
 
-ghost use Rattle.std.specs.Prelude.{Bool, List as Items, IfOk};
-ghost use Rattle.xc_kernel.specs.Copies.{Copies};
+ghost use Rattle.std.specs.Prelude.{IfOk};
 ghost use Rattle.xc_kernel.specs.Kernels.{kernel_of};
-ghost use Rattle.xc_kernel.specs.Sound.{IsTyped};
-ghost use Rattle.xc_tree.specs.Plain.{Item};
-ghost use Rattle.xc_tree.specs.Types.Named.{NamedProgram};
 ghost use Rattle.xl_image.specs.Roots.{KernelIsBuilt};
 ghost use Rattle.xr_match.specs.Implements.{Implements, ImplementsWholly};
-ghost use Rattle.xr_match.specs.Meanings.{of_kernel, of_text};
+ghost use Rattle.xr_match.specs.Meanings.{ImplementsTextsOf, of_kernel};
 ghost use Rattle.xs_instr.specs.Valid.{Valid};
 ghost use Rattle.xs_instr.specs.Words.{HasWords};
 
@@ -31,9 +27,8 @@ pub fn compile(alloc: Global, checked: &Checked) -> Result<Image, Memory>
         (λ image. Implements image (of_kernel (kernel_of checked.now))) }
     ensures wholly { IfOk result
         (λ image. ImplementsWholly image (of_kernel (kernel_of checked.now))) }
-    ensures of_text { IfOk result (λ image.
-        (program : Items Item) (named : NamedProgram) (types : Items Bool) → IsTyped program named types →
-        Copies program (kernel_of checked.now) → ImplementsWholly image (of_text program)) }
+    ensures of_text { IfOk result
+        (λ image. ImplementsTextsOf image (kernel_of checked.now)) }
     ensures valid { IfOk result (λ image. Valid image) }
     ensures words { IfOk result (λ image. HasWords image) }
 {
