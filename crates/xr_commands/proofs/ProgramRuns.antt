@@ -28,7 +28,7 @@ stuck_is_quiet L s rounds valid stuck cores =
     record {
       quiet = λ later ticks.
           let is = stuck_stays L s run.events (lockstep L s rounds) later cores valid run.to stuck ticks in
-          record { steps = is.still.steps; moves = is.still.moves };
+          record { steps = is.quiet.steps; moves = is.quiet.moves };
     }
 
 pub run_beside : (text : List ℕ) (L : Image) (s : Stim) (compiled : IsCompiled text L) → IsGoodStim s →

@@ -18,6 +18,9 @@ pub record Square (links : Links) : Type 0 where
 pub some_is : {X : Type 0} (x y : X) → Some x ≡ Some y → x ≡ y
 some_is x y h = cc
 
+pub less_than : (a b : ℕ) → a < suc b → a ≢ b → a < b
+less_than a b h ne = omega (arith, h, ne)
+
 pub square_put : (links : Links) (a b : ℕ) (x : List Item) → Square links → Square (link_put links a b x)
 square_put links a b x q = go (slice_get links a) refl
   where

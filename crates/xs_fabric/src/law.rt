@@ -111,15 +111,16 @@ pub fn running_threads_are_left_by_others()
     ensures events { EventsLeaveOthers }
 {}
 
-/// The turn of a thread that runs with its event bit clear leads where its instruction says, or traps, and only one that waits or holds
-/// up pauses. Behind the code it traps.
+/// Where its event bit is clear, the turn of a thread that runs leads to an index to which its instruction may lead, or ends the thread
+/// where that is FREET. Or it traps, which no branch and no WAITEU does, or pauses, which only inputs, outputs, CHKCT, MSYNC, MJOIN and
+/// WAITEU do. Of where calls, returns, SSYNC, WAITEU and SETSR lead nothing is said. Behind the code it traps.
 pub fn own_turns_lead_on()
     ensures instructions { OwnTurnsLeadOn }
     ensures behind_code { TrapsBehindCode }
 {}
 
-/// A thread that runs is at its turn in the next round as its turn in this one left it. So where its event bit is clear and its
-/// instruction doesn't pause, it makes a step in each round.
+/// A thread that runs is at its turn in the next round as its turn in this one left it. So in a round in which it comes to its turn
+/// with its event bit clear, at an instruction that never pauses, it makes a step.
 pub fn threads_step_in_each_round()
     ensures next { RunsOnToNextTurn }
     ensures steps { StepsInEachRound }
