@@ -1,0 +1,1 @@
+"""What writes and tries the pages of docs/."""
