@@ -1,6 +1,7 @@
 """The table of crates."""
 
 import os
+import re
 import unittest
 
 from pages.crates import Crate, calls_of, cell_of_calls, direct, page, public_calls, read_crates, what_it_is
@@ -92,3 +93,11 @@ class Calls(unittest.TestCase):
 class Page(unittest.TestCase):
     def test_it_is_what_the_crates_say(self):
         self.assertEqual(written(os.path.join(TOP, "docs", "crates.md")), page(TOP), "tools/crates writes the page anew")
+
+    def test_promises_name_calls_that_there_are(self):
+        rows = {row.split(" | ")[0][2:]: row for row in page(TOP).splitlines() if row.startswith("| x")}
+        promised = re.findall(r"^\| (x\w+) \| (.*?) \| ", written(os.path.join(TOP, "docs", "promises.md")), re.MULTILINE)
+        for crate, calls in promised:
+            for name in re.findall(r"`([\w:]+)`", calls):
+                self.assertRegex(rows[crate], rf"\b{name.split('::')[-1]}\b", crate)
+        self.assertEqual({crate for crate, row in rows.items() if "`" in row.split(" | ")[-1]} - {crate for crate, _ in promised}, {"xr_listed"})
