@@ -26,7 +26,7 @@ use Rattle.xr_threads.specs.Runners.{Runner, Setting, footprint_of, home, shrunk
 use Rattle.xr_threads.specs.Scenes.{Scene, running}
 use Rattle.xr_threads.specs.Standing.{IfTrue, IsAtRest, Stand, Standing, StandsWith, none_rests}
 use Rattle.xr_threads.specs.Transfers.{StopsIn}
-use Rattle.xr_threads.specs.Turns.{Errs, InTransfer, IsBehind, IsNext, Runs, cost}
+use Rattle.xr_threads.specs.Turns.{Errs, InTransfer, IsBehind, IsNext, Runs, cost, is_watching}
 use Rattle.xr_threads.specs.Wired.{AreSidesOn, IsLine, boxes_in}
 use Rattle.xr_threads.proofs.ChannelBoxes.{line_boxed, line_parcels}
 use Rattle.xr_threads.proofs.ChannelEnds.{acts_there, end, end_is, is_near, left_local}
@@ -43,6 +43,7 @@ use Rattle.xr_threads.proofs.Shrinks.{rest_shrinks}
 use Rattle.xr_threads.proofs.TransferErrs.{errs_followed}
 use Rattle.xr_threads.proofs.TransferRows.{alone_elsewhere}
 use Rattle.xr_threads.proofs.Transferred.{rest_as}
+use Rattle.xr_threads.proofs.Watching.{here_at, items_unwatched}
 use Rattle.xr_threads.proofs.WiredMoves.{one_line, wired_moves}
 use Rattle.xr_wires.specs.Balance.{Local}
 use Rattle.xr_wires.specs.Phases.{awaits_ack, between, offers, spot}
@@ -123,12 +124,15 @@ module _ (g : Setting) (first : Roles) (is : IsImageOf g first) (who : Roles) (w
     abbrev s : Runner
     s = record r { footprint = footprint_of rest; transfer = None }
 
+    code_behind : IsBehind g r (awaits channel h.pos ∷ rest) j (h.pc + 1) h.regs
+    code_behind = subst (λ items. IsBehind g r items j (h.pc + 1) h.regs) h.goes_with.1 h.steps.1
+
+    unwatched : is_watching rest ≡ false
+    unwatched = items_unwatched g r rest code_behind.1.0 (h.pc + 1) j code_behind.1.1
+
     module _ (es : List ChanEnd) where
       abbrev behind : Scene
-      behind = own.behind g first is who w x st c t a at_c r runs_r branch known stand on h.pc h.regs h.regs h.here es rest None world acted next refl h.has None
-
-      code_behind : IsBehind g r (awaits channel h.pos ∷ rest) j (h.pc + 1) h.regs
-      code_behind = subst (λ items. IsBehind g r items j (h.pc + 1) h.regs) h.goes_with.1 h.steps.1
+      behind = own.behind g first is who w x st c t a at_c r runs_r branch known stand on h.pc h.regs h.regs h.here es rest None world acted next refl h.has unwatched None
 
       -- the thread is at the code of what is left
       at_rest : StandsWith g s (rests_alone c t c t) None rest (j + cost g r) behind
@@ -138,15 +142,15 @@ module _ (g : Setting) (first : Roles) (is : IsImageOf g first) (who : Roles) (w
             omega arith,
             refl,
             rest_as g (shrunk r rest) None rest j behind refl
-                (rest_shrinks g r rest (less g first is who w x st c t a at_c r runs_r branch known stand on h.pc h.regs h.regs h.here es rest None world acted next refl h.has None) j behind (record {
+                (rest_shrinks g r rest (less g first is who w x st c t a at_c r runs_r branch known stand on h.pc h.regs h.regs h.here es rest None world acted next refl h.has unwatched None) j behind (record {
                   pc = h.pc + 1;
                   regs = h.regs;
                   exits = code_behind.1.0;
-                  here = gone_on g r a h.pc h.regs h.regs h.here es;
+                  here = here_at rest unwatched (gone_on g r a h.pc h.regs h.regs h.here es);
                   bases = code_behind.0;
                   at_code = code_behind.1.1;
                   fits = (subst (ItemsFit g r) h.goes_with.1 h.fits).1;
-                  has = has_behind g first is who w x st c t a at_c r runs_r branch known stand on h.pc h.regs h.regs h.here es rest None world acted next refl h.has None;
+                  has = has_behind g first is who w x st c t a at_c r runs_r branch known stand on h.pc h.regs h.regs h.here es rest None world acted next refl h.has unwatched None;
                 })),
           )))
 
@@ -157,7 +161,7 @@ module _ (g : Setting) (first : Roles) (is : IsImageOf g first) (who : Roles) (w
           let cores = slice_set w.machine.cores c left in
           let local = left_local g first is who w x st c t a at_c r None runs_r channel side line at there left (boxed boxes line side ps) (spot between false) made.local in
           followed (rests_alone c t) (λ d u ne. alone_elsewhere c (nat_eq u t) d ne) left None (ap (stepped (home g r) w.machine r.core r.thread a) is_made)
-          (does_so g first is who w x st c t a at_c r runs_r branch known stand on h.pc h.regs h.regs h.here es rest None world acted next refl h.has None
+          (does_so g first is who w x st c t a at_c r runs_r branch known stand on h.pc h.regs h.regs h.here es rest None world acted next refl h.has unwatched None
           (rests_alone c t) j (j + cost g r) (omega (arith, few)) (omega arith) at_rest
           (wired_moves g is.lines who w.machine.cores x.state.inboxes st.wired c t a at_c r None runs_r s None channel side line at there between
           (moves_out g none_rests who w x st c t r None runs_r channel side (awaits_ack (offers v)) its s refl)

@@ -15,9 +15,9 @@ use Rattle.xc_meaning.specs.States.Worlds.{World}
 use Rattle.xl_expr.proofs.Lists.{get_set_same, get_set_other}
 use Rattle.xl_expr.specs.Frames.{Holds}
 use Rattle.xr_threads.specs.Runners.{Setting, Runner, IsPort, plan, port_place}
-use Rattle.xr_threads.specs.Scenes.{Scene, Touched, running}
+use Rattle.xr_threads.specs.Scenes.{Scene, Touched, running, running_so}
 use Rattle.xr_threads.specs.Standing.{counts, is_of_root, one_where}
-use Rattle.xr_threads.specs.Turns.{Errs, Frees, Goes, HoldsStore, IsFree, IsWaitingTied, PortsStand, Waits, failed, finished}
+use Rattle.xr_threads.specs.Turns.{Errs, Frees, Goes, HoldsStore, IsFree, IsWaitingTied, PortsStand, Waits, failed, finished, is_watching}
 use Rattle.xr_threads.proofs.Counts.{ended_counts}
 use Rattle.xr_threads.proofs.OwnEvents.{OwnStep}
 
@@ -34,6 +34,8 @@ module _ (g : Setting) (r : Runner) (c : ℕ) (a : CoreState) (x : World) where
     known = h.acts.known;
     running = h.acts.mode;
     world = h.acts.world;
+    action = h.acts.action;
+    own = h.acts.own;
     acted = h.acts.acted;
     next = record h.acts.branch { items = h.items };
     transfer = r.transfer;
@@ -42,7 +44,7 @@ module _ (g : Setting) (r : Runner) (c : ℕ) (a : CoreState) (x : World) where
     core = refl;
     touched = h.touched;
     syncs = h.syncs;
-    tie = λ thread there. inl (ap (λ (k : Thread). k.tie) (same_Some thread (running r.tie h.rest.pc h.rest.regs) (sym there ∙ h.rest.here)));
+    tie = λ thread there. inl (ap (λ (k : Thread). k.tie) (same_Some thread (running_so (is_watching h.items) r.tie h.rest.pc h.rest.regs) (sym there ∙ h.rest.here)));
     roots = ap (λ k. k + counts c h.acts.branch) h.roots;
     holds = h.rest.has.holds;
     ports = h.rest.has.ports;
@@ -101,6 +103,8 @@ module _ (g : Setting) (r : Runner) (c : ℕ) (a : CoreState) (x : World) where
         known = h.acts.known;
         running = h.acts.mode;
         world = h.acts.world;
+        action = h.acts.action;
+        own = h.acts.own;
         acted = h.acts.acted;
         next = failed h.acts.branch;
         transfer = r.transfer;
@@ -126,6 +130,8 @@ module _ (g : Setting) (r : Runner) (c : ℕ) (a : CoreState) (x : World) where
     known = h.acts.known;
     running = h.acts.mode;
     world = h.acts.world;
+    action = h.acts.action;
+    own = h.acts.own;
     acted = h.acts.acted;
     next = finished h.acts.branch;
     transfer = r.transfer;
@@ -148,6 +154,8 @@ module _ (g : Setting) (r : Runner) (c : ℕ) (a : CoreState) (x : World) where
     known = h.acts.known;
     running = h.acts.mode;
     world = h.acts.world;
+    action = h.acts.action;
+    own = h.acts.own;
     acted = h.acts.acted;
     next = finished h.acts.branch;
     transfer = r.transfer;

@@ -156,6 +156,7 @@ module _ (g : Setting) (r : Runner) where
             ports = λ q not_mine. ap (λ (c : CoreState). slice_get c.ports q) step.left;
           };
           hand = keeps refl (ap (λ (c : CoreState). c.syncs) step.left) (same_use y (after g r y b) others);
+          was = on;
           on = runs_still y.core b step.thread step.after.pc step.after.regs on step.here (ap (λ (c : CoreState). c.threads) step.left);
         }
 
@@ -208,6 +209,7 @@ module _ (g : Setting) (r : Runner) where
               ports = λ q not_mine. ap (λ (c : CoreState). slice_get c.ports q) step.left ∙ step.others q (not_mine p listed is);
             };
             hand = keeps refl (ap (λ (c : CoreState). c.syncs) step.left) (same_use y (after g r y b) others);
+            was = on;
             on = runs_still y.core b step.thread step.after.pc step.after.regs on step.here (ap (λ (c : CoreState). c.threads) step.left);
           }
 

@@ -24,7 +24,7 @@ use Rattle.xr_threads.specs.Parents.{Parent}
 use Rattle.xr_threads.specs.Roles.{AreUsedSo, HandFits, Role, Roles, empty, got_by, gives_back, opens, unused, used_by}
 use Rattle.xr_threads.specs.Runners.{Setting, Runner, home}
 use Rattle.xr_threads.specs.Scenes.{Scene, held_in, running, sync_in}
-use Rattle.xr_threads.specs.Standing.{AreLoose, HasEnded, IfTrue, IsAtRest, IsOnItsWay, IsResuming, Stand, Standing, Stands, StandsBy, StandsWith, ThreadIs, none_rests}
+use Rattle.xr_threads.specs.Standing.{AreLoose, EventsAre, HasEnded, IfTrue, IsAtRest, IsOnItsWay, IsResuming, Stand, Standing, Stands, StandsBy, StandsWith, ThreadIs, none_rests}
 use Rattle.xr_threads.specs.Turns.{IsFree, Joins, Turns}
 use Rattle.xr_threads.specs.Wired.{AreWired, boxes_in}
 use Rattle.xr_threads.proofs.Begins.{entry, none_taken, set_on, set_there, set_watched, starts_there, set_life, unused_free, unused_there}
@@ -149,7 +149,7 @@ module _ (g : Setting) (who : Roles) (is : IsImageOf g who) where
             thread = running r.tie (entry g who is r0 e) no_regs;
             there = starts_at;
             tied = refl;
-            no_events = refl;
+            events = subst (λ (i : Thread). EventsAre branch.mode branch.items i.event_bit) same has.events;
             is = subst (λ (i : Thread). ThreadIs r.parents branch.mode i.mode) same has.is;
           };
           in_hand = h.in_hand;

@@ -28,7 +28,7 @@ use Rattle.xr_threads.specs.Runners.{Setting, Runner, IsPort, anyone, code, foot
 use Rattle.xr_threads.specs.Scenes.{Scene, giving_back, running}
 use Rattle.xr_threads.specs.Standing.{AreLoose, HasThread, Stand, Standing, Stands, StandsBy, StandsWith}
 use Rattle.xr_threads.specs.Transfers.{StopsIn}
-use Rattle.xr_threads.specs.Turns.{HoldsNames, HoldsStore, IsFree, Rest, cost}
+use Rattle.xr_threads.specs.Turns.{HoldsNames, HoldsStore, IsFree, ItemsFrom, Rest, cost, is_watching}
 use Rattle.xr_threads.proofs.Boot.{boot_length, boot_port_at, boot_thread_at, boot_thread_free, set_at, set_core, set_length, set_regs, set_thread}
 use Rattle.xr_threads.proofs.Reserves.{reserves_begin}
 use Rattle.xr_threads.proofs.RootCode.{root_items}
@@ -36,6 +36,7 @@ use Rattle.xr_threads.proofs.Shrinks.{fits_here}
 use Rattle.xr_threads.proofs.SetMachine.{set_cores_are, set_machine}
 use Rattle.xr_threads.proofs.StartWires.{none_begun, wired_begin}
 use Rattle.xr_threads.proofs.Starts.{IsRootBranch, RunsRoot, branch_of, known_root, no_place, none_got, on_four, owns_none, roles_begin, root_of, roots_live, variable_length, variable_zero, words_zero}
+use Rattle.xr_threads.proofs.Watching.{here_at, items_unwatched}
 
 -- a root's life has done two steps then
 abbrev pub set_life : (core thread : ℕ) → Life
@@ -122,22 +123,26 @@ module _ (g : Setting) (who : Roles) (is : IsImageOf g who) where
           omega (arith, many, enough, stack);
     }
 
+    -- the root's code
+    code_there : ItemsFrom g r items [] (entry + 2) 0
+    code_there =
+        subst (λ sides. ItemsAt (plan g r) (code g r) sides (EndAt (plan g r) (code g r) r.tie r.parents) items [] (entry + 2) 0) (sym h.is_root.sides)
+        (subst (λ tie. ItemsAt (plan g r) (code g r) (root_sides g.program r.branch) (EndAt (plan g r) (code g r) tie r.parents) items [] (entry + 2) 0) (sym h.is_root.tie)
+        (subst (λ ps. ItemsAt (plan g r) (code g r) (root_sides g.program r.branch) (EndAt (plan g r) (code g r) None ps) items [] (entry + 2) 0) (sym h.is_root.alone)
+        (root_items g.program (plan g r) (home g r).parts r.core r.thread h.root (root_sides g.program r.branch) h.is_root.code)))
+
     rest_of : (branch : Branch) → slice_get start.branches r.branch ≡ Some branch → IsRootBranch h.root r.branch branch → Rest g r items 0 z
     rest_of branch known b = record {
       pc = entry + 2;
       regs = set_regs r;
       exits = [];
-      here = set_there;
+      here = here_at items (items_unwatched g r items [] (entry + 2) 0 code_there) set_there;
       bases = record {
         base = ap (λ n. 4 * n) (sym h.is_root.base);
         stack = refl;
         names = subst (λ l. HoldsNames r.core l (set_regs r)) (sym (ap syncs_of h.is_root.alone)) (record { by = λ place n at lt. absurd (none_there n at) });
       };
-      at_code =
-          subst (λ sides. ItemsAt (plan g r) (code g r) sides (EndAt (plan g r) (code g r) r.tie r.parents) items [] (entry + 2) 0) (sym h.is_root.sides)
-          (subst (λ tie. ItemsAt (plan g r) (code g r) (root_sides g.program r.branch) (EndAt (plan g r) (code g r) tie r.parents) items [] (entry + 2) 0) (sym h.is_root.tie)
-          (subst (λ ps. ItemsAt (plan g r) (code g r) (root_sides g.program r.branch) (EndAt (plan g r) (code g r) None ps) items [] (entry + 2) 0) (sym h.is_root.alone)
-          (root_items g.program (plan g r) (home g r).parts r.core r.thread h.root (root_sides g.program r.branch) h.is_root.code)));
+      at_code = code_there;
       fits = fits_here g r items h.is_root.fits h.is_root.footprint;
       has = record {
         branch = branch;
@@ -159,8 +164,8 @@ module _ (g : Setting) (who : Roles) (is : IsImageOf g who) where
       family = b.family ∙ sym h.is_root.family;
       footprint = h.is_root.footprint ∙ ap footprint_of (sym b.items);
       parents = subst (λ ps. ParentsWait g start r.core r.family ps r.branch) (sym h.is_root.alone) tt;
-      thread = subst (λ m. HasThread g r m (set_on r.core)) (sym b.mode)
-          (record { thread = running r.tie (entry + 2) (set_regs r); there = set_there; tied = refl; no_events = refl; is = refl });
+      thread = subst (λ m. HasThread g r m branch.items (set_on r.core)) (sym b.mode)
+          (record { thread = running r.tie (entry + 2) (set_regs r); there = set_there; tied = refl; events = sym (ap is_watching b.items ∙ items_unwatched g r items [] (entry + 2) 0 code_there); is = refl });
       in_hand = empty refl;
       sides = is.sides r.branch branch known ∙ sym h.is_root.sides;
       done = λ f. h.is_root.no_transfer;

@@ -48,7 +48,7 @@ use Rattle.xr_threads.specs.Items.{EndAt, ItemsAt}
 use Rattle.xr_threads.specs.Transfers.{Transfer}
 use Rattle.xr_threads.specs.Roles.{AreRoles, AreUsedSo, HasReserves, IsParent, ParentsWait, Roles, empty, got_by, own_branches, unused, used_by}
 use Rattle.xr_threads.specs.Standing.{AreLoose, IsMade, IsRun, IsWanted, Stand, Standing, Stands, StandsBy, ThreadIs, counts, is_of_root, living_on, none_rests, one_where}
-use Rattle.xr_threads.specs.Turns.{Begins, HoldsStore, IsFree, IsSetOff, IsWaitingTied, Placed, Rest, backwards, cost, placed_in}
+use Rattle.xr_threads.specs.Turns.{Begins, EndOf, HoldsStore, IsFree, IsSetOff, IsWaitingTied, Placed, Rest, backwards, cost, is_watching, placed_in}
 use Rattle.xr_threads.proofs.Holding.{loose_behind}
 use Rattle.xr_threads.proofs.Joined.{parents_below}
 use Rattle.xr_threads.proofs.Lives.{own_life}
@@ -62,6 +62,7 @@ use Rattle.xr_threads.proofs.Pools.{num_is, started_at, started_length, started_
 use Rattle.xr_threads.proofs.Reserves.{GiveAsBefore, reserves_behind, reserves_of_others}
 use Rattle.xr_threads.proofs.Shrinks.{IsWithin, branch_fits, fits_everywhere, fits_here}
 use Rattle.xr_threads.proofs.SetOff.{back_at, back_length, branch_within, code_of, living_both, living_new, off_at, off_length}
+use Rattle.xr_threads.proofs.Watching.{code_unwatched, events_on, here_at, rest_unwatched}
 
 -- the items of a branch, and its sides, where there is one
 abbrev pub items_at : Option Placed → List Item
@@ -529,7 +530,7 @@ module _ (g : Setting) (first : Roles) (is : IsImageOf g first) (who : Roles) (w
         pc = b.pc + 1;
         regs = b.regs;
         exits = [];
-        here = own_left;
+        here = here_at first_items (code_unwatched (plan g own) (code g own) own.sides (EndOf g own) first_items [] (b.pc + 1) b.jumps (b.own_code from (suc (length b.hand.threads)))) own_left;
         bases = record { base = b.bases.base; stack = b.bases.stack; names = b.bases.names };
         at_code = b.own_code from (suc (length b.hand.threads));
         fits = fits_here g own first_items (fits_of 0 first_placed first_there) refl;
@@ -566,7 +567,7 @@ module _ (g : Setting) (first : Roles) (is : IsImageOf g first) (who : Roles) (w
         pc = off.pc;
         regs = off.regs;
         exits = [];
-        here = off.here;
+        here = here_at items (code_unwatched (plan g r) (code g r) placed.sides (EndAt (plan g r) (code g r) (Some b.sync) []) items [] off.pc 0 off.at_code) off.here;
         bases = record {
           base = off.base;
           stack = omega (arith, sp, stacks, plan_is);
@@ -626,7 +627,7 @@ module _ (g : Setting) (first : Roles) (is : IsImageOf g first) (who : Roles) (w
         family = new.family ∙ family_is i within.1;
         footprint = ap (λ o. footprint_of (items_at o)) k.2 ∙ ap footprint_of (sym new.items);
         parents = tt;
-        thread = record { thread = running (Some b.sync) k.1.pc k.1.regs; there = k.1.here; tied = refl; no_events = refl; is = subst (λ m. ThreadIs [] m Running) (sym new.mode) refl };
+        thread = record { thread = running (Some b.sync) k.1.pc k.1.regs; there = k.1.here; tied = refl; events = events_on branch.mode branch.items false new.mode (sym (ap is_watching new.items ∙ rest_unwatched g (kid i u) (todo k.0.code (ends ∷ [])) 0 (record { core = left; world = world; hand = None }) rest)); is = subst (λ m. ThreadIs [] m Running) (sym new.mode) refl };
         in_hand = empty refl;
         sides = new.sides ∙ ap sides_at (sym k.2);
         done = λ over. refl;
@@ -706,7 +707,7 @@ module _ (g : Setting) (first : Roles) (is : IsImageOf g first) (who : Roles) (w
             },
             waiting_still,
           );
-          thread = record { thread = th'; there = own_left; tied = refl; no_events = refl; is = subst (λ m. ThreadIs own.parents m Running) (sym new.mode) refl };
+          thread = record { thread = th'; there = own_left; tied = refl; events = events_on branch.mode branch.items false new.mode (sym (ap is_watching new.items ∙ rest_unwatched g own first_items b.jumps (record { core = left; world = world; hand = None }) rest)); is = subst (λ m. ThreadIs own.parents m Running) (sym new.mode) refl };
           in_hand = empty refl;
           sides = new.sides;
           done = λ over. refl;

@@ -157,6 +157,7 @@ module _ (g : Setting) (r : Runner) where
             ports = λ q n. refl;
           };
           hand = keeps refl refl (same_use g r y (after g r y left) (λ u ne. get_set_other y.core.threads r.thread u th' ne));
+          was = at_runs g r y pc regs here_y;
           on = at_runs g r (after g r y left) pc' regs' there;
         },
         record {

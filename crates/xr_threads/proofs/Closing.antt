@@ -64,6 +64,7 @@ module _ (g : Setting) (r : Runner) (n : ℕ) where
           ports = λ q not_mine. ap (λ (c : CoreState). slice_get c.ports q) step.left;
         };
         hand = keeps refl (ap (λ (c : CoreState). c.syncs) step.left) (same_use g r y (after g r y b) others);
+        was = on;
         on = runs_still g r y.core b step.thread step.after.pc step.after.regs on step.here (ap (λ (c : CoreState). c.threads) step.left);
       }
 

@@ -22,7 +22,7 @@ use Rattle.xr_threads.specs.Parents.{Parent, sync_before, syncs_of}
 use Rattle.xr_threads.specs.Roles.{AreUsedSo, HandFits, IsOnce, IsParent, ParentsWait, Role, Roles, empty, gives_back, got_by, opens, outermost, unused, used_by}
 use Rattle.xr_threads.specs.Runners.{Setting, Runner}
 use Rattle.xr_threads.specs.Scenes.{held_in, sync_in}
-use Rattle.xr_threads.specs.Standing.{Stand, Standing, Stands, ThreadIs}
+use Rattle.xr_threads.specs.Standing.{EventsAre, Stand, Standing, Stands, ThreadIs}
 use Rattle.xr_threads.specs.Turns.{IsFree, IsWaitingTied}
 use Rattle.xr_threads.proofs.Moves.{parent_sync, same_runner}
 use Rattle.xr_threads.proofs.Pools.{num_is, num_same, tied_wait}
@@ -85,7 +85,7 @@ pub record Runs (g : Setting) (a : CoreState) (x : World) (s : Runner) (other : 
   pub thread : Thread
   pub there : slice_get a.threads s.thread ≡ Some thread
   pub tied : thread.tie ≡ s.tie
-  pub no_events : thread.event_bit ≡ false
+  pub events : EventsAre branch.mode branch.items thread.event_bit
   pub is : ThreadIs s.parents branch.mode thread.mode
   pub in_hand : HandFits branch.items other
 
@@ -101,7 +101,7 @@ runs_by g rests a x life actions s other h = by (slice_get x.branches s.branch) 
       thread = k.thread.thread;
       there = k.thread.there;
       tied = k.thread.tied;
-      no_events = k.thread.no_events;
+      events = k.thread.events;
       is = k.thread.is;
       in_hand = k.in_hand;
     }

@@ -8,13 +8,14 @@ use Rattle.xs_instr.specs.declared.state.Regs.{Regs}
 use Rattle.xs_instr.specs.declared.state.Thread.{Thread}
 use Rattle.xs_instr.specs.Rows.{with_thread, end_row}
 use Rattle.xc_meaning.specs.States.Items.{Item, ends}
+use Rattle.xc_meaning.specs.States.Worlds.{go}
 use Rattle.xl_expr.proofs.Lists.{get_set_same, get_set_other}
 use Rattle.xr_threads.specs.Items.{LastAt}
 use Rattle.xl_walk.specs.Pieces.{SlaveEndsAt}
 use Rattle.xr_threads.specs.Runners.{Setting, Runner, code, home, plan}
 use Rattle.xr_threads.specs.Scenes.{Scene, running}
 use Rattle.xr_threads.specs.Turns as turn
-use Rattle.xr_threads.specs.Turns.{Acts, Frees, Has, IsAt, IsFree, IsWaitingTied, Leads, Turn, Turns, Waits, finished}
+use Rattle.xr_threads.specs.Turns.{Acts, Frees, Has, IsAt, IsFree, IsWaitingTied, Leads, Turn, Turns, Waits, finished, own_go}
 use Rattle.xr_threads.proofs.Scenes.{leads_now}
 use Rattle.xr_threads.proofs.Layouts.{has_kept, runs_at}
 use Rattle.xr_threads.proofs.Evaluations.{item_acts}
@@ -29,6 +30,8 @@ module _ (g : Setting) (r : Runner) where
     mode = has.runs.running;
     core = has.core;
     world = record y.world { branches = slice_set y.world.branches r.branch (finished has.branch) };
+    action = go r.branch;
+    own = own_go;
     acted = item_acts g.program g.stimulus r.branch y.world has.branch ends rest has.runs;
     is_next = record { clocks = refl; branches = refl; store = λ v c. refl; trace = refl };
     inboxes = refl;

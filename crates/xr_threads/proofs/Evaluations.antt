@@ -25,7 +25,7 @@ use Rattle.xl_expr.specs.Works.{trap_of}
 use Rattle.xl_expr.proofs.Lists.{get_set_same}
 use Rattle.xr_threads.specs.Runners.{Setting, Runner, home}
 use Rattle.xr_threads.specs.Scenes.{Scene}
-use Rattle.xr_threads.specs.Turns.{Runs, Acts, Errs, Has, failed}
+use Rattle.xr_threads.specs.Turns.{Runs, Acts, Errs, Has, failed, own_go}
 
 -- an expression costs what it counts
 mutual
@@ -103,6 +103,8 @@ module _ (g : Setting) (r : Runner) where
     mode = runs.running;
     core = core;
     world = record x { branches = slice_set x.branches r.branch (failed branch); trace = x.trace ++ Fault r.core pos kind ∷ [] };
+    action = go r.branch;
+    own = own_go;
     acted =
         item_acts g.program g.stimulus r.branch x branch i rest runs
         ∙ erred

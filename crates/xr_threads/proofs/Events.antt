@@ -25,7 +25,7 @@ use Rattle.xr_threads.specs.Parents.{Parent}
 use Rattle.xr_threads.specs.Roles.{HandFits, Role, Roles, got_by, unused, used_by}
 use Rattle.xr_threads.specs.Runners.{Setting, Runner, footprint_of, home}
 use Rattle.xr_threads.specs.Scenes.{IsSilentStep, Kept, LeadsIn, Scene, giving_back}
-use Rattle.xr_threads.specs.Standing.{HasEnded, HasThread, Stand, Standing, Stands, StandsBy, StandsWith, ThreadIs, none_rests}
+use Rattle.xr_threads.specs.Standing.{EventsAre, HasEnded, HasThread, Stand, Standing, Stands, StandsBy, StandsWith, ThreadIs, none_rests}
 use Rattle.xr_threads.specs.Transfers.{StopsIn, Transfer, steps_left}
 use Rattle.xr_threads.specs.Turns.{Errs, Frees, GivesBack, Goes, InTransfer, IsFree, IsWaitingTied, Joins, JoinsAt, Offers, TakesIn, Turn, Turns, Waits, begins, cost, errs, frees, goes_on, offers, pauses, takes_in, waits_tied}
 use Rattle.xr_threads.proofs.AnswerRows.{answer_followed}
@@ -48,6 +48,7 @@ use Rattle.xr_threads.proofs.Ticks.{no_machine, tick_followed}
 use Rattle.xr_threads.proofs.TransferErrs.{errs_followed}
 use Rattle.xr_threads.proofs.TransferRows.{alone_elsewhere, checks_end_followed, sends_ack_followed, sends_end_followed}
 use Rattle.xr_threads.proofs.Turned.{frees_answered, goes_answered, waits_answered}
+use Rattle.xr_threads.proofs.Watching.{events_on}
 use Rattle.xr_wires.specs.Phases.{Phase, awaits_ack, between, checks_end, closes, opens, sends_ack, sends_end, streams, was_closed}
 use Rattle.xr_wires.specs.Phases as wires
 
@@ -95,7 +96,7 @@ stand_of g r rests hand a x life actions branch branch' e h = record {
   family = subst (λ (b : Branch). b.family ≡ r.family) e h.family;
   footprint = subst (λ (b : Branch). r.footprint ≡ footprint_of b.items) e h.footprint;
   parents = h.parents;
-  thread = subst (λ (b : Branch). HasThread g r b.mode a) e h.thread;
+  thread = subst (λ (b : Branch). HasThread g r b.mode b.items a) e h.thread;
   in_hand = subst (λ (b : Branch). HandFits b.items hand) e h.in_hand;
   sides = subst (λ (b : Branch). b.sides ≡ r.sides) e h.sides;
   done = subst (λ (b : Branch). b.mode ≡ ended → r.transfer ≡ None) e h.done;
@@ -204,21 +205,28 @@ module _ (g : Setting) (first : Roles) (is : IsImageOf g first) (who : Roles) (w
         (begins_followed g first is who w x st c t a at_c r hand runs_r j h stand' out few)
 
     -- a silent step
-    on_the_way : (z : Scene) → ((mode : ThreadMode) → mode ≡ Running → ThreadIs r.parents branch.mode mode) → IsSilentStep g r now z → (left : ℕ) → suc left ≤ stand.left → StandsBy g r false branch.items branch.mode left z → Leaves (slot (home g r) a r.thread) → Goal
-    on_the_way z alive silent left few by e =
+    on_the_way : (z : Scene) → ((mode : ThreadMode) → mode ≡ Running → ThreadIs r.parents branch.mode mode) → ((bit : Bool) → bit ≡ false → EventsAre branch.mode branch.items bit) → IsSilentStep g r now z → (left : ℕ) → suc left ≤ stand.left → StandsBy g r false branch.items branch.mode left z → Leaves (slot (home g r) a r.thread) → Goal
+    on_the_way z alive calm silent left few by e =
         goal_of none_rests (λ d u ne. refl) z.core None (ap (stepped (home g r) w.machine r.core r.thread a) silent.made) e
-        (silent_followed g first is who w x st c t a at_c r hand runs_r branch known stand z alive silent left few by)
+        (silent_followed g first is who w x st c t a at_c r hand runs_r branch known stand z alive calm silent left few by)
 
     -- a branch that runs
     running_alive : branch.mode ≡ runs → (mode : ThreadMode) → mode ≡ Running → ThreadIs r.parents branch.mode mode
     running_alive is_running mode e = subst (λ k. ThreadIs r.parents k mode) (sym is_running) e
+
+    -- which takes no events before a silent step, and so none behind it
+    running_calm : branch.mode ≡ runs → (z : Scene) → IsSilentStep g r now z → (bit : Bool) → bit ≡ false → EventsAre branch.mode branch.items bit
+    running_calm is_running z silent bit e =
+        let same : stand.thread.thread ≡ silent.was.thread = same_Some stand.thread.thread silent.was.thread (sym stand.thread.there ∙ silent.was.there) in
+        let is = subst (λ k. EventsAre k branch.items stand.thread.thread.event_bit) is_running stand.thread.events in
+        events_on branch.mode branch.items bit is_running (e ∙ sym silent.was.no_events ∙ ap (λ (i : Thread). i.event_bit) (sym same) ∙ is)
 
     by_way : branch.mode ≡ runs → r.transfer ≡ None → (n j : ℕ) → n + j ≤ stand.left → LeadsIn g r (Turns g r j) n now → Leaves (slot (home g r) a r.thread) → Goal
     by_way running out zero j few leads e = at_turn running out j (omega arith) (leads now here) e
     by_way running out (suc n) j few (inl leads) e = at_turn running out j (omega arith) (leads now here) e
     by_way running out (suc n) j few (inr on) e =
         let next = on now here in
-        on_the_way next.0 (running_alive running) next.1 (n + j) (omega arith)
+        on_the_way next.0 (running_alive running) (running_calm running next.0 next.1) next.1 (n + j) (omega arith)
         (subst (λ k. StandsBy g r false branch.items k (n + j) next.0) (sym running) (subst (λ o. StandsWith g r false o branch.items (n + j) next.0) (sym out) (inl (n, j, omega arith, next.2)))) e
 
     -- one that gives a synchroniser back
@@ -237,6 +245,9 @@ module _ (g : Setting) (first : Roles) (is : IsImageOf g first) (who : Roles) (w
       ended_alive : (mode : ThreadMode) → mode ≡ Running → ThreadIs r.parents branch.mode mode
       ended_alive mode e = subst (λ k. ThreadIs r.parents k mode) (sym over) (subst (λ l. ThreadIs l ended mode) (sym parents) e)
 
+      ended_calm : (bit : Bool) → bit ≡ false → EventsAre branch.mode branch.items bit
+      ended_calm bit e = subst (λ k. EventsAre k branch.items bit) (sym over) e
+
       by_join : (j : ℕ) → j ≤ stand.left → JoinsAt g r p ps j now → Leaves (slot (home g r) a r.thread) → (b : Bool) → (sync : ℕ) → p.sync ≡ Some sync → all_wait a.threads sync ≡ b → Goal
       by_join j few h e false sync is_sync wait =
           no_step (home g r) w.machine m r.core r.thread a (slot (home g r) a r.thread) (inr (h.pauses (ap (all_wait a.threads) (same_Some h.sync sync (sym h.sync_is ∙ is_sync)) ∙ wait))) e
@@ -252,7 +263,7 @@ module _ (g : Setting) (first : Roles) (is : IsImageOf g first) (who : Roles) (w
       by_joining (suc n) j few (inl leads) e = let h = leads now here in by_join j (omega arith) h e (all_wait a.threads h.sync) h.sync h.sync_is refl
       by_joining (suc n) j few (inr on) e =
           let next = on now here in
-          on_the_way next.0 ended_alive next.1 (n + j) (omega arith)
+          on_the_way next.0 ended_alive ended_calm next.1 (n + j) (omega arith)
           (subst (λ k. StandsBy g r false branch.items k (n + j) next.0) (sym over) (subst (λ l. HasEnded g r l (n + j) next.0) (sym parents) (n, j, omega arith, next.2))) e
 
     -- however it is

@@ -172,7 +172,7 @@ module _ (g : Setting) (r : Runner) where
 
     -- nobody sees it
     pub hand_silent : IsSilentStep g r y next
-    hand_silent = record { made = step.made; world = refl; roots = left.roots; channel_ends = left.channel_ends; touched = left.touched; hand = left.change; on = left.on }
+    hand_silent = record { made = step.made; world = refl; roots = left.roots; channel_ends = left.channel_ends; touched = left.touched; hand = left.change; was = running_on; on = left.on }
 
     -- the thread runs on
     pub still_on : StillRuns g r b

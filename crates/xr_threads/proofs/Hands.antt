@@ -23,7 +23,7 @@ use Rattle.xr_threads.specs.Images.{IsImageOf}
 use Rattle.xr_threads.specs.Roles.{AreUsedSo, HandFits, Role, Roles, empty, gives_back, got_by, opens, unused, used_by}
 use Rattle.xr_threads.specs.Runners.{Setting, Runner}
 use Rattle.xr_threads.specs.Scenes.{HandChange, IsSilentStep, Owns, gets_sync, gets_thread, keeps, SameUse, Scene, StillRuns, Touched, giving_back, held_in, sync_in}
-use Rattle.xr_threads.specs.Standing.{Stand, Standing, StandsBy, ThreadIs, none_rests}
+use Rattle.xr_threads.specs.Standing.{EventsAre, Stand, Standing, StandsBy, ThreadIs, none_rests}
 use Rattle.xr_threads.specs.Living.{AreNamed}
 use Rattle.xr_threads.proofs.NamedLinks.{gets_sync_linked, gets_thread_linked, keeps_linked, told_same}
 use Rattle.xr_threads.proofs.NamedPieces.{Goes}
@@ -427,7 +427,7 @@ module _ (g : Setting) (first : Roles) (is : IsImageOf g first) (who : Roles) (w
 module _ (g : Setting) (first : Roles) (is : IsImageOf g first) (who : Roles) (w : Watched) (x : Told (of_kernel g.program)) (st : Standing g none_rests who w x)
     (c t : ℕ) (a : CoreState) (at_c : slice_get w.machine.cores c ≡ Some a) (r : Runner) (hand : Option Hand) (runs_r : who c t ≡ used_by r hand)
     (branch : Branch) (known : slice_get x.state.branches r.branch ≡ Some branch) (stand : Stand g r false hand a x.state (w.lives c t) x.actions branch)
-    (z : Scene) (alive : (mode : ThreadMode) → mode ≡ Running → ThreadIs r.parents branch.mode mode) (silent : IsSilentStep g r (record { core = a; world = x.state; hand = hand }) z)
+    (z : Scene) (alive : (mode : ThreadMode) → mode ≡ Running → ThreadIs r.parents branch.mode mode) (calm : (bit : Bool) → bit ≡ false → EventsAre branch.mode branch.items bit) (silent : IsSilentStep g r (record { core = a; world = x.state; hand = hand }) z)
     (left : ℕ) (few : suc left ≤ stand.left) (by : StandsBy g r false branch.items branch.mode left z) where
   abbrev pub silent_machine : Machine
   silent_machine = record { cores = slice_set w.machine.cores c z.core; links = w.machine.links; trace = noted w.machine.trace None }
@@ -452,7 +452,7 @@ module _ (g : Setting) (first : Roles) (is : IsImageOf g first) (who : Roles) (w
   by_roles : (hand' : Option Hand) → z.hand ≡ hand' → (who' : Roles) (moved : ℕ → Bool) → SilentRoles g who who' c t r hand hand' a z.core branch moved → (AreNamed g who w x → AreNamed g who' (watched_after w (Step c t) silent_machine) nothing_told) →
       Follows g none_rests who w x (watched_after w (Step c t) silent_machine)
   by_roles hand' e who' moved roles named =
-      silent_answered g first is who w x st c t a at_c r hand runs_r branch known stand z.core hand' alive silent.on (scene_is hand' e (Touched g r before) silent.touched) silent.roots silent.channel_ends who' moved roles left few
+      silent_answered g first is who w x st c t a at_c r hand runs_r branch known stand z.core hand' alive calm silent.on (scene_is hand' e (Touched g r before) silent.touched) silent.roots silent.channel_ends who' moved roles left few
       (scene_is hand' e (StandsBy g r false branch.items branch.mode left) by) named
 
   by_change : HandChange g r before z → Follows g none_rests who w x (watched_after w (Step c t) silent_machine)

@@ -9,6 +9,7 @@ use Rattle.xs_instr.specs.declared.state.Regs.{Regs}
 use Rattle.xs_instr.specs.declared.trace.Record.{Record}
 use Rattle.xs_instr.specs.Did.{Did, Paused}
 use Rattle.xs_instr.specs.Machine.{Step, noted, stepped}
+use Rattle.xs_instr.specs.declared.state.Thread.{Thread}
 use Rattle.xc_meaning.specs.Counts.KernelCounts.{kernel_bound}
 use Rattle.xc_meaning.specs.States.Branches.{Branch, runs, ended, erred}
 use Rattle.xc_meaning.specs.States.Channels.{Side}
@@ -20,14 +21,16 @@ use Rattle.xr_threads.specs.Images.{IsImageOf}
 use Rattle.xr_threads.specs.Roles.{Roles, empty, used_by}
 use Rattle.xr_threads.specs.Runners.{Runner, Setting, home}
 use Rattle.xr_threads.specs.Scenes.{Scene, running}
-use Rattle.xr_threads.specs.Standing.{Stand, Standing, StandsBy, StandsWith, ThreadIs, none_rests}
+use Rattle.xr_threads.specs.Standing.{EventsAre, Stand, Standing, StandsBy, StandsWith, ThreadIs, none_rests}
 use Rattle.xr_threads.specs.Transfers.{Transfer}
+use Rattle.xr_threads.specs.Turns.{is_watching}
 use Rattle.xr_threads.specs.Wired.{AreSidesOn, AreWired, HasAlone, IsLine, IsTransferring}
 use Rattle.xr_threads.proofs.Advances.{advances, watched_next, who_next}
 use Rattle.xr_threads.proofs.EndSteps as step
 use Rattle.xr_threads.proofs.EndSteps.{advance, gone_on}
 use Rattle.xr_threads.proofs.Lives.{own_life}
 use Rattle.xr_threads.proofs.Standing.{Follows, told_by}
+use Rattle.xr_threads.proofs.Watching.{events_on}
 use Rattle.xr_threads.proofs.WiredMoves.{Moves}
 use Rattle.xr_wires.specs.Phases.{Phase, between, spot}
 
@@ -104,6 +107,13 @@ module _ (g : Setting) (first : Roles) (is : IsImageOf g first) (who : Roles) (w
   abbrev more : ℕ → ℕ
   more = (told_by g.program g.stimulus x [] x.state).actions
 
+  -- and takes no events
+  unwatched : is_watching branch.items ≡ false
+  unwatched =
+      let same : stand.thread.thread ≡ running r.tie pc regs = same_Some stand.thread.thread (running r.tie pc regs) (sym stand.thread.there ∙ here) in
+      let is = subst (λ m. EventsAre m branch.items stand.thread.thread.event_bit) on stand.thread.events in
+      sym is ∙ ap (λ (i : Thread). i.event_bit) same
+
   -- it is on its way still, by fewer steps
   own_stand : (rests : Bool) (fewer : ℕ) → suc fewer ≤ stand.left → StandsWith g s rests next branch.items fewer behind → Stand g s rests None left x.state (watched.lives c t) more branch
   own_stand rests fewer few by = record {
@@ -111,7 +121,7 @@ module _ (g : Setting) (first : Roles) (is : IsImageOf g first) (who : Roles) (w
     family = stand.family;
     footprint = stand.footprint;
     parents = stand.parents;
-    thread = record { thread = running r.tie (pc + 1) regs; there = gone_on g r a pc regs regs here ends; tied = refl; no_events = refl; is = subst (λ m. ThreadIs r.parents m Running) (sym on) refl };
+    thread = record { thread = running r.tie (pc + 1) regs; there = gone_on g r a pc regs regs here ends; tied = refl; events = events_on branch.mode branch.items false on (sym unwatched); is = subst (λ m. ThreadIs r.parents m Running) (sym on) refl };
     in_hand = empty refl;
     sides = stand.sides;
     done = λ over. absurd (runs_ended (sym on ∙ over));

@@ -37,7 +37,7 @@ use Rattle.xr_threads.specs.Runners.{IsChannel, Runner, Setting, footprint_of, h
 use Rattle.xr_threads.specs.Scenes.{Scene, running}
 use Rattle.xr_threads.specs.Standing.{Stand, Standing, StandsWith, none_rests}
 use Rattle.xr_threads.specs.Transfers.{AwaitsNothing, StopsIn, Transfer}
-use Rattle.xr_threads.specs.Turns.{Errs, Has, InTransfer, IsNext, Runs, TakesIn, cost}
+use Rattle.xr_threads.specs.Turns.{Errs, Has, InTransfer, IsNext, Runs, TakesIn, cost, is_watching}
 use Rattle.xr_threads.specs.Wired.{AreSidesOn, HasAlone, IsLine, boxes_in}
 use Rattle.xr_threads.proofs.ChannelBoxes.{line_boxed, line_parcels}
 use Rattle.xr_threads.proofs.ChannelEnds.{acts_there, end, end_is, is_near, left_local}
@@ -52,6 +52,7 @@ use Rattle.xr_threads.proofs.Shrinks.{transfer_shrinks}
 use Rattle.xr_threads.proofs.TransferBegins as begin
 use Rattle.xr_threads.proofs.TransferErrs.{errs_followed}
 use Rattle.xr_threads.proofs.Transferred.{inside_as}
+use Rattle.xr_threads.proofs.Watching.{nothing_unwatched}
 use Rattle.xr_threads.proofs.WiredMoves.{one_line, wired_moves}
 use Rattle.xr_wires.specs.Balance.{Local}
 use Rattle.xr_wires.specs.Phases.{checks_end, spot}
@@ -178,6 +179,13 @@ module _ (g : Setting) (first : Roles) (is : IsImageOf g first) (who : Roles) (w
     abbrev transfer : Transfer
     transfer = in_phase ch side checks_end
 
+    -- nothing is waited for behind it
+    nothing_awaited_behind : AwaitsNothing items
+    nothing_awaited_behind = storing_awaits_nothing h.input.target v rest h.awaits_nothing
+
+    unwatched : is_watching items ≡ false
+    unwatched = nothing_unwatched items nothing_awaited_behind
+
     abbrev s : Runner
     s = record r { footprint = footprint_of items; transfer = Some transfer }
 
@@ -195,7 +203,7 @@ module _ (g : Setting) (first : Roles) (is : IsImageOf g first) (who : Roles) (w
       inside : InTransfer g r transfer items j behind
       inside = record {
         pos = h.input.pos;
-        goes_with = storing_awaits_nothing h.input.target v rest h.awaits_nothing;
+        goes_with = nothing_awaited_behind;
         stands_in = h.on.stands_in;
         no_hand = refl;
         pc = h.pc + 1;
@@ -203,7 +211,7 @@ module _ (g : Setting) (first : Roles) (is : IsImageOf g first) (who : Roles) (w
         here = gone_on g r a h.pc h.regs regs' h.here es;
         steps = word_come g r ch side h.input.pos h.input.target rest j h.pc h.regs v h.steps;
         fits = storing_fits g r h.input.target v rest h.fits.0.0.target (let counted = h.fits.0.1 in omega (arith, counted)) h.fits.1;
-        has = has_behind g first is who w x st c t a at_c r runs_r branch known stand on h.pc h.regs regs' h.here es items (Some (Com r.core v)) world acted next refl has (Some transfer);
+        has = has_behind g first is who w x st c t a at_c r runs_r branch known stand on h.pc h.regs regs' h.here es items (Some (Com r.core v)) world acted next refl has unwatched (Some transfer);
       }
 
       stands_inside : StandsWith g s false (Some transfer) items (2 + j + cost g r) behind
@@ -211,7 +219,7 @@ module _ (g : Setting) (first : Roles) (is : IsImageOf g first) (who : Roles) (w
         j,
         omega arith,
         inside_as g (shrunk r items) (Some transfer) transfer items j behind refl
-            (transfer_shrinks g r items (less g first is who w x st c t a at_c r runs_r branch known stand on h.pc h.regs regs' h.here es items (Some (Com r.core v)) world acted next refl has (Some transfer)) transfer j behind inside),
+            (transfer_shrinks g r items (less g first is who w x st c t a at_c r runs_r branch known stand on h.pc h.regs regs' h.here es items (Some (Com r.core v)) world acted next refl has unwatched (Some transfer)) transfer j behind inside),
       )
 
       made_so : slot (home g r) a r.thread ≡ Made left (Some (Com r.core v)) [] →
@@ -219,7 +227,7 @@ module _ (g : Setting) (first : Roles) (is : IsImageOf g first) (who : Roles) (w
       made_so is_made made =
           let local = left_local g first is who w x st c t a at_c r None runs_r ch side line at there left _ (spot checks_end false) made.local in
           followed none_rests (λ d u ne. refl) left (Some (Com r.core v)) (ap (stepped (home g r) w.machine r.core r.thread a) is_made)
-          (does_so g first is who w x st c t a at_c r runs_r branch known stand on h.pc h.regs regs' h.here es items (Some (Com r.core v)) world acted next refl has (Some transfer)
+          (does_so g first is who w x st c t a at_c r runs_r branch known stand on h.pc h.regs regs' h.here es items (Some (Com r.core v)) world acted next refl has unwatched (Some transfer)
           none_rests j (2 + j + cost g r) few (omega arith) stands_inside
           (wired_moves g is.lines who w.machine.cores x.state.inboxes st.wired c t a at_c r None runs_r s None ch side line at there checks_end
           (begin.begins g first is none_rests who w x st c t r None runs_r none branch known on ch side is_channel uses stands s checks_end refl)
@@ -227,7 +235,7 @@ module _ (g : Setting) (first : Roles) (is : IsImageOf g first) (who : Roles) (w
           (subst (λ l. Local g.image.chans (slice_set w.machine.cores c left) l (moved_to st.wired.ghosts line side (spot checks_end false) [])) (sym boxes_then) local))
           (λ which e.
           subst (λ (k : Transfer). HasAlone world.branches k.channel k.side r.branch) (same_Some transfer which e)
-          (alone_still g first is who w x st c t a at_c r runs_r branch known stand on h.pc h.regs regs' h.here es items (Some (Com r.core v)) world acted next refl has (Some transfer) ch side is_channel.known alone)))
+          (alone_still g first is who w x st c t a at_c r runs_r branch known stand on h.pc h.regs regs' h.here es items (Some (Com r.core v)) world acted next refl has unwatched (Some transfer) ch side is_channel.known alone)))
 
   -- another parcel stood first
   errs : (p : Parcel) (ps : List Parcel) → parcels boxes line side ≡ p ∷ ps → is_offer p ≡ false → slot (home g r) a r.thread ≡ Traps Mismatch → Errs g r (record { core = a; world = x.state; hand = None })

@@ -18,6 +18,7 @@ use Rattle.xc_meaning.specs.Counts.KernelCounts.{greatest_count, kernel_bound}
 use Rattle.xc_meaning.specs.Runs.{acts, acts_all}
 use Rattle.xc_meaning.specs.Settings.Par.{all_done, is_done}
 use Rattle.xc_meaning.specs.States.Branches.{Branch, Mode, ended, erred, has_ended, runs, waits}
+use Rattle.xc_meaning.specs.States.Items.{Item}
 use Rattle.xc_meaning.specs.States.Worlds.{World, Action, go}
 use Rattle.xl_expr.proofs.Lists.{get_set_other, get_set_same}
 use Rattle.xl_par.specs.Hands.{Hand, IsAmong}
@@ -31,9 +32,9 @@ use Rattle.xr_threads.specs.Parents.{Parent, branches_of, syncs_of}
 use Rattle.xr_threads.specs.Roles.{AreRoles, AreUsedSo, HasReserves, ParentsWait, Role, Roles, gives_back, got_by, outermost, own_branches, unused, used_by}
 use Rattle.xr_threads.specs.Runners.{Footprint, Setting, Runner, code, footprint_of, home, plan}
 use Rattle.xr_threads.specs.Scenes.{Owns, giving_back, held_in, running, sync_in}
-use Rattle.xr_threads.specs.Standing.{AreLoose, HasEnded, IsMade, IsRun, Stand, Standing, Stands, StandsBy, counts, is_of_root, living_on, none_rests, one_where}
+use Rattle.xr_threads.specs.Standing.{AreLoose, EventsAre, HasEnded, IsMade, IsRun, Stand, Standing, Stands, StandsBy, counts, is_of_root, living_on, none_rests, one_where}
 use Rattle.xr_threads.specs.Transfers.{Transfer}
-use Rattle.xr_threads.specs.Turns.{GivesBack, Has, IsFree, IsWaitingTied, JoinsAt, cost}
+use Rattle.xr_threads.specs.Turns.{GivesBack, Has, IsFree, IsWaitingTied, JoinsAt, cost, is_watching}
 use Rattle.xr_threads.proofs.Apartness.{room_of_role}
 use Rattle.xr_threads.proofs.Counts.{living_after}
 use Rattle.xr_threads.proofs.Deciding.{Runs, done_each, ended_waits, hand_has_sync, runs_at_thread, tied_began, together, waits_where}
@@ -50,6 +51,7 @@ use Rattle.xr_threads.proofs.Shrinks.{fits_here}
 use Rattle.xr_threads.proofs.NamedLinks.{joins_linked, told_one}
 use Rattle.xr_threads.proofs.Standing.{Follows, parents_still, told_by}
 use Rattle.xr_threads.proofs.Steps.{answered, clocks_still, far_steps_still, has_stepped, steps_still, watched}
+use Rattle.xr_threads.proofs.Watching.{items_unwatched}
 use Rattle.xr_threads.proofs.Wiring.{TransfersAsBefore, wired_still}
 
 -- branches that wait stand before the first of their `par`
@@ -99,6 +101,13 @@ module _ (g : Setting) (first : Roles) (is : IsImageOf g first) (who : Roles) (w
     pub run : Runs g a x.state s other
     pub no_parents : s.parents ≡ []
     pub over : has_ended run.branch.mode ≡ true
+
+  -- which takes no events
+  over_calm : (mode : Mode) (items : List Item) (bit : Bool) → has_ended mode ≡ true → EventsAre mode items bit → bit ≡ false
+  over_calm runs items bit over h = absurd (let z : ⊥ = cc in z)
+  over_calm (waits from count) items bit over h = absurd h
+  over_calm ended items bit over h = h
+  over_calm erred items bit over h = absurd (let z : ⊥ = cc in z)
 
   pub joined_thread : (u : ℕ) (s : Runner) (other : Option Hand) → who c u ≡ used_by s other → s.tie ≡ Some n → IsJoined u s other
   joined_thread u s other e tie =
@@ -237,7 +246,7 @@ module _ (g : Setting) (first : Roles) (is : IsImageOf g first) (who : Roles) (w
         let there : slice_get a.threads u ≡ Some run.thread = ap (slice_get a.threads) (sym (st.roles.thread c u s other e)) ∙ run.there in (
           _,
           get_set_other joined_threads r.thread u th' (λ f. ne (f ∙ thread_is)) ∙ joined_one a.threads n u run.thread there (num_same run.thread.tie n (run.tied ∙ tie)),
-          record { unused = refl; no_events = run.no_events; untied = refl },
+          record { unused = refl; no_events = over_calm run.branch.mode run.branch.items run.thread.event_bit (joined_thread u s other e tie).over run.events; untied = refl },
           refl,
         )
 
@@ -620,7 +629,7 @@ module _ (g : Setting) (first : Roles) (is : IsImageOf g first) (who : Roles) (w
       footprint = ap footprint_of (sym chain.0.items);
       parents = parents_still g maker x.state world r.core r.family ps p.branch
           (λ b m. other_there b (λ e. let lt = parents_below g x.state (length g.program.roots) r.core r.family forest ps p.branch chain.1 b m in let z : ⊥ = omega (arith, lt, e) in z)) chain.1;
-      thread = record { thread = th'; there = own_left; tied = refl; no_events = refl; is = refl };
+      thread = record { thread = th'; there = own_left; tied = refl; events = sym (ap is_watching chain.0.items ∙ items_unwatched g maker p.items gives'.exits (gives'.pc + 1) j gives'.at_code); is = refl };
       in_hand = gives_back n refl;
       sides = chain.0.sides;
       done = λ over. refl;

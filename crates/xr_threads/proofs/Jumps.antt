@@ -56,6 +56,7 @@ module _ (g : Setting) (r : Runner) where
           ports = λ q n. refl;
         };
         hand = keeps refl refl (same_use g r y (after g r y (moved_to y.core pc p regs)) (λ u ne. get_set_other y.core.threads r.thread u th' ne));
+        was = at_runs g r y pc regs here;
         on = at_runs g r (after g r y (moved_to y.core pc p regs)) p regs (get_set_same y.core.threads r.thread (running r.tie pc regs) th' here);
       }
 

@@ -127,6 +127,7 @@ pub mod Transferred
 pub mod Turned
 pub mod Usage
 pub mod Waiting
+pub mod Watching
 pub mod Weights
 pub mod WiredMoves
 pub mod Wiring

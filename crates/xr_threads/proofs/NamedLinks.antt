@@ -12,7 +12,7 @@ use Rattle.xc_meaning.specs.Runs.{step_of}
 use Rattle.xc_meaning.specs.Settings.Par.{all_begun}
 use Rattle.xc_meaning.specs.States.Branches.{Branch}
 use Rattle.xc_meaning.specs.States.Items.{Item}
-use Rattle.xc_meaning.specs.States.Worlds.{World, Action, go}
+use Rattle.xc_meaning.specs.States.Worlds.{World, Action}
 use Rattle.xl_par.specs.Hands.{Hand, IsAmong, with_sync, with_thread_got}
 use Rattle.xl_sides.specs.Ends.{Sides}
 use Rattle.xr_match.specs.Lives.{Watched, life_after}
@@ -24,6 +24,7 @@ use Rattle.xr_threads.specs.Roles.{IsOnce, Role, Roles, got_by, unused, used_by}
 use Rattle.xr_threads.specs.Runners.{Setting, Runner}
 use Rattle.xr_threads.specs.Scenes.{SameUse, Scene, giving_back}
 use Rattle.xr_threads.specs.Standing.{Standing}
+use Rattle.xr_threads.specs.Turns.{OwnAction}
 use Rattle.xr_threads.proofs.Named.{HandStays}
 use Rattle.xr_threads.proofs.NamedBegins.{AreBegun}
 use Rattle.xr_threads.proofs.NamedBound.{stand_of}
@@ -36,7 +37,7 @@ use Rattle.xr_threads.proofs.Indices.{index_among, index_further, index_here, in
 use Rattle.xr_threads.proofs.OpensRoles.{at_kid, at_own, elsewhere, kid, kid_there, opens, own as opens_own, own_there, place}
 use Rattle.xr_threads.proofs.JoinsRoles as joins_of
 use Rattle.xr_threads.proofs.JoinsRoles.{joins}
-use Rattle.xr_threads.proofs.Counts.{counts_one}
+use Rattle.xr_threads.proofs.Counts.{counts_own}
 use Rattle.xr_threads.proofs.ParWorlds.{new_branches, opened, waiting}
 use Rattle.xr_threads.proofs.Seating as seating
 use Rattle.xr_threads.proofs.Seats.{role_cases, role_here, with_role}
@@ -107,15 +108,15 @@ module _ (g : Setting) (may_rest : (core thread : ℕ) → Bool) (who : Roles) (
         goes_named g may_rest who (with_role who c t role) w m' x x' st named c t a b at_a at_b r None runs_r goes syncs threads s None (role_here who c t role) family (inl refl) (with_role_others who c t role)
 
     -- The end of a root.
-    pub leaves_linked : who c t ≡ used_by r None → (y : World) (new old : Branch) → slice_get x.state.branches r.branch ≡ Some old → new.birth ≡ old.birth → y.branches ≡ slice_set x.state.branches r.branch new → b.syncs ≡ a.syncs →
-        ((u : ℕ) → u ≢ t → slice_get b.threads u ≡ slice_get a.threads u) → AreNamed g (with_role who c t unused) w' (told_by g.program g.stimulus x (go r.branch ∷ []) y)
-    leaves_linked runs_r y new old known birth set syncs threads =
+    pub leaves_linked : who c t ≡ used_by r None → (action : Action) → OwnAction r.branch action → (y : World) (new old : Branch) → slice_get x.state.branches r.branch ≡ Some old → new.birth ≡ old.birth → y.branches ≡ slice_set x.state.branches r.branch new → b.syncs ≡ a.syncs →
+        ((u : ℕ) → u ≢ t → slice_get b.threads u ≡ slice_get a.threads u) → AreNamed g (with_role who c t unused) w' (told_by g.program g.stimulus x (action ∷ []) y)
+    leaves_linked runs_r action own y new old known birth set syncs threads =
         let stand = stand_of g may_rest who w x st c a at_a t r None runs_r in
-        let one = counts_one g r.branch x.state stand.0 [] stand.1 in
-        let one' = subst (λ f. 1 ≤ steps_of g.program g.stimulus f (Some x.state) (go r.branch ∷ [])) stand.2.family one in
-        let x' = told_by g.program g.stimulus x (go r.branch ∷ []) y in
+        let one = counts_own g r.branch x.state stand.0 action [] stand.1 own in
+        let one' = subst (λ f. 1 ≤ steps_of g.program g.stimulus f (Some x.state) (action ∷ [])) stand.2.family one in
+        let x' = told_by g.program g.stimulus x (action ∷ []) y in
         freed_named g may_rest who (with_role who c t unused) w m' x x' st named c t a b at_a at_b r None runs_r
-        (told_one g x (go r.branch ∷ []) y r.branch old new known birth set) syncs threads (role_here who c t unused) (omega (arith, one')) (with_role_others who c t unused)
+        (told_one g x (action ∷ []) y r.branch old new known birth set) syncs threads (role_here who c t unused) (omega (arith, one')) (with_role_others who c t unused)
 
     -- A synchroniser is given back.
     pub resumes_linked : (s : Runner) (n : ℕ) → who c t ≡ used_by r (giving_back n) → s.family ≡ r.family → (x' : Told (of_kernel g.program)) → Goes g x x' → slice_get a.syncs n ≡ Some true → b.syncs ≡ slice_set a.syncs n false → ((u : ℕ) → u ≢ t → slice_get b.threads u ≡ slice_get a.threads u) →

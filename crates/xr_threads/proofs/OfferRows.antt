@@ -168,7 +168,7 @@ module _ (g : Setting) (first : Roles) (is : IsImageOf g first) (who : Roles) (w
       here = gone_on g r a h.pc h.regs h.regs h.here es;
       steps = offer_sent g r ch side h.output.pos (IsBehind g r items j) h.pc h.regs h.value h.steps;
       fits = (is_channel, h.fits.1);
-      has = has_behind g first is who w x st c t a at_c r runs_r branch known stand on h.pc h.regs h.regs h.here es items None world acted next refl has (Some transfer);
+      has = has_behind g first is who w x st c t a at_c r runs_r branch known stand on h.pc h.regs h.regs h.here es items None world acted next refl has refl (Some transfer);
     }
 
     stands_inside : StandsWith g s false (Some transfer) items (2 + j + cost g r) behind
@@ -176,7 +176,7 @@ module _ (g : Setting) (first : Roles) (is : IsImageOf g first) (who : Roles) (w
       j,
       omega arith,
       inside_as g (shrunk r items) (Some transfer) transfer items j behind refl
-          (transfer_shrinks g r items (less g first is who w x st c t a at_c r runs_r branch known stand on h.pc h.regs h.regs h.here es items None world acted next refl has (Some transfer)) transfer j behind inside),
+          (transfer_shrinks g r items (less g first is who w x st c t a at_c r runs_r branch known stand on h.pc h.regs h.regs h.here es items None world acted next refl has refl (Some transfer)) transfer j behind inside),
     )
 
     made_so : slot (home g r) a r.thread ≡ Made left None [] →
@@ -184,7 +184,7 @@ module _ (g : Setting) (first : Roles) (is : IsImageOf g first) (who : Roles) (w
     made_so is_made made =
         let local = left_local g first is who w x st c t a at_c r None runs_r ch side line at there left _ (spot (sends_end h.value) false) made.local in
         followed none_rests (λ d u ne. refl) left None (ap (stepped (home g r) w.machine r.core r.thread a) is_made)
-        (does_so g first is who w x st c t a at_c r runs_r branch known stand on h.pc h.regs h.regs h.here es items None world acted next refl has (Some transfer)
+        (does_so g first is who w x st c t a at_c r runs_r branch known stand on h.pc h.regs h.regs h.here es items None world acted next refl has refl (Some transfer)
         none_rests j (2 + j + cost g r) few (omega arith) stands_inside
         (wired_moves g is.lines who w.machine.cores x.state.inboxes st.wired c t a at_c r None runs_r s None ch side line at there (sends_end h.value)
         (begin.begins g first is none_rests who w x st c t r None runs_r none branch known on ch side is_channel uses stands s (sends_end h.value) refl)
@@ -192,7 +192,7 @@ module _ (g : Setting) (first : Roles) (is : IsImageOf g first) (who : Roles) (w
         (subst (λ l. Local g.image.chans (slice_set w.machine.cores c left) l (moved_to st.wired.ghosts line side (spot (sends_end h.value) false) [])) (sym boxes_then) local))
         (λ which e.
         subst (λ (k : Transfer). HasAlone world.branches k.channel k.side r.branch) (same_Some transfer which e)
-        (alone_still g first is who w x st c t a at_c r runs_r branch known stand on h.pc h.regs h.regs h.here es items None world acted next refl has (Some transfer) ch side is_channel.known alone)))
+        (alone_still g first is who w x st c t a at_c r runs_r branch known stand on h.pc h.regs h.regs h.here es items None world acted next refl has refl (Some transfer) ch side is_channel.known alone)))
 
   abbrev Row : Type 0
   Row = NearSend g.image.chans is.lines.wired w.machine.cores boxes st.wired.ghosts st.wired.local line (pair_of g.program ch) side (home g r) a own_end near_it r.thread thread (word_tokens h.value) (boxed boxes line (other_side side) (parcels boxes line (other_side side) ++ offer h.value ∷ [])) (spot (sends_end h.value) false)

@@ -44,13 +44,14 @@ use Rattle.xr_threads.specs.Parents.{syncs_of}
 use Rattle.xr_threads.specs.Runners.{Setting, Runner, IsLaidOut, code, home, plan, port_place, relied}
 use Rattle.xr_threads.specs.Scenes.{Scene, Kept, running}
 use Rattle.xr_threads.specs.Turns as turn
-use Rattle.xr_threads.specs.Turns.{CannotAct, Errs, Goes, Has, HasBases, IsAt, IsOnSide, ItemsFrom, PortIs, PortsStand, Runs, StatementLeads, Turn, Turns, cost}
+use Rattle.xr_threads.specs.Turns.{CannotAct, Errs, Goes, Has, HasBases, IsAt, IsOnSide, ItemsFrom, PortIs, PortsStand, Runs, StatementLeads, Turn, Turns, cost, own_go}
 use Rattle.xr_threads.proofs.Arriving.{Since, apart_of_changes, at_runs, arrives_at_port, but, port_kept, since_kept}
 use Rattle.xr_threads.proofs.Bases.{bases_worked}
 use Rattle.xr_threads.proofs.Evaluations.{err_acts, eval_still, item_acts, kinds_agree, nodes_are, runs_with, with_items}
 use Rattle.xr_threads.proofs.Layouts.{has_since_port, laid_at, room_of, runs_at, runs_kept, store_since}
 use Rattle.xr_threads.proofs.Offered.{offer_leads}
 use Rattle.xr_threads.proofs.Scenes.{leads_as, leads_more}
+use Rattle.xr_threads.proofs.Watching.{here_at, items_unwatched}
 
 -- two numbers are compared either way
 eqb_swap : (a b : ℕ) → nat_eq a b ≡ nat_eq b a
@@ -295,6 +296,8 @@ module _ (g : Setting) (r : Runner) (laid : IsLaidOut g r) (o : kernel.Output) (
                   mode = runs.running;
                   core = has.core;
                   world = world;
+                  action = go r.branch;
+                  own = own_go;
                   acted = step_by true h;
                   is_next = record { clocks = refl; branches = refl; store = λ u c. refl; trace = refl };
                   inboxes = refl;
@@ -305,7 +308,7 @@ module _ (g : Setting) (r : Runner) (laid : IsLaidOut g r) (o : kernel.Output) (
                   pc = pc';
                   regs = w.regs;
                   exits = exits;
-                  here = get_set_same x.core.threads r.thread (running r.tie w.index w.regs) (running r.tie pc' w.regs) w.here;
+                  here = here_at rest (items_unwatched g r rest exits pc' j behind) (get_set_same x.core.threads r.thread (running r.tie w.index w.regs) (running r.tie pc' w.regs) w.here);
                   bases = bases_worked g r (syncs_of r.parents) regs w.regs w.others bases;
                   at_code = behind;
                   fits = fit_rest;

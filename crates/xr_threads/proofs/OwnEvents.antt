@@ -12,7 +12,7 @@ use Rattle.xc_disjoint.specs.Needs.{threads_on}
 use Rattle.xc_laws.specs.Tree.{IsWaiting}
 use Rattle.xc_meaning.specs.Runs.{acts, acts_all}
 use Rattle.xc_meaning.specs.States.Branches.{Branch, runs, waits, ended, has_ended}
-use Rattle.xc_meaning.specs.States.Worlds.{World, Action, go}
+use Rattle.xc_meaning.specs.States.Worlds.{World, Action}
 use Rattle.xl_expr.proofs.Lists.{get_set_same, get_set_other}
 use Rattle.xl_par.specs.Hands.{Hand, IsAmong}
 use Rattle.xr_match.specs.Lives.{Watched}
@@ -26,7 +26,7 @@ use Rattle.xr_threads.specs.Runners.{Runner, Setting, footprint_of}
 use Rattle.xr_threads.specs.Scenes.{Touched, giving_back}
 use Rattle.xr_threads.specs.Standing.{AreLoose, IsMade, IsRun, Stand, Standing, Stands, counts, living_on, none_rests}
 use Rattle.xr_threads.specs.Transfers.{Transfer}
-use Rattle.xr_threads.specs.Turns.{HoldsStore, IsNext, PortsStand}
+use Rattle.xr_threads.specs.Turns.{HoldsStore, IsNext, OwnAction, PortsStand}
 use Rattle.xr_threads.specs.Wired.{AreWired, HasAlone}
 use Rattle.xr_threads.proofs.Alone.{alone_behind}
 use Rattle.xr_threads.proofs.Counts.{far_counts, living_after}
@@ -75,7 +75,9 @@ pub record OwnStep (g : Setting) (r : Runner) (c : ℕ) (a : CoreState) (x : Wor
   pub known : slice_get x.branches r.branch ≡ Some branch
   pub running : branch.mode ≡ runs
   pub world : World
-  pub acted : acts g.program g.stimulus x (go r.branch) ≡ Some world
+  pub action : Action
+  pub own : OwnAction r.branch action
+  pub acted : acts g.program g.stimulus x action ≡ Some world
   pub next : Branch
   pub transfer : Option Transfer
   pub birth : next.birth ≡ branch.birth
@@ -100,7 +102,7 @@ module _ (g : Setting) (first : Roles) (is : IsImageOf g first) (who : Roles) (w
   moved = only_thread t
 
   abbrev piece : List Action
-  piece = go r.branch ∷ []
+  piece = e.action ∷ []
 
   -- the branch is another one, and the others are what they were
   own_branch : slice_get e.world.branches r.branch ≡ Some e.next

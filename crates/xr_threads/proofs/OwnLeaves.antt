@@ -7,7 +7,7 @@ use Rattle.xs_instr.specs.Machine.{noted}
 use Rattle.xc_disjoint.specs.Needs.{threads_on}
 use Rattle.xc_meaning.specs.Runs.{acts_all}
 use Rattle.xc_meaning.specs.States.Branches.{Branch, has_ended}
-use Rattle.xc_meaning.specs.States.Worlds.{Action, go}
+use Rattle.xc_meaning.specs.States.Worlds.{Action}
 use Rattle.xl_par.specs.Hands.{Hand, IsAmong}
 use Rattle.xr_match.specs.Lives.{Watched}
 use Rattle.xr_match.specs.Meanings.{of_kernel}
@@ -36,7 +36,7 @@ module _ (g : Setting) (first : Roles) (is : IsImageOf g first) (who : Roles) (w
     (c t : ℕ) (a : CoreState) (at_c : slice_get w.machine.cores c ≡ Some a) (r : Runner) (runs_r : who c t ≡ used_by r None) (e : OwnStep g r c a x.state)
     (tie : r.tie ≡ None) (parents : r.parents ≡ []) (over : has_ended e.next.mode ≡ true) (free : IsFree (slice_get e.left.threads r.thread)) where
   abbrev piece : List Action
-  piece = go r.branch ∷ []
+  piece = e.action ∷ []
 
   abbrev effect : Effect g who c t r None (only_thread t) a e.left x.state e.world
   effect = own_effect g first is who w x st c t a at_c r runs_r e
@@ -148,5 +148,5 @@ module _ (g : Setting) (first : Roles) (is : IsImageOf g first) (who : Roles) (w
               run = run_off;
               made = own_made g first is who w x st c t a at_c r runs_r e;
             });
-        named = λ names. leaves_linked g none_rests who w x st names watched_off.machine c t a e.left at_c (at_left g first is who w x st c t a at_c r runs_r e) r runs_r e.world e.next e.branch e.known e.birth e.is_next.branches e.syncs (others_there g first is who w x st c t a at_c r runs_r e);
+        named = λ names. leaves_linked g none_rests who w x st names watched_off.machine c t a e.left at_c (at_left g first is who w x st c t a at_c r runs_r e) r runs_r e.action e.own e.world e.next e.branch e.known e.birth e.is_next.branches e.syncs (others_there g first is who w x st c t a at_c r runs_r e);
       }

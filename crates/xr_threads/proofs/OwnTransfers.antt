@@ -24,7 +24,7 @@ use Rattle.xr_threads.specs.Runners.{Runner, Setting, footprint_of}
 use Rattle.xr_threads.specs.Scenes.{Scene, running}
 use Rattle.xr_threads.specs.Standing.{Stand, Standing, StandsBy, StandsWith, ThreadIs, none_rests}
 use Rattle.xr_threads.specs.Transfers.{Transfer}
-use Rattle.xr_threads.specs.Turns.{Has, IsNext, cost}
+use Rattle.xr_threads.specs.Turns.{Has, IsNext, cost, is_watching, own_go}
 use Rattle.xr_threads.specs.Wired.{AreWired, HasAlone}
 use Rattle.xr_threads.proofs.Alone.{alone_behind}
 use Rattle.xr_threads.proofs.Answers as answers
@@ -38,6 +38,7 @@ use Rattle.xr_threads.proofs.Seats.{with_role}
 use Rattle.xr_threads.proofs.Shrinks.{IsWithin, within_of_uses}
 use Rattle.xr_threads.proofs.Standing.{Follows, told_by}
 use Rattle.xr_threads.proofs.Turned.{parents_behind}
+use Rattle.xr_threads.proofs.Watching.{events_on}
 
 -- a step of the family pays for the steps that are left of the transfer
 pays_for : (most greatest steps left j further actions more : ℕ) → most ≡ 8 * (greatest + 16) → steps + left ≤ most * (actions + 1) → j ≤ left → further ≤ j + 2 + (8 * greatest + 8) → 1 ≤ more → steps + 1 + further ≤ most * (actions + more + 1)
@@ -51,7 +52,7 @@ module _ (g : Setting) (first : Roles) (is : IsImageOf g first) (who : Roles) (w
     (branch : Branch) (known : slice_get x.state.branches r.branch ≡ Some branch) (stand : Stand g r false None a x.state (w.lives c t) x.actions branch) (on : branch.mode ≡ runs)
     (pc : ℕ) (regs regs' : Regs) (here : slice_get a.threads r.thread ≡ Some (running r.tie pc regs)) (ends : List ChanEnd)
     (items : List Item) (made : Option Record) (world : World) (acted : acts g.program g.stimulus x.state (go r.branch) ≡ Some world)
-    (is_next : IsNext g r x.state world (record branch { items = items }) made) (store : world.store ≡ x.state.store) (has : Has g r branch.items (record { core = a; world = x.state; hand = None })) (transfer : Option Transfer) where
+    (is_next : IsNext g r x.state world (record branch { items = items }) made) (store : world.store ≡ x.state.store) (has : Has g r branch.items (record { core = a; world = x.state; hand = None })) (unwatched : is_watching items ≡ false) (transfer : Option Transfer) where
   abbrev pub left : CoreState
   left = step.left g r a pc regs regs' here ends
 
@@ -69,6 +70,8 @@ module _ (g : Setting) (first : Roles) (is : IsImageOf g first) (who : Roles) (w
     known = known;
     running = on;
     world = world;
+    action = go r.branch;
+    own = own_go;
     acted = acted;
     next = record branch { items = items };
     birth = refl;
@@ -133,7 +136,7 @@ module _ (g : Setting) (first : Roles) (is : IsImageOf g first) (who : Roles) (w
     family = stand.family;
     footprint = refl;
     parents = parents_behind g first is who w x st c t a at_c r runs_r branch known stand own_step;
-    thread = record { thread = running r.tie (pc + 1) regs'; there = gone_on g r a pc regs regs' here ends; tied = refl; no_events = refl; is = subst (λ m. ThreadIs r.parents m Running) (sym on) refl };
+    thread = record { thread = running r.tie (pc + 1) regs'; there = gone_on g r a pc regs regs' here ends; tied = refl; events = events_on branch.mode items false on (sym unwatched); is = subst (λ m. ThreadIs r.parents m Running) (sym on) refl };
     in_hand = empty refl;
     sides = stand.sides;
     done = λ over. absurd (runs_ended (sym on ∙ over));

@@ -20,9 +20,10 @@ use Rattle.xl_walk.specs.Pieces.{Exit}
 use Rattle.xr_threads.specs.Fits.{ItemsFit}
 use Rattle.xr_threads.specs.Runners.{Setting, Runner, MayChange, home, plan}
 use Rattle.xr_threads.specs.Scenes.{Scene, running}
-use Rattle.xr_threads.specs.Turns.{HasBases, Has, IsAt, ItemsFrom, Goes}
+use Rattle.xr_threads.specs.Turns.{HasBases, Has, IsAt, ItemsFrom, Goes, own_go}
 use Rattle.xr_threads.proofs.Evaluations.{runs_with, with_items}
 use Rattle.xr_threads.proofs.Layouts.{ports_last}
+use Rattle.xr_threads.proofs.Watching.{here_at, items_unwatched}
 
 -- the turn of a running thread that takes no events is the row of its instruction
 pub turn_is_row : (h : Home) (a : CoreState) (t : ℕ) (tie : Option ℕ) (pc : ℕ) (regs : Regs) (i : Instr) → slice_get a.threads t ≡ Some (running tie pc regs) → instr_at h pc ≡ Some i → is_waiteu (Some i) ≡ false → slot h a t ≡ row h a t (running tie pc regs) i
@@ -75,6 +76,8 @@ module _ (g : Setting) (r : Runner) where
           mode = has.runs.running;
           core = has.core;
           world = x;
+          action = go r.branch;
+          own = own_go;
           acted = acted;
           is_next = record { clocks = refl; branches = refl; store = same; trace = refl };
           inboxes = refl;
@@ -85,7 +88,7 @@ module _ (g : Setting) (r : Runner) where
           pc = pc;
           regs = regs;
           exits = exits;
-          here = get_set_same y.core.threads r.thread th th' made.here;
+          here = here_at items (items_unwatched g r items exits pc jumps at_code) (get_set_same y.core.threads r.thread th th' made.here);
           bases = bases;
           at_code = at_code;
           fits = fits;

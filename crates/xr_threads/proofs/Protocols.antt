@@ -132,7 +132,7 @@ module _ (g : Setting) (r : Runner) where
   nothing_awaited (stores place v ∷ rest) exits pc j h = tt
   nothing_awaited (awaits c pos ∷ rest) exits pc j h = absurd h.stands
   nothing_awaited (transaction_end c is_master pos ∷ rest) exits pc j h = tt
-  nothing_awaited (chooses choices otherwise ∷ rest) exits pc j h = tt
+  nothing_awaited (chooses choices otherwise ∷ rest) exits pc j h = absurd h.stands
   nothing_awaited (fixed i v counter ∷ rest) exits pc j h = tt
   nothing_awaited (ends ∷ rest) exits pc j h = tt
 
@@ -171,6 +171,6 @@ module _ (g : Setting) (r : Runner) where
   stores_or_stands (stores place v ∷ rest) j pc regs none h = inl (record { place = place; value = v; rest = rest; is = refl })
   stores_or_stands (awaits c pos ∷ rest) j pc regs none h = absurd none
   stores_or_stands (transaction_end c is_master pos ∷ rest) j pc regs none h = inr (record { bases = h.0; exits = h.1.0; at_code = h.1.1 })
-  stores_or_stands (chooses choices otherwise ∷ rest) j pc regs none h = inr (record { bases = h.0; exits = h.1.0; at_code = h.1.1 })
+  stores_or_stands (chooses choices otherwise ∷ rest) j pc regs none h = absurd none
   stores_or_stands (fixed i v counter ∷ rest) j pc regs none h = inr (record { bases = h.0; exits = h.1.0; at_code = h.1.1 })
   stores_or_stands (ends ∷ rest) j pc regs none h = inr (record { bases = h.0; exits = h.1.0; at_code = h.1.1 })

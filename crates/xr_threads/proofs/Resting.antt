@@ -15,11 +15,12 @@ use Rattle.xl_par.specs.Hands.{Hand, IsAmong, one_if, empty_hand}
 use Rattle.xr_match.specs.Lives.{Life}
 use Rattle.xr_threads.specs.Roles.{HandFits, IsOnce, ParentsWait, empty, opens}
 use Rattle.xr_threads.specs.Runners.{Runner, Setting, footprint_of}
-use Rattle.xr_threads.specs.Scenes.{held_in, running, sync_in}
+use Rattle.xr_threads.specs.Scenes.{held_in, running_so, sync_in}
 use Rattle.xr_threads.specs.Standing.{Stand, StandsBy, StandsWith, ThreadIs}
-use Rattle.xr_threads.specs.Turns.{Rest, cost, first_hand}
+use Rattle.xr_threads.specs.Turns.{Rest, cost, first_hand, is_watching}
 use Rattle.xr_threads.specs.Living.{opened, opens_by, some_more}
 use Rattle.xr_threads.proofs.Sums.{some_named, sum, sum_most, sum_one, total_least, total_swap, named_true}
+use Rattle.xr_threads.proofs.Watching.{events_on}
 
 -- Differing numbers below seven are at most seven.
 
@@ -90,10 +91,10 @@ resting g s may a y life more next j left may_be core family footprint parents s
   footprint = footprint;
   parents = parents;
   thread = record {
-    thread = running s.tie rest.pc rest.regs;
+    thread = running_so (is_watching next.items) s.tie rest.pc rest.regs;
     there = rest.here;
     tied = refl;
-    no_events = refl;
+    events = events_on next.mode next.items (is_watching next.items) mode refl;
     is = subst (λ m. ThreadIs s.parents m Running) (sym mode) refl;
   };
   in_hand = empty refl;

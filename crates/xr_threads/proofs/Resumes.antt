@@ -26,7 +26,7 @@ use Rattle.xr_threads.specs.Roles.{AreRoles, AreUsedSo, IsParent, Role, Roles, e
 use Rattle.xr_threads.specs.Runners.{Setting, Runner, home}
 use Rattle.xr_threads.specs.Scenes.{Owns, giving_back, held_in, running, sync_in}
 use Rattle.xr_threads.specs.Standing.{AreLoose, IsRun, Stand, Standing, Stands, StandsBy, StandsWith, ThreadIs, none_rests}
-use Rattle.xr_threads.specs.Turns.{GivesBack, IsFree, IsWaitingTied, Rest, cost}
+use Rattle.xr_threads.specs.Turns.{GivesBack, IsFree, IsWaitingTied, Rest, cost, is_watching}
 use Rattle.xr_threads.proofs.OwnEvents.{rests_alone, rests_there}
 use Rattle.xr_threads.proofs.Deciding.{hand_has_sync, runs_at_thread}
 use Rattle.xr_threads.proofs.Lives.{own_life}
@@ -38,6 +38,7 @@ use Rattle.xr_threads.proofs.NamedLinks.{resumes_linked, told_same}
 use Rattle.xr_threads.proofs.Standing.{Follows, told_by}
 use Rattle.xr_threads.proofs.Steps.{answered, clocks_still, far_steps_still, has_stepped, steps_still, watched}
 use Rattle.xr_threads.proofs.Usage.{OthersUsed, used_on}
+use Rattle.xr_threads.proofs.Watching.{events_on, here_at, items_unwatched}
 use Rattle.xr_threads.proofs.Wiring.{TransfersAsBefore, wired_still}
 
 module _ (g : Setting) (first : Roles) (is : IsImageOf g first) (who : Roles) (w : Watched) (x : Told (of_kernel g.program)) (st : Standing g none_rests who w x)
@@ -229,13 +230,16 @@ module _ (g : Setting) (first : Roles) (is : IsImageOf g first) (who : Roles) (w
     abbrev watched' : Watched
     watched' = watched g first is none_rests who w x st c t a at_c r (giving_back n) runs_r (λ u. nat_eq u t) (eq-eqb t t refl) left x.state effect None
 
+    unwatched : is_watching branch.items ≡ false
+    unwatched = items_unwatched g r branch.items gives.exits (gives.pc + 1) j gives.at_code
+
     -- the thread is at rest behind that
     rest' : Rest g r branch.items j (record { core = left; world = x.state; hand = None })
     rest' = record {
       pc = gives.pc + 1;
       regs = gives.regs;
       exits = gives.exits;
-      here = get_set_same a.threads r.thread th th' gives.here;
+      here = here_at branch.items unwatched (get_set_same a.threads r.thread th th' gives.here);
       bases = gives.bases;
       at_code = gives.at_code;
       fits = gives.fits;
@@ -258,7 +262,7 @@ module _ (g : Setting) (first : Roles) (is : IsImageOf g first) (who : Roles) (w
         thread = th';
         there = get_set_same a.threads r.thread th th' gives.here;
         tied = refl;
-        no_events = refl;
+        events = events_on branch.mode branch.items false mode (sym unwatched);
         is = subst (λ m. ThreadIs r.parents m Running) (sym mode) refl;
       };
       in_hand = empty refl;

@@ -554,7 +554,7 @@ module _ (g : Setting) (who : Roles) (x : World) (c : ℕ) (a : CoreState) (crew
           let h = crew.threads u r hand e in
           let place = crew.roles.thread c u r hand e in
           let same : h.thread ≡ y = some_given (sym h.there ∙ ap (slice_get a.threads) place ∙ at) in
-          ap (λ (k : Thread). k.event_bit) (sym same) ∙ h.no_events
+          absurd (h.used (ap (λ (k : Thread). k.mode) same ∙ mode))
 
   -- no thread is tied to a free synchroniser
   not_named : (o : Option ℕ) (n : ℕ) → slice_get a.syncs n ≡ Some false → ((m : ℕ) → o ≡ Some m → slice_get a.syncs m ≡ Some true) → is_num o n ≡ false

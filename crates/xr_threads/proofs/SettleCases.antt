@@ -308,7 +308,7 @@ module _ (g : Setting) (first : Roles) (is : IsImageOf g first) (may_rest : (cor
             thread = running r.tie at_end.pc at_end.regs;
             there = at_end.here;
             tied = refl;
-            no_events = refl;
+            events = refl;
             is = subst (λ l. ThreadIs l ended Running) (sym parents) refl;
           };
           in_hand = empty refl;

@@ -35,6 +35,7 @@ use Rattle.xr_threads.proofs.Evaluations.{item_acts, runs_with, with_items}
 use Rattle.xr_threads.proofs.Items.{behind_jumps, pieces_before}
 use Rattle.xr_threads.proofs.Jumps.{jumps_way}
 use Rattle.xr_threads.proofs.Waiting.{none_runs, parents_wait_on, waits_below, waits_known, waits_otherwise}
+use Rattle.xr_threads.proofs.Watching.{code_unwatched, here_at, here_from, rest_unwatched}
 
 -- What is left of a branch uses no more.
 
@@ -111,7 +112,7 @@ module _ (g : Setting) (r : Runner) where
     pc = pc;
     regs = regs;
     exits = exits;
-    here = ap (λ c. slice_get c.threads r.thread) same_core ∙ here;
+    here = here_at items (code_unwatched (plan g r) (code g r) sides (EndAt (plan g r) (code g r) r.tie ps) items exits pc j at_code) (ap (λ c. slice_get c.threads r.thread) same_core ∙ here);
     bases = record { base = bases.base; stack = bases.stack; names = subst (λ syncs. HoldsNames r.core syncs regs) (sym same_syncs) bases.names };
     at_code = at_code;
     fits = fits;
@@ -137,7 +138,7 @@ module _ (g : Setting) (r : Runner) where
         known = has.runs.known;
         running = has.runs.running;
         acted = acted;
-        rest = going_rest r.branch r.parents r.sides items j z y (record has.branch { items = items }) h.pc h.regs exits h.here refl h.bases refl at_code fits
+        rest = going_rest r.branch r.parents r.sides items j z y (record has.branch { items = items }) h.pc h.regs exits (here_from (item ∷ rest) (rest_unwatched g r (item ∷ rest) j z h) h.here) refl h.bases refl at_code fits
             (runs_with z.world r.branch has.branch (item ∷ rest) items has.runs) has.core
             (less_holds r.branch r.parents r.sides items z y (λ v u. ap (λ (f : Footprint). f.uses v) footprint ∙ less (variable v) u) refl refl has.holds)
             (less_ports r.branch r.parents r.sides items z y (λ p u. ap (λ (f : Footprint). f.ports p) footprint ∙ less (port p) u) refl has.ports);

@@ -25,7 +25,7 @@ use Rattle.xr_threads.specs.Living.{AreNamed}
 use Rattle.xr_threads.specs.Roles.{AreRoles, AreUsedSo, HandFits, Roles, got_by, used_by}
 use Rattle.xr_threads.specs.Runners.{Setting, Runner, IsLaidOut, IsPort, MayChange, anyone, of_stack, of_variable, port_place}
 use Rattle.xr_threads.specs.Scenes.{Owns, StillRuns, Touched}
-use Rattle.xr_threads.specs.Standing.{AreLoose, IsRun, IsWanted, NobodyChanges, NobodyHas, Stand, Standing, Stands, StandsBy, ThreadIs, none_rests, only}
+use Rattle.xr_threads.specs.Standing.{AreLoose, EventsAre, IsRun, IsWanted, NobodyChanges, NobodyHas, Stand, Standing, Stands, StandsBy, ThreadIs, none_rests, only}
 use Rattle.xr_threads.specs.Turns.{PortIs}
 use Rattle.xr_threads.proofs.Holding.{LeavesLoose, holds_on}
 use Rattle.xl_expr.proofs.Lists.{get_set_same}
@@ -112,7 +112,7 @@ pub record SilentRoles
 module _ (g : Setting) (first : Roles) (is : IsImageOf g first) (who : Roles) (w : Watched) (x : Told (of_kernel g.program)) (st : Standing g none_rests who w x)
     (c t : ℕ) (a : CoreState) (at_c : slice_get w.machine.cores c ≡ Some a) (r : Runner) (hand : Option Hand) (runs_r : who c t ≡ used_by r hand)
     (branch : Branch) (known : slice_get x.state.branches r.branch ≡ Some branch) (stand : Stand g r false hand a x.state (w.lives c t) x.actions branch)
-    (b : CoreState) (hand' : Option Hand) (alive : (mode : ThreadMode) → mode ≡ Running → ThreadIs r.parents branch.mode mode) (on : StillRuns g r b)
+    (b : CoreState) (hand' : Option Hand) (alive : (mode : ThreadMode) → mode ≡ Running → ThreadIs r.parents branch.mode mode) (calm : (bit : Bool) → bit ≡ false → EventsAre branch.mode branch.items bit) (on : StillRuns g r b)
     (touched : Touched g r (record { core = a; world = x.state; hand = hand }) (record { core = b; world = x.state; hand = hand' }))
     (roots : b.roots ≡ a.roots) (ends : b.ends ≡ a.ends) (who' : Roles) (moved : (thread : ℕ) → Bool) (s : SilentRoles g who who' c t r hand hand' a b branch moved) where
   pub silent_effect : Effect g who c t r hand moved a b x.state x.state
@@ -165,7 +165,7 @@ module _ (g : Setting) (first : Roles) (is : IsImageOf g first) (who : Roles) (w
       family = stand.family;
       footprint = stand.footprint;
       parents = stand.parents;
-      thread = record { thread = on.thread; there = on.there; tied = on.tied; no_events = on.no_events; is = alive on.thread.mode on.runs };
+      thread = record { thread = on.thread; there = on.there; tied = on.tied; events = calm on.thread.event_bit on.no_events; is = alive on.thread.mode on.runs };
       in_hand = s.in_hand;
       sides = stand.sides;
       done = stand.done;

@@ -107,12 +107,12 @@ module _ (g : Setting) (r : Runner) where
   rests_more a b items erred left z le h = h
 
   -- the thread that runs it is there still
-  thread_still : (mode : Mode) (z y : Scene) → Kept g r z y → HasThread g r mode z.core → HasThread g r mode y.core
-  thread_still mode z y k h = record {
+  thread_still : (mode : Mode) (items : List Item) (z y : Scene) → Kept g r z y → HasThread g r mode items z.core → HasThread g r mode items y.core
+  thread_still mode items z y k h = record {
     thread = h.thread;
     there = k.thread ∙ h.there;
     tied = h.tied;
-    no_events = h.no_events;
+    events = h.events;
     is = h.is;
   }
 
@@ -146,7 +146,7 @@ module _ (g : Setting) (r : Runner) where
         family = h.family;
         footprint = h.footprint;
         parents = parents_still x y r.core r.family r.parents r.branch k.parents h.parents;
-        thread = thread_still branch.mode z z' k h.thread;
+        thread = thread_still branch.mode branch.items z z' k h.thread;
         in_hand = h.in_hand;
         sides = h.sides;
         done = h.done;

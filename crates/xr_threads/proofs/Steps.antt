@@ -93,7 +93,6 @@ module _ (g : Setting) (first : Roles) (is : IsImageOf g first) (may_rest : (cor
         thread = h.thread;
         there = effect.threads s.thread (ap moved (st.roles.thread c u s other runs_s) ∙ m) ∙ h.there;
         tied = h.tied;
-        no_events = h.no_events;
         used = h.used;
       }
 

@@ -42,6 +42,7 @@ use Rattle.xr_threads.proofs.OwnEvents.{rests_alone, rests_there}
 use Rattle.xr_threads.proofs.Protocols.{ack_sent, end_sent, end_taken}
 use Rattle.xr_threads.proofs.Stored.{stored_leads}
 use Rattle.xr_threads.proofs.Transferred.{behind_as, fits_as, has_as, laid_as, rest_as, steps_as}
+use Rattle.xr_threads.proofs.Watching.{here_at, items_unwatched}
 use Rattle.xr_threads.proofs.WiredMoves.{Moves, wired_moves}
 use Rattle.xr_wires.specs.Phases.{Phase, awaits_ack, between, checks_end, offers, sends_ack, sends_end, spot}
 use Rattle.xr_wires.proofs.Near as near
@@ -248,7 +249,7 @@ module _ (g : Setting) (first : Roles) (is : IsImageOf g first) (who : Roles) (w
             pc = h.pc + 1;
             regs = h.regs;
             exits = exits;
-            here = out_here;
+            here = here_at branch.items (items_unwatched g r branch.items exits (h.pc + 1) j code) out_here;
             bases = bases;
             at_code = code;
             fits = h.fits;

@@ -10,7 +10,7 @@ use Rattle.xc_laws.specs.Tree.{IsWaiting}
 use Rattle.xc_meaning.specs.Counts.Families.{steps_of}
 use Rattle.xc_meaning.specs.Counts.KernelCounts.{greatest_count, kernel_bound}
 use Rattle.xc_meaning.specs.States.Branches.{Branch, runs, ended, erred, has_ended}
-use Rattle.xc_meaning.specs.States.Worlds.{World, go}
+use Rattle.xc_meaning.specs.States.Worlds.{World}
 use Rattle.xl_par.specs.Hands.{IsAmong}
 use Rattle.xr_match.specs.Lives.{Life, Watched}
 use Rattle.xr_match.specs.Meanings.{of_kernel}
@@ -19,12 +19,12 @@ use Rattle.xr_threads.specs.Images.{IsImageOf}
 use Rattle.xr_threads.specs.Parents.{Parent, branches_of}
 use Rattle.xr_threads.specs.Roles.{IsParent, ParentWaits, ParentsWait, Roles, empty, outermost, used_by}
 use Rattle.xr_threads.specs.Runners.{Setting, Runner, footprint_of, shrunk}
-use Rattle.xr_threads.specs.Scenes.{Scene, running}
+use Rattle.xr_threads.specs.Scenes.{Scene, running, running_so}
 use Rattle.xr_threads.specs.Standing.{HasEnded, Stand, Standing, StandsBy, StandsWith, ThreadIs, counts, none_rests}
 use Rattle.xr_threads.specs.Transfers.{StopsIn, Transfer}
-use Rattle.xr_threads.specs.Turns.{Errs, Frees, Goes, IsTiedThread, IsWaitingTied, Waits, cost, failed, finished}
+use Rattle.xr_threads.specs.Turns.{Errs, Frees, Goes, IsTiedThread, IsWaitingTied, Waits, cost, failed, finished, is_watching}
 use Rattle.xr_threads.proofs.Answers.{errs_step, frees_step, goes_step, trap_leaves, waits_step}
-use Rattle.xr_threads.proofs.Counts.{counts_one, made_counts, root_counts}
+use Rattle.xr_threads.proofs.Counts.{counts_own, made_counts, root_counts}
 use Rattle.xr_threads.proofs.Less.{uses_less}
 use Rattle.xr_threads.proofs.Lives.{own_life}
 use Rattle.xr_threads.proofs.Moves.{works_at}
@@ -32,6 +32,7 @@ use Rattle.xr_threads.proofs.OwnEvents.{OwnStep, alone_on, bound_grows, goes_on_
 use Rattle.xr_threads.proofs.OwnLeaves.{leaves_answered, watched_off}
 use Rattle.xr_threads.proofs.Shrinks.{IsWithin, rest_shrinks, within_of_uses}
 use Rattle.xr_threads.proofs.Standing.{Follows, parents_still, rests_more, told_by}
+use Rattle.xr_threads.proofs.Watching.{events_on}
 
 -- the one among them that waits
 pub parent_of : (g : Setting) (x : World) (core family first : ℕ) (ps : List Parent) (p : Parent) → ParentsWait g x core family ps first → IsParent ps p → (k : ℕ) × ParentWaits g x core family p k
@@ -64,13 +65,13 @@ module _ (g : Setting) (first : Roles) (is : IsImageOf g first) (who : Roles) (w
 
     -- its life is one step longer
     bound_behind : (j further : ℕ) → j ≤ stand.left → further ≤ j + 1 + cost g r →
-        (e_watched.lives c t).steps + further ≤ kernel_bound g.program * ((told_by g.program g.stimulus x (go r.branch ∷ []) e.world).actions r.family + 1)
+        (e_watched.lives c t).steps + further ≤ kernel_bound g.program * ((told_by g.program g.stimulus x (e.action ∷ []) e.world).actions r.family + 1)
     bound_behind j further few enough =
-        let one : 1 ≤ steps_of g.program g.stimulus branch.family (Some x.state) (go r.branch ∷ []) = counts_one g r.branch x.state branch [] known in
-        let one' : 1 ≤ steps_of g.program g.stimulus r.family (Some x.state) (go r.branch ∷ []) = subst (λ f. 1 ≤ steps_of g.program g.stimulus f (Some x.state) (go r.branch ∷ [])) stand.family one in
+        let one : 1 ≤ steps_of g.program g.stimulus branch.family (Some x.state) (e.action ∷ []) = counts_own g r.branch x.state branch e.action [] known e.own in
+        let one' : 1 ≤ steps_of g.program g.stimulus r.family (Some x.state) (e.action ∷ []) = subst (λ f. 1 ≤ steps_of g.program g.stimulus f (Some x.state) (e.action ∷ [])) stand.family one in
         let life : (e_watched.lives c t).steps ≡ (w.lives c t).steps + 1 = ap (λ (l : Life). l.steps) (own_life w e_watched.machine c t) in
-        let all = bound_grows (kernel_bound g.program) (greatest_count g.program) (w.lives c t).steps stand.left j further (x.actions r.family) (steps_of g.program g.stimulus r.family (Some x.state) (go r.branch ∷ [])) refl stand.bound few enough one' in
-        subst (λ k. k + further ≤ kernel_bound g.program * ((told_by g.program g.stimulus x (go r.branch ∷ []) e.world).actions r.family + 1)) (sym life) all
+        let all = bound_grows (kernel_bound g.program) (greatest_count g.program) (w.lives c t).steps stand.left j further (x.actions r.family) (steps_of g.program g.stimulus r.family (Some x.state) (e.action ∷ [])) refl stand.bound few enough one' in
+        subst (λ k. k + further ≤ kernel_bound g.program * ((told_by g.program g.stimulus x (e.action ∷ []) e.world).actions r.family + 1)) (sym life) all
 
     -- those that wait for the branch do so still
     pub parents_behind : ParentsWait g e.world r.core r.family r.parents r.branch
@@ -96,13 +97,13 @@ module _ (g : Setting) (first : Roles) (is : IsImageOf g first) (who : Roles) (w
     less : IsWithin (footprint_of h.items) r.footprint
     less = subst (IsWithin (footprint_of h.items)) (sym (stand.footprint ∙ ap (λ (b : Branch). footprint_of b.items) (sym (same_branch went))))
         (within_of_uses h.items h.acts.branch.items
-        (uses_less g.program g.stimulus x.state h.acts.world (go r.branch) st.lawful h.acts.acted r.branch h.acts.branch (record h.acts.branch { items = h.items }) h.acts.known
+        (uses_less g.program g.stimulus x.state h.acts.world h.acts.action st.lawful h.acts.acted r.branch h.acts.branch (record h.acts.branch { items = h.items }) h.acts.known
         (ap (λ l. slice_get l r.branch) h.acts.is_next.branches ∙ Rattle.xl_expr.proofs.Lists.get_set_same x.state.branches r.branch h.acts.branch (record h.acts.branch { items = h.items }) h.acts.known)))
 
     abbrev pub went_watched : Watched
     went_watched = watched_on g first is who w x st c t a at_c r runs_r went (rests_alone c t)
 
-    went_stand : Stand g (shrunk r h.items) (rests_alone c t c t) None h.left h.acts.world (went_watched.lives c t) (told_by g.program g.stimulus x (go r.branch ∷ []) h.acts.world).actions (record h.acts.branch { items = h.items })
+    went_stand : Stand g (shrunk r h.items) (rests_alone c t c t) None h.left h.acts.world (went_watched.lives c t) (told_by g.program g.stimulus x (h.acts.action ∷ []) h.acts.world).actions (record h.acts.branch { items = h.items })
     went_stand =
         let further = h.jumps + cost g r in
         let z : Scene = record { core = h.left; world = h.acts.world; hand = None } in
@@ -113,7 +114,7 @@ module _ (g : Setting) (first : Roles) (is : IsImageOf g first) (who : Roles) (w
           family = ap (λ (b : Branch). b.family) (same_branch went) ∙ stand.family;
           footprint = refl;
           parents = parents_behind went;
-          thread = record { thread = running r.tie h.rest.pc h.rest.regs; there = h.rest.here; tied = refl; no_events = refl; is = subst (λ m. ThreadIs r.parents m Rattle.xs_instr.specs.declared.state.Mode.TheVariants.Running) (sym h.acts.mode) refl };
+          thread = record { thread = running_so (is_watching h.items) r.tie h.rest.pc h.rest.regs; there = h.rest.here; tied = refl; events = events_on h.acts.branch.mode h.items (is_watching h.items) h.acts.mode refl; is = subst (λ m. ThreadIs r.parents m Rattle.xs_instr.specs.declared.state.Mode.TheVariants.Running) (sym h.acts.mode) refl };
           in_hand = empty refl;
           sides = ap (λ (b : Branch). b.sides) (same_branch went) ∙ stand.sides;
           done = λ f. none;
@@ -147,7 +148,7 @@ module _ (g : Setting) (first : Roles) (is : IsImageOf g first) (who : Roles) (w
     abbrev pub erring_watched : Watched
     erring_watched = watched_on g first is who w x st c t a at_c r runs_r erring none_rests
 
-    erring_stand : Stand g (shrunk r []) false None (trapped a r.thread) h.acts.world (erring_watched.lives c t) (told_by g.program g.stimulus x (go r.branch ∷ []) h.acts.world).actions (failed h.acts.branch)
+    erring_stand : Stand g (shrunk r []) false None (trapped a r.thread) h.acts.world (erring_watched.lives c t) (told_by g.program g.stimulus x (h.acts.action ∷ []) h.acts.world).actions (failed h.acts.branch)
     erring_stand =
         let t' = trap_leaves g r c a x.state stand.thread.thread stand.thread.there in
         record {
@@ -155,7 +156,7 @@ module _ (g : Setting) (first : Roles) (is : IsImageOf g first) (who : Roles) (w
           family = ap (λ (b : Branch). b.family) (same_branch erring) ∙ stand.family;
           footprint = refl;
           parents = parents_behind erring;
-          thread = record { thread = record stand.thread.thread { mode = Trapped }; there = t'.there; tied = stand.thread.tied; no_events = stand.thread.no_events; is = trapped_is r.parents };
+          thread = record { thread = record stand.thread.thread { mode = Trapped }; there = t'.there; tied = stand.thread.tied; events = tt; is = trapped_is r.parents };
           in_hand = empty refl;
           sides = ap (λ (b : Branch). b.sides) (same_branch erring) ∙ stand.sides;
           done = λ f. absurd (erred_ended f);
@@ -231,7 +232,7 @@ module _ (g : Setting) (first : Roles) (is : IsImageOf g first) (who : Roles) (w
     abbrev pub waiting_watched : Watched
     waiting_watched = watched_on g first is who w x st c t a at_c r runs_r waiting none_rests
 
-    waiting_stand : Stand g (shrunk r []) false None h.left h.acts.world (waiting_watched.lives c t) (told_by g.program g.stimulus x (go r.branch ∷ []) h.acts.world).actions (finished h.acts.branch)
+    waiting_stand : Stand g (shrunk r []) false None h.left h.acts.world (waiting_watched.lives c t) (told_by g.program g.stimulus x (h.acts.action ∷ []) h.acts.world).actions (finished h.acts.branch)
     waiting_stand =
         let th = waits_thread (slice_get h.left.threads r.thread) refl h.waits in
         record {
@@ -239,7 +240,7 @@ module _ (g : Setting) (first : Roles) (is : IsImageOf g first) (who : Roles) (w
           family = ap (λ (b : Branch). b.family) (same_branch waiting) ∙ stand.family;
           footprint = refl;
           parents = parents_behind waiting;
-          thread = record { thread = th.0; there = th.1; tied = th.2.tied ∙ sym h.tied; no_events = th.2.no_events; is = subst (λ ps. ThreadIs ps ended th.0.mode) (sym h.outermost) th.2.waits };
+          thread = record { thread = th.0; there = th.1; tied = th.2.tied ∙ sym h.tied; events = th.2.no_events; is = subst (λ ps. ThreadIs ps ended th.0.mode) (sym h.outermost) th.2.waits };
           in_hand = empty refl;
           sides = ap (λ (b : Branch). b.sides) (same_branch waiting) ∙ stand.sides;
           done = λ f. none;

@@ -1,5 +1,5 @@
 -- What is known of the branch that a thread runs, beside where the thread stands.
-use Rattle.std.proofs.Common.{◌≡◌, ◌≢◌, ℕ, ◌<◌, ◌≤◌, Bool, false, List, [], ◌∷◌, Option, Some, None, refl, sym, ◌∙◌, subst, arith}
+use Rattle.std.proofs.Common.{◌≡◌, ◌≢◌, ℕ, ◌<◌, ◌≤◌, Bool, List, [], ◌∷◌, Option, Some, None, refl, sym, ◌∙◌, subst, arith}
 use Rattle.std.proofs.lemmas.Option.{slice_get_within}
 use Rattle.std.specs.Prelude.{slice_get}
 use Rattle.xs_instr.specs.declared.state.CoreState.{CoreState}
@@ -43,7 +43,6 @@ pub record HasOwnThread (a : CoreState) (r : Runner) : Type 0 where
   pub thread : Thread
   pub there : slice_get a.threads r.thread ≡ Some thread
   pub tied : thread.tie ≡ r.tie
-  pub no_events : thread.event_bit ≡ false
   pub used : thread.mode ≢ Unused
 
 -- what is known of all runners of a core
@@ -105,7 +104,7 @@ pub own_thread_of : (g : Setting) (r : Runner) (may_rest : Bool) (hand : Option 
 own_thread_of g r may_rest hand a x life actions h =
     let s = some_is (Stand g r may_rest hand a x life actions) (slice_get x.branches r.branch) h in
     let t = s.2.thread in
-    record { thread = t.thread; there = t.there; tied = t.tied; no_events = t.no_events; used = used_by_thread r.parents s.0.mode t.thread.mode t.is }
+    record { thread = t.thread; there = t.there; tied = t.tied; used = used_by_thread r.parents s.0.mode t.thread.mode t.is }
 
 module _ (g : Setting) (first who : Roles) (may_rest : ℕ → ℕ → Bool) (w : Watched) (x : Told (of_kernel g.program)) (c : ℕ) (a : CoreState) (image : IsImageOf g first) (st : Standing g may_rest who w x) (at_c : slice_get w.machine.cores c ≡ Some a) where
   stands_at : (t : ℕ) (r : Runner) (hand : Option Hand) → who c t ≡ used_by r hand → Stands g (may_rest c t) a x.state (w.lives c t) x.actions (used_by r hand)

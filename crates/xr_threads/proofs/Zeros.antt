@@ -12,7 +12,7 @@ use Rattle.xs_instr.specs.OwnSteps.{Within, temporary}
 use Rattle.xc_kernel.specs.Plain as kernel
 use Rattle.xc_kernel.specs.Eval.{Store, words_of}
 use Rattle.xc_meaning.specs.States.Items.{Item, does}
-use Rattle.xc_meaning.specs.States.Worlds.{with_zeros, zero_for}
+use Rattle.xc_meaning.specs.States.Worlds.{go, with_zeros, zero_for}
 use Rattle.xl_expr.specs.declared.plan.VarAt.{VarAt}
 use Rattle.xl_expr.specs.declared.plan.VarAt.TheVariants.{Near}
 use Rattle.xl_expr.specs.declared.plan.VarPlan.{VarPlan}
@@ -25,12 +25,13 @@ use Rattle.xr_threads.specs.Parents.{syncs_of}
 use Rattle.xr_threads.specs.Runners.{Setting, Runner, IsLaidOut, MayChange, of_variable, home, plan, relied}
 use Rattle.xr_threads.specs.Scenes.{Scene, running}
 use Rattle.xr_threads.specs.Turns as turn
-use Rattle.xr_threads.specs.Turns.{Goes, Has, HasBases, HoldsStore, ItemsFrom, Runs, StatementLeads, Turns, cost}
+use Rattle.xr_threads.specs.Turns.{Goes, Has, HasBases, HoldsStore, ItemsFrom, Runs, StatementLeads, Turns, cost, own_go}
 use Rattle.xr_threads.proofs.Arriving.{Since, any_port, arrives, at_runs, core_kept, since_kept, stack_relied}
 use Rattle.xr_threads.proofs.Bases.{bases_worked}
 use Rattle.xr_threads.proofs.Evaluations.{item_acts, runs_with, with_items}
 use Rattle.xr_threads.proofs.Layouts.{ports_last, runs_at, runs_kept, variable_relied}
 use Rattle.xr_threads.proofs.Scenes.{leads_as, leads_more}
+use Rattle.xr_threads.proofs.Watching.{here_at, items_unwatched}
 
 -- where word i of a variable stands that begins at word d + n
 index_is : (d n i : ℕ) → d + n + i < 16384 → address_at (address_at (4 * d) n) i / 4 ≡ d + n + i
@@ -233,6 +234,8 @@ module _ (g : Setting) (r : Runner) (v : ℕ) (laid : IsLaidOut g r) (is : IsCha
               mode = runs.running;
               core = has.core;
               world = world;
+              action = go r.branch;
+              own = own_go;
               acted = item_acts g.program g.stimulus r.branch x.world branch (does (kernel.set_zero v)) rest runs;
               is_next = record {
                 clocks = refl;
@@ -248,7 +251,7 @@ module _ (g : Setting) (r : Runner) (v : ℕ) (laid : IsLaidOut g r) (is : IsCha
               pc = pc';
               regs = w.regs;
               exits = exits;
-              here = get_set_same x.core.threads r.thread old new w.here;
+              here = here_at rest (items_unwatched g r rest exits pc' j behind) (get_set_same x.core.threads r.thread old new w.here);
               bases = bases_worked g r (syncs_of r.parents) regs w.regs w.others bases;
               at_code = behind;
               fits = fits;

@@ -1,5 +1,5 @@
 -- A thread on its way, by steps that nobody sees, whatever the others do in between.
-use Rattle.std.specs.Prelude.{◌≡◌, ◌≢◌, ◌⊎◌, ℕ, zero, suc, ◌≤◌, true, List, [], Option, Some, None, false, length, slice_get, slice_set}
+use Rattle.std.specs.Prelude.{◌≡◌, ◌≢◌, ◌⊎◌, ℕ, zero, suc, ◌≤◌, Bool, true, List, [], Option, Some, None, false, length, slice_get, slice_set}
 use Rattle.xs_instr.specs.declared.state.CoreState.{CoreState}
 use Rattle.xs_instr.specs.declared.state.Mode.TheVariants.{Running}
 use Rattle.xs_instr.specs.declared.state.Regs.{Regs}
@@ -36,9 +36,13 @@ abbrev pub SpareFor : Option Hand → CoreState → Type 0
 SpareFor None core = Unit {0}
 SpareFor (Some hand) core = HasSpare hand core
 
--- a thread that runs and takes no events
+-- a thread that runs, and takes events or not
+abbrev pub running_so : (takes_events : Bool) → Option ℕ → ℕ → Regs → Thread
+running_so takes_events tie pc regs = record { mode = Running; pc = pc; regs = regs; event_bit = takes_events; tie = tie }
+
+-- one that takes none
 abbrev pub running : Option ℕ → ℕ → Regs → Thread
-running tie pc regs = record { mode = Running; pc = pc; regs = regs; event_bit = false; tie = tie }
+running tie pc regs = running_so false tie pc regs
 
 -- a synchroniser is one of the runner's: of a branch that waits, or in its hand
 abbrev pub Owns : Runner → Option Hand → (n : ℕ) → Type 0
@@ -87,7 +91,7 @@ module _ (g : Setting) (r : Runner) where
         z.hand ≡ Some (with_thread_got hand u) → slice_get z.core.threads u ≡ Some (tied_to n x) →
         ((v : ℕ) → v ≢ r.thread → v ≢ u → slice_get z.core.threads v ≡ slice_get y.core.threads v) → HandChange y z
 
-  -- the runner's thread runs
+  -- the runner's thread runs, and takes no events
   pub record StillRuns (a : CoreState) : Type 0 where
     pub thread : Thread
     pub there : slice_get a.threads r.thread ≡ Some thread
@@ -103,6 +107,7 @@ module _ (g : Setting) (r : Runner) where
     pub channel_ends : z.core.ends ≡ y.core.ends
     pub touched : Touched y z
     pub hand : HandChange y z
+    pub was : StillRuns y.core
     pub on : StillRuns z.core
 
   abbrev pub after : Scene → CoreState → Scene

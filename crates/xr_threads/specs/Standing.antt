@@ -28,7 +28,7 @@ use Rattle.xr_threads.specs.Runners.{Setting, Runner, IsPort, anyone, footprint_
 use Rattle.xr_threads.specs.Scenes.{Scene}
 use Rattle.xr_threads.specs.Plain.{ArePlain}
 use Rattle.xr_threads.specs.Transfers.{StopsIn, Transfer, steps_left}
-use Rattle.xr_threads.specs.Turns.{GivesBack, InTransfer, IsJoining, Leads, PortIs, Rest, cost}
+use Rattle.xr_threads.specs.Turns.{GivesBack, InTransfer, IsJoining, Leads, PortIs, Rest, cost, is_watching}
 use Rattle.xr_threads.specs.Wired.{AreWired, HasAlone}
 
 -- one variable alone
@@ -42,6 +42,13 @@ ThreadIs ps (waits from count) mode = ⊥
 ThreadIs [] ended mode = mode ≡ Waiting
 ThreadIs (p ∷ ps) ended mode = mode ≡ Running
 ThreadIs ps erred mode = mode ≡ Trapped
+
+-- Whether it takes events: a branch that runs says so, one that has ended takes none, and of one that has erred nobody asks.
+abbrev pub EventsAre : Mode → List Item → (takes_events : Bool) → Type 0
+EventsAre runs items bit = bit ≡ is_watching items
+EventsAre (waits from count) items bit = ⊥
+EventsAre ended items bit = bit ≡ false
+EventsAre erred items bit = Unit {0}
 
 module _ (g : Setting) (r : Runner) where
   -- The first item's own instruction is reached soon, and then few jumps are still to be done; `most` bounds both together.
@@ -83,11 +90,11 @@ module _ (g : Setting) (r : Runner) where
   StandsBy may_rest items erred left z = z.hand ≡ None
 
   -- the thread that runs the branch
-  pub record HasThread (mode : Mode) (a : CoreState) : Type 0 where
+  pub record HasThread (mode : Mode) (items : List Item) (a : CoreState) : Type 0 where
     pub thread : Thread
     pub there : slice_get a.threads r.thread ≡ Some thread
     pub tied : thread.tie ≡ r.tie
-    pub no_events : thread.event_bit ≡ false
+    pub events : EventsAre mode items thread.event_bit
     pub is : ThreadIs r.parents mode thread.mode
 
   -- The thread runs this branch, in a life whose steps, with those that are left to it before the branch's next one, are within the bound.
@@ -98,7 +105,7 @@ module _ (g : Setting) (r : Runner) where
     pub family : branch.family ≡ r.family
     pub footprint : r.footprint ≡ footprint_of branch.items
     pub parents : ParentsWait g x r.core r.family r.parents r.branch
-    pub thread : HasThread branch.mode a
+    pub thread : HasThread branch.mode branch.items a
     pub in_hand : HandFits branch.items hand
     pub sides : branch.sides ≡ r.sides
     pub done : branch.mode ≡ ended → r.transfer ≡ None

@@ -3,7 +3,7 @@ use Rattle.std.specs.Prelude.{◌≡◌, ℕ, true, List, [], ◌∷◌, Option,
 use Rattle.xw_words.specs.declared.pos.Pos.{Pos}
 use Rattle.xs_instr.specs.Ends.{control_token}
 use Rattle.xc_meaning.specs.States.Channels.{Side}
-use Rattle.xc_meaning.specs.States.Items.{Item, awaits}
+use Rattle.xc_meaning.specs.States.Items.{Item, awaits, chooses}
 use Rattle.xl_chan.specs.Protocols.{ACK, Act, input_ends, output_ends, sends, takes}
 use Rattle.xr_wires.specs.Phases.{Phase, awaits_ack, between, checks_end, closes, offers, opens, sends_ack, sends_end, streams, was_closed}
 
@@ -25,9 +25,10 @@ acts_left streams = []
 abbrev pub steps_left : Phase → ℕ
 steps_left phase = length (acts_left phase)
 
--- no answer is waited for
+-- no answer is waited for, and no event
 abbrev pub AwaitsNothing : List Item → Type 0
 AwaitsNothing (awaits c pos ∷ rest) = ⊥
+AwaitsNothing (chooses choices otherwise ∷ rest) = ⊥
 AwaitsNothing items = Unit {0}
 
 -- What is left to the branch: behind an offer it waits for the answer, at the place of the output; an input has been done.

@@ -1,5 +1,5 @@
 -- What a thread's next step is, once it stands at the own instruction of its branch's first item, and the branch's action that goes with it.
-use Rattle.std.specs.Prelude.{◌≡◌, ℕ, zero, suc, ◌+◌, ◌*◌, ◌-◌, ◌<◌, ◌≤◌, true, false, List, [], ◌∷◌, Option, Some, None, length, slice_get, slice_index_or, slice_set}
+use Rattle.std.specs.Prelude.{◌≡◌, ℕ, zero, suc, ◌+◌, ◌*◌, ◌-◌, ◌<◌, ◌≤◌, Bool, true, false, List, [], ◌∷◌, Option, Some, None, length, slice_get, slice_index_or, slice_set}
 use Rattle.xw_words.specs.declared.pos.Pos.{Pos}
 use Rattle.xs_instr.specs.declared.state.CoreState.{CoreState}
 use Rattle.xs_instr.specs.declared.instr.Reg.{Reg}
@@ -28,9 +28,9 @@ use Rattle.xc_kernel.specs.Eval.{eval, words_of}
 use Rattle.xc_meaning.specs.Counts.KernelCounts.{branch_count}
 use Rattle.xc_meaning.specs.Settings.Sides.{sides_in}
 use Rattle.xc_meaning.specs.States.Channels.{Side}
-use Rattle.xc_meaning.specs.States.Items.{Item, awaits, does, ends, stores, storing, todo}
+use Rattle.xc_meaning.specs.States.Items.{Item, awaits, chooses, does, ends, stores, storing, todo}
 use Rattle.xc_meaning.specs.States.Branches.{Branch, runs, ended, erred}
-use Rattle.xc_meaning.specs.States.Worlds.{World, go, take, default}
+use Rattle.xc_meaning.specs.States.Worlds.{World, Action, go, take, default}
 use Rattle.xc_meaning.specs.Runs.{acts}
 use Rattle.xl_chan.specs.Protocols.{Act, ActsAll, input_acts, output_acts}
 use Rattle.xl_expr.specs.Frames.{Holds}
@@ -44,7 +44,7 @@ use Rattle.xl_walk.specs.Pieces.{Exit, LinesAt, PieceAt}
 use Rattle.xr_threads.specs.Fits.{Fits, ItemsFit, greatest}
 use Rattle.xr_threads.specs.Runners.{Setting, Runner, IsLaidOut, IsPort, code, end_place, home, plan, port_place}
 use Rattle.xr_threads.specs.Transfers.{Transfer, AwaitsNothing, GoesWith, acts_left}
-use Rattle.xr_threads.specs.Scenes.{Scene, Kept, Touched, LeadsIn, after, giving_back, running}
+use Rattle.xr_threads.specs.Scenes.{Scene, Kept, Touched, LeadsIn, after, giving_back, running, running_so}
 
 -- an unused thread, which takes no events and isn't tied
 pub record IsFreeThread (thread : Thread) : Type 0 where
@@ -101,6 +101,17 @@ abbrev pub first_hand : List Item → Option Hand
 first_hand (does (kernel.par bs) ∷ rest) = hand_for bs
 first_hand items = None
 
+-- a branch takes an event next, where it has chosen among the cases of a `select`
+abbrev pub is_watching : List Item → Bool
+is_watching (chooses choices otherwise ∷ rest) = true
+is_watching items = false
+
+-- an action of a branch's own: it does its first item, takes a case of a `select`, or its default
+pub data OwnAction (b : ℕ) : Action → Type 0 where
+  own_go : OwnAction b (go b)
+  own_take : (n : ℕ) → OwnAction b (take b n)
+  own_default : OwnAction b (default b)
+
 -- branch b of a state runs, with these items
 pub record Runs (x : World) (b : ℕ) (branch : Branch) (items : List Item) : Type 0 where
   pub known : slice_get x.branches b ≡ Some branch
@@ -124,6 +135,10 @@ module _ (g : Setting) (r : Runner) where
   -- the runner's thread is at an index with these registers
   abbrev pub IsAt : Scene → ℕ → Regs → Type 0
   IsAt z pc regs = slice_get z.core.threads r.thread ≡ Some (running r.tie pc regs)
+
+  -- the same where its branch has these items to do: it takes events where the first of them waits for one
+  abbrev pub IsAtItems : List Item → Scene → ℕ → Regs → Type 0
+  IsAtItems items z pc regs = slice_get z.core.threads r.thread ≡ Some (running_so (is_watching items) r.tie pc regs)
 
   -- dp and sp are the runner's, and from r1 on stand the names of the synchronisers of the branches that wait, the innermost one's first
   pub record HasBasesBy (syncs : List ℕ) (regs : Regs) : Type 0 where
@@ -169,7 +184,7 @@ module _ (g : Setting) (r : Runner) where
     pub pc : ℕ
     pub regs : Regs
     pub exits : List Exit
-    pub here : IsAt z pc regs
+    pub here : IsAtItems items z pc regs
     pub bases : HasBases regs
     pub at_code : ItemsFrom items exits pc j
     pub fits : ItemsFit g r items
@@ -225,14 +240,16 @@ module _ (g : Setting) (r : Runner) where
     pub store : (v : ℕ) → r.footprint.changes v ≡ false → words_of y.store v ≡ words_of x.store v
     pub trace : y.trace ≡ noted x.trace made
 
-  -- the branch acts
+  -- the branch acts, by an action of its own
   pub record Acts (x : World) (next : Branch → Branch) (made : Option Record) : Type 0 where
     pub branch : Branch
     pub known : slice_get x.branches r.branch ≡ Some branch
     pub mode : branch.mode ≡ runs
     pub core : branch.core ≡ r.core
     pub world : World
-    pub acted : acts g.program g.stimulus x (go r.branch) ≡ Some world
+    pub action : Action
+    pub own : OwnAction r.branch action
+    pub acted : acts g.program g.stimulus x action ≡ Some world
     pub is_next : IsNext x world (next branch) made
     pub inboxes : world.inboxes ≡ x.inboxes
 
