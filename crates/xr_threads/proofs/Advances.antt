@@ -84,7 +84,7 @@ module _ (g : Setting) (first : Roles) (is : IsImageOf g first) (who : Roles) (w
     thread = refl;
     tie = refl;
     family = refl;
-    base = refl;
+    block = refl;
     stack = refl;
     outermost_is = refl;
     syncs = refl;
@@ -128,7 +128,7 @@ module _ (g : Setting) (first : Roles) (is : IsImageOf g first) (who : Roles) (w
 
   loose : 1 ≤ threads_on g.program c → AreLoose g who_next c left x.state
   loose some =
-      loose_still g who who_next c a left x.state x.state r (st.roles.core c t r None runs_r) (st.roles.base c t r None runs_r) (laid_at g first is none_rests who w x st c t r None runs_r)
+      loose_still g who who_next c a left x.state x.state r (st.roles.core c t r None runs_r) (laid_at g first is none_rests who w x st c t r None runs_r)
       (st.loose c a at_c some) (record { words = (e.touched x.state).words; ports = (e.touched x.state).ports; store = λ v f. refl })
       (λ v nobody. (nobody t s None (role_here who c t (used_by s None)), λ u i other at. let k = alike_still c u i other at in ap (λ f. f.changes v) (sym k.2.footprint) ∙ nobody u k.0 other k.1))
       (λ v want.

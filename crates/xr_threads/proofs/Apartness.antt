@@ -17,7 +17,7 @@ use Rattle.xl_par.specs.Hands.{Hand}
 use Rattle.xl_plan.specs.Layout.{temporary_of, port_number}
 use Rattle.xr_threads.specs.Images.{IsImageOf}
 use Rattle.xr_threads.specs.Roles.{AreRoles, Role, Roles, unused, used_by}
-use Rattle.xr_threads.specs.Runners.{Footprint, Setting, Runner, IsLaidOut, IsPort, MayChange, of_stack, of_variable, is_among_words, is_word_among, plan, port_place, relied}
+use Rattle.xr_threads.specs.Runners.{Footprint, Setting, Runner, IsLaidOut, IsPort, MayChange, of_stack, of_variable, is_among_words, is_word_among, places, port_place, relied}
 use Rattle.xr_threads.proofs.Shrinks.{changed_used_items}
 use Rattle.xr_threads.proofs.Places.{IsWord, among_found, places_differ, word_found}
 use Rattle.xr_threads.proofs.Works.{Works}
@@ -44,7 +44,7 @@ pub laid_of_role : (g : Setting) (first who : Roles) → IsImageOf g first → A
 laid_of_role g first who image roles c t r hand e x works =
     let inside = role_inside g who roles c t r hand e in
     let core = image.cores c (roles.there c t r hand e) (omega (arith, inside)) in
-    core.laid r (roles.core c t r hand e) (subst (λ n. n < threads_on g.program c) (sym (roles.thread c t r hand e)) inside) (roles.base c t r hand e)
+    core.laid r (roles.core c t r hand e) (subst (λ n. n < threads_on g.program c) (sym (roles.thread c t r hand e)) inside) (roles.block c t r hand e)
     (roles.stack c t r hand e ∙ ap (temporary_of g.program c) (sym (roles.thread c t r hand e)))
     (λ v. subst (λ (f : Footprint). f.changes v ≡ true → f.uses v ≡ true) (sym works.footprint) (changed_used_items works.branch.items v))
 
@@ -92,14 +92,11 @@ module _ (g : Setting) (who : Roles) (x : World) (lawful : Lawful g.program x) (
     cores : r.core ≡ s.core
     cores = roles.core c t r hand e ∙ sym (roles.core c t' s other f)
 
-    bases : r.base ≡ s.base
-    bases = roles.base c t r hand e ∙ sym (roles.base c t' s other f)
-
-    near_here : (v n : ℕ) (found : VarPlan) → IsNear (plan g r).vars v n found → IsNear (plan g s).vars v n found
-    near_here v n found near = subst (λ k. IsNear (g.plans k).vars v n found) cores near
+    near_here : (v n : ℕ) (found : VarPlan) → IsNear (places g r.core) v n found → IsNear (places g s.core) v n found
+    near_here v n found near = subst (λ k. IsNear (places g k) v n found) cores near
 
     -- a word of a variable is no temporary one of either
-    not_temporary : (q : Runner) → IsLaidOut g q → (v n i k w : ℕ) (found : VarPlan) → IsNear (plan g q).vars v n found → i < found.words → k < temporary → w ≡ q.base + n + i → w ≡ q.stack + k → ⊥
+    not_temporary : (q : Runner) → IsLaidOut g q → (v n i k w : ℕ) (found : VarPlan) → IsNear (places g q.core) v n found → i < found.words → k < temporary → w ≡ 0 + n + i → w ≡ q.stack + k → ⊥
     not_temporary q is v n i k w found near lt lk is_at is_in =
         ⊎_elim
         (λ h. let z : ⊥ = omega (arith, h, lk, is_at, is_in) in z)
@@ -117,30 +114,27 @@ module _ (g : Setting) (who : Roles) (x : World) (lawful : Lawful g.program x) (
     of_stack_words : (w : ℕ) → is_among_words s.stack temporary w ≡ true → MayChange g r w → ⊥
     of_stack_words w h (of_variable v n k found near changes lt is) =
         let m = among_found s.stack temporary w h in
-        let b = bases in
-        not_temporary s laid' v n k m.0 w found (near_here v n found near) lt m.1 (omega (arith, is, b)) m.2
+        not_temporary s laid' v n k m.0 w found (near_here v n found near) lt m.1 (omega (arith, is)) m.2
     of_stack_words w h (of_stack k lt is) =
         let m = among_found s.stack temporary w h in
         stacks_apart m.0 k w m.1 lt m.2 is
 
-    of_variable_words : (w : ℕ) → IsWord s.base (plan g s).vars s.footprint.uses w → MayChange g r w → ⊥
+    of_variable_words : (w : ℕ) → IsWord 0 (places g s.core) s.footprint.uses w → MayChange g r w → ⊥
     of_variable_words w h (of_variable v n k found near changes lt is) =
-        let b = bases in
         let p = h.is in
-        let same : h.variable ≡ v = laid'.frame.disjoint h.variable h.first h.place v n k h.found found h.near (near_here v n found near) h.within lt (omega (arith, p, is, b)) in
+        let same : h.variable ≡ v = laid'.frame.disjoint h.variable h.first h.place v n k h.found found h.near (near_here v n found near) h.within lt (omega (arith, p, is)) in
         let unchanged = own_variables c t c t' r s hand other e f (λ q. differ q.1) works works' h.variable h.meant in
         true≢false (sym changes ∙ ap r.footprint.changes (sym same) ∙ unchanged)
     of_variable_words w h (of_stack k lt is) =
-        let b = bases in
         let p = h.is in
-        not_temporary r laid h.variable h.first h.place k w h.found (subst (λ m. IsNear (g.plans m).vars h.variable h.first h.found) (sym cores) h.near) h.within lt (omega (arith, p, b)) is
+        not_temporary r laid h.variable h.first h.place k w h.found (subst (λ m. IsNear (places g m) h.variable h.first h.found) (sym cores) h.near) h.within lt (omega (arith, p)) is
 
     words_apart : (w : ℕ) → relied g s w ≡ true → MayChange g r w → ⊥
     words_apart w h may =
         ⊎_elim
         (λ q. of_stack_words w q may)
-        (λ q. of_variable_words w (word_found s.base (plan g s).vars s.footprint.uses (length (plan g s).vars) w q) may)
-        (or_cases (is_among_words s.stack temporary w) (is_word_among s.base (plan g s).vars s.footprint.uses (length (plan g s).vars) w) h)
+        (λ q. of_variable_words w (word_found 0 (places g s.core) s.footprint.uses (length (places g s.core)) w q) may)
+        (or_cases (is_among_words s.stack temporary w) (is_word_among 0 (places g s.core) s.footprint.uses (length (places g s.core)) w) h)
 
     ports_apart : (p q : ℕ) (listed listed' : PortUse) → IsPort g r p listed → IsPort g s q listed' → port_place g s q ≢ port_place g r p
     ports_apart p q listed listed' is is' same =

@@ -16,7 +16,7 @@ use Rattle.xc_kernel.specs.declared.kernel.PortUse.{PortUse}
 use Rattle.xc_kernel.specs.Eval.{words_of}
 use Rattle.xl_expr.proofs.Lists.{get_set_same, get_set_other, room_kept}
 use Rattle.xl_port.specs.PortSteps.{KeptPort, PortStep, WithinPort}
-use Rattle.xr_threads.specs.Runners.{Setting, Runner, IsPort, MayChange, of_stack, home, is_among_words, is_word_among, plan, port_place, relied}
+use Rattle.xr_threads.specs.Runners.{Setting, Runner, IsPort, MayChange, of_stack, home, is_among_words, is_word_among, places, port_place, relied}
 use Rattle.xr_threads.specs.Scenes.{Scene, Kept, IsSilentStep, SameUse, StillRuns, after, keeps, running, LeadsIn}
 use Rattle.xr_threads.specs.Turns.{IsAt}
 use Rattle.xr_threads.proofs.Declared.{declared_there, same_declared}
@@ -39,7 +39,7 @@ module _ (g : Setting) (r : Runner) where
   -- the runner relies on its temporary words
   pub stack_relied : (k : ℕ) → k < temporary → relied g r (r.stack + k) ≡ true
   stack_relied k lt =
-      or_left (is_among_words r.stack temporary (r.stack + k)) (is_word_among r.base (plan g r).vars r.footprint.uses (length (plan g r).vars) (r.stack + k)) (among_words r.stack temporary k lt)
+      or_left (is_among_words r.stack temporary (r.stack + k)) (is_word_among 0 (places g r.core) r.footprint.uses (length (places g r.core)) (r.stack + k)) (among_words r.stack temporary k lt)
 
   -- what stays while the runner goes on: these of the words that it relies on, its ports at these places, its branch, the words of its
   -- variables in the store, and what it has in hand; and its thread runs

@@ -24,7 +24,7 @@ use Rattle.xr_threads.specs.Images.{IsCoreOf, IsImageOf}
 use Rattle.xr_threads.specs.Items.{EndAt, ItemsAt}
 use Rattle.xr_threads.specs.Parents.{syncs_of}
 use Rattle.xr_threads.specs.Roles.{AreUsedSo, IsParent, ParentsWait, Role, Roles, empty, got_by, unused, used_by}
-use Rattle.xr_threads.specs.Runners.{Setting, Runner, IsPort, anyone, code, footprint_of, home, plan, port_place}
+use Rattle.xr_threads.specs.Runners.{Block, Setting, Runner, IsPort, anyone, code, footprint_of, home, plan, port_place}
 use Rattle.xr_threads.specs.Scenes.{Scene, giving_back, running}
 use Rattle.xr_threads.specs.Standing.{AreLoose, HasThread, Stand, Standing, Stands, StandsBy, StandsWith}
 use Rattle.xr_threads.specs.Transfers.{StopsIn}
@@ -112,9 +112,8 @@ module _ (g : Setting) (who : Roles) (is : IsImageOf g who) where
             let many = variable_length g.program.variables v in
             let lt : i < words_in g.program.variables v = omega arith in
             let is_zero : 0 ≡ x = same_Some 0 x (sym (variable_zero g.program.variables v i lt) ∙ there) in
-            let base = h.is_root.base in
-            let within : r.base + n + i < (home g r).parts.words = let a = size.0 in let b = size.1 in omega arith in
-            words_zero (home g r).parts.words (r.base + n + i) within ∙ ap Some is_zero;
+            let within : 0 + n + i < (home g r).parts.words = let a = size.0 in let b = size.1 in omega arith in
+            words_zero (home g r).parts.words (0 + n + i) within ∙ ap Some is_zero;
       };
       room =
           let many = length-replicate {A = ℕ} (home g r).parts.words 0 in
@@ -138,12 +137,12 @@ module _ (g : Setting) (who : Roles) (is : IsImageOf g who) where
       exits = [];
       here = here_at items (items_unwatched g r items [] (entry + 2) 0 code_there) set_there;
       bases = record {
-        base = ap (λ n. 4 * n) (sym h.is_root.base);
+        base = ap (λ (b : Block). 4 * b.base) (sym h.is_root.block);
         stack = refl;
         names = subst (λ l. HoldsNames r.core l (set_regs r)) (sym (ap syncs_of h.is_root.alone)) (record { by = λ place n at lt. absurd (none_there n at) });
       };
       at_code = code_there;
-      fits = fits_here g r items h.is_root.fits h.is_root.footprint;
+      fits = fits_here g r items h.is_root.block h.is_root.fits h.is_root.footprint;
       has = record {
         branch = branch;
         runs = record { known = known; running = b.mode; items_are = b.items };

@@ -24,7 +24,7 @@ use Rattle.xr_match.specs.Sources.{Told}
 use Rattle.xr_match.specs.Systems.{SomeIs}
 use Rattle.xr_threads.specs.Images.{IsImageOf}
 use Rattle.xr_threads.specs.Parents.{Parent, branches_of}
-use Rattle.xr_threads.specs.Runners.{Footprint, Setting, Runner, code, footprint_of, plan}
+use Rattle.xr_threads.specs.Runners.{Block, Footprint, Setting, Runner, code, footprint_of, outside, places, plan, plan_in}
 use Rattle.xr_threads.specs.Scenes.{Owns, giving_back, running, sync_in}
 use Rattle.xr_threads.proofs.Counts.{living_after}
 use Rattle.xr_threads.proofs.NamedLinks.{opens_linked}
@@ -368,7 +368,7 @@ module _ (g : Setting) (first : Roles) (is : IsImageOf g first) (who : Roles) (w
   loose' : 1 ≤ threads_on g.program c → AreLoose g who' c left world
   loose' some =
       let old : HoldsStore g r (record { core = a; world = x.state; hand = hand }) = b.has.holds in
-      loose_behind g who who' c a left x.state world r core_is (st.roles.base c t r hand runs_r) (laid_at g first is none_rests who w x st c t r hand runs_r)
+      loose_behind g who who' c a left x.state world r core_is (laid_at g first is none_rests who w x st c t r hand runs_r)
       (st.loose c a at_c some) (record { words = λ k mine. refl; ports = λ q mine. refl; store = λ v unchanged. refl })
       (record { holds = record { lengths = old.holds.lengths; values = old.holds.values }; room = old.room })
       (λ q listed its. let k = b.has.ports q listed its in record { port = k.port; there = k.there; declared = k.declared })
@@ -494,6 +494,9 @@ module _ (g : Setting) (first : Roles) (is : IsImageOf g first) (who : Roles) (w
 
   -- What each new runner has.
 
+  outermost_block : r.block ≡ outside
+  outermost_block = st.roles.block c t r (Some b.hand) runs_h
+
   maker_core : b.branch.core ≡ r.core
   maker_core = ap (λ (i : Branch). i.core) (sym (branch_of b.has.branch b.has.runs.known)) ∙ b.has.core
 
@@ -505,9 +508,9 @@ module _ (g : Setting) (first : Roles) (is : IsImageOf g first) (who : Roles) (w
   less_of i placed there = subst (IsWithin (footprint_of (todo placed.code (ends ∷ [])))) (sym footprint_is) (branch_within all b.rest i placed.code (code_is i placed there))
 
   fits_of : (i : ℕ) (placed : Placed) → slice_get all_placed i ≡ Some placed → FitOn g r.core (todo placed.code (ends ∷ []))
-  fits_of i placed there = branch_fits g r.core all b.rest (fits_everywhere g r (does (kernel.par all) ∷ b.rest) b.fits) i placed.code (code_of all i placed.code (code_is i placed there))
+  fits_of i placed there = branch_fits g r.core all b.rest (fits_everywhere g r (does (kernel.par all) ∷ b.rest) outermost_block b.fits) i placed.code (code_of all i placed.code (code_is i placed there))
 
-  holds_within : (f : Footprint) → IsWithin f r.footprint → Holds (plan g r).vars f.uses r.base left.words world.store
+  holds_within : (f : Footprint) → IsWithin f r.footprint → Holds (places g r.core) f.uses 0 left.words world.store
   holds_within f less =
       let h = b.has.holds.holds in
       record {
@@ -533,7 +536,7 @@ module _ (g : Setting) (first : Roles) (is : IsImageOf g first) (who : Roles) (w
         here = here_at first_items (code_unwatched (plan g own) (code g own) own.sides (EndOf g own) first_items [] (b.pc + 1) b.jumps (b.own_code from (suc (length b.hand.threads)))) own_left;
         bases = record { base = b.bases.base; stack = b.bases.stack; names = b.bases.names };
         at_code = b.own_code from (suc (length b.hand.threads));
-        fits = fits_here g own first_items (fits_of 0 first_placed first_there) refl;
+        fits = fits_here g own first_items outermost_block (fits_of 0 first_placed first_there) refl;
         has = record {
           branch = branch;
           runs = record { known = there; running = mode; items_are = items_are };
@@ -561,7 +564,7 @@ module _ (g : Setting) (first : Roles) (is : IsImageOf g first) (who : Roles) (w
       let room = core.room u inside in
       let size = st.sizes c a at_c in
       let stacks = core.stacks in
-      let plan_is : (plan g r).first_stack ≡ (g.plans c).first_stack = ap (λ k. (g.plans k).first_stack) core_is in
+      let plan_is : (plan g r).first_stack ≡ (g.plans c).first_stack = ap (λ (k : Block). (plan_in (g.plans r.core) k.plan).first_stack) outermost_block ∙ ap (λ k. (g.plans k).first_stack) core_is in
       let sp = off.stack in
       record {
         pc = off.pc;
@@ -574,7 +577,7 @@ module _ (g : Setting) (first : Roles) (is : IsImageOf g first) (who : Roles) (w
           names = record { by = λ place k e few. let none : None ≡ Some k = e in absurd (let z : ⊥ = cc in z) };
         };
         at_code = subst (λ sides. ItemsAt (plan g r) (code g r) sides (EndAt (plan g r) (code g r) (Some b.sync) []) items [] off.pc 0) (ap sides_at (sym known)) off.at_code;
-        fits = fits_here g (kid i u) items (fits_of i placed known) (ap footprint_of same);
+        fits = fits_here g (kid i u) items outermost_block (fits_of i placed known) (ap footprint_of same);
         has = record {
           branch = branch;
           runs = record { known = there; running = mode; items_are = items_are };
@@ -702,7 +705,7 @@ module _ (g : Setting) (first : Roles) (is : IsImageOf g first) (who : Roles) (w
               first_is = refl;
               one = λ none. let both : Some b.sync ≡ None = none in absurd (let z : ⊥ = cc in z);
               several = λ k e. let some = several in omega (arith, some);
-              fits = (fits_everywhere g r (does (kernel.par all) ∷ b.rest) b.fits).1;
+              fits = (fits_everywhere g r (does (kernel.par all) ∷ b.rest) outermost_block b.fits).1;
               sides = maker_sides;
             },
             waiting_still,

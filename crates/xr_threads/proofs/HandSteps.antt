@@ -187,7 +187,7 @@ module _ (g : Setting) (r : Runner) where
       holds = record {
         holds = record {
           lengths = h.holds.holds.lengths;
-          values = λ v n i x found near uses there. left.words (r.base + n + i) ∙ h.holds.holds.values v n i x found near uses there;
+          values = λ v n i x found near uses there. left.words (0 + n + i) ∙ h.holds.holds.values v n i x found near uses there;
         };
         room = room_kept (relied g r) r.stack (stack_relied g r) y.core.words b.words h.holds.room (λ w m. left.words w);
       };

@@ -22,7 +22,7 @@ use Rattle.xl_par.specs.Hands.{Hand}
 use Rattle.xl_plan.specs.Layout.{port_number}
 use Rattle.xr_threads.specs.Parents.{Parent}
 use Rattle.xr_threads.specs.Roles.{IsParent, ParentsWait, ParentWaits, Roles, used_by}
-use Rattle.xr_threads.specs.Runners.{Footprint, Setting, Runner, IsLaidOut, IsPort, MayChange, anyone, footprint_of, of_stack, of_variable, port_place}
+use Rattle.xr_threads.specs.Runners.{Footprint, Setting, Runner, IsLaidOut, IsPort, MayChange, anyone, footprint_of, of_stack, of_variable, places, port_place}
 use Rattle.xr_threads.specs.Standing.{AreLoose, IsWanted, NobodyChanges, NobodyHas, only}
 use Rattle.xr_threads.specs.Turns.{HoldsStore, PortIs, PortsStand}
 use Rattle.xr_threads.proofs.Apartness.{not_true}
@@ -41,21 +41,17 @@ only_same v w e = grind arith
 only_itself : (v : ℕ) → only v v ≡ true
 only_itself v = grind arith
 
-holds_only : (vars : List (Option VarPlan)) (uses : ℕ → Bool) (d : ℕ) (words : List ℕ) (store : Store) (v : ℕ) → d ≡ 0 → uses v ≡ true → Holds vars uses d words store → Holds vars (only v) 0 words store
-holds_only vars uses d words store v zero_is meant h =
-    let h' = subst (λ k. Holds vars uses k words store) zero_is h in
-    record {
-      lengths = λ w n found near is. h'.lengths w n found near (ap uses (sym (only_same v w is)) ∙ meant);
-      values = λ w n i x found near is there. h'.values w n i x found near (ap uses (sym (only_same v w is)) ∙ meant) there;
-    }
+holds_only : (vars : List (Option VarPlan)) (uses : ℕ → Bool) (words : List ℕ) (store : Store) (v : ℕ) → uses v ≡ true → Holds vars uses 0 words store → Holds vars (only v) 0 words store
+holds_only vars uses words store v meant h = record {
+  lengths = λ w n found near is. h.lengths w n found near (ap uses (sym (only_same v w is)) ∙ meant);
+  values = λ w n i x found near is there. h.values w n i x found near (ap uses (sym (only_same v w is)) ∙ meant) there;
+}
 
-holds_all : (vars : List (Option VarPlan)) (uses : ℕ → Bool) (d : ℕ) (words : List ℕ) (store : Store) → d ≡ 0 → ((v : ℕ) → uses v ≡ true → Holds vars (only v) 0 words store) → Holds vars uses d words store
-holds_all vars uses d words store zero_is each =
-    let all : Holds vars uses 0 words store = record {
-      lengths = λ w n found near is. (each w is).lengths w n found near (only_itself w);
-      values = λ w n i x found near is there. (each w is).values w n i x found near (only_itself w) there;
-    } in
-    subst (λ k. Holds vars uses k words store) (sym zero_is) all
+holds_all : (vars : List (Option VarPlan)) (uses : ℕ → Bool) (words : List ℕ) (store : Store) → ((v : ℕ) → uses v ≡ true → Holds vars (only v) 0 words store) → Holds vars uses 0 words store
+holds_all vars uses words store each = record {
+  lengths = λ w n found near is. (each w is).lengths w n found near (only_itself w);
+  values = λ w n i x found near is there. (each w is).values w n i x found near (only_itself w) there;
+}
 
 -- it goes on to hold where both sides have the same words
 pub holds_on : (vars : List (Option VarPlan)) (v : ℕ) (words words' : List ℕ) (store store' : Store) → words_of store' v ≡ words_of store v →
@@ -170,14 +166,14 @@ module _ (g : Setting) (who : Roles) (x : World) (lawful : Lawful g.program x)
         (apart_of u s other runs'))
 
     -- so its runner finds all as the program has it
-    module _ (s : Runner) (a : CoreState) (loose : AreLoose g who c a x) (on : s.core ≡ c) (base : s.base ≡ 0) (has : s.footprint ≡ footprint_of p.items) (room : s.stack + temporary ≤ length a.words) where
+    module _ (s : Runner) (a : CoreState) (loose : AreLoose g who c a x) (on : s.core ≡ c) (has : s.footprint ≡ footprint_of p.items) (room : s.stack + temporary ≤ length a.words) where
       wanted : (v : ℕ) → (footprint_of p.items).uses v ≡ true → IsWanted who c v
       wanted v uses = record { thread = t; runner = r; hand = hand; runs = runs; parent = p; waits = subst (λ qs. IsParent qs p) (sym parents) (inl refl); uses = uses }
 
       pub holds_behind : (hand' : Option Hand) → HoldsStore g s (record { core = a; world = x; hand = hand' })
       holds_behind hand' = record {
-        holds = subst (λ k. Holds (g.plans k).vars s.footprint.uses s.base a.words x.store) (sym on)
-            (holds_all (g.plans c).vars s.footprint.uses s.base a.words x.store base
+        holds = subst (λ k. Holds (places g k) s.footprint.uses 0 a.words x.store) (sym on)
+            (holds_all (places g c) s.footprint.uses a.words x.store
             (λ v uses.
             let mine = subst (λ (f : Footprint). f.uses v ≡ true) has uses in
             loose.variables v (nobody_changes v mine) (wanted v mine)));
@@ -198,18 +194,18 @@ pub record LeavesLoose (g : Setting) (r : Runner) (a b : CoreState) (x y : World
   pub store : (v : ℕ) → r.footprint.changes v ≡ false → words_of y.store v ≡ words_of x.store v
 
 -- The runner's core: what it no longer changes, or has, is as the program has it, where it held what it had.
-module _ (g : Setting) (who who' : Roles) (c : ℕ) (a b : CoreState) (x y : World) (r : Runner) (on : r.core ≡ c) (base : r.base ≡ 0) (laid : IsLaidOut g r)
+module _ (g : Setting) (who who' : Roles) (c : ℕ) (a b : CoreState) (x y : World) (r : Runner) (on : r.core ≡ c) (laid : IsLaidOut g r)
     (loose : AreLoose g who c a x) (leaves : LeavesLoose g r a b x y)
     (holds : HoldsStore g r (record { core = b; world = y; hand = None })) (ports : PortsStand g r (record { core = b; world = y; hand = None }))
     (changes : (v : ℕ) → NobodyChanges who' c v → r.footprint.changes v ≡ false → NobodyChanges who c v)
     (wants : (v : ℕ) → IsWanted who' c v → IsWanted who c v ⊎ (r.footprint.uses v ≡ true))
     (has : (q : ℕ) → NobodyHas who' c q → r.footprint.ports q ≡ false → NobodyHas who c q) where
   -- what it used it holds
-  used_holds : (v : ℕ) → r.footprint.uses v ≡ true → Holds (g.plans c).vars (only v) 0 b.words y.store
-  used_holds v uses = subst (λ k. Holds (g.plans k).vars (only v) 0 b.words y.store) on (holds_only (g.plans r.core).vars r.footprint.uses r.base b.words y.store v base uses holds.holds)
+  used_holds : (v : ℕ) → r.footprint.uses v ≡ true → Holds (places g c) (only v) 0 b.words y.store
+  used_holds v uses = subst (λ k. Holds (places g k) (only v) 0 b.words y.store) on (holds_only (places g r.core) r.footprint.uses b.words y.store v uses holds.holds)
 
   -- a variable that it doesn't change has its words still
-  not_its_own : (v n i w : ℕ) (found : VarPlan) → r.footprint.changes v ≡ false → IsNear (g.plans r.core).vars v n found → i < found.words → w ≡ r.base + n + i → MayChange g r w → ⊥
+  not_its_own : (v n i w : ℕ) (found : VarPlan) → r.footprint.changes v ≡ false → IsNear (places g r.core) v n found → i < found.words → w ≡ 0 + n + i → MayChange g r w → ⊥
   not_its_own v n i w found unchanged near lt is (of_variable v' n' i' found' near' changed' lt' is') =
       let same : v ≡ v' = laid.frame.disjoint v n i v' n' i' found found' near near' lt lt' (omega (arith, is, is')) in
       true≢false (sym changed' ∙ ap r.footprint.changes (sym same) ∙ unchanged)
@@ -219,16 +215,16 @@ module _ (g : Setting) (who who' : Roles) (c : ℕ) (a b : CoreState) (x y : Wor
       (λ h. let z : ⊥ = omega (arith, h, lt', is, is') in z)
       (laid.frame.apart v n i found near lt)
 
-  variable_behind : (v : ℕ) → NobodyChanges who' c v → IsWanted who' c v → Holds (g.plans c).vars (only v) 0 b.words y.store
+  variable_behind : (v : ℕ) → NobodyChanges who' c v → IsWanted who' c v → Holds (places g c) (only v) 0 b.words y.store
   variable_behind v nobody wanted = by (r.footprint.changes v) refl
     where
-      by : (changed : Bool) → r.footprint.changes v ≡ changed → Holds (g.plans c).vars (only v) 0 b.words y.store
+      by : (changed : Bool) → r.footprint.changes v ≡ changed → Holds (places g c) (only v) 0 b.words y.store
       by true e = used_holds v (laid.changes v e)
       by false e =
           ⊎_elim
           (λ (w : IsWanted who c v).
-          holds_on (g.plans c).vars v a.words b.words x.store y.store (leaves.store v e)
-          (λ n i found near lt. leaves.words (0 + n + i) (not_its_own v n i (0 + n + i) found e (subst (λ k. IsNear (g.plans k).vars v n found) (sym on) near) lt (let z = base in omega (arith, z))))
+          holds_on (places g c) v a.words b.words x.store y.store (leaves.store v e)
+          (λ n i found near lt. leaves.words (0 + n + i) (not_its_own v n i (0 + n + i) found e (subst (λ k. IsNear (places g k) v n found) (sym on) near) lt (omega arith)))
           (loose.variables v (changes v nobody e) w))
           (λ (uses : r.footprint.uses v ≡ true). used_holds v uses)
           (wants v wanted)
@@ -293,7 +289,7 @@ pub loose_far : (g : Setting) (who who' : Roles) (c : ℕ) (a : CoreState) (x y 
 loose_far g who who' c a x y loose same store = record {
   variables = λ v nobody w.
       let old : IsWanted who c v = record { thread = w.thread; runner = w.runner; hand = w.hand; runs = sym (same w.thread) ∙ w.runs; parent = w.parent; waits = w.waits; uses = w.uses } in
-      holds_on (g.plans c).vars v a.words a.words x.store y.store (store v old) (λ n i found near lt. refl) (loose.variables v (λ t r hand e. nobody t r hand (same t ∙ e)) old);
+      holds_on (places g c) v a.words a.words x.store y.store (store v old) (λ n i found near lt. refl) (loose.variables v (λ t r hand e. nobody t r hand (same t ∙ e)) old);
   ports = λ p listed is nobody.
       let at = loose.ports p listed is (λ t r hand e. nobody t r hand (same t ∙ e)) in
       record { port = at.port; there = at.there; declared = at.declared };

@@ -108,7 +108,7 @@ module _ (K : kernel.Kernel) (L : Image) (checked : IsChecked K) (is : IsImage K
         core = here;
         family = refl;
         numbered = found;
-        base = refl;
+        block = refl;
         tie = refl;
         alone = refl;
         sides = refl;

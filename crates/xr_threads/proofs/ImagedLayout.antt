@@ -14,7 +14,7 @@ use Rattle.xc_disjoint.specs.Needs.{words_on, threads_on}
 use Rattle.xl_expr.specs.declared.plan.VarPlan.{VarPlan}
 use Rattle.xl_expr.specs.Frames.{Frame, IsNear}
 use Rattle.xl_expr.specs.Plans.{var_in}
-use Rattle.xl_image.specs.Images.{decl_of}
+use Rattle.xl_image.specs.Images.{IsPlan, decl_of}
 use Rattle.xl_image.specs.Roots.{StayOnCores}
 use Rattle.xl_plan.specs.Layout.{first_temporary, temporary_of, word_of, ports_here, core_of_port, identifier_if, named_by, port_name}
 use Rattle.xl_plan.specs.Planned.{ports_on}
@@ -24,7 +24,7 @@ use Rattle.xl_plan.proofs.Numbered.{listed}
 use Rattle.xl_plan.proofs.PortsDiffer.{ports_apart}
 use Rattle.xl_plan.proofs.Sizes.{few_words}
 use Rattle.xr_threads.specs.Images.{IsCoreOf}
-use Rattle.xr_threads.specs.Runners.{Setting, Runner, IsLaidOut, IsPort, anyone, is_among_words, is_word_among, port_place, relied}
+use Rattle.xr_threads.specs.Runners.{Block, Setting, Runner, IsLaidOut, IsPort, anyone, is_among_words, is_word_among, outside, places, plan, plan_in, port_place, relied}
 use Rattle.xr_threads.proofs.Footprints.{HasAll, words_there}
 use Rattle.xr_threads.proofs.ImagedEnds.{ends_planned}
 use Rattle.xr_threads.proofs.ImagedPlans.{IsImaged}
@@ -108,44 +108,49 @@ module _ (g : Setting) (checked : IsChecked g.program) (core : ℕ) (is_core : c
 
 -- A runner on its core.
 module _ (g : Setting) (checked : IsChecked g.program) (stay : StayOnCores g.program) (r : Runner) (is_core : r.core < 4) (im : IsImaged g.program r.core (parts_in g.image.cores r.core) (g.plans r.core))
-    (inside : r.thread < threads_on g.program r.core) (base : r.base ≡ 0) (stack : r.stack ≡ temporary_of g.program r.core r.thread) where
-  not_temporary : (v n i : ℕ) (found : VarPlan) → IsNear (g.plans r.core).vars v n found → i < found.words → IsApart r.stack (r.base + n + i)
+    (inside : r.thread < threads_on g.program r.core) (block : r.block ≡ outside) (stack : r.stack ≡ temporary_of g.program r.core r.thread) where
+  not_temporary : (v n i : ℕ) (found : VarPlan) → IsNear (places g r.core) v n found → i < found.words → IsApart r.stack (0 + n + i)
   not_temporary v n i found near lt =
       ⊎_elim
-      (λ h. inl (let b = base in let s = stack in omega (arith, h, b, s)))
-      (λ h. inr (let b = base in let s = stack in omega (arith, h, b, s)))
+      (λ h. inl (let s = stack in omega (arith, h, s)))
+      (λ h. inr (let s = stack in omega (arith, h, s)))
       (im.planned.not_temporary v n i r.thread found near lt)
 
-  frame : Frame (g.plans r.core).vars (relied g r) r.footprint.uses r.stack r.base
+  frame : Frame (places g r.core) (relied g r) r.footprint.uses r.stack 0
   frame = record {
     near = λ v found known. let p = planned_at g checked r.core is_core im v found known in (p.first, p.near);
-    low = λ v n i found near lt. let a = below_words g checked r.core is_core im v n found near in let b = words_small g checked r.core is_core im in let z = base in omega (arith, a, b, lt, z);
+    low = λ v n i found near lt. let a = below_words g checked r.core is_core im v n found near in let b = words_small g checked r.core is_core im in omega (arith, a, b, lt);
     relied_on = λ v n i found near used lt.
-        or_right (is_among_words r.stack temporary (r.base + n + i)) (is_word_among r.base (g.plans r.core).vars r.footprint.uses (length (g.plans r.core).vars) (r.base + n + i))
-        (is_there r.base (g.plans r.core).vars r.footprint.uses (r.base + n + i) (record { variable = v; first = n; place = i; found = found; near = near; meant = used; within = lt; is = refl }));
+        or_right (is_among_words r.stack temporary (0 + n + i)) (is_word_among 0 (places g r.core) r.footprint.uses (length (places g r.core)) (0 + n + i))
+        (is_there 0 (places g r.core) r.footprint.uses (0 + n + i) (record { variable = v; first = n; place = i; found = found; near = near; meant = used; within = lt; is = refl }));
     apart = not_temporary;
     disjoint = im.planned.apart;
   }
 
+  -- the plan that its code goes by is the core's
+  planned : IsPlan g.program r.core (plan g r)
+  planned = subst (λ (b : Block). IsPlan g.program r.core (plan_in (g.plans r.core) b.plan)) (sym block) im.planned
+
   pub laid_out : ((v : ℕ) → r.footprint.changes v ≡ true → r.footprint.uses v ≡ true) → IsLaidOut g r
   laid_out used = record {
+    block = block;
     frame = frame;
     changes = used;
     small = let a = within_words g checked r.core is_core im r.thread inside in let b = words_small g checked r.core is_core im in let s = stack in omega (arith, a, b, s);
     identifiers = λ p x is.
-        im.planned.ports p
+        planned.ports p
         ∙ ap (named_by (port_name r.core) core_of_port r.core g.program.ports p) is.known
         ∙ ap (λ b. identifier_if b (port_name r.core (port_place g r p))) (eq_true x.core r.core is.core);
     names = λ p x is. port_named r.core (port_place g r p) (place_small g checked r.core is_core im p x is.known);
-    ends = λ c side is. ends_planned g checked stay r is_core im.planned c side is;
+    ends = λ c side is. ends_planned g checked stay r is_core planned c side is;
   }
 
 -- What the simulation asks of a core.
 pub core_is : (g : Setting) (checked : IsChecked g.program) → StayOnCores g.program → (core : ℕ) (is_core : core < 4) → IsImaged g.program core (parts_in g.image.cores core) (g.plans core) → IsCoreOf g core
 core_is g checked stay core is_core im = record {
-  laid = λ r on inside base stack used.
+  laid = λ r on inside block stack used.
       laid_out g checked stay r (subst (λ c. c < 4) (sym on) is_core) (subst (λ c. IsImaged g.program c (parts_in g.image.cores c) (g.plans c)) (sym on) im)
-      (subst (λ c. r.thread < threads_on g.program c) (sym on) inside) base (stack ∙ ap (λ c. temporary_of g.program c r.thread) (sym on)) used;
+      (subst (λ c. r.thread < threads_on g.program c) (sym on) inside) block (stack ∙ ap (λ c. temporary_of g.program c r.thread) (sym on)) used;
   room = room g checked core is_core im;
   stacks = im.planned.first_stack;
   sizes = sizes_are g checked core is_core im;

@@ -581,8 +581,8 @@ module _ (g : Setting) (first : Roles) (is : IsImageOf g first) (who : Roles) (w
     has' : Has g maker p.items (record { core = left; world = world; hand = giving_back n })
     has' =
         let works = works_at g first is none_rests who w x st in
-        let h = holds_behind g who x.state st.lawful works c t r None p ps runs_r parents have_ended maker a (st.loose c a at_c some_threads) core_is (st.roles.base c t r None runs_r) refl room None in
-        let ports = ports_behind g who x.state st.lawful works c t r None p ps runs_r parents have_ended maker a (st.loose c a at_c some_threads) core_is (st.roles.base c t r None runs_r) refl room None in
+        let h = holds_behind g who x.state st.lawful works c t r None p ps runs_r parents have_ended maker a (st.loose c a at_c some_threads) core_is refl room None in
+        let ports = ports_behind g who x.state st.lawful works c t r None p ps runs_r parents have_ended maker a (st.loose c a at_c some_threads) core_is refl room None in
         record {
           branch = next;
           runs = record { known = next_there; running = refl; items_are = chain.0.items };
@@ -603,7 +603,7 @@ module _ (g : Setting) (first : Roles) (is : IsImageOf g first) (who : Roles) (w
           here = own_left;
           bases = record { base = at_join.bases.base; stack = at_join.bases.stack; names = at_join.bases.names };
           at_code = subst (λ q. ItemsAt (plan g r) (code g r) p.sides (EndAt (plan g r) (code g r) r.tie ps) p.items at_join.exits q j) behind at_join.at_code;
-          fits = fits_here g maker p.items chain.0.fits refl;
+          fits = fits_here g maker p.items (st.roles.block c t r None runs_r) chain.0.fits refl;
           has = has';
           frees = λ d there taken untied.
               let e = sync_is in

@@ -132,7 +132,7 @@ module _ (g : Setting) (who : Roles) (c t : ℕ) (roles : AreRoles g who) (r : R
       pub thread : s.thread ≡ runner.thread
       pub tie : s.tie ≡ runner.tie
       pub family : s.family ≡ runner.family
-      pub base : s.base ≡ runner.base
+      pub block : s.block ≡ runner.block
       pub stack : s.stack ≡ runner.stack
       pub outermost_is : outermost s.branch s.parents ≡ outermost runner.branch runner.parents
       pub branches : (b : ℕ) → IsAmong (own_branches s) b → IsAmong (own_branches runner) b
@@ -155,7 +155,7 @@ module _ (g : Setting) (who : Roles) (c t : ℕ) (roles : AreRoles g who) (r : R
       thread = refl;
       tie = refl;
       family = refl;
-      base = refl;
+      block = refl;
       stack = refl;
       outermost_is = ap (outermost r.branch) (sym chain);
       branches = λ b m. inr (subst (λ l. IsAmong (branches_of l) b) (sym chain) m);
@@ -181,7 +181,7 @@ module _ (g : Setting) (who : Roles) (c t : ℕ) (roles : AreRoles g who) (r : R
           thread = refl;
           tie = refl;
           family = refl;
-          base = refl;
+          block = refl;
           stack = refl;
           outermost_is = refl;
           branches = λ b m. m;
@@ -277,7 +277,7 @@ module _ (g : Setting) (who : Roles) (c t : ℕ) (roles : AreRoles g who) (r : R
       thread = λ d u s other is. let b = before d u s other is in b.thread ∙ roles.thread d u b.runner b.hand b.is;
       few = λ d u some. roles.few d u (in_use d u some (place d u));
       inside = λ d u some. roles.inside d u (in_use d u some (place d u));
-      base = λ d u s other is. let b = before d u s other is in b.base ∙ roles.base d u b.runner b.hand b.is;
+      block = λ d u s other is. let b = before d u s other is in b.block ∙ roles.block d u b.runner b.hand b.is;
       stack = λ d u s other is. let b = before d u s other is in b.stack ∙ roles.stack d u b.runner b.hand b.is;
       started = λ d u s other is. let b = before d u s other is in b.outermost_is ∙ roles.started d u b.runner b.hand b.is ∙ sym b.family;
       branches = λ d u d' u' k s q hand other is its m also.

@@ -1,5 +1,5 @@
 -- What a runner stands on lasts while others act, and while the runner goes on.
-use Rattle.std.proofs.Common.{◌≡◌, ◌≢◌, ℕ, zero, suc, ◌+◌, ◌<◌, ◌≤◌, Bool, true, ◌&&◌, List, length, Option, Some, None, refl, sym, ap, ◌∙◌, subst, ⊎_elim, arith}
+use Rattle.std.proofs.Common.{◌≡◌, ◌≢◌, ℕ, zero, suc, ◌+◌, ◌*◌, ◌<◌, ◌≤◌, Bool, true, ◌&&◌, List, length, Option, Some, None, refl, sym, ap, ◌∙◌, subst, ⊎_elim, arith}
 use Rattle.std.specs.Prelude.{slice_get}
 use Rattle.std.proofs.lemmas.Bool.{and_from, or_left, or_right, cases_eq}
 use Rattle.std.proofs.lemmas.Option.{slice_get_within}
@@ -11,13 +11,13 @@ use Rattle.xc_kernel.specs.Eval.{Store, words_of}
 use Rattle.xc_meaning.specs.States.Items.{Item}
 use Rattle.xc_meaning.specs.States.Branches.{Branch}
 use Rattle.xl_expr.specs.declared.plan.VarPlan.{VarPlan}
-use Rattle.xl_expr.specs.Frames.{IsNear, Holds}
+use Rattle.xl_expr.specs.Frames.{HasPlace, HasVars, IsNear, Holds}
 use Rattle.xl_expr.specs.Plans.{var_in, joined}
 use Rattle.xl_expr.specs.Works.{IsLaid, PlaceIsLaid}
 use Rattle.xl_expr.proofs.Framed.{framed_laid, framed_place}
 use Rattle.xl_expr.proofs.Lists.{room_kept}
 use Rattle.xr_threads.specs.Fits.{Uses, UsesAt}
-use Rattle.xr_threads.specs.Runners.{Setting, Runner, IsLaidOut, IsPort, is_among_words, is_word_among, is_word_at, is_word_of, plan, port_place, relied}
+use Rattle.xr_threads.specs.Runners.{Block, Setting, Runner, IsLaidOut, IsPort, is_among_words, is_word_among, is_word_at, is_word_of, outside, places, plan, plan_in, port_place, relied}
 use Rattle.xr_threads.specs.Scenes.{Scene, IsStable, Kept, running}
 use Rattle.xr_threads.specs.Standing.{IsAtRest, IsOnItsWay, IsResuming, IsTransferring}
 use Rattle.xr_threads.specs.Transfers.{Transfer}
@@ -58,15 +58,15 @@ module _ (base : ℕ) (vars : List (Option VarPlan)) (is_meant : ℕ → Bool) w
 
 module _ (g : Setting) (r : Runner) where
   -- the runner relies on the words of the variables that it uses
-  pub variable_relied : (v n i : ℕ) (found : VarPlan) → IsNear (plan g r).vars v n found → r.footprint.uses v ≡ true → i < found.words → relied g r (r.base + n + i) ≡ true
+  pub variable_relied : (v n i : ℕ) (found : VarPlan) → IsNear (places g r.core) v n found → r.footprint.uses v ≡ true → i < found.words → relied g r (0 + n + i) ≡ true
   variable_relied v n i found near uses lt =
-      or_right (is_among_words r.stack temporary (r.base + n + i)) (is_word_among r.base (plan g r).vars r.footprint.uses (length (plan g r).vars) (r.base + n + i)) (word_among r.base (plan g r).vars r.footprint.uses v n i found near uses lt)
+      or_right (is_among_words r.stack temporary (0 + n + i)) (is_word_among 0 (places g r.core) r.footprint.uses (length (places g r.core)) (0 + n + i)) (word_among 0 (places g r.core) r.footprint.uses v n i found near uses lt)
 
   -- the words of variables are held where both sides are the same
   pub holds_last : (words words' : List ℕ) (store store' : Store) →
-      ((v n i : ℕ) (found : VarPlan) → IsNear (plan g r).vars v n found → r.footprint.uses v ≡ true → i < found.words → slice_get words' (r.base + n + i) ≡ slice_get words (r.base + n + i)) →
+      ((v n i : ℕ) (found : VarPlan) → IsNear (places g r.core) v n found → r.footprint.uses v ≡ true → i < found.words → slice_get words' (0 + n + i) ≡ slice_get words (0 + n + i)) →
       ((v : ℕ) → r.footprint.uses v ≡ true → words_of store' v ≡ words_of store v) →
-      Holds (plan g r).vars r.footprint.uses r.base words store → Holds (plan g r).vars r.footprint.uses r.base words' store'
+      Holds (places g r.core) r.footprint.uses 0 words store → Holds (places g r.core) r.footprint.uses 0 words' store'
   holds_last words words' store store' same same_store h = record {
     lengths = λ v n found near uses. h.lengths v n found near uses ∙ ap length (sym (same_store v uses));
     values = λ v n i x found near uses there.
@@ -81,7 +81,7 @@ module _ (g : Setting) (r : Runner) where
   -- the store's words, and the temporary ones
   pub store_kept : (z y : Scene) → Kept g r z y → HoldsStore g r z → HoldsStore g r y
   store_kept z y k h = record {
-    holds = holds_last z.core.words y.core.words z.world.store y.world.store (λ v n i found near uses lt. k.words (r.base + n + i) (variable_relied v n i found near uses lt)) k.store h.holds;
+    holds = holds_last z.core.words y.core.words z.world.store y.world.store (λ v n i found near uses lt. k.words (0 + n + i) (variable_relied v n i found near uses lt)) k.store h.holds;
     room = room_kept (relied g r) r.stack (stack_relied g r) z.core.words y.core.words h.room k.words;
   }
 
@@ -168,7 +168,7 @@ module _ (g : Setting) (r : Runner) where
   -- the store's words
   pub store_since : (laid : IsLaidOut g r) (stays : ℕ → Type 0) (z y : Scene) → Since g r (IsApart r.stack) stays z y → r.stack + temporary ≤ length y.core.words → HoldsStore g r z → HoldsStore g r y
   store_since laid stays z y s room h = record {
-    holds = holds_last z.core.words y.core.words z.world.store y.world.store (λ v n i found near uses lt. s.words (r.base + n + i) (variable_relied v n i found near uses lt) (laid.frame.apart v n i found near lt)) s.store h.holds;
+    holds = holds_last z.core.words y.core.words z.world.store y.world.store (λ v n i found near uses lt. s.words (0 + n + i) (variable_relied v n i found near uses lt) (laid.frame.apart v n i found near lt)) s.store h.holds;
     room = room;
   }
 
@@ -209,14 +209,29 @@ module _ (g : Setting) (r : Runner) where
   pub runs_at : (z : Scene) (pc : ℕ) (regs : Regs) → IsAt g r z pc regs → RunsAt r.thread pc (running r.tie pc regs) z.core
   runs_at z pc regs here = record { here = here; pc_is = refl; runs = refl; no_events = refl }
 
+  -- in the outermost block code sees what is there
+  pub seen : (laid : IsLaidOut g r) (P : Block → Type 0) → P r.block → P outside
+  seen laid P h = subst P laid.block h
+
+  pub unseen : (laid : IsLaidOut g r) (P : Block → Type 0) → P outside → P r.block
+  unseen laid P h = subst P (sym laid.block) h
+
+  pub uses_seen : (laid : IsLaidOut g r) (x : kernel.Expression) → Uses g r x → HasVars (places g r.core) r.footprint.uses x
+  uses_seen laid x h = seen laid (λ b. HasVars (plan_in (g.plans r.core) b.plan).vars r.footprint.uses x) h
+
+  pub place_seen : (laid : IsLaidOut g r) (p : kernel.Place) → UsesAt g r p → HasPlace (places g r.core) r.footprint.uses p
+  place_seen laid p h = seen laid (λ b. HasPlace (plan_in (g.plans r.core) b.plan).vars r.footprint.uses p) h
+
   -- an expression's words stand by the plan
   pub laid_at : (laid : IsLaidOut g r) (z : Scene) (regs : Regs) (x : kernel.Expression) → Uses g r x → HasBases g r regs → HoldsStore g r z → IsLaid (plan g r).vars (relied g r) r.stack regs.dp z.core.words z.world.store x
   laid_at laid z regs x uses bases h =
       subst (λ d. IsLaid (plan g r).vars (relied g r) r.stack d z.core.words z.world.store x) (sym bases.base)
-      (framed_laid (plan g r).vars (relied g r) r.footprint.uses r.stack r.base laid.frame z.core.words z.world.store h.holds x uses)
+      (unseen laid (λ b. IsLaid (plan_in (g.plans r.core) b.plan).vars (relied g r) r.stack (4 * b.base) z.core.words z.world.store x)
+      (framed_laid (places g r.core) (relied g r) r.footprint.uses r.stack 0 laid.frame z.core.words z.world.store h.holds x (uses_seen laid x uses)))
 
   -- and so does a place
   pub place_laid_at : (laid : IsLaidOut g r) (z : Scene) (regs : Regs) (p : kernel.Place) → UsesAt g r p → HasBases g r regs → HoldsStore g r z → PlaceIsLaid (plan g r).vars (relied g r) r.stack regs.dp z.core.words z.world.store p
   place_laid_at laid z regs p uses bases h =
       subst (λ d. PlaceIsLaid (plan g r).vars (relied g r) r.stack d z.core.words z.world.store p) (sym bases.base)
-      (framed_place (plan g r).vars (relied g r) r.footprint.uses r.stack r.base laid.frame z.core.words z.world.store h.holds p uses)
+      (unseen laid (λ b. PlaceIsLaid (plan_in (g.plans r.core) b.plan).vars (relied g r) r.stack (4 * b.base) z.core.words z.world.store p)
+      (framed_place (places g r.core) (relied g r) r.footprint.uses r.stack 0 laid.frame z.core.words z.world.store h.holds p (place_seen laid p uses)))

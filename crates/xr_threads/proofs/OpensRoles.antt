@@ -8,7 +8,7 @@ use Rattle.xl_plan.specs.Layout.{temporary_of}
 use Rattle.xl_sides.specs.Ends.{Sides}
 use Rattle.xr_threads.specs.Parents.{Parent, syncs_of}
 use Rattle.xr_threads.specs.Roles.{AreRoles, IsOnce, IsParent, Role, Roles, got_by, outermost, own_branches, unused, used_by}
-use Rattle.xr_threads.specs.Runners.{Setting, Runner, footprint_of}
+use Rattle.xr_threads.specs.Runners.{Setting, Runner, footprint_of, outside}
 use Rattle.xr_threads.specs.Scenes.{Owns, held_in, sync_in}
 use Rattle.xr_threads.specs.Transfers.{Transfer}
 use Rattle.xr_threads.proofs.Moves.{same_hand, same_runner}
@@ -31,7 +31,7 @@ module _ (g : Setting) (who : Roles) (c t : ℕ) (roles : AreRoles g who) (r : R
     tie = Some sync;
     branch = from + i;
     family = from + i;
-    base = r.base;
+    block = r.block;
     stack = temporary_of g.program c u;
     footprint = footprint_of (items_of i);
     parents = [];
@@ -199,17 +199,17 @@ module _ (g : Setting) (who : Roles) (c t : ℕ) (roles : AreRoles g who) (r : R
 
     -- what each field says, by where a role is
 
-    core_by : (d u : ℕ) (s : Runner) (other : Option Hand) → opens d u ≡ used_by s other → Place d u → (s.core ≡ d) × (d < 4) × (s.thread ≡ u) × (s.base ≡ 0) × (s.stack ≡ temporary_of g.program d u)
+    core_by : (d u : ℕ) (s : Runner) (other : Option Hand) → opens d u ≡ used_by s other → Place d u → (s.core ≡ d) × (d < 4) × (s.thread ≡ u) × (s.block ≡ outside) × (s.stack ≡ temporary_of g.program d u)
     core_by d u s other is (at_own e f now) =
         let w = was_own d u e f in
-        subst (λ (i : Runner). (i.core ≡ d) × (d < 4) × (i.thread ≡ u) × (i.base ≡ 0) × (i.stack ≡ temporary_of g.program d u)) (same_runner own s None other (sym now ∙ is))
-        (roles.core d u r (Some h) w, roles.there d u r (Some h) w, roles.thread d u r (Some h) w, roles.base d u r (Some h) w, roles.stack d u r (Some h) w)
+        subst (λ (i : Runner). (i.core ≡ d) × (d < 4) × (i.thread ≡ u) × (i.block ≡ outside) × (i.stack ≡ temporary_of g.program d u)) (same_runner own s None other (sym now ∙ is))
+        (roles.core d u r (Some h) w, roles.there d u r (Some h) w, roles.thread d u r (Some h) w, roles.block d u r (Some h) w, roles.stack d u r (Some h) w)
     core_by d u s other is (at_kid i e among now old) =
-        subst (λ (q : Runner). (q.core ≡ d) × (d < 4) × (q.thread ≡ u) × (q.base ≡ 0) × (q.stack ≡ temporary_of g.program d u)) (same_runner (kid i u) s None other (sym now ∙ is))
-        (roles.core c t r (Some h) was ∙ sym e, subst (λ k. k < 4) (sym e) (roles.there c t r (Some h) was), refl, roles.base c t r (Some h) was, ap (λ k. temporary_of g.program k u) (sym e))
+        subst (λ (q : Runner). (q.core ≡ d) × (d < 4) × (q.thread ≡ u) × (q.block ≡ outside) × (q.stack ≡ temporary_of g.program d u)) (same_runner (kid i u) s None other (sym now ∙ is))
+        (roles.core c t r (Some h) was ∙ sym e, subst (λ k. k < 4) (sym e) (roles.there c t r (Some h) was), refl, roles.block c t r (Some h) was, ap (λ k. temporary_of g.program k u) (sym e))
     core_by d u s other is (elsewhere same not_own no_kid) =
         let w = sym same ∙ is in
-        (roles.core d u s other w, roles.there d u s other w, roles.thread d u s other w, roles.base d u s other w, roles.stack d u s other w)
+        (roles.core d u s other w, roles.there d u s other w, roles.thread d u s other w, roles.block d u s other w, roles.stack d u s other w)
 
     started_by : (d u : ℕ) (s : Runner) (other : Option Hand) → opens d u ≡ used_by s other → Place d u → outermost s.branch s.parents ≡ s.family
     started_by d u s other is (at_own e f now) =
@@ -323,7 +323,7 @@ module _ (g : Setting) (who : Roles) (c t : ℕ) (roles : AreRoles g who) (r : R
       thread = λ d u s other is. (core_by d u s other is (place d u)).2;
       few = λ d u some. roles.few d u (in_use d u some (place d u));
       inside = λ d u some. roles.inside d u (in_use d u some (place d u));
-      base = λ d u s other is. (core_by d u s other is (place d u)).3;
+      block = λ d u s other is. (core_by d u s other is (place d u)).3;
       stack = λ d u s other is. (core_by d u s other is (place d u)).4;
       started = λ d u s other is. started_by d u s other is (place d u);
       branches = λ d u d' u' b s q hand other is its m also. branches_by d u d' u' b s q (whose_by d u b s hand is m (place d u)) (whose_by d' u' b q other its also (place d' u'));

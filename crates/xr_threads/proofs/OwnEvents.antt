@@ -246,7 +246,7 @@ module _ (g : Setting) (first : Roles) (is : IsImageOf g first) (who : Roles) (w
       thread = refl;
       tie = refl;
       family = refl;
-      base = refl;
+      block = refl;
       stack = refl;
       outermost_is = refl;
       syncs = refl;
@@ -271,7 +271,7 @@ module _ (g : Setting) (first : Roles) (is : IsImageOf g first) (who : Roles) (w
 
     loose_on : 1 ≤ threads_on g.program c → AreLoose g who_on c e.left e.world
     loose_on some =
-        loose_behind g who who_on c a e.left x.state e.world r core_is (st.roles.base c t r None runs_r) (laid_at g first is none_rests who w x st c t r None runs_r)
+        loose_behind g who who_on c a e.left x.state e.world r core_is (laid_at g first is none_rests who w x st c t r None runs_r)
         (st.loose c a at_c some) leaves_loose e.holds e.ports
         (λ v nobody no u i other at. ⊎_elim (λ (same : r ≡ i). subst (λ (k : Runner). k.footprint.changes v ≡ false) same no) (λ now. nobody u i other now) (runner_still u i other at))
         (λ v wanted.

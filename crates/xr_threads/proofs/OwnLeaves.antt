@@ -63,7 +63,7 @@ module _ (g : Setting) (first : Roles) (is : IsImageOf g first) (who : Roles) (w
 
   loose_off : 1 ≤ threads_on g.program c → AreLoose g who_off c e.left e.world
   loose_off some =
-      loose_behind g who who_off c a e.left x.state e.world r (core_is g first is who w x st c t a at_c r runs_r e) (st.roles.base c t r None runs_r) (laid_at g first is none_rests who w x st c t r None runs_r)
+      loose_behind g who who_off c a e.left x.state e.world r (core_is g first is who w x st c t a at_c r runs_r e) (laid_at g first is none_rests who w x st c t r None runs_r)
       (st.loose c a at_c some) (leaves_loose g first is who w x st c t a at_c r runs_r e) e.holds e.ports
       (λ v nobody no u i other at. ⊎_elim (λ (same : r ≡ i). subst (λ (k : Runner). k.footprint.changes v ≡ false) same no) (λ now. nobody u i other now) (still_off c u i other at))
       (λ v wanted. inl (record { thread = wanted.thread; runner = wanted.runner; hand = wanted.hand; runs = before_off c wanted.thread wanted.runner wanted.hand wanted.runs; parent = wanted.parent; waits = wanted.waits; uses = wanted.uses }))

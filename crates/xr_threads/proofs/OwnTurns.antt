@@ -18,7 +18,7 @@ use Rattle.xl_expr.specs.Frames.{Holds}
 use Rattle.xl_expr.proofs.Lists.{get_set_same, get_set_other}
 use Rattle.xl_walk.specs.Pieces.{Exit}
 use Rattle.xr_threads.specs.Fits.{ItemsFit}
-use Rattle.xr_threads.specs.Runners.{Setting, Runner, MayChange, home, plan}
+use Rattle.xr_threads.specs.Runners.{Setting, Runner, MayChange, home, places}
 use Rattle.xr_threads.specs.Scenes.{Scene, running}
 use Rattle.xr_threads.specs.Turns.{HasBases, Has, IsAt, ItemsFrom, Goes, own_go}
 use Rattle.xr_threads.proofs.Evaluations.{runs_with, with_items}
@@ -46,7 +46,7 @@ module _ (g : Setting) (r : Runner) where
       (item : Item) (rest items : List Item) (store : Store) (has : Has g r (item ∷ rest) y) →
       acts g.program g.stimulus y.world (go r.branch) ≡ Some (record (with_items y.world r.branch has.branch items) { store = store }) →
       ((v : ℕ) → r.footprint.changes v ≡ false → words_of store v ≡ words_of y.world.store v) →
-      Holds (plan g r).vars r.footprint.uses r.base words store → r.stack + temporary ≤ length words →
+      Holds (places g r.core) r.footprint.uses 0 words store → r.stack + temporary ≤ length words →
       (exits : List Exit) (jumps : ℕ) → ItemsFrom g r items exits pc jumps → ItemsFit g r items → jumps ≤ j + 1 → Goes g r j y
   own_goes j y pc regs words made bases no_hand item rest items store has acted same holds room exits jumps at_code fits fewer =
       let th = running r.tie made.index regs in

@@ -55,7 +55,7 @@ module _ (plan : Plan) (code : Code) where
   all_turned (start ∷ starts) others (placed ∷ branches) more h k = all_turned starts (start ∷ others) branches (placed ∷ more) h.1 (h.0, k)
 
 -- A step that sets all off that are ready leaves each at its code.
-module _ (g : Setting) (r : Runner) (y : CoreState) (sync dp pc : ℕ) (regs : Regs) (base : dp ≡ 4 * r.base) where
+module _ (g : Setting) (r : Runner) (y : CoreState) (sync dp pc : ℕ) (regs : Regs) (base : dp ≡ 4 * r.block.base) where
   abbrev set_off_core : CoreState
   set_off_core = goes_on (put_threads y (all_started y.threads sync)) r.thread (running r.tie pc regs) regs
 

@@ -16,7 +16,7 @@ use Rattle.xl_plan.proofs.Lists.{some_given, none_given}
 use Rattle.xl_plan.proofs.Numbered.{listed}
 use Rattle.xr_match.specs.Meanings.{root_among}
 use Rattle.xr_threads.specs.Roles.{Role, Roles, got_by, unused, used_by}
-use Rattle.xr_threads.specs.Runners.{Runner, footprint_of}
+use Rattle.xr_threads.specs.Runners.{Runner, footprint_of, outside}
 
 -- the runner of a root with a number, on a thread of a core
 abbrev pub runner_of : kernel.Kernel → (core thread number : ℕ) → kernel.Root → Runner
@@ -26,7 +26,7 @@ runner_of K core thread number root = record {
   tie = None;
   branch = number;
   family = number;
-  base = 0;
+  block = outside;
   stack = temporary_of K core thread;
   footprint = footprint_of (todo root.body (ends ∷ []));
   parents = [];

@@ -6,7 +6,7 @@ use Rattle.xc_disjoint.specs.Needs.{threads_on}
 use Rattle.xl_par.specs.Hands.{Hand, IsAmong}
 use Rattle.xr_threads.specs.Parents.{Parent, syncs_of}
 use Rattle.xr_threads.specs.Roles.{AreRoles, IsOnce, IsParent, Role, Roles, got_by, outermost, own_branches, unused, used_by}
-use Rattle.xr_threads.specs.Runners.{Setting, Runner}
+use Rattle.xr_threads.specs.Runners.{Setting, Runner, places}
 use Rattle.xr_threads.specs.Scenes.{Owns, held_in, sync_in}
 use Rattle.xr_threads.proofs.Moves.{same_hand, same_runner}
 
@@ -53,7 +53,7 @@ pub record IsSeated (s r : Runner) : Type 0 where
   pub thread : s.thread ≡ r.thread
   pub tie : s.tie ≡ r.tie
   pub family : s.family ≡ r.family
-  pub base : s.base ≡ r.base
+  pub block : s.block ≡ r.block
   pub stack : s.stack ≡ r.stack
   pub outermost_is : outermost s.branch s.parents ≡ outermost r.branch r.parents
   pub syncs : syncs_of s.parents ≡ syncs_of r.parents
@@ -66,7 +66,7 @@ seated_itself r = record {
   thread = refl;
   tie = refl;
   family = refl;
-  base = refl;
+  block = refl;
   stack = refl;
   outermost_is = refl;
   syncs = refl;
@@ -155,7 +155,7 @@ module _ (g : Setting) (who who' : Roles) (c t : ℕ) (roles : AreRoles g who) (
     thread = λ d u s other is. let q = seated.before d u s other is in q.seated.thread ∙ roles.thread d u q.runner q.hand q.was;
     few = held.few;
     inside = held.inside;
-    base = λ d u s other is. let q = seated.before d u s other is in q.seated.base ∙ roles.base d u q.runner q.hand q.was;
+    block = λ d u s other is. let q = seated.before d u s other is in q.seated.block ∙ roles.block d u q.runner q.hand q.was;
     stack = λ d u s other is. let q = seated.before d u s other is in q.seated.stack ∙ roles.stack d u q.runner q.hand q.was;
     started = λ d u s other is. let q = seated.before d u s other is in q.seated.outermost_is ∙ roles.started d u q.runner q.hand q.was ∙ sym q.seated.family;
     branches = λ d u d' u' b s i other hand is its m also. branches_still d u d' u' b s i other hand is its m also;

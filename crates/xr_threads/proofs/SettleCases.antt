@@ -24,7 +24,7 @@ use Rattle.xr_threads.specs.Fits.{FitOn}
 use Rattle.xr_threads.specs.Images.{IsImageOf}
 use Rattle.xr_threads.specs.Parents.{Parent, sync_before, syncs_of}
 use Rattle.xr_threads.specs.Roles.{HandFits, IsOnce, ParentsWait, Roles, empty, unused, used_by}
-use Rattle.xr_threads.specs.Runners.{Runner, Setting, anyone, footprint_of, shrunk}
+use Rattle.xr_threads.specs.Runners.{Runner, Setting, anyone, footprint_of, outside, shrunk}
 use Rattle.xr_threads.specs.Scenes.{Scene, running}
 use Rattle.xr_threads.specs.Settled.{IsOwn}
 use Rattle.xr_threads.specs.Standing.{AreLoose, HasEnded, IsOnItsWay, Stand, Standing, StandsBy, StandsWith, ThreadIs}
@@ -79,8 +79,11 @@ module _ (g : Setting) (first : Roles) (is : IsImageOf g first) (may_rest : (cor
   same_branch : (b : Branch) → slice_get x.state.branches r.branch ≡ Some b → branch ≡ b
   same_branch b at = same_Some branch b (sym known ∙ at)
 
+  outermost_block : r.block ≡ outside
+  outermost_block = st.roles.block c t r None runs_r
+
   all_fit : FitOn g r.core items
-  all_fit = fits_everywhere g r items h.fits
+  all_fit = fits_everywhere g r items outermost_block h.fits
 
   bound_behind : (piece : List Action) (y : World) (left : ℕ) → left ≤ stand.left → (w.lives c t).steps + left ≤ kernel_bound g.program * ((told_by g.program g.stimulus x piece y).actions r.family + 1)
   bound_behind piece y left le =
@@ -387,19 +390,19 @@ module _ (g : Setting) (first : Roles) (is : IsImageOf g first) (may_rest : (cor
         above_holds : HoldsStore g above (record { core = a; world = over_world; hand = None })
         above_holds =
             holds_behind g who_over over_world over_lawful over_works_all c t over None p ps (role_here who c t (used_by over None)) parents all_over above a over_loose
-            (st.roles.core c t r None runs_r) (st.roles.base c t r None runs_r) refl h.has.holds.room None
+            (st.roles.core c t r None runs_r) refl h.has.holds.room None
 
         above_ports : PortsStand g above (record { core = a; world = over_world; hand = None })
         above_ports =
             ports_behind g who_over over_world over_lawful over_works_all c t over None p ps (role_here who c t (used_by over None)) parents all_over above a over_loose
-            (st.roles.core c t r None runs_r) (st.roles.base c t r None runs_r) refl h.has.holds.room None
+            (st.roles.core c t r None runs_r) refl h.has.holds.room None
 
         abbrev risen_y : World
         risen_y = with_risen x.state r.branch own_branch p.branch waiting.0.branch
 
         goes_up : Rises g r p ps j z
         goes_up =
-            rises g r p ps rest j z parents alone at_end waiting.0 (fits_here g above p.items waiting.0.fits refl)
+            rises g r p ps rest j z parents alone at_end waiting.0 (fits_here g above p.items outermost_block waiting.0.fits refl)
             (record { holds = above_holds.holds; room = above_holds.room })
             (λ q listed its. let k = above_ports q listed its in record { port = k.port; there = k.there; declared = k.declared })
 
@@ -465,21 +468,21 @@ module _ (g : Setting) (first : Roles) (is : IsImageOf g first) (may_rest : (cor
     settles_one l e (block n ss rest) =
         let these = todo ss (mark n ∷ rest) in
         let fit = subst (FitOn g r.core) e all_fit in
-        let q = block_settles g r n ss rest j z (subst (λ k. Rest g r k j z) e h) (footprint ∙ ap footprint_of e) (fits_here g (shrunk r these) these (todo_fits g (anyone r.core) ss (mark n ∷ rest) fit.0 (tt, fit.1)) refl) in
+        let q = block_settles g r n ss rest j z (subst (λ k. Rest g r k j z) e h) (footprint ∙ ap footprint_of e) (fits_here g (shrunk r these) these outermost_block (todo_fits g (anyone r.core) ss (mark n ∷ rest) fit.0 (tt, fit.1)) refl) in
         stays_settles these q (subst (λ k. thread_weight r.parents these < thread_weight r.parents k) (sym e) (block_lighter r.parents n ss rest))
     settles_one l e (block_end n rest) =
         let fit = subst (FitOn g r.core) e all_fit in
-        let q = mark_settles g r n rest j z (subst (λ k. Rest g r k j z) e h) (footprint ∙ ap footprint_of e) (fits_here g (shrunk r rest) rest fit.1 refl) in
+        let q = mark_settles g r n rest j z (subst (λ k. Rest g r k j z) e h) (footprint ∙ ap footprint_of e) (fits_here g (shrunk r rest) rest outermost_block fit.1 refl) in
         stays_settles rest q (subst (λ k. thread_weight r.parents rest < thread_weight r.parents k) (sym e) (mark_lighter r.parents n rest))
     settles_one l e (par_of_none rest) =
         let fit = subst (FitOn g r.core) e all_fit in
-        let q = none_settles g r rest j z (subst (λ k. Rest g r k j z) e h) (footprint ∙ ap footprint_of e) (fits_here g (shrunk r rest) rest fit.1 refl) in
+        let q = none_settles g r rest j z (subst (λ k. Rest g r k j z) e h) (footprint ∙ ap footprint_of e) (fits_here g (shrunk r rest) rest outermost_block fit.1 refl) in
         stays_settles rest q (subst (λ k. thread_weight r.parents rest < thread_weight r.parents k) (sym e) (none_lighter r.parents rest))
     settles_one l e (par_of_one ss pos rest) =
         let these = todo ss (ends ∷ []) in
         let s = under r (length x.state.branches) ss rest in
         let fit = subst (FitOn g r.core) e all_fit in
         let own_fit = branch_fits g r.core (kernel.more_branches (kernel.branch ss pos) kernel.no_branch) rest fit 0 ss refl in
-        let q = one_settles g r ss pos rest j z (subst (λ k. Rest g r k j z) e h) (footprint ∙ ap footprint_of e) (fits_here g s these own_fit refl) in
+        let q = one_settles g r ss pos rest j z (subst (λ k. Rest g r k j z) e h) (footprint ∙ ap footprint_of e) (fits_here g s these outermost_block own_fit refl) in
         under_settles ss pos rest e fit.1 q (subst (λ k. thread_weight (waiting_one r.branch (length x.state.branches) rest r.sides ∷ r.parents) these < thread_weight r.parents k) (sym e) (one_lighter r.parents (waiting_one r.branch (length x.state.branches) rest r.sides) ss pos))
     settles_one l e (branch_end p ps rest parents) = by_sync rest e p ps parents p.sync refl

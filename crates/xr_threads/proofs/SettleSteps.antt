@@ -22,7 +22,7 @@ use Rattle.xr_match.specs.Systems.{SomeIs}
 use Rattle.xr_threads.specs.Images.{IsImageOf}
 use Rattle.xr_threads.specs.Parents.{Parent, branches_of}
 use Rattle.xr_threads.specs.Roles.{AreRoles, AreUsedSo, HasReserves, IsParent, Roles, got_by, own_branches, used_by}
-use Rattle.xr_threads.specs.Runners.{Runner, Setting, plan}
+use Rattle.xr_threads.specs.Runners.{Runner, Setting, places}
 use Rattle.xr_threads.specs.Scenes.{Owns, giving_back, held_in, sync_in}
 use Rattle.xr_threads.specs.Standing.{AreLoose, IsMade, IsRun, IsWanted, Stand, Standing, Stands, living_on}
 use Rattle.xr_threads.specs.Transfers.{Transfer}
@@ -185,9 +185,9 @@ module _ (g : Setting) (first : Roles) (is : IsImageOf g first) (may_rest : (cor
   module _ (holds : HoldsStore g r (record { core = a; world = x.state; hand = None })) (ports : PortsStand g r (record { core = a; world = x.state; hand = None })) where
     pub loose_settled : 1 ≤ threads_on g.program c → AreLoose g who_settled c a y
     loose_settled some =
-        loose_behind g who who_settled c a a x.state y r core_is (st.roles.base c t r None runs_r) (laid_at g first is may_rest who w x st c t r None runs_r)
+        loose_behind g who who_settled c a a x.state y r core_is (laid_at g first is may_rest who w x st c t r None runs_r)
         (st.loose c a at_c some) (record { words = λ k ne. refl; ports = λ q ne. refl; store = λ v ne. ap (λ l. words_of l v) d.store })
-        (record { holds = subst (λ l. Holds (plan g r).vars r.footprint.uses r.base a.words l) (sym d.store) holds.holds; room = holds.room })
+        (record { holds = subst (λ l. Holds (places g r.core) r.footprint.uses 0 a.words l) (sym d.store) holds.holds; room = holds.room })
         (λ q listed its. let k = ports q listed its in record { port = k.port; there = k.there; declared = k.declared })
         (λ v nobody no u i other at. ⊎_elim (λ (same : r ≡ i). subst (λ (k : Runner). k.footprint.changes v ≡ false) same no) (λ now. nobody u i other now) (runner_still c u i other at))
         (λ v want. want_before v want)

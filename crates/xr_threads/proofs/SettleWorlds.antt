@@ -66,7 +66,7 @@ module _ (g : Setting) (r : Runner) (x : World) (branch : Branch) (known : slice
       store = refl;
       inboxes = refl;
       transfer = refl;
-      seated = record { core = refl; thread = refl; tie = refl; family = refl; base = refl; stack = refl; outermost_is = refl; syncs = refl; there = λ p n e h. h; still = λ p n e h. h };
+      seated = record { core = refl; thread = refl; tie = refl; family = refl; block = refl; stack = refl; outermost_is = refl; syncs = refl; there = λ p n e h. h; still = λ p n e h. h };
       held = refl;
       sync = refl;
       own = λ b m. inl m;
@@ -168,7 +168,7 @@ module _ (g : Setting) (r : Runner) (x : World) (branch : Branch) (known : slice
         thread = refl;
         tie = refl;
         family = refl;
-        base = refl;
+        block = refl;
         stack = refl;
         outermost_is = refl;
         syncs = refl;
@@ -298,7 +298,7 @@ module _ (g : Setting) (r : Runner) (x : World) (branch : Branch) (known : slice
         thread = refl;
         tie = refl;
         family = refl;
-        base = refl;
+        block = refl;
         stack = refl;
         outermost_is = sym (ap (outermost r.branch) parents);
         syncs = sym (ap syncs_of parents ∙ ap (λ o. sync_before o (syncs_of ps)) none);

@@ -27,7 +27,7 @@ use Rattle.xr_threads.specs.Parents.{Parent, sync_before, syncs_of}
 use Rattle.xl_sides.specs.Ends.{Sides}
 use Rattle.xl_walk.specs.Pieces.{ClosesAt, Exit, Jumps, PiecesAt}
 use Rattle.xr_threads.specs.Roles.{ParentWaits, ParentsWait}
-use Rattle.xr_threads.specs.Runners.{Footprint, Setting, Runner, IsPort, code, footprint_of, plan, port_place, shrunk}
+use Rattle.xr_threads.specs.Runners.{Footprint, Setting, Runner, IsPort, code, footprint_of, places, plan, port_place, shrunk}
 use Rattle.xr_threads.specs.Scenes.{IsStable, Owns, Scene}
 use Rattle.xr_threads.specs.Turns.{EndOf, HasBases, HoldsNames, HoldsStore, IsAt, IsJoining, ItemsFrom, Joins, PortsStand, Rest, Runs, finished}
 use Rattle.xr_threads.proofs.Closing.{closes_leads}
@@ -85,9 +85,9 @@ module _ (g : Setting) (r : Runner) where
   -- what it needs it has, where it uses no more than before
   less_holds : (b : ℕ) (ps : List Parent) (sides : Sides) (items : List Item) (z y : Scene) → ((v : ℕ) → (footprint_of items).uses v ≡ true → r.footprint.uses v ≡ true) → y.core ≡ z.core → y.world.store ≡ z.world.store → HoldsStore g r z → HoldsStore g (going r b ps sides items) y
   less_holds b ps sides items z y less same_core same_store h =
-      let was : Holds (plan g r).vars r.footprint.uses r.base y.core.words y.world.store =
-      subst (λ c. Holds (plan g r).vars r.footprint.uses r.base c.words y.world.store) (sym same_core)
-      (subst (λ s. Holds (plan g r).vars r.footprint.uses r.base z.core.words s) (sym same_store) h.holds) in
+      let was : Holds (places g r.core) r.footprint.uses 0 y.core.words y.world.store =
+      subst (λ c. Holds (places g r.core) r.footprint.uses 0 c.words y.world.store) (sym same_core)
+      (subst (λ s. Holds (places g r.core) r.footprint.uses 0 z.core.words s) (sym same_store) h.holds) in
       let size : length y.core.words ≡ length z.core.words = ap (λ c. length c.words) same_core in
       record {
         holds = record {

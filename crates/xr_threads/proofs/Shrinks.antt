@@ -20,7 +20,7 @@ use Rattle.xl_expr.specs.Frames.{HaveVars, variable_of}
 use Rattle.xl_expr.specs.Plans.{var_in}
 use Rattle.xl_plan.specs.Layout.{is_used_on}
 use Rattle.xr_threads.specs.Fits.{AllFit, BranchesFit, ChangesAt, FitOn, Fits, InputFits, IsChanged, ItemFits, ItemsFit, OutputFits, PutsOutAt, TakesInAt, Uses, UsesAt, UsesSome}
-use Rattle.xr_threads.specs.Runners.{Footprint, Setting, Runner, IsChannel, IsPort, anyone, end_place, footprint_of, home, plan, shrunk}
+use Rattle.xr_threads.specs.Runners.{Block, Footprint, Setting, Runner, IsChannel, IsPort, anyone, end_place, footprint_of, home, outside, places, plan, plan_in, shrunk}
 use Rattle.xr_threads.specs.Scenes.{Scene, running}
 use Rattle.xr_threads.specs.Transfers.{Transfer, acts_left}
 use Rattle.xr_threads.specs.Turns.{Has, HasBases, HoldsStore, InTransfer, IsBehind, PortsStand, Rest}
@@ -157,7 +157,7 @@ pub changed_used_items : (items : List Item) (v : ℕ) → (footprint_of items).
 changed_used_items items v h = items_used v items h
 
 -- What items need of one runner they need of another one of its core that has all that they use.
-module _ (g : Setting) (r s : Runner) (same : s.core ≡ r.core) where
+module _ (g : Setting) (r s : Runner) (same : s.core ≡ r.core) (block : s.block ≡ r.block) where
   -- it has a thing
   abbrev IsHad : Thing → Type 0
   IsHad (variable v) = s.footprint.uses v ≡ true
@@ -171,7 +171,9 @@ module _ (g : Setting) (r s : Runner) (same : s.core ≡ r.core) where
   AreHad by = (th : Thing) → by th ≡ true → IsHad th
 
   moved : (v : ℕ) (found : VarPlan) → var_in (plan g r).vars v ≡ Some found → var_in (plan g s).vars v ≡ Some found
-  moved v found known = subst (λ k. var_in (g.plans k).vars v ≡ Some found) (sym same) known
+  moved v found known =
+      subst (λ k. var_in (plan_in (g.plans k) s.block.plan).vars v ≡ Some found) (sym same)
+      (subst (λ (b : Block). var_in (plan_in (g.plans r.core) b.plan).vars v ≡ Some found) (sym block) known)
 
   mutual
     expression_here : (e : kernel.Expression) → Uses g r e → AreHad (λ th. by_expression th e) → Uses g s e
@@ -223,7 +225,7 @@ module _ (g : Setting) (r s : Runner) (same : s.core ≡ r.core) where
   zero_here : (v : ℕ) → IsChanged g r v → AreHad (λ th. by_change th v) → IsChanged g s v
   zero_here v h k = record {
     found = h.found;
-    known = moved v h.found h.known;
+    known = subst (λ k. var_in (places g k) v ≡ Some h.found) (sym same) h.known;
     words = h.words;
     some = h.some;
     uses = k (variable v) (same_number v);
@@ -295,25 +297,29 @@ module _ (g : Setting) (r s : Runner) (same : s.core ≡ r.core) where
   items_here (i ∷ items) h k = (item_here i h.0 (λ th u. k th (or_left _ _ u)), items_here items h.1 (λ th u. k th (or_right (by_item th i) _ u)))
 
 -- what items need of their runner they need of their core, and the other way round where the runner's footprint is theirs
-all_had : (g : Setting) (r : Runner) (th : Thing) → IsHad g r (anyone r.core) refl th
-all_had g r (variable v) = refl
-all_had g r (change v) = refl
-all_had g r (port p) = refl
-all_had g r (timer t) = tt
-all_had g r (channel c) = tt
+all_had : (g : Setting) (r : Runner) (block : outside ≡ r.block) (th : Thing) → IsHad g r (anyone r.core) refl block th
+all_had g r block (variable v) = refl
+all_had g r block (change v) = refl
+all_had g r block (port p) = refl
+all_had g r block (timer t) = tt
+all_had g r block (channel c) = tt
 
-pub fits_everywhere : (g : Setting) (r : Runner) (items : List Item) → ItemsFit g r items → FitOn g r.core items
-fits_everywhere g r items h = items_here g r (anyone r.core) refl items h (λ th u. all_had g r th)
+pub fits_everywhere : (g : Setting) (r : Runner) (items : List Item) → r.block ≡ outside → ItemsFit g r items → FitOn g r.core items
+fits_everywhere g r items block h = items_here g r (anyone r.core) refl (sym block) items h (λ th u. all_had g r (sym block) th)
 
-own_had : (g : Setting) (r : Runner) (items : List Item) → r.footprint ≡ footprint_of items → (th : Thing) → by_items th items ≡ true → IsHad g (anyone r.core) r refl th
-own_had g r items e (variable v) u = subst (λ (f : Footprint). f.uses v ≡ true) (sym e) u
-own_had g r items e (change v) u = subst (λ (f : Footprint). f.changes v ≡ true) (sym e) u
-own_had g r items e (port p) u = subst (λ (f : Footprint). f.ports p ≡ true) (sym e) u
-own_had g r items e (timer t) u = tt
-own_had g r items e (channel c) u = tt
+own_had : (g : Setting) (r s : Runner) (core : s.core ≡ r.core) (block : s.block ≡ r.block) (items : List Item) → s.footprint ≡ footprint_of items → (th : Thing) → by_items th items ≡ true → IsHad g r s core block th
+own_had g r s core block items e (variable v) u = subst (λ (f : Footprint). f.uses v ≡ true) (sym e) u
+own_had g r s core block items e (change v) u = subst (λ (f : Footprint). f.changes v ≡ true) (sym e) u
+own_had g r s core block items e (port p) u = subst (λ (f : Footprint). f.ports p ≡ true) (sym e) u
+own_had g r s core block items e (timer t) u = tt
+own_had g r s core block items e (channel c) u = tt
 
-pub fits_here : (g : Setting) (r : Runner) (items : List Item) → FitOn g r.core items → r.footprint ≡ footprint_of items → ItemsFit g r items
-fits_here g r items h e = items_here g (anyone r.core) r refl items h (λ th u. own_had g r items e th u)
+-- so items fit a runner in the same block of the same core
+pub fits_moved : (g : Setting) (r s : Runner) (items : List Item) → s.core ≡ r.core → s.block ≡ r.block → s.footprint ≡ footprint_of items → ItemsFit g r items → ItemsFit g s items
+fits_moved g r s items core block e h = items_here g r s core block items h (λ th u. own_had g r s core block items e th u)
+
+pub fits_here : (g : Setting) (r : Runner) (items : List Item) → r.block ≡ outside → FitOn g r.core items → r.footprint ≡ footprint_of items → ItemsFit g r items
+fits_here g r items block h e = fits_moved g (anyone r.core) r items refl block e h
 
 -- the branches of a `par`, and what is left behind it
 
@@ -373,7 +379,7 @@ module _ (g : Setting) (r : Runner) (items : List Item) (less : IsWithin (footpr
     here = h.here;
     bases = record { base = h.bases.base; stack = h.bases.stack; names = h.bases.names };
     at_code = h.at_code;
-    fits = fits_here g (shrunk r items) items (fits_everywhere g r items h.fits) refl;
+    fits = fits_moved g r (shrunk r items) items refl refl refl h.fits;
     has = has_shrinks items z h.has;
   }
 
@@ -403,6 +409,6 @@ module _ (g : Setting) (r : Runner) (items : List Item) (less : IsWithin (footpr
     regs = h.regs;
     here = h.here;
     steps = acts_map (home g r) r.thread (end_place g r transfer.channel transfer.side) (running r.tie h.pc h.regs) h.pos (acts_left transfer.phase) (IsBehind g r items j) (IsBehind g (shrunk r items) items j) (behind_shrinks items j) h.pc h.regs h.steps;
-    fits = fits_here g (shrunk r items) items (fits_everywhere g r items h.fits) refl;
+    fits = fits_moved g r (shrunk r items) items refl refl refl h.fits;
     has = has_shrinks items z h.has;
   }

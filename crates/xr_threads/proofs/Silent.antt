@@ -23,7 +23,7 @@ use Rattle.xr_match.specs.Systems.{SomeIs}
 use Rattle.xr_threads.specs.Images.{IsImageOf}
 use Rattle.xr_threads.specs.Living.{AreNamed}
 use Rattle.xr_threads.specs.Roles.{AreRoles, AreUsedSo, HandFits, Roles, got_by, used_by}
-use Rattle.xr_threads.specs.Runners.{Setting, Runner, IsLaidOut, IsPort, MayChange, anyone, of_stack, of_variable, port_place}
+use Rattle.xr_threads.specs.Runners.{Setting, Runner, IsLaidOut, IsPort, MayChange, anyone, of_stack, of_variable, places, port_place}
 use Rattle.xr_threads.specs.Scenes.{Owns, StillRuns, Touched}
 use Rattle.xr_threads.specs.Standing.{AreLoose, EventsAre, IsRun, IsWanted, NobodyChanges, NobodyHas, Stand, Standing, Stands, StandsBy, ThreadIs, none_rests, only}
 use Rattle.xr_threads.specs.Turns.{PortIs}
@@ -38,27 +38,27 @@ use Rattle.xr_threads.proofs.Places.{places_differ}
 use Rattle.xr_threads.proofs.Wiring.{TransfersAsBefore, wired_still}
 
 -- What nobody may change is as the program has it still, behind an event of a runner that changes none of it.
-module _ (g : Setting) (who who' : Roles) (c : ℕ) (a b : CoreState) (x y : World) (r : Runner) (on : r.core ≡ c) (base : r.base ≡ 0) (laid : IsLaidOut g r)
+module _ (g : Setting) (who who' : Roles) (c : ℕ) (a b : CoreState) (x y : World) (r : Runner) (on : r.core ≡ c) (laid : IsLaidOut g r)
     (loose : AreLoose g who c a x) (leaves : LeavesLoose g r a b x y)
     (changes : (v : ℕ) → NobodyChanges who' c v → (r.footprint.changes v ≡ false) × NobodyChanges who c v)
     (wants : (v : ℕ) → IsWanted who' c v → IsWanted who c v)
     (has : (q : ℕ) → NobodyHas who' c q → (r.footprint.ports q ≡ false) × NobodyHas who c q) where
-  not_own : (v n i : ℕ) (found : VarPlan) → r.footprint.changes v ≡ false → IsNear (g.plans r.core).vars v n found → i < found.words → MayChange g r (0 + n + i) → ⊥
+  not_own : (v n i : ℕ) (found : VarPlan) → r.footprint.changes v ≡ false → IsNear (places g r.core) v n found → i < found.words → MayChange g r (0 + n + i) → ⊥
   not_own v n i found unchanged near lt (of_variable v' n' i' found' near' changed' lt' is') =
-      let same : v ≡ v' = laid.frame.disjoint v n i v' n' i' found found' near near' lt lt' (omega (arith, is', base)) in
+      let same : v ≡ v' = laid.frame.disjoint v n i v' n' i' found found' near near' lt lt' (omega (arith, is')) in
       let both : true ≡ false = sym changed' ∙ ap r.footprint.changes (sym same) ∙ unchanged in
       cc
   not_own v n i found unchanged near lt (of_stack k lt' is') =
       ⊎_elim
-      (λ h. let z : ⊥ = omega (arith, h, lt', is', base) in z)
-      (λ h. let z : ⊥ = omega (arith, h, lt', is', base) in z)
+      (λ h. let z : ⊥ = omega (arith, h, lt', is') in z)
+      (λ h. let z : ⊥ = omega (arith, h, lt', is') in z)
       (laid.frame.apart v n i found near lt)
 
-  variable_still : (v : ℕ) → NobodyChanges who' c v → IsWanted who' c v → Holds (g.plans c).vars (only v) 0 b.words y.store
+  variable_still : (v : ℕ) → NobodyChanges who' c v → IsWanted who' c v → Holds (places g c) (only v) 0 b.words y.store
   variable_still v nobody wanted =
       let old = changes v nobody in
-      holds_on (g.plans c).vars v a.words b.words x.store y.store (leaves.store v old.0)
-      (λ n i found near lt. leaves.words (0 + n + i) (not_own v n i found old.0 (subst (λ k. IsNear (g.plans k).vars v n found) (sym on) near) lt))
+      holds_on (places g c) v a.words b.words x.store y.store (leaves.store v old.0)
+      (λ n i found near lt. leaves.words (0 + n + i) (not_own v n i found old.0 (subst (λ k. IsNear (places g k) v n found) (sym on) near) lt))
       (loose.variables v old.1 (wants v wanted))
 
   port_still : (q : ℕ) (listed : PortUse) → IsPort g (anyone c) q listed → NobodyHas who' c q → PortIs g (anyone c) q listed (record { core = b; world = y; hand = None })
@@ -134,7 +134,7 @@ module _ (g : Setting) (first : Roles) (is : IsImageOf g first) (who : Roles) (w
 
   silent_loose : 1 ≤ threads_on g.program c → AreLoose g who' c b x.state
   silent_loose some =
-      loose_still g who who' c a b x.state x.state r (st.roles.core c t r hand runs_r) (st.roles.base c t r hand runs_r) (laid_at g first is none_rests who w x st c t r hand runs_r)
+      loose_still g who who' c a b x.state x.state r (st.roles.core c t r hand runs_r) (laid_at g first is none_rests who w x st c t r hand runs_r)
       (st.loose c a at_c some) (record { words = touched.words; ports = touched.ports; store = λ v e. refl })
       (λ v nobody. (nobody t r hand' s.now, λ u i other at. let k = s.still c u i other at in nobody u i k.0 k.1))
       (λ v want. let k = s.before c want.thread want.runner want.hand want.runs in record { thread = want.thread; runner = want.runner; hand = k.0; runs = k.1; parent = want.parent; waits = want.waits; uses = want.uses })

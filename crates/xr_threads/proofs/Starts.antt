@@ -148,7 +148,7 @@ module _ (g : Setting) (who : Roles) (is : IsImageOf g who) where
     thread = λ c t r hand e. (root_of c t r hand e).thread;
     few = λ c t ne. (inside_by c t (who c t) refl ne).1;
     inside = λ c t ne. (inside_by c t (who c t) refl ne).0;
-    base = λ c t r hand e. (root_of c t r hand e).is_root.base;
+    block = λ c t r hand e. (root_of c t r hand e).is_root.block;
     stack = λ c t r hand e.
         let h = root_of c t r hand e in
         h.is_root.stack ∙ ap (λ k. temporary_of g.program k r.thread) h.core ∙ ap (temporary_of g.program c) h.thread;

@@ -1,5 +1,5 @@
 -- A runner is in another phase of a transfer, or in none: what it stands on is the same.
-use Rattle.std.proofs.Common.{◌≡◌, ℕ, List, [], ◌∷◌, Option}
+use Rattle.std.proofs.Common.{◌≡◌, ℕ, List, [], ◌∷◌, Option, refl}
 use Rattle.xs_instr.specs.declared.state.Regs.{Regs}
 use Rattle.xc_kernel.specs.declared.kernel.PortUse.{PortUse}
 use Rattle.xc_meaning.specs.States.Channels.{Side}
@@ -11,7 +11,7 @@ use Rattle.xr_threads.specs.Runners.{IsChannel, IsLaidOut, IsPort, Runner, Setti
 use Rattle.xr_threads.specs.Scenes.{Scene, running}
 use Rattle.xr_threads.specs.Transfers.{Transfer, acts_left}
 use Rattle.xr_threads.specs.Turns.{Has, HasBases, HoldsStore, InTransfer, IsBehind, PortsStand, Rest, TakesSteps}
-use Rattle.xr_threads.proofs.Shrinks.{acts_map, fits_everywhere, fits_here}
+use Rattle.xr_threads.proofs.Shrinks.{acts_map, fits_moved}
 
 module _ (g : Setting) (r : Runner) (transfer : Option Transfer) where
   abbrev pub s : Runner
@@ -33,10 +33,11 @@ module _ (g : Setting) (r : Runner) (transfer : Option Transfer) where
   has_as items z h = record { branch = h.branch; runs = h.runs; core = h.core; holds = store_as z h.holds; ports = ports_as z h.ports }
 
   pub fits_as : (items : List Item) → r.footprint ≡ footprint_of items → ItemsFit g r items → ItemsFit g s items
-  fits_as items same h = fits_here g s items (fits_everywhere g r items h) same
+  fits_as items same h = fits_moved g r s items refl refl same h
 
   pub laid_as : IsLaidOut g r → IsLaidOut g s
   laid_as h = record {
+    block = h.block;
     frame = h.frame;
     changes = h.changes;
     small = h.small;

@@ -18,7 +18,7 @@ use Rattle.xc_meaning.specs.States.Items.{Item}
 use Rattle.xc_meaning.specs.States.Worlds.{World, go}
 use Rattle.xc_meaning.specs.Runs.{acts, does_item, step_of}
 use Rattle.xl_expr.specs.declared.plan.VarAt.{VarAt}
-use Rattle.xl_expr.specs.Frames.{Holds, changed, variable_of}
+use Rattle.xl_expr.specs.Frames.{HasPlace, Holds, changed, variable_of}
 use Rattle.xl_expr.specs.Stores.{ElementAt, IsAddress, OfElement, OfWord, StoreOutcome, WordAt, Writes, index_in, tested_value}
 use Rattle.xl_expr.proofs.Framed.{store_holds}
 use Rattle.xl_expr.proofs.Lasting.{address_lasts}
@@ -26,13 +26,14 @@ use Rattle.xl_expr.proofs.Lists.{get_set_other}
 use Rattle.xl_walk.specs.Pieces.{Exit}
 use Rattle.xr_threads.specs.Fits.{ItemsFit, UsesAt}
 use Rattle.xr_threads.specs.Parents.{syncs_of}
-use Rattle.xr_threads.specs.Runners.{Setting, Runner, IsLaidOut, MayChange, of_variable, home, plan, relied}
+use Rattle.xr_threads.specs.Runners.{Setting, Runner, IsLaidOut, MayChange, of_variable, home, places, plan, plan_in, relied}
 use Rattle.xr_threads.specs.Scenes.{Scene, Kept, running}
 use Rattle.xr_threads.specs.Turns as turn
 use Rattle.xr_threads.specs.Turns.{ItemsFrom, HasBases, Has, Goes, Turn}
 use Rattle.xr_threads.proofs.Arriving.{Since, any_port, core_kept}
 use Rattle.xr_threads.proofs.Bases.{bases_worked}
 use Rattle.xr_threads.proofs.Evaluations.{index_still, item_acts, value_errs, with_items}
+use Rattle.xr_threads.proofs.Layouts.{place_seen, seen}
 use Rattle.xr_threads.proofs.OwnTurns.{MakesOwn, own_goes}
 
 -- a word is stored at the index that a place has
@@ -76,15 +77,15 @@ index_within len i pos (error kind p) h = absurd (cc)
 
 module _ (g : Setting) (r : Runner) (laid : IsLaidOut g r) where
   -- the word at a place's address is one that the runner may change
-  place_changes : (words : List ℕ) (store : Store) → Holds (plan g r).vars r.footprint.uses r.base words store → (p : kernel.Place) (i address : ℕ) → UsesAt g r p → r.footprint.changes (variable_of p) ≡ true → index_in store p ≡ word i → IsAddress (plan g r).vars (relied g r) r.stack (4 * r.base) words p i address → MayChange g r (address / 4)
+  place_changes : (words : List ℕ) (store : Store) → Holds (places g r.core) r.footprint.uses 0 words store → (p : kernel.Place) (i address : ℕ) → HasPlace (places g r.core) r.footprint.uses p → r.footprint.changes (variable_of p) ≡ true → index_in store p ≡ word i → IsAddress (places g r.core) (relied g r) r.stack (4 * 0) words p i address → MayChange g r (address / 4)
   place_changes words store holds (kernel.word v) i address (found, known, some, uses) changes is at_address =
       let near = laid.frame.near v found known in
-      let placed = subst (λ (q : VarAt). WordAt (plan g r).vars (relied g r) r.stack (4 * r.base) words q address) near.1.place (subst (λ o. OfWord (plan g r).vars (relied g r) r.stack (4 * r.base) words o address) known at_address) in
+      let placed = subst (λ (q : VarAt). WordAt (places g r.core) (relied g r) r.stack (4 * 0) words q address) near.1.place (subst (λ o. OfWord (places g r.core) (relied g r) r.stack (4 * 0) words o address) known at_address) in
       let low = laid.frame.low v near.0 0 found near.1 some in
       of_variable v near.0 0 found near.1 changes some (omega arith)
   place_changes words store holds (kernel.element v x pos) i address (has_x, (found, known, uses)) changes is at_address =
       let near = laid.frame.near v found known in
-      let placed = subst (λ (q : VarAt). ElementAt (plan g r).vars (relied g r) r.stack (4 * r.base) words q i address) near.1.place (subst (λ o. OfElement (plan g r).vars (relied g r) r.stack (4 * r.base) words o i address) known at_address) in
+      let placed = subst (λ (q : VarAt). ElementAt (places g r.core) (relied g r) r.stack (4 * 0) words q i address) near.1.place (subst (λ o. OfElement (places g r.core) (relied g r) r.stack (4 * 0) words o i address) known at_address) in
       let len = length (words_of store v) in
       let size = holds.lengths v near.0 found near.1 uses in
       let lt : i < found.words = let w = index_within len i pos (eval store x) is in omega arith in
@@ -99,7 +100,7 @@ module _ (g : Setting) (r : Runner) (laid : IsLaidOut g r) (item : Item) (place 
       does_item (step_of g.program g.stimulus w r.branch branch rest) item ≡ stored (step_of g.program g.stimulus w r.branch branch rest) place v
 
   -- at the instruction that writes the word
-  write_goes : (z q : Scene) (regs : Regs) (v i address : ℕ) → HasBases g r regs → q.hand ≡ None → (has : Has g r (item ∷ rest) q) → Stores q.world has.branch v → index_in q.world.store place ≡ word i → IsAddress (plan g r).vars (relied g r) r.stack (4 * r.base) q.core.words place i address → Writes (home g r) (relied g r) r.stack r.thread (running r.tie pc regs) z.core.words address v pc' q.core → Goes g r j q
+  write_goes : (z q : Scene) (regs : Regs) (v i address : ℕ) → HasBases g r regs → q.hand ≡ None → (has : Has g r (item ∷ rest) q) → Stores q.world has.branch v → index_in q.world.store place ≡ word i → IsAddress (places g r.core) (relied g r) r.stack (4 * 0) q.core.words place i address → Writes (home g r) (relied g r) r.stack r.thread (running r.tie pc regs) z.core.words address v pc' q.core → Goes g r j q
   write_goes z q regs v i address bases no_hand has is is_index at_address w =
       own_goes g r j q pc' w.regs words made bases' no_hand item rest rest store has acted same holds room exits j behind rest_fits (omega arith)
     where
@@ -110,7 +111,7 @@ module _ (g : Setting) (r : Runner) (laid : IsLaidOut g r) (item : Item) (place 
       store = changed q.world.store (variable_of place) i v
 
       mine : MayChange g r (address / 4)
-      mine = place_changes g r laid q.core.words q.world.store has.holds.holds place i address uses_place changes is_index at_address
+      mine = place_changes g r laid q.core.words q.world.store has.holds.holds place i address (place_seen g r laid place uses_place) changes is_index at_address
 
       made : MakesOwn g r q pc' w.regs words
       made = record {
@@ -133,8 +134,8 @@ module _ (g : Setting) (r : Runner) (laid : IsLaidOut g r) (item : Item) (place 
       same : (u : ℕ) → r.footprint.changes u ≡ false → words_of store u ≡ words_of q.world.store u
       same u c = get_or-set_other q.world.store (variable_of place) u (slice_set (words_of q.world.store (variable_of place)) i v) [] (λ e. let f = ap r.footprint.changes e in absurd (cc))
 
-      holds : Holds (plan g r).vars r.footprint.uses r.base words store
-      holds = store_holds (plan g r).vars (relied g r) r.footprint.uses r.stack r.base laid.frame q.core.words q.world.store has.holds.holds place i address v uses_place is_index at_address
+      holds : Holds (places g r.core) r.footprint.uses 0 words store
+      holds = store_holds (places g r.core) (relied g r) r.footprint.uses r.stack 0 laid.frame q.core.words q.world.store has.holds.holds place i address v (place_seen g r laid place uses_place) is_index at_address
 
       room : r.stack + temporary ≤ length words
       room = let e = length-set q.core.words (address / 4) v in let h = has.holds.room in omega arith
@@ -152,7 +153,8 @@ module _ (g : Setting) (r : Runner) (laid : IsLaidOut g r) (item : Item) (place 
       by (word i) f (address, at_address, writes) =
           let w = writes q.core (core_kept g r kept) in
           let at_base = subst (λ d. IsAddress (plan g r).vars (relied g r) r.stack d z.core.words place i address) bases.base at_address in
-          let at_q = address_lasts (plan g r).vars (relied g r) r.stack (4 * r.base) z.core.words q.core.words z.world.store since.words place i address at_base in
+          let there = seen g r laid (λ b. IsAddress (plan_in (g.plans r.core) b.plan).vars (relied g r) r.stack (4 * b.base) z.core.words place i address) at_base in
+          let at_q = address_lasts (places g r.core) (relied g r) r.stack (4 * 0) z.core.words q.core.words z.world.store since.words place i address there in
           turn.goes_on (write_goes z q regs v i address bases no_hand has is (index_is (word i) f) at_q w)
       by (error kind pos) f traps =
           let s = step_of g.program g.stimulus q.world r.branch has.branch rest in

@@ -17,19 +17,20 @@ use Rattle.xl_expr.specs.declared.plan.VarAt.{VarAt}
 use Rattle.xl_expr.specs.declared.plan.VarAt.TheVariants.{Near}
 use Rattle.xl_expr.specs.declared.plan.VarPlan.{VarPlan}
 use Rattle.xl_expr.specs.Frames.{IsNear, Holds}
+use Rattle.xl_expr.specs.Plans.{var_in}
 use Rattle.xl_expr.proofs.Lists.{get_set_same, get_set_other}
 use Rattle.xl_flow.specs.Zeros.{IsOutside, StandsFrom, WordsStand, WritesLast, words_set}
 use Rattle.xl_walk.specs.Pieces.{Exit}
 use Rattle.xr_threads.specs.Fits.{IsChanged, ItemsFit}
 use Rattle.xr_threads.specs.Parents.{syncs_of}
-use Rattle.xr_threads.specs.Runners.{Setting, Runner, IsLaidOut, MayChange, of_variable, home, plan, relied}
+use Rattle.xr_threads.specs.Runners.{Block, Setting, Runner, IsLaidOut, MayChange, of_variable, home, places, plan, plan_in, relied}
 use Rattle.xr_threads.specs.Scenes.{Scene, running}
 use Rattle.xr_threads.specs.Turns as turn
 use Rattle.xr_threads.specs.Turns.{Goes, Has, HasBases, HoldsStore, ItemsFrom, Runs, StatementLeads, Turns, cost, own_go}
 use Rattle.xr_threads.proofs.Arriving.{Since, any_port, arrives, at_runs, core_kept, since_kept, stack_relied}
 use Rattle.xr_threads.proofs.Bases.{bases_worked}
 use Rattle.xr_threads.proofs.Evaluations.{item_acts, runs_with, with_items}
-use Rattle.xr_threads.proofs.Layouts.{ports_last, runs_at, runs_kept, variable_relied}
+use Rattle.xr_threads.proofs.Layouts.{ports_last, runs_at, runs_kept, unseen, variable_relied}
 use Rattle.xr_threads.proofs.Scenes.{leads_as, leads_more}
 use Rattle.xr_threads.proofs.Watching.{here_at, items_unwatched}
 
@@ -71,7 +72,7 @@ module _ (ws : List ℕ) (i y : ℕ) where
 
 module _ (g : Setting) (r : Runner) (v : ℕ) (laid : IsLaidOut g r) (is : IsChanged g r v) where
   -- the variable stands near
-  near : (n : ℕ) × IsNear (plan g r).vars v n is.found
+  near : (n : ℕ) × IsNear (places g r.core) v n is.found
   near = laid.frame.near v is.found is.known
 
   -- its first word, counted from dp's, and that word's address
@@ -79,10 +80,10 @@ module _ (g : Setting) (r : Runner) (v : ℕ) (laid : IsLaidOut g r) (is : IsCha
   first = near.0
 
   abbrev base : ℕ
-  base = address_at (4 * r.base) first
+  base = address_at (4 * 0) first
 
   -- its words are low enough to have addresses
-  low : (i : ℕ) → i < is.found.words → r.base + first + i < 16384
+  low : (i : ℕ) → i < is.found.words → 0 + first + i < 16384
   low i lt = laid.frame.low v first i is.found near.1 lt
 
   -- what the code asks for: the words stand where the plan has them
@@ -92,30 +93,30 @@ module _ (g : Setting) (r : Runner) (v : ℕ) (laid : IsLaidOut g r) (is : IsCha
         let within : i < is.found.words = omega arith in
         let x = get_or (words_of z.world.store v) i 0 in
         let old : slice_get (words_of z.world.store v) i ≡ Some x = slice_get-get_or (words_of z.world.store v) i 0 (let l = h.holds.lengths v first is.found near.1 is.uses in omega arith) in
-        (x, word_is z.core.words r.base first i (low i within) ∙ h.holds.values v first i x is.found near.1 is.uses old);
+        (x, word_is z.core.words 0 first i (low i within) ∙ h.holds.values v first i x is.found near.1 is.uses old);
     relied_on = λ i lt.
         let within : i < is.found.words = omega arith in
-        ap (relied g r) (index_is r.base first i (low i within)) ∙ variable_relied g r v first i is.found near.1 is.uses within;
+        ap (relied g r) (index_is 0 first i (low i within)) ∙ variable_relied g r v first i is.found near.1 is.uses within;
   }
 
   -- a word that the runner may not change is none of them
   safe : (n : ℕ) → is.found.words ≡ n → (w : ℕ) → (MayChange g r w → ⊥) → IsOutside base n w
   safe n is_n w not_mine i lt e =
       let within : i < is.found.words = omega arith in
-      not_mine (of_variable v first i is.found near.1 is.changes within (e ∙ index_is r.base first i (low i within)))
+      not_mine (of_variable v first i is.found near.1 is.changes within (let f = index_is 0 first i (low i within) in omega (arith, e, f)))
 
   -- nor is a temporary word
   stack_outside : (n : ℕ) → is.found.words ≡ n → (k : ℕ) → k < temporary → IsOutside base n (r.stack + k)
   stack_outside n is_n k lt i l e =
       let within : i < is.found.words = omega arith in
-      let same : r.stack + k ≡ r.base + first + i = e ∙ index_is r.base first i (low i within) in
-      ⊎_elim (λ (below : r.base + first + i < r.stack). absurd (omega arith)) (λ (above : r.stack + temporary ≤ r.base + first + i). absurd (omega arith)) (laid.frame.apart v first i is.found near.1 within)
+      let same : r.stack + k ≡ 0 + first + i = e ∙ index_is 0 first i (low i within) in
+      ⊎_elim (λ (below : 0 + first + i < r.stack). absurd (omega arith)) (λ (above : r.stack + temporary ≤ 0 + first + i). absurd (omega arith)) (laid.frame.apart v first i is.found near.1 within)
 
   -- nor a word of another variable
-  other_outside : (n : ℕ) → is.found.words ≡ n → (w m k : ℕ) (other : VarPlan) → IsNear (plan g r).vars w m other → k < other.words → w ≢ v → IsOutside base n (r.base + m + k)
+  other_outside : (n : ℕ) → is.found.words ≡ n → (w m k : ℕ) (other : VarPlan) → IsNear (places g r.core) w m other → k < other.words → w ≢ v → IsOutside base n (0 + m + k)
   other_outside n is_n w m k other near' lt ne i l e =
       let within : i < is.found.words = omega arith in
-      let same : r.base + m + k ≡ r.base + first + i = e ∙ index_is r.base first i (low i within) in
+      let same : 0 + m + k ≡ 0 + first + i = e ∙ index_is 0 first i (low i within) in
       ne (laid.frame.disjoint w m k v first i other is.found near' near.1 lt within (omega arith))
 
   module _ (rest : List Item) (z : Scene) (k : ℕ) (is_k : is.found.words ≡ k + 1) where
@@ -129,8 +130,8 @@ module _ (g : Setting) (r : Runner) (v : ℕ) (laid : IsLaidOut g r) (is : IsCha
       zero_store = slice_set x.world.store v (map zero_for (words_of x.world.store v))
 
       -- the address of the last word is that of its place
-      put_is : zero_words ≡ slice_set x.core.words (r.base + first + k) 0
-      put_is = ap (λ w. slice_set x.core.words w 0) (index_is r.base first k (low k (omega arith)))
+      put_is : zero_words ≡ slice_set x.core.words (0 + first + k) 0
+      put_is = ap (λ w. slice_set x.core.words w 0) (index_is 0 first k (low k (omega arith)))
 
       -- the plan has as many words as the variable
       length_is : is.found.words ≡ length (words_of x.world.store v)
@@ -141,43 +142,43 @@ module _ (g : Setting) (r : Runner) (v : ℕ) (laid : IsLaidOut g r) (is : IsCha
       new_words = words_same x.world.store v (map zero_for (words_of x.world.store v)) (let l = length_is in let s = is.some in omega arith)
 
       -- each of the variable's words is 0
-      is_zero : (i : ℕ) → i < k + 1 → slice_get zero_words (r.base + first + i) ≡ Some 0
+      is_zero : (i : ℕ) → i < k + 1 → slice_get zero_words (0 + first + i) ≡ Some 0
       is_zero i lt =
-          ap (λ ws. slice_get ws (r.base + first + i)) put_is
+          ap (λ ws. slice_get ws (0 + first + i)) put_is
           ∙ ⊎_elim
-          (λ (e : i ≡ k). subst (λ n. slice_get (slice_set x.core.words (r.base + first + k) 0) (r.base + first + n) ≡ Some 0) (sym e) (get_set_same x.core.words (r.base + first + k) there.0 0 (sym (word_is x.core.words r.base first k (low k (omega arith))) ∙ there.1)))
-          (λ (ne : i ≢ k). get_set_other x.core.words (r.base + first + k) (r.base + first + i) 0 (λ f. ne (omega arith)) ∙ sym (word_is x.core.words r.base first i (low i (omega arith))) ∙ zeros i (below i lt ne))
+          (λ (e : i ≡ k). subst (λ n. slice_get (slice_set x.core.words (0 + first + k) 0) (0 + first + n) ≡ Some 0) (sym e) (get_set_same x.core.words (0 + first + k) there.0 0 (sym (word_is x.core.words 0 first k (low k (omega arith))) ∙ there.1)))
+          (λ (ne : i ≢ k). get_set_other x.core.words (0 + first + k) (0 + first + i) 0 (λ f. ne (omega arith)) ∙ sym (word_is x.core.words 0 first i (low i (omega arith))) ∙ zeros i (below i lt ne))
           (cases_eq i k)
         where
           below : (i : ℕ) → i < k + 1 → i ≢ k → i < k
           below i lt ne = omega (arith, lt, ne)
 
       -- the words of another variable are as they were
-      is_other : (w m i y : ℕ) (other : VarPlan) → IsNear (plan g r).vars w m other → r.footprint.uses w ≡ true → w ≢ v → slice_get (words_of x.world.store w) i ≡ Some y → slice_get zero_words (r.base + m + i) ≡ Some y
+      is_other : (w m i y : ℕ) (other : VarPlan) → IsNear (places g r.core) w m other → r.footprint.uses w ≡ true → w ≢ v → slice_get (words_of x.world.store w) i ≡ Some y → slice_get zero_words (0 + m + i) ≡ Some y
       is_other w m i y other near' uses ne h =
           let old : slice_get (words_of z.world.store w) i ≡ Some y = ap (λ ws. slice_get ws i) (sym (since.store w uses)) ∙ h in
           let within : i < other.words = let l = holds.holds.lengths w m other near' uses in let lt = slice_get_within (words_of z.world.store w) i y old in omega arith in
-          ap (λ ws. slice_get ws (r.base + m + i)) put_is
-          ∙ get_set_other x.core.words (r.base + first + k) (r.base + m + i) 0 (λ f. ne (laid.frame.disjoint w m i v first k other is.found near' near.1 within (omega arith) (omega arith)))
-          ∙ since.words (r.base + m + i) (variable_relied g r w m i other near' uses within) (other_outside (k + 1) is_k w m i other near' within ne)
+          ap (λ ws. slice_get ws (0 + m + i)) put_is
+          ∙ get_set_other x.core.words (0 + first + k) (0 + m + i) 0 (λ f. ne (laid.frame.disjoint w m i v first k other is.found near' near.1 within (omega arith) (omega arith)))
+          ∙ since.words (0 + m + i) (variable_relied g r w m i other near' uses within) (other_outside (k + 1) is_k w m i other near' within ne)
           ∙ holds.holds.values w m i y other near' uses old
 
       -- memory has the words of the store, whichever the variable is
-      values : (w m i y : ℕ) (other : VarPlan) → IsNear (plan g r).vars w m other → r.footprint.uses w ≡ true → slice_get (words_of zero_store w) i ≡ Some y → slice_get zero_words (r.base + m + i) ≡ Some y
+      values : (w m i y : ℕ) (other : VarPlan) → IsNear (places g r.core) w m other → r.footprint.uses w ≡ true → slice_get (words_of zero_store w) i ≡ Some y → slice_get zero_words (0 + m + i) ≡ Some y
       values w m i y other near' uses h = ⊎_elim same (λ (ne : w ≢ v). is_other w m i y other near' uses ne (ap (λ ws. slice_get ws i) (sym (words_other x.world.store v w (map zero_for (words_of x.world.store v)) ne)) ∙ h)) (cases_eq w v)
         where
-          same : w ≡ v → slice_get zero_words (r.base + m + i) ≡ Some y
+          same : w ≡ v → slice_get zero_words (0 + m + i) ≡ Some y
           same e =
-              let here : IsNear (plan g r).vars v m other = subst (λ u. IsNear (plan g r).vars u m other) e near' in
+              let here : IsNear (places g r.core) v m other = subst (λ u. IsNear (places g r.core) u m other) e near' in
               let found : is.found ≡ other = same_Some is.found other (sym near.1.known ∙ here.known) in
-              let places : Near first ≡ Near m = sym near.1.place ∙ ap (λ (p : VarPlan). p.place) found ∙ here.place in
+              let placed : Near first ≡ Near m = sym near.1.place ∙ ap (λ (p : VarPlan). p.place) found ∙ here.place in
               let m_is : m ≡ first = cc in
               let was = was_zeroed (words_of x.world.store v) i y (sym (ap (λ ws. slice_get ws i) new_words) ∙ ap (λ u. slice_get (words_of zero_store u) i) (sym e) ∙ h) in
               let lt : i < k + 1 = let l = length_is in let w' = was.0 in omega arith in
-              ap (λ n. slice_get zero_words (r.base + n + i)) m_is ∙ is_zero i lt ∙ ap Some (sym was.1)
+              ap (λ n. slice_get zero_words (0 + n + i)) m_is ∙ is_zero i lt ∙ ap Some (sym was.1)
 
       -- and no variable got longer or shorter
-      lengths : (w m : ℕ) (other : VarPlan) → IsNear (plan g r).vars w m other → r.footprint.uses w ≡ true → other.words ≡ length (words_of zero_store w)
+      lengths : (w m : ℕ) (other : VarPlan) → IsNear (places g r.core) w m other → r.footprint.uses w ≡ true → other.words ≡ length (words_of zero_store w)
       lengths w m other near' uses =
           let old = holds.holds.lengths w m other near' uses ∙ ap length (sym (since.store w uses)) in
           ⊎_elim
@@ -195,7 +196,7 @@ module _ (g : Setting) (r : Runner) (v : ℕ) (laid : IsLaidOut g r) (is : IsCha
           omega arith
 
       -- so memory holds the store again
-      zero_holds : Holds (plan g r).vars r.footprint.uses r.base zero_words zero_store
+      zero_holds : Holds (places g r.core) r.footprint.uses 0 zero_words zero_store
       zero_holds = record { lengths = lengths; values = values }
 
     module _ (exits : List Exit) (j : ℕ) (pc' : ℕ) (regs : Regs) (bases : HasBases g r regs) (no_hand : z.hand ≡ None) (behind : ItemsFrom g r rest exits pc' j) (fits : ItemsFit g r rest) (has : Has g r (does (kernel.set_zero v) ∷ rest) z) where
@@ -294,7 +295,7 @@ module _ (g : Setting) (r : Runner) where
           let near' = near g r v laid is in
           let n = near'.0 in
           let b = base g r v laid is in
-          let from_near : StandsFrom (relied g r) regs.dp z.core.words (Near n) b = ap (λ d. address_at d n) (sym bases.base) in
+          let from_near : StandsFrom (relied g r) regs.dp z.core.words (Near n) b = ap (λ d. address_at d n) (sym (bases.base ∙ ap (λ (k : Block). 4 * k.base) laid.block)) in
           let from = subst (λ (p : VarAt). StandsFrom (relied g r) regs.dp z.core.words p b) (sym near'.1.place) from_near in
           subst (λ q. Within (home g r) (relied g r) (IsOutside b (k + 1)) r.thread (λ d. (c : CoreState) → own.Kept (relied g r) r.thread d c → WritesLast (home g r) (relied g r) r.thread (running r.tie pc regs) z.core.words b k q c) (2 * (k + 1) + 1) z.core) (sym code.end)
-          (code.so.last is.found k is.known (ap (λ (p : VarAt). words_set p is.found.words) near'.1.place ∙ is_k) (home g r) (relied g r) r.thread b (running r.tie pc regs) z.core code.stand (runs_at g r z pc regs here) from (words_stand g r v laid is (k + 1) is_k z has.holds))
+          (code.so.last is.found k (unseen g r laid (λ k. var_in (plan_in (g.plans r.core) k.plan).vars v ≡ Some is.found) is.known) (ap (λ (p : VarAt). words_set p is.found.words) near'.1.place ∙ is_k) (home g r) (relied g r) r.thread b (running r.tie pc regs) z.core code.stand (runs_at g r z pc regs here) from (words_stand g r v laid is (k + 1) is_k z has.holds))

@@ -12,7 +12,7 @@ use Rattle.xl_expr.specs.declared.plan.VarPlan.{VarPlan}
 use Rattle.xl_expr.specs.Frames.{HasVars, HasPlace, variable_of}
 use Rattle.xl_expr.specs.Plans.{var_in}
 use Rattle.xl_image.specs.Images.{dir_of}
-use Rattle.xr_threads.specs.Runners.{Setting, Runner, IsChannel, IsPort, anyone, plan}
+use Rattle.xr_threads.specs.Runners.{Setting, Runner, IsChannel, IsPort, anyone, places, plan}
 
 module _ (g : Setting) (r : Runner) where
   -- no statement of the program counts more
@@ -36,7 +36,7 @@ module _ (g : Setting) (r : Runner) where
   -- a variable that the runner may change, with some words, of which the plan has as many as the program
   pub record IsChanged (v : ℕ) : Type 0 where
     pub found : VarPlan
-    pub known : var_in (plan g r).vars v ≡ Some found
+    pub known : var_in (places g r.core) v ≡ Some found
     pub words : found.words ≡ words_in g.program.variables v
     pub some : 0 < found.words
     pub uses : r.footprint.uses v ≡ true

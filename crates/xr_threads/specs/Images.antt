@@ -22,7 +22,7 @@ use Rattle.xl_plan.specs.Layout.{is_used_on, temporary_of}
 use Rattle.xr_match.specs.Meanings.{root_among}
 use Rattle.xr_threads.specs.Fits.{FitOn}
 use Rattle.xr_threads.specs.Roles.{Role, Roles, unused, used_by}
-use Rattle.xr_threads.specs.Runners.{Setting, Runner, IsLaidOut, IsPort, anyone, footprint_of, home, plan, port_place}
+use Rattle.xr_threads.specs.Runners.{Setting, Runner, IsLaidOut, IsPort, anyone, footprint_of, home, outside, places, plan, port_place}
 use Rattle.xr_threads.specs.Plain.{ArePlain}
 use Rattle.xr_threads.specs.Standing.{living_on}
 use Rattle.xr_threads.specs.Wired.{AreSidesOn, IsLine}
@@ -31,11 +31,11 @@ use Rattle.xr_wires.specs.Wires.{IsWired, place}
 -- What is so of a core of which threads are needed, whoever runs there: each thread of which it has need, with any footprint, is laid out, and has
 -- its temporary words; the variables and ports are there.
 pub record IsCoreOf (g : Setting) (c : ℕ) : Type 0 where
-  pub laid : (r : Runner) → r.core ≡ c → r.thread < threads_on g.program c → r.base ≡ 0 → r.stack ≡ temporary_of g.program c r.thread →
+  pub laid : (r : Runner) → r.core ≡ c → r.thread < threads_on g.program c → r.block ≡ outside → r.stack ≡ temporary_of g.program c r.thread →
       ((v : ℕ) → r.footprint.changes v ≡ true → r.footprint.uses v ≡ true) → IsLaidOut g r
   pub room : (t : ℕ) → t < threads_on g.program c → temporary_of g.program c t + temporary ≤ (parts_in g.image.cores c).words
   pub stacks : (g.plans c).first_stack ≡ temporary_of g.program c 0
-  pub sizes : (v n : ℕ) (found : VarPlan) → IsNear (g.plans c).vars v n found →
+  pub sizes : (v n : ℕ) (found : VarPlan) → IsNear (places g c) v n found →
       (found.words ≡ words_in g.program.variables v) × (n + found.words ≤ (parts_in g.image.cores c).words)
   pub ports : (p : ℕ) (listed : PortUse) → IsPort g (anyone c) p listed →
       slice_get (parts_in g.image.cores c).ports (port_place g (anyone c) p) ≡ Some (decl_of listed)
@@ -48,7 +48,7 @@ pub record IsRoot (g : Setting) (r : Runner) (root : kernel.Root) : Type 0 where
   pub core : root.core ≡ r.core
   pub family : r.family ≡ r.branch
   pub numbered : root_among r.core 0 g.program.roots r.thread ≡ Some r.branch
-  pub base : r.base ≡ 0
+  pub block : r.block ≡ outside
   pub tie : r.tie ≡ None
   pub alone : r.parents ≡ []
   pub sides : r.sides ≡ root_sides g.program r.branch

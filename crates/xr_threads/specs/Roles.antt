@@ -12,7 +12,7 @@ use Rattle.xl_par.specs.Hands.{Hand, IsAmong}
 use Rattle.xl_plan.specs.Layout.{temporary_of}
 use Rattle.xr_threads.specs.Fits.{FitOn}
 use Rattle.xr_threads.specs.Parents.{Parent, branches_of, syncs_of}
-use Rattle.xr_threads.specs.Runners.{Setting, Runner}
+use Rattle.xr_threads.specs.Runners.{Setting, Runner, outside}
 use Rattle.xr_threads.specs.Scenes.{Owns, giving_back, held_in, sync_in}
 use Rattle.xr_threads.specs.Turns.{IsFree, IsWaitingTied}
 
@@ -79,7 +79,7 @@ pub record AreRoles (g : Setting) (who : Roles) : Type 0 where
   pub thread : (c t : ℕ) (r : Runner) (hand : Option Hand) → who c t ≡ used_by r hand → r.thread ≡ t
   pub few : (c t : ℕ) → who c t ≢ unused → t < 8
   pub inside : (c t : ℕ) → who c t ≢ unused → t < threads_on g.program c
-  pub base : (c t : ℕ) (r : Runner) (hand : Option Hand) → who c t ≡ used_by r hand → r.base ≡ 0
+  pub block : (c t : ℕ) (r : Runner) (hand : Option Hand) → who c t ≡ used_by r hand → r.block ≡ outside
   pub stack : (c t : ℕ) (r : Runner) (hand : Option Hand) → who c t ≡ used_by r hand → r.stack ≡ temporary_of g.program c t
   pub started : (c t : ℕ) (r : Runner) (hand : Option Hand) → who c t ≡ used_by r hand → outermost r.branch r.parents ≡ r.family
   pub branches : (c t c' t' b : ℕ) (r s : Runner) (hand other : Option Hand) → who c t ≡ used_by r hand → who c' t' ≡ used_by s other →

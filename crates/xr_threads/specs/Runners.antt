@@ -50,7 +50,25 @@ footprint_of items = record {
 abbrev pub everything : Footprint
 everything = record { uses = λ v. true; changes = λ v. true; ports = λ p. true }
 
--- A hardware thread that runs a branch: dp names word `base`, and its temporary words begin at word `stack`. Its steps count for a family.
+-- What a thread's code sees the variables, ports and ends of its core by: dp names a word, and a plan of its own says the rest. Where it has none, that is
+-- the core's plan.
+pub record Block : Type 0 where
+  pub base : ℕ
+  pub plan : Option Plan
+
+-- the outermost one
+abbrev pub outside : Block
+outside = record { base = 0; plan = None }
+
+abbrev pub plan_in : (of_core : Plan) → (own : Option Plan) → Plan
+plan_in of_core None = of_core
+plan_in of_core (Some own) = own
+
+-- where the variables of a core stand, whatever code sees of them: the words are counted from word 0 on
+abbrev pub places : Setting → (core : ℕ) → List (Option VarPlan)
+places g core = (g.plans core).vars
+
+-- A hardware thread that runs a branch: its code stands in a block, and its temporary words begin at word `stack`. Its steps count for a family.
 -- Other branches may wait for that one, the innermost first. It stands in sides of channels, and its thread may be inside a transfer.
 pub record Runner : Type 0 where
   pub core : ℕ
@@ -58,7 +76,7 @@ pub record Runner : Type 0 where
   pub tie : Option ℕ
   pub branch : ℕ
   pub family : ℕ
-  pub base : ℕ
+  pub block : Block
   pub stack : ℕ
   pub footprint : Footprint
   pub parents : List Parent
@@ -73,7 +91,7 @@ anyone core = record {
   tie = None;
   branch = 0;
   family = 0;
-  base = 0;
+  block = outside;
   stack = 0;
   footprint = everything;
   parents = [];
@@ -114,17 +132,17 @@ module _ (g : Setting) (r : Runner) where
   code = home.parts.code
 
   abbrev pub plan : Plan
-  plan = g.plans r.core
+  plan = plan_in (g.plans r.core) r.block.plan
 
   -- the words that a runner relies on: its temporary ones, and those of the variables that it uses
   abbrev pub relied : (w : ℕ) → Bool
   relied w =
-      is_among_words r.stack temporary w || is_word_among r.base plan.vars r.footprint.uses (length plan.vars) w
+      is_among_words r.stack temporary w || is_word_among 0 (places g r.core) r.footprint.uses (length (places g r.core)) w
 
   -- the words that it may change
   pub data MayChange (w : ℕ) : Type 0 where
-    of_variable : (v n i : ℕ) (found : VarPlan) → IsNear plan.vars v n found → r.footprint.changes v ≡ true → i < found.words →
-        w ≡ r.base + n + i → MayChange w
+    of_variable : (v n i : ℕ) (found : VarPlan) → IsNear (places g r.core) v n found → r.footprint.changes v ≡ true → i < found.words →
+        w ≡ n + i → MayChange w
     of_stack : (k : ℕ) → k < temporary → w ≡ r.stack + k → MayChange w
 
   -- the place of a port on the runner's core
@@ -153,10 +171,11 @@ module _ (g : Setting) (r : Runner) where
     pub known : slice_get g.program.ports p ≡ Some listed
     pub core : listed.core ≡ r.core
 
-  -- The variables of a runner's core stand near, no two of them share a word, and none is a temporary one of the runner's. Its ports and its
+  -- Its code stands in no other block, the variables of its core stand near, no two of them share a word, and none is a temporary one of the runner's. Its ports and its
   -- channels' ends have the identifiers that the plan gives them.
   pub record IsLaidOut : Type 0 where
-    pub frame : Frame plan.vars relied r.footprint.uses r.stack r.base
+    pub block : r.block ≡ outside
+    pub frame : Frame (places g r.core) relied r.footprint.uses r.stack 0
     pub changes : (v : ℕ) → r.footprint.changes v ≡ true → r.footprint.uses v ≡ true
     pub small : r.stack + temporary ≤ 16384
     pub identifiers : (p : ℕ) (listed : PortUse) → IsPort p listed →

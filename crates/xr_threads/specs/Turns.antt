@@ -42,7 +42,7 @@ use Rattle.xr_threads.specs.Items.{EndAt, ItemsAt}
 use Rattle.xr_threads.specs.Parents.{Parent, syncs_of}
 use Rattle.xl_walk.specs.Pieces.{Exit, LinesAt, PieceAt}
 use Rattle.xr_threads.specs.Fits.{Fits, ItemsFit, greatest}
-use Rattle.xr_threads.specs.Runners.{Setting, Runner, IsLaidOut, IsPort, code, end_place, home, plan, port_place}
+use Rattle.xr_threads.specs.Runners.{Setting, Runner, IsLaidOut, IsPort, code, end_place, home, places, plan, port_place}
 use Rattle.xr_threads.specs.Transfers.{Transfer, AwaitsNothing, GoesWith, acts_left}
 use Rattle.xr_threads.specs.Scenes.{Scene, Kept, Touched, LeadsIn, after, giving_back, running, running_so}
 
@@ -142,7 +142,7 @@ module _ (g : Setting) (r : Runner) where
 
   -- dp and sp are the runner's, and from r1 on stand the names of the synchronisers of the branches that wait, the innermost one's first
   pub record HasBasesBy (syncs : List ℕ) (regs : Regs) : Type 0 where
-    pub base : regs.dp ≡ 4 * r.base
+    pub base : regs.dp ≡ 4 * r.block.base
     pub stack : regs.sp ≡ 4 * r.stack
     pub names : HoldsNames r.core syncs regs
 
@@ -151,7 +151,7 @@ module _ (g : Setting) (r : Runner) where
 
   -- the words of the variables that the branch may use are those of the store, and the temporary words are there
   pub record HoldsStore (z : Scene) : Type 0 where
-    pub holds : Holds (plan g r).vars r.footprint.uses r.base z.core.words z.world.store
+    pub holds : Holds (places g r.core) r.footprint.uses 0 z.core.words z.world.store
     pub room : r.stack + temporary ≤ length z.core.words
 
   -- a port stands at its place as it is declared
@@ -326,7 +326,7 @@ module _ (g : Setting) (r : Runner) where
     pub pc : ℕ
     pub regs : Regs
     pub here : slice_get left.threads u ≡ Some (running (Some sync) pc regs)
-    pub base : regs.dp ≡ 4 * r.base
+    pub base : regs.dp ≡ 4 * r.block.base
     pub stack : regs.sp ≡ 4 * ((plan g r).first_stack + temporary * u)
     pub at_code : ItemsAt (plan g r) (code g r) placed.sides (EndAt (plan g r) (code g r) (Some sync) []) (todo placed.code (ends ∷ [])) [] pc 0
 
