@@ -7,5 +7,7 @@ pub mod Parts
 pub mod Stores
 pub mod Frames
 pub mod Leads
+pub mod ResourceParts
+pub mod PartSteps
 pub mod Identifiers
 pub mod Targets

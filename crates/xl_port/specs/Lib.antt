@@ -1,2 +1,1 @@
-pub mod PortSteps
 pub mod Outputs

@@ -59,7 +59,7 @@ module _ (g : Setting) (first : Roles) (is : IsImageOf g first) (who : Roles) (w
         inr (sym (e.tied thread (ap (slice_get left.threads) (thread_is ∙ sym (eqb-true u t m)) ∙ there)) ∙ num_is thread.tie n tied);
     syncs = λ n ne taken. ap (λ l. slice_get l n) e.syncs ∙ taken;
     words = (e.touched x.state).words;
-    ports = (e.touched x.state).ports;
+    resources = (e.touched x.state).resources;
     clocks = refl;
     branches = λ n branch ne there. there;
     store = λ v f. refl;
@@ -129,7 +129,7 @@ module _ (g : Setting) (first : Roles) (is : IsImageOf g first) (who : Roles) (w
   loose : 1 ≤ threads_on g.program c → AreLoose g who_next c left x.state
   loose some =
       loose_still g who who_next c a left x.state x.state r (st.roles.core c t r None runs_r) (laid_at g first is none_rests who w x st c t r None runs_r)
-      (st.loose c a at_c some) (record { words = (e.touched x.state).words; ports = (e.touched x.state).ports; store = λ v f. refl })
+      (st.loose c a at_c some) (record { words = (e.touched x.state).words; resources = (e.touched x.state).resources; store = λ v f. refl })
       (λ v nobody. (nobody t s None (role_here who c t (used_by s None)), λ u i other at. let k = alike_still c u i other at in ap (λ f. f.changes v) (sym k.2.footprint) ∙ nobody u k.0 other k.1))
       (λ v want.
       let k = alike_cases c want.thread want.runner want.hand want.runs in

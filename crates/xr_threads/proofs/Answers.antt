@@ -13,6 +13,7 @@ use Rattle.xc_kernel.specs.declared.kernel.PortUse.{PortUse}
 use Rattle.xc_meaning.specs.States.Branches.{Branch, runs, has_ended}
 use Rattle.xc_meaning.specs.States.Worlds.{World}
 use Rattle.xl_expr.proofs.Lists.{get_set_same, get_set_other}
+use Rattle.xl_expr.proofs.ResourceParts.{others_same}
 use Rattle.xl_expr.specs.Frames.{Holds}
 use Rattle.xr_threads.specs.Runners.{Setting, Runner, IsPort, places, port_place}
 use Rattle.xr_threads.specs.Scenes.{Scene, Touched, running, running_so}
@@ -82,7 +83,7 @@ module _ (g : Setting) (r : Runner) (c : ℕ) (a : CoreState) (x : World) where
           as_many = length-set a.threads r.thread th';
           words = λ w n. refl;
           size = refl;
-          ports = λ q n. refl;
+          resources = others_same _ _ _ _ refl refl refl;
         };
         roots = refl;
         syncs = refl;

@@ -1,5 +1,5 @@
 -- Own steps of a thread on its core are silent steps of its runner, so what a piece of code leads to is where the runner comes.
-use Rattle.std.proofs.Common.{◌≡◌, ◌≢◌, ◌<◌, ℕ, Some, zero, suc, ◌+◌, ◌-◌, ◌≤◌, Bool, true, false, length, inl, inr, ⊎_elim, refl, sym, ap, ◌∙◌, arith}
+use Rattle.std.proofs.Common.{◌≡◌, ◌≢◌, ◌<◌, ℕ, Some, zero, suc, ◌+◌, ◌-◌, ◌≤◌, Bool, true, false, length, inl, inr, ⊎_elim, refl, sym, ap, ◌∙◌, subst, arith}
 use Rattle.std.specs.Prelude.{slice_get, slice_set, nat_le, nat_lt}
 use Rattle.std.proofs.lemmas.Bool.{and_from, le-leb, lt-ltb, ltb-true, ltb-false, or_left}
 use Rattle.std.proofs.lemmas.List.{length-set}
@@ -12,23 +12,27 @@ use Rattle.xs_instr.specs.Did.{makes}
 use Rattle.xs_instr.specs.Slot.{slot}
 use Rattle.xs_instr.specs.OwnSteps as own
 use Rattle.xs_instr.specs.OwnSteps.{IsApart, OwnStep, Within, temporary}
+use Rattle.xs_instr.specs.declared.state.Res.TheVariants.{Port as ResPort}
+use Rattle.xs_instr.specs.declared.state.Res.{Res}
 use Rattle.xc_kernel.specs.declared.kernel.PortUse.{PortUse}
 use Rattle.xc_kernel.specs.Eval.{words_of}
 use Rattle.xl_expr.proofs.Lists.{get_set_same, get_set_other, room_kept}
-use Rattle.xl_port.specs.PortSteps.{KeptPort, PortStep, WithinPort}
-use Rattle.xr_threads.specs.Runners.{Setting, Runner, IsPort, MayChange, of_stack, home, is_among_words, is_word_among, places, port_place, relied}
+use Rattle.xl_expr.proofs.ResourceParts.{others_fewer, others_same, own_fewer, part_same, port_same}
+use Rattle.xr_threads.specs.Runners.{IsMine, Setting, Runner, IsPort, MayChange, of_stack, home, is_among_words, is_word_among, places, port_place, relied}
 use Rattle.xr_threads.specs.Scenes.{Scene, Kept, IsSilentStep, SameUse, StillRuns, after, keeps, running, LeadsIn}
 use Rattle.xr_threads.specs.Turns.{IsAt}
 use Rattle.xr_threads.proofs.Declared.{declared_there, same_declared}
 use Rattle.xr_threads.proofs.Sizes.{same_size}
+use Rattle.xl_expr.specs.PartSteps.{KeptParts, PartsStep, WithinParts}
+use Rattle.xl_expr.specs.ResourceParts.{part_of, port_alone}
 
--- all ports
-abbrev pub any_port : ℕ → Type 0
-any_port q = Unit {0}
+-- all resources
+abbrev pub any_part : Res → Type 0
+any_part res = Unit {0}
 
--- all ports but one
-abbrev pub but : ℕ → ℕ → Type 0
-but p q = q ≡ p → ⊥
+-- all but some
+abbrev pub apart_from : (Res → Type 0) → Res → Type 0
+apart_from some res = some res → ⊥
 
 -- a word among so many
 pub among_words : (first words k : ℕ) → k < words → is_among_words first words (first + k) ≡ true
@@ -41,12 +45,15 @@ module _ (g : Setting) (r : Runner) where
   stack_relied k lt =
       or_left (is_among_words r.stack temporary (r.stack + k)) (is_word_among 0 (places g r.core) r.footprint.uses (length (places g r.core)) (r.stack + k)) (among_words r.stack temporary k lt)
 
-  -- what stays while the runner goes on: these of the words that it relies on, its ports at these places, its branch, the words of its
+  -- one of the runner's ports is a resource of its
+  pub own_port : (p : ℕ) (listed : PortUse) → IsPort g r p listed → IsMine g r (ResPort (port_place g r p))
+  own_port p listed is = record { port = p; listed = listed; is = is; place = refl }
+
+  -- what stays while the runner goes on: these of the words that it relies on, these of its resources, its branch, the words of its
   -- variables in the store, and what it has in hand; and its thread runs
-  pub record Since (leaves stays : ℕ → Type 0) (z y : Scene) : Type 0 where
+  pub record Since (leaves : ℕ → Type 0) (stays : Res → Type 0) (z y : Scene) : Type 0 where
     pub words : (w : ℕ) → relied g r w ≡ true → leaves w → slice_get y.core.words w ≡ slice_get z.core.words w
-    pub ports : (p : ℕ) (listed : PortUse) → IsPort g r p listed → stays (port_place g r p) →
-        slice_get y.core.ports (port_place g r p) ≡ slice_get z.core.ports (port_place g r p)
+    pub parts : (res : Res) → IsMine g r res → stays res → part_of y.core res ≡ part_of z.core res
     pub branch : slice_get y.world.branches r.branch ≡ slice_get z.world.branches r.branch
     pub store : (v : ℕ) → r.footprint.uses v ≡ true → words_of y.world.store v ≡ words_of z.world.store v
     pub room : r.stack + temporary ≤ length z.core.words → r.stack + temporary ≤ length y.core.words
@@ -56,10 +63,10 @@ module _ (g : Setting) (r : Runner) where
     pub on : StillRuns g r y.core
 
   -- it holds at once
-  pub since_now : (leaves stays : ℕ → Type 0) (z : Scene) → StillRuns g r z.core → Since leaves stays z z
+  pub since_now : (leaves : ℕ → Type 0) (stays : Res → Type 0) (z : Scene) → StillRuns g r z.core → Since leaves stays z z
   since_now leaves stays z on = record {
     words = λ w m l. refl;
-    ports = λ p listed is s. refl;
+    parts = λ res m s. refl;
     branch = refl;
     store = λ v u. refl;
     room = λ h. h;
@@ -68,15 +75,19 @@ module _ (g : Setting) (r : Runner) where
     on = on;
   }
 
+  -- its ports are what they were
+  pub ports_kept : {z y : Scene} → Kept g r z y → (p : ℕ) (listed : PortUse) → IsPort g r p listed → slice_get y.core.ports (port_place g r p) ≡ slice_get z.core.ports (port_place g r p)
+  ports_kept {z = z} {y = y} k p listed is = port_same z.core y.core (port_place g r p) (k.resources.parts (ResPort (port_place g r p)) (own_port p listed is))
+
   -- and lasts
-  pub since_kept : (leaves stays : ℕ → Type 0) {z y x : Scene} → Since leaves stays z y → Kept g r y x → Since leaves stays z x
+  pub since_kept : (leaves : ℕ → Type 0) (stays : Res → Type 0) {z y x : Scene} → Since leaves stays z y → Kept g r y x → Since leaves stays z x
   since_kept leaves stays {y = y} {x = x} h k = record {
     words = λ w m l. k.words w m ∙ h.words w m l;
-    ports = λ p listed is s. k.ports p listed is ∙ h.ports p listed is s;
+    parts = λ res m s. k.resources.parts res m ∙ h.parts res m s;
     branch = k.branch ∙ h.branch;
     store = λ v u. k.store v u ∙ h.store v u;
     room = λ was. room_kept (relied g r) r.stack stack_relied y.core.words x.core.words (h.room was) k.words;
-    declared = λ p listed port is there. let old = h.declared p listed port is there in (old.0, k.ports p listed is ∙ old.1, old.2);
+    declared = λ p listed port is there. let old = h.declared p listed port is there in (old.0, ports_kept k p listed is ∙ old.1, old.2);
     hand = k.hand ∙ h.hand;
     on = record { thread = h.on.thread; there = k.thread ∙ h.on.there; runs = h.on.runs; tied = h.on.tied; no_events = h.on.no_events };
   }
@@ -119,9 +130,20 @@ module _ (g : Setting) (r : Runner) where
   pub core_kept : {z y : Scene} → Kept g r z y → own.Kept (relied g r) r.thread z.core y.core
   core_kept k = record { thread = k.thread; words = k.words }
 
-  -- and the same beside one of the runner's ports
-  pub port_kept : (p : ℕ) (listed : PortUse) → IsPort g r p listed → {z y : Scene} → Kept g r z y → KeptPort (relied g r) r.thread (port_place g r p) z.core y.core
-  port_kept p listed is k = record { own = core_kept k; port = k.ports p listed is }
+  -- and the same beside some of the runner's resources
+  pub parts_kept : (mine : Res → Type 0) → ((res : Res) → mine res → IsMine g r res) → {z y : Scene} → Kept g r z y → KeptParts (relied g r) mine r.thread z.core y.core
+  parts_kept mine own {z = z} {y = y} k = record { own = core_kept k; resources = own_fewer (IsMine g r) r.thread z.core y.core mine own k.resources }
+
+  -- or one of its ports
+  pub alone_mine : (p : ℕ) (listed : PortUse) → IsPort g r p listed → (res : Res) → port_alone (port_place g r p) res → IsMine g r res
+  alone_mine p listed is res e = subst (IsMine g r) (sym e) (own_port p listed is)
+
+  pub port_kept : (p : ℕ) (listed : PortUse) → IsPort g r p listed → {z y : Scene} → Kept g r z y → KeptParts (relied g r) (port_alone (port_place g r p)) r.thread z.core y.core
+  port_kept p listed is k = parts_kept (port_alone (port_place g r p)) (alone_mine p listed is) k
+
+  -- of the runner's ports those stay whose parts do
+  pub ports_since : (leaves : ℕ → Type 0) (stays : Res → Type 0) (z y : Scene) → Since leaves stays z y → (p : ℕ) (listed : PortUse) → IsPort g r p listed → stays (ResPort (port_place g r p)) → slice_get y.core.ports (port_place g r p) ≡ slice_get z.core.ports (port_place g r p)
+  ports_since leaves stays z y h p listed is s = port_same z.core y.core (port_place g r p) (h.parts (ResPort (port_place g r p)) (own_port p listed is) s)
 
   -- a word that is none of those that the runner may change is none of its temporary ones
   pub apart_of_changes : (w : ℕ) → (MayChange g r w → ⊥) → IsApart r.stack w
@@ -153,7 +175,7 @@ module _ (g : Setting) (r : Runner) where
             as_many = ap (λ (c : CoreState). length c.threads) step.left ∙ length-set y.core.threads r.thread th';
             words = λ w not_mine. ap (λ (c : CoreState). slice_get c.words w) step.left ∙ step.words w (safe w not_mine);
             size = same_size (home g r) y.core r.thread b step.made;
-            ports = λ q not_mine. ap (λ (c : CoreState). slice_get c.ports q) step.left;
+            resources = others_same (IsMine g r) r.thread y.core b (ap (λ (c : CoreState). c.ports) step.left) (ap (λ (c : CoreState). c.timers) step.left) (ap (λ (c : CoreState). c.events) step.left);
           };
           hand = keeps refl (ap (λ (c : CoreState). c.syncs) step.left) (same_use y (after g r y b) others);
           was = on;
@@ -161,10 +183,12 @@ module _ (g : Setting) (r : Runner) where
         }
 
     -- what stayed before it stays behind it
-    own_since : (stays : ℕ → Type 0) (z y : Scene) (b : CoreState) → Since leaves stays z y → OwnStep (home g r) leaves r.thread y.core b → Since leaves stays z (after g r y b)
+    own_since : (stays : Res → Type 0) (z y : Scene) (b : CoreState) → Since leaves stays z y → OwnStep (home g r) leaves r.thread y.core b → Since leaves stays z (after g r y b)
     own_since stays z y b h step = record {
       words = λ w m l. ap (λ (c : CoreState). slice_get c.words w) step.left ∙ step.words w l ∙ h.words w m l;
-      ports = λ p listed is s. ap (λ (c : CoreState). slice_get c.ports (port_place g r p)) step.left ∙ h.ports p listed is s;
+      parts = λ res m s.
+          part_same y.core b (ap (λ (c : CoreState). c.ports) step.left) (ap (λ (c : CoreState). c.timers) step.left) (ap (λ (c : CoreState). c.events) step.left) res
+          ∙ h.parts res m s;
       branch = h.branch;
       store = h.store;
       room = λ was. let same = same_size (home g r) y.core r.thread b step.made in let before = h.room was in omega arith;
@@ -174,25 +198,25 @@ module _ (g : Setting) (r : Runner) where
     }
 
     -- from any scene of the way
-    on_the_way : (Q : CoreState → Type 0) (n : ℕ) (z y : Scene) → Since leaves any_port z y → Within (home g r) (relied g r) leaves r.thread Q n y.core → LeadsIn g r (λ x. Q x.core × Since leaves any_port z x) n y
+    on_the_way : (Q : CoreState → Type 0) (n : ℕ) (z y : Scene) → Since leaves any_part z y → Within (home g r) (relied g r) leaves r.thread Q n y.core → LeadsIn g r (λ x. Q x.core × Since leaves any_part z x) n y
     on_the_way Q zero z y h way = (way, h)
     on_the_way Q (suc n) z y h way =
         ⊎_elim
         (λ (here : Q y.core). inl (here, h))
         (λ on. inr (λ x k.
         let s = on x.core (core_kept k) in
-        let h' = since_kept leaves any_port h k in
-        (after g r x s.0, own_silent x s.0 h'.on s.1, on_the_way Q n z (after g r x s.0) (own_since any_port z x s.0 h' s.1) s.2)))
+        let h' = since_kept leaves any_part h k in
+        (after g r x s.0, own_silent x s.0 h'.on s.1, on_the_way Q n z (after g r x s.0) (own_since any_part z x s.0 h' s.1) s.2)))
         way
 
     -- where own steps lead, the runner comes, and meanwhile these words stay
-    pub arrives : (Q : CoreState → Type 0) (n : ℕ) (z : Scene) → StillRuns g r z.core → Within (home g r) (relied g r) leaves r.thread Q n z.core → LeadsIn g r (λ y. Q y.core × Since leaves any_port z y) n z
-    arrives Q n z on way = on_the_way Q n z z (since_now leaves any_port z on) way
+    pub arrives : (Q : CoreState → Type 0) (n : ℕ) (z : Scene) → StillRuns g r z.core → Within (home g r) (relied g r) leaves r.thread Q n z.core → LeadsIn g r (λ y. Q y.core × Since leaves any_part z y) n z
+    arrives Q n z on way = on_the_way Q n z z (since_now leaves any_part z on) way
 
-    module _ (p : ℕ) (listed : PortUse) (is : IsPort g r p listed) where
-      -- a step that may set the port is a silent one
-      port_silent : (y : Scene) (b : CoreState) → StillRuns g r y.core → PortStep (home g r) leaves r.thread (port_place g r p) y.core b → IsSilentStep g r y (after g r y b)
-      port_silent y b on step =
+    module _ (mine : Res → Type 0) (own : (res : Res) → mine res → IsMine g r res) where
+      -- a step that may set some of its resources is a silent one
+      parts_silent : (y : Scene) (b : CoreState) → StillRuns g r y.core → PartsStep (home g r) leaves mine r.thread y.core b → IsSilentStep g r y (after g r y b)
+      parts_silent y b on step =
           let th' : Thread = record step.thread { pc = step.after.pc; regs = step.after.regs } in
           let others : (u : ℕ) → u ≢ r.thread → slice_get b.threads u ≡ slice_get y.core.threads u = λ u ne. ap (λ (c : CoreState). slice_get c.threads u) step.left ∙ get_set_other y.core.threads r.thread u th' ne in
           record {
@@ -206,7 +230,7 @@ module _ (g : Setting) (r : Runner) where
               as_many = ap (λ (c : CoreState). length c.threads) step.left ∙ length-set y.core.threads r.thread th';
               words = λ w not_mine. ap (λ (c : CoreState). slice_get c.words w) step.left ∙ step.words w (safe w not_mine);
               size = same_size (home g r) y.core r.thread b step.made;
-              ports = λ q not_mine. ap (λ (c : CoreState). slice_get c.ports q) step.left ∙ step.others q (not_mine p listed is);
+              resources = others_fewer mine r.thread y.core b (IsMine g r) own step.resources;
             };
             hand = keeps refl (ap (λ (c : CoreState). c.syncs) step.left) (same_use y (after g r y b) others);
             was = on;
@@ -214,30 +238,30 @@ module _ (g : Setting) (r : Runner) where
           }
 
       -- what stayed before it stays behind it
-      port_since : (z y : Scene) (b : CoreState) → Since leaves (but (port_place g r p)) z y → PortStep (home g r) leaves r.thread (port_place g r p) y.core b → Since leaves (but (port_place g r p)) z (after g r y b)
-      port_since z y b h step = record {
+      parts_since : (z y : Scene) (b : CoreState) → Since leaves (apart_from mine) z y → PartsStep (home g r) leaves mine r.thread y.core b → Since leaves (apart_from mine) z (after g r y b)
+      parts_since z y b h step = record {
         words = λ w m l. ap (λ (c : CoreState). slice_get c.words w) step.left ∙ step.words w l ∙ h.words w m l;
-        ports = λ q other is' s. ap (λ (c : CoreState). slice_get c.ports (port_place g r q)) step.left ∙ step.others (port_place g r q) s ∙ h.ports q other is' s;
+        parts = λ res m s. step.resources.parts res s ∙ h.parts res m s;
         branch = h.branch;
         store = h.store;
         room = λ was. let same = same_size (home g r) y.core r.thread b step.made in let before = h.room was in omega arith;
         declared = λ q other port is_port there. declared_on z y b h.declared step.made q other port is_port there;
         hand = h.hand;
-        on = (port_silent y b h.on step).on;
+        on = (parts_silent y b h.on step).on;
       }
 
       -- from any scene of the way
-      port_on_the_way : (Q : CoreState → Type 0) (n : ℕ) (z y : Scene) → Since leaves (but (port_place g r p)) z y → WithinPort (home g r) (relied g r) leaves r.thread (port_place g r p) Q n y.core → LeadsIn g r (λ x. Q x.core × Since leaves (but (port_place g r p)) z x) n y
-      port_on_the_way Q zero z y h way = (way, h)
-      port_on_the_way Q (suc n) z y h way =
+      parts_on_the_way : (Q : CoreState → Type 0) (n : ℕ) (z y : Scene) → Since leaves (apart_from mine) z y → WithinParts (home g r) (relied g r) leaves mine r.thread Q n y.core → LeadsIn g r (λ x. Q x.core × Since leaves (apart_from mine) z x) n y
+      parts_on_the_way Q zero z y h way = (way, h)
+      parts_on_the_way Q (suc n) z y h way =
           ⊎_elim
           (λ (here : Q y.core). inl (here, h))
           (λ on. inr (λ x k.
-          let s = on x.core (port_kept p listed is k) in
-          let h' = since_kept leaves (but (port_place g r p)) h k in
-          (after g r x s.0, port_silent x s.0 h'.on s.1, port_on_the_way Q n z (after g r x s.0) (port_since z x s.0 h' s.1) s.2)))
+          let s = on x.core (parts_kept mine own k) in
+          let h' = since_kept leaves (apart_from mine) h k in
+          (after g r x s.0, parts_silent x s.0 h'.on s.1, parts_on_the_way Q n z (after g r x s.0) (parts_since z x s.0 h' s.1) s.2)))
           way
 
-      -- the same of steps that may also set one of the runner's ports
-      pub arrives_at_port : (Q : CoreState → Type 0) (n : ℕ) (z : Scene) → StillRuns g r z.core → WithinPort (home g r) (relied g r) leaves r.thread (port_place g r p) Q n z.core → LeadsIn g r (λ y. Q y.core × Since leaves (but (port_place g r p)) z y) n z
-      arrives_at_port Q n z on way = port_on_the_way Q n z z (since_now leaves (but (port_place g r p)) z on) way
+      -- the same of steps that may also set some of the runner's resources
+      pub arrives_with : (Q : CoreState → Type 0) (n : ℕ) (z : Scene) → StillRuns g r z.core → WithinParts (home g r) (relied g r) leaves mine r.thread Q n z.core → LeadsIn g r (λ y. Q y.core × Since leaves (apart_from mine) z y) n z
+      arrives_with Q n z on way = parts_on_the_way Q n z z (since_now leaves (apart_from mine) z on) way

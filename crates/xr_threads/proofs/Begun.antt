@@ -16,6 +16,7 @@ use Rattle.xc_meaning.specs.Runs.{acts_all, step_of}
 use Rattle.xc_meaning.specs.States.Branches.{Branch, ended, has_ended, runs, waits}
 use Rattle.xc_meaning.specs.States.Worlds.{World, Action, go}
 use Rattle.xl_expr.proofs.Lists.{get_set_other, get_set_same}
+use Rattle.xl_expr.proofs.ResourceParts.{others_same}
 use Rattle.xl_par.specs.Hands.{Hand, IsAmong}
 use Rattle.xl_sides.specs.Ends.{Sides, codes_in}
 use Rattle.xr_match.specs.Lives.{Life, Watched}
@@ -278,7 +279,7 @@ module _ (g : Setting) (first : Roles) (is : IsImageOf g first) (who : Roles) (w
         (cases_eq u t);
     syncs = λ k mine was. was;
     words = λ k mine. refl;
-    ports = λ q mine. refl;
+    resources = others_same _ _ _ _ refl refl refl;
     clocks = refl;
     branches = λ k branch mine there. other_there k branch (λ e. mine (inl e)) there;
     store = λ v unchanged. refl;
@@ -369,7 +370,7 @@ module _ (g : Setting) (first : Roles) (is : IsImageOf g first) (who : Roles) (w
   loose' some =
       let old : HoldsStore g r (record { core = a; world = x.state; hand = hand }) = b.has.holds in
       loose_behind g who who' c a left x.state world r core_is (laid_at g first is none_rests who w x st c t r hand runs_r)
-      (st.loose c a at_c some) (record { words = λ k mine. refl; ports = λ q mine. refl; store = λ v unchanged. refl })
+      (st.loose c a at_c some) (record { words = λ k mine. refl; resources = others_same _ _ _ _ refl refl refl; store = λ v unchanged. refl })
       (record { holds = record { lengths = old.holds.lengths; values = old.holds.values }; room = old.room })
       (λ q listed its. let k = b.has.ports q listed its in record { port = k.port; there = k.there; declared = k.declared })
       (λ v nobody unchanged u q other at.

@@ -19,9 +19,10 @@ use Rattle.xs_instr.specs.Registers.{no_regs, reg_set}
 use Rattle.xs_instr.specs.Rows.{own_of, own_row, put_own, row}
 use Rattle.xs_instr.specs.Slot.{instr_at, is_waiteu}
 use Rattle.xl_expr.proofs.Lists.{get_set_same, get_set_other}
+use Rattle.xl_expr.proofs.ResourceParts.{others_same, own_same, own_then}
 use Rattle.xl_par.specs.Hands.{Hand, IsAmong, unused_in}
 use Rattle.xr_threads.specs.Roles.{Role, got_by, unused, used_by}
-use Rattle.xr_threads.specs.Runners.{Setting, Runner, home}
+use Rattle.xr_threads.specs.Runners.{IsMine, Setting, Runner, home}
 use Rattle.xr_threads.specs.Scenes.{IsStable, Kept, LeadsIn, Scene, SpareFor, after, held_in, keeps, running, sync_in}
 use Rattle.xr_threads.specs.Turns.{IsAt}
 use Rattle.xr_threads.proofs.Arriving.{at_runs, same_use}
@@ -154,7 +155,7 @@ module _ (g : Setting) (r : Runner) where
             as_many = length-set y.core.threads r.thread th';
             words = λ w n. refl;
             size = refl;
-            ports = λ q n. refl;
+            resources = others_same _ _ _ _ refl refl refl;
           };
           hand = keeps refl refl (same_use g r y (after g r y left) (λ u ne. get_set_other y.core.threads r.thread u th' ne));
           was = at_runs g r y pc regs here_y;
@@ -163,7 +164,7 @@ module _ (g : Setting) (r : Runner) where
         record {
           thread = there ∙ sym (get_set_same z.core.threads r.thread th th' here);
           words = k.words;
-          ports = k.ports;
+          resources = own_then (IsMine g r) r.thread _ _ _ (own_same _ _ _ _ refl refl refl) (own_then (IsMine g r) r.thread _ _ _ k.resources (own_same _ _ _ _ refl refl refl));
           branch = k.branch;
           parents = k.parents;
           store = k.store;
@@ -205,7 +206,7 @@ module _ (g : Setting) (r : Runner) where
         let kept : (y : Scene) → Kept g r z2 y → Kept g r past y = λ y k. record {
           thread = k.thread ∙ here2 ∙ ap (λ p. Some (running r.tie p regs_set)) two ∙ sym there;
           words = k.words;
-          ports = k.ports;
+          resources = own_then (IsMine g r) r.thread _ _ _ (own_same _ _ _ _ refl refl refl) (own_then (IsMine g r) r.thread _ _ _ k.resources (own_same _ _ _ _ refl refl refl));
           branch = k.branch;
           parents = k.parents;
           store = k.store;

@@ -12,6 +12,7 @@ use Rattle.xs_instr.specs.Registers.{reg_get}
 use Rattle.xs_instr.specs.Resources.{sync_name}
 use Rattle.xl_expr.specs.Leads.{Leads}
 use Rattle.xl_expr.proofs.Lists.{get_set_other}
+use Rattle.xl_expr.proofs.ResourceParts.{others_same}
 use Rattle.xl_par.specs.Closing as closing
 use Rattle.xl_par.specs.Hands.{Hand, IsAmong}
 use Rattle.xl_par.specs.Closing.{HoldsOuter, KeptSync, QuietStep}
@@ -61,7 +62,7 @@ module _ (g : Setting) (r : Runner) (n : ℕ) where
           as_many = ap (λ (c : CoreState). length c.threads) step.left ∙ length-set y.core.threads r.thread th';
           words = λ w not_mine. ap (λ (c : CoreState). slice_get c.words w) step.left ∙ step.words w tt;
           size = same_size (home g r) y.core r.thread b step.made;
-          ports = λ q not_mine. ap (λ (c : CoreState). slice_get c.ports q) step.left;
+          resources = others_same _ _ _ _ (ap (λ (c : CoreState). c.ports) step.left) (ap (λ (c : CoreState). c.timers) step.left) (ap (λ (c : CoreState). c.events) step.left);
         };
         hand = keeps refl (ap (λ (c : CoreState). c.syncs) step.left) (same_use g r y (after g r y b) others);
         was = on;

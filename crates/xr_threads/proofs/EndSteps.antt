@@ -10,6 +10,7 @@ use Rattle.xs_instr.specs.declared.state.Thread.{Thread}
 use Rattle.xs_instr.specs.Rows.{goes_on, put_ends}
 use Rattle.xc_meaning.specs.States.Worlds.{World}
 use Rattle.xl_expr.proofs.Lists.{get_set_same, get_set_other}
+use Rattle.xl_expr.proofs.ResourceParts.{others_same}
 use Rattle.xr_threads.specs.Runners.{Runner, Setting}
 use Rattle.xr_threads.specs.Scenes.{Touched, running}
 use Rattle.xr_threads.proofs.Advances.{Advance}
@@ -29,7 +30,7 @@ module _ (g : Setting) (r : Runner) (a : CoreState) (pc : ℕ) (regs regs' : Reg
     as_many = length-set a.threads r.thread (running r.tie (pc + 1) regs');
     words = λ w n. refl;
     size = refl;
-    ports = λ q n. refl;
+    resources = others_same _ _ _ _ refl refl refl;
   }
 
   pub tied_still : (thread : Thread) → slice_get left.threads r.thread ≡ Some thread → thread.tie ≡ r.tie

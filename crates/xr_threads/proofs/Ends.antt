@@ -10,6 +10,7 @@ use Rattle.xs_instr.specs.Rows.{with_thread, end_row}
 use Rattle.xc_meaning.specs.States.Items.{Item, ends}
 use Rattle.xc_meaning.specs.States.Worlds.{go}
 use Rattle.xl_expr.proofs.Lists.{get_set_same, get_set_other}
+use Rattle.xl_expr.proofs.ResourceParts.{others_same}
 use Rattle.xr_threads.specs.Items.{LastAt}
 use Rattle.xl_walk.specs.Pieces.{SlaveEndsAt}
 use Rattle.xr_threads.specs.Runners.{Setting, Runner, code, home, plan}
@@ -53,7 +54,7 @@ module _ (g : Setting) (r : Runner) where
           as_many = length-set y.core.threads r.thread th';
           words = λ w n. refl;
           size = refl;
-          ports = λ q n. refl;
+          resources = others_same _ _ _ _ refl refl refl;
         };
         roots = refl;
         syncs = refl;
@@ -85,7 +86,7 @@ module _ (g : Setting) (r : Runner) where
           as_many = length-set y.core.threads r.thread th';
           words = λ w n. refl;
           size = refl;
-          ports = λ q n. refl;
+          resources = others_same _ _ _ _ refl refl refl;
         };
         roots = refl;
         syncs = refl;

@@ -11,6 +11,7 @@ use Rattle.xs_instr.specs.declared.state.Thread.{Thread}
 use Rattle.xs_instr.specs.Pool.{tied_to}
 use Rattle.xc_meaning.specs.States.Items.{Item}
 use Rattle.xl_expr.proofs.Lists.{get_set_other, get_set_same, room_kept}
+use Rattle.xl_expr.proofs.ResourceParts.{others_same}
 use Rattle.xl_par.specs.Hands as hands
 use Rattle.xl_par.specs.Hands.{Hand, HandStep, HasSpare, IsAmong, KeptHand, WithinHand, own_only, with_sync, with_thread_got}
 use Rattle.xr_threads.specs.Runners.{Setting, Runner, home, port_place, relied}
@@ -79,7 +80,7 @@ module _ (g : Setting) (r : Runner) where
             as_many = ap (λ (c : CoreState). length c.threads) left ∙ length-set y.core.threads r.thread th';
             words = λ w mine. all_words w;
             size = same_size (home g r) y.core r.thread b step.made;
-            ports = λ q mine. ap (λ (c : CoreState). slice_get c.ports q) left;
+            resources = others_same _ _ _ _ (ap (λ (c : CoreState). c.ports) left) (ap (λ (c : CoreState). c.timers) left) (ap (λ (c : CoreState). c.events) left);
           };
           roots = ap (λ (c : CoreState). c.roots) left;
           channel_ends = ap (λ (c : CoreState). c.ends) left;
@@ -98,7 +99,7 @@ module _ (g : Setting) (r : Runner) where
             as_many = ap (λ (c : CoreState). length c.threads) left ∙ length-set y.core.threads r.thread th';
             words = λ w mine. ap (λ (c : CoreState). slice_get c.words w) left;
             size = ap (λ (c : CoreState). length c.words) left;
-            ports = λ q mine. ap (λ (c : CoreState). slice_get c.ports q) left;
+            resources = others_same _ _ _ _ (ap (λ (c : CoreState). c.ports) left) (ap (λ (c : CoreState). c.timers) left) (ap (λ (c : CoreState). c.events) left);
           };
           roots = ap (λ (c : CoreState). c.roots) left;
           channel_ends = ap (λ (c : CoreState). c.ends) left;
@@ -121,7 +122,7 @@ module _ (g : Setting) (r : Runner) where
             as_many = ap (λ (c : CoreState). length c.threads) left ∙ length-set threads r.thread th' ∙ length-set y.core.threads u (tied_to n x);
             words = λ w mine. ap (λ (c : CoreState). slice_get c.words w) left;
             size = ap (λ (c : CoreState). length c.words) left;
-            ports = λ q mine. ap (λ (c : CoreState). slice_get c.ports q) left;
+            resources = others_same _ _ _ _ (ap (λ (c : CoreState). c.ports) left) (ap (λ (c : CoreState). c.timers) left) (ap (λ (c : CoreState). c.events) left);
           };
           roots = ap (λ (c : CoreState). c.roots) left;
           channel_ends = ap (λ (c : CoreState). c.ends) left;
@@ -144,7 +145,7 @@ module _ (g : Setting) (r : Runner) where
             as_many = ap (λ (c : CoreState). length c.threads) left ∙ length-set threads r.thread th' ∙ length-set y.core.threads u x';
             words = λ w mine. ap (λ (c : CoreState). slice_get c.words w) left;
             size = ap (λ (c : CoreState). length c.words) left;
-            ports = λ q mine. ap (λ (c : CoreState). slice_get c.ports q) left;
+            resources = others_same _ _ _ _ (ap (λ (c : CoreState). c.ports) left) (ap (λ (c : CoreState). c.timers) left) (ap (λ (c : CoreState). c.events) left);
           };
           roots = ap (λ (c : CoreState). c.roots) left;
           channel_ends = ap (λ (c : CoreState). c.ends) left;

@@ -4,6 +4,7 @@ use Rattle.std.specs.Prelude.{slice_get}
 use Rattle.std.proofs.lemmas.Option.{slice_get_within}
 use Rattle.xs_instr.specs.declared.state.CoreState.{CoreState}
 use Rattle.xs_instr.specs.OwnSteps.{temporary}
+use Rattle.xs_instr.specs.declared.state.Res.TheVariants.{Port as ResPort}
 use Rattle.xc_apart.specs.Clashes.{of_port, used}
 use Rattle.xc_kernel.specs.declared.kernel.PortUse.{PortUse}
 use Rattle.xc_kernel.specs.Eval.{Store, words_of}
@@ -18,16 +19,18 @@ use Rattle.xc_meaning.specs.Uses.{by_items}
 use Rattle.xc_meaning.proofs.Basics.{some_given}
 use Rattle.xl_expr.specs.declared.plan.VarPlan.{VarPlan}
 use Rattle.xl_expr.specs.Frames.{Holds, IsNear}
+use Rattle.xl_expr.specs.ResourceParts.{OtherPartsStay}
 use Rattle.xl_par.specs.Hands.{Hand}
-use Rattle.xl_plan.specs.Layout.{port_number}
+use Rattle.xl_plan.specs.Layout.{core_of_port, port_number}
 use Rattle.xr_threads.specs.Parents.{Parent}
 use Rattle.xr_threads.specs.Roles.{IsParent, ParentsWait, ParentWaits, Roles, used_by}
-use Rattle.xr_threads.specs.Runners.{Footprint, Setting, Runner, IsLaidOut, IsPort, MayChange, anyone, footprint_of, of_stack, of_variable, places, port_place}
+use Rattle.xr_threads.specs.Runners.{Footprint, IsMine, Setting, Runner, IsLaidOut, IsPort, MayChange, anyone, footprint_of, of_stack, of_variable, places, port_place}
 use Rattle.xr_threads.specs.Standing.{AreLoose, IsWanted, NobodyChanges, NobodyHas, only}
 use Rattle.xr_threads.specs.Turns.{HoldsStore, PortIs, PortsStand}
 use Rattle.xr_threads.proofs.Apartness.{not_true}
-use Rattle.xr_threads.proofs.Places.{places_differ}
+use Rattle.xr_threads.proofs.Places.{numbers_differ}
 use Rattle.xr_threads.proofs.Works.{Works}
+use Rattle.xl_expr.proofs.ResourceParts.{port_same}
 
 -- the branches for which one waits have ended
 abbrev pub HaveEnded : World → (from count : ℕ) → Type 0
@@ -190,7 +193,7 @@ module _ (g : Setting) (who : Roles) (x : World) (lawful : Lawful g.program x)
 -- What an event of a runner leaves: words and ports of its core, the words of variables in the store.
 pub record LeavesLoose (g : Setting) (r : Runner) (a b : CoreState) (x y : World) : Type 0 where
   pub words : (w : ℕ) → (MayChange g r w → ⊥) → slice_get b.words w ≡ slice_get a.words w
-  pub ports : (q : ℕ) → ((p : ℕ) (listed : PortUse) → IsPort g r p listed → q ≢ port_place g r p) → slice_get b.ports q ≡ slice_get a.ports q
+  pub resources : OtherPartsStay (IsMine g r) r.thread a b
   pub store : (v : ℕ) → r.footprint.changes v ≡ false → words_of y.store v ≡ words_of x.store v
 
 -- The runner's core: what it no longer changes, or has, is as the program has it, where it held what it had.
@@ -244,10 +247,10 @@ module _ (g : Setting) (who who' : Roles) (c : ℕ) (a b : CoreState) (x y : Wor
           record {
             port = at.port;
             there =
-                leaves.ports (port_place g (anyone c) q)
-                (λ p other is_p same.
-                let one = places_differ g.program.ports r.core q p listed other is.known is_p.known (is.core ∙ sym on) is_p.core (sym (place_here q) ∙ same) in
-                true≢false (sym is_p.mine ∙ ap r.footprint.ports (sym one) ∙ e))
+                port_same a b (port_place g (anyone c) q) (leaves.resources.parts (ResPort (port_place g (anyone c) q))
+                (λ m.
+                let one = numbers_differ core_of_port g.program.ports r.core q m.port listed m.listed is.known m.is.known (is.core ∙ sym on) m.is.core (sym (place_here q) ∙ m.place) in
+                true≢false (sym m.is.mine ∙ ap r.footprint.ports (sym one) ∙ e)))
                 ∙ at.there;
             declared = at.declared;
           }

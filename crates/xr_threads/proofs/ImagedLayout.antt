@@ -29,7 +29,7 @@ use Rattle.xr_threads.proofs.Footprints.{HasAll, words_there}
 use Rattle.xr_threads.proofs.ImagedEnds.{ends_planned}
 use Rattle.xr_threads.proofs.ImagedPlans.{IsImaged}
 use Rattle.xr_threads.proofs.Names.{port_named}
-use Rattle.xr_threads.proofs.Places.{is_there, places_differ}
+use Rattle.xr_threads.proofs.Places.{is_there, numbers_differ}
 
 eq_true : (a b : ℕ) → a ≡ b → nat_eq a b ≡ true
 eq_true a b e = grind arith
@@ -155,5 +155,5 @@ core_is g checked stay core is_core im = record {
   stacks = im.planned.first_stack;
   sizes = sizes_are g checked core is_core im;
   ports = ports_are g checked core is_core im;
-  ports_differ = λ p q listed other is is' same. places_differ g.program.ports core p q listed other is.known is'.known is.core is'.core same;
+  ports_differ = λ p q listed other is is' same. numbers_differ core_of_port g.program.ports core p q listed other is.known is'.known is.core is'.core same;
 }

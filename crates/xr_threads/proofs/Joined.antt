@@ -21,6 +21,7 @@ use Rattle.xc_meaning.specs.States.Branches.{Branch, Mode, ended, erred, has_end
 use Rattle.xc_meaning.specs.States.Items.{Item}
 use Rattle.xc_meaning.specs.States.Worlds.{World, Action, go}
 use Rattle.xl_expr.proofs.Lists.{get_set_other, get_set_same}
+use Rattle.xl_expr.proofs.ResourceParts.{others_same}
 use Rattle.xl_par.specs.Hands.{Hand, IsAmong}
 use Rattle.xr_match.specs.Lives.{Life, Watched}
 use Rattle.xr_match.specs.Meanings.{of_kernel}
@@ -317,7 +318,7 @@ module _ (g : Setting) (first : Roles) (is : IsImageOf g first) (who : Roles) (w
           (cases_eq u t);
       syncs = λ k mine was. was;
       words = λ k mine. refl;
-      ports = λ q mine. refl;
+      resources = others_same _ _ _ _ refl refl refl;
       clocks = refl;
       branches = λ k b mine there. other_there k (λ e. mine (own_branches_are k (inr (inl e)))) ∙ there;
       store = λ v unchanged. refl;

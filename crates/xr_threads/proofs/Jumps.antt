@@ -12,6 +12,7 @@ use Rattle.xc_kernel.specs.Plain as kernel
 use Rattle.xc_meaning.specs.Settings.Flow.{items_from_mark}
 use Rattle.xc_meaning.specs.States.Items.{Item, does}
 use Rattle.xl_expr.proofs.Lists.{get_set_same, get_set_other}
+use Rattle.xl_expr.proofs.ResourceParts.{others_same}
 use Rattle.xl_walk.specs.Pieces as pieces
 use Rattle.xr_threads.specs.Runners.{Setting, Runner, code, home, plan}
 use Rattle.xr_threads.specs.Scenes.{IsStable, LeadsIn, Scene, IsSilentStep, after, keeps, running}
@@ -53,7 +54,7 @@ module _ (g : Setting) (r : Runner) where
           as_many = length-set y.core.threads r.thread th';
           words = λ w n. refl;
           size = refl;
-          ports = λ q n. refl;
+          resources = others_same _ _ _ _ refl refl refl;
         };
         hand = keeps refl refl (same_use g r y (after g r y (moved_to y.core pc p regs)) (λ u ne. get_set_other y.core.threads r.thread u th' ne));
         was = at_runs g r y pc regs here;

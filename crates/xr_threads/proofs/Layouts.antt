@@ -5,6 +5,7 @@ use Rattle.std.proofs.lemmas.Bool.{and_from, or_left, or_right, cases_eq}
 use Rattle.std.proofs.lemmas.Option.{slice_get_within}
 use Rattle.xs_instr.specs.declared.state.Regs.{Regs}
 use Rattle.xs_instr.specs.OwnSteps.{HasRoom, IsApart, RunsAt, temporary}
+use Rattle.xs_instr.specs.declared.state.Res.{Res}
 use Rattle.xc_kernel.specs.declared.kernel.PortUse.{PortUse}
 use Rattle.xc_kernel.specs.Plain as kernel
 use Rattle.xc_kernel.specs.Eval.{Store, words_of}
@@ -23,7 +24,7 @@ use Rattle.xr_threads.specs.Standing.{IsAtRest, IsOnItsWay, IsResuming, IsTransf
 use Rattle.xr_threads.specs.Transfers.{Transfer}
 use Rattle.xr_threads.specs.Turns.{GivesBack, HasBases, HoldsStore, Has, InTransfer, IsAt, PortsStand, Rest, Runs, Turns}
 use Rattle.xr_threads.proofs.Scenes.{leads_in_stable, turns_stable}
-use Rattle.xr_threads.proofs.Arriving.{Since, among_words, any_port, stack_relied}
+use Rattle.xr_threads.proofs.Arriving.{Since, among_words, any_part, ports_kept, ports_since, stack_relied}
 
 -- a variable of a plan is one of the list
 pub planned_within : (vars : List (Option VarPlan)) (v : ℕ) (found : VarPlan) → var_in vars v ≡ Some found → v < length vars
@@ -100,7 +101,7 @@ module _ (g : Setting) (r : Runner) where
     runs = runs_kept z y h.branch items k.branch h.runs;
     core = h.core;
     holds = store_kept z y k h.holds;
-    ports = ports_last z y k.ports h.ports;
+    ports = ports_last z y (ports_kept g r k) h.ports;
   }
 
   -- a thread at the code of its items stays there
@@ -166,37 +167,37 @@ module _ (g : Setting) (r : Runner) where
   -- What the runner itself leaves on its way. Its temporary words are there still, as the code that it runs says.
 
   -- the store's words
-  pub store_since : (laid : IsLaidOut g r) (stays : ℕ → Type 0) (z y : Scene) → Since g r (IsApart r.stack) stays z y → r.stack + temporary ≤ length y.core.words → HoldsStore g r z → HoldsStore g r y
+  pub store_since : (laid : IsLaidOut g r) (stays : Res → Type 0) (z y : Scene) → Since g r (IsApart r.stack) stays z y → r.stack + temporary ≤ length y.core.words → HoldsStore g r z → HoldsStore g r y
   store_since laid stays z y s room h = record {
     holds = holds_last z.core.words y.core.words z.world.store y.world.store (λ v n i found near uses lt. s.words (0 + n + i) (variable_relied v n i found near uses lt) (laid.frame.apart v n i found near lt)) s.store h.holds;
     room = room;
   }
 
   -- all that it has, where its ports stay
-  pub has_since : (laid : IsLaidOut g r) (items : List Item) (z y : Scene) → Since g r (IsApart r.stack) any_port z y → r.stack + temporary ≤ length y.core.words → Has g r items z → Has g r items y
+  pub has_since : (laid : IsLaidOut g r) (items : List Item) (z y : Scene) → Since g r (IsApart r.stack) any_part z y → r.stack + temporary ≤ length y.core.words → Has g r items z → Has g r items y
   has_since laid items z y s room h = record {
     branch = h.branch;
     runs = runs_kept z y h.branch items s.branch h.runs;
     core = h.core;
-    holds = store_since laid any_port z y s room h.holds;
-    ports = ports_last z y (λ p listed is. s.ports p listed is tt) h.ports;
+    holds = store_since laid any_part z y s room h.holds;
+    ports = ports_last z y (λ p listed is. ports_since g r (IsApart r.stack) any_part z y s p listed is tt) h.ports;
   }
 
   -- the ports, some of which may have been set
-  pub ports_since : (leaves stays : ℕ → Type 0) (z y : Scene) → Since g r leaves stays z y → PortsStand g r z → PortsStand g r y
-  ports_since leaves stays z y s h = λ p listed is.
+  pub declared_since : (leaves : ℕ → Type 0) (stays : Res → Type 0) (z y : Scene) → Since g r leaves stays z y → PortsStand g r z → PortsStand g r y
+  declared_since leaves stays z y s h = λ p listed is.
       let old = h p listed is in
       let now = s.declared p listed old.port is old.there in
       record { port = now.0; there = now.1; declared = now.2 ∙ old.declared }
 
   -- all that it has, where some of its ports may have been set
-  pub has_since_port : (laid : IsLaidOut g r) (stays : ℕ → Type 0) (items : List Item) (z y : Scene) → Since g r (IsApart r.stack) stays z y → Has g r items z → Has g r items y
+  pub has_since_port : (laid : IsLaidOut g r) (stays : Res → Type 0) (items : List Item) (z y : Scene) → Since g r (IsApart r.stack) stays z y → Has g r items z → Has g r items y
   has_since_port laid stays items z y s h = record {
     branch = h.branch;
     runs = runs_kept z y h.branch items s.branch h.runs;
     core = h.core;
     holds = store_since laid stays z y s (s.room h.holds.room) h.holds;
-    ports = ports_since (IsApart r.stack) stays z y s h.ports;
+    ports = declared_since (IsApart r.stack) stays z y s h.ports;
   }
 
   -- What code asks for, where the runner's thread is at it.

@@ -8,7 +8,6 @@ use Rattle.xs_instr.specs.declared.state.Thread.{Thread}
 use Rattle.xs_instr.specs.Machine.{parts_in}
 use Rattle.xs_instr.specs.Pool.{is_tied}
 use Rattle.xc_disjoint.specs.Needs.{threads_on}
-use Rattle.xc_kernel.specs.declared.kernel.PortUse.{PortUse}
 use Rattle.xc_kernel.specs.Eval.{words_of}
 use Rattle.xc_meaning.specs.Runs.{acts_all}
 use Rattle.xc_meaning.specs.States.Branches.{Branch, has_ended}
@@ -22,7 +21,7 @@ use Rattle.xr_match.specs.Sources.{Told}
 use Rattle.xr_threads.specs.Images.{IsImageOf}
 use Rattle.xr_threads.specs.Parents.{Parent, branches_of, sync_before, syncs_of}
 use Rattle.xr_threads.specs.Roles.{AreRoles, AreUsedSo, HasReserves, IsParent, ParentsWait, Role, Roles, got_by, own_branches, unused, used_by}
-use Rattle.xr_threads.specs.Runners.{Setting, Runner, IsLaidOut, IsPort, MayChange, port_place}
+use Rattle.xr_threads.specs.Runners.{IsMine, Setting, Runner, IsLaidOut, MayChange}
 use Rattle.xr_threads.specs.Scenes.{Kept, Owns, SpareFor, sync_in}
 use Rattle.xr_threads.specs.Standing.{AreLoose, IsMade, IsRun, Standing, Stands, living_on}
 use Rattle.xr_threads.specs.Transfers.{Transfer}
@@ -36,6 +35,8 @@ use Rattle.xr_threads.proofs.Reserves.{laws_behind}
 use Rattle.xr_threads.proofs.Rooms.{spare_for}
 use Rattle.xr_threads.proofs.Standing.{clock_at, core_at, runner_still, told_by}
 use Rattle.xr_threads.proofs.Works.{Crew, Works, crew_of, works_of}
+use Rattle.xl_expr.proofs.ResourceParts.{others_keep, own_same}
+use Rattle.xl_expr.specs.ResourceParts.{OtherPartsStay}
 
 -- what the machine is behind a step of one core, or where none has stepped: core c was a and is b
 pub record HasStepped (w w' : Watched) (c : ℕ) (a b : CoreState) : Type 0 where
@@ -221,7 +222,7 @@ pub record Effect
       Owns r hand n ⊎ (r.tie ≡ Some n)
   pub syncs : (n : ℕ) → (Owns r hand n → ⊥) → slice_get a.syncs n ≡ Some true → slice_get b.syncs n ≡ Some true
   pub words : (k : ℕ) → (MayChange g r k → ⊥) → slice_get b.words k ≡ slice_get a.words k
-  pub ports : (q : ℕ) → ((p : ℕ) (listed : PortUse) → IsPort g r p listed → q ≢ port_place g r p) → slice_get b.ports q ≡ slice_get a.ports q
+  pub resources : OtherPartsStay (IsMine g r) r.thread a b
   pub clocks : y.clocks ≡ x.clocks
   pub branches : (n : ℕ) (branch : Branch) → (IsAmong (own_branches r) n → ⊥) → slice_get x.branches n ≡ Some branch → slice_get y.branches n ≡ Some branch
   pub store : (v : ℕ) → r.footprint.changes v ≡ false → words_of y.store v ≡ words_of x.store v
@@ -287,7 +288,7 @@ module _ (g : Setting) (first : Roles) (is : IsImageOf g first) (may_rest : (cor
   kept_now d u e s other at runs_s = record {
     thread = refl;
     words = λ k m. refl;
-    ports = λ p listed its. refl;
+    resources = own_same _ _ _ _ refl refl refl;
     branch = refl;
     parents = λ b m. refl;
     store = λ v uses. refl;
@@ -339,11 +340,11 @@ module _ (g : Setting) (first : Roles) (is : IsImageOf g first) (may_rest : (cor
         let s_thread = st.roles.thread c u s other runs_s in
         let works = works_at c u s other runs_s in
         let not_both : (c ≡ c) × (u ≡ t) → ⊥ = λ h. ne h.1 in
-        let apart = apart_of_runners g who x.state st.lawful st.roles c t u r s hand other runs_r runs_s ne (works_at c t r hand runs_r) works (laid_at c t r hand runs_r) (laid_at c u s other runs_s) in
+        let apart = apart_of_runners g who x.state st.lawful st.roles is.lines c t u r s hand other runs_r runs_s ne (works_at c t r hand runs_r) works (laid_at c t r hand runs_r) (laid_at c u s other runs_s) in
         record {
           thread = effect.threads s.thread (ap moved s_thread ∙ still);
           words = λ k m. effect.words k (λ change. apart.words k m change);
-          ports = λ q listed its. effect.ports (port_place g s q) (λ p of_r r_has. apart.ports p q of_r listed r_has its);
+          resources = others_keep (IsMine g r) (IsMine g s) r.thread s.thread a b (λ e. ne (sym s_thread ∙ e ∙ st.roles.thread c t r hand runs_r)) apart.resources effect.resources;
           branch = own_still c u s other not_both runs_s s.branch works.branch (inl refl) works.known;
           parents = parents_left c u s other not_both runs_s;
           store = store_left c u s other not_both runs_s;
@@ -371,7 +372,7 @@ module _ (g : Setting) (first : Roles) (is : IsImageOf g first) (may_rest : (cor
         record {
           thread = refl;
           words = λ k m. refl;
-          ports = λ q listed its. refl;
+          resources = own_same _ _ _ _ refl refl refl;
           branch = own_still d u s other not_both runs_s s.branch works.branch (inl refl) works.known;
           parents = parents_left d u s other not_both runs_s;
           store = store_left d u s other not_both runs_s;

@@ -27,7 +27,7 @@ use Rattle.xr_threads.specs.Runners.{Setting, Runner, IsChannel, IsLaidOut, code
 use Rattle.xr_threads.specs.Scenes.{Scene, Kept, running}
 use Rattle.xr_threads.specs.Turns as turn
 use Rattle.xr_threads.specs.Turns.{Has, HasBases, IsAt, IsBehind, ItemsFrom, Leads, Offers, TakesSteps, Turn, Turns, cost}
-use Rattle.xr_threads.proofs.Arriving.{Since, any_port, apart_of_changes, arrives, at_runs, core_kept, since_kept}
+use Rattle.xr_threads.proofs.Arriving.{Since, any_part, apart_of_changes, arrives, at_runs, core_kept, since_kept}
 use Rattle.xr_threads.proofs.Bases.{bases_worked}
 use Rattle.xr_threads.proofs.Evaluations.{eval_still, nodes_are, value_errs}
 use Rattle.xr_threads.proofs.Layouts.{has_since, laid_at, room_of, runs_at}
@@ -76,11 +76,11 @@ module _ (g : Setting) (r : Runner) (laid : IsLaidOut g r) (o : kernel.Output) (
   -- the turn is next, by the value
   output_turns : (z : Scene) (regs : Regs) → HasBases g r regs → z.hand ≡ None → Has g r (item ∷ rest) z → (v : Value) → eval z.world.store o.value ≡ v → (y : Scene) →
       OutputReaches (home g r) (relied g r) r.stack r.thread (end_place g r c side) (running r.tie pc regs) z.core.words true o.pos pc' v y.core →
-      Since g r (IsApart r.stack) any_port z y → Turns g r j y
+      Since g r (IsApart r.stack) any_part z y → Turns g r j y
   output_turns z regs bases no_hand has v is y reaches since q k = by v is reaches
     where
-      since' : Since g r (IsApart r.stack) any_port z q
-      since' = since_kept g r (IsApart r.stack) any_port since k
+      since' : Since g r (IsApart r.stack) any_part z q
+      since' = since_kept g r (IsApart r.stack) any_part since k
 
       has_q : Has g r (item ∷ rest) q
       has_q = has_since g r laid (item ∷ rest) z q since' (since'.room has.holds.room) has
@@ -110,6 +110,6 @@ offer_leads g r o c to_channel used rest exits pc pc' j z regs laid piece (fits,
     let behind' = subst (λ p. ItemsFrom g r rest exits p j) piece'.end behind in
     let le : most ≤ cost g r = let a = nodes_are o.value in omega (arith, counted, a) in
     leads_more g r (Turns g r j) most (cost g r) z le
-    (leads_as g r (λ y. outcome y.core × Since g r (IsApart r.stack) any_port z y) (Turns g r j) most z
+    (leads_as g r (λ y. outcome y.core × Since g r (IsApart r.stack) any_part z y) (Turns g r j) most z
     (λ y h. output_turns g r laid o fits c to_channel side stands_in rest exits pc at_end j behind' (fits, counted) rest_fits z regs bases no_hand has v refl y h.0 h.1)
     (arrives g r (IsApart r.stack) (apart_of_changes g r) outcome most z (at_runs g r z pc regs here) way))

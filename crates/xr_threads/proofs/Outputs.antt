@@ -6,6 +6,7 @@ use Rattle.std.proofs.lemmas.Bool.{cases_eq, ne_eqb}
 use Rattle.std.proofs.lemmas.List.{length-set}
 use Rattle.std.proofs.lemmas.Option.{get_or_from_slice_get, same_Some}
 use Rattle.xw_words.specs.declared.pos.Pos.{Pos}
+use Rattle.xs_instr.specs.Events.{res_number}
 use Rattle.xs_instr.specs.declared.image.PortDecl.{PortDecl}
 use Rattle.xs_instr.specs.declared.state.CoreState.{CoreState}
 use Rattle.xs_instr.specs.declared.state.Port.{Port}
@@ -31,21 +32,23 @@ use Rattle.xc_meaning.specs.Settings.Transfers.{drives, output_record, outputs_t
 use Rattle.xc_meaning.specs.States.Items.{Item, does, When, now, at_time, storing}
 use Rattle.xc_meaning.specs.States.Branches.{Branch}
 use Rattle.xc_meaning.specs.States.Worlds.{World, go, take, default, only_if, with_record}
+use Rattle.xl_expr.specs.PartSteps.{WithinParts}
 use Rattle.xl_expr.specs.Plans.{resource_in}
+use Rattle.xl_expr.specs.ResourceParts.{port_alone}
 use Rattle.xl_expr.specs.Works as works
 use Rattle.xl_expr.specs.Works.{trap_of}
 use Rattle.xl_expr.proofs.Lists.{get_set_same, get_set_other}
+use Rattle.xl_expr.proofs.ResourceParts.{others_fewer, others_of_port}
 use Rattle.xl_plan.specs.Layout.{port_name}
 use Rattle.xl_port.specs.Outputs.{OutputOutcome, PortStands, PutsOut, ResourceIs, TimeIsLaid, ValueOutcome, gone_out, is_due, out_record, output_nodes, set_for, time_nodes}
-use Rattle.xl_port.specs.PortSteps.{WithinPort}
 use Rattle.xl_walk.specs.Pieces.{Exit, OutputAt}
 use Rattle.xr_threads.specs.Fits.{IsOutPort, ItemsFit, OutputFits, PutsOutAt, UsesSome}
 use Rattle.xr_threads.specs.Parents.{syncs_of}
-use Rattle.xr_threads.specs.Runners.{Setting, Runner, IsLaidOut, code, home, plan, port_place, relied}
+use Rattle.xr_threads.specs.Runners.{IsMine, Setting, Runner, IsLaidOut, code, home, plan, port_place, relied}
 use Rattle.xr_threads.specs.Scenes.{Scene, Kept, running}
 use Rattle.xr_threads.specs.Turns as turn
 use Rattle.xr_threads.specs.Turns.{CannotAct, Errs, Goes, Has, HasBases, IsAt, IsOnSide, ItemsFrom, PortIs, PortsStand, Runs, StatementLeads, Turn, Turns, cost, own_go}
-use Rattle.xr_threads.proofs.Arriving.{Since, apart_of_changes, at_runs, arrives_at_port, but, port_kept, since_kept}
+use Rattle.xr_threads.proofs.Arriving.{Since, alone_mine, apart_from, apart_of_changes, arrives_with, at_runs, port_kept, ports_since, since_kept}
 use Rattle.xr_threads.proofs.Bases.{bases_worked}
 use Rattle.xr_threads.proofs.Evaluations.{err_acts, eval_still, item_acts, kinds_agree, nodes_are, runs_with, with_items}
 use Rattle.xr_threads.proofs.Layouts.{has_since_port, laid_at, room_of, runs_at, runs_kept, store_since}
@@ -127,7 +130,7 @@ module _ (g : Setting) (r : Runner) (laid : IsLaidOut g r) (o : kernel.Output) (
       ∙ ap (λ d. with_timing (Step x branch) d (λ when. with_word_of (Step x branch) o.value (drives (Step x branch) o p when))) (timing_is x.store o.time)
 
   -- the thread is at the end of its way
-  module _ (z : Scene) (has : Has g r (Item' ∷ rest) z) (no_hand : z.hand ≡ None) (x : Scene) (since : Since g r (IsApart r.stack) (but (port_place g r p)) z x) (clock : slice_get x.world.clocks r.core ≡ Some x.core.clock) where
+  module _ (z : Scene) (has : Has g r (Item' ∷ rest) z) (no_hand : z.hand ≡ None) (x : Scene) (since : Since g r (IsApart r.stack) (apart_from (port_alone (port_place g r p))) z x) (clock : slice_get x.world.clocks r.core ≡ Some x.core.clock) where
     abbrev place : ℕ
     place = port_place g r p
 
@@ -149,7 +152,7 @@ module _ (g : Setting) (r : Runner) (laid : IsLaidOut g r) (o : kernel.Output) (
 
     -- and all that it has, with its port as it may have been set
     has_x : Has g r (Item' ∷ rest) x
-    has_x = has_since_port g r laid (but (port_place g r p)) (Item' ∷ rest) z x since has
+    has_x = has_since_port g r laid (apart_from (port_alone (port_place g r p))) (Item' ∷ rest) z x since has
 
     -- its time and its value are what they were
     times_are : option_map (eval x.world.store) o.time ≡ option_map (eval z.world.store) o.time
@@ -264,14 +267,14 @@ module _ (g : Setting) (r : Runner) (laid : IsLaidOut g r) (o : kernel.Output) (
               other : port_place g r q ≢ place → PortIs g r q listed (record { core = left; world = world; hand = None })
               other ne = record {
                 port = was.port;
-                there = get_set_other x.core.ports place (port_place g r q) gone ne ∙ since.ports q listed mine ne ∙ was.there;
+                there = get_set_other x.core.ports place (port_place g r q) gone ne ∙ ports_since g r (IsApart r.stack) (apart_from (port_alone (port_place g r p))) z x since q listed mine (λ e. ne (ap res_number e)) ∙ was.there;
                 declared = was.declared;
               }
 
           -- then the word goes out on both sides
           puts_out : is_due time x.core ≡ true → Goes g r j x
           puts_out h =
-              let holds = store_since g r laid (but place) z x since w.within has.holds in
+              let holds = store_since g r laid (apart_from (port_alone place)) z x since w.within has.holds in
               let next = runs_with x.world r.branch branch (Item' ∷ rest) rest runs in
               record {
                 left = left;
@@ -283,7 +286,8 @@ module _ (g : Setting) (r : Runner) (laid : IsLaidOut g r) (o : kernel.Output) (
                   as_many = length-set x.core.threads r.thread (running r.tie pc' w.regs);
                   words = λ n not_mine. refl;
                   size = refl;
-                  ports = λ q n. get_set_other x.core.ports place q (moved_at (set_for time port) (counter x.core.clock)) (n p out.listed out.is);
+                  resources = others_fewer _ _ _ _ (IsMine g r) (alone_mine g r p out.listed out.is)
+                      (others_of_port r.thread place x.core left (λ q n. get_set_other x.core.ports place q (moved_at (set_for time port) (counter x.core.clock)) n) refl refl);
                 };
                 roots = refl;
                 syncs = refl;
@@ -348,10 +352,10 @@ module _ (g : Setting) (r : Runner) (laid : IsLaidOut g r) (o : kernel.Output) (
     AtEnd time value b = OutputOutcome (home g r) (relied g r) r.stack r.thread (running r.tie pc regs) z.core.words spot its.port o.pos pc' time value b
 
     abbrev Meanwhile : Scene → Type 0
-    Meanwhile y = Since g r (IsApart r.stack) (but spot) z y
+    Meanwhile y = Since g r (IsApart r.stack) (apart_from (port_alone spot)) z y
 
     abbrev still : {y x : Scene} → Meanwhile y → Kept g r y x → Meanwhile x
-    still s k = since_kept g r (IsApart r.stack) (but spot) s k
+    still s k = since_kept g r (IsApart r.stack) (apart_from (port_alone spot)) s k
 
     -- what it comes to is its turn: by the value
     value_turns : (time : Option ℕ) → option_map (eval store) o.time ≡ option_map word time → (value : Value) → eval store o.value ≡ value → (y : Scene) → AtValue time value y.core → Meanwhile y → Turns g r j y
@@ -378,11 +382,11 @@ module _ (g : Setting) (r : Runner) (laid : IsLaidOut g r) (o : kernel.Output) (
         name = port_name r.core spot
 
     -- where its code leads, the runner comes
-    comes : (n : ℕ) → WithinPort (home g r) (relied g r) (IsApart r.stack) r.thread spot (AtEnd (option_map (eval store) o.time) (eval store o.value)) n z.core → turn.Leads g r n j z
+    comes : (n : ℕ) → WithinParts (home g r) (relied g r) (IsApart r.stack) (port_alone spot) r.thread (AtEnd (option_map (eval store) o.time) (eval store o.value)) n z.core → turn.Leads g r n j z
     comes n way =
         leads_as g r (λ y. AtEnd (option_map (eval store) o.time) (eval store o.value) y.core × Meanwhile y) (Turns g r j) n z
         (λ y h. turns (option_map (eval store) o.time) (eval store o.value) refl refl y h.0 h.1)
-        (arrives_at_port g r (IsApart r.stack) (apart_of_changes g r) p out.listed out.is (AtEnd (option_map (eval store) o.time) (eval store o.value)) n z (at_runs g r z pc regs here) way)
+        (arrives_with g r (IsApart r.stack) (apart_of_changes g r) (port_alone (port_place g r p)) (alone_mine g r p out.listed out.is) (AtEnd (option_map (eval store) o.time) (eval store o.value)) n z (at_runs g r z pc regs here) way)
 
 -- From the code of an output the thread comes to the instruction that puts the word out, or to the first step of the protocol.
 module _ (g : Setting) (r : Runner) where
@@ -401,9 +405,9 @@ module _ (g : Setting) (r : Runner) where
           its : PortIs g r p out.listed z
           its = has.ports p out.listed out.is
 
-          way : WithinPort (home g r) (relied g r) (IsApart r.stack) r.thread (port_place g r p) (OutputOutcome (home g r) (relied g r) r.stack r.thread (running r.tie pc regs) z.core.words (port_place g r p) its.port o.pos pc' (option_map (eval z.world.store) o.time) (eval z.world.store o.value)) most z.core
+          way : WithinParts (home g r) (relied g r) (IsApart r.stack) (port_alone (port_place g r p)) r.thread (OutputOutcome (home g r) (relied g r) r.stack r.thread (running r.tie pc regs) z.core.words (port_place g r p) its.port o.pos pc' (option_map (eval z.world.store) o.time) (eval z.world.store o.value)) most z.core
           way =
-              subst (λ q. WithinPort (home g r) (relied g r) (IsApart r.stack) r.thread (port_place g r p) (OutputOutcome (home g r) (relied g r) r.stack r.thread (running r.tie pc regs) z.core.words (port_place g r p) its.port o.pos q (option_map (eval z.world.store) o.time) (eval z.world.store o.value)) most z.core) (sym code.end)
+              subst (λ q. WithinParts (home g r) (relied g r) (IsApart r.stack) (port_alone (port_place g r p)) r.thread (OutputOutcome (home g r) (relied g r) r.stack r.thread (running r.tie pc regs) z.core.words (port_place g r p) its.port o.pos q (option_map (eval z.world.store) o.time) (eval z.world.store o.value)) most z.core) (sym code.end)
               (code.so.by (home g r) (relied g r) r.stack r.thread (port_place g r p) its.port (running r.tie pc regs) z.world.store z.core code.stand (runs_at g r z pc regs here) (room_of g r laid z regs bases has.holds) (time_laid g r laid z regs o.time fits.time bases has.holds) (laid_at g r laid z regs o.value fits.value bases has.holds)
               (port_stands g r laid o fits p e no_stamp out rest z has exits pc pc' j regs here bases no_hand behind fit_rest))
       to (ToTimer t) e h out on = absurd h

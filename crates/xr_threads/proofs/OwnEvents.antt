@@ -134,7 +134,7 @@ module _ (g : Setting) (first : Roles) (is : IsImageOf g first) (who : Roles) (w
         (e.tie thread (ap (slice_get e.left.threads) (thread_is ∙ sym at) ∙ there));
     syncs = λ n ne taken. ap (λ l. slice_get l n) e.syncs ∙ taken;
     words = e.touched.words;
-    ports = e.touched.ports;
+    resources = e.touched.resources;
     clocks = e.is_next.clocks;
     branches = λ n branch ne there. other_branch n (λ f. ne (inl f)) ∙ there;
     store = e.is_next.store;
@@ -203,7 +203,7 @@ module _ (g : Setting) (first : Roles) (is : IsImageOf g first) (who : Roles) (w
       ap (living_on d) e.is_next.branches ∙ same
 
   pub leaves_loose : LeavesLoose g r a e.left x.state e.world
-  leaves_loose = record { words = e.touched.words; ports = e.touched.ports; store = e.is_next.store }
+  leaves_loose = record { words = e.touched.words; resources = e.touched.resources; store = e.is_next.store }
 
   pub others_used : OthersUsed g who c t st.roles r None runs_r a e.left (st.used c a at_c)
   others_used = record {

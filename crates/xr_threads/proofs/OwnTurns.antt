@@ -16,6 +16,7 @@ use Rattle.xc_meaning.specs.States.Worlds.{World, go}
 use Rattle.xc_meaning.specs.Runs.{acts}
 use Rattle.xl_expr.specs.Frames.{Holds}
 use Rattle.xl_expr.proofs.Lists.{get_set_same, get_set_other}
+use Rattle.xl_expr.proofs.ResourceParts.{others_same}
 use Rattle.xl_walk.specs.Pieces.{Exit}
 use Rattle.xr_threads.specs.Fits.{ItemsFit}
 use Rattle.xr_threads.specs.Runners.{Setting, Runner, MayChange, home, places}
@@ -63,7 +64,7 @@ module _ (g : Setting) (r : Runner) where
           as_many = length-set y.core.threads r.thread th';
           words = made.others;
           size = made.size;
-          ports = λ q not_mine. refl;
+          resources = others_same _ _ _ _ refl refl refl;
         };
         roots = refl;
         syncs = refl;

@@ -1,15 +1,14 @@
 -- The words of variables, and the places of ports, as a plan has them.
 use Rattle.std.proofs.Common.{◌≡◌, ◌≢◌, ◌⊎◌, ⊎_elim, ℕ, zero, suc, ◌+◌, ◌-◌, ◌<◌, ◌≤◌, Bool, true, false, ◌&&◌, List, length, Option, Some, None, slice_get, nat_eq, nat_le, nat_lt, refl, ap, subst, ◌∙◌, arith}
 use Rattle.std.proofs.lemmas.Option.{slice_get_within}
-use Rattle.xc_kernel.specs.declared.kernel.PortUse.{PortUse}
 use Rattle.xc_meaning.proofs.Basics.{or_left, or_right, or_cases, same_or_not}
-use Rattle.xc_disjoint.specs.Cores.{if_so}
+use Rattle.xc_disjoint.specs.Cores.{if_so, on_core}
 use Rattle.xl_expr.specs.declared.plan.VarAt.{VarAt}
 use Rattle.xl_expr.specs.declared.plan.VarAt.TheVariants.{Near, Far, Through}
 use Rattle.xl_expr.specs.declared.plan.VarPlan.{VarPlan}
 use Rattle.xl_expr.specs.Frames.{IsNear}
 use Rattle.xl_expr.specs.Plans.{joined, var_in}
-use Rattle.xl_plan.specs.Layout.{port_number, ports_here}
+use Rattle.xl_plan.specs.Layout.{number_on}
 use Rattle.xl_plan.proofs.Lists.{none_given, before_later}
 use Rattle.xr_threads.specs.Runners.{is_among_words, is_word_among, is_word_at, is_word_of}
 
@@ -97,21 +96,22 @@ module _ (base : ℕ) (vars : List (Option VarPlan)) (is_meant : ℕ → Bool) w
       (λ e. word_found n w e)
       (or_cases (here n w) (is_word_among base vars is_meant n w) h)
 
--- Ports.
+-- Ports and timers.
 
 order : (p q : ℕ) → p ≢ q → (p < q) ⊎ (q < p)
 order p q h = grind arith
 
-counted : (core : ℕ) (x : PortUse) → x.core ≡ core → ports_here core x ≡ 1
-counted core x e = ap (λ c. if_so c 1) (let z : nat_eq x.core core ≡ true = grind arith in z)
+counted : (core at : ℕ) → at ≡ core → on_core core at 1 ≡ 1
+counted core at e = ap (λ c. if_so c 1) (let z : nat_eq at core ≡ true = grind arith in z)
 
--- two ports of a core at one place are the same
-pub places_differ : (ports : List PortUse) (core p q : ℕ) (x y : PortUse) → slice_get ports p ≡ Some x → slice_get ports q ≡ Some y → x.core ≡ core → y.core ≡ core →
-    port_number core ports p ≡ port_number core ports q → p ≡ q
-places_differ ports core p q x y at_p at_q here here' same =
+-- two of a kind that have one number on a core are the same
+pub numbers_differ : {X : Type 0} (core_of : X → ℕ) (xs : List X) (core p q : ℕ) (x y : X) → slice_get xs p ≡ Some x → slice_get xs q ≡ Some y → core_of x ≡ core → core_of y ≡ core →
+    number_on core_of core xs p ≡ number_on core_of core xs q → p ≡ q
+numbers_differ {X = X} core_of xs core p q x y at_p at_q here here' same =
+    let each : X → ℕ = λ k. on_core core (core_of k) 1 in
     ⊎_elim (λ e. e)
     (λ d. ⊎_elim
-    (λ lt. let h = before_later (ports_here core) ports p q x lt at_p in let c = counted core x here in let z : ⊥ = omega (arith, h, c, same) in absurd z)
-    (λ lt. let h = before_later (ports_here core) ports q p y lt at_q in let c = counted core y here' in let z : ⊥ = omega (arith, h, c, same) in absurd z)
+    (λ lt. let h = before_later each xs p q x lt at_p in let c = counted core (core_of x) here in let z : ⊥ = omega (arith, h, c, same) in absurd z)
+    (λ lt. let h = before_later each xs q p y lt at_q in let c = counted core (core_of y) here' in let z : ⊥ = omega (arith, h, c, same) in absurd z)
     (order p q d))
     (same_or_not p q)

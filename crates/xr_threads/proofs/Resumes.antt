@@ -15,6 +15,7 @@ use Rattle.xc_disjoint.specs.Needs.{threads_on}
 use Rattle.xc_meaning.specs.Counts.KernelCounts.{kernel_bound}
 use Rattle.xc_meaning.specs.States.Branches.{Branch, ended, has_ended, runs}
 use Rattle.xl_expr.proofs.Lists.{get_set_other, get_set_same}
+use Rattle.xl_expr.proofs.ResourceParts.{others_same}
 use Rattle.xl_par.specs.Hands.{Hand, IsAmong}
 use Rattle.xr_match.specs.Lives.{Life, Watched}
 use Rattle.xr_match.specs.Meanings.{of_kernel}
@@ -135,7 +136,7 @@ module _ (g : Setting) (first : Roles) (is : IsImageOf g first) (who : Roles) (w
           inr (ap (λ (i : Thread). i.tie) (sym same) ∙ num_is thread.tie k tied);
       syncs = λ k not_mine was. get_set_other a.syncs n k false (λ e. not_mine (subst (Owns r (giving_back n)) (sym e) owns)) ∙ was;
       words = λ k mine. refl;
-      ports = λ q mine. refl;
+      resources = others_same _ _ _ _ refl refl refl;
       clocks = refl;
       branches = λ k b mine there. there;
       store = λ v c. refl;

@@ -2,9 +2,10 @@
 use Rattle.std.proofs.Common.{◌≡◌, ℕ, zero, suc, ◌+◌, ◌≤◌, List, inl, inr, ⊎_elim, sym, ap, ◌∙◌, subst, arith}
 use Rattle.xl_par.specs.Hands.{IsAmong}
 use Rattle.xr_threads.specs.Parents.{Parent}
-use Rattle.xr_threads.specs.Runners.{Setting, Runner}
+use Rattle.xr_threads.specs.Runners.{IsMine, Setting, Runner}
 use Rattle.xr_threads.specs.Scenes.{Scene, Kept, LeadsIn, IsStable, Owns, SpareFor, held_in, sync_in}
 use Rattle.xr_threads.specs.Turns.{IsJoining, Joins, Turns}
+use Rattle.xl_expr.proofs.ResourceParts.{own_then}
 
 module _ (g : Setting) (r : Runner) where
   -- what is kept twice is kept
@@ -12,7 +13,7 @@ module _ (g : Setting) (r : Runner) where
   kept_twice {x = x} h k = record {
     thread = k.thread ∙ h.thread;
     words = λ w m. k.words w m ∙ h.words w m;
-    ports = λ p listed is. k.ports p listed is ∙ h.ports p listed is;
+    resources = own_then (IsMine g r) r.thread _ _ _ h.resources k.resources;
     branch = k.branch ∙ h.branch;
     parents = λ b m. k.parents b m ∙ h.parents b m;
     store = λ v u. k.store v u ∙ h.store v u;

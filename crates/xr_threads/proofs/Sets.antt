@@ -22,7 +22,7 @@ use Rattle.xr_threads.specs.Scenes.{Scene, running}
 use Rattle.xr_threads.specs.Turns as turn
 use Rattle.xr_threads.specs.Turns.{StatementLeads, IsAt, ItemsFrom, HasBases, HoldsStore, Has, Runs, Goes, Turn, Turns, cost}
 use Rattle.xr_threads.proofs.Scenes.{leads_as, leads_more}
-use Rattle.xr_threads.proofs.Arriving.{Since, at_runs, any_port, since_kept, core_kept, apart_of_changes, arrives}
+use Rattle.xr_threads.proofs.Arriving.{Since, at_runs, any_part, since_kept, core_kept, apart_of_changes, arrives}
 use Rattle.xr_threads.proofs.Layouts.{has_since, room_of, runs_at, laid_at, place_laid_at}
 use Rattle.xr_threads.proofs.Evaluations.{nodes_are, nodes_at_are, eval_still, value_errs}
 use Rattle.xr_threads.proofs.Writing.{store_turns}
@@ -40,11 +40,11 @@ module _ (g : Setting) (r : Runner) (laid : IsLaidOut g r) where
         ap (λ o. with_value s o (stored s place)) is
 
     -- where the code has come, the turn is next: it writes the word, or traps by the first error
-    set_turns : (z : Scene) (regs : Regs) → HasBases g r regs → z.hand ≡ None → Has g r (item ∷ rest) z → (v i : Value) → eval z.world.store x ≡ v → index_in z.world.store place ≡ i → (y : Scene) → SetOutcome (plan g r).vars (home g r) (relied g r) r.stack r.thread (running r.tie pc regs) z.core.words place pc' v i y.core → Since g r (IsApart r.stack) any_port z y → Turns g r j y
+    set_turns : (z : Scene) (regs : Regs) → HasBases g r regs → z.hand ≡ None → Has g r (item ∷ rest) z → (v i : Value) → eval z.world.store x ≡ v → index_in z.world.store place ≡ i → (y : Scene) → SetOutcome (plan g r).vars (home g r) (relied g r) r.stack r.thread (running r.tie pc regs) z.core.words place pc' v i y.core → Since g r (IsApart r.stack) any_part z y → Turns g r j y
     set_turns z regs bases no_hand has v i is is_index y outcome since q k = by v is outcome
       where
-        since' : Since g r (IsApart r.stack) any_port z q
-        since' = since_kept g r (IsApart r.stack) any_port since k
+        since' : Since g r (IsApart r.stack) any_part z q
+        since' = since_kept g r (IsApart r.stack) any_part since k
 
         still : (o : Value) → eval z.world.store x ≡ o → eval q.world.store x ≡ o
         still o e = eval_still (plan g r).vars r.footprint.uses z.world.store q.world.store since'.store x uses ∙ e
@@ -71,6 +71,6 @@ set_leads g r place x rest exits pc pc' j z regs laid piece (uses_place, uses, c
     let behind' = subst (λ p. ItemsFrom g r rest exits p j) piece.end behind in
     let le : most ≤ cost g r = let a = nodes_are x in let b = nodes_at_are place in omega arith in
     leads_more g r (Turns g r j) most (cost g r) z le
-    (leads_as g r (λ y. outcome y.core × Since g r (IsApart r.stack) any_port z y) (Turns g r j) most z
+    (leads_as g r (λ y. outcome y.core × Since g r (IsApart r.stack) any_part z y) (Turns g r j) most z
     (λ y h. set_turns g r laid place x rest exits pc at_end j uses_place uses changes behind' rest_fits z regs bases no_hand has v i refl refl y h.0 h.1)
     (arrives g r (IsApart r.stack) (apart_of_changes g r) outcome most z (at_runs g r z pc regs here) way))

@@ -37,6 +37,7 @@ use Rattle.xr_threads.proofs.Steps.{answered}
 use Rattle.xr_threads.proofs.Usage.{used_on}
 use Rattle.xr_threads.proofs.Wiring.{TransfersAsBefore, wired_as}
 use Rattle.xr_threads.proofs.Works.{Works, own_thread_of}
+use Rattle.xl_expr.proofs.ResourceParts.{others_same}
 
 -- What becomes of the runner and of the program: variables and clocks stay, other branches do so, too, and of the runner's own ones those that
 -- go on are its own still.
@@ -86,7 +87,7 @@ module _ (g : Setting) (first : Roles) (is : IsImageOf g first) (may_rest : (cor
         inr (sym own.tied ∙ ap (λ (i : Thread). i.tie) (sym same) ∙ num_is thread.tie n tied);
     syncs = λ n ne taken. taken;
     words = λ k ne. refl;
-    ports = λ q ne. refl;
+    resources = others_same _ _ _ _ refl refl refl;
     clocks = d.clocks;
     branches = d.branches;
     store = λ v ne. ap (λ l. words_of l v) d.store;
@@ -186,7 +187,7 @@ module _ (g : Setting) (first : Roles) (is : IsImageOf g first) (may_rest : (cor
     pub loose_settled : 1 ≤ threads_on g.program c → AreLoose g who_settled c a y
     loose_settled some =
         loose_behind g who who_settled c a a x.state y r core_is (laid_at g first is may_rest who w x st c t r None runs_r)
-        (st.loose c a at_c some) (record { words = λ k ne. refl; ports = λ q ne. refl; store = λ v ne. ap (λ l. words_of l v) d.store })
+        (st.loose c a at_c some) (record { words = λ k ne. refl; resources = others_same _ _ _ _ refl refl refl; store = λ v ne. ap (λ l. words_of l v) d.store })
         (record { holds = subst (λ l. Holds (places g r.core) r.footprint.uses 0 a.words l) (sym d.store) holds.holds; room = holds.room })
         (λ q listed its. let k = ports q listed its in record { port = k.port; there = k.there; declared = k.declared })
         (λ v nobody no u i other at. ⊎_elim (λ (same : r ≡ i). subst (λ (k : Runner). k.footprint.changes v ≡ false) same no) (λ now. nobody u i other now) (runner_still c u i other at))

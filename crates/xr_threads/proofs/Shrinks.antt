@@ -30,10 +30,12 @@ pub record IsWithin (smaller larger : Footprint) : Type 0 where
   pub uses : (v : ℕ) → smaller.uses v ≡ true → larger.uses v ≡ true
   pub changes : (v : ℕ) → smaller.changes v ≡ true → larger.changes v ≡ true
   pub ports : (p : ℕ) → smaller.ports p ≡ true → larger.ports p ≡ true
+  pub timers : (t : ℕ) → smaller.timers t ≡ true → larger.timers t ≡ true
+  pub channels : (c : ℕ) → smaller.channels c ≡ true → larger.channels c ≡ true
 
 -- items that use no more have no more
 pub within_of_uses : (items others : List Item) → ((th : Thing) → by_items th items ≡ true → by_items th others ≡ true) → IsWithin (footprint_of items) (footprint_of others)
-within_of_uses items others h = record { uses = λ v u. h (variable v) u; changes = λ v u. h (change v) u; ports = λ p u. h (port p) u }
+within_of_uses items others h = record { uses = λ v u. h (variable v) u; changes = λ v u. h (change v) u; ports = λ p u. h (port p) u; timers = λ t u. h (timer t) u; channels = λ c u. h (channel c) u }
 
 -- What is changed is used.
 
@@ -163,8 +165,8 @@ module _ (g : Setting) (r s : Runner) (same : s.core ≡ r.core) (block : s.bloc
   IsHad (variable v) = s.footprint.uses v ≡ true
   IsHad (change v) = s.footprint.changes v ≡ true
   IsHad (port p) = s.footprint.ports p ≡ true
-  IsHad (timer t) = Unit {0}
-  IsHad (channel c) = Unit {0}
+  IsHad (timer t) = s.footprint.timers t ≡ true
+  IsHad (channel c) = s.footprint.channels c ≡ true
 
   -- all that is used
   abbrev AreHad : (Thing → Bool) → Type 0
@@ -301,8 +303,8 @@ all_had : (g : Setting) (r : Runner) (block : outside ≡ r.block) (th : Thing) 
 all_had g r block (variable v) = refl
 all_had g r block (change v) = refl
 all_had g r block (port p) = refl
-all_had g r block (timer t) = tt
-all_had g r block (channel c) = tt
+all_had g r block (timer t) = refl
+all_had g r block (channel c) = refl
 
 pub fits_everywhere : (g : Setting) (r : Runner) (items : List Item) → r.block ≡ outside → ItemsFit g r items → FitOn g r.core items
 fits_everywhere g r items block h = items_here g r (anyone r.core) refl (sym block) items h (λ th u. all_had g r (sym block) th)
@@ -311,8 +313,8 @@ own_had : (g : Setting) (r s : Runner) (core : s.core ≡ r.core) (block : s.blo
 own_had g r s core block items e (variable v) u = subst (λ (f : Footprint). f.uses v ≡ true) (sym e) u
 own_had g r s core block items e (change v) u = subst (λ (f : Footprint). f.changes v ≡ true) (sym e) u
 own_had g r s core block items e (port p) u = subst (λ (f : Footprint). f.ports p ≡ true) (sym e) u
-own_had g r s core block items e (timer t) u = tt
-own_had g r s core block items e (channel c) u = tt
+own_had g r s core block items e (timer t) u = subst (λ (f : Footprint). f.timers t ≡ true) (sym e) u
+own_had g r s core block items e (channel c) u = subst (λ (f : Footprint). f.channels c ≡ true) (sym e) u
 
 -- so items fit a runner in the same block of the same core
 pub fits_moved : (g : Setting) (r s : Runner) (items : List Item) → s.core ≡ r.core → s.block ≡ r.block → s.footprint ≡ footprint_of items → ItemsFit g r items → ItemsFit g s items

@@ -7,6 +7,7 @@ use Rattle.xs_instr.specs.declared.state.Mode.{Mode as ThreadMode}
 use Rattle.xs_instr.specs.declared.state.Mode.TheVariants.{Running}
 use Rattle.xs_instr.specs.declared.state.Thread.{Thread}
 use Rattle.xs_instr.specs.Pool.{is_tied, is_unused}
+use Rattle.xs_instr.specs.declared.state.Res.TheVariants.{Port as ResPort}
 use Rattle.xc_disjoint.specs.Needs.{threads_on}
 use Rattle.xc_kernel.specs.declared.kernel.PortUse.{PortUse}
 use Rattle.xc_meaning.specs.Counts.KernelCounts.{kernel_bound}
@@ -15,7 +16,7 @@ use Rattle.xc_meaning.specs.States.Worlds.{World}
 use Rattle.xl_expr.specs.declared.plan.VarPlan.{VarPlan}
 use Rattle.xl_expr.specs.Frames.{Holds, IsNear}
 use Rattle.xl_par.specs.Hands.{Hand}
-use Rattle.xl_plan.specs.Layout.{port_number}
+use Rattle.xl_plan.specs.Layout.{core_of_port, port_number}
 use Rattle.xr_match.specs.Lives.{Life, Watched}
 use Rattle.xr_match.specs.Meanings.{of_kernel}
 use Rattle.xr_match.specs.Sources.{Told}
@@ -29,12 +30,13 @@ use Rattle.xr_threads.specs.Standing.{AreLoose, EventsAre, IsRun, IsWanted, Nobo
 use Rattle.xr_threads.specs.Turns.{PortIs}
 use Rattle.xr_threads.proofs.Holding.{LeavesLoose, holds_on}
 use Rattle.xl_expr.proofs.Lists.{get_set_same}
+use Rattle.xl_expr.proofs.ResourceParts.{port_same}
 use Rattle.xr_threads.proofs.Lives.{got_new, new_or_old, own_life}
 use Rattle.xr_threads.proofs.Moves.{Effect, laid_at}
 use Rattle.xr_threads.proofs.Reserves.{GiveAsBefore, reserves_of_others}
 use Rattle.xr_threads.proofs.Standing.{Follows, told_by}
 use Rattle.xr_threads.proofs.Steps.{answered, clocks_still, far_steps_still, has_stepped, steps_still, watched}
-use Rattle.xr_threads.proofs.Places.{places_differ}
+use Rattle.xr_threads.proofs.Places.{numbers_differ}
 use Rattle.xr_threads.proofs.Wiring.{TransfersAsBefore, wired_still}
 
 -- What nobody may change is as the program has it still, behind an event of a runner that changes none of it.
@@ -68,11 +70,11 @@ module _ (g : Setting) (who who' : Roles) (c : ℕ) (a b : CoreState) (x y : Wor
       record {
         port = at.port;
         there =
-            leaves.ports (port_place g (anyone c) q)
-            (λ p other is_p same.
-            let one = places_differ g.program.ports r.core q p listed other is.known is_p.known (is.core ∙ sym on) is_p.core (ap (λ k. port_number k g.program.ports q) on ∙ same) in
-            let both : true ≡ false = sym is_p.mine ∙ ap r.footprint.ports (sym one) ∙ old.0 in
-            cc)
+            port_same a b (port_place g (anyone c) q) (leaves.resources.parts (ResPort (port_place g (anyone c) q))
+            (λ m.
+            let one = numbers_differ core_of_port g.program.ports r.core q m.port listed m.listed is.known m.is.known (is.core ∙ sym on) m.is.core (ap (λ k. port_number k g.program.ports q) on ∙ m.place) in
+            let both : true ≡ false = sym m.is.mine ∙ ap r.footprint.ports (sym one) ∙ old.0 in
+            cc))
             ∙ at.there;
         declared = at.declared;
       }
@@ -123,7 +125,7 @@ module _ (g : Setting) (first : Roles) (is : IsImageOf g first) (who : Roles) (w
     ties = s.ties;
     syncs = s.syncs;
     words = touched.words;
-    ports = touched.ports;
+    resources = touched.resources;
     clocks = refl;
     branches = λ n branch ne there. there;
     store = λ v e. refl;
@@ -135,7 +137,7 @@ module _ (g : Setting) (first : Roles) (is : IsImageOf g first) (who : Roles) (w
   silent_loose : 1 ≤ threads_on g.program c → AreLoose g who' c b x.state
   silent_loose some =
       loose_still g who who' c a b x.state x.state r (st.roles.core c t r hand runs_r) (laid_at g first is none_rests who w x st c t r hand runs_r)
-      (st.loose c a at_c some) (record { words = touched.words; ports = touched.ports; store = λ v e. refl })
+      (st.loose c a at_c some) (record { words = touched.words; resources = touched.resources; store = λ v e. refl })
       (λ v nobody. (nobody t r hand' s.now, λ u i other at. let k = s.still c u i other at in nobody u i k.0 k.1))
       (λ v want. let k = s.before c want.thread want.runner want.hand want.runs in record { thread = want.thread; runner = want.runner; hand = k.0; runs = k.1; parent = want.parent; waits = want.waits; uses = want.uses })
       (λ q nobody. (nobody t r hand' s.now, λ u i other at. let k = s.still c u i other at in nobody u i k.0 k.1))

@@ -11,7 +11,7 @@ use Rattle.xr_threads.specs.Fits.{ItemsFit}
 use Rattle.xr_threads.specs.Runners.{Setting, Runner, IsLaidOut, home, plan, relied}
 use Rattle.xr_threads.specs.Scenes.{Scene, running}
 use Rattle.xr_threads.specs.Turns.{Has, IsAt, IsBehind, ItemsFrom, Leads, Turns, cost}
-use Rattle.xr_threads.proofs.Arriving.{Since, any_port, apart_of_changes, arrives, at_runs, since_kept}
+use Rattle.xr_threads.proofs.Arriving.{Since, any_part, apart_of_changes, arrives, at_runs, since_kept}
 use Rattle.xr_threads.proofs.Evaluations.{nodes_at_are}
 use Rattle.xr_threads.proofs.Layouts.{has_since, place_laid_at, room_of, runs_at}
 use Rattle.xr_threads.proofs.Scenes.{leads_as, leads_more}
@@ -30,9 +30,9 @@ stored_leads g r laid place v rest j index regs z (bases, is, (stored, exits, co
     let behind' = subst (λ p. ItemsFrom g r rest exits p j) code.end behind in
     let le : most ≤ cost g r = let a = nodes_at_are place in omega arith in
     leads_more g r (Turns g r j) most (cost g r) z le
-    (leads_as g r (λ y. outcome regs.r0 y × Since g r (IsApart r.stack) any_port z y) (Turns g r j) most z
+    (leads_as g r (λ y. outcome regs.r0 y × Since g r (IsApart r.stack) any_part z y) (Turns g r j) most z
     (λ y h q k.
-    let since = since_kept g r (IsApart r.stack) any_port h.1 k in
+    let since = since_kept g r (IsApart r.stack) any_part h.1 k in
     let has_q = has_since g r laid (stores place v ∷ rest) z q since (since.room has.holds.room) has in
     store_turns g r laid (stores place v) place rest exits index at_end j uses_place changes behind' rest_fits z y q regs v i bases k since (since.hand ∙ no_hand) has_q
     refl refl (subst (λ w. outcome w y) is h.0))

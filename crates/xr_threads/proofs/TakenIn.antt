@@ -25,7 +25,7 @@ use Rattle.xr_threads.specs.Runners.{Setting, Runner, IsChannel, IsLaidOut, code
 use Rattle.xr_threads.specs.Scenes.{Scene, Kept, running}
 use Rattle.xr_threads.specs.Turns as turn
 use Rattle.xr_threads.specs.Turns.{Has, HasBases, IsAt, IsBehind, IsOnSide, ItemsFrom, Leads, StatementLeads, TakesIn, TakesSteps, Turns, cost}
-use Rattle.xr_threads.proofs.Arriving.{Since, any_port, apart_of_changes, arrives, at_runs, since_kept}
+use Rattle.xr_threads.proofs.Arriving.{Since, any_part, apart_of_changes, arrives, at_runs, since_kept}
 use Rattle.xr_threads.proofs.Bases.{bases_scratched, bases_worked}
 use Rattle.xr_threads.proofs.Layouts.{has_since, room_of, runs_at}
 use Rattle.xr_threads.proofs.OnEnds.{end_stands, on_end}
@@ -92,9 +92,9 @@ take_leads g r i c to_channel used rest exits pc pc' j z regs laid piece fits (s
     (runs_at g r z pc regs here) (room_of g r laid z regs bases has.holds) (end_stands g r c side planned regs.dp z.core.words) in
     let outcome = AtProtocol (home g r) (relied g r) r.stack r.thread (end_place g r c side) (running r.tie pc regs) z.core.words i.pos (input_acts R0 true) (EndsAt (pc + length parts.transfer)) in
     leads_more g r (Turns g r j) 3 (cost g r) z (omega arith)
-    (leads_as g r (λ y. outcome y.core × Since g r (IsApart r.stack) any_port z y) (Turns g r j) 3 z
+    (leads_as g r (λ y. outcome y.core × Since g r (IsApart r.stack) any_part z y) (Turns g r j) 3 z
     (λ y h q k.
-    let since = since_kept g r (IsApart r.stack) any_port h.1 k in
+    let since = since_kept g r (IsApart r.stack) any_part h.1 k in
     turn.takes_in (takes_there g r rest exits pc pc' j parts.transfer parts.write end (stand_back (code g r) pc parts.transfer parts.write stand) behind i fits rest_fits c to_channel side stands_in parts.writes
     z y q regs bases k (since.hand ∙ no_hand) (has_since g r laid (does (kernel.input i) ∷ rest) z q since (since.room has.holds.room) has) h.0))
     (arrives g r (IsApart r.stack) (apart_of_changes g r) outcome 3 z (at_runs g r z pc regs here) way))

@@ -24,7 +24,7 @@ use Rattle.xr_threads.specs.Scenes.{Scene, running}
 use Rattle.xr_threads.specs.Turns as turn
 use Rattle.xr_threads.specs.Turns.{EndOf, StatementLeads, IsAt, ItemsFrom, HasBases, Has, Runs, Goes, Turns, Leads, cost}
 use Rattle.xr_threads.proofs.Scenes.{leads_as, leads_more}
-use Rattle.xr_threads.proofs.Arriving.{Since, at_runs, any_port, since_kept, core_kept, apart_of_changes, arrives}
+use Rattle.xr_threads.proofs.Arriving.{Since, at_runs, any_part, since_kept, core_kept, apart_of_changes, arrives}
 use Rattle.xr_threads.proofs.Layouts.{has_since, room_of, runs_at, laid_at}
 use Rattle.xr_threads.proofs.Bases.{bases_scratched}
 use Rattle.xr_threads.proofs.Evaluations.{nodes_are, eval_still, item_acts, value_errs, with_items}
@@ -62,14 +62,14 @@ module _ (g : Setting) (r : Runner) (laid : IsLaidOut g r) (t : kernel.Statement
       by false e = spot_goes g r j q next b.regs (made false e) bases' no_hand (does t) rest held has (acted false e) exits n at_held held_fits few_held
 
   -- where the code of the test has come, the turn is next
-  test_turns : (z : Scene) (regs : Regs) → HasBases g r regs → z.hand ≡ None → Has g r (does t ∷ rest) z → (v : Value) → eval z.world.store x ≡ v → (y : Scene) → TestOutcome (home g r) (relied g r) r.stack r.thread (running r.tie pc regs) z.core.words target next v y.core → Since g r (IsApart r.stack) any_port z y → Turns g r j y
+  test_turns : (z : Scene) (regs : Regs) → HasBases g r regs → z.hand ≡ None → Has g r (does t ∷ rest) z → (v : Value) → eval z.world.store x ≡ v → (y : Scene) → TestOutcome (home g r) (relied g r) r.stack r.thread (running r.tie pc regs) z.core.words target next v y.core → Since g r (IsApart r.stack) any_part z y → Turns g r j y
   test_turns z regs bases no_hand has (word v) is y outcome since q k =
       let b = outcome q.core (core_kept g r k) in
-      let since' = since_kept g r (IsApart r.stack) any_port since k in
+      let since' = since_kept g r (IsApart r.stack) any_part since k in
       turn.goes_on (test_goes z q regs v bases (since'.hand ∙ no_hand) (has_since g r laid (does t ∷ rest) z q since' b.within has)
       (eval_still (plan g r).vars r.footprint.uses z.world.store q.world.store since'.store x uses ∙ is) b)
   test_turns z regs bases no_hand has (error kind pos) is y outcome since q k =
-      let since' = since_kept g r (IsApart r.stack) any_port since k in
+      let since' = since_kept g r (IsApart r.stack) any_part since k in
       let has_q = has_since g r laid (does t ∷ rest) z q since' (since'.room has.holds.room) has in
       let is_q = eval_still (plan g r).vars r.footprint.uses z.world.store q.world.store since'.store x uses ∙ is in
       let st = step_of g.program g.stimulus q.world r.branch has_q.branch rest in
@@ -90,7 +90,7 @@ test_leads g r laid t rest x uses counted held other begins exits pc next target
     let at_held' = subst (λ p. ItemsFrom g r held exits p n) test.end at_held in
     let le : most ≤ cost g r = let a = before_few v (8 * nodes x) in let e = nodes_are x in omega arith in
     leads_more g r (Turns g r j) most (cost g r) z le
-    (leads_as g r (λ y. outcome y.core × Since g r (IsApart r.stack) any_port z y) (Turns g r j) most z
+    (leads_as g r (λ y. outcome y.core × Since g r (IsApart r.stack) any_part z y) (Turns g r j) most z
     (λ y h. test_turns g r laid t rest x uses held other begins exits pc behind target n m j at_held' held_fits few_held at_other other_fits few_other z regs bases no_hand has v refl y h.0 h.1)
     (arrives g r (IsApart r.stack) (apart_of_changes g r) outcome most z (at_runs g r z pc regs here) way))
 

@@ -10,6 +10,7 @@ use Rattle.xc_meaning.specs.Runs.{acts, acts_all}
 use Rattle.xc_meaning.specs.Settings.Time.{ticks}
 use Rattle.xc_meaning.specs.States.Worlds.{World, only_if, clock}
 use Rattle.xl_expr.proofs.Lists.{get_set_same, get_set_other}
+use Rattle.xl_expr.proofs.ResourceParts.{own_same}
 use Rattle.xl_par.specs.Hands.{Hand}
 use Rattle.xr_match.specs.Implements.{clock_of}
 use Rattle.xr_match.specs.Lives.{Watched, watched_after}
@@ -61,7 +62,7 @@ module _ (g : Setting) (first : Roles) (is : IsImageOf g first) (who : Roles) (w
       record {
         thread = refl;
         words = λ v m. refl;
-        ports = λ p listed its. refl;
+        resources = own_same _ _ _ _ refl refl refl;
         branch = refl;
         parents = λ b m. refl;
         store = λ v uses. refl;
@@ -80,7 +81,7 @@ module _ (g : Setting) (first : Roles) (is : IsImageOf g first) (who : Roles) (w
       record {
         thread = refl;
         words = λ v m. refl;
-        ports = λ p listed its. refl;
+        resources = own_same _ _ _ _ refl refl refl;
         branch = refl;
         parents = λ b m. refl;
         store = λ v uses. refl;

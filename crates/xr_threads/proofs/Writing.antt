@@ -30,7 +30,7 @@ use Rattle.xr_threads.specs.Runners.{Setting, Runner, IsLaidOut, MayChange, of_v
 use Rattle.xr_threads.specs.Scenes.{Scene, Kept, running}
 use Rattle.xr_threads.specs.Turns as turn
 use Rattle.xr_threads.specs.Turns.{ItemsFrom, HasBases, Has, Goes, Turn}
-use Rattle.xr_threads.proofs.Arriving.{Since, any_port, core_kept}
+use Rattle.xr_threads.proofs.Arriving.{Since, any_part, core_kept}
 use Rattle.xr_threads.proofs.Bases.{bases_worked}
 use Rattle.xr_threads.proofs.Evaluations.{index_still, item_acts, value_errs, with_items}
 use Rattle.xr_threads.proofs.Layouts.{place_seen, seen}
@@ -141,7 +141,7 @@ module _ (g : Setting) (r : Runner) (laid : IsLaidOut g r) (item : Item) (place 
       room = let e = length-set q.core.words (address / 4) v in let h = has.holds.room in omega arith
 
   -- where the code has come the turn is next: it writes the word, or traps by the index's error
-  pub store_turns : (z y q : Scene) (regs : Regs) (v : ℕ) (i : Value) → HasBases g r regs → Kept g r y q → Since g r (IsApart r.stack) any_port z q → q.hand ≡ None →
+  pub store_turns : (z y q : Scene) (regs : Regs) (v : ℕ) (i : Value) → HasBases g r regs → Kept g r y q → Since g r (IsApart r.stack) any_part z q → q.hand ≡ None →
       (has : Has g r (item ∷ rest) q) → Stores q.world has.branch v → index_in z.world.store place ≡ i →
       StoreOutcome (plan g r).vars (home g r) (relied g r) r.stack r.thread (running r.tie pc regs) z.core.words place v pc' i y.core → Turn g r j q
   store_turns z y q regs v i bases kept since no_hand has is is_index outcome = by i is_index outcome

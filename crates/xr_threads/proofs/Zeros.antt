@@ -19,6 +19,7 @@ use Rattle.xl_expr.specs.declared.plan.VarPlan.{VarPlan}
 use Rattle.xl_expr.specs.Frames.{IsNear, Holds}
 use Rattle.xl_expr.specs.Plans.{var_in}
 use Rattle.xl_expr.proofs.Lists.{get_set_same, get_set_other}
+use Rattle.xl_expr.proofs.ResourceParts.{others_same}
 use Rattle.xl_flow.specs.Zeros.{IsOutside, StandsFrom, WordsStand, WritesLast, words_set}
 use Rattle.xl_walk.specs.Pieces.{Exit}
 use Rattle.xr_threads.specs.Fits.{IsChanged, ItemsFit}
@@ -27,7 +28,7 @@ use Rattle.xr_threads.specs.Runners.{Block, Setting, Runner, IsLaidOut, MayChang
 use Rattle.xr_threads.specs.Scenes.{Scene, running}
 use Rattle.xr_threads.specs.Turns as turn
 use Rattle.xr_threads.specs.Turns.{Goes, Has, HasBases, HoldsStore, ItemsFrom, Runs, StatementLeads, Turns, cost, own_go}
-use Rattle.xr_threads.proofs.Arriving.{Since, any_port, arrives, at_runs, core_kept, since_kept, stack_relied}
+use Rattle.xr_threads.proofs.Arriving.{Since, any_part, arrives, at_runs, core_kept, ports_since, since_kept, stack_relied}
 use Rattle.xr_threads.proofs.Bases.{bases_worked}
 use Rattle.xr_threads.proofs.Evaluations.{item_acts, runs_with, with_items}
 use Rattle.xr_threads.proofs.Layouts.{ports_last, runs_at, runs_kept, unseen, variable_relied}
@@ -121,7 +122,7 @@ module _ (g : Setting) (r : Runner) (v : ℕ) (laid : IsLaidOut g r) (is : IsCha
 
   module _ (rest : List Item) (z : Scene) (k : ℕ) (is_k : is.found.words ≡ k + 1) where
     -- at the last store
-    module _ (x : Scene) (since : Since g r (IsOutside base (k + 1)) any_port z x) (zeros : (i : ℕ) → i < k → word_at x.core.words (address_at base i) ≡ Some 0) (there : (y : ℕ) × (word_at x.core.words (address_at base k) ≡ Some y)) (holds : HoldsStore g r z) where
+    module _ (x : Scene) (since : Since g r (IsOutside base (k + 1)) any_part z x) (zeros : (i : ℕ) → i < k → word_at x.core.words (address_at base i) ≡ Some 0) (there : (y : ℕ) × (word_at x.core.words (address_at base k) ≡ Some y)) (holds : HoldsStore g r z) where
       -- what the last store leaves in memory, and what the branch's step leaves in the store
       abbrev zero_words : List ℕ
       zero_words = word_put x.core.words (address_at base k) 0
@@ -201,7 +202,7 @@ module _ (g : Setting) (r : Runner) (v : ℕ) (laid : IsLaidOut g r) (is : IsCha
 
     module _ (exits : List Exit) (j : ℕ) (pc' : ℕ) (regs : Regs) (bases : HasBases g r regs) (no_hand : z.hand ≡ None) (behind : ItemsFrom g r rest exits pc' j) (fits : ItemsFit g r rest) (has : Has g r (does (kernel.set_zero v) ∷ rest) z) where
       -- the last store is the branch's step
-      last_goes : (tie_pc : ℕ) (x : Scene) → Since g r (IsOutside base (k + 1)) any_port z x → WritesLast (home g r) (relied g r) r.thread (running r.tie tie_pc regs) z.core.words base k pc' x.core → Goes g r j x
+      last_goes : (tie_pc : ℕ) (x : Scene) → Since g r (IsOutside base (k + 1)) any_part z x → WritesLast (home g r) (relied g r) r.thread (running r.tie tie_pc regs) z.core.words base k pc' x.core → Goes g r j x
       last_goes tie_pc x since w =
           let branch = has.branch in
           let runs : Runs x.world r.branch branch (does (kernel.set_zero v) ∷ rest) = runs_kept g r z x branch (does (kernel.set_zero v) ∷ rest) since.branch has.runs in
@@ -222,7 +223,7 @@ module _ (g : Setting) (r : Runner) (v : ℕ) (laid : IsLaidOut g r) (is : IsCha
               as_many = length-set x.core.threads r.thread new;
               words = λ n not_mine. get_set_other x.core.words (address_at base k / 4) n 0 (λ e. safe (k + 1) is_k n not_mine k (omega arith) e);
               size = length-set x.core.words (address_at base k / 4) 0;
-              ports = λ q n. refl;
+              resources = others_same _ _ _ _ refl refl refl;
             };
             roots = refl;
             syncs = refl;
@@ -261,7 +262,7 @@ module _ (g : Setting) (r : Runner) (v : ℕ) (laid : IsLaidOut g r) (is : IsCha
                 runs = record { known = next.known; running = next.running; items_are = refl };
                 core = has.core;
                 holds = record { holds = zero_holds x since w.zeros w.there has.holds; room = room x since w.zeros w.there has.holds };
-                ports = ports_last g r z y (λ p listed is_port. since.ports p listed is_port tt) has.ports;
+                ports = ports_last g r z y (λ p listed is_port. ports_since g r (IsOutside base (k + 1)) any_part z x since p listed is_port tt) has.ports;
               };
             };
           }
@@ -274,8 +275,8 @@ module _ (g : Setting) (r : Runner) where
   pub zero_leads : (v : ℕ) → StatementLeads g r (kernel.set_zero v)
   zero_leads v rest exits pc pc' j z regs laid code (is, counted) sided behind fits has here bases no_hand =
       leads_more g r (Turns g r j) (2 * (k + 1) + 1) (cost g r) z few
-      (leads_as g r (λ y. AtLast y.core × Since g r (IsOutside (base g r v laid is) (k + 1)) any_port z y) (Turns g r j) (2 * (k + 1) + 1) z
-      (λ y h x kept. turn.goes_on (last_goes g r v laid is rest z k is_k exits j pc' regs bases no_hand behind fits has pc x (since_kept g r (IsOutside (base g r v laid is) (k + 1)) any_port h.1 kept) (h.0 x.core (core_kept g r kept))))
+      (leads_as g r (λ y. AtLast y.core × Since g r (IsOutside (base g r v laid is) (k + 1)) any_part z y) (Turns g r j) (2 * (k + 1) + 1) z
+      (λ y h x kept. turn.goes_on (last_goes g r v laid is rest z k is_k exits j pc' regs bases no_hand behind fits has pc x (since_kept g r (IsOutside (base g r v laid is) (k + 1)) any_part h.1 kept) (h.0 x.core (core_kept g r kept))))
       (arrives g r (IsOutside (base g r v laid is) (k + 1)) (safe g r v laid is (k + 1) is_k) AtLast (2 * (k + 1) + 1) z (at_runs g r z pc regs here) way))
     where
       k : ℕ

@@ -1,5 +1,5 @@
 -- What is fixed for a whole run: the program, its image, and the plan of each core; and how a thread runs a branch.
-use Rattle.std.specs.Prelude.{◌≡◌, ℕ, zero, suc, ◌+◌, ◌<◌, ◌≤◌, Bool, true, false, ◌&&◌, ◌||◌, List, [], length, Option, Some, None, nat_le, nat_lt, slice_get}
+use Rattle.std.specs.Prelude.{◌≡◌, ℕ, zero, suc, ◌+◌, ◌<◌, ◌≤◌, Bool, true, false, ◌&&◌, ◌||◌, List, [], length, Option, Some, None, nat_le, nat_lt, slice_get, slice_index_or}
 use Rattle.xs_instr.specs.declared.image.Code.{Code}
 use Rattle.xs_instr.specs.declared.image.Home.{Home}
 use Rattle.xs_instr.specs.declared.image.Image.{Image}
@@ -7,6 +7,8 @@ use Rattle.xs_instr.specs.declared.image.Stim.{Stim}
 use Rattle.xs_instr.specs.Machine.{home_of}
 use Rattle.xs_instr.specs.OwnSteps.{temporary}
 use Rattle.xs_instr.specs.Resources.{AnEnd, APort, named}
+use Rattle.xs_instr.specs.declared.state.Res.TheVariants.{End as ResEnd, Port as ResPort, Timer as ResTimer}
+use Rattle.xs_instr.specs.declared.state.Res.{Res}
 use Rattle.xc_kernel.specs.declared.kernel.PortUse.{PortUse}
 use Rattle.xc_kernel.specs.Plain as kernel
 use Rattle.xl_expr.specs.declared.plan.Plan.{Plan}
@@ -16,8 +18,9 @@ use Rattle.xl_expr.specs.declared.plan.VarAt.TheVariants.{Near, Far, Through}
 use Rattle.xl_expr.specs.declared.plan.VarPlan.{VarPlan}
 use Rattle.xl_expr.specs.Frames.{Frame, IsNear}
 use Rattle.xl_expr.specs.Plans.{end_in, resource_at, var_in}
-use Rattle.xl_plan.specs.Layout.{end_name, end_number, is_used_on, port_name, port_number}
-use Rattle.xc_kernel.specs.Things.{variable, change, port}
+use Rattle.xl_plan.specs.Layout.{core_of, end_name, end_number, is_used_on, port_name, port_number, timer_number}
+use Rattle.xc_kernel.specs.Things.{channel, timer, variable, change, port}
+use Rattle.xc_kernel.specs.declared.kernel.Timer.{Timer}
 use Rattle.xc_meaning.specs.States.Channels.{Side}
 use Rattle.xc_meaning.specs.States.Items.{Item}
 use Rattle.xc_meaning.specs.Uses.{by_items}
@@ -32,11 +35,13 @@ pub record Setting : Type 0 where
   pub stimulus : Stim
   pub plans : (core : ℕ) → Plan
 
--- what a branch may use and change for what is left to it: variables and ports of the kernel by number
+-- what a branch may use and change for what is left to it: variables, ports, timers and channels of the kernel by number
 pub record Footprint : Type 0 where
   pub uses : (variable : ℕ) → Bool
   pub changes : (variable : ℕ) → Bool
   pub ports : (port : ℕ) → Bool
+  pub timers : (timer : ℕ) → Bool
+  pub channels : (channel : ℕ) → Bool
 
 -- what some items use and change
 abbrev pub footprint_of : List Item → Footprint
@@ -44,11 +49,13 @@ footprint_of items = record {
   uses = λ v. by_items (variable v) items;
   changes = λ v. by_items (change v) items;
   ports = λ p. by_items (port p) items;
+  timers = λ t. by_items (timer t) items;
+  channels = λ c. by_items (channel c) items;
 }
 
 -- all that there is
 abbrev pub everything : Footprint
-everything = record { uses = λ v. true; changes = λ v. true; ports = λ p. true }
+everything = record { uses = λ v. true; changes = λ v. true; ports = λ p. true; timers = λ t. true; channels = λ c. true }
 
 -- What a thread's code sees the variables, ports and ends of its core by: dp names a word, and a plan of its own says the rest. Where it has none, that is
 -- the core's plan.
@@ -145,9 +152,12 @@ module _ (g : Setting) (r : Runner) where
         w ≡ n + i → MayChange w
     of_stack : (k : ℕ) → k < temporary → w ≡ r.stack + k → MayChange w
 
-  -- the place of a port on the runner's core
+  -- the places of a port and of a timer on the runner's core
   abbrev pub port_place : (port : ℕ) → ℕ
   port_place p = port_number r.core g.program.ports p
+
+  abbrev pub timer_place : (timer : ℕ) → ℕ
+  timer_place t = timer_number r.core g.program.timers t
 
   -- the number of a side's end on the runner's core
   abbrev pub end_place : (channel : ℕ) → Side → ℕ
@@ -170,6 +180,44 @@ module _ (g : Setting) (r : Runner) where
     pub mine : r.footprint.ports p ≡ true
     pub known : slice_get g.program.ports p ≡ Some listed
     pub core : listed.core ≡ r.core
+
+  -- and a timer
+  pub record IsTimer (t : ℕ) (listed : Timer) : Type 0 where
+    pub mine : r.footprint.timers t ≡ true
+    pub known : slice_get g.program.timers t ≡ Some listed
+    pub core : listed.core ≡ r.core
+
+  -- and the end of the side in which it stands of a channel
+  pub record IsEnd (c : ℕ) (side : Side) : Type 0 where
+    pub mine : r.footprint.channels c ≡ true
+    pub channel : IsChannel c
+    pub stands_in : slice_index_or r.sides c None ≡ Some side
+    pub here : core_of g.program c side ≡ r.core
+
+  -- Its resources on its core, by their numbers there.
+
+  pub record IsOwnPort (n : ℕ) : Type 0 where
+    pub port : ℕ
+    pub listed : PortUse
+    pub is : IsPort port listed
+    pub place : n ≡ port_place port
+
+  pub record IsOwnTimer (n : ℕ) : Type 0 where
+    pub timer : ℕ
+    pub listed : Timer
+    pub is : IsTimer timer listed
+    pub place : n ≡ timer_place timer
+
+  pub record IsOwnEnd (n : ℕ) : Type 0 where
+    pub channel : ℕ
+    pub side : Side
+    pub is : IsEnd channel side
+    pub place : n ≡ end_place channel side
+
+  abbrev pub IsMine : Res → Type 0
+  IsMine (ResPort n) = IsOwnPort n
+  IsMine (ResTimer n) = IsOwnTimer n
+  IsMine (ResEnd n) = IsOwnEnd n
 
   -- Its code stands in no other block, the variables of its core stand near, no two of them share a word, and none is a temporary one of the runner's. Its ports and its
   -- channels' ends have the identifiers that the plan gives them.

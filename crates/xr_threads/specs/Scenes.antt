@@ -7,12 +7,12 @@ use Rattle.xs_instr.specs.declared.state.Thread.{Thread}
 use Rattle.xs_instr.specs.Did.{makes}
 use Rattle.xs_instr.specs.Pool.{first_free, is_tied, threads_taken, tied_to}
 use Rattle.xs_instr.specs.Slot.{slot}
-use Rattle.xc_kernel.specs.declared.kernel.PortUse.{PortUse}
 use Rattle.xc_kernel.specs.Eval.{words_of}
 use Rattle.xc_meaning.specs.States.Worlds.{World}
 use Rattle.xl_par.specs.Hands.{Hand, HasSpare, IsAmong, with_sync, with_thread_got}
 use Rattle.xr_threads.specs.Parents.{branches_of, syncs_of}
-use Rattle.xr_threads.specs.Runners.{Setting, Runner, IsPort, MayChange, home, port_place, relied}
+use Rattle.xr_threads.specs.Runners.{IsMine, Setting, Runner, MayChange, home, relied}
+use Rattle.xl_expr.specs.ResourceParts.{OtherPartsStay, OwnPartsStay}
 
 -- a runner's core and the program's state at one moment, and what the runner has got for a `par` that it opens, or has still to give back
 pub record Scene : Type 0 where
@@ -53,8 +53,7 @@ module _ (g : Setting) (r : Runner) where
   pub record Kept (z y : Scene) : Type 0 where
     pub thread : slice_get y.core.threads r.thread ≡ slice_get z.core.threads r.thread
     pub words : (w : ℕ) → relied g r w ≡ true → slice_get y.core.words w ≡ slice_get z.core.words w
-    pub ports : (p : ℕ) (listed : PortUse) → IsPort g r p listed →
-        slice_get y.core.ports (port_place g r p) ≡ slice_get z.core.ports (port_place g r p)
+    pub resources : OwnPartsStay (IsMine g r) r.thread z.core y.core
     pub branch : slice_get y.world.branches r.branch ≡ slice_get z.world.branches r.branch
     pub parents : (b : ℕ) → IsAmong (branches_of r.parents) b → slice_get y.world.branches b ≡ slice_get z.world.branches b
     pub store : (v : ℕ) → r.footprint.uses v ≡ true → words_of y.world.store v ≡ words_of z.world.store v
@@ -73,8 +72,7 @@ module _ (g : Setting) (r : Runner) where
     pub as_many : length z.core.threads ≡ length y.core.threads
     pub words : (w : ℕ) → (MayChange g r w → ⊥) → slice_get z.core.words w ≡ slice_get y.core.words w
     pub size : length z.core.words ≡ length y.core.words
-    pub ports : (q : ℕ) → ((p : ℕ) (listed : PortUse) → IsPort g r p listed → q ≢ port_place g r p) →
-        slice_get z.core.ports q ≡ slice_get y.core.ports q
+    pub resources : OtherPartsStay (IsMine g r) r.thread y.core z.core
 
   -- the other threads are what they were, and tied as before
   pub record SameUse (y z : Scene) : Type 0 where
