@@ -25,7 +25,7 @@ use Rattle.xr_threads.specs.Roles.{Roles, used_by}
 use Rattle.xr_threads.specs.Runners.{Runner, Setting, footprint_of, home, shrunk}
 use Rattle.xr_threads.specs.Scenes.{Scene, running}
 use Rattle.xr_threads.specs.Standing.{IfTrue, IsAtRest, Stand, Standing, StandsWith, none_rests}
-use Rattle.xr_threads.specs.Transfers.{StopsIn}
+use Rattle.xr_threads.specs.Transfers.{StopsIn, all_but_first}
 use Rattle.xr_threads.specs.Turns.{Errs, InTransfer, IsBehind, IsNext, Runs, cost, is_watching}
 use Rattle.xr_threads.specs.Wired.{AreSidesOn, IsLine, boxes_in}
 use Rattle.xr_threads.proofs.ChannelBoxes.{line_boxed, line_parcels}
@@ -40,10 +40,11 @@ use Rattle.xr_threads.proofs.OwnEvents.{rests_alone, rests_there}
 use Rattle.xr_threads.proofs.OwnTransfers as own
 use Rattle.xr_threads.proofs.OwnTransfers.{does_so, has_behind, less}
 use Rattle.xr_threads.proofs.Shrinks.{rest_shrinks}
+use Rattle.xr_threads.proofs.Stands.{stands_unwatched}
 use Rattle.xr_threads.proofs.TransferErrs.{errs_followed}
 use Rattle.xr_threads.proofs.TransferRows.{alone_elsewhere}
 use Rattle.xr_threads.proofs.Transferred.{rest_as}
-use Rattle.xr_threads.proofs.Watching.{here_at, items_unwatched}
+use Rattle.xr_threads.proofs.Watching.{here_at}
 use Rattle.xr_threads.proofs.WiredMoves.{one_line, wired_moves}
 use Rattle.xr_wires.specs.Balance.{Local}
 use Rattle.xr_wires.specs.Phases.{awaits_ack, between, offers, spot}
@@ -124,11 +125,11 @@ module _ (g : Setting) (first : Roles) (is : IsImageOf g first) (who : Roles) (w
     abbrev s : Runner
     s = record r { footprint = footprint_of rest; transfer = None }
 
-    code_behind : IsBehind g r (awaits channel h.pos ∷ rest) j (h.pc + 1) h.regs
-    code_behind = subst (λ items. IsBehind g r items j (h.pc + 1) h.regs) h.goes_with.1 h.steps.1
+    code_behind : IsBehind g r rest j (h.pc + 1) h.regs
+    code_behind = subst (λ items. IsBehind g r (all_but_first items) j (h.pc + 1) h.regs) h.goes_with.1 h.steps.1
 
     unwatched : is_watching rest ≡ false
-    unwatched = items_unwatched g r rest code_behind.1.0 (h.pc + 1) j code_behind.1.1
+    unwatched = stands_unwatched g r rest j (h.pc + 1) h.regs a (code_behind.1 a)
 
     module _ (es : List ChanEnd) where
       abbrev behind : Scene
@@ -145,10 +146,9 @@ module _ (g : Setting) (first : Roles) (is : IsImageOf g first) (who : Roles) (w
                 (rest_shrinks g r rest (less g first is who w x st c t a at_c r runs_r branch known stand on h.pc h.regs h.regs h.here es rest None world acted next refl h.has unwatched None) j behind (record {
                   pc = h.pc + 1;
                   regs = h.regs;
-                  exits = code_behind.1.0;
                   here = here_at rest unwatched (gone_on g r a h.pc h.regs h.regs h.here es);
                   bases = code_behind.0;
-                  at_code = code_behind.1.1;
+                  stands = code_behind.1 behind.core;
                   fits = (subst (ItemsFit g r) h.goes_with.1 h.fits).1;
                   has = has_behind g first is who w x st c t a at_c r runs_r branch known stand on h.pc h.regs h.regs h.here es rest None world acted next refl h.has unwatched None;
                 })),

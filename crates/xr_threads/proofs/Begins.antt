@@ -34,6 +34,7 @@ use Rattle.xr_threads.proofs.Reserves.{reserves_begin}
 use Rattle.xr_threads.proofs.RootCode.{root_items}
 use Rattle.xr_threads.proofs.Shrinks.{fits_here}
 use Rattle.xr_threads.proofs.SetMachine.{set_cores_are, set_machine}
+use Rattle.xr_threads.proofs.Stands.{items_stand}
 use Rattle.xr_threads.proofs.StartWires.{none_begun, wired_begin}
 use Rattle.xr_threads.proofs.Starts.{IsRootBranch, RunsRoot, branch_of, known_root, no_place, none_got, on_four, owns_none, roles_begin, root_of, roots_live, variable_length, variable_zero, words_zero}
 use Rattle.xr_threads.proofs.Watching.{here_at, items_unwatched}
@@ -134,14 +135,13 @@ module _ (g : Setting) (who : Roles) (is : IsImageOf g who) where
     rest_of branch known b = record {
       pc = entry + 2;
       regs = set_regs r;
-      exits = [];
       here = here_at items (items_unwatched g r items [] (entry + 2) 0 code_there) set_there;
       bases = record {
         base = ap (λ (b : Block). 4 * b.base) (sym h.is_root.block);
         stack = refl;
         names = subst (λ l. HoldsNames r.core l (set_regs r)) (sym (ap syncs_of h.is_root.alone)) (record { by = λ place n at lt. absurd (none_there n at) });
       };
-      at_code = code_there;
+      stands = items_stand g r items [] (entry + 2) 0 (set_regs r) (set_on r.core) code_there;
       fits = fits_here g r items h.is_root.block h.is_root.fits h.is_root.footprint;
       has = record {
         branch = branch;

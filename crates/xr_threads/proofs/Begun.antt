@@ -63,6 +63,7 @@ use Rattle.xr_threads.proofs.Pools.{num_is, started_at, started_length, started_
 use Rattle.xr_threads.proofs.Reserves.{GiveAsBefore, reserves_behind, reserves_of_others}
 use Rattle.xr_threads.proofs.Shrinks.{IsWithin, branch_fits, fits_everywhere, fits_here}
 use Rattle.xr_threads.proofs.SetOff.{back_at, back_length, branch_within, code_of, living_both, living_new, off_at, off_length}
+use Rattle.xr_threads.proofs.Stands.{items_stand}
 use Rattle.xr_threads.proofs.Watching.{code_unwatched, events_on, here_at, rest_unwatched}
 
 -- the items of a branch, and its sides, where there is one
@@ -533,10 +534,9 @@ module _ (g : Setting) (first : Roles) (is : IsImageOf g first) (who : Roles) (w
       record {
         pc = b.pc + 1;
         regs = b.regs;
-        exits = [];
         here = here_at first_items (code_unwatched (plan g own) (code g own) own.sides (EndOf g own) first_items [] (b.pc + 1) b.jumps (b.own_code from (suc (length b.hand.threads)))) own_left;
         bases = record { base = b.bases.base; stack = b.bases.stack; names = b.bases.names };
-        at_code = b.own_code from (suc (length b.hand.threads));
+        stands = items_stand g own first_items [] (b.pc + 1) b.jumps b.regs left (b.own_code from (suc (length b.hand.threads)));
         fits = fits_here g own first_items outermost_block (fits_of 0 first_placed first_there) refl;
         has = record {
           branch = branch;
@@ -570,14 +570,13 @@ module _ (g : Setting) (first : Roles) (is : IsImageOf g first) (who : Roles) (w
       record {
         pc = off.pc;
         regs = off.regs;
-        exits = [];
         here = here_at items (code_unwatched (plan g r) (code g r) placed.sides (EndAt (plan g r) (code g r) (Some b.sync) []) items [] off.pc 0 off.at_code) off.here;
         bases = record {
           base = off.base;
           stack = omega (arith, sp, stacks, plan_is);
           names = record { by = λ place k e few. let none : None ≡ Some k = e in absurd (let z : ⊥ = cc in z) };
         };
-        at_code = subst (λ sides. ItemsAt (plan g r) (code g r) sides (EndAt (plan g r) (code g r) (Some b.sync) []) items [] off.pc 0) (ap sides_at (sym known)) off.at_code;
+        stands = items_stand g (kid i u) items [] off.pc 0 off.regs left (subst (λ sides. ItemsAt (plan g r) (code g r) sides (EndAt (plan g r) (code g r) (Some b.sync) []) items [] off.pc 0) (ap sides_at (sym known)) off.at_code);
         fits = fits_here g (kid i u) items outermost_block (fits_of i placed known) (ap footprint_of same);
         has = record {
           branch = branch;

@@ -14,6 +14,7 @@ use Rattle.xr_threads.proofs.Ends.{end_leads}
 use Rattle.xr_threads.proofs.Jumps.{jumps_lead}
 use Rattle.xr_threads.proofs.Sided.{FirstIsSided}
 use Rattle.xr_threads.proofs.Statements.{statement_leads}
+use Rattle.xr_threads.proofs.Stored.{stored_leads}
 
 -- nobody waits
 none_waits : (ps : List Parent) → IsOutermost ps → ps ≡ []
@@ -25,10 +26,9 @@ pub rest_with : (g : Setting) (r : Runner) (items : List Item) (j : ℕ) (z : Sc
 rest_with g r items j z hand h = record {
   pc = h.pc;
   regs = h.regs;
-  exits = h.exits;
   here = h.here;
   bases = h.bases;
-  at_code = h.at_code;
+  stands = h.stands;
   fits = h.fits;
   has = record {
     branch = h.has.branch;
@@ -46,17 +46,17 @@ module _ (g : Setting) (r : Runner) (laid : IsLaidOut g r) (core : r.core < 4) w
 
   -- from the code of items whose first one has an instruction of its own
   pub rest_leads : (items : List Item) (j : ℕ) (z : Scene) → Rest g r items j z → IsOwn r.parents items → FirstIsSided g r items → z.hand ≡ first_hand items → IsOnItsWay g r (j + cost g r) z
-  rest_leads [] j z h own sided is = absurd h.at_code
+  rest_leads [] j z h own sided is = absurd h.stands.1
   rest_leads (does t ∷ rest) j z h own sided is =
-      let c = h.at_code in (
+      let c = h.stands.1 in (
         c.here + cost g r,
         c.further,
         (let sum = c.sum in omega arith),
         jumps_lead g r c.here (cost g r) c.further z h.pc c.index h.regs (does t ∷ rest) c.jumps h.here h.has (λ y here has same.
-            statement_leads g r core t rest own rest h.exits c.index c.stands.0 c.further y h.regs laid c.stands.1 h.fits.0 sided c.stands.2 h.fits.1 has here h.bases (same ∙ is)),
+            statement_leads g r core t rest own rest h.stands.0 c.index c.stands.0 c.further y h.regs laid c.stands.1 h.fits.0 sided c.stands.2 h.fits.1 has here h.bases (same ∙ is)),
       )
   rest_leads (ends ∷ rest) j z h own sided is =
-      let c = h.at_code in
+      let c = h.stands.1 in
       let alone = none_waits r.parents own in (
         c.here + cost g r,
         c.further,
@@ -65,12 +65,17 @@ module _ (g : Setting) (r : Runner) (laid : IsLaidOut g r) (core : r.core < 4) w
             end_leads g r rest c.index c.further (cost g r) y h.regs alone (last_at c.index c.further alone c.stands.0) has here (same ∙ is)),
       )
   rest_leads (mark n ∷ rest) j z h own sided is = absurd own
-  rest_leads (says i ∷ rest) j z h own sided is = absurd h.at_code.stands
-  rest_leads (stores place v ∷ rest) j z h own sided is = absurd h.at_code.stands
-  rest_leads (awaits c pos ∷ rest) j z h own sided is = absurd h.at_code.stands
-  rest_leads (transaction_end c is_master pos ∷ rest) j z h own sided is = absurd h.at_code.stands
-  rest_leads (chooses choices otherwise ∷ rest) j z h own sided is = absurd h.at_code.stands
-  rest_leads (fixed i v counter ∷ rest) j z h own sided is = absurd h.at_code.stands
+  rest_leads (says i ∷ rest) j z h own sided is = absurd h.stands.1.stands
+  rest_leads (stores place v ∷ rest) j z h own sided is = (
+    cost g r,
+    j,
+    omega arith,
+    stored_leads g r laid place v rest j h.pc h.regs z h.bases h.stands h.here h.has h.fits is,
+  )
+  rest_leads (awaits c pos ∷ rest) j z h own sided is = absurd h.stands.1.stands
+  rest_leads (transaction_end c is_master pos ∷ rest) j z h own sided is = absurd h.stands.1.stands
+  rest_leads (chooses choices otherwise ∷ rest) j z h own sided is = absurd h.stands.1.stands
+  rest_leads (fixed i v counter ∷ rest) j z h own sided is = absurd h.stands.1.stands
 
   -- the same with what it has to have in hand for that item
   pub settled_leads : (items : List Item) (j : ℕ) (z : Scene) → Rest g r items j z → IsOwn r.parents items → FirstIsSided g r items → IsOnItsWay g r (j + cost g r) (record z { hand = first_hand items })

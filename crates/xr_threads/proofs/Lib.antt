@@ -107,6 +107,7 @@ pub mod Shrinks
 pub mod Sided
 pub mod Silent
 pub mod Sizes
+pub mod Stands
 pub mod Standing
 pub mod StartPlain
 pub mod StartSides

@@ -166,7 +166,7 @@ module _ (g : Setting) (first : Roles) (is : IsImageOf g first) (who : Roles) (w
       pc = h.pc + 1;
       regs = h.regs;
       here = gone_on g r a h.pc h.regs h.regs h.here es;
-      steps = offer_sent g r ch side h.output.pos (IsBehind g r items j) h.pc h.regs h.value h.steps;
+      steps = offer_sent g r ch side h.output.pos (IsBehind g r rest j) h.pc h.regs h.value h.steps;
       fits = (is_channel, h.fits.1);
       has = has_behind g first is who w x st c t a at_c r runs_r branch known stand on h.pc h.regs h.regs h.here es items None world acted next refl has refl (Some transfer);
     }

@@ -14,7 +14,7 @@ use Rattle.xc_meaning.specs.Settings.Setting.{with_value}
 use Rattle.xc_meaning.specs.Settings.Transfers.{outputs_to}
 use Rattle.xc_meaning.specs.States.Branches.{Branch}
 use Rattle.xc_meaning.specs.States.Channels.{Side}
-use Rattle.xc_meaning.specs.States.Items.{Item, awaits, does}
+use Rattle.xc_meaning.specs.States.Items.{Item, does}
 use Rattle.xc_meaning.specs.States.Worlds.{World}
 use Rattle.xl_chan.specs.Protocols.{output_acts}
 use Rattle.xl_chan.specs.Transfers.{AtProtocol, EndsAt, OutputReaches, SendsValue}
@@ -32,7 +32,7 @@ use Rattle.xr_threads.proofs.Bases.{bases_worked}
 use Rattle.xr_threads.proofs.Evaluations.{eval_still, nodes_are, value_errs}
 use Rattle.xr_threads.proofs.Layouts.{has_since, laid_at, room_of, runs_at}
 use Rattle.xr_threads.proofs.OnEnds.{end_stands, on_end}
-use Rattle.xr_threads.proofs.Protocols.{all_from}
+use Rattle.xr_threads.proofs.Protocols.{all_from, behind_of_items}
 use Rattle.xr_threads.proofs.Scenes.{leads_as, leads_more}
 
 module _ (g : Setting) (r : Runner) (laid : IsLaidOut g r) (o : kernel.Output) (fits : OutputFits g r o) (c : ℕ) (to_channel : o.resource ≡ Chan c) (side : Side) (stands_in : slice_index_or r.sides c None ≡ Some side) (rest : List Item) (exits : List Exit) (pc pc' j : ℕ) (behind : ItemsFrom g r rest exits pc' j) (item_fits : Fits g r (kernel.output o)) (rest_fits : ItemsFit g r rest) where
@@ -68,10 +68,10 @@ module _ (g : Setting) (r : Runner) (laid : IsLaidOut g r) (o : kernel.Output) (
       bases' : HasBases g r at.regs
       bases' = bases_worked g r (syncs_of r.parents) regs at.regs at.others bases
 
-      steps : TakesSteps g r c side o.pos (output_acts v true) (IsBehind g r (awaits c o.pos ∷ rest) j) at.index at.regs
+      steps : TakesSteps g r c side o.pos (output_acts v true) (IsBehind g r rest j) at.index at.regs
       steps =
           let all = all_from (home g r) r.thread (end_place g r c side) r.tie o.pos pc at.index regs at.regs (output_acts v true) (EndsAt pc') at.index at.regs at.steps in
-          (all.0, (all.1.0, (all.1.1.0, (bases', (exits, subst (λ p. ItemsFrom g r rest exits p j) (sym all.1.1.1) behind)))))
+          (all.0, (all.1.0, (all.1.1.0, behind_of_items g r rest exits _ j at.regs bases' (subst (λ p. ItemsFrom g r rest exits p j) (sym all.1.1.1) behind))))
 
   -- the turn is next, by the value
   output_turns : (z : Scene) (regs : Regs) → HasBases g r regs → z.hand ≡ None → Has g r (item ∷ rest) z → (v : Value) → eval z.world.store o.value ≡ v → (y : Scene) →

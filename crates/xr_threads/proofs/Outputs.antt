@@ -54,6 +54,7 @@ use Rattle.xr_threads.proofs.Evaluations.{err_acts, eval_still, item_acts, kinds
 use Rattle.xr_threads.proofs.Layouts.{has_since_port, laid_at, room_of, runs_at, runs_kept, store_since}
 use Rattle.xr_threads.proofs.Offered.{offer_leads}
 use Rattle.xr_threads.proofs.Scenes.{leads_as, leads_more}
+use Rattle.xr_threads.proofs.Stands.{items_stand}
 use Rattle.xr_threads.proofs.Watching.{here_at, items_unwatched}
 
 -- two numbers are compared either way
@@ -311,10 +312,9 @@ module _ (g : Setting) (r : Runner) (laid : IsLaidOut g r) (o : kernel.Output) (
                 rest = record {
                   pc = pc';
                   regs = w.regs;
-                  exits = exits;
                   here = here_at rest (items_unwatched g r rest exits pc' j behind) (get_set_same x.core.threads r.thread (running r.tie w.index w.regs) (running r.tie pc' w.regs) w.here);
                   bases = bases_worked g r (syncs_of r.parents) regs w.regs w.others bases;
-                  at_code = behind;
+                  stands = items_stand g r rest exits pc' j w.regs left behind;
                   fits = fit_rest;
                   has = record {
                     branch = record branch { items = rest };

@@ -1,5 +1,5 @@
 -- What the steps that are left of a transfer say of a thread's next slot, and what stands behind each of them.
-use Rattle.std.proofs.Common.{◌≡◌, ℕ, ◌+◌, ◌⊎◌, inl, inr, true, List, [], ◌∷◌, Option, Some, refl}
+use Rattle.std.proofs.Common.{◌≡◌, ℕ, ◌+◌, ◌⊎◌, true, List, [], ◌∷◌, Option, Some}
 use Rattle.std.specs.Prelude.{slice_get}
 use Rattle.xw_words.specs.declared.pos.Pos.{Pos}
 use Rattle.xs_instr.specs.declared.image.Home.{Home}
@@ -26,6 +26,7 @@ use Rattle.xr_threads.specs.Scenes.{running}
 use Rattle.xr_threads.specs.Transfers.{AwaitsNothing, acts_left}
 use Rattle.xr_threads.specs.Turns.{HasBases, IsBehind, ItemsFrom, TakesSteps}
 use Rattle.xr_wires.specs.Phases.{Question, awaits_ack, checks_end, offers, sends_ack, sends_end}
+use Rattle.xr_threads.proofs.Stands.{items_stand}
 
 -- Steps of a protocol don't depend on where the thread began it.
 module _ (h : Home) (t e : ℕ) (tie : Option ℕ) (pos : Pos) (pc pc' : ℕ) (regs regs' : Regs) where
@@ -138,39 +139,4 @@ module _ (g : Setting) (r : Runner) where
 
   -- the code of items may stand there
   pub behind_of_items : (items : List Item) (exits : List Exit) (pc j : ℕ) (regs : Regs) → HasBases g r regs → ItemsFrom g r items exits pc j → IsBehind g r items j pc regs
-  behind_of_items [] exits pc j regs bases h = absurd h
-  behind_of_items (does t ∷ rest) exits pc j regs bases h = (bases, (exits, h))
-  behind_of_items (mark n ∷ rest) exits pc j regs bases h = (bases, (exits, h))
-  behind_of_items (says i ∷ rest) exits pc j regs bases h = (bases, (exits, h))
-  behind_of_items (stores place v ∷ rest) exits pc j regs bases h = absurd h.stands
-  behind_of_items (awaits c pos ∷ rest) exits pc j regs bases h = absurd h.stands
-  behind_of_items (transaction_end c is_master pos ∷ rest) exits pc j regs bases h = (bases, (exits, h))
-  behind_of_items (chooses choices otherwise ∷ rest) exits pc j regs bases h = (bases, (exits, h))
-  behind_of_items (fixed i v counter ∷ rest) exits pc j regs bases h = (bases, (exits, h))
-  behind_of_items (ends ∷ rest) exits pc j regs bases h = (bases, (exits, h))
-
-  -- the first item is a store
-  pub record StoresFirst (items : List Item) : Type 0 where
-    pub place : kernel.Place
-    pub value : ℕ
-    pub rest : List Item
-    pub is : items ≡ stores place value ∷ rest
-
-  -- the code of items stands there
-  pub record StandsThere (items : List Item) (j pc : ℕ) (regs : Regs) : Type 0 where
-    pub bases : HasBases g r regs
-    pub exits : List Exit
-    pub at_code : ItemsFrom g r items exits pc j
-
-  -- a word is stored next, or the code of what is left stands there
-  pub stores_or_stands : (items : List Item) (j pc : ℕ) (regs : Regs) → AwaitsNothing items → IsBehind g r items j pc regs → StoresFirst items ⊎ StandsThere items j pc regs
-  stores_or_stands [] j pc regs none h = inr (record { bases = h.0; exits = h.1.0; at_code = h.1.1 })
-  stores_or_stands (does t ∷ rest) j pc regs none h = inr (record { bases = h.0; exits = h.1.0; at_code = h.1.1 })
-  stores_or_stands (mark n ∷ rest) j pc regs none h = inr (record { bases = h.0; exits = h.1.0; at_code = h.1.1 })
-  stores_or_stands (says i ∷ rest) j pc regs none h = inr (record { bases = h.0; exits = h.1.0; at_code = h.1.1 })
-  stores_or_stands (stores place v ∷ rest) j pc regs none h = inl (record { place = place; value = v; rest = rest; is = refl })
-  stores_or_stands (awaits c pos ∷ rest) j pc regs none h = absurd none
-  stores_or_stands (transaction_end c is_master pos ∷ rest) j pc regs none h = inr (record { bases = h.0; exits = h.1.0; at_code = h.1.1 })
-  stores_or_stands (chooses choices otherwise ∷ rest) j pc regs none h = absurd none
-  stores_or_stands (fixed i v counter ∷ rest) j pc regs none h = inr (record { bases = h.0; exits = h.1.0; at_code = h.1.1 })
-  stores_or_stands (ends ∷ rest) j pc regs none h = inr (record { bases = h.0; exits = h.1.0; at_code = h.1.1 })
+  behind_of_items items exits pc j regs bases h = (bases, λ core. items_stand g r items exits pc j regs core h)

@@ -37,7 +37,7 @@ use Rattle.xr_threads.specs.Roles.{Roles, used_by}
 use Rattle.xr_threads.specs.Runners.{IsChannel, Runner, Setting, end_place, home}
 use Rattle.xr_threads.specs.Scenes.{Scene, running}
 use Rattle.xr_threads.specs.Standing.{Standing, none_rests}
-use Rattle.xr_threads.specs.Transfers.{GoesWith, IsAwaiting, Transfer, acts_left}
+use Rattle.xr_threads.specs.Transfers.{GoesWith, IsAwaiting, Transfer, acts_left, items_behind}
 use Rattle.xr_threads.specs.Turns.{CannotAct, InTransfer, IsBehind, Offers, Runs, TakesIn, TakesSteps}
 use Rattle.xr_threads.specs.Wired.{AreSidesOn, IsLine, boxes_in}
 use Rattle.xr_threads.proofs.ChannelBoxes.{line_parcels}
@@ -264,7 +264,7 @@ module _ (g : Setting) (first : Roles) (is : IsImageOf g first) (who : Roles) (w
             answer_cannot g r x.state h.has.branch (awaits channel h.pos) rest runs channel side (stands_on h.has.branch runs.known channel side h.stands_in) (st.plain.outside r.branch h.has.branch runs.known)
             (its_inbox channel side line is_line at.2 (no_answer channel side line is_line at.2 v spot_is none)) h.pos refl
 
-        by : (f : Phase) → GoesWith f channel h.pos items → TakesSteps g r channel side h.pos (acts_left f) (IsBehind g r items j) h.pc h.regs → ghosts.spots line side ≡ spot f false → CannotAct g r x.state
+        by : (f : Phase) → GoesWith f channel h.pos items → TakesSteps g r channel side h.pos (acts_left f) (IsBehind g r (items_behind transfer.phase items) j) h.pc h.regs → ghosts.spots line side ≡ spot f false → CannotAct g r x.state
         by between goes steps spot_is = absurd goes
         by (sends_end v) goes steps spot_is = absurd (sends_one (sends_end v) tt spot_is 1 steps.0)
         by (awaits_ack (offers v)) goes steps spot_is = awaits_cannot v spot_is (nothing_there 3 steps.0) goes.0 goes.1

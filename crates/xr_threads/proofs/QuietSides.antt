@@ -27,7 +27,7 @@ use Rattle.xr_threads.specs.Roles.{Roles, used_by}
 use Rattle.xr_threads.specs.Runners.{Runner, Setting, end_place, home}
 use Rattle.xr_threads.specs.Scenes.{Scene, running}
 use Rattle.xr_threads.specs.Standing.{Stand, Standing, StandsBy, StandsWith, none_rests}
-use Rattle.xr_threads.specs.Transfers.{GoesWith, IsAwaiting, StopsIn, Transfer, acts_left}
+use Rattle.xr_threads.specs.Transfers.{GoesWith, IsAwaiting, StopsIn, Transfer, acts_left, items_behind}
 use Rattle.xr_threads.specs.Turns.{IsBehind, TakesSteps}
 use Rattle.xr_threads.specs.Wired.{AreSidesOn, IsLine, IsTransferring, boxes_in}
 use Rattle.xr_threads.proofs.ChannelEnds.{acts_there, end, end_is, is_near}
@@ -171,7 +171,7 @@ module _ (g : Setting) (first : Roles) (is : IsImageOf g first) (who : Roles) (w
       phase = transfer.phase;
       plain = plain_where_goes transfer.phase transfer.channel h.pos items h.goes_with;
       spot_is = spot_now;
-      stuck = inr (none_enabled d u a at_d r hand runs_r transfer.channel transfer.side line is_line on_core h.pos h.pc h.regs h.here transfer.phase items (IsBehind g r items j) h.goes_with h.steps spot_now);
+      stuck = inr (none_enabled d u a at_d r hand runs_r transfer.channel transfer.side line is_line on_core h.pos h.pc h.regs h.here transfer.phase items (IsBehind g r (items_behind transfer.phase items) j) h.goes_with h.steps spot_now);
     }
 
     -- one that has trapped awaited an answer

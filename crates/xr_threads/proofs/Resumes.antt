@@ -37,6 +37,7 @@ use Rattle.xr_threads.proofs.Reserves.{GiveAsBefore, reserves_of_others}
 use Rattle.xr_threads.proofs.Seats.{role_cases, role_far, role_here, role_other, roles_go_on, seated_itself, with_role}
 use Rattle.xr_threads.proofs.NamedLinks.{resumes_linked, told_same}
 use Rattle.xr_threads.proofs.Standing.{Follows, told_by}
+use Rattle.xr_threads.proofs.Stands.{items_stand}
 use Rattle.xr_threads.proofs.Steps.{answered, clocks_still, far_steps_still, has_stepped, steps_still, watched}
 use Rattle.xr_threads.proofs.Usage.{OthersUsed, used_on}
 use Rattle.xr_threads.proofs.Watching.{events_on, here_at, items_unwatched}
@@ -239,10 +240,9 @@ module _ (g : Setting) (first : Roles) (is : IsImageOf g first) (who : Roles) (w
     rest' = record {
       pc = gives.pc + 1;
       regs = gives.regs;
-      exits = gives.exits;
       here = here_at branch.items unwatched (get_set_same a.threads r.thread th th' gives.here);
       bases = gives.bases;
-      at_code = gives.at_code;
+      stands = items_stand g r branch.items gives.exits (gives.pc + 1) j gives.regs left gives.at_code;
       fits = gives.fits;
       has = record {
         branch = gives.has.branch;

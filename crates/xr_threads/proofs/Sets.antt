@@ -25,6 +25,7 @@ use Rattle.xr_threads.proofs.Scenes.{leads_as, leads_more}
 use Rattle.xr_threads.proofs.Arriving.{Since, at_runs, any_part, since_kept, core_kept, apart_of_changes, arrives}
 use Rattle.xr_threads.proofs.Layouts.{has_since, room_of, runs_at, laid_at, place_laid_at}
 use Rattle.xr_threads.proofs.Evaluations.{nodes_are, nodes_at_are, eval_still, value_errs}
+use Rattle.xr_threads.proofs.Stands.{items_stand}
 use Rattle.xr_threads.proofs.Writing.{store_turns}
 
 module _ (g : Setting) (r : Runner) (laid : IsLaidOut g r) where
@@ -54,7 +55,7 @@ module _ (g : Setting) (r : Runner) (laid : IsLaidOut g r) where
 
         by : (v : Value) → eval z.world.store x ≡ v → SetOutcome (plan g r).vars (home g r) (relied g r) r.stack r.thread (running r.tie pc regs) z.core.words place pc' v i y.core → Turn g r j q
         by (word v) e writes =
-            store_turns g r laid item place rest exits pc pc' j uses_place changes behind rest_fits z y q regs v i bases k since' (since'.hand ∙ no_hand) has_q
+            store_turns g r laid item place rest pc pc' j uses_place changes (λ regs' core' bases'. items_stand g r rest exits pc' j regs' core' behind) rest_fits z y q regs v i bases k since' (since'.hand ∙ no_hand) has_q
             (set_step q.world has_q.branch (word v) (still (word v) e)) is_index writes
         by (error kind pos) e traps =
             turn.errs (value_errs g r q item rest kind pos (traps q.core (core_kept g r k)) has_q (since'.hand ∙ no_hand) (set_step q.world has_q.branch (error kind pos) (still (error kind pos) e)))

@@ -34,6 +34,7 @@ use Rattle.xr_threads.proofs.Closing.{closes_leads}
 use Rattle.xr_threads.proofs.Evaluations.{item_acts, runs_with, with_items}
 use Rattle.xr_threads.proofs.Items.{behind_jumps, pieces_before}
 use Rattle.xr_threads.proofs.Jumps.{jumps_way}
+use Rattle.xr_threads.proofs.Stands.{items_stand}
 use Rattle.xr_threads.proofs.Waiting.{none_runs, parents_wait_on, waits_below, waits_known, waits_otherwise}
 use Rattle.xr_threads.proofs.Watching.{code_unwatched, here_at, here_from, rest_unwatched}
 
@@ -111,10 +112,9 @@ module _ (g : Setting) (r : Runner) where
   going_rest b ps sides items j z y branch pc regs exits here same_core bases same_syncs at_code fits works core holds ports = record {
     pc = pc;
     regs = regs;
-    exits = exits;
     here = here_at items (code_unwatched (plan g r) (code g r) sides (EndAt (plan g r) (code g r) r.tie ps) items exits pc j at_code) (ap (λ c. slice_get c.threads r.thread) same_core ∙ here);
     bases = record { base = bases.base; stack = bases.stack; names = subst (λ syncs. HoldsNames r.core syncs regs) (sym same_syncs) bases.names };
-    at_code = at_code;
+    stands = items_stand g (going r b ps sides items) items exits pc j regs y.core at_code;
     fits = fits;
     has = record { branch = branch; runs = works; core = core; holds = holds; ports = ports };
   }
@@ -152,15 +152,15 @@ module _ (g : Setting) (r : Runner) where
   pub block_settles : (n : ℕ) (ss : kernel.Statements) (rest : List Item) (j : ℕ) (z : Scene) → Rest g r (does (kernel.block n ss) ∷ rest) j z →
       r.footprint ≡ footprint_of (does (kernel.block n ss) ∷ rest) → ItemsFit g (shrunk r (todo ss (mark n ∷ rest))) (todo ss (mark n ∷ rest)) → StaysOn (todo ss (mark n ∷ rest)) j z
   block_settles n ss rest j z h footprint fits =
-      let c = h.at_code in
+      let c = h.stands.1 in
       let next = c.stands.0 in
-      let inner : List Exit = record { block = n; index = next } ∷ h.exits in
+      let inner : List Exit = record { block = n; index = next } ∷ h.stands.0 in
       let at_mark : ItemsFrom g r (mark n ∷ rest) inner next c.further = record {
         index = next;
         here = 0;
         further = c.further;
         jumps = refl;
-        stands = record { outer = h.exits; innermost = refl; others = c.stands.2 };
+        stands = record { outer = h.stands.0; innermost = refl; others = c.stands.2 };
         sum = omega arith;
       } in
       let inside = pieces_before (plan g r) (code g r) r.sides (EndOf g r) ss (mark n ∷ rest) inner c.index next c.further c.stands.1 at_mark in
@@ -171,7 +171,7 @@ module _ (g : Setting) (r : Runner) where
   -- a block ends
   pub mark_settles : (n : ℕ) (rest : List Item) (j : ℕ) (z : Scene) → Rest g r (mark n ∷ rest) j z → r.footprint ≡ footprint_of (mark n ∷ rest) → ItemsFit g (shrunk r rest) rest → StaysOn rest j z
   mark_settles n rest j z h footprint fits =
-      let c = h.at_code in
+      let c = h.stands.1 in
       stays (mark n) rest rest j z h footprint (λ th u. u)
       (item_acts g.program g.stimulus r.branch z.world h.has.branch (mark n) rest h.has.runs)
       c.stands.outer (on_behind rest c.stands.outer c.here h.pc c.index c.further j c.jumps c.stands.others c.sum) fits
@@ -179,11 +179,11 @@ module _ (g : Setting) (r : Runner) where
   -- a `par` of no branch
   pub none_settles : (rest : List Item) (j : ℕ) (z : Scene) → Rest g r (does (kernel.par kernel.no_branch) ∷ rest) j z → r.footprint ≡ footprint_of (does (kernel.par kernel.no_branch) ∷ rest) → ItemsFit g (shrunk r rest) rest → StaysOn rest j z
   none_settles rest j z h footprint fits =
-      let c = h.at_code in
-      let others : ItemsFrom g r rest h.exits c.index c.further = subst (λ q. ItemsFrom g r rest h.exits q c.further) (sym c.stands.1) c.stands.2 in
+      let c = h.stands.1 in
+      let others : ItemsFrom g r rest h.stands.0 c.index c.further = subst (λ q. ItemsFrom g r rest h.stands.0 q c.further) (sym c.stands.1) c.stands.2 in
       stays (does (kernel.par kernel.no_branch)) rest rest j z h footprint (λ th u. u)
       (item_acts g.program g.stimulus r.branch z.world h.has.branch (does (kernel.par kernel.no_branch)) rest h.has.runs)
-      h.exits (on_behind rest h.exits c.here h.pc c.index c.further j c.jumps others c.sum) fits
+      h.stands.0 (on_behind rest h.stands.0 c.here h.pc c.index c.further j c.jumps others c.sum) fits
 
 -- 2. A `par` of one branch: that branch is made, and its maker waits.
 
@@ -246,14 +246,14 @@ module _ (g : Setting) (r : Runner) where
   one_settles ss pos rest j z h footprint fits =
       let item = does (kernel.par (kernel.more_branches (kernel.branch ss pos) kernel.no_branch)) in
       let has = h.has in
-      let c = h.at_code in
+      let c = h.stands.1 in
       let child = length z.world.branches in
       let parents = waiting_one r.branch child rest r.sides ∷ r.parents in
       let sides = sides_under ss r.sides in
       let items = todo ss (ends ∷ []) in
       let y : Scene = record z { world = with_child z.world r.branch has.branch ss rest } in
       let End = EndAt (plan g r) (code g r) r.tie parents in
-      let at_index = child_code ss rest h.exits child c.index c.stands.0 c.further c.stands.1 c.stands.2 in
+      let at_index = child_code ss rest h.stands.0 child c.index c.stands.0 c.further c.stands.1 c.stands.2 in
       let at_pc = subst (ItemsAt (plan g r) (code g r) sides End items [] h.pc) c.sum (behind_jumps (plan g r) (code g r) sides End items [] c.here h.pc c.index c.further c.jumps at_index) in
       record {
         branch = has.branch;
@@ -323,7 +323,7 @@ module _ (g : Setting) (r : Runner) (p : Parent) (ps : List Parent) where
       PortsStand g (risen r p ps) (record z { world = with_risen z.world r.branch h.has.branch p.branch w.branch }) → Rises j z
   rises rest j z parents none h w fits holds ports =
       let has = h.has in
-      let c = h.at_code in
+      let c = h.stands.1 in
       let y : Scene = record z { world = with_risen z.world r.branch has.branch p.branch w.branch } in
       let x = with_ended z.world r.branch has.branch in
       let there : slice_get x.branches p.branch ≡ Some w.branch = get_set_other z.world.branches r.branch p.branch (finished has.branch) apart ∙ w.known in
@@ -384,8 +384,8 @@ module _ (g : Setting) (r : Runner) (p : Parent) (ps : List Parent) where
       y : Scene
       y = record z { world = with_ended z.world r.branch h.has.branch }
 
-      c : Behind (plan g r) (code g r) (FirstAt (plan g r) (code g r) r.sides (EndOf g r) ends (λ exits pc k. ItemsFrom g r rest exits pc k) h.exits) h.pc j
-      c = h.at_code
+      c : Behind (plan g r) (code g r) (FirstAt (plan g r) (code g r) r.sides (EndOf g r) ends (λ exits pc k. ItemsFrom g r rest exits pc k) h.stands.0) h.pc j
+      c = h.stands.1
 
       -- the synchroniser is taken, and the runner has nothing in hand
       IsTaken : Scene → Type 0

@@ -22,8 +22,9 @@ use Rattle.xl_plan.specs.Layout.{is_used_on}
 use Rattle.xr_threads.specs.Fits.{AllFit, BranchesFit, ChangesAt, FitOn, Fits, InputFits, IsChanged, ItemFits, ItemsFit, OutputFits, PutsOutAt, TakesInAt, Uses, UsesAt, UsesSome}
 use Rattle.xr_threads.specs.Runners.{Block, Footprint, Setting, Runner, IsChannel, IsPort, anyone, end_place, footprint_of, home, outside, places, plan, plan_in, shrunk}
 use Rattle.xr_threads.specs.Scenes.{Scene, running}
-use Rattle.xr_threads.specs.Transfers.{Transfer, acts_left}
+use Rattle.xr_threads.specs.Transfers.{Transfer, acts_left, items_behind}
 use Rattle.xr_threads.specs.Turns.{Has, HasBases, HoldsStore, InTransfer, IsBehind, PortsStand, Rest}
+use Rattle.xr_threads.proofs.Stands.{stands_on}
 
 -- one footprint is within another
 pub record IsWithin (smaller larger : Footprint) : Type 0 where
@@ -377,10 +378,9 @@ module _ (g : Setting) (r : Runner) (items : List Item) (less : IsWithin (footpr
   rest_shrinks j z h = record {
     pc = h.pc;
     regs = h.regs;
-    exits = h.exits;
     here = h.here;
     bases = record { base = h.bases.base; stack = h.bases.stack; names = h.bases.names };
-    at_code = h.at_code;
+    stands = stands_on g r (footprint_of items) r.transfer items j h.pc h.regs z.core h.stands;
     fits = fits_moved g r (shrunk r items) items refl refl refl h.fits;
     has = has_shrinks items z h.has;
   }
@@ -390,16 +390,7 @@ module _ (g : Setting) (r : Runner) (items : List Item) (less : IsWithin (footpr
   bases_shrink regs h = record { base = h.base; stack = h.stack; names = h.names }
 
   behind_shrinks : (these : List Item) (j index : ℕ) (regs : Regs) → IsBehind g r these j index regs → IsBehind g (shrunk r items) these j index regs
-  behind_shrinks [] j index regs h = (bases_shrink regs h.0, h.1)
-  behind_shrinks (does s ∷ rest) j index regs h = (bases_shrink regs h.0, h.1)
-  behind_shrinks (says i ∷ rest) j index regs h = (bases_shrink regs h.0, h.1)
-  behind_shrinks (stores place v ∷ rest) j index regs h = (bases_shrink regs h.0, h.1, h.2)
-  behind_shrinks (mark n ∷ rest) j index regs h = (bases_shrink regs h.0, h.1)
-  behind_shrinks (awaits c pos ∷ rest) j index regs h = (bases_shrink regs h.0, h.1)
-  behind_shrinks (transaction_end c is_master pos ∷ rest) j index regs h = (bases_shrink regs h.0, h.1)
-  behind_shrinks (chooses choices otherwise ∷ rest) j index regs h = (bases_shrink regs h.0, h.1)
-  behind_shrinks (fixed i w counter ∷ rest) j index regs h = (bases_shrink regs h.0, h.1)
-  behind_shrinks (ends ∷ rest) j index regs h = (bases_shrink regs h.0, h.1)
+  behind_shrinks these j index regs h = (bases_shrink regs h.0, λ core. stands_on g r (footprint_of items) r.transfer these j index regs core (h.1 core))
 
   pub transfer_shrinks : (transfer : Transfer) (j : ℕ) (z : Scene) → InTransfer g r transfer items j z → InTransfer g (shrunk r items) transfer items j z
   transfer_shrinks transfer j z h = record {
@@ -410,7 +401,7 @@ module _ (g : Setting) (r : Runner) (items : List Item) (less : IsWithin (footpr
     pc = h.pc;
     regs = h.regs;
     here = h.here;
-    steps = acts_map (home g r) r.thread (end_place g r transfer.channel transfer.side) (running r.tie h.pc h.regs) h.pos (acts_left transfer.phase) (IsBehind g r items j) (IsBehind g (shrunk r items) items j) (behind_shrinks items j) h.pc h.regs h.steps;
+    steps = acts_map (home g r) r.thread (end_place g r transfer.channel transfer.side) (running r.tie h.pc h.regs) h.pos (acts_left transfer.phase) (IsBehind g r (items_behind transfer.phase items) j) (IsBehind g (shrunk r items) (items_behind transfer.phase items) j) (behind_shrinks (items_behind transfer.phase items) j) h.pc h.regs h.steps;
     fits = fits_moved g r (shrunk r items) items refl refl refl h.fits;
     has = has_shrinks items z h.has;
   }

@@ -24,13 +24,14 @@ use Rattle.xr_threads.specs.Parents.{syncs_of}
 use Rattle.xr_threads.specs.Runners.{Setting, Runner, IsChannel, IsLaidOut, code, end_place, home, plan, relied}
 use Rattle.xr_threads.specs.Scenes.{Scene, Kept, running}
 use Rattle.xr_threads.specs.Turns as turn
-use Rattle.xr_threads.specs.Turns.{Has, HasBases, IsAt, IsBehind, IsOnSide, ItemsFrom, Leads, StatementLeads, TakesIn, TakesSteps, Turns, cost}
+use Rattle.xr_threads.specs.Turns.{Has, HasBases, IsAt, IsBehind, IsOnSide, ItemsFrom, Leads, StatementLeads, TakesIn, TakesSteps, Turns, cost, in_r0}
 use Rattle.xr_threads.proofs.Arriving.{Since, any_part, apart_of_changes, arrives, at_runs, since_kept}
 use Rattle.xr_threads.proofs.Bases.{bases_scratched, bases_worked}
 use Rattle.xr_threads.proofs.Layouts.{has_since, room_of, runs_at}
 use Rattle.xr_threads.proofs.OnEnds.{end_stands, on_end}
 use Rattle.xr_threads.proofs.Protocols.{all_from, behind_of_items, nothing_awaited}
 use Rattle.xr_threads.proofs.Scenes.{leads_as, leads_more}
+use Rattle.xr_threads.proofs.Stands.{items_stand}
 
 -- The code of an input from an index on: its transfer's lines, and then those that write the word.
 module _ (g : Setting) (r : Runner) (rest : List Item) (exits : List Exit) (pc pc' j : ℕ) (transfer write : List Line) (end : pc' ≡ pc + length (transfer ++ write)) (written : StandAt (code g r) (pc + length transfer) write) (behind : ItemsFrom g r rest exits pc' j) where
@@ -44,7 +45,8 @@ module _ (g : Setting) (r : Runner) (rest : List Item) (exits : List Exit) (pc p
   stored_behind None none regs bases =
       let same : pc' ≡ pc + length transfer = let e = ap length none in let f = write_end in omega (arith, e, f) in
       behind_of_items g r rest exits (pc + length transfer) j regs bases (subst (λ p. ItemsFrom g r rest exits p j) same behind)
-  stored_behind (Some place) writes regs bases = (bases, refl, (pc', exits, record { lines = write; stand = written; so = writes; end = write_end }, behind))
+  stored_behind (Some place) writes regs bases =
+      (bases, λ core. (pc + length transfer, pc', in_r0 refl refl, record { lines = write; stand = written; so = writes; end = write_end }, λ regs' core' bases'. items_stand g r rest exits pc' j regs' core' behind))
 
   module _ (i : kernel.Input) (item_fits : Fits g r (kernel.input i)) (rest_fits : ItemsFit g r rest) (c : ℕ) (to_channel : i.resource ≡ Chan c) (side : Side) (stands_in : slice_index_or r.sides c None ≡ Some side) (writes : WritesTo (plan g r).vars i.target (pc + length transfer) write) where
     -- at the first step of the protocol

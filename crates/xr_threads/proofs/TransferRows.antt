@@ -1,5 +1,5 @@
 -- The steps of a transfer without an action of the program's: an output's END, and CHKCT END and ACK of an input.
-use Rattle.std.proofs.Common.{◌≡◌, ℕ, suc, ◌+◌, ◌≤◌, ◌≢◌, ◌⊎◌, inl, inr, List, [], ◌∷◌, Option, Some, None, refl, sym, ap, ◌∙◌, subst, arith}
+use Rattle.std.proofs.Common.{◌≡◌, ℕ, suc, ◌+◌, ◌≤◌, ◌≢◌, ◌⊎◌, inr, List, [], ◌∷◌, Option, Some, None, refl, sym, ap, ◌∙◌, subst, arith}
 use Rattle.std.specs.Prelude.{Bool, false, ◌&&◌, nat_eq, slice_get}
 use Rattle.std.proofs.lemmas.Bool.{ne_eqb}
 use Rattle.std.proofs.lemmas.Option.{none-some, same_Some}
@@ -16,10 +16,9 @@ use Rattle.xs_instr.specs.Slot.{slot}
 use Rattle.xc_kernel.specs.Plain as kernel
 use Rattle.xc_meaning.specs.States.Branches.{Branch, runs}
 use Rattle.xc_meaning.specs.States.Channels.{Inboxes, Side}
-use Rattle.xc_meaning.specs.States.Items.{Item, awaits, chooses, does, ends, fixed, mark, says, stores, transaction_end}
+use Rattle.xc_meaning.specs.States.Items.{ends}
 use Rattle.xl_chan.specs.Protocols.{Acts, sends, takes}
 use Rattle.xl_image.specs.Images.{pair_of}
-use Rattle.xl_walk.specs.Pieces.{Exit}
 use Rattle.xr_match.specs.Lives.{Watched}
 use Rattle.xr_match.specs.Meanings.{of_kernel}
 use Rattle.xr_match.specs.Sources.{Told}
@@ -29,20 +28,19 @@ use Rattle.xr_threads.specs.Roles.{Roles, used_by}
 use Rattle.xr_threads.specs.Runners.{Runner, Setting, end_place, home}
 use Rattle.xr_threads.specs.Scenes.{Scene, running}
 use Rattle.xr_threads.specs.Standing.{IfTrue, IsAtRest, Stand, Standing, StandsWith, none_rests}
-use Rattle.xr_threads.specs.Transfers.{AwaitsNothing, GoesWith, Transfer, acts_left, steps_left}
-use Rattle.xr_threads.specs.Turns.{Has, HasBases, InTransfer, IsBehind, ItemsFrom, TakesSteps, cost}
+use Rattle.xr_threads.specs.Transfers.{GoesWith, Transfer, acts_left, all_but_first, items_behind, steps_left}
+use Rattle.xr_threads.specs.Turns.{Has, InTransfer, IsBehind, TakesSteps, cost}
 use Rattle.xr_threads.specs.Wired.{AreSidesOn, HasAlone, IsLine, boxes_in}
 use Rattle.xr_threads.proofs.Answers as answers
 use Rattle.xr_threads.proofs.ChannelEnds.{acts_there, end, end_is, is_near, left_local}
 use Rattle.xr_threads.proofs.EndSteps as step
 use Rattle.xr_threads.proofs.EndSteps.{gone_on}
 use Rattle.xr_threads.proofs.InTransfers.{IsFollowed, followed, goes_on_so, in_phase, line_is, moves_on, moves_out, on_core, own_line, pauses, spot_is}
-use Rattle.xr_threads.proofs.Moves.{laid_at}
 use Rattle.xr_threads.proofs.OwnEvents.{rests_alone, rests_there}
 use Rattle.xr_threads.proofs.Protocols.{ack_sent, end_sent, end_taken}
-use Rattle.xr_threads.proofs.Stored.{stored_leads}
-use Rattle.xr_threads.proofs.Transferred.{behind_as, fits_as, has_as, laid_as, rest_as, steps_as}
-use Rattle.xr_threads.proofs.Watching.{here_at, items_unwatched}
+use Rattle.xr_threads.proofs.Stands.{stands_unwatched}
+use Rattle.xr_threads.proofs.Transferred.{fits_as, has_as, rest_as, steps_as}
+use Rattle.xr_threads.proofs.Watching.{here_at}
 use Rattle.xr_threads.proofs.WiredMoves.{Moves, wired_moves}
 use Rattle.xr_wires.specs.Phases.{Phase, awaits_ack, between, checks_end, offers, sends_ack, sends_end, spot}
 use Rattle.xr_wires.proofs.Near as near
@@ -51,26 +49,6 @@ use Rattle.xr_wires.proofs.Near.{NearEndCheck, IsNear, Next, NearSend, end_makes
 -- nobody is at rest on another core
 pub alone_elsewhere : (c : ℕ) (b : Bool) (d : ℕ) → d ≢ c → (nat_eq d c && b) ≡ false
 alone_elsewhere c b d ne = ap (λ k. k && b) (ne_eqb d c ne)
-
--- Behind an input the code of what is left begins, or the word that has come in is stored first.
-module _ (g : Setting) (r : Runner) (j index : ℕ) (regs : Regs) where
-  abbrev IsStored : List Item → Type 0
-  IsStored items = (place : kernel.Place) × (v : ℕ) × (rest : List Item) × (items ≡ stores place v ∷ rest)
-
-  abbrev IsCode : List Item → Type 0
-  IsCode items = HasBases g r regs × ((exits : List Exit) × ItemsFrom g r items exits index j)
-
-  rests_or_stores : (items : List Item) → AwaitsNothing items → IsBehind g r items j index regs → IsStored items ⊎ IsCode items
-  rests_or_stores [] n h = inr h
-  rests_or_stores (does t ∷ rest) n h = inr h
-  rests_or_stores (says i ∷ rest) n h = inr h
-  rests_or_stores (stores place v ∷ rest) n h = inl (place, v, rest, refl)
-  rests_or_stores (mark k ∷ rest) n h = inr h
-  rests_or_stores (awaits c pos ∷ rest) n h = absurd n
-  rests_or_stores (transaction_end c is_master pos ∷ rest) n h = inr h
-  rests_or_stores (chooses choices otherwise ∷ rest) n h = inr h
-  rests_or_stores (fixed i w counter ∷ rest) n h = inr h
-  rests_or_stores (ends ∷ rest) n h = inr h
 
 module _ (g : Setting) (first : Roles) (is : IsImageOf g first) (who : Roles) (w : Watched) (x : Told (of_kernel g.program)) (st : Standing g none_rests who w x)
     (c t : ℕ) (a : CoreState) (at_c : slice_get w.machine.cores c ≡ Some a) (r : Runner) (runs_r : who c t ≡ used_by r None)
@@ -164,7 +142,7 @@ module _ (g : Setting) (first : Roles) (is : IsImageOf g first) (who : Roles) (w
 
   -- the thread is at the next step of its transfer
   later_steps : (phase later : Phase) (j fewer : ℕ) → steps_left later + j + cost g r ≤ fewer → (h : InTransfer g r (in_phase channel side phase) branch.items j now) → GoesWith later channel h.pos branch.items →
-      TakesSteps g r channel side h.pos (acts_left later) (IsBehind g r branch.items j) (h.pc + 1) h.regs → (es : List ChanEnd) →
+      TakesSteps g r channel side h.pos (acts_left later) (IsBehind g r (items_behind later branch.items) j) (h.pc + 1) h.regs → (es : List ChanEnd) →
       StandsWith g (record r { transfer = Some (in_phase channel side later) }) false (Some (in_phase channel side later)) branch.items fewer (record { core = step.left g r a h.pc h.regs h.regs h.here es; world = x.state; hand = None })
   later_steps phase later j fewer few h goes steps es =
       let next = Some (in_phase channel side later) in (
@@ -178,7 +156,7 @@ module _ (g : Setting) (first : Roles) (is : IsImageOf g first) (who : Roles) (w
           pc = h.pc + 1;
           regs = h.regs;
           here = gone_on g r a h.pc h.regs h.regs h.here es;
-          steps = steps_as g r next channel side h.pos (acts_left later) branch.items j (h.pc + 1) h.regs steps;
+          steps = steps_as g r next channel side h.pos (acts_left later) (items_behind later branch.items) j (h.pc + 1) h.regs steps;
           fits = fits_as g r next branch.items stand.footprint h.fits;
           has = has_as g r next branch.items (record { core = step.left g r a h.pc h.regs h.regs h.here es; world = x.state; hand = None }) (has_still h.pc h.regs h.here es h.has);
         },
@@ -192,7 +170,7 @@ module _ (g : Setting) (first : Roles) (is : IsImageOf g first) (who : Roles) (w
       sends_so phase its h.pc h.regs h.here (Some (in_phase channel side later)) later
       (moves_on g none_rests who w x st c t r None runs_r channel side phase its (record r { transfer = Some (in_phase channel side later) }) later refl)
       (still_alone phase its h.pc h.regs h.here later) none_rests (λ d u ne. refl) (1 + j + cost g r) (omega (arith, few))
-      (later_steps phase later j (1 + j + cost g r) (omega arith) h h.goes_with (end_sent g r channel side h.pos (IsBehind g r branch.items j) h.pc h.regs v h.steps))
+      (later_steps phase later j (1 + j + cost g r) (omega arith) h h.goes_with (end_sent g r channel side h.pos (IsBehind g r (all_but_first branch.items) j) h.pc h.regs v h.steps))
       h.pos (control_token 1 ∷ []) h.steps.0
       (near.outct_end g.image.chans is.lines.wired w.machine.cores (boxes phase its h.pc h.regs h.here) st.wired.ghosts st.wired.local (line phase its h.pc h.regs h.here) (pair_of g.program channel) side (home g r) a (own_end phase its h.pc h.regs h.here) (near_it phase its h.pc h.regs h.here) r.thread (running r.tie h.pc h.regs)
       v false (spot_now phase its h.pc h.regs h.here))
@@ -230,17 +208,8 @@ module _ (g : Setting) (first : Roles) (is : IsImageOf g first) (who : Roles) (w
     out_behind : IsBehind g r branch.items j (h.pc + 1) h.regs
     out_behind = ack_sent g r channel side h.pos (IsBehind g r branch.items j) h.pc h.regs h.steps
 
-    by_code : IsStored g r j (h.pc + 1) h.regs branch.items ⊎ IsCode g r j (h.pc + 1) h.regs branch.items → StandsWith g out (rests_alone c t c t) None branch.items (j + cost g r) then
-    by_code (inl (place, v, rest, e)) =
-        inl (
-          cost g r,
-          j,
-          omega arith,
-          stored_leads g out (laid_as g r None (laid_at g first is none_rests who w x st c t r None runs_r)) place v rest j (h.pc + 1) h.regs then
-              (subst (λ items. IsBehind g out items j (h.pc + 1) h.regs) e (behind_as g r None branch.items j (h.pc + 1) h.regs out_behind)) out_here
-              (subst (λ items. Has g out items then) e out_has) (subst (ItemsFit g out) e out_fits) refl,
-        )
-    by_code (inr (bases, (exits, code))) =
+    left_it : StandsWith g out (rests_alone c t c t) None branch.items (j + cost g r) then
+    left_it =
         inr (inr (subst (λ b. IfTrue g out b (IsAtRest g out branch.items (j + cost g r) then)) (sym (rests_there c t)) (
           j,
           omega arith,
@@ -248,17 +217,13 @@ module _ (g : Setting) (first : Roles) (is : IsImageOf g first) (who : Roles) (w
           rest_as g r None branch.items j then stand.footprint (record {
             pc = h.pc + 1;
             regs = h.regs;
-            exits = exits;
-            here = here_at branch.items (items_unwatched g r branch.items exits (h.pc + 1) j code) out_here;
-            bases = bases;
-            at_code = code;
+            here = here_at branch.items (stands_unwatched g r branch.items j (h.pc + 1) h.regs then.core (out_behind.1 then.core)) out_here;
+            bases = out_behind.0;
+            stands = out_behind.1 then.core;
             fits = h.fits;
             has = has_still h.pc h.regs h.here es h.has;
           }),
         )))
-
-    left_it : StandsWith g out (rests_alone c t c t) None branch.items (j + cost g r) then
-    left_it = by_code (rests_or_stores g r j (h.pc + 1) h.regs branch.items h.goes_with out_behind)
 
   -- ACK of an input
   pub sends_ack_followed : r.transfer ≡ Some (in_phase channel side sends_ack) → (j : ℕ) → 1 + j + cost g r ≤ stand.left → InTransfer g r (in_phase channel side sends_ack) branch.items j now → Goal

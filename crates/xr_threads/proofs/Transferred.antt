@@ -3,15 +3,16 @@ use Rattle.std.proofs.Common.{◌≡◌, ℕ, List, [], ◌∷◌, Option, refl}
 use Rattle.xs_instr.specs.declared.state.Regs.{Regs}
 use Rattle.xc_kernel.specs.declared.kernel.PortUse.{PortUse}
 use Rattle.xc_meaning.specs.States.Channels.{Side}
-use Rattle.xc_meaning.specs.States.Items.{Item, awaits, chooses, does, ends, fixed, mark, says, stores, transaction_end}
+use Rattle.xc_meaning.specs.States.Items.{Item}
 use Rattle.xl_chan.specs.Protocols.{Act}
 use Rattle.xw_words.specs.declared.pos.Pos.{Pos}
 use Rattle.xr_threads.specs.Fits.{ItemsFit}
-use Rattle.xr_threads.specs.Runners.{IsChannel, IsLaidOut, IsPort, Runner, Setting, end_place, footprint_of, home}
+use Rattle.xr_threads.specs.Runners.{IsPort, Runner, Setting, end_place, footprint_of, home}
 use Rattle.xr_threads.specs.Scenes.{Scene, running}
-use Rattle.xr_threads.specs.Transfers.{Transfer, acts_left}
+use Rattle.xr_threads.specs.Transfers.{Transfer, acts_left, items_behind}
 use Rattle.xr_threads.specs.Turns.{Has, HasBases, HoldsStore, InTransfer, IsBehind, PortsStand, Rest, TakesSteps}
 use Rattle.xr_threads.proofs.Shrinks.{acts_map, fits_moved}
+use Rattle.xr_threads.proofs.Stands.{stands_on}
 
 module _ (g : Setting) (r : Runner) (transfer : Option Transfer) where
   abbrev pub s : Runner
@@ -35,46 +36,20 @@ module _ (g : Setting) (r : Runner) (transfer : Option Transfer) where
   pub fits_as : (items : List Item) → r.footprint ≡ footprint_of items → ItemsFit g r items → ItemsFit g s items
   fits_as items same h = fits_moved g r s items refl refl same h
 
-  pub laid_as : IsLaidOut g r → IsLaidOut g s
-  laid_as h = record {
-    block = h.block;
-    frame = h.frame;
-    changes = h.changes;
-    small = h.small;
-    identifiers = λ p listed is. h.identifiers p listed (port_of p listed is);
-    names = λ p listed is. h.names p listed (port_of p listed is);
-    ends = λ c side is.
-        let k = h.ends c side (channel_of c is) in
-        record { place = k.place; is = k.is; identifier = k.identifier; names = k.names };
-  }
-    where
-      channel_of : (c : ℕ) → IsChannel g s c → IsChannel g r c
-      channel_of c is = record { known = is.known; used = is.used }
-
   pub rest_as : (items : List Item) (j : ℕ) (z : Scene) → r.footprint ≡ footprint_of items → Rest g r items j z → Rest g s items j z
   rest_as items j z same h = record {
     pc = h.pc;
     regs = h.regs;
-    exits = h.exits;
     here = h.here;
     bases = bases_as h.regs h.bases;
-    at_code = h.at_code;
+    stands = stands_on g r r.footprint transfer items j h.pc h.regs z.core h.stands;
     fits = fits_as items same h.fits;
     has = has_as items z h.has;
   }
 
   -- what stands behind the transfer
   pub behind_as : (items : List Item) (j index : ℕ) (regs : Regs) → IsBehind g r items j index regs → IsBehind g s items j index regs
-  behind_as [] j index regs h = (bases_as regs h.0, h.1)
-  behind_as (does t ∷ rest) j index regs h = (bases_as regs h.0, h.1)
-  behind_as (says i ∷ rest) j index regs h = (bases_as regs h.0, h.1)
-  behind_as (stores place v ∷ rest) j index regs h = (bases_as regs h.0, h.1, h.2)
-  behind_as (mark n ∷ rest) j index regs h = (bases_as regs h.0, h.1)
-  behind_as (awaits c pos ∷ rest) j index regs h = (bases_as regs h.0, h.1)
-  behind_as (transaction_end c is_master pos ∷ rest) j index regs h = (bases_as regs h.0, h.1)
-  behind_as (chooses choices otherwise ∷ rest) j index regs h = (bases_as regs h.0, h.1)
-  behind_as (fixed i w counter ∷ rest) j index regs h = (bases_as regs h.0, h.1)
-  behind_as (ends ∷ rest) j index regs h = (bases_as regs h.0, h.1)
+  behind_as items j index regs h = (bases_as regs h.0, λ core. stands_on g r r.footprint transfer items j index regs core (h.1 core))
 
   pub steps_as : (channel : ℕ) (side : Side) (pos : Pos) (acts : List Act) (items : List Item) (j pc : ℕ) (regs : Regs) → TakesSteps g r channel side pos acts (IsBehind g r items j) pc regs → TakesSteps g s channel side pos acts (IsBehind g s items j) pc regs
   steps_as channel side pos acts items j pc regs h = acts_map (home g r) r.thread (end_place g r channel side) (running r.tie pc regs) pos acts (IsBehind g r items j) (IsBehind g s items j) (behind_as items j) pc regs h
@@ -89,7 +64,7 @@ module _ (g : Setting) (r : Runner) (transfer : Option Transfer) where
     pc = h.pc;
     regs = h.regs;
     here = h.here;
-    steps = steps_as which.channel which.side h.pos (acts_left which.phase) items j h.pc h.regs h.steps;
+    steps = steps_as which.channel which.side h.pos (acts_left which.phase) (items_behind which.phase items) j h.pc h.regs h.steps;
     fits = fits_as items same h.fits;
     has = has_as items z h.has;
   }

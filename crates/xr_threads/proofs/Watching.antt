@@ -16,6 +16,7 @@ use Rattle.xr_threads.specs.Scenes.{Scene, running, running_so}
 use Rattle.xr_threads.specs.Standing.{EventsAre}
 use Rattle.xr_threads.specs.Transfers.{AwaitsNothing}
 use Rattle.xr_threads.specs.Turns.{EndOf, ItemsFrom, Rest, is_watching}
+use Rattle.xr_threads.proofs.Stands.{stands_unwatched}
 
 -- the code of no item waits for an event
 pub code_unwatched : (places : Plan) (image : Code) (sides : Sides) (End : (pc j : ℕ) → Type 0) (items : List Item) (exits : List Exit) (pc j : ℕ) → ItemsAt places image sides End items exits pc j → is_watching items ≡ false
@@ -60,4 +61,4 @@ module _ (g : Setting) (r : Runner) where
   items_unwatched items exits pc j h = code_unwatched (plan g r) (code g r) r.sides (EndOf g r) items exits pc j h
 
   pub rest_unwatched : (items : List Item) (j : ℕ) (z : Scene) → Rest g r items j z → is_watching items ≡ false
-  rest_unwatched items j z h = items_unwatched items h.exits h.pc j h.at_code
+  rest_unwatched items j z h = stands_unwatched g r items j h.pc h.regs z.core h.stands

@@ -7,6 +7,7 @@ use Rattle.xw_words.specs.declared.pos.Pos.{Pos}
 use Rattle.xs_instr.specs.declared.state.Regs.{Regs}
 use Rattle.xs_instr.specs.Memory.{word_put}
 use Rattle.xs_instr.specs.OwnSteps.{IsApart, temporary}
+use Rattle.xs_instr.specs.declared.state.CoreState.{CoreState}
 use Rattle.xc_kernel.specs.Plain as kernel
 use Rattle.xc_kernel.specs.Values.{Value, word, error, ErrorKind, tested_by}
 use Rattle.xc_kernel.specs.Eval.{Store, eval, words_of}
@@ -23,13 +24,12 @@ use Rattle.xl_expr.specs.Stores.{ElementAt, IsAddress, OfElement, OfWord, StoreO
 use Rattle.xl_expr.proofs.Framed.{store_holds}
 use Rattle.xl_expr.proofs.Lasting.{address_lasts}
 use Rattle.xl_expr.proofs.Lists.{get_set_other}
-use Rattle.xl_walk.specs.Pieces.{Exit}
 use Rattle.xr_threads.specs.Fits.{ItemsFit, UsesAt}
 use Rattle.xr_threads.specs.Parents.{syncs_of}
 use Rattle.xr_threads.specs.Runners.{Setting, Runner, IsLaidOut, MayChange, of_variable, home, places, plan, plan_in, relied}
 use Rattle.xr_threads.specs.Scenes.{Scene, Kept, running}
 use Rattle.xr_threads.specs.Turns as turn
-use Rattle.xr_threads.specs.Turns.{ItemsFrom, HasBases, Has, Goes, Turn}
+use Rattle.xr_threads.specs.Turns.{HasBases, Has, Goes, StandsAt, Turn}
 use Rattle.xr_threads.proofs.Arriving.{Since, any_part, core_kept}
 use Rattle.xr_threads.proofs.Bases.{bases_worked}
 use Rattle.xr_threads.proofs.Evaluations.{index_still, item_acts, value_errs, with_items}
@@ -93,7 +93,7 @@ module _ (g : Setting) (r : Runner) (laid : IsLaidOut g r) where
       of_variable v near.0 i found near.1 changes lt (omega arith)
 
 -- An item by which the branch stores a word at a place.
-module _ (g : Setting) (r : Runner) (laid : IsLaidOut g r) (item : Item) (place : kernel.Place) (rest : List Item) (exits : List Exit) (pc pc' j : ℕ) (uses_place : UsesAt g r place) (changes : r.footprint.changes (variable_of place) ≡ true) (behind : ItemsFrom g r rest exits pc' j) (rest_fits : ItemsFit g r rest) where
+module _ (g : Setting) (r : Runner) (laid : IsLaidOut g r) (item : Item) (place : kernel.Place) (rest : List Item) (pc pc' j : ℕ) (uses_place : UsesAt g r place) (changes : r.footprint.changes (variable_of place) ≡ true) (behind : (regs' : Regs) (core' : CoreState) → HasBases g r regs' → StandsAt g r rest j pc' regs' core') (rest_fits : ItemsFit g r rest) where
   -- what its step is there
   abbrev pub Stores : World → Branch → (v : ℕ) → Type 0
   Stores w branch v =
@@ -102,7 +102,7 @@ module _ (g : Setting) (r : Runner) (laid : IsLaidOut g r) (item : Item) (place 
   -- at the instruction that writes the word
   write_goes : (z q : Scene) (regs : Regs) (v i address : ℕ) → HasBases g r regs → q.hand ≡ None → (has : Has g r (item ∷ rest) q) → Stores q.world has.branch v → index_in q.world.store place ≡ word i → IsAddress (places g r.core) (relied g r) r.stack (4 * 0) q.core.words place i address → Writes (home g r) (relied g r) r.stack r.thread (running r.tie pc regs) z.core.words address v pc' q.core → Goes g r j q
   write_goes z q regs v i address bases no_hand has is is_index at_address w =
-      own_goes g r j q pc' w.regs words made bases' no_hand item rest rest store has acted same holds room exits j behind rest_fits (omega arith)
+      own_goes g r j q pc' w.regs words made bases' no_hand item rest rest store has acted same holds room j (λ core. behind w.regs core bases') rest_fits (omega arith)
     where
       words : List ℕ
       words = word_put q.core.words address v

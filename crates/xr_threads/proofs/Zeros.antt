@@ -33,6 +33,7 @@ use Rattle.xr_threads.proofs.Bases.{bases_worked}
 use Rattle.xr_threads.proofs.Evaluations.{item_acts, runs_with, with_items}
 use Rattle.xr_threads.proofs.Layouts.{ports_last, runs_at, runs_kept, unseen, variable_relied}
 use Rattle.xr_threads.proofs.Scenes.{leads_as, leads_more}
+use Rattle.xr_threads.proofs.Stands.{items_stand}
 use Rattle.xr_threads.proofs.Watching.{here_at, items_unwatched}
 
 -- where word i of a variable stands that begins at word d + n
@@ -252,10 +253,9 @@ module _ (g : Setting) (r : Runner) (v : ℕ) (laid : IsLaidOut g r) (is : IsCha
             rest = record {
               pc = pc';
               regs = w.regs;
-              exits = exits;
               here = here_at rest (items_unwatched g r rest exits pc' j behind) (get_set_same x.core.threads r.thread old new w.here);
               bases = bases_worked g r (syncs_of r.parents) regs w.regs w.others bases;
-              at_code = behind;
+              stands = items_stand g r rest exits pc' j w.regs left behind;
               fits = fits;
               has = record {
                 branch = record branch { items = rest };

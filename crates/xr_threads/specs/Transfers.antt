@@ -43,6 +43,17 @@ GoesWith sends_ack c pos items = AwaitsNothing items
 GoesWith was_closed c pos items = ⊥
 GoesWith streams c pos items = ⊥
 
+-- Of these what is left behind the transfer: all but the answer that was waited for.
+
+abbrev pub all_but_first : List Item → List Item
+all_but_first [] = []
+all_but_first (item ∷ rest) = rest
+
+abbrev pub items_behind : Phase → List Item → List Item
+items_behind (sends_end v) items = all_but_first items
+items_behind (awaits_ack q) items = all_but_first items
+items_behind phase items = items
+
 -- a thread that has trapped in a transfer was waiting for the answer to its offer
 abbrev pub IsAwaiting : Phase → Type 0
 IsAwaiting (awaits_ack (offers v)) = Unit {0}

@@ -28,7 +28,7 @@ use Rattle.xc_kernel.specs.Eval.{eval, words_of}
 use Rattle.xc_meaning.specs.Counts.KernelCounts.{branch_count}
 use Rattle.xc_meaning.specs.Settings.Sides.{sides_in}
 use Rattle.xc_meaning.specs.States.Channels.{Side}
-use Rattle.xc_meaning.specs.States.Items.{Item, awaits, chooses, does, ends, stores, storing, todo}
+use Rattle.xc_meaning.specs.States.Items.{Item, chooses, does, ends, stores, storing, todo}
 use Rattle.xc_meaning.specs.States.Branches.{Branch, runs, ended, erred}
 use Rattle.xc_meaning.specs.States.Worlds.{World, Action, go, take, default}
 use Rattle.xc_meaning.specs.Runs.{acts}
@@ -43,7 +43,7 @@ use Rattle.xr_threads.specs.Parents.{Parent, syncs_of}
 use Rattle.xl_walk.specs.Pieces.{Exit, LinesAt, PieceAt}
 use Rattle.xr_threads.specs.Fits.{Fits, ItemsFit, greatest}
 use Rattle.xr_threads.specs.Runners.{Setting, Runner, IsLaidOut, IsPort, code, end_place, home, places, plan, port_place}
-use Rattle.xr_threads.specs.Transfers.{Transfer, AwaitsNothing, GoesWith, acts_left}
+use Rattle.xr_threads.specs.Transfers.{Transfer, AwaitsNothing, GoesWith, acts_left, items_behind}
 use Rattle.xr_threads.specs.Scenes.{Scene, Kept, Touched, LeadsIn, after, giving_back, running, running_so}
 
 -- an unused thread, which takes no events and isn't tied
@@ -171,6 +171,18 @@ module _ (g : Setting) (r : Runner) where
   abbrev pub ItemsFrom : List Item → List Exit → (pc j : ℕ) → Type 0
   ItemsFrom items exits pc j = ItemsAt (plan g r) (code g r) r.sides EndOf items exits pc j
 
+  -- The word that the branch stores next is in r0, where the code of the store begins.
+  pub data WordAt (v pc begins : ℕ) (regs : Regs) (core : CoreState) : Type 0 where
+    in_r0 : regs.r0 ≡ v → begins ≡ pc → WordAt v pc begins regs core
+
+  -- Where a thread stands between two own steps, at an index with these registers: at the code of its branch's items, with j jumps between them. A store
+  -- is what an earlier item left to be done: its word is at hand, and behind its code, with whatever registers, stands what comes next.
+  abbrev pub StandsAt : List Item → (j pc : ℕ) → Regs → CoreState → Type 0
+  StandsAt (stores place v ∷ rest) j pc regs core =
+      (begins : ℕ) × (stored : ℕ) × WordAt v pc begins regs core × LinesAt (code g r) (Stores (plan g r).vars place R0) begins stored
+      × ((regs' : Regs) (core' : CoreState) → HasBases regs' → StandsAt rest j stored regs' core')
+  StandsAt items j pc regs core = (exits : List Exit) × ItemsFrom items exits pc j
+
   -- the branch has these items, and the core has its words and ports
   pub record Has (items : List Item) (z : Scene) : Type 0 where
     pub branch : Branch
@@ -179,14 +191,13 @@ module _ (g : Setting) (r : Runner) where
     pub holds : HoldsStore z
     pub ports : PortsStand z
 
-  -- The thread is at the code of its branch's items, with j jumps between them, and nothing of an earlier item is left to do.
+  -- The thread stands where its branch's items are to be done.
   pub record Rest (items : List Item) (j : ℕ) (z : Scene) : Type 0 where
     pub pc : ℕ
     pub regs : Regs
-    pub exits : List Exit
     pub here : IsAtItems items z pc regs
     pub bases : HasBases regs
-    pub at_code : ItemsFrom items exits pc j
+    pub stands : StandsAt items j pc regs z.core
     pub fits : ItemsFit g r items
     pub has : Has items z
 
@@ -369,14 +380,9 @@ module _ (g : Setting) (r : Runner) where
     pub fits : ItemsFit g r (does (kernel.par (kernel.more_branches (kernel.branch first first_pos) others)) ∷ rest)
     pub has : Has (does (kernel.par (kernel.more_branches (kernel.branch first first_pos) others)) ∷ rest) y
 
-  -- Behind the last step of a transfer, at an index, stands the code of what is left to the branch, with j jumps between its items. Where the
-  -- word that has come in is to be stored next, it is in r0.
+  -- Behind the last step of a transfer the thread stands at an index with these registers, whatever the core is then.
   abbrev pub IsBehind : List Item → (j index : ℕ) → Regs → Type 0
-  IsBehind (awaits c pos ∷ rest) j index regs = HasBases regs × ((exits : List Exit) × ItemsFrom rest exits index j)
-  IsBehind (stores place v ∷ rest) j index regs =
-      HasBases regs × (regs.r0 ≡ v) × ((stored : ℕ) × (exits : List Exit)
-      × LinesAt (code g r) (Stores (plan g r).vars place R0) index stored × ItemsFrom rest exits stored j)
-  IsBehind items j index regs = HasBases regs × ((exits : List Exit) × ItemsFrom items exits index j)
+  IsBehind items j index regs = HasBases regs × ((core : CoreState) → StandsAt items j index regs core)
 
   -- the branch has this transfer to do next, on a side of its channel in which it stands
   pub record IsOnChannel (used : KRes) : Type 0 where
@@ -401,7 +407,7 @@ module _ (g : Setting) (r : Runner) where
     pub pc : ℕ
     pub regs : Regs
     pub here : IsAt y pc regs
-    pub steps : TakesSteps on.channel on.side output.pos (output_acts value true) (IsBehind (awaits on.channel output.pos ∷ rest) j) pc regs
+    pub steps : TakesSteps on.channel on.side output.pos (output_acts value true) (IsBehind rest j) pc regs
     pub fits : ItemsFit g r (does (kernel.output output) ∷ rest)
     pub has : Has (does (kernel.output output) ∷ rest) y
 
@@ -429,7 +435,7 @@ module _ (g : Setting) (r : Runner) where
     pub pc : ℕ
     pub regs : Regs
     pub here : IsAt z pc regs
-    pub steps : TakesSteps transfer.channel transfer.side pos (acts_left transfer.phase) (IsBehind items j) pc regs
+    pub steps : TakesSteps transfer.channel transfer.side pos (acts_left transfer.phase) (IsBehind (items_behind transfer.phase items) j) pc regs
     pub fits : ItemsFit g r items
     pub has : Has items z
 
