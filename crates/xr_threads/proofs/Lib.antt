@@ -67,6 +67,7 @@ pub mod Names
 pub mod NoneInside
 pub mod OfferRows
 pub mod Offered
+pub mod Identifiers
 pub mod OnEnds
 pub mod OpensRoles
 pub mod Outputs

@@ -30,6 +30,7 @@ use Rattle.xr_threads.specs.Turns.{Has, HasBases, IsAt, IsBehind, ItemsFrom, Lea
 use Rattle.xr_threads.proofs.Arriving.{Since, any_part, apart_of_changes, arrives, at_runs, core_kept, since_kept}
 use Rattle.xr_threads.proofs.Bases.{bases_worked}
 use Rattle.xr_threads.proofs.Evaluations.{eval_still, nodes_are, value_errs}
+use Rattle.xr_threads.proofs.Identifiers.{end_named}
 use Rattle.xr_threads.proofs.Layouts.{has_since, laid_at, room_of, runs_at}
 use Rattle.xr_threads.proofs.OnEnds.{end_stands, on_end}
 use Rattle.xr_threads.proofs.Protocols.{all_from, behind_of_items}
@@ -99,13 +100,13 @@ pub offer_leads : (g : Setting) (r : Runner) (o : kernel.Output) (c : ℕ) → o
     (side : Side) × (slice_index_or r.sides c None ≡ Some side) → ItemsFrom g r rest exits pc' j → ItemsFit g r rest →
     Has g r (does (kernel.output o) ∷ rest) z → IsAt g r z pc regs → HasBases g r regs → z.hand ≡ None → Leads g r (cost g r) j z
 offer_leads g r o c to_channel used rest exits pc pc' j z regs laid piece (fits, counted) (side, stands_in) behind rest_fits has here bases no_hand =
-    let planned = laid.ends c side used in
-    let piece' = on_end g r c side planned stands_in (λ end. SendsValue (plan g r) end o.value true o.pos) pc pc' piece in
+    let named = end_named g r laid z c side used in
+    let piece' = on_end g r c side z named stands_in (λ end. SendsValue (plan g r) end o.value true o.pos) pc pc' piece in
     let at_end = pc + length piece'.lines in
     let v = eval z.world.store o.value in
     let most = 8 * nodes o.value + 3 in
     let way = piece'.so.by (home g r) (relied g r) r.stack r.thread (end_place g r c side) (running r.tie pc regs) z.world.store z.core piece'.stand (runs_at g r z pc regs here)
-    (room_of g r laid z regs bases has.holds) (laid_at g r laid z regs o.value fits.value bases has.holds) (end_stands g r c side planned regs.dp z.core.words) in
+    (room_of g r laid z regs bases has.holds) (laid_at g r laid z regs o.value fits.value bases has.holds) (end_stands g r c side z named regs bases) in
     let outcome = OutputReaches (home g r) (relied g r) r.stack r.thread (end_place g r c side) (running r.tie pc regs) z.core.words true o.pos at_end v in
     let behind' = subst (λ p. ItemsFrom g r rest exits p j) piece'.end behind in
     let le : most ≤ cost g r = let a = nodes_are o.value in omega (arith, counted, a) in

@@ -32,6 +32,7 @@ use Rattle.xc_meaning.specs.Settings.Transfers.{drives, output_record, outputs_t
 use Rattle.xc_meaning.specs.States.Items.{Item, does, When, now, at_time, storing}
 use Rattle.xc_meaning.specs.States.Branches.{Branch}
 use Rattle.xc_meaning.specs.States.Worlds.{World, go, take, default, only_if, with_record}
+use Rattle.xl_expr.specs.Identifiers.{IsIdentifier}
 use Rattle.xl_expr.specs.PartSteps.{WithinParts}
 use Rattle.xl_expr.specs.Plans.{resource_in}
 use Rattle.xl_expr.specs.ResourceParts.{port_alone}
@@ -51,6 +52,7 @@ use Rattle.xr_threads.specs.Turns.{CannotAct, Errs, Goes, Has, HasBases, IsAt, I
 use Rattle.xr_threads.proofs.Arriving.{Since, alone_mine, apart_from, apart_of_changes, arrives_with, at_runs, port_kept, ports_since, since_kept}
 use Rattle.xr_threads.proofs.Bases.{bases_worked}
 use Rattle.xr_threads.proofs.Evaluations.{err_acts, eval_still, item_acts, kinds_agree, nodes_are, runs_with, with_items}
+use Rattle.xr_threads.proofs.Identifiers.{PortIsNamed, port_named}
 use Rattle.xr_threads.proofs.Layouts.{has_since_port, laid_at, room_of, runs_at, runs_kept, store_since}
 use Rattle.xr_threads.proofs.Offered.{offer_leads}
 use Rattle.xr_threads.proofs.Scenes.{leads_as, leads_more}
@@ -372,14 +374,19 @@ module _ (g : Setting) (r : Runner) (laid : IsLaidOut g r) (o : kernel.Output) (
     port_stands : PortStands (home g r) (relied g r) r.stack regs.dp (resource_in (plan g r).ports (plan g r).timers o.resource) spot its.port z.core
     port_stands = record {
       name = name;
-      name_is = subst (λ place. ResourceIs (relied g r) r.stack regs.dp z.core.words place name) (sym (ap (resource_in (plan g r).ports (plan g r).timers) to_port ∙ laid.identifiers p out.listed out.is)) refl;
-      names = laid.names p out.listed out.is;
+      name_is =
+          subst (λ place. ResourceIs (relied g r) r.stack regs.dp z.core.words place name) (sym (ap (resource_in (plan g r).ports (plan g r).timers) to_port ∙ its_name.planned))
+          (subst (λ dp. IsIdentifier (relied g r) r.stack dp z.core.words its_name.at name) (sym bases.base) its_name.is);
+      names = its_name.names;
       there = its.there;
       sends = ap (λ (d : PortDecl). can_send d.dir) its.declared ∙ out.sends;
     }
       where
         name : ℕ
         name = port_name r.core spot
+
+        its_name : PortIsNamed g r p z
+        its_name = port_named g r laid z p out.listed out.is
 
     -- where its code leads, the runner comes
     comes : (n : ℕ) → WithinParts (home g r) (relied g r) (IsApart r.stack) (port_alone spot) r.thread (AtEnd (option_map (eval store) o.time) (eval store o.value)) n z.core → turn.Leads g r n j z

@@ -27,6 +27,7 @@ use Rattle.xr_threads.specs.Turns as turn
 use Rattle.xr_threads.specs.Turns.{Has, HasBases, IsAt, IsBehind, IsOnSide, ItemsFrom, Leads, StatementLeads, TakesIn, TakesSteps, Turns, cost, in_r0}
 use Rattle.xr_threads.proofs.Arriving.{Since, any_part, apart_of_changes, arrives, at_runs, since_kept}
 use Rattle.xr_threads.proofs.Bases.{bases_scratched, bases_worked}
+use Rattle.xr_threads.proofs.Identifiers.{end_named}
 use Rattle.xr_threads.proofs.Layouts.{has_since, room_of, runs_at}
 use Rattle.xr_threads.proofs.OnEnds.{end_stands, on_end}
 use Rattle.xr_threads.proofs.Protocols.{all_from, behind_of_items, nothing_awaited}
@@ -85,13 +86,13 @@ pub take_leads : (g : Setting) (r : Runner) (i : kernel.Input) (c : ℕ) → i.r
     (side : Side) × (slice_index_or r.sides c None ≡ Some side) → ItemsFrom g r rest exits pc' j → ItemsFit g r rest →
     Has g r (does (kernel.input i) ∷ rest) z → IsAt g r z pc regs → HasBases g r regs → z.hand ≡ None → Leads g r (cost g r) j z
 take_leads g r i c to_channel used rest exits pc pc' j z regs laid piece fits (side, stands_in) behind rest_fits has here bases no_hand =
-    let planned = laid.ends c side used in
-    let piece' = on_end g r c side planned stands_in (λ end. Receives (plan g r) end i.target true i.pos) pc pc' piece in
+    let named = end_named g r laid z c side used in
+    let piece' = on_end g r c side z named stands_in (λ end. Receives (plan g r) end i.target true i.pos) pc pc' piece in
     let parts = piece'.so in
     let stand : StandAt (code g r) pc (parts.transfer ++ parts.write) = subst (StandAt (code g r) pc) parts.is piece'.stand in
     let end : pc' ≡ pc + length (parts.transfer ++ parts.write) = piece'.end ∙ ap (λ lines. pc + length lines) parts.is in
     let way = parts.takes.by (home g r) (relied g r) r.stack r.thread (end_place g r c side) (running r.tie pc regs) z.core (stand_front (code g r) pc parts.transfer parts.write stand)
-    (runs_at g r z pc regs here) (room_of g r laid z regs bases has.holds) (end_stands g r c side planned regs.dp z.core.words) in
+    (runs_at g r z pc regs here) (room_of g r laid z regs bases has.holds) (end_stands g r c side z named regs bases) in
     let outcome = AtProtocol (home g r) (relied g r) r.stack r.thread (end_place g r c side) (running r.tie pc regs) z.core.words i.pos (input_acts R0 true) (EndsAt (pc + length parts.transfer)) in
     leads_more g r (Turns g r j) 3 (cost g r) z (omega arith)
     (leads_as g r (λ y. outcome y.core × Since g r (IsApart r.stack) any_part z y) (Turns g r j) 3 z
