@@ -119,7 +119,7 @@ module _ (g : Setting) (first : Roles) (is : IsImageOf g first) (who : Roles) (w
     as_many : length world.inboxes ≡ length x.state.inboxes
     as_many = ap length world_boxes ∙ length_box x.state.inboxes channel _
 
-    next : IsNext g r x.state world (record branch { items = rest }) None
+    next : IsNext g r x.state world branch (record branch { items = rest }) None
     next = record { clocks = refl; branches = refl; store = λ k e. refl; trace = refl }
 
     abbrev s : Runner

@@ -157,7 +157,7 @@ module _ (g : Setting) (first : Roles) (is : IsImageOf g first) (who : Roles) (w
     acted : acts g.program g.stimulus x.state (go r.branch) ≡ Some world
     acted = takes_offer g.program g.stimulus r.branch x.state branch ch side rest stands outside h.input v ps h.on.is_channel here_found to_do
 
-    next : IsNext g r x.state world (record branch { items = items }) (Some (Com r.core v))
+    next : IsNext g r x.state world branch (record branch { items = items }) (Some (Com r.core v))
     next = record { clocks = refl; branches = refl; store = λ k e. refl; trace = ap (λ n. x.state.trace ++ Com n v ∷ []) stand.core }
 
     world_boxes : world.inboxes ≡ boxed (boxed x.state.inboxes ch side ps) ch (other_side side) (parcels x.state.inboxes ch (other_side side) ++ taken ∷ [])

@@ -132,7 +132,7 @@ module _ (g : Setting) (first : Roles) (is : IsImageOf g first) (who : Roles) (w
   acted : acts g.program g.stimulus x.state (go r.branch) ≡ Some world
   acted = offers_word g.program g.stimulus r.branch x.state branch ch side rest stands outside h.output h.value h.on.is_channel h.value_is to_do
 
-  next : IsNext g r x.state world (record branch { items = items }) None
+  next : IsNext g r x.state world branch (record branch { items = items }) None
   next = record { clocks = refl; branches = refl; store = λ k e. refl; trace = refl }
 
   boxes_then : boxes_in g.program world.inboxes ≡ boxed boxes line (other_side side) (parcels boxes line (other_side side) ++ offer h.value ∷ [])

@@ -1,6 +1,6 @@
 -- A branch's own step, by the machine and by the program: its thread has nothing in hand, and no branches are made.
 use Rattle.std.proofs.Common.{◌≡◌, ℕ, ◌+◌, ◌*◌, ◌<◌, ◌≤◌, ◌≢◌, ◌⊎◌, inl, inr, [], ◌∷◌, List, length, Option, Some, None, refl, sym, ap, ◌∙◌, subst, ⊎_elim, arith, eq-eqb}
-use Rattle.std.specs.Prelude.{Bool, true, false, ◌&&◌, nat_eq, slice_get, slice_set}
+use Rattle.std.specs.Prelude.{Bool, true, false, ◌&&◌, ◌||◌, nat_eq, slice_get, slice_set}
 use Rattle.std.proofs.lemmas.Bool.{eqb-true, ne_eqb}
 use Rattle.std.proofs.lemmas.Option.{same_Some}
 use Rattle.std.proofs.Math.Nat.{mul-le-mul_left}
@@ -12,7 +12,9 @@ use Rattle.xc_disjoint.specs.Needs.{threads_on}
 use Rattle.xc_laws.specs.Tree.{IsWaiting}
 use Rattle.xc_meaning.specs.Runs.{acts, acts_all}
 use Rattle.xc_meaning.specs.States.Branches.{Branch, runs, waits, ended, has_ended}
+use Rattle.xc_meaning.specs.States.Items.{Item}
 use Rattle.xc_meaning.specs.States.Worlds.{World, Action}
+use Rattle.xc_meaning.specs.Uses.{by_item, by_items}
 use Rattle.xl_expr.proofs.Lists.{get_set_same, get_set_other}
 use Rattle.xl_par.specs.Hands.{Hand, IsAmong}
 use Rattle.xr_match.specs.Lives.{Watched}
@@ -22,16 +24,16 @@ use Rattle.xr_match.specs.Systems.{SomeIs}
 use Rattle.xr_threads.specs.Images.{IsImageOf}
 use Rattle.xr_threads.specs.Parents.{Parent, branches_of}
 use Rattle.xr_threads.specs.Roles.{IsParent, ParentsWait, Role, Roles, got_by, own_branches, used_by}
-use Rattle.xr_threads.specs.Runners.{Runner, Setting, footprint_of}
+use Rattle.xr_threads.specs.Runners.{Footprint, Runner, Setting, footprint_of}
 use Rattle.xr_threads.specs.Scenes.{Touched, giving_back}
 use Rattle.xr_threads.specs.Standing.{AreLoose, IsMade, IsRun, Stand, Standing, Stands, counts, living_on, none_rests}
 use Rattle.xr_threads.specs.Transfers.{Transfer}
-use Rattle.xr_threads.specs.Turns.{HoldsStore, IsNext, OwnAction, PortsStand}
+use Rattle.xr_threads.specs.Turns.{HoldsStore, IsNext, OwnAction, PortsStand, first_changes}
 use Rattle.xr_threads.specs.Wired.{AreWired, HasAlone}
 use Rattle.xr_threads.proofs.Alone.{alone_behind}
 use Rattle.xr_threads.proofs.Counts.{far_counts, living_after}
 use Rattle.xr_threads.proofs.Holding.{LeavesLoose, loose_behind}
-use Rattle.xr_threads.proofs.Moves.{Effect, channel_known, laid_at, same_hand, same_runner, stands_at}
+use Rattle.xr_threads.proofs.Moves.{Effect, channel_known, laid_at, same_hand, same_runner, stands_at, works_at}
 use Rattle.xr_threads.proofs.NamedLinks.{own_linked, told_one}
 use Rattle.xr_threads.proofs.NamedPieces.{Goes}
 use Rattle.xr_threads.proofs.Pools.{num_is}
@@ -41,6 +43,8 @@ use Rattle.xr_threads.proofs.Standing.{Follows, get_set_cases, told_by}
 use Rattle.xr_threads.proofs.Steps.{answered, clocks_still, far_steps_still, has_stepped, steps_still, watched}
 use Rattle.xr_threads.proofs.Usage.{OthersUsed, used_on}
 use Rattle.xr_threads.proofs.Wiring.{TransfersAsBefore, wired_still}
+use Rattle.xc_kernel.specs.Eval.{words_of}
+use Rattle.xc_kernel.specs.Things.{change}
 
 -- a step of the family pays for the silent steps behind it
 pub bound_grows : (most greatest steps left j further actions more : ℕ) → most ≡ 8 * (greatest + 16) → steps + left ≤ most * (actions + 1) → j ≤ left → further ≤ j + 1 + (8 * greatest + 8) → 1 ≤ more → steps + 1 + further ≤ most * (actions + more + 1)
@@ -66,6 +70,15 @@ rests_alone c t d u = nat_eq d c && nat_eq u t
 pub rests_there : (c t : ℕ) → rests_alone c t c t ≡ true
 rests_there c t = ap (λ b. b && nat_eq t t) (eq-eqb c c refl) ∙ eq-eqb t t refl
 
+-- what none of some items changes, the first one doesn't
+first_unchanged : (items : List Item) (v : ℕ) → by_items (change v) items ≡ false → first_changes items v ≡ false
+first_unchanged [] v h = refl
+first_unchanged (item ∷ rest) v h = neither (by_item (change v) item) (by_items (change v) rest) h
+  where
+    neither : (a b : Bool) → (a || b) ≡ false → a ≡ false
+    neither true b h = h
+    neither false b h = refl
+
 -- What a branch's own step leaves of its core and of the program. As many roots and roots' branches go on, the thread is tied as before or to
 -- nothing, and memory and ports are as the program has them. The thread may be inside a transfer then.
 pub record OwnStep (g : Setting) (r : Runner) (c : ℕ) (a : CoreState) (x : World) : Type 0 where
@@ -81,7 +94,7 @@ pub record OwnStep (g : Setting) (r : Runner) (c : ℕ) (a : CoreState) (x : Wor
   pub next : Branch
   pub transfer : Option Transfer
   pub birth : next.birth ≡ branch.birth
-  pub is_next : IsNext g r x world next made
+  pub is_next : IsNext g r x world branch next made
   pub core : next.core ≡ branch.core
   pub touched : Touched g r (record { core = a; world = x; hand = None }) (record { core = left; world = x; hand = None })
   pub syncs : left.syncs ≡ a.syncs
@@ -117,6 +130,13 @@ module _ (g : Setting) (first : Roles) (is : IsImageOf g first) (who : Roles) (w
   pub all_acted : acts_all g.program g.stimulus (Some x.state) piece ≡ Some e.world
   all_acted = ap (λ o. acts_all g.program g.stimulus o []) e.acted
 
+  -- what its runner may not change, its first item doesn't
+  own_store : (v : ℕ) → r.footprint.changes v ≡ false → words_of e.world.store v ≡ words_of x.state.store v
+  own_store v unchanged =
+      let works = works_at g first is none_rests who w x st c t r None runs_r in
+      let same : works.branch ≡ e.branch = same_Some works.branch e.branch (sym works.known ∙ e.known) in
+      e.is_next.store v (first_unchanged e.branch.items v (ap (λ (b : Branch). by_items (change v) b.items) (sym same) ∙ ap (λ (f : Footprint). f.changes v) (sym works.footprint) ∙ unchanged))
+
   not_t : (u : ℕ) → only_thread t u ≡ false → u ≢ t
   not_t u m f = let both : true ≡ false = sym (eq-eqb u t f) ∙ m in cc
 
@@ -137,7 +157,7 @@ module _ (g : Setting) (first : Roles) (is : IsImageOf g first) (who : Roles) (w
     resources = e.touched.resources;
     clocks = e.is_next.clocks;
     branches = λ n branch ne there. other_branch n (λ f. ne (inl f)) ∙ there;
-    store = e.is_next.store;
+    store = own_store;
   }
     where
       got_not_run : (s : ℕ) → got_by s ≡ used_by r None → ⊥
@@ -203,7 +223,7 @@ module _ (g : Setting) (first : Roles) (is : IsImageOf g first) (who : Roles) (w
       ap (living_on d) e.is_next.branches ∙ same
 
   pub leaves_loose : LeavesLoose g r a e.left x.state e.world
-  leaves_loose = record { words = e.touched.words; resources = e.touched.resources; store = e.is_next.store }
+  leaves_loose = record { words = e.touched.words; resources = e.touched.resources; store = own_store }
 
   pub others_used : OthersUsed g who c t st.roles r None runs_r a e.left (st.used c a at_c)
   others_used = record {

@@ -52,7 +52,7 @@ module _ (g : Setting) (first : Roles) (is : IsImageOf g first) (who : Roles) (w
     (branch : Branch) (known : slice_get x.state.branches r.branch ≡ Some branch) (stand : Stand g r false None a x.state (w.lives c t) x.actions branch) (on : branch.mode ≡ runs)
     (pc : ℕ) (regs regs' : Regs) (here : slice_get a.threads r.thread ≡ Some (running r.tie pc regs)) (ends : List ChanEnd)
     (items : List Item) (made : Option Record) (world : World) (acted : acts g.program g.stimulus x.state (go r.branch) ≡ Some world)
-    (is_next : IsNext g r x.state world (record branch { items = items }) made) (store : world.store ≡ x.state.store) (has : Has g r branch.items (record { core = a; world = x.state; hand = None })) (unwatched : is_watching items ≡ false) (transfer : Option Transfer) where
+    (is_next : IsNext g r x.state world branch (record branch { items = items }) made) (store : world.store ≡ x.state.store) (has : Has g r branch.items (record { core = a; world = x.state; hand = None })) (unwatched : is_watching items ≡ false) (transfer : Option Transfer) where
   abbrev pub left : CoreState
   left = step.left g r a pc regs regs' here ends
 

@@ -1,5 +1,5 @@
 -- A turn that changes nothing on the core but the thread's own state and the core's words, beside an action of the branch.
-use Rattle.std.proofs.Common.{◌≡◌, ℕ, ◌+◌, ◌≤◌, Bool, false, List, ◌∷◌, length, Option, Some, None, refl, ap, ◌∙◌}
+use Rattle.std.proofs.Common.{◌≡◌, ℕ, ◌+◌, ◌≤◌, Bool, false, List, ◌∷◌, length, Option, Some, None, refl, ap, ◌∙◌, subst}
 use Rattle.std.specs.Prelude.{slice_get}
 use Rattle.std.proofs.lemmas.List.{length-set}
 use Rattle.xs_instr.specs.declared.image.Home.{Home}
@@ -11,9 +11,11 @@ use Rattle.xs_instr.specs.OwnSteps.{temporary}
 use Rattle.xs_instr.specs.Rows.{put_own, row}
 use Rattle.xs_instr.specs.Slot.{slot, turn_at, runs_on, event_or_row, pick_where, instr_at, is_waiteu}
 use Rattle.xc_kernel.specs.Eval.{Store, words_of}
+use Rattle.xc_kernel.specs.Things.{change}
 use Rattle.xc_meaning.specs.States.Items.{Item}
 use Rattle.xc_meaning.specs.States.Worlds.{World, go}
 use Rattle.xc_meaning.specs.Runs.{acts}
+use Rattle.xc_meaning.specs.Uses.{by_item}
 use Rattle.xl_expr.specs.Frames.{Holds}
 use Rattle.xl_expr.proofs.Lists.{get_set_same, get_set_other}
 use Rattle.xl_expr.proofs.ResourceParts.{others_same}
@@ -21,7 +23,7 @@ use Rattle.xl_walk.specs.Pieces.{Exit}
 use Rattle.xr_threads.specs.Fits.{ItemsFit}
 use Rattle.xr_threads.specs.Runners.{Setting, Runner, MayChange, home, places}
 use Rattle.xr_threads.specs.Scenes.{Scene, running}
-use Rattle.xr_threads.specs.Turns.{HasBases, Has, IsAt, ItemsFrom, Goes, StandsAt, own_go}
+use Rattle.xr_threads.specs.Turns.{HasBases, Has, IsAt, ItemsFrom, Goes, StandsAt, first_changes, own_go}
 use Rattle.xr_threads.proofs.Evaluations.{runs_with, with_items}
 use Rattle.xr_threads.proofs.Layouts.{ports_last}
 use Rattle.xr_threads.proofs.Stands.{items_stand, stands_unwatched}
@@ -47,7 +49,7 @@ module _ (g : Setting) (r : Runner) where
   pub own_goes : (j : ℕ) (y : Scene) (pc : ℕ) (regs : Regs) (words : List ℕ) → MakesOwn y pc regs words → HasBases g r regs → y.hand ≡ None →
       (item : Item) (rest items : List Item) (store : Store) (has : Has g r (item ∷ rest) y) →
       acts g.program g.stimulus y.world (go r.branch) ≡ Some (record (with_items y.world r.branch has.branch items) { store = store }) →
-      ((v : ℕ) → r.footprint.changes v ≡ false → words_of store v ≡ words_of y.world.store v) →
+      ((v : ℕ) → by_item (change v) item ≡ false → words_of store v ≡ words_of y.world.store v) →
       Holds (places g r.core) r.footprint.uses 0 words store → r.stack + temporary ≤ length words →
       (jumps : ℕ) → ((core : CoreState) → StandsAt g r items jumps pc regs core) → ItemsFit g r items → jumps ≤ j + 1 → Goes g r j y
   own_goes j y pc regs words made bases no_hand item rest items store has acted same holds room jumps stands fits fewer =
@@ -81,7 +83,7 @@ module _ (g : Setting) (r : Runner) where
           action = go r.branch;
           own = own_go;
           acted = acted;
-          is_next = record { clocks = refl; branches = refl; store = same; trace = refl };
+          is_next = record { clocks = refl; branches = refl; store = λ v none. same v (subst (λ these. first_changes these v ≡ false) has.runs.items_are none); trace = refl };
           inboxes = refl;
         };
         jumps = jumps;

@@ -1,10 +1,12 @@
 -- An assignment: from its code the thread comes to the instruction that writes the word.
 use Rattle.std.proofs.Common.{◌≡◌, ℕ, ◌+◌, ◌-◌, ◌*◌, ◌≤◌, true, List, ◌∷◌, length, None, refl, ap, ◌∙◌, subst, arith}
+use Rattle.std.proofs.lemmas.Bool.{or_left}
 use Rattle.xs_instr.specs.declared.state.Regs.{Regs}
 use Rattle.xs_instr.specs.OwnSteps.{IsApart}
 use Rattle.xc_kernel.specs.Plain as kernel
 use Rattle.xc_kernel.specs.Values.{Value, word, error}
 use Rattle.xc_kernel.specs.Eval.{eval}
+use Rattle.xc_kernel.specs.Things.{by_expression, by_target, change}
 use Rattle.xc_meaning.specs.Settings.Setting.{with_value}
 use Rattle.xc_meaning.specs.Settings.Stores.{stored}
 use Rattle.xc_meaning.specs.States.Branches.{Branch}
@@ -26,7 +28,7 @@ use Rattle.xr_threads.proofs.Arriving.{Since, at_runs, any_part, since_kept, cor
 use Rattle.xr_threads.proofs.Layouts.{has_since, room_of, runs_at, laid_at, place_laid_at}
 use Rattle.xr_threads.proofs.Evaluations.{nodes_are, nodes_at_are, eval_still, value_errs}
 use Rattle.xr_threads.proofs.Stands.{items_stand}
-use Rattle.xr_threads.proofs.Writing.{store_turns}
+use Rattle.xr_threads.proofs.Writing.{store_turns, target_changed}
 
 module _ (g : Setting) (r : Runner) (laid : IsLaidOut g r) where
   module _ (place : kernel.Place) (x : kernel.Expression) (rest : List Item) (exits : List Exit) (pc pc' j : ℕ) (uses_place : UsesAt g r place) (uses : Uses g r x) (changes : r.footprint.changes (variable_of place) ≡ true) (behind : ItemsFrom g r rest exits pc' j) (rest_fits : ItemsFit g r rest) where
@@ -55,7 +57,7 @@ module _ (g : Setting) (r : Runner) (laid : IsLaidOut g r) where
 
         by : (v : Value) → eval z.world.store x ≡ v → SetOutcome (plan g r).vars (home g r) (relied g r) r.stack r.thread (running r.tie pc regs) z.core.words place pc' v i y.core → Turn g r j q
         by (word v) e writes =
-            store_turns g r laid item place rest pc pc' j uses_place changes (λ regs' core' bases'. items_stand g r rest exits pc' j regs' core' behind) rest_fits z y q regs v i bases k since' (since'.hand ∙ no_hand) has_q
+            store_turns g r laid item place rest pc pc' j uses_place changes (or_left (by_target (change (variable_of place)) place) (by_expression (change (variable_of place)) x) (target_changed place)) (λ regs' core' bases'. items_stand g r rest exits pc' j regs' core' behind) rest_fits z y q regs v i bases k since' (since'.hand ∙ no_hand) has_q
             (set_step q.world has_q.branch (word v) (still (word v) e)) is_index writes
         by (error kind pos) e traps =
             turn.errs (value_errs g r q item rest kind pos (traps q.core (core_kept g r k)) has_q (since'.hand ∙ no_hand) (set_step q.world has_q.branch (error kind pos) (still (error kind pos) e)))

@@ -17,7 +17,7 @@ use Rattle.xr_threads.proofs.Arriving.{Since, any_part, apart_of_changes, arrive
 use Rattle.xr_threads.proofs.Evaluations.{nodes_at_are}
 use Rattle.xr_threads.proofs.Layouts.{has_since, place_laid_at, room_of, runs_at}
 use Rattle.xr_threads.proofs.Scenes.{leads_as, leads_more}
-use Rattle.xr_threads.proofs.Writing.{store_turns}
+use Rattle.xr_threads.proofs.Writing.{store_turns, target_changed}
 use Rattle.xl_walk.specs.Pieces.{LinesAt}
 
 -- from behind the transfer to the store
@@ -38,6 +38,6 @@ stored_leads g r laid place v rest j index regs z bases (begins, stored, in_r0 i
     (λ y h q k.
     let since = since_kept g r (IsApart r.stack) any_part h.1 k in
     let has_q = has_since g r laid (stores place v ∷ rest) z q since (since.room has.holds.room) has in
-    store_turns g r laid (stores place v) place rest index at_end j uses_place changes behind' rest_fits z y q regs v i bases k since (since.hand ∙ no_hand) has_q
+    store_turns g r laid (stores place v) place rest index at_end j uses_place changes (target_changed place) behind' rest_fits z y q regs v i bases k since (since.hand ∙ no_hand) has_q
     refl refl (subst (λ w. outcome w y) is h.0))
     (arrives g r (IsApart r.stack) (apart_of_changes g r) (λ b. StoreOutcome (plan g r).vars (home g r) (relied g r) r.stack r.thread (running r.tie index regs) z.core.words place regs.r0 at_end i b) most z (at_runs g r z index regs here) way))

@@ -1,7 +1,7 @@
 -- A word that is written to a place: the thread comes to the instruction that writes it, and the branch stores it; or both err by the place's index.
-use Rattle.std.proofs.Common.{◌≡◌, ℕ, ◌+◌, ◌*◌, ◌/◌, ◌<◌, ◌≤◌, Bool, true, false, List, [], ◌∷◌, length, Some, None, refl, sym, ap, ◌∙◌, subst, arith}
-use Rattle.std.specs.Prelude.{slice_set, nat_lt}
-use Rattle.std.proofs.lemmas.Bool.{ltb-true}
+use Rattle.std.proofs.Common.{◌≡◌, ℕ, ◌+◌, ◌*◌, ◌/◌, ◌<◌, ◌≤◌, Bool, eq-eqb, true, false, List, [], ◌∷◌, length, Some, None, refl, sym, ap, ◌∙◌, subst, arith}
+use Rattle.std.specs.Prelude.{nat_eq, slice_set, nat_lt}
+use Rattle.std.proofs.lemmas.Bool.{ltb-true, or_left}
 use Rattle.std.proofs.lemmas.List.{length-set, get_or-set_other}
 use Rattle.xw_words.specs.declared.pos.Pos.{Pos}
 use Rattle.xs_instr.specs.declared.state.Regs.{Regs}
@@ -11,6 +11,7 @@ use Rattle.xs_instr.specs.declared.state.CoreState.{CoreState}
 use Rattle.xc_kernel.specs.Plain as kernel
 use Rattle.xc_kernel.specs.Values.{Value, word, error, ErrorKind, tested_by}
 use Rattle.xc_kernel.specs.Eval.{Store, eval, words_of}
+use Rattle.xc_kernel.specs.Things.{by_expression, by_target, change}
 use Rattle.xc_meaning.specs.Settings.Setting as meaning
 use Rattle.xc_meaning.specs.Settings.Setting.{errs, kind_of, with_value}
 use Rattle.xc_meaning.specs.Settings.Stores.{stored, stored_in}
@@ -18,6 +19,7 @@ use Rattle.xc_meaning.specs.States.Branches.{Branch}
 use Rattle.xc_meaning.specs.States.Items.{Item}
 use Rattle.xc_meaning.specs.States.Worlds.{World, go}
 use Rattle.xc_meaning.specs.Runs.{acts, does_item, step_of}
+use Rattle.xc_meaning.specs.Uses.{by_item}
 use Rattle.xl_expr.specs.declared.plan.VarAt.{VarAt}
 use Rattle.xl_expr.specs.Frames.{HasPlace, Holds, changed, variable_of}
 use Rattle.xl_expr.specs.Stores.{ElementAt, IsAddress, OfElement, OfWord, StoreOutcome, WordAt, Writes, index_in, tested_value}
@@ -92,8 +94,13 @@ module _ (g : Setting) (r : Runner) (laid : IsLaidOut g r) where
       let low = laid.frame.low v near.0 i found near.1 lt in
       of_variable v near.0 i found near.1 changes lt (omega arith)
 
+-- the target of a store is changed
+pub target_changed : (place : kernel.Place) → by_target (change (variable_of place)) place ≡ true
+target_changed (kernel.word v) = eq-eqb v v refl
+target_changed (kernel.element v index pos) = or_left (nat_eq v v) (by_expression (change v) index) (eq-eqb v v refl)
+
 -- An item by which the branch stores a word at a place.
-module _ (g : Setting) (r : Runner) (laid : IsLaidOut g r) (item : Item) (place : kernel.Place) (rest : List Item) (pc pc' j : ℕ) (uses_place : UsesAt g r place) (changes : r.footprint.changes (variable_of place) ≡ true) (behind : (regs' : Regs) (core' : CoreState) → HasBases g r regs' → StandsAt g r rest j pc' regs' core') (rest_fits : ItemsFit g r rest) where
+module _ (g : Setting) (r : Runner) (laid : IsLaidOut g r) (item : Item) (place : kernel.Place) (rest : List Item) (pc pc' j : ℕ) (uses_place : UsesAt g r place) (changes : r.footprint.changes (variable_of place) ≡ true) (changed_first : by_item (change (variable_of place)) item ≡ true) (behind : (regs' : Regs) (core' : CoreState) → HasBases g r regs' → StandsAt g r rest j pc' regs' core') (rest_fits : ItemsFit g r rest) where
   -- what its step is there
   abbrev pub Stores : World → Branch → (v : ℕ) → Type 0
   Stores w branch v =
@@ -131,8 +138,8 @@ module _ (g : Setting) (r : Runner) (laid : IsLaidOut g r) (item : Item) (place 
           ∙ is
           ∙ stored_is (step_of g.program g.stimulus q.world r.branch has.branch rest) place v i is_index
 
-      same : (u : ℕ) → r.footprint.changes u ≡ false → words_of store u ≡ words_of q.world.store u
-      same u c = get_or-set_other q.world.store (variable_of place) u (slice_set (words_of q.world.store (variable_of place)) i v) [] (λ e. let f = ap r.footprint.changes e in absurd (cc))
+      same : (u : ℕ) → by_item (change u) item ≡ false → words_of store u ≡ words_of q.world.store u
+      same u c = get_or-set_other q.world.store (variable_of place) u (slice_set (words_of q.world.store (variable_of place)) i v) [] (λ e. let f : true ≡ false = sym changed_first ∙ ap (λ v. by_item (change v) item) (sym e) ∙ c in absurd (cc))
 
       holds : Holds (places g r.core) r.footprint.uses 0 words store
       holds = store_holds (places g r.core) (relied g r) r.footprint.uses r.stack 0 laid.frame q.core.words q.world.store has.holds.holds place i address v (place_seen g r laid place uses_place) is_index at_address

@@ -1,5 +1,5 @@
 -- All words of a variable become 0; until the last one is, they are the thread's own business.
-use Rattle.std.proofs.Common.{◌≡◌, ◌≢◌, ℕ, zero, suc, ◌+◌, ◌-◌, ◌*◌, ◌<◌, ◌≤◌, true, false, List, [], ◌∷◌, map, option_map, Option, Some, None, refl, sym, ap, ◌∙◌, subst, ⊎_elim, get_or, arith}
+use Rattle.std.proofs.Common.{◌≡◌, ◌≢◌, ℕ, eq-eqb, zero, suc, ◌+◌, ◌-◌, ◌*◌, ◌<◌, ◌≤◌, true, false, List, [], ◌∷◌, map, option_map, Option, Some, None, refl, sym, ap, ◌∙◌, subst, ⊎_elim, get_or, arith}
 use Rattle.std.specs.Prelude.{◌/◌, ◌%◌, slice_get, slice_set, length, nat_eq}
 use Rattle.std.proofs.lemmas.Bool.{cases_eq}
 use Rattle.std.proofs.lemmas.List.{length-set, length-map, get_or-set_other, get_or-set_same}
@@ -27,7 +27,7 @@ use Rattle.xr_threads.specs.Parents.{syncs_of}
 use Rattle.xr_threads.specs.Runners.{Block, Setting, Runner, IsLaidOut, MayChange, of_variable, home, places, plan, plan_in, relied}
 use Rattle.xr_threads.specs.Scenes.{Scene, running}
 use Rattle.xr_threads.specs.Turns as turn
-use Rattle.xr_threads.specs.Turns.{Goes, Has, HasBases, HoldsStore, ItemsFrom, Runs, StatementLeads, Turns, cost, own_go}
+use Rattle.xr_threads.specs.Turns.{Goes, Has, HasBases, HoldsStore, ItemsFrom, Runs, StatementLeads, Turns, cost, first_changes, own_go}
 use Rattle.xr_threads.proofs.Arriving.{Since, any_part, arrives, at_runs, core_kept, ports_since, since_kept, stack_relied}
 use Rattle.xr_threads.proofs.Bases.{bases_worked}
 use Rattle.xr_threads.proofs.Evaluations.{item_acts, runs_with, with_items}
@@ -243,7 +243,7 @@ module _ (g : Setting) (r : Runner) (v : ℕ) (laid : IsLaidOut g r) (is : IsCha
               is_next = record {
                 clocks = refl;
                 branches = refl;
-                store = λ u unchanged. words_other x.world.store v u (map zero_for (words_of x.world.store v)) (λ e. differs u unchanged e);
+                store = λ u unchanged. words_other x.world.store v u (map zero_for (words_of x.world.store v)) (λ e. differs u (subst (λ these. first_changes these u ≡ false) runs.items_are unchanged) e);
                 trace = refl;
               };
               inboxes = refl;
@@ -267,8 +267,8 @@ module _ (g : Setting) (r : Runner) (v : ℕ) (laid : IsLaidOut g r) (is : IsCha
             };
           }
         where
-          differs : (u : ℕ) → r.footprint.changes u ≡ false → u ≡ v → ⊥
-          differs u unchanged e = let h : true ≡ false = sym is.changes ∙ ap r.footprint.changes (sym e) ∙ unchanged in cc
+          differs : (u : ℕ) → nat_eq u v ≡ false → u ≡ v → ⊥
+          differs u unchanged e = let h : true ≡ false = sym (eq-eqb u v e) ∙ unchanged in cc
 
 -- From the code that sets a variable's words to 0 the thread comes to the last store.
 module _ (g : Setting) (r : Runner) where

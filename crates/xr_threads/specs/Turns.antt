@@ -25,6 +25,7 @@ use Rattle.xc_kernel.specs.declared.statement.KRes.TheVariants as resource
 use Rattle.xc_kernel.specs.Plain as kernel
 use Rattle.xc_kernel.specs.Values.{word}
 use Rattle.xc_kernel.specs.Eval.{eval, words_of}
+use Rattle.xc_kernel.specs.Things.{change}
 use Rattle.xc_meaning.specs.Counts.KernelCounts.{branch_count}
 use Rattle.xc_meaning.specs.Settings.Sides.{sides_in}
 use Rattle.xc_meaning.specs.States.Channels.{Side}
@@ -32,6 +33,7 @@ use Rattle.xc_meaning.specs.States.Items.{Item, chooses, does, ends, stores, sto
 use Rattle.xc_meaning.specs.States.Branches.{Branch, runs, ended, erred}
 use Rattle.xc_meaning.specs.States.Worlds.{World, Action, go, take, default}
 use Rattle.xc_meaning.specs.Runs.{acts}
+use Rattle.xc_meaning.specs.Uses.{by_item}
 use Rattle.xl_chan.specs.Protocols.{Act, ActsAll, input_acts, output_acts}
 use Rattle.xl_expr.specs.Frames.{Holds}
 use Rattle.xl_expr.specs.Stores.{Stores}
@@ -111,6 +113,11 @@ pub data OwnAction (b : ℕ) : Action → Type 0 where
   own_go : OwnAction b (go b)
   own_take : (n : ℕ) → OwnAction b (take b n)
   own_default : OwnAction b (default b)
+
+-- the first item changes a variable
+abbrev pub first_changes : List Item → (variable : ℕ) → Bool
+first_changes [] v = false
+first_changes (item ∷ rest) v = by_item (change v) item
 
 -- branch b of a state runs, with these items
 pub record Runs (x : World) (b : ℕ) (branch : Branch) (items : List Item) : Type 0 where
@@ -244,11 +251,11 @@ module _ (g : Setting) (r : Runner) where
   abbrev pub IsJoining : Parent → List Parent → (most : ℕ) → Scene → Type 0
   IsJoining p ps most z = (n : ℕ) × (j : ℕ) × (n + j ≤ most) × LeadsIn g r (Joins p ps j) n z
 
-  -- an action of the branch leaves this state: the branch is another, and only variables that it may change have other words
-  pub record IsNext (x y : World) (next : Branch) (made : Option Record) : Type 0 where
+  -- an action of a branch leaves this state: the branch is another, and only variables that its first item changes have other words
+  pub record IsNext (x y : World) (branch next : Branch) (made : Option Record) : Type 0 where
     pub clocks : y.clocks ≡ x.clocks
     pub branches : y.branches ≡ slice_set x.branches r.branch next
-    pub store : (v : ℕ) → r.footprint.changes v ≡ false → words_of y.store v ≡ words_of x.store v
+    pub store : (v : ℕ) → first_changes branch.items v ≡ false → words_of y.store v ≡ words_of x.store v
     pub trace : y.trace ≡ noted x.trace made
 
   -- the branch acts, by an action of its own
@@ -261,7 +268,7 @@ module _ (g : Setting) (r : Runner) where
     pub action : Action
     pub own : OwnAction r.branch action
     pub acted : acts g.program g.stimulus x action ≡ Some world
-    pub is_next : IsNext x world (next branch) made
+    pub is_next : IsNext x world branch (next branch) made
     pub inboxes : world.inboxes ≡ x.inboxes
 
   -- the thread traps, and the branch errs
