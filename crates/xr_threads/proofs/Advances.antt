@@ -1,6 +1,6 @@
 -- A thread takes a step of a transfer for which the program does nothing: it is in another phase of it, or in none.
 use Rattle.std.proofs.Common.{◌≡◌, ℕ, ◌≤◌, ◌≢◌, inl, inr, [], length, Option, Some, None, refl, sym, ap, ◌∙◌, subst, ⊎_elim, eq-eqb}
-use Rattle.std.specs.Prelude.{Bool, true, false, List, ◌∷◌, slice_get, slice_set}
+use Rattle.std.specs.Prelude.{Bool, true, false, List, ◌∷◌, slice_get}
 use Rattle.std.proofs.lemmas.Bool.{eqb-true, ne_eqb}
 use Rattle.xs_instr.specs.declared.state.CoreState.{CoreState}
 use Rattle.xs_instr.specs.declared.state.Thread.{Thread}
@@ -161,7 +161,7 @@ module _ (g : Setting) (first : Roles) (is : IsImageOf g first) (who : Roles) (w
   }
 
   module _ (may_rest' : (core thread : ℕ) → Bool) (branch : Branch) (known : slice_get x.state.branches r.branch ≡ Some branch)
-      (wired : AreWired g who_next (slice_set w.machine.cores c left) x.state.inboxes)
+      (wired : AreWired g who_next watched_next.machine x.state)
       (alone : (transfer : Transfer) → next ≡ Some transfer → HasAlone x.state.branches transfer.channel transfer.side r.branch)
       (stand : Stand g s (may_rest' c t) None left x.state (watched_next.lives c t) (told_by g.program g.stimulus x [] x.state).actions branch) where
     abbrev more : ℕ → ℕ
@@ -213,6 +213,7 @@ module _ (g : Setting) (first : Roles) (is : IsImageOf g first) (who : Roles) (w
                 placed = st.placed;
                 run = run;
                 made = st.made;
+                links = st.links;
                 wired = wired;
                 alone = own_alone;
               });

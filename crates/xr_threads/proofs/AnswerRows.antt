@@ -163,9 +163,9 @@ module _ (g : Setting) (first : Roles) (is : IsImageOf g first) (who : Roles) (w
           followed (rests_alone c t) (λ d u ne. alone_elsewhere c (nat_eq u t) d ne) left None (ap (stepped (home g r) w.machine r.core r.thread a) is_made)
           (does_so g first is who w x st c t a at_c r runs_r branch known stand on h.pc h.regs h.regs h.here es rest None world acted next refl h.has unwatched None
           (rests_alone c t) j (j + cost g r) (omega (arith, few)) (omega arith) at_rest
-          (wired_moves g is.lines who w.machine.cores x.state.inboxes st.wired c t a at_c r None runs_r s None channel side line at there between
+          (wired_moves g is.lines who w.machine x.state st.wired c t a at_c r None runs_r s None channel side line at there between
           (moves_out g none_rests who w x st c t r None runs_r channel side (awaits_ack (offers v)) its s refl)
-          left world.inboxes made.size as_many
+          left _ world refl made.size as_many
           (subst (λ l. Local g.image.chans cores l (moved_to st.wired.ghosts line side (spot between false) [])) (sym boxes_then) local))
           (λ which e. absurd (none-some which e)))
 

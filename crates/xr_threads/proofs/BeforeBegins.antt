@@ -253,7 +253,7 @@ module _ (g : Setting) (who : Roles) (is : IsImageOf g who) where
         }
 
     -- setting the stacks leaves the ends
-    wired_so : AreWired g who' (watched_start g.image).machine.cores x.state.inboxes
+    wired_so : AreWired g who' (watched_start g.image).machine x.state
     wired_so =
         let old = st.wired in
         record {

@@ -787,8 +787,8 @@ module _ (g : Setting) (first : Roles) (is : IsImageOf g first) (who : Roles) (w
             steps = λ u m. steps_still g first is none_rests who w x st c t a at_c r hand runs_r moved own_moved left world effect None u m;
             far_steps = λ d u ne. far_steps_still g first is none_rests who w x st c t a at_c r hand runs_r moved own_moved left world effect None d u ne;
             stand = λ u m. stand_by u m (place_at c u);
-            wired = wired_still g who who' w watched' c a left x.state.inboxes world.inboxes transfers_still
-                (has_stepped g first is none_rests who w x st c t a at_c r hand runs_r moved own_moved left world effect None refl) refl refl st.wired;
+            links = st.links;
+            wired = wired_still g who who' w.machine watched'.machine c a left x.state world transfers_still at_c refl refl refl st.wired;
             alone = λ u q other transfer m at its. absurd (none_inside u q other transfer m at its (place_at c u));
             loose = loose';
             roots = st.roots c a at_c ∙ sym (living_still c);

@@ -144,7 +144,7 @@ module _ (g : Setting) (first : Roles) (is : IsImageOf g first) (who : Roles) (w
 
   -- so the two sides stand so again
   pub goes_on_so : (may_rest' : (core thread : ℕ) → Bool) (fewer : ℕ) → suc fewer ≤ stand.left → StandsWith g s (may_rest' c t) next branch.items fewer behind →
-      AreWired g (who_next g first is who w x st c t a at_c r runs_r left (advance g r a pc regs regs here ends) next) (slice_set w.machine.cores c left) x.state.inboxes →
+      AreWired g (who_next g first is who w x st c t a at_c r runs_r left (advance g r a pc regs regs here ends) next) watched.machine x.state →
       ((transfer : Transfer) → next ≡ Some transfer → HasAlone x.state.branches transfer.channel transfer.side r.branch) → Follows g may_rest' who w x watched
   goes_on_so may_rest' fewer few by wired alone =
       advances g first is who w x st c t a at_c r runs_r left (advance g r a pc regs regs here ends) next may_rest' branch known wired alone (own_stand (may_rest' c t) fewer few by)

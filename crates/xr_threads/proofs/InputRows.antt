@@ -229,9 +229,9 @@ module _ (g : Setting) (first : Roles) (is : IsImageOf g first) (who : Roles) (w
           followed none_rests (λ d u ne. refl) left (Some (Com r.core v)) (ap (stepped (home g r) w.machine r.core r.thread a) is_made)
           (does_so g first is who w x st c t a at_c r runs_r branch known stand on h.pc h.regs regs' h.here es items (Some (Com r.core v)) world acted next refl has unwatched (Some transfer)
           none_rests j (2 + j + cost g r) few (omega arith) stands_inside
-          (wired_moves g is.lines who w.machine.cores x.state.inboxes st.wired c t a at_c r None runs_r s None ch side line at there checks_end
+          (wired_moves g is.lines who w.machine x.state st.wired c t a at_c r None runs_r s None ch side line at there checks_end
           (begin.begins g first is none_rests who w x st c t r None runs_r none branch known on ch side is_channel uses stands s checks_end refl)
-          left world.inboxes made.size as_many
+          left _ world refl made.size as_many
           (subst (λ l. Local g.image.chans (slice_set w.machine.cores c left) l (moved_to st.wired.ghosts line side (spot checks_end false) [])) (sym boxes_then) local))
           (λ which e.
           subst (λ (k : Transfer). HasAlone world.branches k.channel k.side r.branch) (same_Some transfer which e)

@@ -2,16 +2,15 @@
 use Rattle.std.proofs.Common.{◌≡◌, ℕ, ◌<◌, ◌≤◌, ◌≢◌, ◌⊎◌, inl, inr, [], ◌∷◌, List, map, length, Option, Some, None, refl, sym, ap, ◌∙◌, subst, ⊎_elim, arith}
 use Rattle.std.specs.Prelude.{Bool, true, false, slice_get}
 use Rattle.std.proofs.lemmas.Bool.{cases_eq}
-use Rattle.std.proofs.lemmas.Option.{same_Some}
+use Rattle.std.proofs.lemmas.Option.{same_Some, slice_get_within}
 use Rattle.xs_instr.specs.declared.state.CoreState.{CoreState}
 use Rattle.xs_instr.specs.declared.state.Thread.{Thread}
-use Rattle.xs_instr.specs.Machine.{parts_in}
+use Rattle.xs_instr.specs.Machine.{Machine, no_links, parts_in}
 use Rattle.xs_instr.specs.Pool.{is_tied}
 use Rattle.xc_disjoint.specs.Needs.{threads_on}
 use Rattle.xc_kernel.specs.Eval.{words_of}
 use Rattle.xc_meaning.specs.Runs.{acts_all}
 use Rattle.xc_meaning.specs.States.Branches.{Branch, has_ended}
-use Rattle.xc_meaning.specs.States.Channels.{Inboxes}
 use Rattle.xc_meaning.specs.States.Worlds.{World, Action}
 use Rattle.xl_par.specs.Hands.{Hand, IsAmong}
 use Rattle.xr_match.specs.Implements.{clock_of}
@@ -22,7 +21,7 @@ use Rattle.xr_threads.specs.Images.{IsImageOf}
 use Rattle.xr_threads.specs.Parents.{Parent, branches_of, sync_before, syncs_of}
 use Rattle.xr_threads.specs.Roles.{AreRoles, AreUsedSo, HasReserves, IsParent, ParentsWait, Role, Roles, got_by, own_branches, unused, used_by}
 use Rattle.xr_threads.specs.Runners.{IsMine, Setting, Runner, IsLaidOut, MayChange}
-use Rattle.xr_threads.specs.Scenes.{Kept, Owns, SpareFor, sync_in}
+use Rattle.xr_threads.specs.Scenes.{Kept, Owns, Scene, SpareFor, sync_in}
 use Rattle.xr_threads.specs.Standing.{AreLoose, IsMade, IsRun, Standing, Stands, living_on}
 use Rattle.xr_threads.specs.Transfers.{Transfer}
 use Rattle.xr_threads.specs.Wired.{AreWired, HasAlone}
@@ -35,17 +34,25 @@ use Rattle.xr_threads.proofs.Reserves.{laws_behind}
 use Rattle.xr_threads.proofs.Rooms.{spare_for}
 use Rattle.xr_threads.proofs.Standing.{clock_at, core_at, runner_still, told_by}
 use Rattle.xr_threads.proofs.Works.{Crew, Works, crew_of, works_of}
-use Rattle.xl_expr.proofs.ResourceParts.{others_keep, own_same}
+use Rattle.xl_expr.proofs.ResourceParts.{others_keep, own_same, own_then}
 use Rattle.xl_expr.specs.ResourceParts.{OtherPartsStay}
 
--- what the machine is behind a step of one core, or where none has stepped: core c was a and is b
+-- another core is what it was but for its channel ends
+pub record IsSameButEnds (e f : CoreState) : Type 0 where
+  pub is : f ≡ record e { ends = f.ends }
+
+-- what the machine is behind an event, or where there was none: core c was a and is b, and of the others no more has changed than their channel ends; what is on
+-- links is told elsewhere
 pub record HasStepped (w w' : Watched) (c : ℕ) (a b : CoreState) : Type 0 where
   pub was : slice_get w.machine.cores c ≡ Some a
   pub is : slice_get w'.machine.cores c ≡ Some b
-  pub others : (d : ℕ) → d ≢ c → slice_get w'.machine.cores d ≡ slice_get w.machine.cores d
+  pub others : (d : ℕ) (e : CoreState) → d ≢ c → slice_get w.machine.cores d ≡ Some e → (f : CoreState) × (slice_get w'.machine.cores d ≡ Some f) × IsSameButEnds e f
   pub as_many : length w'.machine.cores ≡ length w.machine.cores
-  pub links : w'.machine.links ≡ w.machine.links
   pub size : length b.words ≡ length a.words
+
+-- another core that has stayed
+pub other_same : (w w' : Watched) (d : ℕ) (e : CoreState) → slice_get w'.machine.cores d ≡ slice_get w.machine.cores d → slice_get w.machine.cores d ≡ Some e → (f : CoreState) × (slice_get w'.machine.cores d ≡ Some f) × IsSameButEnds e f
+other_same w w' d e same at = (e, same ∙ at, record { is = refl })
 
 -- Of some threads of the core it is shown how they stand; the others have the roles that they had, and what their runners stand on is kept.
 pub record IsNextStanding
@@ -69,7 +76,8 @@ pub record IsNextStanding
       Kept g s (record { core = a; world = x.state; hand = hand }) (record { core = b; world = y; hand = hand })
   pub far_kept : (d t : ℕ) (e : CoreState) (s : Runner) (hand : Option Hand) → d ≢ c → slice_get w.machine.cores d ≡ Some e → who d t ≡ used_by s hand →
       Kept g s (record { core = e; world = x.state; hand = hand }) (record { core = e; world = y; hand = hand })
-  pub wired : AreWired g who' w'.machine.cores y.inboxes
+  pub links : w'.machine.links ≡ no_links
+  pub wired : AreWired g who' w'.machine y
   pub alone : (u : ℕ) (s : Runner) (hand : Option Hand) (transfer : Transfer) → moved u ≡ true → who' c u ≡ used_by s hand → s.transfer ≡ Some transfer →
       HasAlone y.branches transfer.channel transfer.side s.branch
   pub loose : 1 ≤ threads_on g.program c → AreLoose g who' c b y
@@ -97,9 +105,40 @@ used_still who who' d e same h = record {
   owned = λ t n r hand is owns. h.owned t n r hand (sym (same t) ∙ is) owns;
 }
 
+-- Where a core has other ends, what threads stand on is as it was.
+
+kept_ends : (g : Setting) (s : Runner) (z : Scene) (e f : CoreState) (y : World) (hand : Option Hand) → IsSameButEnds e f → Kept g s z (record { core = e; world = y; hand = hand }) → Kept g s z (record { core = f; world = y; hand = hand })
+kept_ends g s z e f y hand same k = subst (λ b. Kept g s z (record { core = b; world = y; hand = hand })) (sym same.is) (record {
+  thread = k.thread;
+  words = k.words;
+  resources = own_then (IsMine g s) s.thread _ _ _ k.resources (own_same _ _ _ _ refl refl refl);
+  branch = k.branch;
+  parents = k.parents;
+  store = k.store;
+  clock = k.clock;
+  hand = k.hand;
+  syncs = k.syncs;
+  held = k.held;
+  tied = k.tied;
+  spare = spare_ends z.hand k.spare;
+})
+  where
+    spare_ends : (hand : Option Hand) → SpareFor hand e → SpareFor hand (record e { ends = f.ends })
+    spare_ends None h = tt
+    spare_ends (Some hand) h = record { threads = h.threads; sync = h.sync; few_threads = h.few_threads; few_syncs = h.few_syncs; no_events = h.no_events; untied = h.untied }
+
+used_ends : (who : Roles) (d : ℕ) (e f : CoreState) → IsSameButEnds e f → AreUsedSo who d e → AreUsedSo who d f
+used_ends who d e f same h = subst (AreUsedSo who d) (sym same.is) (record { threads = h.threads; syncs = h.syncs; unused = h.unused; got = h.got; taken = h.taken; owned = h.owned })
+
+loose_ends : (g : Setting) (who : Roles) (d : ℕ) (e f : CoreState) (y : World) → IsSameButEnds e f → AreLoose g who d e y → AreLoose g who d f y
+loose_ends g who d e f y same h = subst (λ b. AreLoose g who d b y) (sym same.is) (record {
+  variables = h.variables;
+  ports = λ p listed is nobody. let k = h.ports p listed is nobody in record { port = k.port; there = k.there; declared = k.declared };
+})
+
 -- a thread is inside a transfer on a channel of the program's
-pub channel_known : (g : Setting) (who : Roles) (cores : List CoreState) (boxes : List Inboxes) → AreWired g who cores boxes → (d u : ℕ) (s : Runner) (hand : Option Hand) (transfer : Transfer) → who d u ≡ used_by s hand → s.transfer ≡ Some transfer → transfer.channel < length g.program.channels
-channel_known g who cores boxes wired d u s hand transfer is its =
+pub channel_known : (g : Setting) (who : Roles) (m : Machine) (x : World) → AreWired g who m x → (d u : ℕ) (s : Runner) (hand : Option Hand) (transfer : Transfer) → who d u ≡ used_by s hand → s.transfer ≡ Some transfer → transfer.channel < length g.program.channels
+channel_known g who m x wired d u s hand transfer is its =
     let k = wired.listed d u transfer.channel transfer.side (record { runner = s; hand = hand; runs = is; transfer = transfer; is = its; channel_is = refl; side_is = refl }) in
     line_known g.program k.0 transfer.channel k.1
 
@@ -113,7 +152,7 @@ moves g may_rest may_rest' who who' w w' x c a b moved piece y st step next =
     record {
       clocks = next.clocks;
       trace = next.trace;
-      links = step.links ∙ st.links;
+      links = next.links;
       cores = step.as_many ∙ st.cores;
       lawful = laws_behind g x.state st.lawful piece y next.acted;
       plain = plain_behind g x.state st.lawful st.plain piece y next.acted;
@@ -122,23 +161,23 @@ moves g may_rest may_rest' who who' w w' x c a b moved piece y st step next =
       used = λ d e at.
           ⊎_elim
           (λ (h : d ≡ c). subst (λ k. AreUsedSo who' k e) (sym h) (subst (AreUsedSo who' c) (is_b d e h at) next.used))
-          (λ (ne : d ≢ c). used_still who who' d e (λ t. next.far_role d t ne) (st.used d e (far d e ne at)))
+          (λ (ne : d ≢ c). let o = far d e ne at in used_ends who' d o.0 e o.2 (used_still who who' d o.0 (λ t. next.far_role d t ne) (st.used d o.0 o.1)))
           (cases_eq d c);
       threads = λ d t e at.
           ⊎_elim
           (λ (h : d ≡ c). subst (λ k. Stands g (may_rest' k t) e y (w'.lives k t) more (who' k t)) (sym h)
           (subst (λ f. Stands g (may_rest' c t) f y (w'.lives c t) more (who' c t)) (is_b d e h at) (here t)))
-          (λ (ne : d ≢ c). there d t e ne (far d e ne at))
+          (λ (ne : d ≢ c). let o = far d e ne at in there d t o.0 e ne o.1 o.2)
           (cases_eq d c);
       loose = λ d e at some.
           ⊎_elim
           (λ (h : d ≡ c). subst (λ k. AreLoose g who' k e y) (sym h) (subst (λ f. AreLoose g who' c f y) (is_b d e h at) (next.loose (subst (λ k. 1 ≤ threads_on g.program k) h some))))
-          (λ (ne : d ≢ c). next.far_loose d e ne (far d e ne at) (st.loose d e (far d e ne at) some))
+          (λ (ne : d ≢ c). let o = far d e ne at in loose_ends g who' d o.0 e y o.2 (next.far_loose d o.0 ne o.1 (st.loose d o.0 o.1 some)))
           (cases_eq d c);
       sizes = λ d e at.
           ⊎_elim
           (λ (h : d ≡ c). ap (λ (f : CoreState). length f.words) (sym (is_b d e h at)) ∙ step.size ∙ st.sizes c a step.was ∙ ap (λ k. (parts_in g.image.cores k).words) (sym h))
-          (λ (ne : d ≢ c). st.sizes d e (far d e ne at))
+          (λ (ne : d ≢ c). let o = far d e ne at in ap (λ (f : CoreState). length f.words) o.2.is ∙ st.sizes d o.0 o.1)
           (cases_eq d c);
       wired = next.wired;
       alone = λ d u s hand transfer is its.
@@ -149,7 +188,7 @@ moves g may_rest may_rest' who who' w w' x c a b moved piece y st step next =
       roots = λ d e at.
           ⊎_elim
           (λ (h : d ≡ c). ap (λ (f : CoreState). f.roots) (sym (is_b d e h at)) ∙ next.roots ∙ ap (λ k. living_on k y.branches) (sym h))
-          (λ (ne : d ≢ c). st.roots d e (far d e ne at) ∙ sym (next.far_roots d ne))
+          (λ (ne : d ≢ c). let o = far d e ne at in ap (λ (f : CoreState). f.roots) o.2.is ∙ st.roots d o.0 o.1 ∙ sym (next.far_roots d ne))
           (cases_eq d c);
       placed = next.placed;
       run = next.run;
@@ -160,19 +199,24 @@ moves g may_rest may_rest' who who' w w' x c a b moved piece y st step next =
     is_b : (d : ℕ) (e : CoreState) → d ≡ c → slice_get w'.machine.cores d ≡ Some e → b ≡ e
     is_b d e h at = same_Some b e (sym step.is ∙ ap (slice_get w'.machine.cores) (sym h) ∙ at)
 
-    -- and another one what it was
-    far : (d : ℕ) (e : CoreState) → d ≢ c → slice_get w'.machine.cores d ≡ Some e → slice_get w.machine.cores d ≡ Some e
-    far d e ne at = sym (step.others d ne) ∙ at
+    -- and another one what it was, but for its ends
+    far : (d : ℕ) (f : CoreState) → d ≢ c → slice_get w'.machine.cores d ≡ Some f → (e : CoreState) × (slice_get w.machine.cores d ≡ Some e) × IsSameButEnds e f
+    far d f ne at =
+        let many = step.as_many in
+        let within = slice_get_within w'.machine.cores d f at in
+        let e = core_at w.machine.cores d (omega arith) in
+        let o = step.others d e.0 ne e.1 in
+        (e.0, e.1, subst (IsSameButEnds e.0) (same_Some o.0 f (sym o.1 ∙ at)) o.2)
 
     -- no family has done less
     not_less : (f : ℕ) → x.actions f ≤ (told_by g.program g.stimulus x piece y).actions f
     not_less f = omega arith
 
     -- a thread of another core
-    there : (d t : ℕ) (e : CoreState) → d ≢ c → slice_get w.machine.cores d ≡ Some e → Stands g (may_rest' d t) e y (w'.lives d t) (told_by g.program g.stimulus x piece y).actions (who' d t)
-    there d t e ne at =
-        subst (Stands g (may_rest' d t) e y (w'.lives d t) (told_by g.program g.stimulus x piece y).actions) (sym (next.far_role d t ne))
-        (role_still g (may_rest d t) (may_rest' d t) e e x.state y (w.lives d t) (w'.lives d t) x.actions (told_by g.program g.stimulus x piece y).actions (who d t) (next.far_rests d t ne) (λ s hand is. next.far_kept d t e s hand ne at is) (next.far_steps d t ne) not_less (st.threads d t e at))
+    there : (d t : ℕ) (e f : CoreState) → d ≢ c → slice_get w.machine.cores d ≡ Some e → IsSameButEnds e f → Stands g (may_rest' d t) f y (w'.lives d t) (told_by g.program g.stimulus x piece y).actions (who' d t)
+    there d t e f ne at same =
+        subst (Stands g (may_rest' d t) f y (w'.lives d t) (told_by g.program g.stimulus x piece y).actions) (sym (next.far_role d t ne))
+        (role_still g (may_rest d t) (may_rest' d t) e f x.state y (w.lives d t) (w'.lives d t) x.actions (told_by g.program g.stimulus x piece y).actions (who d t) (next.far_rests d t ne) (λ s hand is. kept_ends g s (record { core = e; world = x.state; hand = hand }) e f y hand same (next.far_kept d t e s hand ne at is)) (next.far_steps d t ne) not_less (st.threads d t e at))
 
     -- a thread of this core, by whether it is one of those that are shown
     by_moved : (t : ℕ) (m : Bool) → moved t ≡ m → Stands g (may_rest' c t) b y (w'.lives c t) (told_by g.program g.stimulus x piece y).actions (who' c t)
@@ -190,7 +234,7 @@ moves g may_rest may_rest' who who' w w' x c a b moved piece y st step next =
     alone_kept d u e s hand transfer at is its same =
         let works = works_of g s (may_rest d u) hand e x.state (w.lives d u) x.actions (subst (Stands g (may_rest d u) e x.state (w.lives d u) x.actions) is (st.threads d u e at)) in
         alone_behind transfer.channel transfer.side g x.state st.lawful
-        (channel_known g who w.machine.cores x.state.inboxes st.wired d u s hand transfer is its) s.branch works.branch works.branch works.known (st.alone d u s hand transfer is its)
+        (channel_known g who w.machine x.state st.wired d u s hand transfer is its) s.branch works.branch works.branch works.known (st.alone d u s hand transfer is its)
         piece y next.acted (same ∙ works.known)
         (λ over. none_some (sym (works.done over) ∙ its))
       where

@@ -186,9 +186,9 @@ module _ (g : Setting) (first : Roles) (is : IsImageOf g first) (who : Roles) (w
         followed none_rests (λ d u ne. refl) left None (ap (stepped (home g r) w.machine r.core r.thread a) is_made)
         (does_so g first is who w x st c t a at_c r runs_r branch known stand on h.pc h.regs h.regs h.here es items None world acted next refl has refl (Some transfer)
         none_rests j (2 + j + cost g r) few (omega arith) stands_inside
-        (wired_moves g is.lines who w.machine.cores x.state.inboxes st.wired c t a at_c r None runs_r s None ch side line at there (sends_end h.value)
+        (wired_moves g is.lines who w.machine x.state st.wired c t a at_c r None runs_r s None ch side line at there (sends_end h.value)
         (begin.begins g first is none_rests who w x st c t r None runs_r none branch known on ch side is_channel uses stands s (sends_end h.value) refl)
-        left world.inboxes made.size as_many
+        left _ world refl made.size as_many
         (subst (λ l. Local g.image.chans (slice_set w.machine.cores c left) l (moved_to st.wired.ghosts line side (spot (sends_end h.value) false) [])) (sym boxes_then) local))
         (λ which e.
         subst (λ (k : Transfer). HasAlone world.branches k.channel k.side r.branch) (same_Some transfer which e)

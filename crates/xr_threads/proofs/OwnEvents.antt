@@ -343,20 +343,19 @@ module _ (g : Setting) (first : Roles) (is : IsImageOf g first) (who : Roles) (w
     }
 
     -- and where ends and inboxes stay, the channels are wired as before
-    pub wired_on : e.transfer ≡ r.transfer → length e.left.words ≡ length a.words → e.left.ends ≡ a.ends → e.world.inboxes ≡ x.state.inboxes → AreWired g who_on (slice_set w.machine.cores c e.left) e.world.inboxes
+    pub wired_on : e.transfer ≡ r.transfer → length e.left.words ≡ length a.words → e.left.ends ≡ a.ends → e.world.inboxes ≡ x.state.inboxes → AreWired g who_on watched_on.machine e.world
     wired_on same size ends boxes =
-        wired_still g who who_on w watched_on c a e.left x.state.inboxes e.world.inboxes (own_transfers same)
-        (has_stepped g first is none_rests who w x st c t a at_c r None runs_r (only_thread t) (eq-eqb t t refl) e.left e.world own_effect e.made size) ends boxes st.wired
+        wired_still g who who_on w.machine watched_on.machine c a e.left x.state e.world (own_transfers same) at_c refl ends boxes st.wired
 
     -- a branch that hasn't ended has its side for itself still
     pub alone_on : e.transfer ≡ r.transfer → (e.next.mode ≡ ended → ⊥) → (transfer : Transfer) → e.transfer ≡ Some transfer → HasAlone e.world.branches transfer.channel transfer.side r.branch
     alone_on same not_over transfer its =
         let was = sym same ∙ its in
         alone_behind transfer.channel transfer.side g x.state st.lawful
-        (channel_known g who w.machine.cores x.state.inboxes st.wired c t r None transfer runs_r was) r.branch e.branch e.next e.known (st.alone c t r None transfer runs_r was)
+        (channel_known g who w.machine x.state st.wired c t r None transfer runs_r was) r.branch e.branch e.next e.known (st.alone c t r None transfer runs_r was)
         piece e.world all_acted own_branch not_over
 
-    module _ (wired : AreWired g who_on (slice_set w.machine.cores c e.left) e.world.inboxes)
+    module _ (wired : AreWired g who_on watched_on.machine e.world)
         (alone : (transfer : Transfer) → e.transfer ≡ Some transfer → HasAlone e.world.branches transfer.channel transfer.side r.branch)
         (size : length e.left.words ≡ length a.words) (stand : Stand g s (may_rest' c t) None e.left e.world (watched_on.lives c t) (told_by g.program g.stimulus x piece e.world).actions e.next) where
       own_stand : (u : ℕ) → only_thread t u ≡ true → Stands g (may_rest' c u) e.left e.world (watched_on.lives c u) (told_by g.program g.stimulus x piece e.world).actions (who_on c u)
@@ -401,6 +400,7 @@ module _ (g : Setting) (first : Roles) (is : IsImageOf g first) (who : Roles) (w
                   steps = λ u m. steps_still g first is none_rests who w x st c t a at_c r None runs_r o self e.left e.world own_effect e.made u m;
                   far_steps = λ d u ne. far_steps_still g first is none_rests who w x st c t a at_c r None runs_r o self e.left e.world own_effect e.made d u ne;
                   stand = own_stand;
+                  links = st.links;
                   wired = wired;
                   alone = own_alone;
                   loose = loose_on;

@@ -136,8 +136,8 @@ module _ (g : Setting) (first : Roles) (is : IsImageOf g first) (who : Roles) (w
                   let at : u ≡ t = eqb-true u t m in
                   let actions = (told_by g.program g.stimulus x piece e.world).actions in
                   subst (Stands g false e.left e.world (watched_off.lives c u) actions) (sym (ap (who_off c) at ∙ role_here who c t unused)) tt;
-              wired = wired_still g who who_off w watched_off c a e.left x.state.inboxes e.world.inboxes (off_transfers none)
-                  (has_stepped g first is none_rests who w x st c t a at_c r None runs_r o self e.left e.world effect e.made size) ends boxes st.wired;
+              links = st.links;
+              wired = wired_still g who who_off w.machine watched_off.machine c a e.left x.state e.world (off_transfers none) at_c refl ends boxes st.wired;
               alone = λ u i hand transfer m at its.
                   let both : unused ≡ used_by i hand = sym (role_here who c t unused) ∙ ap (who_off c) (sym (eqb-true u t m)) ∙ at in
                   cc;

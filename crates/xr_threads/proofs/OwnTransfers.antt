@@ -1,6 +1,6 @@
 -- A thread takes a step on a channel's end with which its branch does an item: it begins a transfer, goes on in one, or ends one.
 use Rattle.std.proofs.Common.{◌≡◌, ℕ, ◌+◌, ◌*◌, ◌<◌, ◌≤◌, inl, [], ◌∷◌, List, length, Option, Some, None, refl, sym, ap, ◌∙◌, subst, arith}
-use Rattle.std.specs.Prelude.{Bool, false, slice_get, slice_set}
+use Rattle.std.specs.Prelude.{Bool, false, slice_get}
 use Rattle.std.proofs.Math.Nat.{mul-le-mul_left}
 use Rattle.xs_instr.specs.declared.state.ChanEnd.{ChanEnd}
 use Rattle.xs_instr.specs.declared.state.CoreState.{CoreState}
@@ -155,7 +155,7 @@ module _ (g : Setting) (first : Roles) (is : IsImageOf g first) (who : Roles) (w
 
   -- so the two sides stand so again
   pub does_so : (rests : (core thread : ℕ) → Bool) (j further : ℕ) → j ≤ stand.left → further ≤ j + 2 + cost g r → StandsWith g s (rests c t) transfer items further behind →
-      AreWired g (with_role who c t (used_by s None)) (slice_set w.machine.cores c left) world.inboxes →
+      AreWired g (with_role who c t (used_by s None)) watched.machine world →
       ((which : Transfer) → transfer ≡ Some which → HasAlone world.branches which.channel which.side r.branch) → Follows g rests who w x watched
   does_so rests j further few enough by wired alone =
       goes_on_answered g first is who w x st c t a at_c r runs_r own_step rests wired alone refl (own_stand (rests c t) j further few enough by)

@@ -314,8 +314,8 @@ module _ (g : Setting) (first : Roles) (is : IsImageOf g first) (who : Roles) (w
                 steps = λ u m. steps_still g first is none_rests who w x st c t a at_c r (giving_back n) runs_r (λ u. nat_eq u t) self left x.state effect None u m;
                 far_steps = λ d u ne. far_steps_still g first is none_rests who w x st c t a at_c r (giving_back n) runs_r (λ u. nat_eq u t) self left x.state effect None d u ne;
                 stand = own_stand;
-                wired = wired_still g who who' w watched' c a left x.state.inboxes x.state.inboxes transfers_still
-                    (has_stepped g first is none_rests who w x st c t a at_c r (giving_back n) runs_r (λ u. nat_eq u t) self left x.state effect None refl) refl refl st.wired;
+                links = st.links;
+                wired = wired_still g who who' w.machine watched'.machine c a left x.state x.state transfers_still at_c refl refl refl st.wired;
                 alone = λ u q hand transfer m at its. let k = runner_before c u q hand at in st.alone c u q k.0 transfer k.1 its;
                 loose = loose';
                 roots = st.roots c a at_c;

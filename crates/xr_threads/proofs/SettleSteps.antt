@@ -28,7 +28,7 @@ use Rattle.xr_threads.specs.Standing.{AreLoose, IsMade, IsRun, IsWanted, Stand, 
 use Rattle.xr_threads.specs.Transfers.{Transfer}
 use Rattle.xr_threads.specs.Turns.{HoldsStore, PortsStand}
 use Rattle.xr_threads.proofs.Holding.{loose_behind}
-use Rattle.xr_threads.proofs.Moves.{Effect, laid_at, parent_there, own_still, parents_left, same_hand, same_runner, stands_at, works_at}
+use Rattle.xr_threads.proofs.Moves.{Effect, laid_at, other_same, parent_there, own_still, parents_left, same_hand, same_runner, stands_at, works_at}
 use Rattle.xr_threads.proofs.Pools.{num_is}
 use Rattle.xr_threads.proofs.Reserves.{GiveAsBefore, reserves_behind, reserves_of_others}
 use Rattle.xr_threads.proofs.Seats.{IsNobodys, IsSeated, role_cases, role_far, role_here, role_other, roles_go_on, with_role}
@@ -234,7 +234,7 @@ module _ (g : Setting) (first : Roles) (is : IsImageOf g first) (may_rest : (cor
       pub settled : Standing g may_rest' who_settled w (told_by g.program g.stimulus x piece y)
       settled =
           answered g first is may_rest who w x st c t a at_c r None runs_r (λ u. nat_eq u t) (eq-eqb t t refl) a y settled_effect may_rest' who_settled w piece
-          (record { was = at_c; is = at_c; others = λ i ne. refl; as_many = refl; links = refl; size = refl })
+          (record { was = at_c; is = at_c; others = λ i e ne at. other_same w w i e refl at; as_many = refl; size = refl })
           (record {
             acted = d.acted;
             clocks = st.clocks ∙ sym d.clocks;
@@ -249,7 +249,8 @@ module _ (g : Setting) (first : Roles) (is : IsImageOf g first) (may_rest : (cor
             steps = λ u m. refl;
             far_steps = λ i u ne. refl;
             stand = own_stand;
-            wired = wired_as g who who_settled transfers_settled w.machine.cores x.state.inboxes y.inboxes d.inboxes st.wired;
+            links = st.links;
+            wired = wired_as g who who_settled transfers_settled w.machine x.state y d.inboxes st.wired;
             alone = λ u i other transfer m at its. absurd (none_inside u i other transfer m at its);
             loose = loose_settled;
             roots = st.roots c a at_c ∙ sym (d.living c);

@@ -226,8 +226,8 @@ module _ (g : Setting) (first : Roles) (is : IsImageOf g first) (who : Roles) (w
             steps = λ u m. steps_still g first is none_rests who w x st c t a at_c r hand runs_r moved s.own b x.state silent_effect None u m;
             far_steps = λ d u ne. far_steps_still g first is none_rests who w x st c t a at_c r hand runs_r moved s.own b x.state silent_effect None d u ne;
             stand = silent_stand;
-            wired = wired_still g who who' w silent_watched c a b x.state.inboxes x.state.inboxes silent_transfers
-                (has_stepped g first is none_rests who w x st c t a at_c r hand runs_r moved s.own b x.state silent_effect None touched.size) ends refl st.wired;
+            links = st.links;
+            wired = wired_still g who who' w.machine silent_watched.machine c a b x.state x.state silent_transfers at_c refl ends refl st.wired;
             alone = λ u i other transfer m at its. let k = s.before c u i other at in st.alone c u i k.0 transfer k.1 its;
             loose = silent_loose;
             roots = roots ∙ st.roots c a at_c;

@@ -74,7 +74,7 @@ module _ (g : Setting) (who : Roles) (is : IsImageOf g who) where
       let long = chosen_length (two_sided g.program) boxes in
       omega (arith, within, long)
 
-  pub wired_begin : AreWired g who (set_machine who g.image).cores boxes
+  pub wired_begin : AreWired g who (set_machine who g.image) (kernel_start g.program)
   wired_begin = record {
     ghosts = start_ghosts (λ k. false);
     local = local_still (boot g.image).cores (set_machine who g.image).cores ends_same g.image.chans (boxes_in g.program boxes) (start_ghosts (λ k. false))

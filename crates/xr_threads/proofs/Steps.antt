@@ -6,7 +6,7 @@ use Rattle.std.proofs.lemmas.Option.{get_or_from_slice_get}
 use Rattle.std.proofs.Math.Seq.{map-set_same}
 use Rattle.xs_instr.specs.declared.state.CoreState.{CoreState}
 use Rattle.xs_instr.specs.declared.trace.Record.{Record}
-use Rattle.xs_instr.specs.Machine.{Machine, Step, noted}
+use Rattle.xs_instr.specs.Machine.{Machine, Step, no_links, noted}
 use Rattle.xc_disjoint.specs.Needs.{threads_on}
 use Rattle.xc_meaning.specs.Runs.{acts_all}
 use Rattle.xc_meaning.specs.States.Branches.{Branch, has_ended}
@@ -24,7 +24,7 @@ use Rattle.xr_threads.specs.Standing.{AreLoose, IsMade, IsRun, Standing, Stands,
 use Rattle.xr_threads.specs.Transfers.{Transfer}
 use Rattle.xr_threads.specs.Wired.{AreWired, HasAlone}
 use Rattle.xr_threads.proofs.Lives.{far_life, other_life}
-use Rattle.xr_threads.proofs.Moves.{Effect, HasStepped, far_loose_still, far_others, kept_others, moves, own_still, parents_left, stands_at, works_at}
+use Rattle.xr_threads.proofs.Moves.{Effect, HasStepped, far_loose_still, far_others, kept_others, moves, other_same, own_still, parents_left, stands_at, works_at}
 use Rattle.xr_threads.proofs.Reserves.{laws_behind}
 use Rattle.xr_threads.proofs.Rooms.{spare_for}
 use Rattle.xr_threads.proofs.Standing.{parents_still, told_by}
@@ -49,7 +49,8 @@ pub record IsAnswered
   pub far_steps : (d u : ℕ) → d ≢ c → (w'.lives d u).steps ≡ (w.lives d u).steps
   pub stand : (u : ℕ) → moved u ≡ true →
       Stands g (may_rest' c u) b y (w'.lives c u) (told_by g.program g.stimulus x piece y).actions (who' c u)
-  pub wired : AreWired g who' w'.machine.cores y.inboxes
+  pub links : w'.machine.links ≡ no_links
+  pub wired : AreWired g who' w'.machine y
   pub alone : (u : ℕ) (s : Runner) (hand : Option Hand) (transfer : Transfer) → moved u ≡ true → who' c u ≡ used_by s hand → s.transfer ≡ Some transfer →
       HasAlone y.branches transfer.channel transfer.side s.branch
   pub loose : 1 ≤ threads_on g.program c → AreLoose g who' c b y
@@ -143,6 +144,7 @@ module _ (g : Setting) (first : Roles) (is : IsImageOf g first) (may_rest : (cor
               kept_others g first is may_rest who w x st c t a at_c r hand runs_r moved b y effect u s other (not_own u m) m runs_s
               (spare_for g who' y c b (crew_behind lt) u s other (answer.same_role u m ∙ runs_s));
           far_kept = λ d u e s other ne at_d runs_s. far_others g first is may_rest who w x st c t a at_c r hand runs_r moved b y effect d u e s other ne at_d runs_s;
+          links = answer.links;
           wired = answer.wired;
           alone = answer.alone;
           loose = answer.loose;
@@ -166,9 +168,8 @@ module _ (g : Setting) (first : Roles) (is : IsImageOf g first) (may_rest : (cor
     has_stepped size = record {
       was = at_c;
       is = get_set_same w.machine.cores c a b at_c;
-      others = λ d ne. get_set_other w.machine.cores c d b ne;
+      others = λ d e ne at. other_same w watched d e (get_set_other w.machine.cores c d b ne) at;
       as_many = length-set w.machine.cores c b;
-      links = refl;
       size = size;
     }
 

@@ -21,7 +21,7 @@ use Rattle.xr_threads.specs.Roles.{AreUsedSo, Roles, used_by}
 use Rattle.xr_threads.specs.Runners.{Setting, Runner, anyone, port_place}
 use Rattle.xr_threads.specs.Scenes.{Kept, SpareFor}
 use Rattle.xr_threads.specs.Standing.{AreLoose, Standing, none_rests}
-use Rattle.xr_threads.proofs.Moves.{HasStepped, kept_now, moves}
+use Rattle.xr_threads.proofs.Moves.{HasStepped, kept_now, moves, other_same}
 use Rattle.xr_threads.proofs.Reserves.{reserves_behind}
 use Rattle.xr_threads.proofs.NamedLinks.{alike_linked, told_same}
 use Rattle.xr_threads.proofs.Standing.{Follows, clock_at, told_by}
@@ -97,9 +97,8 @@ module _ (g : Setting) (first : Roles) (is : IsImageOf g first) (who : Roles) (w
   has_ticked = record {
     was = at_c;
     is = get_set_same w.machine.cores c a (ticked a) at_c;
-    others = λ d ne. get_set_other w.machine.cores c d (ticked a) ne;
+    others = λ d e ne at. other_same w watched_ticked d e (get_set_other w.machine.cores c d (ticked a) ne) at;
     as_many = length-set w.machine.cores c (ticked a);
-    links = refl;
     size = refl;
   }
 
@@ -134,7 +133,8 @@ module _ (g : Setting) (first : Roles) (is : IsImageOf g first) (who : Roles) (w
         steps = λ u m. refl;
         far_steps = λ d u ne. refl;
         stand = λ u m. absurd (false_true m);
-        wired = wired_still g who who w watched_ticked c a (ticked a) x.state.inboxes x.state.inboxes same_transfers has_ticked refl refl st.wired;
+        links = st.links;
+        wired = wired_still g who who w.machine watched_ticked.machine c a (ticked a) x.state later same_transfers at_c refl refl refl st.wired;
         alone = λ u s hand transfer m at its. absurd (false_true m);
         kept = λ u s hand m runs. kept_here u s hand runs;
         far_kept = λ d u e s hand ne at runs. kept_far d u e s hand ne at runs;

@@ -108,7 +108,7 @@ module _ (g : Setting) (first : Roles) (is : IsImageOf g first) (who : Roles) (w
           let left = step.left g r a pc regs regs here es in
           followed rests elsewhere left None (ap (stepped (home g r) w.machine r.core r.thread a) is_made)
           (goes_on_so g first is who w x st c t a at_c r runs_r branch known stand on pc regs here es next rests fewer few (by es)
-          (wired_moves g is.lines who w.machine.cores x.state.inboxes st.wired c t a at_c r None runs_r (record r { transfer = next }) None channel side line at there later moves left x.state.inboxes made.size refl
+          (wired_moves g is.lines who w.machine x.state st.wired c t a at_c r None runs_r (record r { transfer = next }) None channel side line at there later moves left _ x.state refl made.size refl
           (left_local g first is who w x st c t a at_c r None runs_r channel side line at there left boxes (spot later false) made.local))
           alone)
 

@@ -1,11 +1,12 @@
 -- One side of a channel goes on in its transfer, and the relation of all channels holds again.
-use Rattle.std.proofs.Common.{◌≡◌, ◌≢◌, ◌⊎◌, inl, inr, ℕ, Bool, true, false, List, [], length, Option, Some, None, refl, sym, ap, ◌∙◌, subst, ⊎_elim, eq-eqb}
+use Rattle.std.proofs.Common.{◌≡◌, ◌≢◌, ◌⊎◌, inl, inr, ℕ, Bool, true, false, [], length, Option, Some, None, refl, sym, ap, ◌∙◌, subst, ⊎_elim, eq-eqb}
 use Rattle.std.specs.Prelude.{◌&&◌, nat_eq, slice_get, slice_set}
 use Rattle.std.proofs.lemmas.Bool.{cases_eq, ne_eqb}
 use Rattle.std.proofs.lemmas.Option.{same_Some}
 use Rattle.xs_instr.specs.declared.state.CoreState.{CoreState}
-use Rattle.xs_instr.specs.Machine.{parts_in}
-use Rattle.xc_meaning.specs.States.Channels.{Inboxes, Side, first, second}
+use Rattle.xs_instr.specs.Machine.{Machine, parts_in}
+use Rattle.xc_meaning.specs.States.Channels.{Side, first, second}
+use Rattle.xc_meaning.specs.States.Worlds.{World}
 use Rattle.xl_image.specs.Images.{pair_of}
 use Rattle.xl_par.specs.Hands.{Hand}
 use Rattle.xl_plan.specs.Layout.{core_of}
@@ -66,7 +67,7 @@ pub record Moves (g : Setting) (who : Roles) (c t : ℕ) (r s : Runner) (channel
   pub over : s.transfer ≡ None → phase ≡ between
   pub mine : (d u : ℕ) → IsTransferring who d u channel side → (d ≡ c) × (u ≡ t)
 
-module _ (g : Setting) (lines : AreLines g) (who : Roles) (cores : List CoreState) (boxes : List Inboxes) (h : AreWired g who cores boxes) (c t : ℕ) (a : CoreState) (at_c : slice_get cores c ≡ Some a) (r : Runner) (hand : Option Hand) (runs_r : who c t ≡ used_by r hand) (s : Runner) (hand' : Option Hand)
+module _ (g : Setting) (lines : AreLines g) (who : Roles) (m : Machine) (world : World) (h : AreWired g who m world) (c t : ℕ) (a : CoreState) (at_c : slice_get m.cores c ≡ Some a) (r : Runner) (hand : Option Hand) (runs_r : who c t ≡ used_by r hand) (s : Runner) (hand' : Option Hand)
     (channel : ℕ) (side : Side) (line : ℕ) (is_line : IsLine g.program line channel) (on_core : AreSidesOn g.program channel c) (phase : Phase) (moves : Moves g who c t r s channel side phase) where
   abbrev who' : Roles
   who' = with_role who c t (used_by s hand')
@@ -211,18 +212,18 @@ module _ (g : Setting) (lines : AreLines g) (who : Roles) (cores : List CoreStat
       (is_now d u k x i)
 
   -- what the row leaves of the core's ends, and the program of the inboxes
-  module _ (left : CoreState) (boxes' : List Inboxes) where
-    ends_still : length left.ends ≡ length a.ends → (d : ℕ) (b : CoreState) → slice_get (slice_set cores c left) d ≡ Some b → length b.ends ≡ (parts_in g.image.cores d).ends
+  module _ (left : CoreState) (m' : Machine) (world' : World) (is : m'.cores ≡ slice_set m.cores c left) where
+    ends_still : length left.ends ≡ length a.ends → (d : ℕ) (b : CoreState) → slice_get m'.cores d ≡ Some b → length b.ends ≡ (parts_in g.image.cores d).ends
     ends_still size d b at =
         ⊎_elim
         (λ (set : (d ≡ c) × (b ≡ left)). ap (λ (v : CoreState). length v.ends) set.1 ∙ size ∙ h.ends c a at_c ∙ ap (λ k. (parts_in g.image.cores k).ends) (sym set.0))
-        (λ (old : (d ≢ c) × (slice_get cores d ≡ Some b)). h.ends d b old.1)
-        (get_set_cases cores c d a left b at_c at)
+        (λ (old : (d ≢ c) × (slice_get m.cores d ≡ Some b)). h.ends d b old.1)
+        (get_set_cases m.cores c d a left b at_c (ap (λ l. slice_get l d) (sym is) ∙ at))
 
-    pub wired_moves : length left.ends ≡ length a.ends → length boxes' ≡ length boxes → Local g.image.chans (slice_set cores c left) (boxes_in g.program boxes') (moved_to h.ghosts line side (spot phase false) []) → AreWired g (with_role who c t (used_by s hand')) (slice_set cores c left) boxes'
+    pub wired_moves : length left.ends ≡ length a.ends → length world'.inboxes ≡ length world.inboxes → Local g.image.chans (slice_set m.cores c left) (boxes_in g.program world'.inboxes) (moved_to h.ghosts line side (spot phase false) []) → AreWired g (with_role who c t (used_by s hand')) m' world'
     wired_moves size long local = record {
       ghosts = next;
-      local = local;
+      local = subst (λ l. Local g.image.chans l (boxes_in g.program world'.inboxes) next) (sym is) local;
       long = long ∙ h.long;
       ends = ends_still size;
       listed = listed;

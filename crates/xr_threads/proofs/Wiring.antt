@@ -1,22 +1,23 @@
 -- The channels are wired as before where ends and inboxes stay, and the threads are in the transfers in which they were.
-use Rattle.std.proofs.Common.{◌≡◌, ◌≢◌, ℕ, List, length, Option, Some, sym, ap, ◌∙◌, subst, ⊎_elim, arith}
+use Rattle.std.proofs.Common.{◌≡◌, ◌≢◌, ℕ, List, length, Option, Some, slice_set, sym, ap, ◌∙◌, subst, ⊎_elim, arith}
 use Rattle.std.specs.Prelude.{slice_get}
 use Rattle.std.proofs.lemmas.Bool.{cases_eq}
 use Rattle.xs_instr.specs.declared.image.Pair.{Pair}
 use Rattle.xs_instr.specs.declared.state.CoreState.{CoreState}
 use Rattle.xs_instr.specs.Ends.{Peer}
-use Rattle.xs_instr.specs.Machine.{no_links, parts_in}
+use Rattle.xs_instr.specs.Machine.{Machine, no_links, parts_in}
 use Rattle.xc_meaning.specs.States.Channels.{Inboxes, Side, first, second, other_side}
+use Rattle.xc_meaning.specs.States.Worlds.{World}
 use Rattle.xl_par.specs.Hands.{Hand}
-use Rattle.xr_match.specs.Lives.{Watched}
 use Rattle.xr_wires.specs.Balance.{Balanced, IsEight, Local, credits_in}
 use Rattle.xr_wires.specs.Fresh.{Stands}
 use Rattle.xr_wires.specs.Wires.{Ghosts, TalkAt, Wires, ends_in, line, place, tokens_at, tokens_in}
 use Rattle.xr_threads.specs.Roles.{Roles, used_by}
 use Rattle.xr_threads.specs.Runners.{Setting, Runner}
 use Rattle.xr_threads.specs.Transfers.{Transfer}
-use Rattle.xr_threads.specs.Wired.{AreWired, IsTransferring}
-use Rattle.xr_threads.proofs.Moves.{HasStepped}
+use Rattle.xr_threads.specs.Wired.{AreWired, IsTransferring, boxes_in}
+use Rattle.xr_threads.proofs.Standing.{get_set_cases}
+use Rattle.xl_expr.proofs.Lists.{get_set_other, get_set_same}
 
 -- each thread is in the transfer in which it was
 pub record TransfersAsBefore (who who' : Roles) : Type 0 where
@@ -73,44 +74,43 @@ module _ (g : Setting) (who who' : Roles) (as_before : TransfersAsBefore who who
       record { runner = k.0; hand = k.1; runs = k.2; transfer = h.transfer; is = k.3; channel_is = h.channel_is; side_is = h.side_is }
 
   -- the machine stands still
-  pub wired_as : (cores : List CoreState) (boxes boxes' : List Inboxes) → boxes' ≡ boxes → AreWired g who cores boxes → AreWired g who' cores boxes'
-  wired_as cores boxes boxes' same h =
-      subst (AreWired g who' cores) (sym same)
-      (record {
-        ghosts = h.ghosts;
-        local = h.local;
-        long = h.long;
-        ends = h.ends;
-        listed = λ d u c side is. h.listed d u c side (was_in d u c side is);
-        inside = λ d u k r hand transfer runs is on.
-            let old = as_before.before d u r hand transfer runs is in
-            h.inside d u k old.0 old.1 transfer old.2 old.3 on;
-        between_pieces = λ k c side on nobody. h.between_pieces k c side on (λ d u is. nobody d u (is_in d u c side is));
-        one = λ d u d' u' c side is also. h.one d u d' u' c side (was_in d u c side is) (was_in d' u' c side also);
-      })
+  pub wired_as : (m : Machine) (x y : World) → y.inboxes ≡ x.inboxes → AreWired g who m x → AreWired g who' m y
+  wired_as m x y same h = record {
+    ghosts = h.ghosts;
+    local = subst (λ boxes. Local g.image.chans m.cores (boxes_in g.program boxes) h.ghosts) (sym same) h.local;
+    long = ap length same ∙ h.long;
+    ends = h.ends;
+    listed = λ d u c side is. h.listed d u c side (was_in d u c side is);
+    inside = λ d u k r hand transfer runs is on.
+        let old = as_before.before d u r hand transfer runs is in
+        h.inside d u k old.0 old.1 transfer old.2 old.3 on;
+    between_pieces = λ k c side on nobody. h.between_pieces k c side on (λ d u is. nobody d u (is_in d u c side is));
+    one = λ d u d' u' c side is also. h.one d u d' u' c side (was_in d u c side is) (was_in d' u' c side also);
+  }
 
 -- a core steps, and leaves its ends
-pub wired_still : (g : Setting) (who who' : Roles) (w w' : Watched) (c : ℕ) (a b : CoreState) (boxes boxes' : List Inboxes) → TransfersAsBefore who who' →
-    HasStepped w w' c a b → b.ends ≡ a.ends → boxes' ≡ boxes → AreWired g who w.machine.cores boxes → AreWired g who' w'.machine.cores boxes'
-wired_still g who who' w w' c a b boxes boxes' as_before step left same h =
-    wired_as g who who' as_before w'.machine.cores boxes boxes' same (record {
+pub wired_still : (g : Setting) (who who' : Roles) (m m' : Machine) (c : ℕ) (a b : CoreState) (x y : World) → TransfersAsBefore who who' →
+    slice_get m.cores c ≡ Some a → m'.cores ≡ slice_set m.cores c b → b.ends ≡ a.ends → y.inboxes ≡ x.inboxes → AreWired g who m x → AreWired g who' m' y
+wired_still g who who' m m' c a b x y as_before was step left same h =
+    wired_as g who who' as_before m' x y same (record {
       ghosts = h.ghosts;
-      local = local_still w.machine.cores w'.machine.cores ends_same g.image.chans _ h.ghosts h.local;
+      local = local_still m.cores m'.cores ends_same g.image.chans _ h.ghosts h.local;
       long = h.long;
       ends = λ d e at.
           ⊎_elim
-          (λ (is : d ≡ c). ap length (ap (λ o. ends_in o) (sym at) ∙ ends_same d ∙ ap (λ k. ends_in (slice_get w.machine.cores k)) is ∙ ap ends_in step.was) ∙ h.ends c a step.was ∙ ap (λ k. (parts_in g.image.cores k).ends) (sym is))
-          (λ (ne : d ≢ c). h.ends d e (sym (step.others d ne) ∙ at))
-          (cases_eq d c);
+          (λ (set : (d ≡ c) × (e ≡ b)). ap (λ (f : CoreState). length f.ends) set.1 ∙ ap length left ∙ h.ends c a was ∙ ap (λ k. (parts_in g.image.cores k).ends) (sym set.0))
+          (λ (old : (d ≢ c) × (slice_get m.cores d ≡ Some e)). h.ends d e old.1)
+          (get_set_cases m.cores c d a b e was (ap (λ l. slice_get l d) (sym step) ∙ at));
       listed = h.listed;
       inside = h.inside;
       between_pieces = h.between_pieces;
       one = h.one;
     })
   where
-    ends_same : (x : ℕ) → ends_in (slice_get w'.machine.cores x) ≡ ends_in (slice_get w.machine.cores x)
-    ends_same x =
-        ⊎_elim
-        (λ (is : x ≡ c). ap (λ k. ends_in (slice_get w'.machine.cores k)) is ∙ ap ends_in step.is ∙ left ∙ ap ends_in (sym step.was) ∙ ap (λ k. ends_in (slice_get w.machine.cores k)) (sym is))
-        (λ (ne : x ≢ c). ap ends_in (step.others x ne))
-        (cases_eq x c)
+    ends_same : (k : ℕ) → ends_in (slice_get m'.cores k) ≡ ends_in (slice_get m.cores k)
+    ends_same k =
+        ap (λ l. ends_in (slice_get l k)) step
+        ∙ ⊎_elim
+        (λ (is : k ≡ c). ap (λ n. ends_in (slice_get (slice_set m.cores c b) n)) is ∙ ap ends_in (get_set_same m.cores c a b was) ∙ left ∙ ap ends_in (sym was) ∙ ap (λ n. ends_in (slice_get m.cores n)) (sym is))
+        (λ (ne : k ≢ c). ap ends_in (get_set_other m.cores c k b ne))
+        (cases_eq k c)

@@ -191,7 +191,7 @@ pub record Standing
       Stands g (may_rest c t) a x.state (w.lives c t) x.actions (who c t)
   pub loose : (c : ℕ) (a : CoreState) → slice_get w.machine.cores c ≡ Some a → 1 ≤ threads_on g.program c → AreLoose g who c a x.state
   pub sizes : (c : ℕ) (a : CoreState) → slice_get w.machine.cores c ≡ Some a → length a.words ≡ (parts_in g.image.cores c).words
-  pub wired : AreWired g who w.machine.cores x.state.inboxes
+  pub wired : AreWired g who w.machine x.state
   pub alone : (c t : ℕ) (r : Runner) (hand : Option Hand) (transfer : Transfer) → who c t ≡ used_by r hand → r.transfer ≡ Some transfer →
       HasAlone x.state.branches transfer.channel transfer.side r.branch
   pub roots : (c : ℕ) (a : CoreState) → slice_get w.machine.cores c ≡ Some a → a.roots ≡ living_on c x.state.branches

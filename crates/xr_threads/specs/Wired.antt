@@ -1,12 +1,13 @@
 -- What stands between the sides of all channels, by the transfers that threads have begun.
 use Rattle.std.specs.Prelude.{◌≡◌, ◌⊎◌, ℕ, false, IsTrue, List, map, length, Option, Some, slice_get, slice_index_or}
 use Rattle.xs_instr.specs.declared.state.CoreState.{CoreState}
-use Rattle.xs_instr.specs.Machine.{parts_in}
+use Rattle.xs_instr.specs.Machine.{Machine, parts_in}
 use Rattle.xc_kernel.specs.Plain as kernel
 use Rattle.xc_kernel.specs.Things.{channel}
 use Rattle.xc_laws.specs.Tree.{Above}
 use Rattle.xc_meaning.specs.States.Branches.{Branch, side_of}
 use Rattle.xc_meaning.specs.States.Channels.{Inboxes, Side, no_parcels, other_side}
+use Rattle.xc_meaning.specs.States.Worlds.{World}
 use Rattle.xc_meaning.specs.Uses.{by_items}
 use Rattle.xl_par.specs.Hands.{Hand}
 use Rattle.xl_plan.specs.Layout.{core_of}
@@ -42,11 +43,11 @@ pub record IsTransferring (who : Roles) (core thread : ℕ) (c : ℕ) (side : Si
 
 -- The one relation of all channels: a side of a channel stands where the thread does that has begun a transfer on it, and else in no piece; and
 -- there is at most one such thread. It is on the core of the channel's sides.
-pub record AreWired (g : Setting) (who : Roles) (cores : List CoreState) (boxes : List Inboxes) : Type 0 where
+pub record AreWired (g : Setting) (who : Roles) (m : Machine) (x : World) : Type 0 where
   pub ghosts : Ghosts
-  pub local : Local g.image.chans cores (boxes_in g.program boxes) ghosts
-  pub long : length boxes ≡ length g.program.channels
-  pub ends : (c : ℕ) (a : CoreState) → slice_get cores c ≡ Some a → length a.ends ≡ (parts_in g.image.cores c).ends
+  pub local : Local g.image.chans m.cores (boxes_in g.program x.inboxes) ghosts
+  pub long : length x.inboxes ≡ length g.program.channels
+  pub ends : (c : ℕ) (a : CoreState) → slice_get m.cores c ≡ Some a → length a.ends ≡ (parts_in g.image.cores c).ends
   pub listed : (core thread c : ℕ) (side : Side) → IsTransferring who core thread c side →
       (line : ℕ) × IsLine g.program line c × AreSidesOn g.program c core
   pub inside : (core thread line : ℕ) (r : Runner) (hand : Option Hand) (transfer : Transfer) → who core thread ≡ used_by r hand → r.transfer ≡ Some transfer →
