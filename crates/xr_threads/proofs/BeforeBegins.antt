@@ -262,8 +262,7 @@ module _ (g : Setting) (who : Roles) (is : IsImageOf g who) where
           long = old.long;
           ends = λ c a e. let d = boot_cores_are g.image c a e in ap (λ (i : CoreState). length i.ends) d.1 ∙ old.ends c (set_on g who is c) (set_core_at c d.0);
           listed = old.listed;
-          inside = old.inside;
-          between_pieces = old.between_pieces;
+          stances = old.stances;
           one = old.one;
         }
 

@@ -32,6 +32,7 @@ use Rattle.xr_threads.proofs.Lives.{own_life}
 use Rattle.xr_threads.proofs.Standing.{Follows, told_by}
 use Rattle.xr_threads.proofs.Watching.{events_on}
 use Rattle.xr_threads.proofs.WiredMoves.{Moves}
+use Rattle.xr_threads.proofs.Wiring.{wired_inside}
 use Rattle.xr_wires.specs.Phases.{Phase, between, spot}
 
 -- What a thread's next slot is, and how the program follows it: the thread pauses; or the slot leaves this core and this record, and behind a
@@ -62,7 +63,7 @@ module _ (g : Setting) (may_rest : (core thread : ℕ) → Bool) (who : Roles) (
   on_core = (st.wired.listed c t channel side is_in).2
 
   pub spot_is : st.wired.ghosts.spots own_line side ≡ spot phase false
-  spot_is = st.wired.inside c t own_line r hand (in_phase channel side phase) runs_r its line_is
+  spot_is = wired_inside g who w.machine x.state st.wired c t own_line r hand (in_phase channel side phase) runs_r its line_is
 
   was_it : (transfer : Transfer) → r.transfer ≡ Some transfer → transfer ≡ in_phase channel side phase
   was_it transfer is = same_Some transfer (in_phase channel side phase) (sym is ∙ its)

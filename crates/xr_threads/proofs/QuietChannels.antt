@@ -19,7 +19,7 @@ use Rattle.xc_meaning.specs.Settings.Select.{takes, takes_default}
 use Rattle.xc_meaning.specs.Settings.Setting as source
 use Rattle.xc_meaning.specs.Settings.Transfers.{inputs_from}
 use Rattle.xc_meaning.specs.States.Branches.{Branch, side_of}
-use Rattle.xc_meaning.specs.States.Channels.{Inboxes, Parcel, Side, other_side}
+use Rattle.xc_meaning.specs.States.Channels.{Inboxes, Side, other_side}
 use Rattle.xc_meaning.specs.States.Items.{Item, awaits, does}
 use Rattle.xc_meaning.specs.States.Worlds.{World}
 use Rattle.xc_meaning.specs.Uses.{by_items}
@@ -47,6 +47,7 @@ use Rattle.xr_threads.proofs.Moves.{works_at}
 use Rattle.xr_threads.proofs.QuietSides.{IsStuck, awaiting_sent, checks_wait, each_stuck, sends_wait, word_waits}
 use Rattle.xr_threads.proofs.TransferBegins as begins
 use Rattle.xr_threads.proofs.TransferBegins.{core_there, line_there, spot_there}
+use Rattle.xr_threads.proofs.Wiring.{wired_inside}
 use Rattle.xr_wires.specs.Phases.{Phase, awaits_ack, between, checks_end, closes, offers, opens, sends_ack, sends_end, spot, streams, was_closed}
 use Rattle.xr_wires.specs.Wires.{Ghosts}
 use Rattle.xr_wires.proofs.Frames.{parcels}
@@ -143,18 +144,18 @@ module _ (g : Setting) (first : Roles) (is : IsImageOf g first) (who : Roles) (w
       -- a step that sends a token goes on
       one_sent : (f : Phase) → IsPlain f → ghosts.spots line side ≡ spot f false → nat_le 1 its_end.credits ≡ false → ⊥
       one_sent f plain spot_is few =
-          each_stuck g first is who w x st quiet line channel (other_side side) is_line
-          (λ s. has_credit g.image.chans is.lines.wired w.machine.cores boxes ghosts st.wired.local line its_pair side (home g r) a its_end its_near f s.phase spot_is s.spot_is plain s.plain few)
+          let s = each_stuck g first is who w x st quiet line channel (other_side side) is_line in
+          has_credit g.image.chans is.lines.wired w.machine.cores boxes ghosts st.wired.local line its_pair side (home g r) a its_end its_near f s.phase spot_is s.spot_is plain s.plain few
 
       -- and so does one that sends a word, between pieces
       four_sent : ghosts.spots line side ≡ spot between false → nat_le 4 its_end.credits ≡ false → ⊥
       four_sent spot_is few =
-          each_stuck g first is who w x st quiet line channel (other_side side) is_line
-          (λ s. has_credits g.image.chans is.lines.wired w.machine.cores boxes ghosts st.wired.local line its_pair side (home g r) a its_end its_near between s.phase spot_is s.spot_is tt s.plain refl few)
+          let s = each_stuck g first is who w x st quiet line channel (other_side side) is_line in
+          has_credits g.image.chans is.lines.wired w.machine.cores boxes ghosts st.wired.local line its_pair side (home g r) a its_end its_near between s.phase spot_is s.spot_is tt s.plain refl few
 
       -- a check of an END goes on
       end_come : ghosts.spots line side ≡ spot checks_end false → its_end.tokens ≡ [] → ⊥
-      end_come spot_is none = each_stuck g first is who w x st quiet line channel (other_side side) is_line (λ s. by s s.stuck)
+      end_come spot_is none = let s = each_stuck g first is who w x st quiet line channel (other_side side) is_line in by s s.stuck
         where
           by : (s : IsStuck g first is who w x st quiet line channel (other_side side)) → IsAwaiting s.phase ⊎ (Goes w.machine.cores boxes ghosts line its_pair (other_side side) → ⊥) → ⊥
           by s (inl h) =
@@ -164,7 +165,7 @@ module _ (g : Setting) (first : Roles) (is : IsImageOf g first) (who : Roles) (w
 
       -- where no answer comes, the inbox is empty
       no_answer : (v : ℕ) → ghosts.spots line side ≡ spot (awaits_ack (offers v)) false → its_end.tokens ≡ [] → parcels boxes line side ≡ []
-      no_answer v spot_is none = by_inbox (parcels boxes line side) refl
+      no_answer v spot_is none = let s = each_stuck g first is who w x st quiet line channel (other_side side) is_line in by s s.stuck
         where
           by : (s : IsStuck g first is who w x st quiet line channel (other_side side)) → IsAwaiting s.phase ⊎ (Goes w.machine.cores boxes ghosts line its_pair (other_side side) → ⊥) → parcels boxes line side ≡ []
           by s (inl h) =
@@ -172,10 +173,6 @@ module _ (g : Setting) (first : Roles) (is : IsImageOf g first) (who : Roles) (w
           by s (inr stays) =
               ⊎_elim (λ e. e) (λ go. absurd (stays go))
               (chkct_ack_paused g.image.chans is.lines.wired w.machine.cores boxes ghosts st.wired.local line its_pair side (home g r) a its_end its_near (offers v) false spot_is none)
-
-          by_inbox : (ps : List Parcel) → parcels boxes line side ≡ ps → parcels boxes line side ≡ []
-          by_inbox [] e = e
-          by_inbox (p ∷ ps) e = absurd (each_stuck g first is who w x st quiet line channel (other_side side) is_line (λ s. let f : p ∷ ps ≡ [] = sym e ∙ by s s.stuck in cc))
 
       -- and where no word comes it is too
       no_word : ghosts.spots line side ≡ spot between false → take_word its_end.tokens ≡ NotYet → length its_end.tokens < 4 → parcels boxes line side ≡ []
@@ -233,7 +230,7 @@ module _ (g : Setting) (first : Roles) (is : IsImageOf g first) (who : Roles) (w
 
     -- Inside a transfer the branch waits for an answer, and nothing is in the inbox; the other steps go on.
     pub inside_cannot : (transfer : Transfer) → r.transfer ≡ Some transfer → (items : List Item) (j : ℕ) → InTransfer g r transfer items j scene → CannotAct g r x.state
-    inside_cannot transfer its items j h = by transfer.phase h.goes_with h.steps (st.wired.inside c t line r hand transfer runs_r its is_line)
+    inside_cannot transfer its items j h = by transfer.phase h.goes_with h.steps (wired_inside g who w.machine x.state st.wired c t line r hand transfer runs_r its is_line)
       where
         channel : ℕ
         channel = transfer.channel

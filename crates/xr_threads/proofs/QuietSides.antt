@@ -29,10 +29,11 @@ use Rattle.xr_threads.specs.Scenes.{Scene, running}
 use Rattle.xr_threads.specs.Standing.{Stand, Standing, StandsBy, StandsWith, none_rests}
 use Rattle.xr_threads.specs.Transfers.{GoesWith, IsAwaiting, StopsIn, Transfer, acts_left, items_behind}
 use Rattle.xr_threads.specs.Turns.{IsBehind, TakesSteps}
-use Rattle.xr_threads.specs.Wired.{AreSidesOn, IsLine, IsTransferring, boxes_in}
+use Rattle.xr_threads.specs.Wired.{AreSidesOn, IsLine, IsTransferring, Stance, at_rest, boxes_in, in_piece}
 use Rattle.xr_threads.proofs.ChannelEnds.{acts_there, end, end_is, is_near}
 use Rattle.xr_threads.proofs.Moves.{core_of as the_core, stands_at}
 use Rattle.xr_threads.proofs.QuietSlots.{lacks_credits, lacks_tokens, lacks_word}
+use Rattle.xr_threads.proofs.Wiring.{wired_inside}
 use Rattle.xr_threads.proofs.Works.{some_is}
 use Rattle.xr_wires.specs.Phases.{Line, Phase, Spot, awaits_ack, between, checks_end, closes, offers, opens, sends_ack, sends_end, spot, streams, unsent, was_closed}
 use Rattle.xr_wires.specs.Wires.{Ghosts, place}
@@ -160,7 +161,7 @@ module _ (g : Setting) (first : Roles) (is : IsImageOf g first) (who : Roles) (w
 
     -- and the side stands where the thread does
     spot_now : ghosts.spots line transfer.side ≡ spot transfer.phase false
-    spot_now = st.wired.inside d u line r hand transfer runs_r its is_line
+    spot_now = wired_inside g who w.machine x.state st.wired d u line r hand transfer runs_r its is_line
 
     abbrev now : Scene
     now = record { core = a; world = x.state; hand = hand }
@@ -199,8 +200,10 @@ module _ (g : Setting) (first : Roles) (is : IsImageOf g first) (who : Roles) (w
       (subst (λ s. IsStuck line i.transfer.channel s) i.side_is
       (stuck_side d u line i.runner i.hand i.runs i.transfer i.is (subst (IsLine g.program line) (sym i.channel_is) is_line) e.0 e.1))
 
-  -- each side of a channel is so: it can't be that one isn't
-  pub each_stuck : (line channel : ℕ) (side : Side) → IsLine g.program line channel → (IsStuck line channel side → ⊥) → ⊥
-  each_stuck line channel side is_line not_so =
-      let rests = st.wired.between_pieces line channel side is_line (λ d u i. not_so (stuck_of line channel side is_line d u i)) in
-      not_so (record { phase = between; plain = tt; spot_is = rests; stuck = inr (λ go. none_between _ _ _ (ap (λ (s : Spot). s.phase) rests) go) })
+  -- each side of a channel is so
+  pub each_stuck : (line channel : ℕ) (side : Side) → IsLine g.program line channel → IsStuck line channel side
+  each_stuck line channel side is_line = by (st.wired.stances line channel side is_line)
+    where
+      by : Stance who channel side (ghosts.spots line side) → IsStuck line channel side
+      by (in_piece d u i e) = stuck_of line channel side is_line d u i
+      by (at_rest nobody e) = record { phase = between; plain = tt; spot_is = e; stuck = inr (λ go. none_between _ _ _ (ap (λ (s : Spot). s.phase) e) go) }

@@ -15,7 +15,7 @@ use Rattle.xr_threads.specs.Images.{IsImageOf}
 use Rattle.xr_threads.specs.Roles.{Roles, used_by}
 use Rattle.xr_threads.specs.Runners.{Setting, Runner}
 use Rattle.xr_threads.specs.Transfers.{Transfer}
-use Rattle.xr_threads.specs.Wired.{AreWired, IsTransferring, boxes_in}
+use Rattle.xr_threads.specs.Wired.{AreWired, IsTransferring, at_rest, boxes_in}
 use Rattle.xr_threads.proofs.SetMachine.{set_cores_are, set_machine}
 use Rattle.xr_threads.proofs.Starts.{root_of}
 use Rattle.xr_threads.proofs.Wiring.{local_still}
@@ -83,7 +83,6 @@ module _ (g : Setting) (who : Roles) (is : IsImageOf g who) where
     long = as_many g.program.channels;
     ends = λ c a e. let d = set_cores_are who g.image c a e in ap (λ (i : CoreState). length i.ends) d.1 ∙ length-replicate (parts_in g.image.cores c).ends boot_end;
     listed = λ core thread c side h. absurd (none_transfers core thread c side h);
-    inside = λ core thread line r hand transfer runs is_in at. absurd (none_begun core thread r hand transfer runs is_in);
-    between_pieces = λ line c side at nobody. refl;
+    stances = λ line c side at. at_rest (λ core thread h. none_transfers core thread c side h) refl;
     one = λ core thread core' thread' c side h k. absurd (none_transfers core thread c side h);
   }

@@ -21,6 +21,7 @@ use Rattle.xr_threads.proofs.Alone.{alone_begins, alone_excludes}
 use Rattle.xr_threads.proofs.InTransfers.{in_phase}
 use Rattle.xr_threads.proofs.Moves.{same_runner, works_at}
 use Rattle.xr_threads.proofs.WiredMoves.{Moves}
+use Rattle.xr_threads.proofs.Wiring.{wired_between}
 use Rattle.xr_wires.specs.Phases.{Phase, between, spot}
 
 -- no side is the other one
@@ -64,7 +65,7 @@ module _ (g : Setting) (roots : Roles) (is : IsImageOf g roots) (may_rest : (cor
 
   -- so the side stands in no piece
   pub spot_there : st.wired.ghosts.spots line side ≡ spot between false
-  spot_there = st.wired.between_pieces line d side line_there nobody
+  spot_there = wired_between g who w.machine x.state st.wired line d side line_there nobody
 
   -- the branch has it for itself
   pub alone_there : HasAlone x.state.branches d side r.branch

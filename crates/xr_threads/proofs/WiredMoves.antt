@@ -2,7 +2,7 @@
 use Rattle.std.proofs.Common.{◌≡◌, ◌≢◌, ◌⊎◌, inl, inr, ℕ, Bool, true, false, [], length, Option, Some, None, refl, sym, ap, ◌∙◌, subst, ⊎_elim, eq-eqb}
 use Rattle.std.specs.Prelude.{◌&&◌, nat_eq, slice_get, slice_set}
 use Rattle.std.proofs.lemmas.Bool.{cases_eq, ne_eqb}
-use Rattle.std.proofs.lemmas.Option.{same_Some}
+use Rattle.std.proofs.lemmas.Option.{none-some, same_Some}
 use Rattle.xs_instr.specs.declared.state.CoreState.{CoreState}
 use Rattle.xs_instr.specs.Machine.{Machine, parts_in}
 use Rattle.xc_meaning.specs.States.Channels.{Side, first, second}
@@ -14,7 +14,7 @@ use Rattle.xr_threads.specs.Images.{AreLines}
 use Rattle.xr_threads.specs.Roles.{Roles, used_by}
 use Rattle.xr_threads.specs.Runners.{Setting, Runner}
 use Rattle.xr_threads.specs.Transfers.{Transfer}
-use Rattle.xr_threads.specs.Wired.{AreSidesOn, AreWired, IsLine, IsTransferring, boxes_in}
+use Rattle.xr_threads.specs.Wired.{AreSidesOn, AreWired, IsLine, IsTransferring, Stance, at_rest, boxes_in, in_piece}
 use Rattle.xr_threads.proofs.Moves.{same_runner}
 use Rattle.xr_threads.proofs.Seats.{role_cases, role_here, with_role}
 use Rattle.xr_threads.proofs.Standing.{get_set_cases}
@@ -106,7 +106,7 @@ module _ (g : Setting) (lines : AreLines g) (who : Roles) (m : Machine) (world :
       (role_cases who c t (used_by s hand') d u)
 
   -- another one that was inside one is so still
-  still : (d u k : ℕ) (x : Side) → (Here d u → ⊥) → IsTransferring who d u k x → IsTransferring who' d u k x
+  abbrev still : (d u k : ℕ) (x : Side) → (Here d u → ⊥) → IsTransferring who d u k x → IsTransferring who' d u k x
   still d u k x ne i = record {
     runner = i.runner;
     hand = i.hand;
@@ -138,53 +138,44 @@ module _ (g : Setting) (lines : AreLines g) (who : Roles) (m : Machine) (world :
   here_is : (l : ℕ) (x : Side) → l ≡ line → x ≡ side → next.spots l x ≡ spot phase false
   here_is l x e f = ap (λ k. next.spots k x) e ∙ ap (next.spots line) f ∙ moved_here h.ghosts line side (spot phase false)
 
-  inside : (d u l : ℕ) (i : Runner) (other : Option Hand) (transfer : Transfer) → who' d u ≡ used_by i other → i.transfer ≡ Some transfer → IsLine g.program l transfer.channel → next.spots l transfer.side ≡ spot transfer.phase false
-  inside d u l i other transfer runs is at_l =
-      ⊎_elim
-      (λ here.
-      let same : s ≡ i = same_runner s i hand' other (sym here.2 ∙ runs) in
-      let new : transfer ≡ record { channel = channel; side = side; phase = phase } = moves.new transfer (ap (λ (v : Runner). v.transfer) same ∙ is) in
-      let l_is : l ≡ line = one_line g lines l line channel (subst (IsLine g.program l) (ap (λ (v : Transfer). v.channel) new) at_l) is_line in
-      here_is l transfer.side l_is (ap (λ (v : Transfer). v.side) new) ∙ ap (λ (v : Transfer). spot v.phase false) (sym new))
-      (λ there.
-      let was : who d u ≡ used_by i other = sym there.1 ∙ runs in
-      elsewhere l transfer.side
-      (λ e.
-      let on_channel : transfer.channel ≡ channel = one_channel g line transfer.channel channel (subst (λ k. IsLine g.program k transfer.channel) e.0 at_l) is_line in
-      there.0 (moves.mine d u (record { runner = i; hand = other; runs = was; transfer = transfer; is = is; channel_is = on_channel; side_is = e.1 })))
-      ∙ h.inside d u l i other transfer was is at_l)
-      (role_cases who c t (used_by s hand') d u)
-
-  between_pieces : (l k : ℕ) (x : Side) → IsLine g.program l k → ((d u : ℕ) → IsTransferring who' d u k x → ⊥) → next.spots l x ≡ spot between false
-  between_pieces l k x at_l nobody = by (cases_eq l line) (side_cases x side)
+  -- each side of a line stands as its thread does, or as before
+  stances : (l k : ℕ) (x : Side) → IsLine g.program l k → Stance who' k x (next.spots l x)
+  stances l k x at_l = by (cases_eq l line) (side_cases x side)
     where
-      away : ((l ≡ line) × (x ≡ side) → ⊥) → next.spots l x ≡ spot between false
-      away ne =
-          elsewhere l x ne
-          ∙ h.between_pieces l k x at_l
-          (λ d u i.
-          ⊎_elim
-          (λ (same : d ≡ c).
-          ⊎_elim
-          (λ (at : u ≡ t).
-          let own = was_here k x (subst (λ v. IsTransferring who c v k x) at (subst (λ v. IsTransferring who v u k x) same i)) in
-          ne (one_line g lines l line channel (subst (IsLine g.program l) own.0 at_l) is_line, own.1))
-          (λ (no : u ≢ t). nobody d u (still d u k x (λ e. no e.1) i))
-          (cases_eq u t))
-          (λ (no : d ≢ c). nobody d u (still d u k x (λ e. no e.0) i))
-          (cases_eq d c))
+      away : ((l ≡ line) × (x ≡ side) → ⊥) → Stance who' k x (next.spots l x)
+      away ne = from (h.stances l k x at_l)
+        where
+          on_line : k ≡ channel → l ≡ line
+          on_line e = one_line g lines l line channel (subst (IsLine g.program l) e at_l) is_line
 
-      by : (l ≡ line) ⊎ (l ≢ line) → (x ≡ side) ⊎ (x ≢ side) → next.spots l x ≡ spot between false
-      by (inl e) (inl f) = here_is l x e f ∙ ap (λ v. spot v false) (moves.over (none s.transfer refl))
+          not_here : (d u : ℕ) → IsTransferring who d u k x → Here d u → ⊥
+          not_here d u i here =
+              let own = was_here k x (subst (λ v. IsTransferring who c v k x) here.1 (subst (λ v. IsTransferring who v u k x) here.0 i)) in
+              ne (on_line own.0, own.1)
+
+          from : Stance who k x (h.ghosts.spots l x) → Stance who' k x (next.spots l x)
+          from (in_piece d u i e) = in_piece d u (still d u k x (not_here d u i) i) (elsewhere l x ne ∙ e)
+          from (at_rest nobody e) =
+              at_rest (λ d u i. ⊎_elim (λ own. ne (on_line own.1, own.2)) (λ other. nobody d u other.1) (is_now d u k x i)) (elsewhere l x ne ∙ e)
+
+      by : (l ≡ line) ⊎ (l ≢ line) → (x ≡ side) ⊎ (x ≢ side) → Stance who' k x (next.spots l x)
+      by (inl e) (inl f) = here_stands s.transfer refl
         where
           k_is : k ≡ channel
           k_is = one_channel g line k channel (subst (λ v. IsLine g.program v k) e at_l) is_line
 
-          none : (o : Option Transfer) → s.transfer ≡ o → s.transfer ≡ None
-          none None is = is
-          none (Some transfer) is =
+          here_stands : (o : Option Transfer) → s.transfer ≡ o → Stance who' k x (next.spots l x)
+          here_stands None none =
+              at_rest
+              (λ d u i.
+              ⊎_elim
+              (λ own. none-some (record { channel = channel; side = side; phase = phase }) (sym none ∙ own.3))
+              (λ other. other.0 (moves.mine d u (subst (λ v. IsTransferring who d u channel v) f (subst (λ v. IsTransferring who d u v x) k_is other.1))))
+              (is_now d u k x i))
+              (here_is l x e f ∙ ap (λ v. spot v false) (moves.over none))
+          here_stands (Some transfer) is =
               let new = moves.new transfer is in
-              absurd (nobody c t (record {
+              in_piece c t (record {
                 runner = s;
                 hand = hand';
                 runs = role_here who c t (used_by s hand');
@@ -192,7 +183,7 @@ module _ (g : Setting) (lines : AreLines g) (who : Roles) (m : Machine) (world :
                 is = is;
                 channel_is = ap (λ (v : Transfer). v.channel) new ∙ sym k_is;
                 side_is = ap (λ (v : Transfer). v.side) new ∙ sym f;
-              }))
+              }) (here_is l x e f ∙ ap (λ (v : Transfer). spot v.phase false) (sym new))
       by (inl e) (inr ne) = away (λ both. ne both.1)
       by (inr ne) f = away (λ both. ne both.0)
 
@@ -227,7 +218,6 @@ module _ (g : Setting) (lines : AreLines g) (who : Roles) (m : Machine) (world :
       long = long ∙ h.long;
       ends = ends_still size;
       listed = listed;
-      inside = inside;
-      between_pieces = between_pieces;
+      stances = stances;
       one = one;
     }

@@ -1,7 +1,8 @@
 -- The channels are wired as before where ends and inboxes stay, and the threads are in the transfers in which they were.
-use Rattle.std.proofs.Common.{◌≡◌, ◌≢◌, ℕ, List, length, Option, Some, slice_set, sym, ap, ◌∙◌, subst, ⊎_elim, arith}
+use Rattle.std.proofs.Common.{◌≡◌, ◌≢◌, ℕ, List, false, length, Option, Some, refl, slice_set, sym, ap, ◌∙◌, subst, ⊎_elim, arith}
 use Rattle.std.specs.Prelude.{slice_get}
 use Rattle.std.proofs.lemmas.Bool.{cases_eq}
+use Rattle.std.proofs.lemmas.Option.{same_Some}
 use Rattle.xs_instr.specs.declared.image.Pair.{Pair}
 use Rattle.xs_instr.specs.declared.state.CoreState.{CoreState}
 use Rattle.xs_instr.specs.Ends.{Peer}
@@ -11,11 +12,13 @@ use Rattle.xc_meaning.specs.States.Worlds.{World}
 use Rattle.xl_par.specs.Hands.{Hand}
 use Rattle.xr_wires.specs.Balance.{Balanced, IsEight, Local, credits_in}
 use Rattle.xr_wires.specs.Fresh.{Stands}
+use Rattle.xr_wires.specs.Phases.{Spot, between, spot}
 use Rattle.xr_wires.specs.Wires.{Ghosts, TalkAt, Wires, ends_in, line, place, tokens_at, tokens_in}
 use Rattle.xr_threads.specs.Roles.{Roles, used_by}
 use Rattle.xr_threads.specs.Runners.{Setting, Runner}
 use Rattle.xr_threads.specs.Transfers.{Transfer}
-use Rattle.xr_threads.specs.Wired.{AreWired, IsTransferring, boxes_in}
+use Rattle.xr_threads.specs.Wired.{AreWired, IsLine, IsTransferring, Stance, at_rest, boxes_in, in_piece}
+use Rattle.xr_threads.proofs.Moves.{same_runner}
 use Rattle.xr_threads.proofs.Standing.{get_set_cases}
 use Rattle.xl_expr.proofs.Lists.{get_set_other, get_set_same}
 
@@ -68,10 +71,14 @@ module _ (g : Setting) (who who' : Roles) (as_before : TransfersAsBefore who who
       let k = as_before.before d u h.runner h.hand h.transfer h.runs h.is in
       record { runner = k.0; hand = k.1; runs = k.2; transfer = h.transfer; is = k.3; channel_is = h.channel_is; side_is = h.side_is }
 
-  is_in : (d u c : ℕ) (side : Side) → IsTransferring who d u c side → IsTransferring who' d u c side
+  abbrev is_in : (d u c : ℕ) (side : Side) → IsTransferring who d u c side → IsTransferring who' d u c side
   is_in d u c side h =
       let k = as_before.still d u h.runner h.hand h.transfer h.runs h.is in
       record { runner = k.0; hand = k.1; runs = k.2; transfer = h.transfer; is = k.3; channel_is = h.channel_is; side_is = h.side_is }
+
+  pub stance_as : (c : ℕ) (side : Side) (at : Spot) → Stance who c side at → Stance who' c side at
+  stance_as c side at (in_piece d u i e) = in_piece d u (is_in d u c side i) e
+  stance_as c side at (at_rest nobody e) = at_rest (λ d u i. nobody d u (was_in d u c side i)) e
 
   -- the machine stands still
   pub wired_as : (m : Machine) (x y : World) → y.inboxes ≡ x.inboxes → AreWired g who m x → AreWired g who' m y
@@ -81,10 +88,7 @@ module _ (g : Setting) (who who' : Roles) (as_before : TransfersAsBefore who who
     long = ap length same ∙ h.long;
     ends = h.ends;
     listed = λ d u c side is. h.listed d u c side (was_in d u c side is);
-    inside = λ d u k r hand transfer runs is on.
-        let old = as_before.before d u r hand transfer runs is in
-        h.inside d u k old.0 old.1 transfer old.2 old.3 on;
-    between_pieces = λ k c side on nobody. h.between_pieces k c side on (λ d u is. nobody d u (is_in d u c side is));
+    stances = λ k c side on. stance_as c side (h.ghosts.spots k side) (h.stances k c side on);
     one = λ d u d' u' c side is also. h.one d u d' u' c side (was_in d u c side is) (was_in d' u' c side also);
   }
 
@@ -102,8 +106,7 @@ wired_still g who who' m m' c a b x y as_before was step left same h =
           (λ (old : (d ≢ c) × (slice_get m.cores d ≡ Some e)). h.ends d e old.1)
           (get_set_cases m.cores c d a b e was (ap (λ l. slice_get l d) (sym step) ∙ at));
       listed = h.listed;
-      inside = h.inside;
-      between_pieces = h.between_pieces;
+      stances = h.stances;
       one = h.one;
     })
   where
@@ -114,3 +117,27 @@ wired_still g who who' m m' c a b x y as_before was step left same h =
         (λ (is : k ≡ c). ap (λ n. ends_in (slice_get (slice_set m.cores c b) n)) is ∙ ap ends_in (get_set_same m.cores c a b was) ∙ left ∙ ap ends_in (sym was) ∙ ap (λ n. ends_in (slice_get m.cores n)) (sym is))
         (λ (ne : k ≢ c). ap ends_in (get_set_other m.cores c k b ne))
         (cases_eq k c)
+
+-- A side's spot, where a thread is inside a transfer there, and where none is.
+module _ (g : Setting) (who : Roles) (m : Machine) (x : World) (h : AreWired g who m x) where
+  pub wired_inside : (core thread at : ℕ) (r : Runner) (hand : Option Hand) (transfer : Transfer) → who core thread ≡ used_by r hand → r.transfer ≡ Some transfer → IsLine g.program at transfer.channel →
+      h.ghosts.spots at transfer.side ≡ spot transfer.phase false
+  wired_inside core thread at r hand transfer runs is on = by (h.stances at transfer.channel transfer.side on)
+    where
+      its : IsTransferring who core thread transfer.channel transfer.side
+      its = record { runner = r; hand = hand; runs = runs; transfer = transfer; is = is; channel_is = refl; side_is = refl }
+
+      by : Stance who transfer.channel transfer.side (h.ghosts.spots at transfer.side) → h.ghosts.spots at transfer.side ≡ spot transfer.phase false
+      by (in_piece d u i e) =
+          let one = h.one core thread d u transfer.channel transfer.side its i in
+          let runner : r ≡ i.runner = same_runner r i.runner hand i.hand (sym runs ∙ sym (ap (λ k. who k u) one.0 ∙ ap (who core) one.1) ∙ i.runs) in
+          let same : transfer ≡ i.transfer = same_Some transfer i.transfer (sym is ∙ ap (λ (k : Runner). k.transfer) runner ∙ i.is) in
+          e ∙ ap (λ (k : Transfer). spot k.phase false) (sym same)
+      by (at_rest nobody e) = absurd (nobody core thread its)
+
+  pub wired_between : (at c : ℕ) (side : Side) → IsLine g.program at c → ((core thread : ℕ) → IsTransferring who core thread c side → ⊥) → h.ghosts.spots at side ≡ spot between false
+  wired_between at c side on nobody = by (h.stances at c side on)
+    where
+      by : Stance who c side (h.ghosts.spots at side) → h.ghosts.spots at side ≡ spot between false
+      by (in_piece d u i e) = absurd (nobody d u i)
+      by (at_rest none e) = e

@@ -16,7 +16,7 @@ use Rattle.xr_threads.specs.Roles.{Roles, used_by}
 use Rattle.xr_threads.specs.Runners.{Setting, Runner}
 use Rattle.xr_threads.specs.Transfers.{Transfer}
 use Rattle.xr_wires.specs.Balance.{Local}
-use Rattle.xr_wires.specs.Phases.{between, spot}
+use Rattle.xr_wires.specs.Phases.{Spot, between, spot}
 use Rattle.xr_wires.specs.Wires.{Ghosts}
 
 -- the inboxes of the channels with two sides, in the order of the image's lines
@@ -41,6 +41,11 @@ pub record IsTransferring (who : Roles) (core thread : ℕ) (c : ℕ) (side : Si
   pub channel_is : transfer.channel ≡ c
   pub side_is : transfer.side ≡ side
 
+-- How a side of a channel stands: in the phase of the transfer that a thread is in there, or in no piece, where none is.
+pub data Stance (who : Roles) (c : ℕ) (side : Side) (at : Spot) : Type 0 where
+  in_piece : (core thread : ℕ) (i : IsTransferring who core thread c side) → at ≡ spot i.transfer.phase false → Stance who c side at
+  at_rest : ((core thread : ℕ) → IsTransferring who core thread c side → ⊥) → at ≡ spot between false → Stance who c side at
+
 -- The one relation of all channels: a side of a channel stands where the thread does that has begun a transfer on it, and else in no piece; and
 -- there is at most one such thread. It is on the core of the channel's sides.
 pub record AreWired (g : Setting) (who : Roles) (m : Machine) (x : World) : Type 0 where
@@ -50,10 +55,7 @@ pub record AreWired (g : Setting) (who : Roles) (m : Machine) (x : World) : Type
   pub ends : (c : ℕ) (a : CoreState) → slice_get m.cores c ≡ Some a → length a.ends ≡ (parts_in g.image.cores c).ends
   pub listed : (core thread c : ℕ) (side : Side) → IsTransferring who core thread c side →
       (line : ℕ) × IsLine g.program line c × AreSidesOn g.program c core
-  pub inside : (core thread line : ℕ) (r : Runner) (hand : Option Hand) (transfer : Transfer) → who core thread ≡ used_by r hand → r.transfer ≡ Some transfer →
-      IsLine g.program line transfer.channel → ghosts.spots line transfer.side ≡ spot transfer.phase false
-  pub between_pieces : (line c : ℕ) (side : Side) → IsLine g.program line c → ((core thread : ℕ) → IsTransferring who core thread c side → ⊥) →
-      ghosts.spots line side ≡ spot between false
+  pub stances : (line c : ℕ) (side : Side) → IsLine g.program line c → Stance who c side (ghosts.spots line side)
   pub one : (core thread core' thread' c : ℕ) (side : Side) → IsTransferring who core thread c side → IsTransferring who core' thread' c side →
       (core' ≡ core) × (thread' ≡ thread)
 
