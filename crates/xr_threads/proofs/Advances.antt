@@ -16,7 +16,7 @@ use Rattle.xr_match.specs.Systems.{SomeIs}
 use Rattle.xr_threads.specs.Images.{IsImageOf}
 use Rattle.xr_threads.specs.Roles.{IsParent, Roles, got_by, own_branches, used_by}
 use Rattle.xr_threads.specs.Runners.{Setting, Runner}
-use Rattle.xr_threads.specs.Scenes.{Touched, giving_back}
+use Rattle.xr_threads.specs.ThreadViews.{Guarantee, giving_back}
 use Rattle.xr_threads.specs.Standing.{AreLoose, IsRun, Stand, Standing, Stands, none_rests}
 use Rattle.xr_threads.specs.Transfers.{Transfer}
 use Rattle.xr_threads.specs.Wired.{AreWired, HasAlone}
@@ -33,7 +33,7 @@ use Rattle.xr_threads.proofs.Usage.{OthersUsed, used_on}
 
 -- What such a step leaves of the core: all but the thread and the ends of channels.
 pub record Advance (g : Setting) (r : Runner) (a left : CoreState) : Type 0 where
-  pub touched : (x : World) → Touched g r (record { core = a; world = x; hand = None }) (record { core = left; world = x; hand = None })
+  pub touched : (x : World) → Guarantee g r (record { core = a; world = x; hand = None }) (record { core = left; world = x; hand = None })
   pub syncs : left.syncs ≡ a.syncs
   pub roots : left.roots ≡ a.roots
   pub tied : (thread : Thread) → slice_get left.threads r.thread ≡ Some thread → thread.tie ≡ r.tie

@@ -23,7 +23,7 @@ use Rattle.xr_threads.specs.Fits.{ItemsFit}
 use Rattle.xr_threads.specs.Images.{IsImageOf}
 use Rattle.xr_threads.specs.Roles.{Roles, used_by}
 use Rattle.xr_threads.specs.Runners.{Runner, Setting, footprint_of, home, shrunk}
-use Rattle.xr_threads.specs.Scenes.{Scene, running}
+use Rattle.xr_threads.specs.ThreadViews.{ThreadView, running}
 use Rattle.xr_threads.specs.Standing.{IfTrue, IsAtRest, Stand, Standing, StandsWith, none_rests}
 use Rattle.xr_threads.specs.Transfers.{StopsIn, all_but_first}
 use Rattle.xr_threads.specs.Turns.{Errs, InTransfer, IsBehind, IsNext, Runs, cost, is_watching}
@@ -132,7 +132,7 @@ module _ (g : Setting) (first : Roles) (is : IsImageOf g first) (who : Roles) (w
     unwatched = stands_unwatched g r rest j (h.pc + 1) h.regs a (code_behind.1 a)
 
     module _ (es : List ChanEnd) where
-      abbrev behind : Scene
+      abbrev behind : ThreadView
       behind = own.behind g first is who w x st c t a at_c r runs_r branch known stand on h.pc h.regs h.regs h.here es rest None world acted next refl h.has unwatched None
 
       -- the thread is at the code of what is left

@@ -16,14 +16,14 @@ use Rattle.xl_expr.proofs.Lists.{get_set_same, get_set_other}
 use Rattle.xl_expr.proofs.ResourceParts.{others_same}
 use Rattle.xl_expr.specs.Frames.{Holds}
 use Rattle.xr_threads.specs.Runners.{Setting, Runner, IsPort, places, port_place}
-use Rattle.xr_threads.specs.Scenes.{Scene, Touched, running, running_so}
+use Rattle.xr_threads.specs.ThreadViews.{Guarantee, ThreadView, running, running_so}
 use Rattle.xr_threads.specs.Standing.{counts, is_of_root, one_where}
 use Rattle.xr_threads.specs.Turns.{Errs, Frees, Goes, HoldsStore, IsFree, IsWaitingTied, PortsStand, Waits, failed, finished, is_watching}
 use Rattle.xr_threads.proofs.Counts.{ended_counts}
 use Rattle.xr_threads.proofs.OwnEvents.{OwnStep}
 
 module _ (g : Setting) (r : Runner) (c : ℕ) (a : CoreState) (x : World) where
-  abbrev now : Scene
+  abbrev now : ThreadView
   now = record { core = a; world = x; hand = None }
 
   -- the thread does an item, and the branch goes on
@@ -52,18 +52,18 @@ module _ (g : Setting) (r : Runner) (c : ℕ) (a : CoreState) (x : World) where
   }
 
   -- memory and ports that are as they were
-  pub store_as : (z y : Scene) → y.core.words ≡ z.core.words → y.world.store ≡ z.world.store → HoldsStore g r z → HoldsStore g r y
+  pub store_as : (z y : ThreadView) → y.core.words ≡ z.core.words → y.world.store ≡ z.world.store → HoldsStore g r z → HoldsStore g r y
   store_as z y words store h = record {
     holds = subst (λ l. Holds (places g r.core) r.footprint.uses 0 l y.world.store) (sym words) (subst (Holds (places g r.core) r.footprint.uses 0 z.core.words) (sym store) h.holds);
     room = subst (λ l. r.stack + temporary ≤ length l) (sym words) h.room;
   }
 
-  pub ports_as : (z y : Scene) → ((p : ℕ) (listed : PortUse) → IsPort g r p listed → slice_get y.core.ports (port_place g r p) ≡ slice_get z.core.ports (port_place g r p)) → PortsStand g r z → PortsStand g r y
+  pub ports_as : (z y : ThreadView) → ((p : ℕ) (listed : PortUse) → IsPort g r p listed → slice_get y.core.ports (port_place g r p) ≡ slice_get z.core.ports (port_place g r p)) → PortsStand g r z → PortsStand g r y
   ports_as z y same h p listed is = let k = h p listed is in record { port = k.port; there = same p listed is ∙ k.there; declared = k.declared }
 
   -- what a trap leaves
   pub record HasTrapped (b : CoreState) (thread : Thread) : Type 0 where
-    pub touched : Touched g r now (record { core = b; world = x; hand = None })
+    pub touched : Guarantee g r now (record { core = b; world = x; hand = None })
     pub roots : b.roots ≡ a.roots
     pub syncs : b.syncs ≡ a.syncs
     pub words : b.words ≡ a.words

@@ -19,7 +19,7 @@ use Rattle.xc_kernel.specs.Eval.{words_of}
 use Rattle.xl_expr.proofs.Lists.{get_set_same, get_set_other, room_kept}
 use Rattle.xl_expr.proofs.ResourceParts.{others_fewer, others_same, own_fewer, part_same, port_same}
 use Rattle.xr_threads.specs.Runners.{IsMine, Setting, Runner, IsPort, MayChange, of_stack, home, is_among_words, is_word_among, places, port_place, relied}
-use Rattle.xr_threads.specs.Scenes.{Scene, Kept, IsSilentStep, SameUse, StillRuns, after, keeps, running, LeadsIn}
+use Rattle.xr_threads.specs.ThreadViews.{ThreadView, Rely, IsSilentStep, SameUse, StillRuns, after, keeps, running, LeadsIn}
 use Rattle.xr_threads.specs.Turns.{IsAt}
 use Rattle.xr_threads.proofs.Declared.{declared_there, same_declared}
 use Rattle.xr_threads.proofs.Sizes.{same_size}
@@ -51,7 +51,7 @@ module _ (g : Setting) (r : Runner) where
 
   -- what stays while the runner goes on: these of the words that it relies on, these of its resources, its branch, the words of its
   -- variables in the store, and what it has in hand; and its thread runs
-  pub record Since (leaves : ℕ → Type 0) (stays : Res → Type 0) (z y : Scene) : Type 0 where
+  pub record Since (leaves : ℕ → Type 0) (stays : Res → Type 0) (z y : ThreadView) : Type 0 where
     pub words : (w : ℕ) → relied g r w ≡ true → leaves w → slice_get y.core.words w ≡ slice_get z.core.words w
     pub parts : (res : Res) → IsMine g r res → stays res → part_of y.core res ≡ part_of z.core res
     pub branch : slice_get y.world.branches r.branch ≡ slice_get z.world.branches r.branch
@@ -63,7 +63,7 @@ module _ (g : Setting) (r : Runner) where
     pub on : StillRuns g r y.core
 
   -- it holds at once
-  pub since_now : (leaves : ℕ → Type 0) (stays : Res → Type 0) (z : Scene) → StillRuns g r z.core → Since leaves stays z z
+  pub since_now : (leaves : ℕ → Type 0) (stays : Res → Type 0) (z : ThreadView) → StillRuns g r z.core → Since leaves stays z z
   since_now leaves stays z on = record {
     words = λ w m l. refl;
     parts = λ res m s. refl;
@@ -76,11 +76,11 @@ module _ (g : Setting) (r : Runner) where
   }
 
   -- its ports are what they were
-  pub ports_kept : {z y : Scene} → Kept g r z y → (p : ℕ) (listed : PortUse) → IsPort g r p listed → slice_get y.core.ports (port_place g r p) ≡ slice_get z.core.ports (port_place g r p)
+  pub ports_kept : {z y : ThreadView} → Rely g r z y → (p : ℕ) (listed : PortUse) → IsPort g r p listed → slice_get y.core.ports (port_place g r p) ≡ slice_get z.core.ports (port_place g r p)
   ports_kept {z = z} {y = y} k p listed is = port_same z.core y.core (port_place g r p) (k.resources.parts (ResPort (port_place g r p)) (own_port p listed is))
 
   -- and lasts
-  pub since_kept : (leaves : ℕ → Type 0) (stays : Res → Type 0) {z y x : Scene} → Since leaves stays z y → Kept g r y x → Since leaves stays z x
+  pub since_kept : (leaves : ℕ → Type 0) (stays : Res → Type 0) {z y x : ThreadView} → Since leaves stays z y → Rely g r y x → Since leaves stays z x
   since_kept leaves stays {y = y} {x = x} h k = record {
     words = λ w m l. k.words w m ∙ h.words w m l;
     parts = λ res m s. k.resources.parts res m ∙ h.parts res m s;
@@ -93,7 +93,7 @@ module _ (g : Setting) (r : Runner) where
   }
 
   -- a thread that is at an index runs
-  pub at_runs : (z : Scene) (pc : ℕ) (regs : Regs) → IsAt g r z pc regs → StillRuns g r z.core
+  pub at_runs : (z : ThreadView) (pc : ℕ) (regs : Regs) → IsAt g r z pc regs → StillRuns g r z.core
   at_runs z pc regs here = record { thread = running r.tie pc regs; there = here; runs = refl; tied = refl; no_events = refl }
 
   -- one that is set to another index, with other registers, runs as before
@@ -111,11 +111,11 @@ module _ (g : Setting) (r : Runner) where
       }
 
   -- where the other threads are what they were they are in the same use
-  pub same_use : (y z : Scene) → ((u : ℕ) → u ≢ r.thread → slice_get z.core.threads u ≡ slice_get y.core.threads u) → SameUse g r y z
+  pub same_use : (y z : ThreadView) → ((u : ℕ) → u ≢ r.thread → slice_get z.core.threads u ≡ slice_get y.core.threads u) → SameUse g r y z
   same_use y z same = record { by = λ u x ne there. (x, same u ne ∙ there, refl, refl, refl) }
 
   -- a step leaves ports declared as they were
-  declared_on : (z y : Scene) (b : CoreState) →
+  declared_on : (z y : ThreadView) (b : CoreState) →
       ((p : ℕ) (listed : PortUse) (port : Port) → IsPort g r p listed → slice_get z.core.ports (port_place g r p) ≡ Some port →
       (other : Port) × (slice_get y.core.ports (port_place g r p) ≡ Some other) × (other.decl ≡ port.decl)) →
       slot (home g r) y.core r.thread ≡ makes b →
@@ -126,23 +126,23 @@ module _ (g : Setting) (r : Runner) where
       let new = declared_there y.core.ports b.ports (port_place g r p) old.0 (same_declared (home g r) y.core r.thread b made) old.1 in
       (new.0, new.1, new.2 ∙ old.2)
 
-  -- what is kept of a scene is kept of its core
-  pub core_kept : {z y : Scene} → Kept g r z y → own.Kept (relied g r) r.thread z.core y.core
+  -- what is kept of a view is kept of its core
+  pub core_kept : {z y : ThreadView} → Rely g r z y → own.Kept (relied g r) r.thread z.core y.core
   core_kept k = record { thread = k.thread; words = k.words }
 
   -- and the same beside some of the runner's resources
-  pub parts_kept : (mine : Res → Type 0) → ((res : Res) → mine res → IsMine g r res) → {z y : Scene} → Kept g r z y → KeptParts (relied g r) mine r.thread z.core y.core
+  pub parts_kept : (mine : Res → Type 0) → ((res : Res) → mine res → IsMine g r res) → {z y : ThreadView} → Rely g r z y → KeptParts (relied g r) mine r.thread z.core y.core
   parts_kept mine own {z = z} {y = y} k = record { own = core_kept k; resources = own_fewer (IsMine g r) r.thread z.core y.core mine own k.resources }
 
   -- or one of its ports
   pub alone_mine : (p : ℕ) (listed : PortUse) → IsPort g r p listed → (res : Res) → port_alone (port_place g r p) res → IsMine g r res
   alone_mine p listed is res e = subst (IsMine g r) (sym e) (own_port p listed is)
 
-  pub port_kept : (p : ℕ) (listed : PortUse) → IsPort g r p listed → {z y : Scene} → Kept g r z y → KeptParts (relied g r) (port_alone (port_place g r p)) r.thread z.core y.core
+  pub port_kept : (p : ℕ) (listed : PortUse) → IsPort g r p listed → {z y : ThreadView} → Rely g r z y → KeptParts (relied g r) (port_alone (port_place g r p)) r.thread z.core y.core
   port_kept p listed is k = parts_kept (port_alone (port_place g r p)) (alone_mine p listed is) k
 
   -- of the runner's ports those stay whose parts do
-  pub ports_since : (leaves : ℕ → Type 0) (stays : Res → Type 0) (z y : Scene) → Since leaves stays z y → (p : ℕ) (listed : PortUse) → IsPort g r p listed → stays (ResPort (port_place g r p)) → slice_get y.core.ports (port_place g r p) ≡ slice_get z.core.ports (port_place g r p)
+  pub ports_since : (leaves : ℕ → Type 0) (stays : Res → Type 0) (z y : ThreadView) → Since leaves stays z y → (p : ℕ) (listed : PortUse) → IsPort g r p listed → stays (ResPort (port_place g r p)) → slice_get y.core.ports (port_place g r p) ≡ slice_get z.core.ports (port_place g r p)
   ports_since leaves stays z y h p listed is s = port_same z.core y.core (port_place g r p) (h.parts (ResPort (port_place g r p)) (own_port p listed is) s)
 
   -- a word that is none of those that the runner may change is none of its temporary ones
@@ -160,7 +160,7 @@ module _ (g : Setting) (r : Runner) where
   -- The steps leave at least the words that the runner may not change.
   module _ (leaves : ℕ → Type 0) (safe : (w : ℕ) → (MayChange g r w → ⊥) → leaves w) where
     -- an own step is a silent one
-    own_silent : (y : Scene) (b : CoreState) → StillRuns g r y.core → OwnStep (home g r) leaves r.thread y.core b → IsSilentStep g r y (after g r y b)
+    own_silent : (y : ThreadView) (b : CoreState) → StillRuns g r y.core → OwnStep (home g r) leaves r.thread y.core b → IsSilentStep g r y (after g r y b)
     own_silent y b on step =
         let th' : Thread = record step.thread { pc = step.after.pc; regs = step.after.regs } in
         let others : (u : ℕ) → u ≢ r.thread → slice_get b.threads u ≡ slice_get y.core.threads u = λ u ne. ap (λ (c : CoreState). slice_get c.threads u) step.left ∙ get_set_other y.core.threads r.thread u th' ne in
@@ -183,7 +183,7 @@ module _ (g : Setting) (r : Runner) where
         }
 
     -- what stayed before it stays behind it
-    own_since : (stays : Res → Type 0) (z y : Scene) (b : CoreState) → Since leaves stays z y → OwnStep (home g r) leaves r.thread y.core b → Since leaves stays z (after g r y b)
+    own_since : (stays : Res → Type 0) (z y : ThreadView) (b : CoreState) → Since leaves stays z y → OwnStep (home g r) leaves r.thread y.core b → Since leaves stays z (after g r y b)
     own_since stays z y b h step = record {
       words = λ w m l. ap (λ (c : CoreState). slice_get c.words w) step.left ∙ step.words w l ∙ h.words w m l;
       parts = λ res m s.
@@ -197,8 +197,8 @@ module _ (g : Setting) (r : Runner) where
       on = (own_silent y b h.on step).on;
     }
 
-    -- from any scene of the way
-    on_the_way : (Q : CoreState → Type 0) (n : ℕ) (z y : Scene) → Since leaves any_part z y → Within (home g r) (relied g r) leaves r.thread Q n y.core → LeadsIn g r (λ x. Q x.core × Since leaves any_part z x) n y
+    -- from any view of the way
+    on_the_way : (Q : CoreState → Type 0) (n : ℕ) (z y : ThreadView) → Since leaves any_part z y → Within (home g r) (relied g r) leaves r.thread Q n y.core → LeadsIn g r (λ x. Q x.core × Since leaves any_part z x) n y
     on_the_way Q zero z y h way = (way, h)
     on_the_way Q (suc n) z y h way =
         ⊎_elim
@@ -210,12 +210,12 @@ module _ (g : Setting) (r : Runner) where
         way
 
     -- where own steps lead, the runner comes, and meanwhile these words stay
-    pub arrives : (Q : CoreState → Type 0) (n : ℕ) (z : Scene) → StillRuns g r z.core → Within (home g r) (relied g r) leaves r.thread Q n z.core → LeadsIn g r (λ y. Q y.core × Since leaves any_part z y) n z
+    pub arrives : (Q : CoreState → Type 0) (n : ℕ) (z : ThreadView) → StillRuns g r z.core → Within (home g r) (relied g r) leaves r.thread Q n z.core → LeadsIn g r (λ y. Q y.core × Since leaves any_part z y) n z
     arrives Q n z on way = on_the_way Q n z z (since_now leaves any_part z on) way
 
     module _ (mine : Res → Type 0) (own : (res : Res) → mine res → IsMine g r res) where
       -- a step that may set some of its resources is a silent one
-      parts_silent : (y : Scene) (b : CoreState) → StillRuns g r y.core → PartsStep (home g r) leaves mine r.thread y.core b → IsSilentStep g r y (after g r y b)
+      parts_silent : (y : ThreadView) (b : CoreState) → StillRuns g r y.core → PartsStep (home g r) leaves mine r.thread y.core b → IsSilentStep g r y (after g r y b)
       parts_silent y b on step =
           let th' : Thread = record step.thread { pc = step.after.pc; regs = step.after.regs } in
           let others : (u : ℕ) → u ≢ r.thread → slice_get b.threads u ≡ slice_get y.core.threads u = λ u ne. ap (λ (c : CoreState). slice_get c.threads u) step.left ∙ get_set_other y.core.threads r.thread u th' ne in
@@ -238,7 +238,7 @@ module _ (g : Setting) (r : Runner) where
           }
 
       -- what stayed before it stays behind it
-      parts_since : (z y : Scene) (b : CoreState) → Since leaves (apart_from mine) z y → PartsStep (home g r) leaves mine r.thread y.core b → Since leaves (apart_from mine) z (after g r y b)
+      parts_since : (z y : ThreadView) (b : CoreState) → Since leaves (apart_from mine) z y → PartsStep (home g r) leaves mine r.thread y.core b → Since leaves (apart_from mine) z (after g r y b)
       parts_since z y b h step = record {
         words = λ w m l. ap (λ (c : CoreState). slice_get c.words w) step.left ∙ step.words w l ∙ h.words w m l;
         parts = λ res m s. step.resources.parts res s ∙ h.parts res m s;
@@ -250,8 +250,8 @@ module _ (g : Setting) (r : Runner) where
         on = (parts_silent y b h.on step).on;
       }
 
-      -- from any scene of the way
-      parts_on_the_way : (Q : CoreState → Type 0) (n : ℕ) (z y : Scene) → Since leaves (apart_from mine) z y → WithinParts (home g r) (relied g r) leaves mine r.thread Q n y.core → LeadsIn g r (λ x. Q x.core × Since leaves (apart_from mine) z x) n y
+      -- from any view of the way
+      parts_on_the_way : (Q : CoreState → Type 0) (n : ℕ) (z y : ThreadView) → Since leaves (apart_from mine) z y → WithinParts (home g r) (relied g r) leaves mine r.thread Q n y.core → LeadsIn g r (λ x. Q x.core × Since leaves (apart_from mine) z x) n y
       parts_on_the_way Q zero z y h way = (way, h)
       parts_on_the_way Q (suc n) z y h way =
           ⊎_elim
@@ -263,5 +263,5 @@ module _ (g : Setting) (r : Runner) where
           way
 
       -- the same of steps that may also set some of the runner's resources
-      pub arrives_with : (Q : CoreState → Type 0) (n : ℕ) (z : Scene) → StillRuns g r z.core → WithinParts (home g r) (relied g r) leaves mine r.thread Q n z.core → LeadsIn g r (λ y. Q y.core × Since leaves (apart_from mine) z y) n z
+      pub arrives_with : (Q : CoreState → Type 0) (n : ℕ) (z : ThreadView) → StillRuns g r z.core → WithinParts (home g r) (relied g r) leaves mine r.thread Q n z.core → LeadsIn g r (λ y. Q y.core × Since leaves (apart_from mine) z y) n z
       arrives_with Q n z on way = parts_on_the_way Q n z z (since_now leaves (apart_from mine) z on) way

@@ -23,13 +23,13 @@ use Rattle.xr_threads.specs.Images.{IsImageOf}
 use Rattle.xr_threads.specs.Parents.{Parent}
 use Rattle.xr_threads.specs.Roles.{AreUsedSo, HandFits, Role, Roles, empty, got_by, gives_back, opens, unused, used_by}
 use Rattle.xr_threads.specs.Runners.{Setting, Runner, home}
-use Rattle.xr_threads.specs.Scenes.{Scene, held_in, running, sync_in}
+use Rattle.xr_threads.specs.ThreadViews.{ThreadView, held_in, running, sync_in}
 use Rattle.xr_threads.specs.Standing.{AreLoose, EventsAre, HasEnded, IfTrue, IsAtRest, IsOnItsWay, IsResuming, Stand, Standing, Stands, StandsBy, StandsWith, ThreadIs, none_rests}
 use Rattle.xr_threads.specs.Turns.{IsFree, Joins, Turns}
 use Rattle.xr_threads.specs.Wired.{AreWired, boxes_in}
 use Rattle.xr_threads.proofs.Begins.{entry, none_taken, set_on, set_there, set_watched, starts_there, set_life, unused_free, unused_there}
 use Rattle.xr_threads.proofs.Boot.{boot_length, set_regs, stack_leads}
-use Rattle.xr_threads.proofs.Scenes.{joins_stable, turns_stable}
+use Rattle.xr_threads.proofs.ThreadViews.{joins_stable, turns_stable}
 use Rattle.xr_threads.proofs.Starts.{RunsRoot, none_got, root_of}
 use Rattle.xr_threads.proofs.StartWires.{ends_same}
 use Rattle.xr_threads.proofs.Wiring.{local_still}
@@ -72,10 +72,10 @@ module _ (g : Setting) (who : Roles) (is : IsImageOf g who) where
     abbrev root : RunsRoot g who is r0.core r0.thread r0 None
     root = root_of g who is r0.core r0.thread r0 None e
 
-    abbrev set_z : Scene
+    abbrev set_z : ThreadView
     set_z = record { core = set_on g who is r0.core; world = x.state; hand = hand }
 
-    abbrev boot_z : Scene
+    abbrev boot_z : ThreadView
     boot_z = record { core = boot_on r0.core; world = x.state; hand = hand }
 
     tie_is : r0.tie ≡ r.tie

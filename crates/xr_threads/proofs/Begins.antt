@@ -25,7 +25,7 @@ use Rattle.xr_threads.specs.Items.{EndAt, ItemsAt}
 use Rattle.xr_threads.specs.Parents.{syncs_of}
 use Rattle.xr_threads.specs.Roles.{AreUsedSo, IsParent, ParentsWait, Role, Roles, empty, got_by, unused, used_by}
 use Rattle.xr_threads.specs.Runners.{Block, Setting, Runner, IsPort, anyone, code, footprint_of, home, plan, port_place}
-use Rattle.xr_threads.specs.Scenes.{Scene, giving_back, running}
+use Rattle.xr_threads.specs.ThreadViews.{ThreadView, giving_back, running}
 use Rattle.xr_threads.specs.Standing.{AreLoose, HasThread, Stand, Standing, Stands, StandsBy, StandsWith}
 use Rattle.xr_threads.specs.Transfers.{StopsIn}
 use Rattle.xr_threads.specs.Turns.{HoldsNames, HoldsStore, IsFree, ItemsFrom, Rest, cost, is_watching}
@@ -99,7 +99,7 @@ module _ (g : Setting) (who : Roles) (is : IsImageOf g who) where
     abbrev items : List Item
     items = todo h.root.body (ends ∷ [])
 
-    abbrev z : Scene
+    abbrev z : ThreadView
     z = record { core = set_on r.core; world = start; hand = None }
 
     -- all words of memory and of the store are 0

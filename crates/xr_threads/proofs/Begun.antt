@@ -26,7 +26,7 @@ use Rattle.xr_match.specs.Systems.{SomeIs}
 use Rattle.xr_threads.specs.Images.{IsImageOf}
 use Rattle.xr_threads.specs.Parents.{Parent, branches_of}
 use Rattle.xr_threads.specs.Runners.{Block, Footprint, Setting, Runner, code, footprint_of, outside, places, plan, plan_in}
-use Rattle.xr_threads.specs.Scenes.{Owns, giving_back, running, sync_in}
+use Rattle.xr_threads.specs.ThreadViews.{Owns, giving_back, running, sync_in}
 use Rattle.xr_threads.proofs.Counts.{living_after}
 use Rattle.xr_threads.proofs.NamedLinks.{opens_linked}
 use Rattle.xr_threads.proofs.Standing.{Follows, parents_still, told_by}

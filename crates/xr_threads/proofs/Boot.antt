@@ -23,11 +23,11 @@ use Rattle.xl_expr.proofs.ResourceParts.{others_same, own_same, own_then}
 use Rattle.xl_par.specs.Hands.{Hand, IsAmong, unused_in}
 use Rattle.xr_threads.specs.Roles.{Role, got_by, unused, used_by}
 use Rattle.xr_threads.specs.Runners.{IsMine, Setting, Runner, home}
-use Rattle.xr_threads.specs.Scenes.{IsStable, Kept, LeadsIn, Scene, SpareFor, after, held_in, keeps, running, sync_in}
+use Rattle.xr_threads.specs.ThreadViews.{IsStable, LeadsIn, Rely, SpareFor, ThreadView, after, held_in, keeps, running, sync_in}
 use Rattle.xr_threads.specs.Turns.{IsAt}
 use Rattle.xr_threads.proofs.Arriving.{at_runs, same_use}
 use Rattle.xr_threads.proofs.OwnTurns.{turn_is_row}
-use Rattle.xr_threads.proofs.Scenes.{leads_in_stable, then_leads}
+use Rattle.xr_threads.proofs.ThreadViews.{leads_in_stable, then_leads}
 use Rattle.xr_threads.proofs.Standing.{get_set_cases}
 
 -- a port as it starts
@@ -130,11 +130,11 @@ module _ (g : Setting) (r : Runner) where
       }
 
   -- an instruction that changes registers alone leads there, as far as the runner can tell
-  by_regs : (z : Scene) (pc : ℕ) (regs : Regs) (i : Instr) → IsAt g r z pc regs → instr_at (home g r) pc ≡ Some i → is_waiteu (Some i) ≡ false →
+  by_regs : (z : ThreadView) (pc : ℕ) (regs : Regs) (i : Instr) → IsAt g r z pc regs → instr_at (home g r) pc ≡ Some i → is_waiteu (Some i) ≡ false →
       ((a : CoreState) (x : Thread) → row (home g r) a r.thread x i ≡ told (put_own a r.thread x) (own_row (own_of a x) i)) → (pc' : ℕ) (regs' : Regs) →
       ((words : List ℕ) → own_row (record { pc = pc; regs = regs; words = words }) i ≡ makes (record { pc = pc'; regs = regs'; words = words })) →
       (held : (u : ℕ) → IsAmong (held_in z.hand) u → u ≢ r.thread) →
-      LeadsIn g r (Kept g r (after g r z (at_spot z.core pc' regs'))) 1 z
+      LeadsIn g r (Rely g r (after g r z (at_spot z.core pc' regs'))) 1 z
   by_regs z pc regs i here code no_event own pc' regs' does held =
       let th = running r.tie pc regs in
       let th' = running r.tie pc' regs' in
@@ -188,8 +188,8 @@ module _ (g : Setting) (r : Runner) where
     regs_set = reg_set (reg_set no_regs R0 (4 * stack)) Sp (4 * stack)
 
     -- By two steps it does both, and then it is on its way further as it is where its thread, among others, is behind them.
-    pub stack_leads : (z : Scene) (threads : List Thread) → IsAt g r z e no_regs → slice_get threads r.thread ≡ Some (running r.tie (e + 2) regs_set) → held_in z.hand ≡ [] → sync_in z.hand ≡ None →
-        (Q : Scene → Type 0) → IsStable g r Q → (n : ℕ) → LeadsIn g r Q n (record z { core = record z.core { threads = threads } }) → LeadsIn g r Q (1 + (1 + n)) z
+    pub stack_leads : (z : ThreadView) (threads : List Thread) → IsAt g r z e no_regs → slice_get threads r.thread ≡ Some (running r.tie (e + 2) regs_set) → held_in z.hand ≡ [] → sync_in z.hand ≡ None →
+        (Q : ThreadView → Type 0) → IsStable g r Q → (n : ℕ) → LeadsIn g r Q n (record z { core = record z.core { threads = threads } }) → LeadsIn g r Q (1 + (1 + n)) z
     stack_leads z threads here there none_held no_sync Q stable n on =
         let s = reg_set no_regs R0 (4 * stack) in
         let th1 = running r.tie (e + 1) s in
@@ -202,8 +202,8 @@ module _ (g : Setting) (r : Runner) where
         let to2 = by_regs z1 (e + 1) s (Setsp R0) here1 second refl (λ a t. refl) (e + 1 + 1) regs_set (λ ws. refl) held in
         let here2 = get_set_same z1.core.threads r.thread th1 th2 here1 in
         let two : e + 1 + 1 ≡ e + 2 = omega arith in
-        let past : Scene = record z { core = record z.core { threads = threads } } in
-        let kept : (y : Scene) → Kept g r z2 y → Kept g r past y = λ y k. record {
+        let past : ThreadView = record z { core = record z.core { threads = threads } } in
+        let kept : (y : ThreadView) → Rely g r z2 y → Rely g r past y = λ y k. record {
           thread = k.thread ∙ here2 ∙ ap (λ p. Some (running r.tie p regs_set)) two ∙ sym there;
           words = k.words;
           resources = own_then (IsMine g r) r.thread _ _ _ (own_same _ _ _ _ refl refl refl) (own_then (IsMine g r) r.thread _ _ _ k.resources (own_same _ _ _ _ refl refl refl));
@@ -217,5 +217,5 @@ module _ (g : Setting) (r : Runner) where
           tied = λ n u x sync at_u tied. let z : ◌≡◌ {A = Option ℕ} None (Some n) = sym no_sync ∙ sync in cc;
           spare = k.spare;
         } in
-        let from1 = then_leads g r (Kept g r z2) Q 1 n z1 to2 (λ y k. leads_in_stable g r Q stable n past y (kept y k) on) in
-        then_leads g r (Kept g r z1) Q 1 (1 + n) z to1 (λ x k. leads_in_stable g r Q stable (1 + n) z1 x k from1)
+        let from1 = then_leads g r (Rely g r z2) Q 1 n z1 to2 (λ y k. leads_in_stable g r Q stable n past y (kept y k) on) in
+        then_leads g r (Rely g r z1) Q 1 (1 + n) z to1 (λ x k. leads_in_stable g r Q stable (1 + n) z1 x k from1)

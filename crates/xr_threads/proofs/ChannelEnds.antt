@@ -17,7 +17,7 @@ use Rattle.xr_match.specs.Sources.{Told}
 use Rattle.xr_threads.specs.Images.{IsImageOf}
 use Rattle.xr_threads.specs.Roles.{Roles, used_by}
 use Rattle.xr_threads.specs.Runners.{Setting, Runner, end_place, home}
-use Rattle.xr_threads.specs.Scenes.{running}
+use Rattle.xr_threads.specs.ThreadViews.{running}
 use Rattle.xr_threads.specs.Standing.{Standing, none_rests}
 use Rattle.xr_threads.specs.Wired.{AreSidesOn, IsLine, boxes_in}
 use Rattle.xr_wires.specs.Balance.{Local}

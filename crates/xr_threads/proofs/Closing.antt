@@ -20,11 +20,11 @@ use Rattle.xr_threads.specs.Items.{EndAt, ItemsAt}
 use Rattle.xr_threads.specs.Parents.{Parent, sync_before, syncs_of}
 use Rattle.xl_walk.specs.Pieces.{ClosesAt, Exit}
 use Rattle.xr_threads.specs.Runners.{Setting, Runner, code, home, plan, relied}
-use Rattle.xr_threads.specs.Scenes.{IsSilentStep, Kept, LeadsIn, keeps, Owns, Scene, StillRuns, after, running}
+use Rattle.xr_threads.specs.ThreadViews.{IsSilentStep, Rely, LeadsIn, keeps, Owns, ThreadView, StillRuns, after, running}
 use Rattle.xr_threads.specs.Turns.{HasBases, HoldsNames, IsAt, IsJoining, Joins, JoinsAt, name_register}
 use Rattle.xr_threads.proofs.Arriving.{at_runs, runs_still, same_use}
 use Rattle.xr_threads.proofs.Layouts.{runs_at}
-use Rattle.xr_threads.proofs.Scenes.{leads_as}
+use Rattle.xr_threads.proofs.ThreadViews.{leads_as}
 use Rattle.xr_threads.proofs.Sizes.{same_size}
 
 -- each name but the first stands one register further down
@@ -41,12 +41,12 @@ names_back core sync syncs old regs small h names = record { by = λ place n e f
     by (suc (suc (suc (suc (suc (suc more)))))) n e few = absurd (omega (arith, few))
 
 module _ (g : Setting) (r : Runner) (n : ℕ) where
-  -- what is kept of a scene is kept of its core, and of a synchroniser that the runner owns
-  sync_kept : (z y : Scene) → Owns r z.hand n → Kept g r z y → KeptSync (relied g r) r.thread n z.core y.core
+  -- what is kept of a view is kept of its core, and of a synchroniser that the runner owns
+  sync_kept : (z y : ThreadView) → Owns r z.hand n → Rely g r z y → KeptSync (relied g r) r.thread n z.core y.core
   sync_kept z y owns k = record { own = record { thread = k.thread; words = k.words }; sync = k.syncs n owns }
 
   -- a quiet step is a silent one
-  quiet_silent : (y : Scene) (b : CoreState) → StillRuns g r y.core → QuietStep (home g r) r.thread y.core b → IsSilentStep g r y (after g r y b)
+  quiet_silent : (y : ThreadView) (b : CoreState) → StillRuns g r y.core → QuietStep (home g r) r.thread y.core b → IsSilentStep g r y (after g r y b)
   quiet_silent y b on step =
       let th' : Thread = record step.thread { pc = step.after.pc; regs = step.after.regs } in
       let others : (u : ℕ) → u ≢ r.thread → slice_get b.threads u ≡ slice_get y.core.threads u = λ u ne.
@@ -70,7 +70,7 @@ module _ (g : Setting) (r : Runner) (n : ℕ) where
       }
 
   -- quiet steps are silent, so where they lead the runner comes, with what it had in hand
-  pub quiet_leads : (Q : CoreState → Type 0) (hand : Option Hand) (k : ℕ) (z : Scene) → z.hand ≡ hand → Owns r z.hand n → StillRuns g r z.core → Leads (KeptSync (relied g r) r.thread n) (QuietStep (home g r) r.thread) Q k z.core → LeadsIn g r (λ x. Q x.core × (x.hand ≡ hand)) k z
+  pub quiet_leads : (Q : CoreState → Type 0) (hand : Option Hand) (k : ℕ) (z : ThreadView) → z.hand ≡ hand → Owns r z.hand n → StillRuns g r z.core → Leads (KeptSync (relied g r) r.thread n) (QuietStep (home g r) r.thread) Q k z.core → LeadsIn g r (λ x. Q x.core × (x.hand ≡ hand)) k z
   quiet_leads Q hand zero z is owns on way = (way, is)
   quiet_leads Q hand (suc k) z is owns on way =
       ⊎_elim
@@ -88,7 +88,7 @@ module _ (g : Setting) (r : Runner) (p : Parent) (ps : List Parent) (n j : ℕ) 
   first_sync : syncs_of r.parents ≡ n ∷ syncs_of ps
   first_sync = ap syncs_of parents ∙ ap (λ o. sync_before o (syncs_of ps)) sync
 
-  joins_at : (pc closed : ℕ) (old : List ℕ) (place : Pos) (y : Scene) →
+  joins_at : (pc closed : ℕ) (old : List ℕ) (place : Pos) (y : ThreadView) →
       ItemsAt (plan g r) (code g r) p.sides (EndAt (plan g r) (code g r) r.tie ps) p.items exits closed j →
       closing.Joins (home g r) (relied g r) r.thread n (running r.tie pc regs) old place closed y.core → y.hand ≡ None → JoinsAt g r p ps j y
   joins_at pc closed old place y behind h no_hand = record {
@@ -110,7 +110,7 @@ module _ (g : Setting) (r : Runner) (p : Parent) (ps : List Parent) (n j : ℕ) 
     frees = h.frees;
   }
 
-pub closes_leads : (g : Setting) (r : Runner) (p : Parent) (ps : List Parent) (n j pc closed : ℕ) (z : Scene) (regs : Regs) (exits : List Exit) →
+pub closes_leads : (g : Setting) (r : Runner) (p : Parent) (ps : List Parent) (n j pc closed : ℕ) (z : ThreadView) (regs : Regs) (exits : List Exit) →
     r.parents ≡ p ∷ ps → p.sync ≡ Some n → n < 8 → length (syncs_of ps) ≤ 6 → slice_get z.core.syncs n ≡ Some true →
     IsAt g r z pc regs → HasBases g r regs → ClosesAt (code g r) (plan g r) pc closed →
     ItemsAt (plan g r) (code g r) p.sides (EndAt (plan g r) (code g r) r.tie ps) p.items exits closed j → z.hand ≡ None → LeadsIn g r (Joins g r p ps j) 7 z
@@ -127,7 +127,7 @@ closes_leads g r p ps n j pc closed z regs exits parents sync few outer taken he
     (λ x h y k. joins_at g r p ps n j regs exits parents sync outer bases pc at_end z.core.words closes.place y behind' (h.0 y.core (sync_kept g r n x y (owned x.hand) k)) (k.hand ∙ h.1))
     (quiet_leads g r n Q None 7 z no_hand (owned z.hand) (at_runs g r z pc regs here) way)
 
-pub closes_lead : (g : Setting) (r : Runner) (p : Parent) (ps : List Parent) (n j pc closed : ℕ) (z : Scene) (regs : Regs) (exits : List Exit) →
+pub closes_lead : (g : Setting) (r : Runner) (p : Parent) (ps : List Parent) (n j pc closed : ℕ) (z : ThreadView) (regs : Regs) (exits : List Exit) →
     r.parents ≡ p ∷ ps → p.sync ≡ Some n → n < 8 → length (syncs_of ps) ≤ 6 → slice_get z.core.syncs n ≡ Some true →
     IsAt g r z pc regs → HasBases g r regs → ClosesAt (code g r) (plan g r) pc closed →
     ItemsAt (plan g r) (code g r) p.sides (EndAt (plan g r) (code g r) r.tie ps) p.items exits closed j → z.hand ≡ None → IsJoining g r p ps (7 + j) z

@@ -21,7 +21,7 @@ use Rattle.xr_match.specs.Systems.{SomeIs}
 use Rattle.xr_threads.specs.Parents.{Parent, sync_before, syncs_of}
 use Rattle.xr_threads.specs.Roles.{AreUsedSo, HandFits, IsOnce, IsParent, ParentsWait, Role, Roles, empty, gives_back, got_by, opens, outermost, unused, used_by}
 use Rattle.xr_threads.specs.Runners.{Setting, Runner}
-use Rattle.xr_threads.specs.Scenes.{held_in, sync_in}
+use Rattle.xr_threads.specs.ThreadViews.{held_in, sync_in}
 use Rattle.xr_threads.specs.Standing.{EventsAre, Stand, Standing, Stands, ThreadIs}
 use Rattle.xr_threads.specs.Turns.{IsFree, IsWaitingTied}
 use Rattle.xr_threads.proofs.Moves.{parent_sync, same_runner}

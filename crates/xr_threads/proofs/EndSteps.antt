@@ -12,7 +12,7 @@ use Rattle.xc_meaning.specs.States.Worlds.{World}
 use Rattle.xl_expr.proofs.Lists.{get_set_same, get_set_other}
 use Rattle.xl_expr.proofs.ResourceParts.{others_same}
 use Rattle.xr_threads.specs.Runners.{Runner, Setting}
-use Rattle.xr_threads.specs.Scenes.{Touched, running}
+use Rattle.xr_threads.specs.ThreadViews.{Guarantee, running}
 use Rattle.xr_threads.proofs.Advances.{Advance}
 
 module _ (g : Setting) (r : Runner) (a : CoreState) (pc : ℕ) (regs regs' : Regs) (here : slice_get a.threads r.thread ≡ Some (running r.tie pc regs)) (ends : List ChanEnd) where
@@ -23,7 +23,7 @@ module _ (g : Setting) (r : Runner) (a : CoreState) (pc : ℕ) (regs regs' : Reg
   pub gone_on : slice_get left.threads r.thread ≡ Some (running r.tie (pc + 1) regs')
   gone_on = get_set_same a.threads r.thread (running r.tie pc regs) (running r.tie (pc + 1) regs') here
 
-  pub touches : (x : World) → Touched g r (record { core = a; world = x; hand = None }) (record { core = left; world = x; hand = None })
+  pub touches : (x : World) → Guarantee g r (record { core = a; world = x; hand = None }) (record { core = left; world = x; hand = None })
   touches x = record {
     clock = refl;
     others = λ u ne free. get_set_other a.threads r.thread u (running r.tie (pc + 1) regs') ne;

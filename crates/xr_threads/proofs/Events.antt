@@ -24,7 +24,7 @@ use Rattle.xr_threads.specs.Images.{IsImageOf}
 use Rattle.xr_threads.specs.Parents.{Parent}
 use Rattle.xr_threads.specs.Roles.{HandFits, Role, Roles, got_by, unused, used_by}
 use Rattle.xr_threads.specs.Runners.{Setting, Runner, footprint_of, home}
-use Rattle.xr_threads.specs.Scenes.{IsSilentStep, Kept, LeadsIn, Scene, giving_back}
+use Rattle.xr_threads.specs.ThreadViews.{IsSilentStep, LeadsIn, Rely, ThreadView, giving_back}
 use Rattle.xr_threads.specs.Standing.{EventsAre, HasEnded, HasThread, Stand, Standing, Stands, StandsBy, StandsWith, ThreadIs, none_rests}
 use Rattle.xr_threads.specs.Transfers.{StopsIn, Transfer, steps_left}
 use Rattle.xr_threads.specs.Turns.{Errs, Frees, GivesBack, Goes, InTransfer, IsFree, IsWaitingTied, Joins, JoinsAt, Offers, TakesIn, Turn, Turns, Waits, begins, cost, errs, frees, goes_on, offers, pauses, takes_in, waits_tied}
@@ -114,7 +114,7 @@ module _ (g : Setting) (first : Roles) (is : IsImageOf g first) (who : Roles) (w
 
   module _ (r : Runner) (hand : Option Hand) (runs_r : who c t ≡ used_by r hand)
       (branch : Branch) (known : slice_get x.state.branches r.branch ≡ Some branch) (stand : Stand g r false hand a x.state (w.lives c t) x.actions branch) where
-    abbrev now : Scene
+    abbrev now : ThreadView
     now = record { core = a; world = x.state; hand = hand }
 
     -- what the thread's turn leaves, where it is a step
@@ -124,7 +124,7 @@ module _ (g : Setting) (first : Roles) (is : IsImageOf g first) (who : Roles) (w
     core_is : r.core ≡ c
     core_is = st.roles.core c t r hand runs_r
 
-    here : Kept g r now now
+    here : Rely g r now now
     here = kept_now g first is none_rests who w x st c t a r hand at_c runs_r
 
     -- the machine is the one behind such a step
@@ -142,7 +142,7 @@ module _ (g : Setting) (first : Roles) (is : IsImageOf g first) (who : Roles) (w
 
     -- the thread goes on, errs or ends, or takes a step of a transfer, with nothing in hand
     module _ (none : hand ≡ None) where
-      abbrev alone : Scene
+      abbrev alone : ThreadView
       alone = record { core = a; world = x.state; hand = None }
 
       runs_alone : who c t ≡ used_by r None
@@ -205,7 +205,7 @@ module _ (g : Setting) (first : Roles) (is : IsImageOf g first) (who : Roles) (w
         (begins_followed g first is who w x st c t a at_c r hand runs_r j h stand' out few)
 
     -- a silent step
-    on_the_way : (z : Scene) → ((mode : ThreadMode) → mode ≡ Running → ThreadIs r.parents branch.mode mode) → ((bit : Bool) → bit ≡ false → EventsAre branch.mode branch.items bit) → IsSilentStep g r now z → (left : ℕ) → suc left ≤ stand.left → StandsBy g r false branch.items branch.mode left z → Leaves (slot (home g r) a r.thread) → Goal
+    on_the_way : (z : ThreadView) → ((mode : ThreadMode) → mode ≡ Running → ThreadIs r.parents branch.mode mode) → ((bit : Bool) → bit ≡ false → EventsAre branch.mode branch.items bit) → IsSilentStep g r now z → (left : ℕ) → suc left ≤ stand.left → StandsBy g r false branch.items branch.mode left z → Leaves (slot (home g r) a r.thread) → Goal
     on_the_way z alive calm silent left few by e =
         goal_of none_rests (λ d u ne. refl) z.core None (ap (stepped (home g r) w.machine r.core r.thread a) silent.made) e
         (silent_followed g first is who w x st c t a at_c r hand runs_r branch known stand z alive calm silent left few by)
@@ -215,7 +215,7 @@ module _ (g : Setting) (first : Roles) (is : IsImageOf g first) (who : Roles) (w
     running_alive is_running mode e = subst (λ k. ThreadIs r.parents k mode) (sym is_running) e
 
     -- which takes no events before a silent step, and so none behind it
-    running_calm : branch.mode ≡ runs → (z : Scene) → IsSilentStep g r now z → (bit : Bool) → bit ≡ false → EventsAre branch.mode branch.items bit
+    running_calm : branch.mode ≡ runs → (z : ThreadView) → IsSilentStep g r now z → (bit : Bool) → bit ≡ false → EventsAre branch.mode branch.items bit
     running_calm is_running z silent bit e =
         let same : stand.thread.thread ≡ silent.was.thread = same_Some stand.thread.thread silent.was.thread (sym stand.thread.there ∙ silent.was.there) in
         let is = subst (λ k. EventsAre k branch.items stand.thread.thread.event_bit) is_running stand.thread.events in

@@ -15,8 +15,8 @@ use Rattle.xl_expr.proofs.ResourceParts.{others_same}
 use Rattle.xl_par.specs.Hands as hands
 use Rattle.xl_par.specs.Hands.{Hand, HandStep, HasSpare, IsAmong, KeptHand, WithinHand, own_only, with_sync, with_thread_got}
 use Rattle.xr_threads.specs.Runners.{Setting, Runner, home, port_place, relied}
-use Rattle.xr_threads.specs.Scenes as scenes
-use Rattle.xr_threads.specs.Scenes.{HandChange, IsSilentStep, Kept, LeadsIn, SameUse, Scene, SpareFor, StillRuns, Touched, held_in, sync_in}
+use Rattle.xr_threads.specs.ThreadViews as views
+use Rattle.xr_threads.specs.ThreadViews.{Guarantee, HandChange, IsSilentStep, LeadsIn, Rely, SameUse, SpareFor, StillRuns, ThreadView, held_in, sync_in}
 use Rattle.xr_threads.specs.Turns.{Has}
 use Rattle.xr_threads.proofs.Arriving.{same_use, stack_relied}
 use Rattle.xr_threads.proofs.Layouts.{has_kept, ports_last}
@@ -44,8 +44,8 @@ module _ (g : Setting) (r : Runner) where
         no_events = ap (λ (x : Thread). x.event_bit) same ∙ on.no_events;
       }
 
-  -- what is kept of a scene is kept of its core and hand
-  pub hand_kept : (hand : Hand) (z y : Scene) → z.hand ≡ Some hand → Kept g r z y → KeptHand (relied g r) r.thread hand z.core y.core
+  -- what is kept of a view is kept of its core and hand
+  pub hand_kept : (hand : Hand) (z y : ThreadView) → z.hand ≡ Some hand → Rely g r z y → KeptHand (relied g r) r.thread hand z.core y.core
   hand_kept hand z y is k = record {
     own = record { thread = k.thread; words = k.words };
     sync = λ n e. k.syncs n (inr (ap sync_in is ∙ e));
@@ -54,13 +54,13 @@ module _ (g : Setting) (r : Runner) where
     spare = subst (λ h. SpareFor h y.core) is k.spare;
   }
 
-  module _ (y : Scene) (hand hand' : Hand) (is : y.hand ≡ Some hand) (b : CoreState) (running_on : StillRuns g r y.core) (step : HandStep (home g r) r.thread hand hand' y.core b) where
-    abbrev next : Scene
+  module _ (y : ThreadView) (hand hand' : Hand) (is : y.hand ≡ Some hand) (b : CoreState) (running_on : StillRuns g r y.core) (step : HandStep (home g r) r.thread hand hand' y.core b) where
+    abbrev next : ThreadView
     next = record { core = b; world = y.world; hand = Some hand' }
 
     -- what a step leaves, and who has what then
     record Left : Type 0 where
-      touched : Touched g r y next
+      touched : Guarantee g r y next
       roots : b.roots ≡ y.core.roots
       channel_ends : b.ends ≡ y.core.ends
       change : HandChange g r y next
@@ -84,7 +84,7 @@ module _ (g : Setting) (r : Runner) where
           };
           roots = ap (λ (c : CoreState). c.roots) left;
           channel_ends = ap (λ (c : CoreState). c.ends) left;
-          change = scenes.keeps (ap Some same ∙ sym is) (ap (λ (c : CoreState). c.syncs) left) (same_use g r y next others);
+          change = views.keeps (ap Some same ∙ sym is) (ap (λ (c : CoreState). c.syncs) left) (same_use g r y next others);
           on = runs_on y.core b step.thread y.core.threads after.pc after.regs running_on step.here refl (ap (λ (c : CoreState). c.threads) left);
           words = all_words;
           ports = ap (λ (c : CoreState). c.ports) left;
@@ -103,7 +103,7 @@ module _ (g : Setting) (r : Runner) where
           };
           roots = ap (λ (c : CoreState). c.roots) left;
           channel_ends = ap (λ (c : CoreState). c.ends) left;
-          change = scenes.gets_sync hand n is none (first_free_is y.core.syncs n first) (ap (λ (c : CoreState). c.syncs) left) (ap Some same) (same_use g r y next others);
+          change = views.gets_sync hand n is none (first_free_is y.core.syncs n first) (ap (λ (c : CoreState). c.syncs) left) (ap Some same) (same_use g r y next others);
           on = runs_on y.core b step.thread y.core.threads (step.thread.pc + 1) regs running_on step.here refl (ap (λ (c : CoreState). c.threads) left);
           words = λ w. ap (λ (c : CoreState). slice_get c.words w) left;
           ports = ap (λ (c : CoreState). c.ports) left;
@@ -126,7 +126,7 @@ module _ (g : Setting) (r : Runner) where
           };
           roots = ap (λ (c : CoreState). c.roots) left;
           channel_ends = ap (λ (c : CoreState). c.ends) left;
-          change = scenes.gets_thread hand n u x is sync least first there (ap (λ (c : CoreState). c.syncs) left) (ap Some same)
+          change = views.gets_thread hand n u x is sync least first there (ap (λ (c : CoreState). c.syncs) left) (ap Some same)
               (ap (λ (c : CoreState). slice_get c.threads u) left ∙ get_set_other threads r.thread u th' other ∙ get_set_same y.core.threads u x (tied_to n x) there) rest;
           on = runs_on y.core b step.thread threads (step.thread.pc + 1) regs running_on step.here (get_set_other y.core.threads u r.thread (tied_to n x) (λ e. other (sym e))) (ap (λ (c : CoreState). c.threads) left);
           words = λ w. ap (λ (c : CoreState). slice_get c.words w) left;
@@ -149,7 +149,7 @@ module _ (g : Setting) (r : Runner) where
           };
           roots = ap (λ (c : CoreState). c.roots) left;
           channel_ends = ap (λ (c : CoreState). c.ends) left;
-          change = scenes.keeps (ap Some same ∙ sym is) (ap (λ (c : CoreState). c.syncs) left) (record {
+          change = views.keeps (ap Some same ∙ sym is) (ap (λ (c : CoreState). c.syncs) left) (record {
             by = λ v o ne at_v.
                 ⊎_elim
                 (λ (e : v ≡ u).
@@ -196,13 +196,13 @@ module _ (g : Setting) (r : Runner) where
     }
 
   -- where these steps lead, with what is in hand then
-  pub record Reached (Q : Hand → CoreState → Type 0) (items : List Item) (x : Scene) : Type 0 where
+  pub record Reached (Q : Hand → CoreState → Type 0) (items : List Item) (x : ThreadView) : Type 0 where
     pub hand : Hand
     pub in_hand : x.hand ≡ Some hand
     pub there : Q hand x.core
     pub has : Has g r items x
 
-  pub hand_leads : (Q : Hand → CoreState → Type 0) (items : List Item) (n : ℕ) (y : Scene) (hand : Hand) → y.hand ≡ Some hand → StillRuns g r y.core → Has g r items y →
+  pub hand_leads : (Q : Hand → CoreState → Type 0) (items : List Item) (n : ℕ) (y : ThreadView) (hand : Hand) → y.hand ≡ Some hand → StillRuns g r y.core → Has g r items y →
       WithinHand (home g r) (relied g r) r.thread Q n hand y.core → LeadsIn g r (Reached Q items) n y
   hand_leads Q items zero y hand is on has way = record { hand = hand; in_hand = is; there = way; has = has }
   hand_leads Q items (suc n) y hand is on has way =
@@ -212,7 +212,7 @@ module _ (g : Setting) (r : Runner) where
       let s = further x.core (hand_kept hand y x is k) in
       let is' : x.hand ≡ Some hand = k.hand ∙ is in
       let on' : StillRuns g r x.core = record { thread = on.thread; there = k.thread ∙ on.there; runs = on.runs; tied = on.tied; no_events = on.no_events } in
-      let next' : Scene = record { core = s.1; world = x.world; hand = Some s.0 } in (
+      let next' : ThreadView = record { core = s.1; world = x.world; hand = Some s.0 } in (
         next',
         hand_silent x hand s.0 is' s.1 on' s.2,
         hand_leads Q items n next' s.0 refl (still_on x hand s.0 is' s.1 on' s.2) (has_on x hand s.0 is' s.1 on' s.2 items (has_kept g r items y x k has)) s.3,

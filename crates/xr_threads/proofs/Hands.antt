@@ -22,7 +22,7 @@ use Rattle.xr_match.specs.Sources.{Told}
 use Rattle.xr_threads.specs.Images.{IsImageOf}
 use Rattle.xr_threads.specs.Roles.{AreUsedSo, HandFits, Role, Roles, empty, gives_back, got_by, opens, unused, used_by}
 use Rattle.xr_threads.specs.Runners.{Setting, Runner}
-use Rattle.xr_threads.specs.Scenes.{HandChange, IsSilentStep, Owns, gets_sync, gets_thread, keeps, SameUse, Scene, StillRuns, Touched, giving_back, held_in, sync_in}
+use Rattle.xr_threads.specs.ThreadViews.{HandChange, IsSilentStep, Owns, gets_sync, gets_thread, keeps, SameUse, ThreadView, StillRuns, Guarantee, giving_back, held_in, sync_in}
 use Rattle.xr_threads.specs.Standing.{EventsAre, Stand, Standing, StandsBy, ThreadIs, none_rests}
 use Rattle.xr_threads.specs.Living.{AreNamed}
 use Rattle.xr_threads.proofs.NamedLinks.{gets_sync_linked, gets_thread_linked, keeps_linked, told_same}
@@ -80,9 +80,9 @@ hand_sync items hand u (opens h bs rest e is count several synced) m = by h.sync
 
 module _ (g : Setting) (first : Roles) (is : IsImageOf g first) (who : Roles) (w : Watched) (x : Told (of_kernel g.program)) (st : Standing g none_rests who w x)
     (c t : ℕ) (a : CoreState) (at_c : slice_get w.machine.cores c ≡ Some a) (r : Runner) (hand : Option Hand) (runs_r : who c t ≡ used_by r hand)
-    (branch : Branch) (fits : HandFits branch.items hand) (z : Scene) (on : StillRuns g r z.core)
-    (touched : Touched g r (record { core = a; world = x.state; hand = hand }) z) where
-  abbrev now : Scene
+    (branch : Branch) (fits : HandFits branch.items hand) (z : ThreadView) (on : StillRuns g r z.core)
+    (touched : Guarantee g r (record { core = a; world = x.state; hand = hand }) z) where
+  abbrev now : ThreadView
   now = record { core = a; world = x.state; hand = hand }
 
   thread_is : r.thread ≡ t
@@ -427,12 +427,12 @@ module _ (g : Setting) (first : Roles) (is : IsImageOf g first) (who : Roles) (w
 module _ (g : Setting) (first : Roles) (is : IsImageOf g first) (who : Roles) (w : Watched) (x : Told (of_kernel g.program)) (st : Standing g none_rests who w x)
     (c t : ℕ) (a : CoreState) (at_c : slice_get w.machine.cores c ≡ Some a) (r : Runner) (hand : Option Hand) (runs_r : who c t ≡ used_by r hand)
     (branch : Branch) (known : slice_get x.state.branches r.branch ≡ Some branch) (stand : Stand g r false hand a x.state (w.lives c t) x.actions branch)
-    (z : Scene) (alive : (mode : ThreadMode) → mode ≡ Running → ThreadIs r.parents branch.mode mode) (calm : (bit : Bool) → bit ≡ false → EventsAre branch.mode branch.items bit) (silent : IsSilentStep g r (record { core = a; world = x.state; hand = hand }) z)
+    (z : ThreadView) (alive : (mode : ThreadMode) → mode ≡ Running → ThreadIs r.parents branch.mode mode) (calm : (bit : Bool) → bit ≡ false → EventsAre branch.mode branch.items bit) (silent : IsSilentStep g r (record { core = a; world = x.state; hand = hand }) z)
     (left : ℕ) (few : suc left ≤ stand.left) (by : StandsBy g r false branch.items branch.mode left z) where
   abbrev pub silent_machine : Machine
   silent_machine = record { cores = slice_set w.machine.cores c z.core; links = w.machine.links; trace = noted w.machine.trace None }
 
-  abbrev before : Scene
+  abbrev before : ThreadView
   before = record { core = a; world = x.state; hand = hand }
 
   -- the program does nothing
@@ -445,15 +445,15 @@ module _ (g : Setting) (first : Roles) (is : IsImageOf g first) (who : Roles) (w
   at_left : slice_get silent_machine.cores c ≡ Some z.core
   at_left = get_set_same w.machine.cores c a z.core at_c
 
-  -- the scene, with what the hand is
-  scene_is : (hand' : Option Hand) → z.hand ≡ hand' → (P : Scene → Type 0) → P z → P (record { core = z.core; world = x.state; hand = hand' })
-  scene_is hand' e P h = subst (λ k. P (record { core = z.core; world = x.state; hand = k })) e (subst (λ v. P (record { core = z.core; world = v; hand = z.hand })) silent.world h)
+  -- the view, with what the hand is
+  view_is : (hand' : Option Hand) → z.hand ≡ hand' → (P : ThreadView → Type 0) → P z → P (record { core = z.core; world = x.state; hand = hand' })
+  view_is hand' e P h = subst (λ k. P (record { core = z.core; world = x.state; hand = k })) e (subst (λ v. P (record { core = z.core; world = v; hand = z.hand })) silent.world h)
 
   by_roles : (hand' : Option Hand) → z.hand ≡ hand' → (who' : Roles) (moved : ℕ → Bool) → SilentRoles g who who' c t r hand hand' a z.core branch moved → (AreNamed g who w x → AreNamed g who' (watched_after w (Step c t) silent_machine) nothing_told) →
       Follows g none_rests who w x (watched_after w (Step c t) silent_machine)
   by_roles hand' e who' moved roles named =
-      silent_answered g first is who w x st c t a at_c r hand runs_r branch known stand z.core hand' alive calm silent.on (scene_is hand' e (Touched g r before) silent.touched) silent.roots silent.channel_ends who' moved roles left few
-      (scene_is hand' e (StandsBy g r false branch.items branch.mode left) by) named
+      silent_answered g first is who w x st c t a at_c r hand runs_r branch known stand z.core hand' alive calm silent.on (view_is hand' e (Guarantee g r before) silent.touched) silent.roots silent.channel_ends who' moved roles left few
+      (view_is hand' e (StandsBy g r false branch.items branch.mode left) by) named
 
   by_change : HandChange g r before z → Follows g none_rests who w x (watched_after w (Step c t) silent_machine)
   by_change (keeps e syncs same) =

@@ -11,18 +11,18 @@ use Rattle.xl_expr.specs.Plans.{end_in, resource_at}
 use Rattle.xl_plan.specs.Layout.{end_name, port_name}
 use Rattle.xl_sides.specs.Ends.{end_of_side}
 use Rattle.xr_threads.specs.Runners.{Setting, Runner, IsChannel, IsLaidOut, IsPort, end_place, home, plan, port_place, relied}
-use Rattle.xr_threads.specs.Scenes.{Scene}
+use Rattle.xr_threads.specs.ThreadViews.{ThreadView}
 
 module _ (g : Setting) (r : Runner) where
   -- an identifier that stands where the plan says names a port
-  pub record PortIsNamed (p : ℕ) (z : Scene) : Type 0 where
+  pub record PortIsNamed (p : ℕ) (z : ThreadView) : Type 0 where
     pub at : ResAt
     pub planned : resource_at (plan g r).ports p ≡ Some at
     pub is : IsIdentifier (relied g r) r.stack (4 * r.block.base) z.core.words at (port_name r.core (port_place g r p))
     pub names : named (home g r).number (port_name r.core (port_place g r p)) ≡ APort (port_place g r p)
 
   -- or a side's end
-  pub record EndIsNamed (c : ℕ) (side : Side) (z : Scene) : Type 0 where
+  pub record EndIsNamed (c : ℕ) (side : Side) (z : ThreadView) : Type 0 where
     pub end : ℕ
     pub is_end : end_of_side (slice_get (plan g r).channels c) (Some side) ≡ Some end
     pub at : ResAt
@@ -32,7 +32,7 @@ module _ (g : Setting) (r : Runner) where
 
   -- in the outermost block all of them are fixed
 
-  pub port_named : IsLaidOut g r → (z : Scene) (p : ℕ) (listed : PortUse) → IsPort g r p listed → PortIsNamed p z
+  pub port_named : IsLaidOut g r → (z : ThreadView) (p : ℕ) (listed : PortUse) → IsPort g r p listed → PortIsNamed p z
   port_named laid z p listed is = record {
     at = Fixed (port_name r.core (port_place g r p));
     planned = laid.identifiers p listed is;
@@ -40,7 +40,7 @@ module _ (g : Setting) (r : Runner) where
     names = laid.names p listed is;
   }
 
-  pub end_named : IsLaidOut g r → (z : Scene) (c : ℕ) (side : Side) → IsChannel g r c → EndIsNamed c side z
+  pub end_named : IsLaidOut g r → (z : ThreadView) (c : ℕ) (side : Side) → IsChannel g r c → EndIsNamed c side z
   end_named laid z c side used =
       let planned = laid.ends c side used in
       record {

@@ -20,7 +20,7 @@ use Rattle.xr_match.specs.Sources.{Told}
 use Rattle.xr_threads.specs.Images.{IsImageOf}
 use Rattle.xr_threads.specs.Roles.{Roles, empty, used_by}
 use Rattle.xr_threads.specs.Runners.{Runner, Setting, home}
-use Rattle.xr_threads.specs.Scenes.{Scene, running}
+use Rattle.xr_threads.specs.ThreadViews.{ThreadView, running}
 use Rattle.xr_threads.specs.Standing.{EventsAre, Stand, Standing, StandsBy, StandsWith, ThreadIs, none_rests}
 use Rattle.xr_threads.specs.Transfers.{Transfer}
 use Rattle.xr_threads.specs.Turns.{is_watching}
@@ -99,7 +99,7 @@ module _ (g : Setting) (first : Roles) (is : IsImageOf g first) (who : Roles) (w
   abbrev pub s : Runner
   s = record r { transfer = next }
 
-  abbrev pub behind : Scene
+  abbrev pub behind : ThreadView
   behind = record { core = left; world = x.state; hand = None }
 
   abbrev pub watched : Watched

@@ -32,7 +32,7 @@ use Rattle.xr_threads.specs.Items.{EndAt, ItemsAt}
 use Rattle.xr_threads.specs.Parents.{Parent, branches_of, syncs_of}
 use Rattle.xr_threads.specs.Roles.{AreRoles, AreUsedSo, HasReserves, ParentsWait, Role, Roles, gives_back, got_by, outermost, own_branches, unused, used_by}
 use Rattle.xr_threads.specs.Runners.{Footprint, Setting, Runner, code, footprint_of, home, plan}
-use Rattle.xr_threads.specs.Scenes.{Owns, giving_back, held_in, running, sync_in}
+use Rattle.xr_threads.specs.ThreadViews.{Owns, giving_back, held_in, running, sync_in}
 use Rattle.xr_threads.specs.Standing.{AreLoose, EventsAre, HasEnded, IsMade, IsRun, Stand, Standing, Stands, StandsBy, counts, is_of_root, living_on, none_rests, one_where}
 use Rattle.xr_threads.specs.Transfers.{Transfer}
 use Rattle.xr_threads.specs.Turns.{GivesBack, Has, IsFree, IsWaitingTied, JoinsAt, cost, is_watching}

@@ -7,7 +7,7 @@ use Rattle.xl_par.specs.Hands.{Hand, IsAmong}
 use Rattle.xr_threads.specs.Parents.{Parent, branches_of, sync_before, syncs_of}
 use Rattle.xr_threads.specs.Roles.{AreRoles, IsOnce, IsParent, Role, Roles, got_by, outermost, own_branches, unused, used_by}
 use Rattle.xr_threads.specs.Runners.{Setting, Runner, footprint_of}
-use Rattle.xr_threads.specs.Scenes.{Owns, giving_back, held_in, sync_in}
+use Rattle.xr_threads.specs.ThreadViews.{Owns, giving_back, held_in, sync_in}
 use Rattle.xr_threads.specs.Transfers.{Transfer}
 use Rattle.xr_threads.proofs.Moves.{parent_sync, same_hand, same_runner}
 use Rattle.xr_threads.proofs.Pools.{num_is, num_same}

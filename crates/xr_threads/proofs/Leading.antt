@@ -6,7 +6,7 @@ use Rattle.xl_par.specs.Hands.{Hand}
 use Rattle.xr_threads.specs.Items.{EndAt, LastAt}
 use Rattle.xr_threads.specs.Parents.{Parent}
 use Rattle.xr_threads.specs.Runners.{Setting, Runner, IsLaidOut, code, plan}
-use Rattle.xr_threads.specs.Scenes.{Scene}
+use Rattle.xr_threads.specs.ThreadViews.{ThreadView}
 use Rattle.xr_threads.specs.Settled.{IsOutermost, IsOwn}
 use Rattle.xr_threads.specs.Standing.{IsOnItsWay}
 use Rattle.xr_threads.specs.Turns.{Rest, cost, first_hand}
@@ -22,7 +22,7 @@ none_waits [] h = refl
 none_waits (p ∷ ps) h = absurd h
 
 -- where a thread rests doesn't depend on what it has in hand
-pub rest_with : (g : Setting) (r : Runner) (items : List Item) (j : ℕ) (z : Scene) (hand : Option Hand) → Rest g r items j z → Rest g r items j (record z { hand = hand })
+pub rest_with : (g : Setting) (r : Runner) (items : List Item) (j : ℕ) (z : ThreadView) (hand : Option Hand) → Rest g r items j z → Rest g r items j (record z { hand = hand })
 rest_with g r items j z hand h = record {
   pc = h.pc;
   regs = h.regs;
@@ -45,7 +45,7 @@ module _ (g : Setting) (r : Runner) (laid : IsLaidOut g r) (core : r.core < 4) w
   last_at pc j alone h = subst (λ ps. EndAt (plan g r) (code g r) r.tie ps pc j) alone h
 
   -- from the code of items whose first one has an instruction of its own
-  pub rest_leads : (items : List Item) (j : ℕ) (z : Scene) → Rest g r items j z → IsOwn r.parents items → FirstIsSided g r items → z.hand ≡ first_hand items → IsOnItsWay g r (j + cost g r) z
+  pub rest_leads : (items : List Item) (j : ℕ) (z : ThreadView) → Rest g r items j z → IsOwn r.parents items → FirstIsSided g r items → z.hand ≡ first_hand items → IsOnItsWay g r (j + cost g r) z
   rest_leads [] j z h own sided is = absurd h.stands.1
   rest_leads (does t ∷ rest) j z h own sided is =
       let c = h.stands.1 in (
@@ -78,5 +78,5 @@ module _ (g : Setting) (r : Runner) (laid : IsLaidOut g r) (core : r.core < 4) w
   rest_leads (fixed i v counter ∷ rest) j z h own sided is = absurd h.stands.1.stands
 
   -- the same with what it has to have in hand for that item
-  pub settled_leads : (items : List Item) (j : ℕ) (z : Scene) → Rest g r items j z → IsOwn r.parents items → FirstIsSided g r items → IsOnItsWay g r (j + cost g r) (record z { hand = first_hand items })
+  pub settled_leads : (items : List Item) (j : ℕ) (z : ThreadView) → Rest g r items j z → IsOwn r.parents items → FirstIsSided g r items → IsOnItsWay g r (j + cost g r) (record z { hand = first_hand items })
   settled_leads items j z h own sided = rest_leads items j (record z { hand = first_hand items }) (rest_with g r items j z (first_hand items) h) own sided refl

@@ -92,7 +92,7 @@ pub mod Resumes
 pub mod Rooms
 pub mod RootCode
 pub mod Roots
-pub mod Scenes
+pub mod ThreadViews
 pub mod Seating
 pub mod Seats
 pub mod SetMachine

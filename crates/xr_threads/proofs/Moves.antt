@@ -21,7 +21,7 @@ use Rattle.xr_threads.specs.Images.{IsImageOf}
 use Rattle.xr_threads.specs.Parents.{Parent, branches_of, sync_before, syncs_of}
 use Rattle.xr_threads.specs.Roles.{AreRoles, AreUsedSo, HasReserves, IsParent, ParentsWait, Role, Roles, got_by, own_branches, unused, used_by}
 use Rattle.xr_threads.specs.Runners.{IsMine, Setting, Runner, IsLaidOut, MayChange}
-use Rattle.xr_threads.specs.Scenes.{Kept, Owns, Scene, SpareFor, sync_in}
+use Rattle.xr_threads.specs.ThreadViews.{Owns, Rely, SpareFor, ThreadView, sync_in}
 use Rattle.xr_threads.specs.Standing.{AreLoose, IsMade, IsRun, Standing, Stands, living_on}
 use Rattle.xr_threads.specs.Transfers.{Transfer}
 use Rattle.xr_threads.specs.Wired.{AreWired, HasAlone}
@@ -73,9 +73,9 @@ pub record IsNextStanding
   pub stand : (t : ℕ) → moved t ≡ true →
       Stands g (may_rest' c t) b y (w'.lives c t) (told_by g.program g.stimulus x piece y).actions (who' c t)
   pub kept : (t : ℕ) (s : Runner) (hand : Option Hand) → moved t ≡ false → who c t ≡ used_by s hand →
-      Kept g s (record { core = a; world = x.state; hand = hand }) (record { core = b; world = y; hand = hand })
+      Rely g s (record { core = a; world = x.state; hand = hand }) (record { core = b; world = y; hand = hand })
   pub far_kept : (d t : ℕ) (e : CoreState) (s : Runner) (hand : Option Hand) → d ≢ c → slice_get w.machine.cores d ≡ Some e → who d t ≡ used_by s hand →
-      Kept g s (record { core = e; world = x.state; hand = hand }) (record { core = e; world = y; hand = hand })
+      Rely g s (record { core = e; world = x.state; hand = hand }) (record { core = e; world = y; hand = hand })
   pub links : w'.machine.links ≡ no_links
   pub wired : AreWired g who' w'.machine y
   pub alone : (u : ℕ) (s : Runner) (hand : Option Hand) (transfer : Transfer) → moved u ≡ true → who' c u ≡ used_by s hand → s.transfer ≡ Some transfer →
@@ -89,7 +89,7 @@ pub record IsNextStanding
   pub made : (n : ℕ) (branch : Branch) → slice_get y.branches n ≡ Some branch → has_ended branch.mode ≡ false → IsMade (length g.program.roots) y.branches n
 
 -- how a thread stands that has the role that it had, where what its runner stands on is kept
-role_still : (g : Setting) (rests rests' : Bool) (a b : CoreState) (x y : World) (life life' : Life) (actions more : ℕ → ℕ) (role : Role) → (rests ≡ true → rests' ≡ true) → ((s : Runner) (hand : Option Hand) → role ≡ used_by s hand → Kept g s (record { core = a; world = x; hand = hand }) (record { core = b; world = y; hand = hand })) → life'.steps ≡ life.steps → ((f : ℕ) → actions f ≤ more f) → Stands g rests a x life actions role → Stands g rests' b y life' more role
+role_still : (g : Setting) (rests rests' : Bool) (a b : CoreState) (x y : World) (life life' : Life) (actions more : ℕ → ℕ) (role : Role) → (rests ≡ true → rests' ≡ true) → ((s : Runner) (hand : Option Hand) → role ≡ used_by s hand → Rely g s (record { core = a; world = x; hand = hand }) (record { core = b; world = y; hand = hand })) → life'.steps ≡ life.steps → ((f : ℕ) → actions f ≤ more f) → Stands g rests a x life actions role → Stands g rests' b y life' more role
 role_still g rests rests' a b x y life life' actions more unused may k same le h = h
 role_still g rests rests' a b x y life life' actions more (got_by t) may k same le h = same ∙ h
 role_still g rests rests' a b x y life life' actions more (used_by s hand) may k same le h = runner_still g s rests rests' hand a b x y life life' actions more may (k s hand refl) same le h
@@ -107,8 +107,8 @@ used_still who who' d e same h = record {
 
 -- Where a core has other ends, what threads stand on is as it was.
 
-kept_ends : (g : Setting) (s : Runner) (z : Scene) (e f : CoreState) (y : World) (hand : Option Hand) → IsSameButEnds e f → Kept g s z (record { core = e; world = y; hand = hand }) → Kept g s z (record { core = f; world = y; hand = hand })
-kept_ends g s z e f y hand same k = subst (λ b. Kept g s z (record { core = b; world = y; hand = hand })) (sym same.is) (record {
+kept_ends : (g : Setting) (s : Runner) (z : ThreadView) (e f : CoreState) (y : World) (hand : Option Hand) → IsSameButEnds e f → Rely g s z (record { core = e; world = y; hand = hand }) → Rely g s z (record { core = f; world = y; hand = hand })
+kept_ends g s z e f y hand same k = subst (λ b. Rely g s z (record { core = b; world = y; hand = hand })) (sym same.is) (record {
   thread = k.thread;
   words = k.words;
   resources = own_then (IsMine g s) s.thread _ _ _ k.resources (own_same _ _ _ _ refl refl refl);
@@ -328,7 +328,7 @@ module _ (g : Setting) (first : Roles) (is : IsImageOf g first) (may_rest : (cor
   crew_at d e at = crew_of g first who may_rest w x d e is st at
 
   -- nothing has happened yet
-  pub kept_now : (d u : ℕ) (e : CoreState) (s : Runner) (other : Option Hand) → slice_get w.machine.cores d ≡ Some e → who d u ≡ used_by s other → Kept g s (record { core = e; world = x.state; hand = other }) (record { core = e; world = x.state; hand = other })
+  pub kept_now : (d u : ℕ) (e : CoreState) (s : Runner) (other : Option Hand) → slice_get w.machine.cores d ≡ Some e → who d u ≡ used_by s other → Rely g s (record { core = e; world = x.state; hand = other }) (record { core = e; world = x.state; hand = other })
   kept_now d u e s other at runs_s = record {
     thread = refl;
     words = λ k m. refl;
@@ -378,7 +378,7 @@ module _ (g : Setting) (first : Roles) (is : IsImageOf g first) (may_rest : (cor
 
     -- what another runner of the core stands on is kept, where what it lacks for a `par` is there
     pub kept_others : (u : ℕ) (s : Runner) (other : Option Hand) → u ≢ t → moved u ≡ false → who c u ≡ used_by s other → SpareFor other b →
-        Kept g s (record { core = a; world = x.state; hand = other }) (record { core = b; world = y; hand = other })
+        Rely g s (record { core = a; world = x.state; hand = other }) (record { core = b; world = y; hand = other })
     kept_others u s other ne still runs_s spare =
         let s_core = st.roles.core c u s other runs_s in
         let s_thread = st.roles.thread c u s other runs_s in
@@ -408,7 +408,7 @@ module _ (g : Setting) (first : Roles) (is : IsImageOf g first) (may_rest : (cor
 
     -- and that of a runner of another core
     pub far_others : (d u : ℕ) (e : CoreState) (s : Runner) (other : Option Hand) → d ≢ c → slice_get w.machine.cores d ≡ Some e → who d u ≡ used_by s other →
-        Kept g s (record { core = e; world = x.state; hand = other }) (record { core = e; world = y; hand = other })
+        Rely g s (record { core = e; world = x.state; hand = other }) (record { core = e; world = y; hand = other })
     far_others d u e s other ne at_d runs_s =
         let s_core = st.roles.core d u s other runs_s in
         let works = works_at d u s other runs_s in

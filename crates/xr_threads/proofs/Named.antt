@@ -11,7 +11,7 @@ use Rattle.xr_match.specs.Sources.{Told, actions_by, actions_of}
 use Rattle.xr_threads.specs.Living.{AreBornBelow, AreKidsOf, AreNamed, IsNamed, opened, pars_of}
 use Rattle.xr_threads.specs.Roles.{AreRoles, Role, Roles, got_by, unused, used_by}
 use Rattle.xr_threads.specs.Runners.{Setting, Runner}
-use Rattle.xr_threads.specs.Scenes.{held_in}
+use Rattle.xr_threads.specs.ThreadViews.{held_in}
 use Rattle.xr_threads.proofs.NamedFamilies.{Grown, born_grown, born_more, grown_length, grown_names, grown_pars}
 use Rattle.xr_threads.proofs.NamedLives.{sync_got, thread_got}
 

@@ -24,7 +24,7 @@ use Rattle.xr_threads.specs.Living.{AreBornBelow, AreNamed, pars_of}
 use Rattle.xr_threads.specs.Parents.{Parent}
 use Rattle.xr_threads.specs.Roles.{HandFits, Role, Roles, empty, gives_back, got_by, opens, unused, used_by}
 use Rattle.xr_threads.specs.Runners.{Setting, Runner}
-use Rattle.xr_threads.specs.Scenes.{held_in, sync_in}
+use Rattle.xr_threads.specs.ThreadViews.{held_in, sync_in}
 use Rattle.xr_threads.specs.Standing.{Stand, Standing, Stands, ThreadIs}
 use Rattle.xr_threads.specs.Turns.{IsWaitingTied}
 use Rattle.xr_threads.proofs.Named.{IsNamedRole, all_named}

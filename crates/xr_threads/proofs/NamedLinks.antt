@@ -22,7 +22,7 @@ use Rattle.xr_threads.specs.Living.{AreNamed}
 use Rattle.xr_threads.specs.Parents.{Parent}
 use Rattle.xr_threads.specs.Roles.{IsOnce, Role, Roles, got_by, unused, used_by}
 use Rattle.xr_threads.specs.Runners.{Setting, Runner}
-use Rattle.xr_threads.specs.Scenes.{SameUse, Scene, giving_back}
+use Rattle.xr_threads.specs.ThreadViews.{SameUse, ThreadView, giving_back}
 use Rattle.xr_threads.specs.Standing.{Standing}
 use Rattle.xr_threads.specs.Turns.{OwnAction}
 use Rattle.xr_threads.proofs.Named.{HandStays}
@@ -167,7 +167,7 @@ module _ (g : Setting) (may_rest : (core thread : ℕ) → Bool) (who : Roles) (
         ])
 
   -- A silent step.
-  module _ (m' : Machine) (c t : ℕ) (y z : Scene) (at_a : slice_get w.machine.cores c ≡ Some y.core) (at_b : slice_get m'.cores c ≡ Some z.core) (r : Runner) (x' : Told (of_kernel g.program)) (goes : Goes g x x') where
+  module _ (m' : Machine) (c t : ℕ) (y z : ThreadView) (at_a : slice_get w.machine.cores c ≡ Some y.core) (at_b : slice_get m'.cores c ≡ Some z.core) (r : Runner) (x' : Told (of_kernel g.program)) (goes : Goes g x x') where
     abbrev w'' : Watched
     w'' = record { machine = m'; lives = life_after w m' c t }
 

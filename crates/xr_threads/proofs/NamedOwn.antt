@@ -18,7 +18,7 @@ use Rattle.xr_threads.specs.Living.{AreNamed}
 use Rattle.xr_threads.specs.Parents.{Parent}
 use Rattle.xr_threads.specs.Roles.{ParentsWait, Roles, got_by, outermost, unused, used_by}
 use Rattle.xr_threads.specs.Runners.{Setting, Runner}
-use Rattle.xr_threads.specs.Scenes.{giving_back}
+use Rattle.xr_threads.specs.ThreadViews.{giving_back}
 use Rattle.xr_threads.specs.Standing.{Standing}
 use Rattle.xr_threads.proofs.Named.{HandStays}
 use Rattle.xr_threads.proofs.NamedBegins.{AreBegun, begins_named}

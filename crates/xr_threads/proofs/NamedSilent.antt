@@ -15,7 +15,7 @@ use Rattle.xr_match.specs.Sources.{Told}
 use Rattle.xr_threads.specs.Living.{AreNamed}
 use Rattle.xr_threads.specs.Roles.{HandFits, Role, Roles, empty, gives_back, got_by, opens, unused, used_by}
 use Rattle.xr_threads.specs.Runners.{Setting, Runner}
-use Rattle.xr_threads.specs.Scenes.{HandChange, SameUse, Scene, gets_sync, gets_thread, held_in, keeps}
+use Rattle.xr_threads.specs.ThreadViews.{HandChange, SameUse, ThreadView, gets_sync, gets_thread, held_in, keeps}
 use Rattle.xr_threads.specs.Standing.{Standing}
 use Rattle.xr_threads.proofs.NamedBegins.{among_cases}
 use Rattle.xr_threads.proofs.NamedBound.{in_use_now, stand_of}
@@ -41,7 +41,7 @@ empty_yet items h none (opens held bs rest e is sum several none_held) =
     let zero_threads = ap length no_threads in
     (no_threads, omega (arith, all, zero_threads, several))
 
-module _ (g : Setting) (may_rest : (core thread : ℕ) → Bool) (who who' : Roles) (w : Watched) (m' : Machine) (x x' : Told (of_kernel g.program)) (st : Standing g may_rest who w x) (named : AreNamed g who w x) (goes : Goes g x x') (c t : ℕ) (y z : Scene) (at_a : slice_get w.machine.cores c ≡ Some y.core) (at_b : slice_get m'.cores c ≡ Some z.core) (r : Runner) where
+module _ (g : Setting) (may_rest : (core thread : ℕ) → Bool) (who who' : Roles) (w : Watched) (m' : Machine) (x x' : Told (of_kernel g.program)) (st : Standing g may_rest who w x) (named : AreNamed g who w x) (goes : Goes g x x') (c t : ℕ) (y z : ThreadView) (at_a : slice_get w.machine.cores c ≡ Some y.core) (at_b : slice_get m'.cores c ≡ Some z.core) (r : Runner) where
   abbrev w' : Watched
   w' = record { machine = m'; lives = life_after w m' c t }
 

@@ -27,7 +27,7 @@ use Rattle.xr_threads.specs.Fits.{PutsOutAt}
 use Rattle.xr_threads.specs.Images.{IsImageOf}
 use Rattle.xr_threads.specs.Roles.{Roles, used_by}
 use Rattle.xr_threads.specs.Runners.{IsChannel, Runner, Setting, footprint_of, home, shrunk}
-use Rattle.xr_threads.specs.Scenes.{Scene, running}
+use Rattle.xr_threads.specs.ThreadViews.{ThreadView, running}
 use Rattle.xr_threads.specs.Standing.{Stand, Standing, StandsWith, none_rests}
 use Rattle.xr_threads.specs.Transfers.{Transfer}
 use Rattle.xr_threads.specs.Turns.{Has, InTransfer, IsBehind, IsNext, Offers, Runs, cost}
@@ -153,7 +153,7 @@ module _ (g : Setting) (first : Roles) (is : IsImageOf g first) (who : Roles) (w
     abbrev left : CoreState
     left = step.left g r a h.pc h.regs h.regs h.here es
 
-    abbrev behind : Scene
+    abbrev behind : ThreadView
     behind = record { core = left; world = world; hand = None }
 
     -- the thread is inside the transfer

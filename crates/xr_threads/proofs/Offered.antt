@@ -24,7 +24,7 @@ use Rattle.xl_walk.specs.Pieces.{ByEndAt, Exit}
 use Rattle.xr_threads.specs.Fits.{Fits, ItemsFit, OutputFits}
 use Rattle.xr_threads.specs.Parents.{syncs_of}
 use Rattle.xr_threads.specs.Runners.{Setting, Runner, IsChannel, IsLaidOut, code, end_place, home, plan, relied}
-use Rattle.xr_threads.specs.Scenes.{Scene, Kept, running}
+use Rattle.xr_threads.specs.ThreadViews.{ThreadView, Rely, running}
 use Rattle.xr_threads.specs.Turns as turn
 use Rattle.xr_threads.specs.Turns.{Has, HasBases, IsAt, IsBehind, ItemsFrom, Leads, Offers, TakesSteps, Turn, Turns, cost}
 use Rattle.xr_threads.proofs.Arriving.{Since, any_part, apart_of_changes, arrives, at_runs, core_kept, since_kept}
@@ -34,7 +34,7 @@ use Rattle.xr_threads.proofs.Identifiers.{end_named}
 use Rattle.xr_threads.proofs.Layouts.{has_since, laid_at, room_of, runs_at}
 use Rattle.xr_threads.proofs.OnEnds.{end_stands, on_end}
 use Rattle.xr_threads.proofs.Protocols.{all_from, behind_of_items}
-use Rattle.xr_threads.proofs.Scenes.{leads_as, leads_more}
+use Rattle.xr_threads.proofs.ThreadViews.{leads_as, leads_more}
 
 module _ (g : Setting) (r : Runner) (laid : IsLaidOut g r) (o : kernel.Output) (fits : OutputFits g r o) (c : ℕ) (to_channel : o.resource ≡ Chan c) (side : Side) (stands_in : slice_index_or r.sides c None ≡ Some side) (rest : List Item) (exits : List Exit) (pc pc' j : ℕ) (behind : ItemsFrom g r rest exits pc' j) (item_fits : Fits g r (kernel.output o)) (rest_fits : ItemsFit g r rest) where
   abbrev item : Item
@@ -49,7 +49,7 @@ module _ (g : Setting) (r : Runner) (laid : IsLaidOut g r) (o : kernel.Output) (
       ap (outputs_to s o) to_channel ∙ ap (λ d. with_value s d (outputs_word s c o.pos)) is
 
   -- at the first step of the protocol
-  offers_there : (z y q : Scene) (regs : Regs) (v : ℕ) → HasBases g r regs → Kept g r y q → q.hand ≡ None → Has g r (item ∷ rest) q → eval q.world.store o.value ≡ word v →
+  offers_there : (z y q : ThreadView) (regs : Regs) (v : ℕ) → HasBases g r regs → Rely g r y q → q.hand ≡ None → Has g r (item ∷ rest) q → eval q.world.store o.value ≡ word v →
       AtProtocol (home g r) (relied g r) r.stack r.thread (end_place g r c side) (running r.tie pc regs) z.core.words o.pos (output_acts v true) (EndsAt pc') y.core → Offers g r j q
   offers_there z y q regs v bases kept no_hand has is at = record {
     output = o;
@@ -75,7 +75,7 @@ module _ (g : Setting) (r : Runner) (laid : IsLaidOut g r) (o : kernel.Output) (
           (all.0, (all.1.0, (all.1.1.0, behind_of_items g r rest exits _ j at.regs bases' (subst (λ p. ItemsFrom g r rest exits p j) (sym all.1.1.1) behind))))
 
   -- the turn is next, by the value
-  output_turns : (z : Scene) (regs : Regs) → HasBases g r regs → z.hand ≡ None → Has g r (item ∷ rest) z → (v : Value) → eval z.world.store o.value ≡ v → (y : Scene) →
+  output_turns : (z : ThreadView) (regs : Regs) → HasBases g r regs → z.hand ≡ None → Has g r (item ∷ rest) z → (v : Value) → eval z.world.store o.value ≡ v → (y : ThreadView) →
       OutputReaches (home g r) (relied g r) r.stack r.thread (end_place g r c side) (running r.tie pc regs) z.core.words true o.pos pc' v y.core →
       Since g r (IsApart r.stack) any_part z y → Turns g r j y
   output_turns z regs bases no_hand has v is y reaches since q k = by v is reaches
@@ -95,7 +95,7 @@ module _ (g : Setting) (r : Runner) (laid : IsLaidOut g r) (o : kernel.Output) (
           turn.errs (value_errs g r q item rest kind pos (traps q.core (core_kept g r k)) has_q (since'.hand ∙ no_hand) (output_step q.world has_q.branch (error kind pos) (still (error kind pos) e)))
 
 -- from its code to the first step
-pub offer_leads : (g : Setting) (r : Runner) (o : kernel.Output) (c : ℕ) → o.resource ≡ Chan c → IsChannel g r c → (rest : List Item) (exits : List Exit) (pc pc' j : ℕ) (z : Scene) (regs : Regs) →
+pub offer_leads : (g : Setting) (r : Runner) (o : kernel.Output) (c : ℕ) → o.resource ≡ Chan c → IsChannel g r c → (rest : List Item) (exits : List Exit) (pc pc' j : ℕ) (z : ThreadView) (regs : Regs) →
     IsLaidOut g r → ByEndAt (code g r) (plan g r) (λ end. SendsValue (plan g r) end o.value true o.pos) (end_at (plan g r).channels r.sides c) pc pc' → Fits g r (kernel.output o) →
     (side : Side) × (slice_index_or r.sides c None ≡ Some side) → ItemsFrom g r rest exits pc' j → ItemsFit g r rest →
     Has g r (does (kernel.output o) ∷ rest) z → IsAt g r z pc regs → HasBases g r regs → z.hand ≡ None → Leads g r (cost g r) j z

@@ -10,11 +10,11 @@ use Rattle.xl_plan.specs.Layout.{end_name}
 use Rattle.xl_sides.specs.Ends.{end_at, end_of_side}
 use Rattle.xl_walk.specs.Pieces.{ByEndAt, LinesAt}
 use Rattle.xr_threads.specs.Runners.{Setting, Runner, code, end_place, home, plan, relied}
-use Rattle.xr_threads.specs.Scenes.{Scene}
+use Rattle.xr_threads.specs.ThreadViews.{ThreadView}
 use Rattle.xr_threads.specs.Turns.{HasBases}
 use Rattle.xr_threads.proofs.Identifiers.{EndIsNamed}
 
-module _ (g : Setting) (r : Runner) (c : ℕ) (side : Side) (z : Scene) (named : EndIsNamed g r c side z) where
+module _ (g : Setting) (r : Runner) (c : ℕ) (side : Side) (z : ThreadView) (named : EndIsNamed g r c side z) where
   -- its identifier is where the code looks for it
   pub end_stands : (regs : Regs) → HasBases g r regs → EndStands (home g r) (relied g r) r.stack regs.dp (plan g r) named.end (end_place g r c side) z.core.words
   end_stands regs bases =

@@ -9,7 +9,7 @@ use Rattle.xl_sides.specs.Ends.{Sides}
 use Rattle.xr_threads.specs.Parents.{Parent, syncs_of}
 use Rattle.xr_threads.specs.Roles.{AreRoles, IsOnce, IsParent, Role, Roles, got_by, outermost, own_branches, unused, used_by}
 use Rattle.xr_threads.specs.Runners.{Setting, Runner, footprint_of, outside}
-use Rattle.xr_threads.specs.Scenes.{Owns, held_in, sync_in}
+use Rattle.xr_threads.specs.ThreadViews.{Owns, held_in, sync_in}
 use Rattle.xr_threads.specs.Transfers.{Transfer}
 use Rattle.xr_threads.proofs.Moves.{same_hand, same_runner}
 use Rattle.xr_threads.proofs.Wiring.{TransfersAsBefore}

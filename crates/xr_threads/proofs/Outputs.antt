@@ -46,7 +46,7 @@ use Rattle.xl_walk.specs.Pieces.{Exit, OutputAt}
 use Rattle.xr_threads.specs.Fits.{IsOutPort, ItemsFit, OutputFits, PutsOutAt, UsesSome}
 use Rattle.xr_threads.specs.Parents.{syncs_of}
 use Rattle.xr_threads.specs.Runners.{IsMine, Setting, Runner, IsLaidOut, code, home, plan, port_place, relied}
-use Rattle.xr_threads.specs.Scenes.{Scene, Kept, running}
+use Rattle.xr_threads.specs.ThreadViews.{ThreadView, Rely, running}
 use Rattle.xr_threads.specs.Turns as turn
 use Rattle.xr_threads.specs.Turns.{CannotAct, Errs, Goes, Has, HasBases, IsAt, IsOnSide, ItemsFrom, PortIs, PortsStand, Runs, StatementLeads, Turn, Turns, cost, own_go}
 use Rattle.xr_threads.proofs.Arriving.{Since, alone_mine, apart_from, apart_of_changes, arrives_with, at_runs, port_kept, ports_since, since_kept}
@@ -55,7 +55,7 @@ use Rattle.xr_threads.proofs.Evaluations.{err_acts, eval_still, item_acts, kinds
 use Rattle.xr_threads.proofs.Identifiers.{PortIsNamed, port_named}
 use Rattle.xr_threads.proofs.Layouts.{has_since_port, laid_at, room_of, runs_at, runs_kept, store_since}
 use Rattle.xr_threads.proofs.Offered.{offer_leads}
-use Rattle.xr_threads.proofs.Scenes.{leads_as, leads_more}
+use Rattle.xr_threads.proofs.ThreadViews.{leads_as, leads_more}
 use Rattle.xr_threads.proofs.Stands.{items_stand}
 use Rattle.xr_threads.proofs.Watching.{here_at, items_unwatched}
 
@@ -104,7 +104,7 @@ module _ (g : Setting) (b : ℕ) (x : World) (branch : Branch) (t : kernel.State
 
 module _ (g : Setting) (r : Runner) where
   -- the words of a time's variables stand where the plan has them
-  time_laid : (laid : IsLaidOut g r) (z : Scene) (regs : Regs) (time : Option kernel.Expression) → UsesSome g r time → HasBases g r regs → turn.HoldsStore g r z → TimeIsLaid (plan g r).vars (relied g r) r.stack regs.dp z.core.words z.world.store time
+  time_laid : (laid : IsLaidOut g r) (z : ThreadView) (regs : Regs) (time : Option kernel.Expression) → UsesSome g r time → HasBases g r regs → turn.HoldsStore g r z → TimeIsLaid (plan g r).vars (relied g r) r.stack regs.dp z.core.words z.world.store time
   time_laid laid z regs None uses bases h = tt
   time_laid laid z regs (Some x) uses bases h = laid_at g r laid z regs x uses bases h
 
@@ -133,7 +133,7 @@ module _ (g : Setting) (r : Runner) (laid : IsLaidOut g r) (o : kernel.Output) (
       ∙ ap (λ d. with_timing (Step x branch) d (λ when. with_word_of (Step x branch) o.value (drives (Step x branch) o p when))) (timing_is x.store o.time)
 
   -- the thread is at the end of its way
-  module _ (z : Scene) (has : Has g r (Item' ∷ rest) z) (no_hand : z.hand ≡ None) (x : Scene) (since : Since g r (IsApart r.stack) (apart_from (port_alone (port_place g r p))) z x) (clock : slice_get x.world.clocks r.core ≡ Some x.core.clock) where
+  module _ (z : ThreadView) (has : Has g r (Item' ∷ rest) z) (no_hand : z.hand ≡ None) (x : ThreadView) (since : Since g r (IsApart r.stack) (apart_from (port_alone (port_place g r p))) z x) (clock : slice_get x.world.clocks r.core ≡ Some x.core.clock) where
     abbrev place : ℕ
     place = port_place g r p
 
@@ -337,7 +337,7 @@ module _ (g : Setting) (r : Runner) (laid : IsLaidOut g r) (o : kernel.Output) (
               by false h = turn.pauses (w.waits h) (cannot h)
 
   -- from the output's code
-  module _ (z : Scene) (has : Has g r (Item' ∷ rest) z) (exits : List Exit) (pc pc' j : ℕ) (regs : Regs) (here : IsAt g r z pc regs) (bases : HasBases g r regs) (no_hand : z.hand ≡ None) (behind : ItemsFrom g r rest exits pc' j) (fit_rest : ItemsFit g r rest) where
+  module _ (z : ThreadView) (has : Has g r (Item' ∷ rest) z) (exits : List Exit) (pc pc' j : ℕ) (regs : Regs) (here : IsAt g r z pc regs) (bases : HasBases g r regs) (no_hand : z.hand ≡ None) (behind : ItemsFrom g r rest exits pc' j) (fit_rest : ItemsFit g r rest) where
     abbrev spot : ℕ
     spot = port_place g r p
 
@@ -353,19 +353,19 @@ module _ (g : Setting) (r : Runner) (laid : IsLaidOut g r) (o : kernel.Output) (
     abbrev AtEnd : Option Value → Value → CoreState → Type 0
     AtEnd time value b = OutputOutcome (home g r) (relied g r) r.stack r.thread (running r.tie pc regs) z.core.words spot its.port o.pos pc' time value b
 
-    abbrev Meanwhile : Scene → Type 0
+    abbrev Meanwhile : ThreadView → Type 0
     Meanwhile y = Since g r (IsApart r.stack) (apart_from (port_alone spot)) z y
 
-    abbrev still : {y x : Scene} → Meanwhile y → Kept g r y x → Meanwhile x
+    abbrev still : {y x : ThreadView} → Meanwhile y → Rely g r y x → Meanwhile x
     still s k = since_kept g r (IsApart r.stack) (apart_from (port_alone spot)) s k
 
     -- what it comes to is its turn: by the value
-    value_turns : (time : Option ℕ) → option_map (eval store) o.time ≡ option_map word time → (value : Value) → eval store o.value ≡ value → (y : Scene) → AtValue time value y.core → Meanwhile y → Turns g r j y
+    value_turns : (time : Option ℕ) → option_map (eval store) o.time ≡ option_map word time → (value : Value) → eval store o.value ≡ value → (y : ThreadView) → AtValue time value y.core → Meanwhile y → Turns g r j y
     value_turns time e (word v) f y h s = λ x k. out_turns z has no_hand x (still s k) k.clock time e v f exits pc pc' j regs bases behind fit_rest (h x.core (port_kept g r p out.listed out.is k))
     value_turns time e (error kind pos) f y h s = λ x k. turn.errs (value_errs z has no_hand x (still s k) k.clock time e kind pos f (h x.core (port_kept g r p out.listed out.is k)))
 
     -- and by the time, whose error comes first
-    turns : (time : Option Value) (value : Value) → option_map (eval store) o.time ≡ time → eval store o.value ≡ value → (y : Scene) → AtEnd time value y.core → Meanwhile y → Turns g r j y
+    turns : (time : Option Value) (value : Value) → option_map (eval store) o.time ≡ time → eval store o.value ≡ value → (y : ThreadView) → AtEnd time value y.core → Meanwhile y → Turns g r j y
     turns None value e f y h s = value_turns None e value f y h s
     turns (Some (word t)) value e f y h s = value_turns (Some t) e value f y h s
     turns (Some (error kind pos)) value e f y h s = λ x k. turn.errs (time_errs z has no_hand x (still s k) k.clock kind pos e (h x.core (port_kept g r p out.listed out.is k)))

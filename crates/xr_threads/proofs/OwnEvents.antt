@@ -25,7 +25,7 @@ use Rattle.xr_threads.specs.Images.{IsImageOf}
 use Rattle.xr_threads.specs.Parents.{Parent, branches_of}
 use Rattle.xr_threads.specs.Roles.{IsParent, ParentsWait, Role, Roles, got_by, own_branches, used_by}
 use Rattle.xr_threads.specs.Runners.{Footprint, Runner, Setting, footprint_of}
-use Rattle.xr_threads.specs.Scenes.{Touched, giving_back}
+use Rattle.xr_threads.specs.ThreadViews.{Guarantee, giving_back}
 use Rattle.xr_threads.specs.Standing.{AreLoose, IsMade, IsRun, Stand, Standing, Stands, counts, living_on, none_rests}
 use Rattle.xr_threads.specs.Transfers.{Transfer}
 use Rattle.xr_threads.specs.Turns.{HoldsStore, IsNext, OwnAction, PortsStand, first_changes}
@@ -96,7 +96,7 @@ pub record OwnStep (g : Setting) (r : Runner) (c : ℕ) (a : CoreState) (x : Wor
   pub birth : next.birth ≡ branch.birth
   pub is_next : IsNext g r x world branch next made
   pub core : next.core ≡ branch.core
-  pub touched : Touched g r (record { core = a; world = x; hand = None }) (record { core = left; world = x; hand = None })
+  pub touched : Guarantee g r (record { core = a; world = x; hand = None }) (record { core = left; world = x; hand = None })
   pub syncs : left.syncs ≡ a.syncs
   pub tie : (thread : Thread) → slice_get left.threads r.thread ≡ Some thread → (thread.tie ≡ r.tie) ⊎ (thread.tie ≡ None)
   pub roots : left.roots + counts c branch ≡ a.roots + counts c next

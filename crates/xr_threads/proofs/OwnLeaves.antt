@@ -16,7 +16,7 @@ use Rattle.xr_threads.specs.Images.{IsImageOf}
 use Rattle.xr_threads.specs.Parents.{branches_of}
 use Rattle.xr_threads.specs.Roles.{Roles, own_branches, unused, used_by}
 use Rattle.xr_threads.specs.Runners.{Runner, Setting}
-use Rattle.xr_threads.specs.Scenes.{giving_back}
+use Rattle.xr_threads.specs.ThreadViews.{giving_back}
 use Rattle.xr_threads.specs.Standing.{AreLoose, IsRun, Standing, Stands, none_rests}
 use Rattle.xr_threads.specs.Transfers.{Transfer}
 use Rattle.xr_threads.specs.Turns.{IsFree}

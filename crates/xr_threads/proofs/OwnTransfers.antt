@@ -21,7 +21,7 @@ use Rattle.xr_match.specs.Sources.{Told}
 use Rattle.xr_threads.specs.Images.{IsImageOf}
 use Rattle.xr_threads.specs.Roles.{Roles, empty, used_by}
 use Rattle.xr_threads.specs.Runners.{Runner, Setting, footprint_of}
-use Rattle.xr_threads.specs.Scenes.{Scene, running}
+use Rattle.xr_threads.specs.ThreadViews.{ThreadView, running}
 use Rattle.xr_threads.specs.Standing.{Stand, Standing, StandsBy, StandsWith, ThreadIs, none_rests}
 use Rattle.xr_threads.specs.Transfers.{Transfer}
 use Rattle.xr_threads.specs.Turns.{Has, IsNext, cost, is_watching, own_go}
@@ -56,10 +56,10 @@ module _ (g : Setting) (first : Roles) (is : IsImageOf g first) (who : Roles) (w
   abbrev pub left : CoreState
   left = step.left g r a pc regs regs' here ends
 
-  abbrev now : Scene
+  abbrev now : ThreadView
   now = record { core = a; world = x.state; hand = None }
 
-  abbrev pub behind : Scene
+  abbrev pub behind : ThreadView
   behind = record { core = left; world = world; hand = None }
 
   abbrev pub own_step : OwnStep g r c a x.state

@@ -22,7 +22,7 @@ use Rattle.xl_expr.proofs.ResourceParts.{others_same}
 use Rattle.xl_walk.specs.Pieces.{Exit}
 use Rattle.xr_threads.specs.Fits.{ItemsFit}
 use Rattle.xr_threads.specs.Runners.{Setting, Runner, MayChange, home, places}
-use Rattle.xr_threads.specs.Scenes.{Scene, running}
+use Rattle.xr_threads.specs.ThreadViews.{ThreadView, running}
 use Rattle.xr_threads.specs.Turns.{HasBases, Has, IsAt, ItemsFrom, Goes, StandsAt, first_changes, own_go}
 use Rattle.xr_threads.proofs.Evaluations.{runs_with, with_items}
 use Rattle.xr_threads.proofs.Layouts.{ports_last}
@@ -38,7 +38,7 @@ turn_is_row h a t tie pc regs i here code no_event =
 
 module _ (g : Setting) (r : Runner) where
   -- The thread stands at an index, and its turn leads to another with these registers and words.
-  pub record MakesOwn (y : Scene) (pc : ℕ) (regs : Regs) (words : List ℕ) : Type 0 where
+  pub record MakesOwn (y : ThreadView) (pc : ℕ) (regs : Regs) (words : List ℕ) : Type 0 where
     pub index : ℕ
     pub here : IsAt g r y index regs
     pub made : slot (home g r) y.core r.thread ≡ makes (put_own y.core r.thread (running r.tie index regs) (record { pc = pc; regs = regs; words = words }))
@@ -46,7 +46,7 @@ module _ (g : Setting) (r : Runner) where
     pub size : length words ≡ length y.core.words
 
   -- an item is done by such a turn, which leaves these items and this store
-  pub own_goes : (j : ℕ) (y : Scene) (pc : ℕ) (regs : Regs) (words : List ℕ) → MakesOwn y pc regs words → HasBases g r regs → y.hand ≡ None →
+  pub own_goes : (j : ℕ) (y : ThreadView) (pc : ℕ) (regs : Regs) (words : List ℕ) → MakesOwn y pc regs words → HasBases g r regs → y.hand ≡ None →
       (item : Item) (rest items : List Item) (store : Store) (has : Has g r (item ∷ rest) y) →
       acts g.program g.stimulus y.world (go r.branch) ≡ Some (record (with_items y.world r.branch has.branch items) { store = store }) →
       ((v : ℕ) → by_item (change v) item ≡ false → words_of store v ≡ words_of y.world.store v) →
@@ -106,7 +106,7 @@ module _ (g : Setting) (r : Runner) where
       }
 
   -- the same where the words and the store stay
-  pub spot_goes : (j : ℕ) (y : Scene) (pc : ℕ) (regs : Regs) → MakesOwn y pc regs y.core.words → HasBases g r regs → y.hand ≡ None →
+  pub spot_goes : (j : ℕ) (y : ThreadView) (pc : ℕ) (regs : Regs) → MakesOwn y pc regs y.core.words → HasBases g r regs → y.hand ≡ None →
       (item : Item) (rest items : List Item) (has : Has g r (item ∷ rest) y) →
       acts g.program g.stimulus y.world (go r.branch) ≡ Some (with_items y.world r.branch has.branch items) →
       (exits : List Exit) (jumps : ℕ) → ItemsFrom g r items exits pc jumps → ItemsFit g r items → jumps ≤ j + 1 → Goes g r j y

@@ -14,7 +14,7 @@ use Rattle.xr_threads.specs.Items.{EndAt, ItemsAt}
 use Rattle.xl_sides.specs.Ends.{Sides}
 use Rattle.xl_walk.specs.Pieces.{PiecesAt, SlaveEndsAt, SlavesAt}
 use Rattle.xr_threads.specs.Runners.{Setting, Runner, code, plan}
-use Rattle.xr_threads.specs.Scenes.{running}
+use Rattle.xr_threads.specs.ThreadViews.{running}
 use Rattle.xr_threads.specs.Turns.{AreSetOff, Placed, backwards_on, placed_in}
 use Rattle.xr_threads.proofs.Items.{pieces_before}
 use Rattle.xr_threads.proofs.Pools.{num_same, started_one}

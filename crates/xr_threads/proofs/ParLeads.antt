@@ -19,7 +19,7 @@ use Rattle.xr_threads.specs.Parents.{Parent, syncs_of}
 use Rattle.xl_sides.specs.Ends.{Sides, codes_in}
 use Rattle.xl_walk.specs.Pieces.{Exit, SeveralAt, PiecesAt, SlavesAt}
 use Rattle.xr_threads.specs.Runners.{Setting, Runner, code, home, plan, relied}
-use Rattle.xr_threads.specs.Scenes.{Scene, running}
+use Rattle.xr_threads.specs.ThreadViews.{ThreadView, running}
 use Rattle.xr_threads.specs.Settled.{HasSeveral}
 use Rattle.xr_threads.specs.Turns as turn
 use Rattle.xr_threads.specs.Turns.{Begins, EndOf, Has, HasBases, HoldsNames, IsAt, ItemsFrom, Leads, StatementLeads, Turns, cost, name_register}
@@ -28,7 +28,7 @@ use Rattle.xr_threads.proofs.HandSteps.{Reached, hand_kept, hand_leads}
 use Rattle.xr_threads.proofs.Items.{behind_jumps}
 use Rattle.xr_threads.proofs.Layouts.{has_kept, runs_at}
 use Rattle.xr_threads.proofs.ParCode.{all_off, branch_stands}
-use Rattle.xr_threads.proofs.Scenes.{leads_as, leads_more}
+use Rattle.xr_threads.proofs.ThreadViews.{leads_as, leads_more}
 
 -- a new synchroniser's name is the first, and each other one stands in the next register
 names_shift : (core sync : ℕ) (syncs : List ℕ) (old regs : Regs) → HoldsSyncs core sync old regs → HoldsNames core syncs old → HoldsNames core (sync ∷ syncs) regs
@@ -58,7 +58,7 @@ module _ (g : Setting) (r : Runner) (ss : kernel.Statements) (pos : Pos) (b : ke
   abbrev Piece : (pc pc' : ℕ) → Type 0
   Piece pc pc' = SeveralAt (code g r) (plan g r) (branch_count others) (PiecesAt (code g r) (plan g r) first_sides ss []) (SlavesAt (code g r) (plan g r) r.sides (ss ∷ []) others) pc pc'
 
-  module _ (rest : List Item) (exits : List Exit) (pc pc' j : ℕ) (piece : Piece pc pc') (fits : Fits g r (kernel.par all)) (behind : ItemsFrom g r rest exits pc' j) (rest_fits : ItemsFit g r rest) (z : Scene) (regs : Regs) (bases : HasBases g r regs) where
+  module _ (rest : List Item) (exits : List Exit) (pc pc' j : ℕ) (piece : Piece pc pc') (fits : Fits g r (kernel.par all)) (behind : ItemsFrom g r rest exits pc' j) (rest_fits : ItemsFit g r rest) (z : ThreadView) (regs : Regs) (bases : HasBases g r regs) where
     -- the branch that makes them, while it waits
     abbrev parent : (sync from count : ℕ) → Parent
     parent sync from count = record { branch = r.branch; from = from; count = count; sync = Some sync; items = rest; sides = r.sides }
@@ -73,7 +73,7 @@ module _ (g : Setting) (r : Runner) (ss : kernel.Statements) (pos : Pos) (b : ke
         (piece.closed, piece.closes, (exits, behind_jumps (plan g r) (code g r) r.sides (EndOf g r) rest exits piece.jumps piece.closed pc' j piece.past behind))
 
     -- once all are ready the next step sets them off
-    sets_off : (y : Scene) (hand : Hand) → y.hand ≡ Some hand → Has g r (does (kernel.par all) ∷ rest) y →
+    sets_off : (y : ThreadView) (hand : Hand) → y.hand ≡ Some hand → Has g r (does (kernel.par all) ∷ rest) y →
         SetsOff (home g r) (relied g r) (plan g r).first_stack r.thread (running r.tie pc regs) z.core.words piece.starts piece.opens.place piece.first hand y.core → Begins g r j y
     sets_off y hand is has s = record {
       hand = hand;

@@ -22,7 +22,7 @@ use Rattle.xc_meaning.specs.States.Items.{Item, awaits, chooses, does, ends, fix
 use Rattle.xl_chan.specs.Protocols.{END, Act, Acts, ActsAll, Behind, input_acts, output_acts, sends, takes, takes_word}
 use Rattle.xl_walk.specs.Pieces.{Exit}
 use Rattle.xr_threads.specs.Runners.{Setting, Runner, end_place, home}
-use Rattle.xr_threads.specs.Scenes.{running}
+use Rattle.xr_threads.specs.ThreadViews.{running}
 use Rattle.xr_threads.specs.Transfers.{AwaitsNothing, acts_left}
 use Rattle.xr_threads.specs.Turns.{HasBases, IsBehind, ItemsFrom, TakesSteps}
 use Rattle.xr_wires.specs.Phases.{Question, awaits_ack, checks_end, offers, sends_ack, sends_end}

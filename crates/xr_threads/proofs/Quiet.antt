@@ -26,7 +26,7 @@ use Rattle.xr_threads.specs.Images.{IsImageOf}
 use Rattle.xr_threads.specs.Parents.{Parent, branches_of}
 use Rattle.xr_threads.specs.Roles.{ParentWaits, ParentsWait, Roles, used_by}
 use Rattle.xr_threads.specs.Runners.{Setting, Runner, home}
-use Rattle.xr_threads.specs.Scenes.{Kept, LeadsIn, Scene}
+use Rattle.xr_threads.specs.ThreadViews.{LeadsIn, Rely, ThreadView}
 use Rattle.xr_threads.specs.Standing.{HasEnded, IsRun, Stand, Standing, StandsBy, StandsWith, none_rests}
 use Rattle.xr_threads.specs.Transfers.{Transfer}
 use Rattle.xr_threads.specs.Turns.{CannotAct, GivesBack, Joins, Turn, Turns, begins, errs, frees, goes_on, offers, pauses, takes_in, waits_tied}
@@ -103,10 +103,10 @@ all_still g x roots core family forest (p ∷ ps) first h not_yet b (inr m) =
 module _ (g : Setting) (first : Roles) (is : IsImageOf g first) (who : Roles) (w : Watched) (x : Told (of_kernel g.program)) (st : Standing g none_rests who w x)
     (quiet : IsQuietMachine g.image g.stimulus w.machine) where
   module _ (c t : ℕ) (r : Runner) (hand : Option Hand) (runs_r : who c t ≡ used_by r hand) (a : CoreState) (at_c : slice_get w.machine.cores c ≡ Some a) where
-    abbrev now : Scene
+    abbrev now : ThreadView
     now = record { core = a; world = x.state; hand = hand }
 
-    here : Kept g r now now
+    here : Rely g r now now
     here = kept_now g first is none_rests who w x st c t a r hand at_c runs_r
 
     -- the thread's slot is no step
@@ -125,7 +125,7 @@ module _ (g : Setting) (first : Roles) (is : IsImageOf g first) (who : Roles) (w
     turn_cannot j none (takes_in h) = takes_in_cannot g first is who w x st quiet c t a at_c r hand runs_r j none h
 
     -- no step on the way to somewhere is left
-    arrived : (Q : Scene → Type 0) (n : ℕ) → LeadsIn g r Q n now → Q now
+    arrived : (Q : ThreadView → Type 0) (n : ℕ) → LeadsIn g r Q n now → Q now
     arrived Q zero h = h
     arrived Q (suc n) (inl h) = h
     arrived Q (suc n) (inr on) = let next = on now here in absurd (not_made next.0.core None next.1.made)

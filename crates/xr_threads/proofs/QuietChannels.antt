@@ -35,7 +35,7 @@ use Rattle.xr_threads.specs.Fits.{PutsOutAt, TakesInAt}
 use Rattle.xr_threads.specs.Images.{IsImageOf}
 use Rattle.xr_threads.specs.Roles.{Roles, used_by}
 use Rattle.xr_threads.specs.Runners.{IsChannel, Runner, Setting, end_place, home}
-use Rattle.xr_threads.specs.Scenes.{Scene, running}
+use Rattle.xr_threads.specs.ThreadViews.{ThreadView, running}
 use Rattle.xr_threads.specs.Standing.{Standing, none_rests}
 use Rattle.xr_threads.specs.Transfers.{GoesWith, IsAwaiting, Transfer, acts_left, items_behind}
 use Rattle.xr_threads.specs.Turns.{CannotAct, InTransfer, IsBehind, Offers, Runs, TakesIn, TakesSteps}
@@ -117,8 +117,8 @@ module _ (g : Setting) (first : Roles) (is : IsImageOf g first) (who : Roles) (w
 
   -- A branch that runs, and its thread.
   module _ (c t : ℕ) (a : CoreState) (at_c : slice_get w.machine.cores c ≡ Some a) (r : Runner) (hand : Option Hand) (runs_r : who c t ≡ used_by r hand) where
-    abbrev scene : Scene
-    scene = record { core = a; world = x.state; hand = hand }
+    abbrev view : ThreadView
+    view = record { core = a; world = x.state; hand = hand }
 
     -- its branch has the runner's sides
     sides_are : (branch : Branch) → slice_get x.state.branches r.branch ≡ Some branch → branch.sides ≡ r.sides
@@ -207,7 +207,7 @@ module _ (g : Setting) (first : Roles) (is : IsImageOf g first) (who : Roles) (w
         its_use = subst (λ l. IsTrue (by_items (the_channel channel) l)) (sym on.items_are) uses
 
     -- An output's OUT goes on.
-    pub offers_goes : (j : ℕ) → r.transfer ≡ None → Offers g r j scene → ⊥
+    pub offers_goes : (j : ℕ) → r.transfer ≡ None → Offers g r j view → ⊥
     offers_goes j none h =
         let channel = h.on.channel in
         let side = h.on.side in
@@ -217,7 +217,7 @@ module _ (g : Setting) (first : Roles) (is : IsImageOf g first) (who : Roles) (w
         (sends_wait g first is who w x st quiet c t a at_c r hand runs_r channel side at.line at.is_line at.on_core h.output.pos h.pc h.regs h.here (word_tokens h.value) h.steps.0)
 
     -- An input's IN waits for a word, and nothing is in the inbox.
-    pub takes_in_cannot : (j : ℕ) → r.transfer ≡ None → TakesIn g r j scene → CannotAct g r x.state
+    pub takes_in_cannot : (j : ℕ) → r.transfer ≡ None → TakesIn g r j view → CannotAct g r x.state
     takes_in_cannot j none h =
         let channel = h.on.channel in
         let side = h.on.side in
@@ -229,7 +229,7 @@ module _ (g : Setting) (first : Roles) (is : IsImageOf g first) (who : Roles) (w
         input_cannot g r x.state h.has.branch (does (kernel.input h.input)) h.rest runs channel side (stands_on h.has.branch runs.known channel side h.on.stands_in) (st.plain.outside r.branch h.has.branch runs.known) nothing h.input refl h.on.is_channel
 
     -- Inside a transfer the branch waits for an answer, and nothing is in the inbox; the other steps go on.
-    pub inside_cannot : (transfer : Transfer) → r.transfer ≡ Some transfer → (items : List Item) (j : ℕ) → InTransfer g r transfer items j scene → CannotAct g r x.state
+    pub inside_cannot : (transfer : Transfer) → r.transfer ≡ Some transfer → (items : List Item) (j : ℕ) → InTransfer g r transfer items j view → CannotAct g r x.state
     inside_cannot transfer its items j h = by transfer.phase h.goes_with h.steps (wired_inside g who w.machine x.state st.wired c t line r hand transfer runs_r its is_line)
       where
         channel : ℕ

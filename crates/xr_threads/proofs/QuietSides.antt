@@ -25,7 +25,7 @@ use Rattle.xr_match.specs.Sources.{Told}
 use Rattle.xr_threads.specs.Images.{IsImageOf}
 use Rattle.xr_threads.specs.Roles.{Roles, used_by}
 use Rattle.xr_threads.specs.Runners.{Runner, Setting, end_place, home}
-use Rattle.xr_threads.specs.Scenes.{Scene, running}
+use Rattle.xr_threads.specs.ThreadViews.{ThreadView, running}
 use Rattle.xr_threads.specs.Standing.{Stand, Standing, StandsBy, StandsWith, none_rests}
 use Rattle.xr_threads.specs.Transfers.{GoesWith, IsAwaiting, StopsIn, Transfer, acts_left, items_behind}
 use Rattle.xr_threads.specs.Turns.{IsBehind, TakesSteps}
@@ -163,7 +163,7 @@ module _ (g : Setting) (first : Roles) (is : IsImageOf g first) (who : Roles) (w
     spot_now : ghosts.spots line transfer.side ≡ spot transfer.phase false
     spot_now = wired_inside g who w.machine x.state st.wired d u line r hand transfer runs_r its is_line
 
-    abbrev now : Scene
+    abbrev now : ThreadView
     now = record { core = a; world = x.state; hand = hand }
 
     -- one that goes on waits

@@ -14,7 +14,7 @@ use Rattle.xc_laws.specs.Needs.{sum_from}
 use Rattle.xc_laws.proofs.Always.{branches_stay, budgets_stay, laws_kept}
 use Rattle.xr_threads.specs.Roles.{HasReserves, Roles, used_by}
 use Rattle.xr_threads.specs.Runners.{Setting, Runner}
-use Rattle.xr_threads.specs.Scenes.{giving_back}
+use Rattle.xr_threads.specs.ThreadViews.{giving_back}
 
 -- those who have a synchroniser to give back are among those who had one, and run the same branches
 pub record GiveAsBefore (who who' : Roles) : Type 0 where

@@ -15,7 +15,7 @@ use Rattle.xl_par.specs.Hands.{Hand, IsAmong, one_if, empty_hand}
 use Rattle.xr_match.specs.Lives.{Life}
 use Rattle.xr_threads.specs.Roles.{HandFits, IsOnce, ParentsWait, empty, opens}
 use Rattle.xr_threads.specs.Runners.{Runner, Setting, footprint_of}
-use Rattle.xr_threads.specs.Scenes.{held_in, running_so, sync_in}
+use Rattle.xr_threads.specs.ThreadViews.{held_in, running_so, sync_in}
 use Rattle.xr_threads.specs.Standing.{Stand, StandsBy, StandsWith, ThreadIs}
 use Rattle.xr_threads.specs.Turns.{Rest, cost, first_hand, is_watching}
 use Rattle.xr_threads.specs.Living.{opened, opens_by, some_more}

@@ -25,7 +25,7 @@ use Rattle.xr_threads.specs.Images.{IsImageOf}
 use Rattle.xr_threads.specs.Parents.{Parent, syncs_of}
 use Rattle.xr_threads.specs.Roles.{AreRoles, AreUsedSo, IsParent, Role, Roles, empty, got_by, unused, used_by}
 use Rattle.xr_threads.specs.Runners.{Setting, Runner, home}
-use Rattle.xr_threads.specs.Scenes.{Owns, giving_back, held_in, running, sync_in}
+use Rattle.xr_threads.specs.ThreadViews.{Owns, giving_back, held_in, running, sync_in}
 use Rattle.xr_threads.specs.Standing.{AreLoose, IsRun, Stand, Standing, Stands, StandsBy, StandsWith, ThreadIs, none_rests}
 use Rattle.xr_threads.specs.Turns.{GivesBack, IsFree, IsWaitingTied, Rest, cost, is_watching}
 use Rattle.xr_threads.proofs.OwnEvents.{rests_alone, rests_there}

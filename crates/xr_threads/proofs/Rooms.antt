@@ -20,7 +20,7 @@ use Rattle.xl_par.specs.Hands.{Hand, IsAmong, one_if, unused_in}
 use Rattle.xr_threads.specs.Parents.{Parent, sync_before, syncs_of}
 use Rattle.xr_threads.specs.Roles.{HandFits, IsParent, Role, Roles, empty, got_by, gives_back, opens, unused, used_by}
 use Rattle.xr_threads.specs.Runners.{Setting, Runner}
-use Rattle.xr_threads.specs.Scenes.{SpareFor, giving_back, held_in, sync_in}
+use Rattle.xr_threads.specs.ThreadViews.{SpareFor, giving_back, held_in, sync_in}
 use Rattle.xr_threads.specs.Turns.{IsFree, IsFreeThread, IsTiedThread, IsWaitingTied}
 use Rattle.xr_threads.proofs.Families.{parent_several, runner_present, some_untied}
 use Rattle.xr_threads.proofs.Sums.{among, among_few, among_true, first_behind, named_once, named_true, one_free, one_some, some_named, sum, sum_add, sum_most, sum_one, sum_same, sum_swap, taken_few, taken_in, total_least, total_swap, unused_many}

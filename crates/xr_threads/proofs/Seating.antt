@@ -4,7 +4,7 @@ use Rattle.xc_disjoint.specs.Needs.{threads_on}
 use Rattle.xl_par.specs.Hands.{Hand, IsAmong, with_thread_got}
 use Rattle.xr_threads.specs.Roles.{AreRoles, IsOnce, Role, Roles, got_by, own_branches, unused, used_by}
 use Rattle.xr_threads.specs.Runners.{Setting, Runner}
-use Rattle.xr_threads.specs.Scenes.{held_in, sync_in}
+use Rattle.xr_threads.specs.ThreadViews.{held_in, sync_in}
 use Rattle.xr_threads.proofs.Moves.{same_hand, same_runner}
 use Rattle.xr_threads.proofs.Seats.{IsSeated, Seat, SeatStill, role_cases, role_here, role_other, roles_seated, seated_itself, with_role}
 

@@ -20,10 +20,10 @@ use Rattle.xl_flow.specs.Flow.{SetOutcome}
 use Rattle.xl_walk.specs.Pieces.{Exit}
 use Rattle.xr_threads.specs.Fits.{ItemsFit, Uses, UsesAt}
 use Rattle.xr_threads.specs.Runners.{Setting, Runner, IsLaidOut, home, plan, relied}
-use Rattle.xr_threads.specs.Scenes.{Scene, running}
+use Rattle.xr_threads.specs.ThreadViews.{ThreadView, running}
 use Rattle.xr_threads.specs.Turns as turn
 use Rattle.xr_threads.specs.Turns.{StatementLeads, IsAt, ItemsFrom, HasBases, HoldsStore, Has, Runs, Goes, Turn, Turns, cost}
-use Rattle.xr_threads.proofs.Scenes.{leads_as, leads_more}
+use Rattle.xr_threads.proofs.ThreadViews.{leads_as, leads_more}
 use Rattle.xr_threads.proofs.Arriving.{Since, at_runs, any_part, since_kept, core_kept, apart_of_changes, arrives}
 use Rattle.xr_threads.proofs.Layouts.{has_since, room_of, runs_at, laid_at, place_laid_at}
 use Rattle.xr_threads.proofs.Evaluations.{nodes_are, nodes_at_are, eval_still, value_errs}
@@ -43,7 +43,7 @@ module _ (g : Setting) (r : Runner) (laid : IsLaidOut g r) where
         ap (λ o. with_value s o (stored s place)) is
 
     -- where the code has come, the turn is next: it writes the word, or traps by the first error
-    set_turns : (z : Scene) (regs : Regs) → HasBases g r regs → z.hand ≡ None → Has g r (item ∷ rest) z → (v i : Value) → eval z.world.store x ≡ v → index_in z.world.store place ≡ i → (y : Scene) → SetOutcome (plan g r).vars (home g r) (relied g r) r.stack r.thread (running r.tie pc regs) z.core.words place pc' v i y.core → Since g r (IsApart r.stack) any_part z y → Turns g r j y
+    set_turns : (z : ThreadView) (regs : Regs) → HasBases g r regs → z.hand ≡ None → Has g r (item ∷ rest) z → (v i : Value) → eval z.world.store x ≡ v → index_in z.world.store place ≡ i → (y : ThreadView) → SetOutcome (plan g r).vars (home g r) (relied g r) r.stack r.thread (running r.tie pc regs) z.core.words place pc' v i y.core → Since g r (IsApart r.stack) any_part z y → Turns g r j y
     set_turns z regs bases no_hand has v i is is_index y outcome since q k = by v is outcome
       where
         since' : Since g r (IsApart r.stack) any_part z q

@@ -25,7 +25,7 @@ use Rattle.xr_threads.specs.Images.{IsImageOf}
 use Rattle.xr_threads.specs.Parents.{Parent, sync_before, syncs_of}
 use Rattle.xr_threads.specs.Roles.{HandFits, IsOnce, ParentsWait, Roles, empty, unused, used_by}
 use Rattle.xr_threads.specs.Runners.{Runner, Setting, anyone, footprint_of, outside, shrunk}
-use Rattle.xr_threads.specs.Scenes.{Scene, running}
+use Rattle.xr_threads.specs.ThreadViews.{ThreadView, running}
 use Rattle.xr_threads.specs.Settled.{IsOwn}
 use Rattle.xr_threads.specs.Standing.{AreLoose, HasEnded, IsOnItsWay, Stand, Standing, StandsBy, StandsWith, ThreadIs}
 use Rattle.xr_threads.specs.Turns.{HoldsStore, IsJoining, PortsStand, Rest, cost, finished, first_hand}
@@ -70,7 +70,7 @@ module _ (g : Setting) (first : Roles) (is : IsImageOf g first) (may_rest : (cor
     (branch : Branch) (known : slice_get x.state.branches r.branch ≡ Some branch) (running_is : branch.mode ≡ runs)
     (stand : Stand g r (may_rest c t) None a x.state (w.lives c t) x.actions branch) (none : r.transfer ≡ None) (j : ℕ) (few : j + cost g r ≤ stand.left) (items : List Item) (items_are : branch.items ≡ items)
     (h : Rest g r items j (record { core = a; world = x.state; hand = None })) where
-  abbrev z : Scene
+  abbrev z : ThreadView
   z = record { core = a; world = x.state; hand = None }
 
   footprint : r.footprint ≡ footprint_of items

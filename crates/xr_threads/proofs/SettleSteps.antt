@@ -23,7 +23,7 @@ use Rattle.xr_threads.specs.Images.{IsImageOf}
 use Rattle.xr_threads.specs.Parents.{Parent, branches_of}
 use Rattle.xr_threads.specs.Roles.{AreRoles, AreUsedSo, HasReserves, IsParent, Roles, got_by, own_branches, used_by}
 use Rattle.xr_threads.specs.Runners.{Runner, Setting, places}
-use Rattle.xr_threads.specs.Scenes.{Owns, giving_back, held_in, sync_in}
+use Rattle.xr_threads.specs.ThreadViews.{Owns, giving_back, held_in, sync_in}
 use Rattle.xr_threads.specs.Standing.{AreLoose, IsMade, IsRun, IsWanted, Stand, Standing, Stands, living_on}
 use Rattle.xr_threads.specs.Transfers.{Transfer}
 use Rattle.xr_threads.specs.Turns.{HoldsStore, PortsStand}

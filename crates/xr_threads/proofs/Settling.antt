@@ -28,7 +28,7 @@ use Rattle.xl_sides.specs.Ends.{Sides}
 use Rattle.xl_walk.specs.Pieces.{ClosesAt, Exit, Jumps, PiecesAt}
 use Rattle.xr_threads.specs.Roles.{ParentWaits, ParentsWait}
 use Rattle.xr_threads.specs.Runners.{Footprint, Setting, Runner, IsPort, code, footprint_of, places, plan, port_place, shrunk}
-use Rattle.xr_threads.specs.Scenes.{IsStable, Owns, Scene}
+use Rattle.xr_threads.specs.ThreadViews.{IsStable, Owns, ThreadView}
 use Rattle.xr_threads.specs.Turns.{EndOf, HasBases, HoldsNames, HoldsStore, IsAt, IsJoining, ItemsFrom, Joins, PortsStand, Rest, Runs, finished}
 use Rattle.xr_threads.proofs.Closing.{closes_leads}
 use Rattle.xr_threads.proofs.Evaluations.{item_acts, runs_with, with_items}
@@ -84,7 +84,7 @@ going r b ps sides items = record r { branch = b; parents = ps; sides = sides; f
 
 module _ (g : Setting) (r : Runner) where
   -- what it needs it has, where it uses no more than before
-  less_holds : (b : ℕ) (ps : List Parent) (sides : Sides) (items : List Item) (z y : Scene) → ((v : ℕ) → (footprint_of items).uses v ≡ true → r.footprint.uses v ≡ true) → y.core ≡ z.core → y.world.store ≡ z.world.store → HoldsStore g r z → HoldsStore g (going r b ps sides items) y
+  less_holds : (b : ℕ) (ps : List Parent) (sides : Sides) (items : List Item) (z y : ThreadView) → ((v : ℕ) → (footprint_of items).uses v ≡ true → r.footprint.uses v ≡ true) → y.core ≡ z.core → y.world.store ≡ z.world.store → HoldsStore g r z → HoldsStore g (going r b ps sides items) y
   less_holds b ps sides items z y less same_core same_store h =
       let was : Holds (places g r.core) r.footprint.uses 0 y.core.words y.world.store =
       subst (λ c. Holds (places g r.core) r.footprint.uses 0 c.words y.world.store) (sym same_core)
@@ -98,14 +98,14 @@ module _ (g : Setting) (r : Runner) where
         room = let room = h.room in omega (arith, room, size);
       }
 
-  less_ports : (b : ℕ) (ps : List Parent) (sides : Sides) (items : List Item) (z y : Scene) → ((p : ℕ) → (footprint_of items).ports p ≡ true → r.footprint.ports p ≡ true) → y.core ≡ z.core → PortsStand g r z → PortsStand g (going r b ps sides items) y
+  less_ports : (b : ℕ) (ps : List Parent) (sides : Sides) (items : List Item) (z y : ThreadView) → ((p : ℕ) → (footprint_of items).ports p ≡ true → r.footprint.ports p ≡ true) → y.core ≡ z.core → PortsStand g r z → PortsStand g (going r b ps sides items) y
   less_ports b ps sides items z y less same_core h = λ p listed is.
       let mine : IsPort g r p listed = record { mine = less p is.mine; known = is.known; core = is.core } in
       let old = h p listed mine in
       record { port = old.port; there = ap (λ c. slice_get c.ports (port_place g r p)) same_core ∙ old.there; declared = old.declared }
 
   -- The thread stands where it stood, and what its new branch has to do begins there.
-  going_rest : (b : ℕ) (ps : List Parent) (sides : Sides) (items : List Item) (j : ℕ) (z y : Scene) (branch : Branch) (pc : ℕ) (regs : Regs) (exits : List Exit) →
+  going_rest : (b : ℕ) (ps : List Parent) (sides : Sides) (items : List Item) (j : ℕ) (z y : ThreadView) (branch : Branch) (pc : ℕ) (regs : Regs) (exits : List Exit) →
       IsAt g r z pc regs → y.core ≡ z.core → HasBases g r regs → syncs_of ps ≡ syncs_of r.parents →
       ItemsAt (plan g r) (code g r) sides (EndAt (plan g r) (code g r) r.tie ps) items exits pc j → ItemsFit g (going r b ps sides items) items →
       Runs y.world b branch items → branch.core ≡ r.core → HoldsStore g (going r b ps sides items) y → PortsStand g (going r b ps sides items) y → Rest g (going r b ps sides items) items j y
@@ -120,19 +120,19 @@ module _ (g : Setting) (r : Runner) where
   }
 
   -- 1. The branch goes on with other items: at the beginning of a block, at its end, and at a `par` of no branch.
-  pub record StaysOn (items : List Item) (j : ℕ) (z : Scene) : Type 0 where
+  pub record StaysOn (items : List Item) (j : ℕ) (z : ThreadView) : Type 0 where
     pub branch : Branch
     pub known : slice_get z.world.branches r.branch ≡ Some branch
     pub running : branch.mode ≡ runs
     pub acted : acts g.program g.stimulus z.world (go r.branch) ≡ Some (with_items z.world r.branch branch items)
     pub rest : Rest g (shrunk r items) items j (record z { world = with_items z.world r.branch branch items })
 
-  stays : (item : Item) (rest items : List Item) (j : ℕ) (z : Scene) → (h : Rest g r (item ∷ rest) j z) → r.footprint ≡ footprint_of (item ∷ rest) → ((th : Thing) → by_items th items ≡ true → by_items th (item ∷ rest) ≡ true) →
+  stays : (item : Item) (rest items : List Item) (j : ℕ) (z : ThreadView) → (h : Rest g r (item ∷ rest) j z) → r.footprint ≡ footprint_of (item ∷ rest) → ((th : Thing) → by_items th items ≡ true → by_items th (item ∷ rest) ≡ true) →
       acts g.program g.stimulus z.world (go r.branch) ≡ Some (with_items z.world r.branch h.has.branch items) →
       (exits : List Exit) → ItemsFrom g r items exits h.pc j → ItemsFit g (shrunk r items) items → StaysOn items j z
   stays item rest items j z h footprint less acted exits at_code fits =
       let has = h.has in
-      let y : Scene = record z { world = with_items z.world r.branch has.branch items } in
+      let y : ThreadView = record z { world = with_items z.world r.branch has.branch items } in
       record {
         branch = has.branch;
         known = has.runs.known;
@@ -149,7 +149,7 @@ module _ (g : Setting) (r : Runner) where
   on_behind items exits n a b j k jumps h e = subst (ItemsFrom g r items exits a) e (behind_jumps (plan g r) (code g r) r.sides (EndOf g r) items exits n a b j jumps h)
 
   -- a block begins
-  pub block_settles : (n : ℕ) (ss : kernel.Statements) (rest : List Item) (j : ℕ) (z : Scene) → Rest g r (does (kernel.block n ss) ∷ rest) j z →
+  pub block_settles : (n : ℕ) (ss : kernel.Statements) (rest : List Item) (j : ℕ) (z : ThreadView) → Rest g r (does (kernel.block n ss) ∷ rest) j z →
       r.footprint ≡ footprint_of (does (kernel.block n ss) ∷ rest) → ItemsFit g (shrunk r (todo ss (mark n ∷ rest))) (todo ss (mark n ∷ rest)) → StaysOn (todo ss (mark n ∷ rest)) j z
   block_settles n ss rest j z h footprint fits =
       let c = h.stands.1 in
@@ -169,7 +169,7 @@ module _ (g : Setting) (r : Runner) where
       inner (on_behind (todo ss (mark n ∷ rest)) inner c.here h.pc c.index c.further j c.jumps inside c.sum) fits
 
   -- a block ends
-  pub mark_settles : (n : ℕ) (rest : List Item) (j : ℕ) (z : Scene) → Rest g r (mark n ∷ rest) j z → r.footprint ≡ footprint_of (mark n ∷ rest) → ItemsFit g (shrunk r rest) rest → StaysOn rest j z
+  pub mark_settles : (n : ℕ) (rest : List Item) (j : ℕ) (z : ThreadView) → Rest g r (mark n ∷ rest) j z → r.footprint ≡ footprint_of (mark n ∷ rest) → ItemsFit g (shrunk r rest) rest → StaysOn rest j z
   mark_settles n rest j z h footprint fits =
       let c = h.stands.1 in
       stays (mark n) rest rest j z h footprint (λ th u. u)
@@ -177,7 +177,7 @@ module _ (g : Setting) (r : Runner) where
       c.stands.outer (on_behind rest c.stands.outer c.here h.pc c.index c.further j c.jumps c.stands.others c.sum) fits
 
   -- a `par` of no branch
-  pub none_settles : (rest : List Item) (j : ℕ) (z : Scene) → Rest g r (does (kernel.par kernel.no_branch) ∷ rest) j z → r.footprint ≡ footprint_of (does (kernel.par kernel.no_branch) ∷ rest) → ItemsFit g (shrunk r rest) rest → StaysOn rest j z
+  pub none_settles : (rest : List Item) (j : ℕ) (z : ThreadView) → Rest g r (does (kernel.par kernel.no_branch) ∷ rest) j z → r.footprint ≡ footprint_of (does (kernel.par kernel.no_branch) ∷ rest) → ItemsFit g (shrunk r rest) rest → StaysOn rest j z
   none_settles rest j z h footprint fits =
       let c = h.stands.1 in
       let others : ItemsFrom g r rest h.stands.0 c.index c.further = subst (λ q. ItemsFrom g r rest h.stands.0 q c.further) (sym c.stands.1) c.stands.2 in
@@ -219,7 +219,7 @@ abbrev pub under : Runner → (child : ℕ) → kernel.Statements → List Item 
 under r child ss rest = going r child (waiting_one r.branch child rest r.sides ∷ r.parents) (sides_under ss r.sides) (todo ss (ends ∷ []))
 
 module _ (g : Setting) (r : Runner) where
-  pub record GoesUnder (ss : kernel.Statements) (rest : List Item) (j : ℕ) (z : Scene) : Type 0 where
+  pub record GoesUnder (ss : kernel.Statements) (rest : List Item) (j : ℕ) (z : ThreadView) : Type 0 where
     pub branch : Branch
     pub known : slice_get z.world.branches r.branch ≡ Some branch
     pub running : branch.mode ≡ runs
@@ -241,7 +241,7 @@ module _ (g : Setting) (r : Runner) where
       let at_end : ItemsAt (plan g r) (code g r) (sides_under ss r.sides) End (ends ∷ []) [] b j = record { index = b; here = 0; further = j; jumps = refl; stands = ((exits, others), refl); sum = omega arith } in
       pieces_before (plan g r) (code g r) (sides_under ss r.sides) End ss (ends ∷ []) [] a b j pieces at_end
 
-  pub one_settles : (ss : kernel.Statements) (pos : Pos) (rest : List Item) (j : ℕ) (z : Scene) → Rest g r (does (kernel.par (kernel.more_branches (kernel.branch ss pos) kernel.no_branch)) ∷ rest) j z →
+  pub one_settles : (ss : kernel.Statements) (pos : Pos) (rest : List Item) (j : ℕ) (z : ThreadView) → Rest g r (does (kernel.par (kernel.more_branches (kernel.branch ss pos) kernel.no_branch)) ∷ rest) j z →
       r.footprint ≡ footprint_of (does (kernel.par (kernel.more_branches (kernel.branch ss pos) kernel.no_branch)) ∷ rest) → ItemsFit g (under r (length z.world.branches) ss rest) (todo ss (ends ∷ [])) → GoesUnder ss rest j z
   one_settles ss pos rest j z h footprint fits =
       let item = does (kernel.par (kernel.more_branches (kernel.branch ss pos) kernel.no_branch)) in
@@ -251,7 +251,7 @@ module _ (g : Setting) (r : Runner) where
       let parents = waiting_one r.branch child rest r.sides ∷ r.parents in
       let sides = sides_under ss r.sides in
       let items = todo ss (ends ∷ []) in
-      let y : Scene = record z { world = with_child z.world r.branch has.branch ss rest } in
+      let y : ThreadView = record z { world = with_child z.world r.branch has.branch ss rest } in
       let End = EndAt (plan g r) (code g r) r.tie parents in
       let at_index = child_code ss rest h.stands.0 child c.index c.stands.0 c.further c.stands.1 c.stands.2 in
       let at_pc = subst (ItemsAt (plan g r) (code g r) sides End items [] h.pc) c.sum (behind_jumps (plan g r) (code g r) sides End items [] c.here h.pc c.index c.further c.jumps at_index) in
@@ -284,7 +284,7 @@ abbrev pub risen : Runner → Parent → List Parent → Runner
 risen r p ps = going r p.branch ps p.sides p.items
 
 module _ (g : Setting) (r : Runner) (p : Parent) (ps : List Parent) where
-  pub record Rises (j : ℕ) (z : Scene) : Type 0 where
+  pub record Rises (j : ℕ) (z : ThreadView) : Type 0 where
     pub branch : Branch
     pub known : slice_get z.world.branches r.branch ≡ Some branch
     pub running : branch.mode ≡ runs
@@ -302,7 +302,7 @@ module _ (g : Setting) (r : Runner) (p : Parent) (ps : List Parent) where
       ∙ ap (λ o. is_done o && true) (get_set_same x.branches r.branch branch (finished branch) known)
 
   -- and the one that waits goes on
-  rises_acts : (z : Scene) (branch : Branch) → slice_get z.world.branches r.branch ≡ Some branch → (w : ParentWaits g z.world r.core r.family p r.branch) → p.sync ≡ None → p.branch ≢ r.branch →
+  rises_acts : (z : ThreadView) (branch : Branch) → slice_get z.world.branches r.branch ≡ Some branch → (w : ParentWaits g z.world r.core r.family p r.branch) → p.sync ≡ None → p.branch ≢ r.branch →
       acts g.program g.stimulus (with_ended z.world r.branch branch) (go p.branch) ≡ Some (with_risen z.world r.branch branch p.branch w.branch)
   rises_acts z branch known w none apart =
       let K = g.program in
@@ -317,14 +317,14 @@ module _ (g : Setting) (r : Runner) (p : Parent) (ps : List Parent) where
       ∙ ap (λ n. joins st r.branch n) (w.one none)
       ∙ ap (λ b. only_if b y) (only_done z.world branch known)
 
-  pub rises : (rest : List Item) (j : ℕ) (z : Scene) → r.parents ≡ p ∷ ps → p.sync ≡ None → (h : Rest g r (ends ∷ rest) j z) → (w : ParentWaits g z.world r.core r.family p r.branch) →
+  pub rises : (rest : List Item) (j : ℕ) (z : ThreadView) → r.parents ≡ p ∷ ps → p.sync ≡ None → (h : Rest g r (ends ∷ rest) j z) → (w : ParentWaits g z.world r.core r.family p r.branch) →
       ItemsFit g (risen r p ps) p.items →
       HoldsStore g (risen r p ps) (record z { world = with_risen z.world r.branch h.has.branch p.branch w.branch }) →
       PortsStand g (risen r p ps) (record z { world = with_risen z.world r.branch h.has.branch p.branch w.branch }) → Rises j z
   rises rest j z parents none h w fits holds ports =
       let has = h.has in
       let c = h.stands.1 in
-      let y : Scene = record z { world = with_risen z.world r.branch has.branch p.branch w.branch } in
+      let y : ThreadView = record z { world = with_risen z.world r.branch has.branch p.branch w.branch } in
       let x = with_ended z.world r.branch has.branch in
       let there : slice_get x.branches p.branch ≡ Some w.branch = get_set_other z.world.branches r.branch p.branch (finished has.branch) apart ∙ w.known in
       let behind = subst (λ o. ClosingAt (plan g r) (code g r) o (λ q k. (exits : List Exit) × ItemsAt (plan g r) (code g r) p.sides End p.items exits q k) c.index c.further) none
@@ -355,14 +355,14 @@ module _ (g : Setting) (r : Runner) (p : Parent) (ps : List Parent) where
 
 -- 4. The end of the first branch of a `par` of several: it ends, and its thread goes on to where it joins the others.
 module _ (g : Setting) (r : Runner) (p : Parent) (ps : List Parent) where
-  pub record EndsFirst (most : ℕ) (z : Scene) : Type 0 where
+  pub record EndsFirst (most : ℕ) (z : ThreadView) : Type 0 where
     pub branch : Branch
     pub known : slice_get z.world.branches r.branch ≡ Some branch
     pub running : branch.mode ≡ runs
     pub acted : acts g.program g.stimulus z.world (go r.branch) ≡ Some (with_ended z.world r.branch branch)
     pub joining : IsJoining g (shrunk r []) p ps most (record z { world = with_ended z.world r.branch branch })
 
-  pub first_ends : (n : ℕ) (rest : List Item) (j : ℕ) (z : Scene) → r.parents ≡ p ∷ ps → p.sync ≡ Some n → n < 8 → length (syncs_of ps) ≤ 6 → slice_get z.core.syncs n ≡ Some true → z.hand ≡ None →
+  pub first_ends : (n : ℕ) (rest : List Item) (j : ℕ) (z : ThreadView) → r.parents ≡ p ∷ ps → p.sync ≡ Some n → n < 8 → length (syncs_of ps) ≤ 6 → slice_get z.core.syncs n ≡ Some true → z.hand ≡ None →
       Rest g r (ends ∷ rest) j z → EndsFirst (7 + j) z
   first_ends n rest j z parents sync few outer taken no_hand h = record {
     branch = h.has.branch;
@@ -381,14 +381,14 @@ module _ (g : Setting) (r : Runner) (p : Parent) (ps : List Parent) where
       s : Runner
       s = shrunk r []
 
-      y : Scene
+      y : ThreadView
       y = record z { world = with_ended z.world r.branch h.has.branch }
 
       c : Behind (plan g r) (code g r) (FirstAt (plan g r) (code g r) r.sides (EndOf g r) ends (λ exits pc k. ItemsFrom g r rest exits pc k) h.stands.0) h.pc j
       c = h.stands.1
 
       -- the synchroniser is taken, and the runner has nothing in hand
-      IsTaken : Scene → Type 0
+      IsTaken : ThreadView → Type 0
       IsTaken x = (slice_get x.core.syncs n ≡ Some true) × (x.hand ≡ None)
 
       owns : (hand : Option Hand) → Owns s hand n

@@ -21,7 +21,7 @@ use Rattle.xl_expr.specs.Plans.{var_in}
 use Rattle.xl_plan.specs.Layout.{is_used_on}
 use Rattle.xr_threads.specs.Fits.{AllFit, BranchesFit, ChangesAt, FitOn, Fits, InputFits, IsChanged, ItemFits, ItemsFit, OutputFits, PutsOutAt, TakesInAt, Uses, UsesAt, UsesSome}
 use Rattle.xr_threads.specs.Runners.{Block, Footprint, Setting, Runner, IsChannel, IsPort, anyone, end_place, footprint_of, home, outside, places, plan, plan_in, shrunk}
-use Rattle.xr_threads.specs.Scenes.{Scene, running}
+use Rattle.xr_threads.specs.ThreadViews.{ThreadView, running}
 use Rattle.xr_threads.specs.Transfers.{Transfer, acts_left, items_behind}
 use Rattle.xr_threads.specs.Turns.{Has, HasBases, HoldsStore, InTransfer, IsBehind, PortsStand, Rest}
 use Rattle.xr_threads.proofs.Stands.{stands_on}
@@ -356,7 +356,7 @@ module _ (home : Home) (t e : ℕ) (thread : Thread) (pos : Pos) where
 
 -- a runner with less
 module _ (g : Setting) (r : Runner) (items : List Item) (less : IsWithin (footprint_of items) r.footprint) where
-  pub store_shrinks : (z : Scene) → HoldsStore g r z → HoldsStore g (shrunk r items) z
+  pub store_shrinks : (z : ThreadView) → HoldsStore g r z → HoldsStore g (shrunk r items) z
   store_shrinks z h = record {
     holds = record {
       lengths = λ v n found near uses. h.holds.lengths v n found near (less.uses v uses);
@@ -368,13 +368,13 @@ module _ (g : Setting) (r : Runner) (items : List Item) (less : IsWithin (footpr
   pub port_shrinks : (p : ℕ) (listed : PortUse) → IsPort g (shrunk r items) p listed → IsPort g r p listed
   port_shrinks p listed is = record { mine = less.ports p is.mine; known = is.known; core = is.core }
 
-  pub ports_shrink : (z : Scene) → PortsStand g r z → PortsStand g (shrunk r items) z
+  pub ports_shrink : (z : ThreadView) → PortsStand g r z → PortsStand g (shrunk r items) z
   ports_shrink z h p listed is = let q = h p listed (port_shrinks p listed is) in record { port = q.port; there = q.there; declared = q.declared }
 
-  pub has_shrinks : (these : List Item) (z : Scene) → Has g r these z → Has g (shrunk r items) these z
+  pub has_shrinks : (these : List Item) (z : ThreadView) → Has g r these z → Has g (shrunk r items) these z
   has_shrinks these z h = record { branch = h.branch; runs = h.runs; core = h.core; holds = store_shrinks z h.holds; ports = ports_shrink z h.ports }
 
-  pub rest_shrinks : (j : ℕ) (z : Scene) → Rest g r items j z → Rest g (shrunk r items) items j z
+  pub rest_shrinks : (j : ℕ) (z : ThreadView) → Rest g r items j z → Rest g (shrunk r items) items j z
   rest_shrinks j z h = record {
     pc = h.pc;
     regs = h.regs;
@@ -392,7 +392,7 @@ module _ (g : Setting) (r : Runner) (items : List Item) (less : IsWithin (footpr
   behind_shrinks : (these : List Item) (j index : ℕ) (regs : Regs) → IsBehind g r these j index regs → IsBehind g (shrunk r items) these j index regs
   behind_shrinks these j index regs h = (bases_shrink regs h.0, λ core. stands_on g r (footprint_of items) r.transfer these j index regs core (h.1 core))
 
-  pub transfer_shrinks : (transfer : Transfer) (j : ℕ) (z : Scene) → InTransfer g r transfer items j z → InTransfer g (shrunk r items) transfer items j z
+  pub transfer_shrinks : (transfer : Transfer) (j : ℕ) (z : ThreadView) → InTransfer g r transfer items j z → InTransfer g (shrunk r items) transfer items j z
   transfer_shrinks transfer j z h = record {
     pos = h.pos;
     goes_with = h.goes_with;

@@ -25,7 +25,7 @@ use Rattle.xr_threads.specs.Images.{IsImageOf}
 use Rattle.xr_threads.specs.Living.{AreNamed}
 use Rattle.xr_threads.specs.Roles.{AreRoles, AreUsedSo, HandFits, Roles, got_by, used_by}
 use Rattle.xr_threads.specs.Runners.{Setting, Runner, IsLaidOut, IsPort, MayChange, anyone, of_stack, of_variable, places, port_place}
-use Rattle.xr_threads.specs.Scenes.{Owns, StillRuns, Touched}
+use Rattle.xr_threads.specs.ThreadViews.{Guarantee, Owns, StillRuns}
 use Rattle.xr_threads.specs.Standing.{AreLoose, EventsAre, IsRun, IsWanted, NobodyChanges, NobodyHas, Stand, Standing, Stands, StandsBy, ThreadIs, none_rests, only}
 use Rattle.xr_threads.specs.Turns.{PortIs}
 use Rattle.xr_threads.proofs.Holding.{LeavesLoose, holds_on}
@@ -115,7 +115,7 @@ module _ (g : Setting) (first : Roles) (is : IsImageOf g first) (who : Roles) (w
     (c t : ℕ) (a : CoreState) (at_c : slice_get w.machine.cores c ≡ Some a) (r : Runner) (hand : Option Hand) (runs_r : who c t ≡ used_by r hand)
     (branch : Branch) (known : slice_get x.state.branches r.branch ≡ Some branch) (stand : Stand g r false hand a x.state (w.lives c t) x.actions branch)
     (b : CoreState) (hand' : Option Hand) (alive : (mode : ThreadMode) → mode ≡ Running → ThreadIs r.parents branch.mode mode) (calm : (bit : Bool) → bit ≡ false → EventsAre branch.mode branch.items bit) (on : StillRuns g r b)
-    (touched : Touched g r (record { core = a; world = x.state; hand = hand }) (record { core = b; world = x.state; hand = hand' }))
+    (touched : Guarantee g r (record { core = a; world = x.state; hand = hand }) (record { core = b; world = x.state; hand = hand' }))
     (roots : b.roots ≡ a.roots) (ends : b.ends ≡ a.ends) (who' : Roles) (moved : (thread : ℕ) → Bool) (s : SilentRoles g who who' c t r hand hand' a b branch moved) where
   pub silent_effect : Effect g who c t r hand moved a b x.state x.state
   silent_effect = record {

@@ -21,7 +21,7 @@ use Rattle.xr_threads.specs.Images.{IsImageOf, IsRoot, IsRootRole}
 use Rattle.xr_threads.specs.Parents.{Parent, branches_of, syncs_of}
 use Rattle.xr_threads.specs.Roles.{AreRoles, IsOnce, IsParent, Role, Roles, got_by, outermost, unused, used_by}
 use Rattle.xr_threads.specs.Runners.{Setting, Runner}
-use Rattle.xr_threads.specs.Scenes.{Owns, held_in, sync_in}
+use Rattle.xr_threads.specs.ThreadViews.{Owns, held_in, sync_in}
 use Rattle.xr_threads.specs.Standing.{living_on, one_where}
 use Rattle.xr_threads.proofs.Roots.{none_found, numbered}
 

@@ -11,17 +11,17 @@ use Rattle.xl_expr.specs.Measures.{nodes_at}
 use Rattle.xl_expr.specs.Stores.{StoreOutcome, Stores, index_in}
 use Rattle.xr_threads.specs.Fits.{ItemsFit}
 use Rattle.xr_threads.specs.Runners.{Setting, Runner, IsLaidOut, code as code_of, home, plan, relied}
-use Rattle.xr_threads.specs.Scenes.{Scene, running}
+use Rattle.xr_threads.specs.ThreadViews.{ThreadView, running}
 use Rattle.xr_threads.specs.Turns.{Has, HasBases, IsAt, Leads, StandsAt, Turns, cost, in_r0}
 use Rattle.xr_threads.proofs.Arriving.{Since, any_part, apart_of_changes, arrives, at_runs, since_kept}
 use Rattle.xr_threads.proofs.Evaluations.{nodes_at_are}
 use Rattle.xr_threads.proofs.Layouts.{has_since, place_laid_at, room_of, runs_at}
-use Rattle.xr_threads.proofs.Scenes.{leads_as, leads_more}
+use Rattle.xr_threads.proofs.ThreadViews.{leads_as, leads_more}
 use Rattle.xr_threads.proofs.Writing.{store_turns, target_changed}
 use Rattle.xl_walk.specs.Pieces.{LinesAt}
 
 -- from behind the transfer to the store
-pub stored_leads : (g : Setting) (r : Runner) → IsLaidOut g r → (place : kernel.Place) (v : ℕ) (rest : List Item) (j index : ℕ) (regs : Regs) (z : Scene) →
+pub stored_leads : (g : Setting) (r : Runner) → IsLaidOut g r → (place : kernel.Place) (v : ℕ) (rest : List Item) (j index : ℕ) (regs : Regs) (z : ThreadView) →
     HasBases g r regs → StandsAt g r (stores place v ∷ rest) j index regs z.core → IsAt g r z index regs → Has g r (stores place v ∷ rest) z → ItemsFit g r (stores place v ∷ rest) →
     z.hand ≡ None → Leads g r (cost g r) j z
 stored_leads g r laid place v rest j index regs z bases (begins, stored, in_r0 is at, lines, behind) here has (((uses_place, changes), counted), rest_fits) no_hand =
@@ -29,7 +29,7 @@ stored_leads g r laid place v rest j index regs z bases (begins, stored, in_r0 i
     let at_end = index + length code.lines in
     let i = index_in z.world.store place in
     let most = 8 * nodes_at place - 1 in
-    let outcome : ℕ → Scene → Type 0 = λ w y. StoreOutcome (plan g r).vars (home g r) (relied g r) r.stack r.thread (running r.tie index regs) z.core.words place w at_end i y.core in
+    let outcome : ℕ → ThreadView → Type 0 = λ w y. StoreOutcome (plan g r).vars (home g r) (relied g r) r.stack r.thread (running r.tie index regs) z.core.words place w at_end i y.core in
     let way = code.so.by (home g r) (relied g r) r.stack r.thread (running r.tie index regs) z.world.store z.core code.stand (runs_at g r z index regs here) (room_of g r laid z regs bases has.holds) (place_laid_at g r laid z regs place uses_place bases has.holds) in
     let behind' : (regs' : Regs) (core' : CoreState) → HasBases g r regs' → StandsAt g r rest j at_end regs' core' = subst (λ p. (regs' : Regs) (core' : CoreState) → HasBases g r regs' → StandsAt g r rest j p regs' core') code.end behind in
     let le : most ≤ cost g r = let a = nodes_at_are place in omega arith in

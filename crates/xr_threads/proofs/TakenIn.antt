@@ -22,7 +22,7 @@ use Rattle.xl_walk.specs.Pieces.{ByEndAt, Exit, InputAt}
 use Rattle.xr_threads.specs.Fits.{Fits, ItemsFit, TakesInAt}
 use Rattle.xr_threads.specs.Parents.{syncs_of}
 use Rattle.xr_threads.specs.Runners.{Setting, Runner, IsChannel, IsLaidOut, code, end_place, home, plan, relied}
-use Rattle.xr_threads.specs.Scenes.{Scene, Kept, running}
+use Rattle.xr_threads.specs.ThreadViews.{ThreadView, Rely, running}
 use Rattle.xr_threads.specs.Turns as turn
 use Rattle.xr_threads.specs.Turns.{Has, HasBases, IsAt, IsBehind, IsOnSide, ItemsFrom, Leads, StatementLeads, TakesIn, TakesSteps, Turns, cost, in_r0}
 use Rattle.xr_threads.proofs.Arriving.{Since, any_part, apart_of_changes, arrives, at_runs, since_kept}
@@ -31,7 +31,7 @@ use Rattle.xr_threads.proofs.Identifiers.{end_named}
 use Rattle.xr_threads.proofs.Layouts.{has_since, room_of, runs_at}
 use Rattle.xr_threads.proofs.OnEnds.{end_stands, on_end}
 use Rattle.xr_threads.proofs.Protocols.{all_from, behind_of_items, nothing_awaited}
-use Rattle.xr_threads.proofs.Scenes.{leads_as, leads_more}
+use Rattle.xr_threads.proofs.ThreadViews.{leads_as, leads_more}
 use Rattle.xr_threads.proofs.Stands.{items_stand}
 
 -- The code of an input from an index on: its transfer's lines, and then those that write the word.
@@ -51,7 +51,7 @@ module _ (g : Setting) (r : Runner) (rest : List Item) (exits : List Exit) (pc p
 
   module _ (i : kernel.Input) (item_fits : Fits g r (kernel.input i)) (rest_fits : ItemsFit g r rest) (c : ℕ) (to_channel : i.resource ≡ Chan c) (side : Side) (stands_in : slice_index_or r.sides c None ≡ Some side) (writes : WritesTo (plan g r).vars i.target (pc + length transfer) write) where
     -- at the first step of the protocol
-    takes_there : (z y q : Scene) (regs : Regs) → HasBases g r regs → Kept g r y q → q.hand ≡ None → Has g r (does (kernel.input i) ∷ rest) q →
+    takes_there : (z y q : ThreadView) (regs : Regs) → HasBases g r regs → Rely g r y q → q.hand ≡ None → Has g r (does (kernel.input i) ∷ rest) q →
         AtProtocol (home g r) (relied g r) r.stack r.thread (end_place g r c side) (running r.tie pc regs) z.core.words i.pos (input_acts R0 true) (EndsAt (pc + length transfer)) y.core → TakesIn g r j q
     takes_there z y q regs bases kept no_hand has at = record {
       input = i;
@@ -81,7 +81,7 @@ module _ (g : Setting) (r : Runner) (rest : List Item) (exits : List Exit) (pc p
             )
 
 -- from its code to the first step
-pub take_leads : (g : Setting) (r : Runner) (i : kernel.Input) (c : ℕ) → i.resource ≡ Chan c → IsChannel g r c → (rest : List Item) (exits : List Exit) (pc pc' j : ℕ) (z : Scene) (regs : Regs) →
+pub take_leads : (g : Setting) (r : Runner) (i : kernel.Input) (c : ℕ) → i.resource ≡ Chan c → IsChannel g r c → (rest : List Item) (exits : List Exit) (pc pc' j : ℕ) (z : ThreadView) (regs : Regs) →
     IsLaidOut g r → ByEndAt (code g r) (plan g r) (λ end. Receives (plan g r) end i.target true i.pos) (end_at (plan g r).channels r.sides c) pc pc' → Fits g r (kernel.input i) →
     (side : Side) × (slice_index_or r.sides c None ≡ Some side) → ItemsFrom g r rest exits pc' j → ItemsFit g r rest →
     Has g r (does (kernel.input i) ∷ rest) z → IsAt g r z pc regs → HasBases g r regs → z.hand ≡ None → Leads g r (cost g r) j z

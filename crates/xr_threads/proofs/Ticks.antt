@@ -19,7 +19,7 @@ use Rattle.xr_match.specs.Sources.{Told}
 use Rattle.xr_threads.specs.Images.{IsImageOf}
 use Rattle.xr_threads.specs.Roles.{AreUsedSo, Roles, used_by}
 use Rattle.xr_threads.specs.Runners.{Setting, Runner, anyone, port_place}
-use Rattle.xr_threads.specs.Scenes.{Kept, SpareFor}
+use Rattle.xr_threads.specs.ThreadViews.{Rely, SpareFor}
 use Rattle.xr_threads.specs.Standing.{AreLoose, Standing, none_rests}
 use Rattle.xr_threads.proofs.Moves.{HasStepped, kept_now, moves, other_same}
 use Rattle.xr_threads.proofs.Reserves.{reserves_behind}
@@ -55,7 +55,7 @@ module _ (g : Setting) (first : Roles) (is : IsImageOf g first) (who : Roles) (w
   abbrev pub watched_ticked : Watched
   watched_ticked = watched_after w (Tick c) (record w.machine { cores = slice_set w.machine.cores c (ticked a) })
 
-  kept_here : (u : ℕ) (s : Runner) (hand : Option Hand) → who c u ≡ used_by s hand → Kept g s (record { core = a; world = x.state; hand = hand }) (record { core = ticked a; world = later; hand = hand })
+  kept_here : (u : ℕ) (s : Runner) (hand : Option Hand) → who c u ≡ used_by s hand → Rely g s (record { core = a; world = x.state; hand = hand }) (record { core = ticked a; world = later; hand = hand })
   kept_here u s hand runs =
       let k = kept_now g first is none_rests who w x st c u a s hand at_c runs in
       let core = st.roles.core c u s hand runs in
@@ -74,7 +74,7 @@ module _ (g : Setting) (first : Roles) (is : IsImageOf g first) (who : Roles) (w
         spare = spare_ticked hand a k.spare;
       }
 
-  kept_far : (d u : ℕ) (e : CoreState) (s : Runner) (hand : Option Hand) → d ≢ c → slice_get w.machine.cores d ≡ Some e → who d u ≡ used_by s hand → Kept g s (record { core = e; world = x.state; hand = hand }) (record { core = e; world = later; hand = hand })
+  kept_far : (d u : ℕ) (e : CoreState) (s : Runner) (hand : Option Hand) → d ≢ c → slice_get w.machine.cores d ≡ Some e → who d u ≡ used_by s hand → Rely g s (record { core = e; world = x.state; hand = hand }) (record { core = e; world = later; hand = hand })
   kept_far d u e s hand ne at runs =
       let k = kept_now g first is none_rests who w x st d u e s hand at runs in
       let core = st.roles.core d u s hand runs in

@@ -26,7 +26,7 @@ use Rattle.xr_threads.specs.Fits.{ItemsFit}
 use Rattle.xr_threads.specs.Images.{IsImageOf}
 use Rattle.xr_threads.specs.Roles.{Roles, used_by}
 use Rattle.xr_threads.specs.Runners.{Runner, Setting, end_place, home}
-use Rattle.xr_threads.specs.Scenes.{Scene, running}
+use Rattle.xr_threads.specs.ThreadViews.{ThreadView, running}
 use Rattle.xr_threads.specs.Standing.{IfTrue, IsAtRest, Stand, Standing, StandsWith, none_rests}
 use Rattle.xr_threads.specs.Transfers.{GoesWith, Transfer, acts_left, all_but_first, items_behind, steps_left}
 use Rattle.xr_threads.specs.Turns.{Has, InTransfer, IsBehind, TakesSteps, cost}
@@ -54,7 +54,7 @@ module _ (g : Setting) (first : Roles) (is : IsImageOf g first) (who : Roles) (w
     (c t : ℕ) (a : CoreState) (at_c : slice_get w.machine.cores c ≡ Some a) (r : Runner) (runs_r : who c t ≡ used_by r None)
     (branch : Branch) (known : slice_get x.state.branches r.branch ≡ Some branch) (stand : Stand g r false None a x.state (w.lives c t) x.actions branch) (on : branch.mode ≡ runs)
     (channel : ℕ) (side : Side) where
-  abbrev now : Scene
+  abbrev now : ThreadView
   now = record { core = a; world = x.state; hand = None }
 
   abbrev Goal : Type 0
@@ -63,7 +63,7 @@ module _ (g : Setting) (first : Roles) (is : IsImageOf g first) (who : Roles) (w
   -- the branch has these items still, where the thread goes on
   has_still : (pc : ℕ) (regs : Regs) (here : slice_get a.threads r.thread ≡ Some (running r.tie pc regs)) (es : List ChanEnd) → Has g r branch.items now → Has g r branch.items (record { core = step.left g r a pc regs regs here es; world = x.state; hand = None })
   has_still pc regs here es h =
-      let then : Scene = record { core = step.left g r a pc regs regs here es; world = x.state; hand = None } in
+      let then : ThreadView = record { core = step.left g r a pc regs regs here es; world = x.state; hand = None } in
       record {
         branch = h.branch;
         runs = h.runs;
@@ -190,7 +190,7 @@ module _ (g : Setting) (first : Roles) (is : IsImageOf g first) (who : Roles) (w
 
   -- the thread has left its transfer, and is at the code of what is left, or on its way to the store of the word that has come in
   module _ (j : ℕ) (h : InTransfer g r (in_phase channel side sends_ack) branch.items j now) (es : List ChanEnd) where
-    abbrev then : Scene
+    abbrev then : ThreadView
     then = record { core = step.left g r a h.pc h.regs h.regs h.here es; world = x.state; hand = None }
 
     abbrev out : Runner

@@ -8,7 +8,7 @@ use Rattle.xl_chan.specs.Protocols.{Act}
 use Rattle.xw_words.specs.declared.pos.Pos.{Pos}
 use Rattle.xr_threads.specs.Fits.{ItemsFit}
 use Rattle.xr_threads.specs.Runners.{IsPort, Runner, Setting, end_place, footprint_of, home}
-use Rattle.xr_threads.specs.Scenes.{Scene, running}
+use Rattle.xr_threads.specs.ThreadViews.{ThreadView, running}
 use Rattle.xr_threads.specs.Transfers.{Transfer, acts_left, items_behind}
 use Rattle.xr_threads.specs.Turns.{Has, HasBases, HoldsStore, InTransfer, IsBehind, PortsStand, Rest, TakesSteps}
 use Rattle.xr_threads.proofs.Shrinks.{acts_map, fits_moved}
@@ -24,19 +24,19 @@ module _ (g : Setting) (r : Runner) (transfer : Option Transfer) where
   bases_as : (regs : Regs) → HasBases g r regs → HasBases g s regs
   bases_as regs h = record { base = h.base; stack = h.stack; names = h.names }
 
-  store_as : (z : Scene) → HoldsStore g r z → HoldsStore g s z
+  store_as : (z : ThreadView) → HoldsStore g r z → HoldsStore g s z
   store_as z h = record { holds = h.holds; room = h.room }
 
-  ports_as : (z : Scene) → PortsStand g r z → PortsStand g s z
+  ports_as : (z : ThreadView) → PortsStand g r z → PortsStand g s z
   ports_as z h p listed is = let q = h p listed (port_of p listed is) in record { port = q.port; there = q.there; declared = q.declared }
 
-  pub has_as : (items : List Item) (z : Scene) → Has g r items z → Has g s items z
+  pub has_as : (items : List Item) (z : ThreadView) → Has g r items z → Has g s items z
   has_as items z h = record { branch = h.branch; runs = h.runs; core = h.core; holds = store_as z h.holds; ports = ports_as z h.ports }
 
   pub fits_as : (items : List Item) → r.footprint ≡ footprint_of items → ItemsFit g r items → ItemsFit g s items
   fits_as items same h = fits_moved g r s items refl refl same h
 
-  pub rest_as : (items : List Item) (j : ℕ) (z : Scene) → r.footprint ≡ footprint_of items → Rest g r items j z → Rest g s items j z
+  pub rest_as : (items : List Item) (j : ℕ) (z : ThreadView) → r.footprint ≡ footprint_of items → Rest g r items j z → Rest g s items j z
   rest_as items j z same h = record {
     pc = h.pc;
     regs = h.regs;
@@ -55,7 +55,7 @@ module _ (g : Setting) (r : Runner) (transfer : Option Transfer) where
   steps_as channel side pos acts items j pc regs h = acts_map (home g r) r.thread (end_place g r channel side) (running r.tie pc regs) pos acts (IsBehind g r items j) (IsBehind g s items j) (behind_as items j) pc regs h
 
   -- the thread is inside some transfer
-  pub inside_as : (which : Transfer) (items : List Item) (j : ℕ) (z : Scene) → r.footprint ≡ footprint_of items → InTransfer g r which items j z → InTransfer g s which items j z
+  pub inside_as : (which : Transfer) (items : List Item) (j : ℕ) (z : ThreadView) → r.footprint ≡ footprint_of items → InTransfer g r which items j z → InTransfer g s which items j z
   inside_as which items j z same h = record {
     pos = h.pos;
     goes_with = h.goes_with;

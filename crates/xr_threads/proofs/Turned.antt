@@ -19,7 +19,7 @@ use Rattle.xr_threads.specs.Images.{IsImageOf}
 use Rattle.xr_threads.specs.Parents.{Parent, branches_of}
 use Rattle.xr_threads.specs.Roles.{IsParent, ParentWaits, ParentsWait, Roles, empty, outermost, used_by}
 use Rattle.xr_threads.specs.Runners.{Setting, Runner, footprint_of, shrunk}
-use Rattle.xr_threads.specs.Scenes.{Scene, running, running_so}
+use Rattle.xr_threads.specs.ThreadViews.{ThreadView, running, running_so}
 use Rattle.xr_threads.specs.Standing.{HasEnded, Stand, Standing, StandsBy, StandsWith, ThreadIs, counts, none_rests}
 use Rattle.xr_threads.specs.Transfers.{StopsIn, Transfer}
 use Rattle.xr_threads.specs.Turns.{Errs, Frees, Goes, IsTiedThread, IsWaitingTied, Waits, cost, failed, finished, is_watching}
@@ -48,7 +48,7 @@ stops_outside (Some transfer) e = let both : ◌≡◌ {A = Option Transfer} (So
 module _ (g : Setting) (first : Roles) (is : IsImageOf g first) (who : Roles) (w : Watched) (x : Told (of_kernel g.program)) (st : Standing g none_rests who w x)
     (c t : ℕ) (a : CoreState) (at_c : slice_get w.machine.cores c ≡ Some a) (r : Runner) (runs_r : who c t ≡ used_by r None)
     (branch : Branch) (known : slice_get x.state.branches r.branch ≡ Some branch) (stand : Stand g r false None a x.state (w.lives c t) x.actions branch) where
-  abbrev now : Scene
+  abbrev now : ThreadView
   now = record { core = a; world = x.state; hand = None }
 
   -- where the thread is, for the machine
@@ -106,7 +106,7 @@ module _ (g : Setting) (first : Roles) (is : IsImageOf g first) (who : Roles) (w
     went_stand : Stand g (shrunk r h.items) (rests_alone c t c t) None h.left h.acts.world (went_watched.lives c t) (told_by g.program g.stimulus x (h.acts.action ∷ []) h.acts.world).actions (record h.acts.branch { items = h.items })
     went_stand =
         let further = h.jumps + cost g r in
-        let z : Scene = record { core = h.left; world = h.acts.world; hand = None } in
+        let z : ThreadView = record { core = h.left; world = h.acts.world; hand = None } in
         let rest = rest_shrinks g r h.items less h.jumps z h.rest in
         let enough = h.fewer in
         record {

@@ -10,7 +10,7 @@ use Rattle.xl_par.specs.Hands.{Hand, IsAmong, with_thread_got}
 use Rattle.xr_threads.specs.Parents.{syncs_of}
 use Rattle.xr_threads.specs.Roles.{AreRoles, AreUsedSo, Role, Roles, got_by, unused, used_by}
 use Rattle.xr_threads.specs.Runners.{Setting, Runner}
-use Rattle.xr_threads.specs.Scenes.{Owns, held_in, sync_in}
+use Rattle.xr_threads.specs.ThreadViews.{Owns, held_in, sync_in}
 use Rattle.xr_threads.specs.Turns.{IsFree, IsFreeThread, IsTiedThread, IsWaitingTied}
 use Rattle.xr_threads.proofs.Moves.{same_hand, same_runner}
 use Rattle.xr_threads.proofs.Seating.{Place, gets, got_same, new, old, own, own_now, place}

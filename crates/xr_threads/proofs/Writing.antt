@@ -29,7 +29,7 @@ use Rattle.xl_expr.proofs.Lists.{get_set_other}
 use Rattle.xr_threads.specs.Fits.{ItemsFit, UsesAt}
 use Rattle.xr_threads.specs.Parents.{syncs_of}
 use Rattle.xr_threads.specs.Runners.{Setting, Runner, IsLaidOut, MayChange, of_variable, home, places, plan, plan_in, relied}
-use Rattle.xr_threads.specs.Scenes.{Scene, Kept, running}
+use Rattle.xr_threads.specs.ThreadViews.{ThreadView, Rely, running}
 use Rattle.xr_threads.specs.Turns as turn
 use Rattle.xr_threads.specs.Turns.{HasBases, Has, Goes, StandsAt, Turn}
 use Rattle.xr_threads.proofs.Arriving.{Since, any_part, core_kept}
@@ -107,7 +107,7 @@ module _ (g : Setting) (r : Runner) (laid : IsLaidOut g r) (item : Item) (place 
       does_item (step_of g.program g.stimulus w r.branch branch rest) item ≡ stored (step_of g.program g.stimulus w r.branch branch rest) place v
 
   -- at the instruction that writes the word
-  write_goes : (z q : Scene) (regs : Regs) (v i address : ℕ) → HasBases g r regs → q.hand ≡ None → (has : Has g r (item ∷ rest) q) → Stores q.world has.branch v → index_in q.world.store place ≡ word i → IsAddress (places g r.core) (relied g r) r.stack (4 * 0) q.core.words place i address → Writes (home g r) (relied g r) r.stack r.thread (running r.tie pc regs) z.core.words address v pc' q.core → Goes g r j q
+  write_goes : (z q : ThreadView) (regs : Regs) (v i address : ℕ) → HasBases g r regs → q.hand ≡ None → (has : Has g r (item ∷ rest) q) → Stores q.world has.branch v → index_in q.world.store place ≡ word i → IsAddress (places g r.core) (relied g r) r.stack (4 * 0) q.core.words place i address → Writes (home g r) (relied g r) r.stack r.thread (running r.tie pc regs) z.core.words address v pc' q.core → Goes g r j q
   write_goes z q regs v i address bases no_hand has is is_index at_address w =
       own_goes g r j q pc' w.regs words made bases' no_hand item rest rest store has acted same holds room j (λ core. behind w.regs core bases') rest_fits (omega arith)
     where
@@ -148,7 +148,7 @@ module _ (g : Setting) (r : Runner) (laid : IsLaidOut g r) (item : Item) (place 
       room = let e = length-set q.core.words (address / 4) v in let h = has.holds.room in omega arith
 
   -- where the code has come the turn is next: it writes the word, or traps by the index's error
-  pub store_turns : (z y q : Scene) (regs : Regs) (v : ℕ) (i : Value) → HasBases g r regs → Kept g r y q → Since g r (IsApart r.stack) any_part z q → q.hand ≡ None →
+  pub store_turns : (z y q : ThreadView) (regs : Regs) (v : ℕ) (i : Value) → HasBases g r regs → Rely g r y q → Since g r (IsApart r.stack) any_part z q → q.hand ≡ None →
       (has : Has g r (item ∷ rest) q) → Stores q.world has.branch v → index_in z.world.store place ≡ i →
       StoreOutcome (plan g r).vars (home g r) (relied g r) r.stack r.thread (running r.tie pc regs) z.core.words place v pc' i y.core → Turn g r j q
   store_turns z y q regs v i bases kept since no_hand has is is_index outcome = by i is_index outcome

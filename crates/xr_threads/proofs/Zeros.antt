@@ -25,14 +25,14 @@ use Rattle.xl_walk.specs.Pieces.{Exit}
 use Rattle.xr_threads.specs.Fits.{IsChanged, ItemsFit}
 use Rattle.xr_threads.specs.Parents.{syncs_of}
 use Rattle.xr_threads.specs.Runners.{Block, Setting, Runner, IsLaidOut, MayChange, of_variable, home, places, plan, plan_in, relied}
-use Rattle.xr_threads.specs.Scenes.{Scene, running}
+use Rattle.xr_threads.specs.ThreadViews.{ThreadView, running}
 use Rattle.xr_threads.specs.Turns as turn
 use Rattle.xr_threads.specs.Turns.{Goes, Has, HasBases, HoldsStore, ItemsFrom, Runs, StatementLeads, Turns, cost, first_changes, own_go}
 use Rattle.xr_threads.proofs.Arriving.{Since, any_part, arrives, at_runs, core_kept, ports_since, since_kept, stack_relied}
 use Rattle.xr_threads.proofs.Bases.{bases_worked}
 use Rattle.xr_threads.proofs.Evaluations.{item_acts, runs_with, with_items}
 use Rattle.xr_threads.proofs.Layouts.{ports_last, runs_at, runs_kept, unseen, variable_relied}
-use Rattle.xr_threads.proofs.Scenes.{leads_as, leads_more}
+use Rattle.xr_threads.proofs.ThreadViews.{leads_as, leads_more}
 use Rattle.xr_threads.proofs.Stands.{items_stand}
 use Rattle.xr_threads.proofs.Watching.{here_at, items_unwatched}
 
@@ -89,7 +89,7 @@ module _ (g : Setting) (r : Runner) (v : ℕ) (laid : IsLaidOut g r) (is : IsCha
   low i lt = laid.frame.low v first i is.found near.1 lt
 
   -- what the code asks for: the words stand where the plan has them
-  words_stand : (n : ℕ) → is.found.words ≡ n → (z : Scene) → HoldsStore g r z → WordsStand (relied g r) z.core.words base n
+  words_stand : (n : ℕ) → is.found.words ≡ n → (z : ThreadView) → HoldsStore g r z → WordsStand (relied g r) z.core.words base n
   words_stand n is_n z h = record {
     there = λ i lt.
         let within : i < is.found.words = omega arith in
@@ -121,9 +121,9 @@ module _ (g : Setting) (r : Runner) (v : ℕ) (laid : IsLaidOut g r) (is : IsCha
       let same : 0 + m + k ≡ 0 + first + i = e ∙ index_is 0 first i (low i within) in
       ne (laid.frame.disjoint w m k v first i other is.found near' near.1 lt within (omega arith))
 
-  module _ (rest : List Item) (z : Scene) (k : ℕ) (is_k : is.found.words ≡ k + 1) where
+  module _ (rest : List Item) (z : ThreadView) (k : ℕ) (is_k : is.found.words ≡ k + 1) where
     -- at the last store
-    module _ (x : Scene) (since : Since g r (IsOutside base (k + 1)) any_part z x) (zeros : (i : ℕ) → i < k → word_at x.core.words (address_at base i) ≡ Some 0) (there : (y : ℕ) × (word_at x.core.words (address_at base k) ≡ Some y)) (holds : HoldsStore g r z) where
+    module _ (x : ThreadView) (since : Since g r (IsOutside base (k + 1)) any_part z x) (zeros : (i : ℕ) → i < k → word_at x.core.words (address_at base i) ≡ Some 0) (there : (y : ℕ) × (word_at x.core.words (address_at base k) ≡ Some y)) (holds : HoldsStore g r z) where
       -- what the last store leaves in memory, and what the branch's step leaves in the store
       abbrev zero_words : List ℕ
       zero_words = word_put x.core.words (address_at base k) 0
@@ -203,7 +203,7 @@ module _ (g : Setting) (r : Runner) (v : ℕ) (laid : IsLaidOut g r) (is : IsCha
 
     module _ (exits : List Exit) (j : ℕ) (pc' : ℕ) (regs : Regs) (bases : HasBases g r regs) (no_hand : z.hand ≡ None) (behind : ItemsFrom g r rest exits pc' j) (fits : ItemsFit g r rest) (has : Has g r (does (kernel.set_zero v) ∷ rest) z) where
       -- the last store is the branch's step
-      last_goes : (tie_pc : ℕ) (x : Scene) → Since g r (IsOutside base (k + 1)) any_part z x → WritesLast (home g r) (relied g r) r.thread (running r.tie tie_pc regs) z.core.words base k pc' x.core → Goes g r j x
+      last_goes : (tie_pc : ℕ) (x : ThreadView) → Since g r (IsOutside base (k + 1)) any_part z x → WritesLast (home g r) (relied g r) r.thread (running r.tie tie_pc regs) z.core.words base k pc' x.core → Goes g r j x
       last_goes tie_pc x since w =
           let branch = has.branch in
           let runs : Runs x.world r.branch branch (does (kernel.set_zero v) ∷ rest) = runs_kept g r z x branch (does (kernel.set_zero v) ∷ rest) since.branch has.runs in
@@ -212,7 +212,7 @@ module _ (g : Setting) (r : Runner) (v : ℕ) (laid : IsLaidOut g r) (is : IsCha
           let words = word_put x.core.words (address_at base k) 0 in
           let left : CoreState = record x.core { threads = slice_set x.core.threads r.thread new; words = words } in
           let world = with_zeros (with_items x.world r.branch branch rest) v in
-          let y : Scene = record { core = left; world = world; hand = None } in
+          let y : ThreadView = record { core = left; world = world; hand = None } in
           let next = runs_with x.world r.branch branch (does (kernel.set_zero v) ∷ rest) rest runs in
           record {
             left = left;

@@ -3,7 +3,7 @@ pub mod Parents
 pub mod Items
 pub mod Runners
 pub mod Fits
-pub mod Scenes
+pub mod ThreadViews
 pub mod Turns
 pub mod Roles
 pub mod Plain

@@ -13,7 +13,7 @@ use Rattle.xl_plan.specs.Layout.{temporary_of}
 use Rattle.xr_threads.specs.Fits.{FitOn}
 use Rattle.xr_threads.specs.Parents.{Parent, branches_of, syncs_of}
 use Rattle.xr_threads.specs.Runners.{Setting, Runner, outside}
-use Rattle.xr_threads.specs.Scenes.{Owns, giving_back, held_in, sync_in}
+use Rattle.xr_threads.specs.ThreadViews.{Owns, giving_back, held_in, sync_in}
 use Rattle.xr_threads.specs.Turns.{IsFree, IsWaitingTied}
 
 -- A thread is unused; or it was got by another one of its core for a `par` that that one is opening; or it runs a branch, with what it has in

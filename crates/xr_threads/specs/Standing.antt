@@ -25,7 +25,7 @@ use Rattle.xr_match.specs.Systems.{SomeIs}
 use Rattle.xr_threads.specs.Parents.{Parent}
 use Rattle.xr_threads.specs.Roles.{AreRoles, AreUsedSo, HandFits, HasReserves, IsParent, ParentsWait, Role, Roles, got_by, own_branches, unused, used_by}
 use Rattle.xr_threads.specs.Runners.{Setting, Runner, IsPort, anyone, footprint_of, places}
-use Rattle.xr_threads.specs.Scenes.{Scene}
+use Rattle.xr_threads.specs.ThreadViews.{ThreadView}
 use Rattle.xr_threads.specs.Plain.{ArePlain}
 use Rattle.xr_threads.specs.Transfers.{StopsIn, Transfer, steps_left}
 use Rattle.xr_threads.specs.Turns.{GivesBack, InTransfer, IsJoining, Leads, PortIs, Rest, cost, is_watching}
@@ -52,19 +52,19 @@ EventsAre erred items bit = Unit {0}
 
 module _ (g : Setting) (r : Runner) where
   -- The first item's own instruction is reached soon, and then few jumps are still to be done; `most` bounds both together.
-  abbrev pub IsOnItsWay : (most : ℕ) → Scene → Type 0
+  abbrev pub IsOnItsWay : (most : ℕ) → ThreadView → Type 0
   IsOnItsWay most z = (n : ℕ) × (j : ℕ) × (n + j ≤ most) × Leads g r n j z
 
   -- a synchroniser is given back next, and then the code of items follows
-  abbrev pub IsResuming : List Item → (most : ℕ) → Scene → Type 0
+  abbrev pub IsResuming : List Item → (most : ℕ) → ThreadView → Type 0
   IsResuming items most z = (j : ℕ) × (1 + j + cost g r ≤ most) × GivesBack g r items j z
 
   -- the thread is at the code of items, of which some may be done without an instruction
-  abbrev pub IsAtRest : List Item → (most : ℕ) → Scene → Type 0
+  abbrev pub IsAtRest : List Item → (most : ℕ) → ThreadView → Type 0
   IsAtRest items most z = (j : ℕ) × (j + cost g r ≤ most) × (z.hand ≡ None) × Rest g r items j z
 
   -- where the branch has ended, and others wait for it
-  abbrev pub HasEnded : List Parent → (left : ℕ) → Scene → Type 0
+  abbrev pub HasEnded : List Parent → (left : ℕ) → ThreadView → Type 0
   HasEnded [] left z = z.hand ≡ None
   HasEnded (p ∷ ps) left z = IsJoining g r p ps left z
 
@@ -73,17 +73,17 @@ module _ (g : Setting) (r : Runner) where
   IfTrue false A = ⊥
 
   -- the thread is inside a transfer
-  abbrev pub IsTransferring : Transfer → List Item → (most : ℕ) → Scene → Type 0
+  abbrev pub IsTransferring : Transfer → List Item → (most : ℕ) → ThreadView → Type 0
   IsTransferring transfer items most z =
       (j : ℕ) × (steps_left transfer.phase + j + cost g r ≤ most) × InTransfer g r transfer items j z
 
   -- by whether it is inside one
-  abbrev pub StandsWith : (may_rest : Bool) → Option Transfer → List Item → (left : ℕ) → Scene → Type 0
+  abbrev pub StandsWith : (may_rest : Bool) → Option Transfer → List Item → (left : ℕ) → ThreadView → Type 0
   StandsWith may_rest None items left z = IsOnItsWay left z ⊎ (IsResuming items left z ⊎ IfTrue may_rest (IsAtRest items left z))
   StandsWith may_rest (Some transfer) items left z = IsTransferring transfer items left z
 
   -- what a thread does, by how its branch is, with so many steps left to it before the branch's next one; it may stand at rest, or not
-  abbrev pub StandsBy : (may_rest : Bool) → List Item → Mode → (left : ℕ) → Scene → Type 0
+  abbrev pub StandsBy : (may_rest : Bool) → List Item → Mode → (left : ℕ) → ThreadView → Type 0
   StandsBy may_rest items runs left z = StandsWith may_rest r.transfer items left z
   StandsBy may_rest items (waits from count) left z = ⊥
   StandsBy may_rest items ended left z = HasEnded r.parents left z

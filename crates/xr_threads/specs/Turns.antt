@@ -46,7 +46,7 @@ use Rattle.xl_walk.specs.Pieces.{Exit, LinesAt, PieceAt}
 use Rattle.xr_threads.specs.Fits.{Fits, ItemsFit, greatest}
 use Rattle.xr_threads.specs.Runners.{Setting, Runner, IsLaidOut, IsPort, code, end_place, home, places, plan, port_place}
 use Rattle.xr_threads.specs.Transfers.{Transfer, AwaitsNothing, GoesWith, acts_left, items_behind}
-use Rattle.xr_threads.specs.Scenes.{Scene, Kept, Touched, LeadsIn, after, giving_back, running, running_so}
+use Rattle.xr_threads.specs.ThreadViews.{ThreadView, Rely, Guarantee, LeadsIn, after, giving_back, running, running_so}
 
 -- an unused thread, which takes no events and isn't tied
 pub record IsFreeThread (thread : Thread) : Type 0 where
@@ -140,11 +140,11 @@ pub record HoldsNames (core : ℕ) (syncs : List ℕ) (regs : Regs) : Type 0 whe
 
 module _ (g : Setting) (r : Runner) where
   -- the runner's thread is at an index with these registers
-  abbrev pub IsAt : Scene → ℕ → Regs → Type 0
+  abbrev pub IsAt : ThreadView → ℕ → Regs → Type 0
   IsAt z pc regs = slice_get z.core.threads r.thread ≡ Some (running r.tie pc regs)
 
   -- the same where its branch has these items to do: it takes events where the first of them waits for one
-  abbrev pub IsAtItems : List Item → Scene → ℕ → Regs → Type 0
+  abbrev pub IsAtItems : List Item → ThreadView → ℕ → Regs → Type 0
   IsAtItems items z pc regs = slice_get z.core.threads r.thread ≡ Some (running_so (is_watching items) r.tie pc regs)
 
   -- dp and sp are the runner's, and from r1 on stand the names of the synchronisers of the branches that wait, the innermost one's first
@@ -157,17 +157,17 @@ module _ (g : Setting) (r : Runner) where
   HasBases regs = HasBasesBy (syncs_of r.parents) regs
 
   -- the words of the variables that the branch may use are those of the store, and the temporary words are there
-  pub record HoldsStore (z : Scene) : Type 0 where
+  pub record HoldsStore (z : ThreadView) : Type 0 where
     pub holds : Holds (places g r.core) r.footprint.uses 0 z.core.words z.world.store
     pub room : r.stack + temporary ≤ length z.core.words
 
   -- a port stands at its place as it is declared
-  pub record PortIs (p : ℕ) (listed : PortUse) (z : Scene) : Type 0 where
+  pub record PortIs (p : ℕ) (listed : PortUse) (z : ThreadView) : Type 0 where
     pub port : Port
     pub there : slice_get z.core.ports (port_place g r p) ≡ Some port
     pub declared : port.decl ≡ decl_of listed
 
-  abbrev pub PortsStand : Scene → Type 0
+  abbrev pub PortsStand : ThreadView → Type 0
   PortsStand z = (p : ℕ) (listed : PortUse) → IsPort g r p listed → PortIs p listed z
 
   -- what stands where the runner's branch ends
@@ -191,7 +191,7 @@ module _ (g : Setting) (r : Runner) where
   StandsAt items j pc regs core = (exits : List Exit) × ItemsFrom items exits pc j
 
   -- the branch has these items, and the core has its words and ports
-  pub record Has (items : List Item) (z : Scene) : Type 0 where
+  pub record Has (items : List Item) (z : ThreadView) : Type 0 where
     pub branch : Branch
     pub runs : Runs z.world r.branch branch items
     pub core : branch.core ≡ r.core
@@ -199,7 +199,7 @@ module _ (g : Setting) (r : Runner) where
     pub ports : PortsStand z
 
   -- The thread stands where its branch's items are to be done.
-  pub record Rest (items : List Item) (j : ℕ) (z : Scene) : Type 0 where
+  pub record Rest (items : List Item) (j : ℕ) (z : ThreadView) : Type 0 where
     pub pc : ℕ
     pub regs : Regs
     pub here : IsAtItems items z pc regs
@@ -209,7 +209,7 @@ module _ (g : Setting) (r : Runner) where
     pub has : Has items z
 
   -- The thread is at the instruction that gives a synchroniser back, and behind it at the code of its branch's items, with j jumps between them.
-  pub record GivesBack (items : List Item) (j : ℕ) (z : Scene) : Type 0 where
+  pub record GivesBack (items : List Item) (j : ℕ) (z : ThreadView) : Type 0 where
     pub sync : ℕ
     pub in_hand : z.hand ≡ giving_back sync
     pub pc : ℕ
@@ -226,7 +226,7 @@ module _ (g : Setting) (r : Runner) where
 
   -- The thread is at the instruction that joins the branches behind the first, whose maker is the innermost that waits; behind it stand the one that
   -- gives the synchroniser back, and the code of what is left to the maker.
-  pub record JoinsAt (p : Parent) (ps : List Parent) (j : ℕ) (z : Scene) : Type 0 where
+  pub record JoinsAt (p : Parent) (ps : List Parent) (j : ℕ) (z : ThreadView) : Type 0 where
     pub sync : ℕ
     pub sync_is : p.sync ≡ Some sync
     pub no_hand : z.hand ≡ None
@@ -244,11 +244,11 @@ module _ (g : Setting) (r : Runner) where
         slot (home g r) c r.thread ≡ makes (row_goes_on (put_syncs c (slice_set c.syncs sync false)) r.thread (running r.tie (pc + 1) regs) regs)
 
   -- whatever the others do before it
-  abbrev pub Joins : Parent → List Parent → ℕ → Scene → Type 0
-  Joins p ps j z = (y : Scene) → Kept g r z y → JoinsAt p ps j y
+  abbrev pub Joins : Parent → List Parent → ℕ → ThreadView → Type 0
+  Joins p ps j z = (y : ThreadView) → Rely g r z y → JoinsAt p ps j y
 
   -- in at most n silent steps the thread is there, with j jumps to be done behind it
-  abbrev pub IsJoining : Parent → List Parent → (most : ℕ) → Scene → Type 0
+  abbrev pub IsJoining : Parent → List Parent → (most : ℕ) → ThreadView → Type 0
   IsJoining p ps most z = (n : ℕ) × (j : ℕ) × (n + j ≤ most) × LeadsIn g r (Joins p ps j) n z
 
   -- an action of a branch leaves this state: the branch is another, and only variables that its first item changes have other words
@@ -272,7 +272,7 @@ module _ (g : Setting) (r : Runner) where
     pub inboxes : world.inboxes ≡ x.inboxes
 
   -- the thread traps, and the branch errs
-  pub record Errs (y : Scene) : Type 0 where
+  pub record Errs (y : ThreadView) : Type 0 where
     pub kind : Trap
     pub pos : Pos
     pub traps : slot (home g r) y.core r.thread ≡ Traps kind
@@ -284,12 +284,12 @@ module _ (g : Setting) (r : Runner) where
     pub store : acts.world.store ≡ y.world.store
 
   -- the thread of a root is freed, and the branch has ended
-  pub record Frees (y : Scene) : Type 0 where
+  pub record Frees (y : ThreadView) : Type 0 where
     pub root : r.tie ≡ None
     pub outermost : r.parents ≡ []
     pub left : CoreState
     pub made_is : slot (home g r) y.core r.thread ≡ Made left None []
-    pub touched : Touched g r y (after g r y left)
+    pub touched : Guarantee g r y (after g r y left)
     pub roots : left.roots ≡ y.core.roots - 1
     pub syncs : left.syncs ≡ y.core.syncs
     pub words : left.words ≡ y.core.words
@@ -303,13 +303,13 @@ module _ (g : Setting) (r : Runner) where
     pub has : Has (ends ∷ rest) y
 
   -- a tied thread waits from now on, and the branch has ended
-  pub record Waits (y : Scene) : Type 0 where
+  pub record Waits (y : ThreadView) : Type 0 where
     pub sync : ℕ
     pub tied : r.tie ≡ Some sync
     pub outermost : r.parents ≡ []
     pub left : CoreState
     pub made_is : slot (home g r) y.core r.thread ≡ Made left None []
-    pub touched : Touched g r y (after g r y left)
+    pub touched : Guarantee g r y (after g r y left)
     pub roots : left.roots ≡ y.core.roots
     pub syncs : left.syncs ≡ y.core.syncs
     pub words : left.words ≡ y.core.words
@@ -324,11 +324,11 @@ module _ (g : Setting) (r : Runner) where
 
   -- The thread does the first item's own instruction, the branch does the item, and the thread is at the code of what is left. At most
   -- one more jump is to be done.
-  pub record Goes (j : ℕ) (y : Scene) : Type 0 where
+  pub record Goes (j : ℕ) (y : ThreadView) : Type 0 where
     pub left : CoreState
     pub made : Option Record
     pub made_is : slot (home g r) y.core r.thread ≡ Made left made []
-    pub touched : Touched g r y (after g r y left)
+    pub touched : Guarantee g r y (after g r y left)
     pub roots : left.roots ≡ y.core.roots
     pub syncs : left.syncs ≡ y.core.syncs
     pub channel_ends : left.ends ≡ y.core.ends
@@ -356,7 +356,7 @@ module _ (g : Setting) (r : Runner) where
   AreSetOff left sync (u ∷ us) (placed ∷ others) = IsSetOff left sync u placed × AreSetOff left sync us others
 
   -- The thread sets off the branches of a `par` of several, and goes on with the first. At most one more jump is to be done behind that.
-  pub record Begins (j : ℕ) (y : Scene) : Type 0 where
+  pub record Begins (j : ℕ) (y : ThreadView) : Type 0 where
     pub hand : Hand
     pub in_hand : y.hand ≡ Some hand
     pub sync : ℕ
@@ -404,7 +404,7 @@ module _ (g : Setting) (r : Runner) where
       ActsAll (home g r) r.thread (end_place g r c side) (running r.tie pc regs) pos acts P pc regs
 
   -- The thread is at the first step of an output's protocol, with the value's word.
-  pub record Offers (j : ℕ) (y : Scene) : Type 0 where
+  pub record Offers (j : ℕ) (y : ThreadView) : Type 0 where
     pub output : kernel.Output
     pub rest : List Item
     pub on : IsOnChannel output.resource
@@ -419,7 +419,7 @@ module _ (g : Setting) (r : Runner) where
     pub has : Has (does (kernel.output output) ∷ rest) y
 
   -- The thread is at the first step of an input's protocol, by which the word comes to r0.
-  pub record TakesIn (j : ℕ) (y : Scene) : Type 0 where
+  pub record TakesIn (j : ℕ) (y : ThreadView) : Type 0 where
     pub input : kernel.Input
     pub rest : List Item
     pub on : IsOnChannel input.resource
@@ -434,7 +434,7 @@ module _ (g : Setting) (r : Runner) where
     pub has : Has (does (kernel.input input) ∷ rest) y
 
   -- The thread is inside a transfer, and takes the steps that are left of it; behind them follows what is left to the branch.
-  pub record InTransfer (transfer : Transfer) (items : List Item) (j : ℕ) (z : Scene) : Type 0 where
+  pub record InTransfer (transfer : Transfer) (items : List Item) (j : ℕ) (z : ThreadView) : Type 0 where
     pub pos : Pos
     pub goes_with : GoesWith transfer.phase transfer.channel pos items
     pub stands_in : slice_index_or r.sides transfer.channel None ≡ Some transfer.side
@@ -453,7 +453,7 @@ module _ (g : Setting) (r : Runner) where
     pub takes_default : acts g.program g.stimulus x (default r.branch) ≡ None
 
   -- the thread's turn, beside what the branch can do
-  pub data Turn (j : ℕ) (y : Scene) : Type 0 where
+  pub data Turn (j : ℕ) (y : ThreadView) : Type 0 where
     pauses : slot (home g r) y.core r.thread ≡ Paused → CannotAct y.world → Turn j y
     errs : Errs y → Turn j y
     goes_on : Goes j y → Turn j y
@@ -464,11 +464,11 @@ module _ (g : Setting) (r : Runner) where
     takes_in : TakesIn j y → Turn j y
 
   -- whatever the others do before it
-  abbrev pub Turns : ℕ → Scene → Type 0
-  Turns j z = (y : Scene) → Kept g r z y → Turn j y
+  abbrev pub Turns : ℕ → ThreadView → Type 0
+  Turns j z = (y : ThreadView) → Rely g r z y → Turn j y
 
   -- in at most n silent steps the thread is at the own instruction of the first item, with j jumps to be done behind it
-  abbrev pub Leads : (n j : ℕ) → Scene → Type 0
+  abbrev pub Leads : (n j : ℕ) → ThreadView → Type 0
   Leads n j z = LeadsIn g r (Turns j) n z
 
   -- a statement costs at most so many silent steps
@@ -489,7 +489,7 @@ module _ (g : Setting) (r : Runner) where
   -- From the code of a statement whose branch has it to do next, the thread comes soon to the statement's own instruction.
   abbrev pub StatementLeads : kernel.Statement → Type 0
   StatementLeads t =
-      (rest : List Item) (exits : List Exit) (pc pc' j : ℕ) (z : Scene) (regs : Regs) →
+      (rest : List Item) (exits : List Exit) (pc pc' j : ℕ) (z : ThreadView) (regs : Regs) →
       IsLaidOut g r → PieceAt (code g r) (plan g r) r.sides t exits pc pc' → Fits g r t → StandsInSides t →
       ItemsFrom rest exits pc' j → ItemsFit g r rest →
       Has (does t ∷ rest) z → IsAt z pc regs → HasBases regs → z.hand ≡ first_hand (does t ∷ rest) → Leads cost j z

@@ -3,13 +3,13 @@ use Rattle.std.proofs.Common.{◌≡◌, ℕ, zero, suc, ◌+◌, ◌≤◌, Lis
 use Rattle.xl_par.specs.Hands.{IsAmong}
 use Rattle.xr_threads.specs.Parents.{Parent}
 use Rattle.xr_threads.specs.Runners.{IsMine, Setting, Runner}
-use Rattle.xr_threads.specs.Scenes.{Scene, Kept, LeadsIn, IsStable, Owns, SpareFor, held_in, sync_in}
+use Rattle.xr_threads.specs.ThreadViews.{ThreadView, Rely, LeadsIn, IsStable, Owns, SpareFor, held_in, sync_in}
 use Rattle.xr_threads.specs.Turns.{IsJoining, Joins, Turns}
 use Rattle.xl_expr.proofs.ResourceParts.{own_then}
 
 module _ (g : Setting) (r : Runner) where
   -- what is kept twice is kept
-  pub kept_twice : {z y x : Scene} → Kept g r z y → Kept g r y x → Kept g r z x
+  pub kept_twice : {z y x : ThreadView} → Rely g r z y → Rely g r y x → Rely g r z x
   kept_twice {x = x} h k = record {
     thread = k.thread ∙ h.thread;
     words = λ w m. k.words w m ∙ h.words w m;
@@ -26,7 +26,7 @@ module _ (g : Setting) (r : Runner) where
   }
 
   -- a way lasts, where what it leads to does
-  pub leads_in_stable : (Q : Scene → Type 0) → IsStable g r Q → (n : ℕ) → IsStable g r (LeadsIn g r Q n)
+  pub leads_in_stable : (Q : ThreadView → Type 0) → IsStable g r Q → (n : ℕ) → IsStable g r (LeadsIn g r Q n)
   leads_in_stable Q q zero z y k h = q z y k h
   leads_in_stable Q q (suc n) z y k h = ⊎_elim (λ (here : Q z). inl (q z y k here)) (λ on. inr (λ x l. on x (kept_twice k l))) h
 
@@ -43,12 +43,12 @@ module _ (g : Setting) (r : Runner) where
   joining_stable p ps most z y k h = (h.0, h.1, h.2, leads_in_stable (Joins g r p ps h.1) (joins_stable p ps h.1) h.0 z y k h.3)
 
   -- where it holds already, no step is needed
-  pub leads_now : (Q : Scene → Type 0) (n : ℕ) (z : Scene) → Q z → LeadsIn g r Q n z
+  pub leads_now : (Q : ThreadView → Type 0) (n : ℕ) (z : ThreadView) → Q z → LeadsIn g r Q n z
   leads_now Q zero z h = h
   leads_now Q (suc n) z h = inl h
 
   -- more steps are allowed
-  pub leads_more : (Q : Scene → Type 0) (n m : ℕ) (z : Scene) → n ≤ m → LeadsIn g r Q n z → LeadsIn g r Q m z
+  pub leads_more : (Q : ThreadView → Type 0) (n m : ℕ) (z : ThreadView) → n ≤ m → LeadsIn g r Q n z → LeadsIn g r Q m z
   leads_more Q zero m z le h = leads_now Q m z h
   leads_more Q (suc n) zero z le h = absurd (omega arith)
   leads_more Q (suc n) (suc m) z le h =
@@ -58,7 +58,7 @@ module _ (g : Setting) (r : Runner) where
       h
 
   -- one way after another
-  pub then_leads : (P Q : Scene → Type 0) (n m : ℕ) (z : Scene) → LeadsIn g r P n z → ((y : Scene) → P y → LeadsIn g r Q m y) → LeadsIn g r Q (n + m) z
+  pub then_leads : (P Q : ThreadView → Type 0) (n m : ℕ) (z : ThreadView) → LeadsIn g r P n z → ((y : ThreadView) → P y → LeadsIn g r Q m y) → LeadsIn g r Q (n + m) z
   then_leads P Q zero m z h next = let e : m ≡ 0 + m = omega arith in subst (λ k. LeadsIn g r Q k z) e (next z h)
   then_leads P Q (suc n) m z h next =
       let e : suc (n + m) ≡ suc n + m = omega arith in
@@ -70,7 +70,7 @@ module _ (g : Setting) (r : Runner) where
       subst (λ k. LeadsIn g r Q k z) e all
 
   -- what it leads to may be said in another way
-  pub leads_as : (P Q : Scene → Type 0) (n : ℕ) (z : Scene) → ((y : Scene) → P y → Q y) → LeadsIn g r P n z → LeadsIn g r Q n z
+  pub leads_as : (P Q : ThreadView → Type 0) (n : ℕ) (z : ThreadView) → ((y : ThreadView) → P y → Q y) → LeadsIn g r P n z → LeadsIn g r Q n z
   leads_as P Q zero z f h = f z h
   leads_as P Q (suc n) z f h =
       ⊎_elim

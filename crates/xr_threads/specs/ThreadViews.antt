@@ -15,7 +15,7 @@ use Rattle.xr_threads.specs.Runners.{IsMine, Setting, Runner, MayChange, home, r
 use Rattle.xl_expr.specs.ResourceParts.{OtherPartsStay, OwnPartsStay}
 
 -- a runner's core and the program's state at one moment, and what the runner has got for a `par` that it opens, or has still to give back
-pub record Scene : Type 0 where
+pub record ThreadView : Type 0 where
   pub core : CoreState
   pub world : World
   pub hand : Option Hand
@@ -50,7 +50,7 @@ Owns r hand n = IsAmong (syncs_of r.parents) n ⊎ (sync_in hand ≡ Some n)
 
 module _ (g : Setting) (r : Runner) where
   -- the rely: what others leave of all that the runner stands on, and that what it lacks for a `par` is there
-  pub record Kept (z y : Scene) : Type 0 where
+  pub record Rely (z y : ThreadView) : Type 0 where
     pub thread : slice_get y.core.threads r.thread ≡ slice_get z.core.threads r.thread
     pub words : (w : ℕ) → relied g r w ≡ true → slice_get y.core.words w ≡ slice_get z.core.words w
     pub resources : OwnPartsStay (IsMine g r) r.thread z.core y.core
@@ -66,7 +66,7 @@ module _ (g : Setting) (r : Runner) where
     pub spare : SpareFor z.hand y.core
 
   -- the guarantee: what a step of the runner leaves as it is
-  pub record Touched (y z : Scene) : Type 0 where
+  pub record Guarantee (y z : ThreadView) : Type 0 where
     pub clock : z.core.clock ≡ y.core.clock
     pub others : (u : ℕ) → u ≢ r.thread → (IsAmong (held_in z.hand) u → ⊥) → slice_get z.core.threads u ≡ slice_get y.core.threads u
     pub as_many : length z.core.threads ≡ length y.core.threads
@@ -75,12 +75,12 @@ module _ (g : Setting) (r : Runner) where
     pub resources : OtherPartsStay (IsMine g r) r.thread y.core z.core
 
   -- the other threads are what they were, and tied as before
-  pub record SameUse (y z : Scene) : Type 0 where
+  pub record SameUse (y z : ThreadView) : Type 0 where
     pub by : (u : ℕ) (x : Thread) → u ≢ r.thread → slice_get y.core.threads u ≡ Some x →
         (x' : Thread) × (slice_get z.core.threads u ≡ Some x') × (x'.mode ≡ x.mode) × (x'.tie ≡ x.tie) × (x'.event_bit ≡ x.event_bit)
 
   -- what a step makes of the runner's hand
-  pub data HandChange (y z : Scene) : Type 0 where
+  pub data HandChange (y z : ThreadView) : Type 0 where
     keeps : z.hand ≡ y.hand → z.core.syncs ≡ y.core.syncs → SameUse y z → HandChange y z
     gets_sync : (hand : Hand) (n : ℕ) → y.hand ≡ Some hand → hand.sync ≡ None → slice_get y.core.syncs n ≡ Some false →
         z.core.syncs ≡ slice_set y.core.syncs n true → z.hand ≡ Some (with_sync hand n) → SameUse y z → HandChange y z
@@ -98,25 +98,25 @@ module _ (g : Setting) (r : Runner) where
     pub no_events : thread.event_bit ≡ false
 
   -- a step that writes nothing down, sends nothing and ends no root; the program does nothing
-  pub record IsSilentStep (y z : Scene) : Type 0 where
+  pub record IsSilentStep (y z : ThreadView) : Type 0 where
     pub made : slot (home g r) y.core r.thread ≡ makes z.core
     pub world : z.world ≡ y.world
     pub roots : z.core.roots ≡ y.core.roots
     pub channel_ends : z.core.ends ≡ y.core.ends
-    pub touched : Touched y z
+    pub touched : Guarantee y z
     pub hand : HandChange y z
     pub was : StillRuns y.core
     pub on : StillRuns z.core
 
-  abbrev pub after : Scene → CoreState → Scene
+  abbrev pub after : ThreadView → CoreState → ThreadView
   after z b = record z { core = b }
 
   -- at most n silent steps, whatever happens between them, lead to where Q holds
-  abbrev pub LeadsIn : (Q : Scene → Type 0) → ℕ → Scene → Type 0
+  abbrev pub LeadsIn : (Q : ThreadView → Type 0) → ℕ → ThreadView → Type 0
   LeadsIn Q zero z = Q z
   LeadsIn Q (suc n) z =
-      Q z ⊎ ((y : Scene) → Kept z y → (x : Scene) × IsSilentStep y x × LeadsIn Q n x)
+      Q z ⊎ ((y : ThreadView) → Rely z y → (x : ThreadView) × IsSilentStep y x × LeadsIn Q n x)
 
   -- what others do leaves it so
-  abbrev pub IsStable : (Scene → Type 0) → Type 0
-  IsStable Q = (z y : Scene) → Kept z y → Q z → Q y
+  abbrev pub IsStable : (ThreadView → Type 0) → Type 0
+  IsStable Q = (z y : ThreadView) → Rely z y → Q z → Q y
