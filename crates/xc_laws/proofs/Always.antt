@@ -4,7 +4,7 @@ use Rattle.std.specs.Prelude.{IsSome}
 use Rattle.xs_instr.specs.declared.image.Stim.{Stim}
 use Rattle.xc_kernel.specs.Plain as kernel
 use Rattle.xc_meaning.specs.States.Channels.{Side}
-use Rattle.xc_meaning.specs.States.Items.{Choice, Item, does, says, stores, mark, awaits, transaction_end, chooses, fixed, ends}
+use Rattle.xc_meaning.specs.States.Items.{Choice, Item, does, says, stores, stamps, mark, awaits, transaction_end, chooses, fixed, ends}
 use Rattle.xc_meaning.specs.States.Branches.{Mode, runs, Branch, side_of}
 use Rattle.xc_meaning.specs.States.Worlds.{World, Action}
 use Rattle.xc_meaning.specs.Settings.Channels.{is_among}
@@ -119,6 +119,7 @@ never_on c (does (kernel.select cs d pos)) h u = true≢false (sym u)
 never_on c (does (kernel.par bs)) h u = true≢false (sym u)
 never_on c (says i) h u = true≢false (sym u)
 never_on c (stores p v) h u = true≢false (sym u)
+never_on c (stamps resource p v) h u = true≢false (sym u)
 never_on c (mark n) h u = true≢false (sym u)
 never_on c (awaits d pos) h u = not_false u h
 never_on c (transaction_end d is_master pos) h u = not_false u h
@@ -151,6 +152,7 @@ on_uses c (does (kernel.select cs d pos)) u = absurd (true≢false (sym u))
 on_uses c (does (kernel.par bs)) u = absurd (true≢false (sym u))
 on_uses c (says i) u = absurd (true≢false (sym u))
 on_uses c (stores p v) u = absurd (true≢false (sym u))
+on_uses c (stamps resource p v) u = absurd (true≢false (sym u))
 on_uses c (mark n) u = absurd (true≢false (sym u))
 on_uses c (awaits d pos) u = u
 on_uses c (transaction_end d is_master pos) u = u
@@ -204,6 +206,7 @@ ends_use c (transaction_end d is_master pos ∷ rest) u = ⊎_elim (λ v. or_lef
 ends_use c (does s ∷ rest) u = or_right (Rattle.xc_kernel.specs.Things.by_statement (channel c) s) _ (ends_use c rest u)
 ends_use c (says i ∷ rest) u = refl
 ends_use c (stores p v ∷ rest) u = or_right (Rattle.xc_kernel.specs.Things.by_target (channel c) p) _ (ends_use c rest u)
+ends_use c (stamps resource p v ∷ rest) u = or_right (Rattle.xc_meaning.specs.Uses.by_item (channel c) (stamps resource p v)) _ (ends_use c rest u)
 ends_use c (mark n ∷ rest) u = ends_use c rest u
 ends_use c (awaits d pos ∷ rest) u = or_right (nat_eq c d) _ (ends_use c rest u)
 ends_use c (chooses choices otherwise ∷ rest) u = or_right (Rattle.xc_meaning.specs.Uses.by_item (channel c) (chooses choices otherwise)) _ (ends_use c rest u)

@@ -79,12 +79,12 @@ module _ (F : Thing → Type 0) (Q : kernel.Branches → Type 0) (T : ℕ → ke
 
   pub every_inherits : Inherits (EveryItem F Q T)
   every_inherits = record {
-    stamp_sent = λ o place v e h. target_every o.stamp place e h.stamp;
+    stamp_sent = λ o place v e h. (h.resource, target_every o.stamp place e h.stamp);
     answer = λ o c pos e h. channel_every o.resource c e h.resource;
     target = λ input place v e h. target_every input.target place e h.target;
-    stamp = λ input place v e h. target_every input.stamp place e h.stamp;
+    stamp = λ input place v e h. (h.resource, target_every input.stamp place e h.stamp);
     target_fixed = λ input x y place v e h. target_every input.target place e h.target;
-    stamp_fixed = λ input x y place v e h. target_every input.stamp place e h.stamp;
+    stamp_fixed = λ input x y place v e h. (h.resource, target_every input.stamp place e h.stamp);
     of_if = λ e a b h. (every_statements a h.1, every_statements b h.2);
     of_loop = λ e a b h. (every_statements a h.1, every_statements b h.2);
     of_block = λ n a h. (every_statements a h, tt);

@@ -1,10 +1,11 @@
 -- What goes down from an item to those that a step leaves in its place holds of all that is left.
 use Rattle.std.proofs.Common.{◌≡◌, ℕ, Bool, true, false, List, [], ◌∷◌, Option, Some, None, slice_get, nat_eq, refl}
 use Rattle.xw_words.specs.declared.pos.Pos.{Pos}
+use Rattle.xc_kernel.specs.declared.statement.KRes.{KRes}
 use Rattle.xc_kernel.specs.declared.statement.KRes.TheVariants.{Chan}
 use Rattle.xc_kernel.specs.Plain as kernel
 use Rattle.xc_kernel.specs.Eval.{Store}
-use Rattle.xc_meaning.specs.States.Items.{Body, of_kernel, of_text, Choice, Item, does, says, stores, mark, awaits, transaction_end, chooses, fixed, ends, todo, body_items, storing}
+use Rattle.xc_meaning.specs.States.Items.{Body, of_kernel, of_text, Choice, Item, does, says, stores, stamps, mark, awaits, transaction_end, chooses, fixed, ends, todo, body_items, storing, stamping}
 use Rattle.xc_meaning.specs.Settings.Flow.{from_mark_by, items_from_mark}
 use Rattle.xc_meaning.specs.Settings.Select.{enabled, these, default_of}
 use Rattle.xc_laws.specs.Every.{AllItems, AllStatements, AllBody}
@@ -12,12 +13,12 @@ use Rattle.xc_meaning.specs.Outline.{Leaves, passed, sent, offered, received, sa
 use Rattle.xc_meaning.specs.Outline as outline
 
 pub record Inherits (P : Item → Type 0) : Type 0 where
-  pub stamp_sent : (o : kernel.Output) (place : kernel.Place) (v : ℕ) → o.stamp ≡ Some place → P (does (kernel.output o)) → P (stores place v)
+  pub stamp_sent : (o : kernel.Output) (place : kernel.Place) (v : ℕ) → o.stamp ≡ Some place → P (does (kernel.output o)) → P (stamps o.resource place v)
   pub answer : (o : kernel.Output) (c : ℕ) (pos : Pos) → o.resource ≡ Chan c → P (does (kernel.output o)) → P (awaits c pos)
   pub target : (i : kernel.Input) (place : kernel.Place) (v : ℕ) → i.target ≡ Some place → P (does (kernel.input i)) → P (stores place v)
-  pub stamp : (i : kernel.Input) (place : kernel.Place) (v : ℕ) → i.stamp ≡ Some place → P (does (kernel.input i)) → P (stores place v)
+  pub stamp : (i : kernel.Input) (place : kernel.Place) (v : ℕ) → i.stamp ≡ Some place → P (does (kernel.input i)) → P (stamps i.resource place v)
   pub target_fixed : (i : kernel.Input) (x y : ℕ) (place : kernel.Place) (v : ℕ) → i.target ≡ Some place → P (fixed i x y) → P (stores place v)
-  pub stamp_fixed : (i : kernel.Input) (x y : ℕ) (place : kernel.Place) (v : ℕ) → i.stamp ≡ Some place → P (fixed i x y) → P (stores place v)
+  pub stamp_fixed : (i : kernel.Input) (x y : ℕ) (place : kernel.Place) (v : ℕ) → i.stamp ≡ Some place → P (fixed i x y) → P (stamps i.resource place v)
   pub of_if : (e : kernel.Expression) (a b : kernel.Statements) → P (does (kernel.if_then e a b)) → AllStatements P a × AllStatements P b
   pub of_loop : (e : kernel.Expression) (a b : kernel.Statements) → P (does (kernel.loop e a b)) → AllStatements P a × AllStatements P b
   pub of_block : (n : ℕ) (a : kernel.Statements) → P (does (kernel.block n a)) → AllStatements P a × P (mark n)
@@ -43,6 +44,10 @@ module _ (P : Item → Type 0) where
   all_storing None v rest h g = g
   all_storing (Some p) v rest h g = (h p refl, g)
 
+  pub all_stamping : (resource : KRes) (place : Option kernel.Place) (v : ℕ) (rest : List Item) → ((p : kernel.Place) → place ≡ Some p → P (stamps resource p v)) → AllItems P rest → AllItems P (stamping resource place v rest)
+  all_stamping resource None v rest h g = g
+  all_stamping resource (Some p) v rest h g = (h p refl, g)
+
   by_all : (b : Bool) (here behind : List Item) → AllItems P here → AllItems P behind → AllItems P (from_mark_by b here behind)
   by_all true here behind h g = h
   by_all false here behind h g = g
@@ -53,6 +58,7 @@ module _ (P : Item → Type 0) where
   all_from_mark n (does s ∷ rest) h = all_from_mark n rest h.1
   all_from_mark n (says i ∷ rest) h = all_from_mark n rest h.1
   all_from_mark n (stores place v ∷ rest) h = all_from_mark n rest h.1
+  all_from_mark n (stamps resource place v ∷ rest) h = all_from_mark n rest h.1
   all_from_mark n (awaits c pos ∷ rest) h = all_from_mark n rest h.1
   all_from_mark n (transaction_end c is_master pos ∷ rest) h = all_from_mark n rest h.1
   all_from_mark n (chooses choices otherwise ∷ rest) h = all_from_mark n rest h.1
@@ -61,14 +67,14 @@ module _ (P : Item → Type 0) where
 
   pub all_left : Inherits P → (rest : List Item) (item : Item) (items : List Item) → Leaves rest item items → P item → AllItems P rest → AllItems P items
   all_left k rest first after (passed item p) h g = g
-  all_left k rest first after (sent o v) h g = all_storing o.stamp v rest (λ p e. k.stamp_sent o p v e h) g
+  all_left k rest first after (sent o v) h g = all_stamping o.resource o.stamp v rest (λ p e. k.stamp_sent o p v e h) g
   all_left k rest first after (offered o c pos e) h g = (k.answer o c pos e h, g)
   all_left k rest first after (received input v) h g = all_storing input.target v rest (λ p e. k.target input p v e h) g
   all_left k rest first after (sampled input v w) h g =
-      all_storing input.target v (storing input.stamp w rest) (λ p e. k.target input p v e h) (all_storing input.stamp w rest (λ p e. k.stamp input p w e h) g)
+      all_storing input.target v (stamping input.resource input.stamp w rest) (λ p e. k.target input p v e h) (all_stamping input.resource input.stamp w rest (λ p e. k.stamp input p w e h) g)
   all_left k rest first after (received_fixed input x y v) h g = all_storing input.target v rest (λ p e. k.target_fixed input x y p v e h) g
   all_left k rest first after (sampled_fixed input x y v w) h g =
-      all_storing input.target v (storing input.stamp w rest) (λ p e. k.target_fixed input x y p v e h) (all_storing input.stamp w rest (λ p e. k.stamp_fixed input x y p w e h) g)
+      all_storing input.target v (stamping input.resource input.stamp w rest) (λ p e. k.target_fixed input x y p v e h) (all_stamping input.resource input.stamp w rest (λ p e. k.stamp_fixed input x y p w e h) g)
   all_left k rest first after (held e a b) h g = all_todo a rest (k.of_if e a b h).0 g
   all_left k rest first after (other e a b) h g = all_todo b rest (k.of_if e a b h).1 g
   all_left k rest first after (turned e a b) h g =

@@ -4,7 +4,7 @@ use Rattle.std.proofs.lemmas.Bool.{eqb-true}
 use Rattle.xc_kernel.specs.declared.statement.KRes.{KRes}
 use Rattle.xc_kernel.specs.declared.statement.KRes.TheVariants.{Port, Timer, Chan}
 use Rattle.xc_kernel.specs.Plain as kernel
-use Rattle.xc_meaning.specs.States.Items.{Body, of_kernel, of_text, Choice, Item, does, says, stores, mark, awaits, transaction_end, chooses, fixed, ends}
+use Rattle.xc_meaning.specs.States.Items.{Body, of_kernel, of_text, Choice, Item, does, says, stores, stamps, mark, awaits, transaction_end, chooses, fixed, ends}
 use Rattle.xc_kernel.specs.Things.{Thing, variable, change, port, timer, channel, by_read, by_change, by_channel, by_resource, by_expression, by_operands, by_place, by_target, by_some_target, by_some_expression, by_condition, by_output, by_input, by_statement, by_statements, by_case, by_cases, by_default, by_branch, by_branches}
 use Rattle.xc_meaning.specs.Uses.{by_body, by_some_body, by_choices, by_item, by_items}
 use Rattle.xc_laws.specs.Every.{AllItems, EveryResource, EveryExpression, EveryOperands, EveryPlace, EveryTarget, EverySomeTarget, EverySomeExpression, EveryCondition, EveryOutput, EveryInput, EveryStatement, EveryStatements, EveryCase, EveryCases, EveryDefault, EveryBranch, EveryBranches, EveryBody, EverySomeBody, EveryChoices, EveryItem}
@@ -244,6 +244,7 @@ module _ (F : Thing → Type 0) (Q : kernel.Branches → Type 0) (T : ℕ → ke
   item_has th (does s) h u = statement_has th s h u
   item_has th (says i) h u = absurd h
   item_has th (stores p v) h u = target_has th p h u
+  item_has th (stamps resource p v) h u = ⊎_elim (resource_has th resource h.0) (target_has th p h.1) (or_cases _ _ u)
   item_has th (mark n) h u = never u
   item_has th (awaits c pos) h u = channel_has th c h u
   item_has th (transaction_end c is_master pos) h u = channel_has th c h u
@@ -274,6 +275,7 @@ module _ (F : Thing → Type 0) where
   of_item (does s) h k = of_statement F s k
   of_item (says i) h k = absurd h
   of_item (stores p v) h k = of_target F p k
+  of_item (stamps resource p v) h k = (of_resource F resource (λ th u. k th (or_left (by_resource th resource) _ u)), of_target F p (λ th u. k th (or_right (by_resource th resource) _ u)))
   of_item (mark n) h k = tt
   of_item (awaits c pos) h k = k (channel c) (same_number c)
   of_item (transaction_end c is_master pos) h k = k (channel c) (same_number c)

@@ -2,7 +2,7 @@
 use Rattle.std.proofs.Common.{◌≡◌, ◌≢◌, ◌⊎◌, inl, inr, ⊎_elim, ℕ, zero, suc, ◌+◌, ◌-◌, ◌<◌, ◌≤◌, max, Bool, true, false, IsTrue, List, [], ◌∷◌, ◌++◌, length, Option, Some, None, slice_get, slice_set, nat_lt, refl, sym, ap, ap₂, subst, ◌∙◌, append-nil, arith, true≢false}
 use Rattle.xs_instr.specs.declared.image.Stim.{Stim}
 use Rattle.xc_kernel.specs.Plain as kernel
-use Rattle.xc_meaning.specs.States.Items.{Body, of_kernel, of_text, Item, does, says, stores, mark, awaits, transaction_end, chooses, fixed, ends}
+use Rattle.xc_meaning.specs.States.Items.{Body, of_kernel, of_text, Item, does, says, stores, stamps, mark, awaits, transaction_end, chooses, fixed, ends}
 use Rattle.xc_meaning.specs.States.Branches.{Mode, runs, waits, ended, erred, Branch}
 use Rattle.xc_meaning.specs.States.Worlds.{World}
 use Rattle.xc_meaning.specs.Settings.Setting.{Setting}
@@ -243,6 +243,7 @@ takes_within most (does (kernel.select cs d pos) ∷ rest) le h = le
 takes_within most (does (kernel.transaction c is_master a start close) ∷ rest) le h = le
 takes_within most (says i ∷ rest) le h = le
 takes_within most (stores p v ∷ rest) le h = le
+takes_within most (stamps resource p v ∷ rest) le h = le
 takes_within most (mark n ∷ rest) le h = le
 takes_within most (awaits c pos ∷ rest) le h = le
 takes_within most (transaction_end c is_master pos ∷ rest) le h = le

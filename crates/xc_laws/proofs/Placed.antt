@@ -1,8 +1,9 @@
 -- Items stay well placed.
 use Rattle.std.proofs.Common.{◌≡◌, ◌⊎◌, inl, inr, ⊎_elim, ℕ, zero, suc, Bool, true, false, ◌||◌, IsTrue, List, [], ◌∷◌, ◌++◌, length, Option, Some, None, slice_get, nat_eq, refl, sym, ap, subst, ◌∙◌, true≢false}
 use Rattle.xs_instr.specs.declared.image.Stim.{Stim}
+use Rattle.xc_kernel.specs.declared.statement.KRes.{KRes}
 use Rattle.xc_kernel.specs.Plain as kernel
-use Rattle.xc_meaning.specs.States.Items.{Body, of_kernel, of_text, Item, does, says, stores, mark, awaits, transaction_end, chooses, fixed, ends, todo, body_items, storing}
+use Rattle.xc_meaning.specs.States.Items.{Body, of_kernel, of_text, Item, does, says, stores, stamps, mark, awaits, transaction_end, chooses, fixed, ends, todo, body_items, storing, stamping}
 use Rattle.xc_meaning.specs.States.Branches.{Mode, runs, waits, Branch}
 use Rattle.xc_meaning.specs.States.Worlds.{World}
 use Rattle.xc_meaning.specs.Settings.Setting.{Setting}
@@ -83,6 +84,10 @@ module _ (B : ℕ → List ℕ → Type 0) (A : List ℕ → kernel.Branches →
   placed_storing None v rest g = fine_same rest g
   placed_storing (Some p) v rest g = record { marks = refl; opened = refl; ends = refl; placed = (tt, g.placed); ended = g.ended }
 
+  placed_stamping : (resource : KRes) (place : Option kernel.Place) (v : ℕ) (rest : List Item) → Fine rest → SameBehind (stamping resource place v rest) rest
+  placed_stamping resource None v rest g = fine_same rest g
+  placed_stamping resource (Some p) v rest g = record { marks = refl; opened = refl; ends = refl; placed = (tt, g.placed); ended = g.ended }
+
   -- what is left from a mark on, where the mark is there: no transaction ends before it
   pub record Left (n : ℕ) (items : List Item) : Type 0 where
     pub fine : Fine (items_from_mark n items)
@@ -109,6 +114,7 @@ module _ (B : ℕ → List ℕ → Type 0) (A : List ℕ → kernel.Branches →
     left_from (does s ∷ rest) h g u = again (does s) refl refl (left_from rest h.1 g u)
     left_from (says i ∷ rest) h g u = absurd h.0
     left_from (stores p v ∷ rest) h g u = again (stores p v) refl refl (left_from rest h.1 g u)
+    left_from (stamps resource p v ∷ rest) h g u = again (stamps resource p v) refl refl (left_from rest h.1 g u)
     left_from (awaits c pos ∷ rest) h g u = again (awaits c pos) refl refl (left_from rest h.1 g u)
     left_from (transaction_end c is_master pos ∷ rest) h g u = absurd (true≢false (sym u))
     left_from (chooses choices otherwise ∷ rest) h g u = again (chooses choices otherwise) refl refl (left_from rest h.1 g u)
@@ -133,6 +139,7 @@ module _ (B : ℕ → List ℕ → Type 0) (A : List ℕ → kernel.Branches →
   passed_stays (does s) rest p h g = record { fine = record { placed = h.1; ended = g }; ends = refl }
   passed_stays (says i) rest p h g = absurd p
   passed_stays (stores place v) rest p h g = record { fine = record { placed = h.1; ended = g }; ends = refl }
+  passed_stays (stamps resource place v) rest p h g = record { fine = record { placed = h.1; ended = g }; ends = refl }
   passed_stays (mark n) rest p h g = record { fine = record { placed = h.1; ended = g }; ends = refl }
   passed_stays (awaits c pos) rest p h g = record { fine = record { placed = h.1; ended = g }; ends = refl }
   passed_stays (transaction_end c is_master pos) rest p h g = absurd p
@@ -151,14 +158,14 @@ module _ (B : ℕ → List ℕ → Type 0) (A : List ℕ → kernel.Branches →
 
   pub left_stays : (rest : List Item) (item : Item) (items : List Item) → Leaves rest item items → (PlacedItems B A) (item ∷ rest) → EndsWell (item ∷ rest) → Stays item rest items
   left_stays rest item items (passed one p) h g = passed_stays one rest p h g
-  left_stays rest item items (sent o v) h g = by_same (placed_storing o.stamp v rest (record { placed = h.1; ended = g })) refl
+  left_stays rest item items (sent o v) h g = by_same (placed_stamping o.resource o.stamp v rest (record { placed = h.1; ended = g })) refl
   left_stays rest item items (offered o c pos e) h g = record { fine = record { placed = (tt, h.1); ended = g }; ends = refl }
   left_stays rest item items (received input v) h g = by_same (placed_storing input.target v rest (record { placed = h.1; ended = g })) refl
   left_stays rest item items (sampled input v w) h g =
-      let k = placed_storing input.stamp w rest (record { placed = h.1; ended = g }) in by_same (follows (placed_storing input.target v (storing input.stamp w rest) (fine_of k)) k) refl
+      let k = placed_stamping input.resource input.stamp w rest (record { placed = h.1; ended = g }) in by_same (follows (placed_storing input.target v (stamping input.resource input.stamp w rest) (fine_of k)) k) refl
   left_stays rest item items (received_fixed input x y v) h g = by_same (placed_storing input.target v rest (record { placed = h.1; ended = g })) refl
   left_stays rest item items (sampled_fixed input x y v w) h g =
-      let k = placed_storing input.stamp w rest (record { placed = h.1; ended = g }) in by_same (follows (placed_storing input.target v (storing input.stamp w rest) (fine_of k)) k) refl
+      let k = placed_stamping input.resource input.stamp w rest (record { placed = h.1; ended = g }) in by_same (follows (placed_storing input.target v (stamping input.resource input.stamp w rest) (fine_of k)) k) refl
   left_stays rest item items (held e a b) h g = by_same (placed_todo a rest h.0.0 (record { placed = h.1; ended = g })) refl
   left_stays rest item items (other e a b) h g = by_same (placed_todo b rest h.0.1 (record { placed = h.1; ended = g })) refl
   left_stays rest item items (turned e a b) h g =

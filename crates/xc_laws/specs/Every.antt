@@ -3,7 +3,7 @@ use Rattle.std.specs.Prelude.{ℕ, List, [], ◌∷◌, Option, Some, None}
 use Rattle.xc_kernel.specs.declared.statement.KRes.{KRes}
 use Rattle.xc_kernel.specs.declared.statement.KRes.TheVariants.{Port, Timer, Chan}
 use Rattle.xc_kernel.specs.Plain as kernel
-use Rattle.xc_meaning.specs.States.Items.{Body, of_kernel, of_text, Choice, Item, does, says, stores, mark, awaits, transaction_end, chooses, fixed, ends}
+use Rattle.xc_meaning.specs.States.Items.{Body, of_kernel, of_text, Choice, Item, does, says, stores, stamps, mark, awaits, transaction_end, chooses, fixed, ends}
 use Rattle.xc_kernel.specs.Things.{Thing, variable, change, port, timer, channel}
 
 -- of each item
@@ -126,6 +126,7 @@ module _ (F : Thing → Type 0) (Q : kernel.Branches → Type 0) (T : ℕ → ke
   EveryItem (does s) = EveryStatement s
   EveryItem (says i) = ⊥
   EveryItem (stores place v) = EveryTarget place
+  EveryItem (stamps resource place v) = EveryResource resource × EveryTarget place
   EveryItem (mark n) = Unit {0}
   EveryItem (awaits c pos) = F (channel c)
   EveryItem (transaction_end c is_master pos) = F (channel c)

@@ -2,7 +2,7 @@
 use Rattle.std.specs.Prelude.{◌≡◌, ◌⊎◌, ℕ, ◌<◌, ◌≤◌, false, IsTrue, List, [], ◌∷◌, length, Option, Some, None, nat_eq, slice_index_or}
 use Rattle.xc_kernel.specs.Plain as kernel
 use Rattle.xc_meaning.specs.States.Channels.{Side, first, second}
-use Rattle.xc_meaning.specs.States.Items.{Body, of_kernel, of_text, Choice, Item, does, says, stores, mark, awaits, transaction_end, chooses, fixed, ends}
+use Rattle.xc_meaning.specs.States.Items.{Body, of_kernel, of_text, Choice, Item, does, says, stores, stamps, mark, awaits, transaction_end, chooses, fixed, ends}
 use Rattle.xc_meaning.specs.States.Branches.{Branch, side_of}
 use Rattle.xc_kernel.specs.Things.{channel, by_resource}
 use Rattle.xc_meaning.specs.Uses.{by_items}
@@ -78,6 +78,7 @@ abbrev pub UnsidedItem : ℕ → Item → Type 0
 UnsidedItem c (does s) = UnsidedStatement c s
 UnsidedItem c (says i) = ⊥
 UnsidedItem c (stores place v) = Unit {0}
+UnsidedItem c (stamps resource place v) = Unit {0}
 UnsidedItem c (mark n) = Unit {0}
 UnsidedItem c (awaits d pos) = nat_eq c d ≡ false
 UnsidedItem c (transaction_end d is_master pos) = nat_eq c d ≡ false

@@ -12,7 +12,7 @@ use Rattle.xc_kernel.specs.Values.{Value, word, error, is_true, tested}
 use Rattle.xc_kernel.specs.Eval.{eval}
 use Rattle.xc_meaning.specs.States.Channels.{Parcel, offer, opening, closing, taken, Side, other_side, without_oldest}
 use Rattle.xc_meaning.specs.States.Channels as channels
-use Rattle.xc_meaning.specs.States.Items.{When, Body, Choice, Item, does, says, stores, mark, awaits, transaction_end, chooses, fixed, ends, todo, body_items, storing}
+use Rattle.xc_meaning.specs.States.Items.{When, Body, Choice, Item, does, says, stores, stamps, mark, awaits, transaction_end, chooses, fixed, ends, todo, body_items, stamping}
 use Rattle.xc_meaning.specs.States.Branches.{Branch, waits, side_of}
 use Rattle.xc_meaning.specs.States.Worlds.{World, only_if, inboxes_of, inbox, with_inbox, put, without_parcel, with_record}
 use Rattle.xc_meaning.specs.Settings.Setting.{Setting, becomes, goes_to, goes_on, errs, kind_of, with_value}
@@ -30,7 +30,7 @@ use Rattle.xc_kernel.specs.Things.{change, channel, by_target, by_output, by_res
 use Rattle.xc_meaning.specs.Uses.{by_item}
 use Rattle.xc_meaning.specs.Outline.{IsPassed, Leaves, passed, sent, offered, received, sampled, received_fixed, sampled_fixed, held, other, turned, begun, left, known, taken_fixed, taken_input, defaulted, Enters, Exits, Becomes, goes, enters, exits, ends_it, Outlined}
 use Rattle.xc_meaning.specs.Outline as outline
-use Rattle.xc_meaning.proofs.Basics.{same_number, or_left, set_other}
+use Rattle.xc_meaning.proofs.Basics.{same_number, or_left, or_right, set_other}
 
 -- what a step leaves has its outline
 abbrev pub Outlines : Setting → Item → Option World → Type 0
@@ -137,7 +137,7 @@ module _ (s : Setting) where
   by_output_word o c v plain side e = by_put _ _ c _ _ (outputs_of o c e) (by_goes _ _ (offered o c o.pos e))
   by_output_word o c v inside side e = by_if _ (has_room s c side) _ (by_put _ _ c _ _ (outputs_of o c e) (by_passed _ tt))
 
-  by_sent : (o : kernel.Output) (v : ℕ) → Outlined s (does (kernel.output o)) (goes_to s (storing o.stamp v s.rest))
+  by_sent : (o : kernel.Output) (v : ℕ) → Outlined s (does (kernel.output o)) (goes_to s (stamping o.resource o.stamp v s.rest))
   by_sent o v = by_goes _ _ (sent o v)
 
   by_output_to : (o : kernel.Output) (r : KRes) → o.resource ≡ r → Outlines s (does (kernel.output o)) (outputs_to s o r)
@@ -233,6 +233,7 @@ module _ (s : Setting) where
   takes_outlined n (does t) = tt
   takes_outlined n (says i) = tt
   takes_outlined n (stores place v) = tt
+  takes_outlined n (stamps resource place v) = tt
   takes_outlined n (mark m) = tt
   takes_outlined n (awaits c pos) = tt
   takes_outlined n (transaction_end c is_master pos) = tt
@@ -248,6 +249,7 @@ module _ (s : Setting) where
   default_outlined (does t) = tt
   default_outlined (says i) = tt
   default_outlined (stores place v) = tt
+  default_outlined (stamps resource place v) = tt
   default_outlined (mark m) = tt
   default_outlined (awaits c pos) = tt
   default_outlined (transaction_end c is_master pos) = tt
@@ -287,6 +289,7 @@ module _ (s : Setting) where
   item_outlined (does t) k = statement_outlined t
   item_outlined (says i) k = absurd (k i refl)
   item_outlined (stores place v) k = by_stored (stores place v) place v tt (λ w u. u)
+  item_outlined (stamps resource place v) k = by_stored (stamps resource place v) place v tt (λ w u. or_right (by_resource (change w) resource) _ u)
   item_outlined (mark n) k = by_passed _ tt
   item_outlined (awaits c pos) k = by_side _ (side_of s.branch c) _ (λ side. by_answer c pos side (parcel_at s c side))
   item_outlined (transaction_end c is_master pos) k = by_side _ (side_of s.branch c) _ (λ side. by_closes c is_master pos side)

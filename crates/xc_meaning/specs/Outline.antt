@@ -5,7 +5,7 @@ use Rattle.xs_instr.specs.declared.image.Stim.{Stim}
 use Rattle.xc_kernel.specs.declared.statement.KRes.TheVariants.{Chan}
 use Rattle.xc_kernel.specs.Plain as kernel
 use Rattle.xc_kernel.specs.Eval.{Store, words_of}
-use Rattle.xc_meaning.specs.States.Items.{Body, Choice, Item, does, says, mark, awaits, transaction_end, chooses, fixed, ends, todo, body_items, storing}
+use Rattle.xc_meaning.specs.States.Items.{Body, Choice, Item, does, says, mark, awaits, transaction_end, chooses, fixed, ends, todo, body_items, storing, stamping}
 use Rattle.xc_meaning.specs.States.Branches.{runs, waits, ended, erred, Branch}
 use Rattle.xc_meaning.specs.States.Worlds.{World, inboxes_of}
 use Rattle.xc_meaning.specs.Settings.Flow.{turn_items, items_from_mark}
@@ -29,12 +29,12 @@ IsPassed item = Unit {0}
 -- what a branch has to do after its first item, in front of the rest
 pub data Leaves (rest : List Item) : Item → List Item → Type 0 where
   passed : (item : Item) → IsPassed item → Leaves rest item rest
-  sent : (o : kernel.Output) (v : ℕ) → Leaves rest (does (kernel.output o)) (storing o.stamp v rest)
+  sent : (o : kernel.Output) (v : ℕ) → Leaves rest (does (kernel.output o)) (stamping o.resource o.stamp v rest)
   offered : (o : kernel.Output) (c : ℕ) (pos : Pos) → o.resource ≡ Chan c → Leaves rest (does (kernel.output o)) (awaits c pos ∷ rest)
   received : (i : kernel.Input) (v : ℕ) → Leaves rest (does (kernel.input i)) (storing i.target v rest)
-  sampled : (i : kernel.Input) (v w : ℕ) → Leaves rest (does (kernel.input i)) (storing i.target v (storing i.stamp w rest))
+  sampled : (i : kernel.Input) (v w : ℕ) → Leaves rest (does (kernel.input i)) (storing i.target v (stamping i.resource i.stamp w rest))
   received_fixed : (i : kernel.Input) (x y v : ℕ) → Leaves rest (fixed i x y) (storing i.target v rest)
-  sampled_fixed : (i : kernel.Input) (x y v w : ℕ) → Leaves rest (fixed i x y) (storing i.target v (storing i.stamp w rest))
+  sampled_fixed : (i : kernel.Input) (x y v w : ℕ) → Leaves rest (fixed i x y) (storing i.target v (stamping i.resource i.stamp w rest))
   held : (e : kernel.Expression) (a b : kernel.Statements) → Leaves rest (does (kernel.if_then e a b)) (todo a rest)
   other : (e : kernel.Expression) (a b : kernel.Statements) → Leaves rest (does (kernel.if_then e a b)) (todo b rest)
   turned : (e : kernel.Expression) (a b : kernel.Statements) → Leaves rest (does (kernel.loop e a b)) (turn_items e a b rest)

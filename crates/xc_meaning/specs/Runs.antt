@@ -8,7 +8,7 @@ use Rattle.xc_kernel.specs.declared.kernel.Chan.{Chan}
 use Rattle.xc_kernel.specs.Plain as kernel
 use Rattle.xc_kernel.specs.Copies.{copy_of}
 use Rattle.xc_meaning.specs.States.Channels.{Side, Inboxes, no_parcels}
-use Rattle.xc_meaning.specs.States.Items.{Item, does, says, stores, mark, awaits, transaction_end, chooses, fixed, ends}
+use Rattle.xc_meaning.specs.States.Items.{Item, does, says, stores, stamps, mark, awaits, transaction_end, chooses, fixed, ends}
 use Rattle.xc_meaning.specs.States.Branches.{Mode, runs, waits, ended, erred, Branch}
 use Rattle.xc_meaning.specs.States.Worlds.{World, Action, clock, go, take, default}
 use Rattle.xc_meaning.specs.Settings.Setting.{Setting, becomes, goes_on}
@@ -29,6 +29,7 @@ abbrev pub does_item : Setting → Item → Option World
 does_item s (does t) = does_statement s t
 does_item s (says i) = says_item s i
 does_item s (stores place v) = stored s place v
+does_item s (stamps resource place v) = stored s place v
 does_item s (mark n) = Some (goes_on s)
 does_item s (awaits c pos) = awaits_answer s c pos
 does_item s (transaction_end c is_master pos) = transaction.closes s c is_master pos

@@ -1,7 +1,7 @@
 -- Whether the items that a branch has still to do use a thing.
 use Rattle.std.specs.Prelude.{Bool, true, false, ◌||◌, List, [], ◌∷◌, Option, Some, None}
-use Rattle.xc_kernel.specs.Things.{Thing, by_channel, by_target, by_input, by_statement, by_statements}
-use Rattle.xc_meaning.specs.States.Items.{Body, of_kernel, of_text, Choice, Item, does, says, stores, mark, awaits, transaction_end, chooses, fixed, ends}
+use Rattle.xc_kernel.specs.Things.{Thing, by_channel, by_target, by_resource, by_input, by_statement, by_statements}
+use Rattle.xc_meaning.specs.States.Items.{Body, of_kernel, of_text, Choice, Item, does, says, stores, stamps, mark, awaits, transaction_end, chooses, fixed, ends}
 
 abbrev pub by_body : Thing → Body → Bool
 by_body th (of_kernel ss) = by_statements th ss
@@ -20,6 +20,7 @@ abbrev pub by_item : Thing → Item → Bool
 by_item th (does s) = by_statement th s
 by_item th (says i) = true
 by_item th (stores place v) = by_target th place
+by_item th (stamps resource place v) = by_resource th resource || by_target th place
 by_item th (mark n) = false
 by_item th (awaits c pos) = by_channel th c
 by_item th (transaction_end c is_master pos) = by_channel th c

@@ -4,7 +4,7 @@ use Rattle.std.specs.Prelude.{nat_eq}
 use Rattle.xs_instr.specs.declared.image.Code.{Code}
 use Rattle.xc_kernel.specs.Plain as kernel
 use Rattle.xc_meaning.specs.Settings.Flow.{from_mark_by, items_from_mark}
-use Rattle.xc_meaning.specs.States.Items.{Item, does, says, stores, mark, awaits, transaction_end, chooses, fixed, ends, todo}
+use Rattle.xc_meaning.specs.States.Items.{Item, does, says, stores, stamps, mark, awaits, transaction_end, chooses, fixed, ends, todo}
 use Rattle.xl_expr.specs.declared.plan.Plan.{Plan}
 use Rattle.xr_threads.specs.Items.{ItemsAt}
 use Rattle.xl_sides.specs.Ends.{Sides}
@@ -69,6 +69,7 @@ module _ (g : Setting) (r : Runner) where
   left_fit n (does s ∷ rest) h = left_fit n rest h.1
   left_fit n (says i ∷ rest) h = left_fit n rest h.1
   left_fit n (stores place v ∷ rest) h = left_fit n rest h.1
+  left_fit n (stamps resource place v ∷ rest) h = left_fit n rest h.1
   left_fit n (mark m ∷ rest) h = from_mark n m rest (nat_eq n m) h.1 (left_fit n rest h.1)
   left_fit n (awaits c pos ∷ rest) h = left_fit n rest h.1
   left_fit n (transaction_end c is_master pos ∷ rest) h = left_fit n rest h.1

@@ -1,7 +1,7 @@
 -- From where a thread is at the code of its branch's items to the own instruction of the first one: the one place that knows all kinds of
 -- items.
 use Rattle.std.proofs.Common.{◌≡◌, ◌<◌, ℕ, ◌+◌, List, [], ◌∷◌, Option, refl, ◌∙◌, subst, arith}
-use Rattle.xc_meaning.specs.States.Items.{Item, does, says, stores, mark, awaits, transaction_end, chooses, fixed, ends}
+use Rattle.xc_meaning.specs.States.Items.{Item, does, says, stores, stamps, mark, awaits, transaction_end, chooses, fixed, ends}
 use Rattle.xl_par.specs.Hands.{Hand}
 use Rattle.xr_threads.specs.Items.{EndAt, LastAt}
 use Rattle.xr_threads.specs.Parents.{Parent}
@@ -72,6 +72,7 @@ module _ (g : Setting) (r : Runner) (laid : IsLaidOut g r) (core : r.core < 4) w
     omega arith,
     stored_leads g r laid place v rest j h.pc h.regs z h.bases h.stands h.here h.has h.fits is,
   )
+  rest_leads (stamps resource place v ∷ rest) j z h own sided is = absurd h.stands.1.stands
   rest_leads (awaits c pos ∷ rest) j z h own sided is = absurd h.stands.1.stands
   rest_leads (transaction_end c is_master pos ∷ rest) j z h own sided is = absurd h.stands.1.stands
   rest_leads (chooses choices otherwise ∷ rest) j z h own sided is = absurd h.stands.1.stands

@@ -3,7 +3,7 @@ use Rattle.std.proofs.Common.{◌≡◌, ℕ, ◌≤◌, Bool, true, false, List
 use Rattle.std.proofs.lemmas.Option.{same_Some}
 use Rattle.xs_instr.specs.declared.image.Code.{Code}
 use Rattle.xc_meaning.specs.Settings.Flow.{from_mark_by, items_from_mark}
-use Rattle.xc_meaning.specs.States.Items.{Item, does, says, stores, mark, awaits, transaction_end, chooses, fixed, ends}
+use Rattle.xc_meaning.specs.States.Items.{Item, does, says, stores, stamps, mark, awaits, transaction_end, chooses, fixed, ends}
 use Rattle.xl_expr.specs.declared.plan.Plan.{Plan}
 use Rattle.xr_threads.specs.Items.{ItemsAt, MarkAt}
 use Rattle.xl_sides.specs.Ends.{Sides}
@@ -41,6 +41,7 @@ module _ (plan : Plan) (code : Code) (sides : Sides) (End : (pc j : ℕ) → Typ
       (λ f. exits_lead rest h.stands.outer n index h.index h.further f h.stands.others)
   exits_lead (says i ∷ rest) exits n index pc j e h = absurd h.stands
   exits_lead (stores place v ∷ rest) exits n index pc j e h = absurd h.stands
+  exits_lead (stamps resource place v ∷ rest) exits n index pc j e h = absurd h.stands
   exits_lead (awaits c pos ∷ rest) exits n index pc j e h = absurd h.stands
   exits_lead (transaction_end c is_master pos ∷ rest) exits n index pc j e h = absurd h.stands
   exits_lead (chooses choices otherwise ∷ rest) exits n index pc j e h = absurd h.stands

@@ -29,7 +29,7 @@ use Rattle.xc_meaning.specs.Settings.Setting as source
 use Rattle.xc_meaning.specs.Settings.Setting.{errs, kind_of, with_value, with_word_of}
 use Rattle.xc_meaning.specs.Settings.Time.{Timing, passes, timing, timing_by, with_timing, identifier_in, port_may_pass}
 use Rattle.xc_meaning.specs.Settings.Transfers.{drives, output_record, outputs_to}
-use Rattle.xc_meaning.specs.States.Items.{Item, does, When, now, at_time, storing}
+use Rattle.xc_meaning.specs.States.Items.{Item, does, When, now, at_time, stamping}
 use Rattle.xc_meaning.specs.States.Branches.{Branch}
 use Rattle.xc_meaning.specs.States.Worlds.{World, go, take, default, only_if, with_record}
 use Rattle.xl_expr.specs.Identifiers.{IsIdentifier}
@@ -220,8 +220,8 @@ module _ (g : Setting) (r : Runner) (laid : IsLaidOut g r) (o : kernel.Output) (
         step_by due h =
             item_acts g.program g.stimulus r.branch x.world branch Item' rest runs
             ∙ step_is (word v) is
-            ∙ ap (λ b. only_if b (with_record (source.goes_to st (storing o.stamp (counter (slice_index x.world.clocks branch.core)) rest)) (output_record st p v))) (due_by time ∙ h)
-            ∙ ap (λ s. only_if due (with_record (source.goes_to st (storing s (counter (slice_index x.world.clocks branch.core)) rest)) (output_record st p v))) no_stamp
+            ∙ ap (λ b. only_if b (with_record (source.goes_to st (stamping o.resource o.stamp (counter (slice_index x.world.clocks branch.core)) rest)) (output_record st p v))) (due_by time ∙ h)
+            ∙ ap (λ s. only_if due (with_record (source.goes_to st (stamping o.resource s (counter (slice_index x.world.clocks branch.core)) rest)) (output_record st p v))) no_stamp
             ∙ ap (λ d. only_if due (with_record (with_items x.world r.branch branch rest) d)) record_is
           where
             id_is : identifier_in g.program.ports p ≡ port.decl.port

@@ -18,7 +18,7 @@ use Rattle.xs_instr.specs.Rows.{gets_with, goes_with, put_ends}
 use Rattle.xs_instr.specs.Slot.{fault_of, slot}
 use Rattle.xc_kernel.specs.Plain as kernel
 use Rattle.xc_meaning.specs.States.Channels.{Side}
-use Rattle.xc_meaning.specs.States.Items.{Item, awaits, chooses, does, ends, fixed, mark, says, storing, stores, transaction_end}
+use Rattle.xc_meaning.specs.States.Items.{Item, awaits, chooses, does, ends, fixed, mark, says, storing, stores, stamps, transaction_end}
 use Rattle.xl_chan.specs.Protocols.{END, Act, Acts, ActsAll, Behind, input_acts, output_acts, sends, takes, takes_word}
 use Rattle.xl_walk.specs.Pieces.{Exit}
 use Rattle.xr_threads.specs.Runners.{Setting, Runner, end_place, home}
@@ -131,6 +131,7 @@ module _ (g : Setting) (r : Runner) where
   nothing_awaited (mark n ∷ rest) exits pc j h = tt
   nothing_awaited (says i ∷ rest) exits pc j h = tt
   nothing_awaited (stores place v ∷ rest) exits pc j h = tt
+  nothing_awaited (stamps resource place v ∷ rest) exits pc j h = tt
   nothing_awaited (awaits c pos ∷ rest) exits pc j h = absurd h.stands
   nothing_awaited (transaction_end c is_master pos ∷ rest) exits pc j h = tt
   nothing_awaited (chooses choices otherwise ∷ rest) exits pc j h = absurd h.stands

@@ -9,7 +9,7 @@ use Rattle.xc_kernel.specs.Plain as kernel
 use Rattle.xc_laws.specs.Needs.{total_of}
 use Rattle.xc_meaning.specs.Counts.KernelCounts.{branch_count, kernel_bound}
 use Rattle.xc_meaning.specs.States.Branches.{Branch, ended, erred, runs}
-use Rattle.xc_meaning.specs.States.Items.{Item, awaits, chooses, does, ends, fixed, mark, says, stores, transaction_end}
+use Rattle.xc_meaning.specs.States.Items.{Item, awaits, chooses, does, ends, fixed, mark, says, stamps, stores, transaction_end}
 use Rattle.xc_meaning.specs.States.Worlds.{World}
 use Rattle.xl_par.specs.Hands.{Hand, IsAmong, one_if, empty_hand}
 use Rattle.xr_match.specs.Lives.{Life}
@@ -62,6 +62,7 @@ first_held (does (kernel.select cases otherwise pos) ∷ rest) = (empty refl, re
 first_held (does (kernel.transaction c is_master ss start close) ∷ rest) = (empty refl, refl, refl)
 first_held (says i ∷ rest) = (empty refl, refl, refl)
 first_held (stores place v ∷ rest) = (empty refl, refl, refl)
+first_held (stamps resource place v ∷ rest) = (empty refl, refl, refl)
 first_held (mark n ∷ rest) = (empty refl, refl, refl)
 first_held (awaits c pos ∷ rest) = (empty refl, refl, refl)
 first_held (transaction_end c is_master pos ∷ rest) = (empty refl, refl, refl)

@@ -11,7 +11,7 @@ use Rattle.xc_kernel.specs.declared.statement.KRes.TheVariants.{Port, Timer, Cha
 use Rattle.xc_kernel.specs.Plain as kernel
 use Rattle.xc_kernel.specs.Things.{Thing, variable, change, port, timer, channel, by_read, by_change, by_resource, by_expression, by_operands, by_place, by_target, by_some_target, by_some_expression, by_condition, by_output, by_input, by_statement, by_statements, by_case, by_cases, by_default, by_branch, by_branches}
 use Rattle.xc_laws.specs.Rules.{code_at}
-use Rattle.xc_meaning.specs.States.Items.{Body, of_kernel, of_text, Choice, Item, does, says, stores, mark, awaits, transaction_end, chooses, fixed, ends, todo}
+use Rattle.xc_meaning.specs.States.Items.{Body, of_kernel, of_text, Choice, Item, does, says, stores, stamps, mark, awaits, transaction_end, chooses, fixed, ends, todo}
 use Rattle.xc_meaning.specs.Uses.{by_body, by_choices, by_item, by_items, by_some_body}
 use Rattle.xc_meaning.proofs.Basics.{none_given, or_left, or_right, same_number, some_given}
 use Rattle.xl_chan.specs.Protocols.{Act, ActsAll, Behind, sends, takes, takes_word}
@@ -145,6 +145,7 @@ module _ (v : ℕ) where
   item_used (does s) h = statement_used s h
   item_used (says i) h = refl
   item_used (stores place w) h = target_used place h
+  item_used (stamps resource place w) h = target_used place h
   item_used (mark n) h = h
   item_used (awaits c pos) h = absurd cc
   item_used (transaction_end c is_master pos) h = absurd cc
@@ -288,6 +289,7 @@ module _ (g : Setting) (r s : Runner) (same : s.core ≡ r.core) (block : s.bloc
   item_here (does t) h k = statement_here t h k
   item_here (says i) h k = tt
   item_here (stores place w) h k = (target_here place h.0.0 k, h.1)
+  item_here (stamps resource place w) h k = tt
   item_here (mark n) h k = tt
   item_here (awaits c pos) h k = channel_here c h
   item_here (transaction_end c is_master pos) h k = tt

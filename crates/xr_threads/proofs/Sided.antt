@@ -9,7 +9,7 @@ use Rattle.xc_laws.proofs.Always.{each_has_side}
 use Rattle.xc_laws.specs.Lawful.{Lawful, is_on}
 use Rattle.xc_meaning.specs.States.Branches.{Branch, side_of}
 use Rattle.xc_meaning.specs.States.Channels.{Side}
-use Rattle.xc_meaning.specs.States.Items.{Item, awaits, chooses, does, ends, fixed, mark, says, stores, transaction_end}
+use Rattle.xc_meaning.specs.States.Items.{Item, awaits, chooses, does, ends, fixed, mark, says, stamps, stores, transaction_end}
 use Rattle.xc_meaning.specs.States.Worlds.{World}
 use Rattle.xr_threads.specs.Fits.{Fits, ItemsFit, PutsOutAt, TakesInAt}
 use Rattle.xr_threads.specs.Runners.{Setting, Runner}
@@ -64,6 +64,7 @@ module _ (g : Setting) (r : Runner) where
     first_sided (does t ∷ rest) is fits = statement_sided t rest is fits.0
     first_sided (says i ∷ rest) is fits = tt
     first_sided (stores place v ∷ rest) is fits = tt
+    first_sided (stamps resource place v ∷ rest) is fits = tt
     first_sided (mark n ∷ rest) is fits = tt
     first_sided (awaits c pos ∷ rest) is fits = tt
     first_sided (transaction_end c is_master pos ∷ rest) is fits = tt

@@ -3,7 +3,7 @@ use Rattle.std.proofs.Common.{◌≡◌, ℕ, [], ◌∷◌, List, Option, refl}
 use Rattle.std.specs.Prelude.{false}
 use Rattle.xs_instr.specs.declared.state.CoreState.{CoreState}
 use Rattle.xs_instr.specs.declared.state.Regs.{Regs}
-use Rattle.xc_meaning.specs.States.Items.{Item, does, says, stores, mark, awaits, transaction_end, chooses, fixed, ends}
+use Rattle.xc_meaning.specs.States.Items.{Item, does, says, stores, stamps, mark, awaits, transaction_end, chooses, fixed, ends}
 use Rattle.xl_walk.specs.Pieces.{Exit}
 use Rattle.xr_threads.specs.Runners.{Footprint, Setting, Runner}
 use Rattle.xr_threads.specs.Transfers.{Transfer}
@@ -16,6 +16,7 @@ module _ (g : Setting) (r : Runner) where
   items_stand (does s ∷ rest) exits pc j regs core h = (exits, h)
   items_stand (says i ∷ rest) exits pc j regs core h = (exits, h)
   items_stand (stores place v ∷ rest) exits pc j regs core h = absurd h.stands
+  items_stand (stamps resource place v ∷ rest) exits pc j regs core h = (exits, h)
   items_stand (mark n ∷ rest) exits pc j regs core h = (exits, h)
   items_stand (awaits c pos ∷ rest) exits pc j regs core h = (exits, h)
   items_stand (transaction_end c is_master pos ∷ rest) exits pc j regs core h = (exits, h)
@@ -32,6 +33,7 @@ module _ (g : Setting) (r : Runner) where
   stands_kept (does s ∷ rest) j pc regs a b h = h
   stands_kept (says i ∷ rest) j pc regs a b h = h
   stands_kept (stores place v ∷ rest) j pc regs a b (begins, stored, word, lines, next) = (begins, stored, word_kept v pc begins regs a b word, lines, next)
+  stands_kept (stamps resource place v ∷ rest) j pc regs a b h = h
   stands_kept (mark n ∷ rest) j pc regs a b h = h
   stands_kept (awaits c pos ∷ rest) j pc regs a b h = h
   stands_kept (transaction_end c is_master pos ∷ rest) j pc regs a b h = h
@@ -45,6 +47,7 @@ module _ (g : Setting) (r : Runner) where
   stands_unwatched (does s ∷ rest) j pc regs core h = refl
   stands_unwatched (says i ∷ rest) j pc regs core h = refl
   stands_unwatched (stores place v ∷ rest) j pc regs core h = refl
+  stands_unwatched (stamps resource place v ∷ rest) j pc regs core h = refl
   stands_unwatched (mark n ∷ rest) j pc regs core h = refl
   stands_unwatched (awaits c pos ∷ rest) j pc regs core h = refl
   stands_unwatched (transaction_end c is_master pos ∷ rest) j pc regs core h = refl
@@ -72,6 +75,7 @@ module _ (g : Setting) (r : Runner) where
     stands_on (says i ∷ rest) j pc regs core h = h
     stands_on (stores place v ∷ rest) j pc regs core (begins, stored, word, lines, next) =
         (begins, stored, word_on v pc begins regs core word, lines, λ regs' core' bases. stands_on rest j stored regs' core' (next regs' core' (bases_back regs' bases)))
+    stands_on (stamps resource place v ∷ rest) j pc regs core h = h
     stands_on (mark n ∷ rest) j pc regs core h = h
     stands_on (awaits c pos ∷ rest) j pc regs core h = h
     stands_on (transaction_end c is_master pos ∷ rest) j pc regs core h = h

@@ -6,7 +6,7 @@ use Rattle.xs_instr.specs.declared.state.Regs.{Regs}
 use Rattle.xs_instr.specs.declared.state.Thread.{Thread}
 use Rattle.xc_kernel.specs.Plain as kernel
 use Rattle.xc_meaning.specs.States.Branches.{Mode, runs}
-use Rattle.xc_meaning.specs.States.Items.{Item, does, says, stores, mark, awaits, transaction_end, chooses, fixed, ends}
+use Rattle.xc_meaning.specs.States.Items.{Item, does, says, stores, stamps, mark, awaits, transaction_end, chooses, fixed, ends}
 use Rattle.xl_expr.specs.declared.plan.Plan.{Plan}
 use Rattle.xl_sides.specs.Ends.{Sides}
 use Rattle.xl_walk.specs.Pieces.{Exit}
@@ -24,6 +24,7 @@ code_unwatched places image sides End [] exits pc j h = refl
 code_unwatched places image sides End (does s ∷ rest) exits pc j h = refl
 code_unwatched places image sides End (says i ∷ rest) exits pc j h = refl
 code_unwatched places image sides End (stores place v ∷ rest) exits pc j h = refl
+code_unwatched places image sides End (stamps resource place v ∷ rest) exits pc j h = refl
 code_unwatched places image sides End (mark n ∷ rest) exits pc j h = refl
 code_unwatched places image sides End (awaits c pos ∷ rest) exits pc j h = refl
 code_unwatched places image sides End (transaction_end c is_master pos ∷ rest) exits pc j h = refl
@@ -37,6 +38,7 @@ nothing_unwatched [] h = refl
 nothing_unwatched (does s ∷ rest) h = refl
 nothing_unwatched (says i ∷ rest) h = refl
 nothing_unwatched (stores place v ∷ rest) h = refl
+nothing_unwatched (stamps resource place v ∷ rest) h = refl
 nothing_unwatched (mark n ∷ rest) h = refl
 nothing_unwatched (awaits c pos ∷ rest) h = refl
 nothing_unwatched (transaction_end c is_master pos ∷ rest) h = refl

@@ -2,7 +2,7 @@
 use Rattle.std.proofs.Common.{◌≡◌, ℕ, ◌+◌, ◌<◌, ◌⊎◌, inl, inr, List, [], ◌∷◌, refl, arith}
 use Rattle.xw_words.specs.declared.pos.Pos.{Pos}
 use Rattle.xc_kernel.specs.Plain as kernel
-use Rattle.xc_meaning.specs.States.Items.{Item, does, says, stores, mark, awaits, transaction_end, chooses, fixed, ends, todo}
+use Rattle.xc_meaning.specs.States.Items.{Item, does, says, stores, stamps, mark, awaits, transaction_end, chooses, fixed, ends, todo}
 use Rattle.xr_threads.specs.Parents.{Parent}
 use Rattle.xr_threads.specs.Settled.{IsOwn}
 
@@ -105,6 +105,7 @@ own_or_none ps (ends ∷ rest) = end_own ps rest
 own_or_none ps (mark n ∷ rest) = inr (block_end n rest)
 own_or_none ps (says i ∷ rest) = inl tt
 own_or_none ps (stores place v ∷ rest) = inl tt
+own_or_none ps (stamps resource place v ∷ rest) = inl tt
 own_or_none ps (awaits c pos ∷ rest) = inl tt
 own_or_none ps (transaction_end c is_master pos ∷ rest) = inl tt
 own_or_none ps (chooses choices otherwise ∷ rest) = inl tt

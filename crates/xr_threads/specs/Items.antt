@@ -2,7 +2,7 @@
 use Rattle.std.specs.Prelude.{◌≡◌, ℕ, ◌+◌, List, [], ◌∷◌, Option, Some, None, slice_get}
 use Rattle.xs_instr.specs.declared.image.Code.{Code}
 use Rattle.xs_instr.specs.declared.instr.Instr.TheVariants.{Freet}
-use Rattle.xc_meaning.specs.States.Items.{Item, does, says, stores, mark, awaits, transaction_end, chooses, fixed, ends}
+use Rattle.xc_meaning.specs.States.Items.{Item, does, says, stores, stamps, mark, awaits, transaction_end, chooses, fixed, ends}
 use Rattle.xl_expr.specs.declared.plan.Plan.{Plan}
 use Rattle.xl_sides.specs.Ends.{Sides}
 use Rattle.xr_threads.specs.Parents.{Parent}
@@ -31,6 +31,7 @@ module _ (plan : Plan) (code : Code) where
   FirstAt sides End ends Others exits pc j = End pc j × (exits ≡ [])
   FirstAt sides End (says i) Others exits pc j = ⊥
   FirstAt sides End (stores place v) Others exits pc j = ⊥
+  FirstAt sides End (stamps resource place v) Others exits pc j = ⊥
   FirstAt sides End (awaits c pos) Others exits pc j = ⊥
   FirstAt sides End (transaction_end c is_master pos) Others exits pc j = ⊥
   FirstAt sides End (chooses choices otherwise) Others exits pc j = ⊥

@@ -11,7 +11,7 @@ use Rattle.xc_kernel.specs.Values.{Value, word, error, is_true, tested}
 use Rattle.xc_kernel.specs.Eval.{eval, words_of}
 use Rattle.xc_meaning.specs.States.Channels.{Parcel, offer, opening, closing, taken, Side, other_side}
 use Rattle.xc_meaning.specs.States.Channels as channel
-use Rattle.xc_meaning.specs.States.Items.{When, Body, Choice, Item, does, awaits, chooses, fixed, storing, body_items}
+use Rattle.xc_meaning.specs.States.Items.{When, Body, Choice, Item, does, awaits, chooses, fixed, storing, body_items, stamping}
 use Rattle.xc_meaning.specs.States.Branches.{Branch, erred, side_of}
 use Rattle.xc_meaning.specs.States.Worlds.{World, only_if, put, without_parcel, with_record, with_word, with_zeros}
 use Rattle.xc_meaning.specs.Settings.Setting.{Setting, becomes, goes_to, goes_on, errs, kind_of, with_value, with_word_of}
@@ -27,6 +27,10 @@ use Rattle.xc_meaning.proofs.Simulation.Mixed.{Ahead, even, mixed, with_ahead, m
 pub of_storing : (place : Option kernel.Place) (v : ℕ) (rest : List Item) → kernel_items (storing place v rest) ≡ storing place v (kernel_items rest)
 of_storing None v rest = refl
 of_storing (Some place) v rest = refl
+
+pub of_stamping : (resource : KRes) (place : Option kernel.Place) (v : ℕ) (rest : List Item) → kernel_items (stamping resource place v rest) ≡ stamping resource place v (kernel_items rest)
+of_stamping resource None v rest = refl
+of_stamping resource (Some place) v rest = refl
 
 -- Of a branch that has these items in the kernel before the step; after it it isn't ahead.
 module _ (os : Ahead) (items : List Item) (s : Setting) where
@@ -213,13 +217,13 @@ module _ (os : Ahead) (items : List Item) (s : Setting) where
 
   drives_alike : (o : kernel.Output) (p : ℕ) (when : When) (v : ℕ) → drives step o p when v ≡ option_map after (drives s o p when v)
   drives_alike o p when v =
-      only_if_same (with_record (goes_to s (storing o.stamp (counter_of s) s.rest)) (output_record s p v)) (port_alike p when)
-      (λ i. with_record (goes_to_by (storing o.stamp (counter_of s) s.rest) (of_storing o.stamp (counter_of s) s.rest) i) (output_record s p v))
+      only_if_same (with_record (goes_to s (stamping o.resource o.stamp (counter_of s) s.rest)) (output_record s p v)) (port_alike p when)
+      (λ i. with_record (goes_to_by (stamping o.resource o.stamp (counter_of s) s.rest) (of_stamping o.resource o.stamp (counter_of s) s.rest) i) (output_record s p v))
 
   samples_alike : (i : kernel.Input) (p v counter : ℕ) → samples step i p v counter ≡ after (samples s i p v counter)
   samples_alike input p v counter =
-      λ i. with_record (goes_to_by (storing input.target v (storing input.stamp counter s.rest))
-      (of_storing input.target v (storing input.stamp counter s.rest) ∙ ap (storing input.target v) (of_storing input.stamp counter s.rest)) i)
+      λ i. with_record (goes_to_by (storing input.target v (stamping input.resource input.stamp counter s.rest))
+      (of_storing input.target v (stamping input.resource input.stamp counter s.rest) ∙ ap (storing input.target v) (of_stamping input.resource input.stamp counter s.rest)) i)
       (Rattle.xs_instr.specs.declared.trace.Record.TheVariants.PortIn s.branch.core (Rattle.xc_meaning.specs.Settings.Time.identifier_of s p) counter v)
 
   reads_alike : (i : kernel.Input) (clock : ℕ) → reads_clock step i clock ≡ after (reads_clock s i clock)

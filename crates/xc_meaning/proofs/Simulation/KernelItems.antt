@@ -14,7 +14,7 @@ use Rattle.xc_kernel.specs.Calls.{body_copy}
 use Rattle.xc_kernel.specs.Declarations.{declaration_copy, declarations_copy}
 use Rattle.xc_kernel.specs.Flow.{turn, leave_unless, test_or_true}
 use Rattle.xc_kernel.specs.Statements.{statement_copy, maybe_copy, statements_copy}
-use Rattle.xc_meaning.specs.States.Items.{Loop, TextItem, statement, name, bound, body, first_test, again, again_do, returned, Body, of_kernel, of_text, Choice, Item, does, says, stores, mark, awaits, transaction_end, chooses, fixed, ends, todo, body_items}
+use Rattle.xc_meaning.specs.States.Items.{Loop, TextItem, statement, name, bound, body, first_test, again, again_do, returned, Body, of_kernel, of_text, Choice, Item, does, says, stores, stamps, mark, awaits, transaction_end, chooses, fixed, ends, todo, body_items}
 use Rattle.xc_meaning.specs.Settings.Flow.{from_mark_by, items_from_mark}
 use Rattle.xc_meaning.specs.Texts.Copied.{calls_in, behind, behind_name, code_in}
 use Rattle.xc_meaning.specs.Texts.Items.{name_items, statement_items, maybe_items, statements_items, only, as_body, body_item}
@@ -67,6 +67,7 @@ kernel_items [] = []
 kernel_items (does s ∷ rest) = does s ∷ kernel_items rest
 kernel_items (says i ∷ rest) = todo (code_of_item i) (kernel_items rest)
 kernel_items (stores place v ∷ rest) = stores place v ∷ kernel_items rest
+kernel_items (stamps resource place v ∷ rest) = stamps resource place v ∷ kernel_items rest
 kernel_items (mark n ∷ rest) = mark n ∷ kernel_items rest
 kernel_items (awaits c pos ∷ rest) = awaits c pos ∷ kernel_items rest
 kernel_items (transaction_end c is_master pos ∷ rest) = transaction_end c is_master pos ∷ kernel_items rest
@@ -203,6 +204,7 @@ of_mark n [] = refl
 of_mark n (does s ∷ rest) = of_mark n rest
 of_mark n (says i ∷ rest) = no_mark_in n (code_of_item i) (kernel_items rest) ∙ of_mark n rest
 of_mark n (stores place v ∷ rest) = of_mark n rest
+of_mark n (stamps resource place v ∷ rest) = of_mark n rest
 of_mark n (mark m ∷ rest) = of_mark_by (nat_eq n m) m rest (items_from_mark n (kernel_items rest)) (items_from_mark n rest) (of_mark n rest)
 of_mark n (awaits c pos ∷ rest) = of_mark n rest
 of_mark n (transaction_end c is_master pos ∷ rest) = of_mark n rest

@@ -2,7 +2,7 @@
 use Rattle.std.proofs.Common.{◌≡◌, List, [], ◌∷◌, map, Some, option_map, refl, sym, ◌∙◌, ap, ap₂}
 use Rattle.xc_kernel.specs.Plain as kernel
 use Rattle.xc_kernel.specs.Eval.{Store}
-use Rattle.xc_meaning.specs.States.Items.{of_kernel, Item, does, says, stores, mark, awaits, transaction_end, chooses, fixed, ends, todo}
+use Rattle.xc_meaning.specs.States.Items.{of_kernel, Item, does, says, stores, stamps, mark, awaits, transaction_end, chooses, fixed, ends, todo}
 use Rattle.xc_meaning.specs.States.Branches.{ended}
 use Rattle.xc_meaning.specs.Settings.Setting.{Setting}
 use Rattle.xc_meaning.specs.Settings.Par.{all_begun, makes}
@@ -58,6 +58,7 @@ abbrev pub kernel_item : Item → Item
 kernel_item (does s) = does s
 kernel_item (says i) = says i
 kernel_item (stores place v) = stores place v
+kernel_item (stamps resource place v) = stamps resource place v
 kernel_item (mark n) = mark n
 kernel_item (awaits c pos) = awaits c pos
 kernel_item (transaction_end c is_master pos) = transaction_end c is_master pos
@@ -69,6 +70,7 @@ pub plain_items : (item : Item) (rest : List Item) → IsPlain item → kernel_i
 plain_items (does s) rest p = refl
 plain_items (says i) rest p = absurd p
 plain_items (stores place v) rest p = refl
+plain_items (stamps resource place v) rest p = refl
 plain_items (mark n) rest p = refl
 plain_items (awaits c pos) rest p = refl
 plain_items (transaction_end c is_master pos) rest p = refl
@@ -80,6 +82,7 @@ pub plain_alike : (os : Ahead) (items : List Item) (s : Setting) → Fits os s �
 plain_alike os items s fits (does t) p = statement_alike os items s fits t
 plain_alike os items s fits (says i) p = absurd p
 plain_alike os items s fits (stores place v) p = stored_alike os items s place v
+plain_alike os items s fits (stamps resource place v) p = stored_alike os items s place v
 plain_alike os items s fits (mark n) p = λ i. Some (goes_on_alike os items s i)
 plain_alike os items s fits (awaits c pos) p = awaits_alike os items s c pos
 plain_alike os items s fits (transaction_end c is_master pos) p = closes_alike os items s c is_master pos

@@ -6,7 +6,7 @@ use Rattle.xs_instr.specs.declared.trace.Record.TheVariants.{PortOut, PortIn}
 use Rattle.xc_kernel.specs.declared.statement.KRes.{KRes}
 use Rattle.xc_kernel.specs.declared.statement.KRes.TheVariants.{Port, Timer, Chan}
 use Rattle.xc_kernel.specs.Plain as kernel
-use Rattle.xc_meaning.specs.States.Items.{When, storing}
+use Rattle.xc_meaning.specs.States.Items.{When, stamping, storing}
 use Rattle.xc_meaning.specs.States.Worlds.{World, only_if, with_record}
 use Rattle.xc_meaning.specs.Settings.Setting.{Setting, goes_to, with_word_of}
 use Rattle.xc_meaning.specs.Settings.Channels.{outputs_word, inputs_word}
@@ -19,7 +19,7 @@ output_record s p v = PortOut s.branch.core (identifier_of s p) (counter_of s) (
 -- a port's output passes, and its counter is to be stored next
 abbrev pub drives : Setting → kernel.Output → (port : ℕ) → When → ℕ → Option World
 drives s o p when v =
-    only_if (port_may_pass s p when) (with_record (goes_to s (storing o.stamp (counter_of s) s.rest)) (output_record s p v))
+    only_if (port_may_pass s p when) (with_record (goes_to s (stamping o.resource o.stamp (counter_of s) s.rest)) (output_record s p v))
 
 -- a port's output; its time comes before its value
 abbrev pub outputs_to_port : Setting → kernel.Output → (port : ℕ) → Option World
@@ -28,7 +28,7 @@ outputs_to_port s o p = with_timing s (timing s.world.store o.time None) (λ whe
 -- a port's input passes with a value and a counter, which are to be stored next
 abbrev pub samples : Setting → kernel.Input → (port : ℕ) → (value counter : ℕ) → World
 samples s i p v counter =
-    with_record (goes_to s (storing i.target v (storing i.stamp counter s.rest))) (PortIn s.branch.core (identifier_of s p) counter v)
+    with_record (goes_to s (storing i.target v (stamping i.resource i.stamp counter s.rest))) (PortIn s.branch.core (identifier_of s p) counter v)
 
 -- a port's input
 abbrev pub inputs_from_port : Setting → kernel.Input → (port : ℕ) → Option World

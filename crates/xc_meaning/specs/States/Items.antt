@@ -3,6 +3,7 @@
 use Rattle.std.specs.Prelude.{ℕ, Bool, List, ◌∷◌, Option, Some, None}
 use Rattle.xw_words.specs.declared.pos.Pos.{Pos}
 use Rattle.xc_tree.specs.Plain as tree
+use Rattle.xc_kernel.specs.declared.statement.KRes.{KRes}
 use Rattle.xc_kernel.specs.Plain as kernel
 use Rattle.xc_kernel.specs.Paths.{Path}
 use Rattle.xc_kernel.specs.Scopes.{Scope}
@@ -58,8 +59,10 @@ pub record Choice : Type 0 where
 pub data Item : Type 0 where
   does : kernel.Statement → Item
   says : TextItem → Item
-  -- a word goes to the destination or the stamp of a transfer that has passed
+  -- a word goes to the destination of a transfer that has passed
   stores : kernel.Place → ℕ → Item
+  -- the counter at which a transfer over a resource has passed goes to its stamp
+  stamps : KRes → kernel.Place → ℕ → Item
   -- the end of the block with this number
   mark : ℕ → Item
   -- waits for the answer to an offer, an opening or a closing
@@ -87,3 +90,8 @@ body_items (of_text i) rest = says i ∷ rest
 abbrev pub storing : Option kernel.Place → ℕ → List Item → List Item
 storing None v rest = rest
 storing (Some place) v rest = stores place v ∷ rest
+
+-- a stamp, where there is a place for it
+abbrev pub stamping : KRes → Option kernel.Place → ℕ → List Item → List Item
+stamping resource None v rest = rest
+stamping resource (Some place) v rest = stamps resource place v ∷ rest
