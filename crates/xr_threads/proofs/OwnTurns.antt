@@ -23,10 +23,10 @@ use Rattle.xl_walk.specs.Pieces.{Exit}
 use Rattle.xr_threads.specs.Fits.{ItemsFit}
 use Rattle.xr_threads.specs.Runners.{Setting, Runner, MayChange, home, places}
 use Rattle.xr_threads.specs.ThreadViews.{ThreadView, running}
-use Rattle.xr_threads.specs.Turns.{HasBases, Has, IsAt, ItemsFrom, Goes, StandsAt, first_changes, own_go}
+use Rattle.xr_threads.specs.Turns.{HasBases, Has, IsAt, ItemsFrom, Goes, SameStamps, StandsAt, first_changes, own_go}
 use Rattle.xr_threads.proofs.Evaluations.{runs_with, with_items}
 use Rattle.xr_threads.proofs.Layouts.{ports_last}
-use Rattle.xr_threads.proofs.Stands.{items_stand, stands_unwatched}
+use Rattle.xr_threads.proofs.Stands.{items_stand, stamps_left, stands_unwatched}
 use Rattle.xr_threads.proofs.Watching.{here_at}
 
 -- the turn of a running thread that takes no events is the row of its instruction
@@ -51,11 +51,12 @@ module _ (g : Setting) (r : Runner) where
       acts g.program g.stimulus y.world (go r.branch) ≡ Some (record (with_items y.world r.branch has.branch items) { store = store }) →
       ((v : ℕ) → by_item (change v) item ≡ false → words_of store v ≡ words_of y.world.store v) →
       Holds (places g r.core) r.footprint.uses 0 words store → r.stack + temporary ≤ length words →
-      (jumps : ℕ) → ((core : CoreState) → StandsAt g r items jumps pc regs core) → ItemsFit g r items → jumps ≤ j + 1 → Goes g r j y
+      (jumps : ℕ) → ((core : CoreState) → SameStamps g r.core items y.core core → StandsAt g r items jumps pc regs core) → ItemsFit g r items → jumps ≤ j + 1 → Goes g r j y
   own_goes j y pc regs words made bases no_hand item rest items store has acted same holds room jumps stands fits fewer =
       let th = running r.tie made.index regs in
       let th' = running r.tie pc regs in
       let left = put_own y.core r.thread th (record { pc = pc; regs = regs; words = words }) in
+      let stand = stands left (stamps_left g r.core items y.core left refl) in
       let x : World = record (with_items y.world r.branch has.branch items) { store = store } in
       record {
         left = left;
@@ -91,9 +92,9 @@ module _ (g : Setting) (r : Runner) where
         rest = record {
           pc = pc;
           regs = regs;
-          here = here_at items (stands_unwatched g r items jumps pc regs left (stands left)) (get_set_same y.core.threads r.thread th th' made.here);
+          here = here_at items (stands_unwatched g r items jumps pc regs left stand) (get_set_same y.core.threads r.thread th th' made.here);
           bases = bases;
-          stands = stands left;
+          stands = stand;
           fits = fits;
           has = record {
             branch = record has.branch { items = items };
@@ -111,4 +112,4 @@ module _ (g : Setting) (r : Runner) where
       acts g.program g.stimulus y.world (go r.branch) ≡ Some (with_items y.world r.branch has.branch items) →
       (exits : List Exit) (jumps : ℕ) → ItemsFrom g r items exits pc jumps → ItemsFit g r items → jumps ≤ j + 1 → Goes g r j y
   spot_goes j y pc regs made bases no_hand item rest items has acted exits jumps at_code fits fewer =
-      own_goes j y pc regs y.core.words made bases no_hand item rest items y.world.store has acted (λ v c. refl) has.holds.holds has.holds.room jumps (λ core. items_stand g r items exits pc jumps regs core at_code) fits fewer
+      own_goes j y pc regs y.core.words made bases no_hand item rest items y.world.store has acted (λ v c. refl) has.holds.holds has.holds.room jumps (λ core same. items_stand g r items exits pc jumps regs core at_code) fits fewer

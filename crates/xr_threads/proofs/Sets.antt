@@ -57,7 +57,7 @@ module _ (g : Setting) (r : Runner) (laid : IsLaidOut g r) where
 
         by : (v : Value) → eval z.world.store x ≡ v → SetOutcome (plan g r).vars (home g r) (relied g r) r.stack r.thread (running r.tie pc regs) z.core.words place pc' v i y.core → Turn g r j q
         by (word v) e writes =
-            store_turns g r laid item place rest pc pc' j uses_place changes (or_left (by_target (change (variable_of place)) place) (by_expression (change (variable_of place)) x) (target_changed place)) (λ regs' core' bases'. items_stand g r rest exits pc' j regs' core' behind) rest_fits z y q regs v i bases k since' (since'.hand ∙ no_hand) has_q
+            store_turns g r laid item place rest pc pc' j uses_place changes (or_left (by_target (change (variable_of place)) place) (by_expression (change (variable_of place)) x) (target_changed place)) rest_fits q (λ regs' core' bases' still. items_stand g r rest exits pc' j regs' core' behind) z y regs v i bases k since' (since'.hand ∙ no_hand) has_q
             (set_step q.world has_q.branch (word v) (still (word v) e)) is_index writes
         by (error kind pos) e traps =
             turn.errs (value_errs g r q item rest kind pos (traps q.core (core_kept g r k)) has_q (since'.hand ∙ no_hand) (set_step q.world has_q.branch (error kind pos) (still (error kind pos) e)))

@@ -19,7 +19,7 @@ use Rattle.xl_expr.specs.declared.plan.VarPlan.{VarPlan}
 use Rattle.xl_expr.specs.Frames.{HaveVars, variable_of}
 use Rattle.xl_expr.specs.Plans.{var_in}
 use Rattle.xl_plan.specs.Layout.{is_used_on}
-use Rattle.xr_threads.specs.Fits.{AllFit, BranchesFit, ChangesAt, FitOn, Fits, InputFits, IsChanged, ItemFits, ItemsFit, OutputFits, PutsOutAt, TakesInAt, Uses, UsesAt, UsesSome}
+use Rattle.xr_threads.specs.Fits.{AllFit, BranchesFit, ChangesAt, FitOn, Fits, InputFits, IsChanged, ItemFits, ItemsFit, OutputFits, PutsOutAt, StampsAt, TakesInAt, Uses, UsesAt, UsesSome}
 use Rattle.xr_threads.specs.Runners.{Block, Footprint, Setting, Runner, IsChannel, IsPort, anyone, end_place, footprint_of, home, outside, places, plan, plan_in, shrunk}
 use Rattle.xr_threads.specs.ThreadViews.{ThreadView, running}
 use Rattle.xr_threads.specs.Transfers.{Transfer, acts_left, items_behind}
@@ -226,6 +226,11 @@ module _ (g : Setting) (r s : Runner) (same : s.core ≡ r.core) (block : s.bloc
   source_here (Timer t) h = tt
   source_here (Chan c) h = channel_here c h
 
+  stamp_here : (o : KRes) → StampsAt g r o → AreHad (λ th. by_resource th o) → StampsAt g s o
+  stamp_here (Port p) h k = (h.0, record { mine = k (port p) (same_number p); known = h.1.known; core = h.1.core ∙ sym same })
+  stamp_here (Timer t) h k = absurd h
+  stamp_here (Chan c) h k = absurd h
+
   zero_here : (v : ℕ) → IsChanged g r v → AreHad (λ th. by_change th v) → IsChanged g s v
   zero_here v h k = record {
     found = h.found;
@@ -289,7 +294,11 @@ module _ (g : Setting) (r s : Runner) (same : s.core ≡ r.core) (block : s.bloc
   item_here (does t) h k = statement_here t h k
   item_here (says i) h k = tt
   item_here (stores place w) h k = (target_here place h.0.0 k, h.1)
-  item_here (stamps resource place w) h k = tt
+  item_here (stamps resource place w) h k = (
+    stamp_here resource h.0 (λ th u. k th (or_left (by_resource th resource) _ u)),
+    target_here place h.1.0 (λ th u. k th (or_right (by_resource th resource) _ u)),
+    h.2,
+  )
   item_here (mark n) h k = tt
   item_here (awaits c pos) h k = channel_here c h
   item_here (transaction_end c is_master pos) h k = tt

@@ -47,7 +47,7 @@ module _ (g : Setting) (r : Runner) (rest : List Item) (exits : List Exit) (pc p
       let same : pc' ≡ pc + length transfer = let e = ap length none in let f = write_end in omega (arith, e, f) in
       behind_of_items g r rest exits (pc + length transfer) j regs bases (subst (λ p. ItemsFrom g r rest exits p j) same behind)
   stored_behind (Some place) writes regs bases =
-      (bases, λ core. (pc + length transfer, pc', in_r0 refl refl, record { lines = write; stand = written; so = writes; end = write_end }, λ regs' core' bases'. items_stand g r rest exits pc' j regs' core' behind))
+      (bases, λ core. (pc + length transfer, pc', in_r0 refl refl, record { lines = write; stand = written; so = writes; end = write_end }, λ regs' core' bases' still. items_stand g r rest exits pc' j regs' core' behind))
 
   module _ (i : kernel.Input) (item_fits : Fits g r (kernel.input i)) (rest_fits : ItemsFit g r rest) (c : ℕ) (to_channel : i.resource ≡ Chan c) (side : Side) (stands_in : slice_index_or r.sides c None ≡ Some side) (writes : WritesTo (plan g r).vars i.target (pc + length transfer) write) where
     -- at the first step of the protocol

@@ -31,7 +31,7 @@ use Rattle.xr_threads.specs.Parents.{syncs_of}
 use Rattle.xr_threads.specs.Runners.{Setting, Runner, IsLaidOut, MayChange, of_variable, home, places, plan, plan_in, relied}
 use Rattle.xr_threads.specs.ThreadViews.{ThreadView, Rely, running}
 use Rattle.xr_threads.specs.Turns as turn
-use Rattle.xr_threads.specs.Turns.{HasBases, Has, Goes, StandsAt, Turn}
+use Rattle.xr_threads.specs.Turns.{HasBases, Has, Goes, SameStamps, StandsAt, Turn}
 use Rattle.xr_threads.proofs.Arriving.{Since, any_part, core_kept}
 use Rattle.xr_threads.proofs.Bases.{bases_worked}
 use Rattle.xr_threads.proofs.Evaluations.{index_still, item_acts, value_errs, with_items}
@@ -100,16 +100,16 @@ target_changed (kernel.word v) = eq-eqb v v refl
 target_changed (kernel.element v index pos) = or_left (nat_eq v v) (by_expression (change v) index) (eq-eqb v v refl)
 
 -- An item by which the branch stores a word at a place.
-module _ (g : Setting) (r : Runner) (laid : IsLaidOut g r) (item : Item) (place : kernel.Place) (rest : List Item) (pc pc' j : ℕ) (uses_place : UsesAt g r place) (changes : r.footprint.changes (variable_of place) ≡ true) (changed_first : by_item (change (variable_of place)) item ≡ true) (behind : (regs' : Regs) (core' : CoreState) → HasBases g r regs' → StandsAt g r rest j pc' regs' core') (rest_fits : ItemsFit g r rest) where
+module _ (g : Setting) (r : Runner) (laid : IsLaidOut g r) (item : Item) (place : kernel.Place) (rest : List Item) (pc pc' j : ℕ) (uses_place : UsesAt g r place) (changes : r.footprint.changes (variable_of place) ≡ true) (changed_first : by_item (change (variable_of place)) item ≡ true) (rest_fits : ItemsFit g r rest) (q : ThreadView) (behind : (regs' : Regs) (core' : CoreState) → HasBases g r regs' → SameStamps g r.core rest q.core core' → StandsAt g r rest j pc' regs' core') where
   -- what its step is there
   abbrev pub Stores : World → Branch → (v : ℕ) → Type 0
   Stores w branch v =
       does_item (step_of g.program g.stimulus w r.branch branch rest) item ≡ stored (step_of g.program g.stimulus w r.branch branch rest) place v
 
   -- at the instruction that writes the word
-  write_goes : (z q : ThreadView) (regs : Regs) (v i address : ℕ) → HasBases g r regs → q.hand ≡ None → (has : Has g r (item ∷ rest) q) → Stores q.world has.branch v → index_in q.world.store place ≡ word i → IsAddress (places g r.core) (relied g r) r.stack (4 * 0) q.core.words place i address → Writes (home g r) (relied g r) r.stack r.thread (running r.tie pc regs) z.core.words address v pc' q.core → Goes g r j q
-  write_goes z q regs v i address bases no_hand has is is_index at_address w =
-      own_goes g r j q pc' w.regs words made bases' no_hand item rest rest store has acted same holds room j (λ core. behind w.regs core bases') rest_fits (omega arith)
+  write_goes : (z : ThreadView) (regs : Regs) (v i address : ℕ) → HasBases g r regs → q.hand ≡ None → (has : Has g r (item ∷ rest) q) → Stores q.world has.branch v → index_in q.world.store place ≡ word i → IsAddress (places g r.core) (relied g r) r.stack (4 * 0) q.core.words place i address → Writes (home g r) (relied g r) r.stack r.thread (running r.tie pc regs) z.core.words address v pc' q.core → Goes g r j q
+  write_goes z regs v i address bases no_hand has is is_index at_address w =
+      own_goes g r j q pc' w.regs words made bases' no_hand item rest rest store has acted same holds room j (λ core still. behind w.regs core bases' still) rest_fits (omega arith)
     where
       words : List ℕ
       words = word_put q.core.words address v
@@ -148,10 +148,10 @@ module _ (g : Setting) (r : Runner) (laid : IsLaidOut g r) (item : Item) (place 
       room = let e = length-set q.core.words (address / 4) v in let h = has.holds.room in omega arith
 
   -- where the code has come the turn is next: it writes the word, or traps by the index's error
-  pub store_turns : (z y q : ThreadView) (regs : Regs) (v : ℕ) (i : Value) → HasBases g r regs → Rely g r y q → Since g r (IsApart r.stack) any_part z q → q.hand ≡ None →
+  pub store_turns : (z y : ThreadView) (regs : Regs) (v : ℕ) (i : Value) → HasBases g r regs → Rely g r y q → Since g r (IsApart r.stack) any_part z q → q.hand ≡ None →
       (has : Has g r (item ∷ rest) q) → Stores q.world has.branch v → index_in z.world.store place ≡ i →
       StoreOutcome (plan g r).vars (home g r) (relied g r) r.stack r.thread (running r.tie pc regs) z.core.words place v pc' i y.core → Turn g r j q
-  store_turns z y q regs v i bases kept since no_hand has is is_index outcome = by i is_index outcome
+  store_turns z y regs v i bases kept since no_hand has is is_index outcome = by i is_index outcome
     where
       index_is : (o : Value) → index_in z.world.store place ≡ o → index_in q.world.store place ≡ o
       index_is o e = index_still (plan g r).vars r.footprint.uses z.world.store q.world.store since.store place uses_place ∙ e
@@ -162,7 +162,7 @@ module _ (g : Setting) (r : Runner) (laid : IsLaidOut g r) (item : Item) (place 
           let at_base = subst (λ d. IsAddress (plan g r).vars (relied g r) r.stack d z.core.words place i address) bases.base at_address in
           let there = seen g r laid (λ b. IsAddress (plan_in (g.plans r.core) b.plan).vars (relied g r) r.stack (4 * b.base) z.core.words place i address) at_base in
           let at_q = address_lasts (places g r.core) (relied g r) r.stack (4 * 0) z.core.words q.core.words z.world.store since.words place i address there in
-          turn.goes_on (write_goes z q regs v i address bases no_hand has is (index_is (word i) f) at_q w)
+          turn.goes_on (write_goes z regs v i address bases no_hand has is (index_is (word i) f) at_q w)
       by (error kind pos) f traps =
           let s = step_of g.program g.stimulus q.world r.branch has.branch rest in
           turn.errs (value_errs g r q item rest kind pos (traps q.core (core_kept g r kept)) has no_hand (is ∙ stored_errs s place v kind pos (index_is (error kind pos) f)))

@@ -7,7 +7,7 @@ use Rattle.xc_kernel.specs.declared.statement.KRes.{KRes}
 use Rattle.xc_kernel.specs.declared.statement.KRes.TheVariants.{Port, Timer, Chan}
 use Rattle.xc_kernel.specs.Plain as kernel
 use Rattle.xc_meaning.specs.Counts.KernelCounts.{greatest_count, of_place, of_statement, words_in}
-use Rattle.xc_meaning.specs.States.Items.{Item, awaits, does, stores}
+use Rattle.xc_meaning.specs.States.Items.{Item, awaits, does, stores, stamps}
 use Rattle.xl_expr.specs.declared.plan.VarPlan.{VarPlan}
 use Rattle.xl_expr.specs.Frames.{HasVars, HasPlace, variable_of}
 use Rattle.xl_expr.specs.Plans.{var_in}
@@ -94,9 +94,16 @@ module _ (g : Setting) (r : Runner) where
     BranchesFit kernel.no_branch = Unit {0}
     BranchesFit (kernel.more_branches (kernel.branch ss pos) bs) = AllFit ss × BranchesFit bs
 
+  -- what has a stamp
+  abbrev pub StampsAt : KRes → Type 0
+  StampsAt (Port p) = (listed : PortUse) × IsPort g r p listed
+  StampsAt (Timer t) = ⊥
+  StampsAt (Chan c) = ⊥
+
   abbrev pub ItemFits : Item → Type 0
   ItemFits (does s) = Fits s
   ItemFits (stores place v) = ChangesAt (Some place) × (of_place place ≤ greatest)
+  ItemFits (stamps resource place v) = StampsAt resource × ChangesAt (Some place) × (of_place place ≤ greatest)
   ItemFits (awaits c pos) = IsChannel g r c
   ItemFits other = Unit {0}
 

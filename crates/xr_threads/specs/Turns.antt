@@ -29,7 +29,7 @@ use Rattle.xc_kernel.specs.Things.{change}
 use Rattle.xc_meaning.specs.Counts.KernelCounts.{branch_count}
 use Rattle.xc_meaning.specs.Settings.Sides.{sides_in}
 use Rattle.xc_meaning.specs.States.Channels.{Side}
-use Rattle.xc_meaning.specs.States.Items.{Item, chooses, does, ends, stores, storing, todo}
+use Rattle.xc_meaning.specs.States.Items.{Item, chooses, does, ends, stores, stamps, storing, todo}
 use Rattle.xc_meaning.specs.States.Branches.{Branch, runs, ended, erred}
 use Rattle.xc_meaning.specs.States.Worlds.{World, Action, go, take, default}
 use Rattle.xc_meaning.specs.Runs.{acts}
@@ -40,6 +40,7 @@ use Rattle.xl_expr.specs.Stores.{Stores}
 use Rattle.xl_sides.specs.Ends.{Sides, codes_in}
 use Rattle.xl_par.specs.Hands.{Hand, IsAmong, empty_hand}
 use Rattle.xl_image.specs.Images.{decl_of}
+use Rattle.xl_plan.specs.Layout.{port_number}
 use Rattle.xr_threads.specs.Items.{EndAt, ItemsAt}
 use Rattle.xr_threads.specs.Parents.{Parent, syncs_of}
 use Rattle.xl_walk.specs.Pieces.{Exit, LinesAt, PieceAt}
@@ -138,6 +139,13 @@ name_register more = R7
 pub record HoldsNames (core : ℕ) (syncs : List ℕ) (regs : Regs) : Type 0 where
   pub by : (place n : ℕ) → slice_get syncs place ≡ Some n → place < 7 → reg_get regs (name_register place) ≡ sync_name core n
 
+-- Two cores have the same of each port whose stamp one of the first items has still to store.
+abbrev pub SameStamps : Setting → (core : ℕ) → List Item → (a b : CoreState) → Type 0
+SameStamps g core (stores place v ∷ rest) a b = SameStamps g core rest a b
+SameStamps g core (stamps (resource.Port p) place v ∷ rest) a b =
+    (slice_get b.ports (port_number core g.program.ports p) ≡ slice_get a.ports (port_number core g.program.ports p)) × SameStamps g core rest a b
+SameStamps g core items a b = Unit {0}
+
 module _ (g : Setting) (r : Runner) where
   -- the runner's thread is at an index with these registers
   abbrev pub IsAt : ThreadView → ℕ → Regs → Type 0
@@ -183,11 +191,12 @@ module _ (g : Setting) (r : Runner) where
     in_r0 : regs.r0 ≡ v → begins ≡ pc → WordAt v pc begins regs core
 
   -- Where a thread stands between two own steps, at an index with these registers: at the code of its branch's items, with j jumps between them. A store
-  -- is what an earlier item left to be done: its word is at hand, and behind its code, with whatever registers, stands what comes next.
+  -- is what an earlier item left to be done: its word is at hand, and behind its code, with whatever registers, stands what comes next; the stamps that are stored then are
+  -- what they are now.
   abbrev pub StandsAt : List Item → (j pc : ℕ) → Regs → CoreState → Type 0
   StandsAt (stores place v ∷ rest) j pc regs core =
       (begins : ℕ) × (stored : ℕ) × WordAt v pc begins regs core × LinesAt (code g r) (Stores (plan g r).vars place R0) begins stored
-      × ((regs' : Regs) (core' : CoreState) → HasBases regs' → StandsAt rest j stored regs' core')
+      × ((regs' : Regs) (core' : CoreState) → HasBases regs' → SameStamps g r.core rest core core' → StandsAt rest j stored regs' core')
   StandsAt items j pc regs core = (exits : List Exit) × ItemsFrom items exits pc j
 
   -- the branch has these items, and the core has its words and ports
