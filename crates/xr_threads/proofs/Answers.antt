@@ -16,7 +16,7 @@ use Rattle.xl_expr.proofs.Lists.{get_set_same, get_set_other}
 use Rattle.xl_expr.proofs.ResourceParts.{others_same}
 use Rattle.xl_expr.specs.Frames.{Holds}
 use Rattle.xr_threads.specs.Runners.{Setting, Runner, IsPort, places, port_place}
-use Rattle.xr_threads.specs.ThreadViews.{Guarantee, ThreadView, running, running_so}
+use Rattle.xr_threads.specs.ThreadViews.{Guarantee, ThreadView, running_so}
 use Rattle.xr_threads.specs.Standing.{counts, is_of_root, one_where}
 use Rattle.xr_threads.specs.Turns.{Errs, Frees, Goes, HoldsStore, IsFree, IsWaitingTied, PortsStand, Waits, failed, finished, is_watching}
 use Rattle.xr_threads.proofs.Counts.{ended_counts}

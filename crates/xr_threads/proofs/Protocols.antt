@@ -1,5 +1,5 @@
 -- What the steps that are left of a transfer say of a thread's next slot, and what stands behind each of them.
-use Rattle.std.proofs.Common.{◌≡◌, ℕ, ◌+◌, ◌⊎◌, true, List, [], ◌∷◌, Option, Some}
+use Rattle.std.proofs.Common.{◌≡◌, ℕ, ◌+◌, true, List, [], ◌∷◌, Option, Some}
 use Rattle.std.specs.Prelude.{slice_get}
 use Rattle.xw_words.specs.declared.pos.Pos.{Pos}
 use Rattle.xs_instr.specs.declared.image.Home.{Home}

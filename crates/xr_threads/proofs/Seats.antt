@@ -6,7 +6,7 @@ use Rattle.xc_disjoint.specs.Needs.{threads_on}
 use Rattle.xl_par.specs.Hands.{Hand, IsAmong}
 use Rattle.xr_threads.specs.Parents.{Parent, syncs_of}
 use Rattle.xr_threads.specs.Roles.{AreRoles, IsOnce, IsParent, Role, Roles, got_by, outermost, own_branches, unused, used_by}
-use Rattle.xr_threads.specs.Runners.{Setting, Runner, places}
+use Rattle.xr_threads.specs.Runners.{Setting, Runner}
 use Rattle.xr_threads.specs.ThreadViews.{Owns, held_in, sync_in}
 use Rattle.xr_threads.proofs.Moves.{same_hand, same_runner}
 

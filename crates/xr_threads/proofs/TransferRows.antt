@@ -1,5 +1,5 @@
 -- The steps of a transfer without an action of the program's: an output's END, and CHKCT END and ACK of an input.
-use Rattle.std.proofs.Common.{◌≡◌, ℕ, suc, ◌+◌, ◌≤◌, ◌≢◌, ◌⊎◌, inr, List, [], ◌∷◌, Option, Some, None, refl, sym, ap, ◌∙◌, subst, arith}
+use Rattle.std.proofs.Common.{◌≡◌, ℕ, suc, ◌+◌, ◌≤◌, ◌≢◌, inr, List, [], ◌∷◌, Option, Some, None, refl, sym, ap, ◌∙◌, subst, arith}
 use Rattle.std.specs.Prelude.{Bool, false, ◌&&◌, nat_eq, slice_get}
 use Rattle.std.proofs.lemmas.Bool.{ne_eqb}
 use Rattle.std.proofs.lemmas.Option.{none-some, same_Some}
@@ -13,10 +13,8 @@ use Rattle.xs_instr.specs.Did.{Made}
 use Rattle.xs_instr.specs.Ends.{control_token}
 use Rattle.xs_instr.specs.Machine.{stepped}
 use Rattle.xs_instr.specs.Slot.{slot}
-use Rattle.xc_kernel.specs.Plain as kernel
 use Rattle.xc_meaning.specs.States.Branches.{Branch, runs}
 use Rattle.xc_meaning.specs.States.Channels.{Inboxes, Side}
-use Rattle.xc_meaning.specs.States.Items.{ends}
 use Rattle.xl_chan.specs.Protocols.{Acts, sends, takes}
 use Rattle.xl_image.specs.Images.{pair_of}
 use Rattle.xr_match.specs.Lives.{Watched}

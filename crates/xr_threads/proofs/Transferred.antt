@@ -1,5 +1,5 @@
 -- A runner is in another phase of a transfer, or in none: what it stands on is the same.
-use Rattle.std.proofs.Common.{◌≡◌, ℕ, List, [], ◌∷◌, Option, refl}
+use Rattle.std.proofs.Common.{◌≡◌, ℕ, List, Option, refl}
 use Rattle.xs_instr.specs.declared.state.Regs.{Regs}
 use Rattle.xc_kernel.specs.declared.kernel.PortUse.{PortUse}
 use Rattle.xc_meaning.specs.States.Channels.{Side}

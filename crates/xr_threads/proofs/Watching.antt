@@ -4,7 +4,6 @@ use Rattle.std.specs.Prelude.{Bool, false}
 use Rattle.xs_instr.specs.declared.image.Code.{Code}
 use Rattle.xs_instr.specs.declared.state.Regs.{Regs}
 use Rattle.xs_instr.specs.declared.state.Thread.{Thread}
-use Rattle.xc_kernel.specs.Plain as kernel
 use Rattle.xc_meaning.specs.States.Branches.{Mode, runs}
 use Rattle.xc_meaning.specs.States.Items.{Item, does, says, stores, stamps, mark, awaits, transaction_end, chooses, fixed, ends}
 use Rattle.xl_expr.specs.declared.plan.Plan.{Plan}
