@@ -25,7 +25,7 @@ use Rattle.xs_instr.specs.Slot.{is_waiteu, pos_at, pos_where, slot}
 use Rattle.xl_expr.specs.Works.{same_reg}
 use Rattle.xl_expr.proofs.Registers.{reg_other}
 use Rattle.xl_expr.proofs.Ways.{turn_row}
-use Rattle.xl_chan.specs.Protocols.{ACK, Act, Acts, ActsAll, Does, END, at_index, input_acts, input_instrs, output_acts, output_instrs, sends, takes, takes_word}
+use Rattle.xl_chan.specs.Protocols.{ACK, Act, Acts, ActsAll, Does, END, at_index, input_acts, input_instrs, output_acts, output_instrs, question_acts, question_instrs, sends, takes, takes_word}
 
 module _ (home : Home) (t e : ℕ) (thread : Thread) (pos : Pos) (runs : thread.mode ≡ Running) (quiet : thread.event_bit ≡ false) where
   -- an instruction at an index, where a register names the end
@@ -65,16 +65,29 @@ module _ (home : Home) (t e : ℕ) (thread : Thread) (pos : Pos) (runs : thread.
         ∙ ap (λ n. told (goes_with put_ends c t th) (on_end c (ins_control home c.clock control c.ends) n)) names
         ∙ ap (λ x. told (goes_with put_ends c t th) (usable (ins_control home c.clock control c.ends e) x)) there)
 
-  -- all of an output's, where r11 names the end
-  pub output_by : (from : Reg) (v : ℕ) (plain : Bool) (Q : ℕ → Regs → Type 0) (index : ℕ) (regs : Regs) → named home.number regs.r11 ≡ AnEnd e → reg_get regs from ≡ v → StandAt home.parts.code index (at_pos pos (output_instrs from plain)) → Q (index + length (at_pos pos (output_instrs from plain))) regs → ActsAll home t e thread pos (output_acts v plain) Q index regs
-  output_by from v true Q index regs names holds st q =
-      let last : index + 3 ≡ index + 1 + 1 + 1 = omega arith in (
-        acts_word index regs R11 names from v holds st.0 st.1,
-        (
-          acts_control (index + 1) regs R11 names END st.2.0 st.2.1,
-          (acts_check (index + 1 + 1) regs R11 names ACK st.2.2.0 st.2.2.1, subst (λ n. Q n regs) last q),
-        ),
+  -- all of a question's, where r11 names the end
+  pub question_by : (control : ℕ) (asks : Bool) (Q : ℕ → Regs → Type 0) (index : ℕ) (regs : Regs) → named home.number regs.r11 ≡ AnEnd e →
+      StandAt home.parts.code index (at_pos pos (question_instrs control asks)) →
+      Q (index + length (at_pos pos (question_instrs control asks))) regs → ActsAll home t e thread pos (question_acts control asks) Q index regs
+  question_by control true Q index regs names st q =
+      let last : index + 2 ≡ index + 1 + 1 = omega arith in (
+        acts_control index regs R11 names control st.0 st.1,
+        (acts_check (index + 1) regs R11 names ACK st.2.0 st.2.1, subst (λ n. Q n regs) last q),
       )
+  question_by control false Q index regs names st q =
+      let last : index + 2 ≡ index + 1 + 1 = omega arith in (
+        acts_check index regs R11 names control st.0 st.1,
+        (acts_control (index + 1) regs R11 names ACK st.2.0 st.2.1, subst (λ n. Q n regs) last q),
+      )
+
+  -- all of an output's
+  pub output_by : (from : Reg) (v : ℕ) (plain : Bool) (Q : ℕ → Regs → Type 0) (index : ℕ) (regs : Regs) →
+      named home.number regs.r11 ≡ AnEnd e → reg_get regs from ≡ v →
+      StandAt home.parts.code index (at_pos pos (output_instrs from plain)) →
+      Q (index + length (at_pos pos (output_instrs from plain))) regs → ActsAll home t e thread pos (output_acts v plain) Q index regs
+  output_by from v true Q index regs names holds st q =
+      let last : index + 3 ≡ index + 1 + 2 = omega arith in
+      (acts_word index regs R11 names from v holds st.0 st.1, question_by END true Q (index + 1) regs names st.2 (subst (λ n. Q n regs) last q))
   output_by from v false Q index regs names holds st q = (acts_word index regs R11 names from v holds st.0 st.1, q)
 
   -- and all of an input's, where another register than the word's does

@@ -40,14 +40,20 @@ pub data Act : Type 0 where
   -- this control token comes in
   takes : (control : ℕ) → Act
 
--- how a transfer of a word is agreed on; inside a transaction and on a streaming channel it isn't
+-- a question by a control token: who asks sends it and awaits the answer, and the other one takes it and answers
+abbrev pub question_acts : (control : ℕ) → (asks : Bool) → List Act
+question_acts control true = sends (control_token control ∷ []) ∷ takes ACK ∷ []
+question_acts control false = takes control ∷ sends (control_token ACK ∷ []) ∷ []
+
+-- how a transfer of a word is agreed on: its sender asks by the end of the message; inside a transaction and on a streaming channel it
+-- isn't
 
 abbrev pub output_ends : (plain : Bool) → List Act
-output_ends true = sends (control_token END ∷ []) ∷ takes ACK ∷ []
+output_ends true = question_acts END true
 output_ends false = []
 
 abbrev pub input_ends : (plain : Bool) → List Act
-input_ends true = takes END ∷ sends (control_token ACK ∷ []) ∷ []
+input_ends true = question_acts END false
 input_ends false = []
 
 -- the output of the word v
@@ -57,11 +63,6 @@ output_acts v plain = sends (word_tokens v) ∷ output_ends plain
 -- the input of a word to a register
 abbrev pub input_acts : (to : Reg) → (plain : Bool) → List Act
 input_acts to plain = takes_word to ∷ input_ends plain
-
--- a question by a control token: who asks sends it and awaits the answer, and the other one takes it and answers
-abbrev pub question_acts : (control : ℕ) → (asks : Bool) → List Act
-question_acts control true = sends (control_token control ∷ []) ∷ takes ACK ∷ []
-question_acts control false = takes control ∷ sends (control_token ACK ∷ []) ∷ []
 
 -- the start of a transaction and its end: its master asks, and its slave answers
 
@@ -112,8 +113,13 @@ module _ (home : Home) (t e : ℕ) (thread : Thread) (pos : Pos) where
 
 -- the code, by the registers of the end's name and of the word
 
+-- a question's, where r11 names the end
+abbrev pub question_instrs : (control : ℕ) → (asks : Bool) → List Instr
+question_instrs control true = Outct R11 control ∷ Chkct R11 ACK ∷ []
+question_instrs control false = Chkct R11 control ∷ Outct R11 ACK ∷ []
+
 abbrev pub output_end_instrs : (plain : Bool) → List Instr
-output_end_instrs true = Outct R11 END ∷ Chkct R11 ACK ∷ []
+output_end_instrs true = question_instrs END true
 output_end_instrs false = []
 
 abbrev pub output_instrs : (from : Reg) → (plain : Bool) → List Instr
@@ -125,11 +131,6 @@ input_end_instrs name false = []
 
 abbrev pub input_instrs : (name to : Reg) → (plain : Bool) → List Instr
 input_instrs name to plain = In to name ∷ input_end_instrs name plain
-
--- a question's, where r11 names the end
-abbrev pub question_instrs : (control : ℕ) → (asks : Bool) → List Instr
-question_instrs control true = Outct R11 control ∷ Chkct R11 ACK ∷ []
-question_instrs control false = Chkct R11 control ∷ Outct R11 ACK ∷ []
 
 -- Where the word's register is r11, which names the end, r10 serves for it: for an output's word, and for an input's name.
 

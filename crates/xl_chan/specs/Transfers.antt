@@ -52,30 +52,27 @@ pub record AtProtocol
   pub words : (w : ℕ) → relied w ≡ true → IsApart s w → slice_get b.words w ≡ slice_get old w
   pub steps : ActsAll home t e thread pos acts Q index regs
 
--- The lines send a register's word over a channel: wherever they stand from index pc on, in each state of the core in which the
--- plan's layout holds, and whatever other threads do in between that leaves what this one relies on, the thread stands after at
--- most three own steps at the first step of the protocol of an output of that word, whose last step leads behind the lines. Of its
--- end it relies on nothing but that it is there.
-pub record Sends
-    (plan : Plan) (end : ℕ) (value : Reg) (plain : Bool) (pos : Pos) (pc : ℕ) (lines : List Line) : Type 0 where
+-- The lines lead to a protocol on the channel of an end: wherever they stand from index pc on, in each state of the core in which the
+-- plan's layout holds, and whatever other threads do in between that leaves what this one relies on, the thread stands after at most
+-- so many own steps at the first step of the protocol, whose last step leads behind the lines. The steps are told by the registers
+-- that it began with. Of its end it relies on nothing but that it is there.
+pub record ReachesProtocol
+    (plan : Plan) (end : ℕ) (acts : Regs → List Act) (most : ℕ) (pos : Pos) (pc : ℕ) (lines : List Line) : Type 0 where
   pub by : (home : Home) (relied : ℕ → Bool) (s t e : ℕ) (thread : Thread) (a : CoreState) →
       StandAt home.parts.code pc lines → RunsAt t pc thread a → HasRoom relied s thread.regs a.words →
       EndStands home relied s thread.regs.dp plan end e a.words →
       Within home relied (IsApart s) t
-      (AtProtocol home relied s t e thread a.words pos
-      (output_acts (reg_get thread.regs value) plain) (EndsAt (pc + length lines)))
-      3 a
+      (AtProtocol home relied s t e thread a.words pos (acts thread.regs) (EndsAt (pc + length lines)))
+      most a
 
--- The lines take a word from a channel to a register, in the same sense, by the protocol of an input.
-pub record Takes
-    (plan : Plan) (end : ℕ) (to : Reg) (plain : Bool) (pos : Pos) (pc : ℕ) (lines : List Line) : Type 0 where
-  pub by : (home : Home) (relied : ℕ → Bool) (s t e : ℕ) (thread : Thread) (a : CoreState) →
-      StandAt home.parts.code pc lines → RunsAt t pc thread a → HasRoom relied s thread.regs a.words →
-      EndStands home relied s thread.regs.dp plan end e a.words →
-      Within home relied (IsApart s) t
-      (AtProtocol home relied s t e thread a.words pos
-      (input_acts to plain) (EndsAt (pc + length lines)))
-      3 a
+-- the lines send a register's word over a channel
+abbrev pub Sends : Plan → (end : ℕ) → (value : Reg) → (plain : Bool) → Pos → (pc : ℕ) → List Line → Type 0
+Sends plan end value plain pos pc lines =
+    ReachesProtocol plan end (λ regs. output_acts (reg_get regs value) plain) 3 pos pc lines
+
+-- and take a word from it to a register
+abbrev pub Takes : Plan → (end : ℕ) → (to : Reg) → (plain : Bool) → Pos → (pc : ℕ) → List Line → Type 0
+Takes plan end to plain pos pc lines = ReachesProtocol plan end (λ regs. input_acts to plain) 3 pos pc lines
 
 -- an output of a value: the value's error comes first
 
