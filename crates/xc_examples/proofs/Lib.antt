@@ -12,3 +12,4 @@ pub mod Transfers
 pub mod Laws
 pub mod Sizes
 pub mod TextFollows
+pub mod Implements
