@@ -120,8 +120,15 @@ module _ (words : List (List ℕ)) (shelf : Loads) (out err : Span) (files : Lis
       inr (all_done (Run file ticks stim) text (status_of_run trapped word) compiled.program m h compiled.means_so
       (λ t of. subst (λ x. DoneWith (Run file ticks stim) text x out (status_of_run trapped word)) (one_stim shelf.files (Some files) stim s t named of)
       (record {
-        L = L; lines = lines; word = word; trapped = trapped; compiled = compiled; lockstep = lockstep; of_program = of_program;
-        status_is = refl; output = g;
+        L = L;
+        lines = lines;
+        word = word;
+        trapped = trapped;
+        compiled = compiled;
+        lockstep = lockstep;
+        of_program = of_program;
+        status_is = refl;
+        output = g;
       })))
   by_decided o no_memory g = inl (refl, g)
 

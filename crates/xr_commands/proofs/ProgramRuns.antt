@@ -38,7 +38,7 @@ run_beside text L s compiled good rounds lines word trapped run =
     let leads = lockstep_leads L s rounds in
     let P = compiled.program in
     let whole : WholeMatchingRun L P s leads.events (lockstep L s rounds) =
-        runs_match_wholly L P s compiled.wholly good leads.events (lockstep L s rounds) leads.to in
+    runs_match_wholly L P s compiled.wholly good leads.events (lockstep L s rounds) leads.to in
     let agree : Agree L (of_text P) (lockstep L s rounds) whole.run.state = whole.run.last.agree in
     let quiet : QuietAgree L (of_text P) s (lockstep L s rounds) whole.run.state = whole.run.last.quiet in
     record {

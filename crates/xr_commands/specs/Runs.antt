@@ -28,6 +28,7 @@ pub record IsCompiled (text : List ℕ) (L : Image) : Type 0 where
   pub means_so : IsAccepted text program
   pub valid : Valid L
   pub words : HasWords L
+  -- what a machine with it does is what the program may do, which also follows from `wholly`
   pub implements : Implements L (of_text program)
   -- it waits only where the program does, and doesn't go on and on without it
   pub wholly : ImplementsWholly L (of_text program)
