@@ -6,7 +6,7 @@ use Rattle.xc_meaning.specs.Runs.{kernel_start, kernel_run}
 use Rattle.xc_meaning.specs.Counts.Families.{steps_of, child_family}
 use Rattle.xc_meaning.specs.Counts.KernelCounts.{greatest_count, kernel_bound}
 use Rattle.xc_meaning.specs.Counts.TextCounts.{twice_greatest, program_bound}
-use Rattle.xc_examples.proofs.Programs.{timed_output, hand_over, out_of_range, timer_case, guard_off, divided, three_pars, four_parameters, three_words, held_array, long_test, inner_elements}
+use Rattle.xc_examples.proofs.Programs.{timed_output, hand_over, conditional_input, agreed, out_of_range, timer_case, guard_off, divided, three_pars, four_parameters, three_words, held_array, long_test, inner_elements}
 use Rattle.xc_examples.proofs.Running.{no_stimulus, steps, wait}
 
 -- the output counts 2, a time and a value, as does the assignment of the result
@@ -32,6 +32,16 @@ divided_count = refl
 select_count : greatest_count (copy_of timer_case) ≡ 7
 unfolding copy_of
 select_count = refl
+
+-- a condition, a destination and a stamp
+input_count : greatest_count (copy_of conditional_input) ≡ 3
+unfolding copy_of
+input_count = refl
+
+-- a transaction counts nothing, and what it holds counts by itself: two branches are the most
+transaction_count : greatest_count (copy_of agreed) ≡ 2
+unfolding copy_of
+transaction_count = refl
 
 -- three branches
 branch_count : greatest_count (copy_of three_pars) ≡ 3
