@@ -13,7 +13,7 @@ CODE = re.compile(r"^```.*?^```$", re.MULTILINE | re.DOTALL)
 
 def pages():
     """The pages with links, by their paths below the top."""
-    yield from ("README.md", "CONTRIBUTING.md", os.path.join("examples", "README.md"))
+    yield from ("README.md", "CONTRIBUTING.md", os.path.join("examples", "README.md"), os.path.join("bench", "README.md"))
     for folder in ("docs", os.path.join("bench", "results")):
         for at, _, names in sorted(os.walk(os.path.join(TOP, folder))):
             yield from (os.path.relpath(os.path.join(at, name), TOP) for name in sorted(names) if name.endswith(".md"))

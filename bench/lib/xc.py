@@ -1,0 +1,74 @@
+"""XC programs for the built xcsim."""
+
+from __future__ import annotations
+
+LONGEST = 262_144  # the bytes that a text may have
+
+# Functions that are XC and C alike: a head, a body, and the arguments of a call.
+LOOPS = {
+    "gcd": ("unsigned f(unsigned a, unsigned b)", "while (b != 0) { unsigned r = a % b; a = b; b = r; } return a;", "2971215073, 1836311903"),
+    "bits": ("unsigned f(unsigned w)", "unsigned n = 0; while (w != 0) { w &= w - 1; n++; } return n;", "0x89abcdef"),
+    "crc": (
+        "unsigned f(unsigned crc)",
+        "for (int i = 0; i < 8; i++) { if (crc & 0x8000) crc = crc << 1 ^ 0x1021; else crc = crc << 1; } return crc & 0xffff;",
+        "0xce00",
+    ),
+    "divide": (
+        "unsigned f(unsigned n, unsigned d)",
+        "unsigned q = 0; unsigned r = 0; for (int i = 31; i >= 0; i--) { r = r << 1 | (n >> i & 1); q <<= 1;"
+        " if (r >= d) { r -= d; q |= 1; } } return q;",
+        "1000000, 7",
+    ),
+    "search": ("int f(int a[64], int v)", "int i = 0; while (i < 64 && a[i] != v) i++; return i;", "a, 1"),
+    "sieve": ("int f(int a[64], int s)", "int n = 0; for (int i = s; i < 64; i += s) { a[i] = 1; n++; } return n;", "a, 3"),
+}
+
+# Programs of eight threads: busy ones, a token that goes round a ring, and four pairs that talk.
+EIGHT = {
+    "busy": "int main(void) { par (int i = 0; i < 8; i++) { unsigned x = i; while (1) x = x * 5 + 1; } return 0; }\n",
+    "ring": "void pass(chanend from, chanend to) { int t; while (1) { from :> t; to <: t + 1; } }\n"
+    "void begin(chanend from, chanend to) { int t = 0; while (1) { to <: t; from :> t; } }\n"
+    "int main(void) { chan a, b, c, d, e, f, g, h; par { begin(h, a); pass(a, b); pass(b, c); pass(c, d);"
+    " pass(d, e); pass(e, f); pass(f, g); pass(g, h); } return 0; }\n",
+    "pairs": "void give(chanend c) { unsigned x = 0; while (1) { c <: x; x++; } }\n"
+    "void take(chanend c) { unsigned x, s = 0; while (1) { c :> x; s += x; } }\n"
+    "int main(void) { chan a, b, c, d; par { give(a); take(a); give(b); take(b); give(c); take(c); give(d); take(d); } return 0; }\n",
+}
+
+# Right sides of assignments.
+EXPRESSIONS = (
+    "x", "x + y", "x - 1", "-x", "!x", "x * y + 1", "x - (y - x)", "(x + y) * (x - y)", "x / y", "x >> 3", "x < y", "x <= y", "u >= v", "x && y",
+    "x ? y : 5", "a[3]", "a[x]", "a[x + 1] + a[y]", "(x & 255) << 8 | (y ^ x) & 255", "x < y && y < 10 || !x",
+)  # fmt: skip
+DECLARED = "int x = 1; int y = 2; unsigned u = 3; unsigned v = 4; int a[8]; int z;"
+
+
+def assignments() -> str:
+    """A program with all assignments `z = EXPRESSION;`, behind the four of its declarations."""
+    lines = ["int main(void) {", DECLARED, *(f"z = {it};" for it in EXPRESSIONS), "return 0;", "}"]
+    return "\n".join(lines) + "\n"
+
+
+def endless(head: str, body: str, call: str) -> str:
+    """A program that calls the function for ever."""
+    return f"{head} {{ {body} }}\nint main(void) {{ int a[64]; int x; a[0] = 0; while (1) x = f({call}); return x; }}\n"
+
+
+def long_program(size: int) -> str:
+    """A program of so many bytes, with as many assignments as fit."""
+    head = "out port p = XS1_PORT_32A;\nint main(void) {\nunsigned x = 1, y = 2, a[8];\n"
+    lines = ["x = x * 5 + y;\n", "y ^= x >> 3;\n", "a[x & 7] = y;\n", "if (x < y) x = y - a[2];\n", "p <: x;\n"]
+    tail = "return 0; }\n"
+    made, left, at = [head], size - len(head) - len(tail), 0
+    while left >= len(lines[at % len(lines)]):
+        made.append(lines[at % len(lines)])
+        left -= len(made[-1])
+        at += 1
+    return "".join(made) + " " * left + tail
+
+
+def outputs(size: int = LONGEST) -> str:
+    """A program of so many bytes, full of outputs."""
+    head, tail, line = "out port p = XS1_PORT_32A;\nint main(void) {\n", "return 0; }\n", "p<:4294967295;\n"
+    room = size - len(head) - len(tail)
+    return head + (line * (room // len(line))).ljust(room) + tail
