@@ -1,4 +1,4 @@
-"""What cores are busy with: the code of their threads, as listings and as constants of a Rattle program."""
+"""What cores are busy with: listings of four cores with eight threads each."""
 
 from __future__ import annotations
 
@@ -56,28 +56,6 @@ def listings() -> dict[str, str]:
     rings = [core_text(c, 16, [6 * t for t in THREADS], ring(c)) for c in CORES]
     rings += [channel_text(it) for c in CORES for it in ring_channels(c)]
     return {name: "code\n" + "".join(parts) for name, parts in {**alike, "ring": rings}.items()}
-
-
-def instr(text: str) -> str:
-    """An instruction of a listing as Rattle has it."""
-    name, _, operands = text.partition(" ")
-    words = (f"Reg::R{w[1:]}" if w.startswith("r") else w for w in operands.split(", "))
-    return f"Instr::{name.capitalize()}({', '.join(words)})"
-
-
-def constants() -> str:
-    """The same works as constants of the program: its module `codes`."""
-    lines = ["// The codes of the works, and the channels of a ring.\n\nuse xs_instr::{Instr, Pair, Reg};\n"]
-
-    def put(name: str, kind: str, items: list[str]) -> None:
-        lines.append(f"\npub const {name}: [{kind}; {len(items)}] = [\n" + "".join(f"    {it},\n" for it in items) + "];\n")
-
-    for name, code in (("ARITHMETIC", ARITHMETIC), ("MEMORY", MEMORY), *((f"RING_{c}", ring(c)) for c in CORES)):
-        put(name, "Instr", [instr(it) for it in code])
-    for c in CORES:
-        pairs = ring_channels(c)
-        put(f"CHANS_{c}", "Pair", [f"Pair {{ core: {a}, end: {e}, peer_core: {b}, peer_end: {f} }}" for a, e, b, f in pairs])
-    return "".join(lines)
 
 
 def busy_listing() -> str:

@@ -221,10 +221,6 @@ class Codes(unittest.TestCase):
         self.assertEqual(codes.ring(1)[-6:], ["LDC r6, 16780802", "LDC r7, 16781058", "OUT r6, r0", "IN r1, r7", "ADDI r0, r1, 1", "BRBU 44"])
         self.assertEqual(codes.listings()["ring"].count(".chan "), 32)
 
-    def test_constants(self):
-        self.assertEqual(codes.instr("LDW r4, r5, r3"), "Instr::Ldw(Reg::R4, Reg::R5, Reg::R3)")
-        self.assertIn("pub const RING_3: [Instr; 48] = [", codes.constants())
-
     def test_deepest(self):
         """The listing of `int f0(int a) { if (a) { a = a + 1; } return a; }` and of `main` that calls it, worked out by hand."""
         made = deep.Deep(1, 1)
