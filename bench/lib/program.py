@@ -6,6 +6,7 @@ import argparse
 import os
 import re
 import subprocess
+import sys
 from typing import Optional
 
 from .scratch import TOP
@@ -18,7 +19,9 @@ def xcsim(top: str = TOP) -> str:
 
 def build(top: str = TOP) -> None:
     """Proves and builds xcsim where it isn't built, by a first call."""
-    subprocess.run([os.path.join(top, "xcsim"), "check", os.path.join(top, "examples", "pulse.xc")], check=True, stdout=subprocess.DEVNULL)
+    words = [os.path.join(top, "xcsim"), "check", os.path.join(top, "examples", "pulse.xc")]
+    if subprocess.run(words, stdout=subprocess.DEVNULL, check=False).returncode:
+        sys.exit("xcsim isn't built")
 
 
 def call(*words: str) -> Run:
@@ -41,7 +44,7 @@ def compiled(source: Optional[str], room: str) -> Optional[str]:
     if not source:
         return None
     made = os.path.join(room, "interpreter")
-    subprocess.run(["gcc", "-O2", "-std=c11", "-o", made, source], check=True)
+    run(["gcc", "-O2", "-std=c11", "-o", made, source])
     return made
 
 

@@ -28,7 +28,10 @@ def run(words: Sequence[str], statuses: tuple[int, ...] = (0,), keeps: bool = Tr
     """Runs a program, which must end with one of these statuses, or with any where there are none. What it writes is kept, or goes nowhere."""
     output = subprocess.PIPE if keeps else subprocess.DEVNULL
     began = time.perf_counter()
-    done = subprocess.run(words, stdin=subprocess.DEVNULL, stdout=output, stderr=output, check=False, **how)
+    try:
+        done = subprocess.run(words, stdin=subprocess.DEVNULL, stdout=output, stderr=output, check=False, **how)
+    except FileNotFoundError as error:
+        sys.exit(f"{error.filename} isn't there")
     seconds = time.perf_counter() - began
     written, errors = ((it or b"").decode(errors="replace") for it in (done.stdout, done.stderr))
     if statuses and done.returncode not in statuses:

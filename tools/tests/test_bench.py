@@ -135,6 +135,8 @@ class Timing(unittest.TestCase):
         self.assertEqual(timing.run(["echo", "a"], keeps=False).output, "")
         with self.assertRaises(SystemExit):
             timing.run(["false"])
+        with self.assertRaisesRegex(SystemExit, "no-such-program isn't there"):
+            timing.run(["no-such-program"], ())
         self.assertEqual(timing.run_with_memory(["sh", "-c", "echo a; exit 3"], ()).status, 3)
 
 
