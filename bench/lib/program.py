@@ -1,4 +1,4 @@
-"""The built xcsim, and the interpreter of listings that it is compared with where one is named."""
+"""The built xcsim: loops, programs of eight threads and long texts, beside clang and an interpreter of listings."""
 
 from __future__ import annotations
 
@@ -9,8 +9,12 @@ import subprocess
 import sys
 from typing import Optional
 
-from .scratch import TOP
+from .clang import size_by_clang, size_of_listing
+from .scratch import TOP, write
 from .timing import Run, least, run
+from .xc import EIGHT, LOOPS, endless, long_program
+
+TICKS = 200_000
 
 
 def xcsim(top: str = TOP) -> str:
@@ -58,3 +62,45 @@ def interpreted(interpreter: str, listing: str, ticks: int) -> Optional[tuple[in
     """The steps and the seconds of a listing by the interpreter, whose status tells how the run ended."""
     ran = run([interpreter, listing, "--ticks", str(ticks), "--stats"], ())
     return stats_of(ran.output + ran.errors)
+
+
+def loop_row(name: str, room: str, interpreter: Optional[str]) -> dict:
+    """A loop's instructions, here and by clang, and its speed."""
+    head, body, arguments = LOOPS[name]
+    path, bare, listing = (os.path.join(room, file) for file in ("loop.xc", "bare.xc", "loop.lst"))
+    write(endless(head, body, arguments), path)
+    write(endless(head, "return 0;", arguments), bare)
+    write(call("asm", path).output, listing)
+    here, without = (size_of_listing(call("asm", it).output) for it in (path, bare))
+    row: dict = {"loop": name, "here": here.all - without.all, "its loop": here.loop}
+    for level in ("-O0", "-O2"):
+        size = size_by_clang(f"{head} {{ {body} }}\n", level)
+        row |= {f"clang {level}": size and size.all, f"loop {level}": size and size.loop}
+    seconds = best("run", path, "--ticks", str(TICKS)) - best("run", path, "--ticks", "1")
+    row |= {"seconds": round(seconds, 3), "million a second": round(TICKS / seconds / 1e6, 1) if seconds > 0 else None}
+    told = interpreted(interpreter, listing, TICKS * 1000) if interpreter else None
+    return row | {"interpreter's": round(told[0] / told[1] / 1e6, 1) if told and told[1] else None}
+
+
+def eight_row(name: str, room: str, interpreter: Optional[str]) -> dict:
+    """The least time of each of those that run a program of eight threads in turns."""
+    path, listing = os.path.join(room, "eight.xc"), os.path.join(room, "eight.lst")
+    write(EIGHT[name], path)
+    write(call("asm", path).output, listing)
+    calls = {"here": [xcsim(), "run", path], **({"interpreter": [interpreter, listing]} if interpreter else {})}
+    took: dict[tuple[str, int], list[float]] = {}
+    for _ in range(25):
+        for who, words in calls.items():
+            for ticks in (1, TICKS):
+                took.setdefault((who, ticks), []).append(run([*words, "--ticks", str(ticks)], (), keeps=False).seconds)
+    least = {who: min(took[who, TICKS]) - min(took[who, 1]) for who in calls}
+    ratio = round(least["here"] / least["interpreter"], 2) if least.get("interpreter", 0) > 0 else None
+    return {"eight threads": name, **{f"{who}, ms": round(1000 * it, 1) for who, it in least.items()}, "ratio": ratio}
+
+
+def long_row(size: int, room: str) -> dict:
+    """How long a text of so many bytes takes."""
+    path = os.path.join(room, "long.xc")
+    write(long_program(size), path)
+    count = size_of_listing(call("asm", path).output).all
+    return {"bytes": size, "check, s": round(best("check", path), 3), "asm, s": round(best("asm", path), 3), "instructions": count}

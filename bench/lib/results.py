@@ -85,14 +85,14 @@ class Sitting:
 def sitting(name: str, is_stored: bool = True, top: str = TOP) -> Iterator[Sitting]:
     """A sitting of a bench. What is measured is stored where it comes to its end."""
     started, load = ticks_of(read("/proc/stat")), round(os.getloadavg()[0], 2)
-    made = Sitting(name)
+    made, date, commit = Sitting(name), datetime.now(timezone.utc), commit_of(top)
     yield made
     stolen = ticks_of(read("/proc/stat")).stolen_since(started)
     machine = Machine(model_of(read("/proc/cpuinfo")), len(os.sched_getaffinity(0)), load, stolen)
     print(f"\n{machine.processors} processors ({machine.model}), load {load} at the start, {100 * stolen:.1f} percent stolen")
     if is_stored:
         with open(os.path.join(top, "bench", "results", f"{name}.jsonl"), "a", encoding="utf-8") as file:
-            file.write(made.line(machine, datetime.now(timezone.utc), commit_of(top), said("rt", "version")) + "\n")
+            file.write(made.line(machine, date, commit, said("rt", "version")) + "\n")
 
 
 def parser(name: str, about: str | None) -> argparse.ArgumentParser:
