@@ -1,1 +1,1 @@
-"""The tests of trace-vcd, trace-svg and the examples. What is expected was worked out by hand."""
+"""The tests of the programs of tools/, the launcher and the examples. What is expected was worked out by hand."""
