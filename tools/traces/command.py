@@ -16,6 +16,7 @@ from .stimulus import read_pins
 from .times import timed
 
 REFUSED = 1
+LAST = 1 << 64  # a tick behind all that a run has
 
 
 def parser(name: str, about: str, example: str) -> argparse.ArgumentParser:
@@ -29,6 +30,13 @@ def parser(name: str, about: str, example: str) -> argparse.ArgumentParser:
         "--lockstep", action="store_true", help="all cores go by one clock, as in a run: a record isn't before the one above it"
     )
     return made
+
+
+def tick(word: str) -> int:
+    """A tick of the command line."""
+    if not (word.isascii() and word.isdigit()):
+        raise ValueError
+    return int(word)
 
 
 @contextlib.contextmanager

@@ -1,0 +1,92 @@
+"""The table of a command line: which bits of a source drive which bits of a port."""
+
+from __future__ import annotations
+
+import re
+from typing import Iterable, NamedTuple, Optional
+
+from traces.lines import Refused
+from traces.listing import CORES, WIDTHS
+
+BITS = r"(?:\[(-?[0-9]{1,9})(?::(-?[0-9]{1,9}))?\])?"
+ENTRY = re.compile(rf"(.+?){BITS}=([0-9]{{1,9}}):([0-9]+[A-Z]){BITS}")
+FORM = "SOURCE=CORE:PORT, both with [BIT] or [HIGH:LOW] behind it where not all bits are meant"
+
+
+class Span(NamedTuple):
+    """Some bits of a name: from one index to another, as they are written; None means all."""
+
+    name: str
+    bits: Optional[tuple[int, int]]
+
+    def __str__(self) -> str:
+        if self.bits is None:
+            return self.name
+        first, last = self.bits
+        return f"{self.name}[{first}]" if first == last else f"{self.name}[{first}:{last}]"
+
+
+class Entry(NamedTuple):
+    """An entry of the table: the bits of a source, the core and the port, and the lowest of its bits, with their number."""
+
+    source: Span
+    core: int
+    port: str
+    low: int
+    width: int
+
+    @property
+    def target(self) -> str:
+        whole = f"{self.core}:{self.port}"
+        return whole if self.width == WIDTHS[self.port] else str(Span(whole, (self.low + self.width - 1, self.low)))
+
+
+class Wire(NamedTuple):
+    """So many bits of a source, from `low` on, that drive those of a port from `to` on."""
+
+    low: int
+    width: int
+    core: int
+    port: str
+    to: int
+
+
+def read_entry(word: str) -> Entry:
+    """An entry as it stands on a command line."""
+    match = ENTRY.fullmatch(word)
+    if match is None:
+        raise Refused(f"{word}: expected {FORM}")
+    name, first, last, core, port, high, low = match.groups()
+    if int(core) >= CORES or port not in WIDTHS:
+        raise Refused(f"{word}: there is no core {core} or no port {port}")
+    high = int(high) if high is not None else WIDTHS[port] - 1
+    low = int(low) if low is not None else high if match[6] is not None else 0
+    if not 0 <= low <= high < WIDTHS[port]:
+        raise Refused(f"{word}: the port {port} has the bits {WIDTHS[port] - 1} to 0, from the highest to the lowest")
+    bits = None if first is None else (int(first), int(first if last is None else last))
+    return Entry(Span(name, bits), int(core), port, low, high - low + 1)
+
+
+def read_table(words: Iterable[str]) -> list[Entry]:
+    """The entries of a command line. Each bit of a port is driven once."""
+    found = [read_entry(word) for word in words]
+    driven: dict[tuple[int, str], int] = {}
+    for entry in found:
+        mask = (1 << entry.width) - 1 << entry.low
+        if driven.get((entry.core, entry.port), 0) & mask:
+            raise Refused(f"{entry.target} is driven twice")
+        driven[entry.core, entry.port] = driven.get((entry.core, entry.port), 0) | mask
+    return found
+
+
+def wire(entry: Entry, low: int, width: int) -> Wire:
+    """The wire of an entry, from bits of its source. Both have as many."""
+    if width != entry.width:
+        some = Span(entry.source.name, (entry.width - 1, 0))
+        advice = f", so choose some, as in '{some}={entry.target}'" if width > entry.width else ""
+        raise Refused(f"{entry.source} has {counted(width)} and {entry.target} has {entry.width}{advice}")
+    return Wire(low, width, entry.core, entry.port, entry.low)
+
+
+def counted(width: int) -> str:
+    return "1 bit" if width == 1 else f"{width} bits"
