@@ -41,13 +41,17 @@ class Source:
         """A line as it is shown, and the line below it: a caret at the column, and a wave below the rest of what stands there."""
         if line > len(self.lines):
             return None
-        whole, front = letters(self.lines[line - 1].rstrip("\r")), letters(self.lines[line - 1][: column - 1])
+        whole, front = self.shown(line), letters(self.lines[line - 1][: column - 1])
         start = len(front) - IN_FRONT if len(whole) > MOST_SHOWN and len(front) > IN_FRONT else 0
         shown, left = whole[start : start + MOST_SHOWN], ".." if start else ""
         blanks = "".join("\t" if it == "\t" else " " * width(it) for it in left + front[start:])
         right = ".." if start + MOST_SHOWN < len(whole) else ""
         wave = min(len(self.at(line, column)), len(shown) - len(front[start:]))
         return left + shown + right, blanks + "^" + "~" * (wave - 1)
+
+    def shown(self, line: int) -> str:
+        """A line that the text has, as it is shown."""
+        return letters(self.lines[line - 1].rstrip("\r"))
 
     def _rest(self, line: int, column: int) -> str:
         return self.lines[line - 1][column - 1 :] if 1 <= line <= len(self.lines) else ""

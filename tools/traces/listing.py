@@ -29,22 +29,36 @@ class Port(NamedTuple):
         return self.direction in (direction, "both")
 
 
+class Instruction(NamedTuple):
+    """An instruction: its name with its operands, and the place of the text that it comes from."""
+
+    text: str
+    line: int
+    column: int
+
+
 @dataclass
 class Core:
-    """A core of the listing: how many channel ends it has, its ports by their identifiers, and what its code says of its ends."""
+    """A core of the listing: how much it has of words, timers and channel ends, its ports by their identifiers, the indices at which
+    its first threads start, its code, and what that says of its ends."""
 
     number: int
+    words: int = 0
+    timers: int = 0
     ends: int = 0
     ports: dict[str, Port] = field(default_factory=dict)
+    roots: list[int] = field(default_factory=list)
+    code: list[Instruction] = field(default_factory=list)
     taken: Taken = field(default_factory=Taken)
 
 
 @dataclass
 class Listing:
-    """The cores by their numbers, and for each channel end of a core the core of the other end."""
+    """The cores by their numbers, for each channel end of a core the core of the other end, and whether a trace follows."""
 
     cores: dict[int, Core] = field(default_factory=dict)
     peers: dict[tuple[int, int], int] = field(default_factory=dict)
+    has_trace: bool = True
 
     def senders(self, core: int) -> set[int]:
         """The cores from which a word that is taken on a core may come: where its code doesn't tell, by each of its ends."""
@@ -52,8 +66,8 @@ class Listing:
         return {peer for (number, end), peer in self.peers.items() if number == core and (not taken or end in taken)}
 
 
-def read_listing(lines: Lines) -> Listing:
-    """Reads the lines from `code` up to `trace`."""
+def read_listing(lines: Lines, has_trace: bool = True) -> Listing:
+    """Reads the lines from `code` up to `trace`, or up to the end, where there needn't be a trace."""
     lines.take_exactly("code")
     listing = Listing()
     while lines.begins(".core"):
@@ -61,7 +75,8 @@ def read_listing(lines: Lines) -> Listing:
         listing.cores[core.number] = core
     while lines.begins(".chan"):
         read_channel(lines, listing)
-    if not listing.cores or lines.text != "trace":
+    listing.has_trace = has_trace or lines.text is not None
+    if not listing.cores or listing.has_trace and lines.text != "trace":
         raise lines.refusal(what_follows(listing))
     lines.advance()
     return listing
@@ -81,18 +96,19 @@ def read_core(lines: Lines, listing: Listing) -> Core:
     if lines.text in {f".core {number}" for number in range(max(listing.cores, default=-1) + 1)}:
         raise lines.refusal("a core above the one before")
     core = Core(lines.take_number(".core", CORES))
-    lines.take_number(".words")
-    lines.take_number(".timers")
+    core.words = lines.take_number(".words")
+    core.timers = lines.take_number(".timers")
     core.ends = lines.take_number(".ends")
     while lines.begins(".port"):
         port = read_port(lines, core)
         core.ports[port.name] = port
     while lines.begins(".root"):
-        core.taken.add_root(lines.take_number(".root"))
-    index = 0
+        core.roots.append(lines.take_number(".root"))
+        core.taken.add_root(core.roots[-1])
     while lines.text and lines.text[0].isdigit():
-        core.taken.add(index, read_instruction(lines, index))
-        index += 1
+        index = len(core.code)
+        core.code.append(read_instruction(lines, index))
+        core.taken.add(index, core.code[-1].text)
     return core
 
 
@@ -107,12 +123,13 @@ def read_port(lines: Lines, core: Core) -> Port:
     return Port(match[1], match[2])
 
 
-def read_instruction(lines: Lines, index: int) -> str:
-    """Reads the line of the instruction with an index, and gives its name and operands."""
+def read_instruction(lines: Lines, index: int) -> Instruction:
+    """Reads the line of the instruction with an index."""
     expected = f'the instruction {index}, as in "{index}: LDC r1, 0 @2:18"'
     if not lines.text.startswith(f"{index}: "):
         raise lines.refusal(expected)
-    return lines.take(INSTRUCTION, expected)[2]
+    match = lines.take(INSTRUCTION, expected)
+    return Instruction(match[2], int(match[5]), int(match[6]))
 
 
 def read_channel(lines: Lines, listing: Listing) -> None:

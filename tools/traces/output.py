@@ -40,9 +40,10 @@ class Record(NamedTuple):
 
 
 class Output:
-    """An output: `listing`, then what `records` gives, and behind the last record `end`, the end word."""
+    """An output: `listing`, then what `records` gives, and behind the last record `end`, the end word. A listing alone, as `asm`
+    writes it, has no records and no end word."""
 
-    def __init__(self, file: BinaryIO, name: str):
+    def __init__(self, file: BinaryIO, name: str, has_trace: bool = True):
         self._lines = Lines(file, name)
         self._readers: dict[str, Callable[[str], Record]] = {
             "out": self._transfer,
@@ -52,7 +53,7 @@ class Output:
             "show": self._shown,
         }
         self._fronts: dict[str, tuple[str, int, str]] = {}  # of the transfers so far
-        self.listing = read_listing(self._lines)
+        self.listing = read_listing(self._lines, has_trace)
         self.end = ""
 
     def records(self) -> Iterator[Record]:
@@ -64,7 +65,8 @@ class Output:
                 break
             yield reader(text)
             lines.advance()
-        self._read_end()
+        if self.listing.has_trace:
+            self._read_end()
 
     def _read_end(self) -> None:
         lines = self._lines

@@ -1,0 +1,135 @@
+"""Listings with the lines of their texts between."""
+
+import os
+import tempfile
+import unittest
+
+from .samples import data, example, output_of_example, written
+from .test_commands import called
+
+SOURCE = """\
+in port b = XS1_PORT_1B;
+void m(chanend c) {
+  while (1) {
+    c <: 7; c <: 8;
+  }
+}
+void s(chanend c)
+{
+\tc :> int x;
+}
+"""
+
+LISTING = """\
+code
+.core 0
+.words 1
+.timers 0
+.ends 1
+.port 8A both
+.root 0
+.root 2
+0: LDC r0, 2 @4:5
+1: OUT r0, r1 @4:13
+2: BRFT r0, 4 @4:13
+3: BRBU 0 @3:3
+4: FREET @99:1
+.core 2
+.words 516
+.timers 2
+.ends 1
+.root 0
+0: IN r1, r0 @9:2
+.chan 0 0 2 0
+"""
+
+TRACE = """\
+trace
+out 0 8A @8 5
+out 0 8A @12 6
+in 0 8A @16 1
+com 2 7
+err 2 9:2 mismatch
+end stuck
+"""
+
+ANNOTATED = """\
+core 0: 1 word, 0 timers, 1 channel end
+  port 8A both
+
+    4 |     c <: 7; c <: 8;
+      |     ^
+          0  LDC r0, 2                       root, from 3
+      |             ^
+          1  OUT r0, r1
+          2  BRFT r0, 4                      root
+    3 |   while (1) {
+      |   ^~~~~
+          3  BRBU 0
+   99 | there is no such line in the text
+          4  FREET                           from 2
+
+core 2: 516 words, 2 timers, 1 channel end
+
+    9 | \tc :> int x;
+      | \t^
+          0  IN r1, r0                       root
+
+"""
+
+
+class Annotated(unittest.TestCase):
+    def setUp(self):
+        holder = tempfile.TemporaryDirectory()
+        self.addCleanup(holder.cleanup)
+        self.source = os.path.join(holder.name, "a.xc")
+        with open(self.source, "w", encoding="utf-8") as file:
+            file.write(SOURCE)
+
+    def written(self, text, *words):
+        answer = called("annotate", "--source", self.source, *words, text=text)
+        self.assertEqual((answer.returncode, answer.stderr), (0, ""))
+        return answer.stdout
+
+    def test_listing(self):
+        self.assertEqual(self.written(LISTING), ANNOTATED)
+
+    def test_what_a_run_tells(self):
+        expected = ANNOTATED.replace("port 8A both", "port 8A both, 2 outputs, 1 input")
+        expected = expected.replace("1 channel end\n  port", "1 channel end, 0 words taken\n  port")
+        expected = expected.replace("2 timers, 1 channel end", "2 timers, 1 channel end, 1 word taken")
+        expected = expected.replace("\t^", "\t^  <- err 2 mismatch") + "end stuck\n"
+        self.assertEqual(self.written(LISTING + TRACE), expected)
+
+    def test_lines_with_their_counts(self):
+        lines = self.written(LISTING + TRACE, "--lines").splitlines()
+        self.assertEqual(lines[0], "       |    1 | in port b = XS1_PORT_1B;")
+        self.assertEqual(lines[2:4], ["     1 |    3 |   while (1) {", "     3 |    4 |     c <: 7; c <: 8;"])
+        self.assertEqual(lines[8:], ["     1 |    9 | \tc :> int x;  <- err 2 mismatch", "       |   10 | }", "     6 | instructions in all"])
+
+    def test_the_example(self):
+        text = called("annotate", "--source", example("pulse.xc"), example("pulse.out")).stdout
+        code = [line.partition(": ")[2].partition(" @")[0] for line in written(example("pulse.out")).splitlines() if " @" in line]
+        for instruction in code[:20]:
+            self.assertIn(f"  {instruction}", text)
+        self.assertIn("    9 |   p @ 100 <: 1;\n      |   ^\n          6  LDC r11, 0\n", text)
+        self.assertIn("port 1A out, 2 outputs\n", text)
+
+    def test_errors_of_an_example(self):
+        text = called("annotate", "--source", example("outside.xc"), "--lines", text=output_of_example("outside")).stdout
+        self.assertIn("   12 |     a[i] = i * i;  <- err 0 index\n", text.replace(written(example("outside.xc")).splitlines()[11], "    a[i] = i * i;"))
+
+    def test_help_has_examples(self):
+        self.assertIn("examples:\n  ./xcsim run", called("annotate", "--help").stdout)
+
+    def test_refused(self):
+        for words, text, expected in [
+            ([], LISTING + "trace\n", "standard input:22: expected a record"),
+            ([], LISTING + "track\n", 'standard input:21: expected ".chan CORE END CORE END" or "trace"'),
+            (["nowhere.out"], "", "annotate: nowhere.out: No such file or directory"),
+        ]:
+            answer = called("annotate", "--source", self.source, *words, text=text)
+            self.assertEqual((answer.returncode, answer.stdout), (1, ""))
+            self.assertTrue(answer.stderr.startswith(expected), answer.stderr)
+        answer = called("annotate", "--source", "nowhere.xc", data("two_cores.out"))
+        self.assertEqual((answer.returncode, answer.stderr), (1, "annotate: nowhere.xc: No such file or directory\n"))
