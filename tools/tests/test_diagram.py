@@ -73,8 +73,8 @@ class Columns(unittest.TestCase):
         self.check_drawn(expected, "--lockstep", "--stimulus", data("two_cores.stim"), data("two_cores.out"), columns="60")
 
     def test_several_at_one_tick(self):
-        expected = ["tick           0       4464", "core 0", "  4A out    ...|5, 9---|5------"]
-        self.check_drawn(expected, data("script.out"))
+        expected = ["tick           0       1              ~4464", "core 0", "  4A out    ...|5, 9-------------------|5------"]
+        self.check_drawn([*expected, "  threads              =0 ready pc 3"], data("script.out"))
 
     def test_lines_fit(self):
         for columns in (40, 80, 200):

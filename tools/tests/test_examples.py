@@ -7,6 +7,7 @@ import unittest
 
 from .models import MODELS, trace_of
 from .samples import EXAMPLES, PROGRAMS, TOP, example, output_of, output_of_example, runs_of_examples, written
+from .test_commands import called
 from .test_diagram import drawn
 
 PROGRAM = os.path.join(TOP, "crates", "xcsim", "out", "xcsim")
@@ -75,5 +76,11 @@ class Pages(unittest.TestCase):
         whole = drawn("--text", text=output_of_example("bus"), columns="80")
         self.assertIn("```\n" + whole.split("\n\n")[0] + "\n```", self.page("docs", "looking.md"))
 
-    def test_picture(self):
+    def test_pictures(self):
         self.assertEqual(drawn(text=output_of_example("bus")), self.page("docs", "bus.svg"))
+        messages = called("trace-msc", "--lockstep", "--to", "4000", text=output_of_example("producer")).stdout
+        self.assertEqual(messages, self.page("docs", "messages.svg"))
+
+    def test_listing_with_its_text(self):
+        page = re.search(r"```\n(    9 \|.*?)```", self.page("docs", "looking.md"), re.DOTALL)[1]
+        self.assertIn("\n" + page, called("annotate", "--source", example("pulse.xc"), example("pulse.out")).stdout)

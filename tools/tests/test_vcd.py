@@ -122,6 +122,17 @@ class Dumps(unittest.TestCase):
         self.assertEqual([tick for tick, _ in changes["core3.com_value"]], [0, 501, 601])
         self.assertEqual([tick for tick, _ in changes["core3.port_32A"]], [0, 650, 66236])
 
+    def test_range(self):
+        words = ["--lockstep", "--stimulus", data("two_cores.stim"), "--from", "601", "--to", "700", data("two_cores.out")]
+        _, _, body = dump_of(*words).partition("$enddefinitions $end\n")
+        before = ["b11111111 !", 'bx "', "1#", "bx %", "1&", "b0 '", "bx (", "b111 *"]  # 255, 1 and 7 came before
+        after = ["1)", "b1000 *", "#650", "b11111111111111111111111111111111 (", "#700", "b1001 '", "$comment end stuck $end", "#701"]
+        self.assertEqual(body.splitlines(), ["#601", "$dumpvars", *before, "$end", *after])
+
+    def test_range_without_changes(self):
+        body = dump_of(data("script.out"), "--from", "5000").partition("$enddefinitions $end\n")[2]
+        self.assertEqual(body.splitlines(), ["#5000", "$dumpvars", "b101 !", "$end", "$comment end stopped $end", "#5001"])
+
     def test_show_is_a_comment(self):
         text = dump_of(data("script.out"))
         self.assertIn("#0\n$dumpvars\nbx !\n$end\nb101 !\nb1001 !\n#1\n$comment show 0 0 ready pc 3 r0 0", text)

@@ -9,13 +9,15 @@ from .output import TURN
 
 LEFT = 12  # columns of the rows' names
 LOW, HIGH, NONE, HELD = "_", "‾", ".", "-"
+UNSTAMPED = ("com", "err", "show")
 LEGEND = {
     "level": "__/‾‾ \\__  a port of one bit: low, high; | an output without an edge",
     "bus": "|85---     a wider port: the value from there on",
     "read": "v9         an input that read this value",
     "com": "0>7        the word 7, taken from core 0; ?>7: the listing doesn't tell",
     "err": "!3:9 index an error: line, column and kind",
-    "unstamped": "           words and errors have no stamp: their ticks are only near",
+    "show": "=0 ready.. a thread that a script shows: its number, its state, its program counter",
+    "unstamped": "           words, errors and threads have no stamp: their ticks are only near",
     "none": "....       nothing was transferred yet",
     "cut": "~          before this instant time is drawn shorter",
 }
@@ -72,7 +74,7 @@ def line(row: Row, band: Band) -> str:
 
 def fill(signs: list[str], row: Row, piece: Piece) -> None:
     """Draws what holds between two marks."""
-    if row.kind in ("com", "err"):
+    if row.kind in UNSTAMPED:
         return
     sign = NONE
     if row.has_levels and piece.value is not None:
@@ -96,8 +98,8 @@ def front(row: Row, piece: Piece, before: int | None) -> str:
     if row.kind == "com":
         sender = piece.marks[0].sender
         return f"{'?' if sender is None else sender}>{label}"
-    if row.kind == "err":
-        return f"!{label}"
+    if row.kind in ("err", "show"):
+        return f"{'!' if row.kind == 'err' else '='}{label}"
     if row.kind == "in":
         return f"v{label}"
     if not row.has_levels:
@@ -123,7 +125,7 @@ def signs_of(diagram: Diagram, found: list[Band]) -> set[str]:
     """The names of the kinds of signs that a diagram has."""
     names = set()
     for row in diagram.rows:
-        if row.kind in ("com", "err"):
+        if row.kind in UNSTAMPED:
             names |= {row.kind, "unstamped"} if row.marks else set()
         elif row.marks:
             names.add("read" if row.kind == "in" else "level" if row.has_levels else "bus")

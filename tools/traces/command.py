@@ -39,6 +39,12 @@ def tick(word: str) -> int:
     return int(word)
 
 
+def add_range(words: argparse.ArgumentParser, done: str) -> None:
+    """Adds the words that choose a part of a run."""
+    words.add_argument("--from", dest="first", type=tick, default=0, metavar="TICK", help=f"the first tick that is {done}")
+    words.add_argument("--to", dest="last", type=tick, default=LAST, metavar="TICK", help=f"the last tick that is {done}")
+
+
 @contextlib.contextmanager
 def opened(name: str | None) -> Iterator[tuple[BinaryIO, str]]:
     """A file that is read and the name it is told by; standard input where there is no name."""

@@ -29,7 +29,7 @@ class Mark(NamedTuple):
 
 @dataclass
 class Row:
-    """A row of the diagram. `kind` is `out`, `in`, `pins`, `com` or `err`; `before` is the value at its left end, where there is one.
+    """A row of the diagram. `kind` is `out`, `in`, `pins`, `com`, `err` or `show`; `before` is the value at its left end, where there is one.
     The marks stand by their ticks, and these in their order."""
 
     core: int
@@ -40,7 +40,7 @@ class Row:
 
     @property
     def name(self) -> str:
-        return {"com": "words", "err": "errors"}.get(self.kind, f"{self.port} {self.kind}")
+        return {"com": "words", "err": "errors", "show": "threads"}.get(self.kind, f"{self.port} {self.kind}")
 
     @property
     def has_levels(self) -> bool:
@@ -88,12 +88,13 @@ def empty_rows(listing: Listing, pins: set[tuple[int, str]]) -> list[Row]:
                 rows.append(Row(core, "pins", port, before=0))
         if listed and listed.ends:
             rows.append(Row(core, "com", ""))
-        rows.append(Row(core, "err", ""))
+        rows += [Row(core, "err", ""), Row(core, "show", "")]
     return rows
 
 
 def draw_up(listing: Listing, pins: set[tuple[int, str]], events: Iterable[tuple[int, Record]], first: int, last: int) -> Diagram:
-    """The diagram of the events from one tick to another, both included. A row of errors stands only where there are some."""
+    """The diagram of the events from one tick to another, both included. Rows of errors and of threads stand only where there are
+    some."""
     rows = {(row.kind, row.core, row.port): row for row in empty_rows(listing, pins)}
     senders = {core: listing.senders(core) for core in listing.cores}
     count = 0
@@ -110,13 +111,15 @@ def draw_up(listing: Listing, pins: set[tuple[int, str]], events: Iterable[tuple
         if count > MOST_RECORDS:
             raise Refused(f"more than {MOST_RECORDS} records: choose some with --from TICK and --to TICK")
         row.marks.setdefault(tick, []).append(mark_of(tick, record, senders.get(record.core, set())))
-    return Diagram([row for row in rows.values() if row.kind != "err" or row.marks])
+    return Diagram([row for row in rows.values() if row.kind not in ("err", "show") or row.marks])
 
 
 def mark_of(tick: int, record: Record, senders: set[int]) -> Mark:
     """What a record marks on its row."""
     if record.kind == "com":
         return Mark(tick, record.value, str(record.value), next(iter(senders)) if len(senders) == 1 else None)
+    if record.kind == "show":
+        return Mark(tick, 0, record.text.partition(" r0 ")[0])
     return Mark(tick, record.value, record.text or str(record.value))
 
 

@@ -32,6 +32,8 @@ text { font: 12px ui-monospace, monospace; fill: #1f2328; }
 .wordtext { fill: #8250df; }
 .fault { stroke: #cf222e; stroke-width: 2; }
 .faulttext { fill: #cf222e; }
+.state { stroke: none; fill: #9a6700; }
+.statetext { fill: #9a6700; }
 """
 DARK_STYLE = """
 text { fill: #e6edf3; }
@@ -49,6 +51,8 @@ text { fill: #e6edf3; }
 .wordtext { fill: #d2a8ff; }
 .fault { stroke: #ff7b72; }
 .faulttext { fill: #ff7b72; }
+.state { fill: #d29922; }
+.statetext { fill: #d29922; }
 """
 LEGEND = {
     "level": "a port of one bit: low and high; a dot is an output without an edge",
@@ -57,7 +61,8 @@ LEGEND = {
     "read": "an input: the value that was read",
     "com": "a word that is taken; short: from the core itself; broken: the listing doesn't tell",
     "err": "an error: line, column and kind",
-    "unstamped": "words and errors have no stamp: their ticks are only near",
+    "show": "a thread that a script shows: its number, its state and its program counter",
+    "unstamped": "words, errors and threads have no stamp: their ticks are only near",
     "none": "nothing was transferred yet, or not known in between",
     "cut": "before this instant time is drawn shorter",
 }
@@ -91,10 +96,7 @@ def draw(diagram: Diagram) -> Iterator[str]:
     height = band_height(diagram)
     right = max([LEAST, *(band.end for band in found), *(len(LEGEND[name]) * WIDEST for name in names)])
     size = 2 * EDGE + LEFT + right, 2 * EDGE + len(found) * (height + GAP) + (len(names) + 1) * LINE
-    yield f'<svg xmlns="http://www.w3.org/2000/svg" width="{size[0]}" height="{size[1]}" viewBox="0 0 {size[0]} {size[1]}">'
-    yield f"<title>Timing diagram, end {diagram.end}</title>"
-    yield f"<style>{STYLE}@media (prefers-color-scheme: dark) {{{DARK_STYLE}}}\n</style>"
-    yield tag("rect", "ground", width="100%", height="100%")
+    yield from front_of_page(size, f"Timing diagram, end {diagram.end}")
     for number, band in enumerate(found):
         yield f'<g transform="translate({EDGE + LEFT} {EDGE + number * (height + GAP)})">'
         yield from draw_band(diagram, band)
@@ -102,6 +104,14 @@ def draw(diagram: Diagram) -> Iterator[str]:
     yield f'<g transform="translate({EDGE} {EDGE + len(found) * (height + GAP)})">'
     yield from draw_legend(names, diagram)
     yield "</g>\n</svg>"
+
+
+def front_of_page(size: tuple[int, int], title: str) -> Iterator[str]:
+    """The lines of a picture up to what it draws."""
+    yield f'<svg xmlns="http://www.w3.org/2000/svg" width="{size[0]}" height="{size[1]}" viewBox="0 0 {size[0]} {size[1]}">'
+    yield f"<title>{escape(title)}</title>"
+    yield f"<style>{STYLE}@media (prefers-color-scheme: dark) {{{DARK_STYLE}}}\n</style>"
+    yield tag("rect", "ground", width="100%", height="100%")
 
 
 def band_height(diagram: Diagram) -> int:
@@ -146,11 +156,13 @@ def cut(x: float, y: float) -> Iterator[str]:
 
 
 def draw_row(row: Row, band: Band, y: float) -> Iterator[str]:
-    """A row of a port or of errors."""
+    """A row of a port, of errors or of threads."""
     before = None
     for piece in pieces(row, band):
         if row.kind == "err":
             yield from draw_fault(piece, y)
+        elif row.kind == "show":
+            yield from draw_state(piece, y)
         elif row.kind == "in":
             yield from draw_read(piece, y)
         elif row.has_levels:
@@ -220,6 +232,13 @@ def draw_fault(piece: Piece, y: float) -> Iterator[str]:
     yield label(x + 8, middle + 4, joined(piece.marks), "faulttext")
 
 
+def draw_state(piece: Piece, y: float) -> Iterator[str]:
+    if piece.marks:
+        middle = y + TOP + WAVE / 2
+        yield tag("path", "state", d=f"M{piece.start - 4} {middle}l4 -5l4 5l-4 5z")
+        yield label(piece.start + 8, middle + 4, joined(piece.marks), "statetext")
+
+
 def draw_words(row: Row, band: Band, lanes: dict[int, float]) -> Iterator[str]:
     """The words that a core takes: an arrow each, from the row of the core that sent it."""
     middle = lanes[row.core] + TOP + WAVE / 2
@@ -279,6 +298,8 @@ def draw_sign(name: str, y: float) -> Iterator[str]:
     elif name == "err":
         yield stroke("fault", (18, y + TOP + 5), (26, y + TOP + 13))
         yield stroke("fault", (18, y + TOP + 13), (26, y + TOP + 5))
+    elif name == "show":
+        yield tag("path", "state", d=f"M18 {y + TOP + 9}l4 -5l4 5l-4 5z")
     elif name == "unstamped":
         yield label(14, y + TOP + 13, "no @", "small")
     elif name == "none":

@@ -2,6 +2,7 @@
 
 from __future__ import annotations
 
+from itertools import chain
 from typing import Iterable, Iterator, NamedTuple, TextIO
 
 from .listing import WIDTHS, Listing
@@ -59,8 +60,15 @@ class Dump:
         code = identifier_code(len(self._signals))
         self._signals[kind, core, port] = Signal(code, type_name, width, name, first)
 
-    def header(self, is_lockstep: bool) -> Iterator[str]:
-        """The lines from the first to the values at tick 0."""
+    def hold(self, record: Record) -> None:
+        """Takes a record of before the first tick: what it changes is so at that tick."""
+        kind = "value" if record.kind == "com" else record.kind
+        signal = self._signals.get((kind, record.core, record.port))
+        if signal is not None:
+            self._signals[kind, record.core, record.port] = signal._replace(first=f"{record.value:b}")
+
+    def header(self, is_lockstep: bool, first: int) -> Iterator[str]:
+        """The lines from the first to the values at the first tick."""
         yield "$version tools/trace-vcd of xcsim $end"
         yield f"$comment\n{NOTES.format(clocks=ONE_CLOCK if is_lockstep else OWN_CLOCKS)}\n$end"
         yield "$timescale 10 ns $end"
@@ -72,7 +80,7 @@ class Dump:
                     yield f"$var {signal.kind} {signal.width} {signal.code} {signal.name}{span} $end"
             yield "$upscope $end"
         yield "$enddefinitions $end"
-        yield "#0\n$dumpvars"
+        yield f"#{first}\n$dumpvars"
         for signal in self._signals.values():
             if signal.first:
                 yield change(signal, signal.first)
@@ -103,9 +111,19 @@ def identifier_code(number: int) -> str:
             return code
 
 
-def write_changes(dump: Dump, events: Iterable[tuple[int, Record]], out: TextIO) -> int:
+def from_tick(dump: Dump, events: Iterable[tuple[int, Record]], first: int) -> Iterator[tuple[int, Record]]:
+    """The events from a tick on, behind those before, which the dump holds."""
+    left = iter(events)
+    for tick, record in left:
+        if tick >= first:
+            return chain([(tick, record)], left)
+        dump.hold(record)
+    return left
+
+
+def write_changes(dump: Dump, events: Iterable[tuple[int, Record]], first: int, out: TextIO) -> int:
     """Writes the changes of events, which are in the order of their ticks, and returns the last tick."""
-    now = 0
+    now = first
     for tick, record in events:
         if tick != now:
             out.write(f"#{tick}\n")
