@@ -1,0 +1,18 @@
+# Completes the words of xcsim in bash: `source tools/completion/xcsim.bash`, or a copy in the folder of bash-completion.
+
+_xcsim() {
+    local word=${COMP_WORDS[COMP_CWORD]} before=${COMP_WORDS[COMP_CWORD - 1]} command=${COMP_WORDS[1]-}
+    COMPREPLY=()
+    if [ "$COMP_CWORD" -eq 1 ]; then
+        mapfile -t COMPREPLY < <(compgen -W "check run asm --help --version" -- "$word")
+    elif [ "$before" = --ticks ]; then
+        : # a number
+    elif [ "$command" = run ] && [[ $word == -* ]]; then
+        mapfile -t COMPREPLY < <(compgen -W "--ticks" -- "$word")
+    elif [[ $command =~ ^(check|run|asm)$ ]]; then
+        compopt -o filenames 2>/dev/null
+        mapfile -t COMPREPLY < <(compgen -f -X '!*.xc' -- "$word" && compgen -d -- "$word")
+        [ ${#COMPREPLY[@]} -gt 0 ] || mapfile -t COMPREPLY < <(compgen -d -- "$word")
+    fi
+}
+complete -F _xcsim xcsim ./xcsim
