@@ -9,7 +9,7 @@ from typing import NamedTuple, Optional
 from .words import read_words
 
 SYMBOLS = sorted(read_words()["symbols"], key=len, reverse=True)
-TOKEN = re.compile("|".join([r"[A-Za-z_]\w*", r"[0-9]\w*", *map(re.escape, SYMBOLS)]), re.ASCII)
+TOKEN = re.compile("|".join([r"[A-Za-z_]\w*", r"[0-9]\w*", *(re.escape(it) for it in SYMBOLS)]), re.ASCII)
 SKIPPED = re.compile(r"(?:(?<=\n)|\A)[ \t\r]*#[^\n]*|[ \t\r]+|\n|//[^\n]*|/\*.*?\*/", re.DOTALL)
 MOST_SHOWN, IN_FRONT = 120, 60  # letters of a line that are shown, and of these in front of the place
 

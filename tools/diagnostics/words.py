@@ -6,14 +6,14 @@ import os
 import re
 
 HERE = os.path.dirname(os.path.dirname(os.path.realpath(__file__)))
-GROUP = re.compile(r"([a-z]+): (.+)")
+GROUP = re.compile(r"^([a-z]+): (.+)$", re.MULTILINE)
 
 
 def read_words(path: str = os.path.join(HERE, "words.txt")) -> dict[str, list[str]]:
     """The words by the names of their groups."""
     with open(path, encoding="ascii") as file:
-        found = [GROUP.fullmatch(line.rstrip("\n")) for line in file if not line.startswith("#")]
-    return {match[1]: match[2].split() for match in found}
+        found = GROUP.findall("".join(line for line in file if not line.startswith("#")))
+    return {group: words.split() for group, words in found}
 
 
 def names_of_words(groups: dict[str, list[str]]) -> set[str]:

@@ -73,7 +73,7 @@ class Pins:
 
 def checked(lines: Iterable[str]) -> list[str]:
     """The lines, where they aren't more than a stimulus may have."""
-    found = []
+    found: list[str] = []
     for line in lines:
         if len(found) == MOST_LINES:
             raise Refused(f"more than {MOST_LINES} lines, the most that a stimulus can have: choose a part with --from and --to")

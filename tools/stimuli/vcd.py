@@ -32,10 +32,13 @@ class Signal(NamedTuple):
     def __str__(self) -> str:
         return ".".join(self.path)
 
-    def position(self, index: int) -> Optional[int]:
-        """How many bits are behind the one with an index, or None where there is no such bit."""
-        low, high = sorted((self.first, self.last))
-        return abs(index - self.last) if low <= index <= high else None
+    def has(self, index: int) -> bool:
+        """Whether there is a bit with this index."""
+        return min(self.first, self.last) <= index <= max(self.first, self.last)
+
+    def position(self, index: int) -> int:
+        """How many bits are behind the one with this index."""
+        return abs(index - self.last)
 
 
 class Value(NamedTuple):
@@ -83,7 +86,7 @@ class Words:
 
     def up_to_end(self, keyword: str) -> list[str]:
         """The words from here to the next `$end`."""
-        found = []
+        found: list[str] = []
         for word in self:
             if word == "$end":
                 return found
@@ -100,7 +103,9 @@ class Dump:
         self._widths = {signal.code: signal.width for signal in self.header.signals}
 
     def _read_header(self) -> Header:
-        unit, scopes, signals = None, [], []
+        unit: Optional[int] = None
+        scopes: list[str] = []
+        signals: list[Signal] = []
         for word in self._words:
             if word == META:
                 self._words.drop_line()

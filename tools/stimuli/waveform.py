@@ -37,7 +37,7 @@ def named(names: Iterable[str]) -> str:
 def is_meant(signal: Signal, given: Span) -> bool:
     """Whether a name of the command line, with as many scopes in front as it has, is that of a signal which has the bits."""
     bits = given.bits or ()
-    return f".{signal}".endswith(f".{given.name}") and all(signal.position(index) is not None for index in bits)
+    return f".{signal}".endswith(f".{given.name}") and all(signal.has(index) for index in bits)
 
 
 def meant(header: Header, given: Span) -> tuple[Signal, Span]:
@@ -63,8 +63,7 @@ def wires_of(header: Header, table: Iterable[Entry]) -> dict[str, list[Wire]]:
     found: dict[str, list[Wire]] = {}
     for entry in table:
         signal, source = meant(header, entry.source)
-        first, last = source.bits or (signal.first, signal.last)
-        high, low = signal.position(first), signal.position(last)
+        high, low = map(signal.position, source.bits or (signal.first, signal.last))
         if high < low:
             raise Refused(f"{entry.source}: the bits of {shown(signal)} are written the other way round")
         found.setdefault(signal.code, []).append(wire(entry, low, high - low + 1))

@@ -5,7 +5,7 @@ import subprocess
 import sys
 import unittest
 
-from .samples import PULSE, TOP, data, example, listing_of, written
+from .samples import PULSE, TOP, example, listing_of, written
 
 TOOLS = ["trace-vcd", "trace-svg"]
 

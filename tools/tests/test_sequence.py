@@ -4,7 +4,11 @@ import re
 import unittest
 import xml.etree.ElementTree as tree
 
-from .samples import KEPT, data, example, listing_of, output_of_example
+from traces import sequence_svg
+from traces.sequence import sequence_of
+from traces.times import timed
+
+from .samples import KEPT, data, example, listing_of, output_of, output_of_example
 from .test_commands import called
 from .test_diagram import SIGN, SVG
 
@@ -67,8 +71,11 @@ class Pictures(unittest.TestCase):
         return answer.stdout
 
     def test_well_formed_and_by_itself(self):
-        for output in KEPT:
-            text = self.drawn("--lockstep", text=output)
+        for kept in KEPT:
+            output = output_of(kept)
+            events = timed(output.records(), is_lockstep=True)
+            sequence = sequence_of(output.listing, events, {"com", "err", "show", "out"}, 0, 1 << 64, 500)
+            text = "\n".join(sequence_svg.draw(sequence))
             names = {element.tag for element in tree.fromstring(text).iter()}
             self.assertLessEqual(names, {SVG + it for it in ("svg", "title", "style", "rect", "g", "text", "polyline", "path")})
             self.assertNotRegex(text, "font-face|url|href|import")

@@ -7,15 +7,19 @@ import subprocess
 import tempfile
 import unittest
 
+from stimuli import replay, waveform
+from stimuli.pins import Pins
 from stimuli.vcd import Dump
 from stimuli.waveform import span
 from stimuli.wires import read_table
 from traces.lines import Refused
 from traces.stimulus import read_stimulus
+from traces.times import timed
+from traces.vcd import Dump as trace_dump
+from traces.vcd import write_changes
 
-from .samples import PROGRAMS, data, listing_of, output_of_example, written
+from .samples import PROGRAMS, data, listing_of, output_of, output_of_example, written
 from .test_commands import called
-from .test_vcd import dump_of
 
 WAVES = data("waves")
 HEAD = "$timescale 1 ns $end $scope module t $end {} $upscope $end $enddefinitions $end\n"
@@ -241,11 +245,20 @@ class Runs(Stimuli):
 
     def test_the_same_by_way_of_a_waveform(self):
         for name in PROGRAMS:
-            text = output_of_example(name)
-            ports = [line.split()[1] for line in text.splitlines() if line.startswith(".port")]
-            by_trace = self.made("stim-from-trace", "-", *(f"0:{it}=1:{it}" for it in ports), text=text)
-            by_waveform = self.made("stim-from-vcd", "-", *(f"core0.port_{it}=1:{it}" for it in ports), text=dump_of(text=text))
+            output = output_of(output_of_example(name))
+            ports = output.listing.cores[0].ports
+            entries = read_table(f"0:{it}=1:{it}" for it in ports)
+            events = [*timed(output.records(), is_lockstep=False)]
+            by_trace = [*Pins(replay.wires_of(output.listing, entries)).lines(replay.changes(events, 0, 1 << 64, 0))]
+            written_dump, text = trace_dump(output.listing, set()), io.StringIO()
+            text.writelines(f"{line}\n" for line in written_dump.header(False, 0))
+            write_changes(written_dump, events, 0, text)
+            read = Dump(io.BytesIO(text.getvalue().encode()), name)
+            wires = waveform.wires_of(read.header, read_table(f"core0.port_{it}=1:{it}" for it in ports))
+            times = waveform.Times(read.header.unit, span("10ns"), 0, None, 0)
+            by_waveform = [*Pins(wires).lines(waveform.Waveform(read, times, "keep").changes(wires))]
             self.assertEqual(by_trace, by_waveform, name)
+            self.assertEqual(len({line.split()[2] for line in by_trace} - {*ports}), 0)
 
     def test_help_has_examples(self):
         for tool in ("stim-from-trace", "stim-from-vcd"):

@@ -107,7 +107,7 @@ def front(row: Row, piece: Piece, before: int | None) -> str:
     return edge(before, piece.value) + (label if len(piece.marks) > 1 else "")
 
 
-def edge(before: int | None, value: int) -> str:
+def edge(before: int | None, value: int | None) -> str:
     """How a row of levels goes from one value to the next."""
     if before is None or before == value:
         return "|"

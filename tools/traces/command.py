@@ -69,7 +69,7 @@ def read(words: argparse.Namespace) -> Timeline:
         output = Output(file, name)
         events = timed(output.records(), words.lockstep)
     stimulus, pins = read_pins(words.stimulus, output.listing)
-    return Timeline(output, pins, heapq.merge(stimulus, events, key=itemgetter(0)))
+    return Timeline(output, pins, iter(heapq.merge(stimulus, events, key=itemgetter(0))))
 
 
 def run(name: str, action: Callable[[], None]) -> int:

@@ -162,7 +162,7 @@ def bands(diagram: Diagram, measure: Measure) -> list[Band]:
     usual = gaps[(len(gaps) - 1) // 2] if gaps else 1  # the median
     needs = label_needs(diagram, measure)
     found: list[Band] = []
-    before = None
+    before: Optional[int] = None
     for tick in ticks:
         own = max(measure.width(len(str(tick))), *(need for need, _ in needs[tick]))
         gap = round(measure.usual * (tick - before) / usual) if before is not None else 0
@@ -214,7 +214,8 @@ def pieces(row: Row, band: Band) -> Iterator[Piece]:
     ticks = [*row.marks]
     earlier = bisect_left(ticks, band.places[0].tick)
     value = row.marks[ticks[earlier - 1]][-1].value if earlier else row.before
-    start, here = 0, []
+    start = 0
+    here: list[Mark] = []
     for place in band.places:
         if place.tick in row.marks:
             yield Piece(start, place.at, value, here)

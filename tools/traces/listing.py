@@ -114,7 +114,7 @@ def read_core(lines: Lines, listing: Listing) -> Core:
 
 def read_port(lines: Lines, core: Core) -> Port:
     """Reads a `.port` line."""
-    match = PORT.fullmatch(lines.text)
+    match = PORT.fullmatch(lines.text or "")
     if match is None or match[1] not in WIDTHS:
         raise lines.refusal('".port ID DIR", ID as in 1A and DIR in, out or both')
     if match[1] in core.ports:
@@ -126,7 +126,7 @@ def read_port(lines: Lines, core: Core) -> Port:
 def read_instruction(lines: Lines, index: int) -> Instruction:
     """Reads the line of the instruction with an index."""
     expected = f'the instruction {index}, as in "{index}: LDC r1, 0 @2:18"'
-    if not lines.text.startswith(f"{index}: "):
+    if not (lines.text or "").startswith(f"{index}: "):
         raise lines.refusal(expected)
     match = lines.take(INSTRUCTION, expected)
     return Instruction(match[2], int(match[5]), int(match[6]))
@@ -134,7 +134,7 @@ def read_instruction(lines: Lines, index: int) -> Instruction:
 
 def read_channel(lines: Lines, listing: Listing) -> None:
     """Reads a `.chan` line."""
-    match = CHANNEL.fullmatch(lines.text)
+    match = CHANNEL.fullmatch(lines.text or "")
     if match is None:
         raise lines.refusal('".chan CORE END CORE END"')
     first, second = (int(match[1]), int(match[2])), (int(match[3]), int(match[4]))

@@ -71,7 +71,7 @@ SAMPLE = Mark(100, 85, "85")  # of the legend
 
 def tag(name: str, kind: str, text: str = "", **attributes: object) -> str:
     """An element, with its class."""
-    given = {"class": kind, **attributes} if kind else attributes
+    given: dict[str, object] = {"class": kind, **attributes} if kind else attributes
     front = name + "".join(f' {key.replace("_", "-")}="{value}"' for key, value in given.items())
     return f"<{front}>{escape(text)}</{name}>" if text else f"<{front}/>"
 
@@ -121,7 +121,8 @@ def band_height(diagram: Diagram) -> int:
 def draw_band(diagram: Diagram, band: Band) -> Iterator[str]:
     """The axis, then row by row, and over all the words."""
     yield from draw_axis(band, band_height(diagram))
-    lanes, y, core = {}, AXIS, None
+    lanes: dict[int, float] = {}
+    y, core = AXIS, -1
     for row in diagram.rows:
         if row.core != core:
             core = row.core
@@ -252,8 +253,8 @@ def draw_words(row: Row, band: Band, lanes: dict[int, float]) -> Iterator[str]:
 def draw_arrow(x: float, lanes: dict[int, float], core: int, sender: int | None) -> Iterator[str]:
     """An arrow to a core; where the sender is the core itself or isn't known, it begins in the core's own row."""
     to = lanes[core] + TOP + WAVE / 2
-    is_long = sender is not None and sender != core
-    start = lanes[sender] + TOP + WAVE / 2 if is_long else to - WAVE
+    is_long = sender not in (None, core)
+    start = lanes[core if sender is None else sender] + TOP + WAVE / 2 if is_long else to - WAVE
     down = 1 if to > start else -1
     attributes = {} if sender is not None else {"stroke_dasharray": "3 2"}
     yield tag("path", "word", d=f"M{x} {start}V{to - 6 * down}", **attributes)

@@ -8,7 +8,7 @@ import heapq
 import pickle
 import tempfile
 from operator import itemgetter
-from typing import Iterable, Iterator, Optional
+from typing import IO, Iterable, Iterator, Optional
 
 from .output import TURN, Record
 
@@ -19,7 +19,7 @@ class Store:
     """A list that is kept in a file: it is appended to, and then read from its front, as often as is needed."""
 
     def __init__(self) -> None:
-        self._file = None
+        self._file: Optional[IO[bytes]] = None
         self._batch: list = []
         self._places: list[tuple[int, int]] = []
 
@@ -29,17 +29,17 @@ class Store:
             self._put_away()
 
     def _put_away(self) -> None:
-        if self._file is None:
-            self._file = tempfile.TemporaryFile()
+        file = self._file = self._file or tempfile.TemporaryFile()
         data = pickle.dumps(self._batch, pickle.HIGHEST_PROTOCOL)
-        self._places.append((self._file.tell(), len(data)))
-        self._file.write(data)
+        self._places.append((file.tell(), len(data)))
+        file.write(data)
         self._batch = []
 
     def __iter__(self) -> Iterator:
-        for start, length in self._places:
-            self._file.seek(start)
-            yield from pickle.loads(self._file.read(length))
+        if self._file is not None:
+            for start, length in self._places:
+                self._file.seek(start)
+                yield from pickle.loads(self._file.read(length))
         yield from self._batch
 
     def close(self) -> None:
@@ -101,4 +101,4 @@ def timed(records: Iterable[Record], is_lockstep: bool) -> Iterator[tuple[int, R
         if number not in clocks:
             clocks[number] = Clock(1 if is_lockstep else 0)
         clocks[number].add(record)
-    return heapq.merge(*(clocks[number].placed() for number in sorted(clocks)), key=itemgetter(0))
+    return iter(heapq.merge(*(clocks[number].placed() for number in sorted(clocks)), key=itemgetter(0)))
