@@ -4,7 +4,8 @@ from __future__ import annotations
 
 import os
 import re
-from typing import Optional
+from dataclasses import dataclass
+from typing import Callable, Optional
 
 from .source import Source, Token
 from .words import HERE, names_of_words, read_words
@@ -12,14 +13,49 @@ from .words import HERE, names_of_words, read_words
 GROUPS = read_words()
 WORDS = names_of_words(GROUPS)
 CLOSES = {")": "(", "]": "[", "}": "{"}
-CHANGES = {"=", "++", "--", *(it for it in GROUPS["symbols"] if len(it) > 1 and it[-1] == "=" and it not in ("==", "!=", "<=", ">="))}
-OPERATORS = {"+", "-", "*", "/", "%", "&", "|", "^", "<", ">", "?", "==", "!=", "<=", ">=", "&&", "||", "<<", ">>"}
+COMPARES = {"==", "!=", "<=", ">="}
+CHANGES = {"=", "++", "--", *(it for it in GROUPS["symbols"] if len(it) > 1 and it.endswith("=") and it not in COMPARES)}
+OPERATORS = {"+", "-", "*", "/", "%", "&", "|", "^", "<", ">", "?", "&&", "||", "<<", ">>", *COMPARES}
 DECLARES = {*GROUPS["types"]} - {"void"}
 UNBUILT = re.compile(r"^- one of the words `([a-z ]+)`", re.MULTILINE)
+NOTHING = Token("", 0, 0)
 
 
-def brackets(tokens: list[Token]) -> tuple[list[int], int]:
-    """The indices of the brackets that aren't closed, from the outermost on, and that of the one that was closed last, or -1."""
+@dataclass(frozen=True)
+class Spot:
+    """A place of a text: what stands there, its line, whether the text ends there, and the tokens in front; of these the indices of
+    the brackets that aren't closed, from the outermost on, and the index of the one that was closed last, or -1."""
+
+    here: str
+    line: int
+    is_end: bool
+    tokens: list[Token]
+    opened: list[int]
+    closed: int
+
+    def back(self, count: int) -> Token:
+        """The token so many in front."""
+        return self.tokens[-count] if count <= len(self.tokens) else NOTHING
+
+    @property
+    def inner(self) -> Token:
+        """The innermost bracket that isn't closed."""
+        return self.tokens[self.opened[-1]] if self.opened else NOTHING
+
+    @property
+    def head(self) -> str:
+        """What stands in front of the innermost bracket that isn't closed."""
+        return self.tokens[self.opened[-1] - 1].text if self.opened and self.opened[-1] else ""
+
+    @property
+    def begin(self) -> str:
+        """The first token of the statement at hand."""
+        begins = [index + 1 for index, token in enumerate(self.tokens) if token.text in (";", "{", "}")]
+        return self.tokens[begins[-1]].text if begins and begins[-1] < len(self.tokens) else ""
+
+
+def spot(source: Source, line: int, column: int) -> Spot:
+    tokens = source.tokens_before(line, column)
     opened: list[int] = []
     closed = -1
     for index, token in enumerate(tokens):
@@ -27,54 +63,93 @@ def brackets(tokens: list[Token]) -> tuple[list[int], int]:
             opened.append(index)
         elif opened and CLOSES.get(token.text) == tokens[opened[-1]].text:
             closed = opened.pop()
-    return opened, closed
+    return Spot(source.at(line, column), line, source.is_end(line, column), tokens, opened, closed)
+
+
+def of_end(it: Spot) -> str:
+    return unclosed(it) if it.is_end and it.opened else ""
+
+
+def of_kept_word(it: Spot) -> str:
+    return f"`{it.here}` is kept for later: no form has it yet, and no name may be it." if it.here in GROUPS["kept"] else ""
+
+
+def of_word_as_name(it: Spot) -> str:
+    is_name_wanted = it.back(1).text in DECLARES - {"unsigned"}
+    return f"`{it.here}` is a word of the language, so nothing can have it as its name." if it.here in WORDS and is_name_wanted else ""
+
+
+def of_global_variable(it: Spot) -> str:
+    is_declared = is_name(it.back(1).text) and it.back(2).text in DECLARES and it.here in ("=", ";", ",", "[")
+    text = "Ports are all that is declared outside of functions: declare it in main, and hand it on as an argument."
+    return text if is_declared and not it.opened else ""
+
+
+def of_values_of_array(it: Spot) -> str:
+    text = "Arrays have no initial values: they are 0 at first, and their elements are assigned one by one."
+    return text if it.here == "=" and it.back(1).text == "]" and it.begin in DECLARES else ""
+
+
+def of_change_inside(it: Spot) -> str:
+    is_changed = it.here in CHANGES and (is_name(it.back(1).text) or it.back(1).text == "]")
+    text = "Nothing is changed inside an expression: change it in a statement in front, and compare with `==`."
+    return text if is_changed and it.opened else ""
+
+
+def of_call_inside(it: Spot) -> str:
+    is_called = it.here == "(" and is_name(it.back(1).text) and bool(it.opened)
+    was_called = it.here in OPERATORS and it.back(1).text == ")" and it.closed > 0 and is_name(it.tokens[it.closed - 1].text)
+    text = "A call stands by itself, or right behind `=` or `return`: store its value in a variable first."
+    return text if is_called or was_called else ""
+
+
+def of_second_dimension(it: Spot) -> str:
+    return "Arrays have one dimension: use `a[i * WIDTH + j]`." if it.here == "[" and it.back(1).text == "]" else ""
+
+
+def of_case(it: Spot) -> str:
+    is_in_case = it.head == "select" and it.inner.text == "{" and it.back(1) != it.inner
+    return "Each case of a `select` ends with `break;`." if is_in_case and it.here in ("case", "default", "}") else ""
+
+
+def of_bracket(it: Spot) -> str:
+    return unclosed(it) if it.here in (";", "{", "}") and it.inner.text in ("(", "[") and it.head != "for" else ""
+
+
+def of_semicolon(it: Spot) -> str:
+    last = it.back(1)
+    ends = last.text[:1].isalnum() or last.text[:1] == "_" or last.text in (")", "]", "++", "--")
+    is_behind = last.line < it.line or it.here == "}"
+    return f"Perhaps a `;` is missing behind the `{last.text}` of {place(last)}." if ends and is_behind else ""
+
+
+HINTS: tuple[Callable[[Spot], str], ...] = (
+    of_end,
+    of_kept_word,
+    of_word_as_name,
+    of_global_variable,
+    of_values_of_array,
+    of_change_inside,
+    of_call_inside,
+    of_second_dimension,
+    of_case,
+    of_bracket,
+    of_semicolon,
+)
 
 
 def hint_of_grammar(source: Source, line: int, column: int) -> str:
-    """What may be meant where the grammar is broken, or nothing."""
-    tokens, here = source.tokens_before(line, column), source.at(line, column)
-    opened, closed = brackets(tokens)
-    last, before = ([Token("", line, column)] * 2 + tokens)[:-3:-1]
-    inner = tokens[opened[-1]] if opened else Token("", line, column)
-    head = tokens[opened[-1] - 1].text if opened and opened[-1] else ""
-    if source.is_end(line, column):
-        return f"The `{inner.text}` of {place(inner)} isn't closed." if opened else ""
-    if here in GROUPS["kept"]:
-        return f"`{here}` is kept for later: no form has it yet, and no name may be it."
-    if here in WORDS and last.text in DECLARES and last.text != "unsigned":
-        return f"`{here}` is a word of the language, so nothing can have it as its name."
-    if not opened and here in ("=", ";", ",", "[") and is_name(last.text) and before.text in DECLARES:
-        return "Ports are all that is declared outside of functions: declare it in main, and hand it on as an argument."
-    if here == "=" and last.text == "]" and begin_of_statement(tokens) in DECLARES:
-        return "Arrays have no initial values: they are 0 at first, and their elements are assigned one by one."
-    if here in CHANGES and opened and (is_name(last.text) or last.text == "]"):
-        return "Nothing is changed inside an expression: change it in a statement in front, and compare with `==`."
-    if here == "(" and is_name(last.text) and opened or here in OPERATORS and last.text == ")" and is_name(tokens[closed - 1].text):
-        return "A call stands by itself, or right behind `=` or `return`: store its value in a variable first."
-    if here == "[" and last.text == "]":
-        return "Arrays have one dimension: use `a[i * WIDTH + j]`."
-    if inner.text == "{" and head == "select" and here in ("case", "default", "}") and last != inner:
-        return "Each case of a `select` ends with `break;`."
-    if here in (";", "{", "}") and inner.text in ("(", "[") and head != "for":
-        return f"The `{inner.text}` of {place(inner)} isn't closed."
-    if ends_statement(last.text) and (last.line < line or here == "}"):
-        return f"Perhaps a `;` is missing behind the `{last.text}` of {place(last)}."
-    return ""
+    """What may be meant where the grammar is broken: the first hint that fits, or nothing."""
+    it = spot(source, line, column)
+    return next(filter(None, (hint(it) for hint in HINTS)), "")
 
 
 def is_name(text: str) -> bool:
     return text.isidentifier() and text not in WORDS
 
 
-def begin_of_statement(tokens: list[Token]) -> str:
-    """The first token of the statement that the last one is of."""
-    begins = [index + 1 for index, token in enumerate(tokens) if token.text in (";", "{", "}")]
-    return tokens[begins[-1]].text if begins and begins[-1] < len(tokens) else ""
-
-
-def ends_statement(text: str) -> bool:
-    """Whether a statement that a `;` closes can end with this token."""
-    return text[:1].isalnum() or text[:1] == "_" or text in (")", "]", "++", "--")
+def unclosed(it: Spot) -> str:
+    return f"The `{it.inner.text}` of {place(it.inner)} isn't closed."
 
 
 def place(token: Token) -> str:

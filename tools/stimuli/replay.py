@@ -9,7 +9,7 @@ from traces.listing import CORES, WIDTHS, Listing
 from traces.output import Record
 
 from .pins import Change
-from .wires import Entry, Wire, wire
+from .wires import Entry, Wire, bits_of_port, wire
 
 
 def wires_of(listing: Listing, table: Iterable[Entry]) -> dict[str, list[Wire]]:
@@ -20,9 +20,7 @@ def wires_of(listing: Listing, table: Iterable[Entry]) -> dict[str, list[Wire]]:
         listed = listing.cores.get(int(core)) if core in map(str, range(CORES)) else None
         if listed is None or port not in listed.ports or not listed.ports[port].does("out"):
             raise Refused(f"{entry.source}: {outputs_of(listing)}")
-        high, low = entry.source.bits or (WIDTHS[port] - 1, 0)
-        if not 0 <= low <= high < WIDTHS[port]:
-            raise Refused(f"{entry.source}: the port {port} has the bits {WIDTHS[port] - 1} to 0, from the highest to the lowest")
+        high, low = bits_of_port(str(entry.source), port, entry.source.bits)
         found.setdefault(entry.source.name, []).append(wire(entry, low, high - low + 1))
     return found
 

@@ -15,13 +15,13 @@ from .pins import Change
 from .vcd import UNITS, WITHOUT_BITS, Dump, Header, Signal, Value
 from .wires import Entry, Span, Wire, wire
 
-SPAN = re.compile(r"([0-9]{1,20}(?:\.[0-9]{1,15})?) ?(s|ms|us|ns|ps|fs)")
+DURATION = re.compile(r"([0-9]{1,20}(?:\.[0-9]{1,15})?) ?(s|ms|us|ns|ps|fs)")
 MOST_NAMED = 8
 
 
-def span(word: str) -> int:
+def duration(word: str) -> int:
     """A time of the command line, as "10ns" or "1.5 us", in femtoseconds."""
-    match = SPAN.fullmatch(word)
+    match = DURATION.fullmatch(word)
     if match is None:
         raise ValueError
     return int(Decimal(match[1]).scaleb(UNITS[match[2]]))

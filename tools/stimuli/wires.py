@@ -59,12 +59,21 @@ def read_entry(word: str) -> Entry:
     name, first, last, core, port, high, low = match.groups()
     if int(core) >= CORES or port not in WIDTHS:
         raise Refused(f"{word}: there is no core {core} or no port {port}")
-    high = int(high) if high is not None else WIDTHS[port] - 1
-    low = int(low) if low is not None else high if match[6] is not None else 0
+    upper, lower = bits_of_port(word, port, bits_of(high, low))
+    return Entry(Span(name, bits_of(first, last)), int(core), port, lower, upper - lower + 1)
+
+
+def bits_of(first: Optional[str], last: Optional[str]) -> Optional[tuple[int, int]]:
+    """The indices that stand in brackets, where there are some."""
+    return None if first is None else (int(first), int(first if last is None else last))
+
+
+def bits_of_port(word: str, port: str, given: Optional[tuple[int, int]]) -> tuple[int, int]:
+    """The highest and the lowest of the bits of a port that are given, or of all."""
+    high, low = given or (WIDTHS[port] - 1, 0)
     if not 0 <= low <= high < WIDTHS[port]:
         raise Refused(f"{word}: the port {port} has the bits {WIDTHS[port] - 1} to 0, from the highest to the lowest")
-    bits = None if first is None else (int(first), int(first if last is None else last))
-    return Entry(Span(name, bits), int(core), port, low, high - low + 1)
+    return high, low
 
 
 def read_table(words: Iterable[str]) -> list[Entry]:
@@ -82,8 +91,7 @@ def read_table(words: Iterable[str]) -> list[Entry]:
 def wire(entry: Entry, low: int, width: int) -> Wire:
     """The wire of an entry, from bits of its source. Both have as many."""
     if width != entry.width:
-        some = Span(entry.source.name, (entry.width - 1, 0))
-        advice = f", so choose some, as in '{some}={entry.target}'" if width > entry.width else ""
+        advice = f": choose {entry.width} of them by [HIGH:LOW] or [BIT]" if width > entry.width else ""
         raise Refused(f"{entry.source} has {counted(width)} and {entry.target} has {entry.width}{advice}")
     return Wire(low, width, entry.core, entry.port, entry.low)
 

@@ -10,7 +10,7 @@ import unittest
 from stimuli import replay, waveform
 from stimuli.pins import Pins
 from stimuli.vcd import Dump
-from stimuli.waveform import span
+from stimuli.waveform import duration
 from stimuli.wires import read_table
 from traces.lines import Refused
 from traces.stimulus import read_stimulus
@@ -124,7 +124,7 @@ class Waveforms(Stimuli):
         self.check_dump(["0 0 1A 1", "9 0 1A 0"], "#0 1! #9 0!", "a=0:1A", "--tick", "1ns")
         self.check_dump(["3 0 1A 1"], "#0 0! #7 1!", "a=0:1A", "--tick", "2.5ns")
         self.check_dump(["5 0 1A 1", "7 0 1A 0"], "#0 0! #50 1! #120 0! #130 1!", "a=0:1A", "--from", "0.1us", "--to", "125ns", "--at", "5")
-        self.assertEqual([span(it) for it in ("1s", "20 ps", "1.5ms", "0.0001fs")], [10**15, 20_000, 1_500_000_000_000, 0])
+        self.assertEqual([duration(it) for it in ("1s", "20 ps", "1.5ms", "0.0001fs")], [10**15, 20_000, 1_500_000_000_000, 0])
 
     def test_units(self):
         for unit, ticks in (("1s", 10**8), ("100 us", 10**4), ("10\nns", 1), ("1ns", 1), ("100 fs", 1)):
@@ -151,7 +151,7 @@ class Waveforms(Stimuli):
         self.check_refused("there is no signal c; there are t.x.a, t.b[3:0], t.level[63:0]", two, "c=0:1A")
         self.check_refused("there is no signal b[4]; there are t.x.a, t.b[3:0], t.level[63:0]", two, "b[4]=0:1A")
         self.check_refused("level is of the kind real, which has no bits", two, "level=0:1A")
-        self.check_refused("b has 4 bits and 0:1A has 1, so choose some, as in 'b[0]=0:1A'", two, "b=0:1A")
+        self.check_refused("b has 4 bits and 0:1A has 1: choose 1 of them by [HIGH:LOW] or [BIT]", two, "b=0:1A")
         self.check_refused("x.a has 1 bit and 0:4A has 4", two, "x.a=0:4A")
         self.check_refused("b[0:3]: the bits of t.b[3:0] are written the other way round", two, "b[0:3]=0:4A")
         same = dump("#0 0!", "wire 1 ! a", "wire 1 # x.a")
@@ -238,7 +238,7 @@ class Runs(Stimuli):
         for entry, expected in [
             ("0:1B=0:1A", "0:1B: the run outputs to 0:8A, 3:32A, written as CORE:PORT"),
             ("tx=0:1A", "tx: the run outputs to 0:8A, 3:32A, written as CORE:PORT"),
-            ("0:8A=0:1A", "0:8A has 8 bits and 0:1A has 1, so choose some, as in '0:8A[0]=0:1A'"),
+            ("0:8A=0:1A", "0:8A has 8 bits and 0:1A has 1: choose 1 of them by [HIGH:LOW] or [BIT]"),
             ("0:8A[8]=0:1A", "0:8A[8]: the port 8A has the bits 7 to 0, from the highest to the lowest"),
         ]:
             self.refused(expected, "stim-from-trace", data("two_cores.out"), entry)
@@ -255,7 +255,7 @@ class Runs(Stimuli):
             write_changes(written_dump, events, 0, text)
             read = Dump(io.BytesIO(text.getvalue().encode()), name)
             wires = waveform.wires_of(read.header, read_table(f"core0.port_{it}=1:{it}" for it in ports))
-            times = waveform.Times(read.header.unit, span("10ns"), 0, None, 0)
+            times = waveform.Times(read.header.unit, duration("10ns"), 0, None, 0)
             by_waveform = [*Pins(wires).lines(waveform.Waveform(read, times, "keep").changes(wires))]
             self.assertEqual(by_trace, by_waveform, name)
             self.assertEqual(len({line.split()[2] for line in by_trace} - {*ports}), 0)
