@@ -4,7 +4,9 @@ import os
 import tempfile
 import unittest
 
-from .samples import data, example, output_of_example, written
+from traces.annotated import notes_of, told_by
+
+from .samples import data, example, output_of, output_of_example, written
 from .test_commands import called
 
 SOURCE = """\
@@ -61,7 +63,7 @@ core 0: 1 word, 0 timers, 1 channel end
       |     ^
           0  LDC r0, 2                       root, from 3
       |             ^
-          1  OUT r0, r1
+          1  OUT r0, r1                      end 0 to core 2
           2  BRFT r0, 4                      root
     3 |   while (1) {
       |   ^~~~~
@@ -76,6 +78,75 @@ core 2: 516 words, 2 timers, 1 channel end
           0  IN r1, r0                       root
 
 """
+
+
+# the numbers of core 1's resources: port 1A is 16777216, port 8B 16777472, the timer 16777217, the end 16777218
+LOOP = """\
+code
+.core 1
+.words 516
+.timers 1
+.ends 1
+.port 1A out
+.port 8B both
+.root 0
+0: LDC r0, 16777472 @1:1
+1: SETC r0, NONE @1:1
+2: OUT r0, r2 @1:1
+3: LDC r1, 16777216 @2:1
+4: LDC r3, 16777217 @2:1
+5: IN r2, r3 @2:1
+6: LDC r3, 16777218 @2:1
+7: IN r2, r3 @2:1
+8: OUT r1, r2 @2:1
+9: BRBT r2, TARGET @3:1
+10: OUT r1, r2 @4:1
+11: FREET @5:1
+.core 2
+.words 512
+.timers 0
+.ends 1
+.root 0
+0: FREET @6:1
+.chan 1 0 2 0
+trace
+out 1 8B @8 5
+com 1 3
+out 1 1A @9 1
+com 1 0
+out 1 1A @12 0
+out 1 1A @13 0
+end finished
+"""
+
+
+class Resources(unittest.TestCase):
+    """What instructions use, and how often they ran."""
+
+    def notes(self, text):
+        output = output_of(text)
+        told = told_by(output.records())
+        return {index: ", ".join(it) for index, it in notes_of(output.listing.cores[1], output.listing, told).items()}
+
+    def test_loop_that_loads_all(self):
+        expected = {
+            **{0: "root", 1: "port 8B", 2: "port 8B, ran 1 time", 3: "from 9", 5: "timer 0", 7: "end 0 to core 2, ran 2 times"},
+            **{8: "port 1A", 10: "port 1A"},  # each of the two may have made each record
+        }
+        self.assertEqual(self.notes(LOOP.replace("TARGET", "3")), expected)
+
+    def test_what_comes_from_elsewhere_isnt_told(self):
+        # r1 may have been loaded anywhere, so an output to 8B may be one of the instructions that use it
+        expected = {0: "root", 1: "port 8B", 2: "port 8B", 4: "from 9", 5: "timer 0", 7: "end 0 to core 2, ran 2 times"}
+        self.assertEqual(self.notes(LOOP.replace("TARGET", "4")), expected)
+
+    def test_the_only_output_to_a_port(self):
+        text = LOOP.replace("TARGET", "3").replace("10: OUT r1, r2 @4:1\n11: FREET", "10: FREET")
+        self.assertEqual(self.notes(text)[8], "port 1A, ran 3 times")
+
+    def test_a_register_that_changes(self):
+        text = LOOP.replace("TARGET", "3").replace("6: LDC r3, 16777218", "6: LDWDP r3, 5")
+        self.assertNotIn(7, self.notes(text))
 
 
 class Annotated(unittest.TestCase):

@@ -10,6 +10,7 @@ from diagnostics.source import Source
 
 from .listing import Core, Instruction, Listing
 from .output import Record
+from .resources import name_of, only_makers, resources_of
 from .taken import JUMP
 
 NUMBER, CODE = 5, 32  # the columns of a line's number, and of an instruction with its index
@@ -56,13 +57,31 @@ def in_order_of_code(listing: Listing, source: Source, told: Optional[Told]) -> 
     before, and a caret wherever it is another place."""
     for core in listing.cores.values():
         yield from head_of(core, told)
-        sources, last = jumps_to(core), Instruction("", -1, -1)
+        beside, last = notes_of(core, listing, told), Instruction("", -1, -1)
         for index, instruction in enumerate(core.code):
             if instruction[1:] != last[1:]:
                 yield from place_of(instruction, last, source, told)
-            yield coded(index, instruction, core, sources.get(index, []))
+            yield f"{index:{NUMBER + 6}}  {instruction.text:{CODE}}{', '.join(beside.get(index, []))}".rstrip()
             last = instruction
         yield ""
+
+
+def notes_of(core: Core, listing: Listing, told: Optional[Told]) -> dict[int, list[str]]:
+    """What stands behind instructions, by their indices: from where else than the one in front they are reached, which resource they
+    use, and how often they ran where records tell it."""
+    notes: dict[int, list[str]] = {}
+    for index in core.roots:
+        notes.setdefault(index, []).append("root")
+    for index, sources in jumps_to(core).items():
+        notes.setdefault(index, []).append(f"from {', '.join(map(str, sources))}")
+    used = resources_of(core)
+    for index, number in used.items():
+        notes.setdefault(index, []).extend(filter(None, [name_of(listing, core, number)]))
+    if told:
+        for (kind, port), index in only_makers(core, used).items():
+            count = told.words[core.number] if kind == "com" else told.transfers[core.number, port, kind]
+            notes.setdefault(index, []).append(f"ran {counted(count, 'time')}")
+    return notes
 
 
 def head_of(core: Core, told: Optional[Told]) -> Iterator[str]:
@@ -92,12 +111,6 @@ def place_of(instruction: Instruction, last: Instruction, source: Source, told: 
         yield f"{line:{NUMBER}} | {shown[0]}"
     errors = [f"  <- {it}" for it in told.errors.get((line, column), [])] if told else []
     yield f"{'':{NUMBER}} | {shown[1]}{''.join(errors)}"
-
-
-def coded(index: int, instruction: Instruction, core: Core, sources: list[int]) -> str:
-    """The line of an instruction: its index, its text, and from where else than the one in front it is reached."""
-    ways = ["root"] * core.roots.count(index) + ([f"from {', '.join(map(str, sources))}"] if sources else [])
-    return f"{index:{NUMBER + 6}}  {instruction.text:{CODE}}{', '.join(ways)}".rstrip()
 
 
 def in_order_of_text(listing: Listing, source: Source, told: Optional[Told]) -> Iterator[str]:
