@@ -66,7 +66,7 @@ class Pins:
             value = self._now[core, name]
             if value != self._written.get((core, name), 0):
                 if tick >= WORD:
-                    raise Refused(f"the tick {tick} is above {WORD - 1}, the last that a stimulus can have: choose a part with --from and --to")
+                    raise Refused(f"the tick {tick} is above {WORD - 1}, the last of a stimulus: choose a part with --from and --to")
                 self._written[core, name] = value
                 yield f"{tick} {core} {name} {value}"
 

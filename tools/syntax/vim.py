@@ -31,7 +31,8 @@ def any_of(symbols: list[str]) -> str:
 
 def syntax() -> str:
     """The file syntax/xc.vim. Of two patterns at one place Vim takes the later one."""
-    keywords = [f"syn keyword xc{group.capitalize()} {' '.join(words)}" for group, words in WORDS.items() if group not in ("headers", "symbols")]
+    groups = [it for it in WORDS if it not in ("headers", "symbols")]
+    keywords = [f"syn keyword xc{group.capitalize()} {' '.join(WORDS[group])}" for group in groups]
     links = [f"hi def link xc{name} {group}" for name, group in LINKS.items()]
     return "\n".join(
         [

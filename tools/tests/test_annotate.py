@@ -190,9 +190,6 @@ class Annotated(unittest.TestCase):
         text = called("annotate", "--source", example("outside.xc"), "--lines", text=output_of_example("outside")).stdout
         self.assertIn("   12 |     a[i] = i * i;  <- err 0 index\n", text.replace(written(example("outside.xc")).splitlines()[11], "    a[i] = i * i;"))
 
-    def test_help_has_examples(self):
-        self.assertIn("examples:\n  ./xcsim run", called("annotate", "--help").stdout)
-
     def test_refused(self):
         for words, text, expected in [
             ([], LISTING + "trace\n", "standard input:22: expected a record"),

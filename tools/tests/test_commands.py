@@ -8,11 +8,27 @@ import unittest
 from .samples import PULSE, TOP, example, listing_of, written
 
 TOOLS = ["trace-vcd", "trace-svg"]
+OTHERS = ["trace-msc", "annotate", "explain", "stim-from-vcd", "stim-from-trace"]
 
 
 def called(tool, *words, text=""):
     command = [sys.executable, os.path.join(TOP, "tools", tool), *words]
     return subprocess.run(command, input=text, capture_output=True, encoding="utf-8", check=False)
+
+
+class AllCommands(unittest.TestCase):
+    def test_help_has_an_example_and_is_told_by_the_launcher(self):
+        told = written(os.path.join(TOP, "tools", "help.txt"))
+        for tool in [*TOOLS, *OTHERS]:
+            answer = called(tool, "--help")
+            self.assertEqual((answer.returncode, answer.stderr), (0, ""))
+            self.assertRegex(answer.stdout, rf"\nexamples?:\n(.*\n)*.*tools/{tool} ")
+            self.assertIn(f"\n  tools/{tool} ", told)
+
+    def test_wrong_words(self):
+        for tool in [*TOOLS, *OTHERS]:
+            answer = called(tool, "--fast")
+            self.assertEqual((answer.returncode, answer.stdout), (2, ""))
 
 
 class Commands(unittest.TestCase):

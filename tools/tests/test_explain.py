@@ -167,9 +167,6 @@ class Answers(unittest.TestCase):
 
 
 class Command(unittest.TestCase):
-    def test_help_has_an_example(self):
-        self.assertIn("example:\n  ./xcsim check a.xc 2>&1 | tools/explain", called("explain", "--help").stdout)
-
     def test_standard_error_goes_in(self):
         with tempfile.TemporaryDirectory() as room:
             path = os.path.join(room, "a.xc")

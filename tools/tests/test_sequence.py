@@ -114,6 +114,3 @@ class Pictures(unittest.TestCase):
         self.assertEqual(answer.stderr, "more than 500 records: choose some with --from TICK and --to TICK, or the words alone with --channels\n")
         self.assertEqual(called("trace-msc", "--to", "500", text=text).returncode, 0)
         self.assertEqual(called("trace-msc", "--text", text=text).returncode, 0)
-
-    def test_help_has_examples(self):
-        self.assertIn("examples:\n  ./xcsim run examples/producer.xc", called("trace-msc", "--help").stdout)

@@ -195,7 +195,7 @@ class Waveforms(Stimuli):
         changes = "".join(f"#{10 * it} {it % 2}!\n" for it in range(100_000))
         self.check_refused("more than 100000 lines, the most that a stimulus can have: choose a part with --from and --to", dump(changes))
         self.assertEqual(len(self.made("stim-from-vcd", "-", "a=0:1A", "--to", "999970ns", text=dump(changes))), 99_997)
-        expected = "the tick 4294967296 is above 4294967295, the last that a stimulus can have: choose a part with --from and --to"
+        expected = "the tick 4294967296 is above 4294967295, the last of a stimulus: choose a part with --from and --to"
         self.check_refused(expected, dump("#0 0! #42949672960 1!"))
         self.check_dump(["4294967295 0 1A 1"], "#0 0! #42949672950 1!")
 
@@ -259,7 +259,3 @@ class Runs(Stimuli):
             by_waveform = [*Pins(wires).lines(waveform.Waveform(read, times, "keep").changes(wires))]
             self.assertEqual(by_trace, by_waveform, name)
             self.assertEqual(len({line.split()[2] for line in by_trace} - {*ports}), 0)
-
-    def test_help_has_examples(self):
-        for tool in ("stim-from-trace", "stim-from-vcd"):
-            self.assertIn("examples:\n  ", called(tool, "--help").stdout)

@@ -1,1 +1,1 @@
-"""What the programs trace-vcd and trace-svg share: they read what xcsim wrote, and show it."""
+"""What the programs trace-vcd, trace-svg, trace-msc and annotate share: they read what xcsim wrote, and show it."""

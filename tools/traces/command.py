@@ -1,4 +1,4 @@
-"""What the commands of both programs have in common."""
+"""What the commands have in common."""
 
 from __future__ import annotations
 
@@ -19,12 +19,17 @@ REFUSED = 1
 LAST = 1 << 64  # a tick behind all that a run has
 
 
-def parser(name: str, about: str, example: str) -> argparse.ArgumentParser:
-    """The reader of a command's words, with those that both programs have."""
-    made = argparse.ArgumentParser(
+def bare_parser(name: str, about: str, example: str) -> argparse.ArgumentParser:
+    """The reader of a command's words, which has none yet."""
+    return argparse.ArgumentParser(
         prog=name, description=about, epilog=example, formatter_class=argparse.RawDescriptionHelpFormatter, allow_abbrev=False
     )
-    made.add_argument("file", nargs="?", metavar="FILE", help="what xcsim wrote; standard input where it isn't named")
+
+
+def parser(name: str, about: str, example: str) -> argparse.ArgumentParser:
+    """The reader of a command's words, with those that all programs have which show a run."""
+    made = bare_parser(name, about, example)
+    add_file(made)
     made.add_argument("--stimulus", metavar="FILE", help="the run's stimulus: the pins are shown too")
     made.add_argument(
         "--lockstep", action="store_true", help="all cores go by one clock, as in a run: a record isn't before the one above it"
@@ -37,6 +42,11 @@ def tick(word: str) -> int:
     if not (word.isascii() and word.isdigit()):
         raise ValueError
     return int(word)
+
+
+def add_file(words: argparse.ArgumentParser) -> None:
+    """Adds the file that is read."""
+    words.add_argument("file", nargs="?", metavar="FILE", help="what xcsim wrote; standard input where it isn't named")
 
 
 def add_range(words: argparse.ArgumentParser, done: str) -> None:

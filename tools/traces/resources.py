@@ -7,7 +7,8 @@ from typing import Optional
 from .listing import Core, Listing
 from .taken import CALLS, JUMP, LOAD, SETS_NO_REGISTER
 
-USES = {"IN": 1, "INT": 1, "GETTS": 1, **dict.fromkeys("OUT OUTT OUTCT CHKCT SETC SETD SETPT SETV EEU EDU".split(), 0)}  # which operand it is
+FIRST, SECOND = "OUT OUTT OUTCT CHKCT SETC SETD SETPT SETV EEU EDU".split(), "IN INT GETTS".split()
+USES = {**dict.fromkeys(FIRST, 0), **dict.fromkeys(SECOND, 1)}  # which of the operands is the resource
 PORT, TIMER, END = 0, 1, 2  # the low byte of a resource's number
 
 
