@@ -1,8 +1,10 @@
 """Outputs that the tests read."""
 
+import glob
 import io
 import os
 import re
+from typing import Iterator
 
 from traces.output import Output
 
@@ -69,6 +71,34 @@ def output_of_example(name: str) -> str:
 
 
 KEPT = [output_of_example(name) for name in PROGRAMS] + [written(data(name)) for name in ("two_cores.out", "script.out")]
+
+
+ESCAPED = re.compile(r"\\(x[0-9a-f]{2}|.)")
+SIGNS = {"n": "\n", "r": "\r", "t": "\t", "s": " ", "i": "0", "j": "1"}
+
+
+def unescaped(text: str) -> str:
+    """What a line of a case stands for; repetitions are all taken as the first."""
+    return ESCAPED.sub(lambda it: chr(int(it[1][1:], 16)) if len(it[1]) == 3 else SIGNS.get(it[1], it[1]), text)
+
+
+def refused_texts() -> Iterator[tuple[str, int, int, int]]:
+    """The refused texts among the cases of crates/: each with the rule that it breaks first, and the line and column."""
+    for path in glob.glob(os.path.join(TOP, "crates", "*", "data", "*.txt")):
+        lines: list[str] = []
+        with open(path, encoding="latin-1") as file:
+            for mark, rest in ((it[:1], it[2:].rstrip("\n")) for it in file):
+                if mark == "c":
+                    lines = []
+                elif mark == "|":
+                    lines.append(unescaped(rest))
+                elif mark == "+" and lines:
+                    lines[-1] += unescaped(rest)
+                elif mark == "*" and lines:
+                    count, _, text = rest.partition(" ")
+                    lines[-1] += unescaped(text) * int(count)
+                elif mark in "=~" and (match := re.fullmatch(r"(\d{3}) at (\d+):(\d+)", rest)):
+                    yield "\n".join(lines), *map(int, match.groups())
 
 
 def runs_of_examples() -> str:

@@ -5,13 +5,13 @@ import re
 import tempfile
 import unittest
 
-from diagnostics.answers import finding_of, shown
+from diagnostics.answers import Finding, finding_of, shown
 from diagnostics.hints import hint_of_grammar, names_of_words, unbuilt_words
 from diagnostics.rules import read_rules
 from diagnostics.source import Source
 from diagnostics.words import read_words
 
-from .samples import TOP, data, example, listing_of, output_of_example, written
+from .samples import TOP, data, example, listing_of, output_of_example, refused_texts, written
 from .test_commands import called
 
 RULES = read_rules()
@@ -164,6 +164,24 @@ class Answers(unittest.TestCase):
             if name.startswith("rule"):
                 told = self.told(f"a.xc:1:1: {name}", "x")
                 self.assertEqual(told[0], f"a.xc:1:1: error: {RULES[name].says} [{name}]".replace("{}", "`x`"))
+
+
+class Cases(unittest.TestCase):
+    """The refused texts that the compiler's own cases have, with what each breaks and where."""
+
+    def test_each_is_told_at_its_place(self):
+        found = set()
+        for text, number, line, column in refused_texts():
+            rule, source = RULES[f"rule {number}"], Source(text.encode("latin-1"))
+            told = [*shown(Finding("a.xc", line, column, rule), source)]
+            self.assertTrue(told[0].startswith(f"a.xc:{line}:{column}: error: "), text)
+            if "{}" in rule.says and number not in (101, 201):
+                self.assertRegex(told[0], r"`\w+`", text)  # a name, a number or a word stands there
+            if number in (501, 502, 503, 507, 701, 702, 703, 704):
+                wanted = {501: "break continue", 502: "return", 503: "on", 507: "default"}.get(number, "main")
+                self.assertIn(source.at(line, column), wanted.split(), text)
+            found.add(number)
+        self.assertLessEqual({*range(301, 306), *range(401, 417), *range(501, 510), *range(601, 607), *range(701, 707)}, found)
 
 
 class Command(unittest.TestCase):

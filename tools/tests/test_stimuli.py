@@ -137,6 +137,7 @@ class Waveforms(Stimuli):
         # x in front goes on to the left, so only the low two bits are told
         self.check_dump(["0 0 8A 255", "1 0 8A 253"], "#0 b11111111 ! #10 bx01 !", "a=0:8A", variables=variables)
         self.check_dump(["0 0 1A 1", "1 0 1A 0"], "#0 H# #10 L#", "b=0:1A", variables=variables)
+        self.check_dump(["0 0 8A 3"], "#0 b11 !", "d=0:8A", variables=["reg 8 ! d[7:0]"])  # as GHDL writes it
         self.check_dump(["1 0 1A 1"], "#0 0# $comment 1# $end #10 sword ~ r1.5 ~ 1#", "b=0:1A", variables=variables)
 
     def test_bits_one_by_one(self):
