@@ -76,9 +76,22 @@ def bits_of_port(word: str, port: str, given: Optional[tuple[int, int]]) -> tupl
     return high, low
 
 
+def read_entries(word: str) -> list[Entry]:
+    """The entries that a word stands for: several sources with commas between, the highest first, are a bit each."""
+    sources, _, target = word.rpartition("=")
+    names = sources.split(",")
+    if len(names) == 1:
+        return [read_entry(word)]
+    whole = read_entry(f"{names[0]}={target}")
+    if len(names) != whole.width:
+        raise Refused(f"{word}: {len(names)} sources for {counted(whole.width)}")
+    bits = range(whole.low + whole.width - 1, whole.low - 1, -1)
+    return [read_entry(f"{name}={whole.core}:{whole.port}[{bit}]") for name, bit in zip(names, bits)]
+
+
 def read_table(words: Iterable[str]) -> list[Entry]:
     """The entries of a command line. Each bit of a port is driven once."""
-    found = [read_entry(word) for word in words]
+    found = [entry for word in words for entry in read_entries(word)]
     driven: dict[tuple[int, str], int] = {}
     for entry in found:
         mask = (1 << entry.width) - 1 << entry.low

@@ -98,6 +98,8 @@ class Launcher(unittest.TestCase):
         commit = subprocess.run([*git, "rev-parse", "HEAD"], check=True, capture_output=True, text=True).stdout
         told = re.match(r"xcsim at the commit ([0-9a-f]{7,}) of \d{4}-\d\d-\d\d, not built yet\n", self.called("--version").stdout)
         self.assertTrue(commit.startswith(told[1]))
+        subprocess.run([*git, "add", "xcsim"], check=True)
+        self.assertRegex(self.called("--version").stdout, r"^xcsim at the commit [0-9a-f]{7,} of \d{4}-\d\d-\d\d with changes, not built yet\n")
 
     def test_other_words_go_to_the_program(self):
         for words in (["--help", "x"], ["run", "--help"], []):

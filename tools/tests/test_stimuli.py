@@ -67,7 +67,9 @@ class Waveforms(Stimuli):
         self.check(self.SIGROK, wave("sigrok.vcd"), "a=0:1A", "libsigrok.b=3:1B", notes=[])
         self.check(["30 0 8A 4", "50 0 8A 0", "60 0 8A 4"], wave("sigrok.vcd"), "b=0:8A[2]", notes=["not mapped: libsigrok.a"])
         # the two wires together: b is the high one, so 0 0 1 3 2 0 3
-        self.check(["20 0 4A 1", "30 0 4A 3", "40 0 4A 2", "50 0 4A 0", "60 0 4A 3"], wave("sigrok.vcd"), "a=0:4A[0]", "b=0:4A[1]")
+        both = ["20 0 4A 1", "30 0 4A 3", "40 0 4A 2", "50 0 4A 0", "60 0 4A 3"]
+        self.check(both, wave("sigrok.vcd"), "a=0:4A[0]", "b=0:4A[1]")
+        self.check(both, wave("sigrok.vcd"), "b,a=0:4A[1:0]")
 
     @unittest.skipUnless(shutil.which("sigrok-cli"), "sigrok-cli is missing")
     def test_sigrok_itself(self):
@@ -167,10 +169,14 @@ class Waveforms(Stimuli):
             (["a=0:4A[4]"], "a=0:4A[4]: the port 4A has the bits 3 to 0"),
             (["a=0:4A[0:1]"], "a=0:4A[0:1]: the port 4A has the bits 3 to 0"),
             (["a=0:4A", "b=0:4A[2]"], "0:4A[2] is driven twice"),
+            (["c,b,a=0:4A"], "c,b,a=0:4A: 3 sources for 4 bits"),
+            (["b,=0:4A[1:0]"], "=0:4A[0]: expected SOURCE=CORE:PORT"),
         ]:
             with self.assertRaises(Refused) as caught:
                 read_table(words)
             self.assertEqual(str(caught.exception)[: len(expected)], expected)
+        wires = [(it.source.name, it.target) for it in read_table(["c,b[4],a=1:8A[6:4]"])]
+        self.assertEqual(wires, [("c", "1:8A[6]"), ("b", "1:8A[5]"), ("a", "1:8A[4]")])
         entry = read_table(["top.bus[3][7:4]=2:8A[5:2]"])[0]
         self.assertEqual((entry.source.name, entry.source.bits, entry[1:], entry.target), ("top.bus[3]", (7, 4), (2, "8A", 2, 4), "2:8A[5:2]"))
 
